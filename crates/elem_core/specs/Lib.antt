@@ -1,0 +1,5 @@
+pub mod Cell
+pub mod Naming
+pub mod Shown
+pub mod Codes
+pub mod Command

@@ -1,0 +1,47 @@
+//! Codes of values: FNV-1a with 32 bits, its low bits and its digits.
+
+ghost use Rattle.std.specs.Prelude.{◌≡◌, ◌≤◌, ◌<◌, ◌^◌};
+ghost use Rattle.elem_core.specs.Codes.{text_code, masked_code, digit_at};
+
+/// The code of a value: what a trie sorts it by.
+pub type Code = u32;
+
+/// The number of bits of a code, and so the most that a mask may keep.
+pub const CODE_BITS: u32 = 32;
+
+/// The depth of a code's last digit, which has the two bits that the others leave.
+pub const DEEPEST: u8 = 6;
+
+/// FNV-1a with 32 bits, the public hash of Fowler, Noll and Vo, over the bytes.
+#[tactic(auto, unfolding(crate::specs::Codes::text_code))]
+pub fn fnv32(bytes: &[u8]) -> Code
+    ensures { result ≡ text_code bytes.now }
+{
+    let mut code: u32 = 2_166_136_261;
+    for byte in bytes {
+        code = (code ^ u32::from(*byte)).wrapping_mul(16_777_619);
+    }
+    code
+}
+
+/// The low `bits` bits of the code; the others are 0.
+pub fn masked(code: Code, bits: u32) -> Code
+    requires { bits ≤ CODE_BITS }
+    ensures kept { result ≡ masked_code code bits }
+    ensures small { result < 2 ^ bits }
+{
+    if bits == CODE_BITS {
+        code
+    } else {
+        code & ((1 << bits) - 1)
+    }
+}
+
+/// The digit of the code at the depth: 0 to 31, and 0 to 3 at `DEEPEST`.
+pub fn digit(code: Code, depth: u8) -> u32
+    requires { depth ≤ DEEPEST }
+    ensures read { result ≡ digit_at code depth }
+    ensures small { result < 32 }
+{
+    (code >> (5 * u32::from(depth))) & 31
+}

@@ -1,0 +1,106 @@
+use super::*;
+use std::cmp::Ordering;
+use std::test::Fail;
+
+// Vectors of FNV-1a with 32 bits, with the digits of the two lowest depths.
+#[test]
+fn codes_are_those_of_fnv_1a(rt: HostRuntime) {
+    let rows = [
+        ("", 0x811c_9dc5, 5, 14),
+        ("a", 0xe40c_292c, 12, 9),
+        ("b", 0xe70c_2de5, 5, 15),
+        ("A", 0xc40b_f6cc, 12, 22),
+        ("foobar", 0xbf9c_f968, 8, 11),
+    ];
+    for (text, code, first, second) in rows {
+        assert_eq!(rt; fnv32(text.as_bytes()), code, "of {text:?}");
+        assert_eq!(rt; digit(code, 0), first, "of {text:?}");
+        assert_eq!(rt; digit(code, 1), second, "of {text:?}");
+    }
+    assert_eq!(rt; masked(0xe40c_292c, 5), 12);
+    assert_eq!(rt; masked(0xc40b_f6cc, 5), 12);
+    assert_eq!(rt; masked(0xe40c_292c, 0), 0);
+    assert_eq!(rt; masked(0xe40c_292c, CODE_BITS), 0xe40c_292c);
+    assert_eq!(rt; digit(0xe40c_292c, DEEPEST), 3);
+}
+
+#[test]
+fn names_are_tested(rt: HostRuntime) {
+    let rows = [
+        ("", false),
+        ("a", true),
+        ("Z9._-", true),
+        ("_", true),
+        (".x", false),
+        ("-x", false),
+        ("a b", false),
+        ("a\n", false),
+        ("\u{e9}", false),
+        (
+            "0123456789012345678901234567890123456789012345678901234567890123",
+            true,
+        ),
+        (
+            "01234567890123456789012345678901234567890123456789012345678901234",
+            false,
+        ),
+    ];
+    for (text, named) in rows {
+        assert_eq!(rt; is_name(text), named, "of {text:?}");
+        assert_eq!(rt; Name::new(text).is_some(), named, "of {text:?}");
+    }
+}
+
+#[test]
+fn lines_and_texts_are_cells(rt: HostRuntime) -> Result<(), Fail> {
+    for (text, fits) in [("", true), ("two words \u{e9}", true), ("a\nb", false)] {
+        assert_eq!(rt; Line::new(text).is_some(), fits, "of {text:?}");
+        assert_eq!(rt; Text::fits(text), fits, "of {text:?}");
+        let made = Text::from_text(String::from_str(rt.alloc(), text)?);
+        match made {
+            Ok(made) => assert_eq!(rt; made.text(), text),
+            Err(back) => assert_eq!(rt; back.as_str(), text),
+        }
+    }
+    let mut long = String::new(rt.alloc());
+    for _ in 0..MAX_LINE {
+        long.push('x')?;
+    }
+    assert_eq!(rt; Line::new(&long).is_some(), true);
+    long.push('x')?;
+    assert_eq!(rt; Line::new(&long).is_some(), false);
+    assert_eq!(rt; Text::new(long).is_err(), true);
+    Ok(())
+}
+
+// The order and the code that a probe answers, through the bounds alone.
+fn order_and_code<T: Element, P: Probe<T>>(probe: &P, other: &T) -> (Ordering, Code, Code) {
+    (probe.order(other), Probe::code(probe), Element::code(other))
+}
+
+#[test]
+fn probes_answer_for_their_values(rt: HostRuntime) -> Result<(), Fail> {
+    let name = Name::new("b").ok_or("a name")?;
+    let line = Line::new("a b").ok_or("a line")?;
+    let text = text_of(rt.alloc(), line)?;
+    let same = text_of(rt.alloc(), name.as_line())?;
+    assert_eq!(rt; text.text(), line.as_str());
+    assert_eq!(rt; same.text(), name.as_str());
+    let (order, probe, value) = order_and_code(&name, &same);
+    assert_eq!(rt; order, Ordering::Equal);
+    assert_eq!(rt; probe, value);
+    let (order, probe, value) = order_and_code(&text, &same);
+    assert_eq!(rt; order, Ordering::Less);
+    assert_ne!(rt; probe, value);
+    let (order, probe, value) = order_and_code(&Num(7), &Num(3));
+    assert_eq!(rt; order, Ordering::Greater);
+    assert_eq!(rt; probe, 7);
+    assert_eq!(rt; value, 3);
+    Ok(())
+}
+
+#[test]
+fn want_of_memory_is_one_error(rt: HostRuntime) {
+    assert_eq!(rt; NoMemory::from(AllocError), NoMemory);
+    assert_eq!(rt; NoMemory::from(AllocFailed { value: 1u8 }), NoMemory);
+}
