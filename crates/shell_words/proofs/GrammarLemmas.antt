@@ -1,0 +1,181 @@
+-- What the words of the grammar give, case by case.
+use Rattle.std.proofs.Common.{◌≡◌, ℕ, ◌+◌, ◌<◌, ◌≤◌, ◌^◌, Bool, true, false, not, ◌||◌, cond, List, [], ◌∷◌, length, drop, Some, None, Result, Ok, Err, slice_index, slice_get, suc, sym, ap, refl, ◌∙◌, arith, ltb, eqb, length-drop}
+use Rattle.std.specs.List.{list_any, position_or_len, after_first}
+use Rattle.std.specs.Result.{result_ok}
+use Rattle.std.specs.Char.{is_ascii_digit}
+use Rattle.std.specs.Str.{all_ascii_digits}
+use Rattle.std.specs.Str.Parse.{ParsesUnsigned, digits_value}
+use Rattle.std.proofs.lemmas.Bool.{lt-ltb, le-ltb, le-leb, leb-true, ltb-true, ne_eqb, eqb-false, and_parts, and_from, false≢true, not-true, not_from_false, false_from_ne_true}
+use Rattle.std.proofs.lemmas.Bool.Decides.{nat_tests}
+use Rattle.std.proofs.lemmas.Grind.{common_steps}
+use Rattle.std.proofs.lemmas.List.{get_or-drop}
+use Rattle.std.proofs.lemmas.List.Sums.{list_all-from_AllPass, AllPass-from_list_all}
+use Rattle.std.proofs.lemmas.Str.Parse.{IsNumeralModel, numerals_by_value, tells_all_ascii_digits, parse_plain}
+use Rattle.elem_core.specs.Cell.{IsCell}
+use Rattle.elem_core.specs.Naming.{IsName, is_name_byte}
+use Rattle.elem_core.specs.declared.TheConstants.{MAX_NAME}
+use Rattle.shell_words.specs.Number.{leading_zero, is_number, number_of}
+use Rattle.elem_core.specs.Command.{PlainCommand}
+use Rattle.shell_words.specs.declared.BadLine.{BadLine}
+use Rattle.shell_words.specs.declared.BadLine.TheVariants as refused
+use Rattle.shell_words.specs.Grammar.{is_space, first_piece, after_piece, is_name, if_named}
+
+-- one element more, in front
+within_step : (here later : Bool) (i n : ℕ) → later ≡ ltb i n → (here || later) ≡ ltb (cond (not here) (1 + i) 0) (suc n)
+within_step true later i n h = grind (arith, nat_tests)
+within_step false later i n h = grind (arith, nat_tests)
+
+-- an element passes just where the first that passes stands within the list
+list_any_within : (p : ℕ → Bool) (xs : List ℕ) → list_any p xs ≡ ltb (position_or_len p xs) (length xs)
+list_any_within p [] = refl
+list_any_within p (x ∷ xs) = within_step (p x) (list_any p xs) (position_or_len p xs) (length xs) (list_any_within p xs)
+
+-- with a space, a piece ends before it
+pub after_piece-spaced : (bytes : List ℕ) → position_or_len is_space bytes < length bytes → after_piece bytes ≡ Some (after_first is_space bytes)
+unfolding after_piece
+after_piece-spaced bytes within =
+    let e : list_any is_space bytes ≡ true = list_any_within is_space bytes ∙ lt-ltb _ _ within in
+    rw e refl
+
+-- without one, the line ends with the piece
+pub after_piece-unspaced : (bytes : List ℕ) → position_or_len is_space bytes ≡ length bytes → after_piece bytes ≡ None
+unfolding after_piece
+after_piece-unspaced bytes whole =
+    let e : list_any is_space bytes ≡ false = list_any_within is_space bytes ∙ le-ltb _ _ (omega arith) in
+    rw e refl
+
+-- and the piece is the whole line
+pub first_piece-unspaced : (bytes : List ℕ) → position_or_len is_space bytes ≡ length bytes → first_piece bytes ≡ bytes
+unfolding first_piece
+first_piece-unspaced bytes whole = grind (arith, common_steps)
+
+-- what stands behind a part of a cell may stand in a cell
+pub cell-drop : (n : ℕ) (bytes : List ℕ) → IsCell bytes → IsCell (drop n bytes)
+cell-drop n bytes cell = record {
+  unbroken = λ has. cell.unbroken (n + has.0, omega (arith, has.1, length-drop n bytes), sym (get_or-drop n bytes has.0 _) ∙ has.2);
+  short = omega (arith, cell.short, length-drop n bytes);
+}
+
+-- the first byte is another
+other_first : (piece : List ℕ) (byte : ℕ) → 1 ≤ length piece → (slice_get piece 0 ≡ Some byte → ⊥) → eqb (slice_index piece 0) byte ≡ false
+other_first [] byte some other = absurd (omega arith)
+other_first (x ∷ xs) byte some other = ne_eqb x byte (λ e. other (ap (λ v. Some v) e))
+
+-- and the other way round
+first_other : (piece : List ℕ) (byte : ℕ) → eqb (slice_index piece 0) byte ≡ false → slice_get piece 0 ≡ Some byte → ⊥
+first_other [] byte other is = cc
+first_other (x ∷ xs) byte other is = eqb-false x byte other (cc)
+
+-- the test of a name holds for each name
+pub is_name-yes : (piece : List ℕ) → IsName piece → is_name piece ≡ true
+unfolding is_name
+is_name-yes piece named =
+    let some = le-leb 1 (length piece) named.some in
+    let short = le-leb (length piece) MAX_NAME named.short in
+    let letters = list_all-from_AllPass is_name_byte piece named.alphabet in
+    let no_stop = other_first piece 46 named.some named.no_stop_first in
+    let no_hyphen = other_first piece 45 named.some named.no_hyphen_first in
+    rw (some, short, letters, no_stop, no_hyphen) refl
+
+-- where it holds, the piece is a name
+named_by_test : (piece : List ℕ) → is_name piece ≡ true → IsName piece
+unfolding is_name
+named_by_test piece test =
+    let a = and_parts _ _ test in
+    let b = and_parts _ _ a.0 in
+    let c = and_parts _ _ b.0 in
+    let d = and_parts _ _ c.0 in
+    record {
+      some = leb-true _ _ d.0;
+      short = leb-true _ _ d.1;
+      alphabet = AllPass-from_list_all is_name_byte piece c.1;
+      no_stop_first = first_other piece 46 (not-true _ b.1);
+      no_hyphen_first = first_other piece 45 (not-true _ a.1);
+    }
+
+-- and it fails for each other piece
+pub is_name-no : (piece : List ℕ) → (IsName piece → ⊥) → is_name piece ≡ false
+is_name-no piece unnamed = false_from_ne_true _ (λ test. unnamed (named_by_test piece test))
+
+-- the digits are the library's
+own : IsNumeralModel (λ ds. all_ascii_digits ds ≡ true) (digits_value 10)
+own = numerals_by_value _ tells_all_ascii_digits
+
+-- what a number is, part by part
+record Numeral (piece : List ℕ) : Type 0 where
+  some : 0 < length piece
+  digits : all_ascii_digits piece ≡ true
+  plain : leading_zero piece ≡ false
+  fits : digits_value 10 piece < 2 ^ 32
+
+numeral_by_test : (piece : List ℕ) → is_number piece ≡ true → Numeral piece
+unfolding is_number
+numeral_by_test piece test =
+    let a = and_parts _ _ test in
+    let b = and_parts _ _ a.0 in
+    let c = and_parts _ _ b.0 in
+    record { some = ltb-true _ _ c.0; digits = c.1; plain = not-true _ b.1; fits = ltb-true _ _ a.1 }
+
+is_number-yes : (piece : List ℕ) → Numeral piece → is_number piece ≡ true
+unfolding is_number
+is_number-yes piece numeral =
+    let some = lt-ltb 0 (length piece) numeral.some in
+    let digits = numeral.digits in
+    let plain = numeral.plain in
+    let fits = lt-ltb (digits_value 10 piece) (2 ^ 32) numeral.fits in
+    and_from _ _ (and_from _ _ (and_from _ _ some digits) (not_from_false _ plain)) fits
+
+number_of-none : (piece : List ℕ) → (Numeral piece → ⊥) → number_of piece ≡ None
+unfolding number_of
+number_of-none piece other =
+    let e = false_from_ne_true (is_number piece) (λ test. other (numeral_by_test piece test)) in
+    rw e refl
+
+number_of-some : (piece : List ℕ) → Numeral piece → number_of piece ≡ Some (digits_value 10 piece)
+unfolding number_of
+number_of-some piece numeral =
+    let e = is_number-yes piece numeral in
+    rw e refl
+
+-- a plus is no digit
+plus_first : (piece : List ℕ) → slice_index piece 0 ≡ 43 → all_ascii_digits piece ≡ true → ⊥
+plus_first [] plus digits = absurd (omega (arith, plus))
+plus_first (c ∷ cs) plus digits =
+    let digit : is_ascii_digit c ≡ true = (and_parts _ _ digits).0 in
+    let wrong : false ≡ true = rw plus at digit in
+    false≢true wrong
+
+-- a plus writes no number
+pub number_of-plus : (piece : List ℕ) → slice_index piece 0 ≡ 43 → number_of piece ≡ None
+number_of-plus piece plus = number_of-none piece (λ numeral. plus_first piece plus numeral.digits)
+
+-- nor does a leading zero
+pub number_of-zero : (piece : List ℕ) → leading_zero piece ≡ true → number_of piece ≡ None
+number_of-zero piece zero = number_of-none piece (λ numeral. false≢true (sym numeral.plain ∙ zero))
+
+-- else what the library reads is the number
+pub number_of-parsed : {E : Type 0} (piece : List ℕ) (r : Result ℕ E) → (slice_index piece 0 ≡ 43 → ⊥) → leading_zero piece ≡ false → ParsesUnsigned 32 10 piece r → result_ok r ≡ number_of piece
+number_of-parsed {E = E} piece (Ok n) no_plus plain parsed =
+    let read = parse_plain own {E = E} 32 piece (Ok n) parsed no_plus in
+    ap (λ v. Some v) read.1
+    ∙ sym (number_of-some piece (record { some = read.0.1; digits = read.0.0; plain = plain; fits = read.0.2 }))
+number_of-parsed {E = E} piece (Err e) no_plus plain parsed =
+    let read = parse_plain own {E = E} 32 piece (Err e) parsed no_plus in
+    sym (number_of-none piece (λ numeral. read (numeral.digits, numeral.some, numeral.fits)))
+
+-- a refusal for the form of a line stays, whatever its names are
+pub if_named-bad : (piece : List ℕ) (read : Result PlainCommand BadLine) (bad : BadLine) → read ≡ Err bad → if_named piece read ≡ Err bad
+unfolding if_named
+if_named-bad piece read bad e = rw e refl
+
+pub if_named-yes : (piece : List ℕ) (command : PlainCommand) → IsName piece → if_named piece (Ok command) ≡ Ok command
+unfolding if_named
+if_named-yes piece command named =
+    let e = is_name-yes piece named in
+    rw e refl
+
+pub if_named-no : (piece : List ℕ) (command : PlainCommand) → (IsName piece → ⊥) → if_named piece (Ok command) ≡ Err refused.Name
+unfolding if_named
+if_named-no piece command unnamed =
+    let e = is_name-no piece unnamed in
+    rw e refl

@@ -1,0 +1,19 @@
+-- Numbers as a line writes them.
+use Rattle.std.specs.Prelude.{ℕ, ◌^◌, Bool, not, ◌&&◌, ◌==◌, nat_lt, if◌then◌else◌}
+use Rattle.std.specs.Prelude.{List, length, slice_index, Option, Some, None}
+use Rattle.std.specs.Str.{all_ascii_digits}
+use Rattle.std.specs.Str.Parse.{digits_value}
+
+-- A zero stands first (48 is the byte `0`), and more follows.
+abbrev pub leading_zero : List ℕ → Bool
+leading_zero piece = slice_index piece 0 == 48 && nat_lt 1 (length piece)
+
+-- One decimal digit or more without a leading zero, for a number of at most 4,294,967,295.
+unfoldable pub is_number : List ℕ → Bool
+is_number piece =
+    nat_lt 0 (length piece) && all_ascii_digits piece && not (leading_zero piece)
+    && nat_lt (digits_value 10 piece) (2 ^ 32)
+
+-- The number that a piece writes, if it writes one.
+unfoldable pub number_of : List ℕ → Option ℕ
+number_of piece = if is_number piece then Some (digits_value 10 piece) else None

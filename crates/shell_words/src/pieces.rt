@@ -1,0 +1,150 @@
+//! The pieces of a line: its word, and the names, numbers and text behind the word.
+//!
+//! A refusal for the form of a line comes before one for its names, so each command takes all its
+//! pieces first, and then makes names of those that must be names.
+
+ghost use Rattle.std.specs.Prelude.{◌≡◌, ℕ, List, Ok, IfOk, option_copied};
+ghost use Rattle.std.specs.Option.{ForSome};
+ghost use Rattle.elem_core.specs.Cell.{IsCell};
+ghost use Rattle.elem_core.specs.Command.{PlainCommand};
+ghost use Rattle.elem_core.specs.Shown.{name_bytes, line_bytes};
+ghost use Rattle.shell_words.specs.Grammar.{Reading, first_piece, after_piece, if_named};
+ghost use Rattle.shell_words.specs.Grammar.{the_end, a_name, a_number, the_text};
+ghost use Rattle.shell_words.specs.Number.{leading_zero, number_of};
+ghost use Rattle.shell_words.specs.Shown.{go_on};
+
+use crate::BadLine;
+use elem_core::{Line, Name};
+
+// The first piece of the text, and what stands behind the space that ends it.
+pub fn split_piece(text: &str) -> (&str, Option<&str>)
+    ensures piece { result.0.now ≡ first_piece text.now }
+    ensures rest { option_copied result.1 ≡ after_piece text.now }
+    ensures cell { IsCell text.now → ForSome (option_copied result.1) IsCell }
+{
+    match text.split_once(' ') {
+        Some((piece, rest)) => (piece, Some(rest)),
+        None => (text, None),
+    }
+}
+
+// Refuses what stands behind the last piece of a command.
+pub fn nothing(rest: Option<&str>) -> Result<(), BadLine>
+    ensures { (c : PlainCommand) → the_end c (option_copied rest.entry)
+        ≡ go_on result (λ _. Ok c) }
+{
+    match rest {
+        Some(_) => Err(BadLine::Command),
+        None => Ok(()),
+    }
+}
+
+// The one piece of a command `WORD NAME`.
+pub fn name(rest: Option<&str>) -> Result<Name<'_>, BadLine>
+    ensures { (f : List ℕ → PlainCommand)
+        → a_name (λ b. the_end (f b)) (option_copied rest.entry)
+        ≡ go_on result (λ read. Ok (f (name_bytes read))) }
+{
+    let (piece, rest) = next_piece(rest)?;
+    nothing(rest)?;
+    named(piece)
+}
+
+// The pieces of a command `WORD NAME NUMBER`.
+pub fn name_and_number(rest: Option<&str>) -> Result<(Name<'_>, u32), BadLine>
+    ensures { (f : List ℕ → ℕ → PlainCommand)
+        → a_name (λ b. a_number (λ i. the_end (f b i))) (option_copied rest.entry)
+        ≡ go_on result (λ read. Ok (f (name_bytes read.0) read.1)) }
+{
+    let (piece, rest) = next_piece(rest)?;
+    let (number, rest) = next_number(rest)?;
+    nothing(rest)?;
+    let name = named(piece)?;
+    Ok((name, number))
+}
+
+// The pieces of a command `WORD NAME TEXT`.
+pub fn name_and_text(rest: Option<&str>) -> Result<(Name<'_>, Line<'_>), BadLine>
+    requires { ForSome (option_copied rest) IsCell }
+    ensures { (f : List ℕ → List ℕ → PlainCommand)
+        → a_name (λ b. the_text (λ t. f b t)) (option_copied rest.entry)
+        ≡ go_on result (λ read. Ok (f (name_bytes read.0) (line_bytes read.1))) }
+{
+    let (piece, rest) = next_piece(rest)?;
+    let text = text(rest)?;
+    let name = named(piece)?;
+    Ok((name, text))
+}
+
+// The next piece, which is to be a name, and what follows it.
+fn next_piece(rest: Option<&str>) -> Result<(&str, Option<&str>), BadLine>
+    ensures read { (more : List ℕ → Reading) → a_name more (option_copied rest.entry)
+        ≡ go_on result (λ read. if_named read.0.now (more read.0.now (option_copied read.1))) }
+    ensures cell { ForSome (option_copied rest.entry) IsCell
+        → IfOk result (λ read. ForSome (option_copied read.1) IsCell) }
+{
+    match rest {
+        Some(text) => Ok(split_piece(text)),
+        None => Err(BadLine::Command),
+    }
+}
+
+// The next piece, which is to be a number, and what follows it.
+fn next_number(rest: Option<&str>) -> Result<(u32, Option<&str>), BadLine>
+    ensures read { (more : ℕ → Reading) → a_number more (option_copied rest.entry)
+        ≡ go_on result (λ read. more read.0 (option_copied read.1)) }
+    ensures cell { ForSome (option_copied rest.entry) IsCell
+        → IfOk result (λ read. ForSome (option_copied read.1) IsCell) }
+{
+    let Some(text) = rest else {
+        return Err(BadLine::Command);
+    };
+    let (piece, rest) = split_piece(text);
+    match decimal(piece) {
+        Some(number) => Ok((number, rest)),
+        None => Err(BadLine::Command),
+    }
+}
+
+// All the rest, as the text of a command.
+fn text(rest: Option<&str>) -> Result<Line<'_>, BadLine>
+    requires { ForSome (option_copied rest) IsCell }
+    ensures { (f : List ℕ → PlainCommand) → the_text f (option_copied rest.entry)
+        ≡ go_on result (λ read. Ok (f (line_bytes read))) }
+{
+    match rest {
+        // The line is a cell, and so is each part of it.
+        Some(text) => Ok(Line::new(text).unwrap()),
+        None => Err(BadLine::Command),
+    }
+}
+
+// The piece as a name.
+fn named(piece: &str) -> Result<Name<'_>, BadLine>
+    ensures { (f : List ℕ → PlainCommand) → if_named piece.now (Ok (f piece.now))
+        ≡ go_on result (λ read. Ok (f (name_bytes read))) }
+{
+    match Name::new(piece) {
+        Some(name) => Ok(name),
+        None => Err(BadLine::Name),
+    }
+}
+
+// The number that the piece writes in decimal without leading zeros, if it fits 32 bits.
+fn decimal(piece: &str) -> Option<u32>
+    ensures { result ≡ number_of piece.now }
+{
+    // Rust's own reading would take a plus and leading zeros.
+    if piece.starts_with('+') || has_leading_zero(piece) {
+        None
+    } else {
+        piece.parse().ok()
+    }
+}
+
+// Whether a zero stands first and more follows.
+fn has_leading_zero(piece: &str) -> bool
+    ensures { result ≡ leading_zero piece.now }
+{
+    piece.starts_with('0') && piece.len() > 1
+}
