@@ -1,0 +1,4 @@
+pub mod InOrder
+pub mod Shelf
+pub mod Answering
+pub mod Ending
