@@ -1,0 +1,128 @@
+#!/usr/bin/env bash
+# Makes and frees ten million rows of the counted heap, and tells the time and the bytes of a row.
+# It writes a small program beside a copy of the crates that it stands on, in a folder of its own,
+# since the gate takes no program outside the listed crates. Usage: bench/heap.sh [FOLDER]
+set -eu
+top=$(cd "$(dirname "$0")/.." && pwd)
+work=${1:-$(mktemp -d)}
+rows=1000000
+rounds=10
+
+mkdir -p "$work/crates"
+for crate in elem_core node_heap; do
+    rm -rf "$work/crates/$crate"
+    cp -r "$top/crates/$crate" "$work/crates/$crate"
+    rm -rf "$work/crates/$crate/out" "$work/crates/$crate/must-fail"
+done
+cp "$top/HANDLES" "$work/HANDLES"
+grep -E '^(elem_core|node_heap):' "$top/crates.txt" > "$work/crates.txt"
+
+# write_program NAME LINKS: a program whose nodes have these links, of `cell` and `top`.
+write_program() {
+    local crate="$work/crates/$1"
+    rm -rf "$crate"
+    mkdir -p "$crate/src" "$crate/specs" "$crate/proofs/round" "$crate/proofs/main"
+    echo "$1: node_heap elem_core" >> "$work/crates.txt"
+    : > "$crate/specs/Lib.antt"
+    : > "$crate/proofs/Lib.antt"
+    cat > "$crate/src/main.rt" <<PROGRAM
+#![tactic(auto)]
+
+ghost use Rattle.std.specs.Prelude.{◌≡◌, ◌<◌, ◌^◌, IfOk, OnOk};
+ghost use Rattle.node_heap.specs.Heap.{holds_at, hold_count};
+
+use elem_core::NoMemory;
+use node_heap::{Head, Heap, Link};
+
+const ROWS: u32 = $rows;
+
+fn main(rt: HostRuntime) -> Result<(), NoMemory> {
+    let mut heap: Heap<u32> = Heap::new(rt.alloc());
+    for turn in 0..$rounds {
+        let _ = turn;
+        round(&mut heap)?;
+    }
+    Ok(())
+}
+
+fn round(heap: &mut Heap<u32>) -> Result<(), NoMemory>
+    requires { hold_count heap.old ≡ 0 }
+    ensures { OnOk result (hold_count heap.new ≡ 0) }
+{
+    heap.reserve(${3}, ROWS as usize)?;
+    let mut top = first(heap)?;
+    for value in 0..ROWS {
+        top = above(heap, top, value)?;
+    }
+    heap.release(top);
+    Ok(())
+}
+
+fn first(heap: &mut Heap<u32>) -> Result<Link, NoMemory>
+    requires few { hold_count heap.old ≡ 0 }
+    ensures held { IfOk result (λ link. 0 < holds_at heap.new link) }
+    ensures count { OnOk result (hold_count heap.new ≡ 1) }
+{
+    heap.reserve(1, 0)?;
+    Ok(heap.cell(0))
+}
+
+fn above(heap: &mut Heap<u32>, top: Link, value: u32) -> Result<Link, NoMemory>
+    requires held { 0 < holds_at heap.old top }
+    requires few { hold_count heap.old ≡ 1 }
+    ensures held { IfOk result (λ link. 0 < holds_at heap.new link) }
+    ensures count { OnOk result (hold_count heap.new ≡ 1) }
+{
+    heap.reserve(1, 1)?;
+    $2
+}
+PROGRAM
+    cat > "$crate/proofs/main/Invariants.antt" <<PROOF
+use Rattle.std.proofs.Common.{◌≡◌}
+use Rattle.node_heap.specs.Heap.{hold_count}
+use Rattle.$1.proofs.main.Given as goal
+
+abbrev pub invariant-loop-turn : goal.invariant-loop-turn
+invariant-loop-turn l = hold_count l.heap ≡ 0
+PROOF
+    cat > "$crate/proofs/round/Invariants.antt" <<PROOF
+use Rattle.std.proofs.Common.{◌≡◌, ◌<◌}
+use Rattle.node_heap.specs.Heap.{holds_at, hold_count}
+use Rattle.$1.proofs.round.Given as goal
+
+abbrev pub invariant-loop-value : goal.invariant-loop-value
+invariant-loop-value l = record {
+  held : 0 < holds_at l.heap l.top;
+  count : hold_count l.heap ≡ 1;
+}
+PROOF
+}
+
+write_program heap_nodes '{ let _ = value; Ok(heap.node(Head::Chain, \&[top])) }' 1
+write_program heap_pairs '{ let cell = heap.cell(value); Ok(heap.node(Head::Chain, \&[cell, top])) }' 'ROWS as usize + 1'
+sed -i 's/\\&/\&/g' "$work"/crates/heap_*/src/main.rt
+
+for name in heap_nodes heap_pairs; do
+    (cd "$work/crates/$name" && rt run > "$work/$name.log" 2>&1) || { tail -20 "$work/$name.log"; exit 1; }
+done
+
+python3 - "$work" "$rows" "$rounds" <<'PYTHON'
+import os, sys, time
+work, rows, rounds = sys.argv[1], int(sys.argv[2]), int(sys.argv[3])
+
+def measured(name):
+    """The wall seconds and the peak bytes of one run."""
+    program = os.path.join(work, "crates", name, "out", name)
+    start = time.monotonic()
+    child = os.spawnv(os.P_NOWAIT, program, [name])
+    _, status, usage = os.wait4(child, 0)
+    if status != 0:
+        sys.exit(f"{name} ended with {status}")
+    return time.monotonic() - start, usage.ru_maxrss * 1024
+
+nodes_time, nodes_bytes = measured("heap_nodes")
+pairs_time, pairs_bytes = measured("heap_pairs")
+made = rows * rounds
+print(f"{made} nodes made and freed in {nodes_time:.2f} s: {nodes_time / made * 1e9:.0f} ns a node, {nodes_bytes / rows:.0f} bytes a node at the peak")
+print(f"{made} nodes and {made} cells in {pairs_time:.2f} s: {pairs_time / (2 * made) * 1e9:.0f} ns a row, {(pairs_bytes - nodes_bytes) / rows:.0f} bytes a cell at the peak")
+PYTHON

@@ -1,0 +1,10 @@
+pub mod Counts
+pub mod Reach
+pub mod Trees
+pub mod Frames
+pub mod Slots
+pub mod Dying
+pub mod Reached
+pub mod Stored
+pub mod Added
+pub mod Freed

@@ -1,0 +1,93 @@
+-- What calls do to a heap, as records that a caller composes.
+use Rattle.std.specs.Prelude.{◌≡◌, ◌≢◌, ◌↔◌, ℕ, ◌+◌, ◌-◌, ◌^◌, ◌<◌, ◌≤◌, List, length, Some, None, IsSome, min}
+use Rattle.node_heap.specs.Links.{count, IsReached, SameBelow}
+use Rattle.node_heap.specs.Forms.{Row, links_of, Tree, IsTree}
+use Rattle.node_heap.specs.Heap.{Heap, row_at, form_at, links_at, holds_at, hold_count, live_count, cell_count, node_count, one_at, IsGraph}
+
+module _ {T : Type 0} where
+  -- all that the link reaches in the old heap is the same in the new one
+  abbrev pub KeepsBelow : Heap T → Heap T → ℕ → Type 0
+  KeepsBelow old new l = SameBelow (links_at old) (row_at old) (row_at new) l
+
+  -- each link names the same row
+  abbrev pub SameRows : Heap T → Heap T → Type 0
+  SameRows old new = (k : ℕ) → row_at new k ≡ row_at old k
+
+  -- the new heap has this row besides, held once, for which a hold of each place of a link was spent
+  pub record Adds (old new : Heap T) (link : ℕ) (row : Row T) : Type 0 where
+    pub fresh : row_at old link ≡ None
+    pub here : row_at new link ≡ Some row
+    pub unheld : holds_at old link ≡ 0
+    pub apart : count link (links_of (Some row)) ≡ 0
+    pub others : (k : ℕ) → k ≢ link → row_at new k ≡ row_at old k
+    pub holds : (k : ℕ) → holds_at new k + count k (links_of (Some row)) ≡ holds_at old k + one_at link k
+
+  -- so many cells and nodes were made of spares, and no row was freed
+  pub record Makes (old new : Heap T) (c n : ℕ) : Type 0 where
+    pub spare_cells : new.spare_cells + c ≡ old.spare_cells
+    pub spare_nodes : new.spare_nodes + n ≡ old.spare_nodes
+    pub cells : cell_count new ≡ cell_count old + c
+    pub nodes : node_count new ≡ node_count old + n
+    pub live : live_count new ≡ live_count old + (c + n)
+    pub made : new.made ≡ min (old.made + (c + n)) (2 ^ 64 - 1)
+    pub no_fewer : old.made ≤ new.made
+
+  -- a hold is given up, and exactly the rows that no hold left reaches are gone, each a spare of its kind
+  pub record Releases (old new : Heap T) (link : ℕ) : Type 0 where
+    pub holds : (k : ℕ) → holds_at new k + one_at link k ≡ holds_at old k
+    pub count : hold_count new + 1 ≡ hold_count old
+    pub stays : (l : ℕ) → IsSome (row_at new l) ↔ IsReached (holds_at new) (links_at old) l
+    pub same : (l : ℕ) → IsSome (row_at new l) → row_at new l ≡ row_at old l
+    pub cells : new.spare_cells + cell_count new ≡ old.spare_cells + cell_count old
+    pub nodes : new.spare_nodes + node_count new ≡ old.spare_nodes + node_count old
+    pub fewer_cells : cell_count new ≤ cell_count old
+    pub fewer_nodes : node_count new ≤ node_count old
+    pub fewer : live_count new ≤ live_count old
+    pub made : new.made ≡ old.made
+
+  -- every row that was there stays, with all below it
+  pub record Extends (old new : Heap T) : Type 0 where
+    pub live : (l : ℕ) → IsSome (row_at old l) → IsSome (row_at new l)
+    pub kept : (l : ℕ) → IsSome (row_at old l) → KeepsBelow old new l
+
+  -- a link of which a hold is left unspent keeps all that it reaches, and no more holds than these are spent
+  pub record KeepsHeld (spent : ℕ → ℕ) (old new : Heap T) : Type 0 where
+    pub live : (l : ℕ) → spent l < holds_at old l → IsSome (row_at new l)
+    pub kept : (l : ℕ) → spent l < holds_at old l → KeepsBelow old new l
+    pub left : (l : ℕ) → holds_at old l ≤ holds_at new l + spent l
+
+  -- a link that is held unfolds to the tree that it unfolded to
+  abbrev pub KeepsTrees : Heap T → Heap T → Type 0
+  KeepsTrees old new = (l : ℕ) (t : Tree T) → 0 < holds_at new l → IsTree (form_at old) l t → IsTree (form_at new) l t
+
+  -- nothing has changed but the spares, of which none is lost
+  pub record Unchanged (old new : Heap T) : Type 0 where
+    pub rows : SameRows old new
+    pub holds : (k : ℕ) → holds_at new k ≡ holds_at old k
+    pub count : hold_count new ≡ hold_count old
+    pub cells : cell_count new ≡ cell_count old
+    pub nodes : node_count new ≡ node_count old
+    pub live : live_count new ≡ live_count old
+    pub made : new.made ≡ old.made
+    pub spare_cells : old.spare_cells ≤ new.spare_cells
+    pub spare_nodes : old.spare_nodes ≤ new.spare_nodes
+    pub graph : IsGraph new
+
+  -- spares and rows of each kind are together no fewer, and the number made rises at least by the rows that
+  -- came, up to its greatest value
+  pub record Balances (old new : Heap T) : Type 0 where
+    pub spare_cells : old.spare_cells + cell_count old ≤ new.spare_cells + cell_count new
+    pub spare_nodes : old.spare_nodes + node_count old ≤ new.spare_nodes + node_count new
+    pub no_fewer : old.made ≤ new.made
+    pub made : min (old.made + (live_count new - live_count old)) (2 ^ 64 - 1) ≤ new.made
+
+  -- a pure call has answered: the old rows stay, at most so many cells and nodes came, each of a spare,
+  -- and the result is held once more, for which a hold of each link in the list was spent
+  pub record Answered (old new : Heap T) (spent : List ℕ) (result c n : ℕ) : Type 0 where
+    pub extends : Extends old new
+    pub graph : IsGraph new
+    pub holds : (k : ℕ) → holds_at new k + count k spent ≡ holds_at old k + one_at result k
+    pub count : hold_count new + length spent ≡ hold_count old + 1
+    pub cells : cell_count new ≤ cell_count old + c
+    pub nodes : node_count new ≤ node_count old + n
+    pub balance : Balances old new

@@ -1,0 +1,5 @@
+pub mod Links
+pub mod Forms
+pub mod Heap
+pub mod Calls
+pub mod Layout

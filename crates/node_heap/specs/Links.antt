@@ -1,0 +1,35 @@
+-- Links on their own: what each row leads to.
+use Rattle.std.specs.Prelude.{◌≡◌, ℕ, ◌<◌, List, count_by, ◌==◌}
+
+-- the links of each row
+abbrev pub Links : Type 0
+Links = ℕ → List ℕ
+
+-- how often the link stands in the list
+abbrev pub count : ℕ → List ℕ → ℕ
+count l links = count_by (λ k. k == l) links
+
+-- the row of the first link has the second
+abbrev pub HasLink : Links → ℕ → ℕ → Type 0
+HasLink L l k = 0 < count k (L l)
+
+-- a way down from one link to another
+pub data Reaches (L : Links) : ℕ → ℕ → Type 0 where
+  here : (l : ℕ) → Reaches L l l
+  below : (l k m : ℕ) → HasLink L l k → Reaches L k m → Reaches L l m
+
+-- some link that is held this often reaches the row
+abbrev pub IsReached : (ℕ → ℕ) → Links → ℕ → Type 0
+IsReached holds L l = (k : ℕ) × (0 < holds k) × Reaches L k l
+
+-- each link leads to a lower rank
+abbrev pub LeadsDown : (ℕ → ℕ) → Links → Type 0
+LeadsDown rank L = (l k : ℕ) → HasLink L l k → rank k < rank l
+
+-- no row reaches itself through a link of its own
+abbrev pub IsAcyclic : Links → Type 0
+IsAcyclic L = (l k : ℕ) → HasLink L l k → ¬ Reaches L k l
+
+-- all that the link reaches reads the same in both
+abbrev pub SameBelow : {X : Type 0} → Links → (ℕ → X) → (ℕ → X) → ℕ → Type 0
+SameBelow L G H l = (m : ℕ) → Reaches L l m → H m ≡ G m

@@ -1,0 +1,17 @@
+//! A counted heap of rows.
+//!
+//! A row is a cell with a value, or a node with a head and up to 32 links to other rows. A link stays valid as long as
+//! its row has an owner: a hold of a caller, or a place in another row. Rows are made of spares, which `reserve` takes,
+//! so that no other call needs memory, and a row that loses its last owner is a spare again.
+#![tactic(auto)]
+
+mod entry;
+mod heap;
+mod laws;
+mod row;
+#[cfg(test)]
+mod tests;
+
+pub use heap::Heap;
+pub use laws::unfolds_to_one_tree;
+pub use row::{Head, Link, Sums};

@@ -1,0 +1,77 @@
+//! What rows are made of: links, sums and heads.
+ghost use Rattle.std.specs.Prelude.{◌≡◌, ◌≤◌, length};
+
+use std::marker::Model;
+
+/// Names a row of a heap by its place there.
+#[derive(Clone, Copy, PartialEq, Eq, Hash, Default, Debug)]
+pub struct Link {
+    pub(crate) place: usize,
+}
+
+impl Model for Link {
+    ghost use Rattle.std.specs.Prelude.{ℕ};
+
+    ghost Value = { ℕ };
+
+    ghost view = { λ l. l.place };
+
+    ghost inverse = { λ n. record { place = n } };
+}
+
+/// The running sums of the lengths of an inner row's children, at most 32.
+#[derive(Drop)]
+pub struct Sums {
+    items: [u32; 32],
+    // How many of the items count.
+    len: u8,
+}
+
+impl Model for Sums {
+    ghost use Rattle.std.specs.Prelude.{ℕ, List, ◌≤◌, take};
+
+    ghost Value = { List ℕ };
+
+    ghost view = { λ s. take s.len s.items };
+
+    ghost invariant = { λ s. s.len ≤ 32 };
+}
+
+impl Sums {
+    /// These sums, at most 32.
+    pub fn from_slice(items: &[u32]) -> Sums
+        requires { length items.now ≤ 32 }
+        ensures { result ≡ items.now }
+    {
+        let mut kept = [0; 32];
+        kept[..items.len()].copy_from_slice(items);
+        Sums {
+            items: kept,
+            len: items.len() as u8,
+        }
+    }
+
+    /// The sums in order.
+    pub fn as_slice(&self) -> &[u32]
+        ensures { result.now ≡ self.now }
+    {
+        &self.items[..self.len as usize]
+    }
+}
+
+/// What a node is, beside its links.
+#[derive(Drop)]
+pub enum Head {
+    /// A row of a vector at height 0: its links are elements.
+    Leaf,
+    /// A row of a vector at a height of 1 or more, with the running sums of its children's lengths.
+    Inner { height: u8, sums: Sums },
+    /// A row of a trie at a depth: its links are first the entries and then the nodes, each by rising position in its set.
+    Trie { depth: u8, entries: u32, nodes: u32 },
+    /// An entry among those with one code, and the link of the next such row, if any.
+    Chain,
+    /// A key cell and a value.
+    Pair,
+    /// Two parts of a state.
+    State,
+}
