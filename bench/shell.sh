@@ -1,0 +1,69 @@
+#!/usr/bin/env bash
+# Pipes 1,000,000 lines of `add` and 1,000,000 of `get` through the built program, and tells time and memory.
+#   bench/shell.sh              the program alone
+#   bench/shell.sh YARDSTICK    and beside it the shell of the yardstick in that folder, over `im_rc`, set up by
+#                               its own ./setup.sh; then the yardstick's workloads for the commands that there are
+set -eu
+here=$(cd "$(dirname -- "$0")/.." && pwd -P)
+program=$here/crates/ewig_shell/out/ewig_shell
+"$here/ewig" </dev/null >/dev/null
+yardstick=${1:-}
+if [ -n "$yardstick" ]; then
+    yardstick=$(cd "$yardstick" && pwd -P)
+fi
+
+room=$(mktemp -d)
+trap 'rm -rf -- "$room"' EXIT
+python3 - "$room/input" <<'PYTHON'
+import sys
+with open(sys.argv[1], "w") as out:
+    out.write("new a\n")
+    for i in range(1_000_000):
+        out.write(f"add a line {i} of the text\n")
+    for i in range(1_000_000):
+        out.write(f"get a {i * 7919 % 1_000_000}\n")
+    out.write("len a\nquit\n")
+PYTHON
+
+shells=("$program")
+[ -n "$yardstick" ] && shells+=("$yardstick/target/release/im_shell")
+python3 - "$room" "${shells[@]}" <<'PYTHON'
+import hashlib, os, subprocess, sys, time
+room, shells = sys.argv[1], sys.argv[2:]
+
+def once(shell):
+    """Wall seconds, processor seconds, peak bytes and the replies' checksum of one run over a pipe."""
+    feed = subprocess.Popen(["cat", room + "/input"], stdout=subprocess.PIPE)
+    with open(room + "/replies", "wb") as out:
+        start = time.monotonic()
+        child = subprocess.Popen([shell], stdin=feed.stdout, stdout=out, cwd=room)
+        feed.stdout.close()
+        _, status, usage = os.wait4(child.pid, 0)
+        wall = time.monotonic() - start
+    feed.wait()
+    if status != 0:
+        sys.exit(f"{shell} ended with {status}")
+    with open(room + "/replies", "rb") as it:
+        replies = hashlib.sha256(it.read()).hexdigest()
+    return wall, usage.ru_utime + usage.ru_stime, usage.ru_maxrss * 1024, replies
+
+best, replies = {}, set()
+for turn in range(3):
+    for shell in shells:
+        *figures, told = once(shell)
+        replies.add(told)
+        best[shell] = [min(a, b) for a, b in zip(best.get(shell, figures), figures)]
+if len(replies) > 1:
+    sys.exit("the replies differ")
+print("2,000,000 lines, best of 3:")
+for shell in shells:
+    wall, processor, peak = best[shell]
+    print(f"  {os.path.basename(shell):12} {wall:6.2f} s wall  {processor:6.2f} s processor  {peak / 1e6:7.1f} MB")
+if len(shells) == 2:
+    ratios = [a / b for a, b in zip(*[best[shell] for shell in shells])]
+    print("  ratio to the yardstick: wall %.2f, processor %.2f, memory %.2f" % tuple(ratios))
+PYTHON
+
+if [ -n "$yardstick" ]; then
+    cd "$yardstick" && python3 bench.py --bin "$program" --have plain --no-std
+fi

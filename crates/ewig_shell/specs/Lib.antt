@@ -1,0 +1,5 @@
+pub mod Quits
+pub mod Step
+pub mod Sending
+pub mod Run
+pub mod Going

@@ -1,0 +1,189 @@
+//! Worked rows over memory. What no clause can say: that memory is there, and that the clauses mean what they should.
+
+use crate::run::{Status, run, run_upto};
+use shell_io::{MemSink, MemSource, MemStore};
+use std::process::Abort;
+use std::test::Fail;
+
+// More than any row writes.
+const ROOM: usize = 200_000;
+
+// How the devices of a row are cut, and at which calls they fail.
+#[derive(Clone, Copy)]
+struct Devices<'a> {
+    source_piece: usize,
+    source_fails: &'a [u64],
+    sink_piece: usize,
+    sink_fails: &'a [u64],
+}
+
+// Devices that give and take all at once, and never fail.
+const WHOLE: Devices<'static> = Devices {
+    source_piece: 1_000_000,
+    source_fails: &[],
+    sink_piece: 1_000_000,
+    sink_fails: &[],
+};
+
+// Runs the input and compares what is written and how the run ends.
+fn check<R: Abort + AllocGlobal>(
+    rt: &R,
+    input: &[u8],
+    most: u64,
+    devices: &Devices<'_>,
+    written: &[u8],
+    status: Status,
+) -> Result<(), Fail> {
+    let alloc = rt.alloc();
+    let bytes = input.to_vec(alloc)?;
+    let mut source = MemSource::new(
+        bytes,
+        devices.source_piece.max(1),
+        devices.source_fails.to_vec(alloc)?,
+    );
+    let sink_fails = devices.sink_fails.to_vec(alloc)?;
+    let mut sink = MemSink::new(alloc, ROOM, devices.sink_piece.max(1), sink_fails)?;
+    let mut store = MemStore::new(alloc, Vec::new(alloc), Vec::new(alloc));
+    let ended = run_upto(
+        alloc,
+        &[],
+        most.min(1 << 40),
+        &mut source,
+        &mut sink,
+        &mut store,
+    );
+    assert_eq!(rt; sink.bytes(), written);
+    assert_eq!(rt; ended.status, status);
+    assert!(rt; ended.space.is_some());
+    Ok(())
+}
+
+#[test]
+fn replies_however_the_input_is_cut(rt: HostRuntime) -> Result<(), Fail> {
+    let rows: [(&[u8], &[u8]); 9] = [
+        (b"", b""),
+        (b"new a\nadd a hello\nget a 0\n", b"ok\nok\n= hello\n"),
+        (b"new a", b"ok\n"),
+        (b"\nlist\n", b"! command\nok\n"),
+        (
+            b"new a\nadd a \nadd a\nlen a\n",
+            b"ok\nok\n! command\n= 1\n",
+        ),
+        (b"add a \xff\n", b"! utf8\n"),
+        (
+            b"new .x\nget a 01\nlist \nget a 0\n",
+            b"! name\n! command\n! command\n! none\n",
+        ),
+        (
+            b"new b\nnew B\nnew b\nadd B x\nget B 1\nlist\n",
+            b"ok\nok\n! exists\nok\n! range\n= B 1\n= b 0\nok\n",
+        ),
+        (b"new a\nquit\nnew a\n", b"ok\nok\n"),
+    ];
+    for (input, written) in rows {
+        for piece in [1, 2, 3, 5, 11, 64] {
+            let devices = Devices {
+                source_piece: piece,
+                sink_piece: piece,
+                ..WHOLE
+            };
+            check(&rt, input, 1 << 40, &devices, written, Status::Done)?;
+        }
+    }
+    Ok(())
+}
+
+#[test]
+fn long_lines_and_many(rt: HostRuntime) -> Result<(), Fail> {
+    let alloc = rt.alloc();
+    let mut input = vec![in alloc; b'x'; 65_537]?;
+    input.extend_from_slice(b"\nlist\n")?;
+    check(&rt, &input, 1 << 40, &WHOLE, b"! long\nok\n", Status::Done)?;
+
+    let mut input = Vec::from_slice(alloc, b"new a\n")?;
+    let mut written = Vec::from_slice(alloc, b"ok\n")?;
+    for i in 0..33u32 {
+        input.extend_from_slice(format!(in alloc; "add a l{i}\n")?.as_bytes())?;
+        written.extend_from_slice(b"ok\n")?;
+    }
+    input.extend_from_slice(b"get a 32\nlen a\n")?;
+    written.extend_from_slice(b"= l32\n= 33\n")?;
+    check(&rt, &input, 1 << 40, &WHOLE, &written, Status::Done)
+}
+
+#[test]
+fn ends_at_the_most_bytes(rt: HostRuntime) -> Result<(), Fail> {
+    let rows: [(&[u8], &[u8], Status); 5] = [
+        (b"new a\nlen a\nlist\n", b"ok\n= 0\n", Status::TooLong),
+        (b"new a\nlen a\n", b"ok\n= 0\n", Status::Done),
+        (b"new a\nlen aa", b"ok\n! none\n", Status::Done),
+        (b"new a\nlen aaa", b"ok\n", Status::TooLong),
+        (b"new a\nquit\nlist\n", b"ok\nok\n", Status::Done),
+    ];
+    for (input, written, status) in rows {
+        for piece in [1, 4, 12, 100] {
+            let devices = Devices {
+                source_piece: piece,
+                ..WHOLE
+            };
+            check(&rt, input, 12, &devices, written, status)?;
+        }
+    }
+    Ok(())
+}
+
+#[test]
+fn faults_at_each_call_in_turn(rt: HostRuntime) -> Result<(), Fail> {
+    let input = b"new a\nlen a\n";
+    let written = b"ok\n= 0\n";
+    // What was read before a fault is executed: lines of six bytes each.
+    for call in 0..5u64 {
+        let devices = Devices {
+            source_piece: 6,
+            source_fails: &[call],
+            ..WHOLE
+        };
+        let (read, status) = match call {
+            0 => (0, Status::ReadFault),
+            1 => (3, Status::ReadFault),
+            2 => (7, Status::ReadFault),
+            _ => (7, Status::Done),
+        };
+        check(&rt, input, 1 << 40, &devices, &written[..read], status)?;
+    }
+    // What was written before a fault stays: two bytes a call, and one where a reply ends.
+    for call in 0..5u64 {
+        let devices = Devices {
+            sink_piece: 2,
+            sink_fails: &[call],
+            ..WHOLE
+        };
+        let (kept, status) = match call {
+            0 => (0, Status::WriteFault),
+            1 => (2, Status::WriteFault),
+            2 => (3, Status::WriteFault),
+            3 => (5, Status::WriteFault),
+            _ => (7, Status::Done),
+        };
+        check(&rt, input, 1 << 40, &devices, &written[..kept], status)?;
+    }
+    Ok(())
+}
+
+#[test]
+fn any_word_is_usage(rt: HostRuntime) -> Result<(), Fail> {
+    let alloc = rt.alloc();
+    let mut words = Vec::new(alloc);
+    words.push(String::from_str(alloc, "--bits")?)?;
+    words.push(String::from_str(alloc, "33")?)?;
+    let input = Vec::from_slice(alloc, b"list\n")?;
+    let mut source = MemSource::new(input, 1, Vec::new(alloc));
+    let mut sink = MemSink::new(alloc, 10, 1, Vec::new(alloc))?;
+    let mut store = MemStore::new(alloc, Vec::new(alloc), Vec::new(alloc));
+    let ended = run(alloc, &words, &mut source, &mut sink, &mut store);
+    assert_eq!(rt; ended.status, Status::Usage);
+    assert!(rt; ended.space.is_none());
+    assert!(rt; sink.bytes().is_empty());
+    assert_eq!(rt; source.rest(), b"list\n".as_slice());
+    Ok(())
+}

@@ -1,0 +1,6 @@
+pub mod FilesLemmas
+pub mod NewlineLemmas
+pub mod PiecesLemmas
+pub mod StandsLemmas
+pub mod WindowLemmas
+pub mod WriteLemmas

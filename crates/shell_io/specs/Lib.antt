@@ -1,0 +1,6 @@
+pub mod Fault
+pub mod Pieces
+pub mod InMemory
+pub mod Reader
+pub mod Window
+pub mod Sound

@@ -1,0 +1,99 @@
+//! What a source, a sink and a store are.
+//!
+//! A device may tell what it holds, as one over memory does; a file, a stream and a terminal don't.
+//! Where it tells nothing, a clause on its content claims nothing.
+
+ghost use Rattle.std.specs.Prelude.{◌≡◌, ℕ, ◌+◌, ◌-◌, ◌<◌, ◌≤◌, List, length, take, IsOk, IfOk, OnOk, OnErr, None};
+ghost use Rattle.std.specs.declared.option.Option.{Option};
+ghost use Rattle.std.specs.Io.KnownBytes.{Consumes, Appends, Keeps, IsAtEnd};
+ghost use Rattle.shell_io.specs.Fault.{HasCause};
+ghost use Rattle.shell_io.specs.InMemory.{Files};
+
+/// A device failed at this call.
+#[derive(Clone, Copy, Debug, PartialEq, Eq)]
+pub struct Failed;
+
+/// What gives bytes.
+pub trait Source {
+    // The bytes still to come, where they are told.
+    ghost left: { Self → Option (List ℕ) };
+
+    // How often a call has failed. It stays at its last value.
+    ghost faults: { Self → ℕ };
+
+    // No call from now on fails. A source that can't know it claims nothing.
+    ghost faultless: { Self → Type 0 };
+
+    /// Moves the next bytes to the front of the buffer, and answers how many: 0 is the end of input.
+    /// A call that fails takes none.
+    fn pull(&mut self, buf: &mut [u8]) -> Result<usize, Failed>
+        requires { 0 < length buf.old }
+
+        ensures within { IfOk result (λ n. n ≤ length buf.old) }
+        ensures moved { IfOk result (λ n. Consumes (left self.old) (left self.new) (take n buf.new)) }
+        ensures at_end { IfOk result (λ n. n ≡ 0 → IsAtEnd (left self.old)) }
+        ensures kept { OnErr result (Keeps (left self.old) (left self.new)) }
+
+        ensures counted { faults self.old ≤ faults self.new }
+        ensures cause { OnErr result (HasCause (faults self.old) (faults self.new)) }
+        ensures sure { faultless self.old →
+            IsOk result × (faults self.new ≡ faults self.old) × faultless self.new };
+}
+
+/// What takes bytes.
+pub trait Sink {
+    // The bytes written, where they are told.
+    ghost written: { Self → Option (List ℕ) };
+
+    // How often a call has failed. It stays at its last value.
+    ghost faults: { Self → ℕ };
+
+    // So many bytes more are written without a fault. A sink that can't know it claims nothing.
+    ghost has_room: { Self → ℕ → Type 0 };
+
+    /// Writes the front of the piece, and answers how many bytes. A call that fails writes none.
+    fn push(&mut self, piece: &[u8]) -> Result<usize, Failed>
+        ensures within { IfOk result (λ n. n ≤ length piece.now) }
+        ensures grown { IfOk result (λ n. Appends (written self.old) (written self.new) (take n piece.now)) }
+        ensures kept { OnErr result (Keeps (written self.old) (written self.new)) }
+
+        ensures counted { faults self.old ≤ faults self.new }
+        ensures cause { OnErr result (HasCause (faults self.old) (faults self.new)) }
+        // None of a piece that has bytes is written only where the sink failed.
+        ensures stuck { IfOk result (λ n. n ≡ 0 → 0 < length piece.now → HasCause (faults self.old) (faults self.new)) }
+        ensures sure { (room : ℕ) → has_room self.old room → length piece.now ≤ room →
+            (faults self.new ≡ faults self.old) × IsOk result
+            × IfOk result (λ n. (0 < length piece.now → 0 < n) × has_room self.new (room - n)) };
+}
+
+/// What keeps files by their names.
+pub trait Store {
+    // The files, by their names, where they are told.
+    ghost held: { Self → Option Files };
+
+    // How often a call has failed. It stays at its last value.
+    ghost faults: { Self → ℕ };
+}
+
+/// Writes the whole piece. `Failed`, and a proper prefix of it is written, where the sink fails, or
+/// takes no more of it.
+pub fn write_all<K: Sink>(sink: &mut K, piece: &[u8]) -> Result<(), Failed>
+    ensures whole { OnOk result (Appends (K.written sink.old) (K.written sink.new) piece.now) }
+    ensures part { OnErr result ((n : ℕ) × (n < length piece.now)
+        × Appends (K.written sink.old) (K.written sink.new) (take n piece.now)) }
+
+    ensures counted { K.faults sink.old ≤ K.faults sink.new }
+    ensures cause { OnErr result (HasCause (K.faults sink.old) (K.faults sink.new)) }
+    ensures sure { (room : ℕ) → K.has_room sink.old room → length piece.now ≤ room →
+        IsOk result × (K.faults sink.new ≡ K.faults sink.old) × K.has_room sink.new (room - length piece.now) }
+{
+    let mut rest = piece;
+    while !rest.is_empty() {
+        let written = sink.push(rest)?;
+        if written == 0 {
+            return Err(Failed);
+        }
+        rest = &rest[written..];
+    }
+    Ok(())
+}

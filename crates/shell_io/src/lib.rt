@@ -1,0 +1,15 @@
+//! The outside as the shell sees it: sources, sinks and stores, and the lines that a source gives.
+#![tactic(auto)]
+
+mod device;
+mod memory;
+mod outside;
+mod reader;
+#[cfg(test)]
+mod tests;
+mod window;
+
+pub use device::{Failed, Sink, Source, Store, write_all};
+pub use memory::{MemSink, MemSource, MemStore};
+pub use outside::{DirStore, StdSink, StdSource};
+pub use reader::{LineReader, Next};

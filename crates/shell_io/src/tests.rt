@@ -1,0 +1,198 @@
+//! Worked inputs, cut in many ways, and each device once.
+
+use super::*;
+use std::alloc::Global;
+use std::io;
+use std::io::{ErrorKind, Read};
+use std::test::Fail;
+
+// What a reader answers up to its last answer, as text: a line with its newline, `long` for one that
+// is too long, `?` for a fault, `.` at the end and `$` where the bound was passed.
+fn answers(
+    alloc: Global,
+    input: &[u8],
+    piece: usize,
+    fails: Vec<u64>,
+    most: u32,
+) -> Result<Vec<u8>, Fail> {
+    let mut source = MemSource::new(Vec::from_slice(alloc, input)?, piece.max(1), fails);
+    let mut reader = LineReader::new(alloc)?;
+    let mut log = Vec::new(alloc);
+    for _ in 0..1000 {
+        match reader.next(&mut source, u64::from(most)) {
+            Next::Line => {
+                log.extend_from_slice(reader.line())?;
+                log.push(b'\n')?;
+            }
+            Next::Long => log.extend_from_slice(b"long\n")?,
+            Next::Failed => log.push(b'?')?,
+            Next::End => {
+                log.push(b'.')?;
+                break;
+            }
+            Next::Budget => {
+                log.push(b'$')?;
+                break;
+            }
+        }
+    }
+    Ok(log)
+}
+
+#[test]
+fn cuts_lines_however_the_bytes_come(rt: HostRuntime) -> Result<(), Fail> {
+    let table = [
+        (b"".as_slice(), b".".as_slice()),
+        (b"\n".as_slice(), b"\n.".as_slice()),
+        (b"new a".as_slice(), b"new a\n.".as_slice()),
+        (b"new a\n".as_slice(), b"new a\n.".as_slice()),
+        (
+            b"\n\nnew a\r\n\nlast".as_slice(),
+            b"\n\nnew a\r\n\nlast\n.".as_slice(),
+        ),
+    ];
+    for (input, want) in table {
+        for piece in 1..20usize {
+            let log = answers(rt.alloc(), input, piece, Vec::new(rt.alloc()), 100)?;
+            assert_eq!(rt; log.as_slice(), want, "at {piece}");
+        }
+    }
+    Ok(())
+}
+
+fn by_threes(alloc: Global, fails: Vec<u64>) -> Result<Vec<u8>, Fail> {
+    answers(alloc, b"one\ntwo\nthree", 3, fails, 100)
+}
+
+#[test]
+fn goes_on_after_a_fault_at_each_call(rt: HostRuntime) -> Result<(), Fail> {
+    let calls = [
+        b"?one\ntwo\nthree\n.".as_slice(),
+        b"?one\ntwo\nthree\n.".as_slice(),
+        b"one\n?two\nthree\n.".as_slice(),
+        b"one\ntwo\n?three\n.".as_slice(),
+        b"one\ntwo\n?three\n.".as_slice(),
+        b"one\ntwo\n?three\n.".as_slice(),
+        b"one\ntwo\nthree\n.".as_slice(),
+    ];
+    for (call, want) in calls.iter().enumerate() {
+        let mut fails = Vec::new(rt.alloc());
+        fails.push(call as u64)?;
+        let log = by_threes(rt.alloc(), fails)?;
+        assert_eq!(rt; log.as_slice(), *want, "at {call}");
+    }
+    Ok(())
+}
+
+#[test]
+fn stops_one_byte_past_the_bound(rt: HostRuntime) -> Result<(), Fail> {
+    let table = [
+        (0, b"$".as_slice()),
+        (2, b"$".as_slice()),
+        (3, b"ab\n$".as_slice()),
+        (5, b"ab\n$".as_slice()),
+        (6, b"ab\ncd\n$".as_slice()),
+        (7, b"ab\ncd\n$".as_slice()),
+        (8, b"ab\ncd\nef\n.".as_slice()),
+        (9, b"ab\ncd\nef\n.".as_slice()),
+    ];
+    for (most, want) in table {
+        for piece in 1..11usize {
+            let log = answers(rt.alloc(), b"ab\ncd\nef", piece, Vec::new(rt.alloc()), most)?;
+            assert_eq!(rt; log.as_slice(), want, "{most} bytes by {piece}");
+        }
+    }
+    Ok(())
+}
+
+#[test]
+fn passes_over_lines_past_the_limit(rt: HostRuntime) -> Result<(), Fail> {
+    let alloc = rt.alloc();
+    let mut input = vec![in alloc; b'a'; 65_536]?;
+    input.push(b'\n')?;
+    let mut want = input.clone()?;
+    for length in [65_537usize, 300_000] {
+        input.extend_from_slice(&vec![in alloc; b'b'; length]?)?;
+        input.push(b'\n')?;
+        want.extend_from_slice(b"long\n")?;
+    }
+    input.push(b'c')?;
+    want.extend_from_slice(b"c\n.")?;
+    for piece in [100usize, 4096, 65_537, 1_000_000] {
+        let mut fails = Vec::new(alloc);
+        fails.push(1_000_000)?;
+        let log = answers(alloc, &input, piece, fails, 1_000_000)?;
+        assert!(rt; log.as_slice() == want.as_slice(), "by {piece}");
+    }
+    Ok(())
+}
+
+#[test]
+fn writes_a_piece_or_its_front(rt: HostRuntime) -> Result<(), Fail> {
+    // The room, the most bytes a call takes and the call that fails; what is written, and whether all.
+    let table = [
+        (9, 9, 7, b"= a 1\nok\n".as_slice(), true),
+        (20, 1, 9, b"= a 1\nok\n".as_slice(), true),
+        (8, 9, 9, b"= a 1\nok".as_slice(), false),
+        (9, 4, 1, b"= a ".as_slice(), false),
+        (9, 4, 0, b"".as_slice(), false),
+    ];
+    for (room, piece, call, want, whole) in table {
+        let mut fails = Vec::new(rt.alloc());
+        fails.push(call)?;
+        let mut sink = MemSink::new(rt.alloc(), room, piece, fails)?;
+        let written = write_all(&mut sink, b"= a 1\nok\n");
+        assert_eq!(rt; sink.bytes(), want);
+        assert_eq!(rt; written.is_ok(), whole);
+    }
+    Ok(())
+}
+
+#[test]
+fn holds_no_file_at_first(rt: HostRuntime) -> Result<(), Fail> {
+    let alloc = rt.alloc();
+    let store = MemStore::new(alloc, Vec::new(alloc), Vec::new(alloc));
+    assert!(rt; store.file("notes").is_none());
+    Ok(())
+}
+
+// A reader that is interrupted, gives two bytes, and then fails.
+#[derive(Drop)]
+struct Broken {
+    reads: u8,
+}
+
+impl Read for Broken {
+    fn read(&mut self, buf: &mut [u8]) -> io::Result<usize> {
+        if self.reads == 0 {
+            self.reads = 1;
+            return Err(io::Error::from(ErrorKind::Interrupted));
+        }
+        if self.reads == 1 && buf.len() > 1 {
+            self.reads = 2;
+            buf[0] = b'o';
+            buf[1] = b'k';
+            return Ok(2);
+        }
+        Err(io::Error::from(ErrorKind::Other))
+    }
+}
+
+#[test]
+fn reads_a_stream(rt: HostRuntime) -> Result<(), Fail> {
+    let mut source = StdSource::new(Broken { reads: 0 });
+    let mut buffer = [0u8; 8];
+    assert_eq!(rt; source.pull(&mut buffer), Ok(2));
+    assert_eq!(rt; buffer[0], b'o');
+    assert_eq!(rt; source.pull(&mut buffer), Err(Failed));
+    Ok(())
+}
+
+#[test]
+fn writes_a_stream(rt: HostRuntime) -> Result<(), Fail> {
+    let mut sink = StdSink::new(rt.stdout());
+    assert_eq!(rt; sink.push(b""), Ok(0));
+    assert_eq!(rt; write_all(&mut sink, b"ok\n"), Ok(()));
+    let _store = DirStore::new(&rt);
+    Ok(())
+}
