@@ -196,18 +196,21 @@ module _ {T : Type 0} where
     balance = Balances-trans (Balances-Unchanged same) done.balance;
   }
 
-  -- a row stays in a release exactly where a hold that is left reaches it, and then it is the same with all below it
-  pub KeepsHeld-Releases : (old new : Heap T) (link : ℕ) → Releases old new link → IsGraph new → KeepsHeld (one_at link) old new
-  KeepsHeld-Releases old new link rel graph = record {
-    live = λ l some. graph.held l (omega (arith, rel.holds l, some));
-    kept = λ l some m down. keep l m down (graph.held l (omega (arith, rel.holds l, some)));
-    left = λ l. omega (arith, rel.holds l);
-  }
+  -- a row that stays in a release is the same with all below it
+  pub KeepsBelow-Releases : (old new : Heap T) (link : ℕ) → Releases old new link → IsGraph new → (l : ℕ) → IsSome (row_at new l) → KeepsBelow old new l
+  KeepsBelow-Releases old new link rel graph l live m down = keep l m down live
     where
       keep : (l m : ℕ) → Reaches (links_at old) l m → IsSome (row_at new l) → row_at new m ≡ row_at old m
       keep a b (here l) live = rel.same l live
       keep a b (below l k m has down) live =
           keep k m down (graph.closed l k (HasLink-same (links_at old) (links_at new) l k (ap links_of (rel.same l live)) has))
+
+  pub KeepsHeld-Releases : (old new : Heap T) (link : ℕ) → Releases old new link → IsGraph new → KeepsHeld (one_at link) old new
+  KeepsHeld-Releases old new link rel graph = record {
+    live = λ l some. graph.held l (omega (arith, rel.holds l, some));
+    kept = λ l some. KeepsBelow-Releases old new link rel graph l (graph.held l (omega (arith, rel.holds l, some)));
+    left = λ l. omega (arith, rel.holds l);
+  }
 
   pub KeepsTrees-Releases : (old new : Heap T) (link : ℕ) → Releases old new link → IsGraph new → KeepsTrees old new
   KeepsTrees-Releases old new link rel graph l t held is =

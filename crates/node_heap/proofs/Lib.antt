@@ -7,4 +7,5 @@ pub mod Dying
 pub mod Reached
 pub mod Stored
 pub mod Added
+pub mod Owners
 pub mod Freed

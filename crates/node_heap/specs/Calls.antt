@@ -2,7 +2,7 @@
 use Rattle.std.specs.Prelude.{◌≡◌, ◌≢◌, ◌↔◌, ℕ, ◌+◌, ◌-◌, ◌^◌, ◌<◌, ◌≤◌, List, length, Some, None, IsSome, min}
 use Rattle.node_heap.specs.Links.{count, IsReached, SameBelow}
 use Rattle.node_heap.specs.Forms.{Row, links_of, Tree, IsTree}
-use Rattle.node_heap.specs.Heap.{Heap, row_at, form_at, links_at, holds_at, hold_count, live_count, cell_count, node_count, one_at, IsGraph}
+use Rattle.node_heap.specs.Heap.{Heap, row_at, form_at, links_at, holds_at, owners_at, hold_count, live_count, cell_count, node_count, one_at, IsGraph}
 
 module _ {T : Type 0} where
   -- all that the link reaches in the old heap is the same in the new one
@@ -12,6 +12,14 @@ module _ {T : Type 0} where
   -- each link names the same row
   abbrev pub SameRows : Heap T → Heap T → Type 0
   SameRows old new = (k : ℕ) → row_at new k ≡ row_at old k
+
+  -- each link has as many owners as before
+  abbrev pub KeepsOwners : Heap T → Heap T → Type 0
+  KeepsOwners old new = (k : ℕ) → owners_at new k ≡ owners_at old k
+
+  -- the link has one owner more, and every other link as many as before
+  abbrev pub AddsOwner : Heap T → Heap T → ℕ → Type 0
+  AddsOwner old new link = (k : ℕ) → owners_at new k ≡ owners_at old k + one_at link k
 
   -- the new heap has this row besides, held once, for which a hold of each place of a link was spent
   pub record Adds (old new : Heap T) (link : ℕ) (row : Row T) : Type 0 where

@@ -129,6 +129,18 @@ mutual
     are_none : AreTrees G [] no_trees
     are_then : (k : ℕ) (t : Tree K) (ks : List ℕ) (ts : Trees K) → IsTree G k t → AreTrees G ks ts → AreTrees G (k ∷ ks) (tree_then t ts)
 
+mutual
+  -- the trees are equal but for the values of their cells, which are alike
+  pub data AlikeTree {K : Type 0} (Alike : K → K → Type 0) : Tree K → Tree K → Type 0 where
+    alike_cut : AlikeTree Alike cut cut
+    alike_cell : (x y : K) → Alike x y → AlikeTree Alike (tree_cell x) (tree_cell y)
+    alike_node : (kind : Kind) (ts us : Trees K) → AlikeTrees Alike ts us → AlikeTree Alike (tree_node kind ts) (tree_node kind us)
+
+  -- so many trees on both sides, alike one by one
+  pub data AlikeTrees {K : Type 0} (Alike : K → K → Type 0) : Trees K → Trees K → Type 0 where
+    alike_none : AlikeTrees Alike no_trees no_trees
+    alike_then : (t u : Tree K) (ts us : Trees K) → AlikeTree Alike t u → AlikeTrees Alike ts us → AlikeTrees Alike (tree_then t ts) (tree_then u us)
+
 -- what a link unfolds to depends on the rows alone that it reaches
 abbrev pub TreesFollowReached : Type 0 → Type 0
 TreesFollowReached K = (G G' : Forms K) (l : ℕ) (t : Tree K) → SameBelow (links_in G) G G' l → IsTree G l t → IsTree G' l t

@@ -9,7 +9,7 @@ Links = ℕ → List ℕ
 abbrev pub count : ℕ → List ℕ → ℕ
 count l links = count_by (λ k. k == l) links
 
--- the row of the first link has the second
+-- the second link is among those of the first
 abbrev pub HasLink : Links → ℕ → ℕ → Type 0
 HasLink L l k = 0 < count k (L l)
 
@@ -18,7 +18,7 @@ pub data Reaches (L : Links) : ℕ → ℕ → Type 0 where
   here : (l : ℕ) → Reaches L l l
   below : (l k m : ℕ) → HasLink L l k → Reaches L k m → Reaches L l m
 
--- some link that is held this often reaches the row
+-- a link that has a hold reaches this link
 abbrev pub IsReached : (ℕ → ℕ) → Links → ℕ → Type 0
 IsReached holds L l = (k : ℕ) × (0 < holds k) × Reaches L k l
 
@@ -26,10 +26,10 @@ IsReached holds L l = (k : ℕ) × (0 < holds k) × Reaches L k l
 abbrev pub LeadsDown : (ℕ → ℕ) → Links → Type 0
 LeadsDown rank L = (l k : ℕ) → HasLink L l k → rank k < rank l
 
--- no row reaches itself through a link of its own
+-- no link reaches itself by way of a link below it
 abbrev pub IsAcyclic : Links → Type 0
 IsAcyclic L = (l k : ℕ) → HasLink L l k → ¬ Reaches L k l
 
--- all that the link reaches reads the same in both
+-- the two agree at each link that this link reaches
 abbrev pub SameBelow : {X : Type 0} → Links → (ℕ → X) → (ℕ → X) → ℕ → Type 0
 SameBelow L G H l = (m : ℕ) → Reaches L l m → H m ≡ G m

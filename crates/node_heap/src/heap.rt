@@ -1,10 +1,10 @@
 //! The heap and its calls.
-ghost use Rattle.std.specs.Prelude.{vec_len, vec_capacity, ◌≡◌, ℕ, ◌+◌, ◌-◌, ◌^◌, ◌<◌, ◌≤◌, [], length, Some, IsSome, OnOk, IsOk, option_copied};
+ghost use Rattle.std.specs.Prelude.{vec_len, vec_capacity, ◌≡◌, ℕ, ◌+◌, ◌-◌, ◌^◌, ◌<◌, ◌≤◌, ◌↔◌, [], length, Some, IsSome, OnOk, IsOk, option_copied};
 ghost use Rattle.slab.specs.Slab.{get, slab_len};
 ghost use Rattle.node_heap.specs.Links.{count};
 ghost use Rattle.node_heap.specs.Forms.{cell, node, links_of, value_of, head_of, is_cell, is_node};
 ghost use Rattle.node_heap.specs.Heap.{row_at, holds_at, owners_at, live_count, hold_count, one_at, HasSpares, IsGraph};
-ghost use Rattle.node_heap.specs.Calls.{SameRows, Adds, Makes, Releases, Extends, KeepsHeld, KeepsTrees, Unchanged};
+ghost use Rattle.node_heap.specs.Calls.{KeepsBelow, SameRows, Adds, AddsOwner, KeepsOwners, Makes, Releases, Extends, KeepsHeld, KeepsTrees, Unchanged};
 ghost use Rattle.node_heap.specs.Layout.{graph_of, row_of, SetsOwners, rows_in, IsDying, IsLow, Thins, cells_in, nodes_in};
 
 use crate::entry::{Content, Entry, Node};
@@ -81,14 +81,16 @@ impl<T> Heap<T> {
         self.slots[link.place].owners
     }
 
-    /// Makes room, so that at least so many cells and so many nodes can be made without memory. The error is that there
-    /// is none, and does not come where the spares suffice already.
+    /// Makes room, so that at least so many cells and so many nodes can be made without memory. Refused where there is
+    /// none, and where the rows and the spares together would reach 2^56, but never where the spares suffice already. The
+    /// rows, the holds and the number made stay either way, and a refused call may leave more spares.
     pub fn reserve(&mut self, cells: usize, nodes: usize) -> Result<(), NoMemory>
         ensures spares { OnOk result (HasSpares self.new cells nodes) }
         ensures rest { Unchanged self.old self.new }
         ensures keeps { KeepsHeld (λ _. 0) self.old self.new }
         ensures extends { Extends self.old self.new }
         ensures trees { KeepsTrees self.old self.new }
+        ensures owners { KeepsOwners self.old self.new }
         ensures ample { cells ≤ self.old.spare_cells → nodes ≤ self.old.spare_nodes → IsOk result }
     {
         let spare_cells = self.spare_cells.max(cells);
@@ -108,11 +110,13 @@ impl<T> Heap<T> {
         Ok(())
     }
 
-    /// A cell with this value, made of a spare, which the caller holds once.
+    /// A cell with this value, made of a spare, which the caller holds once. All holds together are below 2^60 before.
     pub fn cell(&mut self, value: T) -> Link
         requires spare { 0 < self.old.spare_cells }
         requires few { hold_count self.old < 2 ^ 60 }
         ensures adds { Adds self.old self.new result (cell value) }
+        ensures owners { AddsOwner self.old self.new result }
+        ensures sole { owners_at self.new result ≡ 1 }
         ensures makes { Makes self.old self.new 1 0 }
         ensures count { hold_count self.new ≡ hold_count self.old + 1 }
         ensures graph { IsGraph self.new }
@@ -130,13 +134,15 @@ impl<T> Heap<T> {
     }
 
     /// A node with this head and these links, at most 32, made of a spare, which the caller holds once. It spends a hold
-    /// for each place that a link takes.
+    /// of the caller for each place that a link takes. All holds together are below 2^60 before.
     pub fn node(&mut self, head: Head, links: &[Link]) -> Link
         requires spare { 0 < self.old.spare_nodes }
         requires short { length links.now ≤ 32 }
         requires held { (l : ℕ) → count l links.now ≤ holds_at self.old l }
         requires few { hold_count self.old < 2 ^ 60 }
         ensures adds { Adds self.old self.new result (node head links.now) }
+        ensures owners { AddsOwner self.old self.new result }
+        ensures sole { owners_at self.new result ≡ 1 }
         ensures makes { Makes self.old self.new 0 1 }
         ensures count { hold_count self.new + length links.now ≡ hold_count self.old + 1 }
         ensures graph { IsGraph self.new }
@@ -150,12 +156,13 @@ impl<T> Heap<T> {
         Link { place }
     }
 
-    /// One hold more of a live link.
+    /// One hold more of a live link. All holds together are below 2^60 before.
     pub fn hold(&mut self, link: Link)
         requires live { IsSome (row_at self.old link) }
         requires few { hold_count self.old < 2 ^ 60 }
         ensures rows { SameRows self.old self.new }
         ensures holds { (k : ℕ) → holds_at self.new k ≡ holds_at self.old k + one_at link k }
+        ensures owners { AddsOwner self.old self.new link }
         ensures makes { Makes self.old self.new 0 0 }
         ensures count { hold_count self.new ≡ hold_count self.old + 1 }
         ensures graph { IsGraph self.new }
@@ -200,10 +207,12 @@ impl<T> Heap<T> {
 }
 
 impl<T: Drop> Heap<T> {
-    /// Gives a hold up. Each row that has no owner then is freed and is a spare of its kind.
+    /// Gives up a hold of the caller's own. Each row that has no owner then is freed and is a spare of its kind.
     pub fn release(&mut self, link: Link)
         requires { 0 < holds_at self.old link }
         ensures releases { Releases self.old self.new link }
+        ensures owners { (l : ℕ) → IsSome (row_at self.old l) → (IsSome (row_at self.new l) ↔ (0 < owners_at self.new l)) }
+        ensures below { (l : ℕ) → IsSome (row_at self.new l) → KeepsBelow self.old self.new l }
         ensures graph { IsGraph self.new }
         ensures keeps { KeepsHeld (one_at link) self.old self.new }
         ensures trees { KeepsTrees self.old self.new }

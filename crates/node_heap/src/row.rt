@@ -3,7 +3,7 @@ ghost use Rattle.std.specs.Prelude.{◌≡◌, ◌≤◌, length};
 
 use std::marker::Model;
 
-/// Names a row of a heap by its place there.
+/// Names a row of one heap by its place there, and means nothing in another heap.
 #[derive(Clone, Copy, PartialEq, Eq, Hash, Default, Debug)]
 pub struct Link {
     pub(crate) place: usize,
@@ -53,7 +53,8 @@ impl Sums {
 
     /// The sums in order.
     pub fn as_slice(&self) -> &[u32]
-        ensures { result.now ≡ self.now }
+        ensures value { result.now ≡ self.now }
+        ensures short { length result.now ≤ 32 }
     {
         &self.items[..self.len as usize]
     }
@@ -64,9 +65,10 @@ impl Sums {
 pub enum Head {
     /// A row of a vector at height 0: its links are elements.
     Leaf,
-    /// A row of a vector at a height of 1 or more, with the running sums of its children's lengths.
+    /// A row of a vector at a height of 1 to 7, with the running sums of its children's lengths.
     Inner { height: u8, sums: Sums },
-    /// A row of a trie at a depth: its links are first the entries and then the nodes, each by rising position in its set.
+    /// A row of a trie at a depth of 0 to `DEEPEST`. The two sets of positions are masks: position p is bit p. Its links
+    /// are first the entries and then the nodes, each by rising position in its set.
     Trie { depth: u8, entries: u32, nodes: u32 },
     /// An entry among those with one code, and the link of the next such row, if any.
     Chain,

@@ -4,7 +4,7 @@ ghost use Rattle.node_heap.specs.Heap.{form_at, hold_count};
 ghost use Rattle.node_heap.specs.Calls.{Answered, Unchanged};
 
 use crate::{Head, Heap, Link, Sums};
-use elem_core::NoMemory;
+use elem_core::{NoMemory, Num};
 use std::test::Fail;
 
 // A leaf of two cells, which stands for a while in a pair with a third.
@@ -31,21 +31,21 @@ fn leaf_again<T: Drop>(heap: &mut Heap<T>, a: T, b: T, c: T) -> Result<Link, NoM
 // Two cells, and a leaf in which the first stands twice.
 #[test]
 fn releases_a_leaf_with_its_cells(rt: HostRuntime) -> Result<(), Fail> {
-    let mut heap: Heap<u32> = Heap::new(rt.alloc());
+    let mut heap: Heap<Num> = Heap::new(rt.alloc());
     heap.reserve(2, 1)?;
-    let first = heap.cell(7);
-    let second = heap.cell(8);
+    let first = heap.cell(Num(7));
+    let second = heap.cell(Num(8));
     heap.hold(first);
     let leaf = heap.node(Head::Leaf, &[first, first, second]);
     assert_eq!(rt; heap.owners(first), 2);
     assert_eq!(rt; heap.live(), 3);
     assert_eq!(rt; heap.made(), 3);
-    assert_eq!(rt; heap.value(first), Some(&7));
+    assert_eq!(rt; heap.value(first), Some(&Num(7)));
     assert_eq!(rt; heap.links(leaf), [first, first, second].as_slice());
     heap.release(leaf);
     assert_eq!(rt; heap.live(), 0);
     assert_eq!(rt; heap.made(), 3);
-    let again = heap.cell(9);
+    let again = heap.cell(Num(9));
     let pair = heap.node(Head::Pair, &[again]);
     assert_eq!(rt; heap.owners(pair), 1);
     assert_eq!(rt; heap.made(), 5);

@@ -5,6 +5,7 @@ use Rattle.node_heap.proofs.Dying.{sum-add}
 use Rattle.node_heap.proofs.Stored.{IsGraph-stored}
 use Rattle.node_heap.proofs.Added.{Joins, counted-joined, adds-joined, count-joined, makes-joined, extends-joined, keeps-joined}
 use Rattle.node_heap.proofs.Frames.{KeepsTrees-Extends}
+use Rattle.node_heap.proofs.Owners.{owners-joined, sole-joined}
 use Rattle.node_heap.proofs.heap.Heap.cell.Goals as goal
 
 pub invariant_of-self : goal.invariant_of-self
@@ -49,6 +50,8 @@ returns g c =
     rw (← c.self.view_is)
     (record {
       adds = adds-joined slots _ _ _ _ _ _ _ _ _ stored.counted joins;
+      owners = owners-joined slots _ _ _ 0 0 0 0 0 0 stored.counted (invariant_of-self g c).counted joins;
+      sole = sole-joined slots _ _ _ 0 0 0 (invariant_of-self g c).counted joins;
       makes = makes-joined slots _ _ _ _ _ _ _ _ _ 1 0 joins refl refl refl (omega (arith, spare)) (omega arith) stored.fits c.saturating_add-self-inside.ensures;
       count = omega (arith, count-joined slots _ _ _ stored.counted joins);
       graph = IsGraph-stored _ _ _ _ _ _ (invariant_of-self g c);

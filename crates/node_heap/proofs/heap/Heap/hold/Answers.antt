@@ -6,6 +6,7 @@ use Rattle.node_heap.proofs.Counts.{sum-more, le-sum}
 use Rattle.node_heap.proofs.Slots.{owners_at-slots, holds-more, IsCounted-owners, places_at-le}
 use Rattle.node_heap.proofs.Stored.{IsGraph-stored}
 use Rattle.node_heap.proofs.Frames.{Extends-rows, KeepsHeld-Extends, KeepsTrees-Extends}
+use Rattle.node_heap.proofs.Owners.{AddsOwner-rows}
 use Rattle.node_heap.proofs.heap.Heap.hold.Goals as goal
 
 pub overflow_add-owners : goal.overflow_add-owners
@@ -48,6 +49,7 @@ returns g c =
     (record {
       rows = rows;
       holds = holds;
+      owners = AddsOwner-rows (seen slots 0 0 0) (seen c.set_owners.new.slots.slots 0 0 0) c.link.inside.place rows holds;
       makes = record {
         spare_cells = omega arith;
         spare_nodes = omega arith;

@@ -6,7 +6,8 @@ use Rattle.node_heap.proofs.Counts.{sum-more}
 use Rattle.node_heap.proofs.Slots.{live-owned, holds-less, IsCounted-owners}
 use Rattle.node_heap.proofs.Dying.{held_at, IsDying-start, holds_after, holds-freed, rows-thinned, IsCounted-thinned}
 use Rattle.node_heap.proofs.Stored.{IsGraph-stored}
-use Rattle.node_heap.proofs.Frames.{KeepsHeld-Releases, KeepsTrees-Releases}
+use Rattle.node_heap.proofs.Frames.{KeepsBelow-Releases, KeepsHeld-Releases, KeepsTrees-Releases}
+use Rattle.node_heap.proofs.Owners.{live-owners}
 use Rattle.node_heap.proofs.Freed.{Releases-slots, Thins-same}
 use Rattle.node_heap.proofs.heap.Heap.release.Goals as goal
 
@@ -54,6 +55,12 @@ returns-then-owners-gt0-clause-releases g c =
     (Releases-slots slots _ place _ _ _ _ _ (returns-then-owners-gt0-clause-graph g c)
     (holds-less slots _ place _ _ _ refl refl done.sets done.rows (omega (arith, holds, held, read)) (omega (arith, holds, held, read)))
     (Thins-same slots _ done.rows) (ap (λ n. c.self.inside.spare_cells + n) cells) (ap (λ n. vec_len c.self.inside.pool + n) nodes) (omega (arith, cells)) (omega (arith, nodes)))
+
+pub returns-then-owners-gt0-clause-owners : goal.returns-then-owners-gt0-clause-owners
+returns-then-owners-gt0-clause-owners g c l was = live-owners _ 0 0 0 (invariant_of-self g c).counted l
+
+pub returns-then-owners-gt0-clause-below : goal.returns-then-owners-gt0-clause-below
+returns-then-owners-gt0-clause-below g c = KeepsBelow-Releases _ _ c.args.link (returns-then-owners-gt0-clause-releases g c) (returns-then-owners-gt0-clause-graph g c)
 
 pub returns-then-owners-gt0-clause-keeps : goal.returns-then-owners-gt0-clause-keeps
 returns-then-owners-gt0-clause-keeps g c = KeepsHeld-Releases _ _ c.args.link (returns-then-owners-gt0-clause-releases g c) (returns-then-owners-gt0-clause-graph g c)
@@ -117,6 +124,12 @@ returns-clause-releases g c =
     rw (← c.self.view_is, ← c.link.view_is)
     (Releases-slots slots _ place _ _ _ _ _ (returns-clause-graph g c) (holds-freed slots _ place _ _ refl refl held end)
     (rows-thinned slots _ _ done.rows freed.rows) (omega (arith, cells, freed.cells)) (omega (arith, nodes, freed.nodes)) (omega (arith, cells, freed.cells)) (omega (arith, nodes, freed.nodes, freed.more_nodes)))
+
+pub returns-clause-owners : goal.returns-clause-owners
+returns-clause-owners g c l was = live-owners _ 0 0 0 (invariant_of-self-2 g c).counted l
+
+pub returns-clause-below : goal.returns-clause-below
+returns-clause-below g c = KeepsBelow-Releases _ _ c.args.link (returns-clause-releases g c) (returns-clause-graph g c)
 
 pub returns-clause-keeps : goal.returns-clause-keeps
 returns-clause-keeps g c = KeepsHeld-Releases _ _ c.args.link (returns-clause-releases g c) (returns-clause-graph g c)
