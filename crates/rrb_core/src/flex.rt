@@ -1,0 +1,181 @@
+//! Vectors by their roots, and their look-ups.
+ghost use Rattle.std.specs.Prelude.{◌≡◌, ℕ, suc, ◌+◌, ◌*◌, ◌^◌, ◌<◌, ◌≤◌, [], ◌∷◌, length, IfOk, IsOk, OnErr, IfSome, IsSome};
+ghost use Rattle.std.specs.List.{All, slice_get};
+ghost use Rattle.node_heap.specs.Heap.{row_at, holds_at, hold_count, one_at, IsGraph, HasSpares};
+ghost use Rattle.node_heap.specs.Calls.{Answered, Extends, KeepsHeld, Makes, Releases, SameRows, Unchanged};
+ghost use Rattle.rrb_core.specs.Vector.{elements, height_at, IsGoodVector, IsSameVector};
+ghost use Rattle.rrb_core.specs.Build.{Builds};
+
+use crate::lines::Lines;
+use crate::rows::{height_of, leaf_over, size};
+use crate::search::spot_of;
+use elem_core::NoMemory;
+use node_heap::{Heap, Link};
+use std::marker::Model;
+
+/// A vector that owns one hold of its root. It is given up by `release`, and cannot be dropped or copied.
+pub struct Flex {
+    root: Link,
+}
+
+impl Model for Flex {
+    ghost use Rattle.std.specs.Prelude.{ℕ};
+
+    ghost Value = { ℕ };
+
+    ghost view = { λ v. v.root };
+}
+
+/// Names a vector by its root, without a hold.
+#[derive(Clone, Copy)]
+pub struct FlexRef {
+    root: Link,
+}
+
+impl Model for FlexRef {
+    ghost use Rattle.std.specs.Prelude.{ℕ};
+
+    ghost Value = { ℕ };
+
+    ghost view = { λ v. v.root };
+
+    ghost inverse = { λ n. record { root = n } };
+}
+
+impl Flex {
+    /// The empty vector. It makes one node.
+    pub fn empty<T>(heap: &mut Heap<T>) -> Result<Flex, NoMemory>
+        requires { hold_count heap.old < 2 ^ 59 }
+        ensures items { IfOk result (λ v. elements heap.new v ≡ []) }
+        ensures good { IfOk result (λ v. IsGoodVector heap.new v) }
+        ensures answered { IfOk result (λ v. Answered heap.old heap.new [] v 0 1) }
+        ensures refused { OnErr result (Unchanged heap.old heap.new) }
+        ensures ample { HasSpares heap.old 0 1 → IsOk result }
+    {
+        heap.reserve(0, 1)?;
+        let root = empty_root(heap);
+        Ok(Flex { root })
+    }
+
+    /// The same vector once more: one more hold of its root.
+    pub fn share<T>(&self, heap: &mut Heap<T>) -> Flex
+        requires good { IsGoodVector heap.old self.now }
+        requires few { hold_count heap.old < 2 ^ 59 }
+        ensures same { result ≡ self.now }
+        ensures rows { SameRows heap.old heap.new }
+        ensures holds { (k : ℕ) → holds_at heap.new k ≡ holds_at heap.old k + one_at result k }
+        ensures count { hold_count heap.new ≡ hold_count heap.old + 1 }
+        ensures makes { Makes heap.old heap.new 0 0 }
+        ensures graph { IsGraph heap.new }
+        ensures extends { Extends heap.old heap.new }
+        ensures good { IsGoodVector heap.new result }
+        ensures items { elements heap.new result ≡ elements heap.old self.now }
+    {
+        heap.hold(self.root);
+        Flex { root: self.root }
+    }
+
+    /// Gives the vector up: rows that nothing else keeps are freed.
+    pub fn release<T: Drop>(self, heap: &mut Heap<T>)
+        requires { 0 < holds_at heap.old self }
+        ensures releases { Releases heap.old heap.new self }
+        ensures graph { IsGraph heap.new }
+        ensures keeps { KeepsHeld (one_at self) heap.old heap.new }
+        ensures vectors { (l : ℕ) → one_at self l < holds_at heap.old l → IsSameVector heap.old heap.new l }
+    {
+        let Flex { root } = self;
+        heap.release(root);
+    }
+
+    /// The vector without a hold.
+    pub fn view(&self) -> FlexRef
+        ensures { result ≡ self.now }
+    {
+        FlexRef { root: self.root }
+    }
+
+    /// The vector with this root, a hold of which it takes over.
+    pub fn from_root(root: Link) -> Flex
+        ensures { result ≡ root }
+    {
+        Flex { root }
+    }
+
+    /// The root of the vector, with its hold.
+    pub fn into_root(self) -> Link
+        ensures { result ≡ self }
+    {
+        let Flex { root } = self;
+        root
+    }
+}
+
+impl FlexRef {
+    /// The vector with this root.
+    pub fn at(root: Link) -> FlexRef
+        ensures { result ≡ root }
+    {
+        FlexRef { root }
+    }
+
+    /// The root of the vector.
+    pub fn root(&self) -> Link
+        ensures { result ≡ self.now }
+    {
+        self.root
+    }
+
+    /// The number of elements, which are all live.
+    pub fn len<T>(&self, heap: &Heap<T>) -> u32
+        requires { IsGoodVector heap.now self.now }
+        ensures value { result ≡ length (elements heap.now self.now) }
+        ensures live { All (λ element. IsSome (row_at heap.now element)) (elements heap.now self.now) }
+        ensures graph { IsGraph heap.now }
+    {
+        size(heap, self.root, height_of(heap, self.root))
+    }
+
+    /// The height of the root, 0 to 7. A vector of a height of 1 or more has more than 16^height elements.
+    pub fn height<T>(&self, heap: &Heap<T>) -> u8
+        requires { IsGoodVector heap.now self.now }
+        ensures value { result ≡ height_at heap.now self.now }
+        ensures low { result ≤ 7 }
+        ensures more { 1 ≤ result → 16 ^ result < length (elements heap.now self.now) }
+        ensures most { length (elements heap.now self.now) ≤ 32 ^ (result + 1) }
+    {
+        height_of(heap, self.root)
+    }
+
+    /// The element at `index`, which is live, and none at the end or past it.
+    pub fn get<T>(&self, heap: &Heap<T>, index: u32) -> Option<Link>
+        requires { IsGoodVector heap.now self.now }
+        ensures value { result ≡ slice_get (elements heap.now self.now) index }
+        ensures live { IfSome result (λ element. IsSome (row_at heap.now element)) }
+    {
+        if index >= self.len(heap) {
+            return None;
+        }
+        let mut link = self.root;
+        let mut within = index;
+        let mut height = height_of(heap, link);
+        while height > 0 {
+            height -= 1;
+            let found = spot_of(heap, link, height, within);
+            link = heap.links(link)[found.place];
+            within = found.within;
+        }
+        Some(heap.links(link)[within as usize])
+    }
+}
+
+// The root of the empty vector.
+pub(crate) fn empty_root<T>(heap: &mut Heap<T>) -> Link
+    requires graph { IsGraph heap.old }
+    requires spare { 1 ≤ heap.old.spare_nodes }
+    requires holds { hold_count heap.old < 2 ^ 59 }
+    ensures items { elements heap.new result ≡ [] }
+    ensures good { IsGoodVector heap.new result }
+    ensures builds { Builds heap.old heap.new [] (result ∷ []) 1 }
+{
+    leaf_over(heap, &[])
+}

@@ -1,0 +1,218 @@
+//! A vector with one more element.
+ghost use Rattle.std.specs.Prelude.{◌≡◌, ℕ, suc, ◌+◌, ◌-◌, ◌*◌, ◌^◌, ◌<◌, ◌≤◌, ◌↔◌, ◌≢◌, [], ◌∷◌, ◌++◌, length, take, slice_index, IfOk, OnErr, IsSome, IfSome, IfNone, MatchOption, Err};
+ghost use Rattle.std.specs.List.{All, flat_map};
+ghost use Rattle.node_heap.specs.Heap.{row_at, form_at, links_at, holds_at, hold_count, IsGraph, HasSpares};
+ghost use Rattle.node_heap.specs.Calls.{Answered, Unchanged};
+ghost use Rattle.rrb_core.specs.Seq.{seq_at, IsThick, IsWell};
+ghost use Rattle.rrb_core.specs.Vector.{HasSums, elements, height_at, IsGoodVector};
+ghost use Rattle.rrb_core.specs.Build.{IsRowOf, Builds};
+
+use crate::flex::{Flex, FlexRef};
+use crate::rows::{height_of, inner_over, inner_with, leaf_over, leaf_with};
+use elem_core::NoMemory;
+use node_heap::{Heap, Link};
+use thiserror::Error;
+
+/// Why a push gave no vector.
+#[derive(Clone, Copy, Debug, PartialEq, Eq, Error)]
+pub enum PushFault {
+    /// The vector has 2^32 - 1 elements already.
+    #[error("the vector has no room")]
+    Long,
+    #[error("out of memory")]
+    Memory,
+}
+
+impl From<NoMemory> for PushFault {
+    ghost use Rattle.rrb_core.specs.declared.grow.PushFault.TheVariants.{Memory};
+
+    ghost from_gives = { λ _ fault. fault ≡ Memory };
+
+    fn from(_none: NoMemory) -> PushFault {
+        PushFault::Memory
+    }
+}
+
+// The most nodes that a push makes: one for each height, and a root.
+const PUSH_NODES: usize = 9;
+
+/// The vector with `element` after its last element. It spends the element's hold on Ok alone, and makes at most 9 nodes.
+pub fn push<T>(heap: &mut Heap<T>, vector: FlexRef, element: Link) -> Result<Flex, PushFault>
+    requires good { IsGoodVector heap.old vector }
+    requires held { 1 ≤ holds_at heap.old element }
+    requires few { hold_count heap.old < 2 ^ 59 }
+    ensures items { IfOk result (λ v. elements heap.new v ≡ elements heap.old vector ++ element ∷ []) }
+    ensures good { IfOk result (λ v. IsGoodVector heap.new v) }
+    ensures answered { IfOk result (λ v. Answered heap.old heap.new (element ∷ []) v 0 9) }
+    ensures refused { OnErr result (Unchanged heap.old heap.new) }
+    ensures long { (result ≡ Err PushFault.Long) ↔ (length (elements heap.old vector) ≡ 2 ^ 32 - 1) }
+    ensures ample { HasSpares heap.old 0 9 → result ≢ Err PushFault.Memory }
+{
+    if vector.len(heap) == u32::MAX {
+        return Err(PushFault::Long);
+    }
+    heap.reserve(0, PUSH_NODES)?;
+    let root = push_root(heap, vector.root(), element);
+    Ok(Flex::from_root(root))
+}
+
+// The root of the vector with `element` after its last.
+fn push_root<T>(heap: &mut Heap<T>, root: Link, element: Link) -> Link
+    requires graph { IsGraph heap.old }
+    requires good { IsGoodVector heap.old root }
+    requires short { length (elements heap.old root) + 1 < 2 ^ 32 }
+    requires held { 1 ≤ holds_at heap.old element }
+    requires spare { 9 ≤ heap.old.spare_nodes }
+    requires holds { hold_count heap.old < 2 ^ 59 }
+    ensures items { elements heap.new result ≡ elements heap.old root ++ element ∷ [] }
+    ensures good { IsGoodVector heap.new result }
+    ensures builds { Builds heap.old heap.new (element ∷ []) (result ∷ []) 9 }
+{
+    let height = height_of(heap, root);
+    match push_below(heap, root, height, element) {
+        Some(row) => row,
+        None => root_beside(heap, root, height, element),
+    }
+}
+
+// The root over a full root and one element beside it.
+fn root_beside<T>(heap: &mut Heap<T>, root: Link, height: u8, element: Link) -> Link
+    requires graph { IsGraph heap.old }
+    requires row { IsRowOf heap.old height root (elements heap.old root) }
+    requires full { IsThick (form_at heap.old) height root }
+    requires low { height ≤ 7 }
+    requires short { length (elements heap.old root) + 1 < 2 ^ 32 }
+    requires held { 1 ≤ holds_at heap.old element }
+    requires spare { 9 ≤ heap.old.spare_nodes }
+    requires holds { hold_count heap.old < 2 ^ 59 }
+    ensures items { elements heap.new result ≡ elements heap.old root ++ element ∷ [] }
+    ensures good { IsGoodVector heap.new result }
+    ensures builds { Builds heap.old heap.new (element ∷ []) (result ∷ []) 9 }
+{
+    let child = spine(heap, height, element);
+    heap.hold(root);
+    inner_over(heap, &[root, child], height)
+}
+
+// The row with `element` after its last element, or None where its right spine is full.
+#[cycle(push)]
+fn push_below<T>(heap: &mut Heap<T>, link: Link, height: u8, element: Link) -> Option<Link>
+    requires graph { IsGraph heap.old }
+    requires well { IsWell (form_at heap.old) height link }
+    requires sums { HasSums heap.old height link }
+    requires low { height ≤ 7 }
+    requires short { length (seq_at (form_at heap.old) height link) + 1 < 2 ^ 32 }
+    requires held { 1 ≤ holds_at heap.old element }
+    requires spare { height + 1 ≤ heap.old.spare_nodes }
+    requires holds { hold_count heap.old + 64 * (height + 1) ≤ 2 ^ 60 }
+    ensures full { IfNone result (IsThick (form_at heap.old) height link) }
+    ensures same { IfNone result (heap.new ≡ heap.old) }
+    ensures row { IfSome result (λ l. IsRowOf heap.new height l (seq_at (form_at heap.old) height link ++ element ∷ [])) }
+    ensures more { IfSome result (λ l. length (links_at heap.old link) ≤ length (links_at heap.new l)) }
+    ensures builds { IfSome result (λ l. Builds heap.old heap.new (element ∷ []) (l ∷ []) (height + 1)) }
+{
+    if height == 0 {
+        return push_leaf(heap, link, element);
+    }
+    push_inner(heap, link, height - 1, element)
+}
+
+// The same for an inner row, whose children have the height `below`.
+#[cycle(push)]
+fn push_inner<T>(heap: &mut Heap<T>, link: Link, below: u8, element: Link) -> Option<Link>
+    requires graph { IsGraph heap.old }
+    requires well { IsWell (form_at heap.old) (suc below) link }
+    requires sums { HasSums heap.old (suc below) link }
+    requires low { below < 7 }
+    requires short { length (seq_at (form_at heap.old) (suc below) link) + 1 < 2 ^ 32 }
+    requires held { 1 ≤ holds_at heap.old element }
+    requires spare { below + 2 ≤ heap.old.spare_nodes }
+    requires holds { hold_count heap.old + 64 * (below + 2) ≤ 2 ^ 60 }
+    ensures full { IfNone result (IsThick (form_at heap.old) (suc below) link) }
+    ensures same { IfNone result (heap.new ≡ heap.old) }
+    ensures row { IfSome result (λ l. IsRowOf heap.new (suc below) l (seq_at (form_at heap.old) (suc below) link ++ element ∷ [])) }
+    ensures more { IfSome result (λ l. length (links_at heap.old link) ≤ length (links_at heap.new l)) }
+    ensures builds { IfSome result (λ l. Builds heap.old heap.new (element ∷ []) (l ∷ []) (below + 2)) }
+{
+    let count = heap.links(link).len();
+    let last = last_child(heap, link, below);
+    match push_below(heap, last, below, element) {
+        Some(child) => Some(inner_with(heap, link, below, count - 1, child, count)),
+        None => push_beside(heap, link, below, element),
+    }
+}
+
+// The last child of an inner row, whose children have the height `below`.
+fn last_child<T>(heap: &Heap<T>, link: Link, below: u8) -> Link
+    requires well { IsWell (form_at heap.now) (suc below) link }
+    requires sums { HasSums heap.now (suc below) link }
+    ensures some { 1 ≤ length (links_at heap.now link) }
+    ensures last { result ≡ slice_index (links_at heap.now link) (length (links_at heap.now link) - 1) }
+{
+    let links = heap.links(link);
+    links[links.len() - 1]
+}
+
+// The inner row with one child more, over `element` alone, or None where it has 32. Its children are all thick.
+fn push_beside<T>(heap: &mut Heap<T>, link: Link, below: u8, element: Link) -> Option<Link>
+    requires graph { IsGraph heap.old }
+    requires well { IsWell (form_at heap.old) (suc below) link }
+    requires sums { HasSums heap.old (suc below) link }
+    requires low { below < 7 }
+    requires thick { All (IsThick (form_at heap.old) below) (links_at heap.old link) }
+    requires short { length (seq_at (form_at heap.old) (suc below) link) + 1 < 2 ^ 32 }
+    requires held { 1 ≤ holds_at heap.old element }
+    requires spare { below + 2 ≤ heap.old.spare_nodes }
+    requires holds { hold_count heap.old + 64 * (below + 2) ≤ 2 ^ 60 }
+    ensures full { IfNone result (IsThick (form_at heap.old) (suc below) link) }
+    ensures same { IfNone result (heap.new ≡ heap.old) }
+    ensures row { IfSome result (λ l. IsRowOf heap.new (suc below) l (seq_at (form_at heap.old) (suc below) link ++ element ∷ [])) }
+    ensures more { IfSome result (λ l. length (links_at heap.old link) ≤ length (links_at heap.new l)) }
+    ensures builds { IfSome result (λ l. Builds heap.old heap.new (element ∷ []) (l ∷ []) (below + 2)) }
+{
+    let count = heap.links(link).len();
+    if count == 32 {
+        return None;
+    }
+    let child = spine(heap, below, element);
+    let row = inner_with(heap, link, below, count, child, count);
+    Some(row)
+}
+
+// The leaf with one element more, or None where it has 32.
+fn push_leaf<T>(heap: &mut Heap<T>, link: Link, element: Link) -> Option<Link>
+    requires graph { IsGraph heap.old }
+    requires well { IsWell (form_at heap.old) 0 link }
+    requires held { 1 ≤ holds_at heap.old element }
+    requires spare { 1 ≤ heap.old.spare_nodes }
+    requires holds { hold_count heap.old + 64 ≤ 2 ^ 60 }
+    ensures full { IfNone result (IsThick (form_at heap.old) 0 link) }
+    ensures same { IfNone result (heap.new ≡ heap.old) }
+    ensures row { IfSome result (λ l. IsRowOf heap.new 0 l (seq_at (form_at heap.old) 0 link ++ element ∷ [])) }
+    ensures more { IfSome result (λ l. length (links_at heap.old link) ≤ length (links_at heap.new l)) }
+    ensures builds { IfSome result (λ l. Builds heap.old heap.new (element ∷ []) (l ∷ []) 1) }
+{
+    let count = heap.links(link).len();
+    if count == 32 {
+        return None;
+    }
+    let row = leaf_with(heap, link, count, element, count);
+    Some(row)
+}
+
+// A row of this height over one element, by rows of one link.
+pub(crate) fn spine<T>(heap: &mut Heap<T>, height: u8, element: Link) -> Link
+    requires graph { IsGraph heap.old }
+    requires held { 1 ≤ holds_at heap.old element }
+    requires low { height ≤ 7 }
+    requires spare { height + 1 ≤ heap.old.spare_nodes }
+    requires holds { hold_count heap.old < 2 ^ 60 }
+    ensures row { IsRowOf heap.new height result (element ∷ []) }
+    ensures builds { Builds heap.old heap.new (element ∷ []) (result ∷ []) (height + 1) }
+{
+    if height == 0 {
+        return leaf_over(heap, &[element]);
+    }
+    let child = spine(heap, height - 1, element);
+    inner_over(heap, &[child], height - 1)
+}

@@ -1,0 +1,26 @@
+//! Vectors as relaxed radix trees in a counted heap, with push, set, take and look-ups that share rows.
+//!
+//! A vector is named by the link of its root. A leaf, at height 0, has 0 to 32 links to elements, and an inner row 1 to 32
+//! links to rows one height below, with the running sums of their lengths. Every child of an inner row but the last is
+//! thick: it has 16 links or more, and so have all rows below it. An inner root has two links or more.
+#![tactic(auto)]
+
+mod cut;
+mod flex;
+mod grow;
+mod laws;
+mod lines;
+mod replace;
+mod rows;
+mod search;
+#[cfg(test)]
+mod tests;
+
+pub use cut::take;
+pub use flex::{Flex, FlexRef};
+pub use grow::{PushFault, push};
+pub use laws::vectors_stay;
+pub use lines::Lines;
+pub use replace::{SetFault, set};
+pub use rows::{Gathered, gathered, height_of, inner_over, leaf_over, size};
+pub use search::{Spot, spot_of};

@@ -1,0 +1,125 @@
+//! Vectors of numbers in one heap.
+ghost use Rattle.std.specs.Prelude.{◌≡◌, ℕ, ◌+◌, ◌-◌, ◌^◌, ◌<◌, ◌≤◌, IfOk};
+ghost use Rattle.node_heap.specs.Heap.{hold_count};
+ghost use Rattle.rrb_core.specs.Vector.{IsGoodVector};
+
+use super::*;
+use elem_core::{NoMemory, Num};
+use node_heap::{Heap, Link};
+use std::test::Fail;
+
+// The root of the vector with a new cell of this number after its last.
+fn push_number(heap: &mut Heap<Num>, root: Link, number: u32) -> Result<Link, PushFault>
+    requires good { IsGoodVector heap.old root }
+    requires few { hold_count heap.old < 2 ^ 58 }
+    ensures good { IfOk result (λ l. IsGoodVector heap.new l) }
+    ensures others { IfOk result (λ _. (l : ℕ) → IsGoodVector heap.old l → IsGoodVector heap.new l) }
+    ensures count { IfOk result (λ _. hold_count heap.new ≡ hold_count heap.old + 1) }
+{
+    heap.reserve(1, 0)?;
+    let cell = heap.cell(Num(number));
+    let vector = push(heap, FlexRef::at(root), cell)?;
+    Ok(vector.into_root())
+}
+
+// The root of the vector with the numbers from `from` to below `to` after its last.
+fn push_numbers(heap: &mut Heap<Num>, root: Link, from: u32, to: u32) -> Result<Link, PushFault>
+    requires good { IsGoodVector heap.old root }
+    requires order { from ≤ to }
+    requires few { hold_count heap.old + (to - from) < 2 ^ 58 }
+    ensures good { IfOk result (λ l. IsGoodVector heap.new l) }
+    ensures others { IfOk result (λ _. (l : ℕ) → IsGoodVector heap.old l → IsGoodVector heap.new l) }
+    ensures count { IfOk result (λ _. hold_count heap.new ≡ hold_count heap.old + (to - from)) }
+{
+    let mut root = root;
+    for number in from..to {
+        root = push_number(heap, root, number)?;
+    }
+    Ok(root)
+}
+
+// The number in the cell of an element.
+fn number_at(heap: &Heap<Num>, root: Link, index: u32) -> Option<u32>
+    requires { IsGoodVector heap.now root }
+{
+    let element = FlexRef::at(root).get(heap, index)?;
+    heap.value(element).map(|number| number.0)
+}
+
+#[test]
+fn pushes_to_height_three(rt: HostRuntime) -> Result<(), Fail> {
+    let mut heap: Heap<Num> = Heap::new(rt.alloc());
+    let empty = Flex::empty(&mut heap)?.into_root();
+    let early = push_numbers(&mut heap, empty, 0, 1024)?;
+    let all = push_numbers(&mut heap, early, 1024, 32_769)?;
+    assert_eq!(rt; FlexRef::at(all).height(&heap), 3);
+    assert_eq!(rt; FlexRef::at(all).len(&heap), 32_769);
+    for index in 0..32_769 {
+        assert_eq!(rt; number_at(&heap, all, index), Some(index));
+    }
+    assert_eq!(rt; number_at(&heap, all, 32_769), None);
+    assert_eq!(rt; FlexRef::at(early).len(&heap), 1024);
+    for index in 0..1024 {
+        assert_eq!(rt; number_at(&heap, early, index), Some(index));
+    }
+    Ok(())
+}
+
+// The root of the vector with a new cell of this number at the index.
+fn set_number(heap: &mut Heap<Num>, root: Link, index: u32, number: u32) -> Result<Link, SetFault>
+    requires good { IsGoodVector heap.old root }
+    requires few { hold_count heap.old < 2 ^ 58 }
+    ensures good { IfOk result (λ l. IsGoodVector heap.new l) }
+    ensures others { IfOk result (λ _. (l : ℕ) → IsGoodVector heap.old l → IsGoodVector heap.new l) }
+    ensures count { IfOk result (λ _. hold_count heap.new ≡ hold_count heap.old + 1) }
+{
+    heap.reserve(1, 0)?;
+    let cell = heap.cell(Num(number));
+    let vector = set(heap, FlexRef::at(root), index, cell)?;
+    Ok(vector.into_root())
+}
+
+#[test]
+fn sets_within_the_length_alone(rt: HostRuntime) -> Result<(), Fail> {
+    let mut heap: Heap<Num> = Heap::new(rt.alloc());
+    let empty = Flex::empty(&mut heap)?.into_root();
+    let all = push_numbers(&mut heap, empty, 0, 600)?;
+    let changed = set_number(&mut heap, all, 544, 7)?;
+    assert_eq!(rt; FlexRef::at(changed).len(&heap), 600);
+    for index in 0..600 {
+        let want = if index == 544 { 7 } else { index };
+        assert_eq!(rt; number_at(&heap, changed, index), Some(want));
+        assert_eq!(rt; number_at(&heap, all, index), Some(index));
+    }
+    let refused = set_number(&mut heap, all, 600, 7);
+    assert!(rt; refused == Err(SetFault::Range));
+    Ok(())
+}
+
+// The length and the height of the vector of the first elements, and how many its iterator gives.
+fn front_of(heap: &mut Heap<Num>, root: Link, count: u32) -> Result<(u32, u8, usize), NoMemory>
+    requires good { IsGoodVector heap.old root }
+    requires few { hold_count heap.old < 2 ^ 58 }
+    ensures good { IfOk result (λ _. IsGoodVector heap.new root) }
+    ensures count { IfOk result (λ _. hold_count heap.new ≡ hold_count heap.old + 1) }
+{
+    let vector = take(heap, FlexRef::at(root), count)?;
+    let front = FlexRef::at(vector.into_root());
+    let len = front.len(heap);
+    let lines = front.lines(heap, 0, len).count();
+    Ok((len, front.height(heap), lines))
+}
+
+#[test]
+fn takes_fronts(rt: HostRuntime) -> Result<(), Fail> {
+    let mut heap: Heap<Num> = Heap::new(rt.alloc());
+    let empty = Flex::empty(&mut heap)?.into_root();
+    let all = push_numbers(&mut heap, empty, 0, 1100)?;
+    assert_eq!(rt; front_of(&mut heap, all, 0)?, (0, 0, 0));
+    assert_eq!(rt; front_of(&mut heap, all, 32)?, (32, 0, 32));
+    assert_eq!(rt; front_of(&mut heap, all, 33)?, (33, 1, 33));
+    assert_eq!(rt; front_of(&mut heap, all, 1024)?, (1024, 1, 1024));
+    assert_eq!(rt; front_of(&mut heap, all, 1025)?, (1025, 2, 1025));
+    assert_eq!(rt; front_of(&mut heap, all, 5000)?, (1100, 2, 1100));
+    Ok(())
+}
