@@ -1,0 +1,156 @@
+-- The walk along a chain to the place of a key.
+use Rattle.std.proofs.Common.{◌≡◌, ℕ, ◌+◌, ◌<◌, List, [], ◌∷◌, ◌++◌, length, refl, ap, sym, subst, ◌∙◌, arith, Option, Some, None, append_assoc, length-append}
+use Rattle.std.specs.Prelude.{option_to_list}
+use Rattle.std.specs.Cmp.{IsTotalOrder}
+use Rattle.std.specs.declared.cmp.Ordering.{Ordering}
+use Rattle.std.specs.declared.cmp.Ordering.TheVariants.{Less, Equal, Greater}
+use Rattle.node_heap.specs.Forms.{Form, Forms, node, chain}
+use Rattle.champ_chain.specs.Entry.{Entry, key_at}
+use Rattle.champ_chain.specs.Chain.{AreRows, AreAbove, AreBelow, IsRising}
+use Rattle.champ_chain.specs.Spot.{IsSpot}
+use Rattle.champ_chain.proofs.RisingLemmas.{less_flip, above-less, above-same, below-push, rising-right}
+
+list-inside : (m n : Option ℕ) → option_to_list m ≡ option_to_list n → m ≡ n
+list-inside None None e = refl
+list-inside None (Some n) e = absurd cc
+list-inside (Some m) None e = absurd cc
+list-inside (Some m) (Some n) e = (let same : m ≡ n = cc in ap Some same)
+
+module _ {K : Type 0} where
+  -- the first of some chain rows
+  pub record FirstRow (F : Forms K) (link : ℕ) (es : List (Entry K)) : Type 0 where
+    pub first : Entry K
+    pub others : List (Entry K)
+    pub whole : es ≡ first ∷ others
+    pub next : Option ℕ
+    pub row : F link ≡ Some (node chain (first.link ∷ option_to_list next))
+    pub key : key_at F first.link ≡ Some first.key
+    pub rows : AreRows F next others
+
+  pub first-row : (F : Forms K) (link : ℕ) (es : List (Entry K)) → AreRows F (Some link) es → FirstRow F link es
+  unfolding AreRows
+  first-row F link [] rows = absurd cc
+  first-row F link (e ∷ es) rows =
+      let same : link ≡ rows.link = inside rows.here in
+      record {
+        first = e;
+        others = es;
+        whole = refl;
+        next = rows.next;
+        row = ap F same ∙ rows.row;
+        key = rows.key;
+        rows = rows.rest;
+      }
+    where
+      inside : {a b : ℕ} → Some a ≡ Some b → a ≡ b
+      inside e = cc
+
+  pub rows-none : (F : Forms K) (es : List (Entry K)) → AreRows F None es → es ≡ []
+  unfolding AreRows
+  rows-none F [] rows = refl
+  rows-none F (e ∷ es) rows = absurd (let no' : None ≡ Some rows.link = rows.here in cc)
+
+  -- a row has one entry and one next row
+  pub row-entry : (F : Forms K) (link x y : ℕ) (m n : Option ℕ) → F link ≡ Some (node chain (x ∷ option_to_list m)) → F link ≡ Some (node chain (y ∷ option_to_list n)) → x ≡ y
+  row-entry F link x y m n a b = let e : Some (node chain (x ∷ option_to_list m)) ≡ Some (node chain (y ∷ option_to_list n)) = sym a ∙ b in inner x y (option_to_list m) (option_to_list n) e
+    where
+      inner : (x y : ℕ) (xs ys : List ℕ) → (let left : Option (Form K) = Some (node chain (x ∷ xs)) in left) ≡ Some (node chain (y ∷ ys)) → x ≡ y
+      inner x y xs ys e = cc
+
+  pub row-next : (F : Forms K) (link x y : ℕ) (m n : Option ℕ) → F link ≡ Some (node chain (x ∷ option_to_list m)) → F link ≡ Some (node chain (y ∷ option_to_list n)) → m ≡ n
+  row-next F link x y m n a b = let e : Some (node chain (x ∷ option_to_list m)) ≡ Some (node chain (y ∷ option_to_list n)) = sym a ∙ b in list-inside m n (inner x y (option_to_list m) (option_to_list n) e)
+    where
+      inner : (x y : ℕ) (xs ys : List ℕ) → (let left : Option (Form K) = Some (node chain (x ∷ xs)) in left) ≡ Some (node chain (y ∷ ys)) → xs ≡ ys
+      inner x y xs ys e = cc
+
+  module _ (cmp : K → K → Ordering) where
+    -- so many rows are passed, with smaller keys, and these are left
+    pub record IsPassed (F : Forms K) (key : K) (link before : ℕ) (es : List (Entry K)) : Type 0 where
+      pub seen : List (Entry K)
+      pub left : List (Entry K)
+      pub whole : es ≡ seen ++ left
+      pub number : length seen ≡ before
+      pub smaller : AreBelow cmp key seen
+      pub rows : AreRows F (Some link) left
+
+    pub passed-none : (F : Forms K) (key : K) (link : ℕ) (es : List (Entry K)) → AreRows F (Some link) es → IsPassed F key link 0 es
+    passed-none F key link es rows = record { seen = []; left = es; whole = refl; number = refl; smaller = tt; rows = rows }
+
+  module _ (cmp : K → K → Ordering) (o : IsTotalOrder cmp) where
+    module _ (F : Forms K) (key : K) (link before : ℕ) (es : List (Entry K)) (p : IsPassed cmp F key link before es) (at : FirstRow F link p.left) (r : IsRising cmp es) where
+      rising-left' : IsRising cmp (at.first ∷ at.others)
+      rising-left' = subst (IsRising cmp) at.whole (rising-right cmp o p.seen p.left (subst (IsRising cmp) p.whole r))
+
+      pub spot-less : cmp key at.first.key ≡ Less → IsSpot cmp F es key (record { before = before; found = None; rest = Some link })
+      spot-less less = record {
+        parts = record {
+          smaller = p.seen;
+          equal = None;
+          greater = p.left;
+          whole = p.whole;
+          are_smaller = p.smaller;
+          is_equal = tt;
+          are_greater = subst (AreAbove cmp key) (sym at.whole) (less, above-less cmp o key at.first.key less at.others rising-left'.0);
+        };
+        before = p.number;
+        found = refl;
+        rest = p.rows;
+      }
+
+      pub spot-equal : (x : ℕ) (next : Option ℕ) → at.first.link ≡ x → at.next ≡ next → cmp key at.first.key ≡ Equal → IsSpot cmp F es key (record { before = before; found = Some x; rest = next })
+      spot-equal x next same_entry same_next equal = record {
+        parts = record {
+          smaller = p.seen;
+          equal = Some at.first;
+          greater = at.others;
+          whole = p.whole ∙ ap (λ xs. p.seen ++ xs) at.whole;
+          are_smaller = p.smaller;
+          is_equal = equal;
+          are_greater = above-same cmp o key at.first.key equal at.others rising-left'.0;
+        };
+        before = p.number;
+        found = ap Some same_entry;
+        rest = subst (λ n. AreRows F n at.others) same_next at.rows;
+      }
+
+      more : es ≡ (p.seen ++ at.first ∷ []) ++ at.others
+      more = p.whole ∙ ap (λ xs. p.seen ++ xs) at.whole ∙ sym (append_assoc p.seen (at.first ∷ []) at.others)
+
+      longer : length (p.seen ++ at.first ∷ []) ≡ before + 1
+      longer = omega (arith, length-append p.seen (at.first ∷ []), p.number)
+
+      pub spot-greatest : cmp key at.first.key ≡ Greater → at.next ≡ None → IsSpot cmp F es key (record { before = before + 1; found = None; rest = None })
+      unfolding AreRows
+      spot-greatest greater last =
+          let none : at.others ≡ [] = rows-none F at.others (subst (λ n. AreRows F n at.others) last at.rows) in
+          record {
+            parts = record {
+              smaller = p.seen ++ at.first ∷ [];
+              equal = None;
+              greater = [];
+              whole = more ∙ ap (λ xs. (p.seen ++ at.first ∷ []) ++ xs) none;
+              are_smaller = below-push cmp o key p.seen at.first p.smaller (less_flip cmp o key at.first.key greater);
+              is_equal = tt;
+              are_greater = tt;
+            };
+            before = longer;
+            found = refl;
+            rest = refl;
+          }
+
+      pub passed-more : (next : ℕ) → cmp key at.first.key ≡ Greater → at.next ≡ Some next → IsPassed cmp F key next (before + 1) es
+      passed-more next greater on = record {
+        seen = p.seen ++ at.first ∷ [];
+        left = at.others;
+        whole = more;
+        number = longer;
+        smaller = below-push cmp o key p.seen at.first p.smaller (less_flip cmp o key at.first.key greater);
+        rows = subst (λ n. AreRows F n at.others) on at.rows;
+      }
+
+      -- no more rows are passed than the chain has
+      pub passed-less : before < length es
+      passed-less = omega (arith, ap length p.whole, length-append p.seen p.left, ap length at.whole, p.number)
+
+  pub same-key : (F : Forms K) (x y : ℕ) (j k : K) → x ≡ y → key_at F x ≡ Some j → key_at F y ≡ Some k → j ≡ k
+  same-key F x y j k same a b = let e : Some j ≡ Some k = sym a ∙ ap (key_at F) same ∙ b in cc
