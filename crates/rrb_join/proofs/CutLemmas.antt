@@ -1,0 +1,160 @@
+-- Vectors that are made on the way and given up again.
+use Rattle.std.proofs.Common.{◌≡◌, ℕ, ◌+◌, ◌<◌, ◌≤◌, List, [], ◌∷◌, length, refl, ◌∙◌, arith, IsSome}
+use Rattle.node_heap.specs.Links.{Links, count, Reaches, here, below}
+use Rattle.node_heap.specs.Forms.{links_of}
+use Rattle.node_heap.specs.Heap.{Heap, row_at, links_at, holds_at, hold_count, cell_count, node_count, one_at, IsGraph}
+use Rattle.node_heap.specs.Calls.{Extends, KeepsHeld, Releases, Unchanged, Balances, Answered}
+use Rattle.rrb_core.specs.Vector.{Stays, elements, IsGoodVector}
+use Rattle.rrb_core.specs.Build.{Builds}
+use Rattle.rrb_core.proofs.LinkCounts.{count-one, count-cons, all-counted, one-same}
+use Rattle.rrb_core.proofs.Stays.{good-stays}
+use Rattle.rrb_core.proofs.BuildLemmas.{reaches-same, extends-then}
+
+pub reaches-then : (L : Links) (a b c : ℕ) → Reaches L a b → Reaches L b c → Reaches L a c
+reaches-then L a b c (here l) way = way
+reaches-then L a b c (below l k m has down) way = below l k c has (reaches-then L k m c down way)
+
+-- two or three links without the last
+pub without-second : (x y k : ℕ) → count k (x ∷ y ∷ []) ≡ count k (x ∷ []) + one_at y k
+without-second x y k = omega (arith, count-cons k x (y ∷ []), count-one k x, count-one k y)
+
+pub without-third : (x y z k : ℕ) → count k (x ∷ y ∷ z ∷ []) ≡ count k (x ∷ y ∷ []) + one_at z k
+without-third x y z k = omega (arith, count-cons k x (y ∷ z ∷ []), count-cons k y (z ∷ []), count-cons k x (y ∷ []), count-one k y, count-one k z)
+
+module _ {T : Type 0} where
+  -- what a held link reaches stays
+  pub held-stays : {old new : Heap T} {spent : ℕ → ℕ} → KeepsHeld spent old new → (l : ℕ) → spent l < holds_at old l → Stays (Reaches (links_at old) l) old new
+  held-stays {old} {new} keeps l held =
+      record {
+        closed = λ x way. all-counted (Reaches (links_at old) l) (links_at old x) (λ k has. reaches-then (links_at old) l x k way (below x k k has (here k)));
+        kept = λ x way. keeps.kept l held x way;
+      }
+
+  -- a vector that is still held stays
+  pub good-held : {old new : Heap T} {spent : ℕ → ℕ} → KeepsHeld spent old new → (l : ℕ) → spent l < holds_at old l → IsGoodVector old l → IsGoodVector new l × (elements new l ≡ elements old l)
+  good-held keeps l held good = good-stays (held-stays keeps l held) l (here l) good
+
+  -- rows stay where every link that was held at first is held still
+  pub held-extends : {a b c : Heap T} {spent : ℕ → ℕ} → IsGraph a → Extends a b → KeepsHeld spent b c → ((k : ℕ) → 0 < holds_at a k → spent k < holds_at b k) → Extends a c
+  held-extends {a} {b} {c} graph ext keeps held = record { live = live; kept = kept }
+    where
+      same : (l m : ℕ) → IsSome (row_at a l) → Reaches (links_at a) l m → row_at c m ≡ row_at b m
+      same l m some down =
+          let top = graph.reached l some in
+          let way : Reaches (links_at a) top.0 m = reaches-then (links_at a) top.0 l m top.2 down in
+          let way' : Reaches (links_at b) top.0 m = reaches-same (links_at a) (links_at b) (row_at a) (row_at b) links_of (λ _. refl) (λ _. refl) top.0 m way (ext.kept top.0 (graph.held top.0 top.1)) in
+          keeps.kept top.0 (held top.0 top.1) m way'
+
+      live : (l : ℕ) → IsSome (row_at a l) → IsSome (row_at c l)
+      live l some = rw (same l l some (here l)) (ext.live l some)
+
+      kept : (l : ℕ) → IsSome (row_at a l) → (m : ℕ) → Reaches (links_at a) l m → row_at c m ≡ row_at a m
+      kept l some m down = same l m some down ∙ ext.kept l some m down
+
+  -- rows were added and perhaps given up again: each link in the list is held once more, and at most n nodes came
+  pub record Gives (old new : Heap T) (given : List ℕ) (n : ℕ) : Type 0 where
+    pub extends : Extends old new
+    pub graph : IsGraph new
+    pub holds : (k : ℕ) → holds_at new k ≡ holds_at old k + count k given
+    pub total : hold_count new ≡ hold_count old + length given
+    pub cells : cell_count new ≤ cell_count old
+    pub nodes : node_count new ≤ node_count old + n
+    pub balance : Balances old new
+
+  -- a call that answered
+  pub gives-answered : {old new : Heap T} {result n : ℕ} → Answered old new [] result 0 n → Gives old new (result ∷ []) n
+  gives-answered {result = result} a =
+      record {
+        extends = a.extends;
+        graph = a.graph;
+        holds = λ k. omega (arith, a.holds k, count-one k result);
+        total = omega (arith, a.count);
+        cells = omega (arith, a.cells);
+        nodes = a.nodes;
+        balance = a.balance;
+      }
+
+  -- rows were made after that
+  pub gives-built : {a b c : Heap T} {given : List ℕ} {result n m : ℕ} → Gives a b given n → Builds b c [] (result ∷ []) m → Gives a c (result ∷ given) (n + m)
+  gives-built {given = given} {result = result} g b =
+      record {
+        extends = extends-then g.extends b.extends;
+        graph = b.graph;
+        holds = λ k. omega (arith, g.holds k, b.holds k, count-one k result, count-cons k result given);
+        total = omega (arith, g.total, b.total);
+        cells = omega (arith, g.cells, b.cells);
+        nodes = omega (arith, g.nodes, b.nodes, b.few);
+        balance = record {
+          spare_cells = omega (arith, g.balance.spare_cells, b.cells, b.spare_cells);
+          spare_nodes = omega (arith, g.balance.spare_nodes, b.nodes, b.spare_nodes);
+          no_fewer = omega (arith, g.balance.no_fewer, b.no_fewer);
+          made = omega (arith, g.balance.made, b.made, b.live);
+        };
+      }
+
+  -- one of them was given up
+  pub gives-released : {a b c : Heap T} {given left : List ℕ} {link n : ℕ} → IsGraph a → Gives a b given n → ((k : ℕ) → count k given ≡ count k left + one_at link k) → length given ≡ length left + 1
+      → Releases b c link → IsGraph c → KeepsHeld (one_at link) b c → Gives a c left n
+  gives-released {left = left} {link = link} graph g one size r after keeps =
+      record {
+        extends = held-extends graph g.extends keeps (λ k some. omega (arith, g.holds k, one k));
+        graph = after;
+        holds = λ k. omega (arith, g.holds k, r.holds k, one k);
+        total = omega (arith, g.total, r.count, size);
+        cells = omega (arith, g.cells, r.fewer_cells);
+        nodes = omega (arith, g.nodes, r.fewer_nodes);
+        balance = record {
+          spare_cells = omega (arith, g.balance.spare_cells, r.cells);
+          spare_nodes = omega (arith, g.balance.spare_nodes, r.nodes);
+          no_fewer = omega (arith, g.balance.no_fewer, r.made);
+          made = omega (arith, g.balance.made, r.made, after.kinds, g.graph.kinds, r.fewer_cells, r.fewer_nodes);
+        };
+      }
+
+  -- room was made before, and one is left
+  pub gives-all : {a b c : Heap T} {result n m : ℕ} → Unchanged a b → Gives b c (result ∷ []) n → n ≤ m → Answered a c [] result 0 m
+  gives-all {result = result} same g le =
+      record {
+        extends = extends-then (record { live = λ l live. rw (same.rows l) live; kept = λ l live m down. same.rows m }) g.extends;
+        graph = g.graph;
+        holds = λ k. omega (arith, same.holds k, g.holds k, count-one k result);
+        count = omega (arith, same.count, g.total);
+        cells = omega (arith, same.cells, g.cells);
+        nodes = omega (arith, same.nodes, g.nodes, le);
+        balance = record {
+          spare_cells = omega (arith, same.cells, same.spare_cells, g.balance.spare_cells);
+          spare_nodes = omega (arith, same.nodes, same.spare_nodes, g.balance.spare_nodes);
+          no_fewer = omega (arith, same.made, g.balance.no_fewer);
+          made = omega (arith, same.made, same.live, g.balance.made);
+        };
+      }
+
+  -- room after room
+  pub unchanged-then : {a b c : Heap T} → Unchanged a b → Unchanged b c → Unchanged a c
+  unchanged-then first second =
+      record {
+        rows = λ k. second.rows k ∙ first.rows k;
+        holds = λ k. second.holds k ∙ first.holds k;
+        count = second.count ∙ first.count;
+        cells = second.cells ∙ first.cells;
+        nodes = second.nodes ∙ first.nodes;
+        live = second.live ∙ first.live;
+        made = second.made ∙ first.made;
+        spare_cells = omega (arith, first.spare_cells, second.spare_cells);
+        spare_nodes = omega (arith, first.spare_nodes, second.spare_nodes);
+        graph = second.graph;
+      }
+
+  -- the first of two that are given is still held where the second is given up, which is held
+  pub gives-first : {a b : Heap T} {n : ℕ} (x y : ℕ) → Gives a b (x ∷ y ∷ []) n → one_at y x < holds_at b x
+  gives-first x y g = omega (arith, g.holds x, count-cons x x (y ∷ []), one-same x x refl, count-one x y)
+
+  pub gives-second : {a b : Heap T} {n : ℕ} (x y : ℕ) → Gives a b (x ∷ y ∷ []) n → 0 < holds_at b y
+  gives-second x y g = omega (arith, g.holds y, count-cons y x (y ∷ []), count-one y y, one-same y y refl)
+
+  -- the same of three
+  pub gives-first-of : {a b : Heap T} {n : ℕ} (x y z : ℕ) → Gives a b (x ∷ y ∷ z ∷ []) n → one_at z x < holds_at b x
+  gives-first-of x y z g = omega (arith, g.holds x, count-cons x x (y ∷ z ∷ []), one-same x x refl, count-cons x y (z ∷ []), count-one x z)
+
+  pub gives-third : {a b : Heap T} {n : ℕ} (x y z : ℕ) → Gives a b (x ∷ y ∷ z ∷ []) n → 0 < holds_at b z
+  gives-third x y z g = omega (arith, g.holds z, count-cons z x (y ∷ z ∷ []), count-cons z y (z ∷ []), count-one z z, one-same z z refl)

@@ -1,0 +1,5 @@
+pub mod UnmadeLemmas
+pub mod SeamLemmas
+pub mod RestLemmas
+pub mod InsertLemmas
+pub mod CutLemmas

@@ -1,0 +1,231 @@
+-- Links of which rows are to be made, at a leaf's height and above.
+use Rattle.std.proofs.Common.{◌≡◌, ℕ, suc, zero, ◌-◌, ◌+◌, ◌<◌, ◌≤◌, ◌^◌, List, [], ◌∷◌, ◌++◌, length, take, drop, get_or, refl, ap, sym, ◌∙◌, arith, inl, inr, length-append, length-drop, append-nil, take-append-drop, IsSome}
+use Rattle.std.specs.List.{All, flat_map}
+use Rattle.std.proofs.lemmas.List.{length-take-le, get_or-take, nil_from_length}
+use Rattle.std.proofs.lemmas.Bool.{cases_lt}
+use Rattle.std.proofs.lemmas.List.Concat.{flat_map-append}
+use Rattle.std.proofs.lemmas.List.Elements.{All-nil, All-cons, All-append, All-drop}
+use Rattle.node_heap.specs.Heap.{Heap, row_at, form_at, links_at}
+use Rattle.rrb_core.specs.Seq.{seq_at, IsThick, IsWell}
+use Rattle.rrb_core.specs.Vector.{HasSums, Stays, height_at, elements, IsGoodVector}
+use Rattle.rrb_core.specs.Build.{IsRowOf, AreRows}
+use Rattle.rrb_join.specs.Unmade.{items_below, AreLinks, AreThick, IsRow}
+use Rattle.rrb_core.proofs.Lists.{child-short}
+use Rattle.rrb_core.proofs.Laws.{well-most, thick-low, links-some}
+use Rattle.rrb_core.proofs.Stays.{links-form, well-live, links-stay, items-stay, thick-stays, all-thick-stay, rows-stay, row-stays}
+use Rattle.rrb_core.proofs.RowLists.{rows-append, rows-take, rows-drop, take-thick, rows-live, inner-thick, leaf-thick, over}
+
+module _ {T : Type 0} (h : Heap T) where
+  pub leaf-items : (n : ℕ) (ls : List ℕ) → n ≡ 0 → items_below h n ls ≡ ls
+  unfolding items_below
+  leaf-items zero ls e = refl
+  leaf-items (suc n) ls e = absurd (omega arith)
+
+  pub inner-items : (n : ℕ) (ls : List ℕ) → 0 < n → items_below h n ls ≡ flat_map (seq_at (form_at h) (n - 1)) ls
+  unfolding items_below
+  inner-items zero ls p = absurd (omega arith)
+  inner-items (suc n) ls p = let e : suc n - 1 ≡ n = omega arith in rw e refl
+
+  pub inner-links : (n : ℕ) (ls : List ℕ) → 0 < n → AreLinks h n ls → AreRows h (n - 1) ls
+  unfolding AreLinks
+  inner-links zero ls p a = absurd (omega arith)
+  inner-links (suc n) ls p a = let e : suc n - 1 ≡ n = omega arith in rw e a
+
+  -- rows of a height are links of the next, and so are their elements and whether all are thick
+  pub rows-above : (n : ℕ) (ls : List ℕ) → AreRows h n ls → AreLinks h (suc n) ls
+  unfolding AreLinks
+  rows-above n ls r = r
+
+  pub items-above : (n : ℕ) (ls : List ℕ) → items_below h (suc n) ls ≡ flat_map (seq_at (form_at h) n) ls
+  unfolding items_below
+  items-above n ls = refl
+
+  pub thick-above : (n : ℕ) (ls : List ℕ) → All (IsThick (form_at h) n) ls → AreThick h (suc n) ls
+  unfolding AreThick
+  thick-above n ls t = t
+
+  pub thick-rows : (n : ℕ) (ls : List ℕ) → AreThick h (suc n) ls → All (IsThick (form_at h) n) ls
+  unfolding AreThick
+  thick-rows n ls t = t
+
+  pub leaf-are-links : (n : ℕ) (ls : List ℕ) → n ≡ 0 → AreLinks h n ls
+  unfolding AreLinks
+  leaf-are-links zero ls e = tt
+  leaf-are-links (suc n) ls e = absurd (omega arith)
+
+  pub leaf-are-thick : (n : ℕ) (ls : List ℕ) → n ≡ 0 → AreThick h n ls
+  unfolding AreThick
+  leaf-are-thick zero ls e = tt
+  leaf-are-thick (suc n) ls e = absurd (omega arith)
+
+  pub links-take : (n i : ℕ) (ls : List ℕ) → AreLinks h n ls → i ≤ length ls → AreLinks h n (take i ls)
+  unfolding AreLinks
+  links-take zero i ls a le = tt
+  links-take (suc n) i ls a le = rows-take h n i ls a le
+
+  pub links-drop : (n i : ℕ) (ls : List ℕ) → AreLinks h n ls → AreLinks h n (drop i ls)
+  unfolding AreLinks
+  links-drop zero i ls a = tt
+  links-drop (suc n) i ls a = rows-drop h n i ls a
+
+  pub links-append : (n : ℕ) (ks js : List ℕ) → AreLinks h n ks → AreThick h n ks → AreLinks h n js → AreLinks h n (ks ++ js)
+  unfolding AreLinks AreThick
+  links-append zero ks js a full b = tt
+  links-append (suc n) ks js a full b = rows-append h n ks js a b (λ some. full)
+
+  pub thick-take : (n i : ℕ) (ls : List ℕ) → AreLinks h n ls → i < length ls → AreThick h n (take i ls)
+  unfolding AreLinks AreThick
+  thick-take zero i ls a lt = tt
+  thick-take (suc n) i ls a lt = take-thick h n i ls a lt
+
+  pub thick-drop : (n i : ℕ) (ls : List ℕ) → AreThick h n ls → AreThick h n (drop i ls)
+  unfolding AreThick
+  thick-drop zero i ls t = tt
+  thick-drop (suc n) i ls t = All-drop (IsThick (form_at h) n) i ls t
+
+  pub thick-append : (n : ℕ) (ks js : List ℕ) → AreThick h n ks → AreThick h n js → AreThick h n (ks ++ js)
+  unfolding AreThick
+  thick-append zero ks js a b = tt
+  thick-append (suc n) ks js a b = All-append (IsThick (form_at h) n) ks js a b
+
+  pub items-append : (n : ℕ) (ks js : List ℕ) → items_below h n (ks ++ js) ≡ items_below h n ks ++ items_below h n js
+  unfolding items_below
+  items-append zero ks js = refl
+  items-append (suc n) ks js = flat_map-append (seq_at (form_at h) n) ks js
+
+  pub items-split : (n i : ℕ) (ls : List ℕ) → items_below h n ls ≡ items_below h n (take i ls) ++ items_below h n (drop i ls)
+  items-split n i ls = ap (items_below h n) (sym (take-append-drop i ls)) ∙ items-append n (take i ls) (drop i ls)
+
+  -- the links of a row
+  pub record HasLinks (n l : ℕ) : Type 0 where
+    pub live : IsSome (row_at h l)
+    pub most : length (links_at h l) ≤ 32
+    pub links : AreLinks h n (links_at h l)
+    pub items : items_below h n (links_at h l) ≡ seq_at (form_at h) n l
+    pub thick : IsThick (form_at h) n l → (16 ≤ length (links_at h l)) × AreThick h n (links_at h l)
+
+  pub has-links : (n l : ℕ) → IsWell (form_at h) n l → HasSums h n l → HasLinks n l
+  unfolding AreLinks items_below seq_at AreThick IsThick
+  has-links zero l w s =
+      record {
+        live = well-live h zero l w;
+        most = rw (← links-form h l) (well-most (form_at h) zero l w);
+        links = tt;
+        items = sym (links-form h l);
+        thick = λ t. (rw (← links-form h l) t, tt);
+      }
+  has-links (suc n) l w s =
+      let o = over h n l w s in
+      record { live = o.live; most = o.most; links = o.rows; items = sym o.items; thick = λ t. o.thick t }
+
+  -- a row, with one element or more, by its links
+  pub row-one : (n l : ℕ) (xs : List ℕ) → IsRowOf h n l xs → 1 ≤ length (links_at h l) → AreRows h n (l ∷ [])
+  row-one n l xs r some =
+      record {
+        well = All-cons (IsWell (form_at h) n) l [] r.well (All-nil (IsWell (form_at h) n));
+        thick = All-nil (IsThick (form_at h) n);
+        not_empty = All-cons (λ k. 1 ≤ length (links_at h k)) l [] some (All-nil (λ k. 1 ≤ length (links_at h k)));
+        sums = All-cons (HasSums h n) l [] r.sums (All-nil (HasSums h n));
+      }
+
+  pub items-one : (n l : ℕ) (xs : List ℕ) → IsRowOf h n l xs → flat_map (seq_at (form_at h) n) (l ∷ []) ≡ xs
+  items-one n l xs r = append-nil (seq_at (form_at h) n l) ∙ r.items
+
+  pub thick-one : (n l : ℕ) → IsThick (form_at h) n l → All (IsThick (form_at h) n) (l ∷ [])
+  thick-one n l t = All-cons (IsThick (form_at h) n) l [] t (All-nil (IsThick (form_at h) n))
+
+-- what stays
+module _ {T : Type 0} {P : ℕ → Type 0} {old new : Heap T} (s : Stays P old new) where
+  pub links-later : (n : ℕ) (ls : List ℕ) → (0 < n → All P ls) → AreLinks old n ls → AreLinks new n ls
+  unfolding AreLinks
+  links-later zero ls named a = tt
+  links-later (suc n) ls named a = rows-stay s n ls (named (omega arith)) a
+
+  pub items-later : (n : ℕ) (ls : List ℕ) → (0 < n → All P ls) → items_below new n ls ≡ items_below old n ls
+  unfolding items_below
+  items-later zero ls named = refl
+  items-later (suc n) ls named = items-stay s n ls (named (omega arith))
+
+  pub thick-later : (n : ℕ) (ls : List ℕ) → (0 < n → All P ls) → AreThick old n ls → AreThick new n ls
+  unfolding AreThick
+  thick-later zero ls named t = tt
+  thick-later (suc n) ls named t = all-thick-stay s n ls (named (omega arith)) t
+
+-- links above leaves are live
+pub links-live : {T : Type 0} (h : Heap T) (n : ℕ) (ls : List ℕ) → AreLinks h n ls → 0 < n → All (λ k. IsSome (row_at h k)) ls
+unfolding AreLinks
+links-live h zero ls a p = absurd (omega arith)
+links-live h (suc n) ls a p = rows-live h n ls a
+
+-- a row over enough links, of which all are thick, is thick
+pub row-thick : {T : Type 0} (old new : Heap T) (n l : ℕ) (ls : List ℕ) → Stays (λ k. IsSome (row_at old k)) old new → AreLinks old n ls → links_at new l ≡ ls → 16 ≤ length ls → AreThick old n ls → IsThick (form_at new) n l
+unfolding AreLinks AreThick
+row-thick old new zero l ls s a is enough t = leaf-thick new l ls is enough
+row-thick old new (suc n) l ls s a is enough t = inner-thick new old n l ls s a is enough t
+
+-- what one row or two are over these links
+pub record AreOver {T : Type 0} (old new : Heap T) (n : ℕ) (made ls : List ℕ) : Type 0 where
+  pub rows : AreRows new n made
+  pub items : flat_map (seq_at (form_at new) n) made ≡ items_below old n ls
+  pub thick : 16 ≤ length ls → AreThick old n ls → All (IsThick (form_at new) n) made
+
+pub one-over : {T : Type 0} (old new : Heap T) (n a : ℕ) (ls : List ℕ) → Stays (λ k. IsSome (row_at old k)) old new → AreLinks old n ls → 1 ≤ length ls
+    → IsRowOf new n a (items_below old n ls) → links_at new a ≡ ls → AreOver old new n (a ∷ []) ls
+one-over old new n a ls s links some row is =
+    record {
+      rows = row-one new n a (items_below old n ls) row (rw is some);
+      items = items-one new n a (items_below old n ls) row;
+      thick = λ enough full. thick-one new n a (row-thick old new n a ls s links is enough full);
+    }
+
+pub two-over : {T : Type 0} (old mid new : Heap T) (n i a b : ℕ) (ls back : List ℕ) → Stays (λ k. IsSome (row_at old k)) old mid → Stays (λ k. IsSome (row_at mid k)) mid new → AreLinks old n ls
+    → 16 ≤ i → i + 16 ≤ length ls → back ≡ drop i ls
+    → IsRowOf mid n a (items_below old n (take i ls)) → links_at mid a ≡ take i ls
+    → IsRowOf new n b (items_below mid n back) → links_at new b ≡ back → AreOver old new n (a ∷ b ∷ []) ls
+two-over old mid new n i a b ls back s s' links low low' cut one one-is two two-is =
+    let front : AreLinks old n (take i ls) = links-take old n i ls links (omega arith) in
+    let rest : AreLinks old n (drop i ls) = links-drop old n i ls links in
+    let size : length (take i ls) ≡ i = length-take-le i ls (omega arith) in
+    let first : IsThick (form_at mid) n a = row-thick old mid n a (take i ls) s front one-is (omega arith) (thick-take old n i ls links (omega arith)) in
+    let live : IsSome (row_at mid a) = well-live mid n a one.well in
+    let later : IsRowOf new n a (items_below old n (take i ls)) = row-stays s' n a (items_below old n (take i ls)) live one in
+    let thick : IsThick (form_at new) n a = thick-stays s' n a live first in
+    let some-a : 1 ≤ length (links_at new a) = rw (links-stay s' a live, one-is) (omega (arith, size)) in
+    let same : items_below mid n back ≡ items_below old n (drop i ls) = rw cut (items-later s n (drop i ls) (λ p. links-live old n (drop i ls) rest p)) in
+    record {
+      rows = rows-append new n (a ∷ []) (b ∷ []) (row-one new n a (items_below old n (take i ls)) later some-a) (row-one new n b (items_below mid n back) two (rw (two-is, cut) (omega (arith, length-drop i ls)))) (λ _. thick-one new n a thick);
+      items = ap (λ (xs : List ℕ). xs ++ flat_map (seq_at (form_at new) n) (b ∷ [])) later.items ∙ ap (λ (xs : List ℕ). items_below old n (take i ls) ++ xs) (items-one new n b (items_below mid n back) two ∙ same) ∙ sym (items-split old n i ls);
+      thick = λ enough full. All-cons (IsThick (form_at new) n) a (b ∷ []) thick (thick-one new n b (row-thick mid new n b back s' (rw cut (links-later s n (drop i ls) (λ p. links-live old n (drop i ls) rest p) rest)) two-is (rw cut (omega (arith, length-drop i ls))) (rw cut (thick-later s n (drop i ls) (λ p. links-live old n (drop i ls) rest p) (thick-drop old n i ls full)))));
+    }
+
+-- two rows pushed one after the other
+pub two-pushed : (none one two : List ℕ) (a b : ℕ) → none ≡ [] → one ≡ none ++ a ∷ [] → two ≡ one ++ b ∷ [] → two ≡ a ∷ b ∷ []
+two-pushed none one two a b e f g = g ∙ rw (f, e) refl
+
+-- two rows of one height are below the last height
+pub two-low : {T : Type 0} (h : Heap T) (n : ℕ) (ks : List ℕ) → AreRows h n ks → 2 ≤ length ks → n ≤ 7 → length (flat_map (seq_at (form_at h) n) ks) < 2 ^ 32 → n < 7
+two-low h n ks r two low short =
+    let at : get_or (take 1 ks) 0 0 ≡ get_or ks 0 0 = get_or-take 1 ks 0 0 (omega arith) in
+    let t : IsThick (form_at h) n (get_or (take 1 ks) 0 0) = take-thick h n 1 ks r (omega arith) 0 0 (omega (arith, length-take-le 1 ks (omega arith))) in
+    thick-low (form_at h) n (get_or ks 0 0) (rw at at t) low (omega (arith, child-short (seq_at (form_at h) n) ks 0 (omega arith), short))
+
+-- no part has more elements than the whole
+pub take-fewer : {T : Type 0} (h : Heap T) (n i : ℕ) (ls : List ℕ) → length (items_below h n (take i ls)) ≤ length (items_below h n ls)
+take-fewer h n i ls = omega (arith, ap length (items-split h n i ls), length-append (items_below h n (take i ls)) (items_below h n (drop i ls)))
+
+pub drop-fewer : {T : Type 0} (h : Heap T) (n i : ℕ) (ls : List ℕ) → length (items_below h n (drop i ls)) ≤ length (items_below h n ls)
+drop-fewer h n i ls = omega (arith, ap length (items-split h n i ls), length-append (items_below h n (take i ls)) (items_below h n (drop i ls)))
+
+-- a root without links has no elements
+pub no-elements : {T : Type 0} (h : Heap T) (l : ℕ) → IsGoodVector h l → length (links_at h l) ≡ 0 → elements h l ≡ []
+no-elements h l good none =
+    let some : 1 ≤ length (elements h l) → 1 ≤ length (links_at h l) = λ more. rw (← links-form h l) (links-some (form_at h) (height_at h l) l good.shape.well more) in
+    nil_from_length (elements h l) (elim (cases_lt 0 (length (elements h l))) as (λ _. length (elements h l) ≡ 0) [ inl lt ↦ omega (arith, some lt, none) | inr ge ↦ omega arith ])
+
+-- a leaf has as many links as elements
+pub leaf-length : {T : Type 0} (h : Heap T) (n l : ℕ) → n ≡ 0 → IsWell (form_at h) n l → HasSums h n l → length (links_at h l) ≡ length (seq_at (form_at h) n l)
+leaf-length h n l e w s = ap length (sym (leaf-items h n (links_at h l) e) ∙ (has-links h n l w s).items)
+
+-- a vector with elements is a row with links
+pub root-is-row : {T : Type 0} (h : Heap T) (l : ℕ) → IsGoodVector h l → 1 ≤ length (links_at h l) → IsRow h (height_at h l) l
+root-is-row h l good some = record { well = good.shape.well; sums = good.sums; some = some }

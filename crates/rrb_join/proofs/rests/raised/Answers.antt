@@ -1,0 +1,41 @@
+use Rattle.std.proofs.Common.{arith, ◌+◌, ◌-◌, ◌*◌, ◌≤◌, length, ap, add-one}
+use Rattle.rrb_core.proofs.Stays.{live-stays, links-stay}
+use Rattle.rrb_core.proofs.BuildLemmas.{extends-then, builds-then, builds-more}
+use Rattle.rrb_join.proofs.RestLemmas.{IsRaised, raised}
+use Rattle.rrb_join.proofs.rests.raised.Given as given
+use Rattle.rrb_join.proofs.rests.raised.Goals as goal
+use Rattle.rrb_join.proofs.rests.raised.Goals.{else-len-le32-via-then-len-le32+else-from-links, else-len-le32-via-else-len-le32}
+
+pub gathered-requires-clause-skip : goal.gathered-requires-clause-skip
+gathered-requires-clause-skip g c = rw (links-stay (live-stays c.requires.graph c.rows_over-rows.ensures.builds.extends) c.args.link c.requires.live) c.requires.from
+
+up : (g : given.Over) (c : goal.After-gathered g) → IsRaised c.args.heap.now c.rows_over-rows.new.heap c.gathered.new.heap c.args.rest.level c.args.link c.args.from c.args.rest.links.items c.rows_over-rows.result.items c.gathered.result.items
+up g c =
+    raised c.args.heap.now c.rows_over-rows.new.heap c.gathered.new.heap c.args.rest.level c.args.link c.args.from c.args.rest.links.items c.rows_over-rows.result.items c.gathered.result.items
+    (live-stays c.requires.graph (extends-then c.rows_over-rows.ensures.builds.extends c.gathered.ensures.builds.extends)) (live-stays c.rows_over-rows.ensures.builds.graph c.gathered.ensures.builds.extends) (links-stay (live-stays c.requires.graph c.rows_over-rows.ensures.builds.extends) c.args.link c.requires.live)
+    c.requires.beside c.rows_over-rows.ensures.rows (rw c.as_slice.ensures.value at c.rows_over-rows.ensures.items)
+    (λ more. c.rows_over-rows.ensures.thick (rw c.as_slice.ensures.value (c.requires.close more).0) (rw c.as_slice.ensures.value (c.requires.close more).1)) c.rows_over-rows.ensures.some c.rows_over-rows.ensures.few c.requires.fits (rw c.as_slice-2.ensures.value at c.gathered.ensures.items)
+
+pub returns-clause-links : goal.returns-clause-links
+returns-clause-links g c = rw add-one (up g c).unmade
+
+pub returns-clause-few : goal.returns-clause-few
+returns-clause-few g c = λ le. omega (arith, (up g c).size, c.rows_over-rows.ensures.few, le)
+
+pub returns-clause-two : goal.returns-clause-two
+returns-clause-two g c = λ _.
+    let size = (up g c).size in
+    elim c.else-len-le32.branch as (λ _. 2 ≤ length c.gathered.result.items) [
+      | else-len-le32-via-then-len-le32+else-from-links w ↦ omega (arith, size, c.rows_over-rows.ensures.some, c.requires.from, ap length w.links.ensures.links, w.if-from-links.false)
+      | else-len-le32-via-else-len-le32 w ↦ omega (arith, size, c.rows_over-rows.ensures.two, ap length c.as_slice.ensures.value, c.len.ensures.value, w.if-len-le32.false)
+    ]
+
+pub returns-clause-count : goal.returns-clause-count
+returns-clause-count g c = λ more. omega (arith, (up g c).size, c.rows_over-rows.ensures.some, more)
+
+pub returns-clause-thick : goal.returns-clause-thick
+returns-clause-thick g c = λ full enough back. rw add-one ((up g c).thick (c.rows_over-rows.ensures.thick (rw c.as_slice.ensures.value enough) (rw c.as_slice.ensures.value full)) back)
+
+pub returns-clause-builds : goal.returns-clause-builds
+returns-clause-builds g c =
+    builds-more (2 * (c.args.rest.level + 1 - c.args.rest.level)) (builds-then (rw c.as_slice.ensures.value at c.rows_over-rows.ensures.builds) (rw c.as_slice-2.ensures.value at c.gathered.ensures.builds)) (omega arith)

@@ -1,0 +1,59 @@
+-- Links of which rows are to be made, and the parts of rows that are joined.
+use Rattle.std.specs.Prelude.{◌≡◌, ℕ, zero, suc, ◌+◌, ◌<◌, ◌≤◌, List, ◌++◌, length, take, drop}
+use Rattle.std.specs.List.{All, flat_map}
+use Rattle.node_heap.specs.Heap.{Heap, form_at, links_at}
+use Rattle.rrb_core.specs.Seq.{seq_at, IsThick, IsWell}
+use Rattle.rrb_core.specs.Vector.{HasSums}
+use Rattle.rrb_core.specs.Build.{AreRows}
+
+module _ {T : Type 0} where
+  -- the elements below links that a row of height n may hold
+  unfoldable pub items_below : Heap T → ℕ → List ℕ → List ℕ
+  items_below h zero ls = ls
+  items_below h (suc n) ls = flat_map (seq_at (form_at h) n) ls
+
+  -- links that rows of height n may hold: elements, or rows one height below that keep the fill rule
+  unfoldable pub AreLinks : Heap T → ℕ → List ℕ → Type 0
+  AreLinks h zero ls = Unit {0}
+  AreLinks h (suc n) ls = AreRows h n ls
+
+  -- the links are elements, or thick rows
+  unfoldable pub AreThick : Heap T → ℕ → List ℕ → Type 0
+  AreThick h zero ls = Unit {0}
+  AreThick h (suc n) ls = All (IsThick (form_at h) n) ls
+
+  -- a row of height n that is not empty
+  pub record IsRow (h : Heap T) (n l : ℕ) : Type 0 where
+    pub well : IsWell (form_at h) n l
+    pub sums : HasSums h n l
+    pub some : 1 ≤ length (links_at h l)
+
+  -- links, 1 to 64, of one row of height n or of two that aren't made yet, with these elements
+  pub record AreUnmade (h : Heap T) (n : ℕ) (ls xs : List ℕ) : Type 0 where
+    pub links : AreLinks h n ls
+    pub items : items_below h n ls ≡ xs
+    pub some : 1 ≤ length ls
+    pub most : length ls ≤ 64
+
+  -- the row l of height n is its first `place` links, which are thick rows of the height `under`, and then a row of height m
+  pub record EndsIn (h : Heap T) (under n l place m last : ℕ) : Type 0 where
+    pub row : IsRow h m last
+    pub low : m ≤ under
+    pub inside : place ≤ length (links_at h l)
+    pub rows : AreRows h under (take place (links_at h l))
+    pub thick : All (IsThick (form_at h) under) (take place (links_at h l))
+    pub items : seq_at (form_at h) n l ≡ flat_map (seq_at (form_at h) under) (take place (links_at h l)) ++ seq_at (form_at h) m last
+    pub wide : n ≡ suc under → place + 1 ≡ length (links_at h l)
+    pub few : place ≤ 31
+
+  -- the row l of height n is a row of height m, and then its links from `place` on, which are rows of the height `under`
+  pub record BeginsWith (h : Heap T) (under n l place m first : ℕ) : Type 0 where
+    pub row : IsRow h m first
+    pub low : m ≤ under
+    pub inside : place ≤ length (links_at h l)
+    pub rows : AreRows h under (drop place (links_at h l))
+    pub close : place < length (links_at h l) → (m ≡ under) × IsThick (form_at h) under first
+    pub items : seq_at (form_at h) n l ≡ seq_at (form_at h) m first ++ flat_map (seq_at (form_at h) under) (drop place (links_at h l))
+    pub wide : n ≡ suc under → place ≡ 1
+    pub thick : n ≡ suc under → IsThick (form_at h) n l → (m ≡ under) × IsThick (form_at h) under first × All (IsThick (form_at h) under) (drop place (links_at h l)) × (16 ≤ length (links_at h l))
+    pub few : length (links_at h l) ≤ place + 31

@@ -1,0 +1,116 @@
+//! Parts of a vector.
+ghost use Rattle.std.specs.Prelude.{◌≡◌, ◌≢◌, ◌↔◌, ◌+◌, ◌<◌, ◌≤◌, ◌^◌, [], ◌++◌, length, take, drop, IfOk, OnErr, IsOk, IsTrue, Err};
+ghost use Rattle.node_heap.specs.Heap.{hold_count, HasSpares, IsGraph};
+ghost use Rattle.node_heap.specs.Calls.{Answered, Unchanged};
+ghost use Rattle.rrb_core.specs.Vector.{elements, IsGoodVector};
+
+use crate::joining::{SEAM_NODES, joined_root};
+use crate::rests::rest_root;
+use elem_core::NoMemory;
+use node_heap::{Heap, Link};
+use rrb_core::{Flex, FlexRef, take};
+use thiserror::Error;
+
+/// Why a part of a vector was not given.
+#[derive(Clone, Copy, Debug, PartialEq, Eq, Error)]
+pub enum SliceFault {
+    /// The part ends before it begins, or past the length.
+    #[error("the part is out of range")]
+    Range,
+    #[error("out of memory")]
+    Memory,
+}
+
+impl From<NoMemory> for SliceFault {
+    ghost use Rattle.rrb_join.specs.declared.cutting.SliceFault.TheVariants.{Memory};
+
+    ghost from_gives = { λ _ fault. fault ≡ Memory };
+
+    fn from(_none: NoMemory) -> SliceFault {
+        SliceFault::Memory
+    }
+}
+
+// The most nodes that a `take` makes.
+const TAKE_NODES: usize = 8;
+
+/// The vector without its first `count` elements, which is the empty one past the end. It makes rows along the cut alone, at
+/// most 17 nodes, and shares all others.
+pub fn drop_front<T>(heap: &mut Heap<T>, vector: FlexRef, count: u32) -> Result<Flex, NoMemory>
+    requires good { IsGoodVector heap.old vector }
+    requires few { hold_count heap.old < 2 ^ 59 }
+    ensures items { IfOk result (λ v. elements heap.new v ≡ drop count (elements heap.old vector)) }
+    ensures good { IfOk result (λ v. IsGoodVector heap.new v) }
+    ensures answered { IfOk result (λ v. Answered heap.old heap.new [] v 0 17) }
+    ensures refused { OnErr result (Unchanged heap.old heap.new) }
+    ensures ample { HasSpares heap.old 0 17 → IsOk result }
+{
+    heap.reserve(0, SEAM_NODES)?;
+    Ok(Flex::from_root(rest_root(heap, vector.root(), count)))
+}
+
+// Whether the indices begin and end a part of the vector.
+fn is_part<T>(heap: &Heap<T>, vector: FlexRef, from: u32, to: u32) -> bool
+    requires { IsGoodVector heap.now vector }
+    ensures test { IsTrue result ↔ ((from ≤ to) × (to ≤ length (elements heap.now vector))) }
+    ensures graph { IsGraph heap.now }
+{
+    let len = vector.len(heap);
+    from <= to && to <= len
+}
+
+/// The elements from the index `from` to the one before `to`. It adds at most 25 nodes, and gives up again what it made on
+/// the way.
+pub fn slice<T: Drop>(
+    heap: &mut Heap<T>,
+    vector: FlexRef,
+    from: u32,
+    to: u32,
+) -> Result<Flex, SliceFault>
+    requires good { IsGoodVector heap.old vector }
+    requires few { hold_count heap.old < 2 ^ 59 }
+    ensures items { IfOk result (λ v. elements heap.new v ≡ drop from (take to (elements heap.old vector))) }
+    ensures good { IfOk result (λ v. IsGoodVector heap.new v) }
+    ensures answered { IfOk result (λ v. Answered heap.old heap.new [] v 0 25) }
+    ensures refused { OnErr result (Unchanged heap.old heap.new) }
+    ensures range { (result ≡ Err SliceFault.Range) ↔ (¬ ((from ≤ to) × (to ≤ length (elements heap.old vector)))) }
+    ensures ample { HasSpares heap.old 0 25 → result ≢ Err SliceFault.Memory }
+{
+    if !is_part(heap, vector, from, to) {
+        return Err(SliceFault::Range);
+    }
+    heap.reserve(0, TAKE_NODES + SEAM_NODES)?;
+    let front = take(heap, vector, to)?;
+    let root = rest_root(heap, front.view().root(), from);
+    front.release(heap);
+    Ok(Flex::from_root(root))
+}
+
+/// The vector without the elements from the index `from` to the one before `to`. It adds at most 42 nodes, and gives up
+/// again what it made on the way.
+pub fn erase<T: Drop>(
+    heap: &mut Heap<T>,
+    vector: FlexRef,
+    from: u32,
+    to: u32,
+) -> Result<Flex, SliceFault>
+    requires good { IsGoodVector heap.old vector }
+    requires few { hold_count heap.old < 2 ^ 59 }
+    ensures items { IfOk result (λ v. elements heap.new v ≡ take from (elements heap.old vector) ++ drop to (elements heap.old vector)) }
+    ensures good { IfOk result (λ v. IsGoodVector heap.new v) }
+    ensures answered { IfOk result (λ v. Answered heap.old heap.new [] v 0 42) }
+    ensures refused { OnErr result (Unchanged heap.old heap.new) }
+    ensures range { (result ≡ Err SliceFault.Range) ↔ (¬ ((from ≤ to) × (to ≤ length (elements heap.old vector)))) }
+    ensures ample { HasSpares heap.old 0 42 → result ≢ Err SliceFault.Memory }
+{
+    if !is_part(heap, vector, from, to) {
+        return Err(SliceFault::Range);
+    }
+    heap.reserve(0, TAKE_NODES + 2 * SEAM_NODES)?;
+    let front = take(heap, vector, from)?;
+    let back = rest_root(heap, vector.root(), to);
+    let root = joined_root(heap, front.view().root(), back);
+    front.release(heap);
+    heap.release(back);
+    Ok(Flex::from_root(root))
+}

@@ -1,0 +1,171 @@
+//! A vector with one more element.
+ghost use Rattle.std.specs.Prelude.{◌≡◌, ◌≢◌, ◌↔◌, ℕ, suc, ◌-◌, ◌+◌, ◌*◌, ◌<◌, ◌≤◌, ◌^◌, [], ◌∷◌, ◌++◌, length, take, drop, slice_index, IfOk, OnErr, Err};
+ghost use Rattle.std.specs.List.{flat_map};
+ghost use Rattle.node_heap.specs.Heap.{form_at, links_at, holds_at, hold_count, IsGraph, HasSpares};
+ghost use Rattle.node_heap.specs.Calls.{Answered, Unchanged};
+ghost use Rattle.rrb_core.specs.Seq.{seq_at, IsThick, IsWell};
+ghost use Rattle.rrb_core.specs.Vector.{HasSums, elements, IsGoodVector};
+ghost use Rattle.rrb_core.specs.Build.{Builds};
+ghost use Rattle.rrb_join.specs.Unmade.{AreUnmade, AreThick};
+
+use crate::joining::SEAM_NODES;
+use crate::over::{root_over, rows_over};
+use elem_core::NoMemory;
+use node_heap::{Heap, Link};
+use rrb_core::{Flex, FlexRef, Gathered, Spot, gathered, height_of, spot_of};
+use thiserror::Error;
+
+/// Why an element was not inserted.
+#[derive(Clone, Copy, Debug, PartialEq, Eq, Error)]
+pub enum InsertFault {
+    /// The index is past the length.
+    #[error("the index is out of range")]
+    Range,
+    /// The vector has 2^32 - 1 elements already.
+    #[error("the vector has no room")]
+    Long,
+    #[error("out of memory")]
+    Memory,
+}
+
+impl From<NoMemory> for InsertFault {
+    ghost use Rattle.rrb_join.specs.declared.inserting.InsertFault.TheVariants.{Memory};
+
+    ghost from_gives = { λ _ fault. fault ≡ Memory };
+
+    fn from(_none: NoMemory) -> InsertFault {
+        InsertFault::Memory
+    }
+}
+
+/// The vector with `element` before the element at `index`, or after the last. It spends the element's hold on Ok alone,
+/// and makes at most 17 nodes.
+pub fn insert<T>(
+    heap: &mut Heap<T>,
+    vector: FlexRef,
+    index: u32,
+    element: Link,
+) -> Result<Flex, InsertFault>
+    requires good { IsGoodVector heap.old vector }
+    requires held { 1 ≤ holds_at heap.old element }
+    requires few { hold_count heap.old < 2 ^ 59 }
+    ensures items { IfOk result (λ v. elements heap.new v ≡ take index (elements heap.old vector) ++ element ∷ drop index (elements heap.old vector)) }
+    ensures good { IfOk result (λ v. IsGoodVector heap.new v) }
+    ensures answered { IfOk result (λ v. Answered heap.old heap.new (element ∷ []) v 0 17) }
+    ensures refused { OnErr result (Unchanged heap.old heap.new) }
+    ensures range { (result ≡ Err InsertFault.Range) ↔ (length (elements heap.old vector) < index) }
+    ensures long { (result ≡ Err InsertFault.Long) ↔ ((index ≤ length (elements heap.old vector)) × (length (elements heap.old vector) ≡ 2 ^ 32 - 1)) }
+    ensures ample { HasSpares heap.old 0 17 → result ≢ Err InsertFault.Memory }
+{
+    let len = vector.len(heap);
+    if index > len {
+        return Err(InsertFault::Range);
+    }
+    if len == u32::MAX {
+        return Err(InsertFault::Long);
+    }
+    heap.reserve(0, SEAM_NODES)?;
+    Ok(Flex::from_root(inserted_root(heap, vector.root(), index, element)))
+}
+
+// The root of the vector with `element` at `index`.
+fn inserted_root<T>(heap: &mut Heap<T>, root: Link, index: u32, element: Link) -> Link
+    requires graph { IsGraph heap.old }
+    requires good { IsGoodVector heap.old root }
+    requires inside { index ≤ length (elements heap.old root) }
+    requires short { length (elements heap.old root) + 1 < 2 ^ 32 }
+    requires held { 1 ≤ holds_at heap.old element }
+    requires spare { 17 ≤ heap.old.spare_nodes }
+    requires holds { hold_count heap.old + 128 ≤ 2 ^ 60 }
+    ensures items { elements heap.new result ≡ take index (elements heap.old root) ++ element ∷ drop index (elements heap.old root) }
+    ensures good { IsGoodVector heap.new result }
+    ensures builds { Builds heap.old heap.new (element ∷ []) (result ∷ []) 17 }
+{
+    let height = height_of(heap, root);
+    let links = insert_links(heap, root, height, index, element);
+    root_over(heap, links.as_slice(), height)
+}
+
+// The child of an inner row into which a new element at `index` goes, and its index there.
+fn spot_before<T>(heap: &Heap<T>, link: Link, under: u8, index: u32) -> Spot
+    requires well { IsWell (form_at heap.now) (suc under) link }
+    requires sums { HasSums heap.now (suc under) link }
+    requires low { under < 7 }
+    requires inside { index ≤ length (seq_at (form_at heap.now) (suc under) link) }
+    ensures place { result.place < length (links_at heap.now link) }
+    ensures inside { result.within ≤ length (seq_at (form_at heap.now) under (slice_index (links_at heap.now link) result.place)) }
+    ensures before { length (flat_map (seq_at (form_at heap.now) under) (take result.place (links_at heap.now link))) + result.within ≡ index }
+{
+    if index == 0 {
+        return Spot {
+            place: 0,
+            within: 0,
+        };
+    }
+    let spot = spot_of(heap, link, under, index - 1);
+    Spot {
+        place: spot.place,
+        within: spot.within + 1,
+    }
+}
+
+// The links of one row of this height or of two, with the elements of the row and `element` at `index`.
+#[cycle(insert_links)]
+fn insert_links<T>(
+    heap: &mut Heap<T>,
+    link: Link,
+    height: u8,
+    index: u32,
+    element: Link,
+) -> Gathered
+    requires graph { IsGraph heap.old }
+    requires well { IsWell (form_at heap.old) height link }
+    requires sums { HasSums heap.old height link }
+    requires low { height ≤ 7 }
+    requires inside { index ≤ length (seq_at (form_at heap.old) height link) }
+    requires short { length (seq_at (form_at heap.old) height link) + 1 < 2 ^ 32 }
+    requires held { 1 ≤ holds_at heap.old element }
+    requires spare { 2 * height ≤ heap.old.spare_nodes }
+    requires holds { hold_count heap.old + 128 ≤ 2 ^ 60 }
+    ensures links { AreUnmade heap.new height result.items (take index (seq_at (form_at heap.old) height link) ++ element ∷ drop index (seq_at (form_at heap.old) height link)) }
+    ensures thick { IsThick (form_at heap.old) height link → (16 ≤ length result.items) × AreThick heap.new height result.items }
+    ensures wide { length (links_at heap.old link) ≤ length result.items }
+    ensures builds { Builds heap.old heap.new (element ∷ []) result.items (2 * height) }
+{
+    if height > 0 {
+        return insert_inner(heap, link, height - 1, index, element);
+    }
+    let place = index as usize;
+    gathered(heap, link, place, &[element], link, place)
+}
+
+// The same for an inner row, whose children have the height `under`.
+#[cycle(insert_links)]
+fn insert_inner<T>(heap: &mut Heap<T>, link: Link, under: u8, index: u32, element: Link) -> Gathered
+    requires graph { IsGraph heap.old }
+    requires well { IsWell (form_at heap.old) (suc under) link }
+    requires sums { HasSums heap.old (suc under) link }
+    requires low { under < 7 }
+    requires inside { index ≤ length (seq_at (form_at heap.old) (suc under) link) }
+    requires short { length (seq_at (form_at heap.old) (suc under) link) + 1 < 2 ^ 32 }
+    requires held { 1 ≤ holds_at heap.old element }
+    requires spare { 2 * under + 2 ≤ heap.old.spare_nodes }
+    requires holds { hold_count heap.old + 128 ≤ 2 ^ 60 }
+    ensures links { AreUnmade heap.new (suc under) result.items (take index (seq_at (form_at heap.old) (suc under) link) ++ element ∷ drop index (seq_at (form_at heap.old) (suc under) link)) }
+    ensures thick { IsThick (form_at heap.old) (suc under) link → (16 ≤ length result.items) × AreThick heap.new (suc under) result.items }
+    ensures wide { length (links_at heap.old link) ≤ length result.items }
+    ensures builds { Builds heap.old heap.new (element ∷ []) result.items (2 * under + 2) }
+{
+    let spot = spot_before(heap, link, under, index);
+    let child = heap.links(link)[spot.place];
+    let seam = insert_links(heap, child, under, spot.within, element);
+    let rows = rows_over(heap, seam.as_slice(), under);
+    gathered(
+        heap,
+        link,
+        spot.place,
+        rows.as_slice(),
+        link,
+        spot.place + 1,
+    )
+}

@@ -1,0 +1,18 @@
+//! Vectors joined and cut: `concat`, `drop_front`, `slice`, `insert` and `erase`, which share all rows that they can.
+//!
+//! Two rows of one height are joined along the seam, the right edge of the left one and the left edge of the right one.
+//! The links at the seam are put into one row, or evenly into two, of which the first is thick, so that every row but a
+//! last one stays thick. The cost is that of the height, whatever the lengths.
+#![tactic(auto)]
+
+mod cutting;
+mod inserting;
+mod joining;
+mod over;
+mod rests;
+#[cfg(test)]
+mod tests;
+
+pub use cutting::{SliceFault, drop_front, erase, slice};
+pub use inserting::{InsertFault, insert};
+pub use joining::{JoinFault, concat};
