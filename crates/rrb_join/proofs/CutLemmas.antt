@@ -1,5 +1,5 @@
 -- Vectors that are made on the way and given up again.
-use Rattle.std.proofs.Common.{◌≡◌, ℕ, ◌+◌, ◌<◌, ◌≤◌, List, [], ◌∷◌, length, refl, ◌∙◌, arith, IsSome}
+use Rattle.std.proofs.Common.{◌≡◌, ℕ, ◌+◌, ◌<◌, ◌≤◌, List, [], ◌∷◌, length, refl, ap, ◌∙◌, arith, IsSome}
 use Rattle.node_heap.specs.Links.{Links, count, Reaches, here, below}
 use Rattle.node_heap.specs.Forms.{links_of}
 use Rattle.node_heap.specs.Heap.{Heap, row_at, links_at, holds_at, hold_count, cell_count, node_count, one_at, IsGraph}
@@ -8,7 +8,8 @@ use Rattle.rrb_core.specs.Vector.{Stays, elements, IsGoodVector}
 use Rattle.rrb_core.specs.Build.{Builds}
 use Rattle.rrb_core.proofs.LinkCounts.{count-one, count-cons, all-counted, one-same}
 use Rattle.rrb_core.proofs.Stays.{good-stays}
-use Rattle.rrb_core.proofs.BuildLemmas.{reaches-same, extends-then}
+use Rattle.node_heap.proofs.Reach.{Reaches-same}
+use Rattle.node_heap.proofs.Frames.{Extends-trans}
 
 pub reaches-then : (L : Links) (a b c : ℕ) → Reaches L a b → Reaches L b c → Reaches L a c
 reaches-then L a b c (here l) way = way
@@ -42,7 +43,7 @@ module _ {T : Type 0} where
       same l m some down =
           let top = graph.reached l some in
           let way : Reaches (links_at a) top.0 m = reaches-then (links_at a) top.0 l m top.2 down in
-          let way' : Reaches (links_at b) top.0 m = reaches-same (links_at a) (links_at b) (row_at a) (row_at b) links_of (λ _. refl) (λ _. refl) top.0 m way (ext.kept top.0 (graph.held top.0 top.1)) in
+          let way' : Reaches (links_at b) top.0 m = Reaches-same (links_at a) (links_at b) top.0 m way (λ j down-j. ap links_of (ext.kept top.0 (graph.held top.0 top.1) j down-j)) in
           keeps.kept top.0 (held top.0 top.1) m way'
 
       live : (l : ℕ) → IsSome (row_at a l) → IsSome (row_at c l)
@@ -78,7 +79,7 @@ module _ {T : Type 0} where
   pub gives-built : {a b c : Heap T} {given : List ℕ} {result n m : ℕ} → Gives a b given n → Builds b c [] (result ∷ []) m → Gives a c (result ∷ given) (n + m)
   gives-built {given = given} {result = result} g b =
       record {
-        extends = extends-then g.extends b.extends;
+        extends = Extends-trans g.extends b.extends;
         graph = b.graph;
         holds = λ k. omega (arith, g.holds k, b.holds k, count-one k result, count-cons k result given);
         total = omega (arith, g.total, b.total);
@@ -115,7 +116,7 @@ module _ {T : Type 0} where
   pub gives-all : {a b c : Heap T} {result n m : ℕ} → Unchanged a b → Gives b c (result ∷ []) n → n ≤ m → Answered a c [] result 0 m
   gives-all {result = result} same g le =
       record {
-        extends = extends-then (record { live = λ l live. rw (same.rows l) live; kept = λ l live m down. same.rows m }) g.extends;
+        extends = Extends-trans (record { live = λ l live. rw (same.rows l) live; kept = λ l live m down. same.rows m }) g.extends;
         graph = g.graph;
         holds = λ k. omega (arith, same.holds k, g.holds k, count-one k result);
         count = omega (arith, same.count, g.total);

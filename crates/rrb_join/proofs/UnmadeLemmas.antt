@@ -11,7 +11,7 @@ use Rattle.rrb_core.specs.Vector.{HasSums, Stays, height_at, elements, IsGoodVec
 use Rattle.rrb_core.specs.Build.{IsRowOf, AreRows}
 use Rattle.rrb_join.specs.Unmade.{items_below, AreLinks, AreThick, IsRow}
 use Rattle.rrb_core.proofs.Lists.{child-short}
-use Rattle.rrb_core.proofs.Laws.{well-most, thick-low, links-some}
+use Rattle.rrb_core.proofs.FillRule.{well-most, thick-low, links-some}
 use Rattle.rrb_core.proofs.Stays.{links-form, well-live, links-stay, items-stay, thick-stays, all-thick-stay, rows-stay, row-stays}
 use Rattle.rrb_core.proofs.RowLists.{rows-append, rows-take, rows-drop, take-thick, rows-live, inner-thick, leaf-thick, over}
 

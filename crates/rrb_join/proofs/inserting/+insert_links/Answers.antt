@@ -5,7 +5,8 @@ use Rattle.rrb_core.specs.Seq.{seq_at}
 use Rattle.rrb_join.specs.Unmade.{items_below}
 use Rattle.rrb_core.proofs.Stays.{well-live, live-stays, links-stay}
 use Rattle.rrb_core.proofs.RowLists.{over, at-place, child-at}
-use Rattle.rrb_core.proofs.BuildLemmas.{extends-then, builds-then, builds-more, builds-held}
+use Rattle.node_heap.proofs.Frames.{Extends-trans}
+use Rattle.rrb_core.proofs.BuildLemmas.{builds-then, builds-more, builds-held}
 use Rattle.rrb_join.proofs.UnmadeLemmas.{has-links, leaf-length}
 use Rattle.rrb_join.proofs.InsertLemmas.{IsInserted, inserted, leaf-inserted, inserted-length}
 use Rattle.rrb_join.proofs.inserting.+insert_links.Given as given
@@ -30,29 +31,29 @@ pub insert_inner-rows_over-rows-requires-clause-held : goal.insert_inner-rows_ov
 insert_inner-rows_over-rows-requires-clause-held g t c = rw c.as_slice.ensures.value (builds-held c.args.element c.requires.held c.insert_links-seam.ensures.builds)
 
 pub insert_inner-gathered-requires-clause-left : goal.insert_inner-gathered-requires-clause-left
-insert_inner-gathered-requires-clause-left g t c = (extends-then c.insert_links-seam.ensures.builds.extends c.rows_over-rows.ensures.builds.extends).live c.args.link (well-live c.args.heap.now (suc c.args.under) c.args.link c.requires.well)
+insert_inner-gathered-requires-clause-left g t c = (Extends-trans c.insert_links-seam.ensures.builds.extends c.rows_over-rows.ensures.builds.extends).live c.args.link (well-live c.args.heap.now (suc c.args.under) c.args.link c.requires.well)
 
 pub insert_inner-gathered-requires-clause-right : goal.insert_inner-gathered-requires-clause-right
-insert_inner-gathered-requires-clause-right g t c = (extends-then c.insert_links-seam.ensures.builds.extends c.rows_over-rows.ensures.builds.extends).live c.args.link (well-live c.args.heap.now (suc c.args.under) c.args.link c.requires.well)
+insert_inner-gathered-requires-clause-right g t c = (Extends-trans c.insert_links-seam.ensures.builds.extends c.rows_over-rows.ensures.builds.extends).live c.args.link (well-live c.args.heap.now (suc c.args.under) c.args.link c.requires.well)
 
 pub insert_inner-gathered-requires-clause-keep : goal.insert_inner-gathered-requires-clause-keep
 insert_inner-gathered-requires-clause-keep g t c =
-    let same = links-stay (live-stays c.requires.graph (extends-then c.insert_links-seam.ensures.builds.extends c.rows_over-rows.ensures.builds.extends)) c.args.link (well-live c.args.heap.now (suc c.args.under) c.args.link c.requires.well) in
+    let same = links-stay (live-stays c.requires.graph (Extends-trans c.insert_links-seam.ensures.builds.extends c.rows_over-rows.ensures.builds.extends)) c.args.link (well-live c.args.heap.now (suc c.args.under) c.args.link c.requires.well) in
     omega (arith, ap length same, c.spot_before-spot.ensures.place)
 
 pub insert_inner-gathered-requires-clause-skip : goal.insert_inner-gathered-requires-clause-skip
 insert_inner-gathered-requires-clause-skip g t c =
-    let same = links-stay (live-stays c.requires.graph (extends-then c.insert_links-seam.ensures.builds.extends c.rows_over-rows.ensures.builds.extends)) c.args.link (well-live c.args.heap.now (suc c.args.under) c.args.link c.requires.well) in
+    let same = links-stay (live-stays c.requires.graph (Extends-trans c.insert_links-seam.ensures.builds.extends c.rows_over-rows.ensures.builds.extends)) c.args.link (well-live c.args.heap.now (suc c.args.under) c.args.link c.requires.well) in
     omega (arith, ap length same, c.spot_before-spot.ensures.place)
 
 placed : (g : given.Over) (t : ℕ) (c : goal.insert_inner-After-gathered g t) → IsInserted c.args.heap.now c.gathered.new.heap (suc c.args.under) c.args.link c.args.index c.args.element c.gathered.result.items
 placed g t c =
-    let ext : Extends c.args.heap.now c.rows_over-rows.new.heap = extends-then c.insert_links-seam.ensures.builds.extends c.rows_over-rows.ensures.builds.extends in
+    let ext : Extends c.args.heap.now c.rows_over-rows.new.heap = Extends-trans c.insert_links-seam.ensures.builds.extends c.rows_over-rows.ensures.builds.extends in
     let place-is = at-place c.links.result.now (links_at c.args.heap.now c.args.link) c.spot_before-spot.result.place c.index-links-spot.result c.index-links-spot.is c.links.ensures.links c.spot_before-spot.ensures.place in
     let items : items_below c.insert_links-seam.new.heap c.args.under c.insert_links-seam.result.items ≡ take c.spot_before-spot.result.within (seq_at (form_at c.args.heap.now) c.args.under (get_or (links_at c.args.heap.now c.args.link) c.spot_before-spot.result.place 0)) ++ c.args.element ∷ drop c.spot_before-spot.result.within (seq_at (form_at c.args.heap.now) c.args.under (get_or (links_at c.args.heap.now c.args.link) c.spot_before-spot.result.place 0)) =
     rw (← place-is) c.insert_links-seam.ensures.links.items in
     inserted c.args.heap.now c.rows_over-rows.new.heap c.gathered.new.heap c.args.under c.args.link c.spot_before-spot.result.place c.spot_before-spot.result.within c.args.index c.args.element c.rows_over-rows.result.items c.gathered.result.items
-    (live-stays c.requires.graph (extends-then ext c.gathered.ensures.builds.extends)) (live-stays c.rows_over-rows.ensures.builds.graph c.gathered.ensures.builds.extends) (links-stay (live-stays c.requires.graph ext) c.args.link (well-live c.args.heap.now (suc c.args.under) c.args.link c.requires.well))
+    (live-stays c.requires.graph (Extends-trans ext c.gathered.ensures.builds.extends)) (live-stays c.rows_over-rows.ensures.builds.graph c.gathered.ensures.builds.extends) (links-stay (live-stays c.requires.graph ext) c.args.link (well-live c.args.heap.now (suc c.args.under) c.args.link c.requires.well))
     (over c.args.heap.now c.args.under c.args.link c.requires.well c.requires.sums) c.spot_before-spot.ensures.place c.spot_before-spot.ensures.before c.spot_before-spot.ensures.inside c.rows_over-rows.ensures.rows (rw c.as_slice.ensures.value at c.rows_over-rows.ensures.items ∙ items)
     (λ thick. let both = c.insert_links-seam.ensures.thick (rw place-is thick) in c.rows_over-rows.ensures.thick (rw c.as_slice.ensures.value both.0) (rw c.as_slice.ensures.value both.1)) c.rows_over-rows.ensures.some c.rows_over-rows.ensures.few (rw c.as_slice-2.ensures.value at c.gathered.ensures.items)
 

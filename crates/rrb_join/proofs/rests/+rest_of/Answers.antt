@@ -5,7 +5,8 @@ use Rattle.rrb_core.specs.Seq.{seq_at}
 use Rattle.rrb_join.specs.Unmade.{items_below}
 use Rattle.rrb_core.proofs.Stays.{well-live, live-stays, links-stay}
 use Rattle.rrb_core.proofs.RowLists.{over, at-place, child-at}
-use Rattle.rrb_core.proofs.BuildLemmas.{extends-then, builds-then, builds-more}
+use Rattle.node_heap.proofs.Frames.{Extends-trans}
+use Rattle.rrb_core.proofs.BuildLemmas.{builds-then, builds-more}
 use Rattle.rrb_join.proofs.UnmadeLemmas.{leaf-length, leaf-are-thick}
 use Rattle.rrb_join.proofs.RestLemmas.{AreBeside, beside, leaf-rest, rest-last, IsNext, is-next}
 use Rattle.rrb_join.proofs.rests.+rest_of.Given as given
@@ -76,7 +77,7 @@ next g t c =
 
 others : (g : given.Over) (t : ℕ) (c : goal.rest_inner-After-raised-arg-1 g t) → AreBeside c.args.heap.now c.prepend-merged.new.heap c.args.under c.prepend-merged.result.level c.args.link (c.spot_of-spot.result.place + 1 + 1)
 others g t c =
-    beside c.args.heap.now c.prepend-merged.new.heap c.args.under c.prepend-merged.result.level c.args.link (c.spot_of-spot.result.place + 1 + 1) (live-stays c.requires.graph (extends-then c.rest_of-rest.ensures.builds.extends c.prepend-merged.ensures.builds.extends))
+    beside c.args.heap.now c.prepend-merged.new.heap c.args.under c.prepend-merged.result.level c.args.link (c.spot_of-spot.result.place + 1 + 1) (live-stays c.requires.graph (Extends-trans c.rest_of-rest.ensures.builds.extends c.prepend-merged.ensures.builds.extends))
     (over c.args.heap.now c.args.under c.args.link c.requires.well c.requires.sums) (λ more. (c.prepend-merged.ensures.thick ((next g t c).close more)).0)
 
 pub rest_inner-raised-requires-clause-from : goal.rest_inner-raised-requires-clause-from
@@ -107,7 +108,7 @@ next-then g t c =
 
 others-then : (g : given.Over) (t : ℕ) (c : goal.rest_inner-After-raised g t) → AreBeside c.args.heap.now c.prepend-merged.new.heap c.args.under c.prepend-merged.result.level c.args.link (c.spot_of-spot.result.place + 1 + 1)
 others-then g t c =
-    beside c.args.heap.now c.prepend-merged.new.heap c.args.under c.prepend-merged.result.level c.args.link (c.spot_of-spot.result.place + 1 + 1) (live-stays c.requires.graph (extends-then c.rest_of-rest.ensures.builds.extends c.prepend-merged.ensures.builds.extends))
+    beside c.args.heap.now c.prepend-merged.new.heap c.args.under c.prepend-merged.result.level c.args.link (c.spot_of-spot.result.place + 1 + 1) (live-stays c.requires.graph (Extends-trans c.rest_of-rest.ensures.builds.extends c.prepend-merged.ensures.builds.extends))
     (over c.args.heap.now c.args.under c.args.link c.requires.well c.requires.sums) (λ more. (c.prepend-merged.ensures.thick ((next-then g t c).close more)).0)
 
 pub rest_inner-returns-clause-links : goal.rest_inner-returns-clause-links

@@ -1,6 +1,7 @@
 use Rattle.std.proofs.Common.{arith, ◌+◌, ◌-◌, ◌*◌, ◌≤◌, length, ap, add-one}
 use Rattle.rrb_core.proofs.Stays.{live-stays, links-stay}
-use Rattle.rrb_core.proofs.BuildLemmas.{extends-then, builds-then, builds-more}
+use Rattle.node_heap.proofs.Frames.{Extends-trans}
+use Rattle.rrb_core.proofs.BuildLemmas.{builds-then, builds-more}
 use Rattle.rrb_join.proofs.RestLemmas.{IsRaised, raised}
 use Rattle.rrb_join.proofs.rests.raised.Given as given
 use Rattle.rrb_join.proofs.rests.raised.Goals as goal
@@ -12,7 +13,7 @@ gathered-requires-clause-skip g c = rw (links-stay (live-stays c.requires.graph 
 up : (g : given.Over) (c : goal.After-gathered g) → IsRaised c.args.heap.now c.rows_over-rows.new.heap c.gathered.new.heap c.args.rest.level c.args.link c.args.from c.args.rest.links.items c.rows_over-rows.result.items c.gathered.result.items
 up g c =
     raised c.args.heap.now c.rows_over-rows.new.heap c.gathered.new.heap c.args.rest.level c.args.link c.args.from c.args.rest.links.items c.rows_over-rows.result.items c.gathered.result.items
-    (live-stays c.requires.graph (extends-then c.rows_over-rows.ensures.builds.extends c.gathered.ensures.builds.extends)) (live-stays c.rows_over-rows.ensures.builds.graph c.gathered.ensures.builds.extends) (links-stay (live-stays c.requires.graph c.rows_over-rows.ensures.builds.extends) c.args.link c.requires.live)
+    (live-stays c.requires.graph (Extends-trans c.rows_over-rows.ensures.builds.extends c.gathered.ensures.builds.extends)) (live-stays c.rows_over-rows.ensures.builds.graph c.gathered.ensures.builds.extends) (links-stay (live-stays c.requires.graph c.rows_over-rows.ensures.builds.extends) c.args.link c.requires.live)
     c.requires.beside c.rows_over-rows.ensures.rows (rw c.as_slice.ensures.value at c.rows_over-rows.ensures.items)
     (λ more. c.rows_over-rows.ensures.thick (rw c.as_slice.ensures.value (c.requires.close more).0) (rw c.as_slice.ensures.value (c.requires.close more).1)) c.rows_over-rows.ensures.some c.rows_over-rows.ensures.few c.requires.fits (rw c.as_slice-2.ensures.value at c.gathered.ensures.items)
 
