@@ -1,19 +1,13 @@
 -- Vectors that are made on the way and given up again.
-use Rattle.std.proofs.Common.{◌≡◌, ℕ, ◌+◌, ◌<◌, ◌≤◌, List, [], ◌∷◌, length, refl, ap, ◌∙◌, arith, IsSome}
-use Rattle.node_heap.specs.Links.{Links, count, Reaches, here, below}
-use Rattle.node_heap.specs.Forms.{links_of}
-use Rattle.node_heap.specs.Heap.{Heap, row_at, links_at, holds_at, hold_count, cell_count, node_count, one_at, IsGraph}
+use Rattle.std.proofs.Common.{◌≡◌, ℕ, ◌+◌, ◌<◌, ◌≤◌, List, [], ◌∷◌, length, refl, arith}
+use Rattle.node_heap.specs.Links.{count, here}
+use Rattle.node_heap.specs.Heap.{Heap, holds_at, hold_count, cell_count, node_count, one_at, IsGraph}
 use Rattle.node_heap.specs.Calls.{Extends, KeepsHeld, Releases, Unchanged, Balances, Answered}
-use Rattle.rrb_core.specs.Vector.{Stays, elements, IsGoodVector}
+use Rattle.rrb_core.specs.Vector.{elements, IsGoodVector}
 use Rattle.rrb_core.specs.Build.{Builds}
-use Rattle.rrb_core.proofs.LinkCounts.{count-one, count-cons, all-counted, one-same}
-use Rattle.rrb_core.proofs.Stays.{good-stays}
-use Rattle.node_heap.proofs.Reach.{Reaches-same}
-use Rattle.node_heap.proofs.Frames.{Extends-trans}
-
-pub reaches-then : (L : Links) (a b c : ℕ) → Reaches L a b → Reaches L b c → Reaches L a c
-reaches-then L a b c (here l) way = way
-reaches-then L a b c (below l k m has down) way = below l k c has (reaches-then L k m c down way)
+use Rattle.rrb_core.proofs.LinkCounts.{count-one, count-cons, one-same}
+use Rattle.rrb_core.proofs.Stays.{good-stays, below-stays}
+use Rattle.node_heap.proofs.Frames.{Extends-trans, Extends-held, KeepsBelow-Extends, Extends-Unchanged, Balances-trans, Balances-Releases, Balances-Unchanged}
 
 -- two or three links without the last
 pub without-second : (x y k : ℕ) → count k (x ∷ y ∷ []) ≡ count k (x ∷ []) + one_at y k
@@ -23,34 +17,13 @@ pub without-third : (x y z k : ℕ) → count k (x ∷ y ∷ z ∷ []) ≡ count
 without-third x y z k = omega (arith, count-cons k x (y ∷ z ∷ []), count-cons k y (z ∷ []), count-cons k x (y ∷ []), count-one k y, count-one k z)
 
 module _ {T : Type 0} where
-  -- what a held link reaches stays
-  pub held-stays : {old new : Heap T} {spent : ℕ → ℕ} → KeepsHeld spent old new → (l : ℕ) → spent l < holds_at old l → Stays (Reaches (links_at old) l) old new
-  held-stays {old} {new} keeps l held =
-      record {
-        closed = λ x way. all-counted (Reaches (links_at old) l) (links_at old x) (λ k has. reaches-then (links_at old) l x k way (below x k k has (here k)));
-        kept = λ x way. keeps.kept l held x way;
-      }
-
   -- a vector that is still held stays
   pub good-held : {old new : Heap T} {spent : ℕ → ℕ} → KeepsHeld spent old new → (l : ℕ) → spent l < holds_at old l → IsGoodVector old l → IsGoodVector new l × (elements new l ≡ elements old l)
-  good-held keeps l held good = good-stays (held-stays keeps l held) l (here l) good
+  good-held keeps l held good = good-stays (below-stays l (keeps.kept l held)) l (here l) good
 
   -- rows stay where every link that was held at first is held still
   pub held-extends : {a b c : Heap T} {spent : ℕ → ℕ} → IsGraph a → Extends a b → KeepsHeld spent b c → ((k : ℕ) → 0 < holds_at a k → spent k < holds_at b k) → Extends a c
-  held-extends {a} {b} {c} graph ext keeps held = record { live = live; kept = kept }
-    where
-      same : (l m : ℕ) → IsSome (row_at a l) → Reaches (links_at a) l m → row_at c m ≡ row_at b m
-      same l m some down =
-          let top = graph.reached l some in
-          let way : Reaches (links_at a) top.0 m = reaches-then (links_at a) top.0 l m top.2 down in
-          let way' : Reaches (links_at b) top.0 m = Reaches-same (links_at a) (links_at b) top.0 m way (λ j down-j. ap links_of (ext.kept top.0 (graph.held top.0 top.1) j down-j)) in
-          keeps.kept top.0 (held top.0 top.1) m way'
-
-      live : (l : ℕ) → IsSome (row_at a l) → IsSome (row_at c l)
-      live l some = rw (same l l some (here l)) (ext.live l some)
-
-      kept : (l : ℕ) → IsSome (row_at a l) → (m : ℕ) → Reaches (links_at a) l m → row_at c m ≡ row_at a m
-      kept l some m down = same l m some down ∙ ext.kept l some m down
+  held-extends {a} {b} {c} graph ext keeps held = Extends-held a c graph (λ k some. KeepsBelow-Extends ext keeps k (graph.held k some) (held k some))
 
   -- rows were added and perhaps given up again: each link in the list is held once more, and at most n nodes came
   pub record Gives (old new : Heap T) (given : List ℕ) (n : ℕ) : Type 0 where
@@ -104,46 +77,20 @@ module _ {T : Type 0} where
         total = omega (arith, g.total, r.count, size);
         cells = omega (arith, g.cells, r.fewer_cells);
         nodes = omega (arith, g.nodes, r.fewer_nodes);
-        balance = record {
-          spare_cells = omega (arith, g.balance.spare_cells, r.cells);
-          spare_nodes = omega (arith, g.balance.spare_nodes, r.nodes);
-          no_fewer = omega (arith, g.balance.no_fewer, r.made);
-          made = omega (arith, g.balance.made, r.made, after.kinds, g.graph.kinds, r.fewer_cells, r.fewer_nodes);
-        };
+        balance = Balances-trans g.balance (Balances-Releases r);
       }
 
   -- room was made before, and one is left
   pub gives-all : {a b c : Heap T} {result n m : ℕ} → Unchanged a b → Gives b c (result ∷ []) n → n ≤ m → Answered a c [] result 0 m
   gives-all {result = result} same g le =
       record {
-        extends = Extends-trans (record { live = λ l live. rw (same.rows l) live; kept = λ l live m down. same.rows m }) g.extends;
+        extends = Extends-trans (Extends-Unchanged same) g.extends;
         graph = g.graph;
         holds = λ k. omega (arith, same.holds k, g.holds k, count-one k result);
         count = omega (arith, same.count, g.total);
         cells = omega (arith, same.cells, g.cells);
         nodes = omega (arith, same.nodes, g.nodes, le);
-        balance = record {
-          spare_cells = omega (arith, same.cells, same.spare_cells, g.balance.spare_cells);
-          spare_nodes = omega (arith, same.nodes, same.spare_nodes, g.balance.spare_nodes);
-          no_fewer = omega (arith, same.made, g.balance.no_fewer);
-          made = omega (arith, same.made, same.live, g.balance.made);
-        };
-      }
-
-  -- room after room
-  pub unchanged-then : {a b c : Heap T} → Unchanged a b → Unchanged b c → Unchanged a c
-  unchanged-then first second =
-      record {
-        rows = λ k. second.rows k ∙ first.rows k;
-        holds = λ k. second.holds k ∙ first.holds k;
-        count = second.count ∙ first.count;
-        cells = second.cells ∙ first.cells;
-        nodes = second.nodes ∙ first.nodes;
-        live = second.live ∙ first.live;
-        made = second.made ∙ first.made;
-        spare_cells = omega (arith, first.spare_cells, second.spare_cells);
-        spare_nodes = omega (arith, first.spare_nodes, second.spare_nodes);
-        graph = second.graph;
+        balance = Balances-trans (Balances-Unchanged same) g.balance;
       }
 
   -- the first of two that are given is still held where the second is given up, which is held
