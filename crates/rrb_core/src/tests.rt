@@ -62,6 +62,8 @@ fn pushes_to_height_three(rt: HostRuntime) -> Result<(), Fail> {
     for index in 0..1024 {
         assert_eq!(rt; number_at(&heap, early, index), Some(index));
     }
+    let refused = set_number(&mut heap, all, 32_769, 7);
+    assert!(rt; refused == Err(SetFault::Range));
     Ok(())
 }
 
