@@ -71,7 +71,7 @@ pub fn join<T: Element>(heap: &mut Heap<T>, first: Link, second: Link) -> Result
 /// The chain with the entry added, or in the place of the one with its key. The entry's hold is spent on Ok, and the
 /// given chain stays.
 pub fn with<T: Element>(heap: &mut Heap<T>, chain: Link, entry: Link) -> Result<Link, NoMemory>
-    requires few { hold_count heap.old < 2 ^ 59 }
+    requires few { hold_count heap.old ≤ 2 ^ 59 }
     requires held { 0 < holds_at heap.old entry }
     requires keyed { IsSome (key_at (form_at heap.old) entry) }
     requires chain { (E : List (Entry T)) × IsChain T.cmp (form_at heap.old) chain E }

@@ -24,7 +24,7 @@ pub fn fnv32(bytes: &[u8]) -> Code
     code
 }
 
-/// The low `bits` bits of the code; the others are 0.
+/// The low `bits` bits of the code, a number below 2 to the power of `bits`; the others are 0.
 pub fn masked(code: Code, bits: u32) -> Code
     requires { bits ≤ CODE_BITS }
     ensures kept { result ≡ masked_code code bits }
@@ -42,6 +42,7 @@ pub fn digit(code: Code, depth: u8) -> u32
     requires { depth ≤ DEEPEST }
     ensures read { result ≡ digit_at code depth }
     ensures small { result < 32 }
+    ensures last { depth ≡ DEEPEST → result < 4 }
 {
     (code >> (5 * u32::from(depth))) & 31
 }
