@@ -3,3 +3,4 @@ pub mod SeamLemmas
 pub mod RestLemmas
 pub mod InsertLemmas
 pub mod CutLemmas
+pub mod GivenUpLemmas

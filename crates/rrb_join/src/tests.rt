@@ -1,12 +1,13 @@
 //! Vectors of numbers in one heap.
-ghost use Rattle.std.specs.Prelude.{◌≡◌, ◌+◌, ◌^◌, ◌<◌, IfOk};
-ghost use Rattle.node_heap.specs.Heap.{hold_count};
+ghost use Rattle.std.specs.Prelude.{◌≡◌, ℕ, ◌+◌, ◌^◌, ◌<◌, ◌≤◌, length, IfOk, OnOk, IsSome};
+ghost use Rattle.node_heap.specs.Heap.{row_at, holds_at, hold_count};
 ghost use Rattle.rrb_core.specs.Vector.{IsGoodVector};
 
 use super::*;
 use elem_core::Num;
 use node_heap::{Heap, Link};
 use rrb_core::{Flex, FlexRef, push};
+use std::alloc::Global;
 use std::test::Fail;
 
 // The vector, and the same elements once more.
@@ -72,6 +73,174 @@ fn refuses_a_part_that_ends_before_it_begins(rt: HostRuntime) -> Result<(), Fail
             assert!(rt; false);
         }
         Err(fault) => assert_eq!(rt; fault, SliceFault::Range),
+    }
+    Ok(())
+}
+
+// The number in the cell of an element.
+fn number_in(heap: &Heap<Num>, element: Link) -> Option<u32>
+    requires { IsSome (row_at heap.now element) }
+{
+    heap.value(element).map(|number| number.0)
+}
+
+// That the vector holds these numbers, in order and no more.
+fn reads(heap: &Heap<Num>, root: Link, numbers: &[u32]) -> Result<(), Fail>
+    requires { IsGoodVector heap.now root }
+{
+    let vector = FlexRef::at(root);
+    let len = vector.len(heap);
+    if len as usize != numbers.len() {
+        return Err(Fail::new("the lengths differ"));
+    }
+    let mut lines = vector.lines(heap, 0, len);
+    for number in numbers {
+        match lines.next() {
+            Some(element) => {
+                if number_in(heap, element) != Some(*number) {
+                    return Err(Fail::new("the numbers differ"));
+                }
+            }
+            None => return Err(Fail::new("a number is missing")),
+        }
+    }
+    Ok(())
+}
+
+// A new number at the index, in a vector beside this one, and in the list.
+fn inserts_as_the_list(
+    alloc: Global,
+    heap: &mut Heap<Num>,
+    root: Link,
+    numbers: &[u32],
+    index: u32,
+) -> Result<(), Fail>
+    requires good { IsGoodVector heap.old root }
+    requires few { hold_count heap.old < 2 ^ 58 }
+    requires inside { index ≤ length numbers.now }
+    ensures holds { OnOk result ((k : ℕ) → holds_at heap.new k ≡ holds_at heap.old k) }
+    ensures count { OnOk result (hold_count heap.new ≡ hold_count heap.old) }
+    ensures vectors { OnOk result ((l : ℕ) → 0 < holds_at heap.old l → IsGoodVector heap.old l → IsGoodVector heap.new l) }
+{
+    let mut list = Vec::from_slice(alloc, numbers)?;
+    list.insert(index as usize, 7)?;
+    heap.reserve(1, 0)?;
+    let cell = heap.cell(Num(7));
+    let new = insert(heap, FlexRef::at(root), index, cell)?.into_root();
+    reads(heap, new, &list)?;
+    Flex::from_root(new).release(heap);
+    Ok(())
+}
+
+// The middle third erased, in a vector beside this one, and in the list.
+fn erases_as_the_list(
+    alloc: Global,
+    heap: &mut Heap<Num>,
+    root: Link,
+    numbers: &[u32],
+) -> Result<(), Fail>
+    requires good { IsGoodVector heap.old root }
+    requires few { hold_count heap.old < 2 ^ 58 }
+    requires short { length numbers.now < 2 ^ 31 }
+    ensures holds { OnOk result ((k : ℕ) → holds_at heap.new k ≡ holds_at heap.old k) }
+    ensures count { OnOk result (hold_count heap.new ≡ hold_count heap.old) }
+    ensures vectors { OnOk result ((l : ℕ) → 0 < holds_at heap.old l → IsGoodVector heap.old l → IsGoodVector heap.new l) }
+{
+    let from = numbers.len() / 3;
+    let to = 2 * numbers.len() / 3;
+    let mut list = Vec::from_slice(alloc, &numbers[..from])?;
+    list.extend_from_slice(&numbers[to..])?;
+    let new = erase(heap, FlexRef::at(root), from as u32, to as u32)?.into_root();
+    reads(heap, new, &list)?;
+    Flex::from_root(new).release(heap);
+    Ok(())
+}
+
+// Two vectors joined, and the join with a number more at each end and without its middle third.
+fn joins_as_the_lists(
+    alloc: Global,
+    heap: &mut Heap<Num>,
+    left: Link,
+    left_numbers: &[u32],
+    right: Link,
+    right_numbers: &[u32],
+) -> Result<(), Fail>
+    requires left { IsGoodVector heap.old left }
+    requires right { IsGoodVector heap.old right }
+    requires few { hold_count heap.old + 1 < 2 ^ 58 }
+    requires short { length left_numbers.now + length right_numbers.now < 2 ^ 31 }
+    ensures holds { OnOk result ((k : ℕ) → holds_at heap.new k ≡ holds_at heap.old k) }
+    ensures count { OnOk result (hold_count heap.new ≡ hold_count heap.old) }
+    ensures vectors { OnOk result ((l : ℕ) → 0 < holds_at heap.old l → IsGoodVector heap.old l → IsGoodVector heap.new l) }
+{
+    let mut list = Vec::from_slice(alloc, left_numbers)?;
+    list.extend_from_slice(right_numbers)?;
+    let new = concat(heap, FlexRef::at(left), FlexRef::at(right))?.into_root();
+    reads(heap, new, &list)?;
+    inserts_as_the_list(alloc, heap, new, &list, 0)?;
+    inserts_as_the_list(alloc, heap, new, &list, list.len() as u32)?;
+    erases_as_the_list(alloc, heap, new, &list)?;
+    Flex::from_root(new).release(heap);
+    Ok(())
+}
+
+// A part of the vector, and that part joined to the vector on either side.
+fn cuts_as_the_list(
+    alloc: Global,
+    heap: &mut Heap<Num>,
+    root: Link,
+    numbers: &[u32],
+    from: u32,
+    to: u32,
+) -> Result<(), Fail>
+    requires good { IsGoodVector heap.old root }
+    requires held { 0 < holds_at heap.old root }
+    requires few { hold_count heap.old + 2 < 2 ^ 58 }
+    requires short { length numbers.now < 2 ^ 30 }
+    requires order { from ≤ to }
+    requires inside { to ≤ length numbers.now }
+    ensures holds { OnOk result ((k : ℕ) → holds_at heap.new k ≡ holds_at heap.old k) }
+    ensures count { OnOk result (hold_count heap.new ≡ hold_count heap.old) }
+    ensures vectors { OnOk result ((l : ℕ) → 0 < holds_at heap.old l → IsGoodVector heap.old l → IsGoodVector heap.new l) }
+{
+    let list = &numbers[from as usize..to as usize];
+    let part = slice(heap, FlexRef::at(root), from, to)?.into_root();
+    reads(heap, part, list)?;
+    joins_as_the_lists(alloc, heap, root, numbers, part, list)?;
+    joins_as_the_lists(alloc, heap, part, list, root, numbers)?;
+    Flex::from_root(part).release(heap);
+    Ok(())
+}
+
+// The root of the vector with a new cell of this number after its last.
+fn pushed(heap: &mut Heap<Num>, root: Link, number: u32) -> Result<Link, Fail>
+    requires good { IsGoodVector heap.old root }
+    requires few { hold_count heap.old < 2 ^ 58 }
+    ensures good { IfOk result (λ l. IsGoodVector heap.new l) }
+    ensures held { IfOk result (λ l. 0 < holds_at heap.new l) }
+    ensures count { IfOk result (λ _. hold_count heap.new ≡ hold_count heap.old + 1) }
+{
+    heap.reserve(1, 0)?;
+    let cell = heap.cell(Num(number));
+    Ok(push(heap, FlexRef::at(root), cell)?.into_root())
+}
+
+// Parts of a vector of 2,000 numbers, each joined to it on either side, with a number more at each end and without the middle
+// third. All hold what the same of a list holds, and leave no row behind once they are given up.
+#[test]
+fn cuts_and_joins_as_lists_do(rt: HostRuntime) -> Result<(), Fail> {
+    let mut heap: Heap<Num> = Heap::new(rt.alloc());
+    let mut numbers: Vec<u32> = Vec::new(rt.alloc());
+    let mut root = Flex::empty(&mut heap)?.into_root();
+    'pushes: for number in 0..2_000u32 {
+        root = pushed(&mut heap, root, number)?;
+        numbers.push(number)?;
+    }
+    let live = heap.live();
+    'cuts: for step in 0..28u32 {
+        let from = 37 * step;
+        cuts_as_the_list(rt.alloc(), &mut heap, root, &numbers, from, 2_000 - from)?;
+        assert_eq!(rt; heap.live(), live);
     }
     Ok(())
 }
