@@ -1,16 +1,19 @@
 -- Links of which rows are to be made, at a leaf's height and above.
 use Rattle.std.proofs.Common.{◌≡◌, ℕ, suc, zero, ◌-◌, ◌+◌, ◌<◌, ◌≤◌, ◌^◌, List, [], ◌∷◌, ◌++◌, length, take, drop, get_or, refl, ap, sym, ◌∙◌, arith, inl, inr, length-append, length-drop, append-nil, take-append-drop, IsSome}
 use Rattle.std.specs.List.{All, flat_map}
-use Rattle.std.proofs.lemmas.List.{length-take-le, get_or-take, nil_from_length}
+use Rattle.std.proofs.lemmas.List.{length-take, length-take-le, get_or-take, nil_from_length, take_rest}
 use Rattle.std.proofs.lemmas.Bool.{cases_lt}
 use Rattle.std.proofs.lemmas.List.Concat.{flat_map-append}
 use Rattle.std.proofs.lemmas.List.Elements.{All-nil, All-cons, All-append, All-drop}
-use Rattle.node_heap.specs.Heap.{Heap, row_at, form_at, links_at}
+use Rattle.node_heap.specs.Links.{count}
+use Rattle.node_heap.specs.Heap.{Heap, row_at, form_at, links_at, holds_at}
 use Rattle.rrb_core.specs.Seq.{seq_at, IsThick, IsWell}
 use Rattle.rrb_core.specs.Vector.{HasSums, Stays, height_at, elements, IsGoodVector}
-use Rattle.rrb_core.specs.Build.{IsRowOf, AreRows}
+use Rattle.rrb_core.specs.Build.{IsRowOf, AreRows, Builds}
 use Rattle.rrb_join.specs.Unmade.{items_below, AreLinks, AreThick, IsRow}
 use Rattle.rrb_core.proofs.Lists.{child-short}
+use Rattle.rrb_core.proofs.LinkCounts.{count-split}
+use Rattle.rrb_core.proofs.BuildLemmas.{builds-beside}
 use Rattle.rrb_core.proofs.FillRule.{well-most, thick-low, links-some}
 use Rattle.rrb_core.proofs.Stays.{links-form, well-live, links-stay, items-stay, thick-stays, all-thick-stay, rows-stay, row-stays}
 use Rattle.rrb_core.proofs.RowLists.{rows-append, rows-take, rows-drop, take-thick, rows-live, inner-thick, leaf-thick, over}
@@ -178,25 +181,53 @@ one-over old new n a ls s links some row is =
       thick = λ enough full. thick-one new n a (row-thick old new n a ls s links is enough full);
     }
 
-pub two-over : {T : Type 0} (old mid new : Heap T) (n i a b : ℕ) (ls back : List ℕ) → Stays (λ k. IsSome (row_at old k)) old mid → Stays (λ k. IsSome (row_at mid k)) mid new → AreLinks old n ls
-    → 16 ≤ i → i + 16 ≤ length ls → back ≡ drop i ls
+-- what two rows are over these links, of which the first has the front and the second the rest
+pub record AreTwoOver {T : Type 0} (old mid new : Heap T) (n a b : ℕ) (ls : List ℕ) : Type 0 where
+  pub items : flat_map (seq_at (form_at new) n) (a ∷ b ∷ []) ≡ items_below old n ls
+  pub rows : 16 ≤ length (links_at mid a) → 1 ≤ length (links_at new b) → AreRows new n (a ∷ b ∷ [])
+  pub thick : 16 ≤ length (links_at mid a) → 16 ≤ length (links_at new b) → AreThick old n ls → All (IsThick (form_at new) n) (a ∷ b ∷ [])
+
+pub two-over : {T : Type 0} {old mid new : Heap T} {n a b : ℕ} (i : ℕ) (ls : List ℕ) → Stays (λ k. IsSome (row_at old k)) old mid → Stays (λ k. IsSome (row_at mid k)) mid new → AreLinks old n ls
     → IsRowOf mid n a (items_below old n (take i ls)) → links_at mid a ≡ take i ls
-    → IsRowOf new n b (items_below mid n back) → links_at new b ≡ back → AreOver old new n (a ∷ b ∷ []) ls
-two-over old mid new n i a b ls back s s' links low low' cut one one-is two two-is =
-    let front : AreLinks old n (take i ls) = links-take old n i ls links (omega arith) in
+    → IsRowOf new n b (items_below mid n (take (length ls - i) (drop i ls))) → links_at new b ≡ take (length ls - i) (drop i ls) → AreTwoOver old mid new n a b ls
+two-over {T} {old} {mid} {new} {n} {a} {b} i ls s s' links one one-is two two-is =
+    let cut : take (length ls - i) (drop i ls) ≡ drop i ls = take_rest ls i in
     let rest : AreLinks old n (drop i ls) = links-drop old n i ls links in
-    let size : length (take i ls) ≡ i = length-take-le i ls (omega arith) in
-    let first : IsThick (form_at mid) n a = row-thick old mid n a (take i ls) s front one-is (omega arith) (thick-take old n i ls links (omega arith)) in
+    let named : 0 < n → All (λ k. IsSome (row_at old k)) (drop i ls) = λ p. links-live old n (drop i ls) rest p in
     let live : IsSome (row_at mid a) = well-live mid n a one.well in
     let later : IsRowOf new n a (items_below old n (take i ls)) = row-stays s' n a (items_below old n (take i ls)) live one in
-    let thick : IsThick (form_at new) n a = thick-stays s' n a live first in
-    let some-a : 1 ≤ length (links_at new a) = rw (links-stay s' a live, one-is) (omega (arith, size)) in
-    let same : items_below mid n back ≡ items_below old n (drop i ls) = rw cut (items-later s n (drop i ls) (λ p. links-live old n (drop i ls) rest p)) in
+    let same : items_below mid n (take (length ls - i) (drop i ls)) ≡ items_below old n (drop i ls) = rw cut (items-later s n (drop i ls) named) in
+    let first : 16 ≤ length (links_at mid a) → i < length ls → IsThick (form_at new) n a =
+    λ low inside. thick-stays s' n a live (row-thick old mid n a (take i ls) s (links-take old n i ls links (omega (arith, inside))) one-is (rw one-is at low) (thick-take old n i ls links inside)) in
+    let within : 1 ≤ length (links_at new b) → i < length ls = λ some. omega (arith, length-drop i ls, rw (two-is, cut) at some) in
     record {
-      rows = rows-append new n (a ∷ []) (b ∷ []) (row-one new n a (items_below old n (take i ls)) later some-a) (row-one new n b (items_below mid n back) two (rw (two-is, cut) (omega (arith, length-drop i ls)))) (λ _. thick-one new n a thick);
-      items = ap (λ (xs : List ℕ). xs ++ flat_map (seq_at (form_at new) n) (b ∷ [])) later.items ∙ ap (λ (xs : List ℕ). items_below old n (take i ls) ++ xs) (items-one new n b (items_below mid n back) two ∙ same) ∙ sym (items-split old n i ls);
-      thick = λ enough full. All-cons (IsThick (form_at new) n) a (b ∷ []) thick (thick-one new n b (row-thick mid new n b back s' (rw cut (links-later s n (drop i ls) (λ p. links-live old n (drop i ls) rest p) rest)) two-is (rw cut (omega (arith, length-drop i ls))) (rw cut (thick-later s n (drop i ls) (λ p. links-live old n (drop i ls) rest p) (thick-drop old n i ls full)))));
+      items = ap (λ (xs : List ℕ). xs ++ flat_map (seq_at (form_at new) n) (b ∷ [])) later.items ∙ ap (λ (xs : List ℕ). items_below old n (take i ls) ++ xs) (items-one new n b (items_below mid n (take (length ls - i) (drop i ls))) two ∙ same) ∙ sym (items-split old n i ls);
+      rows = λ low some.
+          rows-append new n (a ∷ []) (b ∷ []) (row-one new n a (items_below old n (take i ls)) later (rw (links-stay s' a live) (omega (arith, low)))) (row-one new n b (items_below mid n (take (length ls - i) (drop i ls))) two some) (λ _. thick-one new n a (first low (within some)));
+      thick = λ low low' full.
+          All-cons (IsThick (form_at new) n) a (b ∷ []) (first low (within (omega (arith, low')))) (thick-one new n b (row-thick mid new n b (take (length ls - i) (drop i ls)) s' (rw cut (links-later s n (drop i ls) named rest)) two-is (rw two-is at low') (rw cut (thick-later s n (drop i ls) named (thick-drop old n i ls full)))));
     }
+
+-- what the rest needs to be made a row, after the front was
+pub links-rest : {T : Type 0} {old mid : Heap T} (n i : ℕ) (ls : List ℕ) → Stays (λ k. IsSome (row_at old k)) old mid → AreLinks old n ls → AreLinks mid n (take (length ls - i) (drop i ls))
+links-rest {T} {old} {mid} n i ls s links =
+    let rest : AreLinks old n (drop i ls) = links-drop old n i ls links in
+    rw (take_rest ls i) (links-later s n (drop i ls) (λ p. links-live old n (drop i ls) rest p) rest)
+
+pub held-rest : {T : Type 0} {old mid : Heap T} {a m : ℕ} (i : ℕ) (ls : List ℕ) → Builds old mid (take i ls) (a ∷ []) m → ((k : ℕ) → count k ls ≤ holds_at old k) → (k : ℕ) → count k (take (length ls - i) (drop i ls)) ≤ holds_at mid k
+held-rest {T} {old} {mid} {a} {m} i ls built held k = rw (take_rest ls i) (omega (arith, held k, count-split k i ls, built.holds k))
+
+pub builds-two : {T : Type 0} {old mid new : Heap T} {a b : ℕ} (i : ℕ) (ls : List ℕ) → Builds old mid (take i ls) (a ∷ []) 1 → Builds mid new (take (length ls - i) (drop i ls)) (b ∷ []) 1 → Builds old new ls (a ∷ b ∷ []) 2
+builds-two {T} {old} {mid} {new} {a} {b} i ls one two =
+    let both = builds-beside one (rw (take_rest ls i) at two) in
+    rw (take-append-drop i ls) at both
+
+-- how long they are
+pub front-long : (m i : ℕ) (ls : List ℕ) → m ≤ i → m ≤ length ls → m ≤ length (take i ls)
+front-long m i ls enough some = omega (arith, length-take i ls, enough, some)
+
+pub rest-long : (m i : ℕ) (ls : List ℕ) → i + m ≤ length ls → m ≤ length (take (length ls - i) (drop i ls))
+rest-long m i ls enough = rw (take_rest ls i) (omega (arith, length-drop i ls, enough))
 
 -- two rows pushed one after the other
 pub two-pushed : (none one two : List ℕ) (a b : ℕ) → none ≡ [] → one ≡ none ++ a ∷ [] → two ≡ one ++ b ∷ [] → two ≡ a ∷ b ∷ []
@@ -215,6 +246,14 @@ take-fewer h n i ls = omega (arith, ap length (items-split h n i ls), length-app
 
 pub drop-fewer : {T : Type 0} (h : Heap T) (n i : ℕ) (ls : List ℕ) → length (items_below h n (drop i ls)) ≤ length (items_below h n ls)
 drop-fewer h n i ls = omega (arith, ap length (items-split h n i ls), length-append (items_below h n (take i ls)) (items_below h n (drop i ls)))
+
+pub front-short : {T : Type 0} (h : Heap T) (n i : ℕ) {m : ℕ} (ls : List ℕ) → length (items_below h n ls) < m → length (items_below h n (take i ls)) < m
+front-short {T} h n i {m} ls short = omega (arith, take-fewer h n i ls, short)
+
+pub rest-short : {T : Type 0} {old mid : Heap T} (n i : ℕ) {m : ℕ} (ls : List ℕ) → Stays (λ k. IsSome (row_at old k)) old mid → AreLinks old n ls → length (items_below old n ls) < m → length (items_below mid n (take (length ls - i) (drop i ls))) < m
+rest-short {T} {old} {mid} n i {m} ls s links short =
+    let same : items_below mid n (drop i ls) ≡ items_below old n (drop i ls) = items-later s n (drop i ls) (λ p. links-live old n (drop i ls) (links-drop old n i ls links) p) in
+    rw (take_rest ls i, same) (omega (arith, drop-fewer old n i ls, short))
 
 -- a root without links has no elements
 pub no-elements : {T : Type 0} (h : Heap T) (l : ℕ) → IsGoodVector h l → length (links_at h l) ≡ 0 → elements h l ≡ []

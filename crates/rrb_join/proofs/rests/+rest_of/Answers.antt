@@ -17,7 +17,8 @@ rest_inner-rest_of-rest-requires g t c = λ κs sub.
     let o = over c.args.heap.now c.args.under c.args.link c.requires.well c.requires.sums in
     let place-is = at-place c.links.result.now (links_at c.args.heap.now c.args.link) c.spot_of-spot.result.place c.index-links-spot.result c.index-links-spot.is c.links.ensures.links c.spot_of-spot.ensures.place in
     let child = child-at c.args.heap.now c.args.under c.args.link c.spot_of-spot.result.place c.index-links-spot.result o c.spot_of-spot.ensures.place place-is in
-    (search rules, (search rules, (c.requires.graph, (child.well, (child.sums, (omega (arith, c.requires.low), (rw place-is c.spot_of-spot.ensures.inside, (omega (arith, child.short, c.requires.short), (omega (arith, c.requires.spare), omega (arith, c.requires.holds))))))))))
+    let inside : c.spot_of-spot.result.within < length (seq_at (form_at c.args.heap.now) c.args.under c.index-links-spot.result) = rw place-is c.spot_of-spot.ensures.inside in
+    (search rules, (search rules, (c.requires.graph, (child.well, (child.sums, (omega (arith, c.requires.low), (omega (arith, inside), (omega (arith, child.short, c.requires.short), (omega (arith, c.requires.spare), omega (arith, c.requires.holds))))))))))
 
 pub rest_inner-returns-then-next-links-clause-links : goal.rest_inner-returns-then-next-links-clause-links
 rest_inner-returns-then-next-links-clause-links g t c =
