@@ -19,8 +19,8 @@ mod tests;
 
 use elem_core::{Element, NoMemory, Probe};
 use node_heap::{Heap, Link};
-pub use rows::{ChainRow, key_of, row_of};
-use rows::{closed, copied_over, hold_tail, in_order, row_over};
+pub use rows::key_of;
+use rows::{closed, copied_over, hold_tail, in_order, row_of, row_over};
 use spot::spot_of;
 use std::cmp::Ordering;
 

@@ -12,13 +12,13 @@ ghost use Rattle.champ_chain.specs.Frame.{Grows};
 use elem_core::NoMemory;
 use node_heap::{Head, Heap, Link};
 
-/// What a chain row has: its entry, and the row after it.
+// What a chain row has: its entry, and the row after it.
 #[derive(Clone, Copy)]
-pub struct ChainRow {
-    /// The entry.
-    pub entry: Link,
-    /// The next row, None in the last.
-    pub next: Option<Link>,
+pub(crate) struct ChainRow {
+    // The entry.
+    pub(crate) entry: Link,
+    // The next row, None in the last.
+    pub(crate) next: Option<Link>,
 }
 
 /// The key of an entry: a cell's value, or that of a pair's first link.
@@ -38,8 +38,8 @@ pub fn key_of<T>(heap: &Heap<T>, entry: Link) -> &T
     }
 }
 
-/// What the chain row at a link has.
-pub fn row_of<T>(heap: &Heap<T>, row: Link) -> ChainRow
+// What the chain row at a link has.
+pub(crate) fn row_of<T>(heap: &Heap<T>, row: Link) -> ChainRow
     requires { (entry : ℕ) × (next : Option ℕ) × (form_at heap.now row ≡ Some (node chain_kind (entry ∷ option_to_list next))) }
     ensures { form_at heap.now row ≡ Some (node chain_kind (result.entry ∷ option_to_list result.next)) }
 {

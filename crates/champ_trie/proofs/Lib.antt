@@ -1,0 +1,14 @@
+pub mod BitLemmas
+pub mod PlaceLemmas
+pub mod HoldLemmas
+pub mod ReachLemmas
+pub mod StayLemmas
+pub mod GrowthLemmas
+pub mod PartLemmas
+pub mod WithLemmas
+pub mod LeftLemmas
+pub mod GatherLemmas
+pub mod WalkLemmas
+pub mod CanonLemmas
+pub mod TreeLemmas
+pub mod AlikeLemmas

@@ -1,0 +1,190 @@
+//! Edits of a trie, from the row at a depth down.
+ghost use Rattle.std.specs.Prelude.{◌≡◌, ℕ, ◌+◌, ◌*◌, ◌%◌, ◌<◌, ◌≤◌, ◌≢◌, ◌^◌, List, [], ◌∷◌, length, suc, Some, None};
+ghost use Rattle.std.specs.declared.cmp.Ordering.TheVariants.{Equal};
+ghost use Rattle.elem_core.specs.Codes.{masked_code, digit_at};
+ghost use Rattle.node_heap.specs.Links.{count};
+ghost use Rattle.node_heap.specs.Heap.{form_at, holds_at, hold_count, IsGraph};
+ghost use Rattle.champ_chain.specs.Entry.{Entry, entry as entry_of, key_at, link_with, others, put};
+ghost use Rattle.champ_chain.specs.Chain.{IsChain};
+ghost use Rattle.champ_trie.specs.Trie.{AreSets, IsTrie, IsPlace, place_of, links_at_place, part};
+ghost use Rattle.champ_trie.specs.declared.place.Place.TheVariants.{Empty};
+ghost use Rattle.champ_trie.specs.Reach.{alike_in};
+ghost use Rattle.champ_trie.specs.Edit.{IsBelow, chain_nodes};
+ghost use Rattle.champ_trie.specs.Growth.{GrowsUpTo};
+
+use crate::place::Place;
+use crate::row::{TrieRow, edited, place_at};
+use champ_chain::{join, key_of, with, without};
+use elem_core::{CODE_BITS, Code, DEEPEST, Element, Probe, digit, masked};
+use node_heap::{Head, Heap, Link};
+use std::cmp::Ordering;
+
+// The trie at a link with the entry added, or in the place of the one with its key. The spares suffice, and the entry's
+// hold is spent.
+pub(crate) fn with_at<T: Element>(
+    heap: &mut Heap<T>,
+    link: Link,
+    depth: u8,
+    entry: Link,
+    code: Code,
+    bits: u32,
+) -> Link
+    requires bits { bits ≤ CODE_BITS }
+    requires few { hold_count heap.old ≤ 2 ^ 59 }
+    requires graph { IsGraph heap.old }
+    requires held { 0 < holds_at heap.old entry }
+    requires key { (k : T) × (key_at (form_at heap.old) entry ≡ Some k) × (code ≡ masked_code (T.code_of k) bits) }
+    requires trie { (E : List (Entry T)) × (left : ℕ) × IsBelow T.cmp (λ k. masked_code (T.code_of k) bits) (form_at heap.old) depth link E left code
+        × (left + 1 + alike_in (λ k. masked_code (T.code_of k) bits) code E ≤ heap.old.spare_nodes) }
+    ensures grows { (E : List (Entry T)) (left : ℕ) → IsBelow T.cmp (λ k. masked_code (T.code_of k) bits) (form_at heap.old) depth link E left code →
+        GrowsUpTo heap.old heap.new (entry ∷ []) (result ∷ []) (left + 1 + alike_in (λ k. masked_code (T.code_of k) bits) code E) }
+    ensures trie { (E : List (Entry T)) (left : ℕ) (k : T) → IsBelow T.cmp (λ k. masked_code (T.code_of k) bits) (form_at heap.old) depth link E left code →
+        key_at (form_at heap.old) entry ≡ Some k → IsTrie T.cmp (λ k. masked_code (T.code_of k) bits) (form_at heap.new) left depth result (put T.cmp E (entry_of k entry)) }
+{
+    if depth > DEEPEST {
+        return with(heap, link, entry).unwrap();
+    }
+    let position = digit(code, depth);
+    let place = match place_at(heap, link, position) {
+        Place::Empty => Place::Entry(entry),
+        Place::Entry(old) => beside(heap, old, depth, entry, code, bits),
+        Place::Node(child) => Place::Node(with_at(heap, child, depth + 1, entry, code, bits)),
+    };
+    edited(heap, link, position, place).make(heap, depth)
+}
+
+// What stands for the entry and an older one at a position: the new one where the keys are the same, else a node of both.
+fn beside<T: Element>(
+    heap: &mut Heap<T>,
+    old: Link,
+    depth: u8,
+    entry: Link,
+    code: Code,
+    bits: u32,
+) -> Place
+    requires bits { bits ≤ CODE_BITS }
+    requires depth { depth ≤ DEEPEST }
+    requires few { hold_count heap.old ≤ 2 ^ 59 }
+    requires graph { IsGraph heap.old }
+    requires held { 0 < holds_at heap.old entry }
+    requires key { (k : T) × (key_at (form_at heap.old) entry ≡ Some k) × (code ≡ masked_code (T.code_of k) bits) }
+    requires old { (j : T) × (key_at (form_at heap.old) old ≡ Some j) × (masked_code (T.code_of j) bits % 2 ^ (5 * (depth + 1)) ≡ code % 2 ^ (5 * (depth + 1)))
+        × (DEEPEST + chain_nodes code (masked_code (T.code_of j) bits) ≤ heap.old.spare_nodes + depth) }
+    ensures grows { (j : T) → key_at (form_at heap.old) old ≡ Some j →
+        (n : ℕ) × (n + depth ≤ DEEPEST + chain_nodes code (masked_code (T.code_of j) bits)) × GrowsUpTo heap.old heap.new (entry ∷ []) (links_at_place result) n }
+    ensures place { (j k : T) → key_at (form_at heap.old) old ≡ Some j → key_at (form_at heap.old) entry ≡ Some k → (left : ℕ) → depth + left ≡ DEEPEST →
+        IsPlace (form_at heap.new) (λ l P. IsTrie T.cmp (λ k. masked_code (T.code_of k) bits) (form_at heap.new) left (depth + 1) l P) result
+        (put T.cmp (entry_of j old ∷ []) (entry_of k entry)) }
+{
+    if key_of(heap, entry).cmp(key_of(heap, old)) == Ordering::Equal {
+        return Place::Entry(entry);
+    }
+    let old_code = masked(key_of(heap, old).code(), bits);
+    heap.hold(old);
+    Place::Node(node_of_two(heap, depth + 1, entry, code, old, old_code))
+}
+
+// The node of two entries with different keys, whose codes have the same digits above a depth, from that depth on. Their
+// holds are spent.
+fn node_of_two<T: Element>(
+    heap: &mut Heap<T>,
+    depth: u8,
+    first: Link,
+    first_code: Code,
+    second: Link,
+    second_code: Code,
+) -> Link
+    requires depth { depth ≤ DEEPEST + 1 }
+    requires few { hold_count heap.old < 2 ^ 60 }
+    requires held { (l : ℕ) → count l (first ∷ second ∷ []) ≤ holds_at heap.old l }
+    requires keys { (j k : T) × (key_at (form_at heap.old) first ≡ Some j) × (key_at (form_at heap.old) second ≡ Some k) × (T.cmp j k ≢ Equal) }
+    requires codes { first_code % 2 ^ (5 * depth) ≡ second_code % 2 ^ (5 * depth) }
+    requires spare { DEEPEST + 1 + chain_nodes first_code second_code ≤ heap.old.spare_nodes + depth }
+    ensures grows { (n : ℕ) × (n + depth ≤ DEEPEST + 1 + chain_nodes first_code second_code) × GrowsUpTo heap.old heap.new (first ∷ second ∷ []) (result ∷ []) n }
+    ensures trie { (code : T → ℕ) (j k : T) → key_at (form_at heap.old) first ≡ Some j → key_at (form_at heap.old) second ≡ Some k →
+        first_code ≡ code j → second_code ≡ code k → (left : ℕ) → depth + left ≡ DEEPEST + 1 →
+        IsTrie T.cmp code (form_at heap.new) left depth result (entry_of j first ∷ entry_of k second ∷ []) }
+{
+    if depth > DEEPEST {
+        return join(heap, first, second).unwrap();
+    }
+    let position = digit(first_code, depth);
+    let other = digit(second_code, depth);
+    if position == other {
+        let node = node_of_two(heap, depth + 1, first, first_code, second, second_code);
+        lone_row(position, Place::Node(node)).make(heap, depth)
+    } else {
+        let mut row = lone_row(position, Place::Entry(first));
+        row.put(other, Place::Entry(second));
+        row.make(heap, depth)
+    }
+}
+
+// A row with something at one position.
+fn lone_row(position: u32, place: Place) -> TrieRow
+    requires { position < 32 }
+    ensures sets { AreSets result.entries result.nodes result.links.items }
+    ensures here { place_of result.entries result.nodes result.links.items position ≡ place }
+    ensures others { (p : ℕ) → p < 32 → p ≢ position → place_of result.entries result.nodes result.links.items p ≡ Empty }
+    ensures links { (k : ℕ) → count k result.links.items ≡ count k (links_at_place place) }
+    ensures number { length result.links.items ≡ length (links_at_place place) }
+{
+    let mut row = TrieRow::empty();
+    row.put(position, place);
+    row
+}
+
+// What stands at the key's position in the row at a link once the key is gone. The key is there, and the spares suffice.
+pub(crate) fn left_of<T: Element, P: Probe<T>>(
+    heap: &mut Heap<T>,
+    link: Link,
+    depth: u8,
+    key: &P,
+    code: Code,
+    bits: u32,
+) -> Place
+    requires bits { bits ≤ CODE_BITS }
+    requires depth { depth ≤ DEEPEST }
+    requires few { hold_count heap.old < 2 ^ 59 }
+    requires graph { IsGraph heap.old }
+    requires code { code ≡ masked_code (T.code_of (P.stands_for key.now)) bits }
+    requires trie { (E : List (Entry T)) × (left : ℕ) × IsBelow T.cmp (λ k. masked_code (T.code_of k) bits) (form_at heap.old) depth link E (suc left) code
+        × (link_with T.cmp (P.stands_for key.now) E ≢ None) × (left + alike_in (λ k. masked_code (T.code_of k) bits) code E ≤ heap.old.spare_nodes) }
+    ensures grows { (E : List (Entry T)) (left : ℕ) → IsBelow T.cmp (λ k. masked_code (T.code_of k) bits) (form_at heap.old) depth link E (suc left) code →
+        GrowsUpTo heap.old heap.new [] (links_at_place result) (left + alike_in (λ k. masked_code (T.code_of k) bits) code E) }
+    ensures place { (E : List (Entry T)) (left : ℕ) → IsBelow T.cmp (λ k. masked_code (T.code_of k) bits) (form_at heap.old) depth link E (suc left) code →
+        IsPlace (form_at heap.new) (λ l P. IsTrie T.cmp (λ k. masked_code (T.code_of k) bits) (form_at heap.new) left (depth + 1) l P) result
+        (part T.cmp (λ k. masked_code (T.code_of k) bits) depth (digit_at code depth) (others T.cmp (P.stands_for key.now) E)) }
+{
+    match place_at(heap, link, digit(code, depth)) {
+        Place::Empty => Place::Empty,
+        // The key's entry, which is the only one here.
+        Place::Entry(_) => Place::Empty,
+        Place::Node(child) => {
+            if depth == DEEPEST {
+                return left_of_chain(heap, child, key);
+            }
+            let left = left_of(heap, child, depth + 1, key, code, bits);
+            edited(heap, child, digit(code, depth + 1), left).close(heap, depth + 1)
+        }
+    }
+}
+
+// What stands for a chain once the key is gone.
+fn left_of_chain<T: Element, P: Probe<T>>(heap: &mut Heap<T>, chain: Link, key: &P) -> Place
+    requires few { hold_count heap.old < 2 ^ 59 }
+    requires chain { (E : List (Entry T)) × IsChain T.cmp (form_at heap.old) chain E × (link_with T.cmp (P.stands_for key.now) E ≢ None)
+        × (length E ≤ heap.old.spare_nodes) }
+    ensures grows { (E : List (Entry T)) → IsChain T.cmp (form_at heap.old) chain E → GrowsUpTo heap.old heap.new [] (links_at_place result) (length E) }
+    ensures place { (E : List (Entry T)) → IsChain T.cmp (form_at heap.old) chain E →
+        IsPlace (form_at heap.new) (λ l P. IsChain T.cmp (form_at heap.new) l P) result (others T.cmp (P.stands_for key.now) E) }
+{
+    let left = without(heap, chain, key).unwrap().unwrap();
+    match heap.head(left) {
+        Some(head) => match head {
+            Head::Chain => Place::Node(left),
+            _ => Place::Entry(left),
+        },
+        None => Place::Entry(left),
+    }
+}

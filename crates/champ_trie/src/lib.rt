@@ -1,0 +1,160 @@
+//! Tries: entries found by the digits of their keys' codes.
+//!
+//! A trie row has up to 32 positions. Where one entry has a position's digit, the entry itself stands there; where two or
+//! more have it, the row of the next depth over them does, and below the deepest row a chain. So a set of entries has one
+//! trie, whatever edits led to it. Tries are never changed: an edit makes the rows from the root to its place anew and
+//! shares the others.
+#![tactic(auto)]
+
+ghost use Rattle.std.specs.Prelude.{◌≡◌, ◌↔◌, ℕ, ◌+◌, ◌<◌, ◌≤◌, ◌^◌, List, [], ◌∷◌, length, map, Some, None, IsSome, IfOk, OnErr, IsOk, IfSome, IfNone};
+ghost use Rattle.node_heap.specs.Forms.{Tree, IsTree, AreTrees, trees_of};
+ghost use Rattle.node_heap.specs.Heap.{form_at, holds_at, hold_count, HasSpares};
+ghost use Rattle.node_heap.specs.Calls.{Answered, Unchanged};
+ghost use Rattle.champ_chain.specs.Entry.{SameSet, Entry, entry as entry_of, key_at, link_with, others, put};
+ghost use Rattle.champ_trie.specs.Trie.{IsTrieOf};
+ghost use Rattle.champ_trie.specs.Reach.{alike_to};
+ghost use Rattle.champ_trie.specs.Walk.{walk, tree_entries};
+
+mod edit;
+mod laws;
+mod place;
+mod reach;
+mod row;
+#[cfg(test)]
+mod tests;
+mod walk;
+
+use champ_chain::{find as find_in_chain, key_of};
+use edit::{left_of, with_at};
+use elem_core::{CODE_BITS, DEEPEST, Element, NoMemory, Probe, digit, masked};
+pub use laws::{depends_on_entries, tries_stay};
+use node_heap::{Heap, Link};
+use place::Place;
+use reach::{alike_at, reached};
+use row::{TrieRow, edited};
+use std::cmp::Ordering;
+pub use walk::Entries;
+
+/// The empty trie: a row without links. It makes one node.
+pub fn empty<T: Element>(heap: &mut Heap<T>) -> Result<Link, NoMemory>
+    requires few { hold_count heap.old < 2 ^ 59 }
+    ensures answered { IfOk result (λ l. Answered heap.old heap.new [] l 0 1) }
+    ensures entries { (bits : ℕ) → IfOk result (λ l. IsTrieOf T.cmp T.code_of bits heap.new l []) }
+    ensures refused { OnErr result (Unchanged heap.old heap.new) }
+    ensures ample { HasSpares heap.old 0 1 → IsOk result }
+{
+    heap.reserve(0, 1)?;
+    Ok(TrieRow::empty().make(heap, 0))
+}
+
+/// The entry with this key, None exactly where the key is absent.
+pub fn find<T: Element, P: Probe<T>>(heap: &Heap<T>, root: Link, key: &P, bits: u32) -> Option<Link>
+    requires bits { bits ≤ CODE_BITS }
+    requires trie { (E : List (Entry T)) × IsTrieOf T.cmp T.code_of bits heap.now root E }
+    ensures { (E : List (Entry T)) → IsTrieOf T.cmp T.code_of bits heap.now root E →
+        result ≡ link_with T.cmp (P.stands_for key.now) E }
+{
+    match reached(heap, root, masked(key.code(), bits), bits) {
+        Place::Empty => None,
+        Place::Entry(entry) => match key.order(key_of(heap, entry)) {
+            Ordering::Less => None,
+            Ordering::Equal => Some(entry),
+            Ordering::Greater => None,
+        },
+        Place::Node(chain) => find_in_chain(heap, chain, key),
+    }
+}
+
+/// The links of the entries of the trie, in the order of the walk: those of each row by rising position, and then those
+/// below its nodes in turn. It takes no memory.
+pub fn entries<'h, T: Element>(heap: &'h Heap<T>, root: Link) -> Entries<'h, T>
+    requires trie { (bits : ℕ) × (E : List (Entry T)) × IsTrieOf T.cmp T.code_of bits heap.now root E }
+    ensures walk { result ≡ walk heap.now root }
+    ensures links { (bits : ℕ) (E : List (Entry T)) → IsTrieOf T.cmp T.code_of bits heap.now root E →
+        SameSet result (map (λ e. e.link) E) }
+    ensures trees { (t : Tree T) → IsTree (form_at heap.now) root t → AreTrees (form_at heap.now) result (trees_of (tree_entries t)) }
+    ensures few { length result < 2 ^ 56 }
+{
+    Entries::over(heap, root)
+}
+
+/// The number of entries of the trie. It walks them all.
+pub fn count<T: Element>(heap: &Heap<T>, root: Link) -> usize
+    requires trie { (bits : ℕ) × (E : List (Entry T)) × IsTrieOf T.cmp T.code_of bits heap.now root E }
+    ensures number { (bits : ℕ) (E : List (Entry T)) → IsTrieOf T.cmp T.code_of bits heap.now root E → result ≡ length E }
+{
+    entries(heap, root).count()
+}
+
+/// The number of keys of the trie with the key's masked code, the key itself included where it is there.
+pub fn alike<T: Element, P: Probe<T>>(heap: &Heap<T>, root: Link, key: &P, bits: u32) -> usize
+    requires bits { bits ≤ CODE_BITS }
+    requires trie { (E : List (Entry T)) × IsTrieOf T.cmp T.code_of bits heap.now root E }
+    ensures { (E : List (Entry T)) → IsTrieOf T.cmp T.code_of bits heap.now root E →
+        result ≡ alike_to T.code_of bits (P.stands_for key.now) E }
+{
+    alike_at(heap, root, masked(key.code(), bits), bits)
+}
+
+/// The trie with the entry added, or in the place of the one with its key. The entry's hold is spent on Ok, and the given
+/// root stays. It makes at most 8 nodes, and one more for each key with the same masked code. Err where memory runs out:
+/// then nothing has changed.
+pub fn with<T: Element>(
+    heap: &mut Heap<T>,
+    root: Link,
+    entry: Link,
+    bits: u32,
+) -> Result<Link, NoMemory>
+    requires bits { bits ≤ CODE_BITS }
+    requires few { hold_count heap.old ≤ 2 ^ 59 }
+    requires held { 0 < holds_at heap.old entry }
+    requires keyed { IsSome (key_at (form_at heap.old) entry) }
+    requires trie { (E : List (Entry T)) × IsTrieOf T.cmp T.code_of bits heap.old root E }
+    ensures answered { (E : List (Entry T)) (k : T) → IsTrieOf T.cmp T.code_of bits heap.old root E → key_at (form_at heap.old) entry ≡ Some k →
+        IfOk result (λ l. Answered heap.old heap.new (entry ∷ []) l 0
+        (DEEPEST + 2 + alike_to T.code_of bits k E)) }
+    ensures entries { (E : List (Entry T)) (k : T) → IsTrieOf T.cmp T.code_of bits heap.old root E → key_at (form_at heap.old) entry ≡ Some k →
+        IfOk result (λ l. IsTrieOf T.cmp T.code_of bits heap.new l (put T.cmp E (entry_of k entry))) }
+    ensures refused { OnErr result (Unchanged heap.old heap.new) }
+    ensures ample { (E : List (Entry T)) (k : T) → IsTrieOf T.cmp T.code_of bits heap.old root E → key_at (form_at heap.old) entry ≡ Some k →
+        HasSpares heap.old 0 (DEEPEST + 2 + alike_to T.code_of bits k E) → IsOk result }
+{
+    let code = masked(Element::code(key_of(heap, entry)), bits);
+    let alike = alike_at(heap, root, code, bits);
+    heap.reserve(0, alike.saturating_add(usize::from(DEEPEST) + 2))?;
+    Ok(with_at(heap, root, 0, entry, code, bits))
+}
+
+/// The trie without the entry with this key: None exactly where the key is absent, and then nothing has changed. The given
+/// root stays. It makes at most 7 nodes, and one more for each key with the same masked code. Err where memory runs out:
+/// then nothing has changed.
+pub fn without<T: Element, P: Probe<T>>(
+    heap: &mut Heap<T>,
+    root: Link,
+    key: &P,
+    bits: u32,
+) -> Result<Option<Link>, NoMemory>
+    requires bits { bits ≤ CODE_BITS }
+    requires few { hold_count heap.old < 2 ^ 59 }
+    requires trie { (E : List (Entry T)) × IsTrieOf T.cmp T.code_of bits heap.old root E }
+    ensures absent { (E : List (Entry T)) → IsTrieOf T.cmp T.code_of bits heap.old root E →
+        (result ≡ Ok None) ↔ (link_with T.cmp (P.stands_for key.now) E ≡ None) }
+    ensures nothing { IfOk result (λ left. IfNone left (heap.new ≡ heap.old)) }
+    ensures answered { (E : List (Entry T)) → IsTrieOf T.cmp T.code_of bits heap.old root E →
+        IfOk result (λ left. IfSome left (λ l. Answered heap.old heap.new [] l 0 (DEEPEST + 1 + alike_to T.code_of bits (P.stands_for key.now) E))) }
+    ensures entries { (E : List (Entry T)) → IsTrieOf T.cmp T.code_of bits heap.old root E →
+        IfOk result (λ left. IfSome left (λ l. IsTrieOf T.cmp T.code_of bits heap.new l (others T.cmp (P.stands_for key.now) E))) }
+    ensures refused { OnErr result (Unchanged heap.old heap.new) }
+    ensures ample { (E : List (Entry T)) → IsTrieOf T.cmp T.code_of bits heap.old root E →
+        HasSpares heap.old 0 (DEEPEST + 1 + alike_to T.code_of bits (P.stands_for key.now) E) → IsOk result }
+{
+    if find(heap, root, key, bits).is_none() {
+        return Ok(None);
+    }
+    let code = masked(key.code(), bits);
+    let alike = alike_at(heap, root, code, bits);
+    heap.reserve(0, alike.saturating_add(usize::from(DEEPEST) + 1))?;
+    let position = digit(code, 0);
+    let left = left_of(heap, root, 0, key, code, bits);
+    Ok(Some(edited(heap, root, position, left).make(heap, 0)))
+}

@@ -1,0 +1,67 @@
+//! Positions of a trie row.
+ghost use Rattle.std.specs.Prelude.{◌≡◌, ◌<◌, true, false};
+ghost use Rattle.champ_trie.specs.Bits.{has, rank, Gains};
+ghost use Rattle.champ_trie.specs.Trie.{AreSets, place_of};
+
+use node_heap::Link;
+
+// What stands at a position of a trie row.
+#[derive(Clone, Copy)]
+pub(crate) enum Place {
+    // Nothing.
+    Empty,
+    // The only entry with the position's digit.
+    Entry(Link),
+    // The row of the next depth, or the chain, of two entries or more.
+    Node(Link),
+}
+
+// Whether the position is in the set, a number whose bits are its positions.
+pub(crate) fn contains(set: u32, position: u32) -> bool
+    requires { position < 32 }
+    ensures { result ≡ has set position }
+{
+    (set >> position) & 1 == 1
+}
+
+// How many positions of the set are below this one.
+pub(crate) fn rank_of(set: u32, position: u32) -> u32
+    requires { position < 32 }
+    ensures { result ≡ rank set position }
+{
+    (set & ((1 << position) - 1)).count_ones()
+}
+
+// The set with the position, which it hasn't.
+pub(crate) fn added(set: u32, position: u32) -> u32
+    requires position { position < 32 }
+    requires free { has set position ≡ false }
+    ensures { Gains set result position }
+{
+    set | (1 << position)
+}
+
+// The set without the position, which it has.
+pub(crate) fn cleared(set: u32, position: u32) -> u32
+    requires position { position < 32 }
+    requires there { has set position ≡ true }
+    ensures { Gains result set position }
+{
+    set & !(1 << position)
+}
+
+// What stands at the position of a row with these sets and links.
+pub(crate) fn place_among(entries: u32, nodes: u32, links: &[Link], position: u32) -> Place
+    requires sets { AreSets entries nodes links.now }
+    requires position { position < 32 }
+    ensures { result ≡ place_of entries nodes links.now position }
+{
+    if contains(entries, position) {
+        return Place::Entry(links[rank_of(entries, position) as usize]);
+    }
+    if contains(nodes, position) {
+        let place = entries.count_ones() + rank_of(nodes, position);
+        return Place::Node(links[place as usize]);
+    }
+    Place::Empty
+}

@@ -1,0 +1,192 @@
+//! Trie rows apart from the heap, and how they are made.
+ghost use Rattle.std.specs.Prelude.{◌≡◌, ◌≢◌, ◌⊎◌, ℕ, ◌+◌, ◌<◌, ◌≤◌, ◌^◌, List, [], ◌∷◌, length, Some, IsSome, slice_index};
+ghost use Rattle.node_heap.specs.Links.{count};
+ghost use Rattle.node_heap.specs.Forms.{node, trie};
+ghost use Rattle.node_heap.specs.Heap.{row_at, form_at, holds_at, hold_count, IsGraph};
+ghost use Rattle.node_heap.specs.Calls.{SameRows};
+ghost use Rattle.node_heap.specs.declared.row.Head.TheVariants.{Trie};
+ghost use Rattle.champ_chain.specs.Frame.{Grows};
+ghost use Rattle.champ_trie.specs.Trie.{AreSets, IsRow, place_of, links_at_place};
+ghost use Rattle.champ_trie.specs.Edit.{Closes};
+ghost use Rattle.champ_trie.specs.declared.place.Place.TheVariants.{Empty, Entry as At, Node};
+
+use crate::place::{Place, added, cleared, contains, place_among, rank_of};
+use arrayvec::ArrayVec;
+use node_heap::{Head, Heap, Link};
+
+// The sets and links of a trie row.
+#[derive(Drop)]
+pub(crate) struct TrieRow {
+    pub(crate) entries: u32,
+    pub(crate) nodes: u32,
+    pub(crate) links: ArrayVec<Link, 32>,
+}
+
+impl TrieRow {
+    // A row with nothing at any position.
+    pub(crate) fn empty() -> TrieRow
+        ensures sets { AreSets result.entries result.nodes result.links.items }
+        ensures none { result.links.items ≡ [] }
+        ensures places { (p : ℕ) → place_of result.entries result.nodes result.links.items p ≡ Empty }
+    {
+        TrieRow {
+            entries: 0,
+            nodes: 0,
+            links: ArrayVec::new(),
+        }
+    }
+
+    // The row at a link.
+    pub(crate) fn read<T>(heap: &Heap<T>, link: Link) -> TrieRow
+        requires { (depth entries nodes : ℕ) × (links : List ℕ) × IsRow (form_at heap.now) link depth entries nodes links }
+        ensures { (depth entries nodes : ℕ) (links : List ℕ) → IsRow (form_at heap.now) link depth entries nodes links →
+            (result.entries ≡ entries) × (result.nodes ≡ nodes) × (result.links.items ≡ links) }
+    {
+        let (entries, nodes) = sets_of(heap, link);
+        let mut links = ArrayVec::new();
+        let _ = links.try_extend_from_slice(heap.links(link));
+        TrieRow {
+            entries,
+            nodes,
+            links,
+        }
+    }
+
+    // Takes out what stands at the position.
+    pub(crate) fn clear(&mut self, position: u32)
+        requires sets { AreSets self.old.entries self.old.nodes self.old.links.items }
+        requires position { position < 32 }
+        ensures sets { AreSets self.new.entries self.new.nodes self.new.links.items }
+        ensures here { place_of self.new.entries self.new.nodes self.new.links.items position ≡ Empty }
+        ensures others { (p : ℕ) → p < 32 → p ≢ position →
+            place_of self.new.entries self.new.nodes self.new.links.items p ≡ place_of self.old.entries self.old.nodes self.old.links.items p }
+        ensures links { (k : ℕ) → count k self.new.links.items ≤ count k self.old.links.items }
+    {
+        if contains(self.entries, position) {
+            self.links.remove(rank_of(self.entries, position) as usize);
+            self.entries = cleared(self.entries, position);
+        } else if contains(self.nodes, position) {
+            let place = self.entries.count_ones() + rank_of(self.nodes, position);
+            self.links.remove(place as usize);
+            self.nodes = cleared(self.nodes, position);
+        }
+    }
+
+    // Puts something at a position where nothing stands.
+    pub(crate) fn put(&mut self, position: u32, place: Place)
+        requires sets { AreSets self.old.entries self.old.nodes self.old.links.items }
+        requires position { position < 32 }
+        requires free { place_of self.old.entries self.old.nodes self.old.links.items position ≡ Empty }
+        ensures sets { AreSets self.new.entries self.new.nodes self.new.links.items }
+        ensures here { place_of self.new.entries self.new.nodes self.new.links.items position ≡ place }
+        ensures others { (p : ℕ) → p < 32 → p ≢ position →
+            place_of self.new.entries self.new.nodes self.new.links.items p ≡ place_of self.old.entries self.old.nodes self.old.links.items p }
+        ensures links { (k : ℕ) → count k self.new.links.items ≡ count k self.old.links.items + count k (links_at_place place) }
+        ensures number { length self.new.links.items ≡ length self.old.links.items + length (links_at_place place) }
+    {
+        match place {
+            Place::Empty => {}
+            Place::Entry(entry) => {
+                self.links
+                    .insert(rank_of(self.entries, position) as usize, entry);
+                self.entries = added(self.entries, position);
+            }
+            Place::Node(node) => {
+                let place = self.entries.count_ones() + rank_of(self.nodes, position);
+                self.links.insert(place as usize, node);
+                self.nodes = added(self.nodes, position);
+            }
+        }
+    }
+
+    // A row of the heap like this one. It spends a hold of each link.
+    pub(crate) fn make<T>(&self, heap: &mut Heap<T>, depth: u8) -> Link
+        requires sets { AreSets self.now.entries self.now.nodes self.now.links.items }
+        requires spare { 0 < heap.old.spare_nodes }
+        requires held { (k : ℕ) → count k self.now.links.items ≤ holds_at heap.old k }
+        requires few { hold_count heap.old < 2 ^ 60 }
+        ensures row { IsRow (form_at heap.new) result depth self.now.entries self.now.nodes self.now.links.items }
+        ensures grows { Grows heap.old heap.new self.now.links.items (result ∷ []) 1 }
+    {
+        let head = Head::Trie {
+            depth,
+            entries: self.entries,
+            nodes: self.nodes,
+        };
+        heap.node(head, self.links.as_slice())
+    }
+
+    // What stands for the row in the one above: the only entry that it has, or else a row of the heap like it. It spends
+    // a hold of each link.
+    pub(crate) fn close<T>(&self, heap: &mut Heap<T>, depth: u8) -> Place
+        requires sets { AreSets self.now.entries self.now.nodes self.now.links.items }
+        requires spare { 0 < heap.old.spare_nodes }
+        requires held { (k : ℕ) → count k self.now.links.items ≤ holds_at heap.old k }
+        requires few { hold_count heap.old < 2 ^ 60 }
+        requires graph { IsGraph heap.old }
+        ensures place { Closes heap.new self.now.entries self.now.nodes self.now.links.items depth result }
+        ensures grows { (n : ℕ) × (n ≤ 1) × Grows heap.old heap.new self.now.links.items (links_at_place result) n }
+    {
+        if self.nodes == 0 && self.links.len() == 1 {
+            Place::Entry(self.links[0])
+        } else {
+            Place::Node(self.make(heap, depth))
+        }
+    }
+}
+
+// The sets of the trie row at a link.
+pub(crate) fn sets_of<T>(heap: &Heap<T>, link: Link) -> (u32, u32)
+    requires { (depth entries nodes : ℕ) × (links : List ℕ) × (form_at heap.now link ≡ Some (node (trie depth entries nodes) links)) }
+    ensures { (depth entries nodes : ℕ) (links : List ℕ) → form_at heap.now link ≡ Some (node (trie depth entries nodes) links) →
+        (result.0 ≡ entries) × (result.1 ≡ nodes) }
+{
+    match heap.head(link) {
+        Some(Head::Trie { entries, nodes, .. }) => (*entries, *nodes),
+        _ => unreachable!(),
+    }
+}
+
+// What stands at the position of the trie row at a link.
+pub(crate) fn place_at<T>(heap: &Heap<T>, link: Link, position: u32) -> Place
+    requires row { (depth entries nodes : ℕ) × (links : List ℕ) × IsRow (form_at heap.now) link depth entries nodes links }
+    requires position { position < 32 }
+    ensures { (depth entries nodes : ℕ) (links : List ℕ) → IsRow (form_at heap.now) link depth entries nodes links →
+        result ≡ place_of entries nodes links position }
+{
+    let (entries, nodes) = sets_of(heap, link);
+    place_among(entries, nodes, heap.links(link), position)
+}
+
+// One hold more of each link.
+fn hold_all<T>(heap: &mut Heap<T>, links: &[Link])
+    requires live { (k : ℕ) → 0 < count k links.now → IsSome (row_at heap.old k) }
+    requires graph { IsGraph heap.old }
+    requires few { hold_count heap.old + length links.now ≤ 2 ^ 60 }
+    ensures rows { SameRows heap.old heap.new }
+    ensures grows { Grows heap.old heap.new [] links.now 0 }
+{
+    for link in links {
+        heap.hold(*link);
+    }
+}
+
+// The row at a link with another place at the position. A hold of each other link is gained.
+pub(crate) fn edited<T>(heap: &mut Heap<T>, link: Link, position: u32, place: Place) -> TrieRow
+    requires row { (depth entries nodes : ℕ) × (links : List ℕ) × IsRow (form_at heap.old) link depth entries nodes links }
+    requires graph { IsGraph heap.old }
+    requires position { position < 32 }
+    requires few { hold_count heap.old < 2 ^ 59 + 2 }
+    ensures rows { SameRows heap.old heap.new }
+    ensures grows { Grows heap.old heap.new (links_at_place place) result.links.items 0 }
+    ensures sets { AreSets result.entries result.nodes result.links.items }
+    ensures here { place_of result.entries result.nodes result.links.items position ≡ place }
+    ensures others { (depth entries nodes : ℕ) (links : List ℕ) → IsRow (form_at heap.old) link depth entries nodes links →
+        (p : ℕ) → p < 32 → p ≢ position → place_of result.entries result.nodes result.links.items p ≡ place_of entries nodes links p }
+{
+    let mut row = TrieRow::read(heap, link);
+    row.clear(position);
+    hold_all(heap, row.links.as_slice());
+    row.put(position, place);
+    row
+}
