@@ -1,0 +1,886 @@
+#!/usr/bin/env bash
+# A million insertions, look-ups and removals over one map, and the same over a copy that is kept, beside
+# `im_rc::HashMap` and std's `HashMap`, best of three.
+#   bench/maps.sh           where cargo finds `im_rc` by itself, without a download
+#   bench/maps.sh FOLDER    with cargo set up as FOLDER/.cargo/config.toml says, as in the folder of a yardstick
+# It writes a small program beside a copy of the crates that it stands on, in a folder of its own, since the gate takes no
+# program outside the listed crates. Without cargo or `im_rc` it says so and runs the rest.
+set -eu
+top=$(cd "$(dirname -- "$0")/.." && pwd -P)
+setup=${1:-}
+if [ -n "$setup" ]; then
+    setup=$(cd "$setup" && pwd -P)
+fi
+work=$(mktemp -d)
+trap 'rm -rf -- "$work"' EXIT
+count=1000000
+
+# The program over this repository's maps.
+mkdir -p "$work/crates"
+for crate in elem_core node_heap champ_chain champ_trie champ_kinds; do
+    mkdir "$work/crates/$crate"
+    cp -r "$top/crates/$crate/src" "$top/crates/$crate/specs" "$top/crates/$crate/proofs" "$work/crates/$crate"
+done
+cp "$top/HANDLES" "$work/HANDLES"
+grep -E '^(elem_core|node_heap|champ_chain|champ_trie|champ_kinds):' "$top/crates.txt" > "$work/crates.txt"
+echo 'map_rows: champ_kinds champ_chain node_heap elem_core anyhow' >> "$work/crates.txt"
+crate=$work/crates/map_rows
+mkdir -p "$crate/src" "$crate/specs" "$crate/proofs"
+
+cat > "$crate/src/main.rt" <<PROGRAM
+//! Inserts, look-ups and removals over one map, each new map beside the old, which is then given up; and the same over a
+//! copy that is kept.
+#![tactic(auto)]
+
+ghost use Rattle.std.specs.Prelude.{◌≡◌, ℕ, ◌+◌, ◌<◌, ◌^◌, IfOk, OnOk};
+ghost use Rattle.node_heap.specs.Heap.{holds_at, hold_count, one_at};
+ghost use Rattle.champ_kinds.specs.Root.{Root};
+ghost use Rattle.champ_kinds.specs.Laws.{KeepsContainer};
+ghost use Rattle.map_rows.specs.Turn.{IsGood, Turns};
+
+use anyhow::Result;
+use champ_kinds::{Map, MapRef, map_insert, map_remove};
+use elem_core::{Element, NoMemory, Num};
+use node_heap::Heap;
+use std::io;
+use std::rt::Clock;
+use std::time::CpuClock;
+
+const COUNT: u32 = $count;
+
+// An element that is a number.
+trait Numbered: Element {
+    fn of(number: u32) -> Self;
+
+    fn number(&self) -> u32;
+}
+
+impl Numbered for Num {
+    fn of(number: u32) -> Num {
+        Num(number)
+    }
+
+    fn number(&self) -> u32 {
+        self.0
+    }
+}
+
+fn main(rt: HostRuntime) -> Result<()> {
+    let mut heap: Heap<Num> = Heap::new(rt.alloc());
+    let none = first(&mut heap)?;
+    let left = alone(&rt, &mut heap, none)?;
+    beside(&rt, &mut heap, left)?;
+    // It stays until its input ends, so that the peak of its memory can be read.
+    let mut line = String::new(rt.alloc());
+    rt.read_line(&mut line)?;
+    Ok(())
+}
+
+// A map alone: a million keys come, are looked up, and go again.
+fn alone<T: Numbered>(
+    rt: &(impl Print + Clock + CpuClock),
+    heap: &mut Heap<T>,
+    none: MapRef,
+) -> Result<MapRef>
+    requires good { IsGood T.cmp T.code_of heap.old none }
+    requires held { 0 < holds_at heap.old none.root }
+    requires few { hold_count heap.old < 2 ^ 50 }
+    ensures good { IfOk result (λ m. IsGood T.cmp T.code_of heap.new m) }
+    ensures held { IfOk result (λ m. 0 < holds_at heap.new m.root) }
+    ensures count { OnOk result (hold_count heap.new ≡ hold_count heap.old) }
+{
+    tell(rt, "start", 0)?;
+    let all = inserts(heap, none, 0)?;
+    tell(rt, "insert", all.len(heap))?;
+    let sum = gets(heap, all, 0);
+    tell(rt, "get", sum)?;
+    let left = removes(heap, all, 0)?;
+    tell(rt, "remove", left.len(heap))?;
+    Ok(left)
+}
+
+// The same over a copy of the map, which is kept to the end.
+fn beside<T: Numbered>(
+    rt: &(impl Print + Clock + CpuClock),
+    heap: &mut Heap<T>,
+    none: MapRef,
+) -> Result<()>
+    requires good { IsGood T.cmp T.code_of heap.old none }
+    requires held { 0 < holds_at heap.old none.root }
+    requires few { hold_count heap.old < 2 ^ 40 }
+{
+    let copy = inserts(heap, none, 0)?;
+    tell(rt, "again", copy.len(heap))?;
+    keep(heap, copy);
+    let both = inserts(heap, copy, COUNT)?;
+    tell(rt, "insert", both.len(heap))?;
+    let sum = gets(heap, both, COUNT);
+    tell(rt, "get", sum)?;
+    let left = removes(heap, both, COUNT)?;
+    tell(rt, "remove", left.len(heap))?;
+    let sum = gets(heap, copy, 0);
+    tell(rt, "end", sum)?;
+    Ok(())
+}
+
+// Prints the two clocks in seconds and nanoseconds, and a number that all programs must agree on.
+fn tell(rt: &(impl Print + Clock + CpuClock), phase: &str, sum: usize) -> io::Result<()> {
+    let wall = rt.monotonic()?;
+    let used = rt.thread_cpu_time()?;
+    println!(rt;
+        "{phase} {} {} {} {} {sum}",
+        wall.as_secs(),
+        wall.subsec_nanos(),
+        used.as_secs(),
+        used.subsec_nanos()
+    )
+}
+
+// The key of a turn. No two turns have one key, and the keys' codes lie as if by chance.
+fn key<T: Numbered>(turn: u32) -> T {
+    let spread = turn.wrapping_mul(2_654_435_761);
+    T::of(spread ^ (spread >> 15))
+}
+
+// The next of a row of scattered numbers.
+fn scattered(seed: u32) -> u32 {
+    seed.wrapping_mul(1_664_525).wrapping_add(1_013_904_223)
+}
+
+fn first<T: Numbered>(heap: &mut Heap<T>) -> Result<MapRef, NoMemory>
+    requires few { hold_count heap.old ≡ 0 }
+    ensures good { IfOk result (λ m. IsGood T.cmp T.code_of heap.new m) }
+    ensures held { IfOk result (λ m. 0 < holds_at heap.new m.root) }
+    ensures count { OnOk result (hold_count heap.new ≡ 1) }
+{
+    let made = Map::empty(heap, 32)?;
+    Ok(kept(made))
+}
+
+// The map, whose root stays held.
+fn kept(map: Map) -> MapRef
+    ensures { result ≡ map }
+{
+    let view = map.view();
+    let _root = map.into_root();
+    view
+}
+
+// One hold more of the map, which is never given up.
+fn keep<T: Numbered>(heap: &mut Heap<T>, map: MapRef)
+    requires good { IsGood T.cmp T.code_of heap.old map }
+    requires held { 0 < holds_at heap.old map.root }
+    requires few { hold_count heap.old < 2 ^ 50 }
+    ensures good { IsGood T.cmp T.code_of heap.new map }
+    ensures twice { 1 < holds_at heap.new map.root }
+    ensures count { hold_count heap.new ≡ hold_count heap.old + 1 }
+{
+    let _ = heap.live();
+    let map = Map::from_root(map.root(), map.bits());
+    let more = map.share(heap);
+    let _root = map.into_root();
+    let _root = more.into_root();
+}
+
+fn inserts<T: Numbered>(heap: &mut Heap<T>, map: MapRef, from: u32) -> Result<MapRef, NoMemory>
+    requires good { IsGood T.cmp T.code_of heap.old map }
+    requires held { 0 < holds_at heap.old map.root }
+    requires few { hold_count heap.old < 2 ^ 50 }
+    ensures good { IfOk result (λ m. IsGood T.cmp T.code_of heap.new m) }
+    ensures held { IfOk result (λ m. 0 < holds_at heap.new m.root) }
+    ensures turns { IfOk result (λ m. Turns heap.old heap.new map.root m.root) }
+    ensures count { OnOk result (hold_count heap.new ≡ hold_count heap.old) }
+{
+    let mut top = map;
+    for turn in 0..COUNT {
+        top = inserted(heap, top, from.wrapping_add(turn))?;
+    }
+    Ok(top)
+}
+
+fn inserted<T: Numbered>(heap: &mut Heap<T>, map: MapRef, turn: u32) -> Result<MapRef, NoMemory>
+    requires good { IsGood T.cmp T.code_of heap.old map }
+    requires held { 0 < holds_at heap.old map.root }
+    requires few { hold_count heap.old < 2 ^ 50 }
+    ensures good { IfOk result (λ m. IsGood T.cmp T.code_of heap.new m) }
+    ensures held { IfOk result (λ m. 0 < holds_at heap.new m.root) }
+    ensures turns { IfOk result (λ m. Turns heap.old heap.new map.root m.root) }
+    ensures count { OnOk result (hold_count heap.new ≡ hold_count heap.old) }
+{
+    heap.reserve(1, 0)?;
+    let value = heap.cell(T::of(turn));
+    match map_insert(heap, map, key(turn), value) {
+        Ok(made) => Ok(moved(heap, map, made)),
+        Err(_fault) => Err(NoMemory),
+    }
+}
+
+// The new map, once the old one is given up.
+fn moved<T: Numbered>(heap: &mut Heap<T>, old: MapRef, made: Map) -> MapRef
+    requires good { IsGood T.cmp T.code_of heap.old made }
+    requires held { 0 < holds_at heap.old old.root }
+    requires twice { one_at old.root made.root < holds_at heap.old made.root }
+    ensures good { IsGood T.cmp T.code_of heap.new result }
+    ensures same { result ≡ made }
+    ensures holds { (k : ℕ) → holds_at heap.new k + one_at old.root k ≡ holds_at heap.old k }
+    ensures kept { (r : Root) → one_at old.root r.root < holds_at heap.old r.root → KeepsContainer heap.old heap.new r }
+    ensures count { hold_count heap.new + 1 ≡ hold_count heap.old }
+{
+    Map::from_root(old.root(), old.bits()).release(heap);
+    kept(made)
+}
+
+fn gets<T: Numbered>(heap: &Heap<T>, map: MapRef, from: u32) -> usize
+    requires { IsGood T.cmp T.code_of heap.now map }
+{
+    let mut sum: u32 = 0;
+    let mut seed = 1;
+    for turn in 0..COUNT {
+        let _ = turn;
+        seed = scattered(seed);
+        sum = sum.wrapping_add(number_at(heap, map, from.wrapping_add((seed >> 8) % COUNT)));
+    }
+    sum as usize
+}
+
+fn number_at<T: Numbered>(heap: &Heap<T>, map: MapRef, turn: u32) -> u32
+    requires { IsGood T.cmp T.code_of heap.now map }
+{
+    // All links of the heap are live.
+    let _ = heap.live();
+    let key: T = key(turn);
+    match map.get(heap, &key) {
+        Some(cell) => match heap.value(cell) {
+            Some(value) => value.number(),
+            None => 0,
+        },
+        None => 0,
+    }
+}
+
+fn removes<T: Numbered>(heap: &mut Heap<T>, map: MapRef, from: u32) -> Result<MapRef, NoMemory>
+    requires good { IsGood T.cmp T.code_of heap.old map }
+    requires held { 0 < holds_at heap.old map.root }
+    requires few { hold_count heap.old < 2 ^ 50 }
+    ensures good { IfOk result (λ m. IsGood T.cmp T.code_of heap.new m) }
+    ensures held { IfOk result (λ m. 0 < holds_at heap.new m.root) }
+    ensures turns { IfOk result (λ m. Turns heap.old heap.new map.root m.root) }
+    ensures count { OnOk result (hold_count heap.new ≡ hold_count heap.old) }
+{
+    let mut top = map;
+    for turn in 0..COUNT {
+        top = removed(heap, top, from.wrapping_add(turn))?;
+    }
+    Ok(top)
+}
+
+fn removed<T: Numbered>(heap: &mut Heap<T>, map: MapRef, turn: u32) -> Result<MapRef, NoMemory>
+    requires good { IsGood T.cmp T.code_of heap.old map }
+    requires held { 0 < holds_at heap.old map.root }
+    requires few { hold_count heap.old < 2 ^ 50 }
+    ensures good { IfOk result (λ m. IsGood T.cmp T.code_of heap.new m) }
+    ensures held { IfOk result (λ m. 0 < holds_at heap.new m.root) }
+    ensures turns { IfOk result (λ m. Turns heap.old heap.new map.root m.root) }
+    ensures count { OnOk result (hold_count heap.new ≡ hold_count heap.old) }
+{
+    let key: T = key(turn);
+    match map_remove(heap, map, &key)? {
+        Some(left) => Ok(moved(heap, map, left)),
+        None => Ok(map),
+    }
+}
+PROGRAM
+
+# What a step does to the maps beside its own.
+echo 'pub mod Turn' > "$crate/specs/Lib.antt"
+cat > "$crate/specs/Turn.antt" <<'SPEC'
+-- One map after another.
+use Rattle.std.specs.Prelude.{◌≡◌, ℕ, ◌+◌, ◌<◌, List}
+use Rattle.std.specs.declared.cmp.Ordering.{Ordering}
+use Rattle.node_heap.specs.Heap.{Heap, form_at, holds_at, one_at}
+use Rattle.champ_chain.specs.Entry.{Entry}
+use Rattle.champ_kinds.specs.Root.{Root}
+use Rattle.champ_kinds.specs.Kinds.{IsMap}
+use Rattle.champ_kinds.specs.Laws.{KeepsContainer}
+
+module _ {T : Type 0} where
+  abbrev pub IsGood : (T → T → Ordering) → (T → ℕ) → Heap T → Root → Type 0
+  IsGood cmp code h r = (M : List (Entry T)) × IsMap cmp code (form_at h) r M
+
+  -- the hold went from one root to another, and each map of which a hold is left is the same
+  pub record Turns (old new : Heap T) (from to : ℕ) : Type 0 where
+    pub holds : (k : ℕ) → holds_at new k + one_at from k ≡ holds_at old k + one_at to k
+    pub kept : (r : Root) → one_at from r.root < holds_at old r.root → KeepsContainer old new r
+SPEC
+
+# The proofs: the loops' invariants, and that the old map, the new one and the copy each have a hold of their own.
+for function in beside keep number_at inserted moved removed inserts removes; do
+    mkdir "$crate/proofs/$function"
+done
+echo 'pub mod Turn' > "$crate/proofs/Lib.antt"
+cat > "$crate/proofs/Turn.antt" <<'PROOF'
+-- One map after another.
+use Rattle.std.proofs.Common.{◌≡◌, ℕ, ◌+◌, ◌<◌, ◌≤◌, List, [], ◌∷◌, ◌∙◌, refl, ap, sym, subst, arith, Bool, true, false, cond, Some, IsSome, inl, inr}
+use Rattle.std.specs.Prelude.{option_map}
+use Rattle.std.specs.List.{find}
+use Rattle.std.specs.declared.cmp.Ordering.{Ordering}
+use Rattle.std.proofs.lemmas.Bool.{cases_eq}
+use Rattle.node_heap.specs.Links.{count}
+use Rattle.node_heap.specs.Heap.{Heap, row_at, form_at, links_at, holds_at, one_at, IsGraph}
+use Rattle.node_heap.specs.Forms.{Forms, cell, links_of}
+use Rattle.node_heap.specs.Calls.{Adds, Unchanged, Answered, Extends}
+use Rattle.node_heap.proofs.Counts.{test_same, test_other}
+use Rattle.champ_chain.specs.Entry.{Entry, has_key, link_with}
+use Rattle.champ_chain.proofs.FrameLemmas.{count-cons, count-one, links-form}
+use Rattle.champ_chain.proofs.CopyLemmas.{one_at-same}
+use Rattle.champ_kinds.specs.Root.{Root}
+use Rattle.champ_kinds.specs.Kinds.{IsPair, ArePairs, IsMap}
+use Rattle.champ_kinds.specs.Laws.{KeepsContainer}
+use Rattle.champ_kinds.proofs.StayLemmas.{map-extended, set-extended}
+use Rattle.map_rows.specs.Turn.{IsGood, Turns}
+
+module _ {T : Type 0} where
+  one-held : (h : Heap T) (x k : ℕ) → 0 < holds_at h x → one_at x k ≤ holds_at h k
+  one-held h x k held = elim (cases_eq x k) as (λ _. one_at x k ≤ holds_at h k) [
+    | inl same ↦ omega (arith, test_same k x (sym same), ap (holds_at h) same, held)
+    | inr other ↦ omega (arith, test_other k x (λ e. other (sym e)))
+  ]
+
+  keeps-extended : (old new : Heap T) → Extends old new → (r : Root) → KeepsContainer old new r
+  keeps-extended old new ext r = record {
+    map = λ cmp code M is. map-extended cmp code old new ext r M is;
+    set = λ cmp code E is. set-extended cmp code old new ext r E is;
+  }
+
+  keeps-then : (a b c : Heap T) (r : Root) → KeepsContainer a b r → KeepsContainer b c r → KeepsContainer a c r
+  keeps-then a b c r first second = record {
+    map = λ cmp code M is. second.map cmp code M (first.map cmp code M is);
+    set = λ cmp code E is. second.set cmp code E (first.set cmp code E is);
+  }
+
+  pub good-kept : (cmp : T → T → Ordering) (code : T → ℕ) {a b : Heap T} {r : Root} → KeepsContainer a b r → IsGood cmp code a r → IsGood cmp code b r
+  good-kept cmp code keeps good = (good.0, keeps.map cmp code good.0 good.1)
+
+  pub good-extended : (cmp : T → T → Ordering) (code : T → ℕ) {a b : Heap T} {r : Root} → Extends a b → IsGood cmp code a r → IsGood cmp code b r
+  good-extended cmp code {a} {b} {r} ext good = good-kept cmp code (keeps-extended a b ext r) good
+
+  pub turns-none : (h : Heap T) (l : ℕ) → Turns h h l l
+  turns-none h l = record {
+    holds = λ k. refl;
+    kept = λ r left. record { map = λ cmp code M is. is; set = λ cmp code E is. is };
+  }
+
+  pub turns-then : {a b c : Heap T} {l m n : ℕ} → Turns a b l m → Turns b c m n → Turns a c l n
+  turns-then {a} {b} {c} {l} {m} {n} first second = record {
+    holds = λ k. omega (arith, first.holds k, second.holds k);
+    kept = λ r left. keeps-then a b c r (first.kept r left) (second.kept r (omega (arith, first.holds r.root, left)));
+  }
+
+  pub turns-held : {a b : Heap T} {l m : ℕ} → Turns a b l m → 0 < holds_at a l → 0 < holds_at b m
+  turns-held {a} {b} {l} {m} turns held = omega (arith, turns.holds m, one-held a l m held, one_at-same m)
+
+  -- the holds once the new map is there beside the old one
+  pub spent-holds : {a b c d : Heap T} {value new n m : ℕ} {x : T} → Unchanged a b → Adds b c value (cell x) → Answered c d (value ∷ []) new n m → (k : ℕ) → holds_at d k ≡ holds_at a k + one_at new k
+  spent-holds {a} {b} {c} {d} {value} {new} same adds answered k =
+      let added : holds_at c k + 0 ≡ holds_at b k + one_at value k = adds.holds k in
+      omega (arith, same.holds k, added, answered.holds k, count-one k value)
+
+  pub both-held : (a d : Heap T) (old new : ℕ) → 0 < holds_at a old → ((k : ℕ) → holds_at d k ≡ holds_at a k + one_at new k) → one_at old new < holds_at d new
+  both-held a d old new held holds = omega (arith, holds new, one-held a old new held, one_at-same new)
+
+  -- the old map is given up
+  pub turned : {a d e : Heap T} {old new : ℕ} → Extends a d → ((k : ℕ) → holds_at d k ≡ holds_at a k + one_at new k) → ((k : ℕ) → holds_at e k + one_at old k ≡ holds_at d k)
+      → ((r : Root) → one_at old r.root < holds_at d r.root → KeepsContainer d e r) → Turns a e old new
+  turned {a} {d} {e} {old} {new} ext holds less kept = record {
+    holds = λ k. omega (arith, holds k, less k);
+    kept = λ r left. keeps-then a d e r (keeps-extended a d ext r) (kept r (omega (arith, holds r.root, left)));
+  }
+
+  -- a map that is held twice stays when one hold goes over
+  pub copy-kept : {a b : Heap T} {m : ℕ} (r : Root) → Turns a b r.root m → 1 < holds_at a r.root → KeepsContainer a b r
+  copy-kept r turns twice = turns.kept r (omega (arith, one_at-same r.root, twice))
+
+  -- the pair of the value that a map has for a key
+  pair-of : (cmp : T → T → Ordering) (F : Forms T) (key : T) (E M : List (Entry T)) (x : ℕ) → ArePairs F E M → link_with cmp key M ≡ Some x → (e : Entry T) × IsPair F e x
+  pair-of cmp F key [] [] x are is = absurd (cc)
+  pair-of cmp F key [] (b ∷ bs) x are is = absurd are
+  pair-of cmp F key (e ∷ es) [] x are is = absurd are
+  pair-of cmp F key (e ∷ es) (b ∷ bs) x are is = by_test (has_key cmp key b) refl (λ rest. pair-of cmp F key es bs x are.2 rest)
+    where
+      by_test : (t : Bool) → has_key cmp key b ≡ t → (link_with cmp key bs ≡ Some x → (d : Entry T) × IsPair F d x) → (d : Entry T) × IsPair F d x
+      by_test true equal deeper =
+          let first : Some b.link ≡ Some x = ap (λ t. option_map (λ (d : Entry T). d.link) (cond t (Some b) (find (has_key cmp key) bs))) (sym equal) ∙ is in
+          let at : b.link ≡ x = cc in
+          (e, subst (λ l. IsPair F e l) at are.1)
+      by_test false differs deeper = deeper (ap (λ t. option_map (λ (d : Entry T). d.link) (cond t (Some b) (find (has_key cmp key) bs))) (sym differs) ∙ is)
+
+  -- what a map has for a key is there
+  pub value-live : (cmp : T → T → Ordering) (code : T → ℕ) (h : Heap T) (r : Root) (M : List (Entry T)) (key : T) (x : ℕ) → IsGraph h → IsMap cmp code (form_at h) r M → link_with cmp key M ≡ Some x → IsSome (row_at h x)
+  value-live cmp code h r M key x graph is here =
+      let found = pair-of cmp (form_at h) key is.entries M x is.pairs here in
+      let links = sym (links-form h found.0.link) ∙ ap links_of found.1.row in
+      let has : 0 < count x (links_at h found.0.link) = omega (arith, ap (count x) links, count-cons x found.1.key_cell (x ∷ []), count-one x x, one_at-same x) in
+      graph.closed found.0.link x has
+PROOF
+cat > "$crate/proofs/beside/Answers.antt" <<'PROOF'
+use Rattle.map_rows.proofs.Turn.{good-kept, turns-then, copy-kept}
+use Rattle.map_rows.proofs.beside.Goals as goal
+
+pub gets-sum-requires-2 : goal.gets-sum-requires-2
+gets-sum-requires-2 g c =
+    good-kept g.T.Ord.cmp g.T.Element.code_of (copy-kept c.in_ok-copy.copy (turns-then c.in_ok-both.ensures.turns c.in_ok-left.ensures.turns) c.keep.ensures.twice) c.keep.ensures.good
+PROOF
+cat > "$crate/proofs/keep/Answers.antt" <<'PROOF'
+use Rattle.map_rows.proofs.Turn.{good-extended}
+use Rattle.map_rows.proofs.keep.Goals as goal
+
+pub returns-clause-good : goal.returns-clause-good
+returns-clause-good g c =
+    good-extended g.T.Ord.cmp g.T.Element.code_of c.share-more.ensures.extends c.requires.good
+PROOF
+cat > "$crate/proofs/number_at/Answers.antt" <<'PROOF'
+use Rattle.std.proofs.Common.{sym}
+use Rattle.map_rows.proofs.Turn.{value-live}
+use Rattle.map_rows.proofs.number_at.Goals as goal
+
+pub value-requires : goal.value-requires
+value-requires g c =
+    value-live g.T.Ord.cmp g.T.Element.code_of c.args.heap.now c.args.map c.requires.0 c.key-key.result c.in-Some.cell c.live.ensures.graph c.requires.1 (sym (c.in-Some.ensures c.requires.0 c.requires.1))
+PROOF
+cat > "$crate/proofs/inserted/Answers.antt" <<'PROOF'
+use Rattle.std.proofs.Common.{sym, subst, arith}
+use Rattle.node_heap.proofs.Frames.{Extends-trans}
+use Rattle.champ_kinds.specs.Root.{Root}
+use Rattle.champ_kinds.specs.Kinds.{bind}
+use Rattle.map_rows.specs.Turn.{Turns}
+use Rattle.map_rows.proofs.Turn.{good-extended, spent-holds, both-held, turned, turns-held}
+use Rattle.map_rows.proofs.inserted.Goals as goal
+
+pub map_insert-requires-clause-contents : goal.map_insert-requires-clause-contents
+map_insert-requires-clause-contents g c =
+    good-extended g.T.Ord.cmp g.T.Element.code_of (Extends-trans c.in_ok-reserve.ensures.extends c.cell-value.ensures.extends) c.requires.good
+
+pub moved-requires-clause-good : goal.moved-requires-clause-good
+moved-requires-clause-good g c =
+    let good = good-extended g.T.Ord.cmp g.T.Element.code_of (Extends-trans c.in_ok-reserve.ensures.extends c.cell-value.ensures.extends) c.requires.good in
+    (bind g.T.Ord.cmp good.0 c.key.result c.cell-value.result, (c.in-Ok.ensures.contents good.0 good.1).1)
+
+pub moved-requires-clause-held : goal.moved-requires-clause-held
+moved-requires-clause-held g c =
+    let good = good-extended g.T.Ord.cmp g.T.Element.code_of (Extends-trans c.in_ok-reserve.ensures.extends c.cell-value.ensures.extends) c.requires.good in
+    omega (arith, spent-holds c.in_ok-reserve.ensures.rest c.cell-value.ensures.adds (c.in-Ok.ensures.answered good.0 good.1) c.args.map.root, c.requires.held)
+
+pub moved-requires-clause-twice : goal.moved-requires-clause-twice
+moved-requires-clause-twice g c =
+    let good = good-extended g.T.Ord.cmp g.T.Element.code_of (Extends-trans c.in_ok-reserve.ensures.extends c.cell-value.ensures.extends) c.requires.good in
+    both-held c.args.heap.now c.map_insert.new.heap c.args.map.root c.in-Ok.made.root c.requires.held (spent-holds c.in_ok-reserve.ensures.rest c.cell-value.ensures.adds (c.in-Ok.ensures.answered good.0 good.1))
+
+turns : goal.returns-in-Ok-clause-turns
+turns g c =
+    let good = good-extended g.T.Ord.cmp g.T.Element.code_of (Extends-trans c.in_ok-reserve.ensures.extends c.cell-value.ensures.extends) c.requires.good in
+    let answered = c.in-Ok.ensures.answered good.0 good.1 in
+    let turned : Turns c.args.heap.now c.moved.new.heap c.args.map.root c.in-Ok.made.root =
+    turned (Extends-trans (Extends-trans c.in_ok-reserve.ensures.extends c.cell-value.ensures.extends) answered.extends) (spent-holds c.in_ok-reserve.ensures.rest c.cell-value.ensures.adds answered) c.moved.ensures.holds c.moved.ensures.kept in
+    subst (λ (r : Root). Turns c.args.heap.now c.moved.new.heap c.args.map.root r.root) (sym c.moved.ensures.same) turned
+
+pub returns-in-Ok-clause-turns : goal.returns-in-Ok-clause-turns
+returns-in-Ok-clause-turns g c = turns g c
+
+pub returns-in-Ok-clause-held : goal.returns-in-Ok-clause-held
+returns-in-Ok-clause-held g c = turns-held (turns g c) c.requires.held
+
+pub returns-in-Ok-clause-count : goal.returns-in-Ok-clause-count
+returns-in-Ok-clause-count g c =
+    let good = good-extended g.T.Ord.cmp g.T.Element.code_of (Extends-trans c.in_ok-reserve.ensures.extends c.cell-value.ensures.extends) c.requires.good in
+    omega (arith, (c.in-Ok.ensures.answered good.0 good.1).count, c.cell-value.ensures.count, c.in_ok-reserve.ensures.rest.count, c.moved.ensures.count)
+PROOF
+cat > "$crate/proofs/moved/Answers.antt" <<'PROOF'
+use Rattle.map_rows.proofs.Turn.{good-kept}
+use Rattle.map_rows.proofs.moved.Goals as goal
+
+pub returns-clause-good : goal.returns-clause-good
+returns-clause-good g c =
+    rw c.kept.ensures (good-kept g.T.Ord.cmp g.T.Element.code_of (c.release.ensures.containers c.args.made (rw (c.from_root.ensures.root, c.root.ensures) c.requires.twice)) c.requires.good)
+
+pub returns-clause-kept : goal.returns-clause-kept
+returns-clause-kept g c = λ r left. c.release.ensures.containers r (rw (c.from_root.ensures.root, c.root.ensures) left)
+PROOF
+cat > "$crate/proofs/removed/Answers.antt" <<'PROOF'
+use Rattle.std.proofs.Common.{sym, subst, arith}
+use Rattle.champ_chain.specs.Entry.{others}
+use Rattle.champ_kinds.specs.Root.{Root}
+use Rattle.map_rows.specs.Turn.{Turns}
+use Rattle.map_rows.proofs.Turn.{both-held, turned, turns-held}
+use Rattle.map_rows.proofs.removed.Goals as goal
+
+pub moved-requires-clause-good : goal.moved-requires-clause-good
+moved-requires-clause-good g c =
+    (others g.T.Ord.cmp c.key-key.result c.requires.good.0, (rw c.in-Some.is at (c.in_ok-left.ensures.contents c.requires.good.0 c.requires.good.1)).1)
+
+pub moved-requires-clause-twice : goal.moved-requires-clause-twice
+moved-requires-clause-twice g c =
+    let answered = rw c.in-Some.is at (c.in_ok-left.ensures.answered c.requires.good.0 c.requires.good.1) in
+    both-held c.args.heap.now c.map_remove.new.heap c.args.map.root c.in-Some.left.root c.requires.held (λ k. omega (arith, answered.holds k))
+
+turns : goal.returns-in-Some-clause-turns
+turns g c =
+    let answered = rw c.in-Some.is at (c.in_ok-left.ensures.answered c.requires.good.0 c.requires.good.1) in
+    let after : Turns c.args.heap.now c.moved.new.heap c.args.map.root c.in-Some.left.root =
+    turned answered.extends (λ k. omega (arith, answered.holds k)) c.moved.ensures.holds c.moved.ensures.kept in
+    subst (λ (r : Root). Turns c.args.heap.now c.moved.new.heap c.args.map.root r.root) (sym c.moved.ensures.same) after
+
+pub returns-in-Some-clause-turns : goal.returns-in-Some-clause-turns
+returns-in-Some-clause-turns g c = turns g c
+
+pub returns-in-Some-clause-held : goal.returns-in-Some-clause-held
+returns-in-Some-clause-held g c = turns-held (turns g c) c.requires.held
+PROOF
+for function in inserts removes; do
+    cat > "$crate/proofs/$function/Invariants.antt" <<PROOF
+use Rattle.std.proofs.Common.{◌≡◌, ◌<◌}
+use Rattle.node_heap.specs.Heap.{holds_at, hold_count}
+use Rattle.map_rows.specs.Turn.{IsGood, Turns}
+use Rattle.map_rows.proofs.$function.Given as goal
+
+abbrev pub invariant-loop-turn : goal.invariant-loop-turn
+invariant-loop-turn g l =
+    record {
+      good : IsGood g.T.Ord.cmp g.T.Element.code_of l.heap l.top;
+      held : 0 < holds_at l.heap l.top.root;
+      turns : Turns l.fn.heap l.heap l.fn.map.root l.top.root;
+      count : hold_count l.heap ≡ hold_count l.fn.heap;
+    }
+PROOF
+done
+
+if ! (cd "$crate" && rt run < /dev/null > "$work/rows.log" 2>&1); then
+    tail -20 "$work/rows.log"
+    exit 1
+fi
+runs=("this repository|$crate/out/map_rows|")
+
+# The program over `im_rc::HashMap` and std's.
+mkdir -p "$work/maps/src"
+cat > "$work/maps/Cargo.toml" <<'TOML'
+[package]
+name = "maps"
+version = "0.1.0"
+edition = "2021"
+publish = false
+
+[features]
+default = ["shared"]
+shared = []
+
+[dependencies]
+im-rc = "15.1"
+
+[profile.release]
+opt-level = 3
+lto = "fat"
+codegen-units = 1
+TOML
+cat > "$work/maps/src/main.rs" <<RUST
+//! The same phases over another map: \`maps kept\`, \`coded\`, \`numbers\`, \`in_place\` or \`plain\`.
+
+const COUNT: u32 = $count;
+RUST
+cat >> "$work/maps/src/main.rs" <<'RUST'
+
+#[repr(C)]
+struct Time {
+    seconds: i64,
+    nanoseconds: i64,
+}
+
+extern "C" {
+    fn clock_gettime(clock: i32, time: *mut Time) -> i32;
+}
+
+const MONOTONIC: i32 = 1;
+const THREAD: i32 = 3;
+
+fn read(clock: i32) -> String {
+    let mut time = Time { seconds: 0, nanoseconds: 0 };
+    // The call writes one `Time` and keeps nothing.
+    if unsafe { clock_gettime(clock, &mut time) } != 0 {
+        panic!("no clock");
+    }
+    format!("{} {}", time.seconds, time.nanoseconds)
+}
+
+fn tell(phase: &str, sum: usize) {
+    println!("{phase} {} {} {sum}", read(MONOTONIC), read(THREAD));
+}
+
+fn key(turn: u32) -> u32 {
+    let spread = turn.wrapping_mul(2_654_435_761);
+    spread ^ (spread >> 15)
+}
+
+fn scattered(seed: u32) -> u32 {
+    seed.wrapping_mul(1_664_525).wrapping_add(1_013_904_223)
+}
+
+trait Table: Sized {
+    fn empty() -> Self;
+    fn count(&self) -> usize;
+    fn at(&self, key: u32) -> u32;
+    fn with(self, key: u32, value: u32) -> Self;
+    fn without(self, key: u32) -> Self;
+    fn copied(&self) -> Self;
+}
+
+struct Plain(std::collections::HashMap<u32, u32>);
+
+impl Table for Plain {
+    fn empty() -> Self {
+        Plain(std::collections::HashMap::new())
+    }
+    fn count(&self) -> usize {
+        self.0.len()
+    }
+    fn at(&self, key: u32) -> u32 {
+        self.0.get(&key).copied().unwrap_or(0)
+    }
+    fn with(mut self, key: u32, value: u32) -> Self {
+        self.0.insert(key, value);
+        self
+    }
+    fn without(mut self, key: u32) -> Self {
+        self.0.remove(&key);
+        self
+    }
+    fn copied(&self) -> Self {
+        Plain(self.0.clone())
+    }
+}
+
+#[cfg(feature = "shared")]
+mod shared {
+    use super::Table;
+    use std::collections::hash_map::RandomState;
+    use std::hash::{BuildHasher, BuildHasherDefault, Hasher};
+    use std::rc::Rc;
+
+    pub trait Element: Clone {
+        fn of(value: u32) -> Self;
+        fn number(&self) -> u32;
+    }
+
+    impl Element for u32 {
+        fn of(value: u32) -> Self {
+            value
+        }
+        fn number(&self) -> u32 {
+            *self
+        }
+    }
+
+    impl Element for Rc<u32> {
+        fn of(value: u32) -> Self {
+            Rc::new(value)
+        }
+        fn number(&self) -> u32 {
+            **self
+        }
+    }
+
+    /// A number is its own code.
+    #[derive(Default)]
+    pub struct Code(u32);
+
+    impl Hasher for Code {
+        fn write(&mut self, _: &[u8]) {
+            unreachable!("the keys are numbers")
+        }
+        fn write_u32(&mut self, number: u32) {
+            self.0 = number;
+        }
+        fn finish(&self) -> u64 {
+            self.0.into()
+        }
+    }
+
+    pub type Hashed = RandomState;
+    pub type Coded = BuildHasherDefault<Code>;
+
+    /// The new version beside the old, which is then dropped.
+    pub struct Kept<E: Clone, S>(im_rc::HashMap<u32, E, S>);
+
+    impl<E: Element, S: BuildHasher + Default> Table for Kept<E, S> {
+        fn empty() -> Self {
+            Kept(im_rc::HashMap::default())
+        }
+        fn count(&self) -> usize {
+            self.0.len()
+        }
+        fn at(&self, key: u32) -> u32 {
+            self.0.get(&key).map_or(0, E::number)
+        }
+        fn with(self, key: u32, value: u32) -> Self {
+            Kept(self.0.update(key, E::of(value)))
+        }
+        fn without(self, key: u32) -> Self {
+            Kept(self.0.without(&key))
+        }
+        fn copied(&self) -> Self {
+            Kept(self.0.clone())
+        }
+    }
+
+    /// One version, changed where it is.
+    pub struct InPlace(im_rc::HashMap<u32, u32>);
+
+    impl Table for InPlace {
+        fn empty() -> Self {
+            InPlace(im_rc::HashMap::new())
+        }
+        fn count(&self) -> usize {
+            self.0.len()
+        }
+        fn at(&self, key: u32) -> u32 {
+            self.0.get(&key).copied().unwrap_or(0)
+        }
+        fn with(mut self, key: u32, value: u32) -> Self {
+            self.0.insert(key, value);
+            self
+        }
+        fn without(mut self, key: u32) -> Self {
+            self.0.remove(&key);
+            self
+        }
+        fn copied(&self) -> Self {
+            InPlace(self.0.clone())
+        }
+    }
+}
+
+fn inserts<M: Table>(mut all: M, from: u32) -> M {
+    for turn in from..from + COUNT {
+        all = all.with(key(turn), turn);
+    }
+    all
+}
+
+fn gets<M: Table>(all: &M, from: u32) -> usize {
+    let mut sum: u32 = 0;
+    let mut seed = 1;
+    for _ in 0..COUNT {
+        seed = scattered(seed);
+        sum = sum.wrapping_add(all.at(key(from + (seed >> 8) % COUNT)));
+    }
+    sum as usize
+}
+
+fn removes<M: Table>(mut all: M, from: u32) -> M {
+    for turn in from..from + COUNT {
+        all = all.without(key(turn));
+    }
+    all
+}
+
+fn phases<M: Table>() {
+    tell("start", 0);
+    let all = inserts(M::empty(), 0);
+    tell("insert", all.count());
+    let sum = gets(&all, 0);
+    tell("get", sum);
+    let left = removes(all, 0);
+    tell("remove", left.count());
+    let copy = inserts(left, 0);
+    tell("again", copy.count());
+    let both = inserts(copy.copied(), COUNT);
+    tell("insert", both.count());
+    let sum = gets(&both, COUNT);
+    tell("get", sum);
+    let left = removes(both, COUNT);
+    tell("remove", left.count());
+    let sum = gets(&copy, 0);
+    tell("end", sum);
+    // It stays until its input ends, so that the peak of its memory can be read.
+    let _ = std::io::stdin().read_line(&mut String::new());
+}
+
+fn main() {
+    match std::env::args().nth(1).as_deref() {
+        #[cfg(feature = "shared")]
+        Some("counted") => phases::<shared::Kept<std::rc::Rc<u32>, shared::Hashed>>(),
+        #[cfg(feature = "shared")]
+        Some("coded") => phases::<shared::Kept<std::rc::Rc<u32>, shared::Coded>>(),
+        #[cfg(feature = "shared")]
+        Some("kept") => phases::<shared::Kept<u32, shared::Hashed>>(),
+        #[cfg(feature = "shared")]
+        Some("in_place") => phases::<shared::InPlace>(),
+        _ => phases::<Plain>(),
+    }
+}
+RUST
+
+build=(cargo build --release --offline)
+if [ -n "$setup" ]; then
+    build+=(--config "$setup/.cargo/config.toml")
+fi
+export CARGO_TARGET_DIR="$work/maps/target"
+maps=$work/maps/target/release/maps
+if ! command -v rustc > /dev/null; then
+    echo "There is no Rust compiler here: this repository's maps alone."
+elif command -v cargo > /dev/null && (cd "$work/maps" && "${build[@]}" > "$work/maps.log" 2>&1); then
+    runs+=("im_rc of Rc, persistent|$maps|counted" "im_rc of Rc, own codes|$maps|coded" "im_rc, persistent|$maps|kept")
+    runs+=("im_rc, in place|$maps|in_place" "std HashMap, in place|$maps|plain")
+else
+    echo "Cargo does not build with \`im_rc\` here: without it. Give the folder of a cargo set-up that has it."
+    mkdir -p "$(dirname "$maps")"
+    rustc --edition 2021 -A unexpected_cfgs -C opt-level=3 -C codegen-units=1 -o "$maps" "$work/maps/src/main.rs"
+    runs+=("std HashMap, in place|$maps|plain")
+fi
+
+python3 - "$count" "${runs[@]}" <<'PYTHON'
+import subprocess, sys
+
+count = int(sys.argv[1])
+runs = [run.split("|") for run in sys.argv[2:]]
+# Each phase, and the line that ends it. The line before it begins it.
+phases = {"insert": 1, "get": 2, "remove": 3, "insert over": 5, "get over": 6, "remove over": 7}
+lines_told = 9
+
+def once(program, word):
+    """The wall and the processor seconds of the phases, the peak megabytes, and the numbers that all must agree on."""
+    child = subprocess.Popen([program] + word.split(), stdin=subprocess.PIPE, stdout=subprocess.PIPE, text=True)
+    lines = [child.stdout.readline().split() for _ in range(lines_told)]
+    with open(f"/proc/{child.pid}/status") as status:
+        peak = next(int(line.split()[1]) * 1024 for line in status if line.startswith("VmHWM:"))
+    child.communicate()
+    if child.returncode != 0:
+        sys.exit(f"{program} {word} ended with {child.returncode}")
+    numbers = [[int(word) for word in line[1:]] for line in lines]
+    wall = [s + n / 1e9 for s, n, _, _, _ in numbers]
+    used = [s + n / 1e9 for _, _, s, n, _ in numbers]
+    figures = [[clock[end] - clock[end - 1] for end in phases.values()] for clock in (wall, used)]
+    return figures + [[peak / 1e6]], [line[4] for line in numbers]
+
+best, told = {}, []
+for turn in range(3):
+    for name, program, word in runs:
+        figures, numbers = once(program, word)
+        told.append(numbers)
+        best[name] = [[min(pair) for pair in zip(*pairs)] for pairs in zip(best.get(name, figures), figures)]
+if any(numbers != told[0] for numbers in told):
+    sys.exit("the maps differ")
+# The copy is looked through at the end as the map alone was.
+if told[0][phases["get"]] != told[0][-1]:
+    sys.exit("the copy has changed")
+
+def row(name, figures, form):
+    print(f"  {name:32}" + "".join(form.format(figure) for figure in figures))
+
+ours = best[runs[0][0]]
+for kind, clock in enumerate(["wall", "processor"]):
+    print(f"{count:,} of each over one map, and over a kept copy, best of 3, seconds of {clock}, and peak megabytes:")
+    row("", [*phases, "peak"], "{:>13}")
+    for name, _, _ in runs:
+        row(name, best[name][kind] + best[name][2], "{:13.3f}")
+    for name, _, _ in runs[1:]:
+        theirs = best[name][kind] + best[name][2]
+        row("ratio to " + name, [mine / other for mine, other in zip(ours[kind] + ours[2], theirs)], "{:13.2f}")
+PYTHON
