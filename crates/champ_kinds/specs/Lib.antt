@@ -1,0 +1,4 @@
+pub mod Root
+pub mod Kinds
+pub mod Cell
+pub mod Laws
