@@ -16,7 +16,8 @@ use node_heap::{Heap, Link};
 const TAKE_NODES: usize = 8;
 
 /// The vector of the first `count` elements, or all where there are no more. It makes rows along the cut alone, at most 8
-/// nodes, and shares the others; with all elements it shares the root.
+/// nodes, and shares the others; with all elements it shares the root. Refused only where memory runs out, and then
+/// nothing but the heap's spares changes.
 pub fn take<T>(heap: &mut Heap<T>, vector: FlexRef, count: u32) -> Result<Flex, NoMemory>
     requires good { IsGoodVector heap.old vector }
     requires few { hold_count heap.old < 2 ^ 59 }

@@ -43,7 +43,8 @@ impl Model for FlexRef {
 }
 
 impl Flex {
-    /// The empty vector. It makes one node.
+    /// The empty vector. It makes one node. Refused only where memory runs out, and then nothing but the heap's spares
+    /// changes.
     pub fn empty<T>(heap: &mut Heap<T>) -> Result<Flex, NoMemory>
         requires { hold_count heap.old < 2 ^ 59 }
         ensures items { IfOk result (λ v. elements heap.new v ≡ []) }
@@ -94,7 +95,7 @@ impl Flex {
         FlexRef { root: self.root }
     }
 
-    /// The vector with this root, a hold of which it takes over.
+    /// The vector with this root, a held root of a good vector. It takes over one hold.
     pub fn from_root(root: Link) -> Flex
         ensures { result ≡ root }
     {
@@ -111,7 +112,7 @@ impl Flex {
 }
 
 impl FlexRef {
-    /// The vector with this root.
+    /// The vector with this root, the root of a good vector.
     pub fn at(root: Link) -> FlexRef
         ensures { result ≡ root }
     {

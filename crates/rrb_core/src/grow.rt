@@ -19,6 +19,7 @@ pub enum PushFault {
     /// The vector has 2^32 - 1 elements already.
     #[error("the vector has no room")]
     Long,
+    /// Memory ran out.
     #[error("out of memory")]
     Memory,
 }
@@ -37,6 +38,8 @@ impl From<NoMemory> for PushFault {
 const PUSH_NODES: usize = 9;
 
 /// The vector with `element` after its last element. It spends the element's hold on Ok alone, and makes at most 9 nodes.
+/// Refused with `Long` where the vector has 2^32 - 1 elements, and with `Memory` where memory runs out. A refusal changes
+/// nothing but the heap's spares.
 pub fn push<T>(heap: &mut Heap<T>, vector: FlexRef, element: Link) -> Result<Flex, PushFault>
     requires good { IsGoodVector heap.old vector }
     requires held { 1 ≤ holds_at heap.old element }

@@ -51,7 +51,8 @@ impl<T> Drop for Lines<'_, T> {
 }
 
 impl FlexRef {
-    /// The links from the index `from` to the one before `to`, in order.
+    /// The links from the index `from` to the one before `to`, in order. `from` is at most `to`, and `to` at most the
+    /// length.
     pub fn lines<'h, T>(&self, heap: &'h Heap<T>, from: u32, to: u32) -> Lines<'h, T>
         requires good { IsGoodVector heap.now self.now }
         requires order { from ≤ to }

@@ -19,6 +19,7 @@ pub enum SetFault {
     /// The index is the length or past it.
     #[error("the index is out of range")]
     Range,
+    /// Memory ran out.
     #[error("out of memory")]
     Memory,
 }
@@ -37,7 +38,8 @@ impl From<NoMemory> for SetFault {
 const SET_NODES: usize = 8;
 
 /// The vector with `element` at `index`. It copies the rows from the root to that place and shares all others. It spends
-/// the element's hold on Ok alone, and makes at most 8 nodes.
+/// the element's hold on Ok alone, and makes at most 8 nodes. Refused with `Range` where the index is the length or past
+/// it, and with `Memory` where memory runs out. A refusal changes nothing but the heap's spares.
 pub fn set<T>(
     heap: &mut Heap<T>,
     vector: FlexRef,

@@ -35,8 +35,8 @@ pub(crate) fn sums_of<T>(heap: &Heap<T>, link: Link) -> &[u32]
     }
 }
 
-/// The number of elements below a row of this height.
-pub fn size<T>(heap: &Heap<T>, link: Link, height: u8) -> u32
+// The number of elements below a row of this height.
+pub(crate) fn size<T>(heap: &Heap<T>, link: Link, height: u8) -> u32
     requires well { IsWell (form_at heap.now) height link }
     requires sums { HasSums heap.now height link }
     requires short { length (seq_at (form_at heap.now) height link) < 2 ^ 32 }

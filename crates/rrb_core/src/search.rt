@@ -11,7 +11,9 @@ use node_heap::{Heap, Link};
 /// A child of an inner row by its place, and an element's index in that child.
 #[derive(Clone, Copy)]
 pub struct Spot {
+    /// The place of the child in the row.
     pub place: usize,
+    /// The index of the element among those below the child.
     pub within: u32,
 }
 

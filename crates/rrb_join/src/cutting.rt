@@ -11,12 +11,13 @@ use node_heap::{Heap, Link};
 use rrb_core::{Flex, FlexRef, take};
 use thiserror::Error;
 
-/// Why a part of a vector was not given.
+/// Why a part of a vector was not given, or not erased.
 #[derive(Clone, Copy, Debug, PartialEq, Eq, Error)]
 pub enum SliceFault {
     /// The part ends before it begins, or past the length.
     #[error("the part is out of range")]
     Range,
+    /// Memory ran out.
     #[error("out of memory")]
     Memory,
 }
@@ -34,8 +35,9 @@ impl From<NoMemory> for SliceFault {
 // The most nodes that a `take` makes.
 const TAKE_NODES: usize = 8;
 
-/// The vector without its first `count` elements, which is the empty one past the end. It makes rows along the cut alone, at
-/// most 17 nodes, and shares all others.
+/// The vector without its first `count` elements, which is the empty one past the end. It makes rows along the cut alone,
+/// at most 17 nodes, and shares all others. Refused only where memory runs out, and then nothing but the heap's spares
+/// changes.
 pub fn drop_front<T>(heap: &mut Heap<T>, vector: FlexRef, count: u32) -> Result<Flex, NoMemory>
     requires good { IsGoodVector heap.old vector }
     requires few { hold_count heap.old < 2 ^ 59 }
@@ -60,7 +62,8 @@ fn is_part<T>(heap: &Heap<T>, vector: FlexRef, from: u32, to: u32) -> bool
 }
 
 /// The elements from the index `from` to the one before `to`. It adds at most 25 nodes, and gives up again what it made on
-/// the way.
+/// the way. Refused with `Range` unless `from` is at most `to` and `to` at most the length, and with `Memory` where memory
+/// runs out. A refusal changes nothing but the heap's spares.
 pub fn slice<T: Drop>(
     heap: &mut Heap<T>,
     vector: FlexRef,
@@ -87,7 +90,8 @@ pub fn slice<T: Drop>(
 }
 
 /// The vector without the elements from the index `from` to the one before `to`. It adds at most 42 nodes, and gives up
-/// again what it made on the way.
+/// again what it made on the way. Refused with `Range` unless `from` is at most `to` and `to` at most the length, and with
+/// `Memory` where memory runs out. A refusal changes nothing but the heap's spares.
 pub fn erase<T: Drop>(
     heap: &mut Heap<T>,
     vector: FlexRef,

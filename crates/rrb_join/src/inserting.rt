@@ -24,6 +24,7 @@ pub enum InsertFault {
     /// The vector has 2^32 - 1 elements already.
     #[error("the vector has no room")]
     Long,
+    /// Memory ran out.
     #[error("out of memory")]
     Memory,
 }
@@ -39,7 +40,8 @@ impl From<NoMemory> for InsertFault {
 }
 
 /// The vector with `element` before the element at `index`, or after the last. It spends the element's hold on Ok alone,
-/// and makes at most 17 nodes.
+/// and makes at most 17 nodes. Refused with `Range` where the index is past the length, else with `Long` where the vector
+/// has 2^32 - 1 elements, and with `Memory` where memory runs out. A refusal changes nothing but the heap's spares.
 pub fn insert<T>(
     heap: &mut Heap<T>,
     vector: FlexRef,

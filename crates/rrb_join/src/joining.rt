@@ -19,6 +19,7 @@ pub enum JoinFault {
     /// The lengths sum past 2^32 - 1.
     #[error("the vectors are too long to be joined")]
     Long,
+    /// Memory ran out.
     #[error("out of memory")]
     Memory,
 }
@@ -33,11 +34,12 @@ impl From<NoMemory> for JoinFault {
     }
 }
 
-// The most nodes that joining or cutting makes: two for each height below the root's, and a root over two.
+// Joining or cutting makes at most so many nodes: two for each height below the root's, and a root over two.
 pub(crate) const SEAM_NODES: usize = 17;
 
 /// The elements of `left` and then those of `right`. It makes rows along the seam alone, at most 17 nodes, and shares all
-/// others.
+/// others. Refused with `Long` where the lengths sum past 2^32 - 1, and with `Memory` where memory runs out. A refusal
+/// changes nothing but the heap's spares.
 pub fn concat<T>(heap: &mut Heap<T>, left: FlexRef, right: FlexRef) -> Result<Flex, JoinFault>
     requires left_good { IsGoodVector heap.old left }
     requires right_good { IsGoodVector heap.old right }

@@ -1,4 +1,5 @@
-//! Vectors joined and cut: `concat`, `drop_front`, `slice`, `insert` and `erase`, which share all rows that they can.
+//! Vectors joined and cut: `concat`, `drop_front`, `slice`, `insert` and `erase`, which make rows along the seam or the cut
+//! alone.
 //!
 //! Two rows of one height are joined along the seam, the right edge of the left one and the left edge of the right one.
 //! The links at the seam are put into one row, or evenly into two, of which the first is thick, so that every row but a
