@@ -125,3 +125,24 @@ fn takes_fronts(rt: HostRuntime) -> Result<(), Fail> {
     assert_eq!(rt; front_of(&mut heap, all, 5000)?, (1100, 2, 1100));
     Ok(())
 }
+
+// One of two holds is given up: the vector stays, and its iterator begins where it is told.
+#[test]
+fn shares_and_releases_once(rt: HostRuntime) -> Result<(), Fail> {
+    let mut heap: Heap<Num> = Heap::new(rt.alloc());
+    let empty = Flex::empty(&mut heap)?.into_root();
+    let all = push_numbers(&mut heap, empty, 0, 100)?;
+    let front = take(&mut heap, FlexRef::at(all), 60)?;
+    let more = front.share(&mut heap);
+    front.release(&mut heap);
+    vectors_stay(&heap);
+    let kept = more.into_root();
+    assert_eq!(rt; FlexRef::at(kept).len(&heap), 60);
+    let mut lines = FlexRef::at(kept).lines(&heap, 40, 60);
+    for index in 40..60 {
+        assert!(rt; lines.next() == FlexRef::at(kept).get(&heap, index));
+        assert_eq!(rt; number_at(&heap, kept, index), Some(index));
+    }
+    assert!(rt; lines.next() == None);
+    Ok(())
+}

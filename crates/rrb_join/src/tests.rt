@@ -15,26 +15,40 @@ fn doubled(heap: &mut Heap<Num>, root: Link) -> Result<Link, Fail>
     requires good { IsGoodVector heap.old root }
     requires few { hold_count heap.old < 2 ^ 59 }
     ensures good { IfOk result (λ l. IsGoodVector heap.new l) }
+    ensures others { IfOk result (λ _. (l : ℕ) → IsGoodVector heap.old l → IsGoodVector heap.new l) }
     ensures count { IfOk result (λ l. hold_count heap.new ≡ hold_count heap.old + 1) }
 {
     let vector = concat(heap, FlexRef::at(root), FlexRef::at(root))?;
     Ok(vector.into_root())
 }
 
-// From one element by doubling, as long as a vector may be and no longer.
+// The elements of the vector, doubled so many times.
+fn doubled_often(heap: &mut Heap<Num>, root: Link, times: u32) -> Result<Link, Fail>
+    requires good { IsGoodVector heap.old root }
+    requires few { hold_count heap.old + times < 2 ^ 58 }
+    ensures good { IfOk result (λ l. IsGoodVector heap.new l) }
+    ensures others { IfOk result (λ _. (l : ℕ) → IsGoodVector heap.old l → IsGoodVector heap.new l) }
+    ensures count { IfOk result (λ _. hold_count heap.new ≡ hold_count heap.old + times) }
+{
+    let mut root = root;
+    for step in 0..times {
+        root = doubled(heap, root)?;
+    }
+    Ok(root)
+}
+
+// Two vectors, each from one element by doubling, are together longer by one than a vector may be.
 #[test]
 fn joins_up_to_the_greatest_length(rt: HostRuntime) -> Result<(), Fail> {
     let mut heap: Heap<Num> = Heap::new(rt.alloc());
-    heap.reserve(1, 0)?;
-    let cell = heap.cell(Num(3));
     let empty = Flex::empty(&mut heap)?.into_root();
-    let mut root = push(&mut heap, FlexRef::at(empty), cell)?.into_root();
-    'doublings: for _step in 0..31u32 {
-        root = doubled(&mut heap, root)?;
-    }
-    let vector = FlexRef::at(root);
-    assert_eq!(rt; vector.len(&heap), 1 << 31);
-    match concat(&mut heap, vector, vector) {
+    let three = pushed(&mut heap, empty, 3)?;
+    let four = pushed(&mut heap, empty, 4)?;
+    let left = FlexRef::at(doubled_often(&mut heap, three, 31)?);
+    let right = FlexRef::at(doubled_often(&mut heap, four, 31)?);
+    assert_eq!(rt; left.len(&heap), 1 << 31);
+    assert_eq!(rt; right.len(&heap), 1 << 31);
+    match concat(&mut heap, left, right) {
         Ok(longer) => {
             let _root = longer.into_root();
             assert!(rt; false);
@@ -67,7 +81,9 @@ fn inserts_joins_and_cuts(rt: HostRuntime) -> Result<(), Fail> {
 fn refuses_a_part_that_ends_before_it_begins(rt: HostRuntime) -> Result<(), Fail> {
     let mut heap: Heap<Num> = Heap::new(rt.alloc());
     let empty = Flex::empty(&mut heap)?.into_root();
-    match slice(&mut heap, FlexRef::at(empty), 3, 2) {
+    let one = pushed(&mut heap, empty, 1)?;
+    let four = doubled_often(&mut heap, one, 2)?;
+    match slice(&mut heap, FlexRef::at(four), 3, 2) {
         Ok(part) => {
             let _root = part.into_root();
             assert!(rt; false);
@@ -218,6 +234,7 @@ fn pushed(heap: &mut Heap<Num>, root: Link, number: u32) -> Result<Link, Fail>
     requires few { hold_count heap.old < 2 ^ 58 }
     ensures good { IfOk result (λ l. IsGoodVector heap.new l) }
     ensures held { IfOk result (λ l. 0 < holds_at heap.new l) }
+    ensures others { IfOk result (λ _. (l : ℕ) → IsGoodVector heap.old l → IsGoodVector heap.new l) }
     ensures count { IfOk result (λ _. hold_count heap.new ≡ hold_count heap.old + 1) }
 {
     heap.reserve(1, 0)?;

@@ -9,3 +9,7 @@ push-requires-clause-good c =
 
 pub returns-clause-held : goal.returns-clause-held
 returns-clause-held c = rw c.into_root.ensures (beside-held (spent-beside c.in_ok-reserve.ensures.rest c.cell-cell.ensures.adds c.cell-cell.ensures.extends c.in_ok-push.ensures.answered))
+
+pub returns-clause-others : goal.returns-clause-others
+returns-clause-others c = λ l good.
+    extended-good l c.in_ok-push.ensures.answered.extends (extended-good l c.cell-cell.ensures.extends (unchanged-good l c.in_ok-reserve.ensures.rest good).0)
