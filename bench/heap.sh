@@ -1,30 +1,19 @@
 #!/usr/bin/env bash
-# Makes and frees ten million rows of the counted heap, and tells the time and the bytes of a row.
+# Makes and frees ten million rows of the counted heap, and tells the time and the bytes of a row. COUNT in the environment
+# takes the place of a tenth of these.
 # It writes a small program beside a copy of the crates that it stands on, in a folder of its own,
 # since the gate takes no program outside the listed crates. Usage: bench/heap.sh [FOLDER]
 set -eu
-top=$(cd "$(dirname "$0")/.." && pwd)
+. "$(dirname -- "$0")/shared.sh"
 work=${1:-$(mktemp -d)}
-rows=1000000
 rounds=10
 
-mkdir -p "$work/crates"
-for crate in elem_core node_heap; do
-    rm -rf "$work/crates/$crate"
-    cp -r "$top/crates/$crate" "$work/crates/$crate"
-    rm -rf "$work/crates/$crate/out" "$work/crates/$crate/must-fail"
-done
-cp "$top/HANDLES" "$work/HANDLES"
-grep -E '^(elem_core|node_heap):' "$top/crates.txt" > "$work/crates.txt"
+copy_crates elem_core node_heap
 
 # write_program NAME LINKS: a program whose nodes have these links, of `cell` and `top`.
 write_program() {
-    local crate="$work/crates/$1"
-    rm -rf "$crate"
-    mkdir -p "$crate/src" "$crate/specs" "$crate/proofs/round" "$crate/proofs/main"
-    echo "$1: node_heap elem_core" >> "$work/crates.txt"
-    : > "$crate/specs/Lib.antt"
-    : > "$crate/proofs/Lib.antt"
+    begin_program "$1" 'node_heap elem_core'
+    mkdir "$crate/proofs/round" "$crate/proofs/main"
     cat > "$crate/src/main.rt" <<PROGRAM
 #![tactic(auto)]
 
@@ -34,7 +23,7 @@ ghost use Rattle.node_heap.specs.Heap.{holds_at, hold_count};
 use elem_core::NoMemory;
 use node_heap::{Head, Heap, Link};
 
-const ROWS: u32 = $rows;
+const ROWS: u32 = $count;
 
 fn main(rt: HostRuntime) -> Result<(), NoMemory> {
     let mut heap: Heap<u32> = Heap::new(rt.alloc());
@@ -102,11 +91,10 @@ write_program heap_nodes '{ let _ = value; Ok(heap.node(Head::Chain, \&[top])) }
 write_program heap_pairs '{ let cell = heap.cell(value); Ok(heap.node(Head::Chain, \&[cell, top])) }' 'ROWS as usize + 1'
 sed -i 's/\\&/\&/g' "$work"/crates/heap_*/src/main.rt
 
-for name in heap_nodes heap_pairs; do
-    (cd "$work/crates/$name" && rt run > "$work/$name.log" 2>&1) || { tail -20 "$work/$name.log"; exit 1; }
-done
+prove_and_build heap_nodes
+prove_and_build heap_pairs
 
-python3 - "$work" "$rows" "$rounds" <<'PYTHON'
+python3 - "$work" "$count" "$rounds" <<'PYTHON'
 import os, sys, time
 work, rows, rounds = sys.argv[1], int(sys.argv[2]), int(sys.argv[3])
 

@@ -3,34 +3,19 @@
 # joins at six lengths, best of three.
 #   bench/join.sh           where cargo finds `im_rc` by itself, without a download
 #   bench/join.sh FOLDER    with cargo set up as FOLDER/.cargo/config.toml says, as in the folder of a yardstick
+# COUNT and TURNS in the environment take the places of the million and of the 10,000 changes of each kind.
 # It writes a small program beside a copy of the crates that it stands on, in a folder of its own, since the gate takes no
 # program outside the listed crates. Without cargo or `im_rc` it says so and runs the rest.
 set -eu
-top=$(cd "$(dirname -- "$0")/.." && pwd -P)
-setup=${1:-}
-if [ -n "$setup" ]; then
-    setup=$(cd "$setup" && pwd -P)
-fi
-work=$(mktemp -d)
-trap 'rm -rf -- "$work"' EXIT
-count=1000000
-turns=10000
+. "$(dirname -- "$0")/shared.sh"
+begin "$@"
+turns=${TURNS:-10000}
 shortest=1000
 lengths=6
 
 # The program over this repository's vectors.
-mkdir -p "$work/crates"
-for crate in elem_core node_heap rrb_core rrb_join; do
-    cp -r "$top/crates/$crate" "$work/crates/$crate"
-    rm -rf "$work/crates/$crate/out" "$work/crates/$crate/must-fail"
-done
-cp "$top/HANDLES" "$work/HANDLES"
-grep -E '^(elem_core|node_heap|rrb_core|rrb_join):' "$top/crates.txt" > "$work/crates.txt"
-echo 'join_rows: rrb_join rrb_core node_heap elem_core anyhow' >> "$work/crates.txt"
-crate=$work/crates/join_rows
-mkdir -p "$crate/src" "$crate/specs" "$crate/proofs"
-: > "$crate/specs/Lib.antt"
-
+copy_crates elem_core node_heap rrb_core rrb_join
+begin_program join_rows 'rrb_join rrb_core node_heap elem_core anyhow'
 cat > "$crate/src/main.rt" <<PROGRAM
 //! Splits, joins, inserts and erases over one vector, each new vector beside the old, which is then given up.
 #![tactic(auto)]
@@ -48,7 +33,6 @@ use std::io;
 use std::rt::Clock;
 use std::time::CpuClock;
 
-const COUNT: u32 = $count;
 const TURNS: u32 = $turns;
 const SHORTEST: u32 = $shortest;
 const LENGTHS: u32 = $lengths;
@@ -85,73 +69,6 @@ fn main(rt: HostRuntime) -> Result<()> {
     }
     Ok(())
 }
-PROGRAM
-cat >> "$crate/src/main.rt" <<'PROGRAM'
-
-// Prints the two clocks in seconds and nanoseconds, and a number that all programs must agree on.
-fn tell(rt: &(impl Print + Clock + CpuClock), phase: &str, sum: u32) -> io::Result<()> {
-    let wall = rt.monotonic()?;
-    let used = rt.thread_cpu_time()?;
-    println!(
-        rt;
-        "{phase} {} {} {} {} {sum}",
-        wall.as_secs(),
-        wall.subsec_nanos(),
-        used.as_secs(),
-        used.subsec_nanos()
-    )
-}
-
-// The next of a row of scattered numbers.
-fn scattered(seed: u32) -> u32 {
-    seed.wrapping_mul(1_664_525).wrapping_add(1_013_904_223)
-}
-
-fn place(seed: u32) -> u32
-    ensures { result < 2 ^ 24 }
-{
-    (seed >> 8) % COUNT
-}
-
-fn first(heap: &mut Heap<u32>) -> Result<Link, NoMemory>
-    requires few { hold_count heap.old ≡ 0 }
-    ensures good { IfOk result (λ l. IsGoodVector heap.new l) }
-    ensures held { IfOk result (λ l. 0 < holds_at heap.new l) }
-    ensures count { OnOk result (hold_count heap.new ≡ 1) }
-{
-    let vector = Flex::empty(heap)?;
-    Ok(vector.into_root())
-}
-
-fn pushes(heap: &mut Heap<u32>, root: Link, count: u32) -> Result<Link>
-    requires good { IsGoodVector heap.old root }
-    requires held { 0 < holds_at heap.old root }
-    requires few { hold_count heap.old ≡ 1 }
-    ensures good { IfOk result (λ l. IsGoodVector heap.new l) }
-    ensures held { IfOk result (λ l. 0 < holds_at heap.new l) }
-    ensures count { OnOk result (hold_count heap.new ≡ 1) }
-{
-    let mut top = root;
-    'turns: for value in 0..count {
-        top = pushed(heap, top, value)?;
-    }
-    Ok(top)
-}
-
-fn pushed(heap: &mut Heap<u32>, root: Link, value: u32) -> Result<Link>
-    requires good { IsGoodVector heap.old root }
-    requires held { 0 < holds_at heap.old root }
-    requires few { hold_count heap.old ≡ 1 }
-    ensures good { IfOk result (λ l. IsGoodVector heap.new l) }
-    ensures held { IfOk result (λ l. 0 < holds_at heap.new l) }
-    ensures count { OnOk result (hold_count heap.new ≡ 1) }
-{
-    heap.reserve(1, 0)?;
-    let cell = heap.cell(value);
-    let new = push(heap, FlexRef::at(root), cell)?.into_root();
-    Flex::from_root(root).release(heap);
-    Ok(new)
-}
 
 // What is done at each turn.
 #[derive(Clone, Copy)]
@@ -167,12 +84,7 @@ enum Step {
 }
 
 fn turns(heap: &mut Heap<u32>, root: Link, step: Step, seed: u32) -> Result<Link>
-    requires good { IsGoodVector heap.old root }
-    requires held { 0 < holds_at heap.old root }
-    requires few { hold_count heap.old ≡ 1 }
-    ensures good { IfOk result (λ l. IsGoodVector heap.new l) }
-    ensures held { IfOk result (λ l. 0 < holds_at heap.new l) }
-    ensures count { OnOk result (hold_count heap.new ≡ 1) }
+$one_vector
 {
     let mut top = root;
     let mut seed = seed;
@@ -184,12 +96,7 @@ fn turns(heap: &mut Heap<u32>, root: Link, step: Step, seed: u32) -> Result<Link
 }
 
 fn turn(heap: &mut Heap<u32>, root: Link, step: Step, seed: u32) -> Result<Link>
-    requires good { IsGoodVector heap.old root }
-    requires held { 0 < holds_at heap.old root }
-    requires few { hold_count heap.old ≡ 1 }
-    ensures good { IfOk result (λ l. IsGoodVector heap.new l) }
-    ensures held { IfOk result (λ l. 0 < holds_at heap.new l) }
-    ensures count { OnOk result (hold_count heap.new ≡ 1) }
+$one_vector
 {
     match step {
         Step::Split => split(heap, root, place(seed)),
@@ -201,24 +108,14 @@ fn turn(heap: &mut Heap<u32>, root: Link, step: Step, seed: u32) -> Result<Link>
 }
 
 fn split(heap: &mut Heap<u32>, root: Link, index: u32) -> Result<Link>
-    requires good { IsGoodVector heap.old root }
-    requires held { 0 < holds_at heap.old root }
-    requires few { hold_count heap.old ≡ 1 }
-    ensures good { IfOk result (λ l. IsGoodVector heap.new l) }
-    ensures held { IfOk result (λ l. 0 < holds_at heap.new l) }
-    ensures count { OnOk result (hold_count heap.new ≡ 1) }
+$one_vector
 {
     let front = cut(heap, root, 0, index)?;
     cut(heap, front, index, COUNT)
 }
 
 fn cut(heap: &mut Heap<u32>, root: Link, from: u32, to: u32) -> Result<Link>
-    requires good { IsGoodVector heap.old root }
-    requires held { 0 < holds_at heap.old root }
-    requires few { hold_count heap.old ≡ 1 }
-    ensures good { IfOk result (λ l. IsGoodVector heap.new l) }
-    ensures held { IfOk result (λ l. 0 < holds_at heap.new l) }
-    ensures count { OnOk result (hold_count heap.new ≡ 1) }
+$one_vector
 {
     let part = slice(heap, FlexRef::at(root), from, to)?;
     part.release(heap);
@@ -226,12 +123,7 @@ fn cut(heap: &mut Heap<u32>, root: Link, from: u32, to: u32) -> Result<Link>
 }
 
 fn rotated(heap: &mut Heap<u32>, root: Link, index: u32) -> Result<Link>
-    requires good { IsGoodVector heap.old root }
-    requires held { 0 < holds_at heap.old root }
-    requires few { hold_count heap.old ≡ 1 }
-    ensures good { IfOk result (λ l. IsGoodVector heap.new l) }
-    ensures held { IfOk result (λ l. 0 < holds_at heap.new l) }
-    ensures count { OnOk result (hold_count heap.new ≡ 1) }
+$one_vector
 {
     let left = slice(heap, FlexRef::at(root), 0, index)?.into_root();
     let right = slice(heap, FlexRef::at(root), index, COUNT)?.into_root();
@@ -242,29 +134,9 @@ fn rotated(heap: &mut Heap<u32>, root: Link, index: u32) -> Result<Link>
     Ok(new)
 }
 
-fn inserted(heap: &mut Heap<u32>, root: Link, index: u32, value: u32) -> Result<Link>
-    requires good { IsGoodVector heap.old root }
-    requires held { 0 < holds_at heap.old root }
-    requires few { hold_count heap.old ≡ 1 }
-    ensures good { IfOk result (λ l. IsGoodVector heap.new l) }
-    ensures held { IfOk result (λ l. 0 < holds_at heap.new l) }
-    ensures count { OnOk result (hold_count heap.new ≡ 1) }
-{
-    heap.reserve(1, 0)?;
-    let cell = heap.cell(value);
-    let new = insert(heap, FlexRef::at(root), index, cell)?.into_root();
-    Flex::from_root(root).release(heap);
-    Ok(new)
-}
-
 fn erased(heap: &mut Heap<u32>, root: Link, index: u32) -> Result<Link>
-    requires good { IsGoodVector heap.old root }
-    requires held { 0 < holds_at heap.old root }
-    requires few { hold_count heap.old ≡ 1 }
     requires small { index < 2 ^ 24 }
-    ensures good { IfOk result (λ l. IsGoodVector heap.new l) }
-    ensures held { IfOk result (λ l. 0 < holds_at heap.new l) }
-    ensures count { OnOk result (hold_count heap.new ≡ 1) }
+$one_vector
 {
     let new = erase(heap, FlexRef::at(root), index, index + 1)?.into_root();
     Flex::from_root(root).release(heap);
@@ -272,120 +144,32 @@ fn erased(heap: &mut Heap<u32>, root: Link, index: u32) -> Result<Link>
 }
 
 fn joined(heap: &mut Heap<u32>, root: Link) -> Result<Link>
-    requires good { IsGoodVector heap.old root }
-    requires held { 0 < holds_at heap.old root }
-    requires few { hold_count heap.old ≡ 1 }
-    ensures good { IfOk result (λ l. IsGoodVector heap.new l) }
-    ensures held { IfOk result (λ l. 0 < holds_at heap.new l) }
-    ensures count { OnOk result (hold_count heap.new ≡ 1) }
+$one_vector
 {
     let twice = concat(heap, FlexRef::at(root), FlexRef::at(root))?;
     twice.release(heap);
     Ok(root)
 }
-
-fn gets(heap: &Heap<u32>, root: Link, seed: u32) -> u32
-    requires { IsGoodVector heap.now root }
-{
-    let mut sum: u32 = 0;
-    let mut seed = seed;
-    for _turn in 0..COUNT {
-        seed = scattered(seed);
-        sum = sum.wrapping_add(number_at(heap, root, place(seed)));
-    }
-    sum
-}
-
-fn number_at(heap: &Heap<u32>, root: Link, index: u32) -> u32
-    requires { IsGoodVector heap.now root }
-{
-    match FlexRef::at(root).get(heap, index) {
-        Some(cell) => match heap.value(cell) {
-            Some(number) => *number,
-            None => 0,
-        },
-        None => 0,
-    }
-}
 PROGRAM
-# The proofs: the loops' invariants, and that the old vector and the new one each have a hold of their own.
-echo 'pub mod OldAndNew' > "$crate/proofs/Lib.antt"
-cat > "$crate/proofs/OldAndNew.antt" <<'PROOF'
--- One vector beside another, which is given up.
-use Rattle.std.proofs.Common.{◌≡◌, ℕ, ◌+◌, ◌<◌, ◌≤◌, [], refl, arith}
+add_measures u32
+
+# The rest of the program, and the proofs: the loops' invariants, and that the old vector and the new one each have a hold of
+# their own.
+add_vectors
+prove_turns turns
+add_spent inserted insert index
+prove_new erased erase '(answered-beside c.in_ok-erase.ensures.answered).more' 'rrb_join.proofs.GivenUpLemmas.{answered-beside}'
+echo 'pub mod Parts' >> "$crate/proofs/Lib.antt"
+cat > "$crate/proofs/Parts.antt" <<'PROOF'
+-- Two parts of a vector beside it, and what they are joined to.
+use Rattle.std.proofs.Common.{◌≡◌, ℕ, ◌+◌, [], arith}
 use Rattle.node_heap.specs.Heap.{Heap, holds_at, one_at}
 use Rattle.node_heap.specs.Calls.{Answered}
-use Rattle.rrb_core.proofs.LinkCounts.{count-one, one-held, one-same}
-use Rattle.rrb_join.proofs.GivenUpLemmas.{IsBeside, answered-beside}
+use Rattle.rrb_join.proofs.GivenUpLemmas.{answered-beside}
 
 module _ {T : Type 0} where
-  pub old-held : {a b : Heap T} {new : ℕ} (root : ℕ) → 0 < holds_at a root → IsBeside a b new → 0 < holds_at b root
-  old-held root held beside = omega (arith, held, beside.more root)
-
-  pub one-within : (a : Heap T) (root k : ℕ) → 0 < holds_at a root → one_at root k ≤ holds_at a k
-  one-within a root k held = omega (arith, count-one k root, one-held root 0 (holds_at a) held k)
-
-  -- where both are the same, it is held twice
-  pub new-left : {a b : Heap T} {new : ℕ} (root : ℕ) → 0 < holds_at a root → IsBeside a b new → one_at root new < holds_at b new
-  new-left {a} {b} {new} root held beside =
-      omega (arith, beside.more new, one-same new new refl, one-within a root new held)
-
-  -- two parts, and what they are joined to
   pub three-more : {a b c d : Heap T} {left right new n m p : ℕ} → Answered a b [] left 0 n → Answered b c [] right 0 m → Answered c d [] new 0 p → (k : ℕ) → holds_at d k ≡ holds_at a k + one_at left k + one_at right k + one_at new k
   three-more first second third k = omega (arith, (answered-beside first).more k, (answered-beside second).more k, (answered-beside third).more k)
-PROOF
-for pair in pushed:push inserted:insert; do
-    function=${pair%:*}
-    call=${pair#*:}
-    mkdir -p "$crate/proofs/$function"
-    cat > "$crate/proofs/$function/Answers.antt" <<PROOF
-use Rattle.std.proofs.Common.{◌<◌, arith}
-use Rattle.node_heap.specs.Heap.{holds_at, one_at}
-use Rattle.rrb_core.proofs.Stays.{extended-good}
-use Rattle.rrb_core.proofs.BuildLemmas.{unchanged-good}
-use Rattle.rrb_join.proofs.GivenUpLemmas.{spent-beside}
-use Rattle.join_rows.proofs.OldAndNew.{old-held, new-left}
-use Rattle.join_rows.proofs.$function.Goals as goal
-
-pub $call-requires-clause-good : goal.$call-requires-clause-good
-$call-requires-clause-good c =
-    rw c.at.ensures (extended-good c.args.root c.cell-cell.ensures.extends (unchanged-good c.args.root c.in_ok-reserve.ensures.rest c.requires.good).0)
-
-pub release-requires : goal.release-requires
-release-requires c =
-    rw c.from_root.ensures (old-held c.args.root c.requires.held (spent-beside c.in_ok-reserve.ensures.rest c.cell-cell.ensures.adds c.cell-cell.ensures.extends c.in_ok-$call.ensures.answered))
-
-left : (c : goal.After-release) → one_at c.from_root.result c.in_ok-$call.field-0 < holds_at c.$call.new.heap c.in_ok-$call.field-0
-left c = rw c.from_root.ensures (new-left c.args.root c.requires.held (spent-beside c.in_ok-reserve.ensures.rest c.cell-cell.ensures.adds c.cell-cell.ensures.extends c.in_ok-$call.ensures.answered))
-
-pub returns-clause-good : goal.returns-clause-good
-returns-clause-good c = rw c.into_root-new.ensures (c.release.ensures.vectors c.in_ok-$call.field-0 (left c) c.in_ok-$call.ensures.good).0
-
-pub returns-clause-held : goal.returns-clause-held
-returns-clause-held c =
-    rw c.into_root-new.ensures (omega (arith, c.release.ensures.releases.holds c.in_ok-$call.field-0, left c))
-PROOF
-done
-mkdir -p "$crate/proofs/erased"
-cat > "$crate/proofs/erased/Answers.antt" <<'PROOF'
-use Rattle.std.proofs.Common.{◌<◌, arith}
-use Rattle.node_heap.specs.Heap.{holds_at, one_at}
-use Rattle.rrb_join.proofs.GivenUpLemmas.{answered-beside}
-use Rattle.join_rows.proofs.OldAndNew.{old-held, new-left}
-use Rattle.join_rows.proofs.erased.Goals as goal
-
-pub release-requires : goal.release-requires
-release-requires c = rw c.from_root.ensures (old-held c.args.root c.requires.held (answered-beside c.in_ok-erase.ensures.answered))
-
-left : (c : goal.After-release) → one_at c.from_root.result c.in_ok-erase.field-0 < holds_at c.erase.new.heap c.in_ok-erase.field-0
-left c = rw c.from_root.ensures (new-left c.args.root c.requires.held (answered-beside c.in_ok-erase.ensures.answered))
-
-pub returns-clause-good : goal.returns-clause-good
-returns-clause-good c = rw c.into_root-new.ensures (c.release.ensures.vectors c.in_ok-erase.field-0 (left c) c.in_ok-erase.ensures.good).0
-
-pub returns-clause-held : goal.returns-clause-held
-returns-clause-held c =
-    rw c.into_root-new.ensures (omega (arith, c.release.ensures.releases.holds c.in_ok-erase.field-0, left c))
 PROOF
 mkdir -p "$crate/proofs/rotated"
 cat > "$crate/proofs/rotated/Answers.antt" <<'PROOF'
@@ -393,7 +177,8 @@ use Rattle.std.proofs.Common.{◌≡◌, ◌+◌, ◌<◌, refl, arith}
 use Rattle.node_heap.specs.Heap.{holds_at, one_at}
 use Rattle.rrb_core.proofs.LinkCounts.{one-same}
 use Rattle.rrb_core.proofs.Stays.{extended-good}
-use Rattle.join_rows.proofs.OldAndNew.{one-within, three-more}
+use Rattle.join_rows.proofs.OldAndNew.{one-within}
+use Rattle.join_rows.proofs.Parts.{three-more}
 use Rattle.join_rows.proofs.rotated.Goals as goal
 
 pub slice-requires-2-clause-good : goal.slice-requires-2-clause-good
@@ -463,116 +248,26 @@ pub returns-clause-held : goal.returns-clause-held
 returns-clause-held c = omega (arith, c.requires.held, given-up-holds (answered-beside c.in_ok-$answer.ensures.answered) c.release.ensures.releases c.args.root)
 PROOF
 done
-for function in pushes turns; do
-    mkdir -p "$crate/proofs/$function"
-    cat > "$crate/proofs/$function/Invariants.antt" <<PROOF
-use Rattle.std.proofs.Common.{◌≡◌, ◌<◌}
-use Rattle.node_heap.specs.Heap.{holds_at, hold_count}
-use Rattle.rrb_core.specs.Vector.{IsGoodVector}
-use Rattle.join_rows.proofs.$function.Given as goal
 
-abbrev pub invariant-turns : goal.invariant-turns
-invariant-turns l =
-    record {
-      good : IsGoodVector l.heap l.top;
-      held : 0 < holds_at l.heap l.top;
-      count : hold_count l.heap ≡ 1;
-    }
-PROOF
-done
-
-if ! (cd "$crate" && rt run < /dev/null > "$work/rows.log" 2>&1); then
-    tail -20 "$work/rows.log"
-    exit 1
-fi
+prove_and_build join_rows
 runs=("this repository|$crate/out/join_rows|")
 
 # The program over `im_rc::Vector`.
-mkdir -p "$work/vectors/src"
-cat > "$work/vectors/Cargo.toml" <<'TOML'
-[package]
-name = "vectors"
-version = "0.1.0"
-edition = "2021"
-publish = false
-
-[dependencies]
-im-rc = "15.1"
-
-[profile.release]
-opt-level = 3
-lto = "fat"
-codegen-units = 1
-TOML
-cat > "$work/vectors/src/main.rs" <<RUST
+begin_rust vectors
+cat > "$rust/src/main.rs" <<RUST
 //! The same phases over \`im_rc::Vector\`: \`vectors kept\`, \`counted\` or \`in_place\`.
 
-const COUNT: u32 = $count;
+mod measure;
+
+use measure::{COUNT, Element, place, scattered, stay, tell};
+use std::hint::black_box;
+use std::rc::Rc;
+
 const TURNS: u32 = $turns;
 const SHORTEST: u32 = $shortest;
 const LENGTHS: u32 = $lengths;
 RUST
-cat >> "$work/vectors/src/main.rs" <<'RUST'
-
-use std::hint::black_box;
-use std::rc::Rc;
-
-#[repr(C)]
-struct Time {
-    seconds: i64,
-    nanoseconds: i64,
-}
-
-extern "C" {
-    fn clock_gettime(clock: i32, time: *mut Time) -> i32;
-}
-
-const MONOTONIC: i32 = 1;
-const THREAD: i32 = 3;
-
-fn read(clock: i32) -> String {
-    let mut time = Time { seconds: 0, nanoseconds: 0 };
-    // The call writes one `Time` and keeps nothing.
-    if unsafe { clock_gettime(clock, &mut time) } != 0 {
-        panic!("no clock");
-    }
-    format!("{} {}", time.seconds, time.nanoseconds)
-}
-
-fn tell(phase: &str, sum: usize) {
-    println!("{phase} {} {} {sum}", read(MONOTONIC), read(THREAD));
-}
-
-fn scattered(seed: u32) -> u32 {
-    seed.wrapping_mul(1_664_525).wrapping_add(1_013_904_223)
-}
-
-fn place(seed: u32) -> usize {
-    ((seed >> 8) % COUNT) as usize
-}
-
-trait Element: Clone {
-    fn of(value: u32) -> Self;
-    fn number(&self) -> u32;
-}
-
-impl Element for u32 {
-    fn of(value: u32) -> Self {
-        value
-    }
-    fn number(&self) -> u32 {
-        *self
-    }
-}
-
-impl Element for Rc<u32> {
-    fn of(value: u32) -> Self {
-        Rc::new(value)
-    }
-    fn number(&self) -> u32 {
-        **self
-    }
-}
+cat >> "$rust/src/main.rs" <<'RUST'
 
 /// What a change does with the old vector: it keeps it whole until the new one is there, or it changes it.
 trait Way {
@@ -645,8 +340,7 @@ fn phases<E: Element, W: Way>() {
     });
     tell("erase", all.len());
     tell("again", gets(&all, 6));
-    // It waits for a line, so that the peak of its memory can be read.
-    let _ = std::io::stdin().read_line(&mut String::new());
+    stay();
     for length in 0..LENGTHS {
         let all = pushes::<E>(SHORTEST << (2 * length));
         tell("start", 0);
@@ -668,80 +362,32 @@ fn main() {
 }
 RUST
 
-build=(cargo build --release --offline)
-if [ -n "$setup" ]; then
-    build+=(--config "$setup/.cargo/config.toml")
-fi
-export CARGO_TARGET_DIR="$work/vectors/target"
-vectors=$work/vectors/target/release/vectors
-if command -v cargo > /dev/null && (cd "$work/vectors" && "${build[@]}" > "$work/vectors.log" 2>&1); then
-    runs+=("im_rc of Rc, persistent|$vectors|counted" "im_rc, persistent|$vectors|kept" "im_rc, in place|$vectors|in_place")
+if cargo_builds; then
+    runs+=("im_rc of Rc, persistent|$built|counted" "im_rc, persistent|$built|kept" "im_rc, in place|$built|in_place")
 else
-    echo "Cargo does not build with \`im_rc\` here: without it. Give the folder of a cargo set-up that has it."
+    say_without
 fi
 
-python3 - "$count" "$turns" "$shortest" "$lengths" "${runs[@]}" <<'PYTHON'
-import subprocess, sys
+report "$count" "$turns" "$shortest" "$lengths" "${runs[@]}" <<'PYTHON'
+import sys
+from shared import best_of_three, programs, table
 
 count, turns, shortest, lengths = map(int, sys.argv[1:5])
-runs = [run.split("|") for run in sys.argv[5:]]
+runs = programs(sys.argv[5:])
 phases = ["get", "split", "rotate", "insert", "erase", "again"]
-
-def once(program, word):
-    """The wall and the processor seconds of each phase and of the joins of each length, the peak bytes of the phases, and
-    the numbers that all must agree on."""
-    child = subprocess.Popen([program] + word.split(), stdin=subprocess.PIPE, stdout=subprocess.PIPE, text=True)
-    lines = [child.stdout.readline().split() for _ in range(len(phases) + 1)]
-    with open(f"/proc/{child.pid}/status") as status:
-        peak = next(int(line.split()[1]) * 1024 for line in status if line.startswith("VmHWM:"))
-    lines += [line.split() for line in child.communicate("\n")[0].splitlines()]
-    if child.returncode != 0:
-        sys.exit(f"{program} {word} ended with {child.returncode}")
-    spans = []
-    for before, after in zip(lines, lines[1:]):
-        if after[0] != "start":
-            start, end = ([int(word) for word in line[1:5]] for line in (before, after))
-            wall = end[0] - start[0] + (end[1] - start[1]) / 1e9
-            used = end[2] - start[2] + (end[3] - start[3]) / 1e9
-            spans.append((wall, used))
-    return spans, peak / 1e6, [line[5] for line in lines]
-
-best, peaks, told = {}, {}, []
-for turn in range(3):
-    for name, program, word in runs:
-        spans, peak, numbers = once(program, word)
-        told.append(numbers)
-        best[name] = [tuple(map(min, *pair)) for pair in zip(best.get(name, spans), spans)]
-        peaks[name] = min(peaks.get(name, peak), peak)
-if any(numbers != told[0] for numbers in told):
-    sys.exit("the vectors differ")
-
-def row(name, figures, form):
-    print(f"  {name:32}" + "".join(form.format(figure) for figure in figures))
-
-def ratios(mine, theirs):
-    return [one / other for one, other in zip(mine, theirs)]
-
-def heading(columns):
-    print(f"  {'':32}" + "".join(f"{column:>14}" for column in columns))
-
+spans, peaks, _ = best_of_three(runs, len(phases) + 1, "vectors")
 print(f"{turns:,} of each at random places of a vector of {count:,}, and {count:,} gets, best of 3,")
 print("microseconds of wall and of processor for one, and peak megabytes:")
-heading([f"{phase} {kind}" for phase in phases for kind in ["wall", "proc."]] + ["peak"])
+columns = [f"{phase} {kind}" for phase in phases for kind in ["wall", "proc."]] + ["peak"]
 times = [count if phase in ["get", "again"] else turns for phase in phases]
 figures = {}
 for name, _, _ in runs:
-    figures[name] = [span * 1e6 / many for pair, many in zip(best[name], times) for span in pair] + [peaks[name]]
-    row(name, figures[name], "{:14.3f}")
-for name, _, _ in runs[1:]:
-    row("ratio to " + name, ratios(figures[runs[0][0]], figures[name]), "{:14.3f}")
+    figures[name] = [span * 1e6 / many for pair, many in zip(spans[name], times) for span in pair] + [peaks[name]]
+table(columns, figures, width=14, digits=3)
 
 sizes = [shortest * 4**length for length in range(lengths)]
 print(f"A join of a vector with itself, best of 3 over {turns:,}, microseconds of wall and of processor for one:")
-heading([f"{size:,}" for size in sizes for _ in range(2)])
 for name, _, _ in runs:
-    figures[name] = [span * 1e6 / turns for pair in best[name][len(phases) :] for span in pair]
-    row(name, figures[name], "{:14.3f}")
-for name, _, _ in runs[1:]:
-    row("ratio to " + name, ratios(figures[runs[0][0]], figures[name]), "{:14.3f}")
+    figures[name] = [span * 1e6 / turns for pair in spans[name][len(phases) :] for span in pair]
+table([f"{size:,}" for size in sizes for _ in range(2)], figures, width=14, digits=3)
 PYTHON

@@ -3,30 +3,24 @@
 # `im_rc::HashMap` and std's `HashMap`, best of three.
 #   bench/maps.sh           where cargo finds `im_rc` by itself, without a download
 #   bench/maps.sh FOLDER    with cargo set up as FOLDER/.cargo/config.toml says, as in the folder of a yardstick
+# COUNT in the environment takes the place of the million.
 # It writes a small program beside a copy of the crates that it stands on, in a folder of its own, since the gate takes no
 # program outside the listed crates. Without cargo or `im_rc` it says so and runs the rest.
 set -eu
-top=$(cd "$(dirname -- "$0")/.." && pwd -P)
-setup=${1:-}
-if [ -n "$setup" ]; then
-    setup=$(cd "$setup" && pwd -P)
-fi
-work=$(mktemp -d)
-trap 'rm -rf -- "$work"' EXIT
-count=1000000
+. "$(dirname -- "$0")/shared.sh"
+begin "$@"
 
 # The program over this repository's maps.
-mkdir -p "$work/crates"
-for crate in elem_core node_heap champ_chain champ_trie champ_kinds; do
-    mkdir "$work/crates/$crate"
-    cp -r "$top/crates/$crate/src" "$top/crates/$crate/specs" "$top/crates/$crate/proofs" "$work/crates/$crate"
-done
-cp "$top/HANDLES" "$work/HANDLES"
-grep -E '^(elem_core|node_heap|champ_chain|champ_trie|champ_kinds):' "$top/crates.txt" > "$work/crates.txt"
-echo 'map_rows: champ_kinds champ_chain node_heap elem_core anyhow' >> "$work/crates.txt"
-crate=$work/crates/map_rows
-mkdir -p "$crate/src" "$crate/specs" "$crate/proofs"
-
+copy_crates elem_core node_heap champ_chain champ_trie champ_kinds
+begin_program map_rows 'champ_kinds champ_chain node_heap elem_core anyhow'
+# The contract of what makes one map of another, which is then given up.
+one_map='    requires good { IsGood T.cmp T.code_of heap.old map }
+    requires held { 0 < holds_at heap.old map.root }
+    requires few { hold_count heap.old < 2 ^ 50 }
+    ensures good { IfOk result (λ m. IsGood T.cmp T.code_of heap.new m) }
+    ensures held { IfOk result (λ m. 0 < holds_at heap.new m.root) }
+    ensures turns { IfOk result (λ m. Turns heap.old heap.new map.root m.root) }
+    ensures count { OnOk result (hold_count heap.new ≡ hold_count heap.old) }'
 cat > "$crate/src/main.rt" <<PROGRAM
 //! Inserts, look-ups and removals over one map, each new map beside the old, which is then given up; and the same over a
 //! copy that is kept.
@@ -45,8 +39,6 @@ use node_heap::Heap;
 use std::io;
 use std::rt::Clock;
 use std::time::CpuClock;
-
-const COUNT: u32 = $count;
 
 // An element that is a number.
 trait Numbered: Element {
@@ -123,28 +115,10 @@ fn beside<T: Numbered>(
     Ok(())
 }
 
-// Prints the two clocks in seconds and nanoseconds, and a number that all programs must agree on.
-fn tell(rt: &(impl Print + Clock + CpuClock), phase: &str, sum: usize) -> io::Result<()> {
-    let wall = rt.monotonic()?;
-    let used = rt.thread_cpu_time()?;
-    println!(rt;
-        "{phase} {} {} {} {} {sum}",
-        wall.as_secs(),
-        wall.subsec_nanos(),
-        used.as_secs(),
-        used.subsec_nanos()
-    )
-}
-
 // The key of a turn. No two turns have one key, and the keys' codes lie as if by chance.
 fn key<T: Numbered>(turn: u32) -> T {
     let spread = turn.wrapping_mul(2_654_435_761);
     T::of(spread ^ (spread >> 15))
-}
-
-// The next of a row of scattered numbers.
-fn scattered(seed: u32) -> u32 {
-    seed.wrapping_mul(1_664_525).wrapping_add(1_013_904_223)
 }
 
 fn first<T: Numbered>(heap: &mut Heap<T>) -> Result<MapRef, NoMemory>
@@ -183,13 +157,7 @@ fn keep<T: Numbered>(heap: &mut Heap<T>, map: MapRef)
 }
 
 fn inserts<T: Numbered>(heap: &mut Heap<T>, map: MapRef, from: u32) -> Result<MapRef, NoMemory>
-    requires good { IsGood T.cmp T.code_of heap.old map }
-    requires held { 0 < holds_at heap.old map.root }
-    requires few { hold_count heap.old < 2 ^ 50 }
-    ensures good { IfOk result (λ m. IsGood T.cmp T.code_of heap.new m) }
-    ensures held { IfOk result (λ m. 0 < holds_at heap.new m.root) }
-    ensures turns { IfOk result (λ m. Turns heap.old heap.new map.root m.root) }
-    ensures count { OnOk result (hold_count heap.new ≡ hold_count heap.old) }
+$one_map
 {
     let mut top = map;
     for turn in 0..COUNT {
@@ -199,13 +167,7 @@ fn inserts<T: Numbered>(heap: &mut Heap<T>, map: MapRef, from: u32) -> Result<Ma
 }
 
 fn inserted<T: Numbered>(heap: &mut Heap<T>, map: MapRef, turn: u32) -> Result<MapRef, NoMemory>
-    requires good { IsGood T.cmp T.code_of heap.old map }
-    requires held { 0 < holds_at heap.old map.root }
-    requires few { hold_count heap.old < 2 ^ 50 }
-    ensures good { IfOk result (λ m. IsGood T.cmp T.code_of heap.new m) }
-    ensures held { IfOk result (λ m. 0 < holds_at heap.new m.root) }
-    ensures turns { IfOk result (λ m. Turns heap.old heap.new map.root m.root) }
-    ensures count { OnOk result (hold_count heap.new ≡ hold_count heap.old) }
+$one_map
 {
     heap.reserve(1, 0)?;
     let value = heap.cell(T::of(turn));
@@ -238,7 +200,7 @@ fn gets<T: Numbered>(heap: &Heap<T>, map: MapRef, from: u32) -> usize
     for turn in 0..COUNT {
         let _ = turn;
         seed = scattered(seed);
-        sum = sum.wrapping_add(number_at(heap, map, from.wrapping_add((seed >> 8) % COUNT)));
+        sum = sum.wrapping_add(number_at(heap, map, from.wrapping_add(place(seed))));
     }
     sum as usize
 }
@@ -246,8 +208,6 @@ fn gets<T: Numbered>(heap: &Heap<T>, map: MapRef, from: u32) -> usize
 fn number_at<T: Numbered>(heap: &Heap<T>, map: MapRef, turn: u32) -> u32
     requires { IsGood T.cmp T.code_of heap.now map }
 {
-    // All links of the heap are live.
-    let _ = heap.live();
     let key: T = key(turn);
     match map.get(heap, &key) {
         Some(cell) => match heap.value(cell) {
@@ -259,13 +219,7 @@ fn number_at<T: Numbered>(heap: &Heap<T>, map: MapRef, turn: u32) -> u32
 }
 
 fn removes<T: Numbered>(heap: &mut Heap<T>, map: MapRef, from: u32) -> Result<MapRef, NoMemory>
-    requires good { IsGood T.cmp T.code_of heap.old map }
-    requires held { 0 < holds_at heap.old map.root }
-    requires few { hold_count heap.old < 2 ^ 50 }
-    ensures good { IfOk result (λ m. IsGood T.cmp T.code_of heap.new m) }
-    ensures held { IfOk result (λ m. 0 < holds_at heap.new m.root) }
-    ensures turns { IfOk result (λ m. Turns heap.old heap.new map.root m.root) }
-    ensures count { OnOk result (hold_count heap.new ≡ hold_count heap.old) }
+$one_map
 {
     let mut top = map;
     for turn in 0..COUNT {
@@ -275,13 +229,7 @@ fn removes<T: Numbered>(heap: &mut Heap<T>, map: MapRef, from: u32) -> Result<Ma
 }
 
 fn removed<T: Numbered>(heap: &mut Heap<T>, map: MapRef, turn: u32) -> Result<MapRef, NoMemory>
-    requires good { IsGood T.cmp T.code_of heap.old map }
-    requires held { 0 < holds_at heap.old map.root }
-    requires few { hold_count heap.old < 2 ^ 50 }
-    ensures good { IfOk result (λ m. IsGood T.cmp T.code_of heap.new m) }
-    ensures held { IfOk result (λ m. 0 < holds_at heap.new m.root) }
-    ensures turns { IfOk result (λ m. Turns heap.old heap.new map.root m.root) }
-    ensures count { OnOk result (hold_count heap.new ≡ hold_count heap.old) }
+$one_map
 {
     let key: T = key(turn);
     match map_remove(heap, map, &key)? {
@@ -290,6 +238,7 @@ fn removed<T: Numbered>(heap: &mut Heap<T>, map: MapRef, turn: u32) -> Result<Ma
     }
 }
 PROGRAM
+add_measures usize
 
 # What a step does to the maps beside its own.
 echo 'pub mod Turn' > "$crate/specs/Lib.antt"
@@ -314,27 +263,22 @@ module _ {T : Type 0} where
 SPEC
 
 # The proofs: the loops' invariants, and that the old map, the new one and the copy each have a hold of their own.
-for function in beside keep number_at inserted moved removed inserts removes; do
+for function in beside keep inserted moved removed inserts removes; do
     mkdir "$crate/proofs/$function"
 done
 echo 'pub mod Turn' > "$crate/proofs/Lib.antt"
 cat > "$crate/proofs/Turn.antt" <<'PROOF'
 -- One map after another.
-use Rattle.std.proofs.Common.{◌≡◌, ℕ, ◌+◌, ◌<◌, ◌≤◌, List, [], ◌∷◌, ◌∙◌, refl, ap, sym, subst, arith, Bool, true, false, cond, Some, IsSome, inl, inr}
-use Rattle.std.specs.Prelude.{option_map}
-use Rattle.std.specs.List.{find}
+use Rattle.std.proofs.Common.{◌≡◌, ℕ, ◌+◌, ◌<◌, ◌≤◌, [], ◌∷◌, refl, ap, sym, arith, inl, inr}
 use Rattle.std.specs.declared.cmp.Ordering.{Ordering}
 use Rattle.std.proofs.lemmas.Bool.{cases_eq}
-use Rattle.node_heap.specs.Links.{count}
-use Rattle.node_heap.specs.Heap.{Heap, row_at, form_at, links_at, holds_at, one_at, IsGraph}
-use Rattle.node_heap.specs.Forms.{Forms, cell, links_of}
+use Rattle.node_heap.specs.Heap.{Heap, holds_at, one_at}
+use Rattle.node_heap.specs.Forms.{cell}
 use Rattle.node_heap.specs.Calls.{Adds, Unchanged, Answered, Extends}
 use Rattle.node_heap.proofs.Counts.{test_same, test_other}
-use Rattle.champ_chain.specs.Entry.{Entry, has_key, link_with}
-use Rattle.champ_chain.proofs.FrameLemmas.{count-cons, count-one, links-form}
+use Rattle.champ_chain.proofs.FrameLemmas.{count-one}
 use Rattle.champ_chain.proofs.CopyLemmas.{one_at-same}
 use Rattle.champ_kinds.specs.Root.{Root}
-use Rattle.champ_kinds.specs.Kinds.{IsPair, ArePairs, IsMap}
 use Rattle.champ_kinds.specs.Laws.{KeepsContainer}
 use Rattle.champ_kinds.proofs.StayLemmas.{map-extended, set-extended}
 use Rattle.map_rows.specs.Turn.{IsGood, Turns}
@@ -399,28 +343,6 @@ module _ {T : Type 0} where
   -- a map that is held twice stays when one hold goes over
   pub copy-kept : {a b : Heap T} {m : ℕ} (r : Root) → Turns a b r.root m → 1 < holds_at a r.root → KeepsContainer a b r
   copy-kept r turns twice = turns.kept r (omega (arith, one_at-same r.root, twice))
-
-  -- the pair of the value that a map has for a key
-  pair-of : (cmp : T → T → Ordering) (F : Forms T) (key : T) (E M : List (Entry T)) (x : ℕ) → ArePairs F E M → link_with cmp key M ≡ Some x → (e : Entry T) × IsPair F e x
-  pair-of cmp F key [] [] x are is = absurd (cc)
-  pair-of cmp F key [] (b ∷ bs) x are is = absurd are
-  pair-of cmp F key (e ∷ es) [] x are is = absurd are
-  pair-of cmp F key (e ∷ es) (b ∷ bs) x are is = by_test (has_key cmp key b) refl (λ rest. pair-of cmp F key es bs x are.2 rest)
-    where
-      by_test : (t : Bool) → has_key cmp key b ≡ t → (link_with cmp key bs ≡ Some x → (d : Entry T) × IsPair F d x) → (d : Entry T) × IsPair F d x
-      by_test true equal deeper =
-          let first : Some b.link ≡ Some x = ap (λ t. option_map (λ (d : Entry T). d.link) (cond t (Some b) (find (has_key cmp key) bs))) (sym equal) ∙ is in
-          let at : b.link ≡ x = cc in
-          (e, subst (λ l. IsPair F e l) at are.1)
-      by_test false differs deeper = deeper (ap (λ t. option_map (λ (d : Entry T). d.link) (cond t (Some b) (find (has_key cmp key) bs))) (sym differs) ∙ is)
-
-  -- what a map has for a key is there
-  pub value-live : (cmp : T → T → Ordering) (code : T → ℕ) (h : Heap T) (r : Root) (M : List (Entry T)) (key : T) (x : ℕ) → IsGraph h → IsMap cmp code (form_at h) r M → link_with cmp key M ≡ Some x → IsSome (row_at h x)
-  value-live cmp code h r M key x graph is here =
-      let found = pair-of cmp (form_at h) key is.entries M x is.pairs here in
-      let links = sym (links-form h found.0.link) ∙ ap links_of found.1.row in
-      let has : 0 < count x (links_at h found.0.link) = omega (arith, ap (count x) links, count-cons x found.1.key_cell (x ∷ []), count-one x x, one_at-same x) in
-      graph.closed found.0.link x has
 PROOF
 cat > "$crate/proofs/beside/Answers.antt" <<'PROOF'
 use Rattle.map_rows.proofs.Turn.{good-kept, turns-then, copy-kept}
@@ -437,15 +359,6 @@ use Rattle.map_rows.proofs.keep.Goals as goal
 pub returns-clause-good : goal.returns-clause-good
 returns-clause-good g c =
     good-extended g.T.Ord.cmp g.T.Element.code_of c.share-more.ensures.extends c.requires.good
-PROOF
-cat > "$crate/proofs/number_at/Answers.antt" <<'PROOF'
-use Rattle.std.proofs.Common.{sym}
-use Rattle.map_rows.proofs.Turn.{value-live}
-use Rattle.map_rows.proofs.number_at.Goals as goal
-
-pub value-requires : goal.value-requires
-value-requires g c =
-    value-live g.T.Ord.cmp g.T.Element.code_of c.args.heap.now c.args.map c.requires.0 c.key-key.result c.in-Some.cell c.live.ensures.graph c.requires.1 (sym (c.in-Some.ensures c.requires.0 c.requires.1))
 PROOF
 cat > "$crate/proofs/inserted/Answers.antt" <<'PROOF'
 use Rattle.std.proofs.Common.{sym, subst, arith}
@@ -553,73 +466,21 @@ invariant-loop-turn g l =
 PROOF
 done
 
-if ! (cd "$crate" && rt run < /dev/null > "$work/rows.log" 2>&1); then
-    tail -20 "$work/rows.log"
-    exit 1
-fi
+prove_and_build map_rows
 runs=("this repository|$crate/out/map_rows|")
 
 # The program over `im_rc::HashMap` and std's.
-mkdir -p "$work/maps/src"
-cat > "$work/maps/Cargo.toml" <<'TOML'
-[package]
-name = "maps"
-version = "0.1.0"
-edition = "2021"
-publish = false
+begin_rust maps
+cat > "$rust/src/main.rs" <<'RUST'
+//! The same phases over another map: `maps counted`, `coded`, `kept`, `in_place` or `plain`.
 
-[features]
-default = ["shared"]
-shared = []
+mod measure;
 
-[dependencies]
-im-rc = "15.1"
-
-[profile.release]
-opt-level = 3
-lto = "fat"
-codegen-units = 1
-TOML
-cat > "$work/maps/src/main.rs" <<RUST
-//! The same phases over another map: \`maps kept\`, \`coded\`, \`numbers\`, \`in_place\` or \`plain\`.
-
-const COUNT: u32 = $count;
-RUST
-cat >> "$work/maps/src/main.rs" <<'RUST'
-
-#[repr(C)]
-struct Time {
-    seconds: i64,
-    nanoseconds: i64,
-}
-
-extern "C" {
-    fn clock_gettime(clock: i32, time: *mut Time) -> i32;
-}
-
-const MONOTONIC: i32 = 1;
-const THREAD: i32 = 3;
-
-fn read(clock: i32) -> String {
-    let mut time = Time { seconds: 0, nanoseconds: 0 };
-    // The call writes one `Time` and keeps nothing.
-    if unsafe { clock_gettime(clock, &mut time) } != 0 {
-        panic!("no clock");
-    }
-    format!("{} {}", time.seconds, time.nanoseconds)
-}
-
-fn tell(phase: &str, sum: usize) {
-    println!("{phase} {} {} {sum}", read(MONOTONIC), read(THREAD));
-}
+use measure::{COUNT, place, scattered, stay, tell};
 
 fn key(turn: u32) -> u32 {
     let spread = turn.wrapping_mul(2_654_435_761);
     spread ^ (spread >> 15)
-}
-
-fn scattered(seed: u32) -> u32 {
-    seed.wrapping_mul(1_664_525).wrapping_add(1_013_904_223)
 }
 
 trait Table: Sized {
@@ -659,32 +520,9 @@ impl Table for Plain {
 #[cfg(feature = "shared")]
 mod shared {
     use super::Table;
+    use crate::measure::Element;
     use std::collections::hash_map::RandomState;
     use std::hash::{BuildHasher, BuildHasherDefault, Hasher};
-    use std::rc::Rc;
-
-    pub trait Element: Clone {
-        fn of(value: u32) -> Self;
-        fn number(&self) -> u32;
-    }
-
-    impl Element for u32 {
-        fn of(value: u32) -> Self {
-            value
-        }
-        fn number(&self) -> u32 {
-            *self
-        }
-    }
-
-    impl Element for Rc<u32> {
-        fn of(value: u32) -> Self {
-            Rc::new(value)
-        }
-        fn number(&self) -> u32 {
-            **self
-        }
-    }
 
     /// A number is its own code.
     #[derive(Default)]
@@ -768,7 +606,7 @@ fn gets<M: Table>(all: &M, from: u32) -> usize {
     let mut seed = 1;
     for _ in 0..COUNT {
         seed = scattered(seed);
-        sum = sum.wrapping_add(all.at(key(from + (seed >> 8) % COUNT)));
+        sum = sum.wrapping_add(all.at(key(from + place(seed) as u32)));
     }
     sum as usize
 }
@@ -798,8 +636,7 @@ fn phases<M: Table>() {
     tell("remove", left.count());
     let sum = gets(&copy, 0);
     tell("end", sum);
-    // It stays until its input ends, so that the peak of its memory can be read.
-    let _ = std::io::stdin().read_line(&mut String::new());
+    stay();
 }
 
 fn main() {
@@ -817,70 +654,29 @@ fn main() {
 }
 RUST
 
-build=(cargo build --release --offline)
-if [ -n "$setup" ]; then
-    build+=(--config "$setup/.cargo/config.toml")
-fi
-export CARGO_TARGET_DIR="$work/maps/target"
-maps=$work/maps/target/release/maps
 if ! command -v rustc > /dev/null; then
     echo "There is no Rust compiler here: this repository's maps alone."
-elif command -v cargo > /dev/null && (cd "$work/maps" && "${build[@]}" > "$work/maps.log" 2>&1); then
-    runs+=("im_rc of Rc, persistent|$maps|counted" "im_rc of Rc, own codes|$maps|coded" "im_rc, persistent|$maps|kept")
-    runs+=("im_rc, in place|$maps|in_place" "std HashMap, in place|$maps|plain")
+elif cargo_builds; then
+    runs+=("im_rc of Rc, persistent|$built|counted" "im_rc of Rc, own codes|$built|coded" "im_rc, persistent|$built|kept")
+    runs+=("im_rc, in place|$built|in_place" "std HashMap, in place|$built|plain")
 else
-    echo "Cargo does not build with \`im_rc\` here: without it. Give the folder of a cargo set-up that has it."
-    mkdir -p "$(dirname "$maps")"
-    rustc --edition 2021 -A unexpected_cfgs -C opt-level=3 -C codegen-units=1 -o "$maps" "$work/maps/src/main.rs"
-    runs+=("std HashMap, in place|$maps|plain")
+    build_without
+    runs+=("std HashMap, in place|$built|plain")
 fi
 
-python3 - "$count" "${runs[@]}" <<'PYTHON'
-import subprocess, sys
+report "$count" "${runs[@]}" <<'PYTHON'
+import sys
+from shared import best_of_three, programs, table
 
-count = int(sys.argv[1])
-runs = [run.split("|") for run in sys.argv[2:]]
-# Each phase, and the line that ends it. The line before it begins it.
-phases = {"insert": 1, "get": 2, "remove": 3, "insert over": 5, "get over": 6, "remove over": 7}
-lines_told = 9
-
-def once(program, word):
-    """The wall and the processor seconds of the phases, the peak megabytes, and the numbers that all must agree on."""
-    child = subprocess.Popen([program] + word.split(), stdin=subprocess.PIPE, stdout=subprocess.PIPE, text=True)
-    lines = [child.stdout.readline().split() for _ in range(lines_told)]
-    with open(f"/proc/{child.pid}/status") as status:
-        peak = next(int(line.split()[1]) * 1024 for line in status if line.startswith("VmHWM:"))
-    child.communicate()
-    if child.returncode != 0:
-        sys.exit(f"{program} {word} ended with {child.returncode}")
-    numbers = [[int(word) for word in line[1:]] for line in lines]
-    wall = [s + n / 1e9 for s, n, _, _, _ in numbers]
-    used = [s + n / 1e9 for _, _, s, n, _ in numbers]
-    figures = [[clock[end] - clock[end - 1] for end in phases.values()] for clock in (wall, used)]
-    return figures + [[peak / 1e6]], [line[4] for line in numbers]
-
-best, told = {}, []
-for turn in range(3):
-    for name, program, word in runs:
-        figures, numbers = once(program, word)
-        told.append(numbers)
-        best[name] = [[min(pair) for pair in zip(*pairs)] for pairs in zip(best.get(name, figures), figures)]
-if any(numbers != told[0] for numbers in told):
-    sys.exit("the maps differ")
+count, runs = int(sys.argv[1]), programs(sys.argv[2:])
+# The phases that count, by their places among the lines that are told after the start.
+phases = {"insert": 0, "get": 1, "remove": 2, "insert over": 4, "get over": 5, "remove over": 6}
+spans, peaks, told = best_of_three(runs, 9, "maps")
 # The copy is looked through at the end as the map alone was.
-if told[0][phases["get"]] != told[0][-1]:
+if told[1 + phases["get"]] != told[-1]:
     sys.exit("the copy has changed")
-
-def row(name, figures, form):
-    print(f"  {name:32}" + "".join(form.format(figure) for figure in figures))
-
-ours = best[runs[0][0]]
 for kind, clock in enumerate(["wall", "processor"]):
     print(f"{count:,} of each over one map, and over a kept copy, best of 3, seconds of {clock}, and peak megabytes:")
-    row("", [*phases, "peak"], "{:>13}")
-    for name, _, _ in runs:
-        row(name, best[name][kind] + best[name][2], "{:13.3f}")
-    for name, _, _ in runs[1:]:
-        theirs = best[name][kind] + best[name][2]
-        row("ratio to " + name, [mine / other for mine, other in zip(ours[kind] + ours[2], theirs)], "{:13.2f}")
+    figures = {name: [spans[name][place][kind] for place in phases.values()] + [peaks[name]] for name, _, _ in runs}
+    table([*phases, "peak"], figures, width=13)
 PYTHON

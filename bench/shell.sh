@@ -3,33 +3,31 @@
 #   bench/shell.sh              the program alone
 #   bench/shell.sh YARDSTICK    and beside it the shell of the yardstick in that folder, over `im_rc`, set up by
 #                               its own ./setup.sh; then the yardstick's workloads for the commands that there are
+# COUNT in the environment takes the place of the million.
 set -eu
-here=$(cd "$(dirname -- "$0")/.." && pwd -P)
-program=$here/crates/ewig_shell/out/ewig_shell
-"$here/ewig" </dev/null >/dev/null
-yardstick=${1:-}
-if [ -n "$yardstick" ]; then
-    yardstick=$(cd "$yardstick" && pwd -P)
-fi
+. "$(dirname -- "$0")/shared.sh"
+begin "$@"
+yardstick=$setup
+program=$top/crates/ewig_shell/out/ewig_shell
+"$top/ewig" </dev/null >/dev/null
 
-room=$(mktemp -d)
-trap 'rm -rf -- "$room"' EXIT
-python3 - "$room/input" <<'PYTHON'
+python3 - "$count" "$work/input" <<'PYTHON'
 import sys
-with open(sys.argv[1], "w") as out:
+count = int(sys.argv[1])
+with open(sys.argv[2], "w") as out:
     out.write("new a\n")
-    for i in range(1_000_000):
+    for i in range(count):
         out.write(f"add a line {i} of the text\n")
-    for i in range(1_000_000):
-        out.write(f"get a {i * 7919 % 1_000_000}\n")
+    for i in range(count):
+        out.write(f"get a {i * 7919 % count}\n")
     out.write("len a\nquit\n")
 PYTHON
 
 shells=("$program")
 [ -n "$yardstick" ] && shells+=("$yardstick/target/release/im_shell")
-python3 - "$room" "${shells[@]}" <<'PYTHON'
+python3 - "$count" "$work" "${shells[@]}" <<'PYTHON'
 import hashlib, os, subprocess, sys, time
-room, shells = sys.argv[1], sys.argv[2:]
+count, room, shells = int(sys.argv[1]), sys.argv[2], sys.argv[3:]
 
 def once(shell):
     """Wall seconds, processor seconds, peak bytes and the replies' checksum of one run over a pipe."""
@@ -55,7 +53,7 @@ for turn in range(3):
         best[shell] = [min(a, b) for a, b in zip(best.get(shell, figures), figures)]
 if len(replies) > 1:
     sys.exit("the replies differ")
-print("2,000,000 lines, best of 3:")
+print(f"{2 * count:,} lines, best of 3:")
 for shell in shells:
     wall, processor, peak = best[shell]
     print(f"  {os.path.basename(shell):12} {wall:6.2f} s wall  {processor:6.2f} s processor  {peak / 1e6:7.1f} MB")

@@ -1,0 +1,59 @@
+"""Runs the programs of a bench in turn, and prints what they took."""
+import subprocess
+import sys
+
+
+def programs(arguments):
+    """The name, the file and the word of each program, from arguments `name|file|word`."""
+    return [argument.split("|") for argument in arguments]
+
+
+def once(program, word, first):
+    """What one run told: the wall and the processor seconds of each phase, the peak megabytes, and the numbers.
+
+    A line has the phase that it ends, the two clocks in seconds and nanoseconds, and a number that all programs must agree
+    on. A line `start` ends no phase. The peak is read after the first lines, before the program goes on.
+    """
+    child = subprocess.Popen([program] + word.split(), stdin=subprocess.PIPE, stdout=subprocess.PIPE, text=True)
+    lines = [child.stdout.readline().split() for _ in range(first)]
+    with open(f"/proc/{child.pid}/status") as status:
+        peak = next(int(line.split()[1]) * 1024 for line in status if line.startswith("VmHWM:"))
+    lines += [line.split() for line in child.communicate("\n")[0].splitlines()]
+    if child.returncode != 0:
+        sys.exit(f"{program} {word} ended with {child.returncode}")
+    spans = []
+    for before, after in zip(lines, lines[1:]):
+        if after[0] != "start":
+            start, end = ([int(word) for word in line[1:5]] for line in (before, after))
+            wall = end[0] - start[0] + (end[1] - start[1]) / 1e9
+            used = end[2] - start[2] + (end[3] - start[3]) / 1e9
+            spans.append((wall, used))
+    return spans, peak / 1e6, [int(line[5]) for line in lines]
+
+
+def best_of_three(runs, first, what):
+    """The best spans and the least peak of each program by its name, and the numbers that all told."""
+    spans, peaks, told = {}, {}, []
+    for _ in range(3):
+        for name, program, word in runs:
+            taken, peak, numbers = once(program, word, first)
+            told.append(numbers)
+            spans[name] = [tuple(map(min, *pair)) for pair in zip(spans.get(name, taken), taken)]
+            peaks[name] = min(peaks.get(name, peak), peak)
+    if any(numbers != told[0] for numbers in told):
+        sys.exit(f"the {what} differ")
+    return spans, peaks, told[0]
+
+
+def table(columns, figures, width, digits=2, margin=32):
+    """A row of figures for each program, and then what those of the first program are of each other's."""
+
+    def row(name, cells, form):
+        print(f"  {name:{margin}}" + "".join(format(cell, form) for cell in cells))
+
+    row("", columns, f">{width}")
+    for name, cells in figures.items():
+        row(name, cells, f"{width}.3f")
+    (_, ours), *others = figures.items()
+    for name, theirs in others:
+        row("ratio to " + name, [mine / other for mine, other in zip(ours, theirs)], f"{width}.{digits}f")
