@@ -49,7 +49,8 @@ pub fn length<T: Element>(heap: &Heap<T>, chain: Link) -> usize
     unreachable!()
 }
 
-/// A chain of two entries with different keys. A hold of each is spent on Ok.
+/// A chain of two entries with different keys. A hold of each is spent on Ok. It makes two nodes. Err where memory runs
+/// out: then nothing has changed.
 pub fn join<T: Element>(heap: &mut Heap<T>, first: Link, second: Link) -> Result<Link, NoMemory>
     requires few { hold_count heap.old < 2 ^ 60 }
     requires held { (l : ℕ) → count l (first ∷ second ∷ []) ≤ holds_at heap.old l }
@@ -69,7 +70,8 @@ pub fn join<T: Element>(heap: &mut Heap<T>, first: Link, second: Link) -> Result
 }
 
 /// The chain with the entry added, or in the place of the one with its key. The entry's hold is spent on Ok, and the
-/// given chain stays.
+/// given chain stays. It makes at most one node more than the chain has entries. Err where memory runs out: then nothing
+/// has changed.
 pub fn with<T: Element>(heap: &mut Heap<T>, chain: Link, entry: Link) -> Result<Link, NoMemory>
     requires few { hold_count heap.old ≤ 2 ^ 59 }
     requires held { 0 < holds_at heap.old entry }
@@ -90,7 +92,8 @@ pub fn with<T: Element>(heap: &mut Heap<T>, chain: Link, entry: Link) -> Result<
 }
 
 /// The chain without the entry with this key: None exactly where the key is absent, and then nothing has changed. Where
-/// one entry is left it is that entry itself. The given chain stays.
+/// one entry is left it is that entry itself. The given chain stays. It makes at most as many nodes as the chain has
+/// entries. Err where memory runs out: then nothing has changed.
 pub fn without<T: Element, P: Probe<T>>(
     heap: &mut Heap<T>,
     chain: Link,
