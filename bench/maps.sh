@@ -492,30 +492,37 @@ trait Table: Sized {
     fn copied(&self) -> Self;
 }
 
-struct Plain(std::collections::HashMap<u32, u32>);
+// One version, changed where it is.
+macro_rules! in_place {
+    ($name:ident, $map:ty) => {
+        pub struct $name($map);
 
-impl Table for Plain {
-    fn empty() -> Self {
-        Plain(std::collections::HashMap::new())
-    }
-    fn count(&self) -> usize {
-        self.0.len()
-    }
-    fn at(&self, key: u32) -> u32 {
-        self.0.get(&key).copied().unwrap_or(0)
-    }
-    fn with(mut self, key: u32, value: u32) -> Self {
-        self.0.insert(key, value);
-        self
-    }
-    fn without(mut self, key: u32) -> Self {
-        self.0.remove(&key);
-        self
-    }
-    fn copied(&self) -> Self {
-        Plain(self.0.clone())
-    }
+        impl Table for $name {
+            fn empty() -> Self {
+                $name(<$map>::new())
+            }
+            fn count(&self) -> usize {
+                self.0.len()
+            }
+            fn at(&self, key: u32) -> u32 {
+                self.0.get(&key).copied().unwrap_or(0)
+            }
+            fn with(mut self, key: u32, value: u32) -> Self {
+                self.0.insert(key, value);
+                self
+            }
+            fn without(mut self, key: u32) -> Self {
+                self.0.remove(&key);
+                self
+            }
+            fn copied(&self) -> Self {
+                $name(self.0.clone())
+            }
+        }
+    };
 }
+
+in_place!(Plain, std::collections::HashMap<u32, u32>);
 
 #[cfg(feature = "shared")]
 mod shared {
@@ -567,31 +574,7 @@ mod shared {
         }
     }
 
-    /// One version, changed where it is.
-    pub struct InPlace(im_rc::HashMap<u32, u32>);
-
-    impl Table for InPlace {
-        fn empty() -> Self {
-            InPlace(im_rc::HashMap::new())
-        }
-        fn count(&self) -> usize {
-            self.0.len()
-        }
-        fn at(&self, key: u32) -> u32 {
-            self.0.get(&key).copied().unwrap_or(0)
-        }
-        fn with(mut self, key: u32, value: u32) -> Self {
-            self.0.insert(key, value);
-            self
-        }
-        fn without(mut self, key: u32) -> Self {
-            self.0.remove(&key);
-            self
-        }
-        fn copied(&self) -> Self {
-            InPlace(self.0.clone())
-        }
-    }
+    in_place!(InPlace, im_rc::HashMap<u32, u32>);
 }
 
 fn inserts<M: Table>(mut all: M, from: u32) -> M {
