@@ -2,4 +2,3 @@ pub mod Cell
 pub mod Naming
 pub mod Shown
 pub mod Codes
-pub mod Command

@@ -1,6 +1,6 @@
 //! Codes of values: FNV-1a with 32 bits, its low bits and its digits.
 
-ghost use Rattle.std.specs.Prelude.{◌≡◌, ◌≤◌, ◌<◌, ◌^◌};
+ghost use Rattle.std.specs.Prelude.{◌≡◌, ◌≤◌, ◌<◌, ◌^◌, ◌*◌, ◌-◌};
 ghost use Rattle.elem_core.specs.Codes.{text_code, masked_code, digit_at};
 
 /// The code of a value: what a trie sorts it by.
@@ -37,12 +37,12 @@ pub fn masked(code: Code, bits: u32) -> Code
     }
 }
 
-/// The digit of the code at the depth: 0 to 31, and 0 to 3 at `DEEPEST`.
+/// The digit of the code at the depth: 0 to 31, and at `DEEPEST` no more than the bits that are left there can say.
 pub fn digit(code: Code, depth: u8) -> u32
     requires { depth ≤ DEEPEST }
     ensures read { result ≡ digit_at code depth }
     ensures small { result < 32 }
-    ensures last { depth ≡ DEEPEST → result < 4 }
+    ensures last { depth ≡ DEEPEST → result < 2 ^ (CODE_BITS - 5 * DEEPEST) }
 {
     (code >> (5 * u32::from(depth))) & 31
 }

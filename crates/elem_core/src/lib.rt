@@ -9,7 +9,7 @@ mod words;
 pub use codes::{CODE_BITS, Code, DEEPEST, digit, fnv32, masked};
 pub use element::{Element, Num, Probe, Stored};
 use std::alloc::{AllocError, AllocFailed};
-pub use text::{Text, text_of};
+pub use text::{Text, Texts, text_of};
 use thiserror::Error;
 pub use words::{Line, Name, is_name};
 

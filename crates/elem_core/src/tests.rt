@@ -107,3 +107,16 @@ fn want_of_memory_is_one_error(rt: HostRuntime) {
     assert_eq!(rt; NoMemory::from(AllocError), NoMemory);
     assert_eq!(rt; NoMemory::from(AllocFailed { value: 1u8 }), NoMemory);
 }
+
+#[test]
+fn texts_keep_their_vector(rt: HostRuntime) -> Result<(), Fail> {
+    let mut lines = Vec::new(rt.alloc());
+    for line in ["one", "", "two"] {
+        lines.push(text_of(rt.alloc(), Line::new(line).ok_or("a line")?)?)?;
+    }
+    let kept = Texts::from_vec(lines).into_vec();
+    assert_eq!(rt; kept.len(), 3);
+    assert_eq!(rt; kept[0].text(), "one");
+    assert_eq!(rt; kept[2].text(), "two");
+    Ok(())
+}

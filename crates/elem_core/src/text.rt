@@ -112,3 +112,34 @@ pub fn text_of(alloc: Global, line: Line<'_>) -> Result<Text, NoMemory>
     let text = String::from_str(alloc, line.as_str())?;
     Ok(Text { text })
 }
+
+/// Texts in their order, as the lines of a file. Contracts see the list of their bytes.
+#[derive(Debug, Drop)]
+pub struct Texts {
+    lines: Vec<Text>,
+}
+
+impl Model for Texts {
+    ghost use Rattle.std.specs.Prelude.{ℕ, List};
+
+    ghost Value = { List (List ℕ) };
+
+    ghost view = { λ it. it.lines.items };
+}
+
+impl Texts {
+    /// The texts of the vector, which is kept as it is.
+    pub fn from_vec(lines: Vec<Text>) -> Texts
+        ensures { result ≡ lines.items }
+    {
+        Texts { lines }
+    }
+
+    /// The vector of the texts, as it was kept.
+    pub fn into_vec(self) -> Vec<Text>
+        ensures { result.items ≡ self }
+    {
+        let Texts { lines } = self;
+        lines
+    }
+}
