@@ -3,9 +3,9 @@ use Rattle.std.proofs.Common.{◌≡◌, ℕ, ◌+◌, ◌-◌, ◌^◌, ◌<◌
 use Rattle.std.specs.Prelude.{sum_by, sum}
 use Rattle.node_heap.specs.Links.{count}
 use Rattle.node_heap.specs.Forms.{links_of, is_cell, is_node}
-use Rattle.node_heap.specs.Layout.{row_of, owners_in, rows_in, holds_in, entry_at, places_at, IsCounted, IsStored, seen, ApartAt}
+use Rattle.node_heap.specs.Layout.{owners_in, rows_in, holds_in, slot_at, places_at, IsCounted, IsStored, seen, ApartAt}
 use Rattle.node_heap.specs.Calls.{Adds, Makes, Extends, KeepsHeld}
-use Rattle.node_heap.specs.declared.entry.Entry.{Entry}
+use Rattle.node_heap.specs.Layout.{Slot}
 use Rattle.node_heap.proofs.Counts.{sum-moved}
 use Rattle.node_heap.proofs.Slots.{IsCounted-add, Adds-slots, holds_at-slots}
 use Rattle.node_heap.proofs.Dying.{sum-add}
@@ -14,27 +14,27 @@ use Rattle.node_heap.proofs.Stored.{IsGraph-stored, one_if_some}
 
 module _ {T : Type 0} where
   -- the new slots have this entry besides, and its links were held
-  pub record Joins (old new : List (Option (Entry T))) (key : ℕ) (e : Entry T) : Type 0 where
-    pub was : entry_at old key ≡ None
-    pub «is» : entry_at new key ≡ Some e
+  pub record Joins (old new : List (Option (Slot T))) (key : ℕ) (e : Slot T) : Type 0 where
+    pub was : slot_at old key ≡ None
+    pub «is» : slot_at new key ≡ Some e
     pub apart : ApartAt old new key
     pub one : e.owners ≡ 1
-    pub short : length (links_of (Some (row_of e.row))) ≤ 32
-    pub held : (l : ℕ) → count l (links_of (Some (row_of e.row))) + places_at old l ≤ owners_in (entry_at old l)
+    pub short : length (links_of (Some e.row)) ≤ 32
+    pub held : (l : ℕ) → count l (links_of (Some e.row)) + places_at old l ≤ owners_in (slot_at old l)
 
-  pub counted-joined : (old new : List (Option (Entry T))) (key : ℕ) (e : Entry T) → key < 2 ^ 64 - 1 → IsCounted old → Joins old new key e → IsCounted new
+  pub counted-joined : (old new : List (Option (Slot T))) (key : ℕ) (e : Slot T) → key < 2 ^ 64 - 1 → IsCounted old → Joins old new key e → IsCounted new
   counted-joined old new key e low counted j = IsCounted-add old new key e counted j.was j.is j.apart j.one low j.short j.held
 
-  pub adds-joined : (old new : List (Option (Entry T))) (key : ℕ) (e : Entry T) (a b m a' b' m' : ℕ) → IsCounted old → Joins old new key e → Adds (seen old a b m) (seen new a' b' m') key (row_of e.row)
+  pub adds-joined : (old new : List (Option (Slot T))) (key : ℕ) (e : Slot T) (a b m a' b' m' : ℕ) → IsCounted old → Joins old new key e → Adds (seen old a b m) (seen new a' b' m') key e.row
   adds-joined old new key e a b m a' b' m' counted j =
       Adds-slots old new key e (seen old a b m) (seen new a' b' m') refl refl refl refl counted j.was j.is j.apart j.one j.held
 
-  pub count-joined : (old new : List (Option (Entry T))) (key : ℕ) (e : Entry T) → IsCounted old → Joins old new key e → sum (holds_in new) + length (links_of (Some (row_of e.row))) ≡ sum (holds_in old) + 1
+  pub count-joined : (old new : List (Option (Slot T))) (key : ℕ) (e : Slot T) → IsCounted old → Joins old new key e → sum (holds_in new) + length (links_of (Some e.row)) ≡ sum (holds_in old) + 1
   count-joined old new key e counted j =
       let adds = adds-joined old new key e 0 0 0 0 0 0 counted j in
-      sum-moved (links_of (Some (row_of e.row))) (holds_in old) (holds_in new) key (omega (arith, holds_at-slots old key, j.held key)) adds.holds
+      sum-moved (links_of (Some e.row)) (holds_in old) (holds_in new) key (omega (arith, holds_at-slots old key, j.held key)) adds.holds
 
-  pub makes-joined : (old new : List (Option (Entry T))) (key : ℕ) (e : Entry T) (a b m a' b' m' c n : ℕ) → Joins old new key e → is_cell (Some (row_of e.row)) ≡ c → is_node (Some (row_of e.row)) ≡ n → c + n ≡ 1 → a' + c ≡ a → b' + n ≡ b → m < 2 ^ 64 → m' ≡ min (m + 1) (2 ^ 64 - 1) → Makes (seen old a b m) (seen new a' b' m') c n
+  pub makes-joined : (old new : List (Option (Slot T))) (key : ℕ) (e : Slot T) (a b m a' b' m' c n : ℕ) → Joins old new key e → is_cell (Some e.row) ≡ c → is_node (Some e.row) ≡ n → c + n ≡ 1 → a' + c ≡ a → b' + n ≡ b → m < 2 ^ 64 → m' ≡ min (m + 1) (2 ^ 64 - 1) → Makes (seen old a b m) (seen new a' b' m') c n
   makes-joined old new key e a b m a' b' m' c n j is_c is_n one at_c at_n fits made = record {
     spare_cells = at_c;
     spare_nodes = at_n;
@@ -45,12 +45,12 @@ module _ {T : Type 0} where
     no_fewer = omega (arith, made, fits);
   }
 
-  pub extends-joined : (old new : List (Option (Entry T))) (key : ℕ) (e : Entry T) (a b m a' b' m' capacity room : ℕ) → IsStored old capacity a b room m → Joins old new key e → Extends (seen old a b m) (seen new a' b' m')
-  extends-joined old new key e a b m a' b' m' capacity room stored j =
-      Extends-Adds (seen old a b m) (seen new a' b' m') key (row_of e.row) (IsGraph-stored old capacity a b room m stored) (adds-joined old new key e a b m a' b' m' stored.counted j)
+  pub extends-joined : (old new : List (Option (Slot T))) (key : ℕ) (e : Slot T) (a b m a' b' m' : ℕ) → IsStored old a b m → Joins old new key e → Extends (seen old a b m) (seen new a' b' m')
+  extends-joined old new key e a b m a' b' m' stored j =
+      Extends-Adds (seen old a b m) (seen new a' b' m') key e.row (IsGraph-stored old a b m stored) (adds-joined old new key e a b m a' b' m' stored.counted j)
 
-  pub keeps-joined : (old new : List (Option (Entry T))) (key : ℕ) (e : Entry T) (a b m a' b' m' capacity room : ℕ) → IsStored old capacity a b room m → Joins old new key e → KeepsHeld (λ l. count l (links_of (Some (row_of e.row)))) (seen old a b m) (seen new a' b' m')
-  keeps-joined old new key e a b m a' b' m' capacity room stored j =
+  pub keeps-joined : (old new : List (Option (Slot T))) (key : ℕ) (e : Slot T) (a b m a' b' m' : ℕ) → IsStored old a b m → Joins old new key e → KeepsHeld (λ l. count l (links_of (Some e.row))) (seen old a b m) (seen new a' b' m')
+  keeps-joined old new key e a b m a' b' m' stored j =
       let adds = adds-joined old new key e a b m a' b' m' stored.counted j in
-      KeepsHeld-Extends _ (seen old a b m) (seen new a' b' m') (IsGraph-stored old capacity a b room m stored)
-      (extends-joined old new key e a b m a' b' m' capacity room stored j) (λ l. omega (arith, adds.holds l))
+      KeepsHeld-Extends _ (seen old a b m) (seen new a' b' m') (IsGraph-stored old a b m stored)
+      (extends-joined old new key e a b m a' b' m' stored j) (λ l. omega (arith, adds.holds l))

@@ -136,3 +136,33 @@ pub sum-moved : (links xs ys : List ℕ) (key : ℕ) → count key links ≤ get
 sum-moved links xs ys key held moved =
     let low = lowered ys key (omega (arith, moved key, held, test_same key key refl)) in
     omega (arith, sum-more low.0 ys key low.1, sum-spent links xs low.0 (λ k. omega (arith, moved k, low.1 k)))
+
+-- the list with one number higher by one
+raise : List ℕ → ℕ → List ℕ
+raise [] zero = 1 ∷ []
+raise [] (suc i) = 0 ∷ raise [] i
+raise (x ∷ xs) zero = (x + 1) ∷ xs
+raise (x ∷ xs) (suc i) = x ∷ raise xs i
+
+one_at-suc : (i k : ℕ) → one_at (suc i) (suc k) ≡ one_at i k
+one_at-suc i k = elim (cases_eq k i) as (λ _. one_at (suc i) (suc k) ≡ one_at i k) [
+  | inl same ↦ test_same (suc k) (suc i) (ap suc same) ∙ sym (test_same k i same)
+  | inr other ↦ test_other (suc k) (suc i) (λ e. other (omega (arith, e))) ∙ sym (test_other k i other)
+]
+
+get_or-raise : (xs : List ℕ) (i k : ℕ) → get_or (raise xs i) k 0 ≡ get_or xs k 0 + one_at i k
+unfolding raise
+get_or-raise [] zero zero = omega (arith, test_same 0 0 refl)
+get_or-raise [] zero (suc k) = omega (arith, test_other (suc k) 0 (λ e. absurd (omega (arith, e))))
+get_or-raise [] (suc i) zero = omega (arith, test_other 0 (suc i) (λ e. absurd (omega (arith, e))))
+get_or-raise [] (suc i) (suc k) = omega (arith, get_or-raise [] i k, one_at-suc i k)
+get_or-raise (x ∷ xs) zero zero = omega (arith, test_same 0 0 refl)
+get_or-raise (x ∷ xs) zero (suc k) = omega (arith, test_other (suc k) 0 (λ e. absurd (omega (arith, e))))
+get_or-raise (x ∷ xs) (suc i) zero = omega (arith, test_other 0 (suc i) (λ e. absurd (omega (arith, e))))
+get_or-raise (x ∷ xs) (suc i) (suc k) = omega (arith, get_or-raise xs i k, one_at-suc i k)
+
+-- the links of one list lower their numbers, and those of another raise theirs
+pub sum-exchanged : (spent gained xs ys : List ℕ) → ((k : ℕ) → get_or ys k 0 + count k spent ≡ get_or xs k 0 + count k gained) → sum ys + length spent ≡ sum xs + length gained
+sum-exchanged spent [] xs ys same = omega (arith, sum-spent spent xs ys (λ k. omega (arith, same k)))
+sum-exchanged spent (x ∷ rest) xs ys same =
+    omega (arith, sum-more xs (raise xs x) x (get_or-raise xs x), sum-exchanged spent rest (raise xs x) ys (λ k. omega (arith, same k, get_or-raise xs x k, count-cons k x rest, one_at-flip x k)))

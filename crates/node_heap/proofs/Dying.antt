@@ -1,15 +1,14 @@
 -- How a release frees the rows that lose their last owner.
-use Rattle.std.proofs.Common.{is_some, count_by, ◌≡◌, ◌≢◌, ◌⊎◌, ℕ, zero, suc, ◌+◌, ◌-◌, ◌^◌, ◌<◌, ◌≤◌, List, [], ◌∷◌, length, get_or, refl, sym, ap, subst, ◌∙◌, arith, Option, Some, None, IsSome, cond, inl, inr}
+use Rattle.std.proofs.Common.{◌≡◌, ◌≢◌, ◌⊎◌, ℕ, zero, suc, ◌+◌, ◌-◌, ◌^◌, ◌<◌, ◌≤◌, List, [], ◌∷◌, length, get_or, refl, sym, ap, subst, ◌∙◌, arith, Option, Some, None, IsSome, inl, inr}
 use Rattle.std.specs.Prelude.{sum_by}
 use Rattle.std.proofs.lemmas.Bool.{cases_eq}
 use Rattle.std.proofs.lemmas.List.{drop_more}
 use Rattle.std.proofs.Common.{drop}
-use Rattle.std.proofs.lemmas.List.Sums.{sum_by-cons}
 use Rattle.node_heap.specs.Links.{count}
-use Rattle.node_heap.specs.Forms.{cell, node, Row, links_of, is_node}
-use Rattle.node_heap.specs.Layout.{row_of, nodes_in, row_in, owners_in, rows_in, holds_in, entry_at, places_at, graph_of, IsCounted, ApartAt, SetsOwners, IsLow, IsThreaded, IsDying, Thins}
+use Rattle.node_heap.specs.Forms.{Row, links_of}
+use Rattle.node_heap.specs.Layout.{row_in, owners_in, rows_in, holds_in, slot_at, places_at, graph_of, IsCounted, ApartAt, SetsOwners, IsLow, IsThreaded, IsDying, Thins}
 use Rattle.node_heap.specs.Heap.{places_in, one_at}
-use Rattle.node_heap.specs.declared.entry.Entry.{Entry}
+use Rattle.node_heap.specs.Layout.{Slot}
 use Rattle.node_heap.proofs.Counts.{count-cons, test_same, test_other, sum_by-apart}
 use Rattle.node_heap.proofs.Slots.{row_at-slots, holds_at-slots, places_at-apart}
 
@@ -18,29 +17,29 @@ pub at_link : (links : List ℕ) (i x place : ℕ) → i < length links → plac
 at_link links i x place inside is read = drop_more links i x inside ∙ ap (λ y. y ∷ drop (i + 1) links) (sym (is ∙ read))
 
 module _ {T : Type 0} where
-  live_row : (e : Option (Entry T)) → IsSome e → IsSome (row_in e)
+  live_row : (e : Option (Slot T)) → IsSome e → IsSome (row_in e)
   live_row None some = cc
   live_row (Some e) some = refl
 
-  live_entry : (e : Option (Entry T)) → IsSome (row_in e) → IsSome e
-  live_entry None some = cc
-  live_entry (Some e) some = refl
+  live_slot : (e : Option (Slot T)) → IsSome (row_in e) → IsSome e
+  live_slot None some = cc
+  live_slot (Some e) some = refl
 
-  pub IsThreaded-apart : (old new : List (Option (Entry T))) (key : ℕ) → ApartAt old new key → (first : ℕ) (dead : List ℕ) → count key dead ≡ 0 → IsThreaded old first dead → IsThreaded new first dead
+  pub IsThreaded-apart : (old new : List (Option (Slot T))) (key : ℕ) → ApartAt old new key → (first : ℕ) (dead : List ℕ) → count key dead ≡ 0 → IsThreaded old first dead → IsThreaded new first dead
   IsThreaded-apart old new key apart first [] off p = p
   IsThreaded-apart old new key apart first (d ∷ ds) off p =
       let counted = count-cons key d ds in
       let other : d ≢ key = λ same. absurd (omega (arith, test_same d key same, counted, off)) in
-      let rest = IsThreaded-apart old new key apart (owners_in (entry_at old d)) ds (omega (arith, counted, off)) p.2 in
+      let rest = IsThreaded-apart old new key apart (owners_in (slot_at old d)) ds (omega (arith, counted, off)) p.2 in
       (p.0, p.1, subst (λ n. IsThreaded new n ds) (sym (ap owners_in (apart d other))) rest)
 
   -- nothing waits where the first is the last number
-  pub IsThreaded-none : (slots : List (Option (Entry T))) (dead : List ℕ) → IsThreaded slots (2 ^ 64 - 1) dead → (l : ℕ) → count l dead ≡ 0
+  pub IsThreaded-none : (slots : List (Option (Slot T))) (dead : List ℕ) → IsThreaded slots (2 ^ 64 - 1) dead → (l : ℕ) → count l dead ≡ 0
   IsThreaded-none slots [] p l = refl
   IsThreaded-none slots (d ∷ ds) p l = absurd (omega (arith, p.0, p.1))
 
   -- a link that is to be dropped does not wait
-  pub off_list : (H : ℕ → ℕ) (slots : List (Option (Entry T))) (first k : ℕ) (pend : List ℕ) (d : IsDying H slots first (k ∷ pend)) → count k d.dead ≡ 0
+  pub off_list : (H : ℕ → ℕ) (slots : List (Option (Slot T))) (first k : ℕ) (pend : List ℕ) (d : IsDying H slots first (k ∷ pend)) → count k d.dead ≡ 0
   off_list H slots first k pend d = by_count (count k d.dead) refl
     where
       by_count : (n : ℕ) → count k d.dead ≡ n → count k d.dead ≡ 0
@@ -49,7 +48,7 @@ module _ {T : Type 0} where
           let wait = d.waiting k (omega (arith, e)) in
           absurd (omega (arith, wait.1, count-cons k k pend, test_same k k refl))
 
-  pub IsDying-last : (H : ℕ → ℕ) (slots new : List (Option (Entry T))) (first k : ℕ) (pend : List ℕ) → owners_in (entry_at slots k) ≡ 1 → SetsOwners slots new k first → rows_in new ≡ rows_in slots → k < 2 ^ 64 - 1 → IsDying H slots first (k ∷ pend) → IsDying H new k pend
+  pub IsDying-last : (H : ℕ → ℕ) (slots new : List (Option (Slot T))) (first k : ℕ) (pend : List ℕ) → owners_in (slot_at slots k) ≡ 1 → SetsOwners slots new k first → rows_in new ≡ rows_in slots → k < 2 ^ 64 - 1 → IsDying H slots first (k ∷ pend) → IsDying H new k pend
   IsDying-last H slots new first k pend one sets rows low d =
       let off = off_list H slots first k pend d in
       let placed_in : (l : ℕ) → places_at new l ≡ places_at slots l = λ l. ap (λ xs. places_in xs l) rows in
@@ -65,24 +64,24 @@ module _ {T : Type 0} where
         owned = λ l none live.
             let split = count-cons l k d.dead in
             let other : l ≢ k = λ same. absurd (omega (arith, test_same k l (sym same), split, none)) in
-            let was : IsSome (entry_at slots l) = rw (← sets.others l other) live in
+            let was : IsSome (slot_at slots l) = rw (← sets.others l other) live in
             omega (arith, ap owners_in (sets.others l other), d.owned l (omega (arith, split, none)) was);
         waiting = λ l some.
             let split = count-cons l k d.dead in
             let tail = count-cons l k pend in
-            elim (cases_eq l k) as (λ _. (count l (k ∷ d.dead) ≡ 1) × (H l + (places_at new l + count l pend) ≡ 0) × IsSome (entry_at new l)) [
+            elim (cases_eq l k) as (λ _. (count l (k ∷ d.dead) ≡ 1) × (H l + (places_at new l + count l pend) ≡ 0) × IsSome (slot_at new l)) [
               | inl same ↦
-                  let P : ℕ → Type 0 = λ j. (count j (k ∷ d.dead) ≡ 1) × (H j + (places_at new j + count j pend) ≡ 0) × IsSome (entry_at new j) in
+                  let P : ℕ → Type 0 = λ j. (count j (k ∷ d.dead) ≡ 1) × (H j + (places_at new j + count j pend) ≡ 0) × IsSome (slot_at new j) in
                   subst P (sym same) (omega (arith, count-cons k k d.dead, test_same k k refl, off), omega (arith, at_k, one, more, test_same k k refl, placed_in k), sets.live)
               | inr other ↦
                   let none = test_other k l (λ e. other (sym e)) in
                   let wait = d.waiting l (omega (arith, split, none, some)) in
-                  let live : IsSome (entry_at new l) = rw (sets.others l other) wait.2 in
+                  let live : IsSome (slot_at new l) = rw (sets.others l other) wait.2 in
                   (omega (arith, split, none, wait.0), omega (arith, wait.1, tail, none, placed_in l), live)
             ];
       }
 
-  pub IsDying-not_last : (H : ℕ → ℕ) (slots new : List (Option (Entry T))) (first k n : ℕ) (pend : List ℕ) → owners_in (entry_at slots k) ≡ n + 1 → 0 < n → SetsOwners slots new k n → rows_in new ≡ rows_in slots → IsDying H slots first (k ∷ pend) → IsDying H new first pend
+  pub IsDying-not_last : (H : ℕ → ℕ) (slots new : List (Option (Slot T))) (first k n : ℕ) (pend : List ℕ) → owners_in (slot_at slots k) ≡ n + 1 → 0 < n → SetsOwners slots new k n → rows_in new ≡ rows_in slots → IsDying H slots first (k ∷ pend) → IsDying H new first pend
   IsDying-not_last H slots new first k n pend were some sets rows d =
       let off = off_list H slots first k pend d in
       let placed_in : (l : ℕ) → places_at new l ≡ places_at slots l = λ l. ap (λ xs. places_in xs l) rows in
@@ -91,37 +90,37 @@ module _ {T : Type 0} where
       record {
         dead = d.dead;
         threaded = IsThreaded-apart slots new k sets.others first d.dead off d.threaded;
-        counted = λ l none. elim (cases_eq l k) as (λ _. owners_in (entry_at new l) ≡ H l + (places_at new l + count l pend)) [
+        counted = λ l none. elim (cases_eq l k) as (λ _. owners_in (slot_at new l) ≡ H l + (places_at new l + count l pend)) [
           | inl same ↦
-              let P : ℕ → Type 0 = λ j. owners_in (entry_at new j) ≡ H j + (places_at new j + count j pend) in
+              let P : ℕ → Type 0 = λ j. owners_in (slot_at new j) ≡ H j + (places_at new j + count j pend) in
               subst P (sym same) (omega (arith, sets.owners, at_k, were, more, test_same k k refl, placed_in k))
           | inr other ↦
               omega (arith, ap owners_in (sets.others l other), d.counted l none, placed_in l, count-cons l k pend, test_other k l (λ e. other (sym e)))
         ];
-        owned = λ l none live. elim (cases_eq l k) as (λ _. 0 < owners_in (entry_at new l)) [
-          | inl same ↦ omega (arith, ap (λ j. owners_in (entry_at new j)) same, sets.owners, some)
-          | inr other ↦ let was : IsSome (entry_at slots l) = rw (← sets.others l other) live in omega (arith, ap owners_in (sets.others l other), d.owned l none was)
+        owned = λ l none live. elim (cases_eq l k) as (λ _. 0 < owners_in (slot_at new l)) [
+          | inl same ↦ omega (arith, ap (λ j. owners_in (slot_at new j)) same, sets.owners, some)
+          | inr other ↦ let was : IsSome (slot_at slots l) = rw (← sets.others l other) live in omega (arith, ap owners_in (sets.others l other), d.owned l none was)
         ];
         waiting = λ l held.
             let other : l ≢ k = λ same. absurd (omega (arith, ap (λ j. count j d.dead) same, off, held)) in
             let none = test_other k l (λ e. other (sym e)) in
             let wait = d.waiting l held in
-            let live : IsSome (entry_at new l) = rw (sets.others l other) wait.2 in
+            let live : IsSome (slot_at new l) = rw (sets.others l other) wait.2 in
             (wait.0, omega (arith, wait.1, count-cons l k pend, none, placed_in l), live);
       }
 
   -- the first row that waits is gone, and its links are to be dropped
-  pub IsDying-remove : (H : ℕ → ℕ) (slots new : List (Option (Entry T))) (first : ℕ) → first ≢ 2 ^ 64 - 1 → entry_at new first ≡ None → ApartAt slots new first → IsDying H slots first [] → IsDying H new (owners_in (entry_at slots first)) (links_of (graph_of slots first))
+  pub IsDying-remove : (H : ℕ → ℕ) (slots new : List (Option (Slot T))) (first : ℕ) → first ≢ 2 ^ 64 - 1 → slot_at new first ≡ None → ApartAt slots new first → IsDying H slots first [] → IsDying H new (owners_in (slot_at slots first)) (links_of (graph_of slots first))
   IsDying-remove H slots new first not_end gone apart d = step d.dead d.threaded d.counted d.owned d.waiting
     where
       links : List ℕ
       links = links_of (graph_of slots first)
 
       step : (dead : List ℕ) → IsThreaded slots first dead
-          → ((l : ℕ) → count l dead ≡ 0 → owners_in (entry_at slots l) ≡ H l + (places_at slots l + 0))
-          → ((l : ℕ) → count l dead ≡ 0 → IsSome (entry_at slots l) → 0 < owners_in (entry_at slots l))
-          → ((l : ℕ) → 0 < count l dead → (count l dead ≡ 1) × (H l + (places_at slots l + 0) ≡ 0) × IsSome (entry_at slots l))
-          → IsDying H new (owners_in (entry_at slots first)) (links_of (graph_of slots first))
+          → ((l : ℕ) → count l dead ≡ 0 → owners_in (slot_at slots l) ≡ H l + (places_at slots l + 0))
+          → ((l : ℕ) → count l dead ≡ 0 → IsSome (slot_at slots l) → 0 < owners_in (slot_at slots l))
+          → ((l : ℕ) → 0 < count l dead → (count l dead ≡ 1) × (H l + (places_at slots l + 0) ≡ 0) × IsSome (slot_at slots l))
+          → IsDying H new (owners_in (slot_at slots first)) (links_of (graph_of slots first))
       step [] threaded counted owned waiting = absurd (not_end threaded)
       step (x ∷ xs) threaded counted owned waiting =
           let is : first ≡ x = threaded.0 in
@@ -134,29 +133,34 @@ module _ {T : Type 0} where
           let same_count : (l : ℕ) → l ≢ first → count l (x ∷ xs) ≡ count l xs = λ l other. omega (arith, count-cons l x xs, test_other x l (λ e. other (sym (is ∙ e)))) in
           record {
             dead = xs;
-            threaded = IsThreaded-apart slots new first apart _ xs off (subst (λ j. IsThreaded slots (owners_in (entry_at slots j)) xs) (sym is) threaded.2);
-            counted = λ l none. elim (cases_eq l first) as (λ _. owners_in (entry_at new l) ≡ H l + (places_at new l + count l (links_of (graph_of slots first)))) [
+            threaded = IsThreaded-apart slots new first apart _ xs off (subst (λ j. IsThreaded slots (owners_in (slot_at slots j)) xs) (sym is) threaded.2);
+            counted = λ l none. elim (cases_eq l first) as (λ _. owners_in (slot_at new l) ≡ H l + (places_at new l + count l (links_of (graph_of slots first)))) [
               | inl same ↦
-                  let P : ℕ → Type 0 = λ j. owners_in (entry_at new j) ≡ H j + (places_at new j + count j (links_of (graph_of slots first))) in
+                  let P : ℕ → Type 0 = λ j. owners_in (slot_at new j) ≡ H j + (places_at new j + count j (links_of (graph_of slots first))) in
                   subst P (sym same) (omega (arith, nothing, moved first, wait.1))
               | inr other ↦ omega (arith, ap owners_in (apart l other), counted l (same_count l other ∙ none), moved l)
             ];
-            owned = λ l none live. elim (cases_eq l first) as (λ _. 0 < owners_in (entry_at new l)) [
-              | inl same ↦ let at_first : IsSome (entry_at new first) = subst (λ j. IsSome (entry_at new j)) same live in let dead_now : IsSome {T = Entry T} None = subst IsSome gone at_first in cc
-              | inr other ↦ let was : IsSome (entry_at slots l) = rw (← apart l other) live in omega (arith, ap owners_in (apart l other), owned l (same_count l other ∙ none) was)
+            owned = λ l none live. elim (cases_eq l first) as (λ _. 0 < owners_in (slot_at new l)) [
+              | inl same ↦ let at_first : IsSome (slot_at new first) = subst (λ j. IsSome (slot_at new j)) same live in let dead_now : IsSome {T = Slot T} None = subst IsSome gone at_first in cc
+              | inr other ↦ let was : IsSome (slot_at slots l) = rw (← apart l other) live in omega (arith, ap owners_in (apart l other), owned l (same_count l other ∙ none) was)
             ];
             waiting = λ l held.
                 let other : l ≢ first = λ same. absurd (omega (arith, ap (λ j. count j xs) same, off, held)) in
                 let still = waiting l (omega (arith, same_count l other, held)) in
-                let live : IsSome (entry_at new l) = rw (apart l other) still.2 in
+                let live : IsSome (slot_at new l) = rw (apart l other) still.2 in
                 (omega (arith, same_count l other, still.0), omega (arith, still.1, moved l), live);
           }
 
+  -- the same, by the owners and the links that the row gave
+  pub IsDying-taken : (H : ℕ → ℕ) (slots new : List (Option (Slot T))) (first next : ℕ) (links : List ℕ) → first ≢ 2 ^ 64 - 1 → slot_at new first ≡ None → ApartAt slots new first → next ≡ owners_in (slot_at slots first) → links ≡ links_of (graph_of slots first) → IsDying H slots first [] → IsDying H new next links
+  IsDying-taken H slots new first next links not_end gone apart owners same d =
+      rw (owners, same) (IsDying-remove H slots new first not_end gone apart d)
+
   -- once nothing waits, the owners are counted anew
-  pub IsDying-done : (H : ℕ → ℕ) (slots : List (Option (Entry T))) → IsDying H slots (2 ^ 64 - 1) [] → (l : ℕ) → owners_in (entry_at slots l) ≡ H l + places_at slots l
+  pub IsDying-done : (H : ℕ → ℕ) (slots : List (Option (Slot T))) → IsDying H slots (2 ^ 64 - 1) [] → (l : ℕ) → owners_in (slot_at slots l) ≡ H l + places_at slots l
   IsDying-done H slots d l = omega (arith, d.counted l (IsThreaded-none slots d.dead d.threaded l))
 
-  pub IsCounted-thinned : (H : ℕ → ℕ) (old new : List (Option (Entry T))) → IsCounted old → Thins old new → IsLow new → IsDying H new (2 ^ 64 - 1) [] → IsCounted new
+  pub IsCounted-thinned : (H : ℕ → ℕ) (old new : List (Option (Slot T))) → IsCounted old → Thins old new → IsLow new → IsDying H new (2 ^ 64 - 1) [] → IsCounted new
   IsCounted-thinned H old new counted thins low d = record {
     places = λ l. omega (arith, IsDying-done H new d l);
     owned = λ l live. d.owned l (IsThreaded-none new d.dead d.threaded l) live;
@@ -173,25 +177,25 @@ module _ {T : Type 0} where
   }
 
   -- the row of the first link to be dropped has an owner
-  pub first_owned : (H : ℕ → ℕ) (slots : List (Option (Entry T))) (first k : ℕ) (pend : List ℕ) → IsDying H slots first (k ∷ pend) → 0 < owners_in (entry_at slots k)
+  pub first_owned : (H : ℕ → ℕ) (slots : List (Option (Slot T))) (first k : ℕ) (pend : List ℕ) → IsDying H slots first (k ∷ pend) → 0 < owners_in (slot_at slots k)
   first_owned H slots first k pend d = omega (arith, d.counted k (off_list H slots first k pend d), count-cons k k pend, test_same k k refl)
 
-  pub IsLow-sets : (slots new : List (Option (Entry T))) (k n : ℕ) → SetsOwners slots new k n → IsSome (entry_at slots k) → IsLow slots → IsLow new
+  pub IsLow-sets : (slots new : List (Option (Slot T))) (k n : ℕ) → SetsOwners slots new k n → IsSome (slot_at slots k) → IsLow slots → IsLow new
   IsLow-sets slots new k n sets some low l live = elim (cases_eq l k) as (λ _. l < 2 ^ 64 - 1) [
     | inl same ↦ omega (arith, same, low k some)
-    | inr other ↦ let was : IsSome (entry_at slots l) = rw (← sets.others l other) live in low l was
+    | inr other ↦ let was : IsSome (slot_at slots l) = rw (← sets.others l other) live in low l was
   ]
 
   -- the first row that waits is there
-  pub first_live : (H : ℕ → ℕ) (slots : List (Option (Entry T))) (first : ℕ) → first ≢ 2 ^ 64 - 1 → IsDying H slots first [] → IsSome (entry_at slots first)
+  pub first_live : (H : ℕ → ℕ) (slots : List (Option (Slot T))) (first : ℕ) → first ≢ 2 ^ 64 - 1 → IsDying H slots first [] → IsSome (slot_at slots first)
   first_live H slots first not_end d = step d.dead d.threaded d.waiting
     where
-      step : (dead : List ℕ) → IsThreaded slots first dead → ((l : ℕ) → 0 < count l dead → (count l dead ≡ 1) × (H l + (places_at slots l + 0) ≡ 0) × IsSome (entry_at slots l)) → IsSome (entry_at slots first)
+      step : (dead : List ℕ) → IsThreaded slots first dead → ((l : ℕ) → 0 < count l dead → (count l dead ≡ 1) × (H l + (places_at slots l + 0) ≡ 0) × IsSome (slot_at slots l)) → IsSome (slot_at slots first)
       step [] threaded waiting = absurd (not_end threaded)
       step (x ∷ xs) threaded waiting = (waiting first (omega (arith, count-cons first x xs, test_same x first (sym threaded.0)))).2
 
   -- a count of rows, after one is gone
-  pub sum-remove : (f : Option (Row T) → ℕ) → f None ≡ 0 → (slots new : List (Option (Entry T))) (first : ℕ) → entry_at new first ≡ None → ApartAt slots new first → sum_by f (rows_in new) + f (graph_of slots first) ≡ sum_by f (rows_in slots)
+  pub sum-remove : (f : Option (Row T) → ℕ) → f None ≡ 0 → (slots new : List (Option (Slot T))) (first : ℕ) → slot_at new first ≡ None → ApartAt slots new first → sum_by f (rows_in new) + f (graph_of slots first) ≡ sum_by f (rows_in slots)
   sum-remove f none slots new first gone apart =
       let same : (k : ℕ) → k ≢ first → get_or (rows_in new) k None ≡ get_or (rows_in slots) k None =
       λ k other. row_at-slots new k ∙ ap row_in (apart k other) ∙ sym (row_at-slots slots k) in
@@ -201,7 +205,7 @@ module _ {T : Type 0} where
       omega (arith, sums, read, blank, none)
 
   -- a count of rows, after one is added
-  pub sum-add : (f : Option (Row T) → ℕ) → f None ≡ 0 → (slots new : List (Option (Entry T))) (key : ℕ) (e : Entry T) → entry_at slots key ≡ None → entry_at new key ≡ Some e → ApartAt slots new key → sum_by f (rows_in new) ≡ sum_by f (rows_in slots) + f (Some (row_of e.row))
+  pub sum-add : (f : Option (Row T) → ℕ) → f None ≡ 0 → (slots new : List (Option (Slot T))) (key : ℕ) (e : Slot T) → slot_at slots key ≡ None → slot_at new key ≡ Some e → ApartAt slots new key → sum_by f (rows_in new) ≡ sum_by f (rows_in slots) + f (Some e.row)
   sum-add f none slots new key e was is apart =
       let same : (k : ℕ) → k ≢ key → get_or (rows_in new) k None ≡ get_or (rows_in slots) k None =
       λ k other. row_at-slots new k ∙ ap row_in (apart k other) ∙ sym (row_at-slots slots k) in
@@ -210,45 +214,31 @@ module _ {T : Type 0} where
       let read = ap f (row_at-slots new key ∙ ap row_in is) in
       omega (arith, sums, read, blank, none)
 
-  -- there are at least as many rows as nodes
-  pub nodes_in-le : (slots : List (Option (Entry T))) → nodes_in slots ≤ count_by is_some slots
-  nodes_in-le [] = omega arith
-  nodes_in-le (o ∷ os) =
-      omega (arith, nodes_in-le os, at_one o, sum_by-cons is_node (row_in o) (rows_in os), sum_by-cons (λ x. cond (is_some x) 1 0) o os)
-    where
-      of_row : (r : Row T) → is_node (Some r) ≤ 1
-      of_row (cell x) = omega arith
-      of_row (node h ls) = omega arith
-
-      at_one : (o : Option (Entry T)) → is_node (row_in o) ≤ cond (is_some o) 1 0
-      at_one None = omega arith
-      at_one (Some e) = of_row (row_of e.row)
-
-  pub Thins-remove : (first_slots slots new : List (Option (Entry T))) (first : ℕ) → entry_at new first ≡ None → ApartAt slots new first → Thins first_slots slots → Thins first_slots new
+  pub Thins-remove : (first_slots slots new : List (Option (Slot T))) (first : ℕ) → slot_at new first ≡ None → ApartAt slots new first → Thins first_slots slots → Thins first_slots new
   Thins-remove first_slots slots new first gone apart thins l = elim (cases_eq l first) as (λ _. (graph_of new l ≡ None) ⊎ (graph_of new l ≡ graph_of first_slots l)) [
     | inl same ↦ inl (ap (graph_of new) same ∙ ap row_in gone)
     | inr other ↦ rw (apart l other) (thins l)
   ]
 
-  pub Thins-rows : (first_slots slots new : List (Option (Entry T))) → rows_in new ≡ rows_in slots → Thins first_slots slots → Thins first_slots new
+  pub Thins-rows : (first_slots slots new : List (Option (Slot T))) → rows_in new ≡ rows_in slots → Thins first_slots slots → Thins first_slots new
   Thins-rows first_slots slots new rows thins l =
       let same : graph_of new l ≡ graph_of slots l = sym (row_at-slots new l) ∙ ap (λ xs. get_or xs l None) rows ∙ row_at-slots slots l in
       rw same (thins l)
 
-  pub IsLow-remove : (slots new : List (Option (Entry T))) (first : ℕ) → entry_at new first ≡ None → ApartAt slots new first → IsLow slots → IsLow new
+  pub IsLow-remove : (slots new : List (Option (Slot T))) (first : ℕ) → slot_at new first ≡ None → ApartAt slots new first → IsLow slots → IsLow new
   IsLow-remove slots new first gone apart low l live = elim (cases_eq l first) as (λ _. l < 2 ^ 64 - 1) [
-    | inl same ↦ let at_first : IsSome (entry_at new first) = subst (λ j. IsSome (entry_at new j)) same live in let dead_now : IsSome {T = Entry T} None = subst IsSome gone at_first in absurd cc
-    | inr other ↦ let was : IsSome (entry_at slots l) = rw (← apart l other) live in low l was
+    | inl same ↦ let at_first : IsSome (slot_at new first) = subst (λ j. IsSome (slot_at new j)) same live in let dead_now : IsSome {T = Slot T} None = subst IsSome gone at_first in absurd cc
+    | inr other ↦ let was : IsSome (slot_at slots l) = rw (← apart l other) live in low l was
   ]
 
   -- the holds once one at the place is given up
-  abbrev pub holds_after : List (Option (Entry T)) → ℕ → ℕ → ℕ
-  holds_after slots place k = (owners_in (entry_at slots k) - places_at slots k) - one_at place k
+  abbrev pub holds_after : List (Option (Slot T)) → ℕ → ℕ → ℕ
+  holds_after slots place k = (owners_in (slot_at slots k) - places_at slots k) - one_at place k
 
-  pub held_at : (slots : List (Option (Entry T))) (hs : List ℕ) → hs ≡ holds_in slots → (l : ℕ) → get_or hs l 0 ≡ owners_in (entry_at slots l) - places_at slots l
+  pub held_at : (slots : List (Option (Slot T))) (hs : List ℕ) → hs ≡ holds_in slots → (l : ℕ) → get_or hs l 0 ≡ owners_in (slot_at slots l) - places_at slots l
   held_at slots hs s l = ap (λ xs. get_or xs l 0) s ∙ holds_at-slots slots l
 
-  pub IsDying-start : (old new : List (Option (Entry T))) (place : ℕ) → IsCounted old → SetsOwners old new place (2 ^ 64 - 1) → rows_in new ≡ rows_in old → IsSome (entry_at old place) → owners_in (entry_at old place) ≡ 1 → places_at old place ≡ 0 → IsDying (holds_after old place) new place []
+  pub IsDying-start : (old new : List (Option (Slot T))) (place : ℕ) → IsCounted old → SetsOwners old new place (2 ^ 64 - 1) → rows_in new ≡ rows_in old → IsSome (slot_at old place) → owners_in (slot_at old place) ≡ 1 → places_at old place ≡ 0 → IsDying (holds_after old place) new place []
   IsDying-start old new place counted sets rows live one free =
       let placed_in : (l : ℕ) → places_at new l ≡ places_at old l = λ l. ap (λ xs. places_in xs l) rows in
       let only : (l : ℕ) → count l (place ∷ []) ≡ one_at l place = λ l. omega (arith, count-cons l place []) in
@@ -260,17 +250,17 @@ module _ {T : Type 0} where
             omega (arith, ap owners_in (sets.others l other), counted.places l, placed_in l, test_other l place other);
         owned = λ l none some.
             let other : l ≢ place = λ same. absurd (omega (arith, only l, none, test_same place l (sym same))) in
-            let was : IsSome (entry_at old l) = rw (← sets.others l other) some in
+            let was : IsSome (slot_at old l) = rw (← sets.others l other) some in
             omega (arith, ap owners_in (sets.others l other), counted.owned l was);
-        waiting = λ l some. elim (cases_eq l place) as (λ _. (count l (place ∷ []) ≡ 1) × (holds_after old place l + (places_at new l + 0) ≡ 0) × IsSome (entry_at new l)) [
+        waiting = λ l some. elim (cases_eq l place) as (λ _. (count l (place ∷ []) ≡ 1) × (holds_after old place l + (places_at new l + 0) ≡ 0) × IsSome (slot_at new l)) [
           | inl same ↦
-              let P : ℕ → Type 0 = λ j. (count j (place ∷ []) ≡ 1) × (holds_after old place j + (places_at new j + 0) ≡ 0) × IsSome (entry_at new j) in
+              let P : ℕ → Type 0 = λ j. (count j (place ∷ []) ≡ 1) × (holds_after old place j + (places_at new j + 0) ≡ 0) × IsSome (slot_at new j) in
               subst P (sym same) (omega (arith, only place, test_same place place refl), omega (arith, one, free, placed_in place, test_same place place refl), sets.live)
           | inr other ↦ absurd (omega (arith, only l, test_other place l (λ e. other (sym e)), some))
         ];
       }
 
-  pub holds-freed : (old new : List (Option (Entry T))) (place : ℕ) (hs hs' : List ℕ) → hs ≡ holds_in old → hs' ≡ holds_in new → 0 < get_or hs place 0 → IsDying (holds_after old place) new (2 ^ 64 - 1) [] → (k : ℕ) → get_or hs' k 0 + one_at place k ≡ get_or hs k 0
+  pub holds-freed : (old new : List (Option (Slot T))) (place : ℕ) (hs hs' : List ℕ) → hs ≡ holds_in old → hs' ≡ holds_in new → 0 < get_or hs place 0 → IsDying (holds_after old place) new (2 ^ 64 - 1) [] → (k : ℕ) → get_or hs' k 0 + one_at place k ≡ get_or hs k 0
   holds-freed old new place hs hs' s s' held d k =
       let done = IsDying-done (holds_after old place) new d k in
       elim (cases_eq k place) as (λ _. get_or hs' k 0 + one_at place k ≡ get_or hs k 0) [
@@ -278,7 +268,7 @@ module _ {T : Type 0} where
         | inr other ↦ omega (arith, done, held_at old hs s k, held_at new hs' s' k, test_other k place other)
       ]
 
-  pub rows-thinned : (old mid new : List (Option (Entry T))) → rows_in mid ≡ rows_in old → Thins mid new → Thins old new
+  pub rows-thinned : (old mid new : List (Option (Slot T))) → rows_in mid ≡ rows_in old → Thins mid new → Thins old new
   rows-thinned old mid new rows thins l =
       let same : graph_of mid l ≡ graph_of old l = sym (row_at-slots mid l) ∙ ap (λ xs. get_or xs l None) rows ∙ row_at-slots old l in
       elim (thins l) as (λ _. (graph_of new l ≡ None) ⊎ (graph_of new l ≡ graph_of old l)) [
@@ -286,7 +276,7 @@ module _ {T : Type 0} where
         | inr kept ↦ inr (kept ∙ same)
       ]
 
-  pub rows-released : (old new : List (Option (Entry T))) (rs rs' : List (Option (Row T))) → rs ≡ rows_in old → rs' ≡ rows_in new → Thins old new → (k : ℕ) → (get_or rs' k None ≡ None) ⊎ (get_or rs' k None ≡ get_or rs k None)
+  pub rows-released : (old new : List (Option (Slot T))) (rs rs' : List (Option (Row T))) → rs ≡ rows_in old → rs' ≡ rows_in new → Thins old new → (k : ℕ) → (get_or rs' k None ≡ None) ⊎ (get_or rs' k None ≡ get_or rs k None)
   rows-released old new rs rs' r r' thins k =
       let at_old : get_or rs k None ≡ graph_of old k = ap (λ xs. get_or xs k None) r ∙ row_at-slots old k in
       let at_new : get_or rs' k None ≡ graph_of new k = ap (λ xs. get_or xs k None) r' ∙ row_at-slots new k in

@@ -5,17 +5,18 @@ use Rattle.node_heap.specs.Forms.{links_of}
 use Rattle.node_heap.specs.Layout.{rows_in, holds_in, seen, Thins, cells_in, nodes_in}
 use Rattle.node_heap.specs.Heap.{Heap, row_at, links_at, holds_at, one_at, IsGraph}
 use Rattle.node_heap.specs.Calls.{Releases}
-use Rattle.node_heap.specs.declared.entry.Entry.{Entry}
+use Rattle.node_heap.specs.Layout.{Slot}
 use Rattle.node_heap.proofs.Counts.{sum-more}
 use Rattle.node_heap.proofs.Slots.{row_at-slots}
 use Rattle.node_heap.proofs.Reach.{HasLink-same, Reaches-within}
-use Rattle.node_heap.proofs.Stored.{kinds_of}
+use Rattle.node_heap.proofs.Stored.{}
+use Rattle.node_heap.proofs.GraphLemmas.{rows-kinds}
 
 module _ {T : Type 0} where
-  abbrev pub Holds-less : List (Option (Entry T)) → List (Option (Entry T)) → ℕ → Type 0
+  abbrev pub Holds-less : List (Option (Slot T)) → List (Option (Slot T)) → ℕ → Type 0
   Holds-less old new place = (k : ℕ) → get_or (holds_in new) k 0 + one_at place k ≡ get_or (holds_in old) k 0
 
-  pub Releases-slots : (old new : List (Option (Entry T))) (place a b a' b' m : ℕ) → IsGraph (seen new a' b' m) → Holds-less old new place → Thins old new → a' + cells_in new ≡ a + cells_in old → b' + nodes_in new ≡ b + nodes_in old → cells_in new ≤ cells_in old → nodes_in new ≤ nodes_in old → Releases (seen old a b m) (seen new a' b' m) place
+  pub Releases-slots : (old new : List (Option (Slot T))) (place a b a' b' m : ℕ) → IsGraph (seen new a' b' m) → Holds-less old new place → Thins old new → a' + cells_in new ≡ a + cells_in old → b' + nodes_in new ≡ b + nodes_in old → cells_in new ≤ cells_in old → nodes_in new ≤ nodes_in old → Releases (seen old a b m) (seen new a' b' m) place
   Releases-slots old new place a b a' b' m graph less thins cells nodes fewer_cells fewer_nodes = record {
     holds = less;
     count = sym (sum-more (holds_in new) (holds_in old) place (λ k. sym (less k)));
@@ -25,7 +26,7 @@ module _ {T : Type 0} where
     nodes = nodes;
     fewer_cells = fewer_cells;
     fewer_nodes = fewer_nodes;
-    fewer = omega (arith, kinds_of (rows_in new), kinds_of (rows_in old), fewer_cells, fewer_nodes);
+    fewer = omega (arith, rows-kinds (rows_in new), rows-kinds (rows_in old), fewer_cells, fewer_nodes);
     made = refl;
   }
     where
@@ -60,5 +61,5 @@ module _ {T : Type 0} where
       down : (l : ℕ) → IsReached (holds_at h') (links_at h) l → IsSome (row_at h' l)
       down l reached = go reached.0 l reached.2 (graph.held reached.0 reached.1)
 
-  pub Thins-same : (old new : List (Option (Entry T))) → rows_in new ≡ rows_in old → Thins old new
+  pub Thins-same : (old new : List (Option (Slot T))) → rows_in new ≡ rows_in old → Thins old new
   Thins-same old new rows l = inr (sym (row_at-slots new l) ∙ ap (λ xs. get_or xs l None) rows ∙ row_at-slots old l)

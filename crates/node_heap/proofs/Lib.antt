@@ -3,9 +3,17 @@ pub mod Reach
 pub mod Trees
 pub mod Frames
 pub mod Slots
+pub mod Entries
 pub mod Dying
 pub mod Reached
 pub mod Stored
 pub mod Added
 pub mod Owners
 pub mod Freed
+pub mod GraphLemmas
+pub mod BuildLemmas
+pub mod Ways
+pub mod Edited
+pub mod Rewritten
+pub mod Copied
+pub mod Owned

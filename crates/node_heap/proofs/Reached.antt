@@ -5,8 +5,8 @@ use Rattle.std.proofs.lemmas.Bool.{cases_eq}
 use Rattle.std.proofs.lemmas.List.Sums.{sum_by-cons}
 use Rattle.node_heap.specs.Links.{count, HasLink, Reaches, here, LeadsDown}
 use Rattle.node_heap.specs.Forms.{links_of, links_in}
-use Rattle.node_heap.specs.Layout.{row_in, owners_in, rows_in, entry_at, places_at, graph_of, IsCounted}
-use Rattle.node_heap.specs.declared.entry.Entry.{Entry}
+use Rattle.node_heap.specs.Layout.{row_in, owners_in, rows_in, slot_at, places_at, graph_of, IsCounted}
+use Rattle.node_heap.specs.Layout.{Slot}
 use Rattle.node_heap.proofs.Slots.{row_at-slots}
 use Rattle.node_heap.proofs.Reach.{Reaches-then}
 
@@ -33,25 +33,25 @@ bound-le f (suc n) l h = elim (cases_eq l n) as (λ _. f l ≤ bound f n + f n) 
 ]
 
 module _ {T : Type 0} where
-  within_slots : (slots : List (Option (Entry T))) (l : ℕ) → IsSome (entry_at slots l) → l < length slots
+  within_slots : (slots : List (Option (Slot T))) (l : ℕ) → IsSome (slot_at slots l) → l < length slots
   within_slots [] l h = cc
   within_slots (o ∷ os) zero h = omega arith
   within_slots (o ∷ os) (suc l) h = omega (arith, within_slots os l h)
 
-  has_row : (e : Option (Entry T)) (k : ℕ) → 0 < count k (links_of (row_in e)) → IsSome e
+  has_row : (e : Option (Slot T)) (k : ℕ) → 0 < count k (links_of (row_in e)) → IsSome e
   has_row None k h = absurd (omega arith)
   has_row (Some e) k h = refl
 
-  parent : (slots : List (Option (Entry T))) (l : ℕ) → 0 < places_at slots l → (p : ℕ) × HasLink (links_in (graph_of slots)) p l × IsSome (entry_at slots p)
+  parent : (slots : List (Option (Slot T))) (l : ℕ) → 0 < places_at slots l → (p : ℕ) × HasLink (links_in (graph_of slots)) p l × IsSome (slot_at slots p)
   parent slots l some =
       let found = sum_by-found (λ r. count l (links_of r)) None (rows_in slots) some in
       let has : HasLink (links_in (graph_of slots)) found.0 l = omega (arith, ap (λ r. count l (links_of r)) (row_at-slots slots found.0), found.1) in
-      (found.0, has, has_row (entry_at slots found.0) l has)
+      (found.0, has, has_row (slot_at slots found.0) l has)
 
-  abbrev IsUnder : List (Option (Entry T)) → ℕ → Type 0
-  IsUnder slots l = (k : ℕ) × (places_at slots k < owners_in (entry_at slots k)) × Reaches (links_in (graph_of slots)) k l
+  abbrev IsUnder : List (Option (Slot T)) → ℕ → Type 0
+  IsUnder slots l = (k : ℕ) × (places_at slots k < owners_in (slot_at slots k)) × Reaches (links_in (graph_of slots)) k l
 
-  choose : (slots : List (Option (Entry T))) → IsCounted slots → (l : ℕ) → IsSome (entry_at slots l) → ((p : ℕ) → HasLink (links_in (graph_of slots)) p l → IsSome (entry_at slots p) → IsUnder slots l) → IsUnder slots l
+  choose : (slots : List (Option (Slot T))) → IsCounted slots → (l : ℕ) → IsSome (slot_at slots l) → ((p : ℕ) → HasLink (links_in (graph_of slots)) p l → IsSome (slot_at slots p) → IsUnder slots l) → IsUnder slots l
   choose slots counted l live up = by_places (places_at slots l) refl
     where
       by_places : (n : ℕ) → places_at slots l ≡ n → IsUnder slots l
@@ -59,7 +59,7 @@ module _ {T : Type 0} where
       by_places (suc n) e = let p = parent slots l (omega (arith, e)) in up p.0 p.1 p.2
 
   -- up from a row to a held one
-  climb : (slots : List (Option (Entry T))) → IsCounted slots → (rank : ℕ → ℕ) → LeadsDown rank (links_in (graph_of slots)) → (n l : ℕ) → IsSome (entry_at slots l) → bound rank (length slots) ≤ rank l + n → IsUnder slots l
+  climb : (slots : List (Option (Slot T))) → IsCounted slots → (rank : ℕ → ℕ) → LeadsDown rank (links_in (graph_of slots)) → (n l : ℕ) → IsSome (slot_at slots l) → bound rank (length slots) ≤ rank l + n → IsUnder slots l
   climb slots counted rank falls zero l live high =
       choose slots counted l live (λ p has there. absurd (omega (arith, falls p l has, high, bound-le rank (length slots) p (within_slots slots p there))))
   climb slots counted rank falls (suc n) l live high =
@@ -68,5 +68,5 @@ module _ {T : Type 0} where
       let up = climb slots counted rank falls n p there (omega (arith, falls p l has, high)) in
       (up.0, up.1, Reaches-then (links_in (graph_of slots)) up.0 p l up.2 has))
 
-  pub under-held : (slots : List (Option (Entry T))) → IsCounted slots → (l : ℕ) → IsSome (entry_at slots l) → IsUnder slots l
+  pub under-held : (slots : List (Option (Slot T))) → IsCounted slots → (l : ℕ) → IsSome (slot_at slots l) → IsUnder slots l
   under-held slots counted l live = climb slots counted counted.rank counted.falls (bound counted.rank (length slots)) l live (omega arith)

@@ -3,10 +3,10 @@ use Rattle.std.proofs.Common.{length, count_by, is_some, cond, ◌≡◌, ◌≢
 use Rattle.std.specs.Prelude.{sum_by, Result, IsOk, OnOk, Ok, Err}
 use Rattle.node_heap.specs.Links.{count, HasLink}
 use Rattle.node_heap.specs.Forms.{Row, links_of, links_in}
-use Rattle.node_heap.specs.Layout.{row_of, row_in, owners_in, rows_in, holds_in, entry_at, places_at, graph_of, IsCounted, ApartAt, SetsOwners}
+use Rattle.node_heap.specs.Layout.{row_in, owners_in, rows_in, holds_in, slot_at, places_at, graph_of, IsCounted, ApartAt, SetsOwners, Table, KeepsRoom}
 use Rattle.node_heap.specs.Heap.{places_in, row_at, holds_at, one_at, Heap}
 use Rattle.node_heap.specs.Calls.{Adds}
-use Rattle.node_heap.specs.declared.entry.Entry.{Entry}
+use Rattle.node_heap.specs.Layout.{Slot}
 use Rattle.node_heap.proofs.Counts.{get_or-map_default, get_or-less, sum_by-apart, le-sum_by, test_same, test_other, term-le-sum_by}
 use Rattle.std.proofs.Common.{eqb, inl, inr}
 use Rattle.std.proofs.lemmas.Bool.{cases_eq}
@@ -22,16 +22,16 @@ pub rank_apart : (n : ℕ) (rank : ℕ → ℕ) (key l : ℕ) → l ≢ key → 
 rank_apart n rank key l other = grind (arith, nat_tests)
 
 module _ {T : Type 0} where
-  pub row_at-slots : (slots : List (Option (Entry T))) (l : ℕ) → get_or (rows_in slots) l None ≡ row_in (entry_at slots l)
+  pub row_at-slots : (slots : List (Option (Slot T))) (l : ℕ) → get_or (rows_in slots) l None ≡ row_in (slot_at slots l)
   row_at-slots slots l = get_or-map_default row_in slots l None
 
-  pub holds_at-slots : (slots : List (Option (Entry T))) (l : ℕ) → get_or (holds_in slots) l 0 ≡ owners_in (entry_at slots l) - places_at slots l
+  pub holds_at-slots : (slots : List (Option (Slot T))) (l : ℕ) → get_or (holds_in slots) l 0 ≡ owners_in (slot_at slots l) - places_at slots l
   holds_at-slots slots l =
       get_or-less (places_in (rows_in slots)) 0 (map owners_in slots) l
       ∙ ap (λ n. n - places_in (rows_in slots) (0 + l)) (get_or-map_default owners_in slots l None)
-      ∙ ap (λ j. owners_in (entry_at slots l) - places_in (rows_in slots) j) (omega arith)
+      ∙ ap (λ j. owners_in (slot_at slots l) - places_in (rows_in slots) j) (omega arith)
 
-  pub owners_at-slots : (slots : List (Option (Entry T))) → IsCounted slots → (l : ℕ) → owners_in (entry_at slots l) ≡ get_or (holds_in slots) l 0 + places_at slots l
+  pub owners_at-slots : (slots : List (Option (Slot T))) → IsCounted slots → (l : ℕ) → owners_in (slot_at slots l) ≡ get_or (holds_in slots) l 0 + places_at slots l
   owners_at-slots slots counted l = omega (arith, holds_at-slots slots l, counted.places l)
 
   pub IsCounted-empty : IsCounted {T = T} []
@@ -44,13 +44,20 @@ module _ {T : Type 0} where
     falls = λ l k h. absurd (omega (arith, h));
   }
 
+  pub KeepsRoom-trans : {a b c : Table T} → KeepsRoom a b → KeepsRoom b c → KeepsRoom a c
+  KeepsRoom-trans p q = record {
+    len = q.len ∙ p.len;
+    spare_cells = q.spare_cells ∙ p.spare_cells;
+    spare_nodes = q.spare_nodes ∙ p.spare_nodes;
+  }
+
   -- an owned link names a row
-  pub live-owned : (e : Option (Entry T)) → 0 < owners_in e → IsSome e
+  pub live-owned : (e : Option (Slot T)) → 0 < owners_in e → IsSome e
   live-owned None h = absurd (omega arith)
   live-owned (Some e) h = refl
 
   -- the places of a link, after the row at one place has changed
-  pub places_at-apart : (old new : List (Option (Entry T))) (key : ℕ) → ApartAt old new key → (l : ℕ) → places_at new l + count l (links_of (graph_of old key)) ≡ places_at old l + count l (links_of (graph_of new key))
+  pub places_at-apart : (old new : List (Option (Slot T))) (key : ℕ) → ApartAt old new key → (l : ℕ) → places_at new l + count l (links_of (graph_of old key)) ≡ places_at old l + count l (links_of (graph_of new key))
   places_at-apart old new key apart l =
       let f : Option (Row T) → ℕ = λ r. count l (links_of r) in
       let same : (k : ℕ) → k ≢ key → get_or (rows_in new) k None ≡ get_or (rows_in old) k None =
@@ -59,37 +66,37 @@ module _ {T : Type 0} where
       rw (row_at-slots old key, row_at-slots new key) at sums
 
   -- a link that stands in a row is owned
-  pub placed : (slots : List (Option (Entry T))) (l k : ℕ) → HasLink (links_in (graph_of slots)) l k → 0 < places_at slots k
+  pub placed : (slots : List (Option (Slot T))) (l k : ℕ) → HasLink (links_in (graph_of slots)) l k → 0 < places_at slots k
   placed slots l k has =
       let f : Option (Row T) → ℕ = λ r. count k (links_of r) in
       let below = le-sum_by f None refl (rows_in slots) l in
       let read = ap f (row_at-slots slots l) in
       omega (arith, below, read, has)
 
-  pub IsCounted-add : (old new : List (Option (Entry T))) (key : ℕ) (e : Entry T) → IsCounted old → entry_at old key ≡ None → entry_at new key ≡ Some e → ApartAt old new key → e.owners ≡ 1 → key < 2 ^ 64 - 1 → length (links_of (Some (row_of e.row))) ≤ 32 → ((l : ℕ) → count l (links_of (Some (row_of e.row))) + places_at old l ≤ owners_in (entry_at old l)) → IsCounted new
+  pub IsCounted-add : (old new : List (Option (Slot T))) (key : ℕ) (e : Slot T) → IsCounted old → slot_at old key ≡ None → slot_at new key ≡ Some e → ApartAt old new key → e.owners ≡ 1 → key < 2 ^ 64 - 1 → length (links_of (Some e.row)) ≤ 32 → ((l : ℕ) → count l (links_of (Some e.row)) + places_at old l ≤ owners_in (slot_at old l)) → IsCounted new
   IsCounted-add old new key e counted was is apart one in_range brief held =
-      let links = links_of (Some (row_of e.row)) in
+      let links = links_of (Some e.row) in
       let moved : (l : ℕ) → places_at new l ≡ places_at old l + count l links =
       λ l. let sums = places_at-apart old new key apart l in omega (arith, rw (was, is) at sums) in
-      let gone : owners_in (entry_at old key) ≡ 0 = ap owners_in was in
-      let now : owners_in (entry_at new key) ≡ 1 = ap owners_in is ∙ one in
-      let apart_owners : (l : ℕ) → l ≢ key → owners_in (entry_at new l) ≡ owners_in (entry_at old l) = λ l other. ap owners_in (apart l other) in
+      let gone : owners_in (slot_at old key) ≡ 0 = ap owners_in was in
+      let now : owners_in (slot_at new key) ≡ 1 = ap owners_in is ∙ one in
+      let apart_owners : (l : ℕ) → l ≢ key → owners_in (slot_at new l) ≡ owners_in (slot_at old l) = λ l other. ap owners_in (apart l other) in
       let rank : ℕ → ℕ = λ l. cond (eqb l key) (suc (sum_by counted.rank links)) (counted.rank l) in
       let rank_here : rank key ≡ suc (sum_by counted.rank links) = rank_same (suc (sum_by counted.rank links)) counted.rank key key refl in
       let rank_other : (l : ℕ) → l ≢ key → rank l ≡ counted.rank l = λ l other. rank_apart (suc (sum_by counted.rank links)) counted.rank key l other in
-      let linked : (k : ℕ) → 0 < owners_in (entry_at old k) → k ≢ key = λ k owned same. let e = ap (λ j. owners_in (entry_at old j)) same in absurd (omega (arith, e, gone, owned)) in
+      let linked : (k : ℕ) → 0 < owners_in (slot_at old k) → k ≢ key = λ k owned same. let e = ap (λ j. owners_in (slot_at old j)) same in absurd (omega (arith, e, gone, owned)) in
       record {
-        places = λ l. elim (cases_eq l key) as (λ _. places_at new l ≤ owners_in (entry_at new l)) [
-          | inl same ↦ let e = ap (λ j. owners_in (entry_at new j)) same in let f = ap (λ j. owners_in (entry_at old j)) same in omega (arith, moved l, held l, e, f, gone, now)
+        places = λ l. elim (cases_eq l key) as (λ _. places_at new l ≤ owners_in (slot_at new l)) [
+          | inl same ↦ let e = ap (λ j. owners_in (slot_at new j)) same in let f = ap (λ j. owners_in (slot_at old j)) same in omega (arith, moved l, held l, e, f, gone, now)
           | inr other ↦ omega (arith, moved l, held l, apart_owners l other)
         ];
-        owned = λ l live. elim (cases_eq l key) as (λ _. 0 < owners_in (entry_at new l)) [
-          | inl same ↦ let e = ap (λ j. owners_in (entry_at new j)) same in omega (arith, e, now)
-          | inr other ↦ let is_live : IsSome (entry_at old l) = rw (← apart l other) live in omega (arith, apart_owners l other, counted.owned l is_live)
+        owned = λ l live. elim (cases_eq l key) as (λ _. 0 < owners_in (slot_at new l)) [
+          | inl same ↦ let e = ap (λ j. owners_in (slot_at new j)) same in omega (arith, e, now)
+          | inr other ↦ let is_live : IsSome (slot_at old l) = rw (← apart l other) live in omega (arith, apart_owners l other, counted.owned l is_live)
         ];
         low = λ l live. elim (cases_eq l key) as (λ _. l < 2 ^ 64 - 1) [
           | inl same ↦ omega (arith, same, in_range)
-          | inr other ↦ let is_live : IsSome (entry_at old l) = rw (← apart l other) live in counted.low l is_live
+          | inr other ↦ let is_live : IsSome (slot_at old l) = rw (← apart l other) live in counted.low l is_live
         ];
         short = λ l. elim (cases_eq l key) as (λ _. length (links_of (graph_of new l)) ≤ 32) [
           | inl same ↦ omega (arith, ap (λ j. length (links_of (graph_of new j))) same, ap (λ o. length (links_of (row_in o))) is, brief)
@@ -112,17 +119,17 @@ module _ {T : Type 0} where
       }
 
   -- what `Adds` says, at the slots
-  pub Adds-slots : (old new : List (Option (Entry T))) (key : ℕ) (e : Entry T) (h h' : Heap T) → h.rows ≡ rows_in old → h.holds ≡ holds_in old → h'.rows ≡ rows_in new → h'.holds ≡ holds_in new → IsCounted old → entry_at old key ≡ None → entry_at new key ≡ Some e → ApartAt old new key → e.owners ≡ 1 → ((l : ℕ) → count l (links_of (Some (row_of e.row))) + places_at old l ≤ owners_in (entry_at old l)) → Adds h h' key (row_of e.row)
+  pub Adds-slots : (old new : List (Option (Slot T))) (key : ℕ) (e : Slot T) (h h' : Heap T) → h.rows ≡ rows_in old → h.holds ≡ holds_in old → h'.rows ≡ rows_in new → h'.holds ≡ holds_in new → IsCounted old → slot_at old key ≡ None → slot_at new key ≡ Some e → ApartAt old new key → e.owners ≡ 1 → ((l : ℕ) → count l (links_of (Some e.row)) + places_at old l ≤ owners_in (slot_at old l)) → Adds h h' key e.row
   Adds-slots old new key e h h' r s r' s' counted was is apart one held =
-      let links = links_of (Some (row_of e.row)) in
+      let links = links_of (Some e.row) in
       let moved : (l : ℕ) → places_at new l ≡ places_at old l + count l links =
       λ l. let sums = places_at-apart old new key apart l in omega (arith, rw (was, is) at sums) in
       let row : (l : ℕ) → row_at h l ≡ graph_of old l = λ l. ap (λ xs. get_or xs l None) r ∙ row_at-slots old l in
       let row' : (l : ℕ) → row_at h' l ≡ graph_of new l = λ l. ap (λ xs. get_or xs l None) r' ∙ row_at-slots new l in
-      let hold : (l : ℕ) → holds_at h l ≡ owners_in (entry_at old l) - places_at old l = λ l. ap (λ xs. get_or xs l 0) s ∙ holds_at-slots old l in
-      let hold' : (l : ℕ) → holds_at h' l ≡ owners_in (entry_at new l) - places_at new l = λ l. ap (λ xs. get_or xs l 0) s' ∙ holds_at-slots new l in
-      let gone : owners_in (entry_at old key) ≡ 0 = ap owners_in was in
-      let now : owners_in (entry_at new key) ≡ 1 = ap owners_in is ∙ one in
+      let hold : (l : ℕ) → holds_at h l ≡ owners_in (slot_at old l) - places_at old l = λ l. ap (λ xs. get_or xs l 0) s ∙ holds_at-slots old l in
+      let hold' : (l : ℕ) → holds_at h' l ≡ owners_in (slot_at new l) - places_at new l = λ l. ap (λ xs. get_or xs l 0) s' ∙ holds_at-slots new l in
+      let gone : owners_in (slot_at old key) ≡ 0 = ap owners_in was in
+      let now : owners_in (slot_at new key) ≡ 1 = ap owners_in is ∙ one in
       record {
         fresh = row key ∙ ap row_in was;
         here = row' key ∙ ap row_in is;
@@ -130,40 +137,40 @@ module _ {T : Type 0} where
         apart = omega (arith, held key, gone);
         others = λ k other. row' k ∙ ap row_in (apart k other) ∙ sym (row k);
         holds = λ k. elim (cases_eq k key) as (λ _. holds_at h' k + count k links ≡ holds_at h k + one_at key k) [
-          | inl same ↦ let e1 = ap (λ j. owners_in (entry_at new j)) same in let e2 = ap (λ j. owners_in (entry_at old j)) same in omega (arith, hold k, hold' k, moved k, held k, e1, e2, gone, now, test_same k key same)
+          | inl same ↦ let e1 = ap (λ j. owners_in (slot_at new j)) same in let e2 = ap (λ j. owners_in (slot_at old j)) same in omega (arith, hold k, hold' k, moved k, held k, e1, e2, gone, now, test_same k key same)
           | inr other ↦ omega (arith, hold k, hold' k, moved k, held k, ap owners_in (apart k other), test_other k key other)
         ];
       }
 
   -- a hold that the caller has is an owner beside the places
-  pub holds-room : (slots : List (Option (Entry T))) (hs : List ℕ) → hs ≡ holds_in slots → IsCounted slots → (l n : ℕ) → n ≤ get_or hs l 0 → n + places_at slots l ≤ owners_in (entry_at slots l)
+  pub holds-room : (slots : List (Option (Slot T))) (hs : List ℕ) → hs ≡ holds_in slots → IsCounted slots → (l n : ℕ) → n ≤ get_or hs l 0 → n + places_at slots l ≤ owners_in (slot_at slots l)
   holds-room slots hs s counted l n below =
-      let hold : get_or hs l 0 ≡ owners_in (entry_at slots l) - places_at slots l = ap (λ xs. get_or xs l 0) s ∙ holds_at-slots slots l in
+      let hold : get_or hs l 0 ≡ owners_in (slot_at slots l) - places_at slots l = ap (λ xs. get_or xs l 0) s ∙ holds_at-slots slots l in
       omega (arith, hold, counted.places l, below)
 
   -- a number of owners is no part of the rows
-  pub rows_in-owners : (slots : List (Option (Entry T))) (place : ℕ) (e : Entry T) (n : ℕ) → entry_at slots place ≡ Some e → rows_in (set slots place (Some (record { owners = n; row = e.row }))) ≡ rows_in slots
+  pub rows_in-owners : (slots : List (Option (Slot T))) (place : ℕ) (e : Slot T) (n : ℕ) → slot_at slots place ≡ Some e → rows_in (set slots place (Some (record { owners = n; row = e.row }))) ≡ rows_in slots
   rows_in-owners slots place e n is =
       map-set row_in slots place (Some (record { owners = n; row = e.row }))
       ∙ ap (set (rows_in slots) place) (sym (row_at-slots slots place ∙ ap row_in is))
       ∙ set-get_or (rows_in slots) place None
 
-  pub IsCounted-owners : (old new : List (Option (Entry T))) (place n : ℕ) → SetsOwners old new place n → rows_in new ≡ rows_in old → IsCounted old → IsSome (entry_at old place) → places_at old place ≤ n → 0 < n → IsCounted new
+  pub IsCounted-owners : (old new : List (Option (Slot T))) (place n : ℕ) → SetsOwners old new place n → rows_in new ≡ rows_in old → IsCounted old → IsSome (slot_at old place) → places_at old place ≤ n → 0 < n → IsCounted new
   IsCounted-owners old new place n sets rows counted live_old enough some =
       let graph : (l : ℕ) → graph_of new l ≡ graph_of old l = λ l. sym (row_at-slots new l) ∙ ap (λ xs. get_or xs l None) rows ∙ row_at-slots old l in
       let placed_in : (l : ℕ) → places_at new l ≡ places_at old l = λ l. ap (λ xs. places_in xs l) rows in
       record {
-        places = λ l. elim (cases_eq l place) as (λ _. places_at new l ≤ owners_in (entry_at new l)) [
-          | inl same ↦ omega (arith, placed_in l, ap (λ j. owners_in (entry_at new j)) same, sets.owners, ap (places_at old) same)
+        places = λ l. elim (cases_eq l place) as (λ _. places_at new l ≤ owners_in (slot_at new l)) [
+          | inl same ↦ omega (arith, placed_in l, ap (λ j. owners_in (slot_at new j)) same, sets.owners, ap (places_at old) same)
           | inr other ↦ omega (arith, placed_in l, ap owners_in (sets.others l other), counted.places l)
         ];
-        owned = λ l live. elim (cases_eq l place) as (λ _. 0 < owners_in (entry_at new l)) [
-          | inl same ↦ omega (arith, ap (λ j. owners_in (entry_at new j)) same, sets.owners)
-          | inr other ↦ let was : IsSome (entry_at old l) = rw (← sets.others l other) live in omega (arith, ap owners_in (sets.others l other), counted.owned l was)
+        owned = λ l live. elim (cases_eq l place) as (λ _. 0 < owners_in (slot_at new l)) [
+          | inl same ↦ omega (arith, ap (λ j. owners_in (slot_at new j)) same, sets.owners)
+          | inr other ↦ let was : IsSome (slot_at old l) = rw (← sets.others l other) live in omega (arith, ap owners_in (sets.others l other), counted.owned l was)
         ];
         low = λ l live. elim (cases_eq l place) as (λ _. l < 2 ^ 64 - 1) [
           | inl same ↦ omega (arith, same, counted.low place live_old)
-          | inr other ↦ let was : IsSome (entry_at old l) = rw (← sets.others l other) live in counted.low l was
+          | inr other ↦ let was : IsSome (slot_at old l) = rw (← sets.others l other) live in counted.low l was
         ];
         short = λ l. omega (arith, ap (λ r. length (links_of r)) (graph l), counted.short l);
         rank = counted.rank;
@@ -171,29 +178,29 @@ module _ {T : Type 0} where
       }
 
   -- one owner more is one hold more
-  pub holds-more : (old new : List (Option (Entry T))) (place n : ℕ) (hs hs' : List ℕ) → hs ≡ holds_in old → hs' ≡ holds_in new → SetsOwners old new place n → rows_in new ≡ rows_in old → IsCounted old → n ≡ owners_in (entry_at old place) + 1 → (k : ℕ) → get_or hs' k 0 ≡ get_or hs k 0 + one_at place k
+  pub holds-more : (old new : List (Option (Slot T))) (place n : ℕ) (hs hs' : List ℕ) → hs ≡ holds_in old → hs' ≡ holds_in new → SetsOwners old new place n → rows_in new ≡ rows_in old → IsCounted old → n ≡ owners_in (slot_at old place) + 1 → (k : ℕ) → get_or hs' k 0 ≡ get_or hs k 0 + one_at place k
   holds-more old new place n hs hs' s s' sets rows counted more k =
-      let hold : get_or hs k 0 ≡ owners_in (entry_at old k) - places_at old k = ap (λ xs. get_or xs k 0) s ∙ holds_at-slots old k in
-      let hold' : get_or hs' k 0 ≡ owners_in (entry_at new k) - places_at new k = ap (λ xs. get_or xs k 0) s' ∙ holds_at-slots new k in
+      let hold : get_or hs k 0 ≡ owners_in (slot_at old k) - places_at old k = ap (λ xs. get_or xs k 0) s ∙ holds_at-slots old k in
+      let hold' : get_or hs' k 0 ≡ owners_in (slot_at new k) - places_at new k = ap (λ xs. get_or xs k 0) s' ∙ holds_at-slots new k in
       let placed_in : places_at new k ≡ places_at old k = ap (λ xs. places_in xs k) rows in
       elim (cases_eq k place) as (λ _. get_or hs' k 0 ≡ get_or hs k 0 + one_at place k) [
-        | inl same ↦ omega (arith, test_same k place same, hold, hold', placed_in, ap (λ j. owners_in (entry_at new j)) same, ap (λ j. owners_in (entry_at old j)) same, sets.owners, counted.places k, more)
+        | inl same ↦ omega (arith, test_same k place same, hold, hold', placed_in, ap (λ j. owners_in (slot_at new j)) same, ap (λ j. owners_in (slot_at old j)) same, sets.owners, counted.places k, more)
         | inr other ↦ omega (arith, test_other k place other, hold, hold', placed_in, ap owners_in (sets.others k other))
       ]
 
   -- one owner less is one hold less
-  pub holds-less : (old new : List (Option (Entry T))) (place n : ℕ) (hs hs' : List ℕ) → hs ≡ holds_in old → hs' ≡ holds_in new → SetsOwners old new place n → rows_in new ≡ rows_in old → places_at old place ≤ n → n + 1 ≡ owners_in (entry_at old place) → (k : ℕ) → get_or hs' k 0 + one_at place k ≡ get_or hs k 0
+  pub holds-less : (old new : List (Option (Slot T))) (place n : ℕ) (hs hs' : List ℕ) → hs ≡ holds_in old → hs' ≡ holds_in new → SetsOwners old new place n → rows_in new ≡ rows_in old → places_at old place ≤ n → n + 1 ≡ owners_in (slot_at old place) → (k : ℕ) → get_or hs' k 0 + one_at place k ≡ get_or hs k 0
   holds-less old new place n hs hs' s s' sets rows enough fewer k =
-      let hold : get_or hs k 0 ≡ owners_in (entry_at old k) - places_at old k = ap (λ xs. get_or xs k 0) s ∙ holds_at-slots old k in
-      let hold' : get_or hs' k 0 ≡ owners_in (entry_at new k) - places_at new k = ap (λ xs. get_or xs k 0) s' ∙ holds_at-slots new k in
+      let hold : get_or hs k 0 ≡ owners_in (slot_at old k) - places_at old k = ap (λ xs. get_or xs k 0) s ∙ holds_at-slots old k in
+      let hold' : get_or hs' k 0 ≡ owners_in (slot_at new k) - places_at new k = ap (λ xs. get_or xs k 0) s' ∙ holds_at-slots new k in
       let placed_in : places_at new k ≡ places_at old k = ap (λ xs. places_in xs k) rows in
       elim (cases_eq k place) as (λ _. get_or hs' k 0 + one_at place k ≡ get_or hs k 0) [
-        | inl same ↦ omega (arith, test_same k place same, hold, hold', placed_in, ap (λ j. owners_in (entry_at new j)) same, ap (λ j. owners_in (entry_at old j)) same, ap (places_at old) same, sets.owners, enough, fewer)
+        | inl same ↦ omega (arith, test_same k place same, hold, hold', placed_in, ap (λ j. owners_in (slot_at new j)) same, ap (λ j. owners_in (slot_at old j)) same, ap (places_at old) same, sets.owners, enough, fewer)
         | inr other ↦ omega (arith, test_other k place other, hold, hold', placed_in, ap owners_in (sets.others k other))
       ]
 
   -- so many rows have at most so many places
-  pub places_at-le : (slots : List (Option (Entry T))) → ((l : ℕ) → length (links_of (graph_of slots l)) ≤ 32) → (k : ℕ) → places_at slots k ≤ 32 * count_by is_some slots
+  pub places_at-le : (slots : List (Option (Slot T))) → ((l : ℕ) → length (links_of (graph_of slots l)) ≤ 32) → (k : ℕ) → places_at slots k ≤ 32 * count_by is_some slots
   places_at-le [] short k = omega arith
   places_at-le (o ∷ os) short k =
       let first = short 0 in
@@ -202,7 +209,7 @@ module _ {T : Type 0} where
       let head : count k (links_of (row_in o)) ≤ 32 * cond (is_some o) 1 0 = at_one o k (omega (arith, first, few)) in
       omega (arith, head, rest, sum_by-cons (λ r. count k (links_of r)) (row_in o) (rows_in os), sum_by-cons (λ x. cond (is_some x) 1 0) o os)
     where
-      at_one : (o : Option (Entry T)) (k : ℕ) → count k (links_of (row_in o)) ≤ 32 → count k (links_of (row_in o)) ≤ 32 * cond (is_some o) 1 0
+      at_one : (o : Option (Slot T)) (k : ℕ) → count k (links_of (row_in o)) ≤ 32 → count k (links_of (row_in o)) ≤ 32 * cond (is_some o) 1 0
       at_one None k h = omega arith
       at_one (Some e) k h = omega (arith, h)
 

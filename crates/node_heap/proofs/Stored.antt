@@ -1,70 +1,50 @@
 -- What the fields of a heap say of the heap that contracts see.
-use Rattle.std.proofs.Common.{◌≡◌, ℕ, zero, suc, ◌+◌, ◌-◌, ◌^◌, ◌<◌, ◌≤◌, List, [], ◌∷◌, length, get_or, refl, ap, arith, Option, Some, None, IsSome, is_some, count_by, cond}
+use Rattle.std.proofs.Common.{◌≡◌, ℕ, ◌+◌, ◌-◌, ◌^◌, ◌<◌, ◌≤◌, List, [], ◌∷◌, length, get_or, refl, ap, arith, Option, Some, None, IsSome, is_some, count_by, cond}
 use Rattle.std.specs.Prelude.{sum_by, sum}
 use Rattle.std.proofs.lemmas.List.Sums.{sum_by-cons}
 use Rattle.node_heap.specs.Links.{count, HasLink}
-use Rattle.node_heap.specs.Forms.{Row, cell, node, links_of, links_in, is_cell, is_node}
-use Rattle.node_heap.specs.Layout.{row_in, owners_in, rows_in, holds_in, entry_at, places_at, graph_of, IsCounted, IsStored, seen, nodes_in}
+use Rattle.node_heap.specs.Forms.{links_of, links_in, is_cell, is_node}
+use Rattle.node_heap.specs.Layout.{row_in, owners_in, rows_in, holds_in, slot_at, places_at, graph_of, IsCounted, IsStored, seen}
 use Rattle.node_heap.specs.Heap.{Heap, row_at, links_at, holds_at, IsGraph}
 use Rattle.node_heap.specs.Calls.{Unchanged}
-use Rattle.node_heap.specs.declared.entry.Entry.{Entry}
+use Rattle.node_heap.specs.Layout.{Slot}
 use Rattle.node_heap.proofs.Slots.{row_at-slots, holds_at-slots, placed, live-owned}
 use Rattle.node_heap.proofs.Reached.{under-held}
-use Rattle.node_heap.proofs.Reach.{Reaches-alike, acyclic-ranked}
+use Rattle.node_heap.proofs.Reach.{Reaches-alike}
 
 -- 1 where there is a value, and else 0
 abbrev pub one_if_some : {X : Type 0} → Option X → ℕ
 one_if_some o = cond (is_some o) 1 0
 
 module _ {T : Type 0} where
-  pub live_entry : (e : Option (Entry T)) → IsSome (row_in e) → IsSome e
-  live_entry None some = cc
-  live_entry (Some e) some = refl
+  pub live_slot : (e : Option (Slot T)) → IsSome (row_in e) → IsSome e
+  live_slot None some = cc
+  live_slot (Some e) some = refl
 
-  pub live_row : (e : Option (Entry T)) → IsSome e → IsSome (row_in e)
+  pub live_row : (e : Option (Slot T)) → IsSome e → IsSome (row_in e)
   live_row None some = cc
   live_row (Some e) some = refl
 
   -- so many rows as slots in use
-  pub live_slots : (slots : List (Option (Entry T))) → count_by is_some (rows_in slots) ≡ count_by is_some slots
+  pub live_slots : (slots : List (Option (Slot T))) → count_by is_some (rows_in slots) ≡ count_by is_some slots
   live_slots [] = refl
   live_slots (o ∷ os) =
       omega (arith, live_slots os, at_one o, sum_by-cons (λ x. cond (is_some x) 1 0) (row_in o) (rows_in os), sum_by-cons (λ x. cond (is_some x) 1 0) o os)
     where
-      at_one : (o : Option (Entry T)) → one_if_some (row_in o) ≡ one_if_some o
+      at_one : (o : Option (Slot T)) → one_if_some (row_in o) ≡ one_if_some o
       at_one None = refl
       at_one (Some e) = refl
 
-  -- a row is a cell or a node
-  pub kinds_of : (rows : List (Option (Row T))) → count_by is_some rows ≡ sum_by is_cell rows + sum_by is_node rows
-  kinds_of [] = refl
-  kinds_of (o ∷ os) =
-      omega (arith, kinds_of os, at_one o, sum_by-cons (λ x. cond (is_some x) 1 0) o os, sum_by-cons is_cell o os, sum_by-cons is_node o os)
-    where
-      at_one : (o : Option (Row T)) → one_if_some o ≡ is_cell o + is_node o
-      at_one None = refl
-      at_one (Some (cell x)) = refl
-      at_one (Some (node head links)) = refl
-
-  past_end : (rows : List (Option (Row T))) (l : ℕ) → length rows ≤ l → get_or rows l None ≡ None
-  past_end [] l h = refl
-  past_end (o ∷ os) zero h = absurd (omega (arith, h))
-  past_end (o ∷ os) (suc l) h = past_end os l (omega (arith, h))
-
-  pub IsGraph-stored : (slots : List (Option (Entry T))) (capacity cells nodes room number : ℕ) → IsStored slots capacity cells nodes room number → IsGraph (seen slots cells nodes number)
-  IsGraph-stored slots capacity cells nodes room number stored = record {
-    closed = λ l k has. live k (live-owned (entry_at slots k) (omega (arith, placed slots l k (linked l k has), counted.places k)));
-    held = λ l some. live l (live-owned (entry_at slots l) (omega (arith, hold l, some)));
-    owned = λ l some. omega (arith, hold l, counted.owned l (live_entry (entry_at slots l) (rw (← row l) some)), counted.places l);
+  pub IsGraph-stored : (slots : List (Option (Slot T))) (cells nodes number : ℕ) → IsStored slots cells nodes number → IsGraph (seen slots cells nodes number)
+  IsGraph-stored slots cells nodes number stored = record {
+    closed = λ l k has. live k (live-owned (slot_at slots k) (omega (arith, placed slots l k (linked l k has), counted.places k)));
+    held = λ l some. live l (live-owned (slot_at slots l) (omega (arith, hold l, some)));
     reached = λ l some.
-        let up = under-held slots counted l (live_entry (entry_at slots l) (rw (← row l) some)) in
+        let up = under-held slots counted l (live_slot (slot_at slots l) (rw (← row l) some)) in
         (up.0, omega (arith, hold up.0, up.1), Reaches-alike (links_in (graph_of slots)) (links_at h) (λ l. ap links_of (row l)) up.0 l up.2);
-    acyclic = acyclic-ranked (links_at h) counted.rank (λ l k has. counted.falls l k (linked l k has));
     rank = counted.rank;
     falls = λ l k has. counted.falls l k (linked l k has);
     short = λ l. omega (arith, ap (λ r. length (links_of r)) (row l), counted.short l);
-    finite = past_end (rows_in slots);
-    kinds = kinds_of (rows_in slots);
     few_holds = stored.few_holds;
     few_rows = omega (arith, stored.few, live_slots slots);
     few_made = stored.fits;
@@ -79,18 +59,18 @@ module _ {T : Type 0} where
       row : (l : ℕ) → row_at h l ≡ graph_of slots l
       row l = row_at-slots slots l
 
-      hold : (l : ℕ) → holds_at h l ≡ owners_in (entry_at slots l) - places_at slots l
+      hold : (l : ℕ) → holds_at h l ≡ owners_in (slot_at slots l) - places_at slots l
       hold l = holds_at-slots slots l
 
       linked : (l k : ℕ) → HasLink (links_at h) l k → HasLink (links_in (graph_of slots)) l k
       linked l k has = omega (arith, ap (λ o. count k (links_of o)) (row l), has)
 
-      live : (l : ℕ) → IsSome (entry_at slots l) → IsSome (row_at h l)
-      live l some = rw (row l) (live_row (entry_at slots l) some)
+      live : (l : ℕ) → IsSome (slot_at slots l) → IsSome (row_at h l)
+      live l some = rw (row l) (live_row (slot_at slots l) some)
 
   -- the slots are the same, and no spare is lost
-  pub Unchanged-stored : (slots slots' : List (Option (Entry T))) (a b m a' b' capacity room : ℕ) → slots' ≡ slots → IsStored slots' capacity a' b' room m → a ≤ a' → b ≤ b' → Unchanged (seen slots a b m) (seen slots' a' b' m)
-  Unchanged-stored slots slots' a b m a' b' capacity room same stored at_a at_b = record {
+  pub Unchanged-stored : (slots slots' : List (Option (Slot T))) (a b m a' b' : ℕ) → slots' ≡ slots → IsStored slots' a' b' m → a ≤ a' → b ≤ b' → Unchanged (seen slots a b m) (seen slots' a' b' m)
+  Unchanged-stored slots slots' a b m a' b' same stored at_a at_b = record {
     rows = λ k. ap (λ xs. get_or (rows_in xs) k None) same;
     holds = λ k. ap (λ xs. get_or (holds_in xs) k 0) same;
     count = ap (λ xs. sum (holds_in xs)) same;
@@ -100,17 +80,14 @@ module _ {T : Type 0} where
     made = refl;
     spare_cells = at_a;
     spare_nodes = at_b;
-    graph = IsGraph-stored slots' capacity a' b' room m stored;
+    graph = IsGraph-stored slots' a' b' m stored;
   }
 
-  -- the slots are the same, with more room
-  pub IsStored-reserved : (slots slots' : List (Option (Entry T))) (a b m a' b' capacity capacity' room room' : ℕ) → slots' ≡ slots → IsStored slots capacity a b room m → count_by is_some slots' + (a' + b') ≤ capacity' → count_by is_some slots' + (a' + b') < 2 ^ 56 → capacity' < 2 ^ 64 → b' + nodes_in slots ≤ room' → IsStored slots' capacity' a' b' room' m
-  IsStored-reserved slots slots' a b m a' b' capacity capacity' room room' same stored roomy few in_range pooled = record {
+  -- the slots are the same, with more spares
+  pub IsStored-reserved : (slots slots' : List (Option (Slot T))) (a b m a' b' : ℕ) → slots' ≡ slots → IsStored slots a b m → count_by is_some slots + (a' + b') < 2 ^ 56 → IsStored slots' a' b' m
+  IsStored-reserved slots slots' a b m a' b' same stored few = record {
     counted = rw same stored.counted;
-    roomy = roomy;
-    few = few;
-    in_range = in_range;
-    pooled = omega (arith, pooled, ap nodes_in same);
+    few = omega (arith, few, ap (λ xs. count_by is_some xs) same);
     few_holds = omega (arith, stored.few_holds, ap (λ xs. sum (holds_in xs)) same);
     fits = stored.fits;
   }

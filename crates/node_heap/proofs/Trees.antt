@@ -2,9 +2,20 @@
 use Rattle.std.proofs.Common.{◌≡◌, ℕ, zero, suc, ◌<◌, List, [], ◌∷◌, map, refl, sym, ap, subst, ◌∙◌, arith, Option, Some, None, IsSome}
 use Rattle.std.specs.Prelude.{option_map}
 use Rattle.node_heap.specs.Links.{count, HasLink, Reaches, here, LeadsDown, SameBelow}
-use Rattle.node_heap.specs.Forms.{RowOf, Row, Rows, Form, Forms, cell, node, links_of, links_in, form_of, forms_of, Tree, tree_node, tree_then, trees_of, Trees, grow, unfold_at, IsTree, AreTrees, is_cell_tree, is_node_tree, are_none, are_then}
+use Rattle.node_heap.specs.Forms.{RowOf, Row, Rows, Form, Forms, cell, node, links_of, links_in, form_of, forms_of, Tree, tree_node, tree_then, trees_of, Trees, cut, tree_cell, IsTree, AreTrees, is_cell_tree, is_node_tree, are_none, are_then}
 use Rattle.node_heap.proofs.Counts.{test_same, count-cons}
 use Rattle.node_heap.proofs.Reach.{SameBelow-link, Reaches-alike}
+
+-- one level of a tree, over the trees of the links
+abbrev grow : {K : Type 0} → (ℕ → Tree K) → Option (Form K) → Tree K
+grow f None = cut
+grow f (Some (cell x)) = tree_cell x
+grow f (Some (node kind links)) = tree_node kind (trees_of (map f links))
+
+-- the tree of a link down to a depth
+abbrev unfold_at : {K : Type 0} → ℕ → Forms K → ℕ → Tree K
+unfold_at zero G l = cut
+unfold_at (suc n) G l = grow (unfold_at n G) (G l)
 
 pub map-same : {X : Type 0} (f g : ℕ → X) (links : List ℕ) → ((k : ℕ) → 0 < count k links → f k ≡ g k) → map f links ≡ map g links
 map-same f g [] same = refl

@@ -1,5 +1,5 @@
 -- What calls do to a heap, as records that a caller composes.
-use Rattle.std.specs.Prelude.{◌≡◌, ◌≢◌, ◌↔◌, ℕ, ◌+◌, ◌-◌, ◌^◌, ◌<◌, ◌≤◌, List, length, Some, None, IsSome, min}
+use Rattle.std.specs.Prelude.{◌≡◌, ◌≢◌, ◌↔◌, ℕ, ◌+◌, ◌-◌, ◌^◌, ◌<◌, ◌≤◌, List, length, Some, None, IsSome, min, max}
 use Rattle.node_heap.specs.Links.{count, IsReached, SameBelow}
 use Rattle.node_heap.specs.Forms.{Row, links_of, Tree, IsTree}
 use Rattle.node_heap.specs.Heap.{Heap, row_at, form_at, links_at, holds_at, owners_at, hold_count, live_count, cell_count, node_count, one_at, IsGraph}
@@ -80,6 +80,33 @@ module _ {T : Type 0} where
     pub spare_cells : old.spare_cells ≤ new.spare_cells
     pub spare_nodes : old.spare_nodes ≤ new.spare_nodes
     pub graph : IsGraph new
+
+  -- there are just as many spares of each kind as there were or as were asked, whichever is more
+  pub record HasGreater (old new : Heap T) (cells nodes : ℕ) : Type 0 where
+    pub spare_cells : new.spare_cells ≡ max old.spare_cells cells
+    pub spare_nodes : new.spare_nodes ≡ max old.spare_nodes nodes
+
+  -- there are no more spares of either kind than that
+  pub record HasNoMore (old new : Heap T) (cells nodes : ℕ) : Type 0 where
+    pub spare_cells : new.spare_cells ≤ max old.spare_cells cells
+    pub spare_nodes : new.spare_nodes ≤ max old.spare_nodes nodes
+
+  -- the number made rises by just what the rows gain, up to its greatest value
+  abbrev pub MakesJust : Heap T → Heap T → Type 0
+  MakesJust old new = new.made ≡ min (old.made + (live_count new - live_count old)) (2 ^ 64 - 1)
+
+  -- rows were added and none freed: at most c cells and n nodes, each made of a spare; a hold of each link of the first
+  -- list was spent, and one of each of the second gained
+  pub record Builds (old new : Heap T) (spent gained : List ℕ) (c n : ℕ) : Type 0 where
+    pub extends : Extends old new
+    pub graph : IsGraph new
+    pub holds : (k : ℕ) → holds_at new k + count k spent ≡ holds_at old k + count k gained
+    pub total : hold_count new + length spent ≡ hold_count old + length gained
+    pub cells : ℕ
+    pub nodes : ℕ
+    pub few_cells : cells ≤ c
+    pub few_nodes : nodes ≤ n
+    pub makes : Makes old new cells nodes
 
   -- spares and rows of each kind are together no fewer, and the number made rises at least by the rows that
   -- came, up to its greatest value

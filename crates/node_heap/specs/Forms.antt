@@ -107,17 +107,6 @@ abbrev pub trees_of : {K : Type 0} → List (Tree K) → Trees K
 trees_of [] = no_trees
 trees_of (t ∷ ts) = tree_then t (trees_of ts)
 
--- one level of a tree, over the trees of the links
-abbrev pub grow : {K : Type 0} → (ℕ → Tree K) → Option (Form K) → Tree K
-grow f None = cut
-grow f (Some (cell x)) = tree_cell x
-grow f (Some (node kind links)) = tree_node kind (trees_of (map f links))
-
--- the tree of a link down to a depth
-abbrev pub unfold_at : {K : Type 0} → ℕ → Forms K → ℕ → Tree K
-unfold_at zero G l = cut
-unfold_at (suc n) G l = grow (unfold_at n G) (G l)
-
 mutual
   -- the link unfolds to the tree
   pub data IsTree {K : Type 0} (G : Forms K) : ℕ → Tree K → Type 0 where
@@ -130,16 +119,16 @@ mutual
     are_then : (k : ℕ) (t : Tree K) (ks : List ℕ) (ts : Trees K) → IsTree G k t → AreTrees G ks ts → AreTrees G (k ∷ ks) (tree_then t ts)
 
 mutual
-  -- the trees are equal but for the values of their cells, which are alike
-  pub data AlikeTree {K : Type 0} (Alike : K → K → Type 0) : Tree K → Tree K → Type 0 where
-    alike_cut : AlikeTree Alike cut cut
-    alike_cell : (x y : K) → Alike x y → AlikeTree Alike (tree_cell x) (tree_cell y)
-    alike_node : (kind : Kind) (ts us : Trees K) → AlikeTrees Alike ts us → AlikeTree Alike (tree_node kind ts) (tree_node kind us)
+  -- the trees are equal but for the values of their cells, which are similar
+  pub data SimilarTree {K : Type 0} (Similar : K → K → Type 0) : Tree K → Tree K → Type 0 where
+    similar_cut : SimilarTree Similar cut cut
+    similar_cell : (x y : K) → Similar x y → SimilarTree Similar (tree_cell x) (tree_cell y)
+    similar_node : (kind : Kind) (ts us : Trees K) → SimilarTrees Similar ts us → SimilarTree Similar (tree_node kind ts) (tree_node kind us)
 
-  -- so many trees on both sides, alike one by one
-  pub data AlikeTrees {K : Type 0} (Alike : K → K → Type 0) : Trees K → Trees K → Type 0 where
-    alike_none : AlikeTrees Alike no_trees no_trees
-    alike_then : (t u : Tree K) (ts us : Trees K) → AlikeTree Alike t u → AlikeTrees Alike ts us → AlikeTrees Alike (tree_then t ts) (tree_then u us)
+  -- so many trees on both sides, similar one by one
+  pub data SimilarTrees {K : Type 0} (Similar : K → K → Type 0) : Trees K → Trees K → Type 0 where
+    similar_none : SimilarTrees Similar no_trees no_trees
+    similar_then : (t u : Tree K) (ts us : Trees K) → SimilarTree Similar t u → SimilarTrees Similar ts us → SimilarTrees Similar (tree_then t ts) (tree_then u us)
 
 -- what a link unfolds to depends on the rows alone that it reaches
 abbrev pub TreesFollowReached : Type 0 → Type 0

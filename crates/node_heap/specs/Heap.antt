@@ -1,6 +1,6 @@
 -- What a contract sees of a heap.
-use Rattle.std.specs.Prelude.{◌≡◌, ℕ, ◌+◌, ◌^◌, ◌<◌, ◌≤◌, List, length, Option, None, IsSome, is_some, count_by, sum, sum_by, slice_index_or, ◌==◌, if◌then◌else◌}
-use Rattle.node_heap.specs.Links.{Links, count, HasLink, IsReached, IsAcyclic, LeadsDown}
+use Rattle.std.specs.Prelude.{ℕ, ◌+◌, ◌^◌, ◌<◌, ◌≤◌, List, length, Option, None, IsSome, is_some, count_by, sum, sum_by, slice_index_or, ◌==◌, if◌then◌else◌}
+use Rattle.node_heap.specs.Links.{Links, count, HasLink, IsReached, LeadsDown}
 use Rattle.node_heap.specs.Forms.{Row, Rows, Forms, links_of, links_in, forms_of, is_cell, is_node}
 
 -- the row and the holds of each link from 0 on, the spares of each kind, and the number of rows ever made
@@ -54,18 +54,14 @@ module _ {T : Type 0} where
   abbrev pub HasSpares : Heap T → ℕ → ℕ → Type 0
   HasSpares h cells nodes = (cells ≤ h.spare_cells) × (nodes ≤ h.spare_nodes)
 
-  -- links and holds lead to rows, each row has an owner and is reached from a hold, and no row reaches itself
+  -- links and holds lead to rows, each row is reached from a hold, and each link leads down
   pub record IsGraph (h : Heap T) : Type 0 where
     pub closed : (l k : ℕ) → HasLink (links_at h) l k → IsSome (row_at h k)
     pub held : (l : ℕ) → 0 < holds_at h l → IsSome (row_at h l)
-    pub owned : (l : ℕ) → IsSome (row_at h l) → 0 < owners_at h l
     pub reached : (l : ℕ) → IsSome (row_at h l) → IsReached (holds_at h) (links_at h) l
-    pub acyclic : IsAcyclic (links_at h)
     pub rank : ℕ → ℕ
     pub falls : LeadsDown rank (links_at h)
     pub short : (l : ℕ) → length (links_at h l) ≤ 32
-    pub finite : (l : ℕ) → length h.rows ≤ l → row_at h l ≡ None
-    pub kinds : live_count h ≡ cell_count h + node_count h
     pub few_holds : hold_count h ≤ 2 ^ 60
     pub few_rows : live_count h + (h.spare_cells + h.spare_nodes) < 2 ^ 56
     pub few_made : h.made < 2 ^ 64

@@ -3,3 +3,6 @@ pub mod Forms
 pub mod Heap
 pub mod Calls
 pub mod Layout
+pub mod Inside
+pub mod InPlace
+pub mod Glass

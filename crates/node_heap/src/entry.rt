@@ -1,5 +1,5 @@
-//! What a slot of the heap holds.
-ghost use Rattle.std.specs.Prelude.{◌<◌, length, ◌≡◌, ◌+◌, ◌≤◌, Some};
+//! What a slot of the table holds.
+ghost use Rattle.std.specs.Prelude.{◌<◌, length, ◌≡◌, ◌+◌, ◌≤◌, Some, slice_set, slice_index, insert, remove};
 
 use crate::row::{Head, Link};
 use arrayvec::ArrayVec;
@@ -44,8 +44,8 @@ impl Node {
 }
 
 impl<T> Content<T> {
-    ghost use Rattle.node_heap.specs.Forms.{links_of, is_cell, is_node};
-    ghost use Rattle.node_heap.specs.Layout.{row_of};
+    ghost use Rattle.node_heap.specs.Forms.{links_of, head_of, is_cell, is_node};
+    ghost use Rattle.node_heap.specs.Inside.{row_of};
 
     // 1 for a cell.
     pub(crate) fn cells(&self) -> usize
@@ -59,11 +59,73 @@ impl<T> Content<T> {
     }
 
     pub(crate) fn links(&self) -> &[Link]
-        ensures { result.now ≡ links_of (Some (row_of self.now)) }
+        ensures links { result.now ≡ links_of (Some (row_of self.now)) }
+        ensures short { length result.now ≤ 32 }
     {
         match self {
             Content::Cell(_) => &[],
             Content::Node(node) => node.links.as_slice(),
+        }
+    }
+
+    // Puts the link in place of the one at the index, which it answers.
+    pub(crate) fn replace(&mut self, index: usize, link: Link) -> Link
+        requires { index < length (links_of (Some (row_of self.old))) }
+        ensures kind { is_node (Some (row_of self.new)) ≡ 1 }
+        ensures head { head_of (Some (row_of self.new)) ≡ head_of (Some (row_of self.old)) }
+        ensures links { links_of (Some (row_of self.new)) ≡ slice_set (links_of (Some (row_of self.old))) index link }
+        ensures old { result ≡ slice_index (links_of (Some (row_of self.old))) index }
+    {
+        match self {
+            Content::Cell(_) => unreachable!(),
+            Content::Node(node) => {
+                let links = node.links.as_mut_slice();
+                let old = links[index];
+                links[index] = link;
+                old
+            }
+        }
+    }
+
+    // Puts the link at the index, before those that stand there and after.
+    pub(crate) fn insert(&mut self, index: usize, link: Link)
+        requires node { is_node (Some (row_of self.old)) ≡ 1 }
+        requires index { index ≤ length (links_of (Some (row_of self.old))) }
+        requires room { length (links_of (Some (row_of self.old))) < 32 }
+        ensures kind { is_node (Some (row_of self.new)) ≡ 1 }
+        ensures head { head_of (Some (row_of self.new)) ≡ head_of (Some (row_of self.old)) }
+        ensures links { links_of (Some (row_of self.new)) ≡ insert (links_of (Some (row_of self.old))) index link }
+    {
+        match self {
+            Content::Cell(_) => unreachable!(),
+            Content::Node(node) => node.links.insert(index, link),
+        }
+    }
+
+    // Takes the link at the index out.
+    pub(crate) fn remove(&mut self, index: usize) -> Link
+        requires { index < length (links_of (Some (row_of self.old))) }
+        ensures kind { is_node (Some (row_of self.new)) ≡ 1 }
+        ensures head { head_of (Some (row_of self.new)) ≡ head_of (Some (row_of self.old)) }
+        ensures links { links_of (Some (row_of self.new)) ≡ remove (links_of (Some (row_of self.old))) index }
+        ensures old { result ≡ slice_index (links_of (Some (row_of self.old))) index }
+    {
+        match self {
+            Content::Cell(_) => unreachable!(),
+            Content::Node(node) => node.links.remove(index),
+        }
+    }
+
+    // Puts the head in place of the node's.
+    pub(crate) fn set_head(&mut self, head: Head)
+        requires { is_node (Some (row_of self.old)) ≡ 1 }
+        ensures kind { is_node (Some (row_of self.new)) ≡ 1 }
+        ensures head { head_of (Some (row_of self.new)) ≡ Some head }
+        ensures links { links_of (Some (row_of self.new)) ≡ links_of (Some (row_of self.old)) }
+    {
+        match self {
+            Content::Cell(_) => unreachable!(),
+            Content::Node(node) => node.head = head,
         }
     }
 }

@@ -1,42 +1,35 @@
 //! The heap and its calls.
-ghost use Rattle.std.specs.Prelude.{vec_len, vec_capacity, ◌≡◌, ℕ, ◌+◌, ◌-◌, ◌^◌, ◌<◌, ◌≤◌, ◌↔◌, [], length, Some, IsSome, OnOk, IsOk, option_copied};
-ghost use Rattle.slab.specs.Slab.{get, slab_len};
-ghost use Rattle.node_heap.specs.Links.{count};
+ghost use Rattle.std.specs.Prelude.{◌≡◌, ◌≢◌, ℕ, ◌+◌, ◌*◌, ◌∷◌, None, ◌-◌, ◌^◌, ◌<◌, ◌≤◌, ◌↔◌, [], length, Some, IsSome, OnOk, OnErr, IsOk, option_copied, slice_index, slice_set, insert, remove};
+ghost use Rattle.node_heap.specs.Links.{count, Reaches};
 ghost use Rattle.node_heap.specs.Forms.{cell, node, links_of, value_of, head_of, is_cell, is_node};
-ghost use Rattle.node_heap.specs.Heap.{row_at, holds_at, owners_at, live_count, hold_count, one_at, HasSpares, IsGraph};
-ghost use Rattle.node_heap.specs.Calls.{KeepsBelow, SameRows, Adds, AddsOwner, KeepsOwners, Makes, Releases, Extends, KeepsHeld, KeepsTrees, Unchanged};
-ghost use Rattle.node_heap.specs.Layout.{graph_of, row_of, SetsOwners, rows_in, IsDying, IsLow, Thins, cells_in, nodes_in};
+ghost use Rattle.node_heap.specs.Heap.{row_at, links_at, holds_at, owners_at, live_count, hold_count, one_at, HasSpares, IsGraph};
+ghost use Rattle.node_heap.specs.Calls.{KeepsBelow, SameRows, Adds, AddsOwner, KeepsOwners, Makes, Releases, Extends, KeepsHeld, KeepsTrees, Unchanged, HasGreater, HasNoMore, Builds};
+ghost use Rattle.node_heap.specs.InPlace.{child_at, other_at, Writes, Edits};
+ghost use Rattle.node_heap.specs.Layout.{graph_of, slot_at, owners_in, row_count, Copies, rows_in, IsCounted, IsDying, IsLow, KeepsRoom, Thins, cells_in, nodes_in};
 
-use crate::entry::{Content, Entry, Node};
 use crate::row::{Head, Link};
-use arrayvec::ArrayVec;
+use crate::table::Table;
 use elem_core::NoMemory;
-use slab::Slab;
-use std::alloc::{AllocError, Global};
+use std::alloc::Global;
 use std::marker::Model;
 
 /// Rows with their owners counted, and spares of which more rows are made.
 #[derive(Drop)]
 pub struct Heap<T> {
-    slots: Slab<Entry<T>>,
-    // The nodes that are not in use. There is room for those in use.
-    pool: Vec<Box<Node>>,
-    alloc: Global,
-    spare_cells: usize,
+    table: Table<T>,
     made: u64,
 }
 
 impl<T> Model for Heap<T> {
-    ghost use Rattle.std.specs.Vec.{vec_len, vec_capacity};
     ghost use Rattle.node_heap.specs.Heap.{Heap as Seen};
 
     ghost Value = { Seen T };
 
     ghost use Rattle.node_heap.specs.Layout.{seen, IsStored};
 
-    ghost view = { λ h. seen h.slots.slots h.spare_cells (vec_len h.pool) h.made };
+    ghost view = { λ h. seen h.table.slots h.table.spare_cells h.table.spare_nodes h.made };
 
-    ghost invariant = { λ h. IsStored h.slots.slots h.slots.capacity h.spare_cells (vec_len h.pool) (vec_capacity h.pool) h.made };
+    ghost invariant = { λ h. IsStored h.table.slots h.table.spare_cells h.table.spare_nodes h.made };
 }
 
 impl<T> Heap<T> {
@@ -50,10 +43,7 @@ impl<T> Heap<T> {
         ensures graph { IsGraph result }
     {
         Heap {
-            slots: Slab::new(alloc),
-            pool: Vec::new(alloc),
-            alloc,
-            spare_cells: 0,
+            table: Table::new(alloc),
             made: 0,
         }
     }
@@ -63,7 +53,7 @@ impl<T> Heap<T> {
         ensures value { result ≡ live_count self.now }
         ensures graph { IsGraph self.now }
     {
-        self.slots.len()
+        self.table.len()
     }
 
     /// The number of rows ever made. It stays at 2^64 - 1 once it is there.
@@ -78,14 +68,17 @@ impl<T> Heap<T> {
         requires { IsSome (row_at self.now link) }
         ensures { result ≡ owners_at self.now link }
     {
-        self.slots[link.place].owners
+        self.table.owners(link.place)
     }
 
-    /// Makes room, so that at least so many cells and so many nodes can be made without memory. Refused where there is
-    /// none, and where the rows and the spares together would reach 2^56, but never where the spares suffice already. The
-    /// rows, the holds and the number made stay either way, and a refused call may leave more spares.
+    /// Makes room, so that so many cells and so many nodes can be made without memory: the spares of each kind are then what
+    /// was there or what was asked, whichever is more. Refused where there is no memory, and where the rows and the spares
+    /// together would reach 2^56, but never where the spares suffice already. The rows, the holds and the number made stay
+    /// either way, and a refused call may leave more spares, though no more than were asked.
     pub fn reserve(&mut self, cells: usize, nodes: usize) -> Result<(), NoMemory>
         ensures spares { OnOk result (HasSpares self.new cells nodes) }
+        ensures greater { OnOk result (HasGreater self.old self.new cells nodes) }
+        ensures no_more { OnErr result (HasNoMore self.old self.new cells nodes) }
         ensures rest { Unchanged self.old self.new }
         ensures keeps { KeepsHeld (λ _. 0) self.old self.new }
         ensures extends { Extends self.old self.new }
@@ -93,20 +86,16 @@ impl<T> Heap<T> {
         ensures owners { KeepsOwners self.old self.new }
         ensures ample { cells ≤ self.old.spare_cells → nodes ≤ self.old.spare_nodes → IsOk result }
     {
-        let spare_cells = self.spare_cells.max(cells);
-        let spare_nodes = self.pool.len().max(nodes);
+        let spare_cells = self.table.spare_cells().max(cells);
+        let spare_nodes = self.table.spare_nodes().max(nodes);
         // So many rows take more bytes than any machine has.
         if spare_cells >= ROWS || spare_nodes >= ROWS {
             return Err(NoMemory);
         }
-        if self.slots.len() + (spare_cells + spare_nodes) >= ROWS {
+        if self.table.len() + (spare_cells + spare_nodes) >= ROWS {
             return Err(NoMemory);
         }
-        let reserved = self.slots.reserve(spare_cells + spare_nodes);
-        let _ = self.slots.capacity();
-        reserved?;
-        grow_pool(&mut self.pool, self.alloc, spare_nodes, self.slots.len())?;
-        self.spare_cells = spare_cells;
+        self.table.reserve(spare_cells, spare_nodes)?;
         Ok(())
     }
 
@@ -124,12 +113,8 @@ impl<T> Heap<T> {
         ensures keeps { KeepsHeld (λ _. 0) self.old self.new }
         ensures trees { KeepsTrees self.old self.new }
     {
-        self.spare_cells -= 1;
         self.made = self.made.saturating_add(1);
-        let place = self.slots.insert_reserved(Entry {
-            owners: 1,
-            row: Content::Cell(value),
-        });
+        let place = self.table.put_cell(value);
         Link { place }
     }
 
@@ -150,9 +135,8 @@ impl<T> Heap<T> {
         ensures keeps { KeepsHeld (λ l. count l links.now) self.old self.new }
         ensures trees { KeepsTrees self.old self.new }
     {
-        let row = filled(&mut self.pool, head, links);
         self.made = self.made.saturating_add(1);
-        let place = self.slots.insert_reserved(Entry { owners: 1, row });
+        let place = self.table.put_node(head, links);
         Link { place }
     }
 
@@ -170,8 +154,8 @@ impl<T> Heap<T> {
         ensures keeps { KeepsHeld (λ _. 0) self.old self.new }
         ensures trees { KeepsTrees self.old self.new }
     {
-        let owners = self.slots[link.place].owners + 1;
-        set_owners(&mut self.slots, link.place, owners);
+        let owners = self.table.owners(link.place) + 1;
+        self.table.set_owners(link.place, owners);
     }
 
     /// The value of a live link's cell, and none for a node.
@@ -179,10 +163,7 @@ impl<T> Heap<T> {
         requires { IsSome (row_at self.now link) }
         ensures { option_copied result ≡ value_of (row_at self.now link) }
     {
-        match &self.slots[link.place].row {
-            Content::Cell(value) => Some(value),
-            Content::Node(_) => None,
-        }
+        self.table.value(link.place)
     }
 
     /// The head of a live link's node, and none for a cell.
@@ -190,10 +171,7 @@ impl<T> Heap<T> {
         requires { IsSome (row_at self.now link) }
         ensures { option_copied result ≡ head_of (row_at self.now link) }
     {
-        match &self.slots[link.place].row {
-            Content::Cell(_) => None,
-            Content::Node(node) => Some(&node.head),
-        }
+        self.table.head(link.place)
     }
 
     /// The links of a live link's row, at most 32. A cell has none.
@@ -202,7 +180,119 @@ impl<T> Heap<T> {
         ensures links { result.now ≡ links_of (row_at self.now link) }
         ensures graph { IsGraph self.now }
     {
-        self.slots[link.place].row.links()
+        self.table.links(link.place)
+    }
+
+    /// A node of the caller's own to write in: a held one with this head and these links and no other owner, for which the
+    /// given hold is spent. It is the node itself where that hold was its one owner, and else a copy, made of a spare.
+    pub fn own(&mut self, link: Link) -> Link
+        requires held { 0 < holds_at self.old link }
+        requires node { is_node (row_at self.old link) ≡ 1 }
+        requires spare { 0 < self.old.spare_nodes }
+        ensures same { (result ≡ link) ↔ (owners_at self.old link ≡ 1) }
+        ensures row { row_at self.new result ≡ row_at self.old link }
+        ensures sole { owners_at self.new result ≡ 1 }
+        ensures fresh { result ≢ link → row_at self.old result ≡ None }
+        ensures owners { (k : ℕ) → owners_at self.new k + one_at link k ≡ owners_at self.old k + (one_at result k + other_at link result * count k (links_at self.old link)) }
+        ensures builds { Builds self.old self.new (link ∷ []) (result ∷ []) 0 1 }
+        ensures makes { Makes self.old self.new 0 (other_at link result) }
+    {
+        let owners = self.table.owners(link.place);
+        if owners == 1 {
+            return link;
+        }
+        let place = copied(&mut self.table, link.place);
+        self.made = self.made.saturating_add(1);
+        self.table.set_owners(link.place, owners - 1);
+        Link { place }
+    }
+
+    /// The same for the child at an index of a node with one owner: the child, or the copy, stands there then.
+    pub fn own_child(&mut self, parent: Link, index: usize) -> Link
+        requires sole { owners_at self.old parent ≡ 1 }
+        requires index { index < length (links_at self.old parent) }
+        requires node { is_node (row_at self.old (child_at self.old parent index)) ≡ 1 }
+        requires spare { 0 < self.old.spare_nodes }
+        ensures same { (result ≡ child_at self.old parent index) ↔ (owners_at self.old (child_at self.old parent index) ≡ 1) }
+        ensures row { row_at self.new result ≡ row_at self.old (child_at self.old parent index) }
+        ensures sole { owners_at self.new result ≡ 1 }
+        ensures fresh { result ≢ child_at self.old parent index → row_at self.old result ≡ None }
+        ensures parent_head { head_of (row_at self.new parent) ≡ head_of (row_at self.old parent) }
+        ensures parent_links { links_at self.new parent ≡ slice_set (links_at self.old parent) index result }
+        ensures others { (k : ℕ) → k ≢ parent → k ≢ result → row_at self.new k ≡ row_at self.old k }
+        ensures owners { (k : ℕ) → owners_at self.new k + one_at (child_at self.old parent index) k
+            ≡ owners_at self.old k + (one_at result k + other_at (child_at self.old parent index) result * count k (links_at self.old (child_at self.old parent index))) }
+        ensures edits { Edits parent self.old self.new [] [] 0 1 }
+        ensures makes { Makes self.old self.new 0 (other_at (child_at self.old parent index) result) }
+    {
+        let child = self.table.links(parent.place)[index];
+        let owners = self.table.owners(child.place);
+        if owners == 1 {
+            return child;
+        }
+        let place = copied(&mut self.table, child.place);
+        self.made = self.made.saturating_add(1);
+        let copy = Link { place };
+        // The answer is the child, which has a place less then.
+        let _ = self.table.replace_link(parent.place, index, copy);
+        self.table.set_owners(child.place, owners - 1);
+        copy
+    }
+
+    /// Puts the new link in place of the one at an index of a node with one owner. It spends the new link's hold, and the
+    /// caller has a hold of the old one. The new link doesn't reach the node.
+    pub fn replace(&mut self, parent: Link, index: usize, new: Link) -> Link
+        requires sole { owners_at self.old parent ≡ 1 }
+        requires index { index < length (links_at self.old parent) }
+        requires held { 0 < holds_at self.old new }
+        requires apart { ¬ Reaches (links_at self.old) new parent }
+        ensures old { result ≡ child_at self.old parent index }
+        ensures writes { Writes self.old self.new parent (head_of (row_at self.old parent)) (slice_set (links_at self.old parent) index new) }
+        ensures owners { KeepsOwners self.old self.new }
+        ensures edits { Edits parent self.old self.new (new ∷ []) (result ∷ []) 0 0 }
+    {
+        self.table.replace_link(parent.place, index, new)
+    }
+
+    /// Puts the new link at an index of a node with one owner and fewer than 32 links, before those that stand there and
+    /// after. It spends the new link's hold. The new link doesn't reach the node.
+    pub fn insert_link(&mut self, parent: Link, index: usize, new: Link)
+        requires sole { owners_at self.old parent ≡ 1 }
+        requires node { is_node (row_at self.old parent) ≡ 1 }
+        requires index { index ≤ length (links_at self.old parent) }
+        requires room { length (links_at self.old parent) < 32 }
+        requires held { 0 < holds_at self.old new }
+        requires apart { ¬ Reaches (links_at self.old) new parent }
+        ensures writes { Writes self.old self.new parent (head_of (row_at self.old parent)) (insert (links_at self.old parent) index new) }
+        ensures owners { KeepsOwners self.old self.new }
+        ensures edits { Edits parent self.old self.new (new ∷ []) [] 0 0 }
+    {
+        self.table.insert_link(parent.place, index, new);
+    }
+
+    /// Takes the link at an index out of a node with one owner. The caller has a hold of it then. All holds together are
+    /// below 2^60 before.
+    pub fn remove_link(&mut self, parent: Link, index: usize) -> Link
+        requires sole { owners_at self.old parent ≡ 1 }
+        requires index { index < length (links_at self.old parent) }
+        requires few { hold_count self.old < 2 ^ 60 }
+        ensures old { result ≡ child_at self.old parent index }
+        ensures writes { Writes self.old self.new parent (head_of (row_at self.old parent)) (remove (links_at self.old parent) index) }
+        ensures owners { KeepsOwners self.old self.new }
+        ensures edits { Edits parent self.old self.new [] (result ∷ []) 0 0 }
+    {
+        self.table.remove_link(parent.place, index)
+    }
+
+    /// Puts the head in place of that of a node with one owner.
+    pub fn set_head(&mut self, parent: Link, head: Head)
+        requires sole { owners_at self.old parent ≡ 1 }
+        requires node { is_node (row_at self.old parent) ≡ 1 }
+        ensures writes { Writes self.old self.new parent (Some head) (links_at self.old parent) }
+        ensures owners { KeepsOwners self.old self.new }
+        ensures edits { Edits parent self.old self.new [] [] 0 0 }
+    {
+        self.table.set_head(parent.place, head);
     }
 }
 
@@ -217,14 +307,13 @@ impl<T: Drop> Heap<T> {
         ensures keeps { KeepsHeld (one_at link) self.old self.new }
         ensures trees { KeepsTrees self.old self.new }
     {
-        let owners = self.slots[link.place].owners - 1;
+        let owners = self.table.owners(link.place) - 1;
         if owners > 0 {
-            set_owners(&mut self.slots, link.place, owners);
+            self.table.set_owners(link.place, owners);
             return;
         }
-        set_owners(&mut self.slots, link.place, END);
-        let cells = free_waiting(&mut self.slots, &mut self.pool, link.place);
-        self.spare_cells += cells;
+        self.table.set_owners(link.place, END);
+        free_waiting(&mut self.table, link.place);
     }
 }
 
@@ -234,122 +323,77 @@ const ROWS: usize = 0x0100_0000_0000_0000;
 // What the last row that waits names.
 const END: usize = usize::MAX;
 
-// Frees the rows that wait from `first` on, and those that have no owner then. Answers how many cells.
-fn free_waiting<T: Drop>(
-    slots: &mut Slab<Entry<T>>,
-    pool: &mut Vec<Box<Node>>,
-    first: usize,
-) -> usize
-    requires dying { (H : ℕ → ℕ) × IsDying H slots.old.slots first [] }
-    requires few { slab_len slots.old < 2 ^ 56 }
-    requires low { IsLow slots.old.slots }
-    requires room { vec_len pool.old + nodes_in slots.old.slots ≤ vec_capacity pool.old }
-    ensures freed { (H : ℕ → ℕ) → IsDying H slots.old.slots first [] → IsDying H slots.new.slots (2 ^ 64 - 1) [] }
-    ensures rows { Thins slots.old.slots slots.new.slots }
-    ensures cells { result + cells_in slots.new.slots ≡ cells_in slots.old.slots }
-    ensures nodes { vec_len pool.new + nodes_in slots.new.slots ≡ vec_len pool.old + nodes_in slots.old.slots }
-    ensures len { result + vec_len pool.new + slab_len slots.new ≡ vec_len pool.old + slab_len slots.old }
-    ensures more_nodes { vec_len pool.old ≤ vec_len pool.new }
-    ensures low { IsLow slots.new.slots }
-    ensures capacity { slots.new.capacity ≡ slots.old.capacity }
-    ensures pool_capacity { vec_capacity pool.new ≡ vec_capacity pool.old }
+// Frees the rows that wait from `first` on, and those that have no owner then.
+fn free_waiting<T: Drop>(table: &mut Table<T>, first: usize)
+    requires dying { (H : ℕ → ℕ) × IsDying H table.old.slots first [] }
+    requires low { IsLow table.old.slots }
+    ensures freed { (H : ℕ → ℕ) → IsDying H table.old.slots first [] → IsDying H table.new.slots (2 ^ 64 - 1) [] }
+    ensures rows { Thins table.old.slots table.new.slots }
+    ensures cells { table.new.spare_cells + cells_in table.new.slots ≡ table.old.spare_cells + cells_in table.old.slots }
+    ensures nodes { table.new.spare_nodes + nodes_in table.new.slots ≡ table.old.spare_nodes + nodes_in table.old.slots }
+    ensures more_cells { table.old.spare_cells ≤ table.new.spare_cells }
+    ensures more_nodes { table.old.spare_nodes ≤ table.new.spare_nodes }
+    ensures len { row_count table.new.slots + (table.new.spare_cells + table.new.spare_nodes) ≡ row_count table.old.slots + (table.old.spare_cells + table.old.spare_nodes) }
+    ensures low { IsLow table.new.slots }
 {
-    let mut cells = 0;
     let mut next = first;
     while next != END {
-        let entry = slots.remove(next);
-        next = drop_places(slots, entry.row.links(), entry.owners);
-        cells += entry.row.cells();
-        keep_node(pool, entry.row);
+        let row = table.take(next);
+        next = drop_places(table, row.links.as_slice(), row.owners);
     }
-    cells
-}
-
-// Keeps the node of a row that is freed.
-fn keep_node<T: Drop>(pool: &mut Vec<Box<Node>>, row: Content<T>)
-    requires { vec_len pool.old + is_node (Some (row_of row)) ≤ vec_capacity pool.old }
-    ensures len { vec_len pool.new ≡ vec_len pool.old + is_node (Some (row_of row)) }
-    ensures one { is_cell (Some (row_of row)) + is_node (Some (row_of row)) ≡ 1 }
-    ensures capacity { vec_capacity pool.new ≡ vec_capacity pool.old }
-{
-    match row {
-        Content::Cell(_) => {}
-        Content::Node(node) => pool.push_reserved(node),
-    }
-}
-
-// A node of the pool, with this head and these links.
-fn filled<T>(pool: &mut Vec<Box<Node>>, head: Head, links: &[Link]) -> Content<T>
-    requires some { 0 < vec_len pool.old }
-    requires few { length links.now ≤ 32 }
-    ensures row { row_of result ≡ node head links.now }
-    ensures len { vec_len pool.new + 1 ≡ vec_len pool.old }
-    ensures capacity { vec_capacity pool.new ≡ vec_capacity pool.old }
-{
-    match pool.pop() {
-        Some(mut node) => {
-            node.fill(head, links);
-            Content::Node(node)
-        }
-        None => unreachable!(),
-    }
-}
-
-// Grows the pool to so many nodes, with room for as many more as are in use.
-fn grow_pool(
-    pool: &mut Vec<Box<Node>>,
-    alloc: Global,
-    nodes: usize,
-    used: usize,
-) -> Result<(), AllocError>
-    requires few { nodes + used < 2 ^ 56 }
-    requires not_less { vec_len pool.old ≤ nodes }
-    ensures len { OnOk result (vec_len pool.new ≡ nodes) }
-    ensures more { vec_len pool.old ≤ vec_len pool.new }
-    ensures at_most { vec_len pool.new ≤ nodes }
-    ensures same { vec_len pool.old ≡ nodes → IsOk result }
-    ensures room { (n : ℕ) → n ≤ used → vec_len pool.old + n ≤ vec_capacity pool.old → vec_len pool.new + n ≤ vec_capacity pool.new }
-{
-    if pool.len() == nodes {
-        return Ok(());
-    }
-    pool.reserve(nodes - pool.len() + used)?;
-    while pool.len() < nodes {
-        let node = Box::new(alloc, Node::blank())?;
-        pool.push_reserved(node);
-    }
-    Ok(())
 }
 
 // Takes an owner from each of the links, and puts those that have none then in front of the rows that wait.
-fn drop_places<T>(slots: &mut Slab<Entry<T>>, links: &[Link], first: usize) -> usize
-    requires dying { (H : ℕ → ℕ) × IsDying H slots.old.slots first links.now }
-    requires low { IsLow slots.old.slots }
-    ensures dropped { (H : ℕ → ℕ) → IsDying H slots.old.slots first links.now → IsDying H slots.new.slots result [] }
-    ensures rows { rows_in slots.new.slots ≡ rows_in slots.old.slots }
-    ensures low { IsLow slots.new.slots }
-    ensures len { slab_len slots.new ≡ slab_len slots.old }
-    ensures capacity { slots.new.capacity ≡ slots.old.capacity }
+fn drop_places<T>(table: &mut Table<T>, links: &[Link], first: usize) -> usize
+    requires dying { (H : ℕ → ℕ) × IsDying H table.old.slots first links.now }
+    requires low { IsLow table.old.slots }
+    ensures dropped { (H : ℕ → ℕ) → IsDying H table.old.slots first links.now → IsDying H table.new.slots result [] }
+    ensures rows { rows_in table.new.slots ≡ rows_in table.old.slots }
+    ensures low { IsLow table.new.slots }
+    ensures room { KeepsRoom table.old table.new }
 {
     let mut next = first;
     for link in links {
-        let owners = slots[link.place].owners;
+        let owners = table.owners(link.place);
         if owners == 1 {
-            set_owners(slots, link.place, next);
+            table.set_owners(link.place, next);
             next = link.place;
         } else {
-            set_owners(slots, link.place, owners - 1);
+            table.set_owners(link.place, owners - 1);
         }
     }
     next
 }
 
-fn set_owners<T>(slots: &mut Slab<Entry<T>>, place: usize, owners: usize)
-    requires { IsSome (get slots.old place) }
-    ensures sets { SetsOwners slots.old.slots slots.new.slots place owners }
-    ensures rows { rows_in slots.new.slots ≡ rows_in slots.old.slots }
-    ensures len { slab_len slots.new ≡ slab_len slots.old }
-    ensures capacity { slots.new.capacity ≡ slots.old.capacity }
+// A copy of the node at the place, with one owner, and one owner more for each place of its links.
+fn copied<T>(table: &mut Table<T>, place: usize) -> usize
+    requires counted { IsCounted table.old.slots }
+    requires node { is_node (graph_of table.old.slots place) ≡ 1 }
+    requires room { (l : ℕ) → owners_in (slot_at table.old.slots l) + 32 < 2 ^ 64 }
+    requires spare { 0 < table.old.spare_nodes }
+    ensures copies { Copies table.old.slots table.new.slots place result }
+    ensures counted { IsCounted table.new.slots }
+    ensures cells { cells_in table.new.slots ≡ cells_in table.old.slots }
+    ensures nodes { nodes_in table.new.slots ≡ nodes_in table.old.slots + 1 }
+    ensures len { row_count table.new.slots ≡ row_count table.old.slots + 1 }
+    ensures spare_cells { table.new.spare_cells ≡ table.old.spare_cells }
+    ensures spare_nodes { table.new.spare_nodes + 1 ≡ table.old.spare_nodes }
 {
-    slots[place].owners = owners;
+    let (head, links) = table.copy_node(place);
+    add_owners(table, links.as_slice());
+    table.put_node(head, links.as_slice())
+}
+
+// Gives each of the links an owner for each of its places there.
+fn add_owners<T>(table: &mut Table<T>, links: &[Link])
+    requires live { (l : ℕ) → 0 < count l links.now → IsSome (slot_at table.old.slots l) }
+    requires room { (l : ℕ) → owners_in (slot_at table.old.slots l) + length links.now < 2 ^ 64 }
+    ensures owners { (l : ℕ) → owners_in (slot_at table.new.slots l) ≡ owners_in (slot_at table.old.slots l) + count l links.now }
+    ensures rows { rows_in table.new.slots ≡ rows_in table.old.slots }
+    ensures room { KeepsRoom table.old table.new }
+{
+    for child in links {
+        let owners = table.owners(child.place) + 1;
+        table.set_owners(child.place, owners);
+    }
 }

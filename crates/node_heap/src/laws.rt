@@ -1,7 +1,8 @@
 //! Laws of what links unfold to, each on a call that has little or nothing to do.
-ghost use Rattle.std.specs.Prelude.{IsSome};
+ghost use Rattle.std.specs.Prelude.{◌≡◌, ℕ, ◌+◌, ◌<◌, IsSome};
+ghost use Rattle.node_heap.specs.Links.{IsAcyclic};
 ghost use Rattle.node_heap.specs.Forms.{HasOneTree, TreesFollowReached};
-ghost use Rattle.node_heap.specs.Heap.{row_at, form_at};
+ghost use Rattle.node_heap.specs.Heap.{row_at, form_at, links_at, owners_at, live_count, cell_count, node_count};
 
 use crate::heap::Heap;
 use crate::row::Link;
@@ -12,6 +13,17 @@ pub fn unfolds_to_one_tree<T>(heap: &Heap<T>, link: Link)
     ensures one { HasOneTree (form_at heap.now) link }
     ensures reached { TreesFollowReached T }
 {
+    // The call tells the proof that this is the graph of a heap.
     let _ = heap.live();
     let _ = link;
+}
+
+/// In every heap no row reaches itself, each row has an owner, and each is a cell or a node.
+pub fn rows_are_owned<T>(heap: &Heap<T>)
+    ensures acyclic { IsAcyclic (links_at heap.now) }
+    ensures owned { (l : ℕ) → IsSome (row_at heap.now l) → 0 < owners_at heap.now l }
+    ensures kinds { live_count heap.now ≡ cell_count heap.now + node_count heap.now }
+{
+    // The call tells the proof that this is the graph of a heap.
+    let _ = heap.live();
 }

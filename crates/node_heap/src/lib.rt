@@ -6,12 +6,15 @@
 #![tactic(auto)]
 
 mod entry;
+mod glass;
 mod heap;
+#[cfg(test)]
+mod in_place_tests;
 mod laws;
 mod row;
-#[cfg(test)]
-mod tests;
+mod table;
 
+pub use glass::{Glass, Steps};
 pub use heap::Heap;
-pub use laws::unfolds_to_one_tree;
+pub use laws::{rows_are_owned, unfolds_to_one_tree};
 pub use row::{Head, Link, Sums};

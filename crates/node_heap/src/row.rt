@@ -58,6 +58,16 @@ impl Sums {
     {
         &self.items[..self.len as usize]
     }
+
+    // The same sums.
+    fn copy(&self) -> Sums
+        ensures { result ≡ self.now }
+    {
+        Sums {
+            items: self.items,
+            len: self.len,
+        }
+    }
 }
 
 /// What a node is, beside its links.
@@ -65,7 +75,8 @@ impl Sums {
 pub enum Head {
     /// A row of a vector at height 0: its links are elements.
     Leaf,
-    /// A row of a vector at a height of 1 to 7, with the running sums of its children's lengths.
+    /// A row of a vector at a height of 1 to 7, with the running sums of its children's lengths, or with
+    /// none where it keeps none.
     Inner { height: u8, sums: Sums },
     /// A row of a trie at a depth of 0 to `DEEPEST`. The two sets of positions are masks: position p is bit p. Its links
     /// are first the entries and then the nodes, each by rising position in its set.
@@ -76,4 +87,31 @@ pub enum Head {
     Pair,
     /// Two parts of a state.
     State,
+}
+
+impl Head {
+    // The same head.
+    pub(crate) fn copy(&self) -> Head
+        ensures { result ≡ self.now }
+    {
+        match self {
+            Head::Leaf => Head::Leaf,
+            Head::Inner { height, sums } => Head::Inner {
+                height: *height,
+                sums: sums.copy(),
+            },
+            Head::Trie {
+                depth,
+                entries,
+                nodes,
+            } => Head::Trie {
+                depth: *depth,
+                entries: *entries,
+                nodes: *nodes,
+            },
+            Head::Chain => Head::Chain,
+            Head::Pair => Head::Pair,
+            Head::State => Head::State,
+        }
+    }
 }

@@ -1,0 +1,308 @@
+-- How writes in place compose, and what they leave alone.
+use Rattle.std.proofs.Common.{◌≡◌, ◌≢◌, ℕ, zero, suc, ◌+◌, ◌*◌, ◌<◌, ◌≤◌, List, [], ◌∷◌, ◌++◌, length, get_or, set, refl, sym, ap, subst, ◌∙◌, arith, Option, Some, None, IsSome, inl, inr, length-append}
+use Rattle.std.specs.Prelude.{sum_by}
+use Rattle.std.proofs.lemmas.Bool.{cases_eq}
+use Rattle.std.proofs.lemmas.List.Sums.{sum_by-cons}
+use Rattle.std.proofs.lemmas.List.{length-set, get_or-set_same}
+use Rattle.node_heap.specs.Links.{Links, count, HasLink, Reaches, here, below}
+use Rattle.node_heap.specs.Forms.{Row, Tree, IsTree, links_of}
+use Rattle.node_heap.specs.Heap.{Heap, row_at, form_at, links_at, holds_at, owners_at, hold_count, one_at, IsGraph}
+use Rattle.node_heap.specs.Calls.{KeepsBelow, KeepsHeld, KeepsOwners, Extends, Makes}
+use Rattle.node_heap.specs.InPlace.{other_at, ReachesAround, IsSolePath, path_start, path_then, OwnsDown, KeepsApart, KeepsPaths, Edits, by_link}
+use Rattle.node_heap.proofs.Counts.{le-sum_by, count-cons, one_at-flip, test_same, test_other}
+use Rattle.node_heap.proofs.Reach.{HasLink-same, Reaches-trans}
+use Rattle.node_heap.proofs.Frames.{IsTree-KeepsBelow, Makes-trans}
+use Rattle.node_heap.proofs.BuildLemmas.{count-append, Makes-refl}
+use Rattle.node_heap.proofs.GraphLemmas.{linked-places, IsGraph-acyclic}
+use Rattle.node_heap.proofs.Ways.{IsOwners, ReachesAround-end, ReachesAround-Reaches, Reaches-around, ReachesAround-same, ReachesAround-path, ReachesAround-trans, Reaches-avoids, Reaches-last, IsSolePath-Reaches}
+
+-- two terms of a sum are together at most the sum
+two_terms : {X : Type 0} (f : X → ℕ) (d : X) → f d ≡ 0 → (xs : List X) (i j : ℕ) → i ≢ j → f (get_or xs i d) + f (get_or xs j d) ≤ sum_by f xs
+two_terms f d none [] i j other = omega (arith, none)
+two_terms f d none (x ∷ xs) zero zero other = absurd (other refl)
+two_terms f d none (x ∷ xs) zero (suc j) other = omega (arith, sum_by-cons f x xs, le-sum_by f d none xs j)
+two_terms f d none (x ∷ xs) (suc i) zero other = omega (arith, sum_by-cons f x xs, le-sum_by f d none xs i)
+two_terms f d none (x ∷ xs) (suc i) (suc j) other = omega (arith, sum_by-cons f x xs, two_terms f d none xs i j (λ e. other (ap suc e)))
+
+-- what stands at an index is counted
+pub count-at : (xs : List ℕ) (i x : ℕ) → i < length xs → get_or xs i 0 ≡ x → 0 < count x xs
+count-at [] i x inside found = absurd (omega (arith, inside))
+count-at (y ∷ ys) zero x inside found = omega (arith, count-cons x y ys, test_same x y (sym found), one_at-flip y x)
+count-at (y ∷ ys) (suc i) x inside found = omega (arith, count-cons x y ys, count-at ys i x (omega (arith, inside)) found)
+
+-- where the links on a way stay, the way stays, and where the owners stay too, so does a path
+ways-kept : (L M : Links) (first : ℕ) → ((l k : ℕ) → HasLink L l k → Reaches L k first → HasLink M l k) → (x y : ℕ) → Reaches L y first → Reaches L x y → Reaches M x y
+ways-kept L M first same x y down (here l) = here l
+ways-kept L M first same x y down (below l k m has rest) = below l k m (same l k has (Reaches-trans L k m first rest down)) (ways-kept L M first same k m down rest)
+
+path-kept : (O P : ℕ → ℕ) (L M : Links) (first : ℕ) → ((l k : ℕ) → HasLink L l k → Reaches L k first → HasLink M l k) → ((k : ℕ) → Reaches L k first → P k ≡ O k) → (x y : ℕ) → Reaches L y first → IsSolePath O L x y → IsSolePath P M x y
+path-kept O P L M first same owners x y down path_start = path_start
+path-kept O P L M first same owners x y down (path_then l k path has one) =
+    path_then l k (path-kept O P L M first same owners x l (below l k first has down) path) (same l k has down) (owners k down ∙ one)
+
+module _ {T : Type 0} where
+  -- a row with one owner, a place, has no hold and stands in no other row
+  pub IsOwners-heap : (h : Heap T) → IsOwners (holds_at h) (owners_at h) (links_at h)
+  IsOwners-heap h = record {
+    unheld = λ p k has one. omega (arith, linked-places h.rows p k has, one);
+    only = λ p q k has also one. elim (cases_eq q p) as (λ _. q ≡ p) [
+      | inl same ↦ same
+      | inr other ↦ absurd (omega (arith, two_terms (λ r. count k (links_of r)) None refl h.rows q p other, has, also, one))
+    ];
+  }
+
+  Reaches-live : (h : Heap T) → IsGraph h → (l m : ℕ) → Reaches (links_at h) l m → IsSome (row_at h l) → IsSome (row_at h m)
+  Reaches-live h graph a b (here l) live = live
+  Reaches-live h graph a b (below l k m has down) live = Reaches-live h graph k m down (graph.closed l k has)
+
+  -- what has a link is a row
+  pub linked_live : (r : Option (Row T)) (k : ℕ) → 0 < count k (links_of r) → IsSome r
+  linked_live None k some = absurd (omega (arith, some))
+  linked_live (Some x) k some = refl
+
+  above_live : (h : Heap T) (x y : ℕ) → Reaches (links_at h) x y → IsSome (row_at h y) → IsSome (row_at h x)
+  above_live h x y (here l) some = some
+  above_live h x y (below l k m has rest) some = linked_live (row_at h l) k has
+
+  -- what a link reaches where all below it was kept, it reached before
+  pub Reaches-back : (old new : Heap T) (l m : ℕ) → KeepsBelow old new l → Reaches (links_at new) l m → Reaches (links_at old) l m
+  Reaches-back old new a b kept (here l) = here l
+  Reaches-back old new a b kept (below l k m has rest) =
+      let was : HasLink (links_at old) l k = HasLink-same (links_at new) (links_at old) l k (sym (ap links_of (kept l (here l)))) has in
+      below l k m was (Reaches-back old new k m (λ j down. kept j (below l k j was down)) rest)
+
+  -- where each row that was there is the same, all below it is too
+  pub Extends-live : (old new : Heap T) → IsGraph old → ((k : ℕ) → IsSome (row_at old k) → row_at new k ≡ row_at old k) → Extends old new
+  Extends-live old new graph same = record {
+    live = λ l live. rw (same l live) live;
+    kept = λ l live m down. same m (Reaches-live old graph l m down live);
+  }
+
+  -- what does not reach the first row at all keeps all below it
+  pub KeepsBelow-apart : {first : ℕ} {spent : ℕ → ℕ} {old new : Heap T} → KeepsApart first spent old new → (l : ℕ) → spent l < holds_at old l → ¬ Reaches (links_at old) l first → KeepsBelow old new l
+  KeepsBelow-apart {first} {spent} {old} {new} keeps l some off m down = keeps.kept l m some (Reaches-around (links_at old) first l m down off)
+
+  pub IsTree-apart : {first : ℕ} {spent : ℕ → ℕ} {old new : Heap T} {l : ℕ} {t : Tree T} → KeepsApart first spent old new → spent l < holds_at old l → ¬ Reaches (links_at old) l first → IsTree (form_at old) l t → IsTree (form_at new) l t
+  IsTree-apart {old = old} {new = new} {l = l} {t = t} keeps some off tree = IsTree-KeepsBelow old new l t (KeepsBelow-apart keeps l some off) tree
+
+  -- calls that write nothing in place
+  pub KeepsApart-KeepsHeld : {spent : ℕ → ℕ} {old new : Heap T} (first : ℕ) → KeepsHeld spent old new → KeepsApart first spent old new
+  KeepsApart-KeepsHeld {spent} {old} {new} first keeps = record {
+    live = keeps.live;
+    kept = λ l m some way. keeps.kept l some m (ReachesAround-Reaches (links_at old) first l m way);
+    left = keeps.left;
+  }
+
+  -- with any bound on what is spent, so that a hold that was taken before it was spent costs nothing
+  pub KeepsApart-then : {first : ℕ} {spent spent' : ℕ → ℕ} {old mid new : Heap T} (both : ℕ → ℕ) → KeepsApart first spent old mid → KeepsApart first spent' mid new → ((l : ℕ) → both l < holds_at old l → spent l < holds_at old l) → ((l : ℕ) → both l < holds_at old l → spent' l < holds_at mid l) → ((l : ℕ) → holds_at old l ≤ holds_at new l + both l) → KeepsApart first both old new
+  KeepsApart-then {first} {spent} {spent'} {old} {mid} {new} both one two at_one at_two left = record {
+    live = λ l some. two.live l (at_two l some);
+    kept = λ l m some way.
+        let rows : (x : ℕ) → ReachesAround (links_at old) first l x → row_at mid x ≡ row_at old x = λ x on. one.kept l x (at_one l some) on in
+        two.kept l m (at_two l some) (ReachesAround-same (links_at old) (links_at mid) first l m way (λ x on. ap links_of (rows x on))) ∙ rows m way;
+    left = left;
+  }
+
+  pub KeepsApart-trans : {first : ℕ} {spent spent' : ℕ → ℕ} {old mid new : Heap T} → KeepsApart first spent old mid → KeepsApart first spent' mid new → KeepsApart first (λ l. spent l + spent' l) old new
+  KeepsApart-trans {first} {spent} {spent'} {old} {mid} {new} one two =
+      KeepsApart-then (λ l. spent l + spent' l) one two (λ l some. omega (arith, some)) (λ l some. omega (arith, some, one.left l)) (λ l. omega (arith, one.left l, two.left l))
+
+  -- a write below a path of rows with one owner leaves what goes around the path's first row
+  pub KeepsApart-path : {first last : ℕ} {spent : ℕ → ℕ} {old new : Heap T} → OwnsDown old first last → KeepsApart last spent old new → KeepsApart first spent old new
+  KeepsApart-path {first} {last} {spent} {old} {new} path keeps = record {
+    live = keeps.live;
+    kept = λ l m some way. keeps.kept l m some (ReachesAround-path (holds_at old) (owners_at old) (links_at old) (IsOwners-heap old) first last path l m (omega (arith, some)) way);
+    left = keeps.left;
+  }
+
+  pub KeepsPaths-refl : (first : ℕ) (h : Heap T) → KeepsPaths first h h
+  KeepsPaths-refl first h = record { ways = λ x y up way. way; owned = λ x y up path. path }
+
+  pub KeepsPaths-trans : {first : ℕ} {old mid new : Heap T} → KeepsPaths first old mid → KeepsPaths first mid new → KeepsPaths first old new
+  KeepsPaths-trans {first} one two = record {
+    ways = λ x y up way. two.ways x y (one.ways y first (here first) up) (one.ways x y up way);
+    owned = λ x y up path. two.owned x y (one.ways y first (here first) up) (one.owned x y up path);
+  }
+
+  pub KeepsPaths-path : {first last : ℕ} {old new : Heap T} → OwnsDown old first last → KeepsPaths last old new → KeepsPaths first old new
+  KeepsPaths-path {first} {last} {old} path keeps =
+      let down = IsSolePath-Reaches (owners_at old) (links_at old) first last path in
+      record {
+        ways = λ x y up way. keeps.ways x y (Reaches-trans (links_at old) y first last up down) way;
+        owned = λ x y up way. keeps.owned x y (Reaches-trans (links_at old) y first last up down) way;
+      }
+
+  -- the links of the rows above stay, and so do the owners of these rows
+  pub KeepsPaths-rows : (first : ℕ) (old new : Heap T) → ((l k : ℕ) → HasLink (links_at old) l k → Reaches (links_at old) k first → HasLink (links_at new) l k) → ((k : ℕ) → Reaches (links_at old) k first → owners_at new k ≡ owners_at old k) → KeepsPaths first old new
+  KeepsPaths-rows first old new same owners = record {
+    ways = ways-kept (links_at old) (links_at new) first same;
+    owned = path-kept (owners_at old) (owners_at new) (links_at old) (links_at new) first same owners;
+  }
+
+  -- rows came, and those that were there keep their owners
+  pub KeepsPaths-Extends : {old new : Heap T} (first : ℕ) → Extends old new → ((k : ℕ) → IsSome (row_at old k) → owners_at new k ≡ owners_at old k) → IsSome (row_at old first) → KeepsPaths first old new
+  KeepsPaths-Extends {old} {new} first more owners live =
+      KeepsPaths-rows first old new
+      (λ l k has up. HasLink-same (links_at old) (links_at new) l k (ap links_of (more.kept l (linked_live (row_at old l) k has) l (here l))) has)
+      (λ k up. owners k (above_live old k first up live))
+
+  -- a path goes on to a child that has one owner
+  pub OwnsDown-child : (h : Heap T) (first parent child index : ℕ) (ks : List ℕ) → OwnsDown h first parent → links_at h parent ≡ set ks index child → index < length ks → owners_at h child ≡ 1 → OwnsDown h first child
+  OwnsDown-child h first parent child index ks path links inside one =
+      path_then parent child path (rw links (count-at (set ks index child) index child (omega (arith, inside, length-set ks index child)) (get_or-set_same ks index child 0 inside))) one
+
+  pub Edits-refl : (first : ℕ) (h : Heap T) (xs : List ℕ) (c n : ℕ) → IsGraph h → Edits first h h xs xs c n
+  Edits-refl first h xs c n graph = record {
+    apart = record { live = λ l some. graph.held l (omega (arith, some)); kept = λ l m some way. refl; left = λ l. omega arith };
+    paths = KeepsPaths-refl first h;
+    stays = λ l live. live;
+    graph = graph;
+    holds = λ k. refl;
+    total = refl;
+    cells = 0;
+    nodes = 0;
+    few_cells = omega arith;
+    few_nodes = omega arith;
+    makes = Makes-refl h graph;
+  }
+
+  -- two edits, of which the first may gain what the second spends
+  pub Edits-both : {first : ℕ} {old mid new : Heap T} {xs us ys vs : List ℕ} {c n c' n' : ℕ} (spent gained : List ℕ) → Edits first old mid xs us c n → Edits first mid new ys vs c' n'
+      → ((k : ℕ) → count k xs + count k ys + count k gained ≡ count k us + count k vs + count k spent)
+      → ((k : ℕ) → count k xs ≤ count k spent) → ((k : ℕ) → count k ys + count k xs ≤ count k us + count k spent)
+      → length xs + length ys + length gained ≡ length us + length vs + length spent → Edits first old new spent gained (c + c') (n + n')
+  Edits-both spent gained one two each at_one at_two whole = record {
+    apart = KeepsApart-then (λ l. count l spent) one.apart two.apart (λ l some. omega (arith, some, at_one l)) (λ l some. omega (arith, some, at_two l, one.holds l)) (λ l. omega (arith, one.holds l, two.holds l, each l));
+    paths = KeepsPaths-trans one.paths two.paths;
+    stays = λ l live. two.stays l (one.stays l live);
+    graph = two.graph;
+    holds = λ k. omega (arith, one.holds k, two.holds k, each k);
+    total = omega (arith, one.total, two.total, whole);
+    cells = one.cells + two.cells;
+    nodes = one.nodes + two.nodes;
+    few_cells = omega (arith, one.few_cells, two.few_cells);
+    few_nodes = omega (arith, one.few_nodes, two.few_nodes);
+    makes = Makes-trans one.makes two.makes;
+  }
+
+  -- what the first gains, the second spends
+  pub Edits-then : {first : ℕ} {old mid new : Heap T} {xs ys zs : List ℕ} {c n c' n' : ℕ} → Edits first old mid xs ys c n → Edits first mid new ys zs c' n' → Edits first old new xs zs (c + c') (n + n')
+  Edits-then {xs = xs} {zs = zs} one two = Edits-both xs zs one two (λ k. omega arith) (λ k. omega arith) (λ k. omega arith) (omega arith)
+
+  -- each spends and gains on its own
+  pub Edits-beside : {first : ℕ} {old mid new : Heap T} {xs us ys vs : List ℕ} {c n c' n' : ℕ} → Edits first old mid xs us c n → Edits first mid new ys vs c' n' → Edits first old new (xs ++ ys) (us ++ vs) (c + c') (n + n')
+  Edits-beside {xs = xs} {us = us} {ys = ys} {vs = vs} one two =
+      Edits-both (xs ++ ys) (us ++ vs) one two (λ k. omega (arith, count-append k xs ys, count-append k us vs)) (λ k. omega (arith, count-append k xs ys)) (λ k. omega (arith, count-append k xs ys)) (omega (arith, length-append xs ys, length-append us vs))
+
+  -- an edit below a path of rows with one owner is an edit at the path's first row
+  pub Edits-path : {first last : ℕ} {old new : Heap T} {xs us : List ℕ} {c n : ℕ} → OwnsDown old first last → Edits last old new xs us c n → Edits first old new xs us c n
+  Edits-path path edit = record {
+    apart = KeepsApart-path path edit.apart;
+    paths = KeepsPaths-path path edit.paths;
+    stays = edit.stays;
+    graph = edit.graph;
+    holds = edit.holds;
+    total = edit.total;
+    cells = edit.cells;
+    nodes = edit.nodes;
+    few_cells = edit.few_cells;
+    few_nodes = edit.few_nodes;
+    makes = edit.makes;
+  }
+
+  -- the links of the rows above a written row stay
+  pub links-above : (old new : Heap T) (parent : ℕ) → IsGraph old → ((k : ℕ) → IsSome (row_at old k) → k ≢ parent → row_at new k ≡ row_at old k) → (l k : ℕ) → HasLink (links_at old) l k → Reaches (links_at old) k parent → HasLink (links_at new) l k
+  links-above old new parent graph others l k has down =
+      HasLink-same (links_at old) (links_at new) l k (ap links_of (others l (linked_live (row_at old l) k has) (λ same. IsGraph-acyclic old graph l k has (subst (Reaches (links_at old) k) (sym same) down)))) has
+
+  -- a row that is written
+  pub Edits-Writes : (old new : Heap T) (parent : ℕ) (spent gained : List ℕ) → IsGraph old → IsGraph new → IsSome (row_at new parent) → ((k : ℕ) → k ≢ parent → row_at new k ≡ row_at old k) → KeepsOwners old new
+      → ((k : ℕ) → holds_at new k + count k spent ≡ holds_at old k + count k gained) → hold_count new + length spent ≡ hold_count old + length gained → Makes old new 0 0 → Edits parent old new spent gained 0 0
+  Edits-Writes old new parent spent gained graph graph' live others owners holds total makes = record {
+    apart = record {
+      live = λ l some. stays l (graph.held l (omega (arith, some)));
+      kept = λ l m some way. others m (ReachesAround-end (links_at old) parent l m way);
+      left = λ l. omega (arith, holds l);
+    };
+    paths = KeepsPaths-rows parent old new (links-above old new parent graph (λ k is other. others k other)) (λ k up. owners k);
+    stays = stays;
+    graph = graph';
+    holds = holds;
+    total = total;
+    cells = 0;
+    nodes = 0;
+    few_cells = omega arith;
+    few_nodes = omega arith;
+    makes = makes;
+  }
+    where
+      stays : (l : ℕ) → IsSome (row_at old l) → IsSome (row_at new l)
+      stays l some = elim (cases_eq l parent) as (λ _. IsSome (row_at new l)) [
+        | inl same ↦ subst (λ j. IsSome (row_at new j)) (sym same) live
+        | inr other ↦ rw (others l other) some
+      ]
+
+  -- a child that is copied in its place
+  pub Edits-own_child : (old new : Heap T) (parent child copy : ℕ) → IsGraph old → IsGraph new → IsSome (row_at new parent) → HasLink (links_at old) parent child → row_at old copy ≡ None → ((k : ℕ) → k ≢ parent → k ≢ copy → row_at new k ≡ row_at old k)
+      → ((k : ℕ) → owners_at new k + one_at child k ≡ owners_at old k + (one_at copy k + other_at child copy * count k (links_at old child)))
+      → ((k : ℕ) → holds_at new k ≡ holds_at old k) → hold_count new ≡ hold_count old → Makes old new 0 1 → Edits parent old new [] [] 0 1
+  Edits-own_child old new parent child copy graph graph' live linked fresh others owners holds total makes = record {
+    apart = record {
+      live = λ l some. stays l (graph.held l (omega (arith, some)));
+      kept = λ l m some way. same m (Reaches-live old graph l m (ReachesAround-Reaches (links_at old) parent l m way) (graph.held l (omega (arith, some)))) (ReachesAround-end (links_at old) parent l m way);
+      left = λ l. omega (arith, holds l);
+    };
+    paths = KeepsPaths-rows parent old new (links-above old new parent graph same) owners_above;
+    stays = stays;
+    graph = graph';
+    holds = λ k. omega (arith, holds k);
+    total = omega (arith, total);
+    cells = 0;
+    nodes = 1;
+    few_cells = omega arith;
+    few_nodes = omega arith;
+    makes = makes;
+  }
+    where
+      off_copy : (k : ℕ) → IsSome (row_at old k) → k ≢ copy
+      off_copy k some at_copy = absurd (let there = ap (row_at old) at_copy ∙ fresh in cc)
+
+      same : (k : ℕ) → IsSome (row_at old k) → k ≢ parent → row_at new k ≡ row_at old k
+      same k some other = others k other (off_copy k some)
+
+      stays : (l : ℕ) → IsSome (row_at old l) → IsSome (row_at new l)
+      stays l some = elim (cases_eq l parent) as (λ _. IsSome (row_at new l)) [
+        | inl is_parent ↦ subst (λ j. IsSome (row_at new j)) (sym is_parent) live
+        | inr other ↦ rw (same l some other) some
+      ]
+
+      owners_above : (k : ℕ) → Reaches (links_at old) k parent → owners_at new k ≡ owners_at old k
+      owners_above k up =
+          let not_child : k ≢ child = λ e. IsGraph-acyclic old graph parent child linked (subst (λ j. Reaches (links_at old) j parent) e up) in
+          let not_copy : k ≢ copy = off_copy k (above_live old k parent up (linked_live (row_at old parent) child linked)) in
+          let none : count k (links_at old child) ≡ 0 = unlinked (count k (links_at old child)) refl in
+          omega (arith, owners k, test_other k child not_child, test_other k copy not_copy, ap (λ x. other_at child copy * x) none)
+        where
+          unlinked : (n : ℕ) → count k (links_at old child) ≡ n → count k (links_at old child) ≡ 0
+          unlinked zero e = e
+          unlinked (suc n) e = absurd (IsGraph-acyclic old graph parent child linked (below child k parent (omega (arith, e)) up))
+
+  -- what an edit at a child with one owner leaves of the other children of its parent, which a link with a hold left reaches
+  pub KeepsBelow-sibling : {spent : ℕ → ℕ} {old new : Heap T} (parent child other u : ℕ) → IsGraph old → owners_at old child ≡ 1 → HasLink (links_at old) parent child → HasLink (links_at old) parent other → other ≢ child → spent u < holds_at old u → Reaches (links_at old) u parent → KeepsApart child spent old new → KeepsBelow old new other
+  KeepsBelow-sibling {old = old} parent child other u graph one to_child to_other apart some down keeps m way =
+      keeps.kept u m some (ReachesAround-trans (links_at old) child u parent m around_parent (by_link parent other m not_child to_other (Reaches-around (links_at old) child other m way off)))
+    where
+      L : Links
+      L = links_at old
+
+      around_parent : ReachesAround L child u parent
+      around_parent = Reaches-avoids L child u parent down (IsGraph-acyclic old graph parent child to_child)
+
+      not_child : parent ≢ child
+      not_child = ReachesAround-end L child u parent around_parent
+
+      off : ¬ Reaches L other child
+      off up = elim (Reaches-last L other child up) as (λ _. ⊥) [
+        | inl same ↦ apart same
+        | inr last ↦ IsGraph-acyclic old graph parent other to_other (subst (Reaches L other) ((IsOwners-heap old).only parent last.0 child to_child last.2 one) last.1)
+      ]

@@ -1,0 +1,26 @@
+use Rattle.std.proofs.Common.{arith}
+use Rattle.node_heap.proofs.Slots.{row_at-slots}
+use Rattle.node_heap.proofs.Rewritten.{Moves-head, total-moved, IsStored-moved, edits-moved, writes-moved, KeepsOwners-moved}
+use Rattle.node_heap.proofs.heap.Heap.set_head.Goals as goal
+
+pub invariant_of-self : goal.invariant_of-self
+invariant_of-self g c =
+    let slots = c.self.inside.table.slots in
+    let stored = c.self.invariant in
+    let sole = rw (← c.self.view_is, ← c.parent.view_is) at c.requires.sole in
+    let moves = Moves-head slots _ c.parent.inside.place 0 0 0 c.args.head stored.counted sole c.set_head.ensures.rewrites in
+    IsStored-moved slots _ _ _ _ _ _ _ _ _ _ _ stored moves c.set_head.ensures.room (omega (arith, total-moved slots _ _ _ _ _ _ stored.counted moves, stored.few_holds))
+
+pub returns : goal.returns
+returns g c =
+    let slots = c.self.inside.table.slots in
+    let stored = c.self.invariant in
+    let sole = rw (← c.self.view_is, ← c.parent.view_is) at c.requires.sole in
+    let moves = Moves-head slots _ c.parent.inside.place 0 0 0 c.args.head stored.counted sole c.set_head.ensures.rewrites in
+    let row = row_at-slots slots c.parent.inside.place in
+    rw (← c.self.view_is, ← c.parent.view_is)
+    (record {
+      writes = rw row (writes-moved slots _ _ _ _ _ _ _ _ _ _ _ _ moves);
+      owners = KeepsOwners-moved slots _ _ _ _ _ _ 0 0 0 0 0 0 stored.counted moves;
+      edits = (edits-moved slots _ _ _ _ _ _ _ _ _ _ _ stored (invariant_of-self g c) c.set_head.ensures.room.spare_cells c.set_head.ensures.room.spare_nodes moves (total-moved slots _ _ _ _ _ _ stored.counted moves));
+    })

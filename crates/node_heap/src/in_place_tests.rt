@@ -1,0 +1,82 @@
+ghost use Rattle.std.specs.Prelude.{◌≡◌, ◌+◌, ◌^◌, ◌<◌, ◌≤◌, Some, length, option_copied};
+ghost use Rattle.node_heap.specs.Forms.{value_of, IsTree, Tree};
+ghost use Rattle.node_heap.specs.Heap.{row_at, form_at, links_at, holds_at, hold_count, HasSpares};
+ghost use Rattle.node_heap.specs.InPlace.{child_at};
+ghost use Rattle.node_heap.specs.Glass.{lent};
+
+use crate::{Glass, Head, Heap, Link, Steps};
+use elem_core::Num;
+use std::marker::Brand;
+use std::sync::ledger::{Blank, Ledger};
+use std::test::Fail;
+
+// Makes three rows its own, from a root down by first children, and puts a cell in place of the last one's first link.
+// The root has another hold, whose version stays. Answers the new root, and the old first link with a hold.
+fn write_third<T>(heap: &mut Heap<T>, root: Link, value: T) -> (Link, Link)
+    requires version { 1 < holds_at heap.old root }
+    requires top { 0 < length (links_at heap.old root) }
+    requires middle { 0 < length (links_at heap.old (child_at heap.old root 0)) }
+    requires last { 0 < length (links_at heap.old (child_at heap.old (child_at heap.old root 0) 0)) }
+    requires spares { HasSpares heap.old 1 3 }
+    requires few { hold_count heap.old < 2 ^ 60 }
+    ensures stays { (t : Tree T) → IsTree (form_at heap.old) root t → IsTree (form_at heap.new) root t }
+    ensures written { value_of (row_at heap.new (child_at heap.new (child_at heap.new (child_at heap.new result.0 0) 0) 0)) ≡ Some value }
+    ensures old { result.1 ≡ child_at heap.old (child_at heap.old (child_at heap.old root 0) 0) 0 }
+{
+    let top = heap.own(root);
+    let middle = heap.own_child(top, 0);
+    let last = heap.own_child(middle, 0);
+    let cell = heap.cell(value);
+    let old = heap.replace(last, 0, cell);
+    (top, old)
+}
+
+#[test]
+fn writes_below_a_kept_version(rt: HostRuntime) -> Result<(), Fail> {
+    let mut heap: Heap<Num> = Heap::new(rt.alloc());
+    heap.reserve(2, 6)?;
+    let seven = heap.cell(Num(7));
+    let leaf = heap.node(Head::Leaf, &[seven]);
+    let pair = heap.node(Head::Pair, &[leaf]);
+    let root = heap.node(Head::State, &[pair]);
+    heap.hold(root);
+    let (top, old) = write_third(&mut heap, root, Num(8));
+    assert!(rt; top != root);
+    assert!(rt; old == seven);
+    assert_eq!(rt; heap.made(), 8);
+    Ok(())
+}
+
+// The value of a row's first link, in two counted reads.
+fn first_value<'h, T, L: Ledger>(
+    glass: &Glass<'h, T>,
+    link: Link,
+    steps: &mut Steps<L>,
+) -> Option<&'h T>
+    requires { 0 < length (links_at (lent glass.now) link) }
+    ensures value { option_copied result ≡ value_of (row_at (lent glass.now) (child_at (lent glass.now) link 0)) }
+    ensures two { steps.new ≡ steps.old + 2 }
+{
+    let first = glass.links(link, steps)[0];
+    glass.value(first, steps)
+}
+
+fn is_seven<L: Ledger>(heap: &Heap<Num>, link: Link, blank: Blank) -> bool
+    requires name { blank.name ≡ L.name }
+    requires parts { blank.parts ≡ L.parts }
+    requires some { 0 < L.parts }
+    requires linked { 0 < length (links_at heap.now link) }
+{
+    let mut steps = Steps::<L>::new(blank);
+    first_value(&Glass::new(heap), link, &mut steps) == Some(&Num(7))
+}
+
+#[test]
+fn counts_each_read(rt: HostRuntime) -> Result<(), Fail> {
+    let mut heap: Heap<Num> = Heap::new(rt.alloc());
+    heap.reserve(1, 1)?;
+    let seven = heap.cell(Num(7));
+    let leaf = heap.node(Head::Leaf, &[seven]);
+    assert!(rt; is_seven::<Brand>(&heap, leaf, Blank::new(1)));
+    Ok(())
+}
