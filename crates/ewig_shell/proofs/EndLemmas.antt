@@ -1,68 +1,123 @@
 -- How the whole run ends, from what its lines say.
-use Rattle.std.proofs.Common.{◌≡◌, ℕ, ◌+◌, ◌≤◌, List, ◌++◌, length, sym, ap, subst, refl, arith, length-append, None, Some, IfSome, inl, inr, ◌⊎◌}
+use Rattle.std.proofs.Common.{◌≡◌, ℕ, ◌+◌, ◌<◌, ◌≤◌, ◌↔◌, ◌⊎◌, List, [], ◌++◌, length, take, sym, ap, ◌∙◌, subst, refl, arith, length-append, None, Some, IfSome, inl, inr}
 use Rattle.std.specs.declared.option.Option.{Option}
-use Rattle.shell_io.specs.Fault.{HasCause}
-use Rattle.shell_io.specs.Reader.{Reading, StandsIn}
-use Rattle.space_state.specs.Workspace.{Workspace, start}
+use Rattle.std.specs.Io.KnownBytes.{Consumes}
+use Rattle.std.proofs.KnownBytes.{Appends-nil}
+use Rattle.elem_core.specs.declared.codes.TheConstants.{CODE_BITS}
+use Rattle.shell_io.specs.Pieces.{ended, pieces_within}
+use Rattle.ewig_shell.specs.Quits.{HasQuit}
+use Rattle.shell_io.specs.declared.device.Source as source_trait
+use Rattle.shell_io.specs.declared.device.Sink as sink_trait
+use Rattle.shell_io.proofs.FaultLemmas.{CountsFaults-as, Pulls-none, Pulls-as}
+use Rattle.space_state.specs.View.{SpaceView}
+use Rattle.space_state.specs.Workspace.{Workspace}
 use Rattle.ewig_shell.specs.declared.run.Status.{Status}
 use Rattle.ewig_shell.specs.declared.run.Status.TheVariants as status
-use Rattle.ewig_shell.specs.Run.{Runs, EndsInTime, HasNoFault, HasCauses, IsComplete}
-use Rattle.ewig_shell.specs.Going.{IsGoing, IsSure}
-use Rattle.ewig_shell.proofs.RunLemmas.{Going-start, Sure-start}
+use Rattle.ewig_shell.specs.Going.{HasCauses}
+use Rattle.ewig_shell.specs.Run.{IsEarly, Run, Says, Runs, RunsAs, EndsInTime, IsComplete}
+use Rattle.ewig_shell.proofs.ReadLemmas.{quit_in_time}
 
 -- what is said of a value that is there may use that it is there
 pub IfSome-from : {A : Type 0} (o : Option A) (P : A → Type 0) → ((x : A) → o ≡ Some x → P x) → IfSome o P
 IfSome-from None P f = tt
 IfSome-from (Some x) P f = f x refl
 
--- the run goes on from its start
-pub begins : (most : ℕ) (input : List ℕ) (reader : Reading) (left before : Option (List ℕ)) (W : Workspace) → left ≡ Some input → ((all : List ℕ) → StandsIn all reader (Some all)) → reader.given ≡ 0 → W ≡ start → IsGoing most input reader left before before W
-begins most input reader left before W told stands none empty =
-    Going-start most input reader left before W (subst (λ (o : Option (List ℕ)). StandsIn input reader o) (sym told) (stands input)) none empty
-
--- and so does one whose sink has room
-pub begins_sure : {K : Type 0} (written : K → Option (List ℕ)) (has_room : K → ℕ → Type 0) (most : ℕ) (input : List ℕ) (reader : Reading) (left : Option (List ℕ)) (sink : K) (W : Workspace) → left ≡ Some input → ((all : List ℕ) → StandsIn all reader (Some all)) → reader.given ≡ 0 → W ≡ start → IsSure written has_room most input reader left sink sink W
-begins_sure written has_room most input reader left sink W told stands none empty =
-    Sure-start written has_room most input reader left sink W (subst (λ (o : Option (List ℕ)). StandsIn input reader o) (sym told) (stands input)) none empty
-
--- a count that tells of no fault gives no cause
-no_cause : (before now : ℕ) → HasNoFault before now → HasCause before now → ⊥
-no_cause before now none cause = omega (arith, none.0, none.1, cause none.1)
-
 -- an input of which one byte more than the most was taken isn't over within the most
 past_most : (most : ℕ) (input taken rest : List ℕ) → input ≡ taken ++ rest → length taken ≡ most + 1 → length input ≤ most → ⊥
 past_most most input taken rest split one_more short = omega (arith, ap length split, length-append taken rest, one_more, short)
 
--- without a fault, an input that ends in time is done
-done : (most : ℕ) (input : List ℕ) (left before now : Option (List ℕ)) (s : Status) (last : Workspace) (read_before read_now write_before write_now : ℕ) →
-    Runs most input left before now s (Some last) → HasCauses read_before read_now write_before write_now s →
-    HasNoFault read_before read_now → HasNoFault write_before write_now → EndsInTime most input →
-    (s ≡ status.Done) ⊎ (s ≡ status.Memory)
-done most input left before now status.Done last r0 r1 w0 w1 runs causes no_read no_write ends = inl refl
-done most input left before now status.Memory last r0 r1 w0 w1 runs causes no_read no_write ends = inr refl
-done most input left before now status.Usage last r0 r1 w0 w1 runs causes no_read no_write ends = absurd runs.run
-done most input left before now status.ReadFault last r0 r1 w0 w1 runs causes no_read no_write ends = absurd (no_cause r0 r1 no_read (causes.read_fault refl))
-done most input left before now status.WriteFault last r0 r1 w0 w1 runs causes no_read no_write ends = absurd (no_cause w0 w1 no_write (causes.write_fault refl))
-done most input left before now status.TooLong last r0 r1 w0 w1 runs causes no_read no_write ends =
-    elim ends [ inl short ↦ absurd (past_most most input runs.taken runs.rest runs.split runs.run.one_more short) | inr quits ↦ absurd (runs.run.goes_on quits) ]
+-- what a run that read lines has done in time
+in_time : (most : ℕ) (input taken rest : List ℕ) → input ≡ taken ++ rest → (taken ≡ input) × (length input ≤ most) ⊎ HasQuit (ended (take most taken)) → EndsInTime most input
+in_time most input taken rest split read =
+    elim read [ inl whole ↦ inl whole.1 | inr quits ↦ inr (subst (λ (w : List ℕ). HasQuit (pieces_within most w)) (sym split) (quit_in_time most taken rest quits)) ]
 
--- without a fault, an input that doesn't is too long
-too_long : (most : ℕ) (input : List ℕ) (left before now : Option (List ℕ)) (s : Status) (last : Workspace) (read_before read_now write_before write_now : ℕ) →
-    Runs most input left before now s (Some last) → HasCauses read_before read_now write_before write_now s →
-    HasNoFault read_before read_now → HasNoFault write_before write_now → (EndsInTime most input → ⊥) →
-    (s ≡ status.TooLong) ⊎ (s ≡ status.Memory)
-too_long most input left before now status.Done last r0 r1 w0 w1 runs causes no_read no_write never = absurd (never runs.run.in_time)
-too_long most input left before now status.Memory last r0 r1 w0 w1 runs causes no_read no_write never = inr refl
-too_long most input left before now status.Usage last r0 r1 w0 w1 runs causes no_read no_write never = absurd runs.run
-too_long most input left before now status.ReadFault last r0 r1 w0 w1 runs causes no_read no_write never = absurd (no_cause r0 r1 no_read (causes.read_fault refl))
-too_long most input left before now status.WriteFault last r0 r1 w0 w1 runs causes no_read no_write never = absurd (no_cause w0 w1 no_write (causes.write_fault refl))
-too_long most input left before now status.TooLong last r0 r1 w0 w1 runs causes no_read no_write never = inl refl
-
--- a run of lines is complete, whatever else was known of the words
-pub is_complete : {X : Type 0} (most : ℕ) (input : List ℕ) (left before now : Option (List ℕ)) (s : Status) (last : Workspace) (read_before read_now write_before write_now : ℕ) →
-    Runs most input left before now s (Some last) → HasCauses read_before read_now write_before write_now s →
-    X → HasNoFault read_before read_now → HasNoFault write_before write_now → IsComplete most input s
-is_complete most input left before now s last r0 r1 w0 w1 runs causes x no_read no_write = record {
-  done = done most input left before now s last r0 r1 w0 w1 runs causes no_read no_write;
-  too_long = too_long most input left before now s last r0 r1 w0 w1 runs causes no_read no_write;
+-- without a fault, the bytes decide
+by_bytes : (most : ℕ) (run : Run) (rest : List ℕ) (s : Status) (last : Workspace) → Says s most run → run.last ≡ Some last → run.input ≡ run.taken ++ rest → (s ≡ status.ReadFault → ⊥) → (s ≡ status.WriteFault → ⊥) → IsComplete most run.input s
+by_bytes most run rest status.Done last says left split no_read no_write = record {
+  done = λ _. inl refl;
+  too_long = λ never. absurd (never (in_time most run.input run.taken rest split says.read));
 }
+by_bytes most run rest status.TooLong last says left split no_read no_write = record {
+  done = λ ends. absurd (elim ends [ inl short ↦ past_most most run.input run.taken rest split says.one_more short | inr quits ↦ says.goes_on quits ]);
+  too_long = λ _. inl refl;
+}
+by_bytes most run rest status.Memory last says left split no_read no_write = record { done = λ _. inr refl; too_long = λ _. inr refl }
+by_bytes most run rest status.Usage last says left split no_read no_write = absurd (let none = says.none_left in cc)
+by_bytes most run rest status.ReadFault last says left split no_read no_write = absurd (no_read refl)
+by_bytes most run rest status.WriteFault last says left split no_read no_write = absurd (no_write refl)
+
+-- what was taken is the front of the input
+taken_front : (input : List ℕ) (left : Option (List ℕ)) (taken : List ℕ) → Consumes (Some input) left taken → (rest : List ℕ) × (input ≡ taken ++ rest)
+taken_front input None taken takes = absurd takes
+taken_front input (Some rest) taken takes = (rest, takes)
+
+complete_by : {B : Type 0} {K : sink_trait.Ghosts B} {sink sink' : B} (most : ℕ) (input : List ℕ) (left : Option (List ℕ)) (s : Status) (last : Workspace) → Runs most input left K sink sink' s (Some last) → (s ≡ status.ReadFault → ⊥) → (s ≡ status.WriteFault → ⊥) → IsComplete most input s
+complete_by most input left s last runs no_read no_write =
+    let front = taken_front input left runs.run.taken runs.takes in
+    subst (λ (w : List ℕ). IsComplete most w s) runs.input_is
+    (by_bytes most runs.run front.0 s last (subst (λ (t : Status). Says t most runs.run) runs.status_is runs.says) runs.last_is (runs.input_is ∙ front.1) no_read no_write)
+
+-- a run that did nothing
+abbrev idle : List ℕ → Status → Run
+idle input s = record { input = input; taken = []; replies = []; output = []; status = s; last = None }
+
+says_early : (most : ℕ) (input : List ℕ) (s : Status) → IsEarly s → Says s most (idle input s)
+says_early most input status.Usage early = record { untaken = refl; unanswered = refl; unwritten = refl; none_left = refl }
+says_early most input status.Memory early = record { untaken = refl; unanswered = refl; unwritten = refl; none_left = refl }
+says_early most input status.Done early = absurd early
+says_early most input status.ReadFault early = absurd early
+says_early most input status.WriteFault early = absurd early
+says_early most input status.TooLong early = absurd early
+
+not_early : (s : Status) → IsEarly s → (fault : Status) → (IsEarly fault → ⊥) → s ≡ fault → ⊥
+not_early s early fault never e = never (subst IsEarly e early)
+
+early_memory : (s : Status) (n : ℕ) → IsEarly s → (s ≡ status.Usage) ↔ (0 < n) → n ≡ 0 → s ≡ status.Memory
+early_memory status.Usage n early usage none = absurd (let some = usage.0 refl in omega (arith, some, none))
+early_memory status.Memory n early usage none = refl
+early_memory status.Done n early usage none = absurd early
+early_memory status.ReadFault n early usage none = absurd early
+early_memory status.WriteFault n early usage none = absurd early
+early_memory status.TooLong n early usage none = absurd early
+
+module _ {A B W : Type 0} {S : source_trait.Ghosts A} {source : A} {K : sink_trait.Ghosts B} {sink : B} {most : ℕ} {words : List W} where
+  -- a run that ended before its first line
+  pub RunsAs-early : (s : Status) → IsEarly s → (s ≡ status.Usage) ↔ (0 < length words) → RunsAs most words S source source K sink sink (record { status = s; space = None })
+  RunsAs-early s early usage = record {
+    usage = usage;
+    space = (λ _. early, λ _. refl);
+    bits = tt;
+    unbegun = λ _. (refl, refl);
+    reads = Pulls-as (Pulls-none S.faults S.steady S.faultless source) (λ p. absurd p) (not_early s early status.ReadFault (λ e. e));
+    writes = record { counted = omega arith; cause = λ e. absurd (not_early s early status.WriteFault (λ e. e) e) };
+    run = IfSome-from (S.left source) (λ (input : List ℕ). Runs most input (S.left source) K sink sink s None) (λ input told. record {
+      run = idle input s;
+      input_is = refl;
+      status_is = refl;
+      last_is = refl;
+      takes = subst (λ (o : Option (List ℕ)). Consumes (Some input) o []) (sym told) refl;
+      few = omega arith;
+      writes = Appends-nil (K.written sink);
+      says = says_early most input s early;
+      sink_sure = λ room has low. (not_early s early status.WriteFault (λ e. e), refl, subst (λ (n : ℕ). K.has_room sink n) (omega arith) has);
+    });
+    complete = λ none no_read no_write. IfSome-from (S.left source) (λ (input : List ℕ). IsComplete most input s) (λ input told.
+        let memory = early_memory s (length words) early usage (ap length none) in
+        record { done = λ _. inr memory; too_long = λ _. inr memory });
+  }
+
+module _ {A B W : Type 0} {S : source_trait.Ghosts A} {source source' : A} {K : sink_trait.Ghosts B} {sink sink' : B} {most : ℕ} {words : List W} where
+  -- a run that read lines
+  pub RunsAs-lines : (s : Status) (space : SpaceView) → (IsEarly s → ⊥) → length words ≡ 0 → space.bits ≡ CODE_BITS → HasCauses S source source' K sink sink' (Some s) →
+      ((input : List ℕ) → S.left source ≡ Some input → Runs most input (S.left source') K sink sink' s (Some space.work)) → RunsAs most words S source source' K sink sink' (record { status = s; space = Some space })
+  RunsAs-lines s space begun none bits causes run = record {
+    usage = (λ e. absurd (begun (subst IsEarly (sym e) tt)), λ some. absurd (omega (arith, none, some)));
+    space = (λ h. absurd (let never = h in cc), λ early. absurd (begun early));
+    bits = bits;
+    unbegun = λ early. absurd (begun early);
+    reads = Pulls-as causes.reads (λ p. let same = p in cc) (ap Some);
+    writes = CountsFaults-as causes.writes (ap Some);
+    run = IfSome-from (S.left source) (λ (input : List ℕ). Runs most input (S.left source') K sink sink' s (Some space.work)) run;
+    complete = λ _ no_read no_write. IfSome-from (S.left source) (λ (input : List ℕ). IsComplete most input s)
+        (λ input told. complete_by most input (S.left source') s space.work (run input told) no_read no_write);
+  }

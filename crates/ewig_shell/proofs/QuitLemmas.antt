@@ -1,21 +1,170 @@
--- Pieces before and after one that reads as quit.
-use Rattle.std.proofs.Common.{◌≡◌, ℕ, ◌<◌, ◌≤◌, Bool, true, false, ◌||◌, if◌then◌else◌, List, [], ◌∷◌, ◌++◌, length, sym, ap, ◌∙◌, refl}
-use Rattle.std.proofs.lemmas.Bool.{le-ltb, lt-ltb}
-use Rattle.std.specs.List.{list_any}
+-- Which line is to quit, and the pieces before and after the first that is.
+use Rattle.std.proofs.Common.{◌≡◌, ◌≢◌, ℕ, ◌<◌, Bool, true, false, cond, ◌||◌, if◌then◌else◌, List, [], ◌∷◌, ◌++◌, length, take, rules, codes, bytes_eq, sym, ap, ◌∙◌, subst, refl, arith, inl, inr, Option, Some, None, Result, Ok, Err, IfOk, ◌↔◌}
+use Rattle.std.proofs.lemmas.Bool.{cases_lt}
+use Rattle.std.proofs.lemmas.List.{take_all}
+use Rattle.std.proofs.lemmas.Slice.Eq.{bytes_eq-Decides}
+use Rattle.std.proofs.lemmas.Str.Ascii.{IsAscii-from_all}
+use Rattle.std.proofs.lemmas.Str.{IsUtf8-from_ascii, is_utf8-from_IsUtf8}
+use Rattle.std.specs.List.{list_any, position_or_len}
+use Rattle.std.specs.Map.{lookup}
+use Rattle.std.specs.Option.{option_map_or}
+use Rattle.std.specs.Str.{is_utf8}
+use Rattle.elem_core.specs.Naming.{is_name}
 use Rattle.elem_core.specs.declared.TheConstants.{MAX_LINE}
-use Rattle.shell_words.specs.Grammar.{meaning}
-use Rattle.ewig_shell.specs.Quits.{up_to, is_quit, asks_to_quit}
+use Rattle.shell_io.specs.declared.device.Failed.{Failed}
+use Rattle.shell_terms.specs.Command.{PlainCommand, new, add, get, len, list, quit}
+use Rattle.shell_words.specs.Grammar.{RestMeaning, is_space, first_piece, after_piece, if_named, the_end, a_name, a_number, the_text, commands, command_of, meaning}
+use Rattle.shell_words.specs.Number.{number_of}
+use Rattle.shell_words.proofs.GrammarLemmas.{after_piece-spaced}
+use Rattle.shell_words.specs.declared.BadLine.{BadLine}
+use Rattle.shell_words.specs.declared.BadLine.TheVariants as bad
+use Rattle.ewig_shell.specs.Quits.{up_to, is_quit}
+use Rattle.ewig_shell.specs.Sending.{sent_then}
+use Rattle.ewig_shell.specs.declared.execute.Went.{Went}
+use Rattle.ewig_shell.specs.declared.execute.Went.TheVariants as went
 
--- a piece that may be a line is to quit where its meaning is
-pub is_quit-line : (piece : List ℕ) → length piece ≤ MAX_LINE → is_quit piece ≡ asks_to_quit (meaning piece)
+-- the test of a quit piece
+pub is_quit-true : (piece : List ℕ) → is_quit piece ≡ true → piece ≡ codes "quit"
 unfolding is_quit
-is_quit-line piece short = ap (λ (b : Bool). if b then false else asks_to_quit (meaning piece)) (le-ltb MAX_LINE (length piece) short)
+is_quit-true piece test = (bytes_eq-Decides piece (codes "quit")).0 test
+
+pub is_quit-from : (piece : List ℕ) → piece ≡ codes "quit" → is_quit piece ≡ true
+unfolding is_quit
+is_quit-from piece e = (bytes_eq-Decides piece (codes "quit")).1 e
 
 -- a piece that is too long isn't to quit
-pub is_quit-long : (piece : List ℕ) → MAX_LINE < length piece → is_quit piece ≡ true → ⊥
-unfolding is_quit
-is_quit-long piece long e =
-    absurd (let never : false ≡ true = ap (λ (b : Bool). if b then false else asks_to_quit (meaning piece)) (sym (lt-ltb MAX_LINE (length piece) long)) ∙ e in cc)
+long-no_quit : (piece : List ℕ) → MAX_LINE < length piece → piece ≢ codes "quit"
+long-no_quit piece long e = let short : length piece ≡ 4 = ap length e in absurd (omega (arith, long, short))
+
+-- what is read isn't to quit
+abbrev IsOther : Result PlainCommand BadLine → Type 0
+IsOther read = read ≡ Ok quit → ⊥
+
+tested : (b : Bool) (command : PlainCommand) → IsOther (Ok command) → IsOther (if b then Ok command else Err bad.Name)
+tested true command other e = other e
+tested false command other e = cc
+
+named : (piece : List ℕ) (read : Result PlainCommand BadLine) → IsOther read → IsOther (if_named piece read)
+unfolding if_named
+named piece (Ok command) other e = tested (is_name piece) command other e
+named piece (Err why) other e = cc
+
+name_first : (more : List ℕ → RestMeaning) (rest : Option (List ℕ)) → ((name : List ℕ) (behind : Option (List ℕ)) → IsOther (more name behind)) → IsOther (a_name more rest)
+unfolding a_name
+name_first more None other e = cc
+name_first more (Some rest) other e = named (first_piece rest) (more (first_piece rest) (after_piece rest)) (other (first_piece rest) (after_piece rest)) e
+
+ended : (command : PlainCommand) (rest : Option (List ℕ)) → command ≢ quit → IsOther (the_end command rest)
+unfolding the_end
+ended command None other e = other (let same = e in cc)
+ended command (Some rest) other e = cc
+
+text_last : (name : List ℕ) (rest : Option (List ℕ)) → IsOther (the_text (λ t. add name t) rest)
+unfolding the_text
+text_last name None e = cc
+text_last name (Some rest) e = cc
+
+numbered : (name : List ℕ) (behind : Option (List ℕ)) (number : Option ℕ) → IsOther (option_map_or (λ (i : ℕ). the_end (get name i) behind) number (Err bad.Command))
+numbered name behind None e = cc
+numbered name behind (Some i) e = ended (get name i) behind (λ h. cc) e
+
+number_last : (name : List ℕ) (rest : Option (List ℕ)) → IsOther (a_number (λ i. the_end (get name i)) rest)
+unfolding a_number
+number_last name None e = cc
+number_last name (Some rest) e = numbered name (after_piece rest) (number_of (first_piece rest)) e
+
+-- what a table reads for a word, and that no row of it reads as to quit
+abbrev read_by : List (List ℕ × RestMeaning) → List ℕ → Option (List ℕ) → Result PlainCommand BadLine
+read_by table word rest = option_map_or (λ (read : RestMeaning). read rest) (lookup (bytes_eq word) table) (Err bad.Command)
+
+abbrev AreOthers : List (List ℕ × RestMeaning) → Option (List ℕ) → Type 0
+AreOthers [] rest = Unit {0}
+AreOthers (row ∷ rows) rest = IsOther (row.1 rest) × AreOthers rows rest
+
+past : (found : Bool) (read : RestMeaning) (later : Option RestMeaning) (rest : Option (List ℕ)) → IsOther (read rest) →
+    option_map_or (λ (r : RestMeaning). r rest) (cond found (Some read) later) (Err bad.Command) ≡ Ok quit → option_map_or (λ (r : RestMeaning). r rest) later (Err bad.Command) ≡ Ok quit
+past true read later rest other e = absurd (other e)
+past false read later rest other e = e
+
+-- a row behind them does
+past_others : (front back : List (List ℕ × RestMeaning)) (word : List ℕ) (rest : Option (List ℕ)) → AreOthers front rest → read_by (front ++ back) word rest ≡ Ok quit → read_by back word rest ≡ Ok quit
+past_others [] back word rest others e = e
+past_others (row ∷ rows) back word rest others e =
+    past_others rows back word rest others.1 (past (bytes_eq word row.0) row.1 (lookup (bytes_eq word) (rows ++ back)) rest others.0 e)
+
+at_quit : (found : Bool) (rest : Option (List ℕ)) → option_map_or (λ (r : RestMeaning). r rest) (cond found (Some (the_end quit)) None) (Err bad.Command) ≡ Ok quit → (found ≡ true) × (rest ≡ None)
+unfolding the_end
+at_quit true None e = (refl, refl)
+at_quit true (Some rest) e = cc
+at_quit false rest e = cc
+
+-- the word is `quit`, and nothing follows it
+word_quits : (word : List ℕ) (rest : Option (List ℕ)) → command_of word rest ≡ Ok quit → (word ≡ codes "quit") × (rest ≡ None)
+unfolding command_of commands
+word_quits word rest e =
+    let both = at_quit (bytes_eq word (codes "quit")) rest (past_others (take 5 commands) ((codes "quit", the_end quit) ∷ []) word rest (
+      name_first (λ b. the_end (new b)) rest (λ name behind. ended (new name) behind (λ h. cc)),
+      (
+        name_first (λ b. the_text (λ t. add b t)) rest text_last,
+        (
+          name_first (λ b. a_number (λ i. the_end (get b i))) rest number_last,
+          (
+            name_first (λ b. the_end (len b)) rest (λ name behind. ended (len name) behind (λ h. cc)),
+            (ended list rest (λ h. cc), tt),
+          ),
+        ),
+      ),
+    ) e) in
+    ((bytes_eq-Decides word (codes "quit")).0 both.0, both.1)
+
+-- a line that ends with its first word is that word
+one_word : (line : List ℕ) → after_piece line ≡ None → first_piece line ≡ line
+unfolding first_piece
+one_word line none =
+    elim (cases_lt (position_or_len is_space line) (length line)) [
+      | inl low ↦ absurd (let spaced = after_piece-spaced line low in cc)
+      | inr high ↦ take_all (position_or_len is_space line) line high
+    ]
+
+-- the line `quit`, and no other, reads as the command
+quit_utf8 : is_utf8 (codes "quit") ≡ true
+quit_utf8 = is_utf8-from_IsUtf8 (codes "quit") (IsUtf8-from_ascii (codes "quit") (IsAscii-from_all (codes "quit") (search rules)))
+
+pub quit_reads : meaning (codes "quit") ≡ Ok quit
+unfolding meaning first_piece after_piece command_of commands the_end
+quit_reads = rw quit_utf8 refl
+
+if_text : (b : Bool) (read : Result PlainCommand BadLine) → (if b then read else Err bad.Utf8) ≡ Ok quit → read ≡ Ok quit
+if_text true read e = e
+if_text false read e = cc
+
+pub reads_quit : (line : List ℕ) → meaning line ≡ Ok quit → line ≡ codes "quit"
+unfolding meaning
+reads_quit line e =
+    let both = word_quits (first_piece line) (after_piece line) (if_text (is_utf8 line) _ e) in
+    sym (one_word line both.1) ∙ both.0
+
+-- a line that is a command ends the run exactly where it is the line `quit`
+pub quits-command : (piece : List ℕ) (command : PlainCommand) (result : Result Went Failed) → Ok command ≡ meaning piece →
+    IfOk result (λ (w : Went). (w ≡ went.Quit) ↔ (command ≡ quit)) → IfOk result (λ (w : Went). (w ≡ went.Quit) ↔ (piece ≡ codes "quit"))
+quits-command piece command (Ok w) e h = (λ q. reads_quit piece (let same = h.0 q in cc), λ p. h.1 (let read = ap meaning p ∙ quit_reads in cc))
+quits-command piece command (Err f) e h = tt
+
+on : (piece : List ℕ) (sent : Result (Unit {0}) Failed) → piece ≢ codes "quit" → IfOk (sent_then sent went.On) (λ (w : Went). (w ≡ went.Quit) ↔ (piece ≡ codes "quit"))
+on piece (Ok x) other = (λ e. cc, λ e. absurd (other e))
+on piece (Err f) other = tt
+
+-- a line that is no command doesn't end it
+pub quits-bad : (piece : List ℕ) (why : BadLine) (sent : Result (Unit {0}) Failed) (result : Result Went Failed) → Err why ≡ meaning piece → result ≡ sent_then sent went.On →
+    IfOk result (λ (w : Went). (w ≡ went.Quit) ↔ (piece ≡ codes "quit"))
+quits-bad piece why sent result e is =
+    subst (λ (r : Result Went Failed). IfOk r (λ (w : Went). (w ≡ went.Quit) ↔ (piece ≡ codes "quit"))) (sym is)
+    (on piece sent (λ p. let read = ap meaning p ∙ quit_reads in cc))
+
+-- nor does a piece that is too long
+pub quits-long : (result : Result Went Failed) (piece : List ℕ) → MAX_LINE < length piece → IfOk result (λ (w : Went). w ≡ went.On) → IfOk result (λ (w : Went). (w ≡ went.Quit) ↔ (piece ≡ codes "quit"))
+quits-long (Ok w) piece long on = (λ e. absurd (let both = on in cc), λ p. absurd (long-no_quit piece long p))
+quits-long (Err f) piece long on = tt
 
 or_left : (a b : Bool) → a ≡ true → (a || b) ≡ true
 or_left true b e = refl
@@ -32,6 +181,10 @@ neither false b p q e = q e
 nor_false : (b : Bool) → (b ≡ true → ⊥) → (b || false) ≡ true → ⊥
 nor_false true p e = p refl
 nor_false false p e = absurd (let never = e in cc)
+
+front : (a b c : Bool) → (b ≡ true → c ≡ true) → (a || b) ≡ true → (a || c) ≡ true
+front true b c h e = refl
+front false b c h e = h e
 
 -- none of the pieces passes, and neither does one more
 pub none-append : {X : Type 0} (test : X → Bool) (xs : List X) (y : X) → (list_any test xs ≡ true → ⊥) → (test y ≡ true → ⊥) → list_any test (xs ++ y ∷ []) ≡ true → ⊥
@@ -71,10 +224,7 @@ up_to-append test [] ys p = refl
 up_to-append test (x ∷ xs) ys p =
     if_fails (test x) (list_any test xs) x (up_to test (xs ++ ys)) (xs ++ up_to test ys) p (up_to-append test xs ys)
 
-first_and : {X : Type 0} (b : Bool) (y : X) (rest : List X) → (more : List X) × ((if b then y ∷ [] else y ∷ rest) ≡ y ∷ more)
-first_and true y rest = ([], refl)
-first_and false y rest = (rest, refl)
-
--- the first element is always there
-pub up_to-cons : {X : Type 0} (test : X → Bool) (y : X) (ys : List X) → (more : List X) × (up_to test (y ∷ ys) ≡ y ∷ more)
-up_to-cons test y ys = first_and (test y) y (up_to test ys)
+-- a front that has one
+pub any-front : {X : Type 0} (test : X → Bool) (xs ys : List X) → list_any test xs ≡ true → list_any test (xs ++ ys) ≡ true
+any-front test [] ys e = cc
+any-front test (x ∷ xs) ys e = front (test x) (list_any test xs) (list_any test (xs ++ ys)) (any-front test xs ys) e

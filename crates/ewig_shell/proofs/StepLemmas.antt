@@ -1,18 +1,17 @@
 -- What shows that a command was obeyed.
-use Rattle.std.proofs.Common.{◌≡◌, ◌≢◌, ℕ, List, [], ◌∷◌, ◌++◌, ◌==◌, length, map, sym, ap, ◌∙◌, subst, refl, codes, Bool, true, false, if◌then◌else◌, IsTrue, inl, inr, Ok, Err, None, Some, is_some, IfOk, MatchBool, ◌↔◌, ◌<◌, ◌≤◌}
+use Rattle.std.proofs.Common.{◌≡◌, ◌≢◌, ℕ, List, [], ◌∷◌, ◌++◌, ◌==◌, length, map, sym, ap, ◌∙◌, subst, refl, codes, Bool, true, false, if◌then◌else◌, IsTrue, inl, inr, Ok, Err, None, Some, is_some, MatchBool, ◌<◌, ◌≤◌}
 use Rattle.std.proofs.lemmas.Bool.{le-ltb, lt-ltb}
 use Rattle.std.proofs.lemmas.List.{append-nil}
 use Rattle.std.proofs.lemmas.List.Concat.{flat_map-append}
 use Rattle.std.specs.declared.option.Option.{Option}
 use Rattle.std.specs.declared.result.Result.{Result}
-use Rattle.shell_io.specs.declared.device.Failed.{Failed}
 use Rattle.shell_words.specs.Grammar.{meaning}
 use Rattle.shell_words.specs.declared.BadLine.{BadLine}
 use Rattle.elem_core.specs.declared.TheConstants.{NEWLINE, MAX_LINE}
-use Rattle.elem_core.specs.Command.{PlainCommand, list, quit}
+use Rattle.shell_terms.specs.Command.{PlainCommand, list, quit}
 use Rattle.elem_core.specs.Shown.{name_bytes, line_bytes}
 use Rattle.space_state.specs.Workspace.{Workspace, lines_of, with_lines, most_lines, sizes}
-use Rattle.space_state.specs.Answer.{Answer, told, refused, answer, done, on_lines, ok_line, size_line}
+use Rattle.space_state.specs.Answer.{Answer, told, refused, answer, ok_answer, on_lines, ok_line, size_line}
 use Rattle.space_state.specs.Change.{edit_command}
 use Rattle.space_state.specs.Ends.{Ends}
 use Rattle.space_state.specs.View.{SpaceView}
@@ -20,12 +19,7 @@ use Rattle.space_state.specs.declared.edit.Edit.{Edit}
 use Rattle.space_state.specs.declared.edit.Edit.TheVariants as edits
 use Rattle.space_state.specs.declared.refusal.Refusal.{Refusal}
 use Rattle.space_state.specs.declared.refusal.Refusal.TheVariants as why
-use Rattle.ewig_shell.specs.declared.execute.Went.{Went}
-use Rattle.ewig_shell.specs.declared.execute.Went.TheVariants as went
-use Rattle.ewig_shell.specs.Sending.{sent_then}
-use Rattle.ewig_shell.specs.Quits.{is_quit, asks_to_quit}
-use Rattle.ewig_shell.proofs.QuitLemmas.{is_quit-line}
-use Rattle.ewig_shell.specs.Step.{Step, Means, Gives, Refuses, Obeys, IsGranted, wants_memory, reply_of, refusal_of, reason_of, line_reason, is_long}
+use Rattle.ewig_shell.specs.Step.{Step, Means, Gives, Refuses, Obeys, IsGranted, wants_memory, reply_of, refusal_of, reason_of}
 
 -- an answer with these reply lines is given by the reply that they make
 pub Gives-told : (W next : Workspace) (a : Answer) (lines : List (List ℕ)) (reply : List ℕ) → a ≡ told lines next → reply ≡ reply_of lines → Gives W a reply next
@@ -50,17 +44,17 @@ pub Obeys-done : (e : Edit) (old new : SpaceView) (reply : List ℕ) → Ends {T
 Obeys-done e old new reply h r = inl (Gives-told old.work new.work _ (ok_line ∷ []) reply h.carried_out r)
 
 -- a name that is taken, or not
-new-never_memory : (W : Workspace) (name : List ℕ) (taken : Bool) → (if taken then refused why.Exists else done (with_lines W name [])) ≢ refused why.Memory
+new-never_memory : (W : Workspace) (name : List ℕ) (taken : Bool) → (if taken then refused why.Exists else ok_answer (with_lines W name [])) ≢ refused why.Memory
 new-never_memory W name true e = cc
 new-never_memory W name false e = cc
 
 -- a buffer that is full, or not
-full-never_memory : (W : Workspace) (name text : List ℕ) (lines : List (List ℕ)) (full : Bool) → (if full then refused why.Limit else done (with_lines W name (lines ++ text ∷ []))) ≢ refused why.Memory
+full-never_memory : (W : Workspace) (name text : List ℕ) (lines : List (List ℕ)) (full : Bool) → (if full then refused why.Limit else ok_answer (with_lines W name (lines ++ text ∷ []))) ≢ refused why.Memory
 full-never_memory W name text lines true e = cc
 full-never_memory W name text lines false e = cc
 
 -- a buffer that is there, or not
-add-never_memory : (W : Workspace) (name text : List ℕ) (found : Option (List (List ℕ))) → on_lines found (λ (lines : List (List ℕ)). if length lines == most_lines then refused why.Limit else done (with_lines W name (lines ++ text ∷ []))) ≢ refused why.Memory
+add-never_memory : (W : Workspace) (name text : List ℕ) (found : Option (List (List ℕ))) → on_lines found (λ (lines : List (List ℕ)). if length lines == most_lines then refused why.Limit else ok_answer (with_lines W name (lines ++ text ∷ []))) ≢ refused why.Memory
 add-never_memory W name text None e = cc
 add-never_memory W name text (Some lines) e = full-never_memory W name text lines (length lines == most_lines) e
 
@@ -122,40 +116,3 @@ pub Step-long : (W : Workspace) (piece : List ℕ) → MAX_LINE < length piece �
 Step-long W piece long =
     subst (λ (b : Bool). MatchBool b (Refuses W (codes "long") (refusal_of (codes "long")) W) (Means W (meaning piece) (refusal_of (codes "long")) W)) (sym (lt-ltb MAX_LINE (length piece) long))
     (record { reply_is = refl; same = refl })
-
--- going on is not quitting
-on : (sent : Result (Unit {0}) Failed) → IfOk (sent_then sent went.On) (λ (w : Went). (w ≡ went.Quit) ↔ IsTrue false)
-on (Ok x) = (λ e. cc, λ e. cc)
-on (Err f) = tt
-
--- a line that is no command doesn't end the run
-pub quits-never : (sent : Result (Unit {0}) Failed) (result : Result Went Failed) → result ≡ sent_then sent went.On → IfOk result (λ (w : Went). (w ≡ went.Quit) ↔ IsTrue false)
-quits-never sent result e = subst (λ (r : Result Went Failed). IfOk r (λ (w : Went). (w ≡ went.Quit) ↔ IsTrue false)) (sym e) (on sent)
-
--- a line ends the run where its meaning does
-pub quits-line : (piece : List ℕ) (result : Result Went Failed) (read : Result PlainCommand BadLine) → length piece ≤ MAX_LINE → read ≡ meaning piece → IfOk result (λ (w : Went). (w ≡ went.Quit) ↔ IsTrue (asks_to_quit read)) → IfOk result (λ (w : Went). (w ≡ went.Quit) ↔ IsTrue (is_quit piece))
-quits-line piece result read short e h =
-    subst (λ (b : Bool). IfOk result (λ (w : Went). (w ≡ went.Quit) ↔ IsTrue b)) (ap asks_to_quit e ∙ sym (is_quit-line piece short)) h
-
--- a piece that is too long doesn't end the run
-pub quits-long : (result : Result Went Failed) (piece : List ℕ) → IfOk result (λ (w : Went). w ≡ went.On) → (is_quit piece ≡ true → ⊥) → IfOk result (λ (w : Went). (w ≡ went.Quit) ↔ IsTrue (is_quit piece))
-quits-long (Ok w) piece on never = (λ e. absurd (let both = on in cc), λ q. absurd (never q))
-quits-long (Err f) piece on never = tt
-
-answer-gives : (W : Workspace) (a : Answer) → (reply : List ℕ) × (after : Workspace) × Gives W a reply after
-answer-gives W (told lines next) = (reply_of lines, next, (refl, refl))
-answer-gives W (refused w) = (refusal_of (reason_of w), W, record { reply_is = refl; same = refl })
-
-meaning-gives : (W : Workspace) (read : Result PlainCommand BadLine) → (reply : List ℕ) × (after : Workspace) × Means W read reply after
-meaning-gives W (Ok command) =
-    let given = answer-gives W (answer W command) in
-    (given.0, given.1, inl given.2)
-meaning-gives W (Err bad) = (refusal_of (line_reason bad), W, record { reply_is = refl; same = refl })
-
-long-gives : (W : Workspace) (read : Result PlainCommand BadLine) (b : Bool) → (reply : List ℕ) × (after : Workspace) × MatchBool b (Refuses W (codes "long") reply after) (Means W read reply after)
-long-gives W read true = (refusal_of (codes "long"), W, record { reply_is = refl; same = refl })
-long-gives W read false = meaning-gives W read
-
--- any piece can be executed
-pub Step-total : (W : Workspace) (piece : List ℕ) → (reply : List ℕ) × (after : Workspace) × Step W piece reply after
-Step-total W piece = long-gives W (meaning piece) (is_long piece)

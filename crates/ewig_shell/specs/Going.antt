@@ -5,30 +5,39 @@ use Rattle.std.specs.Io.KnownBytes.{Appends}
 use Rattle.shell_io.specs.Pieces.{pieces_within}
 use Rattle.shell_io.specs.Reader.{Reading, StandsIn, pieces_given}
 use Rattle.shell_io.specs.declared.device.Failed.{Failed}
+use Rattle.shell_io.specs.declared.device.Sink as sink_trait
+use Rattle.shell_io.specs.declared.device.Source as source_trait
+use Rattle.shell_io.specs.Fault.{CountsFaults, Pulls}
 use Rattle.space_state.specs.Workspace.{Workspace, start}
 use Rattle.ewig_shell.specs.declared.execute.Went.{Went}
 use Rattle.ewig_shell.specs.declared.execute.Went.TheVariants.{On, Quit}
 use Rattle.ewig_shell.specs.declared.run.Status.{Status}
-use Rattle.ewig_shell.specs.declared.run.Status.TheVariants.{Done, WriteFault}
+use Rattle.ewig_shell.specs.declared.run.Status.TheVariants.{Done, ReadFault, WriteFault}
 use Rattle.ewig_shell.specs.Quits.{HasQuit}
 use Rattle.ewig_shell.specs.Step.{Steps}
 
--- Where a run over this input stands between two pieces.
-pub record IsGoing (most : ℕ) (input : List ℕ) (reader : Reading)
-    (left before now : Option (List ℕ)) (space : Workspace) : Type 0 where
+-- A sink has taken these bytes, and without a fault where it had room for them.
+pub record TakesReplies {B : Type 0} (K : sink_trait.Ghosts B) (sink sink' : B) (bytes : List ℕ) : Type 0 where
+  pub appends : Appends (K.written sink) (K.written sink') bytes
+  pub room : (room : ℕ) → K.has_room sink room → length bytes ≤ room →
+      (K.faults sink' ≡ K.faults sink) × K.has_room sink' (room - length bytes)
+
+-- Where a run over this input stands between two pieces: its sink was the first at its begin, and is the second.
+pub record IsGoing {B : Type 0} (most : ℕ) (input : List ℕ) (reader : Reading) (left : Option (List ℕ))
+    (K : sink_trait.Ghosts B) (sink sink' : B) (space : Workspace) : Type 0 where
   pub stands : StandsIn input reader left
   pub later : List (List ℕ)
   pub in_time : pieces_within most input ≡ pieces_given input reader ++ later
   pub goes_on : ¬ HasQuit (pieces_given input reader)
-  pub output : List ℕ
-  pub gains : Appends before now output
-  pub steps : Steps start (pieces_given input reader) output space
+  pub replies : List ℕ
+  pub steps : Steps start (pieces_given input reader) replies space
+  pub writes : TakesReplies K sink sink' replies
 
--- The run goes on, and what room the sink had for what it writes, it has but for what was written.
-pub record IsSure {K : Type 0} (written : K → Option (List ℕ)) (has_room : K → ℕ → Type 0)
-    (most : ℕ) (input : List ℕ) (reader : Reading) (left : Option (List ℕ)) (begin now : K) (space : Workspace) : Type 0 where
-  pub going : IsGoing most input reader left (written begin) (written now) space
-  pub room : (n : ℕ) → has_room begin n → length going.output ≤ n → has_room now (n - length going.output)
+-- What the counts of faults say of a run that ended so, or that goes on.
+pub record HasCauses {A B : Type 0} (S : source_trait.Ghosts A) (source source' : A)
+    (K : sink_trait.Ghosts B) (sink sink' : B) (ends : Option Status) : Type 0 where
+  pub reads : Pulls S.faults S.steady S.faultless source source' (ends ≡ Some ReadFault)
+  pub writes : CountsFaults (ends ≡ Some WriteFault) (K.faults sink) (K.faults sink')
 
 -- The status of a run that ends with a piece that was executed so, or none.
 abbrev pub status_of : Result Went Failed → Option Status

@@ -1,12 +1,16 @@
 -- What a run does: from its input and what it may take of it to its output, its status and the workspace that it leaves.
-use Rattle.std.specs.Prelude.{◌≡◌, ℕ, ◌+◌, ◌<◌, ◌≤◌, List, [], ◌∷◌, ◌++◌, length, take, None, Some, ◌⊎◌}
+use Rattle.std.specs.Prelude.{◌≡◌, ◌≢◌, ℕ, ◌+◌, ◌-◌, ◌<◌, ◌≤◌, ◌↔◌, ◌⊎◌, List, [], ◌∷◌, ◌++◌, length, take, None, Some, IsNone, IfSome, IsSomeAnd}
 use Rattle.std.specs.declared.option.Option.{Option}
-use Rattle.std.specs.Io.KnownBytes.{Appends}
-use Rattle.shell_io.specs.Fault.{HasCause, last_count}
-use Rattle.shell_io.specs.Pieces.{pieces_within, ended}
 use Rattle.std.specs.Option.{option_map}
+use Rattle.std.specs.Io.KnownBytes.{Appends, Consumes}
+use Rattle.elem_core.specs.declared.codes.TheConstants.{CODE_BITS}
+use Rattle.shell_io.specs.Fault.{CountsFaults, Pulls}
+use Rattle.shell_io.specs.Pieces.{pieces_within, ended}
+use Rattle.shell_io.specs.declared.device.Source as source_trait
+use Rattle.shell_io.specs.declared.device.Sink as sink_trait
 use Rattle.space_state.specs.View.{SpaceView}
 use Rattle.space_state.specs.Workspace.{Workspace, start}
+use Rattle.ewig_shell.specs.declared.run.Ended.{Ended}
 use Rattle.ewig_shell.specs.declared.run.Status.{Status}
 use Rattle.ewig_shell.specs.declared.run.Status.TheVariants.{Done, Memory, Usage, ReadFault, WriteFault, TooLong}
 use Rattle.ewig_shell.specs.Quits.{HasQuit, until_quit}
@@ -21,96 +25,128 @@ IsEarly ReadFault = ⊥
 IsEarly WriteFault = ⊥
 IsEarly TooLong = ⊥
 
--- Nothing was taken and nothing written.
-pub record IsUnbegun (taken output : List ℕ) : Type 0 where
-  pub untaken : taken ≡ []
-  pub unwritten : output ≡ []
+-- The number by which the program tells how a run ended.
+abbrev pub exit_code : Status → ℕ
+exit_code Done = 0
+exit_code Memory = 1
+exit_code Usage = 2
+exit_code ReadFault = 3
+exit_code WriteFault = 4
+exit_code TooLong = 5
 
--- The input is over within its first most bytes, or asks to quit there.
-abbrev pub EndsInTime : ℕ → List ℕ → Type 0
-EndsInTime most input = (length input ≤ most) ⊎ HasQuit (pieces_within most input)
+-- What a run did.
+pub record Run : Type 0 where
+  -- the bytes that its source had to give, and those of them that it took
+  pub input : List ℕ
+  pub taken : List ℕ
+  -- the replies to the pieces that it executed, joined, and the bytes that it wrote
+  pub replies : List ℕ
+  pub output : List ℕ
+  -- how it ended, and the workspace that it left, if it had one
+  pub status : Status
+  pub last : Option Workspace
 
--- All pieces were executed, or those up to the first quit piece; each ends within the first most bytes.
-pub record IsDone (most : ℕ) (input output : List ℕ) (last : Workspace) : Type 0 where
-  pub in_time : EndsInTime most input
-  pub steps : Steps start (until_quit (pieces_within most input)) output last
+-- These pieces were executed one after another, and their replies written whole.
+pub record Executes (pieces : List (List ℕ)) (run : Run) : Type 0 where
+  pub steps : IsSomeAnd run.last (λ last. Steps start pieces run.replies last)
+  pub written : run.output ≡ run.replies
 
--- The pieces that had ended among the bytes taken were executed, and none of them was to quit.
-pub record HasReadFault (taken output : List ℕ) (last : Workspace) : Type 0 where
-  pub goes_on : ¬ HasQuit (ended taken)
-  pub steps : Steps start (ended taken) output last
+-- Nothing was taken, executed or written.
+pub record IsUnbegun (run : Run) : Type 0 where
+  pub untaken : run.taken ≡ []
+  pub unanswered : run.replies ≡ []
+  pub unwritten : run.output ≡ []
+  pub none_left : run.last ≡ None
+
+-- The whole input was taken, and it is within the most; or a quit piece ended within the first most of the bytes
+-- taken. All pieces were executed, or those up to the first quit piece.
+pub record IsDone (most : ℕ) (run : Run) : Type 0 where
+  pub read : (run.taken ≡ run.input) × (length run.input ≤ most) ⊎ HasQuit (ended (take most run.taken))
+  pub executes : Executes (until_quit (pieces_within most run.input)) run
+
+-- At most the most was taken. The pieces that had ended in it were executed, and none of them was to quit.
+pub record HasReadFault (most : ℕ) (run : Run) : Type 0 where
+  pub few : length run.taken ≤ most
+  pub goes_on : ¬ HasQuit (ended run.taken)
+  pub executes : Executes (ended run.taken) run
 
 -- One byte more than the most was taken. The pieces that end before it were executed, and none was to quit.
-pub record IsTooLong (most : ℕ) (input taken output : List ℕ) (last : Workspace) : Type 0 where
-  pub one_more : length taken ≡ most + 1
-  pub goes_on : ¬ HasQuit (pieces_within most input)
-  pub steps : Steps start (pieces_within most input) output last
+pub record IsTooLong (most : ℕ) (run : Run) : Type 0 where
+  pub one_more : length run.taken ≡ most + 1
+  pub goes_on : ¬ HasQuit (pieces_within most run.input)
+  pub executes : Executes (pieces_within most run.input) run
 
 -- Some first pieces were executed and their replies written. The next was executed too, and of its reply only the
 -- first bytes were written.
-pub record HasWriteFault (most : ℕ) (input output : List ℕ) (last : Workspace) : Type 0 where
+pub record HasWriteFault (most : ℕ) (run : Run) : Type 0 where
   pub before : List (List ℕ)
   pub piece : List ℕ
   pub later : List (List ℕ)
-  pub in_time : pieces_within most input ≡ before ++ piece ∷ later
+  pub in_time : pieces_within most run.input ≡ before ++ piece ∷ later
   pub goes_on : ¬ HasQuit before
   pub whole : List ℕ
   pub mid : Workspace
   pub steps : Steps start before whole mid
   pub reply : List ℕ
-  pub step : Step mid piece reply last
+  pub step : IsSomeAnd run.last (λ last. Step mid piece reply last)
+  pub replies_are : run.replies ≡ whole ++ reply
   pub count : ℕ
   pub cut : count < length reply
-  pub output_is : output ≡ whole ++ take count reply
+  pub output_is : run.output ≡ whole ++ take count reply
 
--- What each status says, with the workspace that is left, if there is one.
-abbrev pub Run : ℕ → List ℕ → List ℕ → List ℕ → Status → Option Workspace → Type 0
-Run most input taken output Done (Some last) = IsDone most input output last
-Run most input taken output ReadFault (Some last) = HasReadFault taken output last
-Run most input taken output TooLong (Some last) = IsTooLong most input taken output last
-Run most input taken output WriteFault (Some last) = HasWriteFault most input output last
-Run most input taken output Usage None = IsUnbegun taken output
-Run most input taken output Memory None = IsUnbegun taken output
-Run most input taken output Usage (Some last) = ⊥
-Run most input taken output Memory (Some last) = ⊥
-Run most input taken output Done None = ⊥
-Run most input taken output ReadFault None = ⊥
-Run most input taken output TooLong None = ⊥
-Run most input taken output WriteFault None = ⊥
+-- What the status says of a run of at most so many bytes.
+abbrev pub Says : Status → ℕ → Run → Type 0
+Says Done most run = IsDone most run
+Says Memory most run = IsUnbegun run
+Says Usage most run = IsUnbegun run
+Says ReadFault most run = HasReadFault most run
+Says WriteFault most run = HasWriteFault most run
+Says TooLong most run = IsTooLong most run
 
--- No fault was counted, by a count that would have shown it.
-abbrev pub HasNoFault : ℕ → ℕ → Type 0
-HasNoFault before now = (now ≡ before) × (before < last_count)
+-- A run over a source that had this input to give: what it did, that what the source has left and the sink show it, and
+-- that its status says so.
+pub record Runs {B : Type 0} (most : ℕ) (input : List ℕ) (left : Option (List ℕ))
+    (K : sink_trait.Ghosts B) (sink sink' : B) (status : Status) (last : Option Workspace) : Type 0 where
+  pub run : Run
+  pub input_is : run.input ≡ input
+  pub status_is : run.status ≡ status
+  pub last_is : run.last ≡ last
+  pub takes : Consumes (Some input) left run.taken
+  pub few : length run.taken ≤ most + 1
+  pub writes : Appends (K.written sink) (K.written sink') run.output
+  pub says : Says run.status most run
+  -- a sink with room for the replies takes them without a fault
+  pub sink_sure : (room : ℕ) → K.has_room sink room → length run.replies ≤ room →
+      status ≢ WriteFault × (K.faults sink' ≡ K.faults sink) × K.has_room sink' (room - length run.replies)
 
--- A run over a source that had this input to give: what it took and wrote, and that both are what its status says.
-pub record Runs (most : ℕ) (input : List ℕ) (left before now : Option (List ℕ))
-    (status : Status) (space : Option Workspace) : Type 0 where
-  pub taken : List ℕ
-  pub rest : List ℕ
-  pub output : List ℕ
-  pub split : input ≡ taken ++ rest
-  pub left_is : left ≡ Some rest
-  pub few : length taken ≤ most + 1
-  pub gains : Appends before now output
-  pub run : Run most input taken output status space
+-- The input is over within its first most bytes, or asks to quit there.
+abbrev pub EndsInTime : ℕ → List ℕ → Type 0
+EndsInTime most input = (length input ≤ most) ⊎ HasQuit (pieces_within most input)
 
--- The counts of faults never fall, and a status that tells of a fault has its cause in this call.
-pub record HasCauses (read_before read_now write_before write_now : ℕ) (status : Status) : Type 0 where
-  pub source_counted : read_before ≤ read_now
-  pub sink_counted : write_before ≤ write_now
-  pub read_fault : status ≡ ReadFault → HasCause read_before read_now
-  pub write_fault : status ≡ WriteFault → HasCause write_before write_now
-
--- Without a fault the bytes alone decide, but that memory may have run out at the start.
+-- The bytes alone decide, but that memory may have run out at the start.
 pub record IsComplete (most : ℕ) (input : List ℕ) (status : Status) : Type 0 where
   pub done : EndsInTime most input → (status ≡ Done) ⊎ (status ≡ Memory)
   pub too_long : ¬ EndsInTime most input → (status ≡ TooLong) ⊎ (status ≡ Memory)
 
--- Whatever memory is refused, the replies to the pieces that a run executes have at most so many bytes.
-abbrev pub FitsIn : ℕ → ℕ → List ℕ → Type 0
-FitsIn room most input =
-    (output : List ℕ) (last : Workspace) → Steps start (until_quit (pieces_within most input)) output last → length output ≤ room
-
 -- The workspace of the space that is handed back, if there is one.
 abbrev pub left_in : Option SpaceView → Option Workspace
 left_in space = option_map (λ s. s.work) space
+
+-- What a run promises that takes at most so many bytes: of its words, of its source and its sink before and after it,
+-- and of how it ended.
+pub record RunsAs {A B W : Type 0} (most : ℕ) (words : List W) (S : source_trait.Ghosts A) (source source' : A)
+    (K : sink_trait.Ghosts B) (sink sink' : B) (ended : Ended) : Type 0 where
+  -- Whatever the devices tell.
+  pub usage : (ended.status ≡ Usage) ↔ (0 < length words)
+  pub space : IsNone ended.space ↔ IsEarly ended.status
+  pub bits : IfSome ended.space (λ s. s.bits ≡ CODE_BITS)
+  pub unbegun : IsEarly ended.status → (source' ≡ source) × (sink' ≡ sink)
+  -- The counts of faults never fall, and a fault has its cause in this call. A steady source counts a fault with no
+  -- other status, and one that can't fail has none.
+  pub reads : Pulls S.faults S.steady S.faultless source source' (ended.status ≡ ReadFault)
+  pub writes : CountsFaults (ended.status ≡ WriteFault) (K.faults sink) (K.faults sink')
+  -- Where the source tells its bytes.
+  pub run : IfSome (S.left source) (λ input. Runs most input (S.left source') K sink sink' ended.status (left_in ended.space))
+  -- Without a fault, the words and the bytes alone decide.
+  pub complete : words ≡ [] → ended.status ≢ ReadFault → ended.status ≢ WriteFault →
+      IfSome (S.left source) (λ input. IsComplete most input ended.status)

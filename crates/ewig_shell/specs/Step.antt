@@ -2,7 +2,7 @@
 use Rattle.std.specs.Prelude.{◌≡◌, ℕ, Bool, true, false, nat_lt, List, [], ◌∷◌, ◌++◌, length, codes, Result, Ok, Err, IsTrue, MatchBool, ◌⊎◌}
 use Rattle.std.specs.List.{flat_map}
 use Rattle.elem_core.specs.declared.TheConstants.{MAX_LINE, NEWLINE}
-use Rattle.elem_core.specs.Command.{PlainCommand, new, add, get, len, list, quit}
+use Rattle.shell_terms.specs.Command.{PlainCommand, new, add, get, len, list, quit}
 use Rattle.shell_words.specs.Grammar.{meaning}
 use Rattle.shell_words.specs.declared.BadLine.{BadLine}
 use Rattle.shell_words.specs.declared.BadLine.TheVariants as bad

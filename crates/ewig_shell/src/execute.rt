@@ -2,15 +2,15 @@
 
 ghost use Rattle.std.specs.Prelude.{◌≡◌, ◌↔◌, List, ℕ, [], ◌∷◌, ◌++◌, ◌≤◌, length, map, codes, decimal, IfOk, OnOk, OnErr, IsTrue};
 ghost use Rattle.elem_core.specs.Cell.{IsCell};
-ghost use Rattle.elem_core.specs.Command.{get as get_command, len as len_command, list as list_command};
+ghost use Rattle.shell_terms.specs.Command.{get as get_command, len as len_command, list as list_command, quit as quit_command};
 ghost use Rattle.elem_core.specs.Shown.{name_bytes};
 ghost use Rattle.shell_words.specs.Shown.{plain_command};
 ghost use Rattle.space_state.specs.Answer.{answer, size_line, ok_line};
 ghost use Rattle.space_state.specs.Change.{edit_command};
 ghost use Rattle.space_state.specs.Places.{shown_size};
-ghost use Rattle.ewig_shell.specs.Quits.{is_quit, is_quit_command};
 ghost use Rattle.ewig_shell.specs.Step.{Step, Obeys, Gives, reply_of, refusal_of, line_reason, reason_of};
-ghost use Rattle.ewig_shell.specs.Sending.{Sends, sent_then};
+ghost use Rattle.ewig_shell.specs.Sending.{Replies, sent_then};
+ghost use Rattle.shell_io.specs.Sending.{Sends};
 
 use crate::page::{HALF_PAGE, Page};
 use elem_core::{Name, Text};
@@ -38,9 +38,10 @@ pub fn execute<K: Sink>(
     sink: &mut K,
 ) -> Result<Went, Failed>
     requires { IsCell piece.now }
-    ensures step { (reply : List ℕ) × Step space.old.work piece.now reply space.new.work
-        × Sends K.written K.faults K.has_room sink.old sink.new result reply }
-    ensures quits { IfOk result (λ went. (went ≡ Went.Quit) ↔ IsTrue (is_quit piece.now)) }
+    ensures replies { Replies K.Sink sink.old sink.new result
+        (λ reply. Step space.old.work piece.now reply space.new.work) }
+    ensures bits { space.new.bits ≡ space.old.bits }
+    ensures quits { IfOk result (λ went. (went ≡ Went.Quit) ↔ (piece.now ≡ codes "quit")) }
 {
     match read_line(piece) {
         Ok(command) => obey(alloc, space, command, page, sink),
@@ -65,11 +66,11 @@ fn obey<K: Sink>(
     page: &mut Page,
     sink: &mut K,
 ) -> Result<Went, Failed>
-    ensures step { (reply : List ℕ)
-        × Obeys space.old.work (plain_command command.entry) reply space.new.work
-        × Sends K.written K.faults K.has_room sink.old sink.new result reply }
+    ensures replies { Replies K.Sink sink.old sink.new result
+        (λ reply. Obeys space.old.work (plain_command command.entry) reply space.new.work) }
+    ensures bits { space.new.bits ≡ space.old.bits }
     ensures quits { IfOk result (λ went.
-        (went ≡ Went.Quit) ↔ IsTrue (is_quit_command (plain_command command.entry))) }
+        (went ≡ Went.Quit) ↔ (plain_command command.entry ≡ quit_command)) }
 {
     match command {
         Command::New(name) => then_went(write_edit(space, Edit::New(name), sink), Went::On),
@@ -119,7 +120,7 @@ fn refusal(why: Refusal) -> &'static [u8]
     }
 }
 
-// Writes a reply that is ready.
+// TakesReplies a reply that is ready.
 fn send<K: Sink>(sink: &mut K, reply: &[u8]) -> Result<(), Failed>
     ensures { Sends K.written K.faults K.has_room sink.old sink.new result reply.now }
 {
@@ -128,8 +129,9 @@ fn send<K: Sink>(sink: &mut K, reply: &[u8]) -> Result<(), Failed>
 
 // Does an edit and replies.
 fn write_edit<K: Sink>(space: &mut Space, change: Edit<'_>, sink: &mut K) -> Result<(), Failed>
-    ensures { (reply : List ℕ) × Obeys space.old.work (edit_command change.entry) reply space.new.work
-        × Sends K.written K.faults K.has_room sink.old sink.new result reply }
+    ensures replies { Replies K.Sink sink.old sink.new result
+        (λ reply. Obeys space.old.work (edit_command change.entry) reply space.new.work) }
+    ensures bits { space.new.bits ≡ space.old.bits }
 {
     match space.edit(change) {
         Ok(()) => send(sink, b"ok\n"),
@@ -145,9 +147,8 @@ fn write_line<K: Sink>(
     page: &mut Page,
     sink: &mut K,
 ) -> Result<(), Failed>
-    ensures { (reply : List ℕ)
-        × Gives space.now.work (answer space.now.work (get_command (name_bytes name.entry) index)) reply space.now.work
-        × Sends K.written K.faults K.has_room sink.old sink.new result reply }
+    ensures { Replies K.Sink sink.old sink.new result
+        (λ reply. Gives space.now.work (answer space.now.work (get_command (name_bytes name.entry) index)) reply space.now.work) }
 {
     match space.line(name, index) {
         Ok(text) => {
@@ -168,9 +169,8 @@ fn write_count<K: Sink>(
     page: &mut Page,
     sink: &mut K,
 ) -> Result<(), Failed>
-    ensures { (reply : List ℕ)
-        × Gives space.now.work (answer space.now.work (len_command (name_bytes name.entry))) reply space.now.work
-        × Sends K.written K.faults K.has_room sink.old sink.new result reply }
+    ensures { Replies K.Sink sink.old sink.new result
+        (λ reply. Gives space.now.work (answer space.now.work (len_command (name_bytes name.entry))) reply space.now.work) }
 {
     match space.count(name) {
         Ok(count) => {
@@ -191,8 +191,8 @@ fn write_list<K: Sink>(
     page: &mut Page,
     sink: &mut K,
 ) -> Result<(), Failed>
-    ensures { (reply : List ℕ) × Obeys space.now.work list_command reply space.now.work
-        × Sends K.written K.faults K.has_room sink.old sink.new result reply }
+    ensures { Replies K.Sink sink.old sink.new result
+        (λ reply. Obeys space.now.work list_command reply space.now.work) }
 {
     match space.names(alloc) {
         Ok(names) => write_names(&names, page, sink),
@@ -218,9 +218,8 @@ fn write_names<K: Sink>(names: &[(&Text, u32)], page: &mut Page, sink: &mut K) -
 // Sends what the page has where no further line would surely fit.
 fn make_room<K: Sink>(page: &mut Page, sink: &mut K) -> Result<(), Failed>
     ensures room { OnOk result (length page.new ≤ HALF_PAGE) }
-    ensures sent { (sent : List ℕ)
-        × OnOk result (sent ++ page.new ≡ page.old) × OnErr result (sent ≡ page.old)
-        × Sends K.written K.faults K.has_room sink.old sink.new result sent }
+    ensures sent { Replies K.Sink sink.old sink.new result
+        (λ sent. OnOk result (sent ++ page.new ≡ page.old) × OnErr result (sent ≡ page.old)) }
 {
     if page.has_room() {
         return Ok(());

@@ -7,7 +7,7 @@ mod run;
 #[cfg(test)]
 mod tests;
 
-use run::{Ended, Status, run};
+use run::{Ended, Status, code_of, run};
 use shell_io::{DirStore, StdSink, StdSource};
 use std::process::ExitCode;
 use std::{env, io};
@@ -31,7 +31,7 @@ fn main(rt: HostRuntime) -> ExitCode {
     if ended.status == Status::Usage {
         let _ = rt.eprintln(USAGE);
     }
-    ExitCode::from(ended.status as u8)
+    ExitCode::from(code_of(ended.status))
 }
 
 // The words after the program's name. A word that is no text can't be read, and so is a fault of usage.

@@ -5,24 +5,23 @@ use shell_io::{MemSink, MemSource, MemStore};
 use std::process::Abort;
 use std::test::Fail;
 
-// More than any row writes.
-const ROOM: usize = 200_000;
-
-// How the devices of a row are cut, and at which calls they fail.
+// How the devices of a row are cut, at which calls they fail, and for how many bytes the sink has room.
 #[derive(Clone, Copy)]
 struct Devices<'a> {
     source_piece: usize,
     source_fails: &'a [u64],
     sink_piece: usize,
     sink_fails: &'a [u64],
+    room: usize,
 }
 
-// Devices that give and take all at once, and never fail.
+// Devices that give and take all at once, never fail, and have room for more than any row writes.
 const WHOLE: Devices<'static> = Devices {
     source_piece: 1_000_000,
     source_fails: &[],
     sink_piece: 1_000_000,
     sink_fails: &[],
+    room: 200_000,
 };
 
 // Runs the input and compares what is written and how the run ends.
@@ -42,7 +41,7 @@ fn check<R: Abort + AllocGlobal>(
         devices.source_fails.to_vec(alloc)?,
     );
     let sink_fails = devices.sink_fails.to_vec(alloc)?;
-    let mut sink = MemSink::new(alloc, ROOM, devices.sink_piece.max(1), sink_fails)?;
+    let mut sink = MemSink::new(alloc, devices.room, devices.sink_piece.max(1), sink_fails)?;
     let mut store = MemStore::new(alloc, Vec::new(alloc), Vec::new(alloc));
     let ended = run_upto(
         alloc,
@@ -60,7 +59,7 @@ fn check<R: Abort + AllocGlobal>(
 
 #[test]
 fn replies_however_the_input_is_cut(rt: HostRuntime) -> Result<(), Fail> {
-    let rows: [(&[u8], &[u8]); 9] = [
+    let rows: [(&[u8], &[u8]); 11] = [
         (b"", b""),
         (b"new a\nadd a hello\nget a 0\n", b"ok\nok\n= hello\n"),
         (b"new a", b"ok\n"),
@@ -79,9 +78,14 @@ fn replies_however_the_input_is_cut(rt: HostRuntime) -> Result<(), Fail> {
             b"ok\nok\n! exists\nok\n! range\n= B 1\n= b 0\nok\n",
         ),
         (b"new a\nquit\nnew a\n", b"ok\nok\n"),
+        (b"new a\nquit", b"ok\nok\n"),
+        (
+            b"quit \nquit a\nQuit\n",
+            b"! command\n! command\n! command\n",
+        ),
     ];
     for (input, written) in rows {
-        for piece in [1, 2, 3, 5, 11, 64] {
+        for piece in 1..input.len() + 2 {
             let devices = Devices {
                 source_piece: piece,
                 sink_piece: piece,
@@ -121,7 +125,7 @@ fn ends_at_the_most_bytes(rt: HostRuntime) -> Result<(), Fail> {
         (b"new a\nquit\nlist\n", b"ok\nok\n", Status::Done),
     ];
     for (input, written, status) in rows {
-        for piece in [1, 4, 12, 100] {
+        for piece in 1..input.len() + 2 {
             let devices = Devices {
                 source_piece: piece,
                 ..WHOLE
@@ -164,6 +168,16 @@ fn faults_at_each_call_in_turn(rt: HostRuntime) -> Result<(), Fail> {
             2 => (3, Status::WriteFault),
             3 => (5, Status::WriteFault),
             _ => (7, Status::Done),
+        };
+        check(&rt, input, 1 << 40, &devices, &written[..kept], status)?;
+    }
+    // A sink takes what it has room for.
+    for room in 0..10usize {
+        let devices = Devices { room, ..WHOLE };
+        let (kept, status) = if room < 7 {
+            (room, Status::WriteFault)
+        } else {
+            (7, Status::Done)
         };
         check(&rt, input, 1 << 40, &devices, &written[..kept], status)?;
     }

@@ -1,3 +1,4 @@
+pub mod FaultLemmas
 pub mod FilesLemmas
 pub mod NewlineLemmas
 pub mod PiecesLemmas

@@ -7,7 +7,7 @@ use Rattle.std.specs.Io.KnownBytes.{Consumes, IsAtEnd}
 use Rattle.elem_core.specs.declared.TheConstants.{NEWLINE, MAX_LINE}
 use Rattle.shell_io.specs.declared.reader.Next.{Next}
 use Rattle.shell_io.specs.declared.reader.Next.TheVariants.{Line, Long, End, Budget, Failed}
-use Rattle.shell_io.specs.Pieces.{pieces, ended, pieces_within, IsWhole, IsTooLong, IsUnbroken}
+use Rattle.shell_io.specs.Pieces.{pieces, ended, pieces_within, IsWhole, IsOverlong, IsUnbroken}
 use Rattle.shell_io.specs.Reader.{Reading, StandsIn, Answers, HasGivenAll, GivesNext, pieces_given, Passes, EndsByNewline, EndsBySource, SamePlace, limit_of}
 use Rattle.shell_io.specs.Window.{TakesMore}
 use Rattle.shell_io.proofs.PiecesLemmas.{take_past, pieces-append_line, IsWhole-append_line, pieces-append_last, ended-append_unbroken, pieces_within-all, pieces_within-part, pieces_within-front}
@@ -75,7 +75,39 @@ pub record Gives (input : List ℕ) (old new : Reading) (left : Option (List ℕ
   pub next : pieces_given input new ≡ pieces_given input old ++ piece_of input old left s count ∷ []
   pub in_time : (most : ℕ) → new.given ≤ most → (others : List (List ℕ)) × (pieces_within most input ≡ pieces_given input new ++ others)
 
-pub gives_line : (input : List ℕ) (old new : Reading) (left : Option (List ℕ)) (s : StandsIn input old left) (count end : ℕ) →
+-- the pieces given are what stands before the bytes held
+gives_after : (input : List ℕ) (old new : Reading) (left : Option (List ℕ)) (s : StandsIn input old left) (count end : ℕ) (before : List ℕ) → Passes old new count end →
+    take old.taken input ≡ before ++ new.held → length before ≡ new.given →
+    (new.at_end ≡ false → IsWhole before) → (new.given < new.taken → IsWhole before) →
+    pieces before ≡ pieces s.before ++ piece_of input old left s count ∷ [] →
+    ((most : ℕ) → new.given ≤ most → take new.given input ≡ before → (others : List (List ℕ)) × (pieces_within most input ≡ pieces before ++ others)) →
+    Gives input old new left s count
+gives_after input old new left s count end before p taken_is counted whole whole_so_far next in_time =
+    let within : new.taken ≤ length input = rw p.taken s.within in
+    let taken_now : take new.taken input ≡ before ++ new.held = ap (λ t. take t input) p.taken ∙ taken_is in
+    let front_is : take new.given input ≡ before = before_is input before new.held new.taken new.given within taken_now counted in
+    record {
+      stands = record {
+        within = within;
+        left_is = s.left_is ∙ ap (λ t. Some (drop t input)) (sym p.taken);
+        before = before;
+        front = [];
+        taken_is = taken_now;
+        given_is = counted;
+        let_go_is = sym p.let_go;
+        unbroken = IsUnbroken-nil;
+        whole = whole;
+        whole_so_far = whole_so_far;
+        end_is = λ e. p.taken ∙ s.end_is (sym p.at_end ∙ e);
+        settled_is = λ most answer known h. absurd (let h' : None ≡ Some answer = sym p.settled ∙ h in cc);
+      };
+      next = ap pieces front_is ∙ next ∙ ap (λ xs. pieces xs ++ piece_of input old left s count ∷ []) (sym (given_front input old left s));
+      in_time = λ most h.
+          let (others, is) = in_time most h front_is in
+          (others, is ∙ ap (λ xs. pieces xs ++ others) (sym front_is));
+    }
+
+gives_line : (input : List ℕ) (old new : Reading) (left : Option (List ℕ)) (s : StandsIn input old left) (count end : ℕ) →
     count + end ≤ length old.held → IsUnbroken (take count old.held) → EndsByNewline old count end → Passes old new count end →
     Gives input old new left s count
 gives_line input old new left s count end fits clean ends p =
@@ -89,46 +121,31 @@ gives_line input old new left s count end fits clean ends p =
     ap (λ xs. s.front ++ xs) ends.newline ∙ sym (append_assoc s.front (take count old.held) (NEWLINE ∷ rest))
     ∙ sym (append_assoc piece (NEWLINE ∷ []) rest) in
     let held_is : new.held ≡ rest = p.held ∙ ap (λ e. drop (count + e) old.held) ends.one in
-    let taken_is : take new.taken input ≡ before ++ ([] ++ new.held) =
-    ap (λ t. take t input) p.taken ∙ s.taken_is ∙ ap (λ xs. s.before ++ xs) regrouped
+    let taken_is : take old.taken input ≡ before ++ new.held =
+    s.taken_is ∙ ap (λ xs. s.before ++ xs) regrouped
     ∙ sym (append_assoc s.before (piece ++ NEWLINE ∷ []) rest) ∙ ap (λ xs. before ++ xs) (sym held_is) in
     let counted : length before ≡ new.given =
-    length-append s.before (piece ++ NEWLINE ∷ []) ∙ ap (λ m. length s.before + m) (length-append piece (NEWLINE ∷ []))
-    ∙ ap (λ m. length s.before + (m + 1)) (length-append s.front (take count old.held))
-    ∙ ap (λ m. length s.before + ((length s.front + m) + 1)) (length-take-le count old.held (omega arith))
-    ∙ ap (λ m. m + ((length s.front + count) + 1)) s.given_is
-    ∙ ap (λ m. old.given + ((m + count) + 1)) s.let_go_is
-    ∙ (let same : old.given + ((old.let_go + count) + 1) ≡ new.given = omega (arith, p.given, ends.one) in same) in
+    omega (
+      arith,
+      length-append s.before (piece ++ NEWLINE ∷ []),
+      length-append piece (NEWLINE ∷ []),
+      length-append s.front (take count old.held),
+      length-take-le count old.held (omega arith),
+      s.given_is,
+      s.let_go_is,
+      p.given,
+      ends.one,
+    ) in
     let whole : IsWhole before = IsWhole-append_line s.before piece whole_before clean_piece in
-    let within : new.taken ≤ length input = rw p.taken s.within in
-    let stands : StandsIn input new left = record {
-      within = within;
-      left_is = s.left_is ∙ ap (λ t. Some (drop t input)) (sym p.taken);
-      before = before;
-      front = [];
-      taken_is = taken_is;
-      given_is = counted;
-      let_go_is = sym p.let_go;
-      unbroken = IsUnbroken-nil;
-      whole = λ _. whole;
-      whole_so_far = λ _. whole;
-      end_is = λ e. p.taken ∙ s.end_is (sym p.at_end ∙ e);
-      settled_is = λ most answer known h. absurd (let h' : None ≡ Some answer = sym p.settled ∙ h in cc);
-    } in
-    let front_is : take new.given input ≡ before = given_front input new left stands in
-    record {
-      stands = stands;
-      next = ap pieces front_is ∙ pieces-append_line s.before piece whole_before clean_piece
-          ∙ ap (λ xs. pieces xs ++ piece ∷ []) (sym (given_front input old left s));
-      in_time = λ most h.
-          let (others, is) = pieces_within-front most before (drop new.given input) whole (omega (arith, counted)) in
-          (others, ap (pieces_within most) (input_is input before new.given front_is) ∙ is ∙ ap (λ xs. pieces xs ++ others) (sym front_is));
-    }
+    gives_after input old new left s count end before p taken_is counted (λ _. whole) (λ _. whole)
+    (pieces-append_line s.before piece whole_before clean_piece)
+    (λ most h front_is.
+    let (others, is) = pieces_within-front most before (drop new.given input) whole (omega (arith, counted)) in
+    (others, ap (pieces_within most) (input_is input before new.given front_is) ∙ is))
 
-pub gives_last : (input : List ℕ) (old new : Reading) (left : Option (List ℕ)) (s : StandsIn input old left) (count end : ℕ) →
-    count + end ≤ length old.held → IsUnbroken (take count old.held) → EndsBySource old count end → Passes old new count end →
-    Gives input old new left s count
-gives_last input old new left s count end fits clean ends p =
+gives_last : (input : List ℕ) (old new : Reading) (left : Option (List ℕ)) (s : StandsIn input old left) (count end : ℕ) →
+    IsUnbroken (take count old.held) → EndsBySource old count end → Passes old new count end → Gives input old new left s count
+gives_last input old new left s count end clean ends p =
     let piece : List ℕ = piece_of input old left s count in
     let before : List ℕ = s.before ++ piece in
     let clean_piece : IsUnbroken piece = IsUnbroken-append s.front (take count old.held) s.unbroken clean in
@@ -138,42 +155,20 @@ gives_last input old new left s count end fits clean ends p =
     let nothing : new.held ≡ [] =
     nil_from_length new.held (ap length p.held ∙ length-drop (count + end) old.held
     ∙ (let same : length old.held - (count + end) ≡ 0 = omega (arith, ends.all, ends.none) in same)) in
-    let taken_is : take new.taken input ≡ before ++ ([] ++ new.held) =
-    ap (λ t. take t input) p.taken ∙ s.taken_is ∙ ap (λ xs. s.before ++ (s.front ++ xs)) (sym all_held)
+    let taken_is : take old.taken input ≡ before ++ new.held =
+    s.taken_is ∙ ap (λ xs. s.before ++ (s.front ++ xs)) (sym all_held)
     ∙ sym (append-nil before) ∙ ap (λ xs. before ++ xs) (sym nothing) in
-    let counted : length before ≡ new.given =
-    length-append s.before piece
-    ∙ ap (λ m. length s.before + m) (length-append s.front (take count old.held))
-    ∙ ap (λ m. length s.before + (length s.front + m)) (ap length all_held)
-    ∙ ap (λ m. m + (length s.front + length old.held)) s.given_is
-    ∙ ap (λ m. old.given + (m + length old.held)) s.let_go_is
-    ∙ (let same : old.given + (old.let_go + length old.held) ≡ new.given = omega (arith, p.given, ends.all, ends.none) in same) in
-    let within : new.taken ≤ length input = rw p.taken s.within in
-    let ended_now : new.at_end ≡ true = p.at_end ∙ ends.at_end in
-    let stands : StandsIn input new left = record {
-      within = within;
-      left_is = s.left_is ∙ ap (λ t. Some (drop t input)) (sym p.taken);
-      before = before;
-      front = [];
-      taken_is = taken_is;
-      given_is = counted;
-      let_go_is = sym p.let_go;
-      unbroken = IsUnbroken-nil;
-      whole = λ e. absurd (let e' : true ≡ false = sym ended_now ∙ e in cc);
-      whole_so_far = λ h. absurd (omega (arith, p.given, p.taken, taken_was, ends.all, ends.none));
-      end_is = λ e. p.taken ∙ s.end_is (sym p.at_end ∙ e);
-      settled_is = λ most answer known h. absurd (let h' : None ≡ Some answer = sym p.settled ∙ h in cc);
-    } in
-    let front_is : take new.given input ≡ before = given_front input new left stands in
+    let sizes : length piece ≡ old.let_go + count =
+    omega (arith, length-append s.front (take count old.held), ap length all_held, s.let_go_is, ends.all) in
+    let counted : length before ≡ new.given = omega (arith, length-append s.before piece, sizes, s.given_is, p.given, ends.none) in
+    let over : new.at_end ≡ true = p.at_end ∙ ends.at_end in
     let all_given : length input ≤ new.given = omega (arith, s.end_is ends.at_end, p.given, taken_was, ends.all, ends.none) in
-    let some : 0 < length piece = rw (length-append s.front (take count old.held), all_held, s.let_go_is) (omega (arith, ends.some, ends.all)) in
-    record {
-      stands = stands;
-      next = ap pieces front_is ∙ pieces-append_last s.before piece whole_before clean_piece some
-          ∙ ap (λ xs. pieces xs ++ piece ∷ []) (sym (given_front input old left s));
-      in_time = λ most h.
-          ([], pieces_within-all most input (omega arith) ∙ ap pieces (sym (take_all new.given input all_given)) ∙ sym (append-nil (pieces_given input new)));
-    }
+    gives_after input old new left s count end before p taken_is counted
+    (λ e. absurd (let e' : true ≡ false = sym over ∙ e in cc))
+    (λ h. absurd (omega (arith, p.given, p.taken, taken_was, ends.all, ends.none)))
+    (pieces-append_last s.before piece whole_before clean_piece (omega (arith, sizes, ends.some)))
+    (λ most h front_is.
+    ([], pieces_within-all most input (omega arith) ∙ ap pieces (sym (take_all new.given input all_given) ∙ front_is) ∙ sym (append-nil (pieces before))))
 
 pub gives_piece : (input : List ℕ) (old new : Reading) (left : Option (List ℕ)) (s : StandsIn input old left) (count end : ℕ) →
     count + end ≤ length old.held → IsUnbroken (take count old.held) → EndsByNewline old count end ⊎ EndsBySource old count end →
@@ -181,7 +176,7 @@ pub gives_piece : (input : List ℕ) (old new : Reading) (left : Option (List �
 gives_piece input old new left s count end fits clean ends p =
     elim ends [
       | inl line ↦ gives_line input old new left s count end fits clean line p
-      | inr last ↦ gives_last input old new left s count end fits clean last p
+      | inr last ↦ gives_last input old new left s count end clean last p
     ]
 
 pub stands_behind : (input : List ℕ) (old new : Reading) (left : Option (List ℕ)) (count end : ℕ) → StandsIn input old left →
@@ -204,7 +199,7 @@ answers_line input old new left count end most s fits clean ends p in_time none 
 pub answers_long : (input : List ℕ) (old new : Reading) (left : Option (List ℕ)) (count end most : ℕ) → StandsIn input old left →
     count + end ≤ length old.held → IsUnbroken (take count old.held) → EndsByNewline old count end ⊎ EndsBySource old count end →
     Passes old new count end → new.given ≤ most → MAX_LINE < old.let_go + count →
-    (piece : List ℕ) × IsTooLong piece × GivesNext most input old new piece
+    (piece : List ℕ) × IsOverlong piece × GivesNext most input old new piece
 answers_long input old new left count end most s fits clean ends p in_time too_long =
     let g = gives_piece input old new left s count end fits clean ends p in
     let size : length (piece_of input old left s count) ≡ old.let_go + count =

@@ -1,5 +1,5 @@
--- When a device may answer a fault.
-use Rattle.std.specs.Prelude.{ℕ, ◌-◌, ◌^◌, ◌<◌, min, ◌+◌}
+-- When a device may answer a fault, and how its faults are counted.
+use Rattle.std.specs.Prelude.{◌≡◌, ℕ, ◌-◌, ◌^◌, ◌<◌, ◌≤◌, min, ◌+◌}
 
 -- the last value of a device's count of faults, at which it stays
 abbrev pub last_count : ℕ
@@ -12,3 +12,16 @@ HasCause old new = old < last_count → old < new
 -- the count after one fault more
 abbrev pub one_more : ℕ → ℕ
 one_more faults = min (faults + 1) last_count
+
+-- a call that failed, or didn't: the count never falls, and a failure has its cause
+pub record CountsFaults (failed : Type 0) (old new : ℕ) : Type 0 where
+  pub counted : old ≤ new
+  pub cause : failed → HasCause old new
+
+-- a call that pulls from a source, and failed or didn't
+pub record Pulls {S : Type 0} (faults : S → ℕ) (steady faultless : S → Type 0) (old new : S) (failed : Type 0) : Type 0 where
+  pub counts : CountsFaults failed (faults old) (faults new)
+  -- a steady source stays so, and shows no fault of a call that didn't fail
+  pub told : steady old → steady new × (¬ failed → faults new ≡ faults old)
+  -- a source that can't fail stays so, and the call didn't fail
+  pub sure : faultless old → faultless new × (faults new ≡ faults old) × ¬ failed

@@ -4,3 +4,5 @@ pub mod InMemory
 pub mod Reader
 pub mod Window
 pub mod Sound
+pub mod Sending
+pub mod Offer

@@ -33,8 +33,8 @@ abbrev pub IsWhole : List ℕ → Type 0
 IsWhole bytes = ended bytes ≡ pieces bytes
 
 -- a piece that is too long to be a line
-abbrev pub IsTooLong : List ℕ → Type 0
-IsTooLong piece = MAX_LINE < length piece
+abbrev pub IsOverlong : List ℕ → Type 0
+IsOverlong piece = MAX_LINE < length piece
 
 -- no byte is a newline
 abbrev pub IsUnbroken : List ℕ → Type 0

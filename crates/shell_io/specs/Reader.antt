@@ -4,7 +4,7 @@ use Rattle.std.specs.declared.option.Option.{Option}
 use Rattle.shell_io.specs.declared.reader.Next.{Next}
 use Rattle.shell_io.specs.declared.reader.Next.TheVariants.{Line, Long, End, Budget, Failed}
 use Rattle.elem_core.specs.declared.TheConstants.{NEWLINE}
-use Rattle.shell_io.specs.Pieces.{pieces, ended, pieces_within, IsWhole, IsTooLong, IsUnbroken}
+use Rattle.shell_io.specs.Pieces.{pieces, ended, pieces_within, IsWhole, IsOverlong, IsUnbroken}
 
 -- a reader of lines
 pub record Reading : Type 0 where
@@ -66,7 +66,7 @@ GivesNone old new = new.given ≡ old.given
 -- what each answer says of an input in which the reader stands
 abbrev pub Answers : ℕ → List ℕ → Reading → Reading → Next → Type 0
 Answers most input old new Line = GivesNext most input old new new.line
-Answers most input old new Long = (piece : List ℕ) × IsTooLong piece × GivesNext most input old new piece
+Answers most input old new Long = (piece : List ℕ) × IsOverlong piece × GivesNext most input old new piece
 Answers most input old new Failed = GivesNone old new × (pieces_given input new ≡ ended (take new.taken input))
 Answers most input old new last = GivesNone old new × HasGivenAll most input new last
 

@@ -3,11 +3,13 @@
 //! A device may tell what it holds, as one over memory does; a file, a stream and a terminal don't.
 //! Where it tells nothing, a clause on its content claims nothing.
 
-ghost use Rattle.std.specs.Prelude.{◌≡◌, ℕ, ◌+◌, ◌-◌, ◌<◌, ◌≤◌, List, length, take, IsOk, IfOk, OnOk, OnErr, None};
+ghost use Rattle.std.specs.Prelude.{◌≡◌, ℕ, ◌+◌, ◌-◌, ◌<◌, ◌≤◌, List, length, take, IsOk, IsErr, IfOk, OnErr, MatchResult};
 ghost use Rattle.std.specs.declared.option.Option.{Option};
 ghost use Rattle.std.specs.Io.KnownBytes.{Consumes, Appends, Keeps, IsAtEnd};
-ghost use Rattle.shell_io.specs.Fault.{HasCause};
+ghost use Rattle.shell_io.specs.Fault.{HasCause, CountsFaults, Pulls};
 ghost use Rattle.shell_io.specs.InMemory.{Files};
+ghost use Rattle.shell_io.specs.Offer.{IsAmple};
+ghost use Rattle.shell_io.specs.Sending.{Sends};
 
 /// A device failed at this call.
 #[derive(Clone, Copy, Debug, PartialEq, Eq)]
@@ -24,6 +26,13 @@ pub trait Source {
     // No call from now on fails. A source that can't know it claims nothing.
     ghost faultless: { Self → Type 0 };
 
+    // No call that succeeds raises the count of faults. A source that can't know it claims nothing.
+    ghost steady: { Self → Type 0 };
+
+    // So many bytes may still be taken, and each call so far offered ample room for them. A source
+    // that keeps no count of them claims nothing.
+    ghost ample: { Self → ℕ → Type 0 };
+
     /// Moves the next bytes to the front of the buffer, and answers how many: 0 is the end of input.
     /// A call that fails takes none.
     fn pull(&mut self, buf: &mut [u8]) -> Result<usize, Failed>
@@ -34,10 +43,9 @@ pub trait Source {
         ensures at_end { IfOk result (λ n. n ≡ 0 → IsAtEnd (left self.old)) }
         ensures kept { OnErr result (Keeps (left self.old) (left self.new)) }
 
-        ensures counted { faults self.old ≤ faults self.new }
-        ensures cause { OnErr result (HasCause (faults self.old) (faults self.new)) }
-        ensures sure { faultless self.old →
-            IsOk result × (faults self.new ≡ faults self.old) × faultless self.new };
+        ensures pulls { Pulls faults steady faultless self.old self.new (IsErr result) }
+        ensures ample { (room : ℕ) → ample self.old room → IsAmple room (length buf.old) →
+            MatchResult result (λ n. ample self.new (room - n)) (λ _. ample self.new room) };
 }
 
 /// What takes bytes.
@@ -57,8 +65,7 @@ pub trait Sink {
         ensures grown { IfOk result (λ n. Appends (written self.old) (written self.new) (take n piece.now)) }
         ensures kept { OnErr result (Keeps (written self.old) (written self.new)) }
 
-        ensures counted { faults self.old ≤ faults self.new }
-        ensures cause { OnErr result (HasCause (faults self.old) (faults self.new)) }
+        ensures counts { CountsFaults (IsErr result) (faults self.old) (faults self.new) }
         // None of a piece that has bytes is written only where the sink failed.
         ensures stuck { IfOk result (λ n. n ≡ 0 → 0 < length piece.now → HasCause (faults self.old) (faults self.new)) }
         ensures sure { (room : ℕ) → has_room self.old room → length piece.now ≤ room →
@@ -78,14 +85,7 @@ pub trait Store {
 /// Writes the whole piece. `Failed`, and a proper prefix of it is written, where the sink fails, or
 /// takes no more of it.
 pub fn write_all<K: Sink>(sink: &mut K, piece: &[u8]) -> Result<(), Failed>
-    ensures whole { OnOk result (Appends (K.written sink.old) (K.written sink.new) piece.now) }
-    ensures part { OnErr result ((n : ℕ) × (n < length piece.now)
-        × Appends (K.written sink.old) (K.written sink.new) (take n piece.now)) }
-
-    ensures counted { K.faults sink.old ≤ K.faults sink.new }
-    ensures cause { OnErr result (HasCause (K.faults sink.old) (K.faults sink.new)) }
-    ensures sure { (room : ℕ) → K.has_room sink.old room → length piece.now ≤ room →
-        IsOk result × (K.faults sink.new ≡ K.faults sink.old) × K.has_room sink.new (room - length piece.now) }
+    ensures { Sends K.written K.faults K.has_room sink.old sink.new result piece.now }
 {
     let mut rest = piece;
     while !rest.is_empty() {

@@ -1,6 +1,6 @@
 //! Devices over memory. They tell all that they hold, and fail at the calls that they were told to.
 
-ghost use Rattle.std.specs.Prelude.{◌≡◌, ℕ, ◌+◌, ◌-◌, ◌<◌, ◌≤◌, ◌↔◌, List, [], ◌∷◌, ◌++◌, length, take, min, None, Some, Contains, IsErr, IfOk, OnErr, IsOk};
+ghost use Rattle.std.specs.Prelude.{◌≡◌, ℕ, ◌+◌, ◌-◌, ◌<◌, ◌≤◌, ◌↔◌, List, [], ◌∷◌, ◌++◌, length, take, min, None, Some, Contains, IsErr, IfOk, OnErr, ⊤};
 ghost use Rattle.std.specs.declared.option.Option.{Option};
 ghost use Rattle.std.specs.Option.{option_copied};
 ghost use Rattle.std.specs.FinMap as map;
@@ -76,6 +76,10 @@ impl Source for MemSource {
     ghost faults = { λ s. s.faults };
 
     ghost faultless = { λ s. s.fails ≡ [] };
+
+    ghost steady = { λ _. ⊤ };
+
+    ghost ample = { λ _ _. ⊥ };
 
     fn pull(&mut self, buf: &mut [u8]) -> Result<usize, Failed>
         requires { 0 < length buf.old }
@@ -192,6 +196,7 @@ impl Sink for MemSink {
             return Err(Failed);
         }
         let count = piece.len().min(self.piece).min(self.room);
+        // There is room for these bytes, so nothing is refused.
         let _ = self.bytes.extend_from_slice(&piece[..count]);
         self.room -= count;
         Ok(count)
@@ -227,8 +232,8 @@ impl Model for MemStore {
 }
 
 impl MemStore {
-    /// A store that holds no file. The fetches and the keeps whose numbers are listed fail, each
-    /// counted from 0.
+    /// A store that holds no file. The numbers, from 0, of the fetches and of the keeps that are to
+    /// fail are kept for these calls, which are yet to come.
     pub fn new(alloc: Global, fetch_fails: Vec<u64>, keep_fails: Vec<u64>) -> MemStore
         ensures { result ≡ record {
           held = map.empty;

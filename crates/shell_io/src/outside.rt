@@ -2,7 +2,7 @@
 //!
 //! They tell nothing of what they hold. Each error raises their count.
 
-ghost use Rattle.std.specs.Prelude.{◌≡◌, None};
+ghost use Rattle.std.specs.Prelude.{◌≡◌, None, ⊤};
 
 use super::device::{Failed, Sink, Source, Store};
 use std::io::{ErrorKind, Read, Write};
@@ -30,6 +30,10 @@ impl<R: Read> Source for StdSource<R> {
     ghost faults = { λ s. s.faults };
 
     ghost faultless = { λ _. ⊥ };
+
+    ghost steady = { λ _. ⊤ };
+
+    ghost ample = { λ _ _. ⊥ };
 
     /// One read of the reader, so it returns as soon as some bytes are there. A read that was
     /// interrupted is no fault: it is made again.

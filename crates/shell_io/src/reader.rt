@@ -1,11 +1,11 @@
 //! The lines of a source, one at a time, over a buffer that is made once.
 
-ghost use Rattle.std.specs.Prelude.{◌≡◌, ◌≢◌, ℕ, ◌+◌, ◌-◌, ◌<◌, ◌≤◌, ◌^◌, ◌==◌, ◌⊎◌, List, [], ◌∷◌, ◌++◌, length, take, drop, true, false, ◌↔◌, IsTrue, IsOk, IfOk, OnOk, OnErr, IfSome, IfNone};
+ghost use Rattle.std.specs.Prelude.{◌≡◌, ◌≢◌, ℕ, ◌+◌, ◌-◌, ◌<◌, ◌≤◌, ◌^◌, ◌==◌, ◌⊎◌, List, [], ◌∷◌, ◌++◌, length, take, drop, true, false, ◌↔◌, IsTrue, IsErr, IfOk, OnOk, OnErr, IfSome, IfNone};
 ghost use Rattle.std.specs.declared.option.Option.{Option};
 ghost use Rattle.std.specs.List.{position};
 ghost use Rattle.std.specs.Option.{ForSome};
 ghost use Rattle.elem_core.specs.Cell.{IsCell};
-ghost use Rattle.shell_io.specs.Fault.{HasCause};
+ghost use Rattle.shell_io.specs.Fault.{Pulls};
 ghost use Rattle.shell_io.specs.Pieces.{IsUnbroken};
 ghost use Rattle.shell_io.specs.Reader.{Reading, StandsIn, Answers, SamePlace, Passes, EndsByNewline, EndsBySource, limit_of};
 
@@ -96,12 +96,14 @@ impl LineReader {
         ensures settles { (result ≡ Next.End) ⊎ (result ≡ Next.Budget) → self.new.settled ≡ Some result }
         ensures again { IfSome self.old.settled (λ answer. (result ≡ answer) × (source.new ≡ source.old)) }
 
-        // A fault has its cause, and comes only where each line that ended was given.
-        ensures counted { S.faults source.old ≤ S.faults source.new }
-        ensures cause { result ≡ Next.Failed → HasCause (S.faults source.old) (S.faults source.new) }
+        // A fault has its cause, and comes only where each line that ended was given, and no byte past
+        // the bound was taken.
+        ensures pulls { Pulls S.faults S.steady S.faultless source.old source.new (result ≡ Next.Failed) }
         ensures all_given { result ≡ Next.Failed → IsUnbroken self.new.held }
-        ensures sure { S.faultless source.old →
-            (result ≢ Next.Failed) × (S.faults source.new ≡ S.faults source.old) × S.faultless source.new }
+        ensures in_bound { result ≡ Next.Failed → self.new.taken ≤ most }
+
+        // Each pull offers room for at least 4,096 bytes, or for all that are left.
+        ensures ample { S.ample source.old (most + 1 - self.old.taken) → S.ample source.new (most + 1 - self.new.taken) }
 
         // Where the source tells its bytes.
         ensures stands { (input : List ℕ) → StandsIn input self.old (S.left source.old) →
@@ -109,8 +111,7 @@ impl LineReader {
         ensures answers { (input : List ℕ) → StandsIn input self.old (S.left source.old) →
             Answers most input self.old self.new result }
     {
-        self.window.forget_line();
-        self.most = Some(most);
+        self.begin(most);
         if self.over {
             return self.last_answer();
         }
@@ -130,6 +131,18 @@ impl Next {
 }
 
 impl LineReader {
+    // Forgets the line that was given last, and keeps the bound.
+    fn begin(&mut self, most: u64)
+        requires small { most < 2 ^ 63 }
+        requires same_most { ForSome self.old.most (λ kept. kept ≡ most) }
+        ensures begun { self.new ≡ record self.old { line = []; most = Some most } }
+        ensures stands { (input : List ℕ) (left : Option (List ℕ)) → StandsIn input self.old left →
+            StandsIn input self.new left }
+    {
+        self.window.forget_line();
+        self.most = Some(most);
+    }
+
     // How many bytes were taken from the source.
     fn taken(&self) -> u64
         ensures taken { result ≡ self.now.taken }
@@ -160,13 +173,9 @@ impl LineReader {
         ensures progress { (result ≡ Next.Line) ⊎ (result ≡ Next.Long) → self.old.given < self.new.given }
         ensures end { result ≡ Next.End → self.new.at_end ≡ true }
         ensures budget { result ≡ Next.Budget → (self.new.taken ≡ most + 1) × (self.new.at_end ≡ false) }
-        ensures failed { result ≡ Next.Failed → IsUnbroken self.new.held }
-
-        ensures counted { S.faults source.old ≤ S.faults source.new }
-        ensures cause { result ≡ Next.Failed → HasCause (S.faults source.old) (S.faults source.new) }
-        ensures sure { S.faultless source.old →
-            (result ≢ Next.Failed) × (S.faults source.new ≡ S.faults source.old) × S.faultless source.new }
-
+        ensures failed { result ≡ Next.Failed → IsUnbroken self.new.held × (self.new.taken ≤ most) }
+        ensures pulls { Pulls S.faults S.steady S.faultless source.old source.new (result ≡ Next.Failed) }
+        ensures ample { S.ample source.old (most + 1 - self.old.taken) → S.ample source.new (most + 1 - self.new.taken) }
         ensures stands { (input : List ℕ) → StandsIn input self.old (S.left source.old) →
             StandsIn input self.new (S.left source.new) }
         ensures answers { (input : List ℕ) → StandsIn input self.old (S.left source.old) →
@@ -273,10 +282,8 @@ impl LineReader {
         ensures kept { OnErr result ((self.new.taken ≡ self.old.taken) × (self.new.at_end ≡ false)
             × IsUnbroken self.new.held) }
 
-        ensures counted { S.faults source.old ≤ S.faults source.new }
-        ensures cause { OnErr result (HasCause (S.faults source.old) (S.faults source.new)) }
-        ensures sure { S.faultless source.old →
-            IsOk result × (S.faults source.new ≡ S.faults source.old) × S.faultless source.new }
+        ensures pulls { Pulls S.faults S.steady S.faultless source.old source.new (IsErr result) }
+        ensures ample { S.ample source.old (most + 1 - self.old.taken) → S.ample source.new (most + 1 - self.new.taken) }
         ensures stands { (input : List ℕ) → StandsIn input self.old (S.left source.old) →
             StandsIn input self.new (S.left source.new) }
     {

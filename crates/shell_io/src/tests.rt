@@ -1,10 +1,41 @@
 //! Worked inputs, cut in many ways, and each device once.
 
+ghost use Rattle.std.specs.Prelude.{◌≡◌, [], Some, true, ⊤};
+
 use super::*;
 use std::alloc::Global;
 use std::io;
-use std::io::{ErrorKind, Read};
+use std::io::{ErrorKind, Read, Write};
 use std::test::Fail;
+
+// A source over memory that counts how many bytes may still be taken, and looks whether each call
+// offers ample room for them.
+#[derive(Drop)]
+struct Watched {
+    source: MemSource,
+    room: u64,
+    ample: bool,
+}
+
+impl Source for Watched {
+    ghost left = { λ s. Some s.source.left };
+
+    ghost faults = { λ s. s.source.faults };
+
+    ghost faultless = { λ s. s.source.fails ≡ [] };
+
+    ghost steady = { λ _. ⊤ };
+
+    ghost ample = { λ s room. (s.ample ≡ true) × (s.room ≡ room) };
+
+    fn pull(&mut self, buf: &mut [u8]) -> Result<usize, Failed> {
+        let offered = buf.len() as u64;
+        self.ample = self.ample && self.room.min(4096) <= offered && offered <= self.room;
+        let count = self.source.pull(buf)?;
+        self.room = self.room.saturating_sub(count as u64);
+        Ok(count)
+    }
+}
 
 // What a reader answers up to its last answer, as text: a line with its newline, `long` for one that
 // is too long, `?` for a fault, `.` at the end and `$` where the bound was passed.
@@ -15,7 +46,11 @@ fn answers(
     fails: Vec<u64>,
     most: u32,
 ) -> Result<Vec<u8>, Fail> {
-    let mut source = MemSource::new(Vec::from_slice(alloc, input)?, piece.max(1), fails);
+    let mut source = Watched {
+        source: MemSource::new(Vec::from_slice(alloc, input)?, piece.max(1), fails),
+        room: u64::from(most) + 1,
+        ample: true,
+    };
     let mut reader = LineReader::new(alloc)?;
     let mut log = Vec::new(alloc);
     for _ in 0..1000 {
@@ -36,6 +71,9 @@ fn answers(
             }
         }
     }
+    // That each offer was ample is a fact here, by the clause of `next`.
+    let ample = source.ample;
+    prove!(ample);
     Ok(log)
 }
 
@@ -156,35 +194,83 @@ fn holds_no_file_at_first(rt: HostRuntime) -> Result<(), Fail> {
     Ok(())
 }
 
-// A reader that is interrupted, gives two bytes, and then fails.
+// A stream of which the first call is interrupted, and the third fails. Read, it gives a line and
+// two bytes before that, and the rest of their line behind. Written, it takes two bytes before that,
+// and none behind.
 #[derive(Drop)]
 struct Broken {
-    reads: u8,
+    call: u8,
+}
+
+impl Broken {
+    fn next_call(&mut self) -> u8 {
+        let call = self.call;
+        self.call = call.saturating_add(1);
+        call
+    }
 }
 
 impl Read for Broken {
     fn read(&mut self, buf: &mut [u8]) -> io::Result<usize> {
-        if self.reads == 0 {
-            self.reads = 1;
-            return Err(io::Error::from(ErrorKind::Interrupted));
+        let part = match self.next_call() {
+            0 => return Err(io::Error::from(ErrorKind::Interrupted)),
+            1 => b"ok\nno".as_slice(),
+            2 => return Err(io::Error::from(ErrorKind::Other)),
+            3 => b"w\n".as_slice(),
+            _ => b"".as_slice(),
+        };
+        let count = part.len().min(buf.len());
+        buf[..count].copy_from_slice(&part[..count]);
+        Ok(count)
+    }
+}
+
+impl Write for Broken {
+    fn write(&mut self, buf: &[u8]) -> io::Result<usize> {
+        match self.next_call() {
+            0 => Err(io::Error::from(ErrorKind::Interrupted)),
+            1 => Ok(buf.len().min(2)),
+            2 => Err(io::Error::from(ErrorKind::Other)),
+            _ => Ok(0),
         }
-        if self.reads == 1 && buf.len() > 1 {
-            self.reads = 2;
-            buf[0] = b'o';
-            buf[1] = b'k';
-            return Ok(2);
-        }
-        Err(io::Error::from(ErrorKind::Other))
+    }
+
+    fn flush(&mut self) -> io::Result<()> {
+        Ok(())
     }
 }
 
 #[test]
-fn reads_a_stream(rt: HostRuntime) -> Result<(), Fail> {
-    let mut source = StdSource::new(Broken { reads: 0 });
+fn tells_an_error_amid_a_stream_as_no_end(rt: HostRuntime) -> Result<(), Fail> {
+    let mut source = StdSource::new(Broken { call: 0 });
     let mut buffer = [0u8; 8];
-    assert_eq!(rt; source.pull(&mut buffer), Ok(2));
+    assert_eq!(rt; source.pull(&mut buffer), Ok(5));
     assert_eq!(rt; buffer[0], b'o');
     assert_eq!(rt; source.pull(&mut buffer), Err(Failed));
+    assert_eq!(rt; source.pull(&mut buffer), Ok(2));
+    assert_eq!(rt; source.pull(&mut buffer), Ok(0));
+
+    let mut source = StdSource::new(Broken { call: 0 });
+    let mut reader = LineReader::new(rt.alloc())?;
+    assert_eq!(rt; reader.next(&mut source, 100), Next::Line);
+    assert_eq!(rt; reader.line(), b"ok".as_slice());
+    assert_eq!(rt; reader.next(&mut source, 100), Next::Failed);
+    assert_eq!(rt; reader.next(&mut source, 100), Next::Line);
+    assert_eq!(rt; reader.line(), b"now".as_slice());
+    assert_eq!(rt; reader.next(&mut source, 100), Next::End);
+    Ok(())
+}
+
+#[test]
+fn tells_an_error_amid_writing_as_not_written(rt: HostRuntime) -> Result<(), Fail> {
+    let mut sink = StdSink::new(Broken { call: 0 });
+    assert_eq!(rt; sink.push(b"ok\n"), Ok(2));
+    assert_eq!(rt; sink.push(b"\n"), Err(Failed));
+    assert_eq!(rt; sink.push(b"\n"), Err(Failed));
+    assert_eq!(rt; sink.push(b""), Ok(0));
+
+    let mut sink = StdSink::new(Broken { call: 0 });
+    assert_eq!(rt; write_all(&mut sink, b"ok\n"), Err(Failed));
     Ok(())
 }
 

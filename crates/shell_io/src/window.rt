@@ -1,8 +1,9 @@
 //! The buffer of a reader of lines.
 
-ghost use Rattle.std.specs.Prelude.{◌≡◌, ℕ, ◌+◌, ◌<◌, ◌≤◌, ◌-◌, ◌^◌, List, [], ◌++◌, take, drop, min, length, IsOk, IfOk, OnErr};
+ghost use Rattle.std.specs.Prelude.{◌≡◌, ℕ, ◌+◌, ◌<◌, ◌≤◌, ◌-◌, ◌^◌, List, [], ◌++◌, take, drop, length, IsErr, IfOk, OnErr, MatchResult};
 ghost use Rattle.std.specs.Io.KnownBytes.{Consumes, Keeps, IsAtEnd};
-ghost use Rattle.shell_io.specs.Fault.{HasCause};
+ghost use Rattle.shell_io.specs.Fault.{Pulls};
+ghost use Rattle.shell_io.specs.Offer.{IsAmple};
 ghost use Rattle.shell_io.specs.Window.{TakesMore};
 
 use super::device::{Failed, Source};
@@ -10,8 +11,7 @@ use elem_core::MAX_LINE;
 use std::alloc::{AllocError, Global};
 use std::marker::Model;
 
-// The longest line, and three times as much behind it: no pull offers less than 65,536 bytes where
-// so many may be taken.
+// The longest line, and three times as much behind it, so that each pull has ample room.
 const SIZE: usize = 4 * 65_536;
 
 /// A buffer in which the bytes that wait stand behind the line that was given last.
@@ -93,7 +93,7 @@ impl Window {
         self.start += count;
     }
 
-    /// Takes more bytes from the source, at most `limit`. The buffer offers 65,536 bytes at least, or
+    /// Takes more bytes from the source, at most `limit`. Room for 4,096 at least is offered, or for
     /// `limit` where that is less. Behind a call that fails the same bytes wait.
     pub fn pull<S: Source>(&mut self, source: &mut S, limit: u64) -> Result<usize, Failed>
         requires some { 0 < limit }
@@ -105,10 +105,9 @@ impl Window {
         ensures at_end { IfOk result (λ n. n ≡ 0 → IsAtEnd (S.left source.old)) }
         ensures kept { OnErr result ((self.new.held ≡ self.old.held) × Keeps (S.left source.old) (S.left source.new)) }
 
-        ensures counted { S.faults source.old ≤ S.faults source.new }
-        ensures cause { OnErr result (HasCause (S.faults source.old) (S.faults source.new)) }
-        ensures sure { S.faultless source.old →
-            IsOk result × (S.faults source.new ≡ S.faults source.old) × S.faultless source.new }
+        ensures pulls { Pulls S.faults S.steady S.faultless source.old source.new (IsErr result) }
+        ensures ample { S.ample source.old limit →
+            MatchResult result (λ n. S.ample source.new (limit - n)) (λ _. S.ample source.new limit) }
     {
         let waiting = self.end - self.start;
         self.bytes.copy_within(self.start..self.end, 0);
@@ -139,10 +138,9 @@ fn pull_behind<S: Source>(
         Consumes (S.left source.old) (S.left source.new) (take n (drop waiting bytes.new))) }
     ensures at_end { IfOk result (λ n. n ≡ 0 → IsAtEnd (S.left source.old)) }
     ensures kept { OnErr result (Keeps (S.left source.old) (S.left source.new)) }
-    ensures counted { S.faults source.old ≤ S.faults source.new }
-    ensures cause { OnErr result (HasCause (S.faults source.old) (S.faults source.new)) }
-    ensures sure { S.faultless source.old →
-        IsOk result × (S.faults source.new ≡ S.faults source.old) × S.faultless source.new }
+    ensures pulls { Pulls S.faults S.steady S.faultless source.old source.new (IsErr result) }
+    ensures ample { S.ample source.old limit →
+        MatchResult result (λ n. S.ample source.new (limit - n)) (λ _. S.ample source.new limit) }
 {
     let offer = offer_of(waiting, limit);
     source.pull(&mut bytes[waiting..waiting + offer])
@@ -153,8 +151,7 @@ fn offer_of(waiting: usize, limit: u64) -> usize
     requires some { 0 < limit }
     requires room { waiting ≤ MAX_LINE }
     ensures some { 0 < result }
-    ensures ample { min 65536 limit ≤ result }
-    ensures within { result ≤ limit }
+    ensures ample { IsAmple limit result }
     ensures fits { waiting + result ≤ 262144 }
 {
     let room = SIZE - waiting;

@@ -5,15 +5,15 @@ use Rattle.std.specs.Str.{is_utf8}
 use Rattle.std.proofs.lemmas.Str.{is_utf8-from_IsUtf8, IsUtf8-from_is_utf8}
 use Rattle.std.proofs.lemmas.Bool.{false_from_ne_true}
 use Rattle.std.proofs.lemmas.Slice.Eq.{bytes_eq-Decides}
-use Rattle.elem_core.specs.Command.{PlainCommand}
+use Rattle.shell_terms.specs.Command.{PlainCommand}
 use Rattle.shell_words.specs.declared.BadLine.{BadLine}
 use Rattle.shell_words.specs.declared.BadLine.TheVariants as refused
 use Rattle.shell_words.specs.declared.Command.{Command}
 use Rattle.shell_words.specs.Shown.{plain_command, plain_answer, go_on}
-use Rattle.shell_words.specs.Grammar.{Reading, first_piece, after_piece, commands, command_of, meaning}
+use Rattle.shell_words.specs.Grammar.{RestMeaning, first_piece, after_piece, commands, command_of, meaning}
 
 -- a line whose word stands in the table is read as the table says
-pub meaning-word : (line word : List ℕ) (read : Reading) → IsUtf8 line → first_piece line ≡ word → lookup (bytes_eq word) commands ≡ Some read → meaning line ≡ read (after_piece line)
+pub meaning-word : (line word : List ℕ) (read : RestMeaning) → IsUtf8 line → first_piece line ≡ word → lookup (bytes_eq word) commands ≡ Some read → meaning line ≡ read (after_piece line)
 unfolding meaning command_of
 meaning-word line word read utf8 e found =
     let text = is_utf8-from_IsUtf8 line utf8 in
@@ -44,6 +44,6 @@ mapped (Ok x) (Err bad) P f h each = absurd h
 mapped (Err bad) answer P f h each = rw h refl
 
 -- the answer for a word of the table, from what its pieces gave
-pub answers_word : (line word : List ℕ) (read : Reading) (rest : Option (List ℕ)) (answer pieces : Result PlainCommand BadLine) → IsUtf8 line → first_piece line ≡ word → lookup (bytes_eq word) commands ≡ Some read → rest ≡ after_piece line → read rest ≡ pieces → answer ≡ pieces → answer ≡ meaning line
+pub answers_word : (line word : List ℕ) (read : RestMeaning) (rest : Option (List ℕ)) (answer pieces : Result PlainCommand BadLine) → IsUtf8 line → first_piece line ≡ word → lookup (bytes_eq word) commands ≡ Some read → rest ≡ after_piece line → read rest ≡ pieces → answer ≡ pieces → answer ≡ meaning line
 answers_word line word read rest answer pieces utf8 e found behind gave is =
     is ∙ sym gave ∙ ap read behind ∙ sym (meaning-word line word read utf8 e found)

@@ -1,24 +1,23 @@
 -- What the words of the grammar give, case by case.
-use Rattle.std.proofs.Common.{◌≡◌, ℕ, ◌+◌, ◌<◌, ◌≤◌, ◌^◌, Bool, true, false, not, ◌||◌, cond, List, [], ◌∷◌, length, drop, Some, None, Result, Ok, Err, slice_index, slice_get, suc, sym, ap, refl, ◌∙◌, arith, ltb, eqb, length-drop}
+use Rattle.std.proofs.Common.{◌≡◌, ℕ, ◌+◌, ◌<◌, ◌^◌, Bool, true, false, not, ◌||◌, cond, List, [], ◌∷◌, length, drop, Some, None, Result, Ok, Err, slice_index, suc, sym, ap, refl, ◌∙◌, arith, ltb, length-drop}
 use Rattle.std.specs.List.{list_any, position_or_len, after_first}
 use Rattle.std.specs.Result.{result_ok}
 use Rattle.std.specs.Char.{is_ascii_digit}
 use Rattle.std.specs.Str.{all_ascii_digits}
 use Rattle.std.specs.Str.Parse.{ParsesUnsigned, digits_value}
-use Rattle.std.proofs.lemmas.Bool.{lt-ltb, le-ltb, le-leb, leb-true, ltb-true, ne_eqb, eqb-false, and_parts, and_from, false≢true, not-true, not_from_false, false_from_ne_true}
+use Rattle.std.proofs.lemmas.Bool.{lt-ltb, le-ltb, ltb-true, and_parts, and_from, false≢true, not-true, not_from_false, false_from_ne_true}
 use Rattle.std.proofs.lemmas.Bool.Decides.{nat_tests}
 use Rattle.std.proofs.lemmas.Grind.{common_steps}
 use Rattle.std.proofs.lemmas.List.{get_or-drop}
-use Rattle.std.proofs.lemmas.List.Sums.{list_all-from_AllPass, AllPass-from_list_all}
 use Rattle.std.proofs.lemmas.Str.Parse.{IsNumeralModel, numerals_by_value, tells_all_ascii_digits, parse_plain}
 use Rattle.elem_core.specs.Cell.{IsCell}
-use Rattle.elem_core.specs.Naming.{IsName, is_name_byte}
-use Rattle.elem_core.specs.declared.TheConstants.{MAX_NAME}
+use Rattle.elem_core.specs.Naming.{IsName}
 use Rattle.shell_words.specs.Number.{leading_zero, is_number, number_of}
-use Rattle.elem_core.specs.Command.{PlainCommand}
+use Rattle.shell_terms.specs.Command.{PlainCommand}
 use Rattle.shell_words.specs.declared.BadLine.{BadLine}
 use Rattle.shell_words.specs.declared.BadLine.TheVariants as refused
-use Rattle.shell_words.specs.Grammar.{is_space, first_piece, after_piece, is_name, if_named}
+use Rattle.elem_core.proofs.NamingLemmas.{is_name-yes, is_name-no}
+use Rattle.shell_words.specs.Grammar.{is_space, first_piece, after_piece, if_named}
 
 -- one element more, in front
 within_step : (here later : Bool) (i n : ℕ) → later ≡ ltb i n → (here || later) ≡ ltb (cond (not here) (1 + i) 0) (suc n)
@@ -55,47 +54,6 @@ cell-drop n bytes cell = record {
   unbroken = λ has. cell.unbroken (n + has.0, omega (arith, has.1, length-drop n bytes), sym (get_or-drop n bytes has.0 _) ∙ has.2);
   short = omega (arith, cell.short, length-drop n bytes);
 }
-
--- the first byte is another
-other_first : (piece : List ℕ) (byte : ℕ) → 1 ≤ length piece → (slice_get piece 0 ≡ Some byte → ⊥) → eqb (slice_index piece 0) byte ≡ false
-other_first [] byte some other = absurd (omega arith)
-other_first (x ∷ xs) byte some other = ne_eqb x byte (λ e. other (ap (λ v. Some v) e))
-
--- and the other way round
-first_other : (piece : List ℕ) (byte : ℕ) → eqb (slice_index piece 0) byte ≡ false → slice_get piece 0 ≡ Some byte → ⊥
-first_other [] byte other is = cc
-first_other (x ∷ xs) byte other is = eqb-false x byte other (cc)
-
--- the test of a name holds for each name
-pub is_name-yes : (piece : List ℕ) → IsName piece → is_name piece ≡ true
-unfolding is_name
-is_name-yes piece named =
-    let some = le-leb 1 (length piece) named.some in
-    let short = le-leb (length piece) MAX_NAME named.short in
-    let letters = list_all-from_AllPass is_name_byte piece named.alphabet in
-    let no_stop = other_first piece 46 named.some named.no_stop_first in
-    let no_hyphen = other_first piece 45 named.some named.no_hyphen_first in
-    rw (some, short, letters, no_stop, no_hyphen) refl
-
--- where it holds, the piece is a name
-named_by_test : (piece : List ℕ) → is_name piece ≡ true → IsName piece
-unfolding is_name
-named_by_test piece test =
-    let a = and_parts _ _ test in
-    let b = and_parts _ _ a.0 in
-    let c = and_parts _ _ b.0 in
-    let d = and_parts _ _ c.0 in
-    record {
-      some = leb-true _ _ d.0;
-      short = leb-true _ _ d.1;
-      alphabet = AllPass-from_list_all is_name_byte piece c.1;
-      no_stop_first = first_other piece 46 (not-true _ b.1);
-      no_hyphen_first = first_other piece 45 (not-true _ a.1);
-    }
-
--- and it fails for each other piece
-pub is_name-no : (piece : List ℕ) → (IsName piece → ⊥) → is_name piece ≡ false
-is_name-no piece unnamed = false_from_ne_true _ (λ test. unnamed (named_by_test piece test))
 
 -- the digits are the library's
 own : IsNumeralModel (λ ds. all_ascii_digits ds ≡ true) (digits_value 10)

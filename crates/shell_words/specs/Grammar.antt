@@ -1,13 +1,12 @@
 -- What a line of the shell means: the grammar of its commands.
-use Rattle.std.specs.Prelude.{ℕ, Bool, not, ◌&&◌, ◌==◌, nat_le, if◌then◌else◌, List, [], ◌∷◌, length}
-use Rattle.std.specs.Prelude.{slice_index, Option, Some, None, Result, Ok, Err, codes, bytes_eq}
-use Rattle.std.specs.List.{list_any, list_all, before_first, after_first}
+use Rattle.std.specs.Prelude.{ℕ, Bool, ◌==◌, if◌then◌else◌, List, [], ◌∷◌}
+use Rattle.std.specs.Prelude.{Option, Some, None, Result, Ok, Err, codes, bytes_eq}
+use Rattle.std.specs.List.{list_any, before_first, after_first}
 use Rattle.std.specs.Option.{option_map_or}
 use Rattle.std.specs.Map.{lookup}
 use Rattle.std.specs.Str.{is_utf8}
-use Rattle.elem_core.specs.Naming.{is_name_byte}
-use Rattle.elem_core.specs.declared.TheConstants.{MAX_NAME}
-use Rattle.elem_core.specs.Command.{PlainCommand, new, add, get, len, list, quit}
+use Rattle.elem_core.specs.Naming.{is_name}
+use Rattle.shell_terms.specs.Command.{PlainCommand, new, add, get, len, list, quit}
 use Rattle.shell_words.specs.declared.BadLine.{BadLine}
 use Rattle.shell_words.specs.declared.BadLine.TheVariants as refused
 use Rattle.shell_words.specs.Number.{number_of}
@@ -24,15 +23,9 @@ first_piece bytes = before_first is_space bytes
 unfoldable pub after_piece : List ℕ → Option (List ℕ)
 after_piece bytes = if list_any is_space bytes then Some (after_first is_space bytes) else None
 
--- The test of `IsName`.
-unfoldable pub is_name : List ℕ → Bool
-is_name piece =
-    nat_le 1 (length piece) && nat_le (length piece) MAX_NAME && list_all is_name_byte piece
-    && not (slice_index piece 0 == 46) && not (slice_index piece 0 == 45)
-
--- How the rest of a line is read: the bytes behind the space, or None where the line has ended.
-abbrev pub Reading : Type 0
-Reading = Option (List ℕ) → Result PlainCommand BadLine
+-- What the rest of a line means: the bytes behind the space, or None where the line has ended.
+abbrev pub RestMeaning : Type 0
+RestMeaning = Option (List ℕ) → Result PlainCommand BadLine
 
 -- A line that is a command by its form is refused where this piece should be a name and isn't.
 unfoldable pub if_named : List ℕ → Result PlainCommand BadLine → Result PlainCommand BadLine
@@ -40,28 +33,28 @@ if_named piece (Ok command) = if is_name piece then Ok command else Err refused.
 if_named piece (Err bad) = Err bad
 
 -- The line has ended, and this is the command.
-unfoldable pub the_end : PlainCommand → Reading
+unfoldable pub the_end : PlainCommand → RestMeaning
 the_end command None = Ok command
 the_end command (Some rest) = Err refused.Command
 
 -- Next comes a piece that is a name.
-unfoldable pub a_name : (List ℕ → Reading) → Reading
+unfoldable pub a_name : (List ℕ → RestMeaning) → RestMeaning
 a_name more None = Err refused.Command
 a_name more (Some rest) = if_named (first_piece rest) (more (first_piece rest) (after_piece rest))
 
 -- Next comes a piece that is a number.
-unfoldable pub a_number : (ℕ → Reading) → Reading
+unfoldable pub a_number : (ℕ → RestMeaning) → RestMeaning
 a_number more None = Err refused.Command
 a_number more (Some rest) =
     option_map_or (λ n. more n (after_piece rest)) (number_of (first_piece rest)) (Err refused.Command)
 
 -- All the rest is the text, spaces and all, and may be empty.
-unfoldable pub the_text : (List ℕ → PlainCommand) → Reading
+unfoldable pub the_text : (List ℕ → PlainCommand) → RestMeaning
 the_text command None = Err refused.Command
 the_text command (Some rest) = Ok (command rest)
 
 -- Each command: its word, and what follows the word.
-unfoldable pub commands : List (List ℕ × Reading)
+unfoldable pub commands : List (List ℕ × RestMeaning)
 commands =
     (codes "new", a_name (λ b. the_end (new b)))
     ∷ (codes "add", a_name (λ b. the_text (λ t. add b t)))
@@ -72,9 +65,9 @@ commands =
     ∷ []
 
 -- The command of a word and what follows it. A word that isn't in the table is no command.
-unfoldable pub command_of : List ℕ → Reading
+unfoldable pub command_of : List ℕ → RestMeaning
 command_of word rest =
-    option_map_or (λ (read : Reading). read rest) (lookup (bytes_eq word) commands) (Err refused.Command)
+    option_map_or (λ (read : RestMeaning). read rest) (lookup (bytes_eq word) commands) (Err refused.Command)
 
 -- The command that a line gives, or the first refusal that holds: `Utf8`, then `Command`, then `Name`.
 unfoldable pub meaning : List ℕ → Result PlainCommand BadLine

@@ -1,6 +1,6 @@
 -- What the answer of `read_line` shows: the command with its names, numbers and texts as values.
 use Rattle.std.specs.Prelude.{Result, Ok, Err}
-use Rattle.elem_core.specs.Command.{PlainCommand, new, add, get, len, list, quit}
+use Rattle.shell_terms.specs.Command.{PlainCommand, new, add, get, len, list, quit}
 use Rattle.elem_core.specs.Shown.{name_bytes, line_bytes}
 use Rattle.shell_words.specs.declared.Command.{Command}
 use Rattle.shell_words.specs.declared.Command.TheVariants.{New, Add, Get, Len, List, Quit}

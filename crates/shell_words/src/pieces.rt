@@ -6,9 +6,9 @@
 ghost use Rattle.std.specs.Prelude.{◌≡◌, ℕ, List, Ok, IfOk, option_copied};
 ghost use Rattle.std.specs.Option.{ForSome};
 ghost use Rattle.elem_core.specs.Cell.{IsCell};
-ghost use Rattle.elem_core.specs.Command.{PlainCommand};
+ghost use Rattle.shell_terms.specs.Command.{PlainCommand};
 ghost use Rattle.elem_core.specs.Shown.{name_bytes, line_bytes};
-ghost use Rattle.shell_words.specs.Grammar.{Reading, first_piece, after_piece, if_named};
+ghost use Rattle.shell_words.specs.Grammar.{RestMeaning, first_piece, after_piece, if_named};
 ghost use Rattle.shell_words.specs.Grammar.{the_end, a_name, a_number, the_text};
 ghost use Rattle.shell_words.specs.Number.{leading_zero, number_of};
 ghost use Rattle.shell_words.specs.Shown.{go_on};
@@ -78,7 +78,7 @@ pub fn name_and_text(rest: Option<&str>) -> Result<(Name<'_>, Line<'_>), BadLine
 
 // The next piece, which is to be a name, and what follows it.
 fn next_piece(rest: Option<&str>) -> Result<(&str, Option<&str>), BadLine>
-    ensures read { (more : List ℕ → Reading) → a_name more (option_copied rest.entry)
+    ensures read { (more : List ℕ → RestMeaning) → a_name more (option_copied rest.entry)
         ≡ go_on result (λ read. if_named read.0.now (more read.0.now (option_copied read.1))) }
     ensures cell { ForSome (option_copied rest.entry) IsCell
         → IfOk result (λ read. ForSome (option_copied read.1) IsCell) }
@@ -91,7 +91,7 @@ fn next_piece(rest: Option<&str>) -> Result<(&str, Option<&str>), BadLine>
 
 // The next piece, which is to be a number, and what follows it.
 fn next_number(rest: Option<&str>) -> Result<(u32, Option<&str>), BadLine>
-    ensures read { (more : ℕ → Reading) → a_number more (option_copied rest.entry)
+    ensures read { (more : ℕ → RestMeaning) → a_number more (option_copied rest.entry)
         ≡ go_on result (λ read. more read.0 (option_copied read.1)) }
     ensures cell { ForSome (option_copied rest.entry) IsCell
         → IfOk result (λ read. ForSome (option_copied read.1) IsCell) }

@@ -1,19 +1,19 @@
 -- What `answer` gives in each case of each command.
 use Rattle.std.proofs.Common.{◌≡◌, ℕ, List, [], ◌∷◌, ◌++◌, length, slice_get, Some, None, ap, ◌∙◌, true, false, is_some, nat_eq}
-use Rattle.elem_core.specs.Command.{new, add, get, len}
+use Rattle.shell_terms.specs.Command.{new, add, get, len}
 use Rattle.space_state.specs.declared.refusal.Refusal.TheVariants.{Absent, Exists, Range, Limit}
 use Rattle.space_state.specs.Workspace.{Bytes, Workspace, most_lines, lines_of, with_lines}
-use Rattle.space_state.specs.Answer.{Answer, answer, told, refused, done, text_line, number_line, on_lines, on_line}
+use Rattle.space_state.specs.Answer.{Answer, answer, told, refused, ok_answer, text_line, number_line, on_lines, on_line}
 use Rattle.std.proofs.Common.{cond}
 
 module _ (work : Workspace) (name : Bytes) where
   pub new_exists : (lines : List Bytes) → lines_of work name ≡ Some lines → answer work (new name) ≡ refused Exists
   unfolding answer
-  new_exists lines e = ap (λ o. cond (is_some o) (refused Exists) (done (with_lines work name []))) e
+  new_exists lines e = ap (λ o. cond (is_some o) (refused Exists) (ok_answer (with_lines work name []))) e
 
-  pub new_done : lines_of work name ≡ None → answer work (new name) ≡ done (with_lines work name [])
+  pub new_ok : lines_of work name ≡ None → answer work (new name) ≡ ok_answer (with_lines work name [])
   unfolding answer
-  new_done e = ap (λ o. cond (is_some o) (refused Exists) (done (with_lines work name []))) e
+  new_ok e = ap (λ o. cond (is_some o) (refused Exists) (ok_answer (with_lines work name []))) e
 
   pub get_absent : (index : ℕ) → lines_of work name ≡ None → answer work (get name index) ≡ refused Absent
   unfolding answer
@@ -41,7 +41,7 @@ module _ (work : Workspace) (name : Bytes) where
 
   module _ (text : Bytes) where
     added : List Bytes → Answer
-    added lines = cond (nat_eq (length lines) most_lines) (refused Limit) (done (with_lines work name (lines ++ text ∷ [])))
+    added lines = cond (nat_eq (length lines) most_lines) (refused Limit) (ok_answer (with_lines work name (lines ++ text ∷ [])))
 
     pub add_absent : lines_of work name ≡ None → answer work (add name text) ≡ refused Absent
     unfolding answer added
@@ -51,10 +51,10 @@ module _ (work : Workspace) (name : Bytes) where
     unfolding answer added
     add_limit lines e full =
         ap (λ o. on_lines o added) e
-        ∙ ap (λ b. cond b (refused Limit) (done (with_lines work name (lines ++ text ∷ [])))) full
+        ∙ ap (λ b. cond b (refused Limit) (ok_answer (with_lines work name (lines ++ text ∷ [])))) full
 
-    pub add_done : (lines : List Bytes) → lines_of work name ≡ Some lines → nat_eq (length lines) most_lines ≡ false → answer work (add name text) ≡ done (with_lines work name (lines ++ text ∷ []))
+    pub add_ok : (lines : List Bytes) → lines_of work name ≡ Some lines → nat_eq (length lines) most_lines ≡ false → answer work (add name text) ≡ ok_answer (with_lines work name (lines ++ text ∷ []))
     unfolding answer added
-    add_done lines e room =
+    add_ok lines e room =
         ap (λ o. on_lines o added) e
-        ∙ ap (λ b. cond b (refused Limit) (done (with_lines work name (lines ++ text ∷ [])))) room
+        ∙ ap (λ b. cond b (refused Limit) (ok_answer (with_lines work name (lines ++ text ∷ [])))) room

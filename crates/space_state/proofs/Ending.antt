@@ -3,12 +3,12 @@ use Rattle.std.proofs.Common.{◌≡◌, ℕ, refl, sym, ap, subst, ◌∙◌, R
 use Rattle.space_state.specs.declared.refusal.Refusal.{Refusal}
 use Rattle.space_state.specs.declared.refusal.Refusal.TheVariants.{Memory}
 use Rattle.space_state.specs.Workspace.{Workspace, Buffers}
-use Rattle.space_state.specs.Answer.{Answer, refused, done}
+use Rattle.space_state.specs.Answer.{Answer, refused, ok_answer}
 use Rattle.space_state.specs.View.{SpaceView}
 use Rattle.space_state.specs.Ends.{Ends}
 
 -- an answer is not at once carried out and refused
-apart : {A : Type 0} (work : Workspace) (reason : Refusal) → done work ≡ refused reason → A
+apart : {A : Type 0} (work : Workspace) (reason : Refusal) → ok_answer work ≡ refused reason → A
 apart work reason e = absurd (cc)
 
 same_reason : (r s : Refusal) → refused r ≡ refused s → r ≡ s
@@ -24,7 +24,7 @@ module _ {T : Type 0} (answered : Answer) (old new : SpaceView) where
     same_bits = ap (λ s. s.bits) same;
   }
 
-  pub ends_memory : (work : Workspace) → answered ≡ done work → new ≡ old → Ends {T = T} answered old (Err Memory) new
+  pub ends_memory : (work : Workspace) → answered ≡ ok_answer work → new ≡ old → Ends {T = T} answered old (Err Memory) new
   ends_memory work e same = record {
     carried_out = tt;
     due = λ r f. apart work r (sym e ∙ f);
@@ -33,8 +33,8 @@ module _ {T : Type 0} (answered : Answer) (old new : SpaceView) where
     same_bits = ap (λ s. s.bits) same;
   }
 
-  pub ends_done : (value : T) → answered ≡ done new.work → new.bits ≡ old.bits → Ends {T = T} answered old (Ok value) new
-  ends_done value e same = record {
+  pub ends_ok : (value : T) → answered ≡ ok_answer new.work → new.bits ≡ old.bits → Ends {T = T} answered old (Ok value) new
+  ends_ok value e same = record {
     carried_out = e;
     due = λ r f. apart new.work r (sym e ∙ f);
     only_due = tt;
@@ -48,7 +48,7 @@ for_memory (Ok value) h = absurd h
 for_memory (Err reason) h = ap Err h
 
 -- a change that wanted memory
-pub ends_for_memory : {T : Type 0} (answered : Answer) (old new : SpaceView) (result : Result T Refusal) → IsErrAnd result (λ reason. reason ≡ Memory) → (work : Workspace) → answered ≡ done work → new ≡ old → Ends answered old result new
+pub ends_for_memory : {T : Type 0} (answered : Answer) (old new : SpaceView) (result : Result T Refusal) → IsErrAnd result (λ reason. reason ≡ Memory) → (work : Workspace) → answered ≡ ok_answer work → new ≡ old → Ends answered old result new
 ends_for_memory answered old new result h work e same =
     subst (λ r. Ends answered old r new) (sym (for_memory result h)) (ends_memory answered old new work e same)
 

@@ -2,7 +2,7 @@
 use Rattle.std.specs.Prelude.{ℕ, List, [], ◌∷◌, ◌++◌, Option, Some, None, is_some, if◌then◌else◌, ◌==◌, length, map, slice_get}
 use Rattle.std.specs.Fmt.{decimal}
 use lib.Chars.{codes}
-use Rattle.elem_core.specs.Command.{PlainCommand, new, add, get, len, list, quit}
+use Rattle.shell_terms.specs.Command.{PlainCommand, new, add, get, len, list, quit}
 use Rattle.space_state.specs.declared.refusal.Refusal.{Refusal}
 use Rattle.space_state.specs.declared.refusal.Refusal.TheVariants.{Absent, Exists, Range, Limit}
 use Rattle.space_state.specs.Workspace.{Bytes, Workspace, most_lines, lines_of, with_lines, sizes}
@@ -28,9 +28,9 @@ number_line number = codes "= " ++ decimal number
 abbrev pub size_line : Bytes × ℕ → Bytes
 size_line size = codes "= " ++ size.0 ++ codes " " ++ decimal size.1
 
--- An edit that was carried out.
-abbrev pub done : Workspace → Answer
-done after = told (ok_line ∷ []) after
+-- The answer `ok`, with the workspace afterwards.
+abbrev pub ok_answer : Workspace → Answer
+ok_answer after = told (ok_line ∷ []) after
 
 -- What is answered of a buffer's lines; Absent where there is no such buffer.
 abbrev pub on_lines : Option (List Bytes) → (List Bytes → Answer) → Answer
@@ -45,14 +45,14 @@ on_line (Some line) answered = answered line
 -- The answer of each command: the first refusal that holds, else its reply and the workspace afterwards.
 unfoldable pub answer : Workspace → PlainCommand → Answer
 answer work (new name) =
-    if is_some (lines_of work name) then refused Exists else done (with_lines work name [])
+    if is_some (lines_of work name) then refused Exists else ok_answer (with_lines work name [])
 answer work (add name text) =
     on_lines (lines_of work name) (λ lines.
-    if length lines == most_lines then refused Limit else done (with_lines work name (lines ++ text ∷ [])))
+    if length lines == most_lines then refused Limit else ok_answer (with_lines work name (lines ++ text ∷ [])))
 answer work (get name index) =
     on_lines (lines_of work name) (λ lines.
     on_line (slice_get lines index) (λ line. told (text_line line ∷ []) work))
 answer work (len name) =
     on_lines (lines_of work name) (λ lines. told (number_line (length lines) ∷ []) work)
 answer work list = told (map size_line (sizes work) ++ ok_line ∷ []) work
-answer work quit = done work
+answer work quit = ok_answer work

@@ -1,5 +1,5 @@
 -- Edits as the commands that they carry out.
-use Rattle.elem_core.specs.Command.{PlainCommand, new, add}
+use Rattle.shell_terms.specs.Command.{PlainCommand, new, add}
 use Rattle.elem_core.specs.Shown.{line_bytes, name_bytes}
 use Rattle.space_state.specs.declared.edit.Edit.{Edit}
 use Rattle.space_state.specs.declared.edit.Edit.TheVariants.{New, Add}

@@ -1,5 +1,6 @@
 -- The plain workspace: what a space stands for.
-use Rattle.std.specs.Prelude.{ℕ, ◌-◌, ◌^◌, List, Option, length, map as map_each}
+use Rattle.std.specs.Prelude.{ℕ, ◌-◌, ◌^◌, List, Option, length, map as map_each, option_and_then, slice_get}
+use Rattle.std.specs.Option.{option_map}
 use Rattle.std.specs.Ordering.{nat_cmp}
 use Rattle.std.specs.Cmp.Lexicographic.{slice_cmp}
 use Rattle.std.specs.FinMap as map
@@ -27,6 +28,14 @@ start = record { buffers = map.empty }
 -- The lines of the buffer, if there is one of this name.
 abbrev pub lines_of : Workspace → Bytes → Option (List Bytes)
 lines_of work name = map.get work.buffers name
+
+-- The line of the buffer at the index, counted from 0, if there are both.
+abbrev pub line_of : Workspace → Bytes → ℕ → Option Bytes
+line_of work name index = option_and_then (λ lines. slice_get lines index) (lines_of work name)
+
+-- The number of the buffer's lines, if there is one of this name.
+abbrev pub count_of : Workspace → Bytes → Option ℕ
+count_of work name = option_map length (lines_of work name)
 
 -- The workspace in which the buffer has these lines, made or replaced.
 abbrev pub with_lines : Workspace → Bytes → List Bytes → Workspace

@@ -1,9 +1,9 @@
 //! The space and its calls.
 
-ghost use Rattle.std.specs.Prelude.{◌≡◌, ◌≤◌, ◌∷◌, [], map, IfOk, MatchResult};
+ghost use Rattle.std.specs.Prelude.{◌≡◌, ◌≤◌, ◌∷◌, [], map, Some, IfOk, MatchResult};
 ghost use Rattle.elem_core.specs.Shown.{name_bytes, line_bytes};
-ghost use Rattle.elem_core.specs.Command.{new, add, get, len};
-ghost use Rattle.space_state.specs.Workspace.{start, sizes};
+ghost use Rattle.shell_terms.specs.Command.{new, add, get, len};
+ghost use Rattle.space_state.specs.Workspace.{start, sizes, line_of, count_of};
 ghost use Rattle.space_state.specs.Answer.{answer, told, refused, text_line, number_line};
 ghost use Rattle.space_state.specs.Ends.{Ends};
 ghost use Rattle.space_state.specs.Change.{edit_command};
@@ -104,7 +104,8 @@ impl Space {
     /// The line of the buffer at the index, counted from 0. Absent exactly where there is no
     /// such buffer, else Range exactly past its end.
     pub fn line(&self, buffer: Name<'_>, index: u32) -> Result<&Text, Refusal>
-        ensures { MatchResult result
+        ensures text { IfOk result (λ text. line_of self.now.work (name_bytes buffer.entry) index ≡ Some text.now) }
+        ensures answered { MatchResult result
             (λ text. answer self.now.work (get (name_bytes buffer.entry) index) ≡ told (text_line text.now ∷ []) self.now.work)
             (λ reason. answer self.now.work (get (name_bytes buffer.entry) index) ≡ refused reason) }
     {
@@ -116,7 +117,8 @@ impl Space {
 
     /// The number of the buffer's lines. Absent exactly where there is no such buffer.
     pub fn count(&self, buffer: Name<'_>) -> Result<u32, Refusal>
-        ensures { MatchResult result
+        ensures number { IfOk result (λ number. count_of self.now.work (name_bytes buffer.entry) ≡ Some number) }
+        ensures answered { MatchResult result
             (λ number. answer self.now.work (len (name_bytes buffer.entry)) ≡ told (number_line number ∷ []) self.now.work)
             (λ reason. answer self.now.work (len (name_bytes buffer.entry)) ≡ refused reason) }
     {

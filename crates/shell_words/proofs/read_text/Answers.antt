@@ -1,6 +1,6 @@
 use Rattle.std.proofs.Common.{◌≡◌, ◌∙◌, sym, refl, ap, None, bytes_eq, rules}
 use Rattle.std.specs.Map.{lookup}
-use Rattle.elem_core.specs.Command.{new, add, get, len, list, quit}
+use Rattle.shell_terms.specs.Command.{new, add, get, len, list, quit}
 use Rattle.elem_core.specs.Shown.{name_bytes, line_bytes}
 use Rattle.shell_words.specs.Grammar.{commands}
 use Rattle.shell_words.specs.Shown.{plain_command}

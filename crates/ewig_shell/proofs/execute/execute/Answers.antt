@@ -1,22 +1,23 @@
 use Rattle.std.proofs.Common.{Err, refl}
 use Rattle.ewig_shell.proofs.SendingLemmas.{Sends-then}
-use Rattle.ewig_shell.proofs.StepLemmas.{Step-line, quits-line, quits-never}
+use Rattle.ewig_shell.proofs.StepLemmas.{Step-line}
+use Rattle.ewig_shell.proofs.QuitLemmas.{quits-command, quits-bad}
 use Rattle.ewig_shell.proofs.execute.execute.Goals as goal
 
-pub returns-in-Ok : goal.returns-in-Ok
-returns-in-Ok g c =
-    let done = c.obey.ensures.step in
-    record {
-      step = (done.0, Step-line _ _ _ _ _ c.requires.short c.in-Ok.ensures done.1, done.2);
-      quits = quits-line _ _ _ c.requires.short c.in-Ok.ensures c.obey.ensures.quits;
-    }
+pub returns-in-Ok-clause-replies : goal.returns-in-Ok-clause-replies
+returns-in-Ok-clause-replies g c =
+    let done = c.obey.ensures.replies in
+    record { reply = done.reply; due = Step-line _ _ _ _ _ c.requires.short c.in-Ok.ensures done.due; sends = done.sends }
 
-pub returns-in-Err : goal.returns-in-Err
-returns-in-Err g c = record {
-  step = (
-    c.line_refusal.result.now,
-    Step-line _ _ _ _ (Err c.in-Err.bad) c.requires.short c.in-Err.ensures (record { reply_is = c.line_refusal.ensures; same = refl }),
-    Sends-then _ _ _ _ _ _ _ _ _ c.then_went.ensures c.send.ensures,
-  );
-  quits = quits-line _ _ (Err c.in-Err.bad) c.requires.short c.in-Err.ensures (quits-never c.send.result _ c.then_went.ensures);
+pub returns-in-Ok-clause-quits : goal.returns-in-Ok-clause-quits
+returns-in-Ok-clause-quits g c = quits-command _ _ _ c.in-Ok.ensures c.obey.ensures.quits
+
+pub returns-in-Err-clause-replies : goal.returns-in-Err-clause-replies
+returns-in-Err-clause-replies g c = record {
+  reply = c.line_refusal.result.now;
+  due = Step-line _ _ _ _ (Err c.in-Err.bad) c.requires.short c.in-Err.ensures (record { reply_is = c.line_refusal.ensures; same = refl });
+  sends = Sends-then _ _ c.then_went.ensures c.send.ensures;
 }
+
+pub returns-in-Err-clause-quits : goal.returns-in-Err-clause-quits
+returns-in-Err-clause-quits g c = quits-bad _ c.in-Err.bad c.send.result _ c.in-Err.ensures c.then_went.ensures

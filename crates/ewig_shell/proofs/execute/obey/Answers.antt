@@ -6,9 +6,9 @@ use Rattle.ewig_shell.proofs.SendingLemmas.{Sends-then}
 use Rattle.ewig_shell.proofs.StepLemmas.{Obeys-quit}
 use Rattle.ewig_shell.proofs.execute.obey.Goals as goal
 
-pub returns-in-Quit-clause-step : goal.returns-in-Quit-clause-step
-returns-in-Quit-clause-step g c = (
-  codes "ok\n",
-  subst (λ (k : Command). Obeys c.args.space.now.work (plain_command k) (codes "ok\n") c.args.space.now.work) (sym c.in-Quit.is) (Obeys-quit _),
-  Sends-then _ _ _ _ _ _ _ _ _ c.then_went-in-Quit.ensures c.send.ensures,
-)
+pub returns-in-Quit-clause-replies : goal.returns-in-Quit-clause-replies
+returns-in-Quit-clause-replies g c = record {
+  reply = codes "ok\n";
+  due = subst (λ (k : Command). Obeys c.args.space.now.work (plain_command k) (codes "ok\n") c.args.space.now.work) (sym c.in-Quit.is) (Obeys-quit _);
+  sends = Sends-then _ _ c.then_went-in-Quit.ensures c.send.ensures;
+}

@@ -2,7 +2,7 @@ use Rattle.std.proofs.Common.{◌≡◌, ◌++◌, List, ℕ, take, map, Ok}
 use Rattle.space_state.specs.Answer.{size_line}
 use Rattle.space_state.specs.Places.{shown_size}
 use Rattle.ewig_shell.specs.Step.{reply_of}
-use Rattle.ewig_shell.specs.Sending.{Sends}
+use Rattle.shell_io.specs.Sending.{Sends}
 use Rattle.ewig_shell.proofs.execute.write_names.Given as goal
 
 -- what was sent, and then the page, are the lines of the names so far

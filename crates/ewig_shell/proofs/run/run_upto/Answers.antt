@@ -1,15 +1,17 @@
-use Rattle.ewig_shell.proofs.EndLemmas.{IfSome-from, begins, begins_sure, is_complete}
+use Rattle.std.proofs.Common.{refl, rules, ◌∙◌}
+use Rattle.ewig_shell.specs.declared.run.Status.TheVariants as status
+use Rattle.ewig_shell.proofs.RunLemmas.{Going-start}
+use Rattle.ewig_shell.proofs.EndLemmas.{RunsAs-early, RunsAs-lines}
 use Rattle.ewig_shell.proofs.run.run_upto.Goals as goal
 
+pub returns-then-not-is_empty-clause-run : goal.returns-then-not-is_empty-clause-run
+returns-then-not-is_empty-clause-run g c = RunsAs-early status.Usage tt ((λ _. search rules), λ _. refl)
+
+pub returns-in_default-clause-run : goal.returns-in_default-clause-run
+returns-in_default-clause-run g c = RunsAs-early status.Memory tt ((λ e. absurd (let never = e in cc)), search rules)
+
 pub returns-clause-run : goal.returns-clause-run
-returns-clause-run g c = IfSome-from _ _ (λ input told.
-    c.follow-status.ensures.told input _ (begins _ input _ _ _ _ told c.in-Ok.ensures.start c.in-Ok.ensures.unread.0 c.in-Ok.ensures.empty))
-
-pub returns-clause-sink_sure : goal.returns-clause-sink_sure
-returns-clause-sink_sure g c = IfSome-from _ _ (λ input told.
-    c.follow-status.ensures.sink_sure input _ (begins_sure _ _ _ input _ _ _ _ told c.in-Ok.ensures.start c.in-Ok.ensures.unread.0 c.in-Ok.ensures.empty))
-
-pub returns-clause-complete : goal.returns-clause-complete
-returns-clause-complete g c = IfSome-from _ _ (λ input told.
-    let runs = c.follow-status.ensures.told input _ (begins _ input _ _ (g.K.Sink.written c.args.sink.now) _ told c.in-Ok.ensures.start c.in-Ok.ensures.unread.0 c.in-Ok.ensures.empty) in
-    is_complete _ input _ _ _ _ _ _ _ _ _ runs c.follow-status.ensures.causes)
+returns-clause-run g c =
+    let lines = c.follow-status.ensures in
+    RunsAs-lines c.follow-status.result c.follow-status.new.space lines.begun (search rules) (lines.bits ∙ c.in-Ok.ensures.empty.1) lines.causes
+    (λ input told. lines.told input _ (Going-start _ told c.in-Ok.ensures.start c.in-Ok.ensures.unread.0 c.in-Ok.ensures.empty.0))

@@ -1,5 +1,6 @@
 use Rattle.std.proofs.Common.{◌≡◌, ℕ, ◌-◌, ◌≤◌, List, ◌++◌, length}
 use Rattle.std.specs.Io.KnownBytes.{Appends}
+use Rattle.shell_io.specs.Fault.{CountsFaults}
 use Rattle.shell_io.proofs.device.write_all.Given as goal
 
 -- what was written so far, and the rest, are the piece
@@ -8,7 +9,7 @@ invariant-loop-rest g l = record {
   done : List ℕ;
   whole : l.fn.piece ≡ done ++ l.rest;
   written : Appends (g.K.Sink.written l.initial.sink) (g.K.Sink.written l.sink) done;
-  counted : g.K.Sink.faults l.initial.sink ≤ g.K.Sink.faults l.sink;
+  counts : CountsFaults ⊥ (g.K.Sink.faults l.initial.sink) (g.K.Sink.faults l.sink);
   sure : (room : ℕ) → g.K.Sink.has_room l.initial.sink room → length l.fn.piece ≤ room →
       (g.K.Sink.faults l.sink ≡ g.K.Sink.faults l.initial.sink) × g.K.Sink.has_room l.sink (room - length done);
 }

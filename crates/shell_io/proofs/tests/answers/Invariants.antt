@@ -1,6 +1,10 @@
-use Rattle.std.proofs.Common.{◌≡◌, ℕ, Some}
+use Rattle.std.proofs.Common.{◌≡◌, ℕ, ◌+◌, ◌-◌, Some, true}
 use Rattle.shell_io.proofs.tests.answers.Given as goal
 
--- the reader keeps the one bound that it is given
+-- the reader keeps the one bound that it is given, and each offer was ample
 abbrev pub invariant-loop : goal.invariant-loop
-invariant-loop l = (k : ℕ) → l.reader.most ≡ Some k → k ≡ l.most
+invariant-loop l = record {
+  same_most : (k : ℕ) → l.reader.most ≡ Some k → k ≡ l.most;
+  ample : l.source.ample ≡ true;
+  room : l.source.room ≡ l.most + 1 - l.reader.taken;
+}

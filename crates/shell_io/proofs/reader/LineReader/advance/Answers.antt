@@ -1,4 +1,5 @@
-use Rattle.std.proofs.Common.{ap, ◌∙◌}
+use Rattle.std.proofs.Common.{ap, ◌∙◌, refl, Some, rules, ℕ, ◌+◌, ◌-◌, subst, sym}
+use Rattle.shell_io.proofs.FaultLemmas.{Pulls-then, Pulls-as}
 use Rattle.shell_io.proofs.StandsLemmas.{Answers-given, failed-ended}
 use Rattle.shell_io.proofs.reader.LineReader.advance.Goals as goal
 
@@ -15,3 +16,39 @@ returns-in-Err-clause-answers g c = λ input s.
       c.take_more.ensures.same.0 ∙ ap (λ r. r.given) c.in_default.ensures.undecided.0 ∙ inv.given,
       failed-ended input c.take_more.new.self _ (c.take_more.ensures.stands input (c.decide.ensures.stands input _ (inv.stands input s))) kept.1 kept.2,
     )
+
+pub returns-in-Some-clause-ample : goal.returns-in-Some-clause-ample
+returns-in-Some-clause-ample g c = λ h.
+    let P : ℕ → Type 0 = λ taken. g.S.Source.ample c.loop-answer.source (c.args.most + 1 - taken) in
+    subst P (sym c.in-Some.ensures.same.0) (c.loop-answer.invariant.ample h)
+
+pub returns-in-Err-clause-ample : goal.returns-in-Err-clause-ample
+returns-in-Err-clause-ample g c = λ h.
+    let P : ℕ → Type 0 = λ taken. g.S.Source.ample c.loop-answer.source (c.args.most + 1 - taken) in
+    let first = c.in_default.ensures.undecided.0 in
+    c.take_more.ensures.ample (subst P (sym (ap (λ r. r.taken) first)) (c.loop-answer.invariant.ample h))
+
+pub loop-answer-preserved : goal.loop-answer-preserved
+loop-answer-preserved g c =
+    let inv = c.loop-answer.invariant in
+    let first = c.in_default.ensures.undecided.0 in
+    let P : ℕ → Type 0 = λ taken. g.S.Source.ample c.loop-answer.source (c.args.most + 1 - taken) in
+    let m = c.in-Ok.ensures in record {
+      known = c.take_more.ensures.same.1 ∙ ap (λ r. r.most) first ∙ inv.known;
+      open_still = c.take_more.ensures.same.2;
+      no_line = c.take_more.ensures.same.3;
+      within = m.searched.0;
+      clean = m.searched.1;
+      grows = search rules;
+      given = c.take_more.ensures.same.0 ∙ ap (λ r. r.given) first ∙ inv.given;
+      pulls = Pulls-then inv.pulls (λ n. n) (Pulls-as m.pulls (λ n. cc) (λ n. absurd n));
+      ample = λ h. c.take_more.ensures.ample (subst P (sym (ap (λ r. r.taken) first)) (inv.ample h));
+      stands = λ input s. c.take_more.ensures.stands input (c.decide.ensures.stands input _ (inv.stands input s));
+    }
+
+pub returns-in-Some-clause-pulls : goal.returns-in-Some-clause-pulls
+returns-in-Some-clause-pulls g c = Pulls-as c.loop-answer.invariant.pulls (λ n. absurd n) (λ n. c.decide.ensures.no_fault (c.in-Some.is ∙ ap Some n))
+
+pub returns-in-Err-clause-pulls : goal.returns-in-Err-clause-pulls
+returns-in-Err-clause-pulls g c =
+    Pulls-as (Pulls-then c.loop-answer.invariant.pulls (λ n. n) c.in-Err.ensures.pulls) (λ n. refl) (λ n. refl)

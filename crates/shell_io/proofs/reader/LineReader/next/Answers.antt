@@ -1,36 +1,16 @@
-use Rattle.std.proofs.Common.{◌≡◌, ◌+◌, cond, length, None, Some, ap, sym, refl, ◌∙◌}
+use Rattle.std.proofs.Common.{cond, None, Some, ap, ◌∙◌}
 use Rattle.shell_io.specs.declared.reader.Next.TheVariants.{End, Budget}
-use Rattle.shell_io.proofs.StandsLemmas.{stands-begin, stands-settled, known_most, Answers-again, Answers-given, Answers-new}
+use Rattle.shell_io.proofs.StandsLemmas.{stands-settled, Answers-again, Answers-given, Answers-new}
 use Rattle.shell_io.proofs.reader.LineReader.next.Goals as goal
-
-pub returns-then-self-clause-stands : goal.returns-then-self-clause-stands
-returns-then-self-clause-stands g c = λ input s.
-    let r = c.self.inside in
-    let (k, is) = known_most r.most (c.self.invariant.begun c.if-self.true) in
-    let had : c.args.self.now.most ≡ Some k = sym (ap (λ v. v.most) c.self.view_is) ∙ is in
-    stands-begin input c.args.self.now _ _ c.args.most s
-    (ap (λ w. r.given + r.let_go + length w.held) c.forget_line.ensures ∙ ap (λ v. v.taken) c.self.view_is)
-    (ap (λ v. v.given) c.self.view_is) (ap (λ v. v.let_go) c.self.view_is)
-    (ap (λ w. w.held) c.forget_line.ensures ∙ ap (λ v. v.held) c.self.view_is)
-    (ap (λ v. v.at_end) c.self.view_is) (ap (λ v. v.settled) c.self.view_is) refl
-    (λ a h. had ∙ ap Some (c.requires.same_most k had))
 
 pub returns-then-self-clause-answers : goal.returns-then-self-clause-answers
 returns-then-self-clause-answers g c = λ input s.
-    Answers-again c.args.most input c.args.self.now _ c.last_answer.result (ap (λ v. v.given) c.self.view_is)
-    ((returns-then-self-clause-stands g c input s).settled_is c.args.most c.last_answer.result refl c.last_answer.ensures)
+    Answers-again c.args.most input c.args.self.now _ c.last_answer.result (ap (λ v. v.given) c.begin.ensures.begun)
+    ((c.begin.ensures.stands input _ s).settled_is c.args.most c.last_answer.result (ap (λ v. v.most) c.begin.ensures.begun) c.last_answer.ensures)
 
 pub returns-clause-stands : goal.returns-clause-stands
 returns-clause-stands g c = λ input s.
-    let r = c.self.inside in
-    let none : c.args.self.now.settled ≡ None =
-    sym (ap (λ v. v.settled) c.self.view_is) ∙ ap (λ b. cond b (Some (cond r.at_end End Budget)) None) c.if-self.false in
-    let begun = stands-begin input c.args.self.now _ _ c.args.most s
-    (ap (λ w. r.given + r.let_go + length w.held) c.forget_line.ensures ∙ ap (λ v. v.taken) c.self.view_is)
-    (ap (λ v. v.given) c.self.view_is) (ap (λ v. v.let_go) c.self.view_is)
-    (ap (λ w. w.held) c.forget_line.ensures ∙ ap (λ v. v.held) c.self.view_is)
-    (ap (λ v. v.at_end) c.self.view_is) (ap (λ v. v.settled) c.self.view_is) refl
-    (λ a h. absurd (let e : None ≡ Some a = sym none ∙ h in cc)) in
+    let begun = c.begin.ensures.stands input _ s in
     stands-settled input _ c.advance-answer.new.self _ _ c.args.most c.advance-answer.result c.is_last-self-inside.result
     (c.advance-answer.ensures.stands input begun)
     (record {
@@ -44,21 +24,13 @@ returns-clause-stands g c = λ input s.
       end_is = c.advance-answer.ensures.end;
       budget_is = λ e. (c.advance-answer.ensures.budget e).1;
     })
-    (ap (λ v. v.most) c.self-2.view_is ∙ c.advance-answer.ensures.same.0)
+    (ap (λ v. v.most) c.self-2.view_is ∙ c.advance-answer.ensures.same.0 ∙ ap (λ v. v.most) c.begin.ensures.begun)
     (c.advance-answer.ensures.answers input begun)
 
 pub returns-clause-answers : goal.returns-clause-answers
 returns-clause-answers g c = λ input s.
-    let r = c.self.inside in
-    let none : c.args.self.now.settled ≡ None =
-    sym (ap (λ v. v.settled) c.self.view_is) ∙ ap (λ b. cond b (Some (cond r.at_end End Budget)) None) c.if-self.false in
-    let begun = stands-begin input c.args.self.now _ _ c.args.most s
-    (ap (λ w. r.given + r.let_go + length w.held) c.forget_line.ensures ∙ ap (λ v. v.taken) c.self.view_is)
-    (ap (λ v. v.given) c.self.view_is) (ap (λ v. v.let_go) c.self.view_is)
-    (ap (λ w. w.held) c.forget_line.ensures ∙ ap (λ v. v.held) c.self.view_is)
-    (ap (λ v. v.at_end) c.self.view_is) (ap (λ v. v.settled) c.self.view_is) refl
-    (λ a h. absurd (let e : None ≡ Some a = sym none ∙ h in cc)) in
+    let begun = c.begin.ensures.stands input _ s in
     Answers-new c.args.most input c.args.self.now c.advance-answer.new.self _ c.advance-answer.result
     (ap (λ v. v.given) c.self-2.view_is) (ap (λ v. v.taken) c.self-2.view_is) (ap (λ v. v.line) c.self-2.view_is)
     (Answers-given c.args.most input c.args.self.now _ c.advance-answer.new.self c.advance-answer.result
-    (ap (λ v. v.given) c.self.view_is) (c.advance-answer.ensures.answers input begun))
+    (ap (λ v. v.given) c.begin.ensures.begun) (c.advance-answer.ensures.answers input begun))

@@ -1,10 +1,10 @@
 use Rattle.std.proofs.Common.{◌≡◌, ℕ, List, [], ◌∷◌, ◌++◌, false, length, nat_eq, refl, sym, ap, subst, ◌∙◌, arith, Ok, Err}
 use Rattle.elem_core.specs.Shown.{name_bytes, line_bytes}
-use Rattle.elem_core.specs.Command.{add}
+use Rattle.shell_terms.specs.Command.{add}
 use Rattle.space_state.specs.Workspace.{Bytes, with_lines}
-use Rattle.space_state.specs.Answer.{answer, done}
+use Rattle.space_state.specs.Answer.{answer, ok_answer}
 use Rattle.space_state.proofs.Answering as answering
-use Rattle.space_state.proofs.Ending.{ends_refused, ends_done}
+use Rattle.space_state.proofs.Ending.{ends_refused, ends_ok}
 use Rattle.space_state.specs.declared.refusal.Refusal.TheVariants.{Absent, Limit}
 use Rattle.space_state.specs.Workspace.{most_lines}
 use Rattle.space_state.specs.Ends.{Ends}
@@ -50,7 +50,7 @@ returns-in_err-text c =
     let got = got-at c.self.inside.buffers c.in-Ok.place name c.lines_at.result.now c.in-Ok.ensures c.lines_at.ensures in
     subst (λ (v : SpaceView). Ends (answer v.work (add name text)) v c.from_residual.result v) c.self.view_is
     (ends_for_memory (answer old.work (add name text)) old old c.from_residual.result c.from_residual.ensures.1 (with_lines old.work name (c.lines_at.result.now ++ text ∷ []))
-    (answering.add_done old.work name text c.lines_at.result.now got (sym c.is_full.ensures.full ∙ c.if-is_full.false)) refl)
+    (answering.add_ok old.work name text c.lines_at.result.now got (sym c.is_full.ensures.full ∙ c.if-is_full.false)) refl)
 
 pub push_at-requires-clause-stands : goal.push_at-requires-clause-stands
 push_at-requires-clause-stands c = place_within _ _ _ c.in-Ok.ensures
@@ -69,7 +69,7 @@ returns-in_err-push_at c =
     let got = got-at c.self.inside.buffers c.in-Ok.place name c.lines_at.result.now c.in-Ok.ensures c.lines_at.ensures in
     subst (λ (v : SpaceView). Ends (answer v.work (add name text)) v c.from_residual-in_err-push_at.result now) c.self.view_is
     (ends_for_memory (answer old.work (add name text)) old now c.from_residual-in_err-push_at.result c.from_residual-in_err-push_at.ensures.1 (with_lines old.work name (c.lines_at.result.now ++ text ∷ []))
-    (answering.add_done old.work name text c.lines_at.result.now got (sym c.is_full.ensures.full ∙ c.if-is_full.false))
+    (answering.add_ok old.work name text c.lines_at.result.now got (sym c.is_full.ensures.full ∙ c.if-is_full.false))
     (ap (λ b. space_of b c.self.inside.bits) c.in_err-push_at.ensures.unchanged))
 
 pub returns : goal.returns
@@ -84,5 +84,5 @@ returns c =
     let added : c.push_at.new.self ≡ insert c.self.inside.buffers name (lines ++ text ∷ []) =
     c.in_ok-push_at.ensures.added name lines at ∙ ap (λ t. insert c.self.inside.buffers name (lines ++ t ∷ [])) c.in_ok-text.ensures in
     subst (λ (v : SpaceView). Ends (answer v.work (add name text)) v (Ok tt) now) c.self.view_is
-    (ends_done (answer old.work (add name text)) old now tt
-    (answering.add_done old.work name text lines got (sym c.is_full.ensures.full ∙ c.if-is_full.false) ∙ ap (λ b. done (record { buffers = b })) (sym added)) refl)
+    (ends_ok (answer old.work (add name text)) old now tt
+    (answering.add_ok old.work name text lines got (sym c.is_full.ensures.full ∙ c.if-is_full.false) ∙ ap (λ b. ok_answer (record { buffers = b })) (sym added)) refl)

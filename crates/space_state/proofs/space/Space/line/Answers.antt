@@ -1,6 +1,6 @@
 use Rattle.std.proofs.Common.{◌≡◌, ℕ, List, [], ◌∷◌, slice_get, Option, Some, None, sym, subst, Result}
 use Rattle.elem_core.specs.Shown.{name_bytes}
-use Rattle.elem_core.specs.Command.{get}
+use Rattle.shell_terms.specs.Command.{get}
 use Rattle.space_state.specs.Workspace.{Bytes, Workspace, lines_of}
 use Rattle.space_state.specs.Answer.{answer, told, refused}
 use Rattle.space_state.proofs.Answering as answering
@@ -14,8 +14,8 @@ use Rattle.std.specs.Borrow.{Bor}
 use Rattle.space_state.specs.Answer.{text_line}
 use Rattle.space_state.proofs.space.Space.line.Goals as goal
 
-pub returns-in_default : goal.returns-in_default
-returns-in_default c =
+pub returns-in_default-clause-answered : goal.returns-in_default-clause-answered
+returns-in_default-clause-answered c =
     let name : Bytes = name_bytes c.args.buffer in
     let now : SpaceView = space_of c.self.inside.buffers c.self.inside.bits in
     subst (λ (v : SpaceView). answer v.work (get name c.args.index) ≡ refused Absent) c.self.view_is
@@ -26,8 +26,8 @@ asked : (work : Workspace) (name : Bytes) (index : ℕ) (lines : List Bytes) (fo
 asked work name index lines None e f = answering.get_range work name index lines e (sym f)
 asked work name index lines (Some text) e f = answering.get_told work name index lines text.now e (sym f)
 
-pub returns : goal.returns
-returns c =
+pub returns-clause-answered : goal.returns-clause-answered
+returns-clause-answered c =
     let name : Bytes = name_bytes c.args.buffer in
     let now : SpaceView = space_of c.self.inside.buffers c.self.inside.bits in
     subst (λ (v : SpaceView). MatchResult c.ok_or.result (λ text. answer v.work (get name c.args.index) ≡ told (text_line text.now ∷ []) v.work) (λ reason. answer v.work (get name c.args.index) ≡ refused reason)) c.self.view_is
