@@ -1,7 +1,9 @@
+pub mod ClosedRows
 pub mod Lists
 pub mod FillRule
 pub mod LinkCounts
 pub mod Stays
 pub mod BuildLemmas
 pub mod RowLists
-pub mod Replaced
+pub mod PushLemmas
+pub mod EditLemmas

@@ -1,26 +1,17 @@
 -- How often a link stands in a list.
-use Rattle.std.proofs.Common.{◌≡◌, ◌≢◌, ℕ, suc, zero, ◌+◌, ◌<◌, ◌≤◌, List, [], ◌∷◌, ◌++◌, length, take, drop, get_or, cond, eqb, refl, ap, sym, ◌∙◌, arith, inl, inr, take-append-drop}
+use Rattle.std.proofs.Common.{◌≡◌, ◌≢◌, ℕ, suc, zero, ◌+◌, ◌<◌, ◌≤◌, List, [], ◌∷◌, length, take, drop, get_or, refl, ap, sym, ◌∙◌, arith, inl, inr, take-append-drop}
 use Rattle.std.specs.List.{All}
 use Rattle.std.proofs.lemmas.Bool.{cases_eq}
 use Rattle.std.proofs.lemmas.Bool.Decides.{nat_tests}
-use Rattle.std.proofs.lemmas.List.Sums.{sum_by-cons, sum_by-append}
 use Rattle.node_heap.specs.Links.{count}
 use Rattle.node_heap.specs.Heap.{one_at}
+pub use Rattle.node_heap.proofs.BuildLemmas.{count-cons, count-one, count-append}
 
 pub one-same : (x k : ℕ) → x ≡ k → one_at k x ≡ 1
 one-same x k same = grind (arith, nat_tests)
 
 pub one-other : (x k : ℕ) → x ≢ k → one_at k x ≡ 0
 one-other x k other = grind (arith, nat_tests)
-
-pub count-cons : (k x : ℕ) (xs : List ℕ) → count k (x ∷ xs) ≡ one_at x k + count k xs
-count-cons k x xs = sum_by-cons (λ j. cond (eqb j k) 1 0) x xs
-
-pub count-one : (k x : ℕ) → count k (x ∷ []) ≡ one_at x k
-count-one k x = omega (arith, count-cons k x [])
-
-pub count-append : (k : ℕ) (xs ys : List ℕ) → count k (xs ++ ys) ≡ count k xs + count k ys
-count-append k xs ys = sum_by-append (λ j. cond (eqb j k) 1 0) xs ys
 
 pub count-split : (k n : ℕ) (xs : List ℕ) → count k xs ≡ count k (take n xs) + count k (drop n xs)
 count-split k n xs = ap (count k) (sym (take-append-drop n xs)) ∙ count-append k (take n xs) (drop n xs)

@@ -1,14 +1,14 @@
 -- Lists of rows by what they hold: `f` gives the elements of a row. Nothing here knows a heap.
-use Rattle.std.proofs.Common.{◌≡◌, ℕ, suc, zero, ◌-◌, ◌+◌, ◌*◌, ◌/◌, ◌<◌, ◌≤◌, ◌^◌, List, [], ◌∷◌, ◌++◌, length, take, drop, get_or, set, refl, ap, sym, ◌∙◌, arith, length-append, length-drop, append-nil, append_assoc, take-append-drop, ◌⊎◌, inl, inr}
+use Rattle.std.proofs.Common.{◌≡◌, ℕ, suc, zero, ◌-◌, ◌+◌, ◌*◌, ◌/◌, ◌%◌, ◌<◌, ◌≤◌, ◌^◌, List, [], ◌∷◌, ◌++◌, length, take, drop, get_or, set, refl, ap, sym, ◌∙◌, arith, length-append, length-drop, append-nil, append_assoc, take-append-drop, ◌⊎◌, inl, inr}
 use Rattle.std.specs.Prelude.{Some}
 use Rattle.std.specs.List.{All, flat_map, sum_by, slice_get}
-use Rattle.std.proofs.lemmas.List.{take_all, take_at, take_rest, length-take-le, take-append-le, take_more, drop_more, drop_at, drop-drop, drop-append-le, get_or_past, get_or_append_left, get_or_at, get_or-drop, drop_all}
+use Rattle.std.proofs.lemmas.List.{take-take, take_all, take_at, take_rest, length-take-le, take-append-le, take_more, drop_more, drop_at, drop-drop, drop-append-le, get_or_past, get_or_append_left, get_or_at, get_or-take, get_or-drop, drop_all}
 use Rattle.std.proofs.lemmas.List.Concat.{length-flat_map, get_or-flat_map, flat_map-append}
 use Rattle.std.proofs.lemmas.List.Sums.{sum_by-le, sum_by-cons}
-use Rattle.std.proofs.lemmas.List.Elements.{All-nil, All-append, All-head, All-tail, All-take}
+use Rattle.std.proofs.lemmas.List.Elements.{All-nil, All-cons, All-append, All-head, All-tail, All-take}
 use Rattle.std.proofs.lemmas.Option.{slice_get-get_or}
 use Rattle.std.proofs.lemmas.Nat.{pow-add, div-add-mod'}
-use Rattle.std.proofs.Math.Nat.{pow-suc, mul-le-mul_right}
+use Rattle.std.proofs.Math.Nat.{pow-suc, mul-le-mul_right, mod-lt}
 use Rattle.rrb_core.specs.Vector.{AreSums}
 
 -- each term is at least m
@@ -106,6 +106,10 @@ pow32 (suc n) =
     let here : 32 ^ n ≡ 2 ^ (5 * n) = pow32 n in
     rw (g, f, e, here)
 
+pub pow-pos : (n : ℕ) → 1 ≤ 32 ^ n
+pow-pos zero = omega arith
+pow-pos (suc n) = omega (arith, pow-pos n, pow-suc 32 n)
+
 module _ (ss ks : List ℕ) (f : ℕ → List ℕ) (sums : AreSums ss f ks) where
   -- where no child has more than m elements, the search may start at i / m
   pub start-le : (m i k : ℕ) → All (λ c. length (f c) ≤ m) ks → k < i / m → get_or ss k 0 ≤ i
@@ -127,15 +131,29 @@ module _ (ss ks : List ℕ) (f : ℕ → List ℕ) (sums : AreSums ss f ks) wher
       let all : take (length ks - 1 + 1) ks ≡ ks = take_all (length ks - 1 + 1) ks (omega arith) in
       (omega (arith, size), rw size (rw all at is))
 
-  -- the sum before a child
-  pub sum-before : (c before : ℕ) → c < length ks → (c ≡ 0 → before ≡ 0) → (0 < c → before ≡ get_or ss (c - 1) 0) → before ≡ length (flat_map f (take c ks))
-  sum-before zero before within none some = none refl
-  sum-before (suc c) before within none some =
+  -- the sum before a place
+  pub sum-upto : (c before : ℕ) → c ≤ length ks → (c ≡ 0 → before ≡ 0) → (0 < c → before ≡ get_or ss (c - 1) 0) → before ≡ length (flat_map f (take c ks))
+  sum-upto zero before within none some = none refl
+  sum-upto (suc c) before within none some =
       let e : suc c - 1 ≡ c = omega arith in
       let g : c + 1 ≡ suc c = omega arith in
       let is : get_or ss c 0 ≡ length (flat_map f (take (c + 1) ks)) = sums.each c (omega arith) in
       let was : before ≡ get_or ss (suc c - 1) 0 = some (omega arith) in
       rw e at was ∙ rw g at is
+
+  -- the sum before a child
+  pub sum-before : (c before : ℕ) → c < length ks → (c ≡ 0 → before ≡ 0) → (0 < c → before ≡ get_or ss (c - 1) 0) → before ≡ length (flat_map f (take c ks))
+  sum-before c before within none some = sum-upto c before (omega arith) none some
+
+  -- the sum before the last child
+  pub sum-last : 1 ≤ length ks → get_or (0 ∷ ss) (length ss - 1) 0 ≡ length (flat_map f (take (length ks - 1) ks))
+  sum-last some = sum-before (length ks - 1) (get_or (0 ∷ ss) (length ss - 1) 0) (omega arith) (λ e. one e) (λ lt. more lt)
+    where
+      one : length ks - 1 ≡ 0 → get_or (0 ∷ ss) (length ss - 1) 0 ≡ 0
+      one e = let e' : length ss - 1 ≡ 0 = omega (arith, sums.count) in rw e' refl
+
+      more : 0 < length ks - 1 → get_or (0 ∷ ss) (length ss - 1) 0 ≡ get_or ss (length ks - 1 - 1) 0
+      more lt = let e' : length ss - 1 ≡ suc (length ks - 1 - 1) = omega (arith, sums.count) in rw e' refl
 
   -- where the sum at a child passes i and the sum before it does not, the element at i is in that child
   pub in-child : (c i before : ℕ) → c < length ks → before ≡ length (flat_map f (take c ks)) → before ≤ i → i < get_or ss c 0 → i - before < length (f (get_or ks c 0))
@@ -150,6 +168,81 @@ module _ (ss ks : List ℕ) (f : ℕ → List ℕ) (sums : AreSums ss f ks) wher
   pub before-le : (c i before : ℕ) → ((k : ℕ) → k < c → get_or ss k 0 ≤ i) → (c ≡ 0 → before ≡ 0) → (0 < c → before ≡ get_or ss (c - 1) 0) → before ≤ i
   before-le zero i before passed none some = omega (arith, none refl)
   before-le (suc c) i before passed none some = let e : suc c - 1 ≡ c = omega arith in let was : before ≡ get_or ss (suc c - 1) 0 = some (omega arith) in omega (arith, rw e at was, passed c (omega arith))
+
+-- all of at most m elements have m each where they have as many together
+pub sum_by-full : (f : ℕ → ℕ) (m : ℕ) (xs : List ℕ) → All (λ x. f x ≤ m) xs → sum_by f xs ≡ length xs * m → All (λ x. f x ≡ m) xs
+sum_by-full f m [] most is = All-nil (λ x. f x ≡ m)
+sum_by-full f m (x ∷ xs) most is =
+    let here : f x ≤ m = All-head (λ x. f x ≤ m) x xs most in
+    let later : All (λ x. f x ≤ m) xs = All-tail (λ x. f x ≤ m) x xs most in
+    let rest : sum_by f xs ≤ length xs * m = sum_by-le f m xs later in
+    let cons = sum_by-cons f x xs in
+    let times : length (x ∷ xs) * m ≡ m + length xs * m = omega arith in
+    All-cons (λ x. f x ≡ m) x xs (omega (arith, here, rest, cons, is, times)) (sum_by-full f m xs later (omega (arith, here, rest, cons, is, times)))
+
+pub full-sum_by : (f : ℕ → ℕ) (m : ℕ) (xs : List ℕ) → All (λ x. f x ≡ m) xs → sum_by f xs ≡ length xs * m
+full-sum_by f m [] full = omega arith
+full-sum_by f m (x ∷ xs) full =
+    let here : f x ≡ m = All-head (λ x. f x ≡ m) x xs full in
+    let rest : sum_by f xs ≡ length xs * m = full-sum_by f m xs (All-tail (λ x. f x ≡ m) x xs full) in
+    let times : length (x ∷ xs) * m ≡ m + length xs * m = omega arith in
+    omega (arith, here, rest, sum_by-cons f x xs, times)
+
+-- the children but the last are full where they have as many elements as they can
+pub regular-of : (f : ℕ → List ℕ) (m : ℕ) (ks : List ℕ) → All (λ k. length (f k) ≤ m) ks → length (flat_map f (take (length ks - 1) ks)) ≡ (length ks - 1) * m → All (λ k. length (f k) ≡ m) (take (length ks - 1) ks)
+regular-of f m ks most is =
+    let size : length (take (length ks - 1) ks) ≡ length ks - 1 = length-take-le (length ks - 1) ks (omega arith) in
+    sum_by-full (λ k. length (f k)) m (take (length ks - 1) ks) (All-take (λ k. length (f k) ≤ m) (length ks - 1) ks most) (rw size (sym (length-flat_map f (take (length ks - 1) ks)) ∙ is))
+
+-- children of which all but the last have m elements
+module _ (f : ℕ → List ℕ) (m : ℕ) (ks : List ℕ) where
+  -- the elements before a child
+  pub regular-before : (i : ℕ) → i < length ks → All (λ k. length (f k) ≡ m) (take (length ks - 1) ks) → length (flat_map f (take i ks)) ≡ i * m
+  regular-before i lt full =
+      let front : take i (take (length ks - 1) ks) ≡ take i ks = take-take i (length ks - 1) ks (omega arith) in
+      let full' : All (λ k. length (f k) ≡ m) (take i ks) = rw front at (All-take (λ k. length (f k) ≡ m) i (take (length ks - 1) ks) full) in
+      let size : length (take i ks) ≡ i = length-take-le i ks (omega arith) in
+      length-flat_map f (take i ks) ∙ rw size at (full-sum_by (λ k. length (f k)) m (take i ks) full')
+
+  pub regular-length : 1 ≤ length ks → All (λ k. length (f k) ≡ m) (take (length ks - 1) ks) → length (flat_map f ks) ≡ (length ks - 1) * m + length (f (get_or ks (length ks - 1) 0))
+  regular-length some full =
+      let cut = items-cut f ks (length ks - 1) (omega arith) in
+      let none : drop (length ks - 1 + 1) ks ≡ [] = drop_all (length ks - 1 + 1) ks (omega arith) in
+      let cut' : flat_map f ks ≡ flat_map f (take (length ks - 1) ks) ++ (f (get_or ks (length ks - 1) 0) ++ []) = rw none at cut in
+      rw (cut', append-nil) (omega (arith, length-append (flat_map f (take (length ks - 1) ks)) (f (get_or ks (length ks - 1) 0)), regular-before (length ks - 1) (omega arith) full))
+
+  -- an index's child is the one that it would be in if all were full
+  pub regular-place : (i : ℕ) → 1 ≤ m → All (λ k. length (f k) ≤ m) ks → i < length (flat_map f ks) → i / m < length ks
+  regular-place i some most inside =
+      let past : length ks ≤ i / m → ⊥ = λ le.
+      let all : sum_by (λ k. length (f k)) ks ≤ length ks * m = sum_by-le (λ k. length (f k)) m ks most in
+      let times : length ks * m ≤ i / m * m = mul-le-mul_right m le in
+      omega (arith, all, times, inside, length-flat_map f ks, div-add-mod' i m) in
+      first_of (grind (arith, past), omega (arith, past))
+
+  pub regular-within : (i : ℕ) → 1 ≤ m → All (λ k. length (f k) ≡ m) (take (length ks - 1) ks) → i < length (flat_map f ks) → i / m < length ks → i - i / m * m < length (f (get_or ks (i / m) 0))
+  regular-within i some full inside place = elim (cases (i / m) (length ks - 1)) [ inl lt ↦ early lt | inr ge ↦ last (omega arith) ]
+    where
+      cases : (i n : ℕ) → (i < n) ⊎ (n ≤ i)
+      cases i n = grind arith
+
+      early : i / m < length ks - 1 → i - i / m * m < length (f (get_or ks (i / m) 0))
+      early lt =
+          let at : get_or (take (length ks - 1) ks) (i / m) 0 ≡ get_or ks (i / m) 0 = get_or-take (length ks - 1) ks (i / m) 0 lt in
+          let here : length (f (get_or (take (length ks - 1) ks) (i / m) 0)) ≡ m = full (i / m) 0 (omega (arith, length-take-le (length ks - 1) ks (omega arith))) in
+          let here' : length (f (get_or ks (i / m) 0)) ≡ m = rw at at here in
+          let low : i % m < m = mod-lt i (omega arith) in omega (arith, here', div-add-mod' i m, low)
+
+      last : i / m ≡ length ks - 1 → i - i / m * m < length (f (get_or ks (i / m) 0))
+      last e =
+          let all = regular-length (omega arith) full in
+          let low : i / m * m ≤ i = omega (arith, div-add-mod' i m) in
+          let low' : (length ks - 1) * m ≤ i = rw e at low in
+          rw e (omega (arith, all, inside, low'))
+
+pub empty-list : {X : Type 0} (xs : List X) → length xs ≡ 0 → xs ≡ []
+empty-list [] none = refl
+empty-list (x ∷ xs) none = absurd (omega (arith, none))
 
 -- one more link of a part of a list
 pub part-push : (L xs all : List ℕ) (from p child : ℕ) → from ≤ p → p < length L → child ≡ get_or L p 0 → all ≡ xs ++ take (p - from) (drop from L) → all ++ child ∷ [] ≡ xs ++ take (p + 1 - from) (drop from L)
@@ -212,3 +305,75 @@ sums-push f ks ss i child total size lt is count sum here each =
       where
         cases : (i n : ℕ) → (i < n) ⊎ (n ≤ i)
         cases i n = grind arith
+
+-- the first of the elements from an index on is the one at the index
+pub front-first : (leaf all : List ℕ) (index x : ℕ) → leaf ≡ take (length leaf) (drop index all) → 1 ≤ length leaf → x ≡ get_or leaf 0 x → x ≡ get_or all index x
+front-first leaf all index x front some is =
+    let whole : index + 0 ≡ index = omega arith in
+    let at : get_or (drop index all) 0 x ≡ get_or all index x = rw whole at (get_or-drop index all 0 x) in
+    is ∙ ap (λ (xs : List ℕ). get_or xs 0 x) front ∙ get_or-take (length leaf) (drop index all) 0 x some ∙ at
+
+-- what holds of all but the last holds of all but the last of the later ones
+pub front-drop : (P : ℕ → Type 0) (i : ℕ) (ks : List ℕ) → All P (take (length ks - 1) ks) → All P (take (length (drop i ks) - 1) (drop i ks))
+front-drop P i ks all = λ k d b. back k d (omega (arith, length-take-le (length (drop i ks) - 1) (drop i ks) (omega arith), length-drop i ks))
+  where
+    back : (k d : ℕ) → k + 1 + i < length ks → P (get_or (take (length (drop i ks) - 1) (drop i ks)) k d)
+    back k d lt =
+        let at : get_or (take (length (drop i ks) - 1) (drop i ks)) k d ≡ get_or ks (i + k) d = get_or-take (length (drop i ks) - 1) (drop i ks) k d (omega (arith, length-drop i ks)) ∙ get_or-drop i ks k d in
+        let was : P (get_or (take (length ks - 1) ks) (i + k) d) = all (i + k) d (omega (arith, length-take-le (length ks - 1) ks (omega arith))) in
+        rw (at, ← get_or-take (length ks - 1) ks (i + k) d (omega arith)) was
+
+-- what holds of one list and of all but the last of another holds of all but the last of both
+pub front-join : (P : ℕ → Type 0) (ks js : List ℕ) → 1 ≤ length js → All P ks → All P (take (length js - 1) js) → All P (take (length (ks ++ js) - 1) (ks ++ js))
+front-join P ks js some front back =
+    let size : length (ks ++ js) - 1 ≡ length ks + (length js - 1) = omega (arith, length-append ks js) in
+    rw (size, take-past ks js (length js - 1)) (All-append P ks (take (length js - 1) js) front back)
+
+-- a front has no more elements than all
+pub take-short : (f : ℕ → List ℕ) (ks : List ℕ) (i : ℕ) → length (flat_map f (take i ks)) ≤ length (flat_map f ks)
+take-short f ks i =
+    let parts : flat_map f (take i ks ++ drop i ks) ≡ flat_map f (take i ks) ++ flat_map f (drop i ks) = flat_map-append f (take i ks) (drop i ks) in
+    let parts' : flat_map f ks ≡ flat_map f (take i ks) ++ flat_map f (drop i ks) = rw (take-append-drop i ks) at parts in
+    omega (arith, ap length parts', length-append (flat_map f (take i ks)) (flat_map f (drop i ks)))
+
+-- one more number of a list that is known at each place
+pub each-push : (value : ℕ → ℕ) (ss : List ℕ) (i x : ℕ) → length ss ≡ i → ((k : ℕ) → k < i → get_or ss k 0 ≡ value k) → x ≡ value i → (k : ℕ) → k < i + 1 → get_or (ss ++ x ∷ []) k 0 ≡ value k
+each-push value ss i x count each is k b = elim (cases k i) [ inl lt ↦ early lt | inr ge ↦ last (omega arith) ]
+  where
+    cases : (i n : ℕ) → (i < n) ⊎ (n ≤ i)
+    cases i n = grind arith
+
+    early : k < i → get_or (ss ++ x ∷ []) k 0 ≡ value k
+    early lt = get_or_append_left ss (x ∷ []) 0 k (omega (arith, count)) ∙ each k lt
+
+    last : k ≡ i → get_or (ss ++ x ∷ []) k 0 ≡ value k
+    last e = get_or_at ss x [] 0 k (count ∙ sym e) ∙ is ∙ ap value (sym e)
+
+-- running sums of a list with one row in the place of some, from those of the whole
+module _ (f : ℕ → List ℕ) (ks ss : List ℕ) (sums : AreSums ss f ks) (keep child skip : ℕ) (le : keep ≤ length ks) where
+  abbrev Placed : List ℕ
+  Placed = (take keep ks ++ child ∷ []) ++ drop skip ks
+
+  front-size : length (take keep ks ++ child ∷ []) ≡ keep + 1
+  front-size = omega (arith, length-append (take keep ks) (child ∷ []), length-take-le keep ks le)
+
+  -- the first sums stay
+  pub placed-first : (k : ℕ) → k < keep → get_or (take keep ss) k 0 ≡ length (flat_map f (take (k + 1) Placed))
+  placed-first k lt =
+      let front : take (k + 1) ((take keep ks ++ child ∷ []) ++ drop skip ks) ≡ take (k + 1) (take keep ks ++ child ∷ []) = take-append-le (k + 1) (take keep ks ++ child ∷ []) (drop skip ks) (omega (arith, front-size)) in
+      let front' : take (k + 1) (take keep ks ++ child ∷ []) ≡ take (k + 1) (take keep ks) = take-append-le (k + 1) (take keep ks) (child ∷ []) (omega (arith, length-take-le keep ks le)) in
+      let front'' : take (k + 1) (take keep ks) ≡ take (k + 1) ks = take-take (k + 1) keep ks (omega arith) in
+      get_or-take keep ss k 0 lt ∙ sums.each k (omega (arith, lt, le)) ∙ ap (λ (xs : List ℕ). length (flat_map f xs)) (sym (front ∙ front' ∙ front''))
+
+  -- the sum at the child and later, j places behind it
+  pub placed-later : (j before gone : ℕ) → before ≡ length (flat_map f (take keep ks)) → gone ≡ length (flat_map f (take skip ks)) → skip + j ≤ length ks
+      → length (flat_map f (take (keep + 1 + j) Placed)) + gone ≡ before + length (f child) + length (flat_map f (take (skip + j) ks))
+  placed-later j before gone is was le' =
+      let size : keep + 1 + j ≡ length (take keep ks ++ child ∷ []) + j = omega (arith, front-size) in
+      let past : take (keep + 1 + j) Placed ≡ (take keep ks ++ child ∷ []) ++ take j (drop skip ks) = rw size (take-past (take keep ks ++ child ∷ []) (drop skip ks) j) in
+      let size' : skip + j ≡ length (take skip ks) + j = omega (arith, length-take-le skip ks (omega arith)) in
+      let past' : take (length (take skip ks) + j) (take skip ks ++ drop skip ks) ≡ take skip ks ++ take j (drop skip ks) = take-past (take skip ks) (drop skip ks) j in
+      let past'' : take (skip + j) ks ≡ take skip ks ++ take j (drop skip ks) = rw (take-append-drop skip ks, ← size') at past' in
+      let items = ap length (items-around f (take keep ks) (take j (drop skip ks)) child) in
+      let items' = ap length (flat_map-append f (take skip ks) (take j (drop skip ks))) in
+      rw (past, past'') (omega (arith, items, items', is, was, length-append (flat_map f (take keep ks)) (f child ++ flat_map f (take j (drop skip ks))), length-append (f child) (flat_map f (take j (drop skip ks))), length-append (flat_map f (take skip ks)) (flat_map f (take j (drop skip ks)))))

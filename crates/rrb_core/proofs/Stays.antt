@@ -1,6 +1,6 @@
 -- Vectors stay for any set of rows that is closed under links and kept.
 use Rattle.std.proofs.Common.{◌≡◌, ℕ, suc, zero, ◌-◌, ◌+◌, List, length, take, get_or, refl, ap, sym, ◌∙◌, Option, Some, None, IsSome}
-use Rattle.std.specs.Prelude.{option_map}
+use Rattle.std.specs.Prelude.{option_map, ◌↔◌}
 use Rattle.std.specs.List.{All, flat_map}
 use Rattle.std.proofs.lemmas.List.Elements.{All-take}
 use Rattle.node_heap.specs.Links.{Reaches, here, below as step}
@@ -9,7 +9,8 @@ use Rattle.node_heap.specs.Heap.{Heap, row_at, form_at, links_at, IsGraph}
 use Rattle.node_heap.specs.Calls.{KeepsBelow, Extends}
 use Rattle.node_heap.proofs.Reach.{Reaches-trans}
 use Rattle.rrb_core.specs.Seq.{seq_at, IsThick, IsWell}
-use Rattle.rrb_core.specs.Vector.{HasSums, Stays, height_at, elements, IsGoodVector, VectorsStay}
+use Rattle.rrb_core.specs.Vector.{IsRegular, KeepsSums, HasSums, sums_at, height_at, elements, IsGoodVector, IsSameVector, VectorsStay}
+use Rattle.rrb_core.proofs.ClosedRows.{Stays}
 use Rattle.rrb_core.specs.Build.{IsRowOf, AreRows}
 use Rattle.rrb_core.proofs.LinkCounts.{all-counted}
 use Rattle.rrb_core.proofs.Lists.{flat_map-same, All-flat_map}
@@ -41,7 +42,7 @@ module _ {T : Type 0} {P : ℕ → Type 0} {old new : Heap T} (s : Stays P old n
   pub links-stay : (l : ℕ) → P l → links_at new l ≡ links_at old l
   links-stay l p = ap links_of (s.kept l p)
 
-  forms-stay : (l : ℕ) → P l → links_in (form_at new) l ≡ links_in (form_at old) l
+  pub forms-stay : (l : ℕ) → P l → links_in (form_at new) l ≡ links_in (form_at old) l
   forms-stay l p = ap links_of (form-stays l p)
 
   below : (l : ℕ) → P l → All P (links_in (form_at old) l)
@@ -78,12 +79,28 @@ module _ {T : Type 0} {P : ℕ → Type 0} {old new : Heap T} (s : Stays P old n
         not_empty = rw e (λ k d b. rw (forms-stay (get_or (links_in (form_at old) l) k d) (named k d b)) (w.not_empty k d b));
       }
 
+  -- full children stay full
+  pub regular-stays : (n : ℕ) (ks : List ℕ) → All P ks → IsRegular (form_at old) n ks ↔ IsRegular (form_at new) n ks
+  regular-stays n ks named =
+      let front : All P (take (length ks - 1) ks) = All-take P (length ks - 1) ks named in (
+        λ r k d b. rw (seq-stays n (get_or (take (length ks - 1) ks) k d) (front k d b)) (r k d b),
+        λ r k d b. rw (← seq-stays n (get_or (take (length ks - 1) ks) k d) (front k d b)) (r k d b),
+      )
+
+  pub keeps-stay : (n : ℕ) (ks ss : List ℕ) → All P ks → KeepsSums (form_at old) n ks ss → KeepsSums (form_at new) n ks ss
+  keeps-stay n ks ss named s =
+      let same = regular-stays n ks named in
+      record {
+        none = (λ e. same.0 (s.none.0 e), λ r. s.none.1 (same.1 r));
+        kept = λ no. let a = s.kept (λ r. no (same.0 r)) in record { count = a.count; each = λ i b. a.each i b ∙ ap length (sym (items-stay n (take (i + 1) ks) (All-take P (i + 1) ks named))) };
+      }
+
   pub sums-stay : (n l : ℕ) → P l → HasSums old n l → HasSums new n l
   unfolding HasSums
   sums-stay zero l p h = tt
   sums-stay (suc n) l p h =
       let e : row_at new l ≡ row_at old l = s.kept l p in (
-        rw e (record { count = h.0.count; each = λ i b. h.0.each i b ∙ ap length (sym (items-stay n (take (i + 1) (links_at old l)) (All-take P (i + 1) (links_at old l) (s.closed l p)))) }),
+        rw e (keeps-stay n (links_at old l) (sums_at old l) (s.closed l p) h.0),
         rw e (λ k d b. sums-stay n (get_or (links_at old l) k d) (s.closed l p k d b) (h.1 k d b)),
       )
 
@@ -142,6 +159,9 @@ below-stays {T} {old} l kept =
 pub vector-stays : (T : Type 0) → VectorsStay T
 vector-stays T old new l kept good = good-stays (below-stays l kept) l (here l) good
 
--- a vector stays where rows are only added
+-- every vector stays where rows are only added
+pub extended-same : {T : Type 0} {old new : Heap T} → Extends old new → (l : ℕ) → IsSameVector old new l
+extended-same {T} {old} {new} ext l good = vector-stays T old new l (ext.kept l (well-live old (height_at old l) l good.shape.well)) good
+
 pub extended-good : {T : Type 0} {old new : Heap T} (l : ℕ) → Extends old new → IsGoodVector old l → IsGoodVector new l
-extended-good {T} {old} {new} l ext good = (vector-stays T old new l (ext.kept l (well-live old (height_at old l) l good.shape.well)) good).0
+extended-good l ext good = (extended-same ext l good).0

@@ -1,3 +1,5 @@
 pub mod Seq
+pub mod Push
 pub mod Vector
 pub mod Build
+pub mod Edit

@@ -25,7 +25,7 @@ module _ {K : Type 0} where
   -- the links of the elements below a row of this height, in order
   unfoldable pub seq_at : Forms K → ℕ → ℕ → List ℕ
   seq_at F zero l = links_in F l
-  seq_at F (suc h) l = flat_map (seq_at F h) (links_in F l)
+  seq_at F (suc n) l = flat_map (seq_at F n) (links_in F l)
 
   -- the links of the elements of the vector with this root, in order
   abbrev pub seq : Forms K → ℕ → List ℕ
@@ -34,7 +34,7 @@ module _ {K : Type 0} where
   -- a row of this height with at least 16 links, whose children are all thick too
   unfoldable pub IsThick : Forms K → ℕ → ℕ → Type 0
   IsThick F zero l = 16 ≤ length (links_in F l)
-  IsThick F (suc h) l = (16 ≤ length (links_in F l)) × All (IsThick F h) (links_in F l)
+  IsThick F (suc n) l = (16 ≤ length (links_in F l)) × All (IsThick F n) (links_in F l)
 
   -- a leaf of at most 32 elements
   pub record IsWellLeaf (F : Forms K) (l : ℕ) : Type 0 where
@@ -42,8 +42,8 @@ module _ {K : Type 0} where
     pub most : length (links_in F l) ≤ 32
 
   -- an inner row over 1 to 32 children: all are well formed, all but the last are thick, and none is empty
-  pub record IsWellInner (F : Forms K) (h l : ℕ) (IsWellChild IsThickChild : ℕ → Type 0) : Type 0 where
-    pub kind : F l ≡ Some (node (inner (suc h)) (links_in F l))
+  pub record IsWellInner (F : Forms K) (n l : ℕ) (IsWellChild IsThickChild : ℕ → Type 0) : Type 0 where
+    pub kind : F l ≡ Some (node (inner (suc n)) (links_in F l))
     pub some : 1 ≤ length (links_in F l)
     pub most : length (links_in F l) ≤ 32
     pub children : All IsWellChild (links_in F l)
@@ -53,7 +53,7 @@ module _ {K : Type 0} where
   -- a row of this height that keeps the fill rule
   unfoldable pub IsWell : Forms K → ℕ → ℕ → Type 0
   IsWell F zero l = IsWellLeaf F l
-  IsWell F (suc h) l = IsWellInner F h l (IsWell F h) (IsThick F h)
+  IsWell F (suc n) l = IsWellInner F n l (IsWell F n) (IsThick F n)
 
   -- the root of a vector that keeps the fill rule: an inner root has two links or more
   pub record IsWellShaped (F : Forms K) (l : ℕ) : Type 0 where

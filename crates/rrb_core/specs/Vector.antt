@@ -1,7 +1,7 @@
 -- Vectors in a heap: the fill rule with the sums of inner rows.
-use Rattle.std.specs.Prelude.{◌≡◌, ℕ, zero, suc, ◌+◌, ◌<◌, List, [], length, take, Option, Some, None, slice_index}
+use Rattle.std.specs.Prelude.{◌≡◌, ◌↔◌, ℕ, zero, suc, ◌+◌, ◌-◌, ◌^◌, ◌<◌, List, [], length, take, Option, Some, None, slice_index}
 use Rattle.std.specs.List.{All, flat_map}
-use Rattle.node_heap.specs.Forms.{Row, cell, node, sums_of}
+use Rattle.node_heap.specs.Forms.{Forms, Row, cell, node, sums_of}
 use Rattle.node_heap.specs.Heap.{Heap, row_at, form_at, links_at}
 use Rattle.node_heap.specs.Calls.{KeepsBelow}
 use Rattle.rrb_core.specs.Seq.{height_in, seq_at, seq, IsWellShaped}
@@ -10,6 +10,16 @@ use Rattle.rrb_core.specs.Seq.{height_in, seq_at, seq, IsWellShaped}
 pub record AreSums (sums : List ℕ) (items : ℕ → List ℕ) (children : List ℕ) : Type 0 where
   pub count : length sums ≡ length children
   pub each : (i : ℕ) → i < length children → slice_index sums i ≡ length (flat_map items (take (i + 1) children))
+
+module _ {K : Type 0} (F : Forms K) (n : ℕ) (children : List ℕ) where
+  -- all of these rows of height n but the last are full: each has 32 ^ (n + 1) elements
+  abbrev pub IsRegular : Type 0
+  IsRegular = All (λ k. length (seq_at F n k) ≡ 32 ^ suc n) (take (length children - 1) children)
+
+  -- what the row over these rows of height n keeps: no sums exactly where they are regular, and else their running sums
+  pub record KeepsSums (sums : List ℕ) : Type 0 where
+    pub none : (sums ≡ []) ↔ IsRegular
+    pub kept : (¬ IsRegular) → AreSums sums (seq_at F n) children
 
 module _ {T : Type 0} where
   abbrev pub row_sums : Option (Row T) → List ℕ
@@ -21,10 +31,10 @@ module _ {T : Type 0} where
   abbrev pub sums_at : Heap T → ℕ → List ℕ
   sums_at h l = row_sums (row_at h l)
 
-  -- a row of this height and every inner row below it keep the running sums of their children's lengths
+  -- a row of this height and every inner row below it keep the sums that they must, or none where they are regular
   unfoldable pub HasSums : Heap T → ℕ → ℕ → Type 0
   HasSums h zero l = Unit {0}
-  HasSums h (suc n) l = AreSums (sums_at h l) (seq_at (form_at h) n) (links_at h l) × All (HasSums h n) (links_at h l)
+  HasSums h (suc n) l = KeepsSums (form_at h) n (links_at h l) (sums_at h l) × All (HasSums h n) (links_at h l)
 
   -- the height of the row that a link names
   abbrev pub height_at : Heap T → ℕ → ℕ
@@ -34,19 +44,18 @@ module _ {T : Type 0} where
   abbrev pub elements : Heap T → ℕ → List ℕ
   elements h l = seq (form_at h) l
 
-  -- these links are closed under links, and name the same rows in both heaps
-  pub record Stays (P : ℕ → Type 0) (old new : Heap T) : Type 0 where
-    pub closed : (l : ℕ) → P l → All P (links_at old l)
-    pub kept : (l : ℕ) → P l → row_at new l ≡ row_at old l
-
   -- the root of a vector: it keeps the fill rule, and its inner rows keep their sums
   pub record IsGoodVector (h : Heap T) (l : ℕ) : Type 0 where
     pub shape : IsWellShaped (form_at h) l
     pub sums : HasSums h (height_at h l) l
 
+  -- the root of a vector with these elements
+  abbrev pub IsVectorOf : Heap T → ℕ → List ℕ → Type 0
+  IsVectorOf h l xs = IsGoodVector h l × (elements h l ≡ xs)
+
   -- a vector of the old heap is one of the new, with the same elements
   abbrev pub IsSameVector : Heap T → Heap T → ℕ → Type 0
-  IsSameVector old new l = IsGoodVector old l → IsGoodVector new l × (elements new l ≡ elements old l)
+  IsSameVector old new l = IsGoodVector old l → IsVectorOf new l (elements old l)
 
 -- a vector stays wherever all that its root reaches is the same
 abbrev pub VectorsStay : Type 0 → Type 0

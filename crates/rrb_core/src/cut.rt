@@ -1,10 +1,11 @@
 //! The first elements of a vector.
-ghost use Rattle.std.specs.Prelude.{◌≡◌, ℕ, suc, ◌+◌, ◌-◌, ◌*◌, ◌^◌, ◌<◌, ◌≤◌, [], ◌∷◌, length, take, slice_index, IfOk, OnErr, IsOk};
+ghost use Rattle.std.specs.Prelude.{◌≡◌, ℕ, suc, ◌+◌, ◌-◌, ◌^◌, ◌<◌, ◌≤◌, [], ◌∷◌, length, take, slice_index, IfOk, OnErr, IsOk, IsOkAnd};
 ghost use Rattle.node_heap.specs.Heap.{form_at, links_at, hold_count, IsGraph, HasSpares};
-ghost use Rattle.node_heap.specs.Calls.{Answered, Unchanged};
+ghost use Rattle.node_heap.specs.Calls.{Answered, Builds, MakesJust, Unchanged};
 ghost use Rattle.rrb_core.specs.Seq.{seq_at, IsWell};
-ghost use Rattle.rrb_core.specs.Vector.{HasSums, elements, IsGoodVector};
-ghost use Rattle.rrb_core.specs.Build.{IsRowOf, Builds};
+ghost use Rattle.rrb_core.specs.Vector.{HasSums, elements, height_at, IsGoodVector, IsSameVector, IsVectorOf};
+ghost use Rattle.rrb_core.specs.Build.{Shares};
+ghost use Rattle.rrb_core.specs.Edit.{CanEdit, CanEditRoot, Takes};
 
 use crate::flex::{Flex, FlexRef, empty_root};
 use crate::rows::{gathered, height_of, inner_with, leaf_over, size};
@@ -12,61 +13,44 @@ use crate::search::spot_of;
 use elem_core::NoMemory;
 use node_heap::{Heap, Link};
 
-// The most nodes that a take makes: one for each height.
-const TAKE_NODES: usize = 8;
+/// The most nodes that a `take` makes: one for each height.
+pub const TAKE_NODES: usize = 8;
 
-/// The vector of the first `count` elements, or all where there are no more. It makes rows along the cut alone, at most 8
-/// nodes, and shares the others; with all elements it shares the root. Refused only where memory runs out, and then
-/// nothing but the heap's spares changes.
+/// The vector of the first `count` elements, or all where there are no more. It makes rows along the cut alone, at most as
+/// many as the height and 1, so 8, and shares the others; with all elements it is the vector itself, held once more, and
+/// wants no memory. Else refused only where memory runs out, and then nothing but the heap's spares changes.
 pub fn take<T>(heap: &mut Heap<T>, vector: FlexRef, count: u32) -> Result<Flex, NoMemory>
     requires good { IsGoodVector heap.old vector }
     requires few { hold_count heap.old < 2 ^ 59 }
     ensures items { IfOk result (λ v. elements heap.new v ≡ take count (elements heap.old vector)) }
     ensures good { IfOk result (λ v. IsGoodVector heap.new v) }
-    ensures answered { IfOk result (λ v. Answered heap.old heap.new [] v 0 8) }
-    ensures whole { length (elements heap.old vector) ≤ count → IfOk result (λ v. v ≡ vector) }
+    ensures low { IfOk result (λ v. height_at heap.new v ≤ height_at heap.old vector) }
+    ensures answered { IfOk result (λ v. Answered heap.old heap.new [] v 0 (height_at heap.old vector + 1)) }
+    ensures made { IfOk result (λ _. MakesJust heap.old heap.new) }
+    ensures whole { length (elements heap.old vector) ≤ count → IsOkAnd result (λ v. (v ≡ vector) × Shares heap.old heap.new v) }
+    ensures vectors { (l : ℕ) → IsSameVector heap.old heap.new l }
     ensures refused { OnErr result (Unchanged heap.old heap.new) }
     ensures ample { HasSpares heap.old 0 8 → IsOk result }
 {
     if count >= vector.len(heap) {
-        let root = take_whole(heap, vector.root());
-        return Ok(Flex::from_root(root));
+        return Ok(vector.share(heap));
     }
     heap.reserve(0, TAKE_NODES)?;
-    if count == 0 {
-        let root = empty_root(heap);
-        return Ok(Flex::from_root(root));
-    }
-    let root = cut_root(heap, vector.root(), count);
+    let root = front_root(heap, vector.root(), count);
     Ok(Flex::from_root(root))
 }
 
-// The same root with one hold more.
-fn take_whole<T>(heap: &mut Heap<T>, root: Link) -> Link
-    requires graph { IsGraph heap.old }
-    requires good { IsGoodVector heap.old root }
-    requires holds { hold_count heap.old < 2 ^ 59 }
-    ensures same { result ≡ root }
-    ensures items { elements heap.new result ≡ elements heap.old root }
-    ensures good { IsGoodVector heap.new result }
-    ensures builds { Builds heap.old heap.new [] (result ∷ []) 0 }
-{
-    heap.hold(root);
-    root
-}
-
 // The root of the vector of the first `count` elements: the lowest row along the left edge that has them, cut.
-fn cut_root<T>(heap: &mut Heap<T>, root: Link, count: u32) -> Link
-    requires graph { IsGraph heap.old }
-    requires good { IsGoodVector heap.old root }
-    requires some { 1 ≤ count }
+fn front_root<T>(heap: &mut Heap<T>, root: Link, count: u32) -> Link
+    requires root { CanEditRoot heap.old root 8 }
     requires inside { count ≤ length (elements heap.old root) }
-    requires spare { 8 ≤ heap.old.spare_nodes }
-    requires holds { hold_count heap.old < 2 ^ 59 }
-    ensures items { elements heap.new result ≡ take count (elements heap.old root) }
-    ensures good { IsGoodVector heap.new result }
-    ensures builds { Builds heap.old heap.new [] (result ∷ []) 8 }
+    ensures vector { IsVectorOf heap.new result (take count (elements heap.old root)) }
+    ensures low { height_at heap.new result ≤ height_at heap.old root }
+    ensures builds { Builds heap.old heap.new [] (result ∷ []) 0 (height_at heap.old root + 1) }
 {
+    if count == 0 {
+        return empty_root(heap);
+    }
     let lowest = lowest_with(heap, root, count);
     take_below(heap, lowest.link, lowest.height, count)
 }
@@ -84,7 +68,7 @@ fn lowest_with<T>(heap: &Heap<T>, root: Link, count: u32) -> Placed
     requires inside { count ≤ length (elements heap.now root) }
     ensures well { IsWell (form_at heap.now) result.height result.link }
     ensures sums { HasSums heap.now result.height result.link }
-    ensures low { result.height ≤ 7 }
+    ensures low { result.height ≤ height_at heap.now root }
     ensures inside { count ≤ length (seq_at (form_at heap.now) result.height result.link) }
     ensures short { length (seq_at (form_at heap.now) result.height result.link) < 2 ^ 32 }
     ensures same { take count (seq_at (form_at heap.now) result.height result.link) ≡ take count (elements heap.now root) }
@@ -106,18 +90,10 @@ fn lowest_with<T>(heap: &Heap<T>, root: Link, count: u32) -> Placed
 // The row with its first `count` elements.
 #[cycle(take)]
 fn take_below<T>(heap: &mut Heap<T>, link: Link, height: u8, count: u32) -> Link
-    requires graph { IsGraph heap.old }
-    requires well { IsWell (form_at heap.old) height link }
-    requires sums { HasSums heap.old height link }
-    requires low { height ≤ 7 }
+    requires row { CanEdit heap.old height link }
     requires some { 1 ≤ count }
     requires inside { count ≤ length (seq_at (form_at heap.old) height link) }
-    requires short { length (seq_at (form_at heap.old) height link) < 2 ^ 32 }
-    requires spare { height + 1 ≤ heap.old.spare_nodes }
-    requires holds { hold_count heap.old + 64 * (height + 1) ≤ 2 ^ 60 }
-    ensures row { IsRowOf heap.new height result (take count (seq_at (form_at heap.old) height link)) }
-    ensures two { 1 ≤ height → length (seq_at (form_at heap.old) (height - 1) (slice_index (links_at heap.old link) 0)) < count → 2 ≤ length (links_at heap.new result) }
-    ensures builds { Builds heap.old heap.new [] (result ∷ []) (height + 1) }
+    ensures { Takes heap.old heap.new height link count result }
 {
     if height == 0 {
         return take_leaf(heap, link, count as usize);
@@ -128,18 +104,10 @@ fn take_below<T>(heap: &mut Heap<T>, link: Link, height: u8, count: u32) -> Link
 // The same for an inner row, whose children have the height `below`.
 #[cycle(take)]
 fn take_inner<T>(heap: &mut Heap<T>, link: Link, below: u8, count: u32) -> Link
-    requires graph { IsGraph heap.old }
-    requires well { IsWell (form_at heap.old) (suc below) link }
-    requires sums { HasSums heap.old (suc below) link }
-    requires low { below < 7 }
+    requires row { CanEdit heap.old (suc below) link }
     requires some { 1 ≤ count }
     requires inside { count ≤ length (seq_at (form_at heap.old) (suc below) link) }
-    requires short { length (seq_at (form_at heap.old) (suc below) link) < 2 ^ 32 }
-    requires spare { below + 2 ≤ heap.old.spare_nodes }
-    requires holds { hold_count heap.old + 64 * (below + 2) ≤ 2 ^ 60 }
-    ensures row { IsRowOf heap.new (suc below) result (take count (seq_at (form_at heap.old) (suc below) link)) }
-    ensures two { length (seq_at (form_at heap.old) below (slice_index (links_at heap.old link) 0)) < count → 2 ≤ length (links_at heap.new result) }
-    ensures builds { Builds heap.old heap.new [] (result ∷ []) (below + 2) }
+    ensures { Takes heap.old heap.new (suc below) link count result }
 {
     let end = heap.links(link).len();
     let found = spot_of(heap, link, below, count - 1);
@@ -150,13 +118,9 @@ fn take_inner<T>(heap: &mut Heap<T>, link: Link, below: u8, count: u32) -> Link
 
 // The leaf with its first `count` elements.
 fn take_leaf<T>(heap: &mut Heap<T>, link: Link, count: usize) -> Link
-    requires graph { IsGraph heap.old }
-    requires well { IsWell (form_at heap.old) 0 link }
+    requires row { CanEdit heap.old 0 link }
     requires inside { count ≤ length (seq_at (form_at heap.old) 0 link) }
-    requires spare { 1 ≤ heap.old.spare_nodes }
-    requires holds { hold_count heap.old + 64 ≤ 2 ^ 60 }
-    ensures row { IsRowOf heap.new 0 result (take count (seq_at (form_at heap.old) 0 link)) }
-    ensures builds { Builds heap.old heap.new [] (result ∷ []) 1 }
+    ensures { Takes heap.old heap.new 0 link count result }
 {
     let end = heap.links(link).len();
     let elements = gathered(heap, link, count, &[], link, end);

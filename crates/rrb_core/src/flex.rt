@@ -1,14 +1,13 @@
 //! Vectors by their roots, and their look-ups.
-ghost use Rattle.std.specs.Prelude.{◌≡◌, ℕ, suc, ◌+◌, ◌*◌, ◌^◌, ◌<◌, ◌≤◌, [], ◌∷◌, length, IfOk, IsOk, OnErr, IfSome, IsSome};
+ghost use Rattle.std.specs.Prelude.{◌≡◌, ℕ, ◌+◌, ◌^◌, ◌<◌, ◌≤◌, [], ◌∷◌, length, IfOk, IsOk, OnErr, IfSome, IsSome};
 ghost use Rattle.std.specs.List.{All, slice_get};
 ghost use Rattle.node_heap.specs.Heap.{row_at, holds_at, hold_count, one_at, IsGraph, HasSpares};
-ghost use Rattle.node_heap.specs.Calls.{Answered, Extends, KeepsHeld, Makes, Releases, SameRows, Unchanged};
-ghost use Rattle.rrb_core.specs.Vector.{elements, height_at, IsGoodVector, IsSameVector};
-ghost use Rattle.rrb_core.specs.Build.{Builds};
+ghost use Rattle.node_heap.specs.Calls.{Answered, Builds, KeepsHeld, MakesJust, Releases, Unchanged};
+ghost use Rattle.rrb_core.specs.Vector.{elements, height_at, IsGoodVector, IsSameVector, IsVectorOf};
+ghost use Rattle.rrb_core.specs.Build.{Shares};
 
-use crate::lines::Lines;
 use crate::rows::{height_of, leaf_over, size};
-use crate::search::spot_of;
+use crate::search::leaf_from;
 use elem_core::NoMemory;
 use node_heap::{Heap, Link};
 use std::marker::Model;
@@ -43,13 +42,15 @@ impl Model for FlexRef {
 }
 
 impl Flex {
-    /// The empty vector. It makes one node. Refused only where memory runs out, and then nothing but the heap's spares
-    /// changes.
+    /// The empty vector. It makes at most one node. Refused only where memory runs out, and then nothing but the heap's
+    /// spares changes.
     pub fn empty<T>(heap: &mut Heap<T>) -> Result<Flex, NoMemory>
         requires { hold_count heap.old < 2 ^ 59 }
         ensures items { IfOk result (λ v. elements heap.new v ≡ []) }
         ensures good { IfOk result (λ v. IsGoodVector heap.new v) }
         ensures answered { IfOk result (λ v. Answered heap.old heap.new [] v 0 1) }
+        ensures made { IfOk result (λ _. MakesJust heap.old heap.new) }
+        ensures vectors { (l : ℕ) → IsSameVector heap.old heap.new l }
         ensures refused { OnErr result (Unchanged heap.old heap.new) }
         ensures ample { HasSpares heap.old 0 1 → IsOk result }
     {
@@ -63,17 +64,12 @@ impl Flex {
         requires good { IsGoodVector heap.old self.now }
         requires few { hold_count heap.old < 2 ^ 59 }
         ensures same { result ≡ self.now }
-        ensures rows { SameRows heap.old heap.new }
-        ensures holds { (k : ℕ) → holds_at heap.new k ≡ holds_at heap.old k + one_at result k }
-        ensures count { hold_count heap.new ≡ hold_count heap.old + 1 }
-        ensures makes { Makes heap.old heap.new 0 0 }
-        ensures graph { IsGraph heap.new }
-        ensures extends { Extends heap.old heap.new }
+        ensures shares { Shares heap.old heap.new result }
         ensures good { IsGoodVector heap.new result }
         ensures items { elements heap.new result ≡ elements heap.old self.now }
+        ensures vectors { (l : ℕ) → IsSameVector heap.old heap.new l }
     {
-        heap.hold(self.root);
-        Flex { root: self.root }
+        self.view().share(heap)
     }
 
     /// Gives the vector up: rows that nothing else keeps are freed.
@@ -126,6 +122,18 @@ impl FlexRef {
         self.root
     }
 
+    /// The same vector with a hold of its own: one more hold of its root.
+    pub fn share<T>(&self, heap: &mut Heap<T>) -> Flex
+        requires good { IsGoodVector heap.old self.now }
+        requires few { hold_count heap.old < 2 ^ 59 }
+        ensures same { result ≡ self.now }
+        ensures shares { Shares heap.old heap.new result }
+        ensures vectors { (l : ℕ) → IsSameVector heap.old heap.new l }
+    {
+        heap.hold(self.root);
+        Flex { root: self.root }
+    }
+
     /// The number of elements, which are all live.
     pub fn len<T>(&self, heap: &Heap<T>) -> u32
         requires { IsGoodVector heap.now self.now }
@@ -156,16 +164,8 @@ impl FlexRef {
         if index >= self.len(heap) {
             return None;
         }
-        let mut link = self.root;
-        let mut within = index;
-        let mut height = height_of(heap, link);
-        while height > 0 {
-            height -= 1;
-            let found = spot_of(heap, link, height, within);
-            link = heap.links(link)[found.place];
-            within = found.within;
-        }
-        Some(heap.links(link)[within as usize])
+        let leaf = leaf_from(heap, self.root, index);
+        Some(leaf[0])
     }
 }
 
@@ -174,9 +174,9 @@ pub(crate) fn empty_root<T>(heap: &mut Heap<T>) -> Link
     requires graph { IsGraph heap.old }
     requires spare { 1 ≤ heap.old.spare_nodes }
     requires holds { hold_count heap.old < 2 ^ 59 }
-    ensures items { elements heap.new result ≡ [] }
-    ensures good { IsGoodVector heap.new result }
-    ensures builds { Builds heap.old heap.new [] (result ∷ []) 1 }
+    ensures vector { IsVectorOf heap.new result [] }
+    ensures flat { height_at heap.new result ≡ 0 }
+    ensures builds { Builds heap.old heap.new [] (result ∷ []) 0 1 }
 {
     leaf_over(heap, &[])
 }

@@ -1,11 +1,11 @@
 //! A vector with one more element.
-ghost use Rattle.std.specs.Prelude.{◌≡◌, ℕ, suc, ◌+◌, ◌-◌, ◌*◌, ◌^◌, ◌<◌, ◌≤◌, ◌↔◌, ◌≢◌, [], ◌∷◌, ◌++◌, length, take, slice_index, IfOk, OnErr, IsSome, IfSome, IfNone, MatchOption, Err};
-ghost use Rattle.std.specs.List.{All, flat_map};
-ghost use Rattle.node_heap.specs.Heap.{row_at, form_at, links_at, holds_at, hold_count, IsGraph, HasSpares};
-ghost use Rattle.node_heap.specs.Calls.{Answered, Unchanged};
-ghost use Rattle.rrb_core.specs.Seq.{seq_at, IsThick, IsWell};
-ghost use Rattle.rrb_core.specs.Vector.{HasSums, elements, height_at, IsGoodVector};
-ghost use Rattle.rrb_core.specs.Build.{IsRowOf, Builds};
+ghost use Rattle.std.specs.Prelude.{◌≡◌, ℕ, suc, ◌+◌, ◌-◌, ◌^◌, ◌<◌, ◌≤◌, ◌↔◌, ◌≢◌, [], ◌∷◌, ◌++◌, length, slice_index, IfOk, OnErr, IfSome, IfNone, Err};
+ghost use Rattle.node_heap.specs.Heap.{form_at, links_at, holds_at, hold_count, IsGraph, HasSpares};
+ghost use Rattle.node_heap.specs.Calls.{Answered, Builds, MakesJust, Unchanged};
+ghost use Rattle.rrb_core.specs.Seq.{seq_at, IsWell};
+ghost use Rattle.rrb_core.specs.Push.{last_in, IsFull, IsPushedRoot};
+ghost use Rattle.rrb_core.specs.Vector.{HasSums, elements, height_at, IsGoodVector, IsSameVector, IsVectorOf};
+ghost use Rattle.rrb_core.specs.Edit.{CanEdit, CanEditRoot, MakesRow, Pushes};
 
 use crate::flex::{Flex, FlexRef};
 use crate::rows::{height_of, inner_over, inner_with, leaf_over, leaf_with};
@@ -37,16 +37,21 @@ impl From<NoMemory> for PushFault {
 // The most nodes that a push makes: one for each height, and a root.
 const PUSH_NODES: usize = 9;
 
-/// The vector with `element` after its last element. It spends the element's hold on Ok alone, and makes at most 9 nodes.
-/// Refused with `Long` where the vector has 2^32 - 1 elements, and with `Memory` where memory runs out. A refusal changes
-/// nothing but the heap's spares.
+/// The vector with `element` after its last element. The element goes into the lowest row of the right spine that has
+/// fewer than 32 links; only where each of them has 32 comes a new root. It spends the element's hold on Ok alone, and
+/// makes at most as many nodes as the height and 2, so 9. Refused with `Long` where the vector has 2^32 - 1 elements, and
+/// with `Memory` where memory runs out. A refusal changes nothing but the heap's spares.
 pub fn push<T>(heap: &mut Heap<T>, vector: FlexRef, element: Link) -> Result<Flex, PushFault>
     requires good { IsGoodVector heap.old vector }
     requires held { 1 ≤ holds_at heap.old element }
     requires few { hold_count heap.old < 2 ^ 59 }
     ensures items { IfOk result (λ v. elements heap.new v ≡ elements heap.old vector ++ element ∷ []) }
     ensures good { IfOk result (λ v. IsGoodVector heap.new v) }
-    ensures answered { IfOk result (λ v. Answered heap.old heap.new (element ∷ []) v 0 9) }
+    ensures rule { IfOk result (λ v. IsPushedRoot (form_at heap.old) (form_at heap.new) element vector v) }
+    ensures taller { IfOk result (λ v. (height_at heap.new v ≡ suc (height_at heap.old vector)) ↔ IsFull (form_at heap.old) (height_at heap.old vector) vector) }
+    ensures answered { IfOk result (λ v. Answered heap.old heap.new (element ∷ []) v 0 (height_at heap.old vector + 2)) }
+    ensures made { IfOk result (λ _. MakesJust heap.old heap.new) }
+    ensures vectors { (l : ℕ) → IsSameVector heap.old heap.new l }
     ensures refused { OnErr result (Unchanged heap.old heap.new) }
     ensures long { (result ≡ Err PushFault.Long) ↔ (length (elements heap.old vector) ≡ 2 ^ 32 - 1) }
     ensures ample { HasSpares heap.old 0 9 → result ≢ Err PushFault.Memory }
@@ -61,15 +66,12 @@ pub fn push<T>(heap: &mut Heap<T>, vector: FlexRef, element: Link) -> Result<Fle
 
 // The root of the vector with `element` after its last.
 fn push_root<T>(heap: &mut Heap<T>, root: Link, element: Link) -> Link
-    requires graph { IsGraph heap.old }
-    requires good { IsGoodVector heap.old root }
+    requires root { CanEditRoot heap.old root 9 }
     requires short { length (elements heap.old root) + 1 < 2 ^ 32 }
     requires held { 1 ≤ holds_at heap.old element }
-    requires spare { 9 ≤ heap.old.spare_nodes }
-    requires holds { hold_count heap.old < 2 ^ 59 }
-    ensures items { elements heap.new result ≡ elements heap.old root ++ element ∷ [] }
-    ensures good { IsGoodVector heap.new result }
-    ensures builds { Builds heap.old heap.new (element ∷ []) (result ∷ []) 9 }
+    ensures vector { IsVectorOf heap.new result (elements heap.old root ++ element ∷ []) }
+    ensures rule { IsPushedRoot (form_at heap.old) (form_at heap.new) element root result }
+    ensures builds { Builds heap.old heap.new (element ∷ []) (result ∷ []) 0 (height_at heap.old root + 2) }
 {
     let height = height_of(heap, root);
     match push_below(heap, root, height, element) {
@@ -80,39 +82,28 @@ fn push_root<T>(heap: &mut Heap<T>, root: Link, element: Link) -> Link
 
 // The root over a full root and one element beside it.
 fn root_beside<T>(heap: &mut Heap<T>, root: Link, height: u8, element: Link) -> Link
-    requires graph { IsGraph heap.old }
-    requires row { IsRowOf heap.old height root (elements heap.old root) }
-    requires full { IsThick (form_at heap.old) height root }
-    requires low { height ≤ 7 }
+    requires root { CanEditRoot heap.old root 9 }
+    requires height { height ≡ height_at heap.old root }
+    requires full { IsFull (form_at heap.old) height root }
     requires short { length (elements heap.old root) + 1 < 2 ^ 32 }
     requires held { 1 ≤ holds_at heap.old element }
-    requires spare { 9 ≤ heap.old.spare_nodes }
-    requires holds { hold_count heap.old < 2 ^ 59 }
-    ensures items { elements heap.new result ≡ elements heap.old root ++ element ∷ [] }
-    ensures good { IsGoodVector heap.new result }
-    ensures builds { Builds heap.old heap.new (element ∷ []) (result ∷ []) 9 }
+    ensures vector { IsVectorOf heap.new result (elements heap.old root ++ element ∷ []) }
+    ensures rule { IsPushedRoot (form_at heap.old) (form_at heap.new) element root result }
+    ensures builds { Builds heap.old heap.new (element ∷ []) (result ∷ []) 0 (height + 2) }
 {
     let child = spine(heap, height, element);
     heap.hold(root);
     inner_over(heap, &[root, child], height)
 }
 
-// The row with `element` after its last element, or None where its right spine is full.
+// The row with `element` after its last element, or None where it is full.
 #[cycle(push)]
 fn push_below<T>(heap: &mut Heap<T>, link: Link, height: u8, element: Link) -> Option<Link>
-    requires graph { IsGraph heap.old }
-    requires well { IsWell (form_at heap.old) height link }
-    requires sums { HasSums heap.old height link }
-    requires low { height ≤ 7 }
+    requires row { CanEdit heap.old height link }
     requires short { length (seq_at (form_at heap.old) height link) + 1 < 2 ^ 32 }
     requires held { 1 ≤ holds_at heap.old element }
-    requires spare { height + 1 ≤ heap.old.spare_nodes }
-    requires holds { hold_count heap.old + 64 * (height + 1) ≤ 2 ^ 60 }
-    ensures full { IfNone result (IsThick (form_at heap.old) height link) }
-    ensures same { IfNone result (heap.new ≡ heap.old) }
-    ensures row { IfSome result (λ l. IsRowOf heap.new height l (seq_at (form_at heap.old) height link ++ element ∷ [])) }
-    ensures more { IfSome result (λ l. length (links_at heap.old link) ≤ length (links_at heap.new l)) }
-    ensures builds { IfSome result (λ l. Builds heap.old heap.new (element ∷ []) (l ∷ []) (height + 1)) }
+    ensures full { IfNone result (IsFull (form_at heap.old) height link × (heap.new ≡ heap.old)) }
+    ensures pushes { IfSome result (λ m. Pushes heap.old heap.new height link element m) }
 {
     if height == 0 {
         return push_leaf(heap, link, element);
@@ -123,19 +114,11 @@ fn push_below<T>(heap: &mut Heap<T>, link: Link, height: u8, element: Link) -> O
 // The same for an inner row, whose children have the height `below`.
 #[cycle(push)]
 fn push_inner<T>(heap: &mut Heap<T>, link: Link, below: u8, element: Link) -> Option<Link>
-    requires graph { IsGraph heap.old }
-    requires well { IsWell (form_at heap.old) (suc below) link }
-    requires sums { HasSums heap.old (suc below) link }
-    requires low { below < 7 }
+    requires row { CanEdit heap.old (suc below) link }
     requires short { length (seq_at (form_at heap.old) (suc below) link) + 1 < 2 ^ 32 }
     requires held { 1 ≤ holds_at heap.old element }
-    requires spare { below + 2 ≤ heap.old.spare_nodes }
-    requires holds { hold_count heap.old + 64 * (below + 2) ≤ 2 ^ 60 }
-    ensures full { IfNone result (IsThick (form_at heap.old) (suc below) link) }
-    ensures same { IfNone result (heap.new ≡ heap.old) }
-    ensures row { IfSome result (λ l. IsRowOf heap.new (suc below) l (seq_at (form_at heap.old) (suc below) link ++ element ∷ [])) }
-    ensures more { IfSome result (λ l. length (links_at heap.old link) ≤ length (links_at heap.new l)) }
-    ensures builds { IfSome result (λ l. Builds heap.old heap.new (element ∷ []) (l ∷ []) (below + 2)) }
+    ensures full { IfNone result (IsFull (form_at heap.old) (suc below) link × (heap.new ≡ heap.old)) }
+    ensures pushes { IfSome result (λ m. Pushes heap.old heap.new (suc below) link element m) }
 {
     let count = heap.links(link).len();
     let last = last_child(heap, link, below);
@@ -149,29 +132,20 @@ fn push_inner<T>(heap: &mut Heap<T>, link: Link, below: u8, element: Link) -> Op
 fn last_child<T>(heap: &Heap<T>, link: Link, below: u8) -> Link
     requires well { IsWell (form_at heap.now) (suc below) link }
     requires sums { HasSums heap.now (suc below) link }
-    ensures some { 1 ≤ length (links_at heap.now link) }
-    ensures last { result ≡ slice_index (links_at heap.now link) (length (links_at heap.now link) - 1) }
+    ensures { result ≡ last_in (form_at heap.now) link }
 {
     let links = heap.links(link);
     links[links.len() - 1]
 }
 
-// The inner row with one child more, over `element` alone, or None where it has 32. Its children are all thick.
+// The inner row whose last child is full with one child more, over `element` alone, or None where it has 32.
 fn push_beside<T>(heap: &mut Heap<T>, link: Link, below: u8, element: Link) -> Option<Link>
-    requires graph { IsGraph heap.old }
-    requires well { IsWell (form_at heap.old) (suc below) link }
-    requires sums { HasSums heap.old (suc below) link }
-    requires low { below < 7 }
-    requires thick { All (IsThick (form_at heap.old) below) (links_at heap.old link) }
+    requires row { CanEdit heap.old (suc below) link }
+    requires full { IsFull (form_at heap.old) below (last_in (form_at heap.old) link) }
     requires short { length (seq_at (form_at heap.old) (suc below) link) + 1 < 2 ^ 32 }
     requires held { 1 ≤ holds_at heap.old element }
-    requires spare { below + 2 ≤ heap.old.spare_nodes }
-    requires holds { hold_count heap.old + 64 * (below + 2) ≤ 2 ^ 60 }
-    ensures full { IfNone result (IsThick (form_at heap.old) (suc below) link) }
-    ensures same { IfNone result (heap.new ≡ heap.old) }
-    ensures row { IfSome result (λ l. IsRowOf heap.new (suc below) l (seq_at (form_at heap.old) (suc below) link ++ element ∷ [])) }
-    ensures more { IfSome result (λ l. length (links_at heap.old link) ≤ length (links_at heap.new l)) }
-    ensures builds { IfSome result (λ l. Builds heap.old heap.new (element ∷ []) (l ∷ []) (below + 2)) }
+    ensures full { IfNone result (IsFull (form_at heap.old) (suc below) link × (heap.new ≡ heap.old)) }
+    ensures pushes { IfSome result (λ m. Pushes heap.old heap.new (suc below) link element m) }
 {
     let count = heap.links(link).len();
     if count == 32 {
@@ -184,16 +158,10 @@ fn push_beside<T>(heap: &mut Heap<T>, link: Link, below: u8, element: Link) -> O
 
 // The leaf with one element more, or None where it has 32.
 fn push_leaf<T>(heap: &mut Heap<T>, link: Link, element: Link) -> Option<Link>
-    requires graph { IsGraph heap.old }
-    requires well { IsWell (form_at heap.old) 0 link }
+    requires row { CanEdit heap.old 0 link }
     requires held { 1 ≤ holds_at heap.old element }
-    requires spare { 1 ≤ heap.old.spare_nodes }
-    requires holds { hold_count heap.old + 64 ≤ 2 ^ 60 }
-    ensures full { IfNone result (IsThick (form_at heap.old) 0 link) }
-    ensures same { IfNone result (heap.new ≡ heap.old) }
-    ensures row { IfSome result (λ l. IsRowOf heap.new 0 l (seq_at (form_at heap.old) 0 link ++ element ∷ [])) }
-    ensures more { IfSome result (λ l. length (links_at heap.old link) ≤ length (links_at heap.new l)) }
-    ensures builds { IfSome result (λ l. Builds heap.old heap.new (element ∷ []) (l ∷ []) 1) }
+    ensures full { IfNone result (IsFull (form_at heap.old) 0 link × (heap.new ≡ heap.old)) }
+    ensures pushes { IfSome result (λ m. Pushes heap.old heap.new 0 link element m) }
 {
     let count = heap.links(link).len();
     if count == 32 {
@@ -210,8 +178,7 @@ pub(crate) fn spine<T>(heap: &mut Heap<T>, height: u8, element: Link) -> Link
     requires low { height ≤ 7 }
     requires spare { height + 1 ≤ heap.old.spare_nodes }
     requires holds { hold_count heap.old < 2 ^ 60 }
-    ensures row { IsRowOf heap.new height result (element ∷ []) }
-    ensures builds { Builds heap.old heap.new (element ∷ []) (result ∷ []) (height + 1) }
+    ensures { MakesRow heap.old heap.new (element ∷ []) height result (element ∷ []) }
 {
     if height == 0 {
         return leaf_over(heap, &[element]);

@@ -7,5 +7,6 @@ use node_heap::Heap;
 pub fn vectors_stay<T>(heap: &Heap<T>)
     ensures { VectorsStay T }
 {
+    // The law is about definitions alone; the heap only names the type.
     let _ = heap;
 }

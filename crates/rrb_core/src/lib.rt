@@ -1,8 +1,10 @@
 //! Vectors as relaxed radix trees in a counted heap, with push, set, take and look-ups that share rows.
 //!
 //! A vector is named by the link of its root. A leaf, at height 0, has 0 to 32 links to elements, and an inner row 1 to 32
-//! links to rows one height below, with the running sums of their lengths. Every child of an inner row but the last is
-//! thick: it has 16 links or more, and so have all rows below it. An inner root has two links or more.
+//! links to rows one height below. Every child of an inner row but the last is thick: it has 16 links or more, and so have
+//! all rows below it. An inner root has two links or more. A child of an inner row of height h is full where it has 32^h
+//! elements. An inner row whose children but the last are full keeps no sums, and every other one keeps the running sums of
+//! its children's lengths.
 #![tactic(auto)]
 
 mod cut;
@@ -13,10 +15,8 @@ mod lines;
 mod replace;
 mod rows;
 mod search;
-#[cfg(test)]
-mod tests;
 
-pub use cut::take;
+pub use cut::{TAKE_NODES, take};
 pub use flex::{Flex, FlexRef};
 pub use grow::{PushFault, push};
 pub use laws::vectors_stay;

@@ -4,8 +4,7 @@ ghost use Rattle.std.specs.Iterator.{YieldsFirst, item_count};
 ghost use Rattle.rrb_core.specs.Vector.{elements, IsGoodVector};
 
 use crate::flex::FlexRef;
-use crate::rows::height_of;
-use crate::search::spot_of;
+use crate::search::leaf_from;
 use node_heap::{Heap, Link};
 use std::marker::Model;
 
@@ -100,23 +99,4 @@ fn leaf_rest<'h, T>(heap: &'h Heap<T>, root: Link, index: u32, leaf: &'h [Link])
         return leaf_from(heap, root, index);
     }
     leaf
-}
-
-// The elements from `index` on, as far as they stand in one leaf.
-fn leaf_from<T>(heap: &Heap<T>, root: Link, index: u32) -> &[Link]
-    requires good { IsGoodVector heap.now root }
-    requires inside { index < length (elements heap.now root) }
-    ensures some { 1 ≤ length result.now }
-    ensures front { result.now ≡ take (length result.now) (drop index (elements heap.now root)) }
-{
-    let mut link = root;
-    let mut within = index;
-    let mut height = height_of(heap, link);
-    while height > 0 {
-        height -= 1;
-        let found = spot_of(heap, link, height, within);
-        link = heap.links(link)[found.place];
-        within = found.within;
-    }
-    &heap.links(link)[within as usize..]
 }

@@ -1,10 +1,10 @@
 //! A vector with another element in one place.
-ghost use Rattle.std.specs.Prelude.{◌≡◌, ℕ, suc, ◌+◌, ◌*◌, ◌^◌, ◌<◌, ◌≤◌, ◌↔◌, ◌≢◌, [], ◌∷◌, length, slice_set, IfOk, OnErr, Err};
-ghost use Rattle.node_heap.specs.Heap.{form_at, links_at, holds_at, hold_count, IsGraph, HasSpares};
-ghost use Rattle.node_heap.specs.Calls.{Answered, Unchanged};
-ghost use Rattle.rrb_core.specs.Seq.{seq_at, IsThick, IsWell};
-ghost use Rattle.rrb_core.specs.Vector.{HasSums, elements, IsGoodVector};
-ghost use Rattle.rrb_core.specs.Build.{IsRowOf, Builds};
+ghost use Rattle.std.specs.Prelude.{◌≡◌, ℕ, suc, ◌+◌, ◌^◌, ◌<◌, ◌≤◌, ◌↔◌, ◌≢◌, [], ◌∷◌, length, slice_set, IfOk, OnErr, Err};
+ghost use Rattle.node_heap.specs.Heap.{form_at, holds_at, hold_count, IsGraph, HasSpares};
+ghost use Rattle.node_heap.specs.Calls.{Answered, Builds, MakesJust, Unchanged};
+ghost use Rattle.rrb_core.specs.Seq.{seq_at};
+ghost use Rattle.rrb_core.specs.Vector.{elements, height_at, IsGoodVector, IsSameVector, IsVectorOf};
+ghost use Rattle.rrb_core.specs.Edit.{CanEdit, CanEditRoot, Sets};
 
 use crate::flex::{Flex, FlexRef};
 use crate::rows::{height_of, inner_with, leaf_with};
@@ -37,9 +37,9 @@ impl From<NoMemory> for SetFault {
 // The most nodes that a set makes: one for each height.
 const SET_NODES: usize = 8;
 
-/// The vector with `element` at `index`. It copies the rows from the root to that place and shares all others. It spends
-/// the element's hold on Ok alone, and makes at most 8 nodes. Refused with `Range` where the index is the length or past
-/// it, and with `Memory` where memory runs out. A refusal changes nothing but the heap's spares.
+/// The vector with `element` at `index`. It copies the rows from the root to that place, at most as many as the height and
+/// 1, so 8, and shares all others. It spends the element's hold on Ok alone. Refused with `Range` where the index is the
+/// length or past it, and with `Memory` where memory runs out. A refusal changes nothing but the heap's spares.
 pub fn set<T>(
     heap: &mut Heap<T>,
     vector: FlexRef,
@@ -51,7 +51,9 @@ pub fn set<T>(
     requires few { hold_count heap.old < 2 ^ 59 }
     ensures items { IfOk result (λ v. elements heap.new v ≡ slice_set (elements heap.old vector) index element) }
     ensures good { IfOk result (λ v. IsGoodVector heap.new v) }
-    ensures answered { IfOk result (λ v. Answered heap.old heap.new (element ∷ []) v 0 8) }
+    ensures answered { IfOk result (λ v. Answered heap.old heap.new (element ∷ []) v 0 (height_at heap.old vector + 1)) }
+    ensures made { IfOk result (λ _. MakesJust heap.old heap.new) }
+    ensures vectors { (l : ℕ) → IsSameVector heap.old heap.new l }
     ensures refused { OnErr result (Unchanged heap.old heap.new) }
     ensures range { (result ≡ Err SetFault.Range) ↔ (length (elements heap.old vector) ≤ index) }
     ensures ample { HasSpares heap.old 0 8 → result ≢ Err SetFault.Memory }
@@ -66,15 +68,11 @@ pub fn set<T>(
 
 // The root of the vector with `element` at `index`.
 fn set_root<T>(heap: &mut Heap<T>, root: Link, index: u32, element: Link) -> Link
-    requires graph { IsGraph heap.old }
-    requires good { IsGoodVector heap.old root }
+    requires root { CanEditRoot heap.old root 8 }
     requires inside { index < length (elements heap.old root) }
     requires held { 1 ≤ holds_at heap.old element }
-    requires spare { 8 ≤ heap.old.spare_nodes }
-    requires holds { hold_count heap.old < 2 ^ 59 }
-    ensures items { elements heap.new result ≡ slice_set (elements heap.old root) index element }
-    ensures good { IsGoodVector heap.new result }
-    ensures builds { Builds heap.old heap.new (element ∷ []) (result ∷ []) 8 }
+    ensures vector { IsVectorOf heap.new result (slice_set (elements heap.old root) index element) }
+    ensures builds { Builds heap.old heap.new (element ∷ []) (result ∷ []) 0 (height_at heap.old root + 1) }
 {
     let height = height_of(heap, root);
     set_below(heap, root, height, index, element)
@@ -83,19 +81,10 @@ fn set_root<T>(heap: &mut Heap<T>, root: Link, index: u32, element: Link) -> Lin
 // The row with `element` at `index`.
 #[cycle(set)]
 fn set_below<T>(heap: &mut Heap<T>, link: Link, height: u8, index: u32, element: Link) -> Link
-    requires graph { IsGraph heap.old }
-    requires well { IsWell (form_at heap.old) height link }
-    requires sums { HasSums heap.old height link }
-    requires low { height ≤ 7 }
+    requires row { CanEdit heap.old height link }
     requires inside { index < length (seq_at (form_at heap.old) height link) }
-    requires short { length (seq_at (form_at heap.old) height link) < 2 ^ 32 }
     requires held { 1 ≤ holds_at heap.old element }
-    requires spare { height + 1 ≤ heap.old.spare_nodes }
-    requires holds { hold_count heap.old + 64 * (height + 1) ≤ 2 ^ 60 }
-    ensures row { IsRowOf heap.new height result (slice_set (seq_at (form_at heap.old) height link) index element) }
-    ensures thick { IsThick (form_at heap.old) height link → IsThick (form_at heap.new) height result }
-    ensures count { length (links_at heap.new result) ≡ length (links_at heap.old link) }
-    ensures builds { Builds heap.old heap.new (element ∷ []) (result ∷ []) (height + 1) }
+    ensures { Sets heap.old heap.new height link index element result }
 {
     if height == 0 {
         return set_leaf(heap, link, index as usize, element);
@@ -106,19 +95,10 @@ fn set_below<T>(heap: &mut Heap<T>, link: Link, height: u8, index: u32, element:
 // The same for an inner row, whose children have the height `below`.
 #[cycle(set)]
 fn set_inner<T>(heap: &mut Heap<T>, link: Link, below: u8, index: u32, element: Link) -> Link
-    requires graph { IsGraph heap.old }
-    requires well { IsWell (form_at heap.old) (suc below) link }
-    requires sums { HasSums heap.old (suc below) link }
-    requires low { below < 7 }
+    requires row { CanEdit heap.old (suc below) link }
     requires inside { index < length (seq_at (form_at heap.old) (suc below) link) }
-    requires short { length (seq_at (form_at heap.old) (suc below) link) < 2 ^ 32 }
     requires held { 1 ≤ holds_at heap.old element }
-    requires spare { below + 2 ≤ heap.old.spare_nodes }
-    requires holds { hold_count heap.old + 64 * (below + 2) ≤ 2 ^ 60 }
-    ensures row { IsRowOf heap.new (suc below) result (slice_set (seq_at (form_at heap.old) (suc below) link) index element) }
-    ensures thick { IsThick (form_at heap.old) (suc below) link → IsThick (form_at heap.new) (suc below) result }
-    ensures count { length (links_at heap.new result) ≡ length (links_at heap.old link) }
-    ensures builds { Builds heap.old heap.new (element ∷ []) (result ∷ []) (below + 2) }
+    ensures { Sets heap.old heap.new (suc below) link index element result }
 {
     let found = spot_of(heap, link, below, index);
     let old = heap.links(link)[found.place];
@@ -128,16 +108,10 @@ fn set_inner<T>(heap: &mut Heap<T>, link: Link, below: u8, index: u32, element: 
 
 // The leaf with `element` at the place.
 fn set_leaf<T>(heap: &mut Heap<T>, link: Link, place: usize, element: Link) -> Link
-    requires graph { IsGraph heap.old }
-    requires well { IsWell (form_at heap.old) 0 link }
+    requires row { CanEdit heap.old 0 link }
     requires inside { place < length (seq_at (form_at heap.old) 0 link) }
     requires held { 1 ≤ holds_at heap.old element }
-    requires spare { 1 ≤ heap.old.spare_nodes }
-    requires holds { hold_count heap.old + 64 ≤ 2 ^ 60 }
-    ensures row { IsRowOf heap.new 0 result (slice_set (seq_at (form_at heap.old) 0 link) place element) }
-    ensures thick { IsThick (form_at heap.old) 0 link → IsThick (form_at heap.new) 0 result }
-    ensures count { length (links_at heap.new result) ≡ length (links_at heap.old link) }
-    ensures builds { Builds heap.old heap.new (element ∷ []) (result ∷ []) 1 }
+    ensures { Sets heap.old heap.new 0 link place element result }
 {
     leaf_with(heap, link, place, element, place + 1)
 }

@@ -1,12 +1,15 @@
 //! Rows of a vector: what they state, and how they are made.
-ghost use Rattle.std.specs.Prelude.{◌≡◌, ℕ, suc, ◌+◌, ◌-◌, ◌*◌, ◌^◌, ◌<◌, ◌≤◌, [], ◌∷◌, ◌++◌, length, take, drop, IsSome};
+ghost use Rattle.std.specs.Prelude.{◌≡◌, ℕ, suc, ◌+◌, ◌-◌, ◌*◌, ◌^◌, ◌<◌, ◌≤◌, ◌≢◌, [], ◌∷◌, ◌++◌, length, take, drop, slice_index, IsSome, IfSome, IsTrue};
 ghost use Rattle.std.specs.List.{flat_map};
 ghost use Rattle.node_heap.specs.Links.{count};
 ghost use Rattle.node_heap.specs.Heap.{row_at, form_at, links_at, holds_at, hold_count, IsGraph};
+ghost use Rattle.node_heap.specs.Calls.{Builds};
 ghost use Rattle.rrb_core.specs.Seq.{seq_at, IsWell};
-ghost use Rattle.rrb_core.specs.Vector.{AreSums, HasSums, height_at, sums_at};
-ghost use Rattle.rrb_core.specs.Build.{IsRowOf, AreRows, Builds};
+ghost use Rattle.rrb_core.specs.Vector.{IsRegular, KeepsSums, HasSums, height_at, sums_at};
+ghost use Rattle.rrb_core.specs.Build.{IsRowOf, AreRows};
+ghost use Rattle.rrb_core.specs.Edit.{CanEdit, CanPlace, MakesRow, links_with};
 
+use crate::search::sum_before;
 use arrayvec::ArrayVec;
 use node_heap::{Head, Heap, Link, Sums};
 
@@ -24,7 +27,7 @@ pub fn height_of<T>(heap: &Heap<T>, link: Link) -> u8
     }
 }
 
-// The running sums of an inner row's children, and none for every other row.
+// The sums that an inner row keeps, and none for every other row.
 pub(crate) fn sums_of<T>(heap: &Heap<T>, link: Link) -> &[u32]
     requires { IsSome (row_at heap.now link) }
     ensures { result.now ≡ sums_at heap.now link }
@@ -35,10 +38,21 @@ pub(crate) fn sums_of<T>(heap: &Heap<T>, link: Link) -> &[u32]
     }
 }
 
-// The number of elements below a row of this height.
+// How many elements so many full children of an inner row of this height have.
+pub(crate) fn full_size(count: usize, height: u8) -> u64
+    requires few { count ≤ 32 }
+    requires low { height ≤ 7 }
+    ensures { result ≡ count * 32 ^ height }
+{
+    (count as u64) << (5 * u32::from(height))
+}
+
+// The number of elements below a row of this height: the last of its sums or, where it keeps none, what its full children
+// have and the last one.
 pub(crate) fn size<T>(heap: &Heap<T>, link: Link, height: u8) -> u32
     requires well { IsWell (form_at heap.now) height link }
     requires sums { HasSums heap.now height link }
+    requires low { height ≤ 7 }
     requires short { length (seq_at (form_at heap.now) height link) < 2 ^ 32 }
     ensures value { result ≡ length (seq_at (form_at heap.now) height link) }
     ensures graph { IsGraph heap.now }
@@ -48,7 +62,12 @@ pub(crate) fn size<T>(heap: &Heap<T>, link: Link, height: u8) -> u32
         return links.len() as u32;
     }
     let sums = sums_of(heap, link);
-    sums[sums.len() - 1]
+    if !sums.is_empty() {
+        return sums[sums.len() - 1];
+    }
+    let last = links.len() - 1;
+    let before = full_size(last, height) as u32;
+    before + size(heap, links[last], height - 1)
 }
 
 // Appends the links of a row from the place `from` to the place `to`, with a hold of each.
@@ -60,7 +79,7 @@ fn hold_links<T>(heap: &mut Heap<T>, all: &mut Gathered, link: Link, from: usize
     requires room { length all.old.items + (to - from) ≤ 64 }
     requires holds { hold_count heap.old + (to - from) ≤ 2 ^ 60 }
     ensures items { all.new.items ≡ all.old.items ++ take (to - from) (drop from (links_at heap.old link)) }
-    ensures builds { Builds heap.old heap.new all.old.items all.new.items 0 }
+    ensures builds { Builds heap.old heap.new all.old.items all.new.items 0 0 }
 {
     for place in from..to {
         let child = heap.links(link)[place];
@@ -87,11 +106,12 @@ pub fn gathered<T>(
     requires few { keep + length middle.now + (length (links_at heap.old right) - skip) ≤ 64 }
     requires holds { hold_count heap.old + 64 ≤ 2 ^ 60 }
     ensures items { result.items ≡ (take keep (links_at heap.old left) ++ middle.now) ++ drop skip (links_at heap.old right) }
-    ensures builds { Builds heap.old heap.new middle.now result.items 0 }
+    ensures builds { Builds heap.old heap.new middle.now result.items 0 0 }
 {
     let end = heap.links(right).len();
     let mut all = ArrayVec::new();
     hold_links(heap, &mut all, left, 0, keep);
+    // There is room for 64, so that this refuses nothing.
     let _ = all.try_extend_from_slice(middle);
     hold_links(heap, &mut all, right, skip, end);
     all
@@ -106,12 +126,12 @@ pub fn leaf_over<T>(heap: &mut Heap<T>, elements: &[Link]) -> Link
     requires holds { hold_count heap.old < 2 ^ 60 }
     ensures row { IsRowOf heap.new 0 result elements.now }
     ensures links { links_at heap.new result ≡ elements.now }
-    ensures builds { Builds heap.old heap.new elements.now (result ∷ []) 1 }
+    ensures builds { Builds heap.old heap.new elements.now (result ∷ []) 0 1 }
 {
     heap.node(Head::Leaf, elements)
 }
 
-/// The inner row over these children of the height `below`; it works out their running sums and spends a hold for each
+/// The inner row over these children of the height `below`; it works out the sums that it keeps and spends a hold for each
 /// place.
 pub fn inner_over<T>(heap: &mut Heap<T>, children: &[Link], below: u8) -> Link
     requires graph { IsGraph heap.old }
@@ -125,19 +145,39 @@ pub fn inner_over<T>(heap: &mut Heap<T>, children: &[Link], below: u8) -> Link
     requires holds { hold_count heap.old < 2 ^ 60 }
     ensures row { IsRowOf heap.new (suc below) result (flat_map (seq_at (form_at heap.old) below) children.now) }
     ensures links { links_at heap.new result ≡ children.now }
-    ensures builds { Builds heap.old heap.new children.now (result ∷ []) 1 }
+    ensures builds { Builds heap.old heap.new children.now (result ∷ []) 0 1 }
 {
-    let sums = running_sums(heap, children, below);
+    let sums = sums_over(heap, children, below);
+    inner_of(heap, children, below, sums)
+}
+
+// The same with the sums that it keeps.
+fn inner_of<T>(heap: &mut Heap<T>, children: &[Link], below: u8, sums: Sums) -> Link
+    requires graph { IsGraph heap.old }
+    requires rows { AreRows heap.old below children.now }
+    requires some { 1 ≤ length children.now }
+    requires few { length children.now ≤ 32 }
+    requires low { below < 7 }
+    requires sums { KeepsSums (form_at heap.old) below children.now sums }
+    requires held { (k : ℕ) → count k children.now ≤ holds_at heap.old k }
+    requires spare { 1 ≤ heap.old.spare_nodes }
+    requires holds { hold_count heap.old < 2 ^ 60 }
+    ensures row { IsRowOf heap.new (suc below) result (flat_map (seq_at (form_at heap.old) below) children.now) }
+    ensures links { links_at heap.new result ≡ children.now }
+    ensures builds { Builds heap.old heap.new children.now (result ∷ []) 0 1 }
+{
     let height = below + 1;
     heap.node(Head::Inner { height, sums }, children)
 }
 
-// The running sums of the lengths of these rows of the height `below`.
-fn running_sums<T>(heap: &Heap<T>, children: &[Link], below: u8) -> Sums
+// The sums that the row over these rows of the height `below` keeps.
+fn sums_over<T>(heap: &Heap<T>, children: &[Link], below: u8) -> Sums
     requires rows { AreRows heap.now below children.now }
+    requires some { 1 ≤ length children.now }
     requires few { length children.now ≤ 32 }
+    requires low { below < 7 }
     requires short { length (flat_map (seq_at (form_at heap.now) below) children.now) < 2 ^ 32 }
-    ensures { AreSums result (seq_at (form_at heap.now) below) children.now }
+    ensures { KeepsSums (form_at heap.now) below children.now result }
 {
     let mut sums: ArrayVec<u32, 32> = ArrayVec::new();
     let mut total = 0u32;
@@ -145,7 +185,95 @@ fn running_sums<T>(heap: &Heap<T>, children: &[Link], below: u8) -> Sums
         total += size(heap, *child, below);
         sums.push(total);
     }
-    Sums::from_slice(sums.as_slice())
+    kept_sums(sums.as_slice(), below)
+}
+
+// What a row keeps of the running sums of its children, which have the height `below`: none where all but the last have as
+// many elements as they can.
+fn kept_sums(sums: &[u32], below: u8) -> Sums
+    requires some { 1 ≤ length sums.now }
+    requires few { length sums.now ≤ 32 }
+    requires low { below < 7 }
+    ensures none { slice_index (0 ∷ sums.now) (length sums.now - 1) ≡ (length sums.now - 1) * 32 ^ suc below → result ≡ [] }
+    ensures kept { slice_index (0 ∷ sums.now) (length sums.now - 1) ≢ (length sums.now - 1) * 32 ^ suc below → result ≡ sums.now }
+{
+    let last = sums.len() - 1;
+    let before = sum_before(sums, last);
+    if u64::from(before) == full_size(last, below + 1) {
+        return Sums::from_slice(&[]);
+    }
+    Sums::from_slice(sums)
+}
+
+// Whether it is seen, by the row `link` and the child alone, that the first `keep` children of `link`, then `child`, then
+// its children from the place `skip` on are all full but the last.
+fn stays_regular<T>(
+    heap: &Heap<T>,
+    link: Link,
+    below: u8,
+    keep: usize,
+    child: Link,
+    skip: usize,
+) -> bool
+    requires { CanPlace heap.now below link keep child skip }
+    ensures { IsTrue result → IsRegular (form_at heap.now) below (links_with (links_at heap.now link) keep child skip) }
+{
+    let count = heap.links(link).len();
+    if !sums_of(heap, link).is_empty() || keep == count {
+        return false;
+    }
+    if skip == count {
+        return true;
+    }
+    u64::from(size(heap, child, below)) == full_size(1, below + 1)
+}
+
+// The sums of the row over the first `keep` children of `link`, then `child`, then its children from the place `skip` on:
+// the first sums of `link` stay, and the later ones move by a difference.
+fn sums_beside<T>(
+    heap: &Heap<T>,
+    link: Link,
+    below: u8,
+    keep: usize,
+    child: Link,
+    skip: usize,
+) -> Sums
+    requires place { CanPlace heap.now below link keep child skip }
+    requires some { 1 ≤ length (sums_at heap.now link) }
+    ensures { KeepsSums (form_at heap.now) below (links_with (links_at heap.now link) keep child skip) result }
+{
+    let old = sums_of(heap, link);
+    let gone = sum_before(old, skip);
+    let until = sum_before(old, keep) + size(heap, child, below);
+    let mut sums: ArrayVec<u32, 32> = ArrayVec::new();
+    // There is room for 32, so that this refuses nothing.
+    let _ = sums.try_extend_from_slice(&old[..keep]);
+    sums.push(until);
+    for place in skip..old.len() {
+        sums.push(until + (old[place] - gone));
+    }
+    kept_sums(sums.as_slice(), below)
+}
+
+// The same sums, as far as the row `link` and the child tell them: None where all its children have to be read.
+fn sums_with<T>(
+    heap: &Heap<T>,
+    link: Link,
+    below: u8,
+    keep: usize,
+    child: Link,
+    skip: usize,
+) -> Option<Sums>
+    requires { CanPlace heap.now below link keep child skip }
+    ensures { IfSome result (KeepsSums (form_at heap.now) below (links_with (links_at heap.now link) keep child skip)) }
+{
+    if stays_regular(heap, link, below, keep, child, skip) {
+        return Some(Sums::from_slice(&[]));
+    }
+    if sums_of(heap, link).is_empty() {
+        return None;
+    }
+    Some(sums_beside(heap, link, below, keep, child, skip))
 }
 
 // The inner row over the first `keep` children of `link`, then `child`, then its children from the place `skip` on.
@@ -157,23 +285,18 @@ pub(crate) fn inner_with<T>(
     child: Link,
     skip: usize,
 ) -> Link
-    requires graph { IsGraph heap.old }
-    requires live { IsSome (row_at heap.old link) }
-    requires keep { keep ≤ length (links_at heap.old link) }
-    requires skip { skip ≤ length (links_at heap.old link) }
-    requires few { keep + 1 + (length (links_at heap.old link) - skip) ≤ 32 }
-    requires rows { AreRows heap.old below ((take keep (links_at heap.old link) ++ child ∷ []) ++ drop skip (links_at heap.old link)) }
-    requires low { below < 7 }
-    requires short { length (flat_map (seq_at (form_at heap.old) below) ((take keep (links_at heap.old link) ++ child ∷ []) ++ drop skip (links_at heap.old link))) < 2 ^ 32 }
-    requires held { 1 ≤ holds_at heap.old child }
-    requires spare { 1 ≤ heap.old.spare_nodes }
-    requires holds { hold_count heap.old + 64 ≤ 2 ^ 60 }
-    ensures row { IsRowOf heap.new (suc below) result (flat_map (seq_at (form_at heap.old) below) ((take keep (links_at heap.old link) ++ child ∷ []) ++ drop skip (links_at heap.old link))) }
-    ensures links { links_at heap.new result ≡ (take keep (links_at heap.old link) ++ child ∷ []) ++ drop skip (links_at heap.old link) }
-    ensures builds { Builds heap.old heap.new (child ∷ []) (result ∷ []) 1 }
+    requires { CanPlace heap.old below link keep child skip }
+    ensures row { IsRowOf heap.new (suc below) result (flat_map (seq_at (form_at heap.old) below) (links_with (links_at heap.old link) keep child skip)) }
+    ensures links { links_at heap.new result ≡ links_with (links_at heap.old link) keep child skip }
+    ensures builds { Builds heap.old heap.new (child ∷ []) (result ∷ []) 0 1 }
 {
-    let children = gathered(heap, link, keep, &[child], link, skip);
-    inner_over(heap, children.as_slice(), below)
+    let known = sums_with(heap, link, below, keep, child, skip);
+    let gathered = gathered(heap, link, keep, &[child], link, skip);
+    let children = gathered.as_slice();
+    match known {
+        Some(sums) => inner_of(heap, children, below, sums),
+        None => inner_over(heap, children, below),
+    }
 }
 
 // The leaf over the first `keep` elements of `link`, then `element`, then its elements from the place `skip` on.
@@ -184,17 +307,13 @@ pub(crate) fn leaf_with<T>(
     element: Link,
     skip: usize,
 ) -> Link
-    requires graph { IsGraph heap.old }
-    requires live { IsSome (row_at heap.old link) }
+    requires row { CanEdit heap.old 0 link }
     requires keep { keep ≤ length (links_at heap.old link) }
     requires skip { skip ≤ length (links_at heap.old link) }
     requires few { keep + 1 + (length (links_at heap.old link) - skip) ≤ 32 }
     requires held { 1 ≤ holds_at heap.old element }
-    requires spare { 1 ≤ heap.old.spare_nodes }
-    requires holds { hold_count heap.old + 64 ≤ 2 ^ 60 }
-    ensures row { IsRowOf heap.new 0 result ((take keep (links_at heap.old link) ++ element ∷ []) ++ drop skip (links_at heap.old link)) }
-    ensures links { links_at heap.new result ≡ (take keep (links_at heap.old link) ++ element ∷ []) ++ drop skip (links_at heap.old link) }
-    ensures builds { Builds heap.old heap.new (element ∷ []) (result ∷ []) 1 }
+    ensures edits { MakesRow heap.old heap.new (element ∷ []) 0 result (links_with (links_at heap.old link) keep element skip) }
+    ensures links { links_at heap.new result ≡ links_with (links_at heap.old link) keep element skip }
 {
     let elements = gathered(heap, link, keep, &[element], link, skip);
     leaf_over(heap, elements.as_slice())

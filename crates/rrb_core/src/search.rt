@@ -1,11 +1,11 @@
-//! The search for an element by the running sums of inner rows.
-ghost use Rattle.std.specs.Prelude.{◌≡◌, ℕ, suc, ◌+◌, ◌-◌, ◌<◌, ◌≤◌, length, take, slice_index};
+//! The search for an element in inner rows, by their running sums or, in rows without sums, by the index alone.
+ghost use Rattle.std.specs.Prelude.{◌≡◌, ℕ, suc, ◌+◌, ◌-◌, ◌<◌, ◌≤◌, length, take, drop, slice_index};
 ghost use Rattle.std.specs.List.{flat_map};
 ghost use Rattle.node_heap.specs.Heap.{form_at, links_at};
 ghost use Rattle.rrb_core.specs.Seq.{seq_at, IsWell};
-ghost use Rattle.rrb_core.specs.Vector.{HasSums};
+ghost use Rattle.rrb_core.specs.Vector.{elements, HasSums, IsGoodVector};
 
-use crate::rows::sums_of;
+use crate::rows::{full_size, height_of, sums_of};
 use node_heap::{Heap, Link};
 
 /// A child of an inner row by its place, and an element's index in that child.
@@ -34,7 +34,7 @@ fn place_of(sums: &[u32], index: u32, from: usize) -> usize
 }
 
 // How many elements stand before the child at `place`.
-fn sum_before(sums: &[u32], place: usize) -> u32
+pub(crate) fn sum_before(sums: &[u32], place: usize) -> u32
     requires { place ≤ length sums.now }
     ensures first { place ≡ 0 → result ≡ 0 }
     ensures later { 0 < place → result ≡ slice_index sums.now (place - 1) }
@@ -42,8 +42,9 @@ fn sum_before(sums: &[u32], place: usize) -> u32
     if place == 0 { 0 } else { sums[place - 1] }
 }
 
-/// The child of an inner row that holds the element at `index`; the children have the height `below`. The search starts
-/// where `index` would be if all children were full, which is never past the right child.
+/// The child of an inner row that holds the element at `index`; the children have the height `below`. Where the row keeps
+/// no sums it is the one where `index` is if all children are full, and else the search starts there, since that is never
+/// past the right child.
 pub fn spot_of<T>(heap: &Heap<T>, link: Link, below: u8, index: u32) -> Spot
     requires well { IsWell (form_at heap.now) (suc below) link }
     requires sums { HasSums heap.now (suc below) link }
@@ -55,7 +56,33 @@ pub fn spot_of<T>(heap: &Heap<T>, link: Link, below: u8, index: u32) -> Spot
 {
     let sums = sums_of(heap, link);
     let from = (u64::from(index) >> (5 * (u32::from(below) + 1))) as usize;
+    if sums.is_empty() {
+        let within = index - full_size(from, below + 1) as u32;
+        return Spot {
+            place: from,
+            within,
+        };
+    }
     let place = place_of(sums, index, from);
     let within = index - sum_before(sums, place);
     Spot { place, within }
+}
+
+// The elements from `index` on, as far as they stand in one leaf.
+pub(crate) fn leaf_from<T>(heap: &Heap<T>, root: Link, index: u32) -> &[Link]
+    requires good { IsGoodVector heap.now root }
+    requires inside { index < length (elements heap.now root) }
+    ensures some { 1 ≤ length result.now }
+    ensures front { result.now ≡ take (length result.now) (drop index (elements heap.now root)) }
+{
+    let mut link = root;
+    let mut within = index;
+    let mut height = height_of(heap, link);
+    while height > 0 {
+        height -= 1;
+        let found = spot_of(heap, link, height, within);
+        link = heap.links(link)[found.place];
+        within = found.within;
+    }
+    &heap.links(link)[within as usize..]
 }

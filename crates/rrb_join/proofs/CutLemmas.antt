@@ -2,12 +2,13 @@
 use Rattle.std.proofs.Common.{◌≡◌, ℕ, ◌+◌, ◌<◌, ◌≤◌, List, [], ◌∷◌, length, refl, arith}
 use Rattle.node_heap.specs.Links.{count, here}
 use Rattle.node_heap.specs.Heap.{Heap, holds_at, hold_count, cell_count, node_count, one_at, IsGraph}
-use Rattle.node_heap.specs.Calls.{Extends, KeepsHeld, Releases, Unchanged, Balances, Answered}
+use Rattle.node_heap.specs.Calls.{Extends, KeepsHeld, Builds, MakesJust, Releases, Unchanged, Balances, Answered}
 use Rattle.rrb_core.specs.Vector.{elements, IsGoodVector}
-use Rattle.rrb_core.specs.Build.{Builds}
-use Rattle.rrb_core.proofs.LinkCounts.{count-one, count-cons, one-same}
+use Rattle.node_heap.proofs.BuildLemmas.{count-one, count-cons}
+use Rattle.node_heap.proofs.GraphLemmas.{IsGraph-kinds}
+use Rattle.rrb_core.proofs.LinkCounts.{one-same}
 use Rattle.rrb_core.proofs.Stays.{good-stays, below-stays}
-use Rattle.node_heap.proofs.Frames.{Extends-trans, Extends-held, KeepsBelow-Extends, Extends-Unchanged, Balances-trans, Balances-Releases, Balances-Unchanged}
+use Rattle.node_heap.proofs.Frames.{Extends-trans, Extends-kept, Balances-trans, Balances-Makes, Balances-Releases, Answered-Unchanged}
 
 -- two or three links without the last
 pub without-second : (x y k : ℕ) → count k (x ∷ y ∷ []) ≡ count k (x ∷ []) + one_at y k
@@ -21,11 +22,8 @@ module _ {T : Type 0} where
   pub good-held : {old new : Heap T} {spent : ℕ → ℕ} → KeepsHeld spent old new → (l : ℕ) → spent l < holds_at old l → IsGoodVector old l → IsGoodVector new l × (elements new l ≡ elements old l)
   good-held keeps l held good = good-stays (below-stays l (keeps.kept l held)) l (here l) good
 
-  -- rows stay where every link that was held at first is held still
-  pub held-extends : {a b c : Heap T} {spent : ℕ → ℕ} → IsGraph a → Extends a b → KeepsHeld spent b c → ((k : ℕ) → 0 < holds_at a k → spent k < holds_at b k) → Extends a c
-  held-extends {a} {b} {c} graph ext keeps held = Extends-held a c graph (λ k some. KeepsBelow-Extends ext keeps k (graph.held k some) (held k some))
-
-  -- rows were added and perhaps given up again: each link in the list is held once more, and at most n nodes came
+  -- rows were added and perhaps given up again: each link in the list is held once more, at most n nodes came, and at most
+  -- n were made
   pub record Gives (old new : Heap T) (given : List ℕ) (n : ℕ) : Type 0 where
     pub extends : Extends old new
     pub graph : IsGraph new
@@ -34,10 +32,11 @@ module _ {T : Type 0} where
     pub cells : cell_count new ≤ cell_count old
     pub nodes : node_count new ≤ node_count old + n
     pub balance : Balances old new
+    pub made : new.made ≤ old.made + n
 
-  -- a call that answered
-  pub gives-answered : {old new : Heap T} {result n : ℕ} → Answered old new [] result 0 n → Gives old new (result ∷ []) n
-  gives-answered {result = result} a =
+  -- a call that answered and made nothing in vain
+  pub gives-answered : {old new : Heap T} {result n : ℕ} → Answered old new [] result 0 n → MakesJust old new → Gives old new (result ∷ []) n
+  gives-answered {old} {new} {result = result} a just =
       record {
         extends = a.extends;
         graph = a.graph;
@@ -46,24 +45,21 @@ module _ {T : Type 0} where
         cells = omega (arith, a.cells);
         nodes = a.nodes;
         balance = a.balance;
+        made = omega (arith, just, a.cells, a.nodes, IsGraph-kinds old, IsGraph-kinds new);
       }
 
   -- rows were made after that
-  pub gives-built : {a b c : Heap T} {given : List ℕ} {result n m : ℕ} → Gives a b given n → Builds b c [] (result ∷ []) m → Gives a c (result ∷ given) (n + m)
+  pub gives-built : {a b c : Heap T} {given : List ℕ} {result n m : ℕ} → Gives a b given n → Builds b c [] (result ∷ []) 0 m → Gives a c (result ∷ given) (n + m)
   gives-built {given = given} {result = result} g b =
       record {
         extends = Extends-trans g.extends b.extends;
         graph = b.graph;
         holds = λ k. omega (arith, g.holds k, b.holds k, count-one k result, count-cons k result given);
         total = omega (arith, g.total, b.total);
-        cells = omega (arith, g.cells, b.cells);
-        nodes = omega (arith, g.nodes, b.nodes, b.few);
-        balance = record {
-          spare_cells = omega (arith, g.balance.spare_cells, b.cells, b.spare_cells);
-          spare_nodes = omega (arith, g.balance.spare_nodes, b.nodes, b.spare_nodes);
-          no_fewer = omega (arith, g.balance.no_fewer, b.no_fewer);
-          made = omega (arith, g.balance.made, b.made, b.live);
-        };
+        cells = omega (arith, g.cells, b.makes.cells, b.few_cells);
+        nodes = omega (arith, g.nodes, b.makes.nodes, b.few_nodes);
+        balance = Balances-trans g.balance (Balances-Makes b.makes);
+        made = omega (arith, g.made, b.makes.made, b.few_cells, b.few_nodes);
       }
 
   -- one of them was given up
@@ -71,27 +67,35 @@ module _ {T : Type 0} where
       → Releases b c link → IsGraph c → KeepsHeld (one_at link) b c → Gives a c left n
   gives-released {left = left} {link = link} graph g one size r after keeps =
       record {
-        extends = held-extends graph g.extends keeps (λ k some. omega (arith, g.holds k, one k));
+        extends = Extends-kept graph g.extends keeps (λ k some. omega (arith, g.holds k, one k));
         graph = after;
         holds = λ k. omega (arith, g.holds k, r.holds k, one k);
         total = omega (arith, g.total, r.count, size);
         cells = omega (arith, g.cells, r.fewer_cells);
         nodes = omega (arith, g.nodes, r.fewer_nodes);
         balance = Balances-trans g.balance (Balances-Releases r);
+        made = omega (arith, g.made, r.made);
       }
 
   -- room was made before, and one is left
-  pub gives-all : {a b c : Heap T} {result n m : ℕ} → Unchanged a b → Gives b c (result ∷ []) n → n ≤ m → Answered a c [] result 0 m
-  gives-all {result = result} same g le =
-      record {
-        extends = Extends-trans (Extends-Unchanged same) g.extends;
-        graph = g.graph;
-        holds = λ k. omega (arith, same.holds k, g.holds k, count-one k result);
-        count = omega (arith, same.count, g.total);
-        cells = omega (arith, same.cells, g.cells);
-        nodes = omega (arith, same.nodes, g.nodes, le);
-        balance = Balances-trans (Balances-Unchanged same) g.balance;
-      }
+  pub gives-all : {a b c : Heap T} {result n m : ℕ} → Unchanged a b → Gives b c (result ∷ []) n → n ≤ m → Answered a c [] result 0 m × (c.made ≤ a.made + m)
+  gives-all {result = result} same g le = (
+    Answered-Unchanged same (record {
+      extends = g.extends;
+      graph = g.graph;
+      holds = λ k. omega (arith, g.holds k, count-one k result);
+      count = omega (arith, g.total);
+      cells = omega (arith, g.cells);
+      nodes = omega (arith, g.nodes, le);
+      balance = g.balance;
+    }),
+    omega (arith, same.made, g.made, le),
+  )
+
+  -- the same with greater bounds
+  pub gives-more : {a b : Heap T} {given : List ℕ} {n m : ℕ} → Gives a b given n → n ≤ m → Gives a b given m
+  gives-more g le =
+      record { extends = g.extends; graph = g.graph; holds = g.holds; total = g.total; cells = g.cells; nodes = omega (arith, g.nodes, le); balance = g.balance; made = omega (arith, g.made, le) }
 
   -- the first of two that are given is still held where the second is given up, which is held
   pub gives-first : {a b : Heap T} {n : ℕ} (x y : ℕ) → Gives a b (x ∷ y ∷ []) n → one_at y x < holds_at b x

@@ -6,7 +6,8 @@ use Rattle.std.proofs.lemmas.List.Concat.{flat_map-append}
 use Rattle.std.proofs.lemmas.List.Elements.{All-append, All-drop}
 use Rattle.node_heap.specs.Heap.{Heap, row_at, form_at, links_at}
 use Rattle.rrb_core.specs.Seq.{seq_at, IsThick, IsWell}
-use Rattle.rrb_core.specs.Vector.{HasSums, Stays}
+use Rattle.rrb_core.specs.Vector.{HasSums}
+use Rattle.rrb_core.proofs.ClosedRows.{Stays}
 use Rattle.rrb_core.specs.Build.{AreRows}
 use Rattle.rrb_join.specs.Unmade.{AreThick, AreUnmade}
 use Rattle.rrb_core.proofs.Lists.{items-front, items-drop}
@@ -27,45 +28,45 @@ pub record IsInserted {T : Type 0} (h z : Heap T) (n l index x : ℕ) (all : Lis
   pub wide : length (links_at h l) ≤ length all
 
 -- the new rows of a child stand in its place
-pub inserted : {T : Type 0} (h k z : Heap T) (under l i within index x : ℕ) (made all : List ℕ) → Stays (λ y. IsSome (row_at h y)) h z → Stays (λ y. IsSome (row_at k y)) k z → links_at k l ≡ links_at h l → IsOver h under l → i < length (links_at h l)
-    → length (flat_map (seq_at (form_at h) under) (take i (links_at h l))) + within ≡ index → within ≤ length (seq_at (form_at h) under (get_or (links_at h l) i 0))
-    → AreRows k under made → flat_map (seq_at (form_at k) under) made ≡ take within (seq_at (form_at h) under (get_or (links_at h l) i 0)) ++ x ∷ drop within (seq_at (form_at h) under (get_or (links_at h l) i 0))
-    → (IsThick (form_at h) under (get_or (links_at h l) i 0) → All (IsThick (form_at k) under) made) → 1 ≤ length made → length made ≤ 2 → all ≡ (take i (links_at k l) ++ made) ++ drop (i + 1) (links_at k l)
-    → IsInserted h z (suc under) l index x all
-inserted h k z under l i within index x made all s s' same o lt is le rows items close some few gathered =
+pub inserted : {T : Type 0} (h k z : Heap T) (height below l i within index x : ℕ) (made all : List ℕ) → height ≡ suc below → Stays (λ y. IsSome (row_at h y)) h z → Stays (λ y. IsSome (row_at k y)) k z → links_at k l ≡ links_at h l → IsOver h below l → i < length (links_at h l)
+    → length (flat_map (seq_at (form_at h) below) (take i (links_at h l))) + within ≡ index → within ≤ length (seq_at (form_at h) below (get_or (links_at h l) i 0))
+    → AreRows k below made → flat_map (seq_at (form_at k) below) made ≡ take within (seq_at (form_at h) below (get_or (links_at h l) i 0)) ++ x ∷ drop within (seq_at (form_at h) below (get_or (links_at h l) i 0))
+    → (IsThick (form_at h) below (get_or (links_at h l) i 0) → All (IsThick (form_at k) below) made) → 1 ≤ length made → length made ≤ 2 → all ≡ (take i (links_at k l) ++ made) ++ drop (i + 1) (links_at k l)
+    → IsInserted h z height l index x all
+inserted h k z height below l i within index x made all e s s' same o lt is le rows items close some few gathered =
     let whole : all ≡ (take i (links_at h l) ++ made) ++ drop (i + 1) (links_at h l) = rw same at gathered in
-    let front : AreRows h under (take i (links_at h l)) = rows-take h under i (links_at h l) o.rows (omega arith) in
-    let back : AreRows h under (drop (i + 1) (links_at h l)) = rows-drop h under (i + 1) (links_at h l) o.rows in
-    let front-live = rows-live h under (take i (links_at h l)) front in
-    let back-live = rows-live h under (drop (i + 1) (links_at h l)) back in
-    let made-live = rows-live k under made rows in
-    let front-thick : All (IsThick (form_at z) under) (take i (links_at h l)) = all-thick-stay s under (take i (links_at h l)) front-live (take-thick h under i (links_at h l) o.rows lt) in
-    let thick : IsThick (form_at h) under (get_or (links_at h l) i 0) → All (IsThick (form_at z) under) made = λ t. all-thick-stay s' under made made-live (close t) in
+    let front : AreRows h below (take i (links_at h l)) = rows-take h below i (links_at h l) o.rows (omega arith) in
+    let back : AreRows h below (drop (i + 1) (links_at h l)) = rows-drop h below (i + 1) (links_at h l) o.rows in
+    let front-live = rows-live h below (take i (links_at h l)) front in
+    let back-live = rows-live h below (drop (i + 1) (links_at h l)) back in
+    let made-live = rows-live k below made rows in
+    let front-thick : All (IsThick (form_at z) below) (take i (links_at h l)) = all-thick-stay s below (take i (links_at h l)) front-live (take-thick h below i (links_at h l) o.rows lt) in
+    let thick : IsThick (form_at h) below (get_or (links_at h l) i 0) → All (IsThick (form_at z) below) made = λ t. all-thick-stay s' below made made-live (close t) in
     let back-size : length (drop (i + 1) (links_at h l)) ≡ length (links_at h l) - (i + 1) = length-drop (i + 1) (links_at h l) in
     let size : length all ≡ (i + length made) + (length (links_at h l) - (i + 1)) =
     rw whole (omega (arith, length-append (take i (links_at h l) ++ made) (drop (i + 1) (links_at h l)), length-append (take i (links_at h l)) made, length-take-le i (links_at h l) (omega arith), back-size)) in
-    record {
+    rw e (record {
       unmade = record {
-        links = rows-above z under all (rw whole (rows-around z under (take i (links_at h l)) made (drop (i + 1) (links_at h l)) (rows-stay s under (take i (links_at h l)) front-live front) front-thick
-            (rows-stay s' under made made-live rows) (rows-stay s under (drop (i + 1) (links_at h l)) back-live back) (λ more. thick (child-thick h under l i o (omega (arith, back-size))))));
-        items = items-above z under all ∙ rw whole (flat_map-append (seq_at (form_at z) under) (take i (links_at h l) ++ made) (drop (i + 1) (links_at h l)) ∙ rw (
-          flat_map-append (seq_at (form_at z) under) (take i (links_at h l)) made,
-          items-stay s under (take i (links_at h l)) front-live,
-          items-stay s under (drop (i + 1) (links_at h l)) back-live,
-          items-stay s' under made made-live,
+        links = rows-above z below all (rw whole (rows-around z below (take i (links_at h l)) made (drop (i + 1) (links_at h l)) (rows-stay s below (take i (links_at h l)) front-live front) front-thick
+            (rows-stay s' below made made-live rows) (rows-stay s below (drop (i + 1) (links_at h l)) back-live back) (λ more. thick (child-thick h below l i o (omega (arith, back-size))))));
+        items = items-above z below all ∙ rw whole (flat_map-append (seq_at (form_at z) below) (take i (links_at h l) ++ made) (drop (i + 1) (links_at h l)) ∙ rw (
+          flat_map-append (seq_at (form_at z) below) (take i (links_at h l)) made,
+          items-stay s below (take i (links_at h l)) front-live,
+          items-stay s below (drop (i + 1) (links_at h l)) back-live,
+          items-stay s' below made made-live,
           items,
           o.items,
-        ) (items-insert (seq_at (form_at h) under) (links_at h l) i within index x lt is le));
+        ) (items-insert (seq_at (form_at h) below) (links_at h l) i within index x lt is le));
         some = omega (arith, size, some);
         most = omega (arith, size, few, o.most);
       };
       thick = λ t.
           let own = o.thick t in (
             omega (arith, size, some, own.0),
-            thick-above z under all (rw whole (All-append (IsThick (form_at z) under) (take i (links_at h l) ++ made) (drop (i + 1) (links_at h l)) (All-append (IsThick (form_at z) under) (take i (links_at h l)) made front-thick (thick (own.1 i 0 lt))) (all-thick-stay s under (drop (i + 1) (links_at h l)) back-live (All-drop (IsThick (form_at h) under) (i + 1) (links_at h l) own.1)))),
+            thick-above z below all (rw whole (All-append (IsThick (form_at z) below) (take i (links_at h l) ++ made) (drop (i + 1) (links_at h l)) (All-append (IsThick (form_at z) below) (take i (links_at h l)) made front-thick (thick (own.1 i 0 lt))) (all-thick-stay s below (drop (i + 1) (links_at h l)) back-live (All-drop (IsThick (form_at h) below) (i + 1) (links_at h l) own.1)))),
           );
       wide = omega (arith, size, some);
-    }
+    })
 
 -- the new element among those of a leaf
 pub leaf-inserted : {T : Type 0} (h z : Heap T) (n l index x : ℕ) (all : List ℕ) → n ≡ 0 → IsWell (form_at h) n l → HasSums h n l → index ≤ length (seq_at (form_at h) n l)

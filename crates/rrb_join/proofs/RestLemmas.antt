@@ -7,108 +7,109 @@ use Rattle.std.proofs.lemmas.List.Concat.{flat_map-append}
 use Rattle.std.proofs.lemmas.List.Elements.{All-append, All-drop, All-nil}
 use Rattle.node_heap.specs.Heap.{Heap, row_at, form_at, links_at}
 use Rattle.rrb_core.specs.Seq.{seq_at, IsThick, IsWell}
-use Rattle.rrb_core.specs.Vector.{HasSums, Stays}
+use Rattle.rrb_core.specs.Vector.{HasSums}
+use Rattle.rrb_core.proofs.ClosedRows.{Stays}
 use Rattle.rrb_core.specs.Build.{AreRows}
-use Rattle.rrb_join.specs.Unmade.{items_below, AreLinks, AreThick, IsRow, AreUnmade}
+use Rattle.rrb_join.specs.Unmade.{items_below, AreLinks, AreThick, IsSomeRow, AreUnmade}
 use Rattle.rrb_core.proofs.Lists.{items-drop}
 use Rattle.rrb_core.proofs.Stays.{links-stay, seq-stays, well-stays, thick-stays, sums-stay, items-stay, all-thick-stay, rows-stay}
 use Rattle.rrb_core.proofs.RowLists.{no-rows, rows-drop, rows-append, rows-live, IsOver, at-place, child-at}
 use Rattle.rrb_join.proofs.UnmadeLemmas.{has-links, rows-above, items-above, thick-above, leaf-items, leaf-are-links, links-append, thick-append, items-append, links-later, items-later, thick-later, links-live}
 use Rattle.rrb_join.proofs.SeamLemmas.{child-thick, child-row}
 
-pub row-later : {T : Type 0} {P : ℕ → Type 0} {old new : Heap T} → Stays P old new → (n l : ℕ) → P l → IsRow old n l → IsRow new n l
+pub row-later : {T : Type 0} {P : ℕ → Type 0} {old new : Heap T} → Stays P old new → (n l : ℕ) → P l → IsSomeRow old n l → IsSomeRow new n l
 row-later s n l p r = record { well = well-stays s n l p r.well; sums = sums-stay s n l p r.sums; some = rw (links-stay s l p) r.some }
 
 -- links before those of a row of their height
-pub record IsMerged {T : Type 0} (h z : Heap T) (n level r : ℕ) (parts all : List ℕ) : Type 0 where
-  pub unmade : AreUnmade z level all (items_below h level parts ++ seq_at (form_at h) n r)
+pub record IsMerged {T : Type 0} (h z : Heap T) (n m r : ℕ) (parts all : List ℕ) : Type 0 where
+  pub unmade : AreUnmade z m all (items_below h m parts ++ seq_at (form_at h) n r)
   pub more : length parts < length all
-  pub thick : IsThick (form_at h) n r → (16 ≤ length all) × AreThick z level all
+  pub thick : IsThick (form_at h) n r → (16 ≤ length all) × AreThick z m all
 
-pub merged : {T : Type 0} (h z : Heap T) (n level r : ℕ) (parts all : List ℕ) → Stays (λ x. IsSome (row_at h x)) h z → level ≡ n → AreLinks h level parts → AreThick h level parts → length parts ≤ 32
-    → IsRow h n r → all ≡ (take 0 (links_at h r) ++ parts) ++ drop 0 (links_at h r) → IsMerged h z n level r parts all
-merged h z n level r parts all s e links thick few row is =
-    let own = has-links h level r (rw e row.well) (rw e row.sums) in
+pub merged : {T : Type 0} (h z : Heap T) (n m r : ℕ) (parts all : List ℕ) → Stays (λ x. IsSome (row_at h x)) h z → m ≡ n → AreLinks h m parts → AreThick h m parts → length parts ≤ 32
+    → IsSomeRow h n r → all ≡ (take 0 (links_at h r) ++ parts) ++ drop 0 (links_at h r) → IsMerged h z n m r parts all
+merged h z n m r parts all s e links thick few row is =
+    let own = has-links h m r (rw e row.well) (rw e row.sums) in
     let size : length all ≡ length parts + length (links_at h r) = rw is (length-append parts (links_at h r)) in
-    let whole : AreLinks h level (parts ++ links_at h r) = links-append h level parts (links_at h r) links thick own.links in
-    let live = λ (p : 0 < level). links-live h level (parts ++ links_at h r) whole p in
-    let items : items_below h level (parts ++ links_at h r) ≡ items_below h level parts ++ seq_at (form_at h) n r = rw (← e) (items-append h level parts (links_at h r) ∙ ap (λ xs. items_below h level parts ++ xs) own.items) in
+    let whole : AreLinks h m (parts ++ links_at h r) = links-append h m parts (links_at h r) links thick own.links in
+    let live = λ (p : 0 < m). links-live h m (parts ++ links_at h r) whole p in
+    let items : items_below h m (parts ++ links_at h r) ≡ items_below h m parts ++ seq_at (form_at h) n r = rw (← e) (items-append h m parts (links_at h r) ∙ ap (λ xs. items_below h m parts ++ xs) own.items) in
     record {
       unmade = record {
-        links = rw is (links-later s level (parts ++ links_at h r) live whole);
-        items = rw is (items-later s level (parts ++ links_at h r) live ∙ items);
+        links = rw is (links-later s m (parts ++ links_at h r) live whole);
+        items = rw is (items-later s m (parts ++ links_at h r) live ∙ items);
         some = omega (arith, size, row.some);
         most = omega (arith, size, few, own.most);
       };
       more = omega (arith, size, row.some);
       thick = λ t.
           let own-thick = own.thick (rw e t) in
-          (omega (arith, size, own-thick.0), rw is (thick-later s level (parts ++ links_at h r) live (thick-append h level parts (links_at h r) thick own-thick.1)));
+          (omega (arith, size, own-thick.0), rw is (thick-later s m (parts ++ links_at h r) live (thick-append h m parts (links_at h r) thick own-thick.1)));
     }
 
 -- the later children of a row, beside links of which the height is known where there is a later child
-pub record AreBeside {T : Type 0} (h z : Heap T) (under level l from : ℕ) : Type 0 where
-  pub rows : AreRows z level (drop from (links_at z l))
-  pub items : flat_map (seq_at (form_at z) level) (drop from (links_at z l)) ≡ flat_map (seq_at (form_at h) under) (drop from (links_at h l))
-  pub thick : All (IsThick (form_at h) under) (drop from (links_at h l)) → All (IsThick (form_at z) level) (drop from (links_at z l))
+pub record AreBeside {T : Type 0} (h z : Heap T) (below m l from : ℕ) : Type 0 where
+  pub rows : AreRows z m (drop from (links_at z l))
+  pub items : flat_map (seq_at (form_at z) m) (drop from (links_at z l)) ≡ flat_map (seq_at (form_at h) below) (drop from (links_at h l))
+  pub thick : All (IsThick (form_at h) below) (drop from (links_at h l)) → All (IsThick (form_at z) m) (drop from (links_at z l))
   pub same : links_at z l ≡ links_at h l
 
-pub beside : {T : Type 0} (h z : Heap T) (under level l from : ℕ) → Stays (λ x. IsSome (row_at h x)) h z → IsOver h under l → (from < length (links_at h l) → level ≡ under) → AreBeside h z under level l from
-beside h z under level l from s o more =
+pub beside : {T : Type 0} (h z : Heap T) (below m l from : ℕ) → Stays (λ x. IsSome (row_at h x)) h z → IsOver h below l → (from < length (links_at h l) → m ≡ below) → AreBeside h z below m l from
+beside h z below m l from s o more =
     let same : links_at z l ≡ links_at h l = links-stay s l o.live in
-    elim (cases_lt from (length (links_at h l))) as (λ _. AreBeside h z under level l from) [
+    elim (cases_lt from (length (links_at h l))) as (λ _. AreBeside h z below m l from) [
       | inl lt ↦
-          let e : level ≡ under = more lt in
-          let rows : AreRows h under (drop from (links_at h l)) = rows-drop h under from (links_at h l) o.rows in
-          let live = rows-live h under (drop from (links_at h l)) rows in
+          let e : m ≡ below = more lt in
+          let rows : AreRows h below (drop from (links_at h l)) = rows-drop h below from (links_at h l) o.rows in
+          let live = rows-live h below (drop from (links_at h l)) rows in
           record {
-            rows = rw (same, e) (rows-stay s under (drop from (links_at h l)) live rows);
-            items = rw (same, e) (items-stay s under (drop from (links_at h l)) live);
-            thick = rw (same, e) (λ t. all-thick-stay s under (drop from (links_at h l)) live t);
+            rows = rw (same, e) (rows-stay s below (drop from (links_at h l)) live rows);
+            items = rw (same, e) (items-stay s below (drop from (links_at h l)) live);
+            thick = rw (same, e) (λ t. all-thick-stay s below (drop from (links_at h l)) live t);
             same = same;
           }
       | inr ge ↦
           let none : drop from (links_at h l) ≡ [] = drop_all from (links_at h l) ge in
           record {
-            rows = rw (same, none) (no-rows z level);
+            rows = rw (same, none) (no-rows z m);
             items = rw (same, none) refl;
-            thick = rw (same, none) (λ t. All-nil (IsThick (form_at z) level));
+            thick = rw (same, none) (λ t. All-nil (IsThick (form_at z) m));
             same = same;
           }
     ]
 
 -- one row or two over the links, before the later children of a row
-pub record IsRaised {T : Type 0} (h k z : Heap T) (level l from : ℕ) (ls made all : List ℕ) : Type 0 where
-  pub unmade : AreUnmade z (suc level) all (items_below h level ls ++ flat_map (seq_at (form_at h) level) (drop from (links_at h l)))
+pub record IsRaised {T : Type 0} (h k z : Heap T) (m l from : ℕ) (ls made all : List ℕ) : Type 0 where
+  pub unmade : AreUnmade z (suc m) all (items_below h m ls ++ flat_map (seq_at (form_at h) m) (drop from (links_at h l)))
   pub size : length all ≡ length made + (length (links_at h l) - from)
-  pub thick : All (IsThick (form_at k) level) made → All (IsThick (form_at h) level) (drop from (links_at h l)) → AreThick z (suc level) all
+  pub thick : All (IsThick (form_at k) m) made → All (IsThick (form_at h) m) (drop from (links_at h l)) → AreThick z (suc m) all
 
-pub raised : {T : Type 0} (h k z : Heap T) (level l from : ℕ) (ls made all : List ℕ) → Stays (λ x. IsSome (row_at h x)) h z → Stays (λ x. IsSome (row_at k x)) k z → links_at k l ≡ links_at h l
-    → AreRows h level (drop from (links_at h l)) → AreRows k level made → flat_map (seq_at (form_at k) level) made ≡ items_below h level ls
-    → (from < length (links_at h l) → All (IsThick (form_at k) level) made) → 1 ≤ length made → length made ≤ 2 → length (links_at h l) ≤ from + 31 → all ≡ (take 0 (links_at k l) ++ made) ++ drop from (links_at k l)
-    → IsRaised h k z level l from ls made all
-raised h k z level l from ls made all s s' same back rows items close some few fits gathered =
+pub raised : {T : Type 0} (h k z : Heap T) (m l from : ℕ) (ls made all : List ℕ) → Stays (λ x. IsSome (row_at h x)) h z → Stays (λ x. IsSome (row_at k x)) k z → links_at k l ≡ links_at h l
+    → AreRows h m (drop from (links_at h l)) → AreRows k m made → flat_map (seq_at (form_at k) m) made ≡ items_below h m ls
+    → (from < length (links_at h l) → All (IsThick (form_at k) m) made) → 1 ≤ length made → length made ≤ 2 → length (links_at h l) ≤ from + 31 → all ≡ (take 0 (links_at k l) ++ made) ++ drop from (links_at k l)
+    → IsRaised h k z m l from ls made all
+raised h k z m l from ls made all s s' same back rows items close some few fits gathered =
     let is : all ≡ made ++ drop from (links_at h l) = rw same at gathered in
-    let back-live = rows-live h level (drop from (links_at h l)) back in
-    let made-live = rows-live k level made rows in
+    let back-live = rows-live h m (drop from (links_at h l)) back in
+    let made-live = rows-live k m made rows in
     let size : length all ≡ length made + (length (links_at h l) - from) = rw is (omega (arith, length-append made (drop from (links_at h l)), length-drop from (links_at h l))) in
     record {
       unmade = record {
-        links = rows-above z level all (rw is (rows-append z level made (drop from (links_at h l)) (rows-stay s' level made made-live rows) (rows-stay s level (drop from (links_at h l)) back-live back)
-            (λ more. all-thick-stay s' level made made-live (close (omega (arith, length-drop from (links_at h l)))))));
-        items = items-above z level all ∙ rw is (flat_map-append (seq_at (form_at z) level) made (drop from (links_at h l)) ∙ rw (items-stay s' level made made-live, items-stay s level (drop from (links_at h l)) back-live, items) refl);
+        links = rows-above z m all (rw is (rows-append z m made (drop from (links_at h l)) (rows-stay s' m made made-live rows) (rows-stay s m (drop from (links_at h l)) back-live back)
+            (λ more. all-thick-stay s' m made made-live (close (omega (arith, length-drop from (links_at h l)))))));
+        items = items-above z m all ∙ rw is (flat_map-append (seq_at (form_at z) m) made (drop from (links_at h l)) ∙ rw (items-stay s' m made made-live, items-stay s m (drop from (links_at h l)) back-live, items) refl);
         some = omega (arith, size, some);
         most = omega (arith, size, few, fits);
       };
       size = size;
-      thick = λ t u. thick-above z level all (rw is (All-append (IsThick (form_at z) level) made (drop from (links_at h l)) (all-thick-stay s' level made made-live t) (all-thick-stay s level (drop from (links_at h l)) back-live u)));
+      thick = λ t u. thick-above z m all (rw is (All-append (IsThick (form_at z) m) made (drop from (links_at h l)) (all-thick-stay s' m made made-live t) (all-thick-stay s m (drop from (links_at h l)) back-live u)));
     }
 
 -- a rest that stays as it is, since no row stands beside it
-pub kept : {T : Type 0} (h : Heap T) (level l from : ℕ) (ls : List ℕ) → length (links_at h l) ≤ from → AreLinks h level ls → 1 ≤ length ls → length ls ≤ 64 → AreUnmade h level ls (items_below h level ls ++ flat_map (seq_at (form_at h) level) (drop from (links_at h l)))
-kept h level l from ls end links some most =
+pub kept : {T : Type 0} (h : Heap T) (m l from : ℕ) (ls : List ℕ) → length (links_at h l) ≤ from → AreLinks h m ls → 1 ≤ length ls → length ls ≤ 64 → AreUnmade h m ls (items_below h m ls ++ flat_map (seq_at (form_at h) m) (drop from (links_at h l)))
+kept h m l from ls end links some most =
     let none : drop from (links_at h l) ≡ [] = drop_all from (links_at h l) end in
-    record { links = links; items = rw none (sym (append-nil (items_below h level ls))); some = some; most = most }
+    record { links = links; items = rw none (sym (append-nil (items_below h m ls))); some = some; most = most }
 
 -- the rest of a leaf
 pub leaf-rest : {T : Type 0} (h z : Heap T) (n l count : ℕ) (all : List ℕ) → n ≡ 0 → IsWell (form_at h) n l → HasSums h n l → count < length (seq_at (form_at h) n l) → all ≡ (take 0 (links_at h l) ++ []) ++ drop count (links_at h l)
@@ -127,61 +128,61 @@ leaf-rest h z n l count all e well sums inside is =
       omega (arith, size, own.most),
     )
 
-module _ {T : Type 0} (h : Heap T) (under l : ℕ) (o : IsOver h under l) (i within count : ℕ) (lt : i < length (links_at h l)) (is : length (flat_map (seq_at (form_at h) under) (take i (links_at h l))) + within ≡ count) (inside : within < length (seq_at (form_at h) under (get_or (links_at h l) i 0))) where
+module _ {T : Type 0} (h : Heap T) (below l : ℕ) (o : IsOver h below l) (i within count : ℕ) (lt : i < length (links_at h l)) (is : length (flat_map (seq_at (form_at h) below) (take i (links_at h l))) + within ≡ count) (inside : within < length (seq_at (form_at h) below (get_or (links_at h l) i 0))) where
   -- the rest of the last child is the rest of the row
-  pub rest-last : i + 1 ≡ length (links_at h l) → drop within (seq_at (form_at h) under (get_or (links_at h l) i 0)) ≡ drop count (seq_at (form_at h) (suc under) l)
-  rest-last end =
-      let cut = items-drop (seq_at (form_at h) under) (links_at h l) i within count lt is (omega (arith, inside)) in
+  pub rest-last : (height : ℕ) → height ≡ suc below → i + 1 ≡ length (links_at h l) → drop within (seq_at (form_at h) below (get_or (links_at h l) i 0)) ≡ drop count (seq_at (form_at h) height l)
+  rest-last height e end =
+      let cut = items-drop (seq_at (form_at h) below) (links_at h l) i within count lt is (omega (arith, inside)) in
       let none : drop (i + 1) (links_at h l) ≡ [] = drop_all (i + 1) (links_at h l) (omega arith) in
-      sym (rw o.items (rw (none, append-nil) at cut))
+      rw e (sym (rw o.items (rw (none, append-nil) at cut)))
 
   -- the rest of another child, the next one, and those after it are the rest of the row
-  pub rest-next : i + 1 < length (links_at h l) → (drop within (seq_at (form_at h) under (get_or (links_at h l) i 0)) ++ seq_at (form_at h) under (get_or (links_at h l) (i + 1) 0)) ++ flat_map (seq_at (form_at h) under) (drop (i + 1 + 1) (links_at h l)) ≡ drop count (seq_at (form_at h) (suc under) l)
+  pub rest-next : i + 1 < length (links_at h l) → (drop within (seq_at (form_at h) below (get_or (links_at h l) i 0)) ++ seq_at (form_at h) below (get_or (links_at h l) (i + 1) 0)) ++ flat_map (seq_at (form_at h) below) (drop (i + 1 + 1) (links_at h l)) ≡ drop count (seq_at (form_at h) (suc below) l)
   rest-next more =
-      let cut = items-drop (seq_at (form_at h) under) (links_at h l) i within count lt is (omega (arith, inside)) in
+      let cut = items-drop (seq_at (form_at h) below) (links_at h l) i within count lt is (omega (arith, inside)) in
       let next : drop (i + 1) (links_at h l) ≡ get_or (links_at h l) (i + 1) 0 ∷ drop (i + 1 + 1) (links_at h l) = drop_more (links_at h l) (i + 1) 0 more in
-      rw (o.items, cut, next) (append_assoc (drop within (seq_at (form_at h) under (get_or (links_at h l) i 0))) (seq_at (form_at h) under (get_or (links_at h l) (i + 1) 0)) (flat_map (seq_at (form_at h) under) (drop (i + 1 + 1) (links_at h l))))
+      rw (o.items, cut, next) (append_assoc (drop within (seq_at (form_at h) below (get_or (links_at h l) i 0))) (seq_at (form_at h) below (get_or (links_at h l) (i + 1) 0)) (flat_map (seq_at (form_at h) below) (drop (i + 1 + 1) (links_at h l))))
 
   -- the rest of a child and the next one have no more elements than the row
-  pub rest-short : i + 1 < length (links_at h l) → length (drop within (seq_at (form_at h) under (get_or (links_at h l) i 0))) + length (seq_at (form_at h) under (get_or (links_at h l) (i + 1) 0)) ≤ length (seq_at (form_at h) (suc under) l)
+  pub rest-short : i + 1 < length (links_at h l) → length (drop within (seq_at (form_at h) below (get_or (links_at h l) i 0))) + length (seq_at (form_at h) below (get_or (links_at h l) (i + 1) 0)) ≤ length (seq_at (form_at h) (suc below) l)
   rest-short more =
       let e = ap length (rest-next more) in
       omega (
         arith,
         e,
-        length-append (drop within (seq_at (form_at h) under (get_or (links_at h l) i 0)) ++ seq_at (form_at h) under (get_or (links_at h l) (i + 1) 0)) (flat_map (seq_at (form_at h) under) (drop (i + 1 + 1) (links_at h l))),
-        length-append (drop within (seq_at (form_at h) under (get_or (links_at h l) i 0))) (seq_at (form_at h) under (get_or (links_at h l) (i + 1) 0)),
-        length-drop count (seq_at (form_at h) (suc under) l),
+        length-append (drop within (seq_at (form_at h) below (get_or (links_at h l) i 0)) ++ seq_at (form_at h) below (get_or (links_at h l) (i + 1) 0)) (flat_map (seq_at (form_at h) below) (drop (i + 1 + 1) (links_at h l))),
+        length-append (drop within (seq_at (form_at h) below (get_or (links_at h l) i 0))) (seq_at (form_at h) below (get_or (links_at h l) (i + 1) 0)),
+        length-drop count (seq_at (form_at h) (suc below) l),
       )
 
 -- the child in which the rest of a row begins isn't its last, and the next one stands in a later heap
-pub record IsNext {T : Type 0} (h a : Heap T) (under l i within count child next : ℕ) : Type 0 where
+pub record IsNext {T : Type 0} (h a : Heap T) (height below l i within count child next : ℕ) : Type 0 where
   pub more : i + 1 < length (links_at h l)
-  pub child_thick : IsThick (form_at h) under child
-  pub row : IsRow a under next
-  pub same : seq_at (form_at a) under next ≡ seq_at (form_at h) under next
-  pub items : (drop within (seq_at (form_at h) under child) ++ seq_at (form_at h) under next) ++ flat_map (seq_at (form_at h) under) (drop (i + 1 + 1) (links_at h l)) ≡ drop count (seq_at (form_at h) (suc under) l)
-  pub short : length (drop within (seq_at (form_at h) under child)) + length (seq_at (form_at h) under next) ≤ length (seq_at (form_at h) (suc under) l)
-  pub close : i + 1 + 1 < length (links_at h l) → IsThick (form_at a) under next
-  pub thick : IsThick (form_at h) (suc under) l → IsThick (form_at a) under next × All (IsThick (form_at h) under) (drop (i + 1 + 1) (links_at h l))
+  pub child_thick : IsThick (form_at h) below child
+  pub row : IsSomeRow a below next
+  pub same : seq_at (form_at a) below next ≡ seq_at (form_at h) below next
+  pub items : (drop within (seq_at (form_at h) below child) ++ seq_at (form_at h) below next) ++ flat_map (seq_at (form_at h) below) (drop (i + 1 + 1) (links_at h l)) ≡ drop count (seq_at (form_at h) height l)
+  pub short : length (drop within (seq_at (form_at h) below child)) + length (seq_at (form_at h) below next) ≤ length (seq_at (form_at h) height l)
+  pub close : i + 1 + 1 < length (links_at h l) → IsThick (form_at a) below next
+  pub thick : IsThick (form_at h) height l → IsThick (form_at a) below next × All (IsThick (form_at h) below) (drop (i + 1 + 1) (links_at h l))
 
-pub is-next : {T : Type 0} (h a : Heap T) (under l i within count child next : ℕ) (links : List ℕ) → Stays (λ x. IsSome (row_at h x)) h a → IsOver h under l → i < length (links_at h l) → length (flat_map (seq_at (form_at h) under) (take i (links_at h l))) + within ≡ count
-    → within < length (seq_at (form_at h) under (get_or (links_at h l) i 0)) → child ≡ get_or (links_at h l) i 0 → i + 1 < length (links_at h l) → links ≡ links_at a l → next ≡ get_or links (i + 1) next → IsNext h a under l i within count child next
-is-next h a under l i within count child next links s o lt is inside child-is more links-are found =
+pub is-next : {T : Type 0} (h a : Heap T) (height below l i within count child next : ℕ) (links : List ℕ) → height ≡ suc below → Stays (λ x. IsSome (row_at h x)) h a → IsOver h below l → i < length (links_at h l) → length (flat_map (seq_at (form_at h) below) (take i (links_at h l))) + within ≡ count
+    → within < length (seq_at (form_at h) below (get_or (links_at h l) i 0)) → child ≡ get_or (links_at h l) i 0 → i + 1 < length (links_at h l) → links ≡ links_at a l → next ≡ get_or links (i + 1) next → IsNext h a height below l i within count child next
+is-next h a height below l i within count child next links e s o lt is inside child-is more links-are found =
     let same : links_at a l ≡ links_at h l = links-stay s l o.live in
     let next-is : next ≡ get_or (links_at h l) (i + 1) 0 = at-place links (links_at h l) (i + 1) next found (links-are ∙ same) more in
-    let there = child-at h under l (i + 1) next o more next-is in
-    let keep : IsThick (form_at h) under next → IsThick (form_at a) under next = λ t. thick-stays s under next there.live t in
-    record {
+    let there = child-at h below l (i + 1) next o more next-is in
+    let keep : IsThick (form_at h) below next → IsThick (form_at a) below next = λ t. thick-stays s below next there.live t in
+    rw e (record {
       more = more;
-      child_thick = rw child-is (child-thick h under l i o more);
-      row = row-later s under next there.live (child-row h under l next there);
-      same = seq-stays s under next there.live;
-      items = rw (child-is, next-is) (rest-next h under l o i within count lt is inside more);
-      short = rw (child-is, next-is) (rest-short h under l o i within count lt is inside more);
-      close = λ further. keep (rw next-is (child-thick h under l (i + 1) o further));
-      thick = λ t. (keep (there.thick t), All-drop (IsThick (form_at h) under) (i + 1 + 1) (links_at h l) (o.thick t).1);
-    }
+      child_thick = rw child-is (child-thick h below l i o more);
+      row = row-later s below next there.live (child-row h below l next there);
+      same = seq-stays s below next there.live;
+      items = rw (child-is, next-is) (rest-next h below l o i within count lt is inside more);
+      short = rw (child-is, next-is) (rest-short h below l o i within count lt is inside more);
+      close = λ further. keep (rw next-is (child-thick h below l (i + 1) o further));
+      thick = λ t. (keep (there.thick t), All-drop (IsThick (form_at h) below) (i + 1 + 1) (links_at h l) (o.thick t).1);
+    })
 
 pub joined-items : (a b c d e f : List ℕ) → a ≡ b ++ c → d ≡ e → f ≡ c ++ e → a ++ d ≡ b ++ f
 joined-items a b c d e f p q r = rw (p, q, r) (append_assoc b c e)

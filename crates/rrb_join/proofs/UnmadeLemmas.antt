@@ -6,14 +6,16 @@ use Rattle.std.proofs.lemmas.Bool.{cases_lt}
 use Rattle.std.proofs.lemmas.List.Concat.{flat_map-append}
 use Rattle.std.proofs.lemmas.List.Elements.{All-nil, All-cons, All-append, All-drop}
 use Rattle.node_heap.specs.Links.{count}
-use Rattle.node_heap.specs.Heap.{Heap, row_at, form_at, links_at, holds_at}
+use Rattle.node_heap.specs.Heap.{Heap, row_at, form_at, links_at, holds_at, hold_count, IsGraph}
+use Rattle.node_heap.specs.Calls.{Builds}
 use Rattle.rrb_core.specs.Seq.{seq_at, IsThick, IsWell}
-use Rattle.rrb_core.specs.Vector.{HasSums, Stays, height_at, elements, IsGoodVector}
-use Rattle.rrb_core.specs.Build.{IsRowOf, AreRows, Builds}
-use Rattle.rrb_join.specs.Unmade.{items_below, AreLinks, AreThick, IsRow}
+use Rattle.rrb_core.specs.Vector.{HasSums, height_at, elements, IsGoodVector}
+use Rattle.rrb_core.proofs.ClosedRows.{Stays}
+use Rattle.rrb_core.specs.Build.{IsRowOf, AreRows}
+use Rattle.rrb_join.specs.Unmade.{items_below, AreLinks, AreThick, IsSomeRow, AreUnmade, CanBeRows}
 use Rattle.rrb_core.proofs.Lists.{child-short}
 use Rattle.rrb_core.proofs.LinkCounts.{count-split}
-use Rattle.rrb_core.proofs.BuildLemmas.{builds-beside}
+use Rattle.node_heap.proofs.BuildLemmas.{Builds-beside}
 use Rattle.rrb_core.proofs.FillRule.{well-most, thick-low, links-some}
 use Rattle.rrb_core.proofs.Stays.{links-form, well-live, links-stay, items-stay, thick-stays, all-thick-stay, rows-stay, row-stays}
 use Rattle.rrb_core.proofs.RowLists.{rows-append, rows-take, rows-drop, take-thick, rows-live, inner-thick, leaf-thick, over}
@@ -166,6 +168,10 @@ unfolding AreLinks AreThick
 row-thick old new zero l ls s a is enough t = leaf-thick new l ls is enough
 row-thick old new (suc n) l ls s a is enough t = inner-thick new old n l ls s a is enough t
 
+-- rows can be made over unmade links that are held
+pub unmade-rows : {T : Type 0} {h : Heap T} {n : ℕ} {ls xs : List ℕ} → AreUnmade h n ls xs → IsGraph h → n ≤ 7 → length xs < 2 ^ 32 → ((k : ℕ) → count k ls ≤ holds_at h k) → hold_count h < 2 ^ 60 → CanBeRows h n ls
+unmade-rows unmade graph low short held few = record { graph = graph; links = unmade.links; some = unmade.some; low = low; short = rw unmade.items short; held = held; holds = few }
+
 -- what one row or two are over these links
 pub record AreOver {T : Type 0} (old new : Heap T) (n : ℕ) (made ls : List ℕ) : Type 0 where
   pub rows : AreRows new n made
@@ -214,12 +220,12 @@ links-rest {T} {old} {mid} n i ls s links =
     let rest : AreLinks old n (drop i ls) = links-drop old n i ls links in
     rw (take_rest ls i) (links-later s n (drop i ls) (λ p. links-live old n (drop i ls) rest p) rest)
 
-pub held-rest : {T : Type 0} {old mid : Heap T} {a m : ℕ} (i : ℕ) (ls : List ℕ) → Builds old mid (take i ls) (a ∷ []) m → ((k : ℕ) → count k ls ≤ holds_at old k) → (k : ℕ) → count k (take (length ls - i) (drop i ls)) ≤ holds_at mid k
+pub held-rest : {T : Type 0} {old mid : Heap T} {a m : ℕ} (i : ℕ) (ls : List ℕ) → Builds old mid (take i ls) (a ∷ []) 0 m → ((k : ℕ) → count k ls ≤ holds_at old k) → (k : ℕ) → count k (take (length ls - i) (drop i ls)) ≤ holds_at mid k
 held-rest {T} {old} {mid} {a} {m} i ls built held k = rw (take_rest ls i) (omega (arith, held k, count-split k i ls, built.holds k))
 
-pub builds-two : {T : Type 0} {old mid new : Heap T} {a b : ℕ} (i : ℕ) (ls : List ℕ) → Builds old mid (take i ls) (a ∷ []) 1 → Builds mid new (take (length ls - i) (drop i ls)) (b ∷ []) 1 → Builds old new ls (a ∷ b ∷ []) 2
+pub builds-two : {T : Type 0} {old mid new : Heap T} {a b : ℕ} (i : ℕ) (ls : List ℕ) → Builds old mid (take i ls) (a ∷ []) 0 1 → Builds mid new (take (length ls - i) (drop i ls)) (b ∷ []) 0 1 → Builds old new ls (a ∷ b ∷ []) 0 2
 builds-two {T} {old} {mid} {new} {a} {b} i ls one two =
-    let both = builds-beside one (rw (take_rest ls i) at two) in
+    let both = Builds-beside one (rw (take_rest ls i) at two) in
     rw (take-append-drop i ls) at both
 
 -- how long they are
@@ -265,6 +271,10 @@ no-elements h l good none =
 pub leaf-length : {T : Type 0} (h : Heap T) (n l : ℕ) → n ≡ 0 → IsWell (form_at h) n l → HasSums h n l → length (links_at h l) ≡ length (seq_at (form_at h) n l)
 leaf-length h n l e w s = ap length (sym (leaf-items h n (links_at h l) e) ∙ (has-links h n l w s).items)
 
+-- at a leaf's height the links that aren't made yet are the elements
+pub unmade-length : {T : Type 0} (h : Heap T) (n : ℕ) (ls xs : List ℕ) → AreUnmade h n ls xs → n ≡ 0 → length ls ≡ length xs
+unmade-length h n ls xs made e = ap length (sym (leaf-items h n ls e) ∙ made.items)
+
 -- a vector with elements is a row with links
-pub root-is-row : {T : Type 0} (h : Heap T) (l : ℕ) → IsGoodVector h l → 1 ≤ length (links_at h l) → IsRow h (height_at h l) l
+pub root-is-row : {T : Type 0} (h : Heap T) (l : ℕ) → IsGoodVector h l → 1 ≤ length (links_at h l) → IsSomeRow h (height_at h l) l
 root-is-row h l good some = record { well = good.shape.well; sums = good.sums; some = some }

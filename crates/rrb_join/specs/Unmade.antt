@@ -1,7 +1,8 @@
 -- Links of which rows are to be made, and the parts of rows that are joined.
-use Rattle.std.specs.Prelude.{◌≡◌, ℕ, zero, suc, ◌+◌, ◌<◌, ◌≤◌, List, ◌++◌, length, take, drop}
+use Rattle.std.specs.Prelude.{◌≡◌, ℕ, zero, suc, ◌+◌, ◌<◌, ◌≤◌, ◌^◌, List, ◌++◌, length, take, drop}
 use Rattle.std.specs.List.{All, flat_map}
-use Rattle.node_heap.specs.Heap.{Heap, form_at, links_at}
+use Rattle.node_heap.specs.Links.{count}
+use Rattle.node_heap.specs.Heap.{Heap, form_at, links_at, holds_at, hold_count, IsGraph}
 use Rattle.rrb_core.specs.Seq.{seq_at, IsThick, IsWell}
 use Rattle.rrb_core.specs.Vector.{HasSums}
 use Rattle.rrb_core.specs.Build.{AreRows}
@@ -23,7 +24,7 @@ module _ {T : Type 0} where
   AreThick h (suc n) ls = All (IsThick (form_at h) n) ls
 
   -- a row of height n that is not empty
-  pub record IsRow (h : Heap T) (n l : ℕ) : Type 0 where
+  pub record IsSomeRow (h : Heap T) (n l : ℕ) : Type 0 where
     pub well : IsWell (form_at h) n l
     pub sums : HasSums h n l
     pub some : 1 ≤ length (links_at h l)
@@ -35,25 +36,35 @@ module _ {T : Type 0} where
     pub some : 1 ≤ length ls
     pub most : length ls ≤ 64
 
-  -- the row l of height n is its first `place` links, which are thick rows of the height `under`, and then a row of height m
-  pub record EndsIn (h : Heap T) (under n l place m last : ℕ) : Type 0 where
-    pub row : IsRow h m last
-    pub low : m ≤ under
+  -- links of one row of height n or of two, each with a hold for its places, over which that row or those can be made
+  pub record CanBeRows (h : Heap T) (n : ℕ) (ls : List ℕ) : Type 0 where
+    pub graph : IsGraph h
+    pub links : AreLinks h n ls
+    pub some : 1 ≤ length ls
+    pub low : n ≤ 7
+    pub short : length (items_below h n ls) < 2 ^ 32
+    pub held : (k : ℕ) → count k ls ≤ holds_at h k
+    pub holds : hold_count h < 2 ^ 60
+
+  -- the row l of height n is its first `place` links, which are thick rows of the height `below`, and then a row of height m
+  pub record EndsIn (h : Heap T) (below n l place m last : ℕ) : Type 0 where
+    pub row : IsSomeRow h m last
+    pub low : m ≤ below
     pub inside : place ≤ length (links_at h l)
-    pub rows : AreRows h under (take place (links_at h l))
-    pub thick : All (IsThick (form_at h) under) (take place (links_at h l))
-    pub items : seq_at (form_at h) n l ≡ flat_map (seq_at (form_at h) under) (take place (links_at h l)) ++ seq_at (form_at h) m last
-    pub wide : n ≡ suc under → place + 1 ≡ length (links_at h l)
+    pub rows : AreRows h below (take place (links_at h l))
+    pub thick : All (IsThick (form_at h) below) (take place (links_at h l))
+    pub items : seq_at (form_at h) n l ≡ flat_map (seq_at (form_at h) below) (take place (links_at h l)) ++ seq_at (form_at h) m last
+    pub wide : n ≡ suc below → place + 1 ≡ length (links_at h l)
     pub few : place ≤ 31
 
-  -- the row l of height n is a row of height m, and then its links from `place` on, which are rows of the height `under`
-  pub record BeginsWith (h : Heap T) (under n l place m first : ℕ) : Type 0 where
-    pub row : IsRow h m first
-    pub low : m ≤ under
+  -- the row l of height n is a row of height m, and then its links from `place` on, which are rows of the height `below`
+  pub record BeginsWith (h : Heap T) (below n l place m first : ℕ) : Type 0 where
+    pub row : IsSomeRow h m first
+    pub low : m ≤ below
     pub inside : place ≤ length (links_at h l)
-    pub rows : AreRows h under (drop place (links_at h l))
-    pub close : place < length (links_at h l) → (m ≡ under) × IsThick (form_at h) under first
-    pub items : seq_at (form_at h) n l ≡ seq_at (form_at h) m first ++ flat_map (seq_at (form_at h) under) (drop place (links_at h l))
-    pub wide : n ≡ suc under → place ≡ 1
-    pub thick : n ≡ suc under → IsThick (form_at h) n l → (m ≡ under) × IsThick (form_at h) under first × All (IsThick (form_at h) under) (drop place (links_at h l)) × (16 ≤ length (links_at h l))
+    pub rows : AreRows h below (drop place (links_at h l))
+    pub close : place < length (links_at h l) → (m ≡ below) × IsThick (form_at h) below first
+    pub items : seq_at (form_at h) n l ≡ seq_at (form_at h) m first ++ flat_map (seq_at (form_at h) below) (drop place (links_at h l))
+    pub wide : n ≡ suc below → place ≡ 1
+    pub thick : n ≡ suc below → IsThick (form_at h) n l → (m ≡ below) × IsThick (form_at h) below first × All (IsThick (form_at h) below) (drop place (links_at h l)) × (16 ≤ length (links_at h l))
     pub few : length (links_at h l) ≤ place + 31

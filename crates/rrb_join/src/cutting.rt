@@ -1,14 +1,15 @@
 //! Parts of a vector.
-ghost use Rattle.std.specs.Prelude.{◌≡◌, ◌≢◌, ◌↔◌, ◌+◌, ◌<◌, ◌≤◌, ◌^◌, [], ◌++◌, length, take, drop, IfOk, OnErr, IsOk, IsTrue, Err};
+ghost use Rattle.std.specs.Prelude.{◌≡◌, ◌≢◌, ◌↔◌, ℕ, ◌+◌, ◌*◌, ◌<◌, ◌≤◌, ◌^◌, [], ◌++◌, length, take, drop, IfOk, OnErr, IsOk, IsTrue, Err};
 ghost use Rattle.node_heap.specs.Heap.{hold_count, HasSpares, IsGraph};
-ghost use Rattle.node_heap.specs.Calls.{Answered, Unchanged};
-ghost use Rattle.rrb_core.specs.Vector.{elements, IsGoodVector};
+ghost use Rattle.node_heap.specs.Calls.{Answered, MakesJust, Unchanged};
+ghost use Rattle.rrb_core.specs.Vector.{elements, height_at, IsGoodVector, IsSameVector};
+ghost use Rattle.rrb_join.specs.Answers.{GivesItself, IsPart};
 
 use crate::joining::{SEAM_NODES, joined_root};
 use crate::rests::rest_root;
 use elem_core::NoMemory;
 use node_heap::{Heap, Link};
-use rrb_core::{Flex, FlexRef, take};
+use rrb_core::{Flex, FlexRef, TAKE_NODES, take};
 use thiserror::Error;
 
 /// Why a part of a vector was not given, or not erased.
@@ -32,21 +33,25 @@ impl From<NoMemory> for SliceFault {
     }
 }
 
-// The most nodes that a `take` makes.
-const TAKE_NODES: usize = 8;
-
 /// The vector without its first `count` elements, which is the empty one past the end. It makes rows along the cut alone,
-/// at most 17 nodes, and shares all others. Refused only where memory runs out, and then nothing but the heap's spares
-/// changes.
+/// at most two for each height of the vector and one more, so at most 15 nodes, and shares all others. With no element
+/// dropped it gives the vector itself, which takes no memory. Refused only where memory runs out, and then nothing but the
+/// heap's spares changes.
 pub fn drop_front<T>(heap: &mut Heap<T>, vector: FlexRef, count: u32) -> Result<Flex, NoMemory>
     requires good { IsGoodVector heap.old vector }
     requires few { hold_count heap.old < 2 ^ 59 }
     ensures items { IfOk result (λ v. elements heap.new v ≡ drop count (elements heap.old vector)) }
     ensures good { IfOk result (λ v. IsGoodVector heap.new v) }
-    ensures answered { IfOk result (λ v. Answered heap.old heap.new [] v 0 17) }
+    ensures answered { IfOk result (λ v. Answered heap.old heap.new [] v 0 (2 * height_at heap.old vector + 1)) }
+    ensures made { IfOk result (λ v. MakesJust heap.old heap.new) }
+    ensures none { count ≡ 0 → GivesItself heap.old heap.new result vector }
+    ensures vectors { (l : ℕ) → IsSameVector heap.old heap.new l }
     ensures refused { OnErr result (Unchanged heap.old heap.new) }
     ensures ample { HasSpares heap.old 0 17 → IsOk result }
 {
+    if count == 0 {
+        return Ok(vector.share(heap));
+    }
     heap.reserve(0, SEAM_NODES)?;
     Ok(Flex::from_root(rest_root(heap, vector.root(), count)))
 }
@@ -54,16 +59,17 @@ pub fn drop_front<T>(heap: &mut Heap<T>, vector: FlexRef, count: u32) -> Result<
 // Whether the indices begin and end a part of the vector.
 fn is_part<T>(heap: &Heap<T>, vector: FlexRef, from: u32, to: u32) -> bool
     requires { IsGoodVector heap.now vector }
-    ensures test { IsTrue result ↔ ((from ≤ to) × (to ≤ length (elements heap.now vector))) }
+    ensures test { IsTrue result ↔ IsPart from to (elements heap.now vector) }
     ensures graph { IsGraph heap.now }
 {
     let len = vector.len(heap);
     from <= to && to <= len
 }
 
-/// The elements from the index `from` to the one before `to`. It adds at most 25 nodes, and gives up again what it made on
-/// the way. Refused with `Range` unless `from` is at most `to` and `to` at most the length, and with `Memory` where memory
-/// runs out. A refusal changes nothing but the heap's spares.
+/// The elements from the index `from` to the one before `to`. It makes at most three nodes for each height of the vector and
+/// two more, so at most 23, and gives up again what it made on the way. Where that is the whole vector it gives the vector
+/// itself, which takes no memory. Refused with `Range` unless `from` is at most `to` and `to` at most the length, and with
+/// `Memory` where memory runs out. A refusal changes nothing but the heap's spares.
 pub fn slice<T: Drop>(
     heap: &mut Heap<T>,
     vector: FlexRef,
@@ -74,13 +80,19 @@ pub fn slice<T: Drop>(
     requires few { hold_count heap.old < 2 ^ 59 }
     ensures items { IfOk result (λ v. elements heap.new v ≡ drop from (take to (elements heap.old vector))) }
     ensures good { IfOk result (λ v. IsGoodVector heap.new v) }
-    ensures answered { IfOk result (λ v. Answered heap.old heap.new [] v 0 25) }
+    ensures answered { IfOk result (λ v. Answered heap.old heap.new [] v 0 (3 * height_at heap.old vector + 2)) }
+    ensures made { IfOk result (λ v. heap.new.made ≤ heap.old.made + (3 * height_at heap.old vector + 2)) }
+    ensures whole { from ≡ 0 → to ≡ length (elements heap.old vector) → GivesItself heap.old heap.new result vector }
+    ensures vectors { (l : ℕ) → IsSameVector heap.old heap.new l }
     ensures refused { OnErr result (Unchanged heap.old heap.new) }
-    ensures range { (result ≡ Err SliceFault.Range) ↔ (¬ ((from ≤ to) × (to ≤ length (elements heap.old vector)))) }
+    ensures range { (result ≡ Err SliceFault.Range) ↔ (¬ IsPart from to (elements heap.old vector)) }
     ensures ample { HasSpares heap.old 0 25 → result ≢ Err SliceFault.Memory }
 {
     if !is_part(heap, vector, from, to) {
         return Err(SliceFault::Range);
+    }
+    if from == 0 && to == vector.len(heap) {
+        return Ok(vector.share(heap));
     }
     heap.reserve(0, TAKE_NODES + SEAM_NODES)?;
     let front = take(heap, vector, to)?;
@@ -89,9 +101,10 @@ pub fn slice<T: Drop>(
     Ok(Flex::from_root(root))
 }
 
-/// The vector without the elements from the index `from` to the one before `to`. It adds at most 42 nodes, and gives up
-/// again what it made on the way. Refused with `Range` unless `from` is at most `to` and `to` at most the length, and with
-/// `Memory` where memory runs out. A refusal changes nothing but the heap's spares.
+/// The vector without the elements from the index `from` to the one before `to`. It makes at most five nodes for each height
+/// of the vector and five more, so at most 40, and gives up again what it made on the way. Where that erases nothing it
+/// gives the vector itself, which takes no memory. Refused with `Range` unless `from` is at most `to` and `to` at most the
+/// length, and with `Memory` where memory runs out. A refusal changes nothing but the heap's spares.
 pub fn erase<T: Drop>(
     heap: &mut Heap<T>,
     vector: FlexRef,
@@ -102,13 +115,19 @@ pub fn erase<T: Drop>(
     requires few { hold_count heap.old < 2 ^ 59 }
     ensures items { IfOk result (λ v. elements heap.new v ≡ take from (elements heap.old vector) ++ drop to (elements heap.old vector)) }
     ensures good { IfOk result (λ v. IsGoodVector heap.new v) }
-    ensures answered { IfOk result (λ v. Answered heap.old heap.new [] v 0 42) }
+    ensures answered { IfOk result (λ v. Answered heap.old heap.new [] v 0 (5 * height_at heap.old vector + 5)) }
+    ensures made { IfOk result (λ v. heap.new.made ≤ heap.old.made + (5 * height_at heap.old vector + 5)) }
+    ensures none { from ≡ to → to ≤ length (elements heap.old vector) → GivesItself heap.old heap.new result vector }
+    ensures vectors { (l : ℕ) → IsSameVector heap.old heap.new l }
     ensures refused { OnErr result (Unchanged heap.old heap.new) }
-    ensures range { (result ≡ Err SliceFault.Range) ↔ (¬ ((from ≤ to) × (to ≤ length (elements heap.old vector)))) }
+    ensures range { (result ≡ Err SliceFault.Range) ↔ (¬ IsPart from to (elements heap.old vector)) }
     ensures ample { HasSpares heap.old 0 42 → result ≢ Err SliceFault.Memory }
 {
     if !is_part(heap, vector, from, to) {
         return Err(SliceFault::Range);
+    }
+    if from == to {
+        return Ok(vector.share(heap));
     }
     heap.reserve(0, TAKE_NODES + 2 * SEAM_NODES)?;
     let front = take(heap, vector, from)?;

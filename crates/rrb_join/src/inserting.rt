@@ -2,10 +2,9 @@
 ghost use Rattle.std.specs.Prelude.{◌≡◌, ◌≢◌, ◌↔◌, ℕ, suc, ◌-◌, ◌+◌, ◌*◌, ◌<◌, ◌≤◌, ◌^◌, [], ◌∷◌, ◌++◌, length, take, drop, slice_index, IfOk, OnErr, Err};
 ghost use Rattle.std.specs.List.{flat_map};
 ghost use Rattle.node_heap.specs.Heap.{form_at, links_at, holds_at, hold_count, IsGraph, HasSpares};
-ghost use Rattle.node_heap.specs.Calls.{Answered, Unchanged};
+ghost use Rattle.node_heap.specs.Calls.{Answered, Builds, MakesJust, Unchanged};
 ghost use Rattle.rrb_core.specs.Seq.{seq_at, IsThick, IsWell};
-ghost use Rattle.rrb_core.specs.Vector.{HasSums, elements, IsGoodVector};
-ghost use Rattle.rrb_core.specs.Build.{Builds};
+ghost use Rattle.rrb_core.specs.Vector.{HasSums, elements, height_at, IsGoodVector, IsSameVector};
 ghost use Rattle.rrb_join.specs.Unmade.{AreUnmade, AreThick};
 
 use crate::joining::SEAM_NODES;
@@ -40,8 +39,10 @@ impl From<NoMemory> for InsertFault {
 }
 
 /// The vector with `element` before the element at `index`, or after the last. It spends the element's hold on Ok alone,
-/// and makes at most 17 nodes. Refused with `Range` where the index is past the length, else with `Long` where the vector
-/// has 2^32 - 1 elements, and with `Memory` where memory runs out. A refusal changes nothing but the heap's spares.
+/// and makes at most two nodes for each height of the vector and three more, so at most 17. A vector of one row that has
+/// fewer than 32 elements stays one row. Refused with `Range` where the index is past the length, else with `Long` where
+/// the vector has 2^32 - 1 elements, and with `Memory` where memory runs out. A refusal changes nothing but the heap's
+/// spares.
 pub fn insert<T>(
     heap: &mut Heap<T>,
     vector: FlexRef,
@@ -53,7 +54,10 @@ pub fn insert<T>(
     requires few { hold_count heap.old < 2 ^ 59 }
     ensures items { IfOk result (λ v. elements heap.new v ≡ take index (elements heap.old vector) ++ element ∷ drop index (elements heap.old vector)) }
     ensures good { IfOk result (λ v. IsGoodVector heap.new v) }
-    ensures answered { IfOk result (λ v. Answered heap.old heap.new (element ∷ []) v 0 17) }
+    ensures flat { height_at heap.old vector ≡ 0 → length (elements heap.old vector) < 32 → IfOk result (λ v. height_at heap.new v ≡ 0) }
+    ensures answered { IfOk result (λ v. Answered heap.old heap.new (element ∷ []) v 0 (2 * height_at heap.old vector + 3)) }
+    ensures made { IfOk result (λ v. MakesJust heap.old heap.new) }
+    ensures vectors { (l : ℕ) → IsSameVector heap.old heap.new l }
     ensures refused { OnErr result (Unchanged heap.old heap.new) }
     ensures range { (result ≡ Err InsertFault.Range) ↔ (length (elements heap.old vector) < index) }
     ensures long { (result ≡ Err InsertFault.Long) ↔ ((index ≤ length (elements heap.old vector)) × (length (elements heap.old vector) ≡ 2 ^ 32 - 1)) }
@@ -81,7 +85,8 @@ fn inserted_root<T>(heap: &mut Heap<T>, root: Link, index: u32, element: Link) -
     requires holds { hold_count heap.old + 128 ≤ 2 ^ 60 }
     ensures items { elements heap.new result ≡ take index (elements heap.old root) ++ element ∷ drop index (elements heap.old root) }
     ensures good { IsGoodVector heap.new result }
-    ensures builds { Builds heap.old heap.new (element ∷ []) (result ∷ []) 17 }
+    ensures flat { height_at heap.old root ≡ 0 → length (elements heap.old root) < 32 → height_at heap.new result ≡ 0 }
+    ensures builds { Builds heap.old heap.new (element ∷ []) (result ∷ []) 0 (2 * height_at heap.old root + 3) }
 {
     let height = height_of(heap, root);
     let links = insert_links(heap, root, height, index, element);
@@ -89,14 +94,14 @@ fn inserted_root<T>(heap: &mut Heap<T>, root: Link, index: u32, element: Link) -
 }
 
 // The child of an inner row into which a new element at `index` goes, and its index there.
-fn spot_before<T>(heap: &Heap<T>, link: Link, under: u8, index: u32) -> Spot
-    requires well { IsWell (form_at heap.now) (suc under) link }
-    requires sums { HasSums heap.now (suc under) link }
-    requires low { under < 7 }
-    requires inside { index ≤ length (seq_at (form_at heap.now) (suc under) link) }
+fn spot_before<T>(heap: &Heap<T>, link: Link, below: u8, index: u32) -> Spot
+    requires well { IsWell (form_at heap.now) (suc below) link }
+    requires sums { HasSums heap.now (suc below) link }
+    requires low { below < 7 }
+    requires inside { index ≤ length (seq_at (form_at heap.now) (suc below) link) }
     ensures place { result.place < length (links_at heap.now link) }
-    ensures inside { result.within ≤ length (seq_at (form_at heap.now) under (slice_index (links_at heap.now link) result.place)) }
-    ensures before { length (flat_map (seq_at (form_at heap.now) under) (take result.place (links_at heap.now link))) + result.within ≡ index }
+    ensures inside { result.within ≤ length (seq_at (form_at heap.now) below (slice_index (links_at heap.now link) result.place)) }
+    ensures before { length (flat_map (seq_at (form_at heap.now) below) (take result.place (links_at heap.now link))) + result.within ≡ index }
 {
     if index == 0 {
         return Spot {
@@ -104,15 +109,15 @@ fn spot_before<T>(heap: &Heap<T>, link: Link, under: u8, index: u32) -> Spot
             within: 0,
         };
     }
-    let spot = spot_of(heap, link, under, index - 1);
+    let spot = spot_of(heap, link, below, index - 1);
     Spot {
         place: spot.place,
         within: spot.within + 1,
     }
 }
 
-// The links of one row of this height or of two, with the elements of the row and `element` at `index`.
-#[cycle(insert_links)]
+// The links of one row of this height or of two, with the elements of the row and `element` at `index`. Above leaves the
+// element is put into a child, and the other children stand beside the rows of that one.
 fn insert_links<T>(
     heap: &mut Heap<T>,
     link: Link,
@@ -132,42 +137,17 @@ fn insert_links<T>(
     ensures links { AreUnmade heap.new height result.items (take index (seq_at (form_at heap.old) height link) ++ element ∷ drop index (seq_at (form_at heap.old) height link)) }
     ensures thick { IsThick (form_at heap.old) height link → (16 ≤ length result.items) × AreThick heap.new height result.items }
     ensures wide { length (links_at heap.old link) ≤ length result.items }
-    ensures builds { Builds heap.old heap.new (element ∷ []) result.items (2 * height) }
+    ensures builds { Builds heap.old heap.new (element ∷ []) result.items 0 (2 * height) }
 {
-    if height > 0 {
-        return insert_inner(heap, link, height - 1, index, element);
+    if height == 0 {
+        let place = index as usize;
+        return gathered(heap, link, place, &[element], link, place);
     }
-    let place = index as usize;
-    gathered(heap, link, place, &[element], link, place)
-}
-
-// The same for an inner row, whose children have the height `under`.
-#[cycle(insert_links)]
-fn insert_inner<T>(heap: &mut Heap<T>, link: Link, under: u8, index: u32, element: Link) -> Gathered
-    requires graph { IsGraph heap.old }
-    requires well { IsWell (form_at heap.old) (suc under) link }
-    requires sums { HasSums heap.old (suc under) link }
-    requires low { under < 7 }
-    requires inside { index ≤ length (seq_at (form_at heap.old) (suc under) link) }
-    requires short { length (seq_at (form_at heap.old) (suc under) link) + 1 < 2 ^ 32 }
-    requires held { 1 ≤ holds_at heap.old element }
-    requires spare { 2 * under + 2 ≤ heap.old.spare_nodes }
-    requires holds { hold_count heap.old + 128 ≤ 2 ^ 60 }
-    ensures links { AreUnmade heap.new (suc under) result.items (take index (seq_at (form_at heap.old) (suc under) link) ++ element ∷ drop index (seq_at (form_at heap.old) (suc under) link)) }
-    ensures thick { IsThick (form_at heap.old) (suc under) link → (16 ≤ length result.items) × AreThick heap.new (suc under) result.items }
-    ensures wide { length (links_at heap.old link) ≤ length result.items }
-    ensures builds { Builds heap.old heap.new (element ∷ []) result.items (2 * under + 2) }
-{
-    let spot = spot_before(heap, link, under, index);
+    let below = height - 1;
+    let spot = spot_before(heap, link, below, index);
     let child = heap.links(link)[spot.place];
-    let seam = insert_links(heap, child, under, spot.within, element);
-    let rows = rows_over(heap, seam.as_slice(), under);
-    gathered(
-        heap,
-        link,
-        spot.place,
-        rows.as_slice(),
-        link,
-        spot.place + 1,
-    )
+    let seam = insert_links(heap, child, below, spot.within, element);
+    let rows = rows_over(heap, seam.as_slice(), below);
+    let after = spot.place + 1;
+    gathered(heap, link, spot.place, rows.as_slice(), link, after)
 }

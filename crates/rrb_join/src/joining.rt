@@ -1,13 +1,13 @@
 //! Two vectors as one.
-ghost use Rattle.std.specs.Prelude.{◌≡◌, ◌≢◌, ◌↔◌, ℕ, suc, ◌+◌, ◌*◌, ◌<◌, ◌≤◌, ◌^◌, [], ◌∷◌, ◌++◌, length, IfOk, OnErr, Err};
+ghost use Rattle.std.specs.Prelude.{◌≡◌, ◌≢◌, ◌↔◌, ℕ, max, ◌+◌, ◌*◌, ◌<◌, ◌≤◌, ◌^◌, [], ◌∷◌, ◌++◌, length, IfOk, OnErr, Err};
 ghost use Rattle.node_heap.specs.Heap.{form_at, links_at, hold_count, IsGraph, HasSpares};
-ghost use Rattle.node_heap.specs.Calls.{Answered, Unchanged};
+ghost use Rattle.node_heap.specs.Calls.{Answered, Builds, MakesJust, Unchanged};
 ghost use Rattle.rrb_core.specs.Seq.{seq_at, IsThick};
-ghost use Rattle.rrb_core.specs.Vector.{elements, IsGoodVector};
-ghost use Rattle.rrb_core.specs.Build.{Builds};
-ghost use Rattle.rrb_join.specs.Unmade.{AreUnmade, AreThick, IsRow, EndsIn, BeginsWith};
+ghost use Rattle.rrb_core.specs.Vector.{elements, height_at, IsGoodVector, IsSameVector};
+ghost use Rattle.rrb_join.specs.Unmade.{AreUnmade, AreThick, IsSomeRow, EndsIn, BeginsWith};
+ghost use Rattle.rrb_join.specs.Answers.{GivesItself};
 
-use crate::over::{root_over, rows_over};
+use crate::over::{held_again, root_over, rows_over};
 use elem_core::NoMemory;
 use node_heap::{Heap, Link};
 use rrb_core::{Flex, FlexRef, Gathered, gathered, height_of};
@@ -37,22 +37,35 @@ impl From<NoMemory> for JoinFault {
 // Joining or cutting makes at most so many nodes: two for each height below the root's, and a root over two.
 pub(crate) const SEAM_NODES: usize = 17;
 
-/// The elements of `left` and then those of `right`. It makes rows along the seam alone, at most 17 nodes, and shares all
-/// others. Refused with `Long` where the lengths sum past 2^32 - 1, and with `Memory` where memory runs out. A refusal
-/// changes nothing but the heap's spares.
+/// The elements of `left` and then those of `right`. It makes rows along the seam alone, at most two for each height of the
+/// higher vector and three more, so at most 17 nodes, and shares all others. Where one is empty it gives the other itself,
+/// which takes no memory. Two vectors of one row each that one row of 32 can hold give a vector of one row. Refused with
+/// `Long` where the lengths sum past 2^32 - 1, and with `Memory` where memory runs out. A refusal changes nothing but the
+/// heap's spares.
 pub fn concat<T>(heap: &mut Heap<T>, left: FlexRef, right: FlexRef) -> Result<Flex, JoinFault>
     requires left_good { IsGoodVector heap.old left }
     requires right_good { IsGoodVector heap.old right }
     requires few { hold_count heap.old < 2 ^ 59 }
     ensures items { IfOk result (λ v. elements heap.new v ≡ elements heap.old left ++ elements heap.old right) }
     ensures good { IfOk result (λ v. IsGoodVector heap.new v) }
-    ensures answered { IfOk result (λ v. Answered heap.old heap.new [] v 0 17) }
+    ensures flat { height_at heap.old left ≡ 0 → height_at heap.old right ≡ 0 → length (elements heap.old left) + length (elements heap.old right) ≤ 32 → IfOk result (λ v. height_at heap.new v ≡ 0) }
+    ensures answered { IfOk result (λ v. Answered heap.old heap.new [] v 0 (2 * max (height_at heap.old left) (height_at heap.old right) + 3)) }
+    ensures made { IfOk result (λ v. MakesJust heap.old heap.new) }
+    ensures left_empty { elements heap.old left ≡ [] → GivesItself heap.old heap.new result right }
+    ensures right_empty { elements heap.old left ≢ [] → elements heap.old right ≡ [] → GivesItself heap.old heap.new result left }
+    ensures vectors { (l : ℕ) → IsSameVector heap.old heap.new l }
     ensures refused { OnErr result (Unchanged heap.old heap.new) }
     ensures long { (result ≡ Err JoinFault.Long) ↔ (2 ^ 32 ≤ length (elements heap.old left) + length (elements heap.old right)) }
     ensures ample { HasSpares heap.old 0 17 → result ≢ Err JoinFault.Memory }
 {
     let left_len = left.len(heap);
     let right_len = right.len(heap);
+    if left_len == 0 {
+        return Ok(right.share(heap));
+    }
+    if right_len == 0 {
+        return Ok(left.share(heap));
+    }
     if right_len > u32::MAX - left_len {
         return Err(JoinFault::Long);
     }
@@ -70,15 +83,14 @@ pub(crate) fn joined_root<T>(heap: &mut Heap<T>, left: Link, right: Link) -> Lin
     requires holds { hold_count heap.old + 128 ≤ 2 ^ 60 }
     ensures items { elements heap.new result ≡ elements heap.old left ++ elements heap.old right }
     ensures good { IsGoodVector heap.new result }
-    ensures builds { Builds heap.old heap.new [] (result ∷ []) 17 }
+    ensures flat { height_at heap.old left ≡ 0 → height_at heap.old right ≡ 0 → length (elements heap.old left) + length (elements heap.old right) ≤ 32 → height_at heap.new result ≡ 0 }
+    ensures builds { Builds heap.old heap.new [] (result ∷ []) 0 (2 * max (height_at heap.old left) (height_at heap.old right) + 3) }
 {
     if heap.links(left).is_empty() {
-        heap.hold(right);
-        return right;
+        return held_again(heap, right);
     }
     if heap.links(right).is_empty() {
-        heap.hold(left);
-        return left;
+        return held_again(heap, left);
     }
     let left_height = height_of(heap, left);
     let right_height = height_of(heap, right);
@@ -95,14 +107,14 @@ struct Edge {
     place: usize,
 }
 
-// What stands last in a row, as a row no higher than `under`: its last child, or a low row itself.
-fn last_edge<T>(heap: &Heap<T>, link: Link, height: u8, under: u8) -> Edge
+// What stands last in a row, as a row no higher than `below`: its last child, or a low row itself.
+fn last_edge<T>(heap: &Heap<T>, link: Link, height: u8, below: u8) -> Edge
     requires graph { IsGraph heap.now }
-    requires row { IsRow heap.now height link }
-    requires low { height ≤ under + 1 }
-    ensures { EndsIn heap.now under height link result.place result.height result.link }
+    requires row { IsSomeRow heap.now height link }
+    requires low { height ≤ below + 1 }
+    ensures { EndsIn heap.now below height link result.place result.height result.link }
 {
-    if height <= under {
+    if height <= below {
         return Edge {
             link,
             height,
@@ -113,20 +125,20 @@ fn last_edge<T>(heap: &Heap<T>, link: Link, height: u8, under: u8) -> Edge
     let place = links.len() - 1;
     Edge {
         link: links[place],
-        height: under,
+        height: below,
         place,
     }
 }
 
-// What stands first in a row, as a row no higher than `under`: its first child, or a low row itself.
-fn first_edge<T>(heap: &Heap<T>, link: Link, height: u8, under: u8) -> Edge
+// What stands first in a row, as a row no higher than `below`: its first child, or a low row itself.
+fn first_edge<T>(heap: &Heap<T>, link: Link, height: u8, below: u8) -> Edge
     requires graph { IsGraph heap.now }
-    requires row { IsRow heap.now height link }
-    requires low { height ≤ under + 1 }
-    ensures { BeginsWith heap.now under height link result.place result.height result.link }
+    requires row { IsSomeRow heap.now height link }
+    requires low { height ≤ below + 1 }
+    ensures { BeginsWith heap.now below height link result.place result.height result.link }
 {
     let links = heap.links(link);
-    if height <= under {
+    if height <= below {
         return Edge {
             link,
             height,
@@ -135,13 +147,13 @@ fn first_edge<T>(heap: &Heap<T>, link: Link, height: u8, under: u8) -> Edge
     }
     Edge {
         link: links[0],
-        height: under,
+        height: below,
         place: 1,
     }
 }
 
 // The links of one row of this height or of two, with the elements of `left` and then those of `right`. Neither is higher.
-#[cycle(join)]
+// Above leaves the children at the seam are joined, and the other children stand beside them.
 fn join<T>(
     heap: &mut Heap<T>,
     left: Link,
@@ -151,8 +163,8 @@ fn join<T>(
     height: u8,
 ) -> Gathered
     requires graph { IsGraph heap.old }
-    requires left { IsRow heap.old left_height left }
-    requires right { IsRow heap.old right_height right }
+    requires left { IsSomeRow heap.old left_height left }
+    requires right { IsSomeRow heap.old right_height right }
     requires left_low { left_height ≤ height }
     requires right_low { right_height ≤ height }
     requires low { height ≤ 7 }
@@ -163,50 +175,23 @@ fn join<T>(
     ensures thick { right_height ≡ height → IsThick (form_at heap.old) height right → (16 ≤ length result.items) × AreThick heap.new height result.items }
     ensures left_wide { left_height ≡ height → length (links_at heap.old left) ≤ length result.items }
     ensures right_wide { right_height ≡ height → length (links_at heap.old right) ≤ length result.items }
-    ensures builds { Builds heap.old heap.new [] result.items (2 * height) }
+    ensures builds { Builds heap.old heap.new [] result.items 0 (2 * height) }
 {
-    if height > 0 {
-        return join_inner(heap, left, left_height, right, right_height, height - 1);
+    if height == 0 {
+        let end = heap.links(left).len();
+        return gathered(heap, left, end, &[], right, 0);
     }
-    let end = heap.links(left).len();
-    gathered(heap, left, end, &[], right, 0)
-}
-
-// The same above leaves: the children at the seam are joined, and the other children stand beside them.
-#[cycle(join)]
-fn join_inner<T>(
-    heap: &mut Heap<T>,
-    left: Link,
-    left_height: u8,
-    right: Link,
-    right_height: u8,
-    under: u8,
-) -> Gathered
-    requires graph { IsGraph heap.old }
-    requires left { IsRow heap.old left_height left }
-    requires right { IsRow heap.old right_height right }
-    requires left_low { left_height ≤ under + 1 }
-    requires right_low { right_height ≤ under + 1 }
-    requires low { under < 7 }
-    requires short { length (seq_at (form_at heap.old) left_height left) + length (seq_at (form_at heap.old) right_height right) < 2 ^ 32 }
-    requires spare { 2 * under + 2 ≤ heap.old.spare_nodes }
-    requires holds { hold_count heap.old + 128 ≤ 2 ^ 60 }
-    ensures links { AreUnmade heap.new (suc under) result.items (seq_at (form_at heap.old) left_height left ++ seq_at (form_at heap.old) right_height right) }
-    ensures thick { right_height ≡ suc under → IsThick (form_at heap.old) right_height right → (16 ≤ length result.items) × AreThick heap.new (suc under) result.items }
-    ensures left_wide { left_height ≡ suc under → length (links_at heap.old left) ≤ length result.items }
-    ensures right_wide { right_height ≡ suc under → length (links_at heap.old right) ≤ length result.items }
-    ensures builds { Builds heap.old heap.new [] result.items (2 * under + 2) }
-{
-    let last = last_edge(heap, left, left_height, under);
-    let first = first_edge(heap, right, right_height, under);
+    let below = height - 1;
+    let last = last_edge(heap, left, left_height, below);
+    let first = first_edge(heap, right, right_height, below);
     let seam = join(
         heap,
         last.link,
         last.height,
         first.link,
         first.height,
-        under,
+        below,
     );
-    let rows = rows_over(heap, seam.as_slice(), under);
+    let rows = rows_over(heap, seam.as_slice(), below);
     gathered(heap, left, last.place, rows.as_slice(), right, first.place)
 }

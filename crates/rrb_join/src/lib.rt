@@ -11,8 +11,6 @@ mod inserting;
 mod joining;
 mod over;
 mod rests;
-#[cfg(test)]
-mod tests;
 
 pub use cutting::{SliceFault, drop_front, erase, slice};
 pub use inserting::{InsertFault, insert};

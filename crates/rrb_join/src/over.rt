@@ -1,34 +1,44 @@
 //! Rows over links that are gathered.
 ghost use Rattle.std.specs.Prelude.{◌≡◌, ℕ, ◌+◌, ◌<◌, ◌≤◌, ◌^◌, [], ◌∷◌, length};
 ghost use Rattle.std.specs.List.{All, flat_map};
-ghost use Rattle.node_heap.specs.Links.{count};
-ghost use Rattle.node_heap.specs.Heap.{form_at, links_at, holds_at, hold_count, IsGraph};
+ghost use Rattle.node_heap.specs.Heap.{form_at, links_at, hold_count, IsGraph};
+ghost use Rattle.node_heap.specs.Calls.{Builds};
 ghost use Rattle.rrb_core.specs.Seq.{seq_at, IsThick};
-ghost use Rattle.rrb_core.specs.Vector.{elements, IsGoodVector};
-ghost use Rattle.rrb_core.specs.Build.{IsRowOf, AreRows, Builds};
-ghost use Rattle.rrb_join.specs.Unmade.{items_below, AreLinks, AreThick};
+ghost use Rattle.rrb_core.specs.Vector.{elements, height_at, IsGoodVector, IsSameVector};
+ghost use Rattle.rrb_core.specs.Build.{IsRowOf, AreRows, Shares};
+ghost use Rattle.rrb_join.specs.Unmade.{items_below, AreThick, CanBeRows};
 
 use arrayvec::ArrayVec;
 use node_heap::{Heap, Link};
 use rrb_core::{inner_over, leaf_over};
 
+// The most links that one row holds.
+const ROW_LINKS: usize = 32;
+
 // One row, or two side by side.
 pub(crate) type Rows = ArrayVec<Link, 2>;
 
+// The same root, held once more.
+pub(crate) fn held_again<T>(heap: &mut Heap<T>, root: Link) -> Link
+    requires graph { IsGraph heap.old }
+    requires good { IsGoodVector heap.old root }
+    requires holds { hold_count heap.old < 2 ^ 60 }
+    ensures same { result ≡ root }
+    ensures shares { Shares heap.old heap.new result }
+    ensures vectors { (l : ℕ) → IsSameVector heap.old heap.new l }
+{
+    heap.hold(root);
+    root
+}
+
 // The row of this height over these links; it spends a hold for each place.
 pub(crate) fn row_over<T>(heap: &mut Heap<T>, links: &[Link], height: u8) -> Link
-    requires graph { IsGraph heap.old }
-    requires links { AreLinks heap.old height links.now }
-    requires some { 1 ≤ length links.now }
+    requires rows { CanBeRows heap.old height links.now }
     requires few { length links.now ≤ 32 }
-    requires low { height ≤ 7 }
-    requires short { length (items_below heap.old height links.now) < 2 ^ 32 }
-    requires held { (k : ℕ) → count k links.now ≤ holds_at heap.old k }
     requires spare { 1 ≤ heap.old.spare_nodes }
-    requires holds { hold_count heap.old < 2 ^ 60 }
     ensures row { IsRowOf heap.new height result (items_below heap.old height links.now) }
     ensures links { links_at heap.new result ≡ links.now }
-    ensures builds { Builds heap.old heap.new links.now (result ∷ []) 1 }
+    ensures builds { Builds heap.old heap.new links.now (result ∷ []) 0 1 }
 {
     if height == 0 {
         return leaf_over(heap, links);
@@ -39,25 +49,20 @@ pub(crate) fn row_over<T>(heap: &mut Heap<T>, links: &[Link], height: u8) -> Lin
 // One row of this height over the links, or two over half of them each, of which the first is thick. It spends a hold
 // for each place.
 pub(crate) fn rows_over<T>(heap: &mut Heap<T>, links: &[Link], height: u8) -> Rows
-    requires graph { IsGraph heap.old }
-    requires links { AreLinks heap.old height links.now }
-    requires some { 1 ≤ length links.now }
+    requires rows { CanBeRows heap.old height links.now }
     requires few { length links.now ≤ 64 }
-    requires low { height ≤ 7 }
-    requires short { length (items_below heap.old height links.now) < 2 ^ 32 }
-    requires held { (k : ℕ) → count k links.now ≤ holds_at heap.old k }
     requires spare { 2 ≤ heap.old.spare_nodes }
-    requires holds { hold_count heap.old < 2 ^ 60 }
     ensures rows { AreRows heap.new height result.items }
     ensures items { flat_map (seq_at (form_at heap.new) height) result.items ≡ items_below heap.old height links.now }
     ensures some { 1 ≤ length result.items }
     ensures few { length result.items ≤ 2 }
+    ensures one { length links.now ≤ 32 → length result.items ≡ 1 }
     ensures two { 33 ≤ length links.now → length result.items ≡ 2 }
     ensures thick { 16 ≤ length links.now → AreThick heap.old height links.now → All (IsThick (form_at heap.new) height) result.items }
-    ensures builds { Builds heap.old heap.new links.now result.items 2 }
+    ensures builds { Builds heap.old heap.new links.now result.items 0 2 }
 {
     let mut rows = ArrayVec::new();
-    if links.len() <= 32 {
+    if links.len() <= ROW_LINKS {
         rows.push(row_over(heap, links, height));
         return rows;
     }
@@ -69,21 +74,16 @@ pub(crate) fn rows_over<T>(heap: &mut Heap<T>, links: &[Link], height: u8) -> Ro
 
 // The root over the links, which one row of this height may hold or two; an inner one needs two links or more.
 pub(crate) fn root_over<T>(heap: &mut Heap<T>, links: &[Link], height: u8) -> Link
-    requires graph { IsGraph heap.old }
-    requires links { AreLinks heap.old height links.now }
-    requires some { 1 ≤ length links.now }
+    requires rows { CanBeRows heap.old height links.now }
     requires two { 1 ≤ height → 2 ≤ length links.now }
     requires few { length links.now ≤ 64 }
-    requires low { height ≤ 7 }
-    requires short { length (items_below heap.old height links.now) < 2 ^ 32 }
-    requires held { (k : ℕ) → count k links.now ≤ holds_at heap.old k }
     requires spare { 3 ≤ heap.old.spare_nodes }
-    requires holds { hold_count heap.old < 2 ^ 60 }
     ensures good { IsGoodVector heap.new result }
     ensures items { elements heap.new result ≡ items_below heap.old height links.now }
-    ensures builds { Builds heap.old heap.new links.now (result ∷ []) 3 }
+    ensures low { length links.now ≤ 32 → height_at heap.new result ≡ height }
+    ensures builds { Builds heap.old heap.new links.now (result ∷ []) 0 3 }
 {
-    if links.len() <= 32 {
+    if links.len() <= ROW_LINKS {
         return row_over(heap, links, height);
     }
     let rows = rows_over(heap, links, height);

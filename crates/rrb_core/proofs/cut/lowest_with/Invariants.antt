@@ -1,7 +1,7 @@
 use Rattle.std.proofs.Common.{◌≡◌, ◌<◌, ◌≤◌, ◌^◌, length, take}
 use Rattle.node_heap.specs.Heap.{form_at}
 use Rattle.rrb_core.specs.Seq.{seq_at, IsWell}
-use Rattle.rrb_core.specs.Vector.{HasSums, elements}
+use Rattle.rrb_core.specs.Vector.{HasSums, height_at, elements}
 use Rattle.rrb_core.proofs.cut.lowest_with.Given as goal
 
 abbrev pub invariant-loop-height : goal.invariant-loop-height
@@ -9,7 +9,7 @@ invariant-loop-height g l =
     record {
       well : IsWell (form_at l.heap) l.height l.link;
       sums : HasSums l.heap l.height l.link;
-      low : l.height ≤ 7;
+      low : l.height ≤ height_at l.heap l.fn.root;
       inside : l.count ≤ length (seq_at (form_at l.heap) l.height l.link);
       short : length (seq_at (form_at l.heap) l.height l.link) < 2 ^ 32;
       same : take l.count (seq_at (form_at l.heap) l.height l.link) ≡ take l.count (elements l.heap l.fn.root);

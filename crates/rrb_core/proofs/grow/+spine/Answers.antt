@@ -1,18 +1,19 @@
 use Rattle.std.proofs.Common.{arith, ◌≡◌, ◌+◌, ◌-◌, suc, [], ◌∷◌}
 use Rattle.node_heap.specs.Heap.{holds_at}
+use Rattle.node_heap.proofs.BuildLemmas.{Builds-then, Builds-more}
 use Rattle.rrb_core.proofs.LinkCounts.{one-held}
-use Rattle.rrb_core.proofs.BuildLemmas.{builds-then, builds-held, builds-more}
+use Rattle.rrb_core.proofs.BuildLemmas.{builds-held}
 use Rattle.rrb_core.proofs.RowLists.{one-row, one-items}
 use Rattle.rrb_core.proofs.grow.+spine.Goals as goal
 
 pub leaf_over-requires-clause-held : goal.leaf_over-requires-clause-held
 leaf_over-requires-clause-held g t c = one-held c.args.element 0 (holds_at c.args.heap.now) c.requires.held
 
-pub returns-then-height-eq0-clause-row : goal.returns-then-height-eq0-clause-row
-returns-then-height-eq0-clause-row g t c = rw c.if-height-eq0.true c.leaf_over.ensures.row
+pub returns-then-height-eq0 : goal.returns-then-height-eq0
+returns-then-height-eq0 g t c = rw c.if-height-eq0.true (record { row = c.leaf_over.ensures.row; builds = c.leaf_over.ensures.builds })
 
-pub returns-then-height-eq0-clause-builds : goal.returns-then-height-eq0-clause-builds
-returns-then-height-eq0-clause-builds g t c = builds-more (c.args.height + 1) c.leaf_over.ensures.builds (omega arith)
+pub inner_over-requires-clause-graph : goal.inner_over-requires-clause-graph
+inner_over-requires-clause-graph g t c = c.spine-child.ensures.builds.graph
 
 pub inner_over-requires-clause-rows : goal.inner_over-requires-clause-rows
 inner_over-requires-clause-rows g t c = one-row c.spine-child.new.heap (c.args.height - 1) c.spine-child.result (c.args.element ∷ []) c.spine-child.ensures.row (omega arith)
@@ -24,16 +25,16 @@ pub inner_over-requires-clause-held : goal.inner_over-requires-clause-held
 inner_over-requires-clause-held g t c = builds-held c.args.element c.requires.held c.spine-child.ensures.builds
 
 pub inner_over-requires-clause-spare : goal.inner_over-requires-clause-spare
-inner_over-requires-clause-spare g t c = omega (arith, c.spine-child.ensures.builds.spare_nodes, c.spine-child.ensures.builds.few, c.requires.spare)
+inner_over-requires-clause-spare g t c = omega (arith, c.spine-child.ensures.builds.makes.spare_nodes, c.spine-child.ensures.builds.few_nodes, c.requires.spare)
 
 pub inner_over-requires-clause-holds : goal.inner_over-requires-clause-holds
 inner_over-requires-clause-holds g t c = omega (arith, c.spine-child.ensures.builds.total, c.requires.holds)
 
-pub returns-clause-row : goal.returns-clause-row
-returns-clause-row g t c =
+pub returns : goal.returns
+returns g t c =
     let down : suc (c.args.height - 1) ≡ c.args.height = omega arith in
     let items = one-items c.spine-child.new.heap (c.args.height - 1) c.spine-child.result (c.args.element ∷ []) c.spine-child.ensures.row in
-    rw (down, items) at c.inner_over.ensures.row
-
-pub returns-clause-builds : goal.returns-clause-builds
-returns-clause-builds g t c = builds-more (c.args.height + 1) (builds-then c.spine-child.ensures.builds c.inner_over.ensures.builds) (omega arith)
+    record {
+      row = rw (down, items) at c.inner_over.ensures.row;
+      builds = Builds-more 0 (c.args.height + 1) (Builds-then c.spine-child.ensures.builds c.inner_over.ensures.builds) (omega arith) (omega arith);
+    }

@@ -1,18 +1,42 @@
-use Rattle.std.proofs.Common.{arith, refl, ◌∙◌}
-use Rattle.rrb_core.proofs.BuildLemmas.{builds-answered, unchanged-good, unchanged-refl}
+use Rattle.std.proofs.Common.{arith, refl, sym, ◌∙◌}
+use Rattle.node_heap.proofs.BuildLemmas.{Builds-Answered, Builds-MakesJust}
+use Rattle.rrb_core.proofs.BuildLemmas.{answered-same, unchanged-good, unchanged-refl, same-forms, same-height}
+use Rattle.rrb_core.proofs.PushLemmas.{pushed-root-same, rises}
+use Rattle.rrb_core.proofs.EditLemmas.{root-after}
 use Rattle.rrb_core.proofs.grow.push.Goals as goal
 
 pub returns-then-len-clause-refused : goal.returns-then-len-clause-refused
 returns-then-len-clause-refused g c = unchanged-refl c.args.heap.now c.len.ensures.graph
 
-pub push_root-root-requires-clause-good : goal.push_root-root-requires-clause-good
-push_root-root-requires-clause-good g c = rw c.root.ensures (unchanged-good c.args.vector c.in_ok-reserve.ensures.rest c.requires.good).0
+pub returns-then-len-clause-vectors : goal.returns-then-len-clause-vectors
+returns-then-len-clause-vectors g c = λ l. unchanged-good l (unchanged-refl c.args.heap.now c.len.ensures.graph)
+
+pub returns-in_err-reserve-clause-vectors : goal.returns-in_err-reserve-clause-vectors
+returns-in_err-reserve-clause-vectors g c = λ l. unchanged-good l c.in_err-reserve.ensures.rest
+
+pub push_root-root-requires-clause-root : goal.push_root-root-requires-clause-root
+push_root-root-requires-clause-root g c = rw c.root.ensures (root-after c.in_ok-reserve.ensures.rest c.requires.good c.in_ok-reserve.ensures.spares c.requires.few)
 
 pub push_root-root-requires-clause-short : goal.push_root-root-requires-clause-short
 push_root-root-requires-clause-short g c = rw (c.root.ensures, (unchanged-good c.args.vector c.in_ok-reserve.ensures.rest c.requires.good).1) (omega (arith, c.if-len.false, c.len.ensures.value, c.requires.good.shape.short))
 
 pub returns-clause-items : goal.returns-clause-items
-returns-clause-items g c = rw c.from_root.ensures (c.push_root-root.ensures.items ∙ rw (c.root.ensures, (unchanged-good c.args.vector c.in_ok-reserve.ensures.rest c.requires.good).1) refl)
+returns-clause-items g c = rw c.from_root.ensures (c.push_root-root.ensures.vector.1 ∙ rw (c.root.ensures, (unchanged-good c.args.vector c.in_ok-reserve.ensures.rest c.requires.good).1) refl)
+
+pub returns-clause-good : goal.returns-clause-good
+returns-clause-good g c = rw c.from_root.ensures c.push_root-root.ensures.vector.0
+
+pub returns-clause-rule : goal.returns-clause-rule
+returns-clause-rule g c = rw c.from_root.ensures (pushed-root-same (λ k. sym (same-forms c.args.heap.now c.reserve.new.self c.in_ok-reserve.ensures.rest.rows k)) (rw c.root.ensures at c.push_root-root.ensures.rule))
+
+pub returns-clause-taller : goal.returns-clause-taller
+returns-clause-taller g c = rw c.from_root.ensures (rises (pushed-root-same (λ k. sym (same-forms c.args.heap.now c.reserve.new.self c.in_ok-reserve.ensures.rest.rows k)) (rw c.root.ensures at c.push_root-root.ensures.rule)))
 
 pub returns-clause-answered : goal.returns-clause-answered
-returns-clause-answered g c = rw c.from_root.ensures (builds-answered c.in_ok-reserve.ensures.rest c.push_root-root.ensures.builds)
+returns-clause-answered g c = rw (c.from_root.ensures, ← same-height c.args.heap.now c.reserve.new.self c.args.vector c.in_ok-reserve.ensures.rest.rows) (Builds-Answered c.in_ok-reserve.ensures.rest (rw c.root.ensures at c.push_root-root.ensures.builds))
+
+pub returns-clause-made : goal.returns-clause-made
+returns-clause-made g c = Builds-MakesJust c.in_ok-reserve.ensures.rest c.push_root-root.ensures.builds
+
+pub returns-clause-vectors : goal.returns-clause-vectors
+returns-clause-vectors g c = answered-same (Builds-Answered c.in_ok-reserve.ensures.rest c.push_root-root.ensures.builds)

@@ -1,9 +1,10 @@
 use Rattle.std.proofs.Common.{arith, ◌≡◌, length, ap, [], ◌++◌}
 use Rattle.node_heap.specs.Heap.{links_at}
-use Rattle.rrb_core.specs.Build.{Builds}
+use Rattle.node_heap.specs.Calls.{Builds}
+use Rattle.node_heap.proofs.BuildLemmas.{Builds-then}
 use Rattle.rrb_core.proofs.Lists.{gathered-items, front-items}
 use Rattle.rrb_core.proofs.Stays.{live-stays, links-stay}
-use Rattle.rrb_core.proofs.BuildLemmas.{builds-before, builds-then, on-ok}
+use Rattle.rrb_core.proofs.BuildLemmas.{builds-before, on-ok}
 use Rattle.rrb_core.proofs.rows.gathered.Given.{Over}
 use Rattle.rrb_core.proofs.rows.gathered.Goals as goal
 
@@ -25,5 +26,5 @@ returns-clause-items g c =
 
 pub returns-clause-builds : goal.returns-clause-builds
 returns-clause-builds g c =
-    let first : Builds c.args.heap.now c.hold_links.new.heap [] c.hold_links.new.all.items 0 = rw c.new-all.ensures at c.hold_links.ensures.builds in
-    builds-then (builds-before c.args.middle.now first) (rw (middle g c) at c.hold_links-2.ensures.builds)
+    let first : Builds c.args.heap.now c.hold_links.new.heap [] c.hold_links.new.all.items 0 0 = rw c.new-all.ensures at c.hold_links.ensures.builds in
+    Builds-then (builds-before c.args.middle.now first) (rw (middle g c) at c.hold_links-2.ensures.builds)

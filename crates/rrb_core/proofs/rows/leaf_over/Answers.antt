@@ -1,4 +1,4 @@
-use Rattle.rrb_core.proofs.BuildLemmas.{builds-node}
+use Rattle.node_heap.proofs.BuildLemmas.{Builds-node}
 use Rattle.rrb_core.proofs.RowLists.{leaf-made}
 use Rattle.rrb_core.proofs.rows.leaf_over.Goals as goal
 
@@ -6,4 +6,4 @@ pub returns-clause-row : goal.returns-clause-row
 returns-clause-row g c = leaf-made c.node.new.self c.node.result c.args.elements.now c.node.ensures.adds.here c.requires.few
 
 pub returns-clause-builds : goal.returns-clause-builds
-returns-clause-builds g c = builds-node c.node.ensures.adds c.node.ensures.makes c.node.ensures.count c.node.ensures.graph c.node.ensures.extends c.requires.graph.few_made
+returns-clause-builds g c = Builds-node c.node.ensures.adds c.node.ensures.makes c.node.ensures.count c.node.ensures.graph c.node.ensures.extends

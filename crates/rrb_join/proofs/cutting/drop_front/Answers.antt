@@ -1,6 +1,11 @@
-use Rattle.std.proofs.Common.{refl, ◌∙◌}
-use Rattle.rrb_core.proofs.BuildLemmas.{builds-answered, unchanged-good}
+use Rattle.std.proofs.Common.{arith, refl, ◌∙◌}
+use Rattle.node_heap.proofs.BuildLemmas.{Builds-more, Builds-Answered}
+use Rattle.rrb_core.proofs.BuildLemmas.{unchanged-good, answered-same}
+use Rattle.rrb_join.proofs.AnswerLemmas.{unchanged-height}
 use Rattle.rrb_join.proofs.cutting.drop_front.Goals as goal
+
+pub returns-in_err-reserve-clause-vectors : goal.returns-in_err-reserve-clause-vectors
+returns-in_err-reserve-clause-vectors g c = λ l. unchanged-good l c.in_err-reserve.ensures.rest
 
 pub rest_root-requires-clause-good : goal.rest_root-requires-clause-good
 rest_root-requires-clause-good g c = rw c.root.ensures (unchanged-good c.args.vector c.in_ok-reserve.ensures.rest c.requires.good).0
@@ -9,4 +14,10 @@ pub returns-clause-items : goal.returns-clause-items
 returns-clause-items g c = rw c.from_root.ensures (c.rest_root.ensures.items ∙ rw (c.root.ensures, (unchanged-good c.args.vector c.in_ok-reserve.ensures.rest c.requires.good).1) refl)
 
 pub returns-clause-answered : goal.returns-clause-answered
-returns-clause-answered g c = rw c.from_root.ensures (builds-answered c.in_ok-reserve.ensures.rest c.rest_root.ensures.builds)
+returns-clause-answered g c =
+    let same = unchanged-height c.in_ok-reserve.ensures.rest c.args.vector in
+    let built = rw c.root.ensures at c.rest_root.ensures.builds in
+    rw c.from_root.ensures (Builds-Answered c.in_ok-reserve.ensures.rest (Builds-more 0 _ built (omega arith) (omega (arith, same))))
+
+pub returns-clause-vectors : goal.returns-clause-vectors
+returns-clause-vectors g c = answered-same (Builds-Answered c.in_ok-reserve.ensures.rest c.rest_root.ensures.builds)

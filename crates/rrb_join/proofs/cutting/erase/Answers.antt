@@ -1,14 +1,20 @@
-use Rattle.std.proofs.Common.{rules, arith, ◌≡◌, refl, ◌∙◌, [], ◌∷◌, length-drop}
+use Rattle.std.proofs.Common.{rules, arith, ◌≡◌, ◌+◌, ◌*◌, ◌≤◌, refl, ◌∙◌, [], ◌∷◌, length-drop}
 use Rattle.std.proofs.lemmas.List.{length-take-le}
-use Rattle.rrb_core.specs.Vector.{height_at, elements, IsGoodVector}
-use Rattle.rrb_core.proofs.Stays.{well-live, live-stays, good-stays}
-use Rattle.rrb_core.proofs.BuildLemmas.{unchanged-good, unchanged-refl}
-use Rattle.rrb_join.proofs.CutLemmas.{Gives, gives-answered, gives-built, gives-released, gives-all, gives-first, gives-second, without-second, gives-first-of, gives-third, without-third, good-held}
+use Rattle.node_heap.specs.Calls.{Answered}
+use Rattle.node_heap.proofs.Frames.{Unchanged-refl}
+use Rattle.rrb_core.specs.Vector.{height_at, elements, IsVectorOf}
+use Rattle.rrb_core.proofs.Stays.{extended-same}
+use Rattle.rrb_core.proofs.BuildLemmas.{unchanged-good, answered-same}
+use Rattle.rrb_join.proofs.AnswerLemmas.{unchanged-height, extended-height}
+use Rattle.rrb_join.proofs.CutLemmas.{Gives, gives-answered, gives-built, gives-more, gives-released, gives-all, gives-first, gives-second, without-second, gives-first-of, gives-third, without-third, good-held}
 use Rattle.rrb_join.proofs.cutting.erase.Given as given
 use Rattle.rrb_join.proofs.cutting.erase.Goals as goal
 
 pub returns-then-not-is_part-clause-refused : goal.returns-then-not-is_part-clause-refused
-returns-then-not-is_part-clause-refused g c = unchanged-refl c.args.heap.now c.is_part.ensures.graph
+returns-then-not-is_part-clause-refused g c = Unchanged-refl c.args.heap.now c.is_part.ensures.graph
+
+pub returns-in_err-reserve-clause-vectors : goal.returns-in_err-reserve-clause-vectors
+returns-in_err-reserve-clause-vectors g c = λ l. unchanged-good l c.in_err-reserve.ensures.rest
 
 pub take-requires-clause-good : goal.take-requires-clause-good
 take-requires-clause-good g c = (unchanged-good c.args.vector c.in_ok-reserve.ensures.rest c.requires.good).0
@@ -16,51 +22,76 @@ take-requires-clause-good g c = (unchanged-good c.args.vector c.in_ok-reserve.en
 pub rest_root-back-requires-clause-good : goal.rest_root-back-requires-clause-good
 rest_root-back-requires-clause-good g c =
     let first = (unchanged-good c.args.vector c.in_ok-reserve.ensures.rest c.requires.good).0 in
-    rw c.root.ensures (good-stays (live-stays c.in_ok-reserve.ensures.rest.graph c.in_ok-front.ensures.answered.extends) c.args.vector (well-live c.reserve.new.self (height_at c.reserve.new.self c.args.vector) c.args.vector first.shape.well) first).0
+    rw c.root.ensures (c.in_ok-front.ensures.vectors c.args.vector first).0
 
 pub joined_root-root-requires-clause-left_good : goal.joined_root-root-requires-clause-left_good
 joined_root-root-requires-clause-left_good g c =
-    rw (c.root-2.ensures, c.view.ensures) (good-stays (live-stays c.in_ok-front.ensures.answered.graph c.rest_root-back.ensures.builds.extends) c.in_ok-front.front (well-live c.take.new.heap (height_at c.take.new.heap c.in_ok-front.front) c.in_ok-front.front c.in_ok-front.ensures.good.shape.well) c.in_ok-front.ensures.good).0
+    rw (c.root-2.ensures, c.view.ensures) (extended-same c.rest_root-back.ensures.builds.extends c.in_ok-front.front c.in_ok-front.ensures.good).0
 
 pub joined_root-root-requires-clause-short : goal.joined_root-root-requires-clause-short
 joined_root-root-requires-clause-short g c =
     let first = unchanged-good c.args.vector c.in_ok-reserve.ensures.rest c.requires.good in
-    let second = good-stays (live-stays c.in_ok-reserve.ensures.rest.graph c.in_ok-front.ensures.answered.extends) c.args.vector (well-live c.reserve.new.self (height_at c.reserve.new.self c.args.vector) c.args.vector first.0.shape.well) first.0 in
-    let front = good-stays (live-stays c.in_ok-front.ensures.answered.graph c.rest_root-back.ensures.builds.extends) c.in_ok-front.front (well-live c.take.new.heap (height_at c.take.new.heap c.in_ok-front.front) c.in_ok-front.front c.in_ok-front.ensures.good.shape.well) c.in_ok-front.ensures.good in
+    let second = c.in_ok-front.ensures.vectors c.args.vector first.0 in
+    let front = extended-same c.rest_root-back.ensures.builds.extends c.in_ok-front.front c.in_ok-front.ensures.good in
     let part = c.if-not-is_part.ensures.test.0 (search rules) in
     rw (c.root-2.ensures, c.view.ensures, front.1, c.in_ok-front.ensures.items, c.rest_root-back.ensures.items, c.root.ensures, second.1, first.1)
     (omega (arith, length-take-le c.args.from (elements c.args.heap.now c.args.vector) (omega (arith, part)), length-drop c.args.to (elements c.args.heap.now c.args.vector), part, c.requires.good.shape.short))
 
+pub joined_root-root-requires-clause-spare : goal.joined_root-root-requires-clause-spare
+joined_root-root-requires-clause-spare g c =
+    let first = unchanged-good c.args.vector c.in_ok-reserve.ensures.rest c.requires.good in
+    let second = c.in_ok-front.ensures.vectors c.args.vector first.0 in
+    let low : height_at c.take.new.heap c.root.result ≤ 7 = rw c.root.ensures second.0.shape.low in
+    let taken = c.in_ok-front.ensures.answered in
+    omega (arith, c.in_ok-reserve.ensures.spares, first.0.shape.low, low, taken.nodes, taken.balance.spare_nodes, c.rest_root-back.ensures.builds.makes.spare_nodes, c.rest_root-back.ensures.builds.few_nodes)
+
 pub release-requires : goal.release-requires
 release-requires g c =
-    gives-third c.joined_root-root.result c.rest_root-back.result c.in_ok-front.front (gives-built (gives-built (gives-answered c.in_ok-front.ensures.answered) c.rest_root-back.ensures.builds) c.joined_root-root.ensures.builds)
+    gives-third c.joined_root-root.result c.rest_root-back.result c.in_ok-front.front (gives-built (gives-built (gives-answered c.in_ok-front.ensures.answered c.in_ok-front.ensures.made) c.rest_root-back.ensures.builds) c.joined_root-root.ensures.builds)
 
 pub release-requires-2 : goal.release-requires-2
 release-requires-2 g c =
-    gives-second c.joined_root-root.result c.rest_root-back.result (gives-released {left = c.joined_root-root.result ∷ c.rest_root-back.result ∷ []} c.in_ok-reserve.ensures.rest.graph (gives-built (gives-built (gives-answered c.in_ok-front.ensures.answered) c.rest_root-back.ensures.builds) c.joined_root-root.ensures.builds) (without-third c.joined_root-root.result c.rest_root-back.result c.in_ok-front.front) refl c.release.ensures.releases c.release.ensures.graph c.release.ensures.keeps)
+    gives-second c.joined_root-root.result c.rest_root-back.result (gives-released {left = c.joined_root-root.result ∷ c.rest_root-back.result ∷ []} c.in_ok-reserve.ensures.rest.graph (gives-built (gives-built (gives-answered c.in_ok-front.ensures.answered c.in_ok-front.ensures.made) c.rest_root-back.ensures.builds) c.joined_root-root.ensures.builds) (without-third c.joined_root-root.result c.rest_root-back.result c.in_ok-front.front) refl c.release.ensures.releases c.release.ensures.graph c.release.ensures.keeps)
 
-whole : (g : given.Over) (c : goal.After-from_root g) → Gives c.reserve.new.self c.joined_root-root.new.heap (c.joined_root-root.result ∷ c.rest_root-back.result ∷ c.in_ok-front.front ∷ []) 42
-whole g c = gives-built (gives-built (gives-answered c.in_ok-front.ensures.answered) c.rest_root-back.ensures.builds) c.joined_root-root.ensures.builds
+whole : (g : given.Over) (c : goal.After-from_root g) → Gives c.reserve.new.self c.joined_root-root.new.heap (c.joined_root-root.result ∷ c.rest_root-back.result ∷ c.in_ok-front.front ∷ []) (5 * height_at c.args.heap.now c.args.vector + 5)
+whole g c =
+    let first = unchanged-good c.args.vector c.in_ok-reserve.ensures.rest c.requires.good in
+    let same = unchanged-height c.in_ok-reserve.ensures.rest c.args.vector in
+    let later : height_at c.take.new.heap c.root.result ≡ height_at c.reserve.new.self c.args.vector = rw c.root.ensures (extended-height c.in_ok-front.ensures.answered.extends c.args.vector first.0) in
+    let front : height_at c.rest_root-back.new.heap c.root-2.result ≡ height_at c.take.new.heap c.in_ok-front.front = rw (c.root-2.ensures, c.view.ensures) (extended-height c.rest_root-back.ensures.builds.extends c.in_ok-front.front c.in_ok-front.ensures.good) in
+    gives-more (gives-built (gives-built (gives-answered c.in_ok-front.ensures.answered c.in_ok-front.ensures.made) c.rest_root-back.ensures.builds) c.joined_root-root.ensures.builds) (omega (arith, same, later, front, c.in_ok-front.ensures.low, c.rest_root-back.ensures.low))
 
-both : (g : given.Over) (c : goal.After-from_root g) → Gives c.reserve.new.self c.release.new.heap (c.joined_root-root.result ∷ c.rest_root-back.result ∷ []) 42
+both : (g : given.Over) (c : goal.After-from_root g) → Gives c.reserve.new.self c.release.new.heap (c.joined_root-root.result ∷ c.rest_root-back.result ∷ []) (5 * height_at c.args.heap.now c.args.vector + 5)
 both g c = gives-released {left = c.joined_root-root.result ∷ c.rest_root-back.result ∷ []} c.in_ok-reserve.ensures.rest.graph (whole g c) (without-third c.joined_root-root.result c.rest_root-back.result c.in_ok-front.front) refl c.release.ensures.releases c.release.ensures.graph c.release.ensures.keeps
 
-kept : (g : given.Over) (c : goal.After-from_root g) → IsGoodVector c.release-2.new.self c.joined_root-root.result × (elements c.release-2.new.self c.joined_root-root.result ≡ elements c.joined_root-root.new.heap c.joined_root-root.result)
+kept : (g : given.Over) (c : goal.After-from_root g) → IsVectorOf c.release-2.new.self c.joined_root-root.result (elements c.joined_root-root.new.heap c.joined_root-root.result)
 kept g c =
     let first = good-held c.release.ensures.keeps c.joined_root-root.result (gives-first-of c.joined_root-root.result c.rest_root-back.result c.in_ok-front.front (whole g c)) c.joined_root-root.ensures.good in
     let second = good-held c.release-2.ensures.keeps c.joined_root-root.result (gives-first c.joined_root-root.result c.rest_root-back.result (both g c)) first.0 in
     (second.0, second.1 ∙ first.1)
 
+-- what is left is the join alone
+left : (g : given.Over) (c : goal.After-from_root g) → Answered c.args.heap.now c.release-2.new.self [] c.joined_root-root.result 0 (5 * height_at c.args.heap.now c.args.vector + 5) × (c.release-2.new.self.made ≤ c.args.heap.now.made + (5 * height_at c.args.heap.now c.args.vector + 5))
+left g c = gives-all c.in_ok-reserve.ensures.rest (gives-released {left = c.joined_root-root.result ∷ []} c.in_ok-reserve.ensures.rest.graph (both g c) (without-second c.joined_root-root.result c.rest_root-back.result) refl c.release-2.ensures.releases c.release-2.ensures.graph c.release-2.ensures.keeps) (omega arith)
+
 pub returns-clause-items : goal.returns-clause-items
 returns-clause-items g c =
     let first = unchanged-good c.args.vector c.in_ok-reserve.ensures.rest c.requires.good in
-    let second = good-stays (live-stays c.in_ok-reserve.ensures.rest.graph c.in_ok-front.ensures.answered.extends) c.args.vector (well-live c.reserve.new.self (height_at c.reserve.new.self c.args.vector) c.args.vector first.0.shape.well) first.0 in
-    let front = good-stays (live-stays c.in_ok-front.ensures.answered.graph c.rest_root-back.ensures.builds.extends) c.in_ok-front.front (well-live c.take.new.heap (height_at c.take.new.heap c.in_ok-front.front) c.in_ok-front.front c.in_ok-front.ensures.good.shape.well) c.in_ok-front.ensures.good in
+    let second = c.in_ok-front.ensures.vectors c.args.vector first.0 in
+    let front = extended-same c.rest_root-back.ensures.builds.extends c.in_ok-front.front c.in_ok-front.ensures.good in
     rw c.from_root.ensures ((kept g c).1 ∙ c.joined_root-root.ensures.items ∙ rw (c.root-2.ensures, c.view.ensures, front.1, c.in_ok-front.ensures.items, c.rest_root-back.ensures.items, c.root.ensures, second.1, first.1) refl)
 
 pub returns-clause-good : goal.returns-clause-good
 returns-clause-good g c = rw c.from_root.ensures (kept g c).0
 
 pub returns-clause-answered : goal.returns-clause-answered
-returns-clause-answered g c =
-    rw c.from_root.ensures (gives-all c.in_ok-reserve.ensures.rest (gives-released {left = c.joined_root-root.result ∷ []} c.in_ok-reserve.ensures.rest.graph (both g c) (without-second c.joined_root-root.result c.rest_root-back.result) refl c.release-2.ensures.releases c.release-2.ensures.graph c.release-2.ensures.keeps) (omega arith))
+returns-clause-answered g c = rw c.from_root.ensures (left g c).0
+
+pub returns-clause-made : goal.returns-clause-made
+returns-clause-made g c = (left g c).1
+
+pub returns-clause-vectors : goal.returns-clause-vectors
+returns-clause-vectors g c = answered-same (left g c).0
+
+pub returns-clause-range : goal.returns-clause-range
+returns-clause-range g c = (λ is. absurd cc, λ no. absurd (no (c.if-not-is_part.ensures.test.0 (search rules))))

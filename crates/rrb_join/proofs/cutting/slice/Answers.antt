@@ -1,21 +1,34 @@
-use Rattle.std.proofs.Common.{arith, ◌≡◌, refl, ◌∙◌, [], ◌∷◌}
-use Rattle.rrb_core.specs.Vector.{elements, IsGoodVector}
-use Rattle.rrb_core.proofs.BuildLemmas.{unchanged-good, unchanged-refl}
+use Rattle.std.proofs.Common.{arith, ◌+◌, ◌*◌, ◌≤◌, refl, ◌∙◌, [], ◌∷◌}
+use Rattle.node_heap.specs.Calls.{Answered}
+use Rattle.node_heap.proofs.Frames.{Unchanged-refl}
+use Rattle.rrb_core.specs.Vector.{height_at, elements, IsVectorOf}
+use Rattle.rrb_core.proofs.BuildLemmas.{unchanged-good, answered-same}
+use Rattle.rrb_join.proofs.AnswerLemmas.{unchanged-height}
 use Rattle.rrb_join.proofs.CutLemmas.{Gives, gives-answered, gives-built, gives-released, gives-all, gives-first, without-second, good-held}
 use Rattle.rrb_join.proofs.cutting.slice.Given as given
 use Rattle.rrb_join.proofs.cutting.slice.Goals as goal
 
 pub returns-then-not-is_part-clause-refused : goal.returns-then-not-is_part-clause-refused
-returns-then-not-is_part-clause-refused g c = unchanged-refl c.args.heap.now c.is_part.ensures.graph
+returns-then-not-is_part-clause-refused g c = Unchanged-refl c.args.heap.now c.is_part.ensures.graph
+
+pub returns-in_err-reserve-clause-vectors : goal.returns-in_err-reserve-clause-vectors
+returns-in_err-reserve-clause-vectors g c = λ l. unchanged-good l c.in_err-reserve.ensures.rest
 
 pub take-requires-clause-good : goal.take-requires-clause-good
 take-requires-clause-good g c = (unchanged-good c.args.vector c.in_ok-reserve.ensures.rest c.requires.good).0
 
-made : (g : given.Over) (c : goal.After-from_root g) → Gives c.reserve.new.self c.rest_root-root.new.heap (c.rest_root-root.result ∷ c.in_ok-front.front ∷ []) 25
-made g c = gives-built (gives-answered c.in_ok-front.ensures.answered) c.rest_root-root.ensures.builds
+made : (g : given.Over) (c : goal.After-from_root g) → Gives c.reserve.new.self c.rest_root-root.new.heap (c.rest_root-root.result ∷ c.in_ok-front.front ∷ []) (height_at c.reserve.new.self c.args.vector + 1 + (2 * height_at c.take.new.heap c.root.result + 1))
+made g c = gives-built (gives-answered c.in_ok-front.ensures.answered c.in_ok-front.ensures.made) c.rest_root-root.ensures.builds
 
-kept : (g : given.Over) (c : goal.After-from_root g) → IsGoodVector c.release.new.heap c.rest_root-root.result × (elements c.release.new.heap c.rest_root-root.result ≡ elements c.rest_root-root.new.heap c.rest_root-root.result)
+kept : (g : given.Over) (c : goal.After-from_root g) → IsVectorOf c.release.new.heap c.rest_root-root.result (elements c.rest_root-root.new.heap c.rest_root-root.result)
 kept g c = good-held c.release.ensures.keeps c.rest_root-root.result (gives-first c.rest_root-root.result c.in_ok-front.front (made g c)) c.rest_root-root.ensures.good
+
+-- the slice alone is left
+left : (g : given.Over) (c : goal.After-from_root g) → Answered c.args.heap.now c.release.new.heap [] c.rest_root-root.result 0 (3 * height_at c.args.heap.now c.args.vector + 2) × (c.release.new.heap.made ≤ c.args.heap.now.made + (3 * height_at c.args.heap.now c.args.vector + 2))
+left g c =
+    let same = unchanged-height c.in_ok-reserve.ensures.rest c.args.vector in
+    let low : height_at c.take.new.heap c.root.result ≤ height_at c.reserve.new.self c.args.vector = rw (c.root.ensures, c.view.ensures) c.in_ok-front.ensures.low in
+    gives-all c.in_ok-reserve.ensures.rest (gives-released {left = c.rest_root-root.result ∷ []} c.in_ok-reserve.ensures.rest.graph (made g c) (without-second c.rest_root-root.result c.in_ok-front.front) refl c.release.ensures.releases c.release.ensures.graph c.release.ensures.keeps) (omega (arith, same, low))
 
 pub returns-clause-items : goal.returns-clause-items
 returns-clause-items g c =
@@ -25,5 +38,10 @@ pub returns-clause-good : goal.returns-clause-good
 returns-clause-good g c = rw c.from_root.ensures (kept g c).0
 
 pub returns-clause-answered : goal.returns-clause-answered
-returns-clause-answered g c =
-    rw c.from_root.ensures (gives-all c.in_ok-reserve.ensures.rest (gives-released {left = c.rest_root-root.result ∷ []} c.in_ok-reserve.ensures.rest.graph (made g c) (without-second c.rest_root-root.result c.in_ok-front.front) refl c.release.ensures.releases c.release.ensures.graph c.release.ensures.keeps) (omega arith))
+returns-clause-answered g c = rw c.from_root.ensures (left g c).0
+
+pub returns-clause-made : goal.returns-clause-made
+returns-clause-made g c = (left g c).1
+
+pub returns-clause-vectors : goal.returns-clause-vectors
+returns-clause-vectors g c = answered-same (left g c).0

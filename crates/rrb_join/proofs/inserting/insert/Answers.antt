@@ -1,5 +1,7 @@
 use Rattle.std.proofs.Common.{arith, refl, ◌∙◌}
-use Rattle.rrb_core.proofs.BuildLemmas.{builds-answered, unchanged-good}
+use Rattle.node_heap.proofs.BuildLemmas.{Builds-more, Builds-Answered}
+use Rattle.rrb_core.proofs.BuildLemmas.{unchanged-good, answered-same}
+use Rattle.rrb_join.proofs.AnswerLemmas.{unchanged-height}
 use Rattle.rrb_join.proofs.inserting.insert.Goals as goal
 
 pub inserted_root-requires-clause-good : goal.inserted_root-requires-clause-good
@@ -15,4 +17,18 @@ pub returns-clause-items : goal.returns-clause-items
 returns-clause-items g c = rw c.from_root.ensures (c.inserted_root.ensures.items ∙ rw (c.root.ensures, (unchanged-good c.args.vector c.in_ok-reserve.ensures.rest c.requires.good).1) refl)
 
 pub returns-clause-answered : goal.returns-clause-answered
-returns-clause-answered g c = rw c.from_root.ensures (builds-answered c.in_ok-reserve.ensures.rest c.inserted_root.ensures.builds)
+returns-clause-answered g c =
+    let same = unchanged-height c.in_ok-reserve.ensures.rest c.args.vector in
+    let built = rw c.root.ensures at c.inserted_root.ensures.builds in
+    rw c.from_root.ensures (Builds-Answered c.in_ok-reserve.ensures.rest (Builds-more 0 _ built (omega arith) (omega (arith, same))))
+
+pub returns-clause-vectors : goal.returns-clause-vectors
+returns-clause-vectors g c = answered-same (Builds-Answered c.in_ok-reserve.ensures.rest c.inserted_root.ensures.builds)
+
+pub returns-in_err-reserve-clause-vectors : goal.returns-in_err-reserve-clause-vectors
+returns-in_err-reserve-clause-vectors g c = λ l. unchanged-good l c.in_err-reserve.ensures.rest
+
+pub returns-clause-flat : goal.returns-clause-flat
+returns-clause-flat g c = λ leaf few.
+    let low = unchanged-height c.in_ok-reserve.ensures.rest c.args.vector ∙ leaf in
+    rw c.from_root.ensures (c.inserted_root.ensures.flat (rw c.root.ensures low) (rw (c.root.ensures, (unchanged-good c.args.vector c.in_ok-reserve.ensures.rest c.requires.good).1) few))

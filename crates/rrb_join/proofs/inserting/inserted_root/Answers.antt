@@ -1,15 +1,31 @@
-use Rattle.std.proofs.Common.{arith}
-use Rattle.rrb_core.specs.Vector.{height_at}
+use Rattle.std.proofs.Common.{arith, ◌≡◌, ◌<◌, ◌^◌, ◌∙◌, ◌∷◌, ◌++◌, ap, length, take, drop}
+use Rattle.node_heap.specs.Heap.{form_at}
+use Rattle.rrb_core.specs.Seq.{seq_at}
+use Rattle.rrb_core.specs.Vector.{height_at, elements}
 use Rattle.rrb_core.proofs.Stays.{well-live}
-use Rattle.rrb_core.proofs.BuildLemmas.{builds-then, builds-more, builds-held}
+use Rattle.node_heap.proofs.BuildLemmas.{Builds-then, Builds-more}
+use Rattle.rrb_core.proofs.BuildLemmas.{builds-held}
+use Rattle.rrb_join.proofs.UnmadeLemmas.{unmade-rows, unmade-length}
+use Rattle.rrb_join.proofs.InsertLemmas.{inserted-length}
 use Rattle.rrb_join.proofs.inserting.inserted_root.Goals as goal
 
 pub height_of-height-requires : goal.height_of-height-requires
 height_of-height-requires g c = well-live c.args.heap.now (height_at c.args.heap.now c.args.root) c.args.root c.requires.good.shape.well
 
-pub root_over-requires-clause-held : goal.root_over-requires-clause-held
-root_over-requires-clause-held g c = rw c.as_slice.ensures.value (builds-held c.args.element c.requires.held c.insert_links-links.ensures.builds)
+pub root_over-requires-clause-rows : goal.root_over-requires-clause-rows
+root_over-requires-clause-rows g c =
+    let made = c.insert_links-links.ensures in
+    let short : length (take c.args.index (elements c.args.heap.now c.args.root) ++ c.args.element ∷ drop c.args.index (elements c.args.heap.now c.args.root)) < 2 ^ 32 = omega (arith, inserted-length (elements c.args.heap.now c.args.root) c.args.index c.args.element c.requires.inside, c.requires.short) in
+    rw c.as_slice.ensures.value (unmade-rows made.links made.builds.graph (omega (arith, c.height_of-height.ensures, c.requires.good.shape.low)) (rw c.height_of-height.ensures short) (builds-held c.args.element c.requires.held made.builds) (omega (arith, made.builds.total, made.links.most, c.requires.holds)))
 
 pub returns-clause-builds : goal.returns-clause-builds
 returns-clause-builds g c =
-    builds-more 17 (builds-then c.insert_links-links.ensures.builds (rw c.as_slice.ensures.value at c.root_over.ensures.builds)) (omega (arith, c.height_of-height.ensures, c.requires.good.shape.low))
+    Builds-more 0 _ (Builds-then c.insert_links-links.ensures.builds (rw c.as_slice.ensures.value at c.root_over.ensures.builds)) (omega arith) (omega (arith, c.height_of-height.ensures))
+
+pub returns-clause-flat : goal.returns-clause-flat
+returns-clause-flat g c = λ leaf few.
+    let none : c.height_of-height.result ≡ 0 = c.height_of-height.ensures ∙ leaf in
+    let links = unmade-length c.insert_links-links.new.heap c.height_of-height.result c.insert_links-links.result.items _ c.insert_links-links.ensures.links none in
+    let same = ap (λ n. length (seq_at (form_at c.args.heap.now) n c.args.root)) c.height_of-height.ensures in
+    let sum = inserted-length (seq_at (form_at c.args.heap.now) c.height_of-height.result c.args.root) c.args.index c.args.element (omega (arith, same, c.requires.inside)) in
+    c.root_over.ensures.low (rw c.as_slice.ensures.value (omega (arith, links, sum, same, few))) ∙ none

@@ -1,6 +1,11 @@
 use Rattle.std.proofs.Common.{arith, refl, ◌∙◌}
-use Rattle.rrb_core.proofs.BuildLemmas.{builds-answered, unchanged-good}
+use Rattle.node_heap.proofs.BuildLemmas.{Builds-more, Builds-Answered}
+use Rattle.rrb_core.proofs.BuildLemmas.{unchanged-good, answered-same}
+use Rattle.rrb_join.proofs.AnswerLemmas.{unchanged-height}
 use Rattle.rrb_join.proofs.joining.concat.Goals as goal
+
+pub returns-in_err-reserve-clause-vectors : goal.returns-in_err-reserve-clause-vectors
+returns-in_err-reserve-clause-vectors g c = λ l. unchanged-good l c.in_err-reserve.ensures.rest
 
 pub joined_root-requires-clause-left_good : goal.joined_root-requires-clause-left_good
 joined_root-requires-clause-left_good g c = rw c.root.ensures (unchanged-good c.args.left c.in_ok-reserve.ensures.rest c.requires.left_good).0
@@ -21,4 +26,19 @@ returns-clause-items g c =
     rw c.from_root.ensures (c.joined_root.ensures.items ∙ rw (c.root.ensures, c.root-2.ensures, left.1, right.1) refl)
 
 pub returns-clause-answered : goal.returns-clause-answered
-returns-clause-answered g c = rw c.from_root.ensures (builds-answered c.in_ok-reserve.ensures.rest c.joined_root.ensures.builds)
+returns-clause-answered g c =
+    let left = unchanged-height c.in_ok-reserve.ensures.rest c.args.left in
+    let right = unchanged-height c.in_ok-reserve.ensures.rest c.args.right in
+    let built = rw (c.root.ensures, c.root-2.ensures) at c.joined_root.ensures.builds in
+    rw c.from_root.ensures (Builds-Answered c.in_ok-reserve.ensures.rest (Builds-more 0 _ built (omega arith) (omega (arith, left, right))))
+
+pub returns-clause-vectors : goal.returns-clause-vectors
+returns-clause-vectors g c = answered-same (Builds-Answered c.in_ok-reserve.ensures.rest c.joined_root.ensures.builds)
+
+pub returns-clause-flat : goal.returns-clause-flat
+returns-clause-flat g c = λ left_leaf right_leaf few.
+    let left = unchanged-good c.args.left c.in_ok-reserve.ensures.rest c.requires.left_good in
+    let right = unchanged-good c.args.right c.in_ok-reserve.ensures.rest c.requires.right_good in
+    let left_low = unchanged-height c.in_ok-reserve.ensures.rest c.args.left ∙ left_leaf in
+    let right_low = unchanged-height c.in_ok-reserve.ensures.rest c.args.right ∙ right_leaf in
+    rw c.from_root.ensures (c.joined_root.ensures.flat (rw c.root.ensures left_low) (rw c.root-2.ensures right_low) (rw (c.root.ensures, c.root-2.ensures, left.1, right.1) few))

@@ -1,41 +1,49 @@
 use Rattle.std.proofs.Common.{arith, ◌≡◌, ◌+◌, ◌<◌, ◌∙◌, add-one}
 use Rattle.rrb_core.specs.Vector.{elements, IsGoodVector}
 use Rattle.rrb_join.specs.Unmade.{items_below}
+use Rattle.node_heap.specs.Heap.{form_at}
+use Rattle.rrb_core.proofs.FillRule.{height-is}
 use Rattle.rrb_core.proofs.RowLists.{good-row}
-use Rattle.rrb_core.proofs.BuildLemmas.{builds-then}
+use Rattle.node_heap.proofs.BuildLemmas.{Builds-then}
 use Rattle.rrb_join.proofs.UnmadeLemmas.{rows-above, items-above, two-low}
 use Rattle.rrb_join.proofs.over.root_over.Given as given
 use Rattle.rrb_join.proofs.over.root_over.Goals as goal
 
 one : (g : given.Over) (c : goal.After-row_over g) → IsGoodVector c.row_over.new.heap c.row_over.result × (elements c.row_over.new.heap c.row_over.result ≡ items_below c.args.heap.now c.args.height c.args.links.now)
-one g c = good-row c.row_over.new.heap c.args.height c.row_over.result (items_below c.args.heap.now c.args.height c.args.links.now) c.row_over.ensures.row c.requires.low (λ some. rw c.row_over.ensures.links (c.requires.two some)) c.requires.short
+one g c = good-row c.row_over.new.heap c.args.height c.row_over.result (items_below c.args.heap.now c.args.height c.args.links.now) c.row_over.ensures.row c.requires.rows.low (λ some. rw c.row_over.ensures.links (c.requires.two some)) c.requires.rows.short
 
-pub returns-then-links-le32-clause-good : goal.returns-then-links-le32-clause-good
-returns-then-links-le32-clause-good g c = (one g c).0
+pub returns-then-links-le-ROW_LINKS-clause-good : goal.returns-then-links-le-ROW_LINKS-clause-good
+returns-then-links-le-ROW_LINKS-clause-good g c = (one g c).0
 
-pub returns-then-links-le32-clause-items : goal.returns-then-links-le32-clause-items
-returns-then-links-le32-clause-items g c = (one g c).1
+pub returns-then-links-le-ROW_LINKS-clause-items : goal.returns-then-links-le-ROW_LINKS-clause-items
+returns-then-links-le-ROW_LINKS-clause-items g c = (one g c).1
+
+pub returns-then-links-le-ROW_LINKS-clause-low : goal.returns-then-links-le-ROW_LINKS-clause-low
+returns-then-links-le-ROW_LINKS-clause-low g c = λ _. height-is (form_at c.row_over.new.heap) c.args.height c.row_over.result c.row_over.ensures.row.well
 
 above : (g : given.Over) (c : goal.After-as_slice g) → items_below c.rows_over-rows.new.heap (c.args.height + 1) c.as_slice.result.now ≡ items_below c.args.heap.now c.args.height c.args.links.now
 above g c = rw (add-one, c.as_slice.ensures.value) (items-above c.rows_over-rows.new.heap c.args.height c.rows_over-rows.result.items ∙ c.rows_over-rows.ensures.items)
 
 below : (g : given.Over) (c : goal.After-as_slice g) → c.args.height < 7
-below g c = two-low c.rows_over-rows.new.heap c.args.height c.rows_over-rows.result.items c.rows_over-rows.ensures.rows (omega (arith, c.rows_over-rows.ensures.two)) c.requires.low (rw c.rows_over-rows.ensures.items c.requires.short)
+below g c = two-low c.rows_over-rows.new.heap c.args.height c.rows_over-rows.result.items c.rows_over-rows.ensures.rows (omega (arith, c.rows_over-rows.ensures.two)) c.requires.rows.low (rw c.rows_over-rows.ensures.items c.requires.rows.short)
 
-pub row_over-requires-2-clause-links : goal.row_over-requires-2-clause-links
-row_over-requires-2-clause-links g c = rw (add-one, c.as_slice.ensures.value) (rows-above c.rows_over-rows.new.heap c.args.height c.rows_over-rows.result.items c.rows_over-rows.ensures.rows)
-
-pub row_over-requires-2-clause-low : goal.row_over-requires-2-clause-low
-row_over-requires-2-clause-low g c = omega (arith, below g c)
-
-pub row_over-requires-2-clause-short : goal.row_over-requires-2-clause-short
-row_over-requires-2-clause-short g c = rw (above g c) c.requires.short
+pub row_over-requires-2-clause-rows : goal.row_over-requires-2-clause-rows
+row_over-requires-2-clause-rows g c =
+    record {
+      graph = c.rows_over-rows.ensures.builds.graph;
+      links = rw (add-one, c.as_slice.ensures.value) (rows-above c.rows_over-rows.new.heap c.args.height c.rows_over-rows.result.items c.rows_over-rows.ensures.rows);
+      some = rw c.as_slice.ensures.value c.rows_over-rows.ensures.some;
+      low = omega (arith, below g c);
+      short = rw (above g c) c.requires.rows.short;
+      held = λ k. rw c.as_slice.ensures.value (omega (arith, c.rows_over-rows.ensures.builds.holds k, c.requires.rows.held k));
+      holds = omega (arith, c.requires.rows.holds, c.rows_over-rows.ensures.builds.total, c.rows_over-rows.ensures.few, c.if-links-le-ROW_LINKS.false);
+    }
 
 two : (g : given.Over) (c : goal.After-row_over-2 g) → IsGoodVector c.row_over-2.new.heap c.row_over-2.result × (elements c.row_over-2.new.heap c.row_over-2.result ≡ items_below c.args.heap.now c.args.height c.args.links.now)
 two g c =
     let items : items_below c.rows_over-rows.new.heap (c.args.height + 1) c.as_slice.result.now ≡ items_below c.args.heap.now c.args.height c.args.links.now = rw (add-one, c.as_slice.ensures.value) (items-above c.rows_over-rows.new.heap c.args.height c.rows_over-rows.result.items ∙ c.rows_over-rows.ensures.items) in
-    let low : c.args.height < 7 = two-low c.rows_over-rows.new.heap c.args.height c.rows_over-rows.result.items c.rows_over-rows.ensures.rows (omega (arith, c.rows_over-rows.ensures.two)) c.requires.low (rw c.rows_over-rows.ensures.items c.requires.short) in
-    good-row c.row_over-2.new.heap (c.args.height + 1) c.row_over-2.result (items_below c.args.heap.now c.args.height c.args.links.now) (rw items at c.row_over-2.ensures.row) (omega (arith, low)) (λ _. rw (c.row_over-2.ensures.links, c.as_slice.ensures.value) (omega (arith, c.rows_over-rows.ensures.two))) c.requires.short
+    let low : c.args.height < 7 = two-low c.rows_over-rows.new.heap c.args.height c.rows_over-rows.result.items c.rows_over-rows.ensures.rows (omega (arith, c.rows_over-rows.ensures.two)) c.requires.rows.low (rw c.rows_over-rows.ensures.items c.requires.rows.short) in
+    good-row c.row_over-2.new.heap (c.args.height + 1) c.row_over-2.result (items_below c.args.heap.now c.args.height c.args.links.now) (rw items at c.row_over-2.ensures.row) (omega (arith, low)) (λ _. rw (c.row_over-2.ensures.links, c.as_slice.ensures.value) (omega (arith, c.rows_over-rows.ensures.two))) c.requires.rows.short
 
 pub returns-clause-good : goal.returns-clause-good
 returns-clause-good g c = (two g c).0
@@ -44,4 +52,4 @@ pub returns-clause-items : goal.returns-clause-items
 returns-clause-items g c = (two g c).1
 
 pub returns-clause-builds : goal.returns-clause-builds
-returns-clause-builds g c = builds-then c.rows_over-rows.ensures.builds (rw c.as_slice.ensures.value at c.row_over-2.ensures.builds)
+returns-clause-builds g c = Builds-then c.rows_over-rows.ensures.builds (rw c.as_slice.ensures.value at c.row_over-2.ensures.builds)

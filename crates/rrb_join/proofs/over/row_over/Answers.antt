@@ -8,10 +8,10 @@ returns-then-height-eq0-clause-row g c =
     rw (leaf-items c.args.heap.now c.args.height c.args.links.now none, none) c.leaf_over.ensures.row
 
 pub inner_over-requires-clause-rows : goal.inner_over-requires-clause-rows
-inner_over-requires-clause-rows g c = inner-links c.args.heap.now c.args.height c.args.links.now (omega arith) c.requires.links
+inner_over-requires-clause-rows g c = inner-links c.args.heap.now c.args.height c.args.links.now (omega arith) c.requires.rows.links
 
 pub inner_over-requires-clause-short : goal.inner_over-requires-clause-short
-inner_over-requires-clause-short g c = rw (← inner-items c.args.heap.now c.args.height c.args.links.now (omega arith)) c.requires.short
+inner_over-requires-clause-short g c = rw (← inner-items c.args.heap.now c.args.height c.args.links.now (omega arith)) c.requires.rows.short
 
 pub returns-clause-row : goal.returns-clause-row
 returns-clause-row g c =

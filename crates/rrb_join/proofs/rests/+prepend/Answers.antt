@@ -6,21 +6,21 @@ use Rattle.rrb_core.specs.Vector.{HasSums}
 use Rattle.rrb_join.specs.Unmade.{items_below, BeginsWith}
 use Rattle.rrb_core.proofs.Stays.{live-stays}
 use Rattle.rrb_core.proofs.RowLists.{over, at-place}
-use Rattle.rrb_core.proofs.BuildLemmas.{builds-then, builds-more}
+use Rattle.node_heap.proofs.BuildLemmas.{Builds-then, Builds-more}
 use Rattle.rrb_join.proofs.SeamLemmas.{first-edge}
 use Rattle.rrb_join.proofs.RestLemmas.{IsMerged, merged, AreBeside, beside, joined-items}
 use Rattle.rrb_join.proofs.rests.+prepend.Given as given
 use Rattle.rrb_join.proofs.rests.+prepend.Goals as goal
 
-level : (g : given.Over) (t : ℕ) (c : goal.After-gathered g t) → IsMerged c.args.heap.now c.gathered.new.heap c.args.height c.args.level c.args.right c.args.links.now c.gathered.result.items
-level g t c =
-    merged c.args.heap.now c.gathered.new.heap c.args.height c.args.level c.args.right c.args.links.now c.gathered.result.items (live-stays c.requires.graph c.gathered.ensures.builds.extends) c.if-level-height.true c.requires.links c.requires.thick c.requires.few c.requires.right c.gathered.ensures.items
+same : (g : given.Over) (t : ℕ) (c : goal.After-gathered g t) → IsMerged c.args.heap.now c.gathered.new.heap c.args.height c.args.links_height c.args.right c.args.links.now c.gathered.result.items
+same g t c =
+    merged c.args.heap.now c.gathered.new.heap c.args.height c.args.links_height c.args.right c.args.links.now c.gathered.result.items (live-stays c.requires.graph c.gathered.ensures.builds.extends) c.if-links_height-height.true c.requires.links c.requires.thick c.requires.few c.requires.right c.gathered.ensures.items
 
-pub returns-then-level-height-clause-links : goal.returns-then-level-height-clause-links
-returns-then-level-height-clause-links g t c = (level g t c).unmade
+pub returns-then-links_height-height-clause-links : goal.returns-then-links_height-height-clause-links
+returns-then-links_height-height-clause-links g t c = (same g t c).unmade
 
-pub returns-then-level-height-clause-thick : goal.returns-then-level-height-clause-thick
-returns-then-level-height-clause-thick g t c = λ thick. (c.if-level-height.true, ((level g t c).thick thick).0, ((level g t c).thick thick).1)
+pub returns-then-links_height-height-clause-thick : goal.returns-then-links_height-height-clause-thick
+returns-then-links_height-height-clause-thick g t c = λ thick. (c.if-links_height-height.true, ((same g t c).thick thick).0, ((same g t c).thick thick).1)
 
 pub prepend-merged-requires : goal.prepend-merged-requires
 prepend-merged-requires g t c = λ κs sub.
@@ -33,12 +33,12 @@ prepend-merged-requires g t c = λ κs sub.
 begins : (g : given.Over) (t : ℕ) (c : goal.After-raised-arg-1 g t) → BeginsWith c.args.heap.now (c.args.height - 1) c.args.height c.args.right 1 (c.args.height - 1) c.index-links-0.result
 begins g t c = first-edge c.args.heap.now (c.args.height - 1) c.args.height c.args.right c.index-links-0.result c.requires.right (omega arith) (at-place c.links.result.now (links_at c.args.heap.now c.args.right) 0 c.index-links-0.result c.index-links-0.is c.links.ensures.links (omega (arith, c.requires.right.some)))
 
-others : (g : given.Over) (t : ℕ) (c : goal.After-raised-arg-1 g t) → AreBeside c.args.heap.now c.prepend-merged.new.heap (c.args.height - 1) c.prepend-merged.result.level c.args.right 1
+others : (g : given.Over) (t : ℕ) (c : goal.After-raised-arg-1 g t) → AreBeside c.args.heap.now c.prepend-merged.new.heap (c.args.height - 1) c.prepend-merged.result.height c.args.right 1
 others g t c =
     let down : suc (c.args.height - 1) ≡ c.args.height = omega arith in
     let well : IsWell (form_at c.args.heap.now) (suc (c.args.height - 1)) c.args.right = rw down c.requires.right.well in
     let sums : HasSums c.args.heap.now (suc (c.args.height - 1)) c.args.right = rw down c.requires.right.sums in
-    beside c.args.heap.now c.prepend-merged.new.heap (c.args.height - 1) c.prepend-merged.result.level c.args.right 1 (live-stays c.requires.graph c.prepend-merged.ensures.builds.extends) (over c.args.heap.now (c.args.height - 1) c.args.right well sums)
+    beside c.args.heap.now c.prepend-merged.new.heap (c.args.height - 1) c.prepend-merged.result.height c.args.right 1 (live-stays c.requires.graph c.prepend-merged.ensures.builds.extends) (over c.args.heap.now (c.args.height - 1) c.args.right well sums)
     (λ more. (c.prepend-merged.ensures.thick ((begins g t c).close more).1).0)
 
 pub raised-requires-clause-from : goal.raised-requires-clause-from
@@ -57,33 +57,21 @@ pub raised-requires-clause-short : goal.raised-requires-clause-short
 raised-requires-clause-short g t c =
     let first = begins g t c in
     let size = length-append (seq_at (form_at c.args.heap.now) (c.args.height - 1) c.index-links-0.result) (flat_map (seq_at (form_at c.args.heap.now) (c.args.height - 1)) (drop 1 (links_at c.args.heap.now c.args.right))) in
-    rw c.prepend-merged.ensures.links.items (omega (arith, length-append (items_below c.args.heap.now c.args.level c.args.links.now) (seq_at (form_at c.args.heap.now) (c.args.height - 1) c.index-links-0.result), ap length first.items, size, c.requires.short))
-
--- the same after the last step
-begins-then : (g : given.Over) (t : ℕ) (c : goal.After-raised g t) → BeginsWith c.args.heap.now (c.args.height - 1) c.args.height c.args.right 1 (c.args.height - 1) c.index-links-0.result
-begins-then g t c = first-edge c.args.heap.now (c.args.height - 1) c.args.height c.args.right c.index-links-0.result c.requires.right (omega arith) (at-place c.links.result.now (links_at c.args.heap.now c.args.right) 0 c.index-links-0.result c.index-links-0.is c.links.ensures.links (omega (arith, c.requires.right.some)))
-
-others-then : (g : given.Over) (t : ℕ) (c : goal.After-raised g t) → AreBeside c.args.heap.now c.prepend-merged.new.heap (c.args.height - 1) c.prepend-merged.result.level c.args.right 1
-others-then g t c =
-    let down : suc (c.args.height - 1) ≡ c.args.height = omega arith in
-    let well : IsWell (form_at c.args.heap.now) (suc (c.args.height - 1)) c.args.right = rw down c.requires.right.well in
-    let sums : HasSums c.args.heap.now (suc (c.args.height - 1)) c.args.right = rw down c.requires.right.sums in
-    beside c.args.heap.now c.prepend-merged.new.heap (c.args.height - 1) c.prepend-merged.result.level c.args.right 1 (live-stays c.requires.graph c.prepend-merged.ensures.builds.extends) (over c.args.heap.now (c.args.height - 1) c.args.right well sums)
-    (λ more. (c.prepend-merged.ensures.thick ((begins-then g t c).close more).1).0)
+    rw c.prepend-merged.ensures.links.items (omega (arith, length-append (items_below c.args.heap.now c.args.links_height c.args.links.now) (seq_at (form_at c.args.heap.now) (c.args.height - 1) c.index-links-0.result), ap length first.items, size, c.requires.short))
 
 pub returns-clause-links : goal.returns-clause-links
 returns-clause-links g t c =
-    let items = joined-items (items_below c.prepend-merged.new.heap c.prepend-merged.result.level c.prepend-merged.result.links.items) (items_below c.args.heap.now c.args.level c.args.links.now) (seq_at (form_at c.args.heap.now) (c.args.height - 1) c.index-links-0.result) _ _ (seq_at (form_at c.args.heap.now) c.args.height c.args.right)
-    c.prepend-merged.ensures.links.items (others-then g t c).items (begins-then g t c).items in
+    let items = joined-items (items_below c.prepend-merged.new.heap c.prepend-merged.result.height c.prepend-merged.result.links.items) (items_below c.args.heap.now c.args.links_height c.args.links.now) (seq_at (form_at c.args.heap.now) (c.args.height - 1) c.index-links-0.result) _ _ (seq_at (form_at c.args.heap.now) c.args.height c.args.right)
+    c.prepend-merged.ensures.links.items (others g t c.before).items (begins g t c.before).items in
     rw items at c.raised.ensures.links
 
 pub returns-clause-thick : goal.returns-clause-thick
 returns-clause-thick g t c = λ thick.
-    let first = (begins-then g t c).thick (omega arith) thick in
+    let first = (begins g t c.before).thick (omega arith) thick in
     let merged = c.prepend-merged.ensures.thick first.1 in
-    let more : 1 < length (links_at c.prepend-merged.new.heap c.args.right) = rw (others-then g t c).same (omega (arith, first.3)) in
-    let same = ap length (others-then g t c).same in
-    (omega (arith, c.raised.ensures.more more, merged.0), omega (arith, c.raised.ensures.count more, same, first.3), c.raised.ensures.thick merged.2 merged.1 ((others-then g t c).thick first.2))
+    let more : 1 < length (links_at c.prepend-merged.new.heap c.args.right) = rw (others g t c.before).same (omega (arith, first.3)) in
+    let same = ap length (others g t c.before).same in
+    (omega (arith, c.raised.ensures.more more, merged.0), omega (arith, c.raised.ensures.count more, same, first.3), c.raised.ensures.thick merged.2 merged.1 ((others g t c.before).thick first.2))
 
 pub returns-clause-builds : goal.returns-clause-builds
-returns-clause-builds g t c = builds-more (2 * (c.raised.result.level - c.args.level)) (builds-then c.prepend-merged.ensures.builds c.raised.ensures.builds) (omega (arith, c.prepend-merged.ensures.above, c.raised.ensures.above))
+returns-clause-builds g t c = Builds-more 0 (2 * (c.raised.result.height - c.args.links_height)) (Builds-then c.prepend-merged.ensures.builds c.raised.ensures.builds) (omega arith) (omega (arith, c.prepend-merged.ensures.above, c.raised.ensures.above))

@@ -1,7 +1,7 @@
 use Rattle.std.proofs.Common.{arith, ◌+◌, ◌-◌, ◌*◌, ◌≤◌, length, ap, add-one}
 use Rattle.rrb_core.proofs.Stays.{live-stays, links-stay}
 use Rattle.node_heap.proofs.Frames.{Extends-trans}
-use Rattle.rrb_core.proofs.BuildLemmas.{builds-then, builds-more}
+use Rattle.node_heap.proofs.BuildLemmas.{Builds-refl, Builds-then, Builds-more}
 use Rattle.rrb_join.proofs.RestLemmas.{IsRaised, raised}
 use Rattle.rrb_join.proofs.rests.raised.Given as given
 use Rattle.rrb_join.proofs.rests.raised.Goals as goal
@@ -10,9 +10,9 @@ use Rattle.rrb_join.proofs.rests.raised.Goals.{else-len-le32-via-then-len-le32+e
 pub gathered-requires-clause-skip : goal.gathered-requires-clause-skip
 gathered-requires-clause-skip g c = rw (links-stay (live-stays c.requires.graph c.rows_over-rows.ensures.builds.extends) c.args.link c.requires.live) c.requires.from
 
-up : (g : given.Over) (c : goal.After-gathered g) → IsRaised c.args.heap.now c.rows_over-rows.new.heap c.gathered.new.heap c.args.rest.level c.args.link c.args.from c.args.rest.links.items c.rows_over-rows.result.items c.gathered.result.items
+up : (g : given.Over) (c : goal.After-gathered g) → IsRaised c.args.heap.now c.rows_over-rows.new.heap c.gathered.new.heap c.args.rest.height c.args.link c.args.from c.args.rest.links.items c.rows_over-rows.result.items c.gathered.result.items
 up g c =
-    raised c.args.heap.now c.rows_over-rows.new.heap c.gathered.new.heap c.args.rest.level c.args.link c.args.from c.args.rest.links.items c.rows_over-rows.result.items c.gathered.result.items
+    raised c.args.heap.now c.rows_over-rows.new.heap c.gathered.new.heap c.args.rest.height c.args.link c.args.from c.args.rest.links.items c.rows_over-rows.result.items c.gathered.result.items
     (live-stays c.requires.graph (Extends-trans c.rows_over-rows.ensures.builds.extends c.gathered.ensures.builds.extends)) (live-stays c.rows_over-rows.ensures.builds.graph c.gathered.ensures.builds.extends) (links-stay (live-stays c.requires.graph c.rows_over-rows.ensures.builds.extends) c.args.link c.requires.live)
     c.requires.beside c.rows_over-rows.ensures.rows (rw c.as_slice.ensures.value at c.rows_over-rows.ensures.items)
     (λ more. c.rows_over-rows.ensures.thick (rw c.as_slice.ensures.value (c.requires.close more).0) (rw c.as_slice.ensures.value (c.requires.close more).1)) c.rows_over-rows.ensures.some c.rows_over-rows.ensures.few c.requires.fits (rw c.as_slice-2.ensures.value at c.gathered.ensures.items)
@@ -39,4 +39,7 @@ returns-clause-thick g c = λ full enough back. rw add-one ((up g c).thick (c.ro
 
 pub returns-clause-builds : goal.returns-clause-builds
 returns-clause-builds g c =
-    builds-more (2 * (c.args.rest.level + 1 - c.args.rest.level)) (builds-then (rw c.as_slice.ensures.value at c.rows_over-rows.ensures.builds) (rw c.as_slice-2.ensures.value at c.gathered.ensures.builds)) (omega arith)
+    Builds-more 0 (2 * (c.args.rest.height + 1 - c.args.rest.height)) (Builds-then (rw c.as_slice.ensures.value at c.rows_over-rows.ensures.builds) (rw c.as_slice-2.ensures.value at c.gathered.ensures.builds)) (omega arith) (omega arith)
+
+pub returns-then-from-links-clause-builds : goal.returns-then-from-links-clause-builds
+returns-then-from-links-clause-builds g c = Builds-refl c.args.heap.now c.args.rest.links.items 0 _ c.requires.graph

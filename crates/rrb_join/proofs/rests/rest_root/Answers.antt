@@ -1,25 +1,16 @@
-use Rattle.std.proofs.Common.{arith, ◌≡◌, length, [], drop}
+use Rattle.std.proofs.Common.{arith, ◌≡◌, length, length-drop, [], drop}
 use Rattle.std.proofs.lemmas.List.{drop_all}
-use Rattle.rrb_core.specs.Vector.{height_at, elements, IsGoodVector}
-use Rattle.rrb_core.proofs.Stays.{well-live, live-stays, good-stays}
+use Rattle.node_heap.specs.Heap.{form_at}
+use Rattle.node_heap.proofs.BuildLemmas.{Builds-then, Builds-more}
+use Rattle.rrb_core.specs.Vector.{height_at, elements, IsVectorOf}
+use Rattle.rrb_core.proofs.FillRule.{height-is}
+use Rattle.rrb_core.proofs.Stays.{well-live}
 use Rattle.rrb_core.proofs.RowLists.{good-row}
-use Rattle.rrb_core.proofs.BuildLemmas.{builds-then, builds-more}
+use Rattle.rrb_join.specs.Unmade.{items_below}
 use Rattle.rrb_join.proofs.rests.rest_root.Given as given
 use Rattle.rrb_join.proofs.rests.rest_root.Goals as goal
 
-pub hold-requires-clause-live : goal.hold-requires-clause-live
-hold-requires-clause-live g c = well-live c.args.heap.now (height_at c.args.heap.now c.args.root) c.args.root c.requires.good.shape.well
-
-whole : (g : given.Over) (c : goal.After-hold g) → IsGoodVector c.hold.new.self c.args.root × (elements c.hold.new.self c.args.root ≡ elements c.args.heap.now c.args.root)
-whole g c = good-stays (live-stays c.requires.graph c.hold.ensures.extends) c.args.root (well-live c.args.heap.now (height_at c.args.heap.now c.args.root) c.args.root c.requires.good.shape.well) c.requires.good
-
-pub returns-then-count-eq0-clause-items : goal.returns-then-count-eq0-clause-items
-returns-then-count-eq0-clause-items g c = rw c.if-count-eq0.true (whole g c).1
-
-pub returns-then-count-eq0-clause-good : goal.returns-then-count-eq0-clause-good
-returns-then-count-eq0-clause-good g c = (whole g c).0
-
-nothing : (g : given.Over) (c : goal.After-leaf_over g) → IsGoodVector c.leaf_over.new.heap c.leaf_over.result × (elements c.leaf_over.new.heap c.leaf_over.result ≡ [])
+nothing : (g : given.Over) (c : goal.After-leaf_over g) → IsVectorOf c.leaf_over.new.heap c.leaf_over.result []
 nothing g c = good-row c.leaf_over.new.heap 0 c.leaf_over.result [] c.leaf_over.ensures.row (omega arith) (λ some. absurd (omega arith)) (omega arith)
 
 pub returns-then-count-len-clause-items : goal.returns-then-count-len-clause-items
@@ -31,9 +22,29 @@ returns-then-count-len-clause-items g c =
 pub returns-then-count-len-clause-good : goal.returns-then-count-len-clause-good
 returns-then-count-len-clause-good g c = (nothing g c).0
 
+pub returns-then-count-len-clause-low : goal.returns-then-count-len-clause-low
+returns-then-count-len-clause-low g c = omega (arith, height-is (form_at c.leaf_over.new.heap) 0 c.leaf_over.result c.leaf_over.ensures.row.well)
+
 pub height_of-height-requires : goal.height_of-height-requires
 height_of-height-requires g c = well-live c.args.heap.now (height_at c.args.heap.now c.args.root) c.args.root c.requires.good.shape.well
 
+rest : (g : given.Over) (c : goal.After-row_over g) → IsVectorOf c.row_over.new.heap c.row_over.result (drop c.args.count (elements c.args.heap.now c.args.root))
+rest g c =
+    let items : items_below c.rest_of-rest.new.heap c.rest_of-rest.result.height c.as_slice.result.now ≡ drop c.args.count (elements c.args.heap.now c.args.root) = rw (c.as_slice.ensures.value, ← c.height_of-height.ensures) c.rest_of-rest.ensures.links.items in
+    good-row c.row_over.new.heap c.rest_of-rest.result.height c.row_over.result (drop c.args.count (elements c.args.heap.now c.args.root)) (rw items at c.row_over.ensures.row) (omega (arith, c.rest_of-rest.ensures.low, c.height_of-height.ensures, c.requires.good.shape.low))
+    (λ some. rw (c.row_over.ensures.links, c.as_slice.ensures.value) (c.rest_of-rest.ensures.two some)) (omega (arith, length-drop c.args.count (elements c.args.heap.now c.args.root), c.requires.good.shape.short))
+
+pub returns-clause-items : goal.returns-clause-items
+returns-clause-items g c = (rest g c).1
+
+pub returns-clause-good : goal.returns-clause-good
+returns-clause-good g c = (rest g c).0
+
+pub returns-clause-low : goal.returns-clause-low
+returns-clause-low g c =
+    let e = height-is (form_at c.row_over.new.heap) c.rest_of-rest.result.height c.row_over.result c.row_over.ensures.row.well in
+    omega (arith, e, c.rest_of-rest.ensures.low, c.height_of-height.ensures)
+
 pub returns-clause-builds : goal.returns-clause-builds
 returns-clause-builds g c =
-    builds-more 17 (builds-then c.rest_of-rest.ensures.builds (rw c.as_slice.ensures.value at c.root_over.ensures.builds)) (omega (arith, c.rest_of-rest.ensures.level, c.height_of-height.ensures, c.requires.good.shape.low))
+    Builds-more 0 _ (Builds-then c.rest_of-rest.ensures.builds (rw c.as_slice.ensures.value at c.row_over.ensures.builds)) (omega arith) (omega (arith, c.rest_of-rest.ensures.low, c.height_of-height.ensures))
