@@ -1,22 +1,15 @@
--- How frames compose, and what stays when a heap grows.
-use Rattle.std.proofs.Common.{◌≡◌, ℕ, zero, suc, ◌+◌, ◌<◌, ◌≤◌, ◌≢◌, Bool, cond, eqb, List, [], ◌∷◌, length, refl, ap, sym, subst, ◌∙◌, arith, Option, Some, None, IsSome, is_some, get_or, set, get_or-set_other, eq-eqb}
+-- What stays where a heap keeps its rows.
+use Rattle.std.proofs.Common.{◌≡◌, ℕ, zero, suc, ◌<◌, ◌≤◌, ◌≢◌, Bool, cond, List, [], ◌∷◌, length, refl, ap, sym, subst, ◌∙◌, arith, Option, Some, None, IsSome, is_some, get_or, set, get_or-set_other, eq-eqb}
 use Rattle.std.specs.Prelude.{option_to_list, option_map, count_by}
-use Rattle.std.proofs.lemmas.List.Sums.{sum_by-cons, sum_by-set}
+use Rattle.std.proofs.lemmas.List.Sums.{sum_by-set}
 use Rattle.node_heap.specs.Links.{count, HasLink}
 use Rattle.node_heap.specs.Forms.{Row, Form, Forms, cell, node, leaf, inner, trie, chain, pair, state, links_of, value_of, form_of}
-use Rattle.node_heap.specs.Heap.{Heap, row_at, form_at, links_at, holds_at, hold_count, one_at, live_count, IsGraph}
-use Rattle.node_heap.specs.declared.row.Head.{Head}
-use Rattle.node_heap.specs.Calls.{Extends, Makes, Adds, SameRows, Unchanged, Answered}
-use Rattle.node_heap.proofs.Frames.{Extends-row, Extends-trans, Makes-trans, Extends-refl, Balances-Makes, Answered-Unchanged}
+use Rattle.node_heap.specs.Heap.{Heap, row_at, form_at, links_at, live_count, IsGraph}
+use Rattle.node_heap.specs.Calls.{Extends, SameRows}
+use Rattle.node_heap.proofs.Frames.{Extends-row}
+use Rattle.node_heap.proofs.BuildLemmas.{count-cons, count-one}
 use Rattle.champ_chain.specs.Entry.{Entry, key_at, key_of, first_value}
-use Rattle.champ_chain.specs.Chain.{AreRows}
-use Rattle.champ_chain.specs.Frame.{Grows}
-
-pub count-cons : (k x : ℕ) (xs : List ℕ) → count k (x ∷ xs) ≡ one_at x k + count k xs
-count-cons k x xs = sum_by-cons (λ j. cond (eqb j k) 1 0) x xs
-
-pub count-one : (k x : ℕ) → count k (x ∷ []) ≡ one_at x k
-count-one k x = omega (arith, count-cons k x [])
+use Rattle.champ_chain.specs.Chain.{AreChainRows, KeepsChains}
 
 -- every form that was there is there
 pub record KeepsForms {K : Type 0} (F G : Forms K) : Type 0 where
@@ -48,8 +41,8 @@ module _ {K : Type 0} where
       by_form (Some (node pair links)) e is = ap (key_of G) (keeps.kept l (node pair links) e) ∙ by_links links is
       by_form (Some (node state links)) e is = cc
 
-  pub rows-kept : (F G : Forms K) → KeepsForms F G → (l : Option ℕ) (es : List (Entry K)) → AreRows F l es → AreRows G l es
-  unfolding AreRows
+  pub rows-kept : (F G : Forms K) → KeepsForms F G → (l : Option ℕ) (es : List (Entry K)) → AreChainRows F l es → AreChainRows G l es
+  unfolding AreChainRows
   rows-kept F G keeps l [] rows = rows
   rows-kept F G keeps l (e ∷ es) rows = record {
     link = rows.link;
@@ -98,30 +91,15 @@ module _ {T : Type 0} where
       by_row (Some (cell x)) = refl
       by_row (Some (node head links)) = refl
 
-  -- two steps, of which the first may gain what the second spends
-  pub grows-both : (a b c : Heap T) (s t s1 g1 s2 g2 : List ℕ) (i j : ℕ) → Grows a b s1 g1 i → Grows b c s2 g2 j
-      → ((k : ℕ) → count k s1 + count k s2 + count k t ≡ count k g1 + count k g2 + count k s)
-      → length s1 + length s2 + length t ≡ length g1 + length g2 + length s → Grows a c s t (i + j)
-  grows-both a b c s t s1 g1 s2 g2 i j x y each whole = record {
-    extends = Extends-trans x.extends y.extends;
-    graph = y.graph;
-    holds = λ k. omega (arith, x.holds k, y.holds k, each k);
-    total = omega (arith, x.total, y.total, whole);
-    makes = Makes-trans x.makes y.makes;
-  }
-
-  pub grows-through : (a b c : Heap T) (s m t : List ℕ) (i j : ℕ) → Grows a b s m i → Grows b c m t j → Grows a c s t (i + j)
-  grows-through a b c s m t i j x y = grows-both a b c s t s m m t i j x y (λ k. omega arith) (omega arith)
-
   pub next-link : (h : Heap T) (l x m : ℕ) → form_at h l ≡ Some (node chain (x ∷ m ∷ [])) → HasLink (links_at h) l m
   next-link h l x m is =
       omega (arith, ap (count m) (sym (links-form h l) ∙ ap links_of is), count-cons m x (m ∷ []), count-one m m, ap (λ (b : Bool). let n : ℕ = cond b 1 0 in n) (eq-eqb m m refl))
 
   -- rows from a link on are no more than the live ones
   rows-fit : (h : Heap T) (rank : ℕ → ℕ) → ((l k : ℕ) → HasLink (links_at h) l k → rank k < rank l)
-      → (es : List (Entry T)) (l : Option ℕ) (rows : List (Option (Row T))) → AreRows (form_at h) l es
+      → (es : List (Entry T)) (l : Option ℕ) (rows : List (Option (Row T))) → AreChainRows (form_at h) l es
       → ((m k : ℕ) → l ≡ Some m → rank k ≤ rank m → IsSome (row_at h k) → IsSome (get_or rows k None)) → length es ≤ count_by is_some rows
-  unfolding AreRows
+  unfolding AreChainRows
   rows-fit h rank falls [] l rows are there = omega arith
   rows-fit h rank falls (e ∷ es) l rows are there =
       let empty : Option (Row T) = None in
@@ -136,55 +114,22 @@ module _ {T : Type 0} where
       rw (get_or-set_other {A = Option (Row T)}) (there are.link k are.here (omega (arith, lower, down)) live)) in
       omega (arith, rest, sum_by-set one rows are.link empty empty low, one-some (get_or rows are.link empty) here)
 
-  pub rows-live : (h : Heap T) → IsGraph h → (es : List (Entry T)) (l : Option ℕ) → AreRows (form_at h) l es → length es ≤ live_count h
+  pub rows-live : (h : Heap T) → IsGraph h → (es : List (Entry T)) (l : Option ℕ) → AreChainRows (form_at h) l es → length es ≤ live_count h
   rows-live h graph es l are = rows-fit h graph.rank graph.falls es l h.rows are (λ m k is lower live. live)
 
-  -- rows that came, as a call that answers says it
-  pub Grows-Answered : (old new : Heap T) (s : List ℕ) (l i n : ℕ) → Grows old new s (l ∷ []) i → i ≤ n → Answered old new s l 0 n
-  Grows-Answered old new s l i n x le = record {
-    extends = x.extends;
-    graph = x.graph;
-    holds = λ k. omega (arith, x.holds k, count-one k l);
-    count = omega (arith, x.total);
-    cells = omega (arith, x.makes.cells);
-    nodes = omega (arith, x.makes.nodes, le);
-    balance = Balances-Makes x.makes;
-  }
+  -- chains stay where rows are only added
+  pub KeepsChains-forms : (old new : Heap T) → KeepsForms (form_at old) (form_at new) → KeepsChains old new
+  KeepsChains-forms old new keeps cmp l E is = record { entries = is.entries; rows = rows-kept (form_at old) (form_at new) keeps (Some l) is.entries is.rows; rising = is.rising; same = is.same; two = is.two }
 
-  pub reserved-Answered : (old mid new : Heap T) (s : List ℕ) (l i n : ℕ) → Unchanged old mid → Grows mid new s (l ∷ []) i → i ≤ n → Answered old new s l 0 n
-  reserved-Answered old mid new s l i n same x le = Answered-Unchanged same (Grows-Answered mid new s l i n x le)
+  pub KeepsChains-Extends : (old new : Heap T) → Extends old new → KeepsChains old new
+  KeepsChains-Extends old new more = KeepsChains-forms old new (forms-kept old new more)
 
-  pub Grows-refl : (h : Heap T) → IsGraph h → Grows h h [] [] 0
-  Grows-refl h graph = record {
-    extends = Extends-refl h;
-    graph = graph;
-    holds = λ k. refl;
-    total = refl;
-    makes = record {
-      spare_cells = omega arith;
-      spare_nodes = omega arith;
-      cells = omega arith;
-      nodes = omega arith;
-      live = omega arith;
-      made = omega (arith, graph.few_made);
-      no_fewer = omega arith;
-    };
-  }
+  pub KeepsChains-same : (old new : Heap T) → SameRows old new → KeepsChains old new
+  KeepsChains-same old new same = KeepsChains-forms old new (forms-same old new same)
 
-  pub Grows-node : (old new : Heap T) (l : ℕ) (head : Head) (links : List ℕ) → Adds old new l (node head links) → Makes old new 0 1 → hold_count new + length links ≡ hold_count old + 1 → IsGraph new → Extends old new → Grows old new links (l ∷ []) 1
-  Grows-node old new l head links adds makes total graph more = record {
-    extends = more;
-    graph = graph;
-    holds = λ k. omega (arith, adds.holds k, count-one k l);
-    total = omega (arith, total);
-    makes = makes;
-  }
-
-  pub Grows-hold : (old new : Heap T) (l : ℕ) → ((k : ℕ) → holds_at new k ≡ holds_at old k + one_at l k) → Makes old new 0 0 → hold_count new ≡ hold_count old + 1 → IsGraph new → Extends old new → Grows old new [] (l ∷ []) 0
-  Grows-hold old new l holds makes total graph more = record {
-    extends = more;
-    graph = graph;
-    holds = λ k. omega (arith, holds k, count-one k l);
-    total = omega (arith, total);
-    makes = makes;
-  }
+  pub keyed-same : (old new : Heap T) → SameRows old new → (l : ℕ) → IsSome (key_at (form_at old) l) → IsSome (key_at (form_at new) l)
+  keyed-same old new same l keyed = by_key (key_at (form_at old) l) refl keyed
+    where
+      by_key : (o : Option T) → key_at (form_at old) l ≡ o → IsSome o → IsSome (key_at (form_at new) l)
+      by_key None is some = absurd cc
+      by_key (Some k) is some = subst IsSome (sym (key-kept (form_at old) (form_at new) (forms-same old new same) l k is)) refl

@@ -1,14 +1,15 @@
 -- What the place of a key says of a chain's entries.
-use Rattle.std.proofs.Common.{◌≡◌, ℕ, ◌+◌, ◌<◌, ◌≤◌, Bool, true, false, not, cond, List, [], ◌∷◌, ◌++◌, length, refl, ap, sym, subst, ◌∙◌, arith, Option, Some, None, option_map, length-append, take}
+use Rattle.std.proofs.Common.{◌≡◌, ℕ, ◌+◌, ◌<◌, ◌≤◌, Bool, true, false, not, cond, List, [], ◌∷◌, ◌++◌, length, refl, ap, sym, subst, ◌∙◌, arith, Option, Some, None, is_some, option_map, length-append, take}
 use Rattle.std.specs.Prelude.{option_to_list, count_by, IfSome}
 use Rattle.std.specs.List.{filter, find}
+use Rattle.std.specs.Int.{from_bool}
 use Rattle.std.specs.Cmp.{IsTotalOrder}
 use Rattle.std.specs.Ordering.{is_eq}
 use Rattle.std.specs.declared.cmp.Ordering.{Ordering}
 use Rattle.std.specs.declared.cmp.Ordering.TheVariants.{Less, Equal}
 use Rattle.node_heap.specs.Forms.{Forms}
 use Rattle.champ_chain.specs.Entry.{Entry, SameSet, has_key, others, put, link_with, same_through, same_turned, entry}
-use Rattle.champ_chain.specs.Chain.{IsRising, AreRows, IsChain, IsEntryOrRows, IsEntryOrChain}
+use Rattle.champ_chain.specs.Chain.{IsRising, AreChainRows, IsChain, IsEntryOrRows, IsEntryOrChain}
 use Rattle.champ_chain.specs.Spot.{Parts, IsSpot}
 use Rattle.champ_chain.specs.declared.spot.Spot.{Spot}
 use Rattle.champ_chain.proofs.SetLemmas.{same-length, same-middle, same-filter, same-find, same-one, count-cons, same-refl}
@@ -90,7 +91,7 @@ module _ {K : Type 0} (cmp : K → K → Ordering) (o : IsTotalOrder cmp) where
 
   -- the chain with an entry
   pub chain-with : (F G : Forms K) (l m x : ℕ) (E : List (Entry K)) (key : K) (c : IsChain cmp F l E) (p : Parts cmp key c.entries)
-      → AreRows G (Some m) (p.smaller ++ entry key x ∷ p.greater) → IsChain cmp G m (put cmp E (entry key x))
+      → AreChainRows G (Some m) (p.smaller ++ entry key x ∷ p.greater) → IsChain cmp G m (put cmp E (entry key x))
   chain-with F G l m x E key c p rows =
       let same : SameSet (p.smaller ++ entry key x ∷ p.greater) (put cmp c.entries (entry key x)) =
       subst (λ ys. SameSet (p.smaller ++ entry key x ∷ p.greater) (entry key x ∷ ys)) (sym (others-parts key c.entries p)) (same-middle (entry key x) p.smaller p.greater) in
@@ -122,6 +123,14 @@ module _ {K : Type 0} (cmp : K → K → Ordering) (o : IsTotalOrder cmp) where
   pub before-le : (F : Forms K) (es : List (Entry K)) (key : K) (spot : Spot) → IsSpot cmp F es key spot → spot.before ≤ length es
   before-le F es key spot s = omega (arith, length-parts key es s.parts, s.before)
 
+  -- the entries before the place, the key's own one, and those after it are all
+  pub whole-length : (F : Forms K) (es : List (Entry K)) (key : K) (spot : Spot) (s : IsSpot cmp F es key spot) → spot.before + from_bool (is_some spot.found) + length s.parts.greater ≡ length es
+  whole-length F es key spot s = omega (arith, length-parts key es s.parts, s.before, by_found s.parts.equal, ap (λ r. from_bool (is_some r)) s.found)
+    where
+      by_found : (e : Option (Entry K)) → from_bool (is_some (option_map (λ (d : Entry K). d.link) e)) ≡ length (option_to_list e)
+      by_found None = refl
+      by_found (Some d) = refl
+
   pub take-before : (F : Forms K) (es : List (Entry K)) (key : K) (spot : Spot) (s : IsSpot cmp F es key spot) → take spot.before es ≡ s.parts.smaller
   take-before F es key spot s = ap (λ n. take n es) (sym s.before) ∙ take-parts key es s.parts
 
@@ -130,8 +139,8 @@ module _ {K : Type 0} (cmp : K → K → Ordering) (o : IsTotalOrder cmp) where
   some-left F l E key c spot s = omega (arith, length-parts key c.entries s.parts, one-equal key c.entries s.parts, same-length _ _ c.same, c.two, s.before)
 
   -- a chain of two entries
-  pub chain-of_two : (F : Forms K) (l : ℕ) (e d : Entry K) → cmp e.key d.key ≡ Less → AreRows F (Some l) (e ∷ d ∷ []) → IsChain cmp F l (e ∷ d ∷ [])
+  pub chain-of_two : (F : Forms K) (l : ℕ) (e d : Entry K) → cmp e.key d.key ≡ Less → AreChainRows F (Some l) (e ∷ d ∷ []) → IsChain cmp F l (e ∷ d ∷ [])
   chain-of_two F l e d less rows = record { entries = e ∷ d ∷ []; rows = rows; rising = ((less, tt), (tt, tt)); same = same-refl (e ∷ d ∷ []); two = omega arith }
 
-  pub chain-of_turned : (F : Forms K) (l : ℕ) (e d : Entry K) → cmp d.key e.key ≡ Less → AreRows F (Some l) (d ∷ e ∷ []) → IsChain cmp F l (e ∷ d ∷ [])
+  pub chain-of_turned : (F : Forms K) (l : ℕ) (e d : Entry K) → cmp d.key e.key ≡ Less → AreChainRows F (Some l) (d ∷ e ∷ []) → IsChain cmp F l (e ∷ d ∷ [])
   chain-of_turned F l e d less rows = record { entries = d ∷ e ∷ []; rows = rows; rising = ((less, tt), (tt, tt)); same = same_turned d e []; two = omega arith }

@@ -3,11 +3,12 @@ use Rattle.std.specs.Prelude.{◌≡◌, ℕ, ◌≤◌, List, [], ◌∷◌, Op
 use Rattle.std.specs.declared.cmp.Ordering.{Ordering}
 use Rattle.std.specs.declared.cmp.Ordering.TheVariants.{Less}
 use Rattle.node_heap.specs.Forms.{Forms, node, chain}
+use Rattle.node_heap.specs.Heap.{Heap, form_at}
 use Rattle.champ_chain.specs.Entry.{Entry, key_at, SameSet}
 
 module _ {K : Type 0} where
   -- the link, if any, names a chain row of the entry, and the row's second link, if any, is as IsRest says
-  pub record IsRow (F : Forms K) (l : Option ℕ) (e : Entry K) (IsRest : Option ℕ → Type 0) : Type 0 where
+  pub record IsChainRow (F : Forms K) (l : Option ℕ) (e : Entry K) (IsRest : Option ℕ → Type 0) : Type 0 where
     pub link : ℕ
     pub next : Option ℕ
     pub here : l ≡ Some link
@@ -16,15 +17,15 @@ module _ {K : Type 0} where
     pub rest : IsRest next
 
   -- the chain rows from the link on have these entries in turn
-  unfoldable pub AreRows : Forms K → Option ℕ → List (Entry K) → Type 0
-  AreRows F l [] = l ≡ None
-  AreRows F l (e ∷ es) = IsRow F l e (λ next. AreRows F next es)
+  unfoldable pub AreChainRows : Forms K → Option ℕ → List (Entry K) → Type 0
+  AreChainRows F l [] = l ≡ None
+  AreChainRows F l (e ∷ es) = IsChainRow F l e (λ next. AreChainRows F next es)
 
   -- one entry itself, or the chain rows of two or more
   abbrev pub IsEntryOrRows : Forms K → ℕ → List (Entry K) → Type 0
   IsEntryOrRows F l [] = ⊥
   IsEntryOrRows F l (e ∷ []) = (l ≡ e.link) × (key_at F e.link ≡ Some e.key)
-  IsEntryOrRows F l (e ∷ d ∷ es) = AreRows F (Some l) (e ∷ d ∷ es)
+  IsEntryOrRows F l (e ∷ d ∷ es) = AreChainRows F (Some l) (e ∷ d ∷ es)
 
   module _ (cmp : K → K → Ordering) where
     -- each entry has a greater key
@@ -45,7 +46,7 @@ module _ {K : Type 0} where
     -- the chain of these two entries or more, in whatever order they are listed
     pub record IsChain (F : Forms K) (l : ℕ) (E : List (Entry K)) : Type 0 where
       pub entries : List (Entry K)
-      pub rows : AreRows F (Some l) entries
+      pub rows : AreChainRows F (Some l) entries
       pub rising : IsRising entries
       pub same : SameSet entries E
       pub two : 2 ≤ length E
@@ -55,3 +56,7 @@ module _ {K : Type 0} where
     IsEntryOrChain F l [] = ⊥
     IsEntryOrChain F l (e ∷ []) = (l ≡ e.link) × (key_at F e.link ≡ Some e.key)
     IsEntryOrChain F l (e ∷ d ∷ es) = IsChain F l (e ∷ d ∷ es)
+
+-- what is a chain in the old heap is the same chain in the new one
+abbrev pub KeepsChains : {T : Type 0} → Heap T → Heap T → Type 0
+KeepsChains {T} old new = (cmp : T → T → Ordering) (l : ℕ) (E : List (Entry T)) → IsChain cmp (form_at old) l E → IsChain cmp (form_at new) l E

@@ -1,4 +1,3 @@
 pub mod Entry
 pub mod Chain
 pub mod Spot
-pub mod Frame

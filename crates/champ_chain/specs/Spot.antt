@@ -4,7 +4,7 @@ use Rattle.std.specs.declared.cmp.Ordering.{Ordering}
 use Rattle.std.specs.declared.cmp.Ordering.TheVariants.{Equal}
 use Rattle.node_heap.specs.Forms.{Forms}
 use Rattle.champ_chain.specs.Entry.{Entry}
-use Rattle.champ_chain.specs.Chain.{AreRows, AreBelow, AreAbove}
+use Rattle.champ_chain.specs.Chain.{AreChainRows, AreBelow, AreAbove}
 use Rattle.champ_chain.specs.declared.spot.Spot.{Spot}
 
 -- the entries with smaller keys, the one with the key if there is one, and those with greater keys
@@ -22,4 +22,4 @@ pub record IsSpot {K : Type 0} (cmp : K → K → Ordering) (F : Forms K) (es : 
   pub parts : Parts cmp key es
   pub before : length parts.smaller ≡ spot.before
   pub found : option_map (λ e. e.link) parts.equal ≡ spot.found
-  pub rest : AreRows F spot.rest parts.greater
+  pub rest : AreChainRows F spot.rest parts.greater

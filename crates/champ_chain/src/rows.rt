@@ -1,15 +1,13 @@
 //! The rows of a chain: how they are read and made.
-ghost use Rattle.std.specs.Prelude.{◌≡◌, ℕ, ◌+◌, ◌<◌, ◌≤◌, ◌^◌, List, [], ◌∷◌, ◌++◌, length, take, drop, Option, Some, IsSome, option_to_list, IfOk, OnErr, IsOk};
+ghost use Rattle.std.specs.Prelude.{◌≡◌, ℕ, ◌+◌, ◌<◌, ◌≤◌, ◌^◌, List, [], ◌∷◌, ◌++◌, length, take, drop, Option, Some, IsSome, option_to_list};
 ghost use Rattle.node_heap.specs.Links.{count};
 ghost use Rattle.node_heap.specs.Forms.{node, chain as chain_kind};
 ghost use Rattle.node_heap.specs.Heap.{row_at, form_at, holds_at, hold_count, IsGraph};
-ghost use Rattle.node_heap.specs.Calls.{SameRows, Answered, Unchanged};
+ghost use Rattle.node_heap.specs.Calls.{SameRows, Builds};
 ghost use Rattle.node_heap.specs.declared.row.Head.TheVariants.{Chain};
 ghost use Rattle.champ_chain.specs.Entry.{Entry, entry as entry_of, key_at};
-ghost use Rattle.champ_chain.specs.Chain.{AreRows, IsEntryOrRows};
-ghost use Rattle.champ_chain.specs.Frame.{Grows};
+ghost use Rattle.champ_chain.specs.Chain.{AreChainRows, IsEntryOrRows};
 
-use elem_core::NoMemory;
 use node_heap::{Head, Heap, Link};
 
 // What a chain row has: its entry, and the row after it.
@@ -50,13 +48,32 @@ pub(crate) fn row_of<T>(heap: &Heap<T>, row: Link) -> ChainRow
     }
 }
 
+// How many chain rows there are from a row on.
+pub(crate) fn rows_from<T>(heap: &Heap<T>, first: Option<Link>) -> usize
+    requires { (es : List (Entry T)) × AreChainRows (form_at heap.now) first es }
+    ensures number { (es : List (Entry T)) → AreChainRows (form_at heap.now) first es → result ≡ length es }
+    ensures few { result < 2 ^ 56 }
+    ensures graph { IsGraph heap.now }
+{
+    let mut row = first;
+    // They are no more than the rows of the heap.
+    let most = heap.live();
+    for passed in 0..most {
+        match row {
+            None => return passed,
+            Some(link) => row = row_of(heap, link).next,
+        }
+    }
+    most
+}
+
 // One hold more of a tail.
 pub(crate) fn hold_tail<T>(heap: &mut Heap<T>, tail: Option<Link>)
     requires live { (l : ℕ) → tail ≡ Some l → IsSome (row_at heap.old l) }
     requires graph { IsGraph heap.old }
     requires few { hold_count heap.old < 2 ^ 60 }
     ensures rows { SameRows heap.old heap.new }
-    ensures grows { Grows heap.old heap.new [] (option_to_list tail) 0 }
+    ensures builds { Builds heap.old heap.new [] (option_to_list tail) 0 0 }
 {
     if let Some(row) = tail {
         heap.hold(row);
@@ -69,7 +86,7 @@ pub(crate) fn row_over<T>(heap: &mut Heap<T>, entry: Link, tail: Option<Link>) -
     requires held { (l : ℕ) → count l (entry ∷ option_to_list tail) ≤ holds_at heap.old l }
     requires few { hold_count heap.old < 2 ^ 60 }
     ensures row { row_at heap.new result ≡ Some (node Chain (entry ∷ option_to_list tail)) }
-    ensures grows { Grows heap.old heap.new (entry ∷ option_to_list tail) (result ∷ []) 1 }
+    ensures builds { Builds heap.old heap.new (entry ∷ option_to_list tail) (result ∷ []) 0 1 }
 {
     match tail {
         None => heap.node(Head::Chain, &[entry]),
@@ -82,9 +99,9 @@ pub(crate) fn in_order<T>(heap: &mut Heap<T>, first: Link, second: Link) -> Link
     requires spare { 2 ≤ heap.old.spare_nodes }
     requires held { (l : ℕ) → count l (first ∷ second ∷ []) ≤ holds_at heap.old l }
     requires few { hold_count heap.old < 2 ^ 60 }
-    ensures grows { Grows heap.old heap.new (first ∷ second ∷ []) (result ∷ []) 2 }
+    ensures builds { Builds heap.old heap.new (first ∷ second ∷ []) (result ∷ []) 0 2 }
     ensures rows { (j k : T) → key_at (form_at heap.old) first ≡ Some j → key_at (form_at heap.old) second ≡ Some k →
-        AreRows (form_at heap.new) (Some result) (entry_of j first ∷ entry_of k second ∷ []) }
+        AreChainRows (form_at heap.new) (Some result) (entry_of j first ∷ entry_of k second ∷ []) }
 {
     let last = row_over(heap, second, None);
     row_over(heap, first, Some(last))
@@ -92,8 +109,8 @@ pub(crate) fn in_order<T>(heap: &mut Heap<T>, first: Link, second: Link) -> Link
 
 // The row so many rows after this one.
 fn row_after<T>(heap: &Heap<T>, from: Link, number: usize) -> Link
-    requires { (es : List (Entry T)) × AreRows (form_at heap.now) (Some from) es × (number < length es) }
-    ensures { (es : List (Entry T)) → AreRows (form_at heap.now) (Some from) es → number < length es → AreRows (form_at heap.now) (Some result) (drop number es) }
+    requires { (es : List (Entry T)) × AreChainRows (form_at heap.now) (Some from) es × (number < length es) }
+    ensures { (es : List (Entry T)) → AreChainRows (form_at heap.now) (Some from) es → number < length es → AreChainRows (form_at heap.now) (Some result) (drop number es) }
 {
     let mut row = from;
     for _passed in 0..number {
@@ -112,10 +129,10 @@ fn copied<T>(heap: &mut Heap<T>, from: Link, number: usize, tail: Option<Link>) 
     requires spare { number ≤ heap.old.spare_nodes }
     requires held { (l : ℕ) → count l (option_to_list tail) ≤ holds_at heap.old l }
     requires few { hold_count heap.old < 2 ^ 59 + length (option_to_list tail) }
-    requires rows { (es : List (Entry T)) × AreRows (form_at heap.old) (Some from) es × (number ≤ length es) }
-    ensures grows { Grows heap.old heap.new (option_to_list tail) (result ∷ []) number }
-    ensures rows { (es ts : List (Entry T)) → AreRows (form_at heap.old) (Some from) es → number ≤ length es → AreRows (form_at heap.old) tail ts →
-        AreRows (form_at heap.new) (Some result) (take number es ++ ts) }
+    requires rows { (es : List (Entry T)) × AreChainRows (form_at heap.old) (Some from) es × (number ≤ length es) }
+    ensures builds { Builds heap.old heap.new (option_to_list tail) (result ∷ []) 0 number }
+    ensures rows { (es ts : List (Entry T)) → AreChainRows (form_at heap.old) (Some from) es → number ≤ length es → AreChainRows (form_at heap.old) tail ts →
+        AreChainRows (form_at heap.new) (Some result) (take number es ++ ts) }
 {
     if number == 1 {
         let entry = row_of(heap, from).entry;
@@ -134,10 +151,10 @@ pub(crate) fn copied_over<T>(heap: &mut Heap<T>, from: Link, number: usize, tail
     requires graph { IsGraph heap.old }
     requires held { 0 < holds_at heap.old tail }
     requires few { hold_count heap.old < 2 ^ 59 + 1 }
-    requires rows { (es : List (Entry T)) × AreRows (form_at heap.old) (Some from) es × (number ≤ length es) }
-    ensures grows { Grows heap.old heap.new (tail ∷ []) (result ∷ []) number }
-    ensures rows { (es ts : List (Entry T)) → AreRows (form_at heap.old) (Some from) es → number ≤ length es → AreRows (form_at heap.old) (Some tail) ts →
-        AreRows (form_at heap.new) (Some result) (take number es ++ ts) }
+    requires rows { (es : List (Entry T)) × AreChainRows (form_at heap.old) (Some from) es × (number ≤ length es) }
+    ensures builds { Builds heap.old heap.new (tail ∷ []) (result ∷ []) 0 number }
+    ensures rows { (es ts : List (Entry T)) → AreChainRows (form_at heap.old) (Some from) es → number ≤ length es → AreChainRows (form_at heap.old) (Some tail) ts →
+        AreChainRows (form_at heap.new) (Some result) (take number es ++ ts) }
 {
     if number == 0 {
         tail
@@ -151,9 +168,9 @@ fn front_of<T>(heap: &mut Heap<T>, from: Link, number: usize) -> Link
     requires some { 0 < number }
     requires spare { number ≤ heap.old.spare_nodes }
     requires few { hold_count heap.old < 2 ^ 59 }
-    requires rows { (es : List (Entry T)) × AreRows (form_at heap.old) (Some from) es × (number ≤ length es) }
-    ensures grows { (n : ℕ) × (n ≤ number) × Grows heap.old heap.new [] (result ∷ []) n }
-    ensures rows { (es : List (Entry T)) → AreRows (form_at heap.old) (Some from) es → number ≤ length es →
+    requires rows { (es : List (Entry T)) × AreChainRows (form_at heap.old) (Some from) es × (number ≤ length es) }
+    ensures builds { Builds heap.old heap.new [] (result ∷ []) 0 number }
+    ensures rows { (es : List (Entry T)) → AreChainRows (form_at heap.old) (Some from) es → number ≤ length es →
         IsEntryOrRows (form_at heap.new) result (take number es) }
 {
     if number == 1 {
@@ -168,9 +185,9 @@ fn front_of<T>(heap: &mut Heap<T>, from: Link, number: usize) -> Link
 // The chain from a row on once more; the entry itself if it is one.
 fn shared_tail<T>(heap: &mut Heap<T>, tail: Link) -> Link
     requires few { hold_count heap.old < 2 ^ 59 }
-    requires tail { (ts : List (Entry T)) × AreRows (form_at heap.old) (Some tail) ts }
-    ensures grows { Grows heap.old heap.new [] (result ∷ []) 0 }
-    ensures rows { (ts : List (Entry T)) → AreRows (form_at heap.old) (Some tail) ts → IsEntryOrRows (form_at heap.new) result ts }
+    requires tail { (ts : List (Entry T)) × AreChainRows (form_at heap.old) (Some tail) ts }
+    ensures builds { Builds heap.old heap.new [] (result ∷ []) 0 0 }
+    ensures rows { (ts : List (Entry T)) → AreChainRows (form_at heap.old) (Some tail) ts → IsEntryOrRows (form_at heap.new) result ts }
 {
     let row = row_of(heap, tail);
     match row.next {
@@ -189,10 +206,10 @@ fn shared_tail<T>(heap: &mut Heap<T>, tail: Link) -> Link
 fn over_tail<T>(heap: &mut Heap<T>, from: Link, number: usize, tail: Link) -> Link
     requires spare { number ≤ heap.old.spare_nodes }
     requires few { hold_count heap.old < 2 ^ 59 }
-    requires rows { (es : List (Entry T)) × AreRows (form_at heap.old) (Some from) es × (number ≤ length es) }
-    requires tail { (ts : List (Entry T)) × AreRows (form_at heap.old) (Some tail) ts }
-    ensures grows { (n : ℕ) × (n ≤ number) × Grows heap.old heap.new [] (result ∷ []) n }
-    ensures rows { (es ts : List (Entry T)) → AreRows (form_at heap.old) (Some from) es → number ≤ length es → AreRows (form_at heap.old) (Some tail) ts →
+    requires rows { (es : List (Entry T)) × AreChainRows (form_at heap.old) (Some from) es × (number ≤ length es) }
+    requires tail { (ts : List (Entry T)) × AreChainRows (form_at heap.old) (Some tail) ts }
+    ensures builds { Builds heap.old heap.new [] (result ∷ []) 0 number }
+    ensures rows { (es ts : List (Entry T)) → AreChainRows (form_at heap.old) (Some from) es → number ≤ length es → AreChainRows (form_at heap.old) (Some tail) ts →
         IsEntryOrRows (form_at heap.new) result (take number es ++ ts) }
 {
     if number == 0 {
@@ -203,24 +220,17 @@ fn over_tail<T>(heap: &mut Heap<T>, from: Link, number: usize, tail: Link) -> Li
 }
 
 // The chain of the first entries from a row on, so many, and those of the tail; the entry itself if it is one.
-pub(crate) fn closed<T>(
-    heap: &mut Heap<T>,
-    from: Link,
-    number: usize,
-    tail: Option<Link>,
-) -> Result<Link, NoMemory>
+pub(crate) fn closed<T>(heap: &mut Heap<T>, from: Link, number: usize, tail: Option<Link>) -> Link
+    requires spare { number ≤ heap.old.spare_nodes }
     requires few { hold_count heap.old < 2 ^ 59 }
-    requires rows { (es : List (Entry T)) × AreRows (form_at heap.old) (Some from) es × (number ≤ length es) }
-    requires tail { (ts : List (Entry T)) × AreRows (form_at heap.old) tail ts × (0 < number + length ts) }
-    ensures answered { IfOk result (λ l. Answered heap.old heap.new [] l 0 number) }
-    ensures rows { (es ts : List (Entry T)) → AreRows (form_at heap.old) (Some from) es → number ≤ length es → AreRows (form_at heap.old) tail ts →
-        IfOk result (λ l. IsEntryOrRows (form_at heap.new) l (take number es ++ ts)) }
-    ensures refused { OnErr result (Unchanged heap.old heap.new) }
-    ensures ample { number ≤ heap.old.spare_nodes → IsOk result }
+    requires rows { (es : List (Entry T)) × AreChainRows (form_at heap.old) (Some from) es × (number ≤ length es) }
+    requires tail { (ts : List (Entry T)) × AreChainRows (form_at heap.old) tail ts × (0 < number + length ts) }
+    ensures builds { Builds heap.old heap.new [] (result ∷ []) 0 number }
+    ensures rows { (es ts : List (Entry T)) → AreChainRows (form_at heap.old) (Some from) es → number ≤ length es → AreChainRows (form_at heap.old) tail ts →
+        IsEntryOrRows (form_at heap.new) result (take number es ++ ts) }
 {
-    heap.reserve(0, number)?;
     match tail {
-        None => Ok(front_of(heap, from, number)),
-        Some(row) => Ok(over_tail(heap, from, number, row)),
+        None => front_of(heap, from, number),
+        Some(row) => over_tail(heap, from, number, row),
     }
 }

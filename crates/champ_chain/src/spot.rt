@@ -2,7 +2,7 @@
 ghost use Rattle.std.specs.Prelude.{◌≡◌, List, Some};
 ghost use Rattle.node_heap.specs.Heap.{form_at, IsGraph};
 ghost use Rattle.champ_chain.specs.Entry.{Entry};
-ghost use Rattle.champ_chain.specs.Chain.{AreRows, IsRising};
+ghost use Rattle.champ_chain.specs.Chain.{AreChainRows, IsRising};
 ghost use Rattle.champ_chain.specs.Spot.{IsSpot};
 
 use crate::rows::{key_of, row_of};
@@ -20,9 +20,9 @@ pub(crate) struct Spot {
 
 // Where the key belongs in the chain.
 pub(crate) fn spot_of<T: Element, P: Probe<T>>(heap: &Heap<T>, chain: Link, key: &P) -> Spot
-    requires { (es : List (Entry T)) × AreRows (form_at heap.now) (Some chain) es × IsRising T.cmp es }
+    requires { (es : List (Entry T)) × AreChainRows (form_at heap.now) (Some chain) es × IsRising T.cmp es }
     ensures graph { IsGraph heap.now }
-    ensures spot { (es : List (Entry T)) → AreRows (form_at heap.now) (Some chain) es → IsRising T.cmp es →
+    ensures spot { (es : List (Entry T)) → AreChainRows (form_at heap.now) (Some chain) es → IsRising T.cmp es →
         IsSpot T.cmp (form_at heap.now) es (P.stands_for key.now) result }
 {
     let mut link = chain;

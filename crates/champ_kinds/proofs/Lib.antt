@@ -1,7 +1,6 @@
-pub mod KeptLemmas
+pub mod ZipLemmas
 pub mod PairLemmas
-pub mod InsertLemmas
-pub mod BindLemmas
-pub mod MadeLemmas
-pub mod LeftLemmas
+pub mod PairRows
 pub mod StayLemmas
+pub mod LawLemmas
+pub mod EditLemmas

@@ -1,4 +1,5 @@
 pub mod Root
+pub mod Binding
 pub mod Kinds
-pub mod Cell
+pub mod Edit
 pub mod Laws

@@ -8,12 +8,12 @@
 mod fault;
 mod laws;
 mod map;
+mod root;
 mod set;
-#[cfg(test)]
-mod tests;
 
 pub use champ_trie::Entries;
 pub use fault::MapFault;
-pub use laws::containers_stay;
-pub use map::{Map, MapRef, map_insert, map_remove};
-pub use set::{Set, SetRef, set_insert, set_remove};
+pub use laws::{containers_stay, maps_follow_contents, sets_follow_contents};
+pub use map::{Map, MapRef, Maps, map_insert, map_remove};
+pub use root::{RootRef, Rooted};
+pub use set::{Set, SetRef, Sets, set_insert, set_remove};

@@ -16,7 +16,7 @@ use Rattle.elem_core.specs.declared.codes.TheConstants.{DEEPEST}
 use Rattle.node_heap.specs.Forms.{Forms, node, leaf, inner, trie, chain, pair, state, value_of, Kind, Tree, Trees, cut, tree_cell, tree_node, no_trees, tree_then, trees_of, IsTree, AreTrees, is_cell_tree, is_node_tree, are_none, are_then}
 use Rattle.node_heap.proofs.Trees.{IsTree-unique}
 use Rattle.champ_chain.specs.Entry.{Entry, entry, IsEntry, key_at, key_of, first_value, SameSet, same_none, same_first, same_turned, same_through}
-use Rattle.champ_chain.specs.Chain.{AreRows, AreAbove, IsRising, IsChain}
+use Rattle.champ_chain.specs.Chain.{AreChainRows, AreAbove, IsRising, IsChain}
 use Rattle.champ_chain.proofs.SetLemmas.{same-sym, same-length, same-filter, same-one, Among, same-among}
 use Rattle.champ_chain.proofs.RisingLemmas.{rising-unique, same-distinct}
 use Rattle.champ_trie.specs.Bits.{has, rank}
@@ -264,8 +264,8 @@ module _ {K : Type 0} (cmp : K → K → Ordering) (code : K → ℕ) (o : IsTot
       by_place (Node l) (Node m) here there = again l m here.1 there.1
 
   -- chains of matched entries in one order
-  chains-zip : (P : List (Match K)) (l m : Option ℕ) → ((w : Match K) → Among w P → AreMatched w) → AreRows F l (map (λ w. w.first) P) → AreRows G m (map (λ w. w.second) P) → AllZip R (option_to_list l) (option_to_list m)
-  unfolding AreRows
+  chains-zip : (P : List (Match K)) (l m : Option ℕ) → ((w : Match K) → Among w P → AreMatched w) → AreChainRows F l (map (λ w. w.first) P) → AreChainRows G m (map (λ w. w.second) P) → AllZip R (option_to_list l) (option_to_list m)
+  unfolding AreChainRows
   chains-zip [] l m matched here there = subst (λ x. AllZip R (option_to_list x) (option_to_list m)) (sym here) (subst (λ x. AllZip R [] (option_to_list x)) (sym there) tt)
   chains-zip (w ∷ P) l m matched here there =
       let rest = chains-zip P here.next there.next (λ v i. matched v (inr i)) here.rest there.rest in
@@ -295,7 +295,7 @@ module _ {K : Type 0} (cmp : K → K → Ordering) (code : K → ℕ) (o : IsTot
       let rising : IsRising cmp (map (λ w. w.first) Q) = subst (IsRising cmp) (sym lift.2) here.rising in
       let second : map (λ w. w.second) Q ≡ there.entries =
       rising-unique cmp o (map (λ w. w.second) Q) there.entries (rising-second Q all rising) there.rising (same_through _ _ _ (same-map (λ w. w.second) Q P (same-sym _ _ lift.1)) (same_through _ _ _ t (same-sym _ _ there.same))) in
-      (chains-zip Q (Some l) (Some m) all (subst (AreRows F (Some l)) (sym lift.2) here.rows) (subst (AreRows G (Some m)) (sym second) there.rows)).0
+      (chains-zip Q (Some l) (Some m) all (subst (AreChainRows F (Some l)) (sym lift.2) here.rows) (subst (AreChainRows G (Some m)) (sym second) there.rows)).0
 
   -- the roots of tries of matched entries are related
   pub tries-match : (left depth l m : ℕ) (P : List (Match K)) (E D : List (Entry K)) → SameSet (map (λ w. w.first) P) E → SameSet (map (λ w. w.second) P) D → ((w : Match K) → Among w P → AreMatched w)

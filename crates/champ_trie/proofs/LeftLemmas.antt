@@ -1,6 +1,6 @@
 -- What is left of a trie once a key is gone.
-use Rattle.std.proofs.Common.{◌≡◌, ◌≢◌, ℕ, suc, zero, ◌+◌, ◌<◌, ◌≤◌, ◌^◌, List, [], ◌∷◌, length, get_or, refl, ap, sym, subst, ◌∙◌, arith, cond, true, false, not, Bool, inl, inr, ◌⊎◌, Option, Some, None, option_map, Result, Ok}
-use Rattle.std.specs.Prelude.{IfOk, IfSome, nat_eq}
+use Rattle.std.proofs.Common.{◌≡◌, ◌≢◌, ℕ, suc, zero, ◌+◌, ◌<◌, ◌≤◌, ◌^◌, List, [], ◌∷◌, length, get_or, refl, ap, sym, subst, ◌∙◌, arith, cond, true, false, not, Bool, inl, inr, ◌⊎◌, Option, Some, None, option_map}
+use Rattle.std.specs.Prelude.{nat_eq}
 use Rattle.std.specs.declared.cmp.Ordering.{Ordering}
 use Rattle.std.specs.declared.cmp.Ordering.TheVariants.{Equal}
 use Rattle.std.proofs.lemmas.Bool.{cases_Bool, cases_eq, cases_order, eq-eqb, ne_eqb}
@@ -8,31 +8,26 @@ use Rattle.std.proofs.lemmas.Nat.Bits.{same_from_bits_below, bit_at-zero}
 use Rattle.std.proofs.lemmas.List.Filters.{length-filter_both}
 use Rattle.std.proofs.lemmas.List.Sums.{length-filter}
 use Rattle.elem_core.specs.Codes.{digit_at}
-use Rattle.elem_core.specs.declared.codes.TheConstants.{DEEPEST}
+use Rattle.elem_core.specs.declared.codes.TheConstants.{CODE_BITS, DEEPEST}
 use Rattle.node_heap.specs.Forms.{Forms, Row, cell, node, chain, head_of, form_of, kind_of}
 use Rattle.node_heap.specs.Heap.{Heap, row_at, form_at}
 use Rattle.node_heap.specs.declared.row.Head.TheVariants.{Leaf, Inner, Trie, Chain, Pair, State}
 use Rattle.champ_chain.specs.Entry.{Entry, entry, has_key, link_with, others, AreDistinct, key_of, key_at}
 use Rattle.champ_chain.specs.Chain.{IsChain, IsEntryOrChain}
-use Rattle.champ_chain.specs.Frame.{Grows}
-use Rattle.champ_chain.proofs.FrameLemmas.{KeepsForms}
+use Rattle.champ_chain.proofs.FrameLemmas.{KeepsForms, forms-kept, forms-same}
 use Rattle.champ_chain.proofs.SpotLemmas.{first-row, same-key}
 use Rattle.champ_trie.specs.Bits.{has, rank}
-use Rattle.champ_trie.specs.Trie.{AreSets, IsRow, IsTrie, IsCanon, IsPlace, part, place_of, links_at_place}
+use Rattle.champ_trie.specs.Trie.{AreSets, IsRow, IsTrie, IsCanon, IsPlace, part, place_of, links_at_place, KeepsTries}
 use Rattle.champ_trie.specs.Reach.{Agrees, alike_in}
 use Rattle.champ_trie.specs.Edit.{Closes, IsBelow}
-use Rattle.champ_trie.specs.Growth.{GrowsUpTo}
 use Rattle.champ_trie.specs.declared.place.Place.{Place}
 use Rattle.champ_trie.specs.declared.place.Place.TheVariants.{Entry as At, Node, Empty}
 use Rattle.champ_trie.proofs.BitLemmas.{rank-lt, rank-onto, rank-none, has-none, bit-no}
 use Rattle.champ_trie.proofs.PlaceLemmas.{place-entry, place-node, place-empty}
 use Rattle.champ_trie.proofs.ReachLemmas.{alike-all, agreeing-none}
-use Rattle.champ_trie.proofs.GrowthLemmas.{up_to-Grows, up_to-through}
+use Rattle.node_heap.specs.Calls.{Builds, Extends, SameRows}
+use Rattle.node_heap.proofs.BuildLemmas.{Builds-then, Builds-more}
 use Rattle.champ_trie.proofs.PartLemmas.{part-others, part-agreeing, part-link, others-elsewhere, place-kept, stands-at, below-part, row-trie, trie-kept}
-
--- what holds of the link that a call answers
-pub ok-some : {X E : Type 0} (P : X → Type 0) (r : Result (Option X) E) (o : Option X) (x : X) → r ≡ Ok o → o ≡ Some x → IfOk r (λ left. IfSome left P) → P x
-ok-some P r o x ok some all = subst (λ q. IfSome q P) some (subst (λ q. IfOk q (λ left. IfSome left P)) ok all)
 
 module _ {T : Type 0} where
   -- a row with a chain's head is no entry
@@ -137,7 +132,7 @@ module _ {K : Type 0} (cmp : K → K → Ordering) (code : K → ℕ) where
       by_digit (inr away) more = absurd (let bad = sym (none (digit_at (code e.key) d) small away) ∙ ap (λ b. cond b (e ∷ part cmp code d (digit_at (code e.key) d) E) (part cmp code d (digit_at (code e.key) d) E)) (eq-eqb (digit_at (code e.key) d) (digit_at (code e.key) d) refl) in cc)
 
   -- at the deepest row the entries with the digit have the whole code
-  pub deepest-alike : (d c : ℕ) (E : List (Entry K)) → d ≡ 6 → c < 2 ^ 32 → ((k : K) → code k < 2 ^ 32) → Agrees code d c E → length (part cmp code d (digit_at c d) E) ≡ alike_in code c E
+  pub deepest-alike : (d c : ℕ) (E : List (Entry K)) → d ≡ DEEPEST → c < 2 ^ CODE_BITS → ((k : K) → code k < 2 ^ CODE_BITS) → Agrees code d c E → length (part cmp code d (digit_at c d) E) ≡ alike_in code c E
   deepest-alike d c E deep low small agrees = ap length (part-agreeing cmp code d c E agrees) ∙ alike-all cmp code (d + 1) c E (omega (arith, deep)) low small
 
   -- a row of these places over the entries
@@ -230,10 +225,8 @@ module _ {T : Type 0} (cmp : T → T → Ordering) (code : T → ℕ) (equal_cod
 
 module _ {T : Type 0} where
   -- the row's other links are held, and then it is closed
-  pub left-grows : (old mid held new : Heap T) (here items place : List ℕ) (m i n : ℕ) → GrowsUpTo old mid [] here m → Grows mid held here items 0 → Grows held new items place i → i ≤ 1 → m + 1 ≤ n → GrowsUpTo old new [] place n
-  left-grows old mid held new here items place m i n first second third one le =
-      let edit : GrowsUpTo mid new here place 1 = up_to-through mid held new here items place 0 1 1 (up_to-Grows mid held here items 0 0 second (omega arith)) (up_to-Grows held new items place i 1 third one) (omega arith) in
-      up_to-through old mid new [] here place m 1 n first edit le
+  pub left-builds : {old mid held new : Heap T} {here items place : List ℕ} {m n : ℕ} → Builds old mid [] here 0 m → Builds mid held here items 0 0 → Builds held new items place 0 1 → m + 1 ≤ n → Builds old new [] place 0 n
+  left-builds {n = n} first second third le = Builds-more 0 n (Builds-then first (Builds-then second third)) (omega arith) (omega (arith, le))
 
 module _ {K : Type 0} (cmp : K → K → Ordering) (code : K → ℕ) where
   -- the node at the digit's place of a row above the deepest
@@ -296,8 +289,16 @@ place-links (Node l) = omega arith
 
 module _ {K : Type 0} (cmp : K → K → Ordering) (code : K → ℕ) where
   -- a whole trie is one from depth 0 down
-  pub canon-below : (F : Forms K) (root c : ℕ) (E : List (Entry K)) → IsCanon cmp code F root E → IsBelow cmp code F 0 root E 7 c
+  pub canon-below : (F : Forms K) (root c : ℕ) (E : List (Entry K)) → IsCanon cmp code F root E → IsBelow cmp code F 0 root E (DEEPEST + 1) c
   canon-below F root c E canon = record { levels = omega arith; trie = canon.trie; distinct = canon.distinct; agrees = agreeing-none cmp code c E }
 
   pub canon-kept : (F G : Forms K) → KeepsForms F G → (root : ℕ) (E : List (Entry K)) → IsCanon cmp code F root E → IsCanon cmp code G root E
-  canon-kept F G keeps root E canon = record { trie = trie-kept cmp code F G keeps 7 0 root E canon.trie; distinct = canon.distinct }
+  canon-kept F G keeps root E canon = record { trie = trie-kept cmp code F G keeps (DEEPEST + 1) 0 root E canon.trie; distinct = canon.distinct }
+
+module _ {T : Type 0} where
+  -- tries stay where rows are only added
+  pub KeepsTries-Extends : (old new : Heap T) → Extends old new → KeepsTries old new
+  KeepsTries-Extends old new more cmp code root E canon = canon-kept cmp code (form_at old) (form_at new) (forms-kept old new more) root E canon
+
+  pub KeepsTries-same : (old new : Heap T) → SameRows old new → KeepsTries old new
+  KeepsTries-same old new same cmp code root E canon = canon-kept cmp code (form_at old) (form_at new) (forms-same old new same) root E canon

@@ -3,7 +3,6 @@ pub mod PlaceLemmas
 pub mod HoldLemmas
 pub mod ReachLemmas
 pub mod StayLemmas
-pub mod GrowthLemmas
 pub mod PartLemmas
 pub mod WithLemmas
 pub mod LeftLemmas
@@ -11,4 +10,6 @@ pub mod GatherLemmas
 pub mod WalkLemmas
 pub mod CanonLemmas
 pub mod TreeLemmas
-pub mod AlikeLemmas
+pub mod SimilarLemmas
+pub mod ShareLemmas
+pub mod BesideLemmas

@@ -1,5 +1,5 @@
 -- Where the digits of a code lead.
-use Rattle.std.proofs.Common.{◌≡◌, ℕ, suc, ◌+◌, ◌*◌, ◌%◌, ◌^◌, ◌<◌, ◌≤◌, List, [], ◌∷◌, length, refl, ap, sym, subst, ◌∙◌, arith, cond, true, false, Bool, inl, inr, ◌⊎◌, ◌&&◌, Some, None, option_map}
+use Rattle.std.proofs.Common.{◌≡◌, ℕ, suc, ◌+◌, ◌-◌, ◌*◌, ◌%◌, ◌^◌, ◌<◌, ◌≤◌, List, [], ◌∷◌, length, refl, ap, sym, subst, ◌∙◌, arith, cond, true, false, Bool, inl, inr, ◌⊎◌, ◌&&◌, Some, None, option_map}
 use Rattle.std.specs.Prelude.{nat_eq, count_by}
 use Rattle.std.specs.List.{filter, find}
 use Rattle.std.specs.Cmp.{Equal-is}
@@ -7,10 +7,11 @@ use Rattle.std.specs.Ordering.{is_eq}
 use Rattle.std.specs.declared.cmp.Ordering.{Ordering}
 use Rattle.std.specs.declared.cmp.Ordering.TheVariants.{Equal}
 use Rattle.std.proofs.lemmas.Bool.{cases_eq, cases_order, eq-eqb, eqb-true, ne_eqb}
-use Rattle.std.proofs.lemmas.Nat.{mod-pow-add, pow_pos}
+use Rattle.std.proofs.lemmas.Nat.{pow_pos}
 use Rattle.std.proofs.Math.Nat.{mul-le-mul_right}
-use Rattle.std.proofs.Math.Pow.{pow_mono}
-use Rattle.elem_core.specs.Codes.{digit_at, masked_code}
+use Rattle.elem_core.specs.Codes.{digit_at}
+use Rattle.elem_core.specs.declared.codes.TheConstants.{CODE_BITS, DEEPEST}
+use Rattle.elem_core.proofs.CodeLemmas.{digit-more, same-bits}
 use Rattle.champ_chain.proofs.SetLemmas.{count-cons}
 use Rattle.node_heap.specs.Forms.{Forms}
 use Rattle.champ_chain.specs.Entry.{Entry, entry, has_key, link_with}
@@ -27,10 +28,6 @@ apart a b r s m lr ls e = elim (cases_order a b) [
   | inr (inl less) ↦ absurd (let up_to : a + 1 ≤ b = omega arith in let more : (a + 1) * m ≤ b * m = mul-le-mul_right m up_to in omega (arith, e, more))
   | inr (inr up) ↦ absurd (let up_to : b + 1 ≤ a = omega arith in let more : (b + 1) * m ≤ a * m = mul-le-mul_right m up_to in omega (arith, e, more))
 ]
-
--- five more bits are a digit more
-digit-more : (x d : ℕ) → x % 2 ^ (5 * (d + 1)) ≡ digit_at x d * 2 ^ (5 * d) + x % 2 ^ (5 * d)
-digit-more x d = let same : 5 + 5 * d ≡ 5 * (d + 1) = omega arith in subst (λ n. x % 2 ^ n ≡ digit_at x d * 2 ^ (5 * d) + x % 2 ^ (5 * d)) same (mod-pow-add x 5 (5 * d))
 
 mod-less : (x m : ℕ) → 0 < m → x % m < m
 mod-less x m h = omega arith
@@ -49,6 +46,10 @@ agree-test x c d = elim (cases_eq (x % 2 ^ (5 * (d + 1))) (c % 2 ^ (5 * (d + 1))
     by_tests (inl low) (inr high) other =
         ap (λ b. b && nat_eq (digit_at x d) (digit_at c d)) (eq-eqb (x % 2 ^ (5 * d)) (c % 2 ^ (5 * d)) low) ∙ ne_eqb (digit_at x d) (digit_at c d) high ∙ sym (ne_eqb (x % 2 ^ (5 * (d + 1))) (c % 2 ^ (5 * (d + 1))) other)
     by_tests (inr low) high other = ap (λ b. b && nat_eq (digit_at x d) (digit_at c d)) (ne_eqb (x % 2 ^ (5 * d)) (c % 2 ^ (5 * d)) low) ∙ sym (ne_eqb (x % 2 ^ (5 * (d + 1))) (c % 2 ^ (5 * (d + 1))) other)
+
+-- codes that agree above all depths are equal
+pub same-bits-at : (d x y : ℕ) → d ≡ DEEPEST + 1 → x < 2 ^ CODE_BITS → y < 2 ^ CODE_BITS → x % 2 ^ (5 * d) ≡ y % 2 ^ (5 * d) → x ≡ y
+same-bits-at d x y deep low_x low_y same = same-bits x y low_x low_y (subst (λ n. x % 2 ^ (5 * n) ≡ y % 2 ^ (5 * n)) deep same)
 
 module _ {X : Type 0} where
   filter-both : (p q r : X → Bool) → ((x : X) → p x && q x ≡ r x) → (xs : List X) → filter q (filter p xs) ≡ filter r xs
@@ -96,6 +97,15 @@ module _ {X : Type 0} where
       by_test true e rest = let one : Bool → ℕ = λ b. cond b 1 0 in omega (arith, rest, count-cons q x (filter p xs), ap one (only x e))
       by_test false e rest = rest
 
+module _ {K : Type 0} (cmp : K → K → Ordering) where
+  -- a look-up in one entry
+  pub link-alone : (key k : K) (x : ℕ) (o : Ordering) → cmp key k ≡ o → cond (is_eq o) (Some x) None ≡ link_with cmp key (entry k x ∷ [])
+  link-alone key k x o is = by_test (is_eq o) (ap is_eq is)
+    where
+      by_test : (b : Bool) → is_eq (cmp key k) ≡ b → cond b (Some x) None ≡ link_with cmp key (entry k x ∷ [])
+      by_test true e = sym (ap (λ b. option_map (λ (e : Entry K). e.link) (cond b (Some (entry k x)) None)) e)
+      by_test false e = sym (ap (λ b. option_map (λ (e : Entry K). e.link) (cond b (Some (entry k x)) None)) e)
+
 module _ {K : Type 0} (cmp : K → K → Ordering) (code : K → ℕ) where
   pub agreeing-none : (c : ℕ) (E : List (Entry K)) → agreeing code 0 c E ≡ E
   agreeing-none c E = filter-all _ (λ e. eq-eqb (code e.key % 1) (c % 1) (omega arith)) E
@@ -115,6 +125,23 @@ module _ {K : Type 0} (cmp : K → K → Ordering) (code : K → ℕ) where
   pub trie-row : (F : Forms K) (left d l : ℕ) (E : List (Entry K)) → IsTrie cmp code F (suc left) d l E → (depth e n : ℕ) × (ls : List ℕ) × IsRow F l depth e n ls
   unfolding IsTrie
   trie-row F left d l E row = (d, row.entries, row.nodes, row.links, row.row)
+
+  -- the row at a depth of the walk along a code, and what stands at the place of its digit
+  module _ (F : Forms K) (d l c : ℕ) (E : List (Entry K)) (trie : IsTrie cmp code F (DEEPEST + 1 - d) d l (agreeing code d c E)) (deep : d ≤ DEEPEST) where
+    more : IsTrie cmp code F (suc (DEEPEST - d)) d l (agreeing code d c E)
+    more = let same : DEEPEST + 1 - d ≡ suc (DEEPEST - d) = omega (arith, deep) in subst (λ n. IsTrie cmp code F n d l (agreeing code d c E)) same trie
+
+    pub row-there : (depth e n : ℕ) × (ls : List ℕ) × IsRow F l depth e n ls
+    row-there = trie-row F (DEEPEST - d) d l (agreeing code d c E) more
+
+    pub next-place : (p : ℕ) (place : Place) → p ≡ digit_at c d → ((depth e n : ℕ) (ls : List ℕ) → IsRow F l depth e n ls → place ≡ place_of e n ls p)
+        → IsPlace F (λ k P. IsTrie cmp code F (DEEPEST + 1 - (d + 1)) (d + 1) k P) place (agreeing code (d + 1) c E)
+    next-place p place read was =
+        let left : DEEPEST - d ≡ DEEPEST + 1 - (d + 1) = omega (arith, deep) in
+        let next : suc d ≡ d + 1 = omega arith in
+        subst (λ n. IsPlace F (λ k P. IsTrie cmp code F n (d + 1) k P) place (agreeing code (d + 1) c E)) left
+        (subst (λ m. IsPlace F (λ k P. IsTrie cmp code F (DEEPEST - d) m k P) place (agreeing code (d + 1) c E)) next
+        (at-place F (DEEPEST - d) d l c E place more (λ depth e n ls row. was depth e n ls row ∙ ap (place_of e n ls) read) (omega arith)))
 
   pub trie-chain : (F : Forms K) (d l : ℕ) (E : List (Entry K)) → IsTrie cmp code F 0 d l E → IsChain cmp F l E
   unfolding IsTrie
@@ -136,15 +163,8 @@ module _ {K : Type 0} (cmp : K → K → Ordering) (code : K → ℕ) where
     pub link-empty : agreeing code d c E ≡ [] → None ≡ link_with cmp key E
     link-empty none = sym (ap (link_with cmp key) none) ∙ link-there
 
-    pub link-one : (k : K) (x : ℕ) → agreeing code d c E ≡ entry k x ∷ [] → cmp key k ≡ Equal → Some x ≡ link_with cmp key E
-    link-one k x one equal =
-        let first : option_map (λ (e : Entry K). e.link) (cond (is_eq (cmp key k)) (Some (entry k x)) None) ≡ Some x = ap (λ o. option_map (λ (e : Entry K). e.link) (cond (is_eq o) (Some (entry k x)) None)) equal in
-        sym first ∙ sym (ap (link_with cmp key) one) ∙ link-there
-
-    pub link-other : (k : K) (x : ℕ) → agreeing code d c E ≡ entry k x ∷ [] → is_eq (cmp key k) ≡ false → None ≡ link_with cmp key E
-    link-other k x one other =
-        let first : option_map (λ (e : Entry K). e.link) (cond (is_eq (cmp key k)) (Some (entry k x)) None) ≡ None = ap (λ b. option_map (λ (e : Entry K). e.link) (cond b (Some (entry k x)) None)) other in
-        sym first ∙ sym (ap (link_with cmp key) one) ∙ link-there
+    pub link-one : (k : K) (x : ℕ) → agreeing code d c E ≡ entry k x ∷ [] → link_with cmp key (entry k x ∷ []) ≡ link_with cmp key E
+    link-one k x one = sym (ap (link_with cmp key) one) ∙ link-there
 
   pub alike-agreeing : (d c : ℕ) (E : List (Entry K)) → alike_in code c (agreeing code d c E) ≡ alike_in code c E
   alike-agreeing d c E = count-kept _ _ (λ e is. eq-eqb (code e.key % 2 ^ (5 * d)) (c % 2 ^ (5 * d)) (ap (λ n. n % 2 ^ (5 * d)) (eqb-true (code e.key) c is))) E
@@ -156,21 +176,14 @@ module _ {K : Type 0} (cmp : K → K → Ordering) (code : K → ℕ) where
   alike-one d c E k x one = omega (arith, count-cons (λ (e : Entry K). nat_eq (code e.key) c) (entry k x) [], ap (alike_in code c) one, alike-agreeing d c E)
 
   -- so deep that the whole code is seen
-  pub alike-all : (d c : ℕ) (E : List (Entry K)) → d ≡ 7 → c < 2 ^ 32 → ((k : K) → code k < 2 ^ 32) → length (agreeing code d c E) ≡ alike_in code c E
+  pub alike-all : (d c : ℕ) (E : List (Entry K)) → d ≡ DEEPEST + 1 → c < 2 ^ CODE_BITS → ((k : K) → code k < 2 ^ CODE_BITS) → length (agreeing code d c E) ≡ alike_in code c E
   alike-all d c E deep low small =
-      sym (count-only _ _ (λ e is. eq-eqb (code e.key) c (whole (code e.key) (small e.key) (eqb-true (code e.key % 2 ^ (5 * d)) (c % 2 ^ (5 * d)) is))) E) ∙ alike-agreeing d c E
-    where
-      whole : (x : ℕ) → x < 2 ^ 32 → x % 2 ^ (5 * d) ≡ c % 2 ^ (5 * d) → x ≡ c
-      whole x lx same = let at : x % 2 ^ 35 ≡ c % 2 ^ 35 = subst (λ n. x % 2 ^ (5 * n) ≡ c % 2 ^ (5 * n)) deep same in omega (arith, at, lx, low)
-
--- a masked code is below the bound of all codes
-pub masked-small : (n bits : ℕ) → bits ≤ 32 → masked_code n bits < 2 ^ 32
-masked-small n bits le = let less = mod-less n (2 ^ bits) (pow_pos bits) in let up_to : 2 ^ bits ≤ 2 ^ 32 = pow_mono le in omega (arith, less, up_to)
+      sym (count-only _ _ (λ e is. eq-eqb (code e.key) c (same-bits-at d (code e.key) c deep (small e.key) low (eqb-true (code e.key % 2 ^ (5 * d)) (c % 2 ^ (5 * d)) is))) E) ∙ alike-agreeing d c E
 
 -- a row with nothing at any position is the trie of no entries
 pub canon-empty : {K : Type 0} (cmp : K → K → Ordering) (code : K → ℕ) (F : Forms K) (l e n : ℕ) (ls : List ℕ) → IsRow F l 0 e n ls → ((p : ℕ) → place_of e n ls p ≡ Empty) → IsCanon cmp code F l []
 unfolding IsTrie
 canon-empty cmp code F l e n ls row none = record {
-  trie = record { entries = e; nodes = n; links = ls; row = row; places = λ p low. subst (λ q. IsPlace F (λ k P. IsTrie cmp code F 6 1 k P) q []) (sym (none p)) refl };
+  trie = record { entries = e; nodes = n; links = ls; row = row; places = λ p low. subst (λ q. IsPlace F (λ k P. IsTrie cmp code F DEEPEST 1 k P) q []) (sym (none p)) refl };
   distinct = record { once = λ key. omega arith };
 }

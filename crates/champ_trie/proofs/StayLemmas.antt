@@ -14,8 +14,9 @@ use Rattle.node_heap.specs.Heap.{Heap, row_at, form_at, links_at}
 use Rattle.node_heap.specs.Calls.{KeepsBelow, Extends}
 use Rattle.node_heap.proofs.Reach.{Reaches-then, Reaches-alike}
 use Rattle.champ_chain.specs.Entry.{Entry, entry, key_at, key_of, first_value, SameSet, same_none, same_first, same_turned, same_through}
-use Rattle.champ_chain.specs.Chain.{AreRows}
-use Rattle.champ_chain.proofs.FrameLemmas.{count-cons, links-form, form-live}
+use Rattle.champ_chain.specs.Chain.{AreChainRows}
+use Rattle.champ_chain.proofs.FrameLemmas.{links-form, form-live}
+use Rattle.node_heap.proofs.BuildLemmas.{count-cons}
 use Rattle.champ_chain.proofs.CopyLemmas.{one_at-same}
 use Rattle.champ_trie.specs.Bits.{has, rank}
 use Rattle.champ_trie.specs.Trie.{IsCanon, IsTrie, IsPlace, IsRow, part, place_of}
@@ -57,8 +58,8 @@ module _ {K : Type 0} where
   has-next F l k m kind is = omega (arith, ap (λ r. count m (links_of r)) is, count-cons m k (m ∷ []), count-cons m m [], one_at-same m)
 
   -- a chain's rows reach their entries
-  rows-reach : (F : Forms K) (l : ℕ) (es : List (Entry K)) (o : Option ℕ) → ((m : ℕ) → o ≡ Some m → Reaches (links_in F) l m) → AreRows F o es → All (λ e. Reaches (links_in F) l e.link) es
-  unfolding AreRows
+  rows-reach : (F : Forms K) (l : ℕ) (es : List (Entry K)) (o : Option ℕ) → ((m : ℕ) → o ≡ Some m → Reaches (links_in F) l m) → AreChainRows F o es → All (λ e. Reaches (links_in F) l e.link) es
+  unfolding AreChainRows
   rows-reach F l [] o down rows = All-nil (λ e. Reaches (links_in F) l e.link)
   rows-reach F l (e ∷ es) o down rows =
       let at : Reaches (links_in F) l rows.link = down rows.link rows.here in
@@ -131,8 +132,8 @@ module _ {K : Type 0} where
         by_form (Some (node pair links)) e is = ap (key_of G) (same l down ∙ e) ∙ by_links links e is
         by_form (Some (node state links)) e is = cc
 
-    rows-stay : (o : Option ℕ) (es : List (Entry K)) → ((m : ℕ) → o ≡ Some m → Reaches (links_in F) root m) → AreRows F o es → AreRows G o es
-    unfolding AreRows
+    rows-stay : (o : Option ℕ) (es : List (Entry K)) → ((m : ℕ) → o ≡ Some m → Reaches (links_in F) root m) → AreChainRows F o es → AreChainRows G o es
+    unfolding AreChainRows
     rows-stay o [] down rows = rows
     rows-stay o (e ∷ es) down rows =
         let at : Reaches (links_in F) root rows.link = down rows.link rows.here in

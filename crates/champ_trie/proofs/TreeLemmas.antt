@@ -10,7 +10,7 @@ use Rattle.elem_core.specs.declared.codes.TheConstants.{DEEPEST}
 use Rattle.node_heap.proofs.Trees.{IsTree-unique}
 use Rattle.node_heap.specs.Forms.{Form, Forms, Tree, Trees, no_trees, tree_then, trees_of, IsTree, AreTrees, is_cell_tree, is_node_tree, are_none, are_then}
 use Rattle.champ_chain.specs.Entry.{Entry, SameSet}
-use Rattle.champ_chain.specs.Chain.{AreRows}
+use Rattle.champ_chain.specs.Chain.{AreChainRows}
 use Rattle.champ_chain.proofs.SetLemmas.{same-length, same-sym}
 use Rattle.champ_trie.specs.Trie.{IsTrie, IsCanon}
 use Rattle.champ_trie.specs.Canon.{HaveTrees, EntriesTellTheTree}
@@ -55,8 +55,8 @@ module _ {K : Type 0} (F : Forms K) where
       (All-head (λ l. (t : Tree K) → IsTree F l t → AreTrees F (entries_of F (rows_from a F l)) (trees_of (tree_entries t))) l ls each t is)
       (list-trees a ls us are (All-tail (λ l. (t : Tree K) → IsTree F l t → AreTrees F (entries_of F (rows_from a F l)) (trees_of (tree_entries t))) l ls each)))
 
-  rest-trees : (a : ℕ) (next : Option ℕ) (es : List (Entry K)) → AreRows F next es → length es ≤ a → (ts : Trees K) → AreTrees F (option_to_list next) ts → AreTrees F (entries_of F (flat_map (rows_from a F) (option_to_list next))) (trees_of (entries_among 0 ts))
-  unfolding AreRows
+  rest-trees : (a : ℕ) (next : Option ℕ) (es : List (Entry K)) → AreChainRows F next es → length es ≤ a → (ts : Trees K) → AreTrees F (option_to_list next) ts → AreTrees F (entries_of F (flat_map (rows_from a F) (option_to_list next))) (trees_of (entries_among 0 ts))
+  unfolding AreChainRows
   rest-trees a next [] rows few ts are =
       let none : ts ≡ no_trees = (trees-none F (option_to_list next) ts are).0 (ap option_to_list rows) in
       subst (λ x. AreTrees F (entries_of F (flat_map (rows_from a F) (option_to_list x))) (trees_of (entries_among 0 ts))) (sym rows)
@@ -69,7 +69,7 @@ module _ {K : Type 0} (F : Forms K) where
       subst (λ x. AreTrees F (entries_of F (flat_map (rows_from (suc a) F) (option_to_list x))) (trees_of (entries_among 0 ts))) (sym rows.here)
       (list-trees (suc a) (rows.link ∷ []) ts (subst (λ x. AreTrees F (option_to_list x) ts) rows.here are) (All-cons P rows.link [] (λ t is. row-trees a rows.link t is below) (All-nil P)))
 
-  module _ (n : ℕ) (short : (next : Option ℕ) (es : List (Entry K)) → AreRows F next es → length es ≤ n) where
+  module _ (n : ℕ) (short : (next : Option ℕ) (es : List (Entry K)) → AreChainRows F next es → length es ≤ n) where
     layer-trees : (m : ℕ) (rows : List ℕ) → IsLayer F m rows → (a : ℕ) → m + n ≤ a → (ts : Trees K) → AreTrees F rows ts → AreTrees F (entries_of F (flat_map (rows_from a F) rows)) (trees_of (entries_among 0 ts))
     unfolding IsLayer
     layer-trees zero rows rest a enough ts are =

@@ -18,7 +18,7 @@ use Rattle.node_heap.specs.declared.row.Head.{Head}
 use Rattle.node_heap.specs.declared.row.Head.TheVariants.{Leaf, Inner, Trie, Chain, Pair, State}
 use Rattle.node_heap.specs.Heap.{Heap, row_at, form_at, live_count}
 use Rattle.champ_chain.specs.Entry.{Entry, entry, key_of, key_at, has_key, IsEntry, AreDistinct, SameSet, same_none, same_through}
-use Rattle.champ_chain.specs.Chain.{AreRows}
+use Rattle.champ_chain.specs.Chain.{AreChainRows}
 use Rattle.champ_chain.proofs.SetLemmas.{same-refl, same-sym, same-length, count-cons, Among, same-among}
 use Rattle.champ_chain.proofs.SpotLemmas.{FirstRow, first-row}
 use Rattle.champ_trie.specs.Bits.{has, rank}
@@ -84,13 +84,13 @@ module _ {K : Type 0} where
   chain-walk : (F : Forms K) (l x : ℕ) (xs : List ℕ) → F l ≡ Some (node chain (x ∷ xs)) → IsWalkRow (F l)
   chain-walk F l x xs row = subst IsWalkRow (sym row) (omega arith)
 
-  no-rows : (F : Forms K) → AreRows F None []
-  unfolding AreRows
+  no-rows : (F : Forms K) → AreChainRows F None []
+  unfolding AreChainRows
   no-rows F = refl
 
   -- the same rows however deep one may go, if it is deep enough
-  rest-same : (F : Forms K) (es : List (Entry K)) (next : Option ℕ) → AreRows F next es → (a b : ℕ) → length es ≤ a → length es ≤ b → flat_map (rows_from a F) (option_to_list next) ≡ flat_map (rows_from b F) (option_to_list next)
-  unfolding AreRows rows_from
+  rest-same : (F : Forms K) (es : List (Entry K)) (next : Option ℕ) → AreChainRows F next es → (a b : ℕ) → length es ≤ a → length es ≤ b → flat_map (rows_from a F) (option_to_list next) ≡ flat_map (rows_from b F) (option_to_list next)
+  unfolding AreChainRows rows_from
   rest-same F [] next rows a b x y = subst (λ n. flat_map (rows_from a F) (option_to_list n) ≡ flat_map (rows_from b F) (option_to_list n)) (sym rows) refl
   rest-same F (e ∷ es) next rows zero b x y = absurd (omega arith)
   rest-same F (e ∷ es) next rows (suc a) zero x y = absurd (omega arith)
@@ -101,8 +101,8 @@ module _ {K : Type 0} where
       subst (λ n. flat_map (rows_from (suc a) F) (option_to_list n) ≡ flat_map (rows_from (suc b) F) (option_to_list n)) (sym rows.here) (ap (λ xs. rows.link ∷ (xs ++ [])) same)
 
   -- the entries of a chain
-  rest-entries : (F : Forms K) (es : List (Entry K)) (next : Option ℕ) → AreRows F next es → (a : ℕ) → length es ≤ a → entries_of F (flat_map (rows_from a F) (option_to_list next)) ≡ map (λ e. e.link) es
-  unfolding AreRows rows_from
+  rest-entries : (F : Forms K) (es : List (Entry K)) (next : Option ℕ) → AreChainRows F next es → (a : ℕ) → length es ≤ a → entries_of F (flat_map (rows_from a F) (option_to_list next)) ≡ map (λ e. e.link) es
+  unfolding AreChainRows rows_from
   rest-entries F [] next rows a x = subst (λ n. entries_of F (flat_map (rows_from a F) (option_to_list n)) ≡ []) (sym rows) refl
   rest-entries F (e ∷ es) next rows zero x = absurd (omega arith)
   rest-entries F (e ∷ es) next rows (suc a) x =
@@ -139,7 +139,7 @@ module _ {K : Type 0} (F : Forms K) where
             less = λ some. absurd (omega (arith, some, ap length none));
           }
 
-      by_next : (next : Option ℕ) → l ∷ ls ≡ option_to_list next → AreRows F next rest.entries → Step zero l ls
+      by_next : (next : Option ℕ) → l ∷ ls ≡ option_to_list next → AreChainRows F next rest.entries → Step zero l ls
       by_next None list rows = absurd cc
       by_next (Some k) list rows = (let same : l ≡ k = cc in let none : ls ≡ [] = cc in by_rows k same none (first-row F k rest.entries rows))
   layer-step (suc m) l ls all =
@@ -236,7 +236,7 @@ module _ {K : Type 0} (F : Forms K) where
           some-or-none [] = inl refl
           some-or-none (x ∷ xs) = inr (omega arith)
 
-module _ {K : Type 0} (F : Forms K) (n : ℕ) (short : (next : Option ℕ) (es : List (Entry K)) → AreRows F next es → length es ≤ n) where
+module _ {K : Type 0} (F : Forms K) (n : ℕ) (short : (next : Option ℕ) (es : List (Entry K)) → AreChainRows F next es → length es ≤ n) where
   pub layer-same : (m : ℕ) (rows : List ℕ) → IsLayer F m rows → (a b : ℕ) → m + n ≤ a → m + n ≤ b → flat_map (rows_from a F) rows ≡ flat_map (rows_from b F) rows
   unfolding IsLayer rows_from
   layer-same zero rows rest a b x y =
@@ -378,8 +378,8 @@ module _ {X : Type 0} where
   some-one (Some x) live = refl
 
 module _ {K : Type 0} (cmp : K → K → Ordering) (code : K → ℕ) (F : Forms K) where
-  rows-entries : (next : Option ℕ) (es : List (Entry K)) → AreRows F next es → (e : Entry K) → Among e es → IsEntry F e
-  unfolding AreRows
+  rows-entries : (next : Option ℕ) (es : List (Entry K)) → AreChainRows F next es → (e : Entry K) → Among e es → IsEntry F e
+  unfolding AreChainRows
   rows-entries next [] rows e nowhere = absurd nowhere
   rows-entries next (d ∷ ds) rows e (inl same) = subst (IsEntry F) same rows.key
   rows-entries next (d ∷ ds) rows e (inr i) = rows-entries rows.next ds rows.rest e i

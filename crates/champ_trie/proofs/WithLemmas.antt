@@ -7,27 +7,26 @@ use Rattle.std.specs.Ordering.{is_eq, ordering_index}
 use Rattle.std.specs.declared.cmp.Ordering.{Ordering}
 use Rattle.std.specs.declared.cmp.Ordering.TheVariants.{Less, Equal, Greater}
 use Rattle.std.proofs.lemmas.Bool.{cases_eq, eq-eqb, ne_eqb, eqb-true}
-use Rattle.std.proofs.lemmas.Nat.{mod-pow-add}
 use Rattle.std.proofs.lemmas.List.Filters.{length-filter_both}
 use Rattle.std.proofs.lemmas.List.Sums.{length-filter}
 use Rattle.elem_core.specs.Codes.{digit_at}
-use Rattle.elem_core.specs.declared.codes.TheConstants.{DEEPEST}
-use Rattle.node_heap.specs.Links.{count}
+use Rattle.elem_core.specs.declared.codes.TheConstants.{CODE_BITS, DEEPEST}
+use Rattle.elem_core.proofs.CodeLemmas.{digit-more}
+use Rattle.node_heap.specs.Calls.{Builds}
+use Rattle.node_heap.proofs.BuildLemmas.{Builds-refl, Builds-more}
 use Rattle.node_heap.specs.Heap.{Heap, form_at, IsGraph}
 use Rattle.node_heap.specs.Forms.{Forms}
 use Rattle.champ_chain.specs.Entry.{Entry, entry, IsEntry, AreDistinct, key_at, has_key, others, put}
 use Rattle.champ_chain.specs.Chain.{IsChain}
 use Rattle.champ_chain.proofs.SetLemmas.{count-cons}
 use Rattle.champ_chain.proofs.FrameLemmas.{KeepsForms}
-use Rattle.champ_chain.proofs.CopyLemmas.{Grows-kept}
 use Rattle.champ_trie.specs.Trie.{IsTrie, IsPlace, IsRow, part, place_of, links_at_place}
 use Rattle.champ_trie.specs.Reach.{Agrees, alike_in}
-use Rattle.champ_trie.specs.Edit.{IsBelow, chain_nodes}
-use Rattle.champ_trie.specs.Growth.{GrowsUpTo}
+use Rattle.champ_trie.specs.Edit.{IsBelow, chain_nodes, SharesBeside}
 use Rattle.champ_trie.specs.declared.place.Place.{Place}
 use Rattle.champ_trie.specs.declared.place.Place.TheVariants.{Entry as At, Node, Empty}
-use Rattle.champ_trie.proofs.ReachLemmas.{alike-all, trie-chain}
-use Rattle.champ_trie.proofs.GrowthLemmas.{up_to-Grows}
+use Rattle.champ_trie.proofs.ShareLemmas.{same-node}
+use Rattle.champ_trie.proofs.ReachLemmas.{alike-all, same-bits-at, trie-chain}
 use Rattle.champ_trie.proofs.PartLemmas.{others-distinct, part-put-here, part-put-elsewhere, part-agrees, part-alike, place-kept, stands-at, below-part, row-trie}
 
 -- an order that isn't tested to be equal
@@ -39,47 +38,15 @@ not-equal Greater tested = refl
 pub eq-apart : (r : Ordering) → is_eq r ≡ false → r ≢ Equal
 eq-apart r none same = let bad = sym (ap is_eq same) ∙ none in cc
 
--- the digits above the next depth are those above this one and the digit
-digit-more : (x d : ℕ) → x % 2 ^ (5 * (d + 1)) ≡ digit_at x d * 2 ^ (5 * d) + x % 2 ^ (5 * d)
-digit-more x d = let same : 5 + 5 * d ≡ 5 * (d + 1) = omega arith in subst (λ n. x % 2 ^ n ≡ digit_at x d * 2 ^ (5 * d) + x % 2 ^ (5 * d)) same (mod-pow-add x 5 (5 * d))
-
 -- two codes that have the same digits so far and here have the same ones up to here
 pub same-more : (x y d : ℕ) → x % 2 ^ (5 * d) ≡ y % 2 ^ (5 * d) → digit_at x d ≡ digit_at y d → x % 2 ^ (5 * (d + 1)) ≡ y % 2 ^ (5 * (d + 1))
 same-more x y d low high = digit-more x d ∙ ap (λ a. a * 2 ^ (5 * d) + x % 2 ^ (5 * d)) high ∙ ap (λ r. digit_at y d * 2 ^ (5 * d) + r) low ∙ sym (digit-more y d)
 
--- two codes that have all digits the same are the same
-same-all : (x y d : ℕ) → d ≡ 7 → x < 2 ^ 32 → y < 2 ^ 32 → x % 2 ^ (5 * d) ≡ y % 2 ^ (5 * d) → x ≡ y
-same-all x y d deep lx ly same = let at : x % 2 ^ 35 ≡ y % 2 ^ 35 = subst (λ n. x % 2 ^ (5 * n) ≡ y % 2 ^ (5 * n)) deep same in omega (arith, at, lx, ly)
-
 pub chain_nodes-same : (x y : ℕ) → x ≡ y → chain_nodes x y ≡ 2
 chain_nodes-same x y same = ap (λ (b : Bool). let n : ℕ = cond b 2 0 in n) (eq-eqb x y same)
 
-pub chain_nodes-all : (x y d : ℕ) → d ≡ 7 → x < 2 ^ 32 → y < 2 ^ 32 → x % 2 ^ (5 * d) ≡ y % 2 ^ (5 * d) → chain_nodes x y ≡ 2
-chain_nodes-all x y d deep lx ly same = chain_nodes-same x y (same-all x y d deep lx ly same)
-
-module _ {T : Type 0} where
-  pub up_to-more : (old new : Heap T) (s g : List ℕ) (i n : ℕ) → GrowsUpTo old new s g i → i ≤ n → GrowsUpTo old new s g n
-  up_to-more old new s g i n x le = record {
-    extends = x.extends;
-    graph = x.graph;
-    holds = x.holds;
-    total = x.total;
-    cells = x.cells;
-    nodes = omega (arith, x.nodes, le);
-    balance = x.balance;
-  }
-
-  -- the same links in another order are spent
-  pub up_to-spent : (old new : Heap T) (s s' t : List ℕ) (n : ℕ) → GrowsUpTo old new s t n → ((k : ℕ) → count k s ≡ count k s') → length s ≡ length s' → GrowsUpTo old new s' t n
-  up_to-spent old new s s' t n x each whole = record {
-    extends = x.extends;
-    graph = x.graph;
-    holds = λ k. omega (arith, x.holds k, each k);
-    total = omega (arith, x.total, whole);
-    cells = x.cells;
-    nodes = x.nodes;
-    balance = x.balance;
-  }
+pub chain_nodes-all : (x y d : ℕ) → d ≡ DEEPEST + 1 → x < 2 ^ CODE_BITS → y < 2 ^ CODE_BITS → x % 2 ^ (5 * d) ≡ y % 2 ^ (5 * d) → chain_nodes x y ≡ 2
+chain_nodes-all x y d deep low_x low_y same = chain_nodes-same x y (same-bits-at d x y deep low_x low_y same)
 
 module _ {K : Type 0} (cmp : K → K → Ordering) (code : K → ℕ) where
   -- the part of a list from its first entry on
@@ -167,11 +134,11 @@ module _ {K : Type 0} (cmp : K → K → Ordering) (code : K → ℕ) where
       (left - 1, more, subst (λ n. IsBelow cmp code F d l E n c) more below)
 
   -- a chain below the deepest row: all entries have the code
-  pub below-chain : (F : Forms K) (d l c left : ℕ) (E : List (Entry K)) → IsBelow cmp code F d l E left c → DEEPEST < d → c < 2 ^ 32 → ((k : K) → code k < 2 ^ 32)
+  pub below-chain : (F : Forms K) (d l c left : ℕ) (E : List (Entry K)) → IsBelow cmp code F d l E left c → DEEPEST < d → c < 2 ^ CODE_BITS → ((k : K) → code k < 2 ^ CODE_BITS)
       → (left ≡ 0) × IsChain cmp F l E × (length E ≡ alike_in code c E)
   below-chain F d l c left E below deep low small =
       let none : left ≡ 0 = omega (arith, below.levels) in
-      let all : d ≡ 7 = omega (arith, below.levels) in
+      let all : d ≡ DEEPEST + 1 = omega (arith, below.levels) in
       (none, trie-chain cmp code F d l E (subst (λ n. IsTrie cmp code F n d l E) none below.trie), sym (ap length below.agrees) ∙ alike-all cmp code d c E all low small)
 
   -- the row with another place at the digit's position is the trie with the entry
@@ -199,18 +166,21 @@ module _ {K : Type 0} (cmp : K → K → Ordering) (code : K → ℕ) where
 
 -- what stands at the digit's position once an entry is put in there, and what was spent for it
 pub record IsPlaced {K : Type 0} (cmp : K → K → Ordering) (code : K → ℕ) (old new : Heap K) (d l x c : ℕ) (place : Place) : Type 0 where
-  pub grows : (E : List (Entry K)) (left : ℕ) → IsBelow cmp code (form_at old) d l E (suc left) c → GrowsUpTo old new (x ∷ []) (links_at_place place) (left + 1 + alike_in code c E)
+  pub builds : (E : List (Entry K)) (left : ℕ) → IsBelow cmp code (form_at old) d l E (suc left) c → Builds old new (x ∷ []) (links_at_place place) 0 (left + 1 + alike_in code c E)
   pub stands : (E : List (Entry K)) (left : ℕ) (k : K) → IsBelow cmp code (form_at old) d l E (suc left) c → key_at (form_at old) x ≡ Some k
       → IsPlace (form_at new) (λ m P. IsTrie cmp code (form_at new) left (d + 1) m P) place (put cmp (part cmp code d (digit_at c d) E) (entry k x))
+  pub shares : (E : List (Entry K)) (left e n : ℕ) (ls : List ℕ) (j k : ℕ) → IsBelow cmp code (form_at old) d l E (suc left) c → IsRow (form_at old) l d e n ls
+      → place_of e n ls (digit_at c d) ≡ Node j → place ≡ Node k → SharesBeside (form_at old) (form_at new) c left (d + 1) j k
 
 module _ {K : Type 0} (cmp : K → K → Ordering) (code : K → ℕ) (old : Heap K) (d l x c : ℕ) (low : digit_at c d < 32) where
   -- the first entry with its digit
   pub placed-first : IsGraph old → ((depth e n : ℕ) (ls : List ℕ) → IsRow (form_at old) l depth e n ls → Empty ≡ place_of e n ls (digit_at c d)) → IsPlaced cmp code old old d l x c (At x)
   placed-first graph is = record {
-    grows = λ E left below. up_to-Grows old old (x ∷ []) (x ∷ []) 0 (left + 1 + alike_in code c E) (Grows-kept old x graph) (omega arith);
+    builds = λ E left below. Builds-refl old (x ∷ []) 0 (left + 1 + alike_in code c E) graph;
     stands = λ E left k below keyed.
         let none : part cmp code d (digit_at c d) E ≡ [] = stands-at cmp code (form_at old) left d l (digit_at c d) E Empty below.trie is low in
         subst (λ P. IsPlace (form_at old) (λ m P. IsTrie cmp code (form_at old) left (d + 1) m P) (At x) (put cmp P (entry k x))) (sym none) (k, refl, keyed);
+    shares = λ E left e n ls j k below row at there. cc;
   }
 
   -- the only entry with the digit so far
@@ -234,32 +204,38 @@ module _ {K : Type 0} (cmp : K → K → Ordering) (code : K → ℕ) (old : Hea
           few = omega (arith, below.levels, chain_nodes-alike cmp code at.0 other c, part-alike cmp code d c E, same);
         }
 
-    pub placed-beside : (new : Heap K) (place : Place) → ((j : K) → key_at (form_at old) other ≡ Some j → (n : ℕ) × (n + d ≤ DEEPEST + chain_nodes c (code j)) × GrowsUpTo old new (x ∷ []) (links_at_place place) n)
+    pub placed-beside : (new : Heap K) (place : Place) → ((j : K) → key_at (form_at old) other ≡ Some j → (n : ℕ) × (n + d ≤ DEEPEST + chain_nodes c (code j)) × Builds old new (x ∷ []) (links_at_place place) 0 n)
         → ((j k : K) → key_at (form_at old) other ≡ Some j → key_at (form_at old) x ≡ Some k → (left : ℕ) → d + left ≡ DEEPEST → IsPlace (form_at new) (λ m P. IsTrie cmp code (form_at new) left (d + 1) m P) place (put cmp (entry j other ∷ []) (entry k x)))
         → IsPlaced cmp code old new d l x c place
-    placed-beside new place grows stands = record {
-      grows = λ E left below.
+    placed-beside new place builds stands = record {
+      builds = λ E left below.
           let at = alone E left below in
-          let more = grows at.key at.keyed in
-          up_to-more old new (x ∷ []) (links_at_place place) more.0 (left + 1 + alike_in code c E) more.2 (omega (arith, more.1, at.few));
+          let more = builds at.key at.keyed in
+          Builds-more 0 (left + 1 + alike_in code c E) more.2 (omega arith) (omega (arith, more.1, at.few));
       stands = λ E left k below keyed.
           let at = alone E left below in
           subst (λ P. IsPlace (form_at new) (λ m P. IsTrie cmp code (form_at new) left (d + 1) m P) place (put cmp P (entry k x))) (sym at.whole) (stands at.key k at.keyed keyed left (omega (arith, below.levels)));
+      shares = λ E left e n ls j k below row at there. absurd (let bad : At other ≡ Node j = is d e n ls row ∙ at in cc);
     }
 
   -- among others with the digit
   pub placed-below : (child : ℕ) → ((depth e n : ℕ) (ls : List ℕ) → IsRow (form_at old) l depth e n ls → Node child ≡ place_of e n ls (digit_at c d)) → (new : Heap K) (node : ℕ)
-      → ((E : List (Entry K)) (left : ℕ) → IsBelow cmp code (form_at old) (d + 1) child E left c → GrowsUpTo old new (x ∷ []) (node ∷ []) (left + 1 + alike_in code c E))
+      → ((E : List (Entry K)) (left : ℕ) → IsBelow cmp code (form_at old) (d + 1) child E left c → Builds old new (x ∷ []) (node ∷ []) 0 (left + 1 + alike_in code c E))
       → ((E : List (Entry K)) (left : ℕ) (k : K) → IsBelow cmp code (form_at old) (d + 1) child E left c → key_at (form_at old) x ≡ Some k → IsTrie cmp code (form_at new) left (d + 1) node (put cmp E (entry k x)))
+      → ((E : List (Entry K)) (left : ℕ) → IsBelow cmp code (form_at old) (d + 1) child E left c → SharesBeside (form_at old) (form_at new) c left (d + 1) child node)
       → IsPlaced cmp code old new d l x c (Node node)
-  placed-below child is new node grows trie = record {
-    grows = λ E left below.
+  placed-below child is new node builds trie shares = record {
+    builds = λ E left below.
         let down = below-part cmp code (form_at old) left d l c child E below is low in
-        subst (λ a. GrowsUpTo old new (x ∷ []) (node ∷ []) (left + 1 + a)) (part-alike cmp code d c E) (grows (part cmp code d (digit_at c d) E) left down);
+        subst (λ a. Builds old new (x ∷ []) (node ∷ []) 0 (left + 1 + a)) (part-alike cmp code d c E) (builds (part cmp code d (digit_at c d) E) left down);
     stands = λ E left k below keyed.
         let down = below-part cmp code (form_at old) left d l c child E below is low in
         let at = stands-at cmp code (form_at old) left d l (digit_at c d) E (Node child) below.trie is low in
         (put-two cmp code (part cmp code d (digit_at c d) E) (entry k x) down.distinct at.0, trie (part cmp code d (digit_at c d) E) left k down keyed);
+    shares = λ E left e n ls j k below row at there.
+        let down = below-part cmp code (form_at old) left d l c child E below is low in
+        subst (λ m. SharesBeside (form_at old) (form_at new) c left (d + 1) m k) (same-node child j (is d e n ls row ∙ at))
+        (subst (SharesBeside (form_at old) (form_at new) c left (d + 1) child) (same-node node k there) (shares (part cmp code d (digit_at c d) E) left down));
   }
 
 module _ {X : Type 0} where

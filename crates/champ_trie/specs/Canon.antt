@@ -3,7 +3,7 @@ use Rattle.std.specs.Prelude.{◌≡◌, ℕ, List, map}
 use Rattle.std.specs.List.{All, AllZip}
 use Rattle.std.specs.declared.cmp.Ordering.{Ordering}
 use Rattle.std.specs.declared.cmp.Ordering.TheVariants.{Equal}
-use Rattle.node_heap.specs.Forms.{Forms, Tree, trees_of, IsTree, AreTrees, AlikeTree}
+use Rattle.node_heap.specs.Forms.{Forms, Tree, trees_of, IsTree, AreTrees, SimilarTree}
 use Rattle.champ_chain.specs.Entry.{Entry, IsEntry, SameSet}
 use Rattle.champ_trie.specs.Trie.{IsCanon}
 use Rattle.champ_trie.specs.Walk.{tree_entries}
@@ -15,12 +15,12 @@ module _ {K : Type 0} where
 
   module _ (cmp : K → K → Ordering) where
     -- the trees are equal but for the values of their cells, which the order calls equal
-    abbrev pub AlikeByOrder : Tree K → Tree K → Type 0
-    AlikeByOrder t u = AlikeTree (λ x y. cmp x y ≡ Equal) t u
+    abbrev pub SimilarByOrder : Tree K → Tree K → Type 0
+    SimilarByOrder t u = SimilarTree (λ x y. cmp x y ≡ Equal) t u
 
-    -- the trees of the first list, in turn, are alike to those of the second in some order
+    -- the trees of the first list, in turn, are similar to those of the second in some order
     abbrev pub MatchOneToOne : List (Tree K) → List (Tree K) → Type 0
-    MatchOneToOne ts us = (vs : List (Tree K)) × SameSet vs us × AllZip AlikeByOrder ts vs
+    MatchOneToOne ts us = (vs : List (Tree K)) × SameSet vs us × AllZip SimilarByOrder ts vs
 
   module _ (cmp : K → K → Ordering) (code : K → ℕ) where
     -- tries of the same entries unfold to the same tree
@@ -39,10 +39,10 @@ module _ {K : Type 0} where
     EntriesTellTheTree =
         (F G : Forms K) (l m : ℕ) (E D : List (Entry K)) (t u : Tree K) → IsCanon cmp code F l E → IsCanon cmp code G m D → IsTree F l t → IsTree G m u → SameSet (tree_entries t) (tree_entries u) → t ≡ u
 
-    -- tries whose entries, as trees, are alike one to one and in any order unfold to alike trees
-    abbrev pub AlikeEntriesTellAlikeTrees : Type 0
-    AlikeEntriesTellAlikeTrees =
-        (F G : Forms K) (l m : ℕ) (E D : List (Entry K)) (t u : Tree K) → IsCanon cmp code F l E → IsCanon cmp code G m D → IsTree F l t → IsTree G m u → MatchOneToOne cmp (tree_entries t) (tree_entries u) → AlikeByOrder cmp t u
+    -- tries whose entries, as trees, are similar one to one and in any order unfold to similar trees
+    abbrev pub SimilarEntriesTellSimilarTrees : Type 0
+    SimilarEntriesTellSimilarTrees =
+        (F G : Forms K) (l m : ℕ) (E D : List (Entry K)) (t u : Tree K) → IsCanon cmp code F l E → IsCanon cmp code G m D → IsTree F l t → IsTree G m u → MatchOneToOne cmp (tree_entries t) (tree_entries u) → SimilarByOrder cmp t u
 
     -- a trie has one set of entries
     abbrev pub TrieHasOneSet : Type 0

@@ -1,11 +1,12 @@
 -- What an edit makes of a row.
-use Rattle.std.specs.Prelude.{◌≡◌, ◌⊎◌, ℕ, ◌+◌, List, length, slice_index, ◌==◌, if◌then◌else◌}
+use Rattle.std.specs.Prelude.{◌≡◌, ◌≢◌, ◌⊎◌, ℕ, zero, suc, ◌+◌, ◌<◌, List, length, slice_index, ◌==◌, if◌then◌else◌}
 use Rattle.std.specs.declared.cmp.Ordering.{Ordering}
+use Rattle.elem_core.specs.Codes.{digit_at}
 use Rattle.elem_core.specs.declared.codes.TheConstants.{DEEPEST}
 use Rattle.node_heap.specs.Forms.{Forms}
 use Rattle.node_heap.specs.Heap.{Heap, form_at}
 use Rattle.champ_chain.specs.Entry.{Entry, AreDistinct}
-use Rattle.champ_trie.specs.Trie.{IsRow, IsTrie}
+use Rattle.champ_trie.specs.Trie.{IsRow, IsTrie, place_of}
 use Rattle.champ_trie.specs.Reach.{Agrees}
 use Rattle.champ_trie.specs.declared.place.Place.{Place}
 use Rattle.champ_trie.specs.declared.place.Place.TheVariants.{Entry as At, Node}
@@ -26,3 +27,22 @@ pub record IsBelow {K : Type 0} (cmp : K → K → Ordering) (code : K → ℕ) 
   pub trie : IsTrie cmp code F left depth l E
   pub distinct : AreDistinct cmp E
   pub agrees : Agrees code depth c E
+
+module _ {K : Type 0} where
+  -- two rows at a depth with the same at each position but this one; where both have a node there, the nodes are as IsNext says
+  pub record DifferAt (F G : Forms K) (depth p l m : ℕ) (IsNext : ℕ → ℕ → Type 0) : Type 0 where
+    pub entries : ℕ
+    pub nodes : ℕ
+    pub links : List ℕ
+    pub row : IsRow F l depth entries nodes links
+    pub new_entries : ℕ
+    pub new_nodes : ℕ
+    pub new_links : List ℕ
+    pub new_row : IsRow G m depth new_entries new_nodes new_links
+    pub others : (q : ℕ) → q < 32 → q ≢ p → place_of new_entries new_nodes new_links q ≡ place_of entries nodes links q
+    pub next : (j k : ℕ) → place_of entries nodes links p ≡ Node j → place_of new_entries new_nodes new_links p ≡ Node k → IsNext j k
+
+  -- the second trie differs from the first on the way of a code alone: beside it each row has the same links
+  unfoldable pub SharesBeside : Forms K → Forms K → ℕ → ℕ → ℕ → ℕ → ℕ → Type 0
+  SharesBeside F G c zero depth l m = Unit {0}
+  SharesBeside F G c (suc left) depth l m = DifferAt F G depth (digit_at c depth) l m (λ j k. SharesBeside F G c left (suc depth) j k)

@@ -3,7 +3,6 @@ pub mod Trie
 pub mod Reach
 pub mod Edit
 pub mod Laws
-pub mod Growth
 pub mod Walk
 pub mod Stack
 pub mod Canon

@@ -4,7 +4,7 @@ use Rattle.std.specs.List.{All, flat_map}
 use Rattle.node_heap.specs.Forms.{Form, Forms, cell, node, leaf, inner, trie, chain, pair, state}
 use Rattle.node_heap.specs.Heap.{Heap, form_at}
 use Rattle.champ_chain.specs.Entry.{Entry}
-use Rattle.champ_chain.specs.Chain.{AreRows}
+use Rattle.champ_chain.specs.Chain.{AreChainRows}
 use Rattle.champ_trie.specs.Trie.{AreSets}
 use Rattle.champ_trie.specs.Walk.{rows_below, rows_from, entries_of, depth_of}
 
@@ -25,7 +25,7 @@ module _ {K : Type 0} where
     pub next : Option ℕ
     pub entries : List (Entry K)
     pub list : rows ≡ option_to_list next
-    pub chain : AreRows F next entries
+    pub chain : AreChainRows F next entries
 
   -- rows with so many layers of rows from them on, below which chains go on
   unfoldable pub IsLayer : Forms K → ℕ → List ℕ → Type 0

@@ -65,6 +65,14 @@ module _ {K : Type 0} where
       pub trie : IsTrie F (DEEPEST + 1) 0 root E
       pub distinct : AreDistinct cmp E
 
+-- the code of a key by so many bits
+abbrev pub code_by : {K : Type 0} → (K → ℕ) → ℕ → K → ℕ
+code_by code bits key = masked_code (code key) bits
+
 -- the canonical trie of these entries in a heap, by so many low bits of their keys' codes
 abbrev pub IsTrieOf : {T : Type 0} → (T → T → Ordering) → (T → ℕ) → ℕ → Heap T → ℕ → List (Entry T) → Type 0
-IsTrieOf cmp code bits h root E = IsCanon cmp (λ k. masked_code (code k) bits) (form_at h) root E
+IsTrieOf cmp code bits h root E = IsCanon cmp (code_by code bits) (form_at h) root E
+
+-- what is a trie in the old heap is the same trie in the new one
+abbrev pub KeepsTries : {T : Type 0} → Heap T → Heap T → Type 0
+KeepsTries {T} old new = (cmp : T → T → Ordering) (code : T → ℕ) (root : ℕ) (E : List (Entry T)) → IsCanon cmp code (form_at old) root E → IsCanon cmp code (form_at new) root E

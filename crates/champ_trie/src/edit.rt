@@ -1,20 +1,20 @@
 //! Edits of a trie, from the row at a depth down.
 ghost use Rattle.std.specs.Prelude.{◌≡◌, ℕ, ◌+◌, ◌*◌, ◌%◌, ◌<◌, ◌≤◌, ◌≢◌, ◌^◌, List, [], ◌∷◌, length, suc, Some, None};
 ghost use Rattle.std.specs.declared.cmp.Ordering.TheVariants.{Equal};
-ghost use Rattle.elem_core.specs.Codes.{masked_code, digit_at};
+ghost use Rattle.elem_core.specs.Codes.{digit_at};
 ghost use Rattle.node_heap.specs.Links.{count};
 ghost use Rattle.node_heap.specs.Heap.{form_at, holds_at, hold_count, IsGraph};
+ghost use Rattle.node_heap.specs.Calls.{Builds};
 ghost use Rattle.champ_chain.specs.Entry.{Entry, entry as entry_of, key_at, link_with, others, put};
 ghost use Rattle.champ_chain.specs.Chain.{IsChain};
-ghost use Rattle.champ_trie.specs.Trie.{AreSets, IsTrie, IsPlace, place_of, links_at_place, part};
-ghost use Rattle.champ_trie.specs.declared.place.Place.TheVariants.{Empty};
+ghost use Rattle.champ_trie.specs.Trie.{AreSets, IsRow, IsTrie, IsPlace, place_of, links_at_place, part, code_by};
+ghost use Rattle.champ_trie.specs.declared.place.Place.TheVariants.{Empty, Node};
 ghost use Rattle.champ_trie.specs.Reach.{alike_in};
-ghost use Rattle.champ_trie.specs.Edit.{IsBelow, chain_nodes};
-ghost use Rattle.champ_trie.specs.Growth.{GrowsUpTo};
+ghost use Rattle.champ_trie.specs.Edit.{IsBelow, chain_nodes, SharesBeside};
 
 use crate::place::Place;
 use crate::row::{TrieRow, edited, place_at};
-use champ_chain::{join, key_of, with, without};
+use champ_chain::{added, joined, key_of, removed};
 use elem_core::{CODE_BITS, Code, DEEPEST, Element, Probe, digit, masked};
 use node_heap::{Head, Heap, Link};
 use std::cmp::Ordering;
@@ -33,16 +33,18 @@ pub(crate) fn with_at<T: Element>(
     requires few { hold_count heap.old ≤ 2 ^ 59 }
     requires graph { IsGraph heap.old }
     requires held { 0 < holds_at heap.old entry }
-    requires key { (k : T) × (key_at (form_at heap.old) entry ≡ Some k) × (code ≡ masked_code (T.code_of k) bits) }
-    requires trie { (E : List (Entry T)) × (left : ℕ) × IsBelow T.cmp (λ k. masked_code (T.code_of k) bits) (form_at heap.old) depth link E left code
-        × (left + 1 + alike_in (λ k. masked_code (T.code_of k) bits) code E ≤ heap.old.spare_nodes) }
-    ensures grows { (E : List (Entry T)) (left : ℕ) → IsBelow T.cmp (λ k. masked_code (T.code_of k) bits) (form_at heap.old) depth link E left code →
-        GrowsUpTo heap.old heap.new (entry ∷ []) (result ∷ []) (left + 1 + alike_in (λ k. masked_code (T.code_of k) bits) code E) }
-    ensures trie { (E : List (Entry T)) (left : ℕ) (k : T) → IsBelow T.cmp (λ k. masked_code (T.code_of k) bits) (form_at heap.old) depth link E left code →
-        key_at (form_at heap.old) entry ≡ Some k → IsTrie T.cmp (λ k. masked_code (T.code_of k) bits) (form_at heap.new) left depth result (put T.cmp E (entry_of k entry)) }
+    requires key { (k : T) × (key_at (form_at heap.old) entry ≡ Some k) × (code ≡ code_by T.code_of bits k) }
+    requires trie { (E : List (Entry T)) × (left : ℕ) × IsBelow T.cmp (code_by T.code_of bits) (form_at heap.old) depth link E left code
+        × (left + 1 + alike_in (code_by T.code_of bits) code E ≤ heap.old.spare_nodes) }
+    ensures builds { (E : List (Entry T)) (left : ℕ) → IsBelow T.cmp (code_by T.code_of bits) (form_at heap.old) depth link E left code →
+        Builds heap.old heap.new (entry ∷ []) (result ∷ []) 0 (left + 1 + alike_in (code_by T.code_of bits) code E) }
+    ensures trie { (E : List (Entry T)) (left : ℕ) (k : T) → IsBelow T.cmp (code_by T.code_of bits) (form_at heap.old) depth link E left code →
+        key_at (form_at heap.old) entry ≡ Some k → IsTrie T.cmp (code_by T.code_of bits) (form_at heap.new) left depth result (put T.cmp E (entry_of k entry)) }
+    ensures shares { (E : List (Entry T)) (left : ℕ) → IsBelow T.cmp (code_by T.code_of bits) (form_at heap.old) depth link E left code →
+        SharesBeside (form_at heap.old) (form_at heap.new) code left depth link result }
 {
     if depth > DEEPEST {
-        return with(heap, link, entry).unwrap();
+        return added(heap, link, entry);
     }
     let position = digit(code, depth);
     let place = match place_at(heap, link, position) {
@@ -67,13 +69,13 @@ fn beside<T: Element>(
     requires few { hold_count heap.old ≤ 2 ^ 59 }
     requires graph { IsGraph heap.old }
     requires held { 0 < holds_at heap.old entry }
-    requires key { (k : T) × (key_at (form_at heap.old) entry ≡ Some k) × (code ≡ masked_code (T.code_of k) bits) }
-    requires old { (j : T) × (key_at (form_at heap.old) old ≡ Some j) × (masked_code (T.code_of j) bits % 2 ^ (5 * (depth + 1)) ≡ code % 2 ^ (5 * (depth + 1)))
-        × (DEEPEST + chain_nodes code (masked_code (T.code_of j) bits) ≤ heap.old.spare_nodes + depth) }
-    ensures grows { (j : T) → key_at (form_at heap.old) old ≡ Some j →
-        (n : ℕ) × (n + depth ≤ DEEPEST + chain_nodes code (masked_code (T.code_of j) bits)) × GrowsUpTo heap.old heap.new (entry ∷ []) (links_at_place result) n }
+    requires key { (k : T) × (key_at (form_at heap.old) entry ≡ Some k) × (code ≡ code_by T.code_of bits k) }
+    requires old { (j : T) × (key_at (form_at heap.old) old ≡ Some j) × (code_by T.code_of bits j % 2 ^ (5 * (depth + 1)) ≡ code % 2 ^ (5 * (depth + 1)))
+        × (DEEPEST + chain_nodes code (code_by T.code_of bits j) ≤ heap.old.spare_nodes + depth) }
+    ensures builds { (j : T) → key_at (form_at heap.old) old ≡ Some j →
+        (n : ℕ) × (n + depth ≤ DEEPEST + chain_nodes code (code_by T.code_of bits j)) × Builds heap.old heap.new (entry ∷ []) (links_at_place result) 0 n }
     ensures place { (j k : T) → key_at (form_at heap.old) old ≡ Some j → key_at (form_at heap.old) entry ≡ Some k → (left : ℕ) → depth + left ≡ DEEPEST →
-        IsPlace (form_at heap.new) (λ l P. IsTrie T.cmp (λ k. masked_code (T.code_of k) bits) (form_at heap.new) left (depth + 1) l P) result
+        IsPlace (form_at heap.new) (λ l P. IsTrie T.cmp (code_by T.code_of bits) (form_at heap.new) left (depth + 1) l P) result
         (put T.cmp (entry_of j old ∷ []) (entry_of k entry)) }
 {
     if key_of(heap, entry).cmp(key_of(heap, old)) == Ordering::Equal {
@@ -100,13 +102,13 @@ fn node_of_two<T: Element>(
     requires keys { (j k : T) × (key_at (form_at heap.old) first ≡ Some j) × (key_at (form_at heap.old) second ≡ Some k) × (T.cmp j k ≢ Equal) }
     requires codes { first_code % 2 ^ (5 * depth) ≡ second_code % 2 ^ (5 * depth) }
     requires spare { DEEPEST + 1 + chain_nodes first_code second_code ≤ heap.old.spare_nodes + depth }
-    ensures grows { (n : ℕ) × (n + depth ≤ DEEPEST + 1 + chain_nodes first_code second_code) × GrowsUpTo heap.old heap.new (first ∷ second ∷ []) (result ∷ []) n }
+    ensures builds { (n : ℕ) × (n + depth ≤ DEEPEST + 1 + chain_nodes first_code second_code) × Builds heap.old heap.new (first ∷ second ∷ []) (result ∷ []) 0 n }
     ensures trie { (code : T → ℕ) (j k : T) → key_at (form_at heap.old) first ≡ Some j → key_at (form_at heap.old) second ≡ Some k →
         first_code ≡ code j → second_code ≡ code k → (left : ℕ) → depth + left ≡ DEEPEST + 1 →
         IsTrie T.cmp code (form_at heap.new) left depth result (entry_of j first ∷ entry_of k second ∷ []) }
 {
     if depth > DEEPEST {
-        return join(heap, first, second).unwrap();
+        return joined(heap, first, second);
     }
     let position = digit(first_code, depth);
     let other = digit(second_code, depth);
@@ -147,14 +149,17 @@ pub(crate) fn left_of<T: Element, P: Probe<T>>(
     requires depth { depth ≤ DEEPEST }
     requires few { hold_count heap.old < 2 ^ 59 }
     requires graph { IsGraph heap.old }
-    requires code { code ≡ masked_code (T.code_of (P.stands_for key.now)) bits }
-    requires trie { (E : List (Entry T)) × (left : ℕ) × IsBelow T.cmp (λ k. masked_code (T.code_of k) bits) (form_at heap.old) depth link E (suc left) code
-        × (link_with T.cmp (P.stands_for key.now) E ≢ None) × (left + alike_in (λ k. masked_code (T.code_of k) bits) code E ≤ heap.old.spare_nodes) }
-    ensures grows { (E : List (Entry T)) (left : ℕ) → IsBelow T.cmp (λ k. masked_code (T.code_of k) bits) (form_at heap.old) depth link E (suc left) code →
-        GrowsUpTo heap.old heap.new [] (links_at_place result) (left + alike_in (λ k. masked_code (T.code_of k) bits) code E) }
-    ensures place { (E : List (Entry T)) (left : ℕ) → IsBelow T.cmp (λ k. masked_code (T.code_of k) bits) (form_at heap.old) depth link E (suc left) code →
-        IsPlace (form_at heap.new) (λ l P. IsTrie T.cmp (λ k. masked_code (T.code_of k) bits) (form_at heap.new) left (depth + 1) l P) result
-        (part T.cmp (λ k. masked_code (T.code_of k) bits) depth (digit_at code depth) (others T.cmp (P.stands_for key.now) E)) }
+    requires code { code ≡ code_by T.code_of bits (P.stands_for key.now) }
+    requires trie { (E : List (Entry T)) × (left : ℕ) × IsBelow T.cmp (code_by T.code_of bits) (form_at heap.old) depth link E (suc left) code
+        × (link_with T.cmp (P.stands_for key.now) E ≢ None) × (left + alike_in (code_by T.code_of bits) code E ≤ heap.old.spare_nodes) }
+    ensures builds { (E : List (Entry T)) (left : ℕ) → IsBelow T.cmp (code_by T.code_of bits) (form_at heap.old) depth link E (suc left) code →
+        Builds heap.old heap.new [] (links_at_place result) 0 (left + alike_in (code_by T.code_of bits) code E) }
+    ensures place { (E : List (Entry T)) (left : ℕ) → IsBelow T.cmp (code_by T.code_of bits) (form_at heap.old) depth link E (suc left) code →
+        IsPlace (form_at heap.new) (λ l P. IsTrie T.cmp (code_by T.code_of bits) (form_at heap.new) left (depth + 1) l P) result
+        (part T.cmp (code_by T.code_of bits) depth (digit_at code depth) (others T.cmp (P.stands_for key.now) E)) }
+    ensures shares { (E : List (Entry T)) (left e n : ℕ) (ls : List ℕ) (j k : ℕ) → IsBelow T.cmp (code_by T.code_of bits) (form_at heap.old) depth link E (suc left) code →
+        IsRow (form_at heap.old) link depth e n ls → place_of e n ls (digit_at code depth) ≡ Node j → result ≡ Node k →
+        SharesBeside (form_at heap.old) (form_at heap.new) code left (depth + 1) j k }
 {
     match place_at(heap, link, digit(code, depth)) {
         Place::Empty => Place::Empty,
@@ -175,11 +180,11 @@ fn left_of_chain<T: Element, P: Probe<T>>(heap: &mut Heap<T>, chain: Link, key: 
     requires few { hold_count heap.old < 2 ^ 59 }
     requires chain { (E : List (Entry T)) × IsChain T.cmp (form_at heap.old) chain E × (link_with T.cmp (P.stands_for key.now) E ≢ None)
         × (length E ≤ heap.old.spare_nodes) }
-    ensures grows { (E : List (Entry T)) → IsChain T.cmp (form_at heap.old) chain E → GrowsUpTo heap.old heap.new [] (links_at_place result) (length E) }
+    ensures builds { (E : List (Entry T)) → IsChain T.cmp (form_at heap.old) chain E → Builds heap.old heap.new [] (links_at_place result) 0 (length E) }
     ensures place { (E : List (Entry T)) → IsChain T.cmp (form_at heap.old) chain E →
         IsPlace (form_at heap.new) (λ l P. IsChain T.cmp (form_at heap.new) l P) result (others T.cmp (P.stands_for key.now) E) }
 {
-    let left = without(heap, chain, key).unwrap().unwrap();
+    let left = removed(heap, chain, key);
     match heap.head(left) {
         Some(head) => match head {
             Head::Chain => Place::Node(left),

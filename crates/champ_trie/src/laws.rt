@@ -1,8 +1,8 @@
 //! Laws of tries, as clauses of functions that do nothing.
 ghost use Rattle.std.specs.Prelude.{ℕ};
-ghost use Rattle.elem_core.specs.Codes.{masked_code};
+ghost use Rattle.champ_trie.specs.Trie.{code_by};
 ghost use Rattle.champ_trie.specs.Laws.{TriesStay, TriesReach};
-ghost use Rattle.champ_trie.specs.Canon.{TrieFollowsEntries, TrieFollowsTrees, EntriesTellTheTree, AlikeEntriesTellAlikeTrees, TrieHasOneSet, TrieTakesAnyOrder, TrieNamesKeys};
+ghost use Rattle.champ_trie.specs.Canon.{TrieFollowsEntries, TrieFollowsTrees, EntriesTellTheTree, SimilarEntriesTellSimilarTrees, TrieHasOneSet, TrieTakesAnyOrder, TrieNamesKeys};
 
 use elem_core::Element;
 use node_heap::Heap;
@@ -12,6 +12,7 @@ pub fn tries_stay<T>(heap: &Heap<T>)
     ensures stay { TriesStay T }
     ensures reach { TriesReach T }
 {
+    // The heap is there for its type alone: the laws speak of every heap.
     let _ = heap;
 }
 
@@ -19,13 +20,14 @@ pub fn tries_stay<T>(heap: &Heap<T>)
 /// and whatever heaps they stand in. Where their entries match one to one, equal but for values that their order calls equal,
 /// so are their trees. A trie has one set of entries, in any order, and each names its key.
 pub fn depends_on_entries<T: Element>(heap: &Heap<T>)
-    ensures entries { (bits : ℕ) → TrieFollowsEntries T.cmp (λ k. masked_code (T.code_of k) bits) }
-    ensures trees { (bits : ℕ) → TrieFollowsTrees T.cmp (λ k. masked_code (T.code_of k) bits) }
-    ensures equal { (bits : ℕ) → EntriesTellTheTree T.cmp (λ k. masked_code (T.code_of k) bits) }
-    ensures alike { (bits : ℕ) → AlikeEntriesTellAlikeTrees T.cmp (λ k. masked_code (T.code_of k) bits) }
-    ensures set { (bits : ℕ) → TrieHasOneSet T.cmp (λ k. masked_code (T.code_of k) bits) }
-    ensures order { (bits : ℕ) → TrieTakesAnyOrder T.cmp (λ k. masked_code (T.code_of k) bits) }
-    ensures keys { (bits : ℕ) → TrieNamesKeys T.cmp (λ k. masked_code (T.code_of k) bits) }
+    ensures entries { (bits : ℕ) → TrieFollowsEntries T.cmp (code_by T.code_of bits) }
+    ensures trees { (bits : ℕ) → TrieFollowsTrees T.cmp (code_by T.code_of bits) }
+    ensures equal { (bits : ℕ) → EntriesTellTheTree T.cmp (code_by T.code_of bits) }
+    ensures similar { (bits : ℕ) → SimilarEntriesTellSimilarTrees T.cmp (code_by T.code_of bits) }
+    ensures set { (bits : ℕ) → TrieHasOneSet T.cmp (code_by T.code_of bits) }
+    ensures order { (bits : ℕ) → TrieTakesAnyOrder T.cmp (code_by T.code_of bits) }
+    ensures keys { (bits : ℕ) → TrieNamesKeys T.cmp (code_by T.code_of bits) }
 {
+    // The heap is there for its type alone: the laws speak of every heap.
     let _ = heap;
 }

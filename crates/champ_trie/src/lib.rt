@@ -3,15 +3,17 @@
 //! A trie row has up to 32 positions. Where one entry has a position's digit, the entry itself stands there; where two or
 //! more have it, the row of the next depth over them does, and below the deepest row a chain. So a set of entries has one
 //! trie, whatever edits led to it. Tries are never changed: an edit makes the rows from the root to its place anew and
-//! shares the others.
+//! shares the others. `with` and `without` reserve the rows that they make; `added` and `removed` are the same where the
+//! caller has reserved them.
 #![tactic(auto)]
 
-ghost use Rattle.std.specs.Prelude.{◌≡◌, ◌↔◌, ℕ, ◌+◌, ◌<◌, ◌≤◌, ◌^◌, List, [], ◌∷◌, length, map, Some, None, IsSome, IfOk, OnErr, IsOk, IfSome, IfNone};
+ghost use Rattle.std.specs.Prelude.{◌≡◌, ◌↔◌, ℕ, ◌+◌, ◌<◌, ◌≤◌, ◌≢◌, ◌^◌, List, [], ◌∷◌, length, map, Some, None, IsSome, IfOk, OnOk, OnErr, IsOk, IfSome, IfNone};
 ghost use Rattle.node_heap.specs.Forms.{Tree, IsTree, AreTrees, trees_of};
-ghost use Rattle.node_heap.specs.Heap.{form_at, holds_at, hold_count, HasSpares};
-ghost use Rattle.node_heap.specs.Calls.{Answered, Unchanged};
+ghost use Rattle.node_heap.specs.Heap.{form_at, holds_at, hold_count, HasSpares, IsGraph};
+ghost use Rattle.node_heap.specs.Calls.{Answered, Unchanged, Builds, MakesJust};
 ghost use Rattle.champ_chain.specs.Entry.{SameSet, Entry, entry as entry_of, key_at, link_with, others, put};
-ghost use Rattle.champ_trie.specs.Trie.{IsTrieOf};
+ghost use Rattle.champ_trie.specs.Trie.{IsTrieOf, KeepsTries, code_by};
+ghost use Rattle.champ_trie.specs.Edit.{SharesBeside};
 ghost use Rattle.champ_trie.specs.Reach.{alike_to};
 ghost use Rattle.champ_trie.specs.Walk.{walk, tree_entries};
 
@@ -20,26 +22,28 @@ mod laws;
 mod place;
 mod reach;
 mod row;
-#[cfg(test)]
-mod tests;
 mod walk;
 
-use champ_chain::{find as find_in_chain, key_of};
+pub use champ_chain::Found;
+use champ_chain::{find as find_in_chain, key_of, look_up as look_up_in_chain};
 use edit::{left_of, with_at};
 use elem_core::{CODE_BITS, DEEPEST, Element, NoMemory, Probe, digit, masked};
 pub use laws::{depends_on_entries, tries_stay};
 use node_heap::{Heap, Link};
 use place::Place;
-use reach::{alike_at, reached};
+use reach::reached;
 use row::{TrieRow, edited};
 use std::cmp::Ordering;
 pub use walk::Entries;
 
-/// The empty trie: a row without links. It makes one node.
+/// The empty trie: a row without links. It makes at most one node. Err where memory runs out: then nothing but
+/// the heap's spares has changed.
 pub fn empty<T: Element>(heap: &mut Heap<T>) -> Result<Link, NoMemory>
     requires few { hold_count heap.old < 2 ^ 59 }
     ensures answered { IfOk result (λ l. Answered heap.old heap.new [] l 0 1) }
     ensures entries { (bits : ℕ) → IfOk result (λ l. IsTrieOf T.cmp T.code_of bits heap.new l []) }
+    ensures made { OnOk result (MakesJust heap.old heap.new) }
+    ensures tries { KeepsTries heap.old heap.new }
     ensures refused { OnErr result (Unchanged heap.old heap.new) }
     ensures ample { HasSpares heap.old 0 1 → IsOk result }
 {
@@ -51,17 +55,52 @@ pub fn empty<T: Element>(heap: &mut Heap<T>) -> Result<Link, NoMemory>
 pub fn find<T: Element, P: Probe<T>>(heap: &Heap<T>, root: Link, key: &P, bits: u32) -> Option<Link>
     requires bits { bits ≤ CODE_BITS }
     requires trie { (E : List (Entry T)) × IsTrieOf T.cmp T.code_of bits heap.now root E }
-    ensures { (E : List (Entry T)) → IsTrieOf T.cmp T.code_of bits heap.now root E →
+    ensures graph { IsGraph heap.now }
+    ensures entry { (E : List (Entry T)) → IsTrieOf T.cmp T.code_of bits heap.now root E →
         result ≡ link_with T.cmp (P.stands_for key.now) E }
 {
     match reached(heap, root, masked(key.code(), bits), bits) {
         Place::Empty => None,
-        Place::Entry(entry) => match key.order(key_of(heap, entry)) {
-            Ordering::Less => None,
-            Ordering::Equal => Some(entry),
-            Ordering::Greater => None,
-        },
+        Place::Entry(entry) => same_key(heap, entry, key),
         Place::Node(chain) => find_in_chain(heap, chain, key),
+    }
+}
+
+// The entry itself where it has the key.
+fn same_key<T: Element, P: Probe<T>>(heap: &Heap<T>, entry: Link, key: &P) -> Option<Link>
+    requires { IsSome (key_at (form_at heap.now) entry) }
+    ensures { (k : T) → key_at (form_at heap.now) entry ≡ Some k → result ≡ link_with T.cmp (P.stands_for key.now) (entry_of k entry ∷ []) }
+{
+    match key.order(key_of(heap, entry)) {
+        Ordering::Less => None,
+        Ordering::Equal => Some(entry),
+        Ordering::Greater => None,
+    }
+}
+
+/// The entry with this key, and the number of keys with its masked code, itself included where it is there, in one
+/// walk.
+pub fn look_up<T: Element, P: Probe<T>>(heap: &Heap<T>, root: Link, key: &P, bits: u32) -> Found
+    requires bits { bits ≤ CODE_BITS }
+    requires trie { (E : List (Entry T)) × IsTrieOf T.cmp T.code_of bits heap.now root E }
+    ensures graph { IsGraph heap.now }
+    ensures entry { (E : List (Entry T)) → IsTrieOf T.cmp T.code_of bits heap.now root E →
+        result.entry ≡ link_with T.cmp (P.stands_for key.now) E }
+    ensures alike { (E : List (Entry T)) → IsTrieOf T.cmp T.code_of bits heap.now root E →
+        result.alike ≡ alike_to T.code_of bits (P.stands_for key.now) E }
+    ensures few { result.alike < 2 ^ 56 }
+{
+    let code = masked(key.code(), bits);
+    match reached(heap, root, code, bits) {
+        Place::Empty => Found {
+            entry: None,
+            alike: 0,
+        },
+        Place::Entry(entry) => Found {
+            entry: same_key(heap, entry, key),
+            alike: usize::from(masked(Element::code(key_of(heap, entry)), bits) == code),
+        },
+        Place::Node(chain) => look_up_in_chain(heap, chain, key),
     }
 }
 
@@ -90,15 +129,17 @@ pub fn count<T: Element>(heap: &Heap<T>, root: Link) -> usize
 pub fn alike<T: Element, P: Probe<T>>(heap: &Heap<T>, root: Link, key: &P, bits: u32) -> usize
     requires bits { bits ≤ CODE_BITS }
     requires trie { (E : List (Entry T)) × IsTrieOf T.cmp T.code_of bits heap.now root E }
-    ensures { (E : List (Entry T)) → IsTrieOf T.cmp T.code_of bits heap.now root E →
+    ensures graph { IsGraph heap.now }
+    ensures number { (E : List (Entry T)) → IsTrieOf T.cmp T.code_of bits heap.now root E →
         result ≡ alike_to T.code_of bits (P.stands_for key.now) E }
+    ensures few { result < 2 ^ 56 }
 {
-    alike_at(heap, root, masked(key.code(), bits), bits)
+    look_up(heap, root, key, bits).alike
 }
 
-/// The trie with the entry added, or in the place of the one with its key. The entry's hold is spent on Ok, and the given
-/// root stays. It makes at most 8 nodes, and one more for each key with the same masked code. Err where memory runs out:
-/// then nothing has changed.
+/// The trie with the entry added, or in the place of the one with its key. The entry's hold is spent on Ok, and the
+/// given root stays. It makes at most `DEEPEST + 2` nodes, and one more for each key with the same masked code. Err
+/// where memory runs out: then nothing but the heap's spares has changed.
 pub fn with<T: Element>(
     heap: &mut Heap<T>,
     root: Link,
@@ -115,19 +156,43 @@ pub fn with<T: Element>(
         (DEEPEST + 2 + alike_to T.code_of bits k E)) }
     ensures entries { (E : List (Entry T)) (k : T) → IsTrieOf T.cmp T.code_of bits heap.old root E → key_at (form_at heap.old) entry ≡ Some k →
         IfOk result (λ l. IsTrieOf T.cmp T.code_of bits heap.new l (put T.cmp E (entry_of k entry))) }
+    ensures shares { (E : List (Entry T)) (k : T) → IsTrieOf T.cmp T.code_of bits heap.old root E → key_at (form_at heap.old) entry ≡ Some k →
+        IfOk result (λ l. SharesBeside (form_at heap.old) (form_at heap.new) (code_by T.code_of bits k) (DEEPEST + 1) 0 root l) }
+    ensures made { OnOk result (MakesJust heap.old heap.new) }
+    ensures tries { KeepsTries heap.old heap.new }
     ensures refused { OnErr result (Unchanged heap.old heap.new) }
     ensures ample { (E : List (Entry T)) (k : T) → IsTrieOf T.cmp T.code_of bits heap.old root E → key_at (form_at heap.old) entry ≡ Some k →
         HasSpares heap.old 0 (DEEPEST + 2 + alike_to T.code_of bits k E) → IsOk result }
 {
-    let code = masked(Element::code(key_of(heap, entry)), bits);
-    let alike = alike_at(heap, root, code, bits);
-    heap.reserve(0, alike.saturating_add(usize::from(DEEPEST) + 2))?;
-    Ok(with_at(heap, root, 0, entry, code, bits))
+    let found = look_up(heap, root, key_of(heap, entry), bits);
+    heap.reserve(0, found.alike + usize::from(DEEPEST) + 2)?;
+    Ok(added(heap, root, entry, bits))
 }
 
-/// The trie without the entry with this key: None exactly where the key is absent, and then nothing has changed. The given
-/// root stays. It makes at most 7 nodes, and one more for each key with the same masked code. Err where memory runs out:
-/// then nothing has changed.
+/// The trie with the entry added, or in the place of the one with its key, where there are `DEEPEST + 2` spare nodes,
+/// and one more for each key with the same masked code. The entry's hold is spent, and the given root stays.
+pub fn added<T: Element>(heap: &mut Heap<T>, root: Link, entry: Link, bits: u32) -> Link
+    requires bits { bits ≤ CODE_BITS }
+    requires few { hold_count heap.old ≤ 2 ^ 59 }
+    requires graph { IsGraph heap.old }
+    requires held { 0 < holds_at heap.old entry }
+    requires trie { (E : List (Entry T)) × (k : T) × IsTrieOf T.cmp T.code_of bits heap.old root E × (key_at (form_at heap.old) entry ≡ Some k)
+        × (DEEPEST + 2 + alike_to T.code_of bits k E ≤ heap.old.spare_nodes) }
+    ensures builds { (E : List (Entry T)) (k : T) → IsTrieOf T.cmp T.code_of bits heap.old root E → key_at (form_at heap.old) entry ≡ Some k →
+        Builds heap.old heap.new (entry ∷ []) (result ∷ []) 0 (DEEPEST + 2 + alike_to T.code_of bits k E) }
+    ensures entries { (E : List (Entry T)) (k : T) → IsTrieOf T.cmp T.code_of bits heap.old root E → key_at (form_at heap.old) entry ≡ Some k →
+        IsTrieOf T.cmp T.code_of bits heap.new result (put T.cmp E (entry_of k entry)) }
+    ensures shares { (E : List (Entry T)) (k : T) → IsTrieOf T.cmp T.code_of bits heap.old root E → key_at (form_at heap.old) entry ≡ Some k →
+        SharesBeside (form_at heap.old) (form_at heap.new) (code_by T.code_of bits k) (DEEPEST + 1) 0 root result }
+    ensures tries { KeepsTries heap.old heap.new }
+{
+    let code = masked(Element::code(key_of(heap, entry)), bits);
+    with_at(heap, root, 0, entry, code, bits)
+}
+
+/// The trie without the entry with this key: None exactly where the key is absent, and then nothing has changed. The
+/// given root stays. It makes at most `DEEPEST + 1` nodes, and one more for each key with the same masked code. Err
+/// where memory runs out: then nothing but the heap's spares has changed.
 pub fn without<T: Element, P: Probe<T>>(
     heap: &mut Heap<T>,
     root: Link,
@@ -144,17 +209,39 @@ pub fn without<T: Element, P: Probe<T>>(
         IfOk result (λ left. IfSome left (λ l. Answered heap.old heap.new [] l 0 (DEEPEST + 1 + alike_to T.code_of bits (P.stands_for key.now) E))) }
     ensures entries { (E : List (Entry T)) → IsTrieOf T.cmp T.code_of bits heap.old root E →
         IfOk result (λ left. IfSome left (λ l. IsTrieOf T.cmp T.code_of bits heap.new l (others T.cmp (P.stands_for key.now) E))) }
+    ensures shares { (E : List (Entry T)) → IsTrieOf T.cmp T.code_of bits heap.old root E →
+        IfOk result (λ left. IfSome left (λ l. SharesBeside (form_at heap.old) (form_at heap.new) (code_by T.code_of bits (P.stands_for key.now)) (DEEPEST + 1) 0 root l)) }
+    ensures made { OnOk result (MakesJust heap.old heap.new) }
+    ensures tries { KeepsTries heap.old heap.new }
     ensures refused { OnErr result (Unchanged heap.old heap.new) }
     ensures ample { (E : List (Entry T)) → IsTrieOf T.cmp T.code_of bits heap.old root E →
         HasSpares heap.old 0 (DEEPEST + 1 + alike_to T.code_of bits (P.stands_for key.now) E) → IsOk result }
 {
-    if find(heap, root, key, bits).is_none() {
+    let found = look_up(heap, root, key, bits);
+    if found.entry.is_none() {
         return Ok(None);
     }
+    heap.reserve(0, found.alike + usize::from(DEEPEST) + 1)?;
+    Ok(Some(removed(heap, root, key, bits)))
+}
+
+/// The trie without the entry with this key, which is there, where there are `DEEPEST + 1` spare nodes, and one more
+/// for each key with the same masked code. The given root stays.
+pub fn removed<T: Element, P: Probe<T>>(heap: &mut Heap<T>, root: Link, key: &P, bits: u32) -> Link
+    requires bits { bits ≤ CODE_BITS }
+    requires few { hold_count heap.old < 2 ^ 59 }
+    requires graph { IsGraph heap.old }
+    requires trie { (E : List (Entry T)) × IsTrieOf T.cmp T.code_of bits heap.old root E × (link_with T.cmp (P.stands_for key.now) E ≢ None)
+        × (DEEPEST + 1 + alike_to T.code_of bits (P.stands_for key.now) E ≤ heap.old.spare_nodes) }
+    ensures builds { (E : List (Entry T)) → IsTrieOf T.cmp T.code_of bits heap.old root E →
+        Builds heap.old heap.new [] (result ∷ []) 0 (DEEPEST + 1 + alike_to T.code_of bits (P.stands_for key.now) E) }
+    ensures entries { (E : List (Entry T)) → IsTrieOf T.cmp T.code_of bits heap.old root E →
+        IsTrieOf T.cmp T.code_of bits heap.new result (others T.cmp (P.stands_for key.now) E) }
+    ensures shares { (E : List (Entry T)) → IsTrieOf T.cmp T.code_of bits heap.old root E →
+        SharesBeside (form_at heap.old) (form_at heap.new) (code_by T.code_of bits (P.stands_for key.now)) (DEEPEST + 1) 0 root result }
+    ensures tries { KeepsTries heap.old heap.new }
+{
     let code = masked(key.code(), bits);
-    let alike = alike_at(heap, root, code, bits);
-    heap.reserve(0, alike.saturating_add(usize::from(DEEPEST) + 1))?;
-    let position = digit(code, 0);
     let left = left_of(heap, root, 0, key, code, bits);
-    Ok(Some(edited(heap, root, position, left).make(heap, 0)))
+    edited(heap, root, digit(code, 0), left).make(heap, 0)
 }

@@ -3,9 +3,8 @@ ghost use Rattle.std.specs.Prelude.{◌≡◌, ◌≢◌, ◌⊎◌, ℕ, ◌+�
 ghost use Rattle.node_heap.specs.Links.{count};
 ghost use Rattle.node_heap.specs.Forms.{node, trie};
 ghost use Rattle.node_heap.specs.Heap.{row_at, form_at, holds_at, hold_count, IsGraph};
-ghost use Rattle.node_heap.specs.Calls.{SameRows};
+ghost use Rattle.node_heap.specs.Calls.{SameRows, Builds};
 ghost use Rattle.node_heap.specs.declared.row.Head.TheVariants.{Trie};
-ghost use Rattle.champ_chain.specs.Frame.{Grows};
 ghost use Rattle.champ_trie.specs.Trie.{AreSets, IsRow, place_of, links_at_place};
 ghost use Rattle.champ_trie.specs.Edit.{Closes};
 ghost use Rattle.champ_trie.specs.declared.place.Place.TheVariants.{Empty, Entry as At, Node};
@@ -44,6 +43,7 @@ impl TrieRow {
     {
         let (entries, nodes) = sets_of(heap, link);
         let mut links = ArrayVec::new();
+        // A row has at most 32 links, so all of them fit.
         let _ = links.try_extend_from_slice(heap.links(link));
         TrieRow {
             entries,
@@ -106,7 +106,7 @@ impl TrieRow {
         requires held { (k : ℕ) → count k self.now.links.items ≤ holds_at heap.old k }
         requires few { hold_count heap.old < 2 ^ 60 }
         ensures row { IsRow (form_at heap.new) result depth self.now.entries self.now.nodes self.now.links.items }
-        ensures grows { Grows heap.old heap.new self.now.links.items (result ∷ []) 1 }
+        ensures builds { Builds heap.old heap.new self.now.links.items (result ∷ []) 0 1 }
     {
         let head = Head::Trie {
             depth,
@@ -125,7 +125,7 @@ impl TrieRow {
         requires few { hold_count heap.old < 2 ^ 60 }
         requires graph { IsGraph heap.old }
         ensures place { Closes heap.new self.now.entries self.now.nodes self.now.links.items depth result }
-        ensures grows { (n : ℕ) × (n ≤ 1) × Grows heap.old heap.new self.now.links.items (links_at_place result) n }
+        ensures builds { Builds heap.old heap.new self.now.links.items (links_at_place result) 0 1 }
     {
         if self.nodes == 0 && self.links.len() == 1 {
             Place::Entry(self.links[0])
@@ -151,7 +151,8 @@ pub(crate) fn sets_of<T>(heap: &Heap<T>, link: Link) -> (u32, u32)
 pub(crate) fn place_at<T>(heap: &Heap<T>, link: Link, position: u32) -> Place
     requires row { (depth entries nodes : ℕ) × (links : List ℕ) × IsRow (form_at heap.now) link depth entries nodes links }
     requires position { position < 32 }
-    ensures { (depth entries nodes : ℕ) (links : List ℕ) → IsRow (form_at heap.now) link depth entries nodes links →
+    ensures graph { IsGraph heap.now }
+    ensures place { (depth entries nodes : ℕ) (links : List ℕ) → IsRow (form_at heap.now) link depth entries nodes links →
         result ≡ place_of entries nodes links position }
 {
     let (entries, nodes) = sets_of(heap, link);
@@ -164,7 +165,7 @@ fn hold_all<T>(heap: &mut Heap<T>, links: &[Link])
     requires graph { IsGraph heap.old }
     requires few { hold_count heap.old + length links.now ≤ 2 ^ 60 }
     ensures rows { SameRows heap.old heap.new }
-    ensures grows { Grows heap.old heap.new [] links.now 0 }
+    ensures builds { Builds heap.old heap.new [] links.now 0 0 }
 {
     for link in links {
         heap.hold(*link);
@@ -178,7 +179,7 @@ pub(crate) fn edited<T>(heap: &mut Heap<T>, link: Link, position: u32, place: Pl
     requires position { position < 32 }
     requires few { hold_count heap.old < 2 ^ 59 + 2 }
     ensures rows { SameRows heap.old heap.new }
-    ensures grows { Grows heap.old heap.new (links_at_place place) result.links.items 0 }
+    ensures builds { Builds heap.old heap.new (links_at_place place) result.links.items 0 0 }
     ensures sets { AreSets result.entries result.nodes result.links.items }
     ensures here { place_of result.entries result.nodes result.links.items position ≡ place }
     ensures others { (depth entries nodes : ℕ) (links : List ℕ) → IsRow (form_at heap.old) link depth entries nodes links →

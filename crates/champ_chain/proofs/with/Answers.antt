@@ -1,78 +1,34 @@
-use Rattle.std.proofs.Common.{arith, ◌+◌, subst, refl, ◌∷◌, [], Some, length}
-use Rattle.std.specs.Prelude.{option_to_list}
+use Rattle.std.proofs.Common.{arith}
 use Rattle.node_heap.specs.Heap.{form_at}
-use Rattle.node_heap.proofs.Frames.{Extends-trans, Extends-Unchanged}
-use Rattle.champ_chain.specs.Entry.{entry, put}
-use Rattle.champ_chain.specs.Chain.{IsChain}
-use Rattle.champ_chain.proofs.FrameLemmas.{count-one, rows-kept, rows-live, forms-kept, forms-same, reserved-Answered}
-use Rattle.champ_chain.proofs.SetLemmas.{same-length}
-use Rattle.champ_chain.proofs.SpotLemmas.{same-key}
-use Rattle.champ_chain.proofs.CopyLemmas.{held-one, one_at-same}
-use Rattle.champ_chain.proofs.PartsLemmas.{before-le}
-use Rattle.champ_chain.proofs.WithLemmas.{tail-live, held-over, with-grows, with-rows, not-ok}
+use Rattle.node_heap.proofs.BuildLemmas.{Builds-Answered, Builds-MakesJust}
+use Rattle.champ_chain.proofs.FrameLemmas.{key-kept, forms-same, keyed-same, KeepsChains-same}
 use Rattle.champ_chain.proofs.with.Goals as goal
 
-pub spot_of-spot-requires : goal.spot_of-spot-requires
-spot_of-spot-requires g c = (c.requires.chain.1.entries, c.requires.chain.1.rows, c.requires.chain.1.rising)
+pub added-requires-clause-keyed : goal.added-requires-clause-keyed
+added-requires-clause-keyed g c = keyed-same c.args.heap.now c.reserve.new.self c.in_ok-reserve.ensures.rest.rows c.args.entry c.requires.keyed
 
-pub overflow_add-spot : goal.overflow_add-spot
-overflow_add-spot g c =
+pub added-requires-clause-chain : goal.added-requires-clause-chain
+added-requires-clause-chain g c =
+    let E = c.requires.chain.0 in
     let chain = c.requires.chain.1 in
-    let s = c.spot_of-spot.ensures.spot chain.entries chain.rows chain.rising in
-    let le = before-le g.T.Ord.cmp g.met.T.Ord.total (form_at c.args.heap.now) chain.entries c.key_of.result.now c.spot_of-spot.result s in
-    let fits = rows-live c.args.heap.now c.spot_of-spot.ensures.graph chain.entries (Some c.args.chain) chain.rows in
-    omega (arith, le, fits, c.spot_of-spot.ensures.graph.few_rows)
-
-pub hold_tail-requires-clause-live : goal.hold_tail-requires-clause-live
-hold_tail-requires-clause-live g c =
-    let chain = c.requires.chain.1 in
-    let s = c.spot_of-spot.ensures.spot chain.entries chain.rows chain.rising in
-    tail-live c.reserve.new.self c.spot_of-spot.result.rest s.parts.greater
-    (rows-kept (form_at c.args.heap.now) (form_at c.reserve.new.self) (forms-same c.args.heap.now c.reserve.new.self c.in_ok-reserve.ensures.rest.rows) c.spot_of-spot.result.rest s.parts.greater s.rest)
-
-pub row_over-made-requires-clause-held : goal.row_over-made-requires-clause-held
-row_over-made-requires-clause-held g c =
-    held-over c.reserve.new.self c.hold_tail.new.heap c.args.entry (option_to_list c.spot_of-spot.result.rest)
-    (λ k. held-one c.reserve.new.self c.args.entry k (omega (arith, c.requires.held, c.in_ok-reserve.ensures.rest.holds c.args.entry))) c.hold_tail.ensures.grows
-
-pub copied_over-requires-clause-held : goal.copied_over-requires-clause-held
-copied_over-requires-clause-held g c =
-    let made = c.row_over-made.result in
-    let held = held-over c.reserve.new.self c.hold_tail.new.heap c.args.entry (option_to_list c.spot_of-spot.result.rest)
-    (λ k. held-one c.reserve.new.self c.args.entry k (omega (arith, c.requires.held, c.in_ok-reserve.ensures.rest.holds c.args.entry))) c.hold_tail.ensures.grows made in
-    omega (arith, held, c.row_over-made.ensures.grows.holds made, count-one made made, one_at-same made)
-
-pub copied_over-requires-clause-rows : goal.copied_over-requires-clause-rows
-copied_over-requires-clause-rows g c =
-    let chain = c.requires.chain.1 in
-    let s = c.spot_of-spot.ensures.spot chain.entries chain.rows chain.rising in
-    let more = Extends-trans (Extends-Unchanged c.in_ok-reserve.ensures.rest) (Extends-trans c.hold_tail.ensures.grows.extends c.row_over-made.ensures.grows.extends) in (
-      chain.entries,
-      rows-kept (form_at c.args.heap.now) (form_at c.row_over-made.new.heap) (forms-kept c.args.heap.now c.row_over-made.new.heap more) (Some c.args.chain) chain.entries chain.rows,
-      before-le g.T.Ord.cmp g.met.T.Ord.total (form_at c.args.heap.now) chain.entries c.key_of.result.now c.spot_of-spot.result s,
-    )
+    (E, KeepsChains-same c.args.heap.now c.reserve.new.self c.in_ok-reserve.ensures.rest.rows g.T.Ord.cmp c.args.chain E chain, omega (arith, c.length-number.ensures.number E chain, c.in_ok-reserve.ensures.spares.1))
 
 pub returns-clause-answered : goal.returns-clause-answered
 returns-clause-answered g c = λ E chain.
-    let s = c.spot_of-spot.ensures.spot chain.entries chain.rows chain.rising in
-    let le = before-le g.T.Ord.cmp g.met.T.Ord.total (form_at c.args.heap.now) chain.entries c.key_of.result.now c.spot_of-spot.result s in
-    reserved-Answered c.args.heap.now c.reserve.new.self c.copied_over.new.heap (c.args.entry ∷ []) c.copied_over.result (c.spot_of-spot.result.before + 1) (length E + 1) c.in_ok-reserve.ensures.rest
-    (with-grows c.reserve.new.self c.hold_tail.new.heap c.row_over-made.new.heap c.copied_over.new.heap c.args.entry c.row_over-made.result c.copied_over.result c.spot_of-spot.result.before
-    (option_to_list c.spot_of-spot.result.rest) c.hold_tail.ensures.grows c.row_over-made.ensures.grows c.copied_over.ensures.grows)
-    (omega (arith, le, same-length chain.entries E chain.same))
+    Builds-Answered c.in_ok-reserve.ensures.rest (c.added.ensures.builds E (KeepsChains-same c.args.heap.now c.reserve.new.self c.in_ok-reserve.ensures.rest.rows g.T.Ord.cmp c.args.chain E chain))
 
 pub returns-clause-chained : goal.returns-clause-chained
 returns-clause-chained g c = λ E k chain is.
-    let s = c.spot_of-spot.ensures.spot chain.entries chain.rows chain.rising in
-    let le = before-le g.T.Ord.cmp g.met.T.Ord.total (form_at c.args.heap.now) chain.entries c.key_of.result.now c.spot_of-spot.result s in
-    let more = Extends-trans (Extends-Unchanged c.in_ok-reserve.ensures.rest) (Extends-trans c.hold_tail.ensures.grows.extends c.row_over-made.ensures.grows.extends) in
-    let same = same-key (form_at c.args.heap.now) c.args.entry c.args.entry c.key_of.result.now k refl c.key_of.ensures is in
-    subst (λ j. IsChain g.T.Ord.cmp (form_at c.copied_over.new.heap) c.copied_over.result (put g.T.Ord.cmp E (entry j c.args.entry))) same
-    (with-rows g.T.Ord.cmp g.met.T.Ord.total c.args.heap.now c.row_over-made.new.heap c.copied_over.new.heap c.args.chain c.args.entry c.row_over-made.result c.copied_over.result E c.key_of.result.now chain
-    c.spot_of-spot.result s more c.key_of.ensures c.row_over-made.ensures.row c.copied_over.ensures.rows le)
+    let same = c.in_ok-reserve.ensures.rest.rows in
+    c.added.ensures.chained E k (KeepsChains-same c.args.heap.now c.reserve.new.self same g.T.Ord.cmp c.args.chain E chain) (key-kept (form_at c.args.heap.now) (form_at c.reserve.new.self) (forms-same c.args.heap.now c.reserve.new.self same) c.args.entry k is)
 
-pub returns-in_err-reserve-clause-ample : goal.returns-in_err-reserve-clause-ample
-returns-in_err-reserve-clause-ample g c = λ E chain spares.
-    let s = c.spot_of-spot.ensures.spot chain.entries chain.rows chain.rising in
-    let le = before-le g.T.Ord.cmp g.met.T.Ord.total (form_at c.args.heap.now) chain.entries c.key_of.result.now c.spot_of-spot.result s in
-    absurd (not-ok c.reserve.result _ c.in_err-reserve.was (c.reserve.ensures.ample (omega arith) (omega (arith, le, same-length chain.entries E chain.same, spares.1))))
+pub returns-clause-made : goal.returns-clause-made
+returns-clause-made g c =
+    Builds-MakesJust c.in_ok-reserve.ensures.rest
+    (c.added.ensures.builds c.requires.chain.0 (KeepsChains-same c.args.heap.now c.reserve.new.self c.in_ok-reserve.ensures.rest.rows g.T.Ord.cmp c.args.chain c.requires.chain.0 c.requires.chain.1))
+
+pub returns-clause-chains : goal.returns-clause-chains
+returns-clause-chains g c = λ cmp l E is. c.added.ensures.chains cmp l E (KeepsChains-same c.args.heap.now c.reserve.new.self c.in_ok-reserve.ensures.rest.rows cmp l E is)
+
+pub returns-in_err-reserve-clause-chains : goal.returns-in_err-reserve-clause-chains
+returns-in_err-reserve-clause-chains g c = KeepsChains-same c.args.heap.now c.reserve.new.self c.reserve.ensures.rest.rows

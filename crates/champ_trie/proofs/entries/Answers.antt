@@ -1,6 +1,5 @@
 use Rattle.std.proofs.Common.{arith, ◌≡◌, ◌+◌, ◌<◌, ◌^◌, subst, sym, map, List, ℕ, length}
 use Rattle.std.proofs.lemmas.List.{length-map}
-use Rattle.elem_core.specs.Codes.{masked_code}
 use Rattle.elem_core.specs.declared.codes.TheConstants.{DEEPEST}
 use Rattle.node_heap.specs.Forms.{AreTrees, trees_of}
 use Rattle.node_heap.specs.Heap.{Heap, form_at, live_count, IsGraph}
@@ -13,6 +12,7 @@ use Rattle.champ_trie.specs.Trie.{IsCanon}
 use Rattle.champ_trie.specs.Walk.{depth_of, walk, tree_entries}
 use Rattle.champ_trie.proofs.WalkLemmas.{trie-layer, trie-walk, canon-fit}
 use Rattle.champ_trie.proofs.TreeLemmas.{walk-trees}
+use Rattle.champ_trie.specs.Trie.{code_by}
 use Rattle.champ_trie.proofs.entries.Goals as goal
 
 -- the walk has the links of the entries
@@ -28,20 +28,20 @@ are-few cmp code o h graph root ls is E canon =
 pub over-requires : goal.over-requires
 over-requires g c =
     let trie = c.requires.trie in
-    let layer = trie-layer g.T.Ord.cmp (λ k. masked_code (g.T.Element.code_of k) trie.0) (form_at c.args.heap.now) (DEEPEST + 1) 0 c.args.root trie.1 trie.2.trie in
+    let layer = trie-layer g.T.Ord.cmp (code_by g.T.Element.code_of trie.0) (form_at c.args.heap.now) (DEEPEST + 1) 0 c.args.root trie.1 trie.2.trie in
     record { row = layer.0; below = layer.1 }
 
 pub returns-clause-links : goal.returns-clause-links
-returns-clause-links g c = λ bits E canon. has-links g.T.Ord.cmp (λ k. masked_code (g.T.Element.code_of k) bits) g.met.T.Ord.total c.args.heap.now c.args.root c.over.result c.over.ensures.walk E canon
+returns-clause-links g c = λ bits E canon. has-links g.T.Ord.cmp (code_by g.T.Element.code_of bits) g.met.T.Ord.total c.args.heap.now c.args.root c.over.result c.over.ensures.walk E canon
 
 pub returns-clause-few : goal.returns-clause-few
 returns-clause-few g c =
     let trie = c.requires.trie in
-    are-few g.T.Ord.cmp (λ k. masked_code (g.T.Element.code_of k) trie.0) g.met.T.Ord.total c.args.heap.now c.over.ensures.graph c.args.root c.over.result c.over.ensures.walk trie.1 trie.2
+    are-few g.T.Ord.cmp (code_by g.T.Element.code_of trie.0) g.met.T.Ord.total c.args.heap.now c.over.ensures.graph c.args.root c.over.result c.over.ensures.walk trie.1 trie.2
 
 pub returns-clause-trees : goal.returns-clause-trees
 returns-clause-trees g c = λ t is.
     let h = c.args.heap.now in
-    let layer = trie-layer g.T.Ord.cmp (λ k. masked_code (g.T.Element.code_of k) c.requires.trie.0) (form_at h) (DEEPEST + 1) 0 c.args.root c.requires.trie.1 c.requires.trie.2.trie in
+    let layer = trie-layer g.T.Ord.cmp (code_by g.T.Element.code_of c.requires.trie.0) (form_at h) (DEEPEST + 1) 0 c.args.root c.requires.trie.1 c.requires.trie.2.trie in
     subst (λ ls. AreTrees (form_at h) ls (trees_of (tree_entries t))) (sym c.over.ensures.walk)
     (walk-trees (form_at h) (live_count h) (λ next es rows. rows-live h c.over.ensures.graph es next rows) (DEEPEST + 1) c.args.root t layer.1 (depth_of h) (omega arith) is)

@@ -1,63 +1,58 @@
-use Rattle.std.proofs.Common.{arith, ◌≡◌, ◌+◌, ◌∷◌, [], ◌∙◌, ap, subst, refl}
-use Rattle.elem_core.specs.Codes.{masked_code}
+use Rattle.std.proofs.Common.{arith, ap, refl, sym, ◌+◌}
 use Rattle.node_heap.specs.Heap.{form_at}
-use Rattle.node_heap.specs.Calls.{Answered}
-use Rattle.champ_chain.specs.Entry.{entry}
+use Rattle.node_heap.proofs.BuildLemmas.{Builds-Answered, Builds-MakesJust}
 use Rattle.champ_chain.proofs.FrameLemmas.{forms-same, key-kept}
 use Rattle.champ_chain.proofs.SpotLemmas.{same-key}
 use Rattle.champ_chain.proofs.WithLemmas.{not-ok}
-use Rattle.champ_trie.specs.Reach.{alike_in}
-use Rattle.champ_trie.proofs.GrowthLemmas.{Answered-up_to}
-use Rattle.champ_trie.proofs.LeftLemmas.{canon-below, canon-kept}
-use Rattle.champ_trie.proofs.WithLemmas.{put-distinct}
+use Rattle.champ_trie.specs.Trie.{code_by}
+use Rattle.champ_trie.specs.Reach.{alike_to}
+use Rattle.elem_core.specs.declared.codes.TheConstants.{DEEPEST}
+use Rattle.champ_trie.proofs.ShareLemmas.{shares-kept}
+use Rattle.champ_trie.proofs.LeftLemmas.{KeepsTries-same}
 use Rattle.champ_trie.proofs.with.Goals as goal
 
 pub returns-in_err-reserve-clause-ample : goal.returns-in_err-reserve-clause-ample
 returns-in_err-reserve-clause-ample g c = λ E k canon keyed spares.
-    let code = λ (k : g.row.T.Denot). masked_code (g.T.Element.code_of k) c.args.bits in
     let key = same-key (form_at c.args.heap.now) c.args.entry c.args.entry c.key_of.result.now k refl c.key_of.ensures keyed in
-    let is_code = c.masked-code.ensures.kept ∙ ap (λ n. masked_code n c.args.bits) (c.code.ensures ∙ ap g.T.Element.code_of key) in
-    let alike : c.alike_at-alike.result ≡ alike_in code (masked_code (g.T.Element.code_of k) c.args.bits) E = c.alike_at-alike.ensures E canon ∙ ap (λ n. alike_in code n E) is_code in
-    absurd (not-ok c.reserve.result _ c.in_err-reserve.was (c.reserve.ensures.ample (omega arith) (omega (arith, c.saturating_add.ensures, c.from.ensures, alike, spares.1))))
+    let alike = ap (λ j. alike_to g.T.Element.code_of c.args.bits j E) key in
+    absurd (not-ok c.reserve.result _ c.in_err-reserve.was (c.reserve.ensures.ample (omega arith) (omega (arith, c.from.ensures, c.look_up-found.ensures.alike E canon, alike, spares.1))))
 
-pub with_at-requires-clause-key : goal.with_at-requires-clause-key
-with_at-requires-clause-key g c =
-    let keeps = forms-same c.args.heap.now c.reserve.new.self c.in_ok-reserve.ensures.rest.rows in
-    let keyed = key-kept (form_at c.args.heap.now) (form_at c.reserve.new.self) keeps c.args.entry c.key_of.result.now c.key_of.ensures in
-    (c.key_of.result.now, keyed, c.masked-code.ensures.kept ∙ ap (λ n. masked_code n c.args.bits) c.code.ensures)
+pub returns-in_err-reserve-clause-tries : goal.returns-in_err-reserve-clause-tries
+returns-in_err-reserve-clause-tries g c = KeepsTries-same c.args.heap.now c.reserve.new.self c.reserve.ensures.rest.rows
 
-pub with_at-requires-clause-trie : goal.with_at-requires-clause-trie
-with_at-requires-clause-trie g c =
-    let code = λ (k : g.row.T.Denot). masked_code (g.T.Element.code_of k) c.args.bits in
-    let F = form_at c.args.heap.now in
-    let G = form_at c.reserve.new.self in
+pub added-requires-clause-trie : goal.added-requires-clause-trie
+added-requires-clause-trie g c =
     let E = c.requires.trie.0 in
     let canon = c.requires.trie.1 in
-    let keeps = forms-same c.args.heap.now c.reserve.new.self c.in_ok-reserve.ensures.rest.rows in
-    let below = canon-below g.T.Ord.cmp code G c.args.root c.masked-code.result E (canon-kept g.T.Ord.cmp code F G keeps c.args.root E canon) in
-    let alike : c.alike_at-alike.result ≡ alike_in code c.masked-code.result E = c.alike_at-alike.ensures E canon in
-    (E, 7, below, omega (arith, c.saturating_add.ensures, c.from.ensures, alike, c.in_ok-reserve.ensures.rest.graph.few_rows, c.in_ok-reserve.ensures.spares.1))
+    let same = c.in_ok-reserve.ensures.rest.rows in
+    let keyed = key-kept (form_at c.args.heap.now) (form_at c.reserve.new.self) (forms-same c.args.heap.now c.reserve.new.self same) c.args.entry c.key_of.result.now c.key_of.ensures in
+    (E, c.key_of.result.now, (KeepsTries-same c.args.heap.now c.reserve.new.self c.in_ok-reserve.ensures.rest.rows g.T.Ord.cmp (code_by g.T.Element.code_of c.args.bits) c.args.root E canon), keyed, omega (arith, c.from.ensures, c.look_up-found.ensures.alike E canon, c.in_ok-reserve.ensures.spares.1))
 
 pub returns-clause-answered : goal.returns-clause-answered
 returns-clause-answered g c = λ E k canon keyed.
-    let code = λ (k : g.row.T.Denot). masked_code (g.T.Element.code_of k) c.args.bits in
-    let F = form_at c.args.heap.now in
-    let G = form_at c.reserve.new.self in
-    let key = same-key F c.args.entry c.args.entry c.key_of.result.now k refl c.key_of.ensures keyed in
-    let is_code = c.masked-code.ensures.kept ∙ ap (λ n. masked_code n c.args.bits) (c.code.ensures ∙ ap g.T.Element.code_of key) in
-    let keeps = forms-same c.args.heap.now c.reserve.new.self c.in_ok-reserve.ensures.rest.rows in
-    let below = canon-below g.T.Ord.cmp code G c.args.root c.masked-code.result E (canon-kept g.T.Ord.cmp code F G keeps c.args.root E canon) in
-    subst (λ n. Answered c.args.heap.now c.with_at.new.heap (c.args.entry ∷ []) c.with_at.result 0 (8 + alike_in code n E)) is_code
-    (Answered-up_to c.args.heap.now c.reserve.new.self c.with_at.new.heap (c.args.entry ∷ []) c.with_at.result (8 + alike_in code c.masked-code.result E) c.in_ok-reserve.ensures.rest (c.with_at.ensures.grows E 7 below))
+    let same = c.in_ok-reserve.ensures.rest.rows in
+    Builds-Answered c.in_ok-reserve.ensures.rest
+    (c.added.ensures.builds E k (KeepsTries-same c.args.heap.now c.reserve.new.self c.in_ok-reserve.ensures.rest.rows g.T.Ord.cmp (code_by g.T.Element.code_of c.args.bits) c.args.root E canon) (key-kept (form_at c.args.heap.now) (form_at c.reserve.new.self) (forms-same c.args.heap.now c.reserve.new.self same) c.args.entry k keyed))
 
 pub returns-clause-entries : goal.returns-clause-entries
 returns-clause-entries g c = λ E k canon keyed.
-    let code = λ (k : g.row.T.Denot). masked_code (g.T.Element.code_of k) c.args.bits in
-    let F = form_at c.args.heap.now in
-    let G = form_at c.reserve.new.self in
-    let keeps = forms-same c.args.heap.now c.reserve.new.self c.in_ok-reserve.ensures.rest.rows in
-    let below = canon-below g.T.Ord.cmp code G c.args.root c.masked-code.result E (canon-kept g.T.Ord.cmp code F G keeps c.args.root E canon) in
-    record {
-      trie = c.with_at.ensures.trie E 7 k below (key-kept F G keeps c.args.entry k keyed);
-      distinct = put-distinct g.T.Ord.cmp code g.met.T.Ord.total E (entry k c.args.entry) canon.distinct;
-    }
+    let same = c.in_ok-reserve.ensures.rest.rows in
+    c.added.ensures.entries E k (KeepsTries-same c.args.heap.now c.reserve.new.self c.in_ok-reserve.ensures.rest.rows g.T.Ord.cmp (code_by g.T.Element.code_of c.args.bits) c.args.root E canon) (key-kept (form_at c.args.heap.now) (form_at c.reserve.new.self) (forms-same c.args.heap.now c.reserve.new.self same) c.args.entry k keyed)
+
+pub returns-clause-made : goal.returns-clause-made
+returns-clause-made g c =
+    let E = c.requires.trie.0 in
+    let canon = c.requires.trie.1 in
+    let same = c.in_ok-reserve.ensures.rest.rows in
+    Builds-MakesJust c.in_ok-reserve.ensures.rest
+    (c.added.ensures.builds E c.key_of.result.now (KeepsTries-same c.args.heap.now c.reserve.new.self c.in_ok-reserve.ensures.rest.rows g.T.Ord.cmp (code_by g.T.Element.code_of c.args.bits) c.args.root E canon) (key-kept (form_at c.args.heap.now) (form_at c.reserve.new.self) (forms-same c.args.heap.now c.reserve.new.self same) c.args.entry c.key_of.result.now c.key_of.ensures))
+
+pub returns-clause-tries : goal.returns-clause-tries
+returns-clause-tries g c = λ cmp code root E is. c.added.ensures.tries cmp code root E (KeepsTries-same c.args.heap.now c.reserve.new.self c.in_ok-reserve.ensures.rest.rows cmp code root E is)
+
+pub returns-clause-shares : goal.returns-clause-shares
+returns-clause-shares g c = λ E k canon keyed.
+    let same = c.in_ok-reserve.ensures.rest.rows in
+    let back = forms-same c.reserve.new.self c.args.heap.now (λ j. sym (same j)) in
+    shares-kept (form_at c.reserve.new.self) (form_at c.args.heap.now) (form_at c.added.new.heap) (form_at c.added.new.heap) back (record { kept = λ l f is. is }) (code_by g.T.Element.code_of c.args.bits k) (DEEPEST + 1) 0 c.args.root c.added.result
+    (c.added.ensures.shares E k (KeepsTries-same c.args.heap.now c.reserve.new.self c.in_ok-reserve.ensures.rest.rows g.T.Ord.cmp (code_by g.T.Element.code_of c.args.bits) c.args.root E canon) (key-kept (form_at c.args.heap.now) (form_at c.reserve.new.self) (forms-same c.args.heap.now c.reserve.new.self same) c.args.entry k keyed))

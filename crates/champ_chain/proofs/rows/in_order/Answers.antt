@@ -1,6 +1,6 @@
 use Rattle.std.proofs.Common.{arith, ◌∷◌, [], refl}
-use Rattle.champ_chain.proofs.FrameLemmas.{grows-both, count-cons}
 use Rattle.champ_chain.proofs.CopyLemmas.{two-rows}
+use Rattle.node_heap.proofs.BuildLemmas.{Builds-both, count-cons}
 use Rattle.champ_chain.proofs.rows.in_order.Goals as goal
 
 pub row_over-last-requires-clause-held : goal.row_over-last-requires-clause-held
@@ -8,15 +8,14 @@ row_over-last-requires-clause-held g c = λ l. omega (arith, c.requires.held l, 
 
 pub row_over-requires-clause-held : goal.row_over-requires-clause-held
 row_over-requires-clause-held g c = λ l.
-    omega (arith, c.requires.held l, c.row_over-last.ensures.grows.holds l, count-cons l c.args.first (c.args.second ∷ []), count-cons l c.args.first (c.row_over-last.result ∷ []))
+    omega (arith, c.requires.held l, c.row_over-last.ensures.builds.holds l, count-cons l c.args.first (c.args.second ∷ []), count-cons l c.args.first (c.row_over-last.result ∷ []))
 
-pub returns-clause-grows : goal.returns-clause-grows
-returns-clause-grows g c =
-    grows-both c.args.heap.now c.row_over-last.new.heap c.row_over.new.heap (c.args.first ∷ c.args.second ∷ []) (c.row_over.result ∷ []) (c.args.second ∷ []) (c.row_over-last.result ∷ [])
-    (c.args.first ∷ c.row_over-last.result ∷ []) (c.row_over.result ∷ []) 1 1 c.row_over-last.ensures.grows c.row_over.ensures.grows
+pub returns-clause-builds : goal.returns-clause-builds
+returns-clause-builds g c =
+    Builds-both (c.args.first ∷ c.args.second ∷ []) (c.row_over.result ∷ []) c.row_over-last.ensures.builds c.row_over.ensures.builds
     (λ k. omega (arith, count-cons k c.args.first (c.args.second ∷ []), count-cons k c.args.first (c.row_over-last.result ∷ []))) refl
 
 pub returns-clause-rows : goal.returns-clause-rows
 returns-clause-rows g c = λ j k first second.
     two-rows c.args.heap.now c.row_over-last.new.heap c.row_over.new.heap c.args.first c.args.second c.row_over-last.result c.row_over.result j k
-    c.row_over-last.ensures.grows.extends c.row_over.ensures.grows.extends first second c.row_over-last.ensures.row c.row_over.ensures.row
+    c.row_over-last.ensures.builds.extends c.row_over.ensures.builds.extends first second c.row_over-last.ensures.row c.row_over.ensures.row

@@ -1,10 +1,10 @@
-use Rattle.std.proofs.Common.{arith, ◌≡◌, ◌+◌, ◌≤◌, subst, ap, ◌∷◌, [], ◌++◌, take, length, Some, length-append}
+use Rattle.std.proofs.Common.{arith, ◌≤◌, ap, ◌++◌, take, length, Some, length-append}
 use Rattle.std.proofs.lemmas.List.{length-take}
 use Rattle.node_heap.specs.Heap.{form_at}
-use Rattle.champ_chain.specs.Frame.{Grows}
-use Rattle.champ_chain.proofs.FrameLemmas.{Grows-hold, grows-through, rows-kept, forms-kept}
+use Rattle.champ_chain.proofs.FrameLemmas.{rows-kept, forms-kept}
 use Rattle.champ_chain.proofs.SpotLemmas.{first-row}
 use Rattle.champ_chain.proofs.CopyLemmas.{chain-live, entry-or-rows}
+use Rattle.node_heap.proofs.BuildLemmas.{Builds-hold, Builds-more, Builds-then}
 use Rattle.champ_chain.proofs.rows.over_tail.Goals as goal
 
 pub hold-requires-clause-live : goal.hold-requires-clause-live
@@ -12,15 +12,10 @@ hold-requires-clause-live g c =
     let at = first-row (form_at c.args.heap.now) c.args.tail c.requires.tail.0 c.requires.tail.1 in
     chain-live c.args.heap.now c.args.tail at.first.link at.next at.row
 
-pub returns-clause-grows : goal.returns-clause-grows
-returns-clause-grows g c =
-    let held = Grows-hold c.args.heap.now c.hold.new.self c.args.tail c.hold.ensures.holds c.hold.ensures.makes c.hold.ensures.count c.hold.ensures.graph c.hold.ensures.extends in
-    let same : 0 + c.args.number ≡ c.args.number = omega arith in (
-      c.args.number,
-      omega arith,
-      subst (Grows c.args.heap.now c.copied.new.heap [] (c.copied.result ∷ [])) same
-          (grows-through c.args.heap.now c.hold.new.self c.copied.new.heap [] (c.args.tail ∷ []) (c.copied.result ∷ []) 0 c.args.number held c.copied.ensures.grows),
-    )
+pub returns-clause-builds : goal.returns-clause-builds
+returns-clause-builds g c =
+    let held = Builds-hold c.hold.ensures.holds c.hold.ensures.makes c.hold.ensures.count c.hold.ensures.graph c.hold.ensures.extends in
+    Builds-more 0 c.args.number (Builds-then held c.copied.ensures.builds) (omega arith) (omega arith)
 
 pub returns-clause-rows : goal.returns-clause-rows
 returns-clause-rows g c = λ es ts rows fits rest.

@@ -1,6 +1,6 @@
 use Rattle.std.proofs.Common.{arith, ◌≡◌, ◌∙◌, subst, drop, Some}
 use Rattle.node_heap.specs.Heap.{form_at}
-use Rattle.champ_chain.specs.Chain.{AreRows}
+use Rattle.champ_chain.specs.Chain.{AreChainRows}
 use Rattle.champ_chain.proofs.SpotLemmas.{first-row, row-next}
 use Rattle.champ_chain.proofs.CopyLemmas.{rows-after, rows-last}
 use Rattle.champ_chain.proofs.rows.row_after.Goals as goal
@@ -30,4 +30,4 @@ loop-passed-preserved g c = λ es rows less.
 pub returns : goal.returns
 returns g c = λ es rows less.
     let all : c.loop-passed._passed ≡ c.args.number = omega arith in
-    subst (λ n. AreRows (form_at c.args.heap.now) (Some c.loop-passed.row) (drop n es)) all (c.loop-passed.invariant es rows less)
+    subst (λ n. AreChainRows (form_at c.args.heap.now) (Some c.loop-passed.row) (drop n es)) all (c.loop-passed.invariant es rows less)

@@ -1,9 +1,10 @@
 use Rattle.std.proofs.Common.{subst}
 use Rattle.node_heap.specs.Heap.{form_at}
 use Rattle.champ_chain.specs.Chain.{IsEntryOrRows}
-use Rattle.champ_chain.proofs.FrameLemmas.{Grows-hold, rows-kept, forms-kept}
+use Rattle.champ_chain.proofs.FrameLemmas.{rows-kept, forms-kept}
 use Rattle.champ_chain.proofs.SpotLemmas.{first-row}
 use Rattle.champ_chain.proofs.CopyLemmas.{read-live, lone-entry, lone-row, more-rows, entry-or-rows, chain-live}
+use Rattle.node_heap.proofs.BuildLemmas.{Builds-hold}
 use Rattle.champ_chain.proofs.rows.shared_tail.Goals as goal
 
 pub row_of-row-requires : goal.row_of-row-requires
@@ -17,11 +18,11 @@ hold-requires-clause-live g c = read-live c.args.heap.now c.args.tail c.row_of-r
 pub hold-requires-in-Some-clause-live : goal.hold-requires-in-Some-clause-live
 hold-requires-in-Some-clause-live g c = chain-live c.args.heap.now c.args.tail c.row_of-row.result.entry c.row_of-row.result.next c.row_of-row.ensures
 
-pub returns-in-None-clause-grows : goal.returns-in-None-clause-grows
-returns-in-None-clause-grows g c = Grows-hold c.args.heap.now c.hold.new.self c.row_of-row.result.entry c.hold.ensures.holds c.hold.ensures.makes c.hold.ensures.count c.hold.ensures.graph c.hold.ensures.extends
+pub returns-in-None-clause-builds : goal.returns-in-None-clause-builds
+returns-in-None-clause-builds g c = Builds-hold c.hold.ensures.holds c.hold.ensures.makes c.hold.ensures.count c.hold.ensures.graph c.hold.ensures.extends
 
-pub returns-in-Some-clause-grows : goal.returns-in-Some-clause-grows
-returns-in-Some-clause-grows g c = Grows-hold c.args.heap.now c.hold-in-Some.new.self c.args.tail c.hold-in-Some.ensures.holds c.hold-in-Some.ensures.makes c.hold-in-Some.ensures.count c.hold-in-Some.ensures.graph c.hold-in-Some.ensures.extends
+pub returns-in-Some-clause-builds : goal.returns-in-Some-clause-builds
+returns-in-Some-clause-builds g c = Builds-hold c.hold-in-Some.ensures.holds c.hold-in-Some.ensures.makes c.hold-in-Some.ensures.count c.hold-in-Some.ensures.graph c.hold-in-Some.ensures.extends
 
 pub returns-in-None-clause-rows : goal.returns-in-None-clause-rows
 returns-in-None-clause-rows g c = λ ts rows.

@@ -1,261 +1,205 @@
-use Rattle.std.proofs.Common.{arith, ◌≡◌, ◌≢◌, suc, ◌+◌, ◌<◌, ◌≤◌, ◌^◌, ◌∙◌, sym, ap, subst, length, None, [], inl, inr}
+use Rattle.std.proofs.Common.{arith, ◌≡◌, ◌≢◌, ℕ, suc, ◌+◌, ◌<◌, ◌^◌, ◌∙◌, sym, ap, subst, List, length, None, [], inl, inr}
 use Rattle.std.specs.declared.cmp.Ordering.TheVariants.{Equal}
 use Rattle.elem_core.specs.Codes.{digit_at, masked_code}
-use Rattle.elem_core.specs.declared.codes.TheConstants.{DEEPEST}
-use Rattle.node_heap.specs.Heap.{form_at}
+use Rattle.elem_core.specs.declared.codes.TheConstants.{CODE_BITS, DEEPEST}
+use Rattle.elem_core.proofs.CodeLemmas.{masked-small}
+use Rattle.node_heap.specs.Heap.{Heap, form_at}
+use Rattle.node_heap.specs.Calls.{Builds}
 use Rattle.node_heap.proofs.Frames.{Extends-trans}
-use Rattle.champ_chain.specs.Entry.{link_with, others}
+use Rattle.node_heap.proofs.BuildLemmas.{Builds-refl, Builds-more, Builds-spare_nodes}
+use Rattle.champ_chain.specs.Entry.{Entry, link_with, others}
 use Rattle.champ_chain.specs.Chain.{IsChain}
 use Rattle.champ_chain.proofs.FrameLemmas.{forms-kept}
-use Rattle.champ_trie.specs.Trie.{IsTrie, IsPlace, part, place_of, links_at_place}
+use Rattle.champ_trie.specs.Trie.{IsTrie, IsPlace, part, place_of, links_at_place, code_by}
 use Rattle.champ_trie.specs.Reach.{alike_in}
-use Rattle.champ_trie.specs.Growth.{GrowsUpTo}
-use Rattle.champ_trie.proofs.GrowthLemmas.{up_to-spares, up_to-refl}
+use Rattle.champ_trie.specs.Edit.{IsBelow, SharesBeside}
+use Rattle.champ_trie.specs.declared.place.Place.{Place}
 use Rattle.champ_trie.proofs.PlaceLemmas.{sets-short}
-use Rattle.champ_trie.proofs.PartLemmas.{part-alike, part-link, part-others, trie-kept, place-kept}
-use Rattle.champ_trie.proofs.ReachLemmas.{trie-row, masked-small}
-use Rattle.champ_trie.proofs.LeftLemmas.{node-deeper, node-chain, none-left, deepest-alike, left-places, left-stands, left-grows, chain-place, place-links}
+use Rattle.champ_trie.proofs.PartLemmas.{part-alike, part-link, part-others, row-kept, trie-kept, place-kept}
+use Rattle.champ_trie.proofs.ShareLemmas.{shares-kept, shares-none, shares-row, row-at, closes-row, same-node}
+use Rattle.champ_trie.proofs.ReachLemmas.{trie-row}
+use Rattle.champ_trie.proofs.LeftLemmas.{IsDeeper, node-deeper, node-chain, none-left, deepest-alike, left-places, left-stands, left-builds, chain-place, place-links}
+use Rattle.champ_trie.proofs.edit.+left_of.Given as given
 use Rattle.champ_trie.proofs.edit.+left_of.Goals as goal
+use Rattle.champ_trie.proofs.edit.+left_of.Goals.{In-Node}
+
+-- the key is among the entries with its digit
+linked : (g : given.Over) (t : ℕ) (c : In-Node g t) → link_with g.T.Ord.cmp (g.P.Probe.stands_for c.args.key.now) (part g.T.Ord.cmp (code_by g.T.Element.code_of c.args.bits) c.args.depth (digit_at c.args.code c.args.depth) c.requires.trie.0) ≢ None
+linked g t c none =
+    let cmp = g.T.Ord.cmp in
+    let key = g.P.Probe.stands_for c.args.key.now in
+    let equal_codes = λ (j k : g.row.T.Denot) (e : cmp j k ≡ Equal). ap (λ n. masked_code n c.args.bits) (g.met.T.Element.equal_codes j k e) in
+    c.requires.trie.3 (sym (part-link cmp (code_by g.T.Element.code_of c.args.bits) equal_codes c.args.depth key c.requires.trie.0) ∙ ap (λ n. link_with cmp key (part cmp (code_by g.T.Element.code_of c.args.bits) c.args.depth (digit_at n c.args.depth) c.requires.trie.0)) (sym c.requires.code) ∙ none)
+
+-- the node at the digit's place, above the deepest row
+deeper : (g : given.Over) (t : ℕ) (c : In-Node g t) → c.args.depth < DEEPEST → (E : List (Entry g.row.T.Denot)) (left : ℕ)
+    → IsBelow g.T.Ord.cmp (code_by g.T.Element.code_of c.args.bits) (form_at c.args.heap.now) c.args.depth c.args.link E (suc left) c.args.code
+    → IsDeeper g.T.Ord.cmp (code_by g.T.Element.code_of c.args.bits) (form_at c.args.heap.now) c.args.depth c.in-Node.child c.args.code left (part g.T.Ord.cmp (code_by g.T.Element.code_of c.args.bits) c.args.depth (digit_at c.args.code c.args.depth) E)
+deeper g t c less E left below =
+    node-deeper g.T.Ord.cmp (code_by g.T.Element.code_of c.args.bits) (form_at c.args.heap.now) left c.args.depth c.args.link c.args.code E below (omega arith) c.in-Node.child (λ depth e n ls row. c.in-Node.ensures.place depth e n ls row ∙ ap (place_of e n ls) c.digit.ensures.read) less
+
+-- at the deepest row it is the chain of the entries with the code
+chain : (g : given.Over) (t : ℕ) (c : In-Node g t) → c.args.depth ≡ DEEPEST → (E : List (Entry g.row.T.Denot)) (left : ℕ)
+    → IsBelow g.T.Ord.cmp (code_by g.T.Element.code_of c.args.bits) (form_at c.args.heap.now) c.args.depth c.args.link E (suc left) c.args.code
+    → (left ≡ 0) × IsChain g.T.Ord.cmp (form_at c.args.heap.now) c.in-Node.child (part g.T.Ord.cmp (code_by g.T.Element.code_of c.args.bits) c.args.depth (digit_at c.args.code c.args.depth) E)
+    × (length (part g.T.Ord.cmp (code_by g.T.Element.code_of c.args.bits) c.args.depth (digit_at c.args.code c.args.depth) E) ≡ left + alike_in (code_by g.T.Element.code_of c.args.bits) c.args.code E)
+chain g t c deep E left below =
+    let low : c.args.code < 2 ^ CODE_BITS = omega arith in
+    let d = node-chain g.T.Ord.cmp (code_by g.T.Element.code_of c.args.bits) (form_at c.args.heap.now) left c.args.depth c.args.link c.args.code E below (omega arith) c.in-Node.child (λ depth e n ls row. c.in-Node.ensures.place depth e n ls row ∙ ap (place_of e n ls) c.digit.ensures.read) (omega (arith, deep)) in
+    (d.0, d.1, omega (arith, d.0, deepest-alike g.T.Ord.cmp (code_by g.T.Element.code_of c.args.bits) c.args.depth c.args.code E deep low (λ k. masked-small (g.T.Element.code_of k) c.args.bits c.requires.bits) below.agrees))
+
+-- what taking the key out of it did
+went : (g : given.Over) (t : ℕ) (c : In-Node g t) → c.args.depth < DEEPEST → (new : Heap g.row.T.Denot) (place : Place)
+    → ((E : List (Entry g.row.T.Denot)) (left : ℕ) → IsBelow g.T.Ord.cmp (code_by g.T.Element.code_of c.args.bits) (form_at c.args.heap.now) (c.args.depth + 1) c.in-Node.child E (suc left) c.args.code
+    → Builds c.args.heap.now new [] (links_at_place place) 0 (left + alike_in (code_by g.T.Element.code_of c.args.bits) c.args.code E))
+    → (E : List (Entry g.row.T.Denot)) (left : ℕ) → IsBelow g.T.Ord.cmp (code_by g.T.Element.code_of c.args.bits) (form_at c.args.heap.now) c.args.depth c.args.link E (suc left) c.args.code
+    → (m : ℕ) × (left ≡ suc m) × Builds c.args.heap.now new [] (links_at_place place) 0 (m + alike_in (code_by g.T.Element.code_of c.args.bits) c.args.code E)
+went g t c less new place builds E left below =
+    let d = deeper g t c less E left below in
+    let P = part g.T.Ord.cmp (code_by g.T.Element.code_of c.args.bits) c.args.depth (digit_at c.args.code c.args.depth) E in
+    (d.m, d.is, Builds-more 0 (d.m + alike_in (code_by g.T.Element.code_of c.args.bits) c.args.code E) (builds P d.m d.below) (omega arith) (omega (arith, part-alike g.T.Ord.cmp (code_by g.T.Element.code_of c.args.bits) c.args.depth c.args.code E)))
 
 pub place_at-requires-clause-row : goal.place_at-requires-clause-row
-place_at-requires-clause-row g t c =
-    let cmp = g.T.Ord.cmp in
-    let code = λ (k : g.row.T.Denot). masked_code (g.T.Element.code_of k) c.args.bits in
-    let E = c.requires.trie.0 in
-    let left = c.requires.trie.1 in
-    let below = c.requires.trie.2 in
-    trie-row cmp code (form_at c.args.heap.now) left c.args.depth c.args.link E below.trie
+place_at-requires-clause-row g t c = trie-row g.T.Ord.cmp (code_by g.T.Element.code_of c.args.bits) (form_at c.args.heap.now) c.requires.trie.1 c.args.depth c.args.link c.requires.trie.0 c.requires.trie.2.trie
 
 pub left_of-left-requires : goal.left_of-left-requires
 left_of-left-requires g t c κs within =
-    let cmp = g.T.Ord.cmp in
-    let code = λ (k : g.row.T.Denot). masked_code (g.T.Element.code_of k) c.args.bits in
-    let E = c.requires.trie.0 in
-    let left = c.requires.trie.1 in
-    let below = c.requires.trie.2 in
-    let digit = c.digit.ensures.read in
-    let low : digit_at c.args.code c.args.depth < 32 = subst (λ p. p < 32) digit c.digit.ensures.small in
     let less : c.args.depth < DEEPEST = omega (arith, c.if-depth-eq-DEEPEST.false, c.requires.depth) in
-    let d = node-deeper cmp code (form_at c.args.heap.now) left c.args.depth c.args.link c.args.code E below low c.in-Node.child (λ depth e n ls row. c.in-Node.ensures depth e n ls row ∙ ap (place_of e n ls) digit) less in
-    let P = part cmp code c.args.depth (digit_at c.args.code c.args.depth) E in
-    let alike : alike_in code c.args.code P ≡ alike_in code c.args.code E = part-alike cmp code c.args.depth c.args.code E in
-    let equal_codes = λ (j k : g.row.T.Denot) (e : cmp j k ≡ Equal). ap (λ n. masked_code n c.args.bits) (g.met.T.Element.equal_codes j k e) in
-    let linked : link_with cmp (g.P.Probe.stands_for c.args.key.now) P ≢ None = λ none. c.requires.trie.3 (sym (part-link cmp code equal_codes c.args.depth (g.P.Probe.stands_for c.args.key.now) E) ∙ ap (λ n. link_with cmp (g.P.Probe.stands_for c.args.key.now) (part cmp code c.args.depth (digit_at n c.args.depth) E)) (sym c.requires.code) ∙ none) in (
+    let at = (goal.at.left_of-left-requires g t c).In-Node in
+    let d = deeper g t at less c.requires.trie.0 c.requires.trie.1 c.requires.trie.2 in
+    let P = part g.T.Ord.cmp (code_by g.T.Element.code_of c.args.bits) c.args.depth (digit_at c.args.code c.args.depth) c.requires.trie.0 in
+    let alike = part-alike g.T.Ord.cmp (code_by g.T.Element.code_of c.args.bits) c.args.depth c.args.code c.requires.trie.0 in (
       omega (arith, c.decreases, less),
-      (within.0, (within.1, (c.requires.bits, (omega (arith, less), (c.requires.few, (c.requires.graph, (c.requires.code, (P, d.m, d.below, linked, omega (arith, c.requires.trie.4, d.is, alike))))))))),
+      (within.0, (within.1, (c.requires.bits, (omega (arith, less), (c.requires.few, (c.requires.graph, (c.requires.code, (P, d.m, d.below, linked g t at, omega (arith, c.requires.trie.4, d.is, alike))))))))),
     )
 
 pub edited-requires-clause-row : goal.edited-requires-clause-row
 edited-requires-clause-row g t c =
-    let cmp = g.T.Ord.cmp in
-    let code = λ (k : g.row.T.Denot). masked_code (g.T.Element.code_of k) c.args.bits in
     let E = c.requires.trie.0 in
-    let left = c.requires.trie.1 in
-    let below = c.requires.trie.2 in
-    let digit = c.digit.ensures.read in
-    let low : digit_at c.args.code c.args.depth < 32 = subst (λ p. p < 32) digit c.digit.ensures.small in
-    let less : c.args.depth < DEEPEST = omega (arith, c.if-depth-eq-DEEPEST.false, c.requires.depth) in
-    let d = node-deeper cmp code (form_at c.args.heap.now) left c.args.depth c.args.link c.args.code E below low c.in-Node.child (λ depth e n ls row. c.in-Node.ensures depth e n ls row ∙ ap (place_of e n ls) digit) less in
-    let P = part cmp code c.args.depth (digit_at c.args.code c.args.depth) E in
-    let grows = c.left_of-left.ensures.grows P d.m d.below in
-    trie-row cmp code (form_at c.left_of-left.new.heap) d.m (c.args.depth + 1) c.in-Node.child P
-    (trie-kept cmp code (form_at c.args.heap.now) (form_at c.left_of-left.new.heap) (forms-kept c.args.heap.now c.left_of-left.new.heap grows.extends) (suc d.m) (c.args.depth + 1) c.in-Node.child P d.below.trie)
+    let d = deeper g t (goal.at.edited-requires-clause-row g t c).In-Node (omega (arith, c.if-depth-eq-DEEPEST.false, c.requires.depth)) E c.requires.trie.1 c.requires.trie.2 in
+    let P = part g.T.Ord.cmp (code_by g.T.Element.code_of c.args.bits) c.args.depth (digit_at c.args.code c.args.depth) E in
+    let more = (c.left_of-left.ensures.builds P d.m d.below).extends in
+    trie-row g.T.Ord.cmp (code_by g.T.Element.code_of c.args.bits) (form_at c.left_of-left.new.heap) d.m (c.args.depth + 1) c.in-Node.child P
+    (trie-kept g.T.Ord.cmp (code_by g.T.Element.code_of c.args.bits) (form_at c.args.heap.now) (form_at c.left_of-left.new.heap) (forms-kept c.args.heap.now c.left_of-left.new.heap more) (suc d.m) (c.args.depth + 1) c.in-Node.child P d.below.trie)
 
 pub edited-requires-clause-graph : goal.edited-requires-clause-graph
-edited-requires-clause-graph g t c =
-    let cmp = g.T.Ord.cmp in
-    let code = λ (k : g.row.T.Denot). masked_code (g.T.Element.code_of k) c.args.bits in
-    let E = c.requires.trie.0 in
-    let left = c.requires.trie.1 in
-    let below = c.requires.trie.2 in
-    let digit = c.digit.ensures.read in
-    let low : digit_at c.args.code c.args.depth < 32 = subst (λ p. p < 32) digit c.digit.ensures.small in
-    let less : c.args.depth < DEEPEST = omega (arith, c.if-depth-eq-DEEPEST.false, c.requires.depth) in
-    let d = node-deeper cmp code (form_at c.args.heap.now) left c.args.depth c.args.link c.args.code E below low c.in-Node.child (λ depth e n ls row. c.in-Node.ensures depth e n ls row ∙ ap (place_of e n ls) digit) less in
-    let P = part cmp code c.args.depth (digit_at c.args.code c.args.depth) E in
-    (c.left_of-left.ensures.grows P d.m d.below).graph
+edited-requires-clause-graph g t c = (went g t (goal.at.edited-requires-clause-graph g t c).In-Node (omega (arith, c.if-depth-eq-DEEPEST.false, c.requires.depth)) c.left_of-left.new.heap c.left_of-left.result c.left_of-left.ensures.builds c.requires.trie.0 c.requires.trie.1 c.requires.trie.2).2.graph
 
 pub edited-requires-clause-few : goal.edited-requires-clause-few
 edited-requires-clause-few g t c =
-    let cmp = g.T.Ord.cmp in
-    let code = λ (k : g.row.T.Denot). masked_code (g.T.Element.code_of k) c.args.bits in
-    let E = c.requires.trie.0 in
-    let left = c.requires.trie.1 in
-    let below = c.requires.trie.2 in
-    let digit = c.digit.ensures.read in
-    let low : digit_at c.args.code c.args.depth < 32 = subst (λ p. p < 32) digit c.digit.ensures.small in
-    let less : c.args.depth < DEEPEST = omega (arith, c.if-depth-eq-DEEPEST.false, c.requires.depth) in
-    let d = node-deeper cmp code (form_at c.args.heap.now) left c.args.depth c.args.link c.args.code E below low c.in-Node.child (λ depth e n ls row. c.in-Node.ensures depth e n ls row ∙ ap (place_of e n ls) digit) less in
-    let P = part cmp code c.args.depth (digit_at c.args.code c.args.depth) E in
-    let grows = c.left_of-left.ensures.grows P d.m d.below in
-    omega (arith, c.requires.few, grows.total, place-links c.left_of-left.result)
+    let did = went g t (goal.at.edited-requires-clause-few g t c).In-Node (omega (arith, c.if-depth-eq-DEEPEST.false, c.requires.depth)) c.left_of-left.new.heap c.left_of-left.result c.left_of-left.ensures.builds c.requires.trie.0 c.requires.trie.1 c.requires.trie.2 in
+    omega (arith, c.requires.few, did.2.total, place-links c.left_of-left.result)
 
 pub close-requires-clause-spare : goal.close-requires-clause-spare
 close-requires-clause-spare g t c =
-    let cmp = g.T.Ord.cmp in
-    let code = λ (k : g.row.T.Denot). masked_code (g.T.Element.code_of k) c.args.bits in
-    let E = c.requires.trie.0 in
-    let left = c.requires.trie.1 in
-    let below = c.requires.trie.2 in
-    let digit = c.digit.ensures.read in
-    let low : digit_at c.args.code c.args.depth < 32 = subst (λ p. p < 32) digit c.digit.ensures.small in
-    let less : c.args.depth < DEEPEST = omega (arith, c.if-depth-eq-DEEPEST.false, c.requires.depth) in
-    let d = node-deeper cmp code (form_at c.args.heap.now) left c.args.depth c.args.link c.args.code E below low c.in-Node.child (λ depth e n ls row. c.in-Node.ensures depth e n ls row ∙ ap (place_of e n ls) digit) less in
-    let P = part cmp code c.args.depth (digit_at c.args.code c.args.depth) E in
-    let alike : alike_in code c.args.code P ≡ alike_in code c.args.code E = part-alike cmp code c.args.depth c.args.code E in
-    let grows = c.left_of-left.ensures.grows P d.m d.below in
-    let spares = up_to-spares c.args.heap.now c.left_of-left.new.heap [] (links_at_place c.left_of-left.result) (d.m + alike_in code c.args.code P) grows in
-    omega (arith, spares, c.edited.ensures.grows.makes.spare_nodes, c.requires.trie.4, d.is, alike)
+    let did = went g t (goal.at.close-requires-clause-spare g t c).In-Node (omega (arith, c.if-depth-eq-DEEPEST.false, c.requires.depth)) c.left_of-left.new.heap c.left_of-left.result c.left_of-left.ensures.builds c.requires.trie.0 c.requires.trie.1 c.requires.trie.2 in
+    omega (arith, Builds-spare_nodes did.2, did.1, Builds-spare_nodes c.edited.ensures.builds, c.requires.trie.4)
 
 pub close-requires-clause-held : goal.close-requires-clause-held
 close-requires-clause-held g t c = λ k.
-    let cmp = g.T.Ord.cmp in
-    let code = λ (k : g.row.T.Denot). masked_code (g.T.Element.code_of k) c.args.bits in
-    let E = c.requires.trie.0 in
-    let left = c.requires.trie.1 in
-    let below = c.requires.trie.2 in
-    let digit = c.digit.ensures.read in
-    let low : digit_at c.args.code c.args.depth < 32 = subst (λ p. p < 32) digit c.digit.ensures.small in
-    let less : c.args.depth < DEEPEST = omega (arith, c.if-depth-eq-DEEPEST.false, c.requires.depth) in
-    let d = node-deeper cmp code (form_at c.args.heap.now) left c.args.depth c.args.link c.args.code E below low c.in-Node.child (λ depth e n ls row. c.in-Node.ensures depth e n ls row ∙ ap (place_of e n ls) digit) less in
-    let P = part cmp code c.args.depth (digit_at c.args.code c.args.depth) E in
-    let grows = c.left_of-left.ensures.grows P d.m d.below in
-    omega (arith, grows.holds k, c.edited.ensures.grows.holds k)
+    let did = went g t (goal.at.close-requires-clause-held g t c).In-Node (omega (arith, c.if-depth-eq-DEEPEST.false, c.requires.depth)) c.left_of-left.new.heap c.left_of-left.result c.left_of-left.ensures.builds c.requires.trie.0 c.requires.trie.1 c.requires.trie.2 in
+    omega (arith, did.2.holds k, c.edited.ensures.builds.holds k)
 
 pub close-requires-clause-few : goal.close-requires-clause-few
 close-requires-clause-few g t c =
-    let cmp = g.T.Ord.cmp in
-    let code = λ (k : g.row.T.Denot). masked_code (g.T.Element.code_of k) c.args.bits in
-    let E = c.requires.trie.0 in
-    let left = c.requires.trie.1 in
-    let below = c.requires.trie.2 in
-    let digit = c.digit.ensures.read in
-    let low : digit_at c.args.code c.args.depth < 32 = subst (λ p. p < 32) digit c.digit.ensures.small in
-    let less : c.args.depth < DEEPEST = omega (arith, c.if-depth-eq-DEEPEST.false, c.requires.depth) in
-    let d = node-deeper cmp code (form_at c.args.heap.now) left c.args.depth c.args.link c.args.code E below low c.in-Node.child (λ depth e n ls row. c.in-Node.ensures depth e n ls row ∙ ap (place_of e n ls) digit) less in
-    let P = part cmp code c.args.depth (digit_at c.args.code c.args.depth) E in
-    let grows = c.left_of-left.ensures.grows P d.m d.below in
-    let short : length c.edited.result.links.items ≤ 32 = sets-short c.edited.result.entries c.edited.result.nodes c.edited.result.links.items c.edited.ensures.sets in
-    omega (arith, c.requires.few, grows.total, place-links c.left_of-left.result, c.edited.ensures.grows.total, short)
+    let did = went g t (goal.at.close-requires-clause-few g t c).In-Node (omega (arith, c.if-depth-eq-DEEPEST.false, c.requires.depth)) c.left_of-left.new.heap c.left_of-left.result c.left_of-left.ensures.builds c.requires.trie.0 c.requires.trie.1 c.requires.trie.2 in
+    let short = sets-short c.edited.result.entries c.edited.result.nodes c.edited.result.links.items c.edited.ensures.sets in
+    omega (arith, c.requires.few, did.2.total, place-links c.left_of-left.result, c.edited.ensures.builds.total, short)
 
 pub left_of_chain-requires-clause-chain : goal.left_of_chain-requires-clause-chain
 left_of_chain-requires-clause-chain g t c =
-    let cmp = g.T.Ord.cmp in
-    let code = λ (k : g.row.T.Denot). masked_code (g.T.Element.code_of k) c.args.bits in
-    let E = c.requires.trie.0 in
-    let left = c.requires.trie.1 in
-    let below = c.requires.trie.2 in
-    let digit = c.digit.ensures.read in
-    let low : digit_at c.args.code c.args.depth < 32 = subst (λ p. p < 32) digit c.digit.ensures.small in
-    let P = part cmp code c.args.depth (digit_at c.args.code c.args.depth) E in
-    let deepest : DEEPEST ≤ c.args.depth = omega (arith, c.if-depth-eq-DEEPEST.true) in
-    let d = node-chain cmp code (form_at c.args.heap.now) left c.args.depth c.args.link c.args.code E below low c.in-Node.child (λ depth e n ls row. c.in-Node.ensures depth e n ls row ∙ ap (place_of e n ls) digit) deepest in
-    let equal_codes = λ (j k : g.row.T.Denot) (e : cmp j k ≡ Equal). ap (λ n. masked_code n c.args.bits) (g.met.T.Element.equal_codes j k e) in
-    let linked : link_with cmp (g.P.Probe.stands_for c.args.key.now) P ≢ None = λ none. c.requires.trie.3 (sym (part-link cmp code equal_codes c.args.depth (g.P.Probe.stands_for c.args.key.now) E) ∙ ap (λ n. link_with cmp (g.P.Probe.stands_for c.args.key.now) (part cmp code c.args.depth (digit_at n c.args.depth) E)) (sym c.requires.code) ∙ none) in
-    let small : c.args.code < 2 ^ 32 = omega arith in
-    let long : length P ≡ alike_in code c.args.code E = deepest-alike cmp code c.args.depth c.args.code E c.if-depth-eq-DEEPEST.true small (λ k. masked-small (g.T.Element.code_of k) c.args.bits c.requires.bits) below.agrees in
-    (P, d.1, linked, omega (arith, long, c.requires.trie.4))
+    let at = (goal.at.left_of_chain-requires-clause-chain g t c).In-Node in
+    let d = chain g t at c.if-depth-eq-DEEPEST.true c.requires.trie.0 c.requires.trie.1 c.requires.trie.2 in
+    (part g.T.Ord.cmp (code_by g.T.Element.code_of c.args.bits) c.args.depth (digit_at c.args.code c.args.depth) c.requires.trie.0, d.1, linked g t at, omega (arith, d.2, c.requires.trie.4))
 
-pub returns-else-depth-eq-DEEPEST-clause-grows : goal.returns-else-depth-eq-DEEPEST-clause-grows
-returns-else-depth-eq-DEEPEST-clause-grows g t c = λ E left below.
-    let cmp = g.T.Ord.cmp in
-    let code = λ (k : g.row.T.Denot). masked_code (g.T.Element.code_of k) c.args.bits in
-    let digit = c.digit.ensures.read in
-    let low : digit_at c.args.code c.args.depth < 32 = subst (λ p. p < 32) digit c.digit.ensures.small in
-    let less : c.args.depth < DEEPEST = omega (arith, c.if-depth-eq-DEEPEST.false, c.requires.depth) in
-    let d = node-deeper cmp code (form_at c.args.heap.now) left c.args.depth c.args.link c.args.code E below low c.in-Node.child (λ depth e n ls row. c.in-Node.ensures depth e n ls row ∙ ap (place_of e n ls) digit) less in
-    let P = part cmp code c.args.depth (digit_at c.args.code c.args.depth) E in
-    let alike : alike_in code c.args.code P ≡ alike_in code c.args.code E = part-alike cmp code c.args.depth c.args.code E in
-    let grows = c.left_of-left.ensures.grows P d.m d.below in
-    let last = c.close.ensures.grows in
-    left-grows c.args.heap.now c.left_of-left.new.heap c.edited.new.heap c.close.new.heap (links_at_place c.left_of-left.result) c.edited.result.links.items (links_at_place c.close.result)
-    (d.m + alike_in code c.args.code P) last.0 (left + alike_in code c.args.code E) grows c.edited.ensures.grows last.2 last.1 (omega (arith, d.is, alike))
+pub returns-else-depth-eq-DEEPEST-clause-builds : goal.returns-else-depth-eq-DEEPEST-clause-builds
+returns-else-depth-eq-DEEPEST-clause-builds g t c = λ E left below.
+    let did = went g t (goal.at.returns-else-depth-eq-DEEPEST-clause-builds g t c).In-Node (omega (arith, c.if-depth-eq-DEEPEST.false, c.requires.depth)) c.left_of-left.new.heap c.left_of-left.result c.left_of-left.ensures.builds E left below in
+    left-builds did.2 c.edited.ensures.builds c.close.ensures.builds (omega (arith, did.1))
 
 pub returns-else-depth-eq-DEEPEST-clause-place : goal.returns-else-depth-eq-DEEPEST-clause-place
 returns-else-depth-eq-DEEPEST-clause-place g t c = λ E left below.
     let cmp = g.T.Ord.cmp in
-    let code = λ (k : g.row.T.Denot). masked_code (g.T.Element.code_of k) c.args.bits in
-    let digit = c.digit.ensures.read in
-    let low : digit_at c.args.code c.args.depth < 32 = subst (λ p. p < 32) digit c.digit.ensures.small in
-    let less : c.args.depth < DEEPEST = omega (arith, c.if-depth-eq-DEEPEST.false, c.requires.depth) in
-    let d = node-deeper cmp code (form_at c.args.heap.now) left c.args.depth c.args.link c.args.code E below low c.in-Node.child (λ depth e n ls row. c.in-Node.ensures depth e n ls row ∙ ap (place_of e n ls) digit) less in
+    let code = code_by g.T.Element.code_of c.args.bits in
+    let d = deeper g t (goal.at.returns-else-depth-eq-DEEPEST-clause-place g t c).In-Node (omega (arith, c.if-depth-eq-DEEPEST.false, c.requires.depth)) E left below in
     let P = part cmp code c.args.depth (digit_at c.args.code c.args.depth) E in
     let equal_codes = λ (j k : g.row.T.Denot) (e : cmp j k ≡ Equal). ap (λ n. masked_code n c.args.bits) (g.met.T.Element.equal_codes j k e) in
     let key = g.P.Probe.stands_for c.args.key.now in
-    let grows = c.left_of-left.ensures.grows P d.m d.below in
     let first = form_at c.left_of-left.new.heap in
     let last = form_at c.close.new.heap in
-    let more = Extends-trans c.edited.ensures.grows.extends c.close.ensures.grows.2.extends in
-    let keeps = forms-kept c.left_of-left.new.heap c.close.new.heap more in
-    let trie = trie-kept cmp code (form_at c.args.heap.now) first (forms-kept c.args.heap.now c.left_of-left.new.heap grows.extends) (suc d.m) (c.args.depth + 1) c.in-Node.child P d.below.trie in
+    let keeps = forms-kept c.left_of-left.new.heap c.close.new.heap (Extends-trans c.edited.ensures.builds.extends c.close.ensures.builds.extends) in
+    let trie = trie-kept cmp code (form_at c.args.heap.now) first (forms-kept c.args.heap.now c.left_of-left.new.heap (c.left_of-left.ensures.builds P d.m d.below).extends) (suc d.m) (c.args.depth + 1) c.in-Node.child P d.below.trie in
     let next = c.digit-in-Node.ensures.read in
-    let e = c.edited.result.entries in
-    let n = c.edited.result.nodes in
-    let ls = c.edited.result.links.items in
+    let row = c.edited.result in
     let stands = place-kept cmp code first last keeps d.m (c.args.depth + 1 + 1) c.left_of-left.result (part cmp code (c.args.depth + 1) (digit_at c.args.code (c.args.depth + 1)) (others cmp key P)) (c.left_of-left.ensures.place P d.m d.below) in
-    let places = left-places cmp code equal_codes first last (c.args.depth + 1) d.m c.in-Node.child c.args.code P key e n ls c.left_of-left.result keeps c.requires.code trie
-    (sym (ap (place_of e n ls) next) ∙ c.edited.ensures.here) stands
-    (λ depth entries nodes links row p small other. c.edited.ensures.others depth entries nodes links row p small (λ is. other (is ∙ next))) in
-    let whole = left-stands cmp code equal_codes c.close.new.heap (c.args.depth + 1) d.m P key e n ls c.close.result d.below.distinct d.two c.edited.ensures.sets places c.close.ensures.place in
+    let places = left-places cmp code equal_codes first last (c.args.depth + 1) d.m c.in-Node.child c.args.code P key row.entries row.nodes row.links.items c.left_of-left.result keeps c.requires.code trie
+    (sym (ap (place_of row.entries row.nodes row.links.items) next) ∙ c.edited.ensures.here) stands
+    (λ depth entries nodes links was p small other. c.edited.ensures.others depth entries nodes links was p small (λ is. other (is ∙ next))) in
+    let whole = left-stands cmp code equal_codes c.close.new.heap (c.args.depth + 1) d.m P key row.entries row.nodes row.links.items c.close.result d.below.distinct d.two c.edited.ensures.sets places c.close.ensures.place in
     subst (λ m. IsPlace last (λ k Q. IsTrie cmp code last m (c.args.depth + 1) k Q) c.close.result (part cmp code c.args.depth (digit_at c.args.code c.args.depth) (others cmp key E))) (sym d.is)
     (subst (IsPlace last (λ k Q. IsTrie cmp code last (suc d.m) (c.args.depth + 1) k Q) c.close.result) (sym (part-others cmp code c.args.depth (digit_at c.args.code c.args.depth) key E)) whole)
 
-pub returns-then-depth-eq-DEEPEST-clause-grows : goal.returns-then-depth-eq-DEEPEST-clause-grows
-returns-then-depth-eq-DEEPEST-clause-grows g t c = λ E left below.
-    let cmp = g.T.Ord.cmp in
-    let code = λ (k : g.row.T.Denot). masked_code (g.T.Element.code_of k) c.args.bits in
-    let digit = c.digit.ensures.read in
-    let low : digit_at c.args.code c.args.depth < 32 = subst (λ p. p < 32) digit c.digit.ensures.small in
-    let P = part cmp code c.args.depth (digit_at c.args.code c.args.depth) E in
-    let deepest : DEEPEST ≤ c.args.depth = omega (arith, c.if-depth-eq-DEEPEST.true) in
-    let d = node-chain cmp code (form_at c.args.heap.now) left c.args.depth c.args.link c.args.code E below low c.in-Node.child (λ depth e n ls row. c.in-Node.ensures depth e n ls row ∙ ap (place_of e n ls) digit) deepest in
-    let small : c.args.code < 2 ^ 32 = omega arith in
-    let long : length P ≡ alike_in code c.args.code E = deepest-alike cmp code c.args.depth c.args.code E c.if-depth-eq-DEEPEST.true small (λ k. masked-small (g.T.Element.code_of k) c.args.bits c.requires.bits) below.agrees in
-    let same : length P ≡ left + alike_in code c.args.code E = omega (arith, long, d.0) in
-    subst (λ n. GrowsUpTo c.args.heap.now c.left_of_chain.new.heap [] (links_at_place c.left_of_chain.result) n) same (c.left_of_chain.ensures.grows P d.1)
+pub returns-then-depth-eq-DEEPEST-clause-builds : goal.returns-then-depth-eq-DEEPEST-clause-builds
+returns-then-depth-eq-DEEPEST-clause-builds g t c = λ E left below.
+    let d = chain g t (goal.at.returns-then-depth-eq-DEEPEST-clause-builds g t c).In-Node c.if-depth-eq-DEEPEST.true E left below in
+    Builds-more 0 (left + alike_in (code_by g.T.Element.code_of c.args.bits) c.args.code E) (c.left_of_chain.ensures.builds (part g.T.Ord.cmp (code_by g.T.Element.code_of c.args.bits) c.args.depth (digit_at c.args.code c.args.depth) E) d.1) (omega arith) (omega (arith, d.2))
 
 pub returns-then-depth-eq-DEEPEST-clause-place : goal.returns-then-depth-eq-DEEPEST-clause-place
 returns-then-depth-eq-DEEPEST-clause-place g t c = λ E left below.
     let cmp = g.T.Ord.cmp in
-    let code = λ (k : g.row.T.Denot). masked_code (g.T.Element.code_of k) c.args.bits in
-    let digit = c.digit.ensures.read in
-    let low : digit_at c.args.code c.args.depth < 32 = subst (λ p. p < 32) digit c.digit.ensures.small in
-    let P = part cmp code c.args.depth (digit_at c.args.code c.args.depth) E in
-    let deepest : DEEPEST ≤ c.args.depth = omega (arith, c.if-depth-eq-DEEPEST.true) in
-    let d = node-chain cmp code (form_at c.args.heap.now) left c.args.depth c.args.link c.args.code E below low c.in-Node.child (λ depth e n ls row. c.in-Node.ensures depth e n ls row ∙ ap (place_of e n ls) digit) deepest in
+    let d = chain g t (goal.at.returns-then-depth-eq-DEEPEST-clause-place g t c).In-Node c.if-depth-eq-DEEPEST.true E left below in
+    let p = digit_at c.args.code c.args.depth in
     let key = g.P.Probe.stands_for c.args.key.now in
-    chain-place cmp code (form_at c.left_of_chain.new.heap) left (c.args.depth + 1) c.left_of_chain.result (part cmp code c.args.depth (digit_at c.args.code c.args.depth) (others cmp key E)) d.0
-    (subst (IsPlace (form_at c.left_of_chain.new.heap) (λ k Q. IsChain cmp (form_at c.left_of_chain.new.heap) k Q) c.left_of_chain.result) (sym (part-others cmp code c.args.depth (digit_at c.args.code c.args.depth) key E))
-    (c.left_of_chain.ensures.place P d.1))
+    let new = form_at c.left_of_chain.new.heap in
+    chain-place cmp (code_by g.T.Element.code_of c.args.bits) new left (c.args.depth + 1) c.left_of_chain.result (part cmp (code_by g.T.Element.code_of c.args.bits) c.args.depth p (others cmp key E)) d.0
+    (subst (IsPlace new (λ k Q. IsChain cmp new k Q) c.left_of_chain.result) (sym (part-others cmp (code_by g.T.Element.code_of c.args.bits) c.args.depth p key E)) (c.left_of_chain.ensures.place (part cmp (code_by g.T.Element.code_of c.args.bits) c.args.depth p E) d.1))
 
-pub returns-in-Empty-clause-grows : goal.returns-in-Empty-clause-grows
-returns-in-Empty-clause-grows g t c = λ E left below.
-    let cmp = g.T.Ord.cmp in
-    let code = λ (k : g.row.T.Denot). masked_code (g.T.Element.code_of k) c.args.bits in
-    up_to-refl c.args.heap.now (left + alike_in code c.args.code E) c.requires.graph
+pub returns-in-Empty-clause-builds : goal.returns-in-Empty-clause-builds
+returns-in-Empty-clause-builds g t c = λ E left below. Builds-refl c.args.heap.now [] 0 (left + alike_in (code_by g.T.Element.code_of c.args.bits) c.args.code E) c.requires.graph
 
 pub returns-in-Empty-clause-place : goal.returns-in-Empty-clause-place
 returns-in-Empty-clause-place g t c = λ E left below.
-    let cmp = g.T.Ord.cmp in
-    let code = λ (k : g.row.T.Denot). masked_code (g.T.Element.code_of k) c.args.bits in
-    let digit = c.digit.ensures.read in
-    let low : digit_at c.args.code c.args.depth < 32 = subst (λ p. p < 32) digit c.digit.ensures.small in
-    let equal_codes = λ (j k : g.row.T.Denot) (e : cmp j k ≡ Equal). ap (λ n. masked_code n c.args.bits) (g.met.T.Element.equal_codes j k e) in
-    none-left cmp code (form_at c.args.heap.now) c.requires.trie.1 c.args.depth c.args.link c.args.code c.requires.trie.0 c.requires.trie.2 low (g.P.Probe.stands_for c.args.key.now) c.place_at.result c.requires.code equal_codes c.requires.trie.3
-    (λ depth e n ls row. c.place_at.ensures depth e n ls row ∙ ap (place_of e n ls) digit) (inl c.in-Empty.is) left E below
+    none-left g.T.Ord.cmp (code_by g.T.Element.code_of c.args.bits) (form_at c.args.heap.now) c.requires.trie.1 c.args.depth c.args.link c.args.code c.requires.trie.0 c.requires.trie.2 (omega arith) (g.P.Probe.stands_for c.args.key.now) c.place_at.result c.requires.code (λ j k e. ap (λ n. masked_code n c.args.bits) (g.met.T.Element.equal_codes j k e)) c.requires.trie.3
+    (λ depth e n ls row. c.place_at.ensures.place depth e n ls row ∙ ap (place_of e n ls) c.digit.ensures.read) (inl c.in-Empty.is) left E below
 
-pub returns-in-Entry-clause-grows : goal.returns-in-Entry-clause-grows
-returns-in-Entry-clause-grows g t c = λ E left below.
-    let cmp = g.T.Ord.cmp in
-    let code = λ (k : g.row.T.Denot). masked_code (g.T.Element.code_of k) c.args.bits in
-    up_to-refl c.args.heap.now (left + alike_in code c.args.code E) c.requires.graph
+pub returns-in-Entry-clause-builds : goal.returns-in-Entry-clause-builds
+returns-in-Entry-clause-builds g t c = λ E left below. Builds-refl c.args.heap.now [] 0 (left + alike_in (code_by g.T.Element.code_of c.args.bits) c.args.code E) c.requires.graph
 
 pub returns-in-Entry-clause-place : goal.returns-in-Entry-clause-place
 returns-in-Entry-clause-place g t c = λ E left below.
+    none-left g.T.Ord.cmp (code_by g.T.Element.code_of c.args.bits) (form_at c.args.heap.now) c.requires.trie.1 c.args.depth c.args.link c.args.code c.requires.trie.0 c.requires.trie.2 (omega arith) (g.P.Probe.stands_for c.args.key.now) c.place_at.result c.requires.code (λ j k e. ap (λ n. masked_code n c.args.bits) (g.met.T.Element.equal_codes j k e)) c.requires.trie.3
+    (λ depth e n ls row. c.place_at.ensures.place depth e n ls row ∙ ap (place_of e n ls) c.digit.ensures.read) (inr (c.in-Entry.field-0, c.in-Entry.is)) left E below
+
+pub returns-then-depth-eq-DEEPEST-clause-shares : goal.returns-then-depth-eq-DEEPEST-clause-shares
+returns-then-depth-eq-DEEPEST-clause-shares g t c = λ E left e n ls j k below row was is.
+    let d = chain g t (goal.at.returns-then-depth-eq-DEEPEST-clause-shares g t c).In-Node c.if-depth-eq-DEEPEST.true E left below in
+    shares-none (form_at c.args.heap.now) (form_at c.left_of_chain.new.heap) c.args.code left (c.args.depth + 1) j k d.0
+
+pub returns-in-Empty-clause-shares : goal.returns-in-Empty-clause-shares
+returns-in-Empty-clause-shares g t c = λ E left e n ls j k below row was is. cc
+
+pub returns-in-Entry-clause-shares : goal.returns-in-Entry-clause-shares
+returns-in-Entry-clause-shares g t c = λ E left e n ls j k below row was is. cc
+
+pub returns-else-depth-eq-DEEPEST-clause-shares : goal.returns-else-depth-eq-DEEPEST-clause-shares
+returns-else-depth-eq-DEEPEST-clause-shares g t c = λ E left e n ls j k below row was is.
     let cmp = g.T.Ord.cmp in
-    let code = λ (k : g.row.T.Denot). masked_code (g.T.Element.code_of k) c.args.bits in
-    let digit = c.digit.ensures.read in
-    let low : digit_at c.args.code c.args.depth < 32 = subst (λ p. p < 32) digit c.digit.ensures.small in
-    let equal_codes = λ (j k : g.row.T.Denot) (e : cmp j k ≡ Equal). ap (λ n. masked_code n c.args.bits) (g.met.T.Element.equal_codes j k e) in
-    none-left cmp code (form_at c.args.heap.now) c.requires.trie.1 c.args.depth c.args.link c.args.code c.requires.trie.0 c.requires.trie.2 low (g.P.Probe.stands_for c.args.key.now) c.place_at.result c.requires.code equal_codes c.requires.trie.3
-    (λ depth e n ls row. c.place_at.ensures depth e n ls row ∙ ap (place_of e n ls) digit) (inr (c.in-Entry.field-0, c.in-Entry.is)) left E below
+    let code = code_by g.T.Element.code_of c.args.bits in
+    let d = deeper g t (goal.at.returns-else-depth-eq-DEEPEST-clause-shares g t c).In-Node (omega (arith, c.if-depth-eq-DEEPEST.false, c.requires.depth)) E left below in
+    let P = part cmp code c.args.depth (digit_at c.args.code c.args.depth) E in
+    let F = form_at c.args.heap.now in
+    let M = form_at c.left_of-left.new.heap in
+    let G = form_at c.close.new.heap in
+    let first = forms-kept c.args.heap.now c.left_of-left.new.heap (c.left_of-left.ensures.builds P d.m d.below).extends in
+    let later = forms-kept c.left_of-left.new.heap c.close.new.heap (Extends-trans c.edited.ensures.builds.extends c.close.ensures.builds.extends) in
+    let old = row-at cmp code F d.m (c.args.depth + 1) c.in-Node.child P d.below.trie in
+    let next = c.digit-in-Node.ensures.read in
+    let new = c.edited.result in
+    let here = sym (ap (place_of new.entries new.nodes new.links.items) next) ∙ c.edited.ensures.here in
+    let closed = closes-row c.close.new.heap new.entries new.nodes new.links.items (c.args.depth + 1) c.close.result k c.close.ensures.place is in
+    let child = same-node c.in-Node.child j (c.in-Node.ensures.place c.args.depth e n ls row ∙ ap (place_of e n ls) c.digit.ensures.read ∙ was) in
+    subst (λ i. SharesBeside F G c.args.code left (c.args.depth + 1) i k) child
+    (subst (λ m. SharesBeside F G c.args.code m (c.args.depth + 1) c.in-Node.child k) (sym d.is)
+    (shares-row F G c.args.code d.m (c.args.depth + 1) c.in-Node.child k old.0 old.1 old.2 new.entries new.nodes new.links.items old.3 closed
+    (λ q low other. c.edited.ensures.others (c.args.depth + 1) old.0 old.1 old.2 (row-kept cmp code F M first c.in-Node.child (c.args.depth + 1) old.0 old.1 old.2 old.3) q low (λ same. other (same ∙ next)))
+    (λ i m at there. shares-kept F F M G (record { kept = λ l f is. is }) later c.args.code d.m (c.args.depth + 1 + 1) i m (c.left_of-left.ensures.shares P d.m old.0 old.1 old.2 i m d.below old.3 at (sym here ∙ there)))))

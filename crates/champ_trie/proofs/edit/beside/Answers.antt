@@ -3,21 +3,16 @@ use Rattle.std.specs.Ordering.{is_eq}
 use Rattle.elem_core.specs.Codes.{masked_code}
 use Rattle.node_heap.specs.Heap.{form_at}
 use Rattle.champ_chain.specs.Entry.{Entry}
-use Rattle.champ_chain.proofs.CopyLemmas.{Grows-kept}
-use Rattle.champ_chain.proofs.FrameLemmas.{count-cons, count-one, forms-same, key-kept, Grows-hold}
+use Rattle.node_heap.proofs.BuildLemmas.{count-cons, count-one, Builds-refl, Builds-hold, Builds-both, Builds-more}
+use Rattle.champ_chain.proofs.FrameLemmas.{forms-same, key-kept}
 use Rattle.champ_chain.proofs.SpotLemmas.{same-key}
-use Rattle.champ_trie.specs.Trie.{IsTrie}
+use Rattle.champ_trie.specs.Trie.{IsTrie, code_by}
 use Rattle.champ_trie.specs.Edit.{chain_nodes}
-use Rattle.champ_trie.proofs.GrowthLemmas.{up_to-Grows, up_to-both}
 use Rattle.champ_trie.proofs.WithLemmas.{not-equal, eq-apart, put-apart}
 use Rattle.champ_trie.proofs.edit.beside.Goals as goal
 
-pub returns-then-eq-clause-grows : goal.returns-then-eq-clause-grows
-returns-then-eq-clause-grows g c = λ j is_j. (
-  0,
-  omega (arith, c.requires.depth),
-  up_to-Grows c.args.heap.now c.args.heap.now (c.args.entry ∷ []) (c.args.entry ∷ []) 0 0 (Grows-kept c.args.heap.now c.args.entry c.requires.graph) (omega arith),
-)
+pub returns-then-eq-clause-builds : goal.returns-then-eq-clause-builds
+returns-then-eq-clause-builds g c = λ j is_j. (0, omega (arith, c.requires.depth), Builds-refl c.args.heap.now (c.args.entry ∷ []) 0 0 c.requires.graph)
 
 pub node_of_two-requires-clause-keys : goal.node_of_two-requires-clause-keys
 node_of_two-requires-clause-keys g c =
@@ -27,23 +22,20 @@ node_of_two-requires-clause-keys g c =
     let other = eq-apart c.cmp.result (not-equal c.cmp.result c.if-eq.ensures) in
     (c.key_of.result.now, c.key_of-2.result.now, first, second, λ same. other (c.cmp.ensures ∙ same))
 
-pub returns-clause-grows : goal.returns-clause-grows
-returns-clause-grows g c = λ j is_j.
+pub returns-clause-builds : goal.returns-clause-builds
+returns-clause-builds g c = λ j is_j.
     let key = same-key (form_at c.args.heap.now) c.args.old c.args.old c.key_of-3.result.now j refl c.key_of-3.ensures is_j in
-    let old_code : c.masked-old_code.result ≡ masked_code (g.T.Element.code_of j) c.args.bits = c.masked-old_code.ensures.kept ∙ ap (λ n. masked_code n c.args.bits) (c.code.ensures ∙ ap g.T.Element.code_of key) in
-    let below = c.node_of_two.ensures.grows in
-    let held = Grows-hold c.args.heap.now c.hold.new.self c.args.old c.hold.ensures.holds c.hold.ensures.makes c.hold.ensures.count c.hold.ensures.graph c.hold.ensures.extends in (
-      below.0,
-      omega (arith, below.1, ap (chain_nodes c.args.code) old_code),
-      up_to-both c.args.heap.now c.hold.new.self c.node_of_two.new.heap (c.args.entry ∷ []) (c.node_of_two.result ∷ []) [] (c.args.old ∷ []) (c.args.entry ∷ c.args.old ∷ []) (c.node_of_two.result ∷ []) 0 below.0 below.0
-          (up_to-Grows c.args.heap.now c.hold.new.self [] (c.args.old ∷ []) 0 0 held (omega arith)) below.2 (omega arith) (λ k. omega (arith, count-cons k c.args.entry (c.args.old ∷ []), count-one k c.args.entry)) (omega arith),
-    )
+    let old_code : c.masked-old_code.result ≡ code_by g.T.Element.code_of c.args.bits j = c.masked-old_code.ensures.kept ∙ ap (λ n. masked_code n c.args.bits) (c.code.ensures ∙ ap g.T.Element.code_of key) in
+    let below = c.node_of_two.ensures.builds in
+    let held = Builds-hold c.hold.ensures.holds c.hold.ensures.makes c.hold.ensures.count c.hold.ensures.graph c.hold.ensures.extends in
+    let both = Builds-both (c.args.entry ∷ []) (c.node_of_two.result ∷ []) held below.2 (λ k. omega (arith, count-cons k c.args.entry (c.args.old ∷ []), count-one k c.args.entry)) (omega arith) in
+    (below.0, omega (arith, below.1, ap (chain_nodes c.args.code) old_code), Builds-more 0 below.0 both (omega arith) (omega arith))
 
 pub returns-clause-place : goal.returns-clause-place
 returns-clause-place g c = λ j k is_j is_k left levels.
     let F = form_at c.args.heap.now in
     let G = form_at c.hold.new.self in
-    let code = λ (i : g.row.T.Denot). masked_code (g.T.Element.code_of i) c.args.bits in
+    let code = code_by g.T.Element.code_of c.args.bits in
     let keeps = forms-same c.args.heap.now c.hold.new.self c.hold.ensures.rows in
     let first = same-key F c.args.entry c.args.entry c.key_of.result.now k refl c.key_of.ensures is_k in
     let second = same-key F c.args.old c.args.old c.key_of-2.result.now j refl c.key_of-2.ensures is_j in

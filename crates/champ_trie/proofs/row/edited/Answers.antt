@@ -1,7 +1,8 @@
 use Rattle.std.proofs.Common.{arith, ◌∙◌, ap, length}
 use Rattle.node_heap.specs.Links.{count}
+use Rattle.node_heap.proofs.BuildLemmas.{Builds-as}
 use Rattle.champ_trie.specs.Trie.{links_at_place}
-use Rattle.champ_trie.proofs.HoldLemmas.{links-live, grows-put, sets-same, place-same}
+use Rattle.champ_trie.proofs.HoldLemmas.{links-live, sets-same, place-same}
 use Rattle.champ_trie.proofs.row.edited.Goals as goal
 
 pub clear-requires-clause-sets : goal.clear-requires-clause-sets
@@ -16,9 +17,9 @@ hold_all-requires-clause-live g c = λ k some.
     let same = c.read-row.ensures row.0 row.1 row.2 row.3 row.4 in
     links-live c.args.heap.now c.requires.graph c.args.link row.0 row.1 row.2 row.3 row.4.row k (omega (arith, some, ap (count k) c.as_slice.ensures.value, c.clear.ensures.links k, ap (count k) same.2))
 
-pub returns-clause-grows : goal.returns-clause-grows
-returns-clause-grows g c =
-    grows-put c.args.heap.now c.hold_all.new.heap c.as_slice.result.now c.put.new.self.links.items (links_at_place c.args.place) c.hold_all.ensures.grows
+pub returns-clause-builds : goal.returns-clause-builds
+returns-clause-builds g c =
+    Builds-as (links_at_place c.args.place) c.put.new.self.links.items 0 0 c.hold_all.ensures.builds (omega arith) (omega arith)
     (λ k. omega (arith, c.put.ensures.links k, ap (count k) c.as_slice.ensures.value)) (omega (arith, c.put.ensures.number, ap length c.as_slice.ensures.value))
 
 pub returns-clause-others : goal.returns-clause-others

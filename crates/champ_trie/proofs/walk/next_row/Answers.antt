@@ -25,7 +25,7 @@ order : {T : Type 0} (h : Heap T) → IsGraph h → (old new more last : List (B
     → rows_on h (next_first (map (λ r. r.now) old)) ≡ l ∷ rows_on h (next_first (map (λ r. r.now) last))
 order h graph old new more last x l ls below is split stack first is_below second =
     ap (λ s. rows_on h (next_first s)) (seen old new x (l ∷ ls) is split)
-    ∙ stack-order (form_at h) (live_count h) (λ next es rows. rows-live h graph es next rows) 8 (depth_of h) (map (λ r. r.now) new) l ls (omega arith) (goes (form_at h) old new x l ls is split stack)
+    ∙ stack-order (form_at h) (live_count h) (λ next es rows. rows-live h graph es next rows) LAYERS (depth_of h) (map (λ r. r.now) new) l ls (omega arith) (goes (form_at h) old new x l ls is split stack)
     ∙ ap (λ s. l ∷ rows_on h (next_first s)) (sym (second ∙ ap (stacked (map (λ r. r.now) more)) is_below ∙ ap (λ s. stacked s (rows_below (form_at h l))) first))
 
 pub unwrap-requires : goal.unwrap-requires

@@ -1,8 +1,0 @@
-use Rattle.std.proofs.Common.{List, drop, Some}
-use Rattle.node_heap.specs.Heap.{form_at}
-use Rattle.champ_chain.specs.Entry.{Entry}
-use Rattle.champ_chain.specs.Chain.{AreRows}
-use Rattle.champ_chain.proofs.length.Given as goal
-
-abbrev pub invariant-loop-passed : goal.invariant-loop-passed
-invariant-loop-passed g l = (es : List (Entry g.row.T.Denot)) → AreRows (form_at l.heap) (Some l.fn.chain) es → AreRows (form_at l.heap) (Some l.row) (drop l.passed es)

@@ -1,9 +1,0 @@
-use Rattle.std.proofs.Common.{◌<◌, sym, subst}
-use Rattle.node_heap.specs.Heap.{holds_at, one_at}
-use Rattle.champ_kinds.specs.Root.{Root}
-use Rattle.champ_kinds.proofs.StayLemmas.{container-stays}
-use Rattle.champ_kinds.proofs.map.Map.release.Goals as goal
-
-pub returns-clause-containers : goal.returns-clause-containers
-returns-clause-containers g c = λ r left.
-    container-stays c.args.heap.now c.release.new.self r (c.release.ensures.keeps.kept r.root (subst (λ (q : Root). one_at q.root r.root < holds_at c.args.heap.now r.root) (sym c.self.view_is) left))
