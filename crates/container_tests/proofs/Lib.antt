@@ -1,0 +1,4 @@
+pub mod GainLemmas
+pub mod GivenUpLemmas
+pub mod StandLemmas
+pub mod UndoLemmas

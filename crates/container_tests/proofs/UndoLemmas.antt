@@ -1,0 +1,183 @@
+-- What a store keeps while rows come and holds are given up.
+use Rattle.std.proofs.Common.{◌≡◌, ◌+◌, ◌-◌, ◌<◌, ◌≤◌, ℕ, List, [], ◌∷◌, ◌++◌, ◌∙◌, length, Some, refl, ap, sym, subst, arith}
+use Rattle.std.specs.Prelude.{IsSome, take, slice_get}
+use Rattle.std.specs.List.{All}
+use Rattle.std.proofs.Math.ListN.{get_or}
+use Rattle.std.proofs.lemmas.List.{take_all, take_more}
+use Rattle.std.proofs.lemmas.List.Elements.{All-append, All-cons, All-nil, All-take}
+use Rattle.std.proofs.lemmas.Option.{slice_get_within, get_or_from_slice_get}
+use Rattle.std.specs.declared.cmp.Ordering.{Ordering}
+use Rattle.elem_core.specs.declared.codes.TheConstants.{CODE_BITS}
+use Rattle.node_heap.specs.Heap.{Heap, row_at, holds_at, hold_count, one_at, IsGraph}
+use Rattle.node_heap.specs.Calls.{Builds, Extends, Releases, Unchanged}
+use Rattle.node_heap.proofs.Frames.{KeepsBelow-Releases, Extends-Unchanged}
+use Rattle.rrb_core.specs.Vector.{elements, height_at, IsGoodVector}
+use Rattle.rrb_core.proofs.LinkCounts.{one-same}
+use Rattle.rrb_core.proofs.Stays.{well-live, seq-live, vector-stays}
+use Rattle.champ_kinds.specs.Root.{Root}
+use Rattle.champ_kinds.specs.Binding.{Binding}
+use Rattle.champ_kinds.specs.Kinds.{IsMapOf}
+use Rattle.champ_kinds.proofs.StayLemmas.{container-stays, containers-extended}
+use Rattle.container_tests.specs.Stands.{IsSomeMap}
+use Rattle.container_tests.specs.Undo.{IsStore, KeepsOthers, held_by, version_at}
+use Rattle.container_tests.specs.declared.store.Store.{Store}
+use Rattle.container_tests.proofs.GainLemmas.{Gained, shared-holds}
+
+module _ {T : Type 0} (cmp : T → T → Ordering) (code : T → ℕ) where
+  -- a map whose root is there after a release, and one that is held once more than is given up
+  map-left : {a b : Heap T} {link : ℕ} → Releases a b link → IsGraph b → (r : Root) (M : List (Binding T)) → IsSome (row_at b r.root) → IsMapOf cmp code a r M → IsMapOf cmp code b r M
+  map-left {a} {b} {link} released graph r M live is = (container-stays a b r (KeepsBelow-Releases a b link released graph r.root live)).map cmp code M is
+
+  pub map-released : {a b : Heap T} {link : ℕ} → Releases a b link → IsGraph b → (r : Root) (M : List (Binding T)) → one_at link r.root < holds_at a r.root → IsMapOf cmp code a r M → IsMapOf cmp code b r M
+  map-released {a} {b} {link} released graph r M held is = map-left released graph r M (graph.held r.root (omega (arith, held, released.holds r.root))) is
+
+  -- a store whose roots are held beside what is given up
+  pub store-released : {a b : Heap T} {link : ℕ} (s : Store) → Releases a b link → IsGraph b → ((k : ℕ) → one_at link k + held_by s k ≤ holds_at a k) → IsStore cmp code a s → IsStore cmp code b s × (elements b s.earlier ≡ elements a s.earlier)
+  store-released {a} {b} {link} s released graph enough store =
+      let first : ℕ = s.notes.root in
+      let second : ℕ = s.earlier in
+      let noted : one_at link first < holds_at a first = omega (arith, enough first, one-same first first refl) in
+      let kept : 0 < holds_at b second = omega (arith, enough second, released.holds second, one-same second second refl) in
+      let vector = vector-stays T a b second (KeepsBelow-Releases a b link released graph second (graph.held second kept)) store.earlier in
+      let live = seq-live b graph (height_at b second) second in
+      let maps : All (λ l. IsSomeMap cmp code a (version_at l)) (elements b second) = rw vector.1 store.versions in (
+        record {
+          notes = (store.notes.0, map-released released graph s.notes store.notes.0 noted store.notes.1);
+          bits = store.bits;
+          earlier = vector.0;
+          versions = λ k d inside. ((maps k d inside).0, map-left released graph _ (maps k d inside).0 (live k d inside) (maps k d inside).1);
+          held = λ k. omega (arith, enough k, released.holds k);
+        },
+        vector.1,
+      )
+
+  -- a store where every row stays and no hold is lost
+  pub store-kept : {a b : Heap T} (s : Store) → Extends a b → ((k : ℕ) → holds_at a k ≤ holds_at b k) → IsStore cmp code a s → IsStore cmp code b s × (elements b s.earlier ≡ elements a s.earlier)
+  store-kept {a} {b} s extends enough store =
+      let second : ℕ = s.earlier in
+      let vector = vector-stays T a b second (extends.kept second (well-live a (height_at a second) second store.earlier.shape.well)) store.earlier in
+      let maps : All (λ l. IsSomeMap cmp code a (version_at l)) (elements b second) = rw vector.1 store.versions in (
+        record {
+          notes = (store.notes.0, (containers-extended a b extends s.notes).map cmp code store.notes.0 store.notes.1);
+          bits = store.bits;
+          earlier = vector.0;
+          versions = λ k d inside. ((maps k d inside).0, (containers-extended a b extends _).map cmp code (maps k d inside).0 (maps k d inside).1);
+          held = λ k. omega (arith, enough k, store.held k);
+        },
+        vector.1,
+      )
+
+  -- nothing has changed hands
+  pub others-kept : {a b : Heap T} (s : Store) → Extends a b → ((k : ℕ) → holds_at b k ≡ holds_at a k) → hold_count b ≡ hold_count a → KeepsOthers cmp code a b s s
+  others-kept {a} {b} s extends same count = record {
+    holds = λ k. omega (arith, same k);
+    count = count;
+    maps = λ r M held is. (containers-extended a b extends r).map cmp code M is;
+  }
+
+  -- a store whose new roots are held beside the old ones, which are then given up in turn
+  pub turned : {a b c : Heap T} {l m : ℕ} (s s' : Store) → Releases a b l → IsGraph b → Releases b c m → IsGraph c → l ≡ s.notes.root → m ≡ s.earlier → ((k : ℕ) → held_by s k + held_by s' k ≤ holds_at a k) → IsStore cmp code a s' → IsStore cmp code c s' × (elements c s'.earlier ≡ elements a s'.earlier)
+  turned {l = l} {m = m} s s' once graph twice graph' same same' enough store =
+      let notes : (k : ℕ) → one_at l k ≡ one_at s.notes.root k = λ k. ap (λ x. one_at x k) same in
+      let earlier : (k : ℕ) → one_at m k ≡ one_at s.earlier k = λ k. ap (λ x. one_at x k) same' in
+      let first = store-released s' once graph (λ k. omega (arith, enough k, notes k)) store in
+      let second = store-released s' twice graph' (λ k. omega (arith, enough k, notes k, earlier k, once.holds k)) first.0 in
+      (second.0, second.1 ∙ first.1)
+
+  -- after a refusal
+  pub store-refused : {a b : Heap T} (s : Store) → Unchanged a b → IsStore cmp code a s → IsStore cmp code b s
+  store-refused s same store = (store-kept s (Extends-Unchanged same) (λ k. omega (arith, same.holds k)) store).0
+
+  pub others-refused : {a b : Heap T} (s : Store) → Unchanged a b → KeepsOthers cmp code a b s s
+  others-refused s same = others-kept s (Extends-Unchanged same) same.holds same.count
+
+  -- new roots were made and are held, and then the store turned to them
+  pub others-turned : {a b c : Heap T} (s s' : Store) → Extends a b → ((k : ℕ) → holds_at b k ≡ holds_at a k + held_by s' k) → hold_count b ≡ hold_count a + 2
+      → ((k : ℕ) → holds_at c k + held_by s k ≡ holds_at b k) → hold_count c + 2 ≡ hold_count b → ((r : Root) (M : List (Binding T)) → held_by s r.root < holds_at b r.root → IsMapOf cmp code b r M → IsMapOf cmp code c r M)
+      → KeepsOthers cmp code a c s s'
+  others-turned {a} {b} s s' extends gained more spent fewer stay = record {
+    holds = λ k. omega (arith, gained k, spent k);
+    count = omega (arith, more, fewer);
+    maps = λ r M held is. stay r M (omega (arith, held, gained r.root)) ((containers-extended a b extends r).map cmp code M is);
+  }
+
+  -- a map by the parts of its root
+  pub version-is : (h : Heap T) (r : Root) (l : ℕ) → r.root ≡ l → r.bits ≡ CODE_BITS → IsSomeMap cmp code h (version_at l) → IsSomeMap cmp code h r
+  version-is h r l same bits is = subst (λ (x : ℕ). IsSomeMap cmp code h (record { root = x; bits = r.bits })) (sym same) (subst (λ (y : ℕ). IsSomeMap cmp code h (record { root = l; bits = y })) (sym bits) is)
+
+  -- a store that goes back to the last root of its history
+  pub undone : {a b : Heap T} (s : Store) (r : Root) (new root n : ℕ) → IsStore cmp code a s → Extends a b → slice_get (elements a s.earlier) n ≡ Some root → r.root ≡ root → r.bits ≡ CODE_BITS → IsGoodVector b new
+      → elements b new ≡ take n (elements a s.earlier) → ((k : ℕ) → held_by (record { notes = r; earlier = new }) k ≤ holds_at b k) → IsStore cmp code b (record { notes = r; earlier = new })
+  undone {a} {b} s r new root n store extends at same bits good items held =
+      let maps : All (λ l. IsSomeMap cmp code b (version_at l)) (elements a s.earlier) = λ k d inside.
+      let is = store.versions k d inside in
+      (is.0, (containers-extended a b extends _).map cmp code is.0 is.1) in
+      let last : IsSomeMap cmp code b (version_at root) = subst (λ l. IsSomeMap cmp code b (version_at l)) (get_or_from_slice_get (elements a s.earlier) n root 0 at) (maps n 0 (slice_get_within (elements a s.earlier) n root at)) in
+      record {
+        notes = version-is b r root same bits last;
+        bits = bits;
+        earlier = good;
+        versions = rw items (All-take (λ l. IsSomeMap cmp code b (version_at l)) n (elements a s.earlier) maps);
+        held = held;
+      }
+
+  -- nothing is left of what was gained
+  pub store-back : {a b : Heap T} (s : Store) → Gained a b (λ _. 0) 0 → IsStore cmp code a s → IsStore cmp code b s
+  store-back s gained store = (store-kept s gained.extends (λ k. omega (arith, gained.holds k)) store).0
+
+  pub others-back : {a b : Heap T} (s : Store) → Gained a b (λ _. 0) 0 → KeepsOthers cmp code a b s s
+  others-back s gained = others-kept s gained.extends (λ k. omega (arith, gained.holds k)) (omega (arith, gained.count))
+
+  -- a store whose notes have gone into the history
+  pub put-store : {a b : Heap T} (s : Store) (r : Root) (new : ℕ) → IsStore cmp code a s → Extends a b → IsSomeMap cmp code b r → r.bits ≡ CODE_BITS → IsGoodVector b new → elements b new ≡ elements a s.earlier ++ s.notes.root ∷ []
+      → ((k : ℕ) → held_by (record { notes = r; earlier = new }) k ≤ holds_at b k) → IsStore cmp code b (record { notes = r; earlier = new })
+  put-store {a} {b} s r new store extends notes bits good items held =
+      let stays : (x : Root) → IsSomeMap cmp code a x → IsSomeMap cmp code b x = λ x is. (is.0, (containers-extended a b extends x).map cmp code is.0 is.1) in
+      let maps : All (λ l. IsSomeMap cmp code b (version_at l)) (elements a s.earlier) = λ k d inside. stays _ (store.versions k d inside) in
+      let last : IsSomeMap cmp code b (version_at s.notes.root) = subst (λ (y : ℕ). IsSomeMap cmp code b (record { root = s.notes.root; bits = y })) store.bits (stays s.notes store.notes) in
+      record {
+        notes = notes;
+        bits = bits;
+        earlier = good;
+        versions = rw items (All-append (λ l. IsSomeMap cmp code b (version_at l)) (elements a s.earlier) (s.notes.root ∷ []) maps (All-cons (λ l. IsSomeMap cmp code b (version_at l)) s.notes.root [] last (All-nil (λ l. IsSomeMap cmp code b (version_at l)))));
+        held = held;
+      }
+
+  -- one change of a store after another
+  pub others-then : {a b c : Heap T} {s s' s'' : Store} → KeepsOthers cmp code a b s s' → KeepsOthers cmp code b c s' s'' → KeepsOthers cmp code a c s s''
+  others-then first second = record {
+    holds = λ k. omega (arith, first.holds k, second.holds k);
+    count = omega (arith, first.count, second.count);
+    maps = λ r M held is. second.maps r M (omega (arith, held, first.holds r.root)) (first.maps r M held is);
+  }
+
+  -- a map that is held beside a store
+  pub record IsBeside (h : Heap T) (s : Store) (r : Root) : Type 0 where
+    pub map : IsSomeMap cmp code h r
+    pub held : held_by s r.root < holds_at h r.root
+
+  pub beside-stays : {a b : Heap T} {s s' : Store} {r : Root} → KeepsOthers cmp code a b s s' → IsBeside a s r → IsBeside b s' r
+  beside-stays {r = r} others beside = record {
+    map = (beside.map.0, others.maps r beside.map.0 beside.held beside.map.1);
+    held = omega (arith, beside.held, others.holds r.root);
+  }
+
+  pub beside-shared : {a b : Heap T} {s : Store} {r : Root} {link : ℕ} → Builds a b [] (link ∷ []) 0 0 → IsBeside a s r → IsBeside b s r
+  beside-shared {a} {b} {r = r} shared beside = record {
+    map = (beside.map.0, (containers-extended a b shared.extends r).map cmp code beside.map.0 beside.map.1);
+    held = omega (arith, beside.held, shared-holds shared r.root);
+  }
+
+  -- the notes of a store that are held once more
+  pub beside-first : {a b : Heap T} {s : Store} {r : Root} → r ≡ s.notes → IsStore cmp code a s → IsStore cmp code b s → Builds a b [] (r.root ∷ []) 0 0 → IsBeside b s r
+  beside-first {b = b} {r = r} same before after shared = record {
+    map = subst (IsSomeMap cmp code b) (sym same) after.notes;
+    held = omega (arith, before.held r.root, shared-holds shared r.root, one-same r.root r.root refl);
+  }
+
+-- the front of a list and its last element are the list
+pub front-last : (xs : List ℕ) (n x : ℕ) → n ≡ length xs → slice_get xs (n - 1) ≡ Some x → take (n - 1) xs ++ x ∷ [] ≡ xs
+front-last xs n x is at =
+    let within : n - 1 < length xs = slice_get_within xs (n - 1) x at in
+    let got : get_or xs (n - 1) 0 ≡ x = get_or_from_slice_get xs (n - 1) x 0 at in
+    rw (← got) (sym (take_more xs (n - 1) 0 within) ∙ take_all (n - 1 + 1) xs (omega (arith, is)))

@@ -1,0 +1,39 @@
+-- What stands at a root, whatever it holds: what one call of a test hands to the next.
+use Rattle.std.specs.Prelude.{◌≡◌, ◌<◌, ℕ, List}
+use Rattle.std.specs.declared.cmp.Ordering.{Ordering}
+use Rattle.node_heap.specs.Heap.{Heap, holds_at, hold_count}
+use Rattle.rrb_core.specs.Vector.{IsGoodVector}
+use Rattle.champ_chain.specs.Entry.{Entry}
+use Rattle.champ_trie.specs.Trie.{IsTrieOf}
+use Rattle.champ_kinds.specs.Root.{Root}
+use Rattle.champ_kinds.specs.Binding.{Binding}
+use Rattle.champ_kinds.specs.Kinds.{IsMapOf, IsSetOf}
+
+module _ {T : Type 0} where
+  -- what was a good vector is one
+  abbrev pub KeepsVectors : Heap T → Heap T → Type 0
+  KeepsVectors old new = (l : ℕ) → IsGoodVector old l → IsGoodVector new l
+
+  -- what was made is given up again: each link is held as often as before, and each vector that is held is one still
+  pub record GivesBack (old new : Heap T) : Type 0 where
+    pub holds : (k : ℕ) → holds_at new k ≡ holds_at old k
+    pub count : hold_count new ≡ hold_count old
+    pub vectors : (l : ℕ) → 0 < holds_at old l → IsGoodVector old l → IsGoodVector new l
+
+  module _ (cmp : T → T → Ordering) (code : T → ℕ) where
+    -- a trie, by so many bits; a map; a set
+    abbrev pub IsSomeTrie : ℕ → Heap T → ℕ → Type 0
+    IsSomeTrie bits h l = (E : List (Entry T)) × IsTrieOf cmp code bits h l E
+
+    abbrev pub IsSomeMap : Heap T → Root → Type 0
+    IsSomeMap h r = (M : List (Binding T)) × IsMapOf cmp code h r M
+
+    abbrev pub IsSomeSet : Heap T → Root → Type 0
+    IsSomeSet h r = (E : List (Entry T)) × IsSetOf cmp code h r E
+
+    -- what was a map is one; what was a set
+    abbrev pub KeepsMaps : Heap T → Heap T → Type 0
+    KeepsMaps old new = (r : Root) → IsSomeMap old r → IsSomeMap new r
+
+    abbrev pub KeepsSets : Heap T → Heap T → Type 0
+    KeepsSets old new = (r : Root) → IsSomeSet old r → IsSomeSet new r

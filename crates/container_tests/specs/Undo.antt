@@ -1,0 +1,35 @@
+-- What a store of notes promises.
+use Rattle.std.specs.Prelude.{◌≡◌, ◌+◌, ◌<◌, ◌≤◌, ℕ, List}
+use Rattle.std.specs.List.{All}
+use Rattle.std.specs.declared.cmp.Ordering.{Ordering}
+use Rattle.elem_core.specs.declared.codes.TheConstants.{CODE_BITS}
+use Rattle.node_heap.specs.Heap.{Heap, holds_at, hold_count, one_at}
+use Rattle.rrb_core.specs.Vector.{elements, IsGoodVector}
+use Rattle.champ_kinds.specs.Root.{Root}
+use Rattle.champ_kinds.specs.Binding.{Binding}
+use Rattle.champ_kinds.specs.Kinds.{IsMapOf}
+use Rattle.container_tests.specs.Stands.{IsSomeMap}
+use Rattle.container_tests.specs.declared.store.Store.{Store}
+
+-- how often a store holds a link: once as the root of its notes, once as that of its history
+abbrev pub held_by : Store → ℕ → ℕ
+held_by s k = one_at s.notes.root k + one_at s.earlier k
+
+-- the notes of a version, by the root that the history keeps
+abbrev pub version_at : ℕ → Root
+version_at l = record { root = l; bits = CODE_BITS }
+
+module _ {T : Type 0} (cmp : T → T → Ordering) (code : T → ℕ) where
+  -- the notes are a map, the history is a vector of maps, and both are held
+  pub record IsStore (h : Heap T) (s : Store) : Type 0 where
+    pub notes : IsSomeMap cmp code h s.notes
+    pub bits : s.notes.bits ≡ CODE_BITS
+    pub earlier : IsGoodVector h s.earlier
+    pub versions : All (λ l. IsSomeMap cmp code h (version_at l)) (elements h s.earlier)
+    pub held : (k : ℕ) → held_by s k ≤ holds_at h k
+
+  -- the store's own holds alone have changed, and a map of which anyone else has a hold is the same map
+  pub record KeepsOthers (old new : Heap T) (s s' : Store) : Type 0 where
+    pub holds : (k : ℕ) → holds_at new k + held_by s k ≡ holds_at old k + held_by s' k
+    pub count : hold_count new ≡ hold_count old
+    pub maps : (r : Root) (M : List (Binding T)) → held_by s r.root < holds_at old r.root → IsMapOf cmp code old r M → IsMapOf cmp code new r M

@@ -1,0 +1,77 @@
+//! Chains of numbers and of texts.
+ghost use Rattle.std.specs.Prelude.{◌≢◌, ◌+◌, ◌<◌, ◌^◌, List, IfOk};
+ghost use Rattle.std.specs.declared.cmp.Ordering.TheVariants.{Equal};
+ghost use Rattle.node_heap.specs.Heap.{form_at, hold_count};
+ghost use Rattle.champ_chain.specs.Entry.{Entry};
+ghost use Rattle.champ_chain.specs.Chain.{IsChain};
+
+use crate::samples::text;
+use champ_chain::{find, join, length, with, without};
+use elem_core::{Element, Name, NoMemory, Num, Probe};
+use node_heap::{Heap, Link};
+use std::cmp::Ordering;
+use std::test::Fail;
+
+// A chain of three values, of which the first two have different keys.
+fn chain_of<T: Element>(heap: &mut Heap<T>, a: T, b: T, c: T) -> Result<Link, NoMemory>
+    requires few { hold_count heap.old < 2 ^ 50 }
+    requires apart { T.cmp a b ≢ Equal }
+    ensures chain { IfOk result (λ l. (E : List (Entry T)) × IsChain T.cmp (form_at heap.new) l E) }
+    ensures few { IfOk result (λ l. hold_count heap.new < 2 ^ 51) }
+{
+    heap.reserve(3, 0)?;
+    let first = heap.cell(a);
+    let second = heap.cell(b);
+    let third = heap.cell(c);
+    let two = join(heap, first, second)?;
+    with(heap, two, third)
+}
+
+// How long the chain of three values is, whether it has the key, and whether the key can be taken out of it.
+fn looked<T: Element, P: Probe<T>>(
+    heap: &mut Heap<T>,
+    a: T,
+    b: T,
+    c: T,
+    key: &P,
+) -> Result<(usize, bool, bool), NoMemory>
+    requires few { hold_count heap.old < 2 ^ 50 }
+    requires apart { T.cmp a b ≢ Equal }
+{
+    let chain = chain_of(heap, a, b, c)?;
+    let len = length(heap, chain);
+    let found = find(heap, chain, key).is_some();
+    let left = without(heap, chain, key)?;
+    Ok((len, found, left.is_some()))
+}
+
+// The same, at a number of its own where the first two keys are the same.
+fn seen<T: Element, P: Probe<T>>(
+    heap: &mut Heap<T>,
+    a: T,
+    b: T,
+    c: T,
+    key: &P,
+) -> Result<(usize, bool, bool), NoMemory>
+    requires { hold_count heap.old < 2 ^ 50 }
+{
+    match a.cmp(&b) {
+        Ordering::Less => looked(heap, a, b, c, key),
+        Ordering::Equal => Ok((0, false, false)),
+        Ordering::Greater => looked(heap, a, b, c, key),
+    }
+}
+
+#[test]
+fn sees_numbers_and_texts(rt: HostRuntime) -> Result<(), Fail> {
+    let mut numbers = Heap::new(rt.alloc());
+    let answer = seen(&mut numbers, Num(5), Num(2), Num(9), &Num(2))?;
+    assert_eq!(rt; answer, (3, true, true));
+    let mut texts = Heap::new(rt.alloc());
+    let a = text(&rt, "a")?;
+    let b = text(&rt, "b")?;
+    let c = text(&rt, "c")?;
+    let answer = seen(&mut texts, a, b, c, &Name::new("d").ok_or("name")?)?;
+    assert_eq!(rt; answer, (3, false, false));
+    Ok(())
+}

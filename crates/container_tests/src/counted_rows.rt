@@ -1,0 +1,83 @@
+//! Rows, holds and heads of one heap.
+ghost use Rattle.std.specs.Prelude.{◌^◌, ◌<◌, ◌≤◌, [], ◌∷◌, IfOk, OnErr, IsOk};
+ghost use Rattle.node_heap.specs.Forms.{leaf, tree_cell, tree_node, trees_of, IsTree};
+ghost use Rattle.node_heap.specs.Heap.{form_at, hold_count};
+ghost use Rattle.node_heap.specs.Calls.{Answered, Unchanged};
+
+use elem_core::{NoMemory, Num};
+use node_heap::{Head, Heap, Link, Sums};
+use std::test::Fail;
+
+// A leaf of two cells, which stands for a while in a pair with a third.
+fn leaf_again<T: Drop>(heap: &mut Heap<T>, a: T, b: T, c: T) -> Result<Link, NoMemory>
+    requires { hold_count heap.old < 2 ^ 59 }
+    ensures answered { IfOk result (λ link. Answered heap.old heap.new [] link 3 2) }
+    ensures tree { IfOk result (λ link. IsTree (form_at heap.new) link (tree_node leaf (trees_of (tree_cell a ∷ tree_cell b ∷ [])))) }
+    ensures refused { OnErr result (Unchanged heap.old heap.new) }
+    ensures ample { 3 ≤ heap.old.spare_cells → 2 ≤ heap.old.spare_nodes → IsOk result }
+{
+    heap.reserve(3, 2)?;
+    let first = heap.cell(a);
+    let second = heap.cell(b);
+    let both = heap.node(Head::Leaf, &[first, second]);
+    let third = heap.cell(c);
+    heap.hold(both);
+    let pair = heap.node(Head::Pair, &[both, third]);
+    heap.release(pair);
+    heap.hold(both);
+    heap.release(both);
+    Ok(both)
+}
+
+// Two cells, and a leaf in which the first stands twice.
+#[test]
+fn releases_a_leaf_with_its_cells(rt: HostRuntime) -> Result<(), Fail> {
+    let mut heap: Heap<Num> = Heap::new(rt.alloc());
+    heap.reserve(2, 1)?;
+    let first = heap.cell(Num(7));
+    let second = heap.cell(Num(8));
+    heap.hold(first);
+    let leaf = heap.node(Head::Leaf, &[first, first, second]);
+    assert_eq!(rt; heap.owners(first), 2);
+    assert_eq!(rt; heap.live(), 3);
+    assert_eq!(rt; heap.made(), 3);
+    assert_eq!(rt; heap.value(first), Some(&Num(7)));
+    assert_eq!(rt; heap.links(leaf), [first, first, second].as_slice());
+    heap.release(leaf);
+    assert_eq!(rt; heap.live(), 0);
+    assert_eq!(rt; heap.made(), 3);
+    let again = heap.cell(Num(9));
+    let pair = heap.node(Head::Pair, &[again]);
+    assert_eq!(rt; heap.owners(pair), 1);
+    assert_eq!(rt; heap.made(), 5);
+    Ok(())
+}
+
+#[test]
+fn reads_heads(rt: HostRuntime) -> Result<(), Fail> {
+    let mut heap: Heap<u32> = Heap::new(rt.alloc());
+    heap.reserve(1, 1)?;
+    let cell = heap.cell(7);
+    let sums = Sums::from_slice(&[16, 17]);
+    let inner = heap.node(Head::Inner { height: 1, sums }, &[]);
+    assert!(rt; heap.head(cell).is_none());
+    assert!(rt; heap.value(inner).is_none());
+    match heap.head(inner) {
+        Some(Head::Inner { height, sums }) => {
+            assert_eq!(rt; *height, 1);
+            assert_eq!(rt; sums.as_slice(), [16, 17].as_slice());
+        }
+        _ => assert!(rt; false),
+    }
+    Ok(())
+}
+
+#[test]
+fn keeps_a_leaf(rt: HostRuntime) -> Result<(), Fail> {
+    let mut heap: Heap<u32> = Heap::new(rt.alloc());
+    let leaf = leaf_again(&mut heap, 1, 2, 3)?;
+    assert_eq!(rt; heap.live(), 3);
+    assert_eq!(rt; heap.made(), 5);
+    assert_eq!(rt; heap.owners(leaf), 1);
+    Ok(())
+}

@@ -1,0 +1,257 @@
+//! Joins and cuts of vectors of numbers, beside those of lists.
+ghost use Rattle.std.specs.Prelude.{◌≡◌, ◌+◌, ◌^◌, ◌<◌, ◌≤◌, length, IfOk, OnOk, IsSome};
+ghost use Rattle.node_heap.specs.Heap.{row_at, holds_at, hold_count};
+ghost use Rattle.rrb_core.specs.Vector.{IsGoodVector};
+ghost use Rattle.container_tests.specs.Stands.{KeepsVectors, GivesBack};
+
+use crate::samples::pushed;
+use elem_core::Num;
+use node_heap::{Heap, Link};
+use rrb_core::{Flex, FlexRef};
+use rrb_join::{JoinFault, SliceFault, concat, drop_front, erase, insert, slice};
+use std::alloc::Global;
+use std::test::Fail;
+
+// The vector, and the same elements once more.
+fn doubled(heap: &mut Heap<Num>, root: Link) -> Result<Link, Fail>
+    requires good { IsGoodVector heap.old root }
+    requires few { hold_count heap.old < 2 ^ 59 }
+    ensures good { IfOk result (λ l. IsGoodVector heap.new l) }
+    ensures others { IfOk result (λ _. KeepsVectors heap.old heap.new) }
+    ensures count { IfOk result (λ l. hold_count heap.new ≡ hold_count heap.old + 1) }
+{
+    let vector = concat(heap, FlexRef::at(root), FlexRef::at(root))?;
+    Ok(vector.into_root())
+}
+
+// The elements of the vector, doubled so many times.
+fn doubled_often(heap: &mut Heap<Num>, root: Link, times: u32) -> Result<Link, Fail>
+    requires good { IsGoodVector heap.old root }
+    requires few { hold_count heap.old + times < 2 ^ 58 }
+    ensures good { IfOk result (λ l. IsGoodVector heap.new l) }
+    ensures others { IfOk result (λ _. KeepsVectors heap.old heap.new) }
+    ensures count { IfOk result (λ _. hold_count heap.new ≡ hold_count heap.old + times) }
+{
+    let mut root = root;
+    for step in 0..times {
+        root = doubled(heap, root)?;
+    }
+    Ok(root)
+}
+
+// Two vectors, each from one element by doubling, are together longer by one than a vector may be.
+#[test]
+fn joins_up_to_the_greatest_length(rt: HostRuntime) -> Result<(), Fail> {
+    let mut heap: Heap<Num> = Heap::new(rt.alloc());
+    let empty = Flex::empty(&mut heap)?.into_root();
+    let three = pushed(&mut heap, empty, 3)?;
+    let four = pushed(&mut heap, empty, 4)?;
+    let left = FlexRef::at(doubled_often(&mut heap, three, 31)?);
+    let right = FlexRef::at(doubled_often(&mut heap, four, 31)?);
+    assert_eq!(rt; left.len(&heap), 1 << 31);
+    assert_eq!(rt; right.len(&heap), 1 << 31);
+    match concat(&mut heap, left, right) {
+        Ok(longer) => {
+            let _root = longer.into_root();
+            assert!(rt; false);
+        }
+        Err(fault) => assert_eq!(rt; fault, JoinFault::Long),
+    }
+    Ok(())
+}
+
+// Two vectors of 128 elements have the height 1, and rows along the seam alone are made: five at most.
+#[test]
+fn joins_along_the_seam_alone(rt: HostRuntime) -> Result<(), Fail> {
+    let mut heap: Heap<Num> = Heap::new(rt.alloc());
+    let empty = Flex::empty(&mut heap)?.into_root();
+    let one = pushed(&mut heap, empty, 1)?;
+    let root = doubled_often(&mut heap, one, 7)?;
+    assert_eq!(rt; FlexRef::at(root).height(&heap), 1);
+    let made = heap.made();
+    let _joined = doubled(&mut heap, root)?;
+    assert!(rt; heap.made().wrapping_sub(made) <= 5);
+    Ok(())
+}
+
+// Each call once, on a few elements.
+#[test]
+fn inserts_joins_and_cuts(rt: HostRuntime) -> Result<(), Fail> {
+    let mut heap: Heap<Num> = Heap::new(rt.alloc());
+    heap.reserve(1, 0)?;
+    let cell = heap.cell(Num(1));
+    let empty = Flex::empty(&mut heap)?.into_root();
+    let one = insert(&mut heap, FlexRef::at(empty), 0, cell)?.into_root();
+    let two = concat(&mut heap, FlexRef::at(one), FlexRef::at(one))?.into_root();
+    let rest = drop_front(&mut heap, FlexRef::at(two), 1)?.into_root();
+    let tail = slice(&mut heap, FlexRef::at(rest), 0, 1)?.into_root();
+    assert!(rt; FlexRef::at(tail).get(&heap, 0) == Some(cell));
+    assert!(rt; FlexRef::at(tail).get(&heap, 1) == None);
+    let none = erase(&mut heap, FlexRef::at(tail), 0, 1)?;
+    assert_eq!(rt; none.view().len(&heap), 0);
+    let _root = none.into_root();
+    Ok(())
+}
+
+#[test]
+fn refuses_a_part_that_ends_before_it_begins(rt: HostRuntime) -> Result<(), Fail> {
+    let mut heap: Heap<Num> = Heap::new(rt.alloc());
+    let empty = Flex::empty(&mut heap)?.into_root();
+    let one = pushed(&mut heap, empty, 1)?;
+    let four = doubled_often(&mut heap, one, 2)?;
+    match slice(&mut heap, FlexRef::at(four), 3, 2) {
+        Ok(part) => {
+            let _root = part.into_root();
+            assert!(rt; false);
+        }
+        Err(fault) => assert_eq!(rt; fault, SliceFault::Range),
+    }
+    Ok(())
+}
+
+// The number in the cell of an element.
+fn number_in(heap: &Heap<Num>, element: Link) -> Option<u32>
+    requires { IsSome (row_at heap.now element) }
+{
+    heap.value(element).map(|number| number.0)
+}
+
+// That the vector holds these numbers, in order and no more.
+fn reads(heap: &Heap<Num>, root: Link, numbers: &[u32]) -> Result<(), Fail>
+    requires { IsGoodVector heap.now root }
+{
+    let vector = FlexRef::at(root);
+    let len = vector.len(heap);
+    if len as usize != numbers.len() {
+        return Err(Fail::new("the lengths differ"));
+    }
+    let mut lines = vector.lines(heap, 0, len);
+    for number in numbers {
+        match lines.next() {
+            Some(element) => {
+                if number_in(heap, element) != Some(*number) {
+                    return Err(Fail::new("the numbers differ"));
+                }
+            }
+            None => return Err(Fail::new("a number is missing")),
+        }
+    }
+    Ok(())
+}
+
+// A new number at the index, in a vector beside this one, and in the list.
+fn inserts_as_the_list(
+    alloc: Global,
+    heap: &mut Heap<Num>,
+    root: Link,
+    numbers: &[u32],
+    index: u32,
+) -> Result<(), Fail>
+    requires good { IsGoodVector heap.old root }
+    requires few { hold_count heap.old < 2 ^ 58 }
+    requires inside { index ≤ length numbers.now }
+    ensures { OnOk result (GivesBack heap.old heap.new) }
+{
+    let mut list = Vec::from_slice(alloc, numbers)?;
+    list.insert(index as usize, 7)?;
+    heap.reserve(1, 0)?;
+    let cell = heap.cell(Num(7));
+    let new = insert(heap, FlexRef::at(root), index, cell)?.into_root();
+    reads(heap, new, &list)?;
+    Flex::from_root(new).release(heap);
+    Ok(())
+}
+
+// The middle third erased, in a vector beside this one, and in the list.
+fn erases_as_the_list(
+    alloc: Global,
+    heap: &mut Heap<Num>,
+    root: Link,
+    numbers: &[u32],
+) -> Result<(), Fail>
+    requires good { IsGoodVector heap.old root }
+    requires few { hold_count heap.old < 2 ^ 58 }
+    requires short { length numbers.now < 2 ^ 31 }
+    ensures { OnOk result (GivesBack heap.old heap.new) }
+{
+    let from = numbers.len() / 3;
+    let to = 2 * numbers.len() / 3;
+    let mut list = Vec::from_slice(alloc, &numbers[..from])?;
+    list.extend_from_slice(&numbers[to..])?;
+    let new = erase(heap, FlexRef::at(root), from as u32, to as u32)?.into_root();
+    reads(heap, new, &list)?;
+    Flex::from_root(new).release(heap);
+    Ok(())
+}
+
+// Two vectors joined, and the join with a number more at each end and without its middle third.
+fn joins_as_the_lists(
+    alloc: Global,
+    heap: &mut Heap<Num>,
+    left: Link,
+    left_numbers: &[u32],
+    right: Link,
+    right_numbers: &[u32],
+) -> Result<(), Fail>
+    requires left { IsGoodVector heap.old left }
+    requires right { IsGoodVector heap.old right }
+    requires few { hold_count heap.old + 1 < 2 ^ 58 }
+    requires short { length left_numbers.now + length right_numbers.now < 2 ^ 31 }
+    ensures { OnOk result (GivesBack heap.old heap.new) }
+{
+    let mut list = Vec::from_slice(alloc, left_numbers)?;
+    list.extend_from_slice(right_numbers)?;
+    let new = concat(heap, FlexRef::at(left), FlexRef::at(right))?.into_root();
+    reads(heap, new, &list)?;
+    inserts_as_the_list(alloc, heap, new, &list, 0)?;
+    inserts_as_the_list(alloc, heap, new, &list, list.len() as u32)?;
+    erases_as_the_list(alloc, heap, new, &list)?;
+    Flex::from_root(new).release(heap);
+    Ok(())
+}
+
+// A part of the vector, and that part joined to the vector on either side.
+fn cuts_as_the_list(
+    alloc: Global,
+    heap: &mut Heap<Num>,
+    root: Link,
+    numbers: &[u32],
+    from: u32,
+    to: u32,
+) -> Result<(), Fail>
+    requires good { IsGoodVector heap.old root }
+    requires held { 0 < holds_at heap.old root }
+    requires few { hold_count heap.old + 2 < 2 ^ 58 }
+    requires short { length numbers.now < 2 ^ 30 }
+    requires order { from ≤ to }
+    requires inside { to ≤ length numbers.now }
+    ensures { OnOk result (GivesBack heap.old heap.new) }
+{
+    let list = &numbers[from as usize..to as usize];
+    let part = slice(heap, FlexRef::at(root), from, to)?.into_root();
+    reads(heap, part, list)?;
+    joins_as_the_lists(alloc, heap, root, numbers, part, list)?;
+    joins_as_the_lists(alloc, heap, part, list, root, numbers)?;
+    Flex::from_root(part).release(heap);
+    Ok(())
+}
+
+// Parts of a vector of 2,000 numbers, each joined to it on either side, with a number more at each end and without the middle
+// third. All hold what the same of a list holds, and leave no row behind once they are given up.
+#[test]
+fn cuts_and_joins_as_lists_do(rt: HostRuntime) -> Result<(), Fail> {
+    let mut heap: Heap<Num> = Heap::new(rt.alloc());
+    let mut numbers: Vec<u32> = Vec::new(rt.alloc());
+    let mut root = Flex::empty(&mut heap)?.into_root();
+    'pushes: for number in 0..2_000u32 {
+        root = pushed(&mut heap, root, number)?;
+        numbers.push(number)?;
+    }
+    let live = heap.live();
+    'cuts: for step in 0..28u32 {
+        let from = 37 * step;
+        cuts_as_the_list(rt.alloc(), &mut heap, root, &numbers, from, 2_000 - from)?;
+        assert_eq!(rt; heap.live(), live);
+    }
+    Ok(())
+}

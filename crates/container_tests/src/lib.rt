@@ -1,0 +1,23 @@
+//! What stands on all the containers: a small store that uses them, and the tests of the heap, of vectors, and of
+//! chains, tries, maps and sets.
+#![tactic(auto)]
+
+#[cfg(test)]
+mod chains;
+#[cfg(test)]
+mod counted_rows;
+#[cfg(test)]
+mod joins;
+#[cfg(test)]
+mod kinds;
+#[cfg(test)]
+mod notes;
+#[cfg(test)]
+mod same_root;
+#[cfg(test)]
+mod samples;
+pub mod store;
+#[cfg(test)]
+mod tries;
+#[cfg(test)]
+mod vectors;

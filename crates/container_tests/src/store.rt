@@ -1,0 +1,142 @@
+//! Named notes with an undo history: what a program writes on top of the containers.
+//!
+//! The notes are a map. The history is a vector, and its elements are the roots of the maps that came before. Each edit
+//! makes a new map and a new vector beside the old ones and shares nearly all rows with them.
+ghost use Rattle.std.specs.Prelude.{◌≡◌, ℕ, ◌+◌, ◌^◌, ◌<◌, ◌≤◌, ◌↔◌, List, [], ◌∷◌, ◌++◌, Ok, true, false, IfOk, OnErr, OnOk};
+ghost use Rattle.node_heap.specs.Heap.{holds_at, hold_count};
+ghost use Rattle.node_heap.specs.Calls.{Builds};
+ghost use Rattle.rrb_core.specs.Vector.{elements};
+ghost use Rattle.champ_kinds.specs.Root.{Root};
+ghost use Rattle.champ_kinds.specs.Binding.{Binding};
+ghost use Rattle.champ_kinds.specs.Kinds.{IsMapOf};
+
+use champ_kinds::{Map, map_insert};
+use elem_core::{CODE_BITS, Element, NoMemory};
+use node_heap::Heap;
+use rrb_core::{Flex, PushFault, push, take};
+use std::mem;
+
+/// Notes by name, and the versions that came before. It owns one hold of each of its two roots, and is given up by
+/// `close`.
+pub struct Store {
+    /// The notes as they stand.
+    pub notes: Map,
+    /// The roots of the earlier versions, the oldest first.
+    pub earlier: Flex,
+}
+
+impl Store {
+    ghost use Rattle.container_tests.specs.Undo.{IsStore, KeepsOthers, held_by};
+
+    /// A store without notes and without a history. Refused only where memory runs out.
+    pub fn new<T: Element>(heap: &mut Heap<T>) -> Result<Store, NoMemory>
+        requires { hold_count heap.old < 2 ^ 50 }
+        ensures store { IfOk result (IsStore T.cmp T.code_of heap.new) }
+        ensures first { IfOk result (λ s. elements heap.new s.earlier ≡ []) }
+        ensures count { IfOk result (λ _. hold_count heap.new ≡ hold_count heap.old + 2) }
+    {
+        let notes = Map::empty(heap, CODE_BITS)?;
+        match Flex::empty(heap) {
+            Ok(earlier) => Ok(Store { notes, earlier }),
+            Err(fault) => {
+                notes.release(heap);
+                Err(fault)
+            }
+        }
+    }
+
+    /// Puts this note at the name, and the version before into the history. Refused where memory runs out or the history
+    /// is full, and then the store is as it was.
+    pub fn put<T: Element>(&mut self, heap: &mut Heap<T>, name: T, note: T) -> Result<(), PushFault>
+        requires few { hold_count heap.old < 2 ^ 50 }
+        requires store { IsStore T.cmp T.code_of heap.old self.old }
+        ensures store { IsStore T.cmp T.code_of heap.new self.new }
+        ensures others { KeepsOthers T.cmp T.code_of heap.old heap.new self.old self.new }
+        ensures kept { OnOk result (elements heap.new self.new.earlier ≡ elements heap.old self.old.earlier ++ self.old.notes.root ∷ []) }
+        ensures refused { OnErr result (self.new ≡ self.old) }
+    {
+        heap.reserve(1, 0)?;
+        let note = heap.cell(note);
+        let notes = match map_insert(heap, self.notes.view(), name, note) {
+            Ok(notes) => notes,
+            Err(fault) => {
+                heap.release(note);
+                return Err(PushFault::from(NoMemory::from(fault)));
+            }
+        };
+        let before = self.notes.share(heap).into_root();
+        match push(heap, self.earlier.view(), before) {
+            Ok(earlier) => {
+                self.turn_to(heap, notes, earlier);
+                Ok(())
+            }
+            Err(fault) => {
+                heap.release(before);
+                notes.release(heap);
+                Err(fault)
+            }
+        }
+    }
+
+    /// Goes back to the version before the last `put`. False where there is none. Refused where memory runs out, and then
+    /// the store is as it was.
+    pub fn undo<T: Element>(&mut self, heap: &mut Heap<T>) -> Result<bool, NoMemory>
+        requires few { hold_count heap.old < 2 ^ 50 }
+        requires store { IsStore T.cmp T.code_of heap.old self.old }
+        ensures store { IsStore T.cmp T.code_of heap.new self.new }
+        ensures others { KeepsOthers T.cmp T.code_of heap.old heap.new self.old self.new }
+        ensures back { result ≡ Ok true → elements heap.new self.new.earlier ++ self.new.notes.root ∷ [] ≡ elements heap.old self.old.earlier }
+        ensures first { (result ≡ Ok false) ↔ (elements heap.old self.old.earlier ≡ []) }
+        ensures refused { OnErr result (self.new ≡ self.old) }
+    {
+        let count = self.earlier.view().len(heap);
+        if count == 0 {
+            return Ok(false);
+        }
+        let Some(root) = self.earlier.view().get(heap, count - 1) else {
+            unreachable!()
+        };
+        let earlier = take(heap, self.earlier.view(), count - 1)?;
+        heap.hold(root);
+        self.turn_to(heap, Map::from_root(root, CODE_BITS), earlier);
+        Ok(true)
+    }
+
+    /// The notes as they stand, for the caller to keep: they read the same whatever is put or undone later.
+    pub fn version<T: Element>(&self, heap: &mut Heap<T>) -> Map
+        requires few { hold_count heap.old < 2 ^ 50 }
+        requires store { IsStore T.cmp T.code_of heap.old self.now }
+        ensures same { result ≡ self.now.notes }
+        ensures store { IsStore T.cmp T.code_of heap.new self.now }
+        ensures builds { Builds heap.old heap.new [] (result.root ∷ []) 0 0 }
+    {
+        self.notes.share(heap)
+    }
+
+    /// Gives both roots up: rows that nobody else keeps are freed.
+    pub fn close<T: Element>(self, heap: &mut Heap<T>)
+        requires { IsStore T.cmp T.code_of heap.old self }
+        ensures holds { (k : ℕ) → holds_at heap.new k + held_by self k ≡ holds_at heap.old k }
+        ensures count { hold_count heap.new + 2 ≡ hold_count heap.old }
+    {
+        let Store { notes, earlier } = self;
+        notes.release(heap);
+        earlier.release(heap);
+    }
+
+    // Takes over these roots and gives up those that it had.
+    fn turn_to<T: Element>(&mut self, heap: &mut Heap<T>, notes: Map, earlier: Flex)
+        requires store { IsStore T.cmp T.code_of heap.old (record { notes = notes; earlier = earlier }) }
+        requires held { (k : ℕ) → held_by self.old k + held_by (record { notes = notes; earlier = earlier }) k ≤ holds_at heap.old k }
+        ensures after { self.new ≡ record { notes = notes; earlier = earlier } }
+        ensures store { IsStore T.cmp T.code_of heap.new self.new }
+        ensures items { elements heap.new earlier ≡ elements heap.old earlier }
+        ensures holds { (k : ℕ) → holds_at heap.new k + held_by self.old k ≡ holds_at heap.old k }
+        ensures count { hold_count heap.new + 2 ≡ hold_count heap.old }
+        ensures maps { (r : Root) (M : List (Binding T)) → held_by self.old r.root < holds_at heap.old r.root →
+            IsMapOf T.cmp T.code_of heap.old r M → IsMapOf T.cmp T.code_of heap.new r M }
+    {
+        mem::replace(&mut self.notes, notes).release(heap);
+        mem::replace(&mut self.earlier, earlier).release(heap);
+    }
+}
