@@ -1,11 +1,13 @@
 #!/usr/bin/env bash
-# Makes and frees ten million rows of the counted heap, and tells the time and the bytes of a row. COUNT in the environment
-# takes the place of a tenth of these.
-# It writes a small program beside a copy of the crates that it stands on, in a folder of its own,
-# since the gate takes no program outside the listed crates. Usage: bench/heap.sh [FOLDER]
+# Makes and frees ten million rows of the counted heap, and tells the time and the bytes of a row.
+#   bench/heap.sh           it is measured beside nothing else, so it needs no cargo
+#   bench/heap.sh FOLDER    the folder of a cargo set-up, as the other benches take it; it isn't used here
+# COUNT in the environment takes the place of a tenth of these.
+# It writes small programs beside a copy of the crates that they stand on, in a folder of its own that goes when it ends,
+# since the gate takes no program outside the listed crates.
 set -eu
 . "$(dirname -- "$0")/shared.sh"
-work=${1:-$(mktemp -d)}
+begin "$@"
 rounds=10
 
 copy_crates elem_core node_heap

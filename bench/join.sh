@@ -2,7 +2,7 @@
 # Splits, joins, inserts and erases at random places of a vector of a million elements, beside `im_rc::Vector`, and then
 # joins at six lengths, best of three.
 #   bench/join.sh           where cargo finds `im_rc` by itself, without a download
-#   bench/join.sh FOLDER    with cargo set up as FOLDER/.cargo/config.toml says, as in the folder of a yardstick
+#   bench/join.sh FOLDER    with cargo set up as FOLDER/.cargo/config.toml says
 # COUNT and TURNS in the environment take the places of the million and of the 10,000 changes of each kind.
 # It writes a small program beside a copy of the crates that it stands on, in a folder of its own, since the gate takes no
 # program outside the listed crates. Without cargo or `im_rc` it says so and runs the rest.
@@ -158,18 +158,23 @@ add_measures u32
 add_vectors
 prove_turns turns
 add_spent inserted insert index
-prove_new erased erase '(answered-beside c.in_ok-erase.ensures.answered).more' 'rrb_join.proofs.GivenUpLemmas.{answered-beside}'
+prove_new erased erase '(one-more c.in_ok-erase.ensures.answered)' 'join_rows.proofs.Parts.{one-more}'
 echo 'pub mod Parts' >> "$crate/proofs/Lib.antt"
 cat > "$crate/proofs/Parts.antt" <<'PROOF'
--- Two parts of a vector beside it, and what they are joined to.
+-- A new vector beside others, and two parts of a vector beside it and what they are joined to.
 use Rattle.std.proofs.Common.{◌≡◌, ℕ, ◌+◌, [], arith}
 use Rattle.node_heap.specs.Heap.{Heap, holds_at, one_at}
 use Rattle.node_heap.specs.Calls.{Answered}
-use Rattle.rrb_join.proofs.GivenUpLemmas.{answered-beside}
 
 module _ {T : Type 0} where
+  -- a call that spent nothing: the new vector is held once more, and every other link as often as before
+  pub one-more : {a b : Heap T} {new n m : ℕ} → Answered a b [] new n m → (k : ℕ) → holds_at b k ≡ holds_at a k + one_at new k
+  one-more {a} {b} {new} answered k =
+      let more : holds_at b k + 0 ≡ holds_at a k + one_at new k = answered.holds k in
+      omega (arith, more)
+
   pub three-more : {a b c d : Heap T} {left right new n m p : ℕ} → Answered a b [] left 0 n → Answered b c [] right 0 m → Answered c d [] new 0 p → (k : ℕ) → holds_at d k ≡ holds_at a k + one_at left k + one_at right k + one_at new k
-  three-more first second third k = omega (arith, (answered-beside first).more k, (answered-beside second).more k, (answered-beside third).more k)
+  three-more first second third k = omega (arith, one-more first k, one-more second k, one-more third k)
 PROOF
 mkdir -p "$crate/proofs/rotated"
 cat > "$crate/proofs/rotated/Answers.antt" <<'PROOF'
@@ -234,18 +239,24 @@ for pair in cut:part joined:twice; do
     answer=${pair#*:}
     mkdir -p "$crate/proofs/$function"
     cat > "$crate/proofs/$function/Answers.antt" <<PROOF
-use Rattle.std.proofs.Common.{arith}
-use Rattle.rrb_join.proofs.GivenUpLemmas.{answered-beside, beside-held, given-up-holds, given-up-stay}
+use Rattle.std.proofs.Common.{refl, arith}
+use Rattle.rrb_core.proofs.LinkCounts.{one-same}
+use Rattle.rrb_core.proofs.Stays.{extended-good}
+use Rattle.join_rows.proofs.Parts.{one-more}
 use Rattle.join_rows.proofs.$function.Goals as goal
 
 pub release-requires : goal.release-requires
-release-requires c = beside-held (answered-beside c.in_ok-$answer.ensures.answered)
+release-requires c =
+    let new = c.in_ok-$answer.$answer in
+    omega (arith, one-more c.in_ok-$answer.ensures.answered new, one-same new new refl)
 
 pub returns-clause-good : goal.returns-clause-good
-returns-clause-good c = given-up-stay (answered-beside c.in_ok-$answer.ensures.answered) c.release.ensures.vectors c.args.root c.requires.held c.requires.good
+returns-clause-good c =
+    let old = c.args.root in
+    (c.release.ensures.vectors old (omega (arith, c.requires.held, one-more c.in_ok-$answer.ensures.answered old)) (extended-good old c.in_ok-$answer.ensures.answered.extends c.requires.good)).0
 
 pub returns-clause-held : goal.returns-clause-held
-returns-clause-held c = omega (arith, c.requires.held, given-up-holds (answered-beside c.in_ok-$answer.ensures.answered) c.release.ensures.releases c.args.root)
+returns-clause-held c = omega (arith, c.requires.held, one-more c.in_ok-$answer.ensures.answered c.args.root, c.release.ensures.releases.holds c.args.root)
 PROOF
 done
 

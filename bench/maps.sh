@@ -2,7 +2,7 @@
 # A million insertions, look-ups and removals over one map, and the same over a copy that is kept, beside
 # `im_rc::HashMap` and std's `HashMap`, best of three.
 #   bench/maps.sh           where cargo finds `im_rc` by itself, without a download
-#   bench/maps.sh FOLDER    with cargo set up as FOLDER/.cargo/config.toml says, as in the folder of a yardstick
+#   bench/maps.sh FOLDER    with cargo set up as FOLDER/.cargo/config.toml says
 # COUNT in the environment takes the place of the million.
 # It writes a small program beside a copy of the crates that it stands on, in a folder of its own, since the gate takes no
 # program outside the listed crates. Without cargo or `im_rc` it says so and runs the rest.
@@ -246,15 +246,15 @@ cat > "$crate/specs/Turn.antt" <<'SPEC'
 -- One map after another.
 use Rattle.std.specs.Prelude.{◌≡◌, ℕ, ◌+◌, ◌<◌, List}
 use Rattle.std.specs.declared.cmp.Ordering.{Ordering}
-use Rattle.node_heap.specs.Heap.{Heap, form_at, holds_at, one_at}
-use Rattle.champ_chain.specs.Entry.{Entry}
+use Rattle.node_heap.specs.Heap.{Heap, holds_at, one_at}
 use Rattle.champ_kinds.specs.Root.{Root}
-use Rattle.champ_kinds.specs.Kinds.{IsMap}
+use Rattle.champ_kinds.specs.Binding.{Binding}
+use Rattle.champ_kinds.specs.Kinds.{IsMapOf}
 use Rattle.champ_kinds.specs.Laws.{KeepsContainer}
 
 module _ {T : Type 0} where
   abbrev pub IsGood : (T → T → Ordering) → (T → ℕ) → Heap T → Root → Type 0
-  IsGood cmp code h r = (M : List (Entry T)) × IsMap cmp code (form_at h) r M
+  IsGood cmp code h r = (M : List (Binding T)) × IsMapOf cmp code h r M
 
   -- the hold went from one root to another, and each map of which a hold is left is the same
   pub record Turns (old new : Heap T) (from to : ℕ) : Type 0 where
@@ -276,11 +276,11 @@ use Rattle.node_heap.specs.Heap.{Heap, holds_at, one_at}
 use Rattle.node_heap.specs.Forms.{cell}
 use Rattle.node_heap.specs.Calls.{Adds, Unchanged, Answered, Extends}
 use Rattle.node_heap.proofs.Counts.{test_same, test_other}
-use Rattle.champ_chain.proofs.FrameLemmas.{count-one}
+use Rattle.node_heap.proofs.BuildLemmas.{count-one}
 use Rattle.champ_chain.proofs.CopyLemmas.{one_at-same}
 use Rattle.champ_kinds.specs.Root.{Root}
 use Rattle.champ_kinds.specs.Laws.{KeepsContainer}
-use Rattle.champ_kinds.proofs.StayLemmas.{map-extended, set-extended}
+use Rattle.champ_kinds.proofs.StayLemmas.{containers-extended}
 use Rattle.map_rows.specs.Turn.{IsGood, Turns}
 
 module _ {T : Type 0} where
@@ -291,10 +291,7 @@ module _ {T : Type 0} where
   ]
 
   keeps-extended : (old new : Heap T) → Extends old new → (r : Root) → KeepsContainer old new r
-  keeps-extended old new ext r = record {
-    map = λ cmp code M is. map-extended cmp code old new ext r M is;
-    set = λ cmp code E is. set-extended cmp code old new ext r E is;
-  }
+  keeps-extended old new ext r = containers-extended old new ext r
 
   keeps-then : (a b c : Heap T) (r : Root) → KeepsContainer a b r → KeepsContainer b c r → KeepsContainer a c r
   keeps-then a b c r first second = record {
@@ -358,13 +355,13 @@ use Rattle.map_rows.proofs.keep.Goals as goal
 
 pub returns-clause-good : goal.returns-clause-good
 returns-clause-good g c =
-    good-extended g.T.Ord.cmp g.T.Element.code_of c.share-more.ensures.extends c.requires.good
+    good-extended g.T.Ord.cmp g.T.Element.code_of c.share-more.ensures.builds.extends c.requires.good
 PROOF
 cat > "$crate/proofs/inserted/Answers.antt" <<'PROOF'
 use Rattle.std.proofs.Common.{sym, subst, arith}
 use Rattle.node_heap.proofs.Frames.{Extends-trans}
 use Rattle.champ_kinds.specs.Root.{Root}
-use Rattle.champ_kinds.specs.Kinds.{bind}
+use Rattle.champ_kinds.specs.Binding.{bind}
 use Rattle.map_rows.specs.Turn.{Turns}
 use Rattle.map_rows.proofs.Turn.{good-extended, spent-holds, both-held, turned, turns-held}
 use Rattle.map_rows.proofs.inserted.Goals as goal
@@ -376,7 +373,7 @@ map_insert-requires-clause-contents g c =
 pub moved-requires-clause-good : goal.moved-requires-clause-good
 moved-requires-clause-good g c =
     let good = good-extended g.T.Ord.cmp g.T.Element.code_of (Extends-trans c.in_ok-reserve.ensures.extends c.cell-value.ensures.extends) c.requires.good in
-    (bind g.T.Ord.cmp good.0 c.key.result c.cell-value.result, (c.in-Ok.ensures.contents good.0 good.1).1)
+    (bind g.T.Ord.cmp good.0 c.key.result c.cell-value.result, c.in-Ok.ensures.contents good.0 good.1)
 
 pub moved-requires-clause-held : goal.moved-requires-clause-held
 moved-requires-clause-held g c =
@@ -413,22 +410,22 @@ use Rattle.map_rows.proofs.moved.Goals as goal
 
 pub returns-clause-good : goal.returns-clause-good
 returns-clause-good g c =
-    rw c.kept.ensures (good-kept g.T.Ord.cmp g.T.Element.code_of (c.release.ensures.containers c.args.made (rw (c.from_root.ensures.root, c.root.ensures) c.requires.twice)) c.requires.good)
+    rw c.kept.ensures (good-kept g.T.Ord.cmp g.T.Element.code_of (c.release.ensures.containers c.args.made (rw (c.from_root.ensures, c.root.ensures) c.requires.twice)) c.requires.good)
 
 pub returns-clause-kept : goal.returns-clause-kept
-returns-clause-kept g c = λ r left. c.release.ensures.containers r (rw (c.from_root.ensures.root, c.root.ensures) left)
+returns-clause-kept g c = λ r left. c.release.ensures.containers r (rw (c.from_root.ensures, c.root.ensures) left)
 PROOF
 cat > "$crate/proofs/removed/Answers.antt" <<'PROOF'
 use Rattle.std.proofs.Common.{sym, subst, arith}
-use Rattle.champ_chain.specs.Entry.{others}
 use Rattle.champ_kinds.specs.Root.{Root}
+use Rattle.champ_kinds.specs.Binding.{unbind}
 use Rattle.map_rows.specs.Turn.{Turns}
 use Rattle.map_rows.proofs.Turn.{both-held, turned, turns-held}
 use Rattle.map_rows.proofs.removed.Goals as goal
 
 pub moved-requires-clause-good : goal.moved-requires-clause-good
 moved-requires-clause-good g c =
-    (others g.T.Ord.cmp c.key-key.result c.requires.good.0, (rw c.in-Some.is at (c.in_ok-left.ensures.contents c.requires.good.0 c.requires.good.1)).1)
+    (unbind g.T.Ord.cmp c.key-key.result c.requires.good.0, rw c.in-Some.is at (c.in_ok-left.ensures.contents c.requires.good.0 c.requires.good.1))
 
 pub moved-requires-clause-twice : goal.moved-requires-clause-twice
 moved-requires-clause-twice g c =

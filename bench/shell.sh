@@ -1,13 +1,12 @@
 #!/usr/bin/env bash
 # Pipes 1,000,000 lines of `add` and 1,000,000 of `get` through the built program, and tells time and memory.
-#   bench/shell.sh              the program alone
-#   bench/shell.sh YARDSTICK    and beside it the shell of the yardstick in that folder, over `im_rc`, set up by
-#                               its own ./setup.sh; then the yardstick's workloads for the commands that there are
+#   bench/shell.sh          the program alone
+#   bench/shell.sh SHELL    and beside it another program with the same lines and replies, as one over `im_rc`
 # COUNT in the environment takes the place of the million.
 set -eu
 . "$(dirname -- "$0")/shared.sh"
-begin "$@"
-yardstick=$setup
+begin
+other=${1:+$(readlink -f -- "$1")}
 program=$top/crates/ewig_shell/out/ewig_shell
 "$top/ewig" </dev/null >/dev/null
 
@@ -24,7 +23,7 @@ with open(sys.argv[2], "w") as out:
 PYTHON
 
 shells=("$program")
-[ -n "$yardstick" ] && shells+=("$yardstick/target/release/im_shell")
+[ -n "$other" ] && shells+=("$other")
 python3 - "$count" "$work" "${shells[@]}" <<'PYTHON'
 import hashlib, os, subprocess, sys, time
 count, room, shells = int(sys.argv[1]), sys.argv[2], sys.argv[3:]
@@ -59,9 +58,5 @@ for shell in shells:
     print(f"  {os.path.basename(shell):12} {wall:6.2f} s wall  {processor:6.2f} s processor  {peak / 1e6:7.1f} MB")
 if len(shells) == 2:
     ratios = [a / b for a, b in zip(*[best[shell] for shell in shells])]
-    print("  ratio to the yardstick: wall %.2f, processor %.2f, memory %.2f" % tuple(ratios))
+    print("  ratio to the other: wall %.2f, processor %.2f, memory %.2f" % tuple(ratios))
 PYTHON
-
-if [ -n "$yardstick" ]; then
-    cd "$yardstick" && python3 bench.py --bin "$program" --have plain --no-std
-fi

@@ -1,7 +1,7 @@
 #!/usr/bin/env bash
 # A million pushes, random gets and random sets over one vector, beside `im_rc::Vector` and a plain `Vec`, best of three.
 #   bench/vector.sh           where cargo finds `im_rc` by itself, without a download
-#   bench/vector.sh FOLDER    with cargo set up as FOLDER/.cargo/config.toml says, as in the folder of a yardstick
+#   bench/vector.sh FOLDER    with cargo set up as FOLDER/.cargo/config.toml says
 # COUNT in the environment takes the place of the million.
 # It writes a small program beside a copy of the crates that it stands on, in a folder of its own, since the gate takes no
 # program outside the listed crates. Without cargo or `im_rc` it says so and runs the rest.
