@@ -16,9 +16,6 @@ use Rattle.node_heap.proofs.Dying.{sum-add}
 use Rattle.node_heap.proofs.Added.{Joins}
 use Rattle.node_heap.proofs.Rewritten.{kinds-row}
 
-pub other_at-same : (l k : ℕ) → l ≡ k → other_at l k ≡ 0
-other_at-same l k same = grind (arith, nat_tests)
-
 pub other_at-other : (l k : ℕ) → l ≢ k → other_at l k ≡ 1
 other_at-other l k other = grind (arith, nat_tests)
 

@@ -66,6 +66,12 @@ le-sum_by f d none [] k = omega arith
 le-sum_by f d none (x ∷ xs) zero = omega (arith, sum_by-cons f x xs)
 le-sum_by f d none (x ∷ xs) (suc k) = omega (arith, sum_by-cons f x xs, le-sum_by f d none xs k)
 
+-- where each term is at most another's, so is the sum
+pub sum_by-fewer : {X : Type 0} (f : X → ℕ) (d : X) → f d ≡ 0 → (xs ys : List X) → ((k : ℕ) → f (get_or ys k d) ≤ f (get_or xs k d)) → sum_by f ys ≤ sum_by f xs
+sum_by-fewer f d none xs [] each = omega arith
+sum_by-fewer f d none [] (y ∷ ys) each = omega (arith, none, each 0, sum_by-cons f y ys, sum_by-fewer f d none [] ys (λ k. each (suc k)))
+sum_by-fewer f d none (x ∷ xs) (y ∷ ys) each = omega (arith, each 0, sum_by-cons f x xs, sum_by-cons f y ys, sum_by-fewer f d none xs ys (λ k. each (suc k)))
+
 -- a test of equality, as 1 or 0
 pub test_same : (x k : ℕ) → x ≡ k → one_at k x ≡ 1
 test_same x k same = grind (arith, nat_tests)

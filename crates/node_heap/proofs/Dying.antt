@@ -225,12 +225,6 @@ module _ {T : Type 0} where
       let same : graph_of new l ≡ graph_of slots l = sym (row_at-slots new l) ∙ ap (λ xs. get_or xs l None) rows ∙ row_at-slots slots l in
       rw same (thins l)
 
-  pub IsLow-remove : (slots new : List (Option (Slot T))) (first : ℕ) → slot_at new first ≡ None → ApartAt slots new first → IsLow slots → IsLow new
-  IsLow-remove slots new first gone apart low l live = elim (cases_eq l first) as (λ _. l < 2 ^ 64 - 1) [
-    | inl same ↦ let at_first : IsSome (slot_at new first) = subst (λ j. IsSome (slot_at new j)) same live in let dead_now : IsSome {T = Slot T} None = subst IsSome gone at_first in absurd cc
-    | inr other ↦ let was : IsSome (slot_at slots l) = rw (← apart l other) live in low l was
-  ]
-
   -- the holds once one at the place is given up
   abbrev pub holds_after : List (Option (Slot T)) → ℕ → ℕ → ℕ
   holds_after slots place k = (owners_in (slot_at slots k) - places_at slots k) - one_at place k
@@ -238,27 +232,20 @@ module _ {T : Type 0} where
   pub held_at : (slots : List (Option (Slot T))) (hs : List ℕ) → hs ≡ holds_in slots → (l : ℕ) → get_or hs l 0 ≡ owners_in (slot_at slots l) - places_at slots l
   held_at slots hs s l = ap (λ xs. get_or xs l 0) s ∙ holds_at-slots slots l
 
-  pub IsDying-start : (old new : List (Option (Slot T))) (place : ℕ) → IsCounted old → SetsOwners old new place (2 ^ 64 - 1) → rows_in new ≡ rows_in old → IsSome (slot_at old place) → owners_in (slot_at old place) ≡ 1 → places_at old place ≡ 0 → IsDying (holds_after old place) new place []
-  IsDying-start old new place counted sets rows live one free =
-      let placed_in : (l : ℕ) → places_at new l ≡ places_at old l = λ l. ap (λ xs. places_in xs l) rows in
-      let only : (l : ℕ) → count l (place ∷ []) ≡ one_at l place = λ l. omega (arith, count-cons l place []) in
-      record {
-        dead = place ∷ [];
-        threaded = (refl, counted.low place live, sets.owners);
-        counted = λ l none.
-            let other : l ≢ place = λ same. absurd (omega (arith, only l, none, test_same place l (sym same))) in
-            omega (arith, ap owners_in (sets.others l other), counted.places l, placed_in l, test_other l place other);
-        owned = λ l none some.
-            let other : l ≢ place = λ same. absurd (omega (arith, only l, none, test_same place l (sym same))) in
-            let was : IsSome (slot_at old l) = rw (← sets.others l other) some in
-            omega (arith, ap owners_in (sets.others l other), counted.owned l was);
-        waiting = λ l some. elim (cases_eq l place) as (λ _. (count l (place ∷ []) ≡ 1) × (holds_after old place l + (places_at new l + 0) ≡ 0) × IsSome (slot_at new l)) [
-          | inl same ↦
-              let P : ℕ → Type 0 = λ j. (count j (place ∷ []) ≡ 1) × (holds_after old place j + (places_at new j + 0) ≡ 0) × IsSome (slot_at new j) in
-              subst P (sym same) (omega (arith, only place, test_same place place refl), omega (arith, one, free, placed_in place, test_same place place refl), sets.live)
-          | inr other ↦ absurd (omega (arith, only l, test_other place l (λ e. other (sym e)), some))
-        ];
-      }
+  -- a held link is to be dropped
+  pub IsDying-start : (slots : List (Option (Slot T))) (place : ℕ) → IsCounted slots → 0 < owners_in (slot_at slots place) - places_at slots place → IsDying (holds_after slots place) slots (2 ^ 64 - 1) (place ∷ [])
+  IsDying-start slots place counted held = record {
+    dead = [];
+    threaded = refl;
+    counted = λ l none. elim (cases_eq l place) as (λ _. owners_in (slot_at slots l) ≡ holds_after slots place l + (places_at slots l + count l (place ∷ []))) [
+      | inl same ↦
+          let P : ℕ → Type 0 = λ j. owners_in (slot_at slots j) ≡ holds_after slots place j + (places_at slots j + count j (place ∷ [])) in
+          subst P (sym same) (omega (arith, held, counted.places place, count-cons place place [], test_same place place refl))
+      | inr other ↦ omega (arith, counted.places l, count-cons l place [], test_other place l (λ e. other (sym e)), test_other l place other)
+    ];
+    owned = λ l none. counted.owned l;
+    waiting = λ l some. absurd (omega (arith, some));
+  }
 
   pub holds-freed : (old new : List (Option (Slot T))) (place : ℕ) (hs hs' : List ℕ) → hs ≡ holds_in old → hs' ≡ holds_in new → 0 < get_or hs place 0 → IsDying (holds_after old place) new (2 ^ 64 - 1) [] → (k : ℕ) → get_or hs' k 0 + one_at place k ≡ get_or hs k 0
   holds-freed old new place hs hs' s s' held d k =
@@ -274,13 +261,4 @@ module _ {T : Type 0} where
       elim (thins l) as (λ _. (graph_of new l ≡ None) ⊎ (graph_of new l ≡ graph_of old l)) [
         | inl gone ↦ inl gone
         | inr kept ↦ inr (kept ∙ same)
-      ]
-
-  pub rows-released : (old new : List (Option (Slot T))) (rs rs' : List (Option (Row T))) → rs ≡ rows_in old → rs' ≡ rows_in new → Thins old new → (k : ℕ) → (get_or rs' k None ≡ None) ⊎ (get_or rs' k None ≡ get_or rs k None)
-  rows-released old new rs rs' r r' thins k =
-      let at_old : get_or rs k None ≡ graph_of old k = ap (λ xs. get_or xs k None) r ∙ row_at-slots old k in
-      let at_new : get_or rs' k None ≡ graph_of new k = ap (λ xs. get_or xs k None) r' ∙ row_at-slots new k in
-      elim (thins k) as (λ _. (get_or rs' k None ≡ None) ⊎ (get_or rs' k None ≡ get_or rs k None)) [
-        | inl gone ↦ inl (at_new ∙ gone)
-        | inr kept ↦ inr (at_new ∙ kept ∙ sym at_old)
       ]

@@ -30,15 +30,15 @@ count-at [] i x inside found = absurd (omega (arith, inside))
 count-at (y ∷ ys) zero x inside found = omega (arith, count-cons x y ys, test_same x y (sym found), one_at-flip y x)
 count-at (y ∷ ys) (suc i) x inside found = omega (arith, count-cons x y ys, count-at ys i x (omega (arith, inside)) found)
 
--- where the links on a way stay, the way stays, and where the owners stay too, so does a path
+-- where the links on a way stay, the way stays, and where rows with one owner stay such, so does a path
 ways-kept : (L M : Links) (first : ℕ) → ((l k : ℕ) → HasLink L l k → Reaches L k first → HasLink M l k) → (x y : ℕ) → Reaches L y first → Reaches L x y → Reaches M x y
 ways-kept L M first same x y down (here l) = here l
 ways-kept L M first same x y down (below l k m has rest) = below l k m (same l k has (Reaches-trans L k m first rest down)) (ways-kept L M first same k m down rest)
 
-path-kept : (O P : ℕ → ℕ) (L M : Links) (first : ℕ) → ((l k : ℕ) → HasLink L l k → Reaches L k first → HasLink M l k) → ((k : ℕ) → Reaches L k first → P k ≡ O k) → (x y : ℕ) → Reaches L y first → IsSolePath O L x y → IsSolePath P M x y
-path-kept O P L M first same owners x y down path_start = path_start
-path-kept O P L M first same owners x y down (path_then l k path has one) =
-    path_then l k (path-kept O P L M first same owners x l (below l k first has down) path) (same l k has down) (owners k down ∙ one)
+path-kept : (O P : ℕ → ℕ) (L M : Links) (first : ℕ) → ((l k : ℕ) → HasLink L l k → Reaches L k first → HasLink M l k) → ((l k : ℕ) → HasLink L l k → Reaches L k first → O k ≡ 1 → P k ≡ 1) → (x y : ℕ) → Reaches L y first → IsSolePath O L x y → IsSolePath P M x y
+path-kept O P L M first same sole x y down path_start = path_start
+path-kept O P L M first same sole x y down (path_then l k path has one) =
+    path_then l k (path-kept O P L M first same sole x l (below l k first has down) path) (same l k has down) (sole l k has down one)
 
 module _ {T : Type 0} where
   -- a row with one owner, a place, has no hold and stands in no other row
@@ -103,10 +103,6 @@ module _ {T : Type 0} where
     left = left;
   }
 
-  pub KeepsApart-trans : {first : ℕ} {spent spent' : ℕ → ℕ} {old mid new : Heap T} → KeepsApart first spent old mid → KeepsApart first spent' mid new → KeepsApart first (λ l. spent l + spent' l) old new
-  KeepsApart-trans {first} {spent} {spent'} {old} {mid} {new} one two =
-      KeepsApart-then (λ l. spent l + spent' l) one two (λ l some. omega (arith, some)) (λ l some. omega (arith, some, one.left l)) (λ l. omega (arith, one.left l, two.left l))
-
   -- a write below a path of rows with one owner leaves what goes around the path's first row
   pub KeepsApart-path : {first last : ℕ} {spent : ℕ → ℕ} {old new : Heap T} → OwnsDown old first last → KeepsApart last spent old new → KeepsApart first spent old new
   KeepsApart-path {first} {last} {spent} {old} {new} path keeps = record {
@@ -132,12 +128,16 @@ module _ {T : Type 0} where
         owned = λ x y up way. keeps.owned x y (Reaches-trans (links_at old) y first last up down) way;
       }
 
+  -- the links of the rows above stay, and those of these rows that have one owner have one still
+  pub KeepsPaths-soles : (first : ℕ) (old new : Heap T) → ((l k : ℕ) → HasLink (links_at old) l k → Reaches (links_at old) k first → HasLink (links_at new) l k) → ((l k : ℕ) → HasLink (links_at old) l k → Reaches (links_at old) k first → owners_at old k ≡ 1 → owners_at new k ≡ 1) → KeepsPaths first old new
+  KeepsPaths-soles first old new same sole = record {
+    ways = ways-kept (links_at old) (links_at new) first same;
+    owned = path-kept (owners_at old) (owners_at new) (links_at old) (links_at new) first same sole;
+  }
+
   -- the links of the rows above stay, and so do the owners of these rows
   pub KeepsPaths-rows : (first : ℕ) (old new : Heap T) → ((l k : ℕ) → HasLink (links_at old) l k → Reaches (links_at old) k first → HasLink (links_at new) l k) → ((k : ℕ) → Reaches (links_at old) k first → owners_at new k ≡ owners_at old k) → KeepsPaths first old new
-  KeepsPaths-rows first old new same owners = record {
-    ways = ways-kept (links_at old) (links_at new) first same;
-    owned = path-kept (owners_at old) (owners_at new) (links_at old) (links_at new) first same owners;
-  }
+  KeepsPaths-rows first old new same owners = KeepsPaths-soles first old new same (λ l k has up one. owners k up ∙ one)
 
   -- rows came, and those that were there keep their owners
   pub KeepsPaths-Extends : {old new : Heap T} (first : ℕ) → Extends old new → ((k : ℕ) → IsSome (row_at old k) → owners_at new k ≡ owners_at old k) → IsSome (row_at old first) → KeepsPaths first old new

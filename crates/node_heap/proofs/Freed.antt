@@ -60,6 +60,3 @@ module _ {T : Type 0} where
 
       down : (l : ℕ) → IsReached (holds_at h') (links_at h) l → IsSome (row_at h' l)
       down l reached = go reached.0 l reached.2 (graph.held reached.0 reached.1)
-
-  pub Thins-same : (old new : List (Option (Slot T))) → rows_in new ≡ rows_in old → Thins old new
-  Thins-same old new rows l = inr (sym (row_at-slots new l) ∙ ap (λ xs. get_or xs l None) rows ∙ row_at-slots old l)

@@ -1,5 +1,5 @@
 -- What follows of a heap's graph, and of any list of rows.
-use Rattle.std.proofs.Common.{◌≡◌, ℕ, zero, suc, ◌+◌, ◌<◌, ◌≤◌, List, [], ◌∷◌, length, get_or, refl, arith, Option, Some, None, IsSome, is_some, count_by, cond}
+use Rattle.std.proofs.Common.{◌≡◌, ℕ, zero, suc, ◌+◌, ◌<◌, List, [], ◌∷◌, get_or, refl, arith, Option, Some, None, IsSome, is_some, count_by, cond}
 use Rattle.std.specs.Prelude.{sum_by}
 use Rattle.std.proofs.lemmas.List.Sums.{sum_by-cons}
 use Rattle.node_heap.specs.Links.{count, Reaches, here, below, IsAcyclic}
@@ -24,15 +24,6 @@ module _ {T : Type 0} where
 
   pub IsGraph-kinds : (h : Heap T) → live_count h ≡ cell_count h + node_count h
   IsGraph-kinds h = rows-kinds h.rows
-
-  -- no row has a place past the list's end
-  pub rows-past : (rows : List (Option (Row T))) (l : ℕ) → length rows ≤ l → get_or rows l None ≡ None
-  rows-past [] l le = refl
-  rows-past (r ∷ rs) zero le = absurd (omega (arith, le))
-  rows-past (r ∷ rs) (suc l) le = rows-past rs l (omega (arith, le))
-
-  pub IsGraph-finite : (h : Heap T) (l : ℕ) → length h.rows ≤ l → row_at h l ≡ None
-  IsGraph-finite h l le = rows-past h.rows l le
 
   -- no row reaches itself by way of a link below it
   pub IsGraph-acyclic : (h : Heap T) → IsGraph h → IsAcyclic (links_at h)

@@ -31,6 +31,9 @@ count-both k i xs = ap (count k) (sym (take-append-drop i xs)) ∙ sum_by-append
 pub count-drop-le : (k i : ℕ) (xs : List ℕ) → count k (drop i xs) ≤ count k xs
 count-drop-le k i xs = omega (arith, count-both k i xs)
 
+pub count-listed : (k i : ℕ) (xs : List ℕ) → drop i xs ≡ k ∷ drop (i + 1) xs → 0 < count k xs
+count-listed k i xs is = omega (arith, count-drop-le k i xs, ap (count k) is, count-cons k k (drop (i + 1) xs), test_same k k refl)
+
 pub count-insert : (k : ℕ) (xs : List ℕ) (i x : ℕ) → count k (insert xs i x) ≡ count k xs + one_at x k
 count-insert k xs i x =
     omega (arith, count-both k i xs, sum_by-append (λ j. cond (eqb j k) 1 0) (take i xs) (x ∷ drop i xs), sum_by-cons (λ j. cond (eqb j k) 1 0) x (drop i xs))

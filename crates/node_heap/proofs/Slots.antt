@@ -3,7 +3,7 @@ use Rattle.std.proofs.Common.{length, count_by, is_some, cond, ◌≡◌, ◌≢
 use Rattle.std.specs.Prelude.{sum_by, Result, IsOk, OnOk, Ok, Err}
 use Rattle.node_heap.specs.Links.{count, HasLink}
 use Rattle.node_heap.specs.Forms.{Row, links_of, links_in}
-use Rattle.node_heap.specs.Layout.{row_in, owners_in, rows_in, holds_in, slot_at, places_at, graph_of, IsCounted, ApartAt, SetsOwners, Table, KeepsRoom}
+use Rattle.node_heap.specs.Layout.{row_in, owners_in, with_owners, reown, rows_in, holds_in, slot_at, places_at, graph_of, IsCounted, ApartAt, SetsOwners, Table, KeepsRoom}
 use Rattle.node_heap.specs.Heap.{places_in, row_at, holds_at, one_at, Heap}
 use Rattle.node_heap.specs.Calls.{Adds}
 use Rattle.node_heap.specs.Layout.{Slot}
@@ -149,11 +149,15 @@ module _ {T : Type 0} where
       omega (arith, hold, counted.places l, below)
 
   -- a number of owners is no part of the rows
-  pub rows_in-owners : (slots : List (Option (Slot T))) (place : ℕ) (e : Slot T) (n : ℕ) → slot_at slots place ≡ Some e → rows_in (set slots place (Some (record { owners = n; row = e.row }))) ≡ rows_in slots
-  rows_in-owners slots place e n is =
-      map-set row_in slots place (Some (record { owners = n; row = e.row }))
-      ∙ ap (set (rows_in slots) place) (sym (row_at-slots slots place ∙ ap row_in is))
+  pub reown_rows : (slots : List (Option (Slot T))) (place n : ℕ) → rows_in (reown slots place n) ≡ rows_in slots
+  reown_rows slots place n =
+      map-set row_in slots place (with_owners (slot_at slots place) n)
+      ∙ ap (set (rows_in slots) place) (kept (slot_at slots place) ∙ sym (row_at-slots slots place))
       ∙ set-get_or (rows_in slots) place None
+    where
+      kept : (o : Option (Slot T)) → row_in (with_owners o n) ≡ row_in o
+      kept None = refl
+      kept (Some s) = refl
 
   pub IsCounted-owners : (old new : List (Option (Slot T))) (place n : ℕ) → SetsOwners old new place n → rows_in new ≡ rows_in old → IsCounted old → IsSome (slot_at old place) → places_at old place ≤ n → 0 < n → IsCounted new
   IsCounted-owners old new place n sets rows counted live_old enough some =

@@ -1,5 +1,5 @@
 -- What the fields of a heap say of the heap that contracts see.
-use Rattle.std.proofs.Common.{◌≡◌, ℕ, ◌+◌, ◌-◌, ◌^◌, ◌<◌, ◌≤◌, List, [], ◌∷◌, length, get_or, refl, ap, arith, Option, Some, None, IsSome, is_some, count_by, cond}
+use Rattle.std.proofs.Common.{◌≡◌, ℕ, ◌+◌, ◌-◌, ◌^◌, ◌<◌, ◌≤◌, List, [], ◌∷◌, length, get_or, refl, sym, ap, ◌∙◌, arith, Option, Some, None, IsSome, is_some, count_by, cond}
 use Rattle.std.specs.Prelude.{sum_by, sum}
 use Rattle.std.proofs.lemmas.List.Sums.{sum_by-cons}
 use Rattle.node_heap.specs.Links.{count, HasLink}
@@ -24,6 +24,11 @@ module _ {T : Type 0} where
   pub live_row : (e : Option (Slot T)) → IsSome e → IsSome (row_in e)
   live_row None some = cc
   live_row (Some e) some = refl
+
+  pub live-rows : (old new : List (Option (Slot T))) (place : ℕ) → rows_in new ≡ rows_in old → IsSome (slot_at old place) → IsSome (slot_at new place)
+  live-rows old new place rows live =
+      let same : graph_of new place ≡ graph_of old place = sym (row_at-slots new place) ∙ ap (λ xs. get_or xs place None) rows ∙ row_at-slots old place in
+      live_slot (slot_at new place) (rw same (live_row (slot_at old place) live))
 
   -- so many rows as slots in use
   pub live_slots : (slots : List (Option (Slot T))) → count_by is_some (rows_in slots) ≡ count_by is_some slots

@@ -1,5 +1,5 @@
 -- What a link names: rows, forms, which are rows without their sums, and what they unfold to.
-use Rattle.std.specs.Prelude.{◌≡◌, ℕ, zero, suc, List, [], ◌∷◌, Option, Some, None, option_map, map}
+use Rattle.std.specs.Prelude.{◌≡◌, ℕ, List, [], ◌∷◌, Option, Some, None, option_map}
 use Rattle.node_heap.specs.Links.{Links, SameBelow}
 use Rattle.node_heap.specs.declared.row.Head.{Head}
 use Rattle.node_heap.specs.declared.row.Head.TheVariants.{Leaf, Inner, Trie, Chain, Pair, State}

@@ -1,9 +1,9 @@
 -- What writes in place do: which rows they change, and which stay.
-use Rattle.std.specs.Prelude.{◌≡◌, ◌≢◌, ℕ, ◌+◌, ◌<◌, ◌≤◌, List, length, Option, IsSome, slice_index, ◌==◌, if◌then◌else◌}
+use Rattle.std.specs.Prelude.{◌≡◌, ◌≢◌, ℕ, ◌+◌, ◌<◌, ◌≤◌, List, ◌∷◌, ◌++◌, length, Option, IsSome, slice_index, ◌==◌, if◌then◌else◌}
 use Rattle.node_heap.specs.Links.{Links, count, HasLink, Reaches}
-use Rattle.node_heap.specs.Forms.{head_of}
-use Rattle.node_heap.specs.Heap.{Heap, row_at, links_at, holds_at, owners_at, hold_count, IsGraph}
-use Rattle.node_heap.specs.Calls.{Makes}
+use Rattle.node_heap.specs.Forms.{head_of, Tree, IsTree}
+use Rattle.node_heap.specs.Heap.{Heap, row_at, form_at, links_at, holds_at, owners_at, hold_count, one_at, IsGraph}
+use Rattle.node_heap.specs.Calls.{KeepsBelow, KeepsHeld, Makes, Builds, Releases}
 use Rattle.node_heap.specs.declared.row.Head.{Head}
 
 -- 0 at the link itself, and else 1
@@ -61,3 +61,49 @@ module _ {T : Type 0} where
     pub few_cells : cells ≤ c
     pub few_nodes : nodes ≤ n
     pub makes : Makes old new cells nodes
+
+-- an edit below a path of rows with one owner each is an edit at the path's first row
+abbrev pub EditsGoUp : Type 0 → Type 0
+EditsGoUp T = (old new : Heap T) (first last : ℕ) (spent gained : List ℕ) (c n : ℕ)
+    → OwnsDown old first last → Edits last old new spent gained c n → Edits first old new spent gained c n
+
+-- two edits at one row, of which the second spends what the first gained, are one edit
+abbrev pub EditsFollow : Type 0 → Type 0
+EditsFollow T = (old mid new : Heap T) (first : ℕ) (spent between gained : List ℕ) (c n c' n' : ℕ)
+    → Edits first old mid spent between c n → Edits first mid new between gained c' n' → Edits first old new spent gained (c + c') (n + n')
+
+-- two edits at one row, each with what it spends and gains, are one edit with both
+abbrev pub EditsJoin : Type 0 → Type 0
+EditsJoin T = (old mid new : Heap T) (first : ℕ) (spent gained spent' gained' : List ℕ) (c n c' n' : ℕ)
+    → Edits first old mid spent gained c n → Edits first mid new spent' gained' c' n' → Edits first old new (spent ++ spent') (gained ++ gained') (c + c') (n + n')
+
+-- what is built is an edit at any row that is there, where the rows that were there keep their owners
+abbrev pub BuildsAreEdits : Type 0 → Type 0
+BuildsAreEdits T = (old new : Heap T) (first : ℕ) (spent gained : List ℕ) (c n : ℕ) → IsGraph old → IsSome (row_at old first)
+    → ((k : ℕ) → IsSome (row_at old k) → owners_at new k ≡ owners_at old k) → Builds old new spent gained c n → Edits first old new spent gained c n
+
+-- a link of which a hold is left unspent keeps all below it through an edit at a row that it doesn't reach
+abbrev pub EditsKeepRows : Type 0 → Type 0
+EditsKeepRows T = (old new : Heap T) (first l : ℕ) (spent gained : List ℕ) (c n : ℕ)
+    → Edits first old new spent gained c n → count l spent < holds_at old l → ¬ Reaches (links_at old) l first → KeepsBelow old new l
+
+-- and so it unfolds to the tree that it unfolded to
+abbrev pub EditsKeepTrees : Type 0 → Type 0
+EditsKeepTrees T = (old new : Heap T) (first l : ℕ) (t : Tree T) (spent gained : List ℕ) (c n : ℕ)
+    → Edits first old new spent gained c n → count l spent < holds_at old l → ¬ Reaches (links_at old) l first → IsTree (form_at old) l t → IsTree (form_at new) l t
+
+-- an edit at a child with one owner keeps all below another child of its parent, which a link with a hold left reaches
+abbrev pub EditsKeepSiblings : Type 0 → Type 0
+EditsKeepSiblings T = (old new : Heap T) (parent child other l : ℕ) (spent gained : List ℕ) (c n : ℕ) → IsGraph old
+    → owners_at old child ≡ 1 → HasLink (links_at old) parent child → HasLink (links_at old) parent other → other ≢ child
+    → Edits child old new spent gained c n → count l spent < holds_at old l → Reaches (links_at old) l parent → KeepsBelow old new other
+
+-- an edit at a row whose one owner is a hold keeps all that is held beside it
+abbrev pub OwnEditsKeepHeld : Type 0 → Type 0
+OwnEditsKeepHeld T = (old new : Heap T) (first : ℕ) (spent gained : List ℕ) (c n : ℕ) → 0 < holds_at old first → owners_at old first ≡ 1
+    → Edits first old new spent gained c n → KeepsHeld (λ l. count l (first ∷ spent)) old new
+
+-- a release of a link that doesn't reach a row keeps the ways above this row with their sole owners, and what is apart
+abbrev pub ReleasesKeepPaths : Type 0 → Type 0
+ReleasesKeepPaths T = (old new : Heap T) (first link : ℕ) → IsGraph old → IsGraph new → Releases old new link
+    → ¬ Reaches (links_at old) link first → KeepsApart first (one_at link) old new × KeepsPaths first old new

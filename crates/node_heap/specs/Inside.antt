@@ -1,32 +1,64 @@
--- How a table lies in its slab and its pool.
-use Rattle.std.specs.Prelude.{ℕ, ◌+◌, ◌^◌, ◌<◌, ◌≤◌, List, map, Option, Some, None, is_some, count_by, sum_by}
-use Rattle.node_heap.specs.Forms.{Row, cell, node, is_node}
+-- How a table lies in two lists of slots: place 2i is slot i of the cells, and place 2i + 1 slot i of the nodes.
+use Rattle.std.specs.Prelude.{◌≡◌, ◌≢◌, ℕ, ◌+◌, ◌^◌, ◌<◌, ◌≤◌, List, [], ◌∷◌, length, map, Option, Some, None, is_some, count_by, slice_index_or}
+use Rattle.arrayvec.specs.ArrayVec.{ArrayVec}
+use Rattle.node_heap.specs.Links.{count}
+use Rattle.node_heap.specs.Forms.{cell, node}
 use Rattle.node_heap.specs.Layout.{Slot, Table}
-use Rattle.node_heap.specs.declared.entry.Entry.{Entry}
-use Rattle.node_heap.specs.declared.entry.Content.{Content}
-use Rattle.node_heap.specs.declared.entry.Content.TheVariants.{Cell, Node}
+use Rattle.node_heap.specs.declared.entry.CellSlot.{CellSlot}
+use Rattle.node_heap.specs.declared.entry.NodeSlot.{NodeSlot}
+
+-- the second list alone, with nothing between
+abbrev pub spread : {X : Type 0} → List (Option X) → List (Option X)
+spread [] = []
+spread (y ∷ ys) = None ∷ y ∷ spread ys
+
+-- the first list at the even places and the second at the odd ones
+abbrev pub woven : {X : Type 0} → List (Option X) → List (Option X) → List (Option X)
+woven [] ys = spread ys
+woven (x ∷ xs) [] = x ∷ None ∷ woven xs []
+woven (x ∷ xs) (y ∷ ys) = x ∷ y ∷ woven xs ys
+
+-- the lists are the same but at the place
+abbrev pub SameBut : {X : Type 0} → List (Option X) → List (Option X) → ℕ → Type 0
+SameBut old new place = (k : ℕ) → k ≢ place → slice_index_or new k None ≡ slice_index_or old k None
+
+-- these are the free slots, each once
+pub record IsFree {X : Type 0} (slots : List (Option X)) (free : List ℕ) : Type 0 where
+  pub vacant : (k : ℕ) → 0 < count k free → slice_index_or slots k None ≡ None
+  pub inside : (k : ℕ) → 0 < count k free → k < length slots
+  pub once : (k : ℕ) → count k free ≤ 1
+  pub whole : count_by is_some slots + length free ≡ length slots
+
+-- there is room for the spares, of which the free slots are some
+pub record HasRoom {X : Type 0} (slots : List (Option X)) (free : List ℕ) (capacity free_capacity spares : ℕ) : Type 0 where
+  pub listed : IsFree slots free
+  pub some : length free ≤ spares
+  pub room : length slots + spares ≤ capacity + length free
+  pub free_room : length slots + spares ≤ free_capacity + length free
+
+-- the links of a row that is taken out: a cell has none
+abbrev pub links_taken : Option (ArrayVec ℕ) → List ℕ
+links_taken None = []
+links_taken (Some links) = links.items
 
 module _ {T : Type 0} where
-  abbrev pub row_of : Content T → Row T
-  row_of (Cell x) = cell x
-  row_of (Node b) = node b.value.head b.value.links.items
+  abbrev pub cell_slot : Option (CellSlot T) → Option (Slot T)
+  cell_slot None = None
+  cell_slot (Some s) = Some (record { owners = s.owners; row = cell s.value })
 
-  abbrev pub slot_in : Option (Entry T) → Option (Slot T)
-  slot_in None = None
-  slot_in (Some e) = Some (record { owners = e.owners; row = row_of e.row })
+  abbrev pub node_slot : Option NodeSlot → Option (Slot T)
+  node_slot None = None
+  node_slot (Some s) = Some (record { owners = s.owners; row = node s.head s.links.items })
 
-  -- 1 for a node, and else 0
-  abbrev pub node_in : Option (Entry T) → ℕ
-  node_in None = 0
-  node_in (Some e) = is_node (Some (row_of e.row))
+  abbrev pub slots_of : List (Option (CellSlot T)) → List (Option NodeSlot) → List (Option (Slot T))
+  slots_of cells nodes = woven (map cell_slot cells) (map node_slot nodes)
 
   -- what contracts see of the fields
-  abbrev pub shown : List (Option (Entry T)) → ℕ → ℕ → Table T
-  shown entries cells nodes = record { slots = map slot_in entries; spare_cells = cells; spare_nodes = nodes }
+  abbrev pub shown : List (Option (CellSlot T)) → List (Option NodeSlot) → ℕ → ℕ → Table T
+  shown cells nodes spare_cells spare_nodes = record { slots = slots_of cells nodes; spare_cells = spare_cells; spare_nodes = spare_nodes }
 
-  -- there is room for the spares, in the slab and in the pool
-  pub record IsRoomy (entries : List (Option (Entry T))) (capacity cells nodes room : ℕ) : Type 0 where
-    pub roomy : count_by is_some entries + (cells + nodes) ≤ capacity
-    pub in_range : capacity < 2 ^ 64
-    pub few : count_by is_some entries + (cells + nodes) < 2 ^ 56
-    pub pooled : nodes + sum_by node_in entries ≤ room
+  -- what is true of the fields of each table
+  pub record IsTable (cells : List (Option (CellSlot T))) (free_cells : List ℕ) (cell_capacity free_cell_capacity spare_cells : ℕ) (nodes : List (Option NodeSlot)) (free_nodes : List ℕ) (node_capacity free_node_capacity spare_nodes : ℕ) : Type 0 where
+    pub of_cells : HasRoom cells free_cells cell_capacity free_cell_capacity spare_cells
+    pub of_nodes : HasRoom nodes free_nodes node_capacity free_node_capacity spare_nodes
+    pub few : count_by is_some cells + count_by is_some nodes + (spare_cells + spare_nodes) < 2 ^ 56

@@ -1,5 +1,5 @@
 -- What the heap sees of its table: a slot at each place, and spares.
-use Rattle.std.specs.Prelude.{length, ◌≡◌, ◌≢◌, ◌⊎◌, ℕ, suc, ◌+◌, ◌-◌, ◌^◌, ◌<◌, ◌≤◌, List, [], ◌∷◌, map, Option, Some, None, IsSome, sum_by, sum, slice_index_or, count_by, is_some}
+use Rattle.std.specs.Prelude.{length, ◌≡◌, ◌≢◌, ◌⊎◌, ℕ, suc, ◌+◌, ◌-◌, ◌^◌, ◌<◌, ◌≤◌, List, [], ◌∷◌, map, Option, Some, None, IsSome, sum_by, sum, slice_index_or, slice_set, count_by, is_some}
 use Rattle.node_heap.specs.Links.{count, LeadsDown}
 use Rattle.node_heap.specs.Forms.{Row, links_of, head_of, links_in, is_cell, is_node}
 use Rattle.node_heap.specs.Heap.{Heap, places_in}
@@ -30,6 +30,11 @@ module _ {T : Type 0} where
   owners_in None = 0
   owners_in (Some s) = s.owners
 
+  -- the same row with so many owners
+  abbrev pub with_owners : Option (Slot T) → ℕ → Option (Slot T)
+  with_owners None n = None
+  with_owners (Some s) n = Some (record { owners = n; row = s.row })
+
   abbrev pub rows_in : List (Option (Slot T)) → List (Option (Row T))
   rows_in slots = map row_in slots
 
@@ -39,6 +44,10 @@ module _ {T : Type 0} where
 
   abbrev pub slot_at : List (Option (Slot T)) → ℕ → Option (Slot T)
   slot_at slots l = slice_index_or slots l None
+
+  -- the slots, with so many owners of the row at the place
+  abbrev pub reown : List (Option (Slot T)) → ℕ → ℕ → List (Option (Slot T))
+  reown slots place n = slice_set slots place (with_owners (slot_at slots place) n)
 
   abbrev pub places_at : List (Option (Slot T)) → ℕ → ℕ
   places_at slots l = places_in (rows_in slots) l

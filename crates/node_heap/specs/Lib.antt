@@ -6,3 +6,5 @@ pub mod Layout
 pub mod Inside
 pub mod InPlace
 pub mod Glass
+pub mod LendsSlot
+pub mod Lending

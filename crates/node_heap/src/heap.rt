@@ -7,6 +7,7 @@ ghost use Rattle.node_heap.specs.Calls.{KeepsBelow, SameRows, Adds, AddsOwner, K
 ghost use Rattle.node_heap.specs.InPlace.{child_at, other_at, Writes, Edits};
 ghost use Rattle.node_heap.specs.Layout.{graph_of, slot_at, owners_in, row_count, Copies, rows_in, IsCounted, IsDying, IsLow, KeepsRoom, Thins, cells_in, nodes_in};
 
+use crate::entry::kept;
 use crate::row::{Head, Link};
 use crate::table::Table;
 use elem_core::NoMemory;
@@ -136,7 +137,7 @@ impl<T> Heap<T> {
         ensures trees { KeepsTrees self.old self.new }
     {
         self.made = self.made.saturating_add(1);
-        let place = self.table.put_node(head, links);
+        let place = self.table.put_node(head, kept(links));
         Link { place }
     }
 
@@ -154,8 +155,7 @@ impl<T> Heap<T> {
         ensures keeps { KeepsHeld (λ _. 0) self.old self.new }
         ensures trees { KeepsTrees self.old self.new }
     {
-        let owners = self.table.owners(link.place) + 1;
-        self.table.set_owners(link.place, owners);
+        *self.table.owners_mut(link.place) += 1;
     }
 
     /// The value of a live link's cell, and none for a node.
@@ -307,13 +307,8 @@ impl<T: Drop> Heap<T> {
         ensures keeps { KeepsHeld (one_at link) self.old self.new }
         ensures trees { KeepsTrees self.old self.new }
     {
-        let owners = self.table.owners(link.place) - 1;
-        if owners > 0 {
-            self.table.set_owners(link.place, owners);
-            return;
-        }
-        self.table.set_owners(link.place, END);
-        free_waiting(&mut self.table, link.place);
+        let first = drop_places(&mut self.table, &[link], END);
+        free_waiting(&mut self.table, first);
     }
 }
 
@@ -339,7 +334,7 @@ fn free_waiting<T: Drop>(table: &mut Table<T>, first: usize)
     let mut next = first;
     while next != END {
         let row = table.take(next);
-        next = drop_places(table, row.links.as_slice(), row.owners);
+        next = drop_places(table, row.links(), row.owners);
     }
 }
 
@@ -354,12 +349,12 @@ fn drop_places<T>(table: &mut Table<T>, links: &[Link], first: usize) -> usize
 {
     let mut next = first;
     for link in links {
-        let owners = table.owners(link.place);
-        if owners == 1 {
-            table.set_owners(link.place, next);
+        let owners = table.owners_mut(link.place);
+        if *owners == 1 {
+            *owners = next;
             next = link.place;
         } else {
-            table.set_owners(link.place, owners - 1);
+            *owners -= 1;
         }
     }
     next
@@ -381,7 +376,7 @@ fn copied<T>(table: &mut Table<T>, place: usize) -> usize
 {
     let (head, links) = table.copy_node(place);
     add_owners(table, links.as_slice());
-    table.put_node(head, links.as_slice())
+    table.put_node(head, links)
 }
 
 // Gives each of the links an owner for each of its places there.
@@ -393,7 +388,6 @@ fn add_owners<T>(table: &mut Table<T>, links: &[Link])
     ensures room { KeepsRoom table.old table.new }
 {
     for child in links {
-        let owners = table.owners(child.place) + 1;
-        table.set_owners(child.place, owners);
+        *table.owners_mut(child.place) += 1;
     }
 }

@@ -1,14 +1,23 @@
-ghost use Rattle.std.specs.Prelude.{◌≡◌, ◌+◌, ◌^◌, ◌<◌, ◌≤◌, Some, length, option_copied};
+ghost use Rattle.std.specs.Prelude.{◌≡◌, ℕ, ◌+◌, ◌^◌, ◌<◌, ◌≤◌, Some, length, option_copied};
 ghost use Rattle.node_heap.specs.Forms.{value_of, IsTree, Tree};
-ghost use Rattle.node_heap.specs.Heap.{row_at, form_at, links_at, holds_at, hold_count, HasSpares};
+ghost use Rattle.node_heap.specs.Heap.{row_at, form_at, links_at, holds_at, hold_count, one_at, HasSpares};
+ghost use Rattle.node_heap.specs.Calls.{KeepsHeld};
 ghost use Rattle.node_heap.specs.InPlace.{child_at};
 ghost use Rattle.node_heap.specs.Glass.{lent};
 
+use crate::entry::CellSlot;
 use crate::{Glass, Head, Heap, Link, Steps};
 use elem_core::Num;
 use std::marker::Brand;
+use std::mem::size_of;
 use std::sync::ledger::{Blank, Ledger};
 use std::test::Fail;
+
+// A cell's slot has no room for links.
+const _: () = prove!(size_of::<Option<CellSlot<Num>>>() <= 40);
+
+// A count of steps takes no bytes.
+const _: () = prove!(size_of::<Steps<Brand>>() == 0);
 
 // Makes three rows its own, from a root down by first children, and puts a cell in place of the last one's first link.
 // The root has another hold, whose version stays. Answers the new root, and the old first link with a hold.
@@ -19,10 +28,16 @@ fn write_third<T>(heap: &mut Heap<T>, root: Link, value: T) -> (Link, Link)
     requires last { 0 < length (links_at heap.old (child_at heap.old (child_at heap.old root 0) 0)) }
     requires spares { HasSpares heap.old 1 3 }
     requires few { hold_count heap.old < 2 ^ 60 }
+    ensures keeps { KeepsHeld (one_at root) heap.old heap.new }
     ensures stays { (t : Tree T) → IsTree (form_at heap.old) root t → IsTree (form_at heap.new) root t }
     ensures written { value_of (row_at heap.new (child_at heap.new (child_at heap.new (child_at heap.new result.0 0) 0) 0)) ≡ Some value }
     ensures old { result.1 ≡ child_at heap.old (child_at heap.old (child_at heap.old root 0) 0) 0 }
+    ensures holds { (k : ℕ) → holds_at heap.new k + one_at root k ≡ holds_at heap.old k + (one_at result.0 k + one_at result.1 k) }
+    ensures few_cells { heap.old.spare_cells ≤ heap.new.spare_cells + 1 }
+    ensures few_nodes { heap.old.spare_nodes ≤ heap.new.spare_nodes + 3 }
 {
+    // The call tells the proof that this is the graph of a heap.
+    let _ = heap.live();
     let top = heap.own(root);
     let middle = heap.own_child(top, 0);
     let last = heap.own_child(middle, 0);

@@ -16,5 +16,5 @@ mod table;
 
 pub use glass::{Glass, Steps};
 pub use heap::Heap;
-pub use laws::{rows_are_owned, unfolds_to_one_tree};
+pub use laws::{edits_add_up, rows_are_owned, unfolds_to_one_tree};
 pub use row::{Head, Link, Sums};

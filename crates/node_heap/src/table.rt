@@ -1,47 +1,65 @@
-//! Where the rows of a heap lie.
-ghost use Rattle.std.specs.Prelude.{vec_len, vec_capacity, ◌≡◌, ℕ, ◌+◌, ◌^◌, ◌<◌, ◌≤◌, [], length, Some, IsSome, OnOk, IsOk, option_copied, slice_index, slice_set, insert, remove};
+//! Where the rows of a heap lie: cells in one list of slots, nodes in another. Place 2i is slot i of the cells, and place
+//! 2i + 1 slot i of the nodes.
+ghost use Rattle.std.specs.Prelude.{vec_len, vec_capacity, ◌≡◌, ◌≢◌, ℕ, ◌+◌, ◌-◌, ◌^◌, ◌<◌, ◌≤◌, [], length, Some, None, IsSome, OnOk, IsOk, option_copied, slice_index, slice_index_or, slice_set, insert, remove};
+ghost use Rattle.std.specs.Borrow.{sem};
+ghost use Rattle.node_heap.specs.LendsSlot.{LendsSlot};
 ghost use Rattle.node_heap.specs.Forms.{cell, node, links_of, value_of, head_of, is_node};
-ghost use Rattle.node_heap.specs.Inside.{row_of};
+ghost use Rattle.node_heap.specs.Inside.{IsFree, SameBut, node_slot, links_taken};
 ghost use Rattle.node_heap.specs.Layout.{graph_of, slot_at, owners_in, rows_in, row_count, SetsOwners, Rewrites, Puts, Takes, KeepsRoom};
 
-use crate::entry::{Content, Entry, Node};
+use crate::entry::{CellSlot, NodeSlot, kept};
 use crate::row::{Head, Link};
 use arrayvec::ArrayVec;
-use slab::Slab;
 use std::alloc::{AllocError, Global};
 use std::marker::Model;
+use std::mem;
 
 /// A slot for each row, and room for spares of each kind.
 #[derive(Drop)]
 pub(crate) struct Table<T> {
-    slots: Slab<Entry<T>>,
-    // The nodes that are not in use. There is room for those in use.
-    pool: Vec<Box<Node>>,
-    alloc: Global,
+    cells: Vec<Option<CellSlot<T>>>,
+    // The slots of the cells that no row is in, each once.
+    free_cells: Vec<usize>,
     spare_cells: usize,
+    nodes: Vec<Option<NodeSlot>>,
+    free_nodes: Vec<usize>,
+    spare_nodes: usize,
 }
 
 impl<T> Model for Table<T> {
-    ghost use Rattle.std.specs.Vec.{vec_len, vec_capacity};
     ghost use Rattle.node_heap.specs.Layout.{Table as Seen};
 
     ghost Value = { Seen T };
 
-    ghost use Rattle.node_heap.specs.Inside.{shown, IsRoomy};
+    ghost use Rattle.std.specs.Vec.{vec_capacity};
+    ghost use Rattle.node_heap.specs.Inside.{shown, HasRoom, IsTable};
 
-    ghost view = { λ t. shown t.slots.slots t.spare_cells (vec_len t.pool) };
+    ghost view = { λ t. shown t.cells.items t.nodes.items t.spare_cells t.spare_nodes };
 
-    ghost invariant = { λ t. IsRoomy t.slots.slots t.slots.capacity t.spare_cells (vec_len t.pool) (vec_capacity t.pool) };
+    ghost invariant = { λ t. IsTable t.cells.items t.free_cells.items (vec_capacity t.cells) (vec_capacity t.free_cells) t.spare_cells t.nodes.items t.free_nodes.items (vec_capacity t.nodes) (vec_capacity t.free_nodes) t.spare_nodes };
 }
 
-// A row that was taken out: its owners and its links.
+// A row that was taken out: its owners and the links of a node.
 #[derive(Drop)]
 pub(crate) struct Taken {
     pub(crate) owners: usize,
-    pub(crate) links: ArrayVec<Link, 32>,
+    links: Option<ArrayVec<Link, 32>>,
+}
+
+impl Taken {
+    pub(crate) fn links(&self) -> &[Link]
+        ensures { result.now ≡ links_taken self.now.links }
+    {
+        match &self.links {
+            Some(links) => links.as_slice(),
+            None => &[],
+        }
+    }
 }
 
 impl<T> Table<T> {
+    ghost use Rattle.node_heap.specs.Lending.{LendsOwners, LendsNode};
+
     // A table with no rows and no spares.
     pub(crate) fn new(alloc: Global) -> Table<T>
         ensures slots { result.slots ≡ [] }
@@ -49,10 +67,12 @@ impl<T> Table<T> {
         ensures spare_nodes { result.spare_nodes ≡ 0 }
     {
         Table {
-            slots: Slab::new(alloc),
-            pool: Vec::new(alloc),
-            alloc,
+            cells: Vec::new(alloc),
+            free_cells: Vec::new(alloc),
             spare_cells: 0,
+            nodes: Vec::new(alloc),
+            free_nodes: Vec::new(alloc),
+            spare_nodes: 0,
         }
     }
 
@@ -60,7 +80,7 @@ impl<T> Table<T> {
     pub(crate) fn len(&self) -> usize
         ensures { result ≡ row_count self.now.slots }
     {
-        self.slots.len()
+        (self.cells.len() - self.free_cells.len()) + (self.nodes.len() - self.free_nodes.len())
     }
 
     pub(crate) fn spare_cells(&self) -> usize
@@ -72,7 +92,7 @@ impl<T> Table<T> {
     pub(crate) fn spare_nodes(&self) -> usize
         ensures { result ≡ self.now.spare_nodes }
     {
-        self.pool.len()
+        self.spare_nodes
     }
 
     // Makes just so many spares of each kind, no fewer than there are.
@@ -89,12 +109,10 @@ impl<T> Table<T> {
         ensures few_nodes { self.new.spare_nodes ≤ nodes }
         ensures ample { self.old.spare_cells ≡ cells → self.old.spare_nodes ≡ nodes → IsOk result }
     {
-        let reserved = self.slots.reserve(cells + nodes);
-        // The call tells the proof that the capacity is below 2^64.
-        let _ = self.slots.capacity();
-        reserved?;
-        grow_pool(&mut self.pool, self.alloc, nodes, self.slots.len())?;
+        make_room(&mut self.cells, &mut self.free_cells, cells)?;
         self.spare_cells = cells;
+        make_room(&mut self.nodes, &mut self.free_nodes, nodes)?;
+        self.spare_nodes = nodes;
         Ok(())
     }
 
@@ -106,22 +124,27 @@ impl<T> Table<T> {
         ensures spare_nodes { self.new.spare_nodes ≡ self.old.spare_nodes }
     {
         self.spare_cells -= 1;
-        self.slots.insert_reserved(Entry {
-            owners: 1,
-            row: Content::Cell(value),
-        })
+        2 * put(
+            &mut self.cells,
+            &mut self.free_cells,
+            CellSlot { owners: 1, value },
+        )
     }
 
     // Makes a node of a spare, with one owner. Answers its place.
-    pub(crate) fn put_node(&mut self, head: Head, links: &[Link]) -> usize
-        requires spare { 0 < self.old.spare_nodes }
-        requires short { length links.now ≤ 32 }
-        ensures puts { Puts self.old.slots self.new.slots result (node head links.now) }
+    pub(crate) fn put_node(&mut self, head: Head, links: ArrayVec<Link, 32>) -> usize
+        requires { 0 < self.old.spare_nodes }
+        ensures puts { Puts self.old.slots self.new.slots result (node head links.items) }
         ensures spare_cells { self.new.spare_cells ≡ self.old.spare_cells }
         ensures spare_nodes { self.new.spare_nodes + 1 ≡ self.old.spare_nodes }
     {
-        let row = filled(&mut self.pool, head, links);
-        self.slots.insert_reserved(Entry { owners: 1, row })
+        self.spare_nodes -= 1;
+        let slot = NodeSlot {
+            owners: 1,
+            head,
+            links,
+        };
+        2 * put(&mut self.nodes, &mut self.free_nodes, slot) + 1
     }
 
     // The owners of the row at the place.
@@ -129,7 +152,26 @@ impl<T> Table<T> {
         requires { IsSome (slot_at self.now.slots place) }
         ensures { result ≡ owners_in (slot_at self.now.slots place) }
     {
-        self.slots[place].owners
+        if place % 2 == 0 {
+            slot(&self.cells, place / 2).owners
+        } else {
+            slot(&self.nodes, place / 2).owners
+        }
+    }
+
+    // The owners of the row at the place, for writing.
+    pub(crate) fn owners_mut(&mut self, place: usize) -> &mut usize
+        requires { IsSome (slot_at self.old.slots place) }
+        ensures* writes_back { sem 𝓛 (LendsOwners T.row self.entry place result) }
+        ensures value { result.now ≡ owners_in (slot_at self.old.slots place) }
+    {
+        if place % 2 == 0 {
+            let slot = slot_mut(&mut self.cells, place / 2);
+            &mut slot.owners
+        } else {
+            let slot = slot_mut(&mut self.nodes, place / 2);
+            &mut slot.owners
+        }
     }
 
     // The value of the cell at the place, and none for a node.
@@ -137,10 +179,11 @@ impl<T> Table<T> {
         requires { IsSome (slot_at self.now.slots place) }
         ensures { option_copied result ≡ value_of (graph_of self.now.slots place) }
     {
-        match &self.slots[place].row {
-            Content::Cell(value) => Some(value),
-            Content::Node(_) => None,
+        let cells = &self.cells;
+        if place % 2 != 0 {
+            return None;
         }
+        Some(&slot(cells, place / 2).value)
     }
 
     // The head of the node at the place, and none for a cell.
@@ -148,10 +191,11 @@ impl<T> Table<T> {
         requires { IsSome (slot_at self.now.slots place) }
         ensures { option_copied result ≡ head_of (graph_of self.now.slots place) }
     {
-        match &self.slots[place].row {
-            Content::Cell(_) => None,
-            Content::Node(node) => Some(&node.head),
+        let nodes = &self.nodes;
+        if place % 2 == 0 {
+            return None;
         }
+        Some(&slot(nodes, place / 2).head)
     }
 
     // The links of the row at the place. A cell has none.
@@ -159,7 +203,11 @@ impl<T> Table<T> {
         requires { IsSome (slot_at self.now.slots place) }
         ensures { result.now ≡ links_of (graph_of self.now.slots place) }
     {
-        self.slots[place].row.links()
+        let nodes = &self.nodes;
+        if place % 2 == 0 {
+            return &[];
+        }
+        slot(nodes, place / 2).links.as_slice()
     }
 
     // The head and the links of the node at the place.
@@ -167,23 +215,27 @@ impl<T> Table<T> {
         requires { is_node (graph_of self.now.slots place) ≡ 1 }
         ensures { graph_of self.now.slots place ≡ Some (node result.0 result.1.items) }
     {
-        match &self.slots[place].row {
-            Content::Cell(_) => unreachable!(),
-            Content::Node(node) => {
-                let mut links = ArrayVec::new();
-                let _ = links.try_extend_from_slice(node.links.as_slice());
-                (node.head.copy(), links)
-            }
-        }
+        let slot = slot(&self.nodes, place / 2);
+        (slot.head.copy(), kept(slot.links.as_slice()))
     }
 
+    #[tactic(auto, using(crate::proofs::Slots::reown_rows))]
     pub(crate) fn set_owners(&mut self, place: usize, owners: usize)
         requires { IsSome (slot_at self.old.slots place) }
         ensures sets { SetsOwners self.old.slots self.new.slots place owners }
         ensures rows { rows_in self.new.slots ≡ rows_in self.old.slots }
         ensures room { KeepsRoom self.old self.new }
     {
-        self.slots[place].owners = owners;
+        *self.owners_mut(place) = owners;
+    }
+
+    // The node at the place, for writing.
+    fn node_mut(&mut self, place: usize) -> &mut NodeSlot
+        requires { is_node (graph_of self.old.slots place) ≡ 1 }
+        ensures* writes_back { sem 𝓛 (LendsNode T.row self.entry place result) }
+        ensures value { slot_at self.old.slots place ≡ node_slot (Some result.now) }
+    {
+        slot_mut(&mut self.nodes, place / 2)
     }
 
     // Puts the link in place of the one at the index, which it answers.
@@ -193,7 +245,7 @@ impl<T> Table<T> {
         ensures rewrites { Rewrites self.old.slots self.new.slots place (head_of (graph_of self.old.slots place)) (slice_set (links_of (graph_of self.old.slots place)) index link) }
         ensures room { KeepsRoom self.old self.new }
     {
-        self.slots[place].row.replace(index, link)
+        self.node_mut(place).replace(index, link)
     }
 
     // Puts the link at the index, before those that stand there and after.
@@ -204,7 +256,7 @@ impl<T> Table<T> {
         ensures rewrites { Rewrites self.old.slots self.new.slots place (head_of (graph_of self.old.slots place)) (insert (links_of (graph_of self.old.slots place)) index link) }
         ensures room { KeepsRoom self.old self.new }
     {
-        self.slots[place].row.insert(index, link);
+        self.node_mut(place).links.insert(index, link);
     }
 
     // Takes the link at the index out.
@@ -214,7 +266,7 @@ impl<T> Table<T> {
         ensures rewrites { Rewrites self.old.slots self.new.slots place (head_of (graph_of self.old.slots place)) (remove (links_of (graph_of self.old.slots place)) index) }
         ensures room { KeepsRoom self.old self.new }
     {
-        self.slots[place].row.remove(index)
+        self.node_mut(place).links.remove(index)
     }
 
     // Puts the head in place of the node's.
@@ -223,7 +275,7 @@ impl<T> Table<T> {
         ensures rewrites { Rewrites self.old.slots self.new.slots place (Some head) (links_of (graph_of self.old.slots place)) }
         ensures room { KeepsRoom self.old self.new }
     {
-        self.slots[place].row.set_head(head);
+        self.node_mut(place).head = head;
     }
 }
 
@@ -232,69 +284,115 @@ impl<T: Drop> Table<T> {
     pub(crate) fn take(&mut self, place: usize) -> Taken
         requires { IsSome (slot_at self.old.slots place) }
         ensures owners { result.owners ≡ owners_in (slot_at self.old.slots place) }
-        ensures links { result.links.items ≡ links_of (graph_of self.old.slots place) }
+        ensures links { links_taken result.links ≡ links_of (graph_of self.old.slots place) }
         ensures takes { Takes self.old self.new place }
     {
-        let Entry { owners, row } = self.slots.remove(place);
-        self.spare_cells += row.cells();
-        let mut links = ArrayVec::new();
-        let _ = links.try_extend_from_slice(row.links());
-        keep_node(&mut self.pool, row);
-        Taken { owners, links }
-    }
-}
-
-// Keeps the node of a row that is taken out.
-fn keep_node<T: Drop>(pool: &mut Vec<Box<Node>>, row: Content<T>)
-    requires { vec_len pool.old + is_node (Some (row_of row)) ≤ vec_capacity pool.old }
-    ensures len { vec_len pool.new ≡ vec_len pool.old + is_node (Some (row_of row)) }
-    ensures capacity { vec_capacity pool.new ≡ vec_capacity pool.old }
-{
-    match row {
-        Content::Cell(_) => {}
-        Content::Node(node) => pool.push_reserved(node),
-    }
-}
-
-// A node of the pool, with this head and these links.
-fn filled<T>(pool: &mut Vec<Box<Node>>, head: Head, links: &[Link]) -> Content<T>
-    requires some { 0 < vec_len pool.old }
-    requires few { length links.now ≤ 32 }
-    ensures row { row_of result ≡ node head links.now }
-    ensures len { vec_len pool.new + 1 ≡ vec_len pool.old }
-    ensures capacity { vec_capacity pool.new ≡ vec_capacity pool.old }
-{
-    match pool.pop() {
-        Some(mut node) => {
-            node.fill(head, links);
-            Content::Node(node)
+        if place % 2 == 0 {
+            let slot = take_out(&mut self.cells, &mut self.free_cells, place / 2);
+            self.spare_cells += 1;
+            return Taken {
+                owners: slot.owners,
+                links: None,
+            };
         }
+        let slot = take_out(&mut self.nodes, &mut self.free_nodes, place / 2);
+        self.spare_nodes += 1;
+        Taken {
+            owners: slot.owners,
+            links: Some(slot.links),
+        }
+    }
+}
+
+// What the slot holds.
+fn slot<X>(slots: &Vec<Option<X>>, place: usize) -> &X
+    requires { IsSome (slice_index_or slots.now.items place None) }
+    ensures { slice_index_or slots.now.items place None ≡ Some result.now }
+{
+    match &slots[place] {
+        Some(value) => value,
         None => unreachable!(),
     }
 }
 
-// Grows the pool to so many nodes, with room for as many more as are in use.
-fn grow_pool(
-    pool: &mut Vec<Box<Node>>,
-    alloc: Global,
-    nodes: usize,
-    used: usize,
-) -> Result<(), AllocError>
-    requires few { nodes + used < 2 ^ 56 }
-    requires not_less { vec_len pool.old ≤ nodes }
-    ensures len { OnOk result (vec_len pool.new ≡ nodes) }
-    ensures more { vec_len pool.old ≤ vec_len pool.new }
-    ensures at_most { vec_len pool.new ≤ nodes }
-    ensures same { vec_len pool.old ≡ nodes → IsOk result }
-    ensures room { (n : ℕ) → n ≤ used → vec_len pool.old + n ≤ vec_capacity pool.old → vec_len pool.new + n ≤ vec_capacity pool.new }
+// What the slot holds, for writing.
+fn slot_mut<X>(slots: &mut Vec<Option<X>>, place: usize) -> &mut X
+    requires { IsSome (slice_index_or slots.old.items place None) }
+    ensures* writes_back { sem 𝓛 (LendsSlot X.row slots.entry place result) }
+    ensures value { slice_index_or slots.old.items place None ≡ Some result.now }
 {
-    if pool.len() == nodes {
-        return Ok(());
+    match &mut slots[place] {
+        Some(value) => value,
+        None => unreachable!(),
     }
-    pool.reserve(nodes - pool.len() + used)?;
-    while pool.len() < nodes {
-        let node = Box::new(alloc, Node::blank())?;
-        pool.push_reserved(node);
-    }
+}
+
+// Makes room for so many spares, of which the free slots are some.
+fn make_room<X>(
+    slots: &mut Vec<Option<X>>,
+    free: &mut Vec<usize>,
+    spares: usize,
+) -> Result<(), AllocError>
+    requires few { vec_len slots.old + spares < 2 ^ 57 }
+    requires more { vec_len free.old ≤ spares }
+    requires inside { vec_len free.old ≤ vec_len slots.old }
+    ensures slots { slots.new.items ≡ slots.old.items }
+    ensures free { free.new.items ≡ free.old.items }
+    ensures room { OnOk result (vec_len slots.old + spares ≤ vec_capacity slots.new + vec_len free.old) }
+    ensures free_room { OnOk result (vec_len slots.old + spares ≤ vec_capacity free.new + vec_len free.old) }
+    ensures grows { vec_capacity slots.old ≤ vec_capacity slots.new }
+    ensures free_grows { vec_capacity free.old ≤ vec_capacity free.new }
+    ensures ample { vec_len slots.old + spares ≤ vec_capacity slots.old + vec_len free.old → vec_len slots.old + spares ≤ vec_capacity free.old + vec_len free.old → IsOk result }
+{
+    slots.reserve(spares - free.len())?;
+    free.reserve(slots.len() - free.len() + (spares - free.len()))?;
     Ok(())
+}
+
+// Puts the value in a free slot, or in a new one where none is free. Answers which.
+fn put<X>(slots: &mut Vec<Option<X>>, free: &mut Vec<usize>, value: X) -> usize
+    requires free { IsFree slots.old.items free.old.items }
+    requires room { vec_len slots.old < vec_capacity slots.old + vec_len free.old }
+    ensures was { slice_index_or slots.old.items result None ≡ None }
+    ensures now { slice_index_or slots.new.items result None ≡ Some value }
+    ensures others { SameBut slots.old.items slots.new.items result }
+    ensures free { IsFree slots.new.items free.new.items }
+    ensures one { vec_len slots.new + vec_len free.old ≡ vec_len slots.old + vec_len free.new + 1 }
+    ensures inside { result < vec_len slots.new }
+    ensures fewer { vec_len free.new ≡ vec_len free.old - 1 }
+    ensures capacity { vec_capacity slots.new ≡ vec_capacity slots.old }
+    ensures free_capacity { vec_capacity free.new ≡ vec_capacity free.old }
+{
+    match free.pop() {
+        Some(place) => match mem::replace(&mut slots[place], Some(value)) {
+            None => place,
+            Some(_) => unreachable!(),
+        },
+        None => {
+            let place = slots.len();
+            slots.push_reserved(Some(value));
+            place
+        }
+    }
+}
+
+// Takes the value out of the slot, which is free then.
+fn take_out<X>(slots: &mut Vec<Option<X>>, free: &mut Vec<usize>, place: usize) -> X
+    requires some { IsSome (slice_index_or slots.old.items place None) }
+    requires free { IsFree slots.old.items free.old.items }
+    requires room { vec_len free.old < vec_capacity free.old }
+    ensures value { slice_index_or slots.old.items place None ≡ Some result }
+    ensures slots { slots.new.items ≡ slice_set slots.old.items place None }
+    ensures free { IsFree slots.new.items free.new.items }
+    ensures one { vec_len free.new ≡ vec_len free.old + 1 }
+    ensures capacity { vec_capacity slots.new ≡ vec_capacity slots.old }
+    ensures free_capacity { vec_capacity free.new ≡ vec_capacity free.old }
+{
+    match mem::replace(&mut slots[place], None) {
+        Some(value) => {
+            free.push_reserved(place);
+            value
+        }
+        None => unreachable!(),
+    }
 }

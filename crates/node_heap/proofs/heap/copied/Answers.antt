@@ -17,13 +17,12 @@ returns g c =
     let same : Some (node c.copy_node-head.result.0 c.copy_node-head.result.1.items) ≡ graph_of slots c.args.place = sym c.copy_node-head.ensures in
     let adds : AddsOwners slots c.add_owners.new.table.slots (links_of (graph_of slots c.args.place)) =
     record { owners = rw (← ap links_of same, ← c.as_slice.ensures.value) c.add_owners.ensures.owners; rows = c.add_owners.ensures.rows } in
-    let put_same : Some (node c.copy_node-head.result.0 c.as_slice-2.result.now) ≡ graph_of slots c.args.place = ap (λ ks. Some (node c.copy_node-head.result.0 ks)) c.as_slice-2.ensures.value ∙ same in
-    let joins = joins-copied slots _ _ c.args.place _ _ c.requires.counted adds put.puts.was put.puts.now put.puts.others refl put_same in
+    let joins = joins-copied slots _ _ c.args.place _ _ c.requires.counted adds put.puts.was put.puts.now put.puts.others refl same in
     record {
-      copies = copies-joined slots _ _ _ _ _ adds joins put_same;
+      copies = copies-joined slots _ _ _ _ _ adds joins same;
       counted = counted-joined _ _ _ _ put.puts.low (counted-added slots _ _ adds c.requires.counted) joins;
-      cells = cells-copied slots _ _ _ _ _ adds joins put_same c.requires.node;
-      nodes = nodes-copied slots _ _ _ _ _ adds joins put_same c.requires.node;
+      cells = cells-copied slots _ _ _ _ _ adds joins same c.requires.node;
+      nodes = nodes-copied slots _ _ _ _ _ adds joins same c.requires.node;
       len = omega (arith, put.puts.len, c.add_owners.ensures.room.len);
       spare_cells = put.spare_cells ∙ c.add_owners.ensures.room.spare_cells;
       spare_nodes = omega (arith, put.spare_nodes, c.add_owners.ensures.room.spare_nodes);

@@ -1,16 +1,18 @@
-use Rattle.std.proofs.Common.{◌≡◌, ◌≢◌, ℕ, ◌+◌, ◌<◌, List, [], ◌∷◌, length, get_or, set, refl, sym, ap, subst, ◌∙◌, arith, Option, Some, None, IsSome, add-zero}
+use Rattle.std.proofs.Common.{◌≡◌, ◌≢◌, ℕ, ◌+◌, ◌<◌, List, [], ◌∷◌, length, get_or, set, refl, sym, ap, subst, ◌∙◌, arith, Option, Some, None, IsSome}
 use Rattle.std.specs.Prelude.{slice_index}
 use Rattle.std.proofs.lemmas.List.{length-set, get_or-set_same}
 use Rattle.node_heap.specs.Links.{count, HasLink, Reaches, here, below}
 use Rattle.node_heap.specs.Forms.{Row, cell, node, links_of, is_node}
-use Rattle.node_heap.specs.Heap.{Heap, row_at, links_at, holds_at, owners_at}
-use Rattle.node_heap.specs.Calls.{Extends, Adds, Builds}
-use Rattle.node_heap.specs.InPlace.{path_start, child_at, KeepsApart}
-use Rattle.node_heap.proofs.Counts.{count-cons, one_at-flip, test_same, test_other}
-use Rattle.node_heap.proofs.Frames.{Extends-row, IsTree-Extends, apart-held}
+use Rattle.node_heap.specs.Heap.{Heap, row_at, links_at, holds_at, owners_at, one_at, IsGraph}
+use Rattle.node_heap.specs.Calls.{KeepsHeld, AddsOwner, Extends, Adds, Builds}
+use Rattle.node_heap.specs.InPlace.{path_start, child_at, KeepsApart, Edits}
+use Rattle.node_heap.proofs.Counts.{count-cons, test_same, test_other}
+use Rattle.node_heap.proofs.Frames.{Extends-row, KeepsHeld-Extends, KeepsHeld-then, IsTree-KeepsHeld}
+use Rattle.node_heap.proofs.BuildLemmas.{count-one, Builds-cell, Builds-spare_cells, Builds-spare_nodes}
 use Rattle.node_heap.proofs.GraphLemmas.{IsGraph-acyclic}
 use Rattle.node_heap.proofs.Ways.{Reaches-around}
-use Rattle.node_heap.proofs.Edited.{count-at, Reaches-back, KeepsApart-KeepsHeld, KeepsApart-trans, KeepsApart-path, KeepsPaths-Extends, OwnsDown-child, IsTree-apart}
+use Rattle.node_heap.proofs.Edited.{count-at, Reaches-back, Edits-then, Edits-path, OwnsDown-child}
+use Rattle.node_heap.proofs.EditLaws.{Edits-Builds, KeepsHeld-own}
 use Rattle.node_heap.proofs.in_place_tests.write_third.Goals as goal
 
 module _ {T : Type 0} where
@@ -94,6 +96,28 @@ module _ {T : Type 0} where
       let last_live : IsSome (row_at h3 last) = rw last_row (row-live (row_at h0 third) has3) in
       record { last_row = last_row; last_live = last_live; last_old = unlike h3 last new last_live adds.fresh }
 
+  added-owners : (h h' : Heap T) (new : ℕ) → AddsOwner h h' new → row_at h new ≡ None → (k : ℕ) → IsSome (row_at h k) → owners_at h' k ≡ owners_at h k
+  added-owners h h' new owners fresh k live = omega (arith, owners k, test_other k new (unlike h k new live fresh))
+
+  -- the calls below the new root are one edit there
+  third-edit : {h1 h2 h3 h4 h5 : Heap T} {top middle last new old : ℕ} {x : T} → 0 < length (links_at h1 top) → 0 < length (links_at h2 middle) → IsSome (row_at h3 last)
+      → links_at h2 top ≡ set (links_at h1 top) 0 middle → owners_at h2 middle ≡ 1 → Edits top h1 h2 [] [] 0 1
+      → links_at h3 middle ≡ set (links_at h2 middle) 0 last → owners_at h3 last ≡ 1 → Edits middle h2 h3 [] [] 0 1
+      → Adds h3 h4 new (cell x) → AddsOwner h3 h4 new → Builds h3 h4 [] (new ∷ []) 1 0 → Edits last h4 h5 (new ∷ []) (old ∷ []) 0 0 → Edits top h1 h5 [] (old ∷ []) 1 2
+  third-edit {h1} {h2} {h3} {h4} {h5} {top} {middle} {last} {new} some1 some2 live links2 sole2 edit2 links3 sole3 edit3 adds owners builds edit5 =
+      let down2 = OwnsDown-child h2 top top middle 0 (links_at h1 top) path_start links2 some1 sole2 in
+      let down3 = OwnsDown-child h3 top middle last 0 (links_at h2 middle) (edit3.paths.owned top middle (here middle) down2) links3 some2 sole3 in
+      let edit4 = Edits-Builds last edit3.graph live (added-owners h3 h4 new owners adds.fresh) builds in
+      let down4 = edit4.paths.owned top last (here last) down3 in
+      Edits-then (Edits-then (Edits-then edit2 (Edits-path down2 edit3)) (Edits-path down3 edit4)) (Edits-path down4 edit5)
+
+  -- what is kept of the old heap where the copy of a root is edited
+  keeps-all : (h0 h1 h5 : Heap T) (root top old : ℕ) → IsGraph h0 → top ≢ root → Builds h0 h1 (root ∷ []) (top ∷ []) 0 1 → owners_at h1 top ≡ 1 → Edits top h1 h5 [] (old ∷ []) 1 2 → KeepsHeld (one_at root) h0 h5
+  keeps-all h0 h1 h5 root top old graph other builds sole edit =
+      KeepsHeld-then (one_at root) (KeepsHeld-Extends (one_at root) h0 h1 graph builds.extends (λ l. omega (arith, builds.holds l, count-one l root)))
+      (KeepsHeld-own top (omega (arith, builds.holds top, count-one top root, count-one top top, test_same top top refl, test_other top root other)) sole edit)
+      (λ l some. some) (λ l some. omega (arith, some, builds.holds l, count-one l root)) (λ l. omega (arith, builds.holds l, count-one l root, edit.holds l))
+
 pub own_child-middle-requires-clause-node : goal.own_child-middle-requires-clause-node
 own_child-middle-requires-clause-node g c =
     let own = c.own-top.ensures in
@@ -140,37 +164,8 @@ replace-old-requires-clause-apart g c way =
     let last = c.own_child-last.result in
     three.last_old (sym (cell-reaches _ (links_at c.cell-cell.new.self) _ c.cell-cell.result last refl c.cell-cell.ensures.adds.here way))
 
-pub returns-clause-old : goal.returns-clause-old
-returns-clause-old g c =
-    let two = second c.args.heap.now c.own-top.new.self c.own_child-middle.new.self c.args.root c.own-top.result c.own_child-middle.result c.requires.version c.requires.top c.requires.middle c.requires.last c.own-top.ensures.same.0 c.own-top.ensures.row c.own-top.ensures.fresh c.own-top.ensures.builds c.own_child-middle.ensures.row c.own_child-middle.ensures.edits.apart in
-    let three = last-kept c.args.heap.now c.own-top.new.self c.own_child-middle.new.self c.own_child-last.new.self c.cell-cell.new.self c.args.root c.own-top.result c.own_child-middle.result c.own_child-last.result c.cell-cell.result two c.requires.last c.own_child-last.ensures.row c.cell-cell.ensures.adds in
-    let last = c.own_child-last.result in
-    c.replace-old.ensures.old ∙ ap (λ r. slice_index (links_of r) 0) (c.cell-cell.ensures.adds.others last three.last_old ∙ three.last_row)
-
-pub returns-clause-stays : goal.returns-clause-stays
-returns-clause-stays g c t tree =
-    let two = second c.args.heap.now c.own-top.new.self c.own_child-middle.new.self c.args.root c.own-top.result c.own_child-middle.result c.requires.version c.requires.top c.requires.middle c.requires.last c.own-top.ensures.same.0 c.own-top.ensures.row c.own-top.ensures.fresh c.own-top.ensures.builds c.own_child-middle.ensures.row c.own_child-middle.ensures.edits.apart in
-    let three = last-kept c.args.heap.now c.own-top.new.self c.own_child-middle.new.self c.own_child-last.new.self c.cell-cell.new.self c.args.root c.own-top.result c.own_child-middle.result c.own_child-last.result c.cell-cell.result two c.requires.last c.own_child-last.ensures.row c.cell-cell.ensures.adds in
-    let last = c.own_child-last.result in
-    let top = c.own-top.result in
-    let h1 = c.own-top.new.self in
-    let h2 = c.own_child-middle.new.self in
-    let middle = c.own_child-middle.result in
-    let cell = c.cell-cell.result in
-    let made = c.cell-cell.ensures in
-    let top_links : 0 < length (links_at h1 top) = rw c.own-top.ensures.row c.requires.top in
-    let down2 = OwnsDown-child h2 top top middle 0 (links_at h1 top) path_start c.own_child-middle.ensures.parent_links top_links c.own_child-middle.ensures.sole in
-    let middle_links : 0 < length (links_at h2 middle) = rw two.middle_row c.requires.middle in
-    let down3 = OwnsDown-child c.own_child-last.new.self top middle last 0 (links_at h2 middle) (c.own_child-last.ensures.edits.paths.owned top middle (here middle) down2) c.own_child-last.ensures.parent_links middle_links c.own_child-last.ensures.sole in
-    let owners = λ (k : ℕ) (live : IsSome (row_at c.own_child-last.new.self k)). made.owners k ∙ ap (λ n. owners_at c.own_child-last.new.self k + n) (test_other k cell (unlike c.own_child-last.new.self k cell live made.adds.fresh)) ∙ add-zero (owners_at c.own_child-last.new.self k) in
-    let down4 = (KeepsPaths-Extends last made.extends owners three.last_live).owned top last (here last) down3 in
-    let keeps = KeepsApart-trans c.own_child-middle.ensures.edits.apart (KeepsApart-trans (KeepsApart-path down2 c.own_child-last.ensures.edits.apart) (KeepsApart-trans (KeepsApart-KeepsHeld top made.keeps) (KeepsApart-path down4 c.replace-old.ensures.edits.apart))) in
-    let held3 : 0 < holds_at c.own_child-last.new.self c.args.root = omega (arith, two.some, c.own_child-middle.ensures.edits.apart.left c.args.root, c.own_child-last.ensures.edits.apart.left c.args.root) in
-    IsTree-apart keeps (omega (arith, two.some, count-cons c.args.root cell [], one_at-flip c.args.root cell, apart-held c.own_child-last.new.self cell c.args.root made.adds.unheld held3))
-    (off-top c.args.heap.now h1 c.args.root top c.own-top.ensures.builds.extends (row-live (row_at c.args.heap.now c.args.root) c.requires.top) (c.own-top.ensures.fresh two.other) c.own-top.ensures.row) (IsTree-Extends c.own-top.ensures.builds.extends tree)
-
-pub returns-clause-written : goal.returns-clause-written
-returns-clause-written g c =
+pub returns : goal.returns
+returns g c =
     let two = second c.args.heap.now c.own-top.new.self c.own_child-middle.new.self c.args.root c.own-top.result c.own_child-middle.result c.requires.version c.requires.top c.requires.middle c.requires.last c.own-top.ensures.same.0 c.own-top.ensures.row c.own-top.ensures.fresh c.own-top.ensures.builds c.own_child-middle.ensures.row c.own_child-middle.ensures.edits.apart in
     let three = last-kept c.args.heap.now c.own-top.new.self c.own_child-middle.new.self c.own_child-last.new.self c.cell-cell.new.self c.args.root c.own-top.result c.own_child-middle.result c.own_child-last.result c.cell-cell.result two c.requires.last c.own_child-last.ensures.row c.cell-cell.ensures.adds in
     let last = c.own_child-last.result in
@@ -183,6 +178,12 @@ returns-clause-written g c =
     let wrote = c.replace-old.ensures.writes in
     let top_links : 0 < length (links_at h1 top) = rw c.own-top.ensures.row c.requires.top in
     let middle_links : 0 < length (links_at h2 middle) = rw two.middle_row c.requires.middle in
+    let edit = third-edit top_links middle_links three.last_live c.own_child-middle.ensures.parent_links c.own_child-middle.ensures.sole c.own_child-middle.ensures.edits
+    c.own_child-last.ensures.parent_links c.own_child-last.ensures.sole c.own_child-last.ensures.edits made.adds made.owners (Builds-cell made.adds made.makes made.count made.graph made.extends) c.replace-old.ensures.edits in
+    let builds = c.own-top.ensures.builds in
+    let keeps = keeps-all c.args.heap.now h1 _ c.args.root top _ c.live.ensures.graph two.other builds c.own-top.ensures.sole edit in
+    let root = c.args.root in
+    let old = c.replace-old.result in
     let last_links : 0 < length (links_at c.cell-cell.new.self last) = rw (made.adds.others last three.last_old, three.last_row) c.requires.last in
     let top_link = link-set h2 top middle (links_at h1 top) c.own_child-middle.ensures.parent_links top_links in
     let middle_link = link-set c.own_child-last.new.self middle last (links_at h2 middle) c.own_child-last.ensures.parent_links middle_links in
@@ -197,4 +198,12 @@ returns-clause-written g c =
     let first : child_at c.replace-old.new.self top 0 ≡ middle = ap (λ ks. get_or ks 0 0) (ap links_of at_top ∙ c.own_child-middle.ensures.parent_links) ∙ get_or-set_same (links_at h1 top) 0 middle 0 top_links in
     let second : child_at c.replace-old.new.self middle 0 ≡ last = ap (λ ks. get_or ks 0 0) (ap links_of at_middle ∙ c.own_child-last.ensures.parent_links) ∙ get_or-set_same (links_at h2 middle) 0 last 0 middle_links in
     let third_is : child_at c.replace-old.new.self last 0 ≡ cell = ap (λ ks. get_or ks 0 0) wrote.new_links ∙ get_or-set_same (links_at c.cell-cell.new.self last) 0 cell 0 last_links in
-    rw (first, second, third_is, wrote.others cell (λ e. three.last_old (sym e)), made.adds.here) refl
+    record {
+      keeps = keeps;
+      stays = λ t tree. IsTree-KeepsHeld keeps (omega (arith, c.requires.version, test_same root root refl)) tree;
+      written = rw (first, second, third_is, wrote.others cell (λ e. three.last_old (sym e)), made.adds.here) refl;
+      old = c.replace-old.ensures.old ∙ ap (λ r. slice_index (links_of r) 0) (made.adds.others last three.last_old ∙ three.last_row);
+      holds = λ k. omega (arith, builds.holds k, edit.holds k, count-one k root, count-one k top, count-one k old);
+      few_cells = omega (arith, Builds-spare_cells builds, edit.makes.spare_cells, edit.few_cells);
+      few_nodes = omega (arith, Builds-spare_nodes builds, edit.makes.spare_nodes, edit.few_nodes);
+    }

@@ -1,4 +1,4 @@
-use Rattle.std.proofs.Common.{arith, refl, sym, ap}
+use Rattle.std.proofs.Common.{Some, arith, refl, sym, ap, ◌∙◌}
 use Rattle.node_heap.specs.Forms.{node}
 use Rattle.node_heap.proofs.Slots.{holds-room}
 use Rattle.node_heap.proofs.Stored.{IsGraph-stored}
@@ -16,7 +16,7 @@ invariant_of-self g c =
     let few = rw (← c.self.view_is) at c.requires.few in
     let joins : Joins slots made.new.self.slots made.result (record { owners = 1; row = node c.args.head c.args.links.now }) = record {
       was = made.ensures.puts.was;
-      «is» = made.ensures.puts.now;
+      «is» = made.ensures.puts.now ∙ ap (λ ks. Some (record { owners = 1; row = node c.args.head ks })) c.kept.ensures;
       apart = made.ensures.puts.others;
       one = refl;
       short = c.requires.short;
@@ -36,7 +36,7 @@ returns g c =
     let stored = c.self.invariant in
     let joins : Joins slots made.new.self.slots made.result (record { owners = 1; row = node c.args.head c.args.links.now }) = record {
       was = made.ensures.puts.was;
-      «is» = made.ensures.puts.now;
+      «is» = made.ensures.puts.now ∙ ap (λ ks. Some (record { owners = 1; row = node c.args.head ks })) c.kept.ensures;
       apart = made.ensures.puts.others;
       one = refl;
       short = c.requires.short;

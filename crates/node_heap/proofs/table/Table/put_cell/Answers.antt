@@ -1,21 +1,12 @@
-use Rattle.std.proofs.Common.{ap, arith}
-use Rattle.node_heap.specs.Inside.{node_in}
-use Rattle.node_heap.proofs.Entries.{puts-shown, nodes-apart}
+use Rattle.std.proofs.Common.{arith}
+use Rattle.node_heap.proofs.Placed.{puts-cell}
 use Rattle.node_heap.proofs.table.Table.put_cell.Goals as goal
-
-pub invariant_of-self : goal.invariant_of-self
-invariant_of-self g c =
-    let made = c.insert_reserved.ensures in
-    let spare = rw (← c.self.view_is) at c.requires in
-    let nodes = nodes-apart c.self.inside.slots.slots c.insert_reserved.new.self.slots _ made.updates.others in
-    record {
-      roomy = omega (arith, spare, made.len, made.capacity, c.self.invariant.roomy);
-      in_range = omega (arith, made.capacity, c.self.invariant.in_range);
-      few = omega (arith, spare, made.len, c.self.invariant.few);
-      pooled = omega (arith, nodes, ap node_in made.was_vacant, ap node_in made.updates.changed, c.self.invariant.pooled);
-    }
 
 pub returns-clause-puts : goal.returns-clause-puts
 returns-clause-puts g c =
-    let made = c.insert_reserved.ensures in
-    rw (← c.self.view_is) (puts-shown c.self.inside.slots.slots _ _ _ _ made.was_vacant made.updates.changed made.updates.others made.key_in_range (omega (arith, made.capacity, c.self.invariant.in_range)) made.len)
+    let put = c.put.ensures in
+    let i = c.self.inside in
+    let spare = rw (← c.self.view_is) at c.requires in
+    let room = c.self.invariant.of_cells in
+    rw (← c.self.view_is) (puts-cell i.cells.items c.put.new.slots.items i.nodes.items c.put.result c.args.value put.was put.now put.others
+    (omega (arith, put.inside, put.free.whole, room.listed.whole, put.one, put.fewer, room.some, spare, c.self.invariant.few, i.cells.ok.0, i.free_cells.ok.0, c.put.new.slots.ok.0, c.put.new.free.ok.0)) (omega (arith, put.free.whole, room.listed.whole, put.one, i.cells.ok.0, i.free_cells.ok.0, c.put.new.slots.ok.0, c.put.new.free.ok.0)))

@@ -1,38 +1,31 @@
-use Rattle.std.proofs.Common.{ap, arith, is_some, count_by}
-use Rattle.std.specs.Prelude.{sum_by}
-use Rattle.node_heap.specs.Inside.{node_in}
-use Rattle.node_heap.proofs.Entries.{nodes_in-entries, len-shown}
+use Rattle.std.proofs.Common.{arith}
+use Rattle.node_heap.proofs.Placed.{len-slots, HasRoom-grow}
 use Rattle.node_heap.proofs.table.Table.reserve.Goals as goal
 
-pub grow_pool-requires-clause-few : goal.grow_pool-requires-clause-few
-grow_pool-requires-clause-few g c =
-    let few = rw (← c.self.view_is) at c.requires.few in
-    let same = ap (λ s. count_by is_some s.slots) c.reserve-reserved.ensures.rest_kept in
-    omega (arith, few, same, c.len.ensures, len-shown c.self.inside.slots.slots)
-
-pub invariant_of-self-in_err-grow_pool : goal.invariant_of-self-in_err-grow_pool
-invariant_of-self-in_err-grow_pool g c =
-    let few = rw (← c.self.view_is) at c.requires.few in
+pub invariant_of-self-in_err-make_room-2 : goal.invariant_of-self-in_err-make_room-2
+invariant_of-self-in_err-make_room-2 g c =
     let more = rw (← c.self.view_is) at c.requires.more_cells in
-    let len = ap (λ s. count_by is_some s.slots) c.reserve-reserved.ensures.rest_kept in
-    let nodes = ap (λ s. sum_by node_in s.slots) c.reserve-reserved.ensures.rest_kept in
-    let grown = c.grow_pool.ensures in
-    record {
-      roomy = omega (arith, c.in_ok-reserved.ensures.room, grown.at_most, more);
-      in_range = omega (arith, c.capacity.ensures.value, c.capacity.type_inv);
-      few = omega (arith, few, more, len, len-shown c.self.inside.slots.slots, grown.at_most);
-      pooled = omega (arith, nodes, grown.room (sum_by node_in c.self.inside.slots.slots) (omega (arith, nodes_in-entries c.self.inside.slots.slots, len, c.len.ensures)) c.self.invariant.pooled);
-    }
+    let more_nodes = rw (← c.self.view_is) at c.requires.more_nodes in
+    let few = rw (← c.self.view_is) at c.requires.few in
+    let i = c.self.inside in
+    let made = c.in_ok-make_room.ensures in
+    let kept = c.self.invariant.of_nodes in
+    rw (c.make_room.ensures.slots, c.make_room.ensures.free, c.make_room-2.ensures.slots, c.make_room-2.ensures.free) (record {
+      of_cells = HasRoom-grow i.cells.items i.free_cells.items _ _ _ _ _ _ c.self.invariant.of_cells more (omega (arith, made.room)) (omega (arith, made.free_room));
+      of_nodes = HasRoom-grow i.nodes.items i.free_nodes.items _ _ _ _ _ _ kept (omega arith) (omega (arith, kept.room, c.make_room-2.ensures.grows)) (omega (arith, kept.free_room, c.make_room-2.ensures.free_grows));
+      few = omega (arith, few, more_nodes, len-slots i.cells.items i.nodes.items);
+    })
 
 pub invariant_of-self-2 : goal.invariant_of-self-2
 invariant_of-self-2 g c =
+    let more = rw (← c.self.view_is) at c.requires.more_cells in
+    let more_nodes = rw (← c.self.view_is) at c.requires.more_nodes in
     let few = rw (← c.self.view_is) at c.requires.few in
-    let len = ap (λ s. count_by is_some s.slots) c.reserve-reserved.ensures.rest_kept in
-    let nodes = ap (λ s. sum_by node_in s.slots) c.reserve-reserved.ensures.rest_kept in
-    let grown = c.grow_pool.ensures in
-    record {
-      roomy = omega (arith, c.in_ok-reserved.ensures.room, grown.at_most);
-      in_range = omega (arith, c.capacity.ensures.value, c.capacity.type_inv);
-      few = omega (arith, few, len, len-shown c.self.inside.slots.slots, grown.at_most);
-      pooled = omega (arith, nodes, grown.room (sum_by node_in c.self.inside.slots.slots) (omega (arith, nodes_in-entries c.self.inside.slots.slots, len, c.len.ensures)) c.self.invariant.pooled);
-    }
+    let i = c.self.inside in
+    let made = c.in_ok-make_room.ensures in
+    let made_nodes = c.in_ok-make_room-2.ensures in
+    rw (c.make_room.ensures.slots, c.make_room.ensures.free, c.make_room-2.ensures.slots, c.make_room-2.ensures.free) (record {
+      of_cells = HasRoom-grow i.cells.items i.free_cells.items _ _ _ _ _ _ c.self.invariant.of_cells more (omega (arith, made.room)) (omega (arith, made.free_room));
+      of_nodes = HasRoom-grow i.nodes.items i.free_nodes.items _ _ _ _ _ _ c.self.invariant.of_nodes more_nodes (omega (arith, made_nodes.room)) (omega (arith, made_nodes.free_room));
+      few = omega (arith, few, len-slots i.cells.items i.nodes.items);
+    })

@@ -1,8 +1,54 @@
-use Rattle.std.proofs.Common.{◌+◌, ap}
-use Rattle.node_heap.proofs.Entries.{takes-shown}
+use Rattle.std.proofs.Common.{None, refl, ◌/◌, sym, ap, arith}
+use Rattle.node_heap.specs.Forms.{links_of}
+use Rattle.node_heap.specs.Layout.{row_in, owners_in}
+use Rattle.node_heap.proofs.Placed.{live-cell, live-node, read-cell, read-node, cell-links, set-cell, set-node, HasRoom-free}
+use Rattle.node_heap.proofs.Written.{taken}
 use Rattle.node_heap.proofs.table.Table.take.Goals as goal
+
+pub take_out-slot-requires-clause-some : goal.take_out-slot-requires-clause-some
+take_out-slot-requires-clause-some g c =
+    live-cell c.self.inside.cells.items c.self.inside.nodes.items c.args.place c.if-place-eq0.true (rw (← c.self.view_is) at c.requires)
+
+pub take_out-slot-requires-clause-room : goal.take_out-slot-requires-clause-room
+take_out-slot-requires-clause-room g c =
+    let live = live-cell c.self.inside.cells.items c.self.inside.nodes.items c.args.place c.if-place-eq0.true (rw (← c.self.view_is) at c.requires) in
+    omega (arith, HasRoom-free _ _ (c.args.place / 2) _ _ _ live c.self.invariant.of_cells, c.self.inside.free_cells.ok.0)
+
+pub returns-then-place-eq0-clause-owners : goal.returns-then-place-eq0-clause-owners
+returns-then-place-eq0-clause-owners g c =
+    rw (← c.self.view_is) (sym (ap owners_in (read-cell c.self.inside.cells.items c.self.inside.nodes.items c.args.place _ c.if-place-eq0.true c.take_out-slot.ensures.value)))
+
+pub returns-then-place-eq0-clause-links : goal.returns-then-place-eq0-clause-links
+returns-then-place-eq0-clause-links g c =
+    rw (← c.self.view_is) (cell-links c.self.inside.cells.items c.self.inside.nodes.items c.args.place c.if-place-eq0.true)
+
+pub returns-then-place-eq0-clause-takes : goal.returns-then-place-eq0-clause-takes
+returns-then-place-eq0-clause-takes g c =
+    let i = c.self.inside in
+    let live = live-cell i.cells.items i.nodes.items c.args.place c.if-place-eq0.true (rw (← c.self.view_is) at c.requires) in
+    rw (← c.self.view_is, c.take_out-slot.ensures.slots, set-cell i.cells.items i.nodes.items c.args.place None c.if-place-eq0.true live)
+    (taken _ c.args.place _ _ _ _ _ (read-cell i.cells.items i.nodes.items c.args.place _ c.if-place-eq0.true c.take_out-slot.ensures.value) refl (omega arith))
+
+pub take_out-slot-requires-2-clause-some : goal.take_out-slot-requires-2-clause-some
+take_out-slot-requires-2-clause-some g c =
+    live-node c.self.inside.cells.items c.self.inside.nodes.items c.args.place c.if-place-eq0.false (rw (← c.self.view_is) at c.requires)
+
+pub take_out-slot-requires-2-clause-room : goal.take_out-slot-requires-2-clause-room
+take_out-slot-requires-2-clause-room g c =
+    let live = live-node c.self.inside.cells.items c.self.inside.nodes.items c.args.place c.if-place-eq0.false (rw (← c.self.view_is) at c.requires) in
+    omega (arith, HasRoom-free _ _ (c.args.place / 2) _ _ _ live c.self.invariant.of_nodes, c.self.inside.free_nodes.ok.0)
+
+pub returns-clause-owners : goal.returns-clause-owners
+returns-clause-owners g c =
+    rw (← c.self.view_is) (sym (ap owners_in (read-node c.self.inside.cells.items c.self.inside.nodes.items c.args.place _ c.if-place-eq0.false c.take_out-slot-2.ensures.value)))
+
+pub returns-clause-links : goal.returns-clause-links
+returns-clause-links g c =
+    rw (← c.self.view_is) (sym (ap (λ o. links_of (row_in o)) (read-node c.self.inside.cells.items c.self.inside.nodes.items c.args.place _ c.if-place-eq0.false c.take_out-slot-2.ensures.value)))
 
 pub returns-clause-takes : goal.returns-clause-takes
 returns-clause-takes g c =
-    let took = c.remove-owners.ensures in
-    rw (← c.self.view_is) (takes-shown c.self.inside.slots.slots _ _ _ _ _ _ _ took.value took.updates.changed took.updates.others took.len (ap (λ n. c.self.inside.spare_cells + n) c.cells.ensures.value) c.keep_node.ensures.len)
+    let i = c.self.inside in
+    let live = live-node i.cells.items i.nodes.items c.args.place c.if-place-eq0.false (rw (← c.self.view_is) at c.requires) in
+    rw (← c.self.view_is, c.take_out-slot-2.ensures.slots, set-node i.cells.items i.nodes.items c.args.place None c.if-place-eq0.false live)
+    (taken _ c.args.place _ _ _ _ _ (read-node i.cells.items i.nodes.items c.args.place _ c.if-place-eq0.false c.take_out-slot-2.ensures.value) (omega arith) refl)

@@ -1,0 +1,206 @@
+-- What stands at a place of a table, and what becomes of its two lists of slots.
+use Rattle.std.proofs.Common.{◌≡◌, ◌≢◌, ℕ, suc, ◌+◌, ◌*◌, ◌^◌, ◌<◌, ◌≤◌, ◌/◌, ◌%◌, List, [], ◌∷◌, map, get_or, set, length, refl, sym, ap, subst, ◌∙◌, arith, Option, Some, None, IsSome, is_some, count_by}
+use Rattle.std.proofs.lemmas.List.{map-set, length-map, get_or-set_other, length-set}
+use Rattle.std.proofs.lemmas.List.Sums.{sum_by-cons}
+use Rattle.node_heap.specs.Forms.{cell, node, links_of, value_of, head_of, is_node}
+use Rattle.node_heap.specs.Layout.{Slot, row_in, with_owners, slot_at, graph_of, row_count, Puts}
+use Rattle.node_heap.specs.Inside.{woven, SameBut, cell_slot, node_slot, slots_of, shown, IsFree, HasRoom, IsTable}
+use Rattle.node_heap.specs.declared.entry.CellSlot.{CellSlot}
+use Rattle.node_heap.specs.declared.entry.NodeSlot.{NodeSlot}
+use Rattle.node_heap.proofs.Counts.{get_or-map_default}
+use Rattle.node_heap.proofs.Stored.{one_if_some}
+use Rattle.node_heap.proofs.Woven.{double, double-is, even, odd, at-even, at-odd, sum-woven, apart-even, apart-odd, set-even, set-odd, slot-inside}
+use Rattle.node_heap.proofs.Written.{count-written}
+
+module _ {X : Type 0} where
+  IsFree-set : (xs : List (Option X)) (free : List ℕ) (i : ℕ) (x y : X) → get_or xs i None ≡ Some x → IsFree xs free → IsFree (set xs i (Some y)) free
+  IsFree-set xs free i x y is f = record {
+    vacant = λ k held. get_or-set_other xs i k (Some y) None (λ same. absurd (let gone = sym is ∙ sym (ap (λ j. get_or xs j None) same) ∙ f.vacant k held in cc)) ∙ f.vacant k held;
+    inside = λ k held. omega (arith, length-set xs i (Some y), f.inside k held);
+    once = f.once;
+    whole = omega (arith, f.whole, count-written xs i x (Some y) is, length-set xs i (Some y));
+  }
+
+  pub HasRoom-set : (xs : List (Option X)) (free : List ℕ) (i a b n : ℕ) (x y : X) → get_or xs i None ≡ Some x → HasRoom xs free a b n → HasRoom (set xs i (Some y)) free a b n
+  HasRoom-set xs free i a b n x y is r = record {
+    listed = IsFree-set xs free i x y is r.listed;
+    some = r.some;
+    room = omega (arith, r.room, length-set xs i (Some y));
+    free_room = omega (arith, r.free_room, length-set xs i (Some y));
+  }
+
+  pub HasRoom-grow : (xs : List (Option X)) (free : List ℕ) (a b n a' b' n' : ℕ) → HasRoom xs free a b n → n ≤ n' → length xs + n' ≤ a' + length free → length xs + n' ≤ b' + length free → HasRoom xs free a' b' n'
+  HasRoom-grow xs free a b n a' b' n' r more room free_room = record {
+    listed = r.listed;
+    some = omega (arith, r.some, more);
+    room = room;
+    free_room = free_room;
+  }
+
+  -- a slot in use has room among the free ones
+  pub HasRoom-free : (xs : List (Option X)) (free : List ℕ) (i a b n : ℕ) → IsSome (get_or xs i None) → HasRoom xs free a b n → length free < b
+  HasRoom-free xs free i a b n live r = of_slot (get_or xs i None) refl live
+    where
+      of_slot : (o : Option X) → get_or xs i None ≡ o → IsSome o → length free < b
+      of_slot None is some = absurd cc
+      of_slot (Some x) is some = omega (arith, r.some, r.free_room, r.listed.whole, count-written xs i x None is)
+
+-- nodes alone don't tell the type of the cells' values
+module _ (T : Type 0) where
+  some_node : (o : Option NodeSlot) → IsSome (node_slot {T = T} o) → IsSome o
+  some_node None live = cc
+  some_node (Some s) live = refl
+
+  len-nodes : (nodes : List (Option NodeSlot)) → row_count {T = T} (map node_slot nodes) ≡ count_by is_some nodes
+  len-nodes [] = refl
+  len-nodes (o ∷ os) = omega (arith, len-nodes os, at_one o, sum_by-cons one_if_some (node_slot {T = T} o) (map node_slot os), sum_by-cons one_if_some o os)
+    where
+      at_one : (o : Option NodeSlot) → one_if_some (node_slot {T = T} o) ≡ one_if_some o
+      at_one None = refl
+      at_one (Some s) = refl
+
+  no_value_in : (o : Option NodeSlot) → value_of (row_in (node_slot {T = T} o)) ≡ None
+  no_value_in None = refl
+  no_value_in (Some s) = refl
+
+module _ {T : Type 0} where
+  some_cell : (o : Option (CellSlot T)) → IsSome (cell_slot o) → IsSome o
+  some_cell None live = cc
+  some_cell (Some s) live = refl
+
+  cell-no_node : (o : Option (CellSlot T)) → is_node (row_in (cell_slot o)) ≡ 0
+  cell-no_node None = refl
+  cell-no_node (Some s) = refl
+
+  node_some : (o : Option (Slot T)) → is_node (row_in o) ≡ 1 → IsSome o
+  node_some None e = absurd (omega (arith, e))
+  node_some (Some s) e = refl
+
+  no_head : (o : Option (CellSlot T)) → head_of (row_in (cell_slot o)) ≡ None
+  no_head None = refl
+  no_head (Some s) = refl
+
+  no_links : (o : Option (CellSlot T)) → links_of (row_in (cell_slot o)) ≡ []
+  no_links None = refl
+  no_links (Some s) = refl
+
+  len-cells : (cells : List (Option (CellSlot T))) → row_count (map cell_slot cells) ≡ count_by is_some cells
+  len-cells [] = refl
+  len-cells (o ∷ os) = omega (arith, len-cells os, at_one o, sum_by-cons one_if_some (cell_slot o) (map cell_slot os), sum_by-cons one_if_some o os)
+    where
+      at_one : (o : Option (CellSlot T)) → one_if_some (cell_slot o) ≡ one_if_some o
+      at_one None = refl
+      at_one (Some s) = refl
+
+  module _ (cells : List (Option (CellSlot T))) (nodes : List (Option NodeSlot)) where
+    cell-at : (i : ℕ) → slot_at (slots_of cells nodes) (double i) ≡ cell_slot (get_or cells i None)
+    cell-at i = at-even (map cell_slot cells) (map node_slot nodes) i ∙ get_or-map_default cell_slot cells i None
+
+    node-at : (i : ℕ) → slot_at (slots_of cells nodes) (suc (double i)) ≡ node_slot (get_or nodes i None)
+    node-at i = at-odd (map cell_slot cells) (map node_slot nodes) i ∙ get_or-map_default node_slot nodes i None
+
+    cell-place : (place : ℕ) → place % 2 ≡ 0 → slot_at (slots_of cells nodes) place ≡ cell_slot (get_or cells (place / 2) None)
+    cell-place place e = ap (slot_at (slots_of cells nodes)) (even place e) ∙ cell-at (place / 2)
+
+    node-place : (place : ℕ) → place % 2 ≢ 0 → slot_at (slots_of cells nodes) place ≡ node_slot (get_or nodes (place / 2) None)
+    node-place place e = ap (slot_at (slots_of cells nodes)) (odd place e) ∙ node-at (place / 2)
+
+    pub live-cell : (place : ℕ) → place % 2 ≡ 0 → IsSome (slot_at (slots_of cells nodes) place) → IsSome (get_or cells (place / 2) None)
+    live-cell place e live = some_cell _ (subst IsSome (cell-place place e) live)
+
+    pub live-node : (place : ℕ) → place % 2 ≢ 0 → IsSome (slot_at (slots_of cells nodes) place) → IsSome (get_or nodes (place / 2) None)
+    live-node place e live = some_node T _ (subst IsSome (node-place place e) live)
+
+    -- a node stands at an odd place
+    pub is_odd : (place : ℕ) → is_node (graph_of (slots_of cells nodes) place) ≡ 1 → place % 2 ≢ 0
+    is_odd place is e = absurd (omega (arith, is, ap (λ s. is_node (row_in s)) (cell-place place e), cell-no_node (get_or cells (place / 2) None)))
+
+    pub node-live : (place : ℕ) → is_node (graph_of (slots_of cells nodes) place) ≡ 1 → IsSome (get_or nodes (place / 2) None)
+    node-live place is = live-node place (is_odd place is) (node_some (slot_at (slots_of cells nodes) place) is)
+
+    pub read-cell : (place : ℕ) (s : CellSlot T) → place % 2 ≡ 0 → get_or cells (place / 2) None ≡ Some s → slot_at (slots_of cells nodes) place ≡ cell_slot (Some s)
+    read-cell place s e is = cell-place place e ∙ ap cell_slot is
+
+    pub read-node : (place : ℕ) (s : NodeSlot) → place % 2 ≢ 0 → get_or nodes (place / 2) None ≡ Some s → slot_at (slots_of cells nodes) place ≡ node_slot (Some s)
+    read-node place s e is = node-place place e ∙ ap node_slot is
+
+    pub cell-head : (place : ℕ) → place % 2 ≡ 0 → None ≡ head_of (graph_of (slots_of cells nodes) place)
+    cell-head place e = sym (ap (λ o. head_of (row_in o)) (cell-place place e) ∙ no_head (get_or cells (place / 2) None))
+
+    pub cell-links : (place : ℕ) → place % 2 ≡ 0 → [] ≡ links_of (graph_of (slots_of cells nodes) place)
+    cell-links place e = sym (ap (λ o. links_of (row_in o)) (cell-place place e) ∙ no_links (get_or cells (place / 2) None))
+
+    pub node-value : (place : ℕ) → place % 2 ≢ 0 → None ≡ value_of (graph_of (slots_of cells nodes) place)
+    node-value place e = sym (ap (λ o. value_of (row_in o)) (node-place place e) ∙ no_value_in T (get_or nodes (place / 2) None))
+
+    -- a write in one list is one in the slots of both
+    pub set-cell : (place : ℕ) (o : Option (CellSlot T)) → place % 2 ≡ 0 → IsSome (get_or cells (place / 2) None) → slots_of (set cells (place / 2) o) nodes ≡ set (slots_of cells nodes) place (cell_slot o)
+    set-cell place o e live =
+        ap (λ xs. woven xs (map node_slot nodes)) (map-set cell_slot cells (place / 2) o)
+        ∙ set-even _ (map node_slot nodes) (place / 2) (cell_slot o) (omega (arith, slot-inside cells (place / 2) live, length-map cells cell_slot))
+        ∙ ap (λ k. set (slots_of cells nodes) k (cell_slot o)) (sym (even place e))
+
+    pub set-node : (place : ℕ) (o : Option NodeSlot) → place % 2 ≢ 0 → IsSome (get_or nodes (place / 2) None) → slots_of cells (set nodes (place / 2) o) ≡ set (slots_of cells nodes) place (node_slot o)
+    set-node place o e live =
+        ap (λ ys. woven (map cell_slot cells) ys) (map-set node_slot nodes (place / 2) o)
+        ∙ set-odd (map cell_slot cells) _ (place / 2) (node_slot o) (omega (arith, slot-inside nodes (place / 2) live, length-map nodes (node_slot {T = T})))
+        ∙ ap (λ k. set (slots_of cells nodes) k (node_slot o)) (sym (odd place e))
+
+    -- the owners at a place are written
+    pub cell-owners : (place n a b : ℕ) (s : CellSlot T) → place % 2 ≡ 0 → get_or cells (place / 2) None ≡ Some s
+        → shown (set cells (place / 2) (Some (record { owners = n; value = s.value }))) nodes a b ≡ record { slots = set (slots_of cells nodes) place (with_owners (slot_at (slots_of cells nodes) place) n); spare_cells = a; spare_nodes = b }
+    cell-owners place n a b s e is =
+        ap (λ xs. record { slots = xs; spare_cells = a; spare_nodes = b })
+        (set-cell place _ e (rw is refl) ∙ ap (λ o. set (slots_of cells nodes) place (with_owners o n)) (sym (read-cell place s e is)))
+
+    pub node-owners : (place n a b : ℕ) (s : NodeSlot) → place % 2 ≢ 0 → get_or nodes (place / 2) None ≡ Some s
+        → shown cells (set nodes (place / 2) (Some (record { owners = n; head = s.head; links = s.links }))) a b ≡ record { slots = set (slots_of cells nodes) place (with_owners (slot_at (slots_of cells nodes) place) n); spare_cells = a; spare_nodes = b }
+    node-owners place n a b s e is =
+        ap (λ xs. record { slots = xs; spare_cells = a; spare_nodes = b })
+        (set-node place _ e (rw is refl) ∙ ap (λ o. set (slots_of cells nodes) place (with_owners o n)) (sym (read-node place s e is)))
+
+    pub len-slots : row_count (slots_of cells nodes) ≡ count_by is_some cells + count_by is_some nodes
+    len-slots = omega (arith, sum-woven one_if_some refl (map cell_slot cells) (map node_slot nodes), len-cells cells, len-nodes T nodes)
+
+  cells-but : (cells cells' : List (Option (CellSlot T))) (i : ℕ) → SameBut cells cells' i → SameBut (map cell_slot cells) (map cell_slot cells') i
+  cells-but cells cells' i same k other = get_or-map_default cell_slot cells' k None ∙ ap cell_slot (same k other) ∙ sym (get_or-map_default cell_slot cells k None)
+
+  nodes-but : (nodes nodes' : List (Option NodeSlot)) (i : ℕ) → SameBut nodes nodes' i → SameBut (map (node_slot {T = T}) nodes) (map node_slot nodes') i
+  nodes-but nodes nodes' i same k other = get_or-map_default node_slot nodes' k None ∙ ap node_slot (same k other) ∙ sym (get_or-map_default node_slot nodes k None)
+
+  pub puts-cell : (cells cells' : List (Option (CellSlot T))) (nodes : List (Option NodeSlot)) (i : ℕ) (x : T) → get_or cells i None ≡ None → get_or cells' i None ≡ Some (record { owners = 1; value = x }) → SameBut cells cells' i
+      → i < 2 ^ 56 → count_by is_some cells' ≡ count_by is_some cells + 1 → Puts (slots_of cells nodes) (slots_of cells' nodes) (2 * i) (cell x)
+  puts-cell cells cells' nodes i x was now others low len = record {
+    was = ap (slot_at (slots_of cells nodes)) (sym (double-is i)) ∙ cell-at cells nodes i ∙ ap cell_slot was;
+    now = ap (slot_at (slots_of cells' nodes)) (sym (double-is i)) ∙ cell-at cells' nodes i ∙ ap cell_slot now;
+    others = λ k other. apart-even (map cell_slot cells) (map cell_slot cells') (map node_slot nodes) i (cells-but cells cells' i others) k (λ s. other (s ∙ double-is i));
+    low = omega (arith, low);
+    len = omega (arith, len, len-slots cells nodes, len-slots cells' nodes);
+  }
+
+  pub puts-node : (cells : List (Option (CellSlot T))) (nodes nodes' : List (Option NodeSlot)) (i : ℕ) (s : NodeSlot) → s.owners ≡ 1 → get_or nodes i None ≡ None → get_or nodes' i None ≡ Some s → SameBut nodes nodes' i
+      → i < 2 ^ 56 → count_by is_some nodes' ≡ count_by is_some nodes + 1 → Puts (slots_of cells nodes) (slots_of cells nodes') (2 * i + 1) (node s.head s.links.items)
+  puts-node cells nodes nodes' i s one was now others low len =
+      let at : suc (double i) ≡ 2 * i + 1 = omega (arith, double-is i) in
+      record {
+        was = ap (slot_at (slots_of cells nodes)) (sym at) ∙ node-at cells nodes i ∙ ap node_slot was;
+        now = ap (slot_at (slots_of cells nodes')) (sym at) ∙ node-at cells nodes' i ∙ ap node_slot now ∙ ap (λ n. Some (record { owners = n; row = node s.head s.links.items })) one;
+        others = λ k other. apart-odd (map cell_slot cells) (map node_slot nodes) (map node_slot nodes') i (nodes-but nodes nodes' i others) k (λ e. other (e ∙ at));
+        low = omega (arith, low);
+        len = omega (arith, len, len-slots cells nodes, len-slots cells nodes');
+      }
+
+  -- a write in a slot that is in use
+  pub IsTable-cell : (cells : List (Option (CellSlot T))) (fc : List ℕ) (a b n : ℕ) (nodes : List (Option NodeSlot)) (fn : List ℕ) (a' b' n' i : ℕ) (x y : CellSlot T) → get_or cells i None ≡ Some x → IsTable cells fc a b n nodes fn a' b' n' → IsTable (set cells i (Some y)) fc a b n nodes fn a' b' n'
+  IsTable-cell cells fc a b n nodes fn a' b' n' i x y is t = record {
+    of_cells = HasRoom-set cells fc i a b n x y is t.of_cells;
+    of_nodes = t.of_nodes;
+    few = omega (arith, t.few, count-written cells i x (Some y) is);
+  }
+
+  pub IsTable-node : (cells : List (Option (CellSlot T))) (fc : List ℕ) (a b n : ℕ) (nodes : List (Option NodeSlot)) (fn : List ℕ) (a' b' n' i : ℕ) (x y : NodeSlot) → get_or nodes i None ≡ Some x → IsTable cells fc a b n nodes fn a' b' n' → IsTable cells fc a b n (set nodes i (Some y)) fn a' b' n'
+  IsTable-node cells fc a b n nodes fn a' b' n' i x y is t = record {
+    of_cells = t.of_cells;
+    of_nodes = HasRoom-set nodes fn i a' b' n' x y is t.of_nodes;
+    few = omega (arith, t.few, count-written nodes i x (Some y) is);
+  }
