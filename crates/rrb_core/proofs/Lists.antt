@@ -329,6 +329,14 @@ front-join P ks js some front back =
     let size : length (ks ++ js) - 1 ≡ length ks + (length js - 1) = omega (arith, length-append ks js) in
     rw (size, take-past ks js (length js - 1)) (All-append P ks (take (length js - 1) js) front back)
 
+-- what holds of all but the last and of the last holds of all
+pub front-last : (P : ℕ → Type 0) (ks : List ℕ) → 0 < length ks → All P (take (length ks - 1) ks) → P (get_or ks (length ks - 1) 0) → All P ks
+front-last P ks some front last =
+    let up : length ks - 1 + 1 ≡ length ks = omega (arith, some) in
+    let is : take (length ks - 1) ks ++ get_or ks (length ks - 1) 0 ∷ [] ≡ ks = sym (take_more ks (length ks - 1) 0 (omega (arith, some))) ∙ ap (λ (i : ℕ). take i ks) up ∙ take_all (length ks) ks (omega arith) in
+    let all : All P (take (length ks - 1) ks ++ get_or ks (length ks - 1) 0 ∷ []) = All-append P (take (length ks - 1) ks) (get_or ks (length ks - 1) 0 ∷ []) front (All-cons P (get_or ks (length ks - 1) 0) [] last (All-nil P)) in
+    rw is at all
+
 -- a front has no more elements than all
 pub take-short : (f : ℕ → List ℕ) (ks : List ℕ) (i : ℕ) → length (flat_map f (take i ks)) ≤ length (flat_map f ks)
 take-short f ks i =

@@ -2,7 +2,7 @@
 use Rattle.std.proofs.Common.{◌≡◌, ℕ, suc, zero, ◌-◌, ◌+◌, ◌*◌, ◌/◌, ◌<◌, ◌≤◌, ◌^◌, List, [], ◌∷◌, ◌++◌, length, take, drop, get_or, refl, ap, sym, ◌∙◌, arith, length-append, length-drop, append-nil, append_assoc, Some, IsSome, ◌⊎◌, inl, inr}
 use Rattle.std.specs.Prelude.{option_map}
 use Rattle.std.specs.List.{All, flat_map}
-use Rattle.std.proofs.lemmas.List.{drop_all, get_or_at, take-take, length-take-le, get_or_default}
+use Rattle.std.proofs.lemmas.List.{take_all, drop_all, get_or_at, get_or_append_left, get_or-take, take-take, length-take-le, get_or_default}
 use Rattle.std.proofs.lemmas.List.Elements.{All-weaker, All-nil, All-cons, All-append, All-take, All-drop}
 use Rattle.std.proofs.lemmas.Nat.{div-add-mod'}
 use Rattle.node_heap.specs.Forms.{Forms, node, leaf, inner, form_of, links_of, links_in}
@@ -13,7 +13,7 @@ use Rattle.rrb_core.specs.Vector.{AreSums, IsRegular, KeepsSums, sums_at, HasSum
 use Rattle.rrb_core.proofs.ClosedRows.{Stays}
 use Rattle.rrb_core.specs.Build.{IsRowOf, AreRows}
 use Rattle.rrb_core.specs.Edit.{CanPlace, links_with}
-use Rattle.rrb_core.proofs.Lists.{take-past, child-short, last-sum, sum-last, regular-of, regular-before, regular-length, regular-place, regular-within, pow-pos, front-join, front-drop, items-around, placed-first, placed-later, sum-upto, take-short}
+use Rattle.rrb_core.proofs.Lists.{take-past, child-short, last-sum, sum-last, regular-of, regular-before, regular-length, regular-place, regular-within, pow-pos, front-join, front-drop, front-last, items-around, placed-first, placed-later, sum-upto, take-short}
 use Rattle.rrb_core.proofs.FillRule.{seq-le, links-some, shaped-at, height-is}
 use Rattle.rrb_core.proofs.Stays.{links-form, well-live, items-stay, all-thick-stay, keeps-stay, rows-stay}
 
@@ -303,6 +303,19 @@ placed-short {T} {h} {n} {l} {i} {skip} {child} can =
     let parts = ap length (items-around f (take i (links_at h l)) (drop skip (links_at h l)) child) in
     omega (arith, all, parts, length-append (flat_map f (take i (links_at h l))) (f child ++ flat_map f (drop skip (links_at h l))), length-append (f child) (flat_map f (drop skip (links_at h l))))
 
+-- a child that a row is made with before that one
+pub placed-before : {T : Type 0} {h : Heap T} {n l i skip child : ℕ} → CanPlace h n l i child skip → (k : ℕ) → k < i
+    → IsWell (form_at h) n (get_or (links_at h l) k 0) × HasSums h n (get_or (links_at h l) k 0) × (length (seq_at (form_at h) n (get_or (links_at h l) k 0)) < 2 ^ 32)
+placed-before {T} {h} {n} {l} {i} {skip} {child} can k lt =
+    let ks : List ℕ = links_with (links_at h l) i child skip in
+    let front : length (take i (links_at h l)) ≡ i = length-take-le i (links_at h l) can.keep_in in
+    let within : k < length (take i (links_at h l) ++ child ∷ []) = omega (arith, lt, front, length-append (take i (links_at h l)) (child ∷ [])) in
+    let inside : k < length ks = omega (arith, within, length-append (take i (links_at h l) ++ child ∷ []) (drop skip (links_at h l))) in
+    let at : get_or ks k 0 ≡ get_or (links_at h l) k 0 =
+    get_or_append_left (take i (links_at h l) ++ child ∷ []) (drop skip (links_at h l)) 0 k within ∙ get_or_append_left (take i (links_at h l)) (child ∷ []) 0 k (omega (arith, lt, front)) ∙ get_or-take i (links_at h l) k 0 lt in
+    let short : length (seq_at (form_at h) n (get_or ks k 0)) < 2 ^ 32 = omega (arith, child-short (seq_at (form_at h) n) ks k inside, can.short) in
+    (rw at at (can.rows.well k 0 inside), rw at at (can.rows.sums k 0 inside), rw at at short)
+
 -- children with one in the place of some stay full but the last
 module _ {T : Type 0} {h : Heap T} {n l i skip child : ℕ} (can : CanPlace h n l i child skip) (none : sums_at h l ≡ []) (more : i < length (links_at h l)) where
   abbrev IsFullChild : ℕ → Type 0
@@ -323,6 +336,14 @@ module _ {T : Type 0} {h : Heap T} {n l i skip child : ℕ} (can : CanPlace h n 
       let both : All IsFullChild (take i (links_at h l) ++ child ∷ []) = All-append IsFullChild (take i (links_at h l)) (child ∷ []) front-full (All-cons IsFullChild child [] full (All-nil IsFullChild)) in
       let back : All IsFullChild (take (length (drop skip (links_at h l)) - 1) (drop skip (links_at h l))) = front-drop IsFullChild skip (links_at h l) (can.sums.none.0 none) in
       front-join IsFullChild (take i (links_at h l) ++ child ∷ []) (drop skip (links_at h l)) (omega (arith, lt, length-drop skip (links_at h l))) both back
+
+-- a child behind all the others, of which the last is full too
+pub regular-behind : {T : Type 0} {h : Heap T} {n l i skip child : ℕ} → CanPlace h n l i child skip → sums_at h l ≡ [] → 0 < length (links_at h l) → length (links_at h l) ≤ i → length (links_at h l) ≤ skip
+    → length (seq_at (form_at h) n (get_or (links_at h l) (length (links_at h l) - 1) 0)) ≡ 32 ^ suc n → IsRegular (form_at h) n (links_with (links_at h l) i child skip)
+regular-behind {T} {h} {n} {l} {i} {skip} {child} can none some past past' full =
+    let whole : links_with (links_at h l) i child skip ≡ links_at h l ++ child ∷ [] = rw (take_all i (links_at h l) past, drop_all skip (links_at h l) past', append-nil) refl in
+    let all : All (λ k. length (seq_at (form_at h) n k) ≡ 32 ^ suc n) (links_at h l) = front-last (λ k. length (seq_at (form_at h) n k) ≡ 32 ^ suc n) (links_at h l) some (can.sums.none.0 none) full in
+    rw whole (front-join (λ k. length (seq_at (form_at h) n k) ≡ 32 ^ suc n) (links_at h l) (child ∷ []) (omega arith) all (All-nil (λ k. length (seq_at (form_at h) n k) ≡ 32 ^ suc n)))
 
 -- the sums of a row with one child in the place of some, by those that the row keeps
 module _ {T : Type 0} {h : Heap T} {n l i skip child : ℕ} (can : CanPlace h n l i child skip) (some : 1 ≤ length (sums_at h l)) {ss : List ℕ} (is : ss ≡ sums_at h l) where

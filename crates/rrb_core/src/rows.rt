@@ -1,5 +1,5 @@
 //! Rows of a vector: what they state, and how they are made.
-ghost use Rattle.std.specs.Prelude.{◌≡◌, ℕ, suc, ◌+◌, ◌-◌, ◌*◌, ◌^◌, ◌<◌, ◌≤◌, ◌≢◌, [], ◌∷◌, ◌++◌, length, take, drop, slice_index, IsSome, IfSome, IsTrue};
+ghost use Rattle.std.specs.Prelude.{◌≡◌, ℕ, suc, ◌+◌, ◌-◌, ◌*◌, ◌^◌, ◌<◌, ◌≤◌, ◌≢◌, ◌↔◌, [], ◌∷◌, ◌++◌, length, take, drop, slice_index, IsSome, IfSome, IsTrue};
 ghost use Rattle.std.specs.List.{flat_map};
 ghost use Rattle.node_heap.specs.Links.{count};
 ghost use Rattle.node_heap.specs.Heap.{row_at, form_at, links_at, holds_at, hold_count, IsGraph};
@@ -205,8 +205,20 @@ fn kept_sums(sums: &[u32], below: u8) -> Sums
     Sums::from_slice(sums)
 }
 
-// Whether it is seen, by the row `link` and the child alone, that the first `keep` children of `link`, then `child`, then
-// its children from the place `skip` on are all full but the last.
+// Whether a row of this height has as many elements as it can.
+fn has_full_size<T>(heap: &Heap<T>, link: Link, height: u8) -> bool
+    requires well { IsWell (form_at heap.now) height link }
+    requires sums { HasSums heap.now height link }
+    requires low { height < 7 }
+    requires short { length (seq_at (form_at heap.now) height link) < 2 ^ 32 }
+    ensures test { IsTrue result ↔ (length (seq_at (form_at heap.now) height link) ≡ 32 ^ suc height) }
+{
+    u64::from(size(heap, link, height)) == full_size(1, height + 1)
+}
+
+// Whether it is seen, by the row `link` and one child alone, that the first `keep` children of `link`, then `child`, then
+// its children from the place `skip` on are all full but the last. That one child is the last of `link` where `child` comes
+// behind it, and else `child`.
 fn stays_regular<T>(
     heap: &Heap<T>,
     link: Link,
@@ -218,14 +230,18 @@ fn stays_regular<T>(
     requires { CanPlace heap.now below link keep child skip }
     ensures { IsTrue result → IsRegular (form_at heap.now) below (links_with (links_at heap.now link) keep child skip) }
 {
-    let count = heap.links(link).len();
-    if !sums_of(heap, link).is_empty() || keep == count {
+    let links = heap.links(link);
+    let count = links.len();
+    if !sums_of(heap, link).is_empty() {
         return false;
     }
-    if skip == count {
-        return true;
+    if keep < count {
+        return skip == count || has_full_size(heap, child, below);
     }
-    u64::from(size(heap, child, below)) == full_size(1, below + 1)
+    if count == 0 || skip < count {
+        return false;
+    }
+    has_full_size(heap, links[count - 1], below)
 }
 
 // The sums of the row over the first `keep` children of `link`, then `child`, then its children from the place `skip` on:

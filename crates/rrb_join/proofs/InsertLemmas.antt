@@ -26,6 +26,7 @@ pub record IsInserted {T : Type 0} (h z : Heap T) (n l index x : ℕ) (all : Lis
   pub unmade : AreUnmade z n all (take index (seq_at (form_at h) n l) ++ x ∷ drop index (seq_at (form_at h) n l))
   pub thick : IsThick (form_at h) n l → (16 ≤ length all) × AreThick z n all
   pub wide : length (links_at h l) ≤ length all
+  pub few : length all ≤ length (links_at h l) + 1
 
 -- the new rows of a child stand in its place
 pub inserted : {T : Type 0} (h k z : Heap T) (height below l i within index x : ℕ) (made all : List ℕ) → height ≡ suc below → Stays (λ y. IsSome (row_at h y)) h z → Stays (λ y. IsSome (row_at k y)) k z → links_at k l ≡ links_at h l → IsOver h below l → i < length (links_at h l)
@@ -66,6 +67,7 @@ inserted h k z height below l i within index x made all e s s' same o lt is le r
             thick-above z below all (rw whole (All-append (IsThick (form_at z) below) (take i (links_at h l) ++ made) (drop (i + 1) (links_at h l)) (All-append (IsThick (form_at z) below) (take i (links_at h l)) made front-thick (thick (own.1 i 0 lt))) (all-thick-stay s below (drop (i + 1) (links_at h l)) back-live (All-drop (IsThick (form_at h) below) (i + 1) (links_at h l) own.1)))),
           );
       wide = omega (arith, size, some);
+      few = omega (arith, size, few);
     })
 
 -- the new element among those of a leaf
@@ -86,6 +88,7 @@ leaf-inserted h z n l index x all e well sums inside is =
       };
       thick = λ t. (omega (arith, size, (own.thick t).0), leaf-are-thick z n all e);
       wide = omega (arith, size);
+      few = omega (arith, size);
     }
 
 -- one element more

@@ -114,6 +114,7 @@ pub record IsSeam {T : Type 0} (h z : Heap T) (height n l m r : ℕ) (all : List
   pub thick : m ≡ height → IsThick (form_at h) m r → (16 ≤ length all) × AreThick z height all
   pub left_wide : n ≡ height → length (links_at h l) ≤ length all
   pub right_wide : m ≡ height → length (links_at h r) ≤ length all
+  pub few : n ≡ height → m ≡ height → length all ≤ length (links_at h l) + length (links_at h r)
 
 -- the rows of a seam stand between the other children
 pub seam : {T : Type 0} (h k z : Heap T) (height below n l place i last m r from j first : ℕ) (made all : List ℕ) → height ≡ suc below → Stays (λ x. IsSome (row_at h x)) h z → Stays (λ x. IsSome (row_at k x)) k z
@@ -148,6 +149,7 @@ seam h k z height below n l place i last m r from j first made all e s s' left r
           );
       left_wide = λ top. omega (arith, size, some, ends.wide top);
       right_wide = λ top. omega (arith, size, some, begins.wide top, begins.inside);
+      few = λ top top'. omega (arith, size, few, ends.wide top, begins.wide top', begins.inside);
     })
 
 -- two leaves side by side

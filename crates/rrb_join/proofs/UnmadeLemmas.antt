@@ -271,10 +271,6 @@ no-elements h l good none =
 pub leaf-length : {T : Type 0} (h : Heap T) (n l : ℕ) → n ≡ 0 → IsWell (form_at h) n l → HasSums h n l → length (links_at h l) ≡ length (seq_at (form_at h) n l)
 leaf-length h n l e w s = ap length (sym (leaf-items h n (links_at h l) e) ∙ (has-links h n l w s).items)
 
--- at a leaf's height the links that aren't made yet are the elements
-pub unmade-length : {T : Type 0} (h : Heap T) (n : ℕ) (ls xs : List ℕ) → AreUnmade h n ls xs → n ≡ 0 → length ls ≡ length xs
-unmade-length h n ls xs made e = ap length (sym (leaf-items h n ls e) ∙ made.items)
-
 -- a vector with elements is a row with links
 pub root-is-row : {T : Type 0} (h : Heap T) (l : ℕ) → IsGoodVector h l → 1 ≤ length (links_at h l) → IsSomeRow h (height_at h l) l
 root-is-row h l good some = record { well = good.shape.well; sums = good.sums; some = some }

@@ -39,9 +39,9 @@ impl From<NoMemory> for InsertFault {
 }
 
 /// The vector with `element` before the element at `index`, or after the last. It spends the element's hold on Ok alone,
-/// and makes at most two nodes for each height of the vector and three more, so at most 17. A vector of one row that has
-/// fewer than 32 elements stays one row. Refused with `Range` where the index is past the length, else with `Long` where
-/// the vector has 2^32 - 1 elements, and with `Memory` where memory runs out. A refusal changes nothing but the heap's
+/// and makes at most two nodes for each height of the vector and three more, so at most 17. A vector whose root has fewer
+/// than 32 links keeps its height. Refused with `Range` where the index is past the length, else with `Long` where the
+/// vector has 2^32 - 1 elements, and with `Memory` where memory runs out. A refusal changes nothing but the heap's
 /// spares.
 pub fn insert<T>(
     heap: &mut Heap<T>,
@@ -54,7 +54,7 @@ pub fn insert<T>(
     requires few { hold_count heap.old < 2 ^ 59 }
     ensures items { IfOk result (λ v. elements heap.new v ≡ take index (elements heap.old vector) ++ element ∷ drop index (elements heap.old vector)) }
     ensures good { IfOk result (λ v. IsGoodVector heap.new v) }
-    ensures flat { height_at heap.old vector ≡ 0 → length (elements heap.old vector) < 32 → IfOk result (λ v. height_at heap.new v ≡ 0) }
+    ensures flat { length (links_at heap.old vector) < 32 → IfOk result (λ v. height_at heap.new v ≡ height_at heap.old vector) }
     ensures answered { IfOk result (λ v. Answered heap.old heap.new (element ∷ []) v 0 (2 * height_at heap.old vector + 3)) }
     ensures made { IfOk result (λ v. MakesJust heap.old heap.new) }
     ensures vectors { (l : ℕ) → IsSameVector heap.old heap.new l }
@@ -85,7 +85,7 @@ fn inserted_root<T>(heap: &mut Heap<T>, root: Link, index: u32, element: Link) -
     requires holds { hold_count heap.old + 128 ≤ 2 ^ 60 }
     ensures items { elements heap.new result ≡ take index (elements heap.old root) ++ element ∷ drop index (elements heap.old root) }
     ensures good { IsGoodVector heap.new result }
-    ensures flat { height_at heap.old root ≡ 0 → length (elements heap.old root) < 32 → height_at heap.new result ≡ 0 }
+    ensures flat { length (links_at heap.old root) < 32 → height_at heap.new result ≡ height_at heap.old root }
     ensures builds { Builds heap.old heap.new (element ∷ []) (result ∷ []) 0 (2 * height_at heap.old root + 3) }
 {
     let height = height_of(heap, root);
@@ -137,6 +137,7 @@ fn insert_links<T>(
     ensures links { AreUnmade heap.new height result.items (take index (seq_at (form_at heap.old) height link) ++ element ∷ drop index (seq_at (form_at heap.old) height link)) }
     ensures thick { IsThick (form_at heap.old) height link → (16 ≤ length result.items) × AreThick heap.new height result.items }
     ensures wide { length (links_at heap.old link) ≤ length result.items }
+    ensures few { length result.items ≤ length (links_at heap.old link) + 1 }
     ensures builds { Builds heap.old heap.new (element ∷ []) result.items 0 (2 * height) }
 {
     if height == 0 {

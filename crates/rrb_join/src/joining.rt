@@ -39,16 +39,16 @@ pub(crate) const SEAM_NODES: usize = 17;
 
 /// The elements of `left` and then those of `right`. It makes rows along the seam alone, at most two for each height of the
 /// higher vector and three more, so at most 17 nodes, and shares all others. Where one is empty it gives the other itself,
-/// which takes no memory. Two vectors of one row each that one row of 32 can hold give a vector of one row. Refused with
-/// `Long` where the lengths sum past 2^32 - 1, and with `Memory` where memory runs out. A refusal changes nothing but the
-/// heap's spares.
+/// which takes no memory. Two vectors of one height, whose roots have at most 32 links together, give a vector of that
+/// height. Refused with `Long` where the lengths sum past 2^32 - 1, and with `Memory` where memory runs out. A refusal
+/// changes nothing but the heap's spares.
 pub fn concat<T>(heap: &mut Heap<T>, left: FlexRef, right: FlexRef) -> Result<Flex, JoinFault>
     requires left_good { IsGoodVector heap.old left }
     requires right_good { IsGoodVector heap.old right }
     requires few { hold_count heap.old < 2 ^ 59 }
     ensures items { IfOk result (λ v. elements heap.new v ≡ elements heap.old left ++ elements heap.old right) }
     ensures good { IfOk result (λ v. IsGoodVector heap.new v) }
-    ensures flat { height_at heap.old left ≡ 0 → height_at heap.old right ≡ 0 → length (elements heap.old left) + length (elements heap.old right) ≤ 32 → IfOk result (λ v. height_at heap.new v ≡ 0) }
+    ensures flat { height_at heap.old left ≡ height_at heap.old right → length (links_at heap.old left) + length (links_at heap.old right) ≤ 32 → IfOk result (λ v. height_at heap.new v ≡ height_at heap.old left) }
     ensures answered { IfOk result (λ v. Answered heap.old heap.new [] v 0 (2 * max (height_at heap.old left) (height_at heap.old right) + 3)) }
     ensures made { IfOk result (λ v. MakesJust heap.old heap.new) }
     ensures left_empty { elements heap.old left ≡ [] → GivesItself heap.old heap.new result right }
@@ -83,7 +83,7 @@ pub(crate) fn joined_root<T>(heap: &mut Heap<T>, left: Link, right: Link) -> Lin
     requires holds { hold_count heap.old + 128 ≤ 2 ^ 60 }
     ensures items { elements heap.new result ≡ elements heap.old left ++ elements heap.old right }
     ensures good { IsGoodVector heap.new result }
-    ensures flat { height_at heap.old left ≡ 0 → height_at heap.old right ≡ 0 → length (elements heap.old left) + length (elements heap.old right) ≤ 32 → height_at heap.new result ≡ 0 }
+    ensures flat { height_at heap.old left ≡ height_at heap.old right → length (links_at heap.old left) + length (links_at heap.old right) ≤ 32 → height_at heap.new result ≡ height_at heap.old left }
     ensures builds { Builds heap.old heap.new [] (result ∷ []) 0 (2 * max (height_at heap.old left) (height_at heap.old right) + 3) }
 {
     if heap.links(left).is_empty() {
@@ -175,6 +175,7 @@ fn join<T>(
     ensures thick { right_height ≡ height → IsThick (form_at heap.old) height right → (16 ≤ length result.items) × AreThick heap.new height result.items }
     ensures left_wide { left_height ≡ height → length (links_at heap.old left) ≤ length result.items }
     ensures right_wide { right_height ≡ height → length (links_at heap.old right) ≤ length result.items }
+    ensures few { left_height ≡ height → right_height ≡ height → length result.items ≤ length (links_at heap.old left) + length (links_at heap.old right) }
     ensures builds { Builds heap.old heap.new [] result.items 0 (2 * height) }
 {
     if height == 0 {

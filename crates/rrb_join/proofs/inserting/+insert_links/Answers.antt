@@ -67,6 +67,9 @@ returns-clause-thick g t c = λ thick. (placed g t c).thick thick
 pub returns-clause-wide : goal.returns-clause-wide
 returns-clause-wide g t c = (placed g t c).wide
 
+pub returns-clause-few : goal.returns-clause-few
+returns-clause-few g t c = (placed g t c).few
+
 pub returns-clause-builds : goal.returns-clause-builds
 returns-clause-builds g t c =
     Builds-more 0 (2 * c.args.height) (Builds-then (Builds-then c.insert_links-seam.ensures.builds (rw c.as_slice.ensures.value at c.rows_over-rows.ensures.builds)) (rw c.as_slice-2.ensures.value at c.gathered-2.ensures.builds)) (omega arith) (omega arith)
@@ -98,3 +101,6 @@ returns-then-height-eq0-clause-thick g t c = λ thick. (leaf g t c).thick thick
 
 pub returns-then-height-eq0-clause-wide : goal.returns-then-height-eq0-clause-wide
 returns-then-height-eq0-clause-wide g t c = (leaf g t c).wide
+
+pub returns-then-height-eq0-clause-few : goal.returns-then-height-eq0-clause-few
+returns-then-height-eq0-clause-few g t c = (leaf g t c).few

@@ -1,7 +1,7 @@
 use Rattle.std.proofs.Common.{arith, refl, ◌∙◌}
 use Rattle.node_heap.proofs.BuildLemmas.{Builds-more, Builds-Answered}
 use Rattle.rrb_core.proofs.BuildLemmas.{unchanged-good, answered-same}
-use Rattle.rrb_join.proofs.AnswerLemmas.{unchanged-height}
+use Rattle.rrb_join.proofs.AnswerLemmas.{unchanged-height, unchanged-links}
 use Rattle.rrb_join.proofs.inserting.insert.Goals as goal
 
 pub inserted_root-requires-clause-good : goal.inserted_root-requires-clause-good
@@ -29,6 +29,6 @@ pub returns-in_err-reserve-clause-vectors : goal.returns-in_err-reserve-clause-v
 returns-in_err-reserve-clause-vectors g c = λ l. unchanged-good l c.in_err-reserve.ensures.rest
 
 pub returns-clause-flat : goal.returns-clause-flat
-returns-clause-flat g c = λ leaf few.
-    let low = unchanged-height c.in_ok-reserve.ensures.rest c.args.vector ∙ leaf in
-    rw c.from_root.ensures (c.inserted_root.ensures.flat (rw c.root.ensures low) (rw (c.root.ensures, (unchanged-good c.args.vector c.in_ok-reserve.ensures.rest c.requires.good).1) few))
+returns-clause-flat g c = λ few.
+    let low = c.inserted_root.ensures.flat (rw (c.root.ensures, unchanged-links c.in_ok-reserve.ensures.rest c.args.vector) few) in
+    rw c.from_root.ensures (low ∙ rw c.root.ensures (unchanged-height c.in_ok-reserve.ensures.rest c.args.vector))

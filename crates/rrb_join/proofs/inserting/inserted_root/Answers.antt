@@ -1,11 +1,9 @@
-use Rattle.std.proofs.Common.{arith, ◌≡◌, ◌<◌, ◌^◌, ◌∙◌, ◌∷◌, ◌++◌, ap, length, take, drop}
-use Rattle.node_heap.specs.Heap.{form_at}
-use Rattle.rrb_core.specs.Seq.{seq_at}
+use Rattle.std.proofs.Common.{arith, ◌<◌, ◌^◌, ◌∙◌, ◌∷◌, ◌++◌, length, take, drop}
 use Rattle.rrb_core.specs.Vector.{height_at, elements}
 use Rattle.rrb_core.proofs.Stays.{well-live}
 use Rattle.node_heap.proofs.BuildLemmas.{Builds-then, Builds-more}
 use Rattle.rrb_core.proofs.BuildLemmas.{builds-held}
-use Rattle.rrb_join.proofs.UnmadeLemmas.{unmade-rows, unmade-length}
+use Rattle.rrb_join.proofs.UnmadeLemmas.{unmade-rows}
 use Rattle.rrb_join.proofs.InsertLemmas.{inserted-length}
 use Rattle.rrb_join.proofs.inserting.inserted_root.Goals as goal
 
@@ -23,9 +21,4 @@ returns-clause-builds g c =
     Builds-more 0 _ (Builds-then c.insert_links-links.ensures.builds (rw c.as_slice.ensures.value at c.root_over.ensures.builds)) (omega arith) (omega (arith, c.height_of-height.ensures))
 
 pub returns-clause-flat : goal.returns-clause-flat
-returns-clause-flat g c = λ leaf few.
-    let none : c.height_of-height.result ≡ 0 = c.height_of-height.ensures ∙ leaf in
-    let links = unmade-length c.insert_links-links.new.heap c.height_of-height.result c.insert_links-links.result.items _ c.insert_links-links.ensures.links none in
-    let same = ap (λ n. length (seq_at (form_at c.args.heap.now) n c.args.root)) c.height_of-height.ensures in
-    let sum = inserted-length (seq_at (form_at c.args.heap.now) c.height_of-height.result c.args.root) c.args.index c.args.element (omega (arith, same, c.requires.inside)) in
-    c.root_over.ensures.low (rw c.as_slice.ensures.value (omega (arith, links, sum, same, few))) ∙ none
+returns-clause-flat g c = λ few. c.root_over.ensures.low (rw c.as_slice.ensures.value (omega (arith, c.insert_links-links.ensures.few, few))) ∙ c.height_of-height.ensures

@@ -24,6 +24,9 @@ returns-then-height-eq0-clause-thick g t c = λ e thick.
     let own = has-links c.args.heap.now c.args.height c.args.right (rw e at c.requires.right.well) (rw e at c.requires.right.sums) in
     (omega (arith, (leaves g t c).1, (own.thick thick).0), leaf-are-thick c.gathered.new.heap c.args.height c.gathered.result.items (omega arith))
 
+pub returns-then-height-eq0-clause-few : goal.returns-then-height-eq0-clause-few
+returns-then-height-eq0-clause-few g t c = λ _ _. omega (arith, (leaves g t c).1)
+
 pub gathered-requires-2-clause-keep : goal.gathered-requires-2-clause-keep
 gathered-requires-2-clause-keep g t c =
     rw (links-stay (live-stays c.requires.graph (Extends-trans c.join-seam.ensures.builds.extends c.rows_over-rows.ensures.builds.extends)) c.args.left (well-live c.args.heap.now c.args.left_height c.args.left c.requires.left.well)) c.last_edge-last.ensures.inside
@@ -57,6 +60,9 @@ returns-clause-left_wide g t c = λ e. (joined g t c).left_wide e
 
 pub returns-clause-right_wide : goal.returns-clause-right_wide
 returns-clause-right_wide g t c = λ e. (joined g t c).right_wide e
+
+pub returns-clause-few : goal.returns-clause-few
+returns-clause-few g t c = λ e e'. (joined g t c).few e e'
 
 pub returns-clause-builds : goal.returns-clause-builds
 returns-clause-builds g t c =

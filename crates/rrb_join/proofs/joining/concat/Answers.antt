@@ -1,7 +1,7 @@
-use Rattle.std.proofs.Common.{arith, refl, ◌∙◌}
+use Rattle.std.proofs.Common.{arith, refl, sym, ◌∙◌}
 use Rattle.node_heap.proofs.BuildLemmas.{Builds-more, Builds-Answered}
 use Rattle.rrb_core.proofs.BuildLemmas.{unchanged-good, answered-same}
-use Rattle.rrb_join.proofs.AnswerLemmas.{unchanged-height}
+use Rattle.rrb_join.proofs.AnswerLemmas.{unchanged-height, unchanged-links}
 use Rattle.rrb_join.proofs.joining.concat.Goals as goal
 
 pub returns-in_err-reserve-clause-vectors : goal.returns-in_err-reserve-clause-vectors
@@ -36,9 +36,10 @@ pub returns-clause-vectors : goal.returns-clause-vectors
 returns-clause-vectors g c = answered-same (Builds-Answered c.in_ok-reserve.ensures.rest c.joined_root.ensures.builds)
 
 pub returns-clause-flat : goal.returns-clause-flat
-returns-clause-flat g c = λ left_leaf right_leaf few.
-    let left = unchanged-good c.args.left c.in_ok-reserve.ensures.rest c.requires.left_good in
-    let right = unchanged-good c.args.right c.in_ok-reserve.ensures.rest c.requires.right_good in
-    let left_low = unchanged-height c.in_ok-reserve.ensures.rest c.args.left ∙ left_leaf in
-    let right_low = unchanged-height c.in_ok-reserve.ensures.rest c.args.right ∙ right_leaf in
-    rw c.from_root.ensures (c.joined_root.ensures.flat (rw c.root.ensures left_low) (rw c.root-2.ensures right_low) (rw (c.root.ensures, c.root-2.ensures, left.1, right.1) few))
+returns-clause-flat g c = λ same few.
+    let left = unchanged-height c.in_ok-reserve.ensures.rest c.args.left in
+    let right = unchanged-height c.in_ok-reserve.ensures.rest c.args.right in
+    let left_links = unchanged-links c.in_ok-reserve.ensures.rest c.args.left in
+    let right_links = unchanged-links c.in_ok-reserve.ensures.rest c.args.right in
+    let low = c.joined_root.ensures.flat (rw (c.root.ensures, c.root-2.ensures) (left ∙ same ∙ sym right)) (rw (c.root.ensures, c.root-2.ensures, left_links, right_links) few) in
+    rw c.from_root.ensures (low ∙ rw c.root.ensures left)

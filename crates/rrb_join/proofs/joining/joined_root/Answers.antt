@@ -1,11 +1,9 @@
-use Rattle.std.proofs.Common.{arith, ◌≡◌, length, length-append, sym, ap, ◌∙◌, [], append-nil}
+use Rattle.std.proofs.Common.{arith, ◌≡◌, length, sym, ap, ◌∙◌, [], append-nil}
 use Rattle.std.proofs.lemmas.Bool.Decides.{nat_tests}
 use Rattle.node_heap.proofs.BuildLemmas.{Builds-then, Builds-more}
-use Rattle.node_heap.specs.Heap.{form_at}
-use Rattle.rrb_core.specs.Seq.{seq_at}
 use Rattle.rrb_core.specs.Vector.{height_at, elements}
 use Rattle.rrb_core.proofs.Stays.{well-live}
-use Rattle.rrb_join.proofs.UnmadeLemmas.{no-elements, unmade-length}
+use Rattle.rrb_join.proofs.UnmadeLemmas.{no-elements}
 use Rattle.rrb_join.proofs.AnswerLemmas.{extended-height}
 use Rattle.rrb_join.proofs.joining.joined_root.Goals as goal
 
@@ -32,16 +30,13 @@ returns-clause-builds g c =
     Builds-more 0 _ (Builds-then c.join-links.ensures.builds (rw c.as_slice.ensures.value at c.root_over.ensures.builds)) (omega arith) (omega (arith, c.max-height.ensures, c.height_of-left_height.ensures, c.height_of-right_height.ensures))
 
 pub returns-then-is_empty-clause-flat : goal.returns-then-is_empty-clause-flat
-returns-then-is_empty-clause-flat g c = λ left right few. rw c.held_again.ensures.same (extended-height c.held_again.ensures.shares.builds.extends c.args.right c.requires.right_good ∙ right)
+returns-then-is_empty-clause-flat g c = λ same few. rw c.held_again.ensures.same (extended-height c.held_again.ensures.shares.builds.extends c.args.right c.requires.right_good ∙ sym same)
 
 pub returns-then-is_empty-2-clause-flat : goal.returns-then-is_empty-2-clause-flat
-returns-then-is_empty-2-clause-flat g c = λ left right few. rw c.held_again-then-is_empty-2.ensures.same (extended-height c.held_again-then-is_empty-2.ensures.shares.builds.extends c.args.left c.requires.left_good ∙ left)
+returns-then-is_empty-2-clause-flat g c = λ same few. rw c.held_again-then-is_empty-2.ensures.same (extended-height c.held_again-then-is_empty-2.ensures.shares.builds.extends c.args.left c.requires.left_good)
 
 pub returns-clause-flat : goal.returns-clause-flat
-returns-clause-flat g c = λ left right few.
-    let none : c.max-height.result ≡ 0 = omega (arith, c.max-height.ensures, c.height_of-left_height.ensures, c.height_of-right_height.ensures, left, right) in
-    let links = unmade-length c.join-links.new.heap c.max-height.result c.join-links.result.items _ c.join-links.ensures.links none in
-    let sum = length-append (seq_at (form_at c.args.heap.now) c.height_of-left_height.result c.args.left) (seq_at (form_at c.args.heap.now) c.height_of-right_height.result c.args.right) in
-    let first = ap (λ n. length (seq_at (form_at c.args.heap.now) n c.args.left)) c.height_of-left_height.ensures in
-    let second = ap (λ n. length (seq_at (form_at c.args.heap.now) n c.args.right)) c.height_of-right_height.ensures in
-    c.root_over.ensures.low (rw c.as_slice.ensures.value (omega (arith, links, sum, first, second, few))) ∙ none
+returns-clause-flat g c = λ same few.
+    let left : c.height_of-left_height.result ≡ c.max-height.result = omega (arith, c.max-height.ensures, c.height_of-left_height.ensures, c.height_of-right_height.ensures, same) in
+    let right : c.height_of-right_height.result ≡ c.max-height.result = omega (arith, c.max-height.ensures, c.height_of-left_height.ensures, c.height_of-right_height.ensures, same) in
+    c.root_over.ensures.low (rw c.as_slice.ensures.value (omega (arith, c.join-links.ensures.few left right, few))) ∙ (sym left ∙ c.height_of-left_height.ensures)
