@@ -1,7 +1,8 @@
 //! Chains: entries whose keys share a code, a row for each, in rising order of the keys.
 //!
 //! An entry is a cell, which is its own key, or a pair of a key cell and a value. A chain has two entries or more.
-//! Chains are never changed: a call that edits one makes new rows up to the place of the edit and shares those after it.
+//! Chains are never changed: a call that edits one makes new rows up to the place of the edit and, by its code, takes over
+//! those behind it.
 //! `join`, `with` and `without` reserve the rows that they make; `joined`, `added` and `removed` are the same where the
 //! caller has reserved them.
 #![tactic(auto)]

@@ -137,7 +137,7 @@ fn lone_row(position: u32, place: Place) -> TrieRow
 }
 
 // What stands at the key's position in the row at a link once the key is gone. The key is there, and the spares suffice.
-pub(crate) fn left_of<T: Element, P: Probe<T>>(
+pub(crate) fn place_without<T: Element, P: Probe<T>>(
     heap: &mut Heap<T>,
     link: Link,
     depth: u8,
@@ -167,16 +167,16 @@ pub(crate) fn left_of<T: Element, P: Probe<T>>(
         Place::Entry(_) => Place::Empty,
         Place::Node(child) => {
             if depth == DEEPEST {
-                return left_of_chain(heap, child, key);
+                return chain_place_without(heap, child, key);
             }
-            let left = left_of(heap, child, depth + 1, key, code, bits);
+            let left = place_without(heap, child, depth + 1, key, code, bits);
             edited(heap, child, digit(code, depth + 1), left).close(heap, depth + 1)
         }
     }
 }
 
 // What stands for a chain once the key is gone.
-fn left_of_chain<T: Element, P: Probe<T>>(heap: &mut Heap<T>, chain: Link, key: &P) -> Place
+fn chain_place_without<T: Element, P: Probe<T>>(heap: &mut Heap<T>, chain: Link, key: &P) -> Place
     requires few { hold_count heap.old < 2 ^ 59 }
     requires chain { (E : List (Entry T)) × IsChain T.cmp (form_at heap.old) chain E × (link_with T.cmp (P.stands_for key.now) E ≢ None)
         × (length E ≤ heap.old.spare_nodes) }

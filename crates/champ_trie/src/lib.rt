@@ -26,7 +26,7 @@ mod walk;
 
 pub use champ_chain::Found;
 use champ_chain::{find as find_in_chain, key_of, look_up as look_up_in_chain};
-use edit::{left_of, with_at};
+use edit::{place_without, with_at};
 use elem_core::{CODE_BITS, DEEPEST, Element, NoMemory, Probe, digit, masked};
 pub use laws::{depends_on_entries, tries_stay};
 use node_heap::{Heap, Link};
@@ -242,6 +242,6 @@ pub fn removed<T: Element, P: Probe<T>>(heap: &mut Heap<T>, root: Link, key: &P,
     ensures tries { KeepsTries heap.old heap.new }
 {
     let code = masked(key.code(), bits);
-    let left = left_of(heap, root, 0, key, code, bits);
+    let left = place_without(heap, root, 0, key, code, bits);
     edited(heap, root, digit(code, 0), left).make(heap, 0)
 }

@@ -9,7 +9,7 @@ pub type Code = u32;
 /// The number of bits of a code, and so the most that a mask may keep.
 pub const CODE_BITS: u32 = 32;
 
-/// The depth of a code's last digit, which has the two bits that the others leave.
+/// The depth of a code's last digit, which has the bits that the others leave.
 pub const DEEPEST: u8 = 6;
 
 /// FNV-1a with 32 bits, the public hash of Fowler, Noll and Vo, over the bytes.

@@ -60,6 +60,7 @@ fn lines_and_texts_are_cells(rt: HostRuntime) -> Result<(), Fail> {
         assert_eq!(rt; Line::new(text).is_some(), fits, "of {text:?}");
         assert_eq!(rt; Text::fits(text), fits, "of {text:?}");
         let made = Text::from_text(String::from_str(rt.alloc(), text)?);
+        assert_eq!(rt; made.is_ok(), fits, "of {text:?}");
         match made {
             Ok(made) => assert_eq!(rt; made.text(), text),
             Err(back) => assert_eq!(rt; back.as_str(), text),
@@ -103,9 +104,12 @@ fn probes_answer_for_their_values(rt: HostRuntime) -> Result<(), Fail> {
 }
 
 #[test]
-fn want_of_memory_is_one_error(rt: HostRuntime) {
-    assert_eq!(rt; NoMemory::from(AllocError), NoMemory);
-    assert_eq!(rt; NoMemory::from(AllocFailed { value: 1u8 }), NoMemory);
+fn want_of_memory_prints_one_text(rt: HostRuntime) -> Result<(), Fail> {
+    let bare = format!(in rt.alloc(); "{}", NoMemory::from(AllocError))?;
+    let with_value = format!(in rt.alloc(); "{}", NoMemory::from(AllocFailed { value: 1u8 }))?;
+    assert_eq!(rt; bare.as_str(), "out of memory");
+    assert_eq!(rt; with_value.as_str(), "out of memory");
+    Ok(())
 }
 
 #[test]

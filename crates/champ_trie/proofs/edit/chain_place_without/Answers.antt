@@ -5,7 +5,7 @@ use Rattle.node_heap.specs.Heap.{row_at}
 use Rattle.node_heap.specs.declared.row.Head.TheVariants.{Chain}
 use Rattle.champ_chain.specs.Entry.{others}
 use Rattle.champ_trie.proofs.LeftLemmas.{chain-stands, entry-stands}
-use Rattle.champ_trie.proofs.edit.left_of_chain.Goals as goal
+use Rattle.champ_trie.proofs.edit.chain_place_without.Goals as goal
 
 pub returns-in-Chain-clause-place : goal.returns-in-Chain-clause-place
 returns-in-Chain-clause-place g c = λ E chain.

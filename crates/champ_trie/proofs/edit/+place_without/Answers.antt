@@ -19,9 +19,9 @@ use Rattle.champ_trie.proofs.PartLemmas.{part-alike, part-link, part-others, row
 use Rattle.champ_trie.proofs.ShareLemmas.{shares-kept, shares-none, shares-row, row-at, closes-row, same-node}
 use Rattle.champ_trie.proofs.ReachLemmas.{trie-row}
 use Rattle.champ_trie.proofs.LeftLemmas.{IsDeeper, node-deeper, node-chain, none-left, deepest-alike, left-places, left-stands, left-builds, chain-place, place-links}
-use Rattle.champ_trie.proofs.edit.+left_of.Given as given
-use Rattle.champ_trie.proofs.edit.+left_of.Goals as goal
-use Rattle.champ_trie.proofs.edit.+left_of.Goals.{In-Node}
+use Rattle.champ_trie.proofs.edit.+place_without.Given as given
+use Rattle.champ_trie.proofs.edit.+place_without.Goals as goal
+use Rattle.champ_trie.proofs.edit.+place_without.Goals.{In-Node}
 
 -- the key is among the entries with its digit
 linked : (g : given.Over) (t : ℕ) (c : In-Node g t) → link_with g.T.Ord.cmp (g.P.Probe.stands_for c.args.key.now) (part g.T.Ord.cmp (code_by g.T.Element.code_of c.args.bits) c.args.depth (digit_at c.args.code c.args.depth) c.requires.trie.0) ≢ None
@@ -62,10 +62,10 @@ went g t c less new place builds E left below =
 pub place_at-requires-clause-row : goal.place_at-requires-clause-row
 place_at-requires-clause-row g t c = trie-row g.T.Ord.cmp (code_by g.T.Element.code_of c.args.bits) (form_at c.args.heap.now) c.requires.trie.1 c.args.depth c.args.link c.requires.trie.0 c.requires.trie.2.trie
 
-pub left_of-left-requires : goal.left_of-left-requires
-left_of-left-requires g t c κs within =
+pub place_without-left-requires : goal.place_without-left-requires
+place_without-left-requires g t c κs within =
     let less : c.args.depth < DEEPEST = omega (arith, c.if-depth-eq-DEEPEST.false, c.requires.depth) in
-    let at = (goal.at.left_of-left-requires g t c).In-Node in
+    let at = (goal.at.place_without-left-requires g t c).In-Node in
     let d = deeper g t at less c.requires.trie.0 c.requires.trie.1 c.requires.trie.2 in
     let P = part g.T.Ord.cmp (code_by g.T.Element.code_of c.args.bits) c.args.depth (digit_at c.args.code c.args.depth) c.requires.trie.0 in
     let alike = part-alike g.T.Ord.cmp (code_by g.T.Element.code_of c.args.bits) c.args.depth c.args.code c.requires.trie.0 in (
@@ -78,43 +78,43 @@ edited-requires-clause-row g t c =
     let E = c.requires.trie.0 in
     let d = deeper g t (goal.at.edited-requires-clause-row g t c).In-Node (omega (arith, c.if-depth-eq-DEEPEST.false, c.requires.depth)) E c.requires.trie.1 c.requires.trie.2 in
     let P = part g.T.Ord.cmp (code_by g.T.Element.code_of c.args.bits) c.args.depth (digit_at c.args.code c.args.depth) E in
-    let more = (c.left_of-left.ensures.builds P d.m d.below).extends in
-    trie-row g.T.Ord.cmp (code_by g.T.Element.code_of c.args.bits) (form_at c.left_of-left.new.heap) d.m (c.args.depth + 1) c.in-Node.child P
-    (trie-kept g.T.Ord.cmp (code_by g.T.Element.code_of c.args.bits) (form_at c.args.heap.now) (form_at c.left_of-left.new.heap) (forms-kept c.args.heap.now c.left_of-left.new.heap more) (suc d.m) (c.args.depth + 1) c.in-Node.child P d.below.trie)
+    let more = (c.place_without-left.ensures.builds P d.m d.below).extends in
+    trie-row g.T.Ord.cmp (code_by g.T.Element.code_of c.args.bits) (form_at c.place_without-left.new.heap) d.m (c.args.depth + 1) c.in-Node.child P
+    (trie-kept g.T.Ord.cmp (code_by g.T.Element.code_of c.args.bits) (form_at c.args.heap.now) (form_at c.place_without-left.new.heap) (forms-kept c.args.heap.now c.place_without-left.new.heap more) (suc d.m) (c.args.depth + 1) c.in-Node.child P d.below.trie)
 
 pub edited-requires-clause-graph : goal.edited-requires-clause-graph
-edited-requires-clause-graph g t c = (went g t (goal.at.edited-requires-clause-graph g t c).In-Node (omega (arith, c.if-depth-eq-DEEPEST.false, c.requires.depth)) c.left_of-left.new.heap c.left_of-left.result c.left_of-left.ensures.builds c.requires.trie.0 c.requires.trie.1 c.requires.trie.2).2.graph
+edited-requires-clause-graph g t c = (went g t (goal.at.edited-requires-clause-graph g t c).In-Node (omega (arith, c.if-depth-eq-DEEPEST.false, c.requires.depth)) c.place_without-left.new.heap c.place_without-left.result c.place_without-left.ensures.builds c.requires.trie.0 c.requires.trie.1 c.requires.trie.2).2.graph
 
 pub edited-requires-clause-few : goal.edited-requires-clause-few
 edited-requires-clause-few g t c =
-    let did = went g t (goal.at.edited-requires-clause-few g t c).In-Node (omega (arith, c.if-depth-eq-DEEPEST.false, c.requires.depth)) c.left_of-left.new.heap c.left_of-left.result c.left_of-left.ensures.builds c.requires.trie.0 c.requires.trie.1 c.requires.trie.2 in
-    omega (arith, c.requires.few, did.2.total, place-links c.left_of-left.result)
+    let did = went g t (goal.at.edited-requires-clause-few g t c).In-Node (omega (arith, c.if-depth-eq-DEEPEST.false, c.requires.depth)) c.place_without-left.new.heap c.place_without-left.result c.place_without-left.ensures.builds c.requires.trie.0 c.requires.trie.1 c.requires.trie.2 in
+    omega (arith, c.requires.few, did.2.total, place-links c.place_without-left.result)
 
 pub close-requires-clause-spare : goal.close-requires-clause-spare
 close-requires-clause-spare g t c =
-    let did = went g t (goal.at.close-requires-clause-spare g t c).In-Node (omega (arith, c.if-depth-eq-DEEPEST.false, c.requires.depth)) c.left_of-left.new.heap c.left_of-left.result c.left_of-left.ensures.builds c.requires.trie.0 c.requires.trie.1 c.requires.trie.2 in
+    let did = went g t (goal.at.close-requires-clause-spare g t c).In-Node (omega (arith, c.if-depth-eq-DEEPEST.false, c.requires.depth)) c.place_without-left.new.heap c.place_without-left.result c.place_without-left.ensures.builds c.requires.trie.0 c.requires.trie.1 c.requires.trie.2 in
     omega (arith, Builds-spare_nodes did.2, did.1, Builds-spare_nodes c.edited.ensures.builds, c.requires.trie.4)
 
 pub close-requires-clause-held : goal.close-requires-clause-held
 close-requires-clause-held g t c = λ k.
-    let did = went g t (goal.at.close-requires-clause-held g t c).In-Node (omega (arith, c.if-depth-eq-DEEPEST.false, c.requires.depth)) c.left_of-left.new.heap c.left_of-left.result c.left_of-left.ensures.builds c.requires.trie.0 c.requires.trie.1 c.requires.trie.2 in
+    let did = went g t (goal.at.close-requires-clause-held g t c).In-Node (omega (arith, c.if-depth-eq-DEEPEST.false, c.requires.depth)) c.place_without-left.new.heap c.place_without-left.result c.place_without-left.ensures.builds c.requires.trie.0 c.requires.trie.1 c.requires.trie.2 in
     omega (arith, did.2.holds k, c.edited.ensures.builds.holds k)
 
 pub close-requires-clause-few : goal.close-requires-clause-few
 close-requires-clause-few g t c =
-    let did = went g t (goal.at.close-requires-clause-few g t c).In-Node (omega (arith, c.if-depth-eq-DEEPEST.false, c.requires.depth)) c.left_of-left.new.heap c.left_of-left.result c.left_of-left.ensures.builds c.requires.trie.0 c.requires.trie.1 c.requires.trie.2 in
+    let did = went g t (goal.at.close-requires-clause-few g t c).In-Node (omega (arith, c.if-depth-eq-DEEPEST.false, c.requires.depth)) c.place_without-left.new.heap c.place_without-left.result c.place_without-left.ensures.builds c.requires.trie.0 c.requires.trie.1 c.requires.trie.2 in
     let short = sets-short c.edited.result.entries c.edited.result.nodes c.edited.result.links.items c.edited.ensures.sets in
-    omega (arith, c.requires.few, did.2.total, place-links c.left_of-left.result, c.edited.ensures.builds.total, short)
+    omega (arith, c.requires.few, did.2.total, place-links c.place_without-left.result, c.edited.ensures.builds.total, short)
 
-pub left_of_chain-requires-clause-chain : goal.left_of_chain-requires-clause-chain
-left_of_chain-requires-clause-chain g t c =
-    let at = (goal.at.left_of_chain-requires-clause-chain g t c).In-Node in
+pub chain_place_without-requires-clause-chain : goal.chain_place_without-requires-clause-chain
+chain_place_without-requires-clause-chain g t c =
+    let at = (goal.at.chain_place_without-requires-clause-chain g t c).In-Node in
     let d = chain g t at c.if-depth-eq-DEEPEST.true c.requires.trie.0 c.requires.trie.1 c.requires.trie.2 in
     (part g.T.Ord.cmp (code_by g.T.Element.code_of c.args.bits) c.args.depth (digit_at c.args.code c.args.depth) c.requires.trie.0, d.1, linked g t at, omega (arith, d.2, c.requires.trie.4))
 
 pub returns-else-depth-eq-DEEPEST-clause-builds : goal.returns-else-depth-eq-DEEPEST-clause-builds
 returns-else-depth-eq-DEEPEST-clause-builds g t c = λ E left below.
-    let did = went g t (goal.at.returns-else-depth-eq-DEEPEST-clause-builds g t c).In-Node (omega (arith, c.if-depth-eq-DEEPEST.false, c.requires.depth)) c.left_of-left.new.heap c.left_of-left.result c.left_of-left.ensures.builds E left below in
+    let did = went g t (goal.at.returns-else-depth-eq-DEEPEST-clause-builds g t c).In-Node (omega (arith, c.if-depth-eq-DEEPEST.false, c.requires.depth)) c.place_without-left.new.heap c.place_without-left.result c.place_without-left.ensures.builds E left below in
     left-builds did.2 c.edited.ensures.builds c.close.ensures.builds (omega (arith, did.1))
 
 pub returns-else-depth-eq-DEEPEST-clause-place : goal.returns-else-depth-eq-DEEPEST-clause-place
@@ -125,14 +125,14 @@ returns-else-depth-eq-DEEPEST-clause-place g t c = λ E left below.
     let P = part cmp code c.args.depth (digit_at c.args.code c.args.depth) E in
     let equal_codes = λ (j k : g.row.T.Denot) (e : cmp j k ≡ Equal). ap (λ n. masked_code n c.args.bits) (g.met.T.Element.equal_codes j k e) in
     let key = g.P.Probe.stands_for c.args.key.now in
-    let first = form_at c.left_of-left.new.heap in
+    let first = form_at c.place_without-left.new.heap in
     let last = form_at c.close.new.heap in
-    let keeps = forms-kept c.left_of-left.new.heap c.close.new.heap (Extends-trans c.edited.ensures.builds.extends c.close.ensures.builds.extends) in
-    let trie = trie-kept cmp code (form_at c.args.heap.now) first (forms-kept c.args.heap.now c.left_of-left.new.heap (c.left_of-left.ensures.builds P d.m d.below).extends) (suc d.m) (c.args.depth + 1) c.in-Node.child P d.below.trie in
+    let keeps = forms-kept c.place_without-left.new.heap c.close.new.heap (Extends-trans c.edited.ensures.builds.extends c.close.ensures.builds.extends) in
+    let trie = trie-kept cmp code (form_at c.args.heap.now) first (forms-kept c.args.heap.now c.place_without-left.new.heap (c.place_without-left.ensures.builds P d.m d.below).extends) (suc d.m) (c.args.depth + 1) c.in-Node.child P d.below.trie in
     let next = c.digit-in-Node.ensures.read in
     let row = c.edited.result in
-    let stands = place-kept cmp code first last keeps d.m (c.args.depth + 1 + 1) c.left_of-left.result (part cmp code (c.args.depth + 1) (digit_at c.args.code (c.args.depth + 1)) (others cmp key P)) (c.left_of-left.ensures.place P d.m d.below) in
-    let places = left-places cmp code equal_codes first last (c.args.depth + 1) d.m c.in-Node.child c.args.code P key row.entries row.nodes row.links.items c.left_of-left.result keeps c.requires.code trie
+    let stands = place-kept cmp code first last keeps d.m (c.args.depth + 1 + 1) c.place_without-left.result (part cmp code (c.args.depth + 1) (digit_at c.args.code (c.args.depth + 1)) (others cmp key P)) (c.place_without-left.ensures.place P d.m d.below) in
+    let places = left-places cmp code equal_codes first last (c.args.depth + 1) d.m c.in-Node.child c.args.code P key row.entries row.nodes row.links.items c.place_without-left.result keeps c.requires.code trie
     (sym (ap (place_of row.entries row.nodes row.links.items) next) ∙ c.edited.ensures.here) stands
     (λ depth entries nodes links was p small other. c.edited.ensures.others depth entries nodes links was p small (λ is. other (is ∙ next))) in
     let whole = left-stands cmp code equal_codes c.close.new.heap (c.args.depth + 1) d.m P key row.entries row.nodes row.links.items c.close.result d.below.distinct d.two c.edited.ensures.sets places c.close.ensures.place in
@@ -142,7 +142,7 @@ returns-else-depth-eq-DEEPEST-clause-place g t c = λ E left below.
 pub returns-then-depth-eq-DEEPEST-clause-builds : goal.returns-then-depth-eq-DEEPEST-clause-builds
 returns-then-depth-eq-DEEPEST-clause-builds g t c = λ E left below.
     let d = chain g t (goal.at.returns-then-depth-eq-DEEPEST-clause-builds g t c).In-Node c.if-depth-eq-DEEPEST.true E left below in
-    Builds-more 0 (left + alike_in (code_by g.T.Element.code_of c.args.bits) c.args.code E) (c.left_of_chain.ensures.builds (part g.T.Ord.cmp (code_by g.T.Element.code_of c.args.bits) c.args.depth (digit_at c.args.code c.args.depth) E) d.1) (omega arith) (omega (arith, d.2))
+    Builds-more 0 (left + alike_in (code_by g.T.Element.code_of c.args.bits) c.args.code E) (c.chain_place_without.ensures.builds (part g.T.Ord.cmp (code_by g.T.Element.code_of c.args.bits) c.args.depth (digit_at c.args.code c.args.depth) E) d.1) (omega arith) (omega (arith, d.2))
 
 pub returns-then-depth-eq-DEEPEST-clause-place : goal.returns-then-depth-eq-DEEPEST-clause-place
 returns-then-depth-eq-DEEPEST-clause-place g t c = λ E left below.
@@ -150,9 +150,9 @@ returns-then-depth-eq-DEEPEST-clause-place g t c = λ E left below.
     let d = chain g t (goal.at.returns-then-depth-eq-DEEPEST-clause-place g t c).In-Node c.if-depth-eq-DEEPEST.true E left below in
     let p = digit_at c.args.code c.args.depth in
     let key = g.P.Probe.stands_for c.args.key.now in
-    let new = form_at c.left_of_chain.new.heap in
-    chain-place cmp (code_by g.T.Element.code_of c.args.bits) new left (c.args.depth + 1) c.left_of_chain.result (part cmp (code_by g.T.Element.code_of c.args.bits) c.args.depth p (others cmp key E)) d.0
-    (subst (IsPlace new (λ k Q. IsChain cmp new k Q) c.left_of_chain.result) (sym (part-others cmp (code_by g.T.Element.code_of c.args.bits) c.args.depth p key E)) (c.left_of_chain.ensures.place (part cmp (code_by g.T.Element.code_of c.args.bits) c.args.depth p E) d.1))
+    let new = form_at c.chain_place_without.new.heap in
+    chain-place cmp (code_by g.T.Element.code_of c.args.bits) new left (c.args.depth + 1) c.chain_place_without.result (part cmp (code_by g.T.Element.code_of c.args.bits) c.args.depth p (others cmp key E)) d.0
+    (subst (IsPlace new (λ k Q. IsChain cmp new k Q) c.chain_place_without.result) (sym (part-others cmp (code_by g.T.Element.code_of c.args.bits) c.args.depth p key E)) (c.chain_place_without.ensures.place (part cmp (code_by g.T.Element.code_of c.args.bits) c.args.depth p E) d.1))
 
 pub returns-in-Empty-clause-builds : goal.returns-in-Empty-clause-builds
 returns-in-Empty-clause-builds g t c = λ E left below. Builds-refl c.args.heap.now [] 0 (left + alike_in (code_by g.T.Element.code_of c.args.bits) c.args.code E) c.requires.graph
@@ -173,7 +173,7 @@ returns-in-Entry-clause-place g t c = λ E left below.
 pub returns-then-depth-eq-DEEPEST-clause-shares : goal.returns-then-depth-eq-DEEPEST-clause-shares
 returns-then-depth-eq-DEEPEST-clause-shares g t c = λ E left e n ls j k below row was is.
     let d = chain g t (goal.at.returns-then-depth-eq-DEEPEST-clause-shares g t c).In-Node c.if-depth-eq-DEEPEST.true E left below in
-    shares-none (form_at c.args.heap.now) (form_at c.left_of_chain.new.heap) c.args.code left (c.args.depth + 1) j k d.0
+    shares-none (form_at c.args.heap.now) (form_at c.chain_place_without.new.heap) c.args.code left (c.args.depth + 1) j k d.0
 
 pub returns-in-Empty-clause-shares : goal.returns-in-Empty-clause-shares
 returns-in-Empty-clause-shares g t c = λ E left e n ls j k below row was is. cc
@@ -188,10 +188,10 @@ returns-else-depth-eq-DEEPEST-clause-shares g t c = λ E left e n ls j k below r
     let d = deeper g t (goal.at.returns-else-depth-eq-DEEPEST-clause-shares g t c).In-Node (omega (arith, c.if-depth-eq-DEEPEST.false, c.requires.depth)) E left below in
     let P = part cmp code c.args.depth (digit_at c.args.code c.args.depth) E in
     let F = form_at c.args.heap.now in
-    let M = form_at c.left_of-left.new.heap in
+    let M = form_at c.place_without-left.new.heap in
     let G = form_at c.close.new.heap in
-    let first = forms-kept c.args.heap.now c.left_of-left.new.heap (c.left_of-left.ensures.builds P d.m d.below).extends in
-    let later = forms-kept c.left_of-left.new.heap c.close.new.heap (Extends-trans c.edited.ensures.builds.extends c.close.ensures.builds.extends) in
+    let first = forms-kept c.args.heap.now c.place_without-left.new.heap (c.place_without-left.ensures.builds P d.m d.below).extends in
+    let later = forms-kept c.place_without-left.new.heap c.close.new.heap (Extends-trans c.edited.ensures.builds.extends c.close.ensures.builds.extends) in
     let old = row-at cmp code F d.m (c.args.depth + 1) c.in-Node.child P d.below.trie in
     let next = c.digit-in-Node.ensures.read in
     let new = c.edited.result in
@@ -202,4 +202,4 @@ returns-else-depth-eq-DEEPEST-clause-shares g t c = λ E left e n ls j k below r
     (subst (λ m. SharesBeside F G c.args.code m (c.args.depth + 1) c.in-Node.child k) (sym d.is)
     (shares-row F G c.args.code d.m (c.args.depth + 1) c.in-Node.child k old.0 old.1 old.2 new.entries new.nodes new.links.items old.3 closed
     (λ q low other. c.edited.ensures.others (c.args.depth + 1) old.0 old.1 old.2 (row-kept cmp code F M first c.in-Node.child (c.args.depth + 1) old.0 old.1 old.2 old.3) q low (λ same. other (same ∙ next)))
-    (λ i m at there. shares-kept F F M G (record { kept = λ l f is. is }) later c.args.code d.m (c.args.depth + 1 + 1) i m (c.left_of-left.ensures.shares P d.m old.0 old.1 old.2 i m d.below old.3 at (sym here ∙ there)))))
+    (λ i m at there. shares-kept F F M G (record { kept = λ l f is. is }) later c.args.code d.m (c.args.depth + 1 + 1) i m (c.place_without-left.ensures.shares P d.m old.0 old.1 old.2 i m d.below old.3 at (sym here ∙ there)))))
