@@ -1,0 +1,41 @@
+-- Damage: the first test that a pool fails.
+use Rattle.std.specs.Prelude.{◌≡◌, Bool, true, List, [], ◌∷◌, Option, Some, None, if◌then◌else◌}
+use Rattle.std.specs.List.{range_with_len}
+use Rattle.std.specs.Str.{bytes_eq}
+use Rattle.pool_text.specs.Pool.{order_in, row_count}
+use Rattle.pool_text.specs.declared.pool.Pool.{Pool}
+use Rattle.pool_check.specs.Rows.{rows_in_range, links_lead_back, texts_are_lines}
+use Rattle.pool_check.specs.Vectors.{vectors_stand}
+use Rattle.pool_check.specs.Tries.{tries_stand}
+use Rattle.pool_check.specs.Kinds.{roots_are_of_kind}
+use Rattle.pool_text.specs.declared.damage.Damage.{Damage}
+use Rattle.pool_text.specs.declared.damage.Damage.TheVariants.{Row, Link, Text, Vector, Trie, Kind, Order}
+
+-- the rows stand in their order
+unfoldable pub rows_in_order : Pool → Bool
+rows_in_order P = bytes_eq (order_in P) (range_with_len 0 (row_count P))
+
+-- the first of the tests that fails
+abbrev pub first_failing : List (Bool × Damage) → Option Damage
+first_failing [] = None
+first_failing (t ∷ ts) = if t.0 then first_failing ts else Some t.1
+
+-- the tests of a pool in the order in which they are made
+abbrev pub tests : Pool → List (Bool × Damage)
+tests P =
+    (rows_in_range P, Row) ∷ (links_lead_back P, Link) ∷ (texts_are_lines P, Text) ∷ (vectors_stand P, Vector) ∷ (tries_stand P, Trie)
+    ∷ (roots_are_of_kind P, Kind) ∷ (rows_in_order P, Order) ∷ []
+
+-- the first test that the pool fails, if any
+unfoldable pub damage : Pool → Option Damage
+damage P = first_failing (tests P)
+
+-- a pool that passes every test
+pub record IsValid (P : Pool) : Type 0 where
+  pub in_range : rows_in_range P ≡ true
+  pub lead_back : links_lead_back P ≡ true
+  pub lines : texts_are_lines P ≡ true
+  pub vectors : vectors_stand P ≡ true
+  pub tries : tries_stand P ≡ true
+  pub kinds : roots_are_of_kind P ≡ true
+  pub in_order : rows_in_order P ≡ true

@@ -1,0 +1,24 @@
+-- Laws of valid pools.
+use Rattle.std.specs.Prelude.{◌≡◌, ◌↔◌, ℕ, true, None}
+use Rattle.std.specs.Ordering.{nat_cmp}
+use Rattle.std.specs.Cmp.Lexicographic.{slice_cmp}
+use Rattle.rrb_core.specs.Seq.{IsWellShaped}
+use Rattle.elem_core.specs.Codes.{text_code}
+use Rattle.champ_trie.specs.Trie.{IsCanon, code_by}
+use Rattle.pool_text.specs.Pool.{forms_in, row_count}
+use Rattle.pool_text.specs.declared.pool.Pool.{Pool}
+use Rattle.pool_check.specs.Tries.{entries_below}
+use Rattle.pool_check.specs.Kinds.{is_vector_root, is_trie_root}
+use Rattle.pool_check.specs.Damages.{damage, IsValid}
+
+-- a vector root of a valid pool is the root of a well-shaped vector
+abbrev pub VectorRootsAreGood : Type 0
+VectorRootsAreGood = (P : Pool) (l : ℕ) → IsValid P → is_vector_root (forms_in P l) ≡ true → IsWellShaped (forms_in P) l
+
+-- a trie row of depth 0 of a valid pool is the canonical trie of the entries below it
+abbrev pub TrieRootsAreCanonical : Type 0
+TrieRootsAreCanonical = (P : Pool) (l : ℕ) → IsValid P → is_trie_root (forms_in P l) ≡ true → IsCanon (slice_cmp nat_cmp) (code_by text_code P.bits) (forms_in P) l (entries_below (row_count P) (forms_in P) l)
+
+-- a pool has no damage exactly where it is valid
+abbrev pub UndamagedIsValid : Type 0
+UndamagedIsValid = (P : Pool) → (damage P ≡ None) ↔ IsValid P

@@ -1,0 +1,10 @@
+pub mod Rows
+pub mod Vectors
+pub mod Tries
+pub mod Kinds
+pub mod Damages
+pub mod Passing
+pub mod Readings
+pub mod Laws
+pub mod Documents
+pub mod Worked

@@ -1,0 +1,34 @@
+-- What the tests say of small pools.
+use Rattle.std.specs.Prelude.{◌≡◌, Some, None}
+use Rattle.pool_text.specs.Documents.{start_pool, two_cells, shared_empties, sub_node, one_line_twice}
+use Rattle.pool_text.specs.declared.damage.Damage.TheVariants.{Row, Link, Text, Vector, Trie, Kind, Order}
+use Rattle.pool_check.specs.Documents.{chained, full_history, tall_row, long_pair, forward_link, root_past_end, broken_text, empty_leaf_below, overfull_history, lone_below, two_at_one, wrong_position, turned_chain, trie_for_state, loose_row, turned_roots, turned_lines}
+use Rattle.pool_check.specs.Damages.{damage}
+
+-- pools that pass every test
+pub record WholePools : Type 0 where
+  pub is_start : damage start_pool ≡ None
+  pub is_two_cells : damage two_cells ≡ None
+  pub is_shared_empties : damage shared_empties ≡ None
+  pub is_sub_node : damage sub_node ≡ None
+  pub is_one_line_twice : damage one_line_twice ≡ None
+  pub is_chained : damage chained ≡ None
+  pub is_full_history : damage full_history ≡ None
+
+-- pools that fail a test and pass those before it
+pub record DamagedPools : Type 0 where
+  pub is_tall_row : damage tall_row ≡ Some Row
+  pub is_long_pair : damage long_pair ≡ Some Row
+  pub is_forward_link : damage forward_link ≡ Some Link
+  pub is_root_past_end : damage root_past_end ≡ Some Link
+  pub is_broken_text : damage broken_text ≡ Some Text
+  pub is_empty_leaf_below : damage empty_leaf_below ≡ Some Vector
+  pub is_overfull_history : damage overfull_history ≡ Some Vector
+  pub is_lone_below : damage lone_below ≡ Some Trie
+  pub is_two_at_one : damage two_at_one ≡ Some Trie
+  pub is_wrong_position : damage wrong_position ≡ Some Trie
+  pub is_turned_chain : damage turned_chain ≡ Some Trie
+  pub is_trie_for_state : damage trie_for_state ≡ Some Kind
+  pub is_loose_row : damage loose_row ≡ Some Order
+  pub is_turned_roots : damage turned_roots ≡ Some Order
+  pub is_turned_lines : damage turned_lines ≡ Some Order

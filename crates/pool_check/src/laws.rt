@@ -1,0 +1,45 @@
+//! Laws of valid pools, as the clauses of functions that do nothing.
+ghost use Rattle.pool_check.specs.Laws.{VectorRootsAreGood, TrieRootsAreCanonical, UndamagedIsValid};
+ghost use Rattle.pool_check.specs.Passing.{PoolsPassAsMade};
+ghost use Rattle.pool_check.specs.Readings.{VectorsReadAlike, TriesReadAlike};
+ghost use Rattle.pool_check.specs.Worked.{WholePools, DamagedPools};
+
+/// A vector root of a valid pool is the root of a well-shaped vector.
+pub fn vector_roots_are_good()
+    ensures { VectorRootsAreGood }
+{}
+
+/// A trie row of depth 0 of a valid pool is the canonical trie of the entries below it.
+pub fn trie_roots_are_canonical()
+    ensures { TrieRootsAreCanonical }
+{}
+
+/// A pool has no damage exactly where it is valid.
+pub fn undamaged_is_valid()
+    ensures { UndamagedIsValid }
+{}
+
+/// Pools that pass every test.
+pub fn whole_pools()
+    ensures { WholePools }
+{}
+
+/// Pools that fail a test and pass those before it.
+pub fn damaged_pools()
+    ensures { DamagedPools }
+{}
+
+/// A vector reads alike wherever its rows are renamed, as in a pool.
+pub fn vectors_read_alike<K, X>()
+    ensures { VectorsReadAlike K X }
+{}
+
+/// A trie reads alike wherever its rows are renamed.
+pub fn tries_read_alike<K, X>()
+    ensures { TriesReadAlike K X }
+{}
+
+/// A pool of rooted rows leads back and stands in order by how it is made.
+pub fn pools_pass_as_made()
+    ensures { PoolsPassAsMade }
+{}

@@ -1,0 +1,9 @@
+//! The tests of a pool: which pools are valid, and the damage of those that aren't.
+#![tactic(auto)]
+
+mod laws;
+
+pub use laws::{
+    damaged_pools, pools_pass_as_made, trie_roots_are_canonical, tries_read_alike,
+    undamaged_is_valid, vector_roots_are_good, vectors_read_alike, whole_pools,
+};

@@ -1,0 +1,6 @@
+pub mod Firsts
+pub mod Places
+pub mod EnteredOnce
+pub mod Grounded
+pub mod Walked
+pub mod Stays

@@ -1,0 +1,4 @@
+pub mod Order
+pub mod Laws
+pub mod Walk
+pub mod Worked

@@ -1,0 +1,37 @@
+-- The rows of a document: as values, and without floats.
+use Rattle.std.proofs.Common.{◌≡◌, ℕ, false, ◌||◌, List, [], ◌∷◌, map, refl, ap, ◌∙◌}
+use Rattle.node_heap.specs.Forms.{Form, cell, node, leaf, inner, trie, chain, pair, state}
+use Rattle.serde_json.specs.View.{items_of}
+use Rattle.serde_json.specs.Written.{has_float, items_have_float}
+use Rattle.pool_text.specs.Rows.{Bytes, row_form}
+use Rattle.pool_text.specs.Document.{natural, row_value, document}
+use Rattle.pool_text.specs.declared.pool.Pool.{Pool}
+use Rattle.pool_text.specs.declared.row.Row.{Row}
+
+-- rows are written by their forms
+pub map-forms : (rs : List Row) → map (λ row. row_value (row_form row)) rs ≡ map row_value (map row_form rs)
+map-forms [] = refl
+map-forms (r ∷ rs) = ap (λ ys. row_value (row_form r) ∷ ys) (map-forms rs)
+
+naturals-no-float : (ns : List ℕ) → items_have_float (items_of (map natural ns)) ≡ false
+naturals-no-float [] = refl
+naturals-no-float (n ∷ ns) = naturals-no-float ns
+
+row-no-float : (r : Form Bytes) → has_float (row_value r) ≡ false
+row-no-float (cell text) = refl
+row-no-float (node leaf links) = ap (λ b. b || false) (naturals-no-float links)
+row-no-float (node (inner height) links) = ap (λ b. b || false) (naturals-no-float links)
+row-no-float (node (trie depth entries nodes) links) = ap (λ b. b || false) (naturals-no-float links)
+row-no-float (node chain links) = ap (λ b. b || false) (naturals-no-float links)
+row-no-float (node pair links) = ap (λ b. b || false) (naturals-no-float links)
+row-no-float (node state links) = ap (λ b. b || false) (naturals-no-float links)
+
+rows-no-float : (rs : List (Form Bytes)) → items_have_float (items_of (map row_value rs)) ≡ false
+rows-no-float [] = refl
+rows-no-float (r ∷ rs) = ap (λ b. b || items_have_float (items_of (map row_value rs))) (row-no-float r) ∙ rows-no-float rs
+
+pub document-no-float : (P : Pool) → has_float (document P) ≡ false
+unfolding document
+document-no-float P =
+    ap (λ b. b || (items_have_float (items_of (map row_value P.rows)) || false)) (naturals-no-float P.roots)
+    ∙ ap (λ b. b || false) (rows-no-float P.rows)

@@ -1,0 +1,165 @@
+-- The document of a pool, as a JSON value and as its compact text, and what a document stands for.
+use Rattle.std.specs.Prelude.{ℕ, not, ◌&&◌, ◌==◌, List, [], ◌∷◌, map, Bool, Option, Some, None, is_some, option_map, option_and_then, if◌then◌else◌, codes}
+use Rattle.std.specs.Str.{bytes_eq, is_utf8}
+use Rattle.node_heap.specs.Forms.{Form, Kind, cell, node, leaf, inner, trie, chain, pair, state}
+use Rattle.serde_json.specs.Data.{unsigned, Data, number, string, array, object, Items, no_items, item, Members, no_members, member}
+use Rattle.serde_json.specs.Read.{read}
+use Rattle.serde_json.specs.View.{items_of}
+use Rattle.serde_json.specs.Written.{compact_text}
+use Rattle.pool_text.specs.Rows.{Bytes, is_in_range}
+use Rattle.pool_text.specs.declared.pool.Pool.{Pool}
+use Rattle.pool_text.specs.declared.damage.Damage.{Damage}
+use Rattle.pool_text.specs.declared.damage.Damage.TheVariants.{Json, Form as FormDamage, Version, Bits, Row}
+
+-- Writing.
+
+-- an array
+abbrev pub list : List Data → Data
+list ds = array (items_of ds)
+
+abbrev pub natural : ℕ → Data
+natural n = number (unsigned n)
+
+abbrev pub naturals : List ℕ → Data
+naturals ns = list (map natural ns)
+
+-- a row: its letter, its numbers and its links
+abbrev pub row_value : Form Bytes → Data
+row_value (cell text) = list (string (codes "c") ∷ string text ∷ [])
+row_value (node leaf links) = list (string (codes "l") ∷ naturals links ∷ [])
+row_value (node (inner height) links) = list (string (codes "i") ∷ natural height ∷ naturals links ∷ [])
+row_value (node (trie depth entries nodes) links) = list (string (codes "m") ∷ natural depth ∷ natural entries ∷ natural nodes ∷ naturals links ∷ [])
+row_value (node chain links) = list (string (codes "k") ∷ naturals links ∷ [])
+row_value (node pair links) = list (string (codes "p") ∷ naturals links ∷ [])
+row_value (node state links) = list (string (codes "s") ∷ naturals links ∷ [])
+
+-- the document of a pool; its keys are in byte order
+unfoldable pub document : Pool → Data
+document P =
+    object (member (codes "bits") (natural P.bits) (member (codes "format") (string (codes "ewig-pool")) (member (codes "roots") (naturals P.roots)
+    (member (codes "rows") (list (map row_value P.rows)) (member (codes "version") (natural 1) no_members)))))
+
+-- the compact text of that document
+abbrev pub text : Pool → Bytes
+text P = compact_text (document P)
+
+-- Reading.
+
+-- a number that fits 64 bits without a sign
+abbrev pub number_in : Data → Option ℕ
+number_in (number (unsigned n)) = Some n
+number_in _ = None
+
+abbrev pub item_list : Items → List Data
+item_list no_items = []
+item_list (item d ds) = d ∷ item_list ds
+
+abbrev pub elements_in : Data → Option (List Data)
+elements_in (array ds) = Some (item_list ds)
+elements_in _ = None
+
+-- what f gives of each, if it gives something of each
+abbrev pub all_of : {X Y : Type 0} → (X → Option Y) → List X → Option (List Y)
+all_of f [] = Some []
+all_of f (x ∷ xs) = option_and_then (λ y. option_map (λ ys. y ∷ ys) (all_of f xs)) (f x)
+
+abbrev pub numbers_in : Data → Option (List ℕ)
+numbers_in d = option_and_then (all_of number_in) (elements_in d)
+
+-- the forms after their letter
+abbrev pub cell_form : List Data → Option (Form Bytes)
+cell_form (string text ∷ []) = Some (cell text)
+cell_form _ = None
+
+abbrev pub node_form : Kind → List Data → Option (Form Bytes)
+node_form kind (links ∷ []) = option_map (node kind) (numbers_in links)
+node_form kind _ = None
+
+abbrev pub inner_form : List Data → Option (Form Bytes)
+inner_form (height ∷ rest) = option_and_then (λ h. node_form (inner h) rest) (number_in height)
+inner_form _ = None
+
+abbrev pub trie_form : List Data → Option (Form Bytes)
+trie_form (depth ∷ entries ∷ nodes ∷ rest) = option_and_then (λ d. option_and_then (λ e. option_and_then (λ n. node_form (trie d e n) rest) (number_in nodes)) (number_in entries)) (number_in depth)
+trie_form _ = None
+
+abbrev pub form_after : Bytes → List Data → Option (Form Bytes)
+form_after letter rest =
+    if bytes_eq letter (codes "c") then cell_form rest else
+    if bytes_eq letter (codes "l") then node_form leaf rest else
+    if bytes_eq letter (codes "i") then inner_form rest else
+    if bytes_eq letter (codes "m") then trie_form rest else
+    if bytes_eq letter (codes "k") then node_form chain rest else
+    if bytes_eq letter (codes "p") then node_form pair rest else
+    if bytes_eq letter (codes "s") then node_form state rest else None
+
+abbrev pub form_from : List Data → Option (Form Bytes)
+form_from (string letter ∷ rest) = form_after letter rest
+form_from _ = None
+
+-- what is found, where it passes the test
+abbrev pub kept_if : {X : Type 0} → (X → Bool) → Option X → Option X
+kept_if test o = option_and_then (λ x. if test x then Some x else None) o
+
+-- the row that a value stands for, if its numbers and its links are in range
+abbrev pub row_in : Data → Option (Form Bytes)
+row_in d = kept_if is_in_range (option_and_then form_from (elements_in d))
+
+-- the five values of a document
+pub record DocumentParts : Type 0 where
+  pub bits : ℕ
+  pub roots : List ℕ
+  pub rows : List Data
+  pub version : ℕ
+
+abbrev pub four : List ℕ → Option (List ℕ)
+four (a ∷ b ∷ c ∷ d ∷ []) = Some (a ∷ b ∷ c ∷ d ∷ [])
+four _ = None
+
+-- the value's members are these keys, in byte order, and its format is the pool's
+abbrev pub parts_from : Members → Option DocumentParts
+parts_from (member k1 bits (member k2 (string format) (member k3 roots (member k4 rows (member k5 version no_members))))) =
+    if bytes_eq k1 (codes "bits") && bytes_eq k2 (codes "format") && bytes_eq k3 (codes "roots") && bytes_eq k4 (codes "rows") && bytes_eq k5 (codes "version") && bytes_eq format (codes "ewig-pool")
+    then option_and_then (λ b. option_and_then (λ rs. option_and_then (λ ds. option_map (λ v. record { bits = b; roots = rs; rows = ds; version = v }) (number_in version)) (elements_in rows)) (option_and_then four (numbers_in roots))) (number_in bits)
+    else None
+parts_from _ = None
+
+abbrev pub parts_in : Data → Option DocumentParts
+parts_in (object ms) = parts_from ms
+parts_in _ = None
+
+-- what the bytes read as
+abbrev pub value_in : Bytes → Option Data
+value_in bytes = if is_utf8 bytes then read bytes else None
+
+-- the rows of a document, each in its form and in range
+abbrev pub rows_in : DocumentParts → Option (List (Form Bytes))
+rows_in p = all_of row_in p.rows
+
+-- the pool that the parts of a document stand for
+abbrev pub pool_from : DocumentParts → Option Pool
+pool_from p = option_map (λ rows. record { bits = p.bits; rows = rows; roots = p.roots }) (rows_in p)
+
+-- the pool that a document stands for
+unfoldable pub pool_in : Data → Option Pool
+pool_in d = option_and_then pool_from (parts_in d)
+
+-- the first of the tests that the parts fail, of `Version`, `Bits` and `Row`, in a space of so many bits
+abbrev pub parts_damage : ℕ → DocumentParts → Option Damage
+parts_damage bits p =
+    if not (p.version == 1) then Some Version else
+    if not (p.bits == bits) then Some Bits else
+    if is_some (rows_in p) then None else Some Row
+
+-- what the next test says of what is there, and the damage where nothing is
+abbrev pub or_damage : {X : Type 0} → Damage → (X → Option Damage) → Option X → Option Damage
+or_damage d next None = Some d
+or_damage d next (Some x) = next x
+
+-- the first of the tests `Form` to `Row` that the value fails, if any
+unfoldable pub value_damage : ℕ → Data → Option Damage
+value_damage bits d = or_damage FormDamage (parts_damage bits) (parts_in d)
+
+-- the first of the tests `Json` to `Row` that the bytes fail, if any
+unfoldable pub bytes_damage : ℕ → Bytes → Option Damage
+bytes_damage bits bytes = or_damage Json (value_damage bits) (value_in bytes)

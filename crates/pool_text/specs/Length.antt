@@ -1,0 +1,6 @@
+-- The length of a document's text.
+use Rattle.std.specs.Prelude.{ℕ, ◌-◌, ◌^◌, min}
+
+-- the number, or the last number of 64 bits where it is more
+abbrev pub capped : ℕ → ℕ
+capped n = min n (2 ^ 64 - 1)

@@ -1,0 +1,29 @@
+-- What the definitions say of small spaces.
+use Rattle.std.specs.Prelude.{◌≡◌, Some, None, codes, [], ◌∷◌}
+use Rattle.pool_text.specs.Pool.{pool, forms_in, row_count}
+use Rattle.pool_text.specs.Document.{document, text, value_damage, bytes_damage}
+use Rattle.pool_text.specs.Documents.{start_pool, two_cells, shared_empties, sub_node, one_line_twice}
+use Rattle.pool_text.specs.declared.pool.Pool.{Pool}
+use Rattle.pool_text.specs.declared.damage.Damage.TheVariants.{Json, Form, Version, Bits, Row}
+
+-- a pool in order is the pool of its own rows from its roots
+abbrev pub IsOfItself : Pool → Type 0
+IsOfItself P = pool (row_count P) (forms_in P) P.roots P.bits ≡ P
+
+pub record WorkedDocuments : Type 0 where
+  pub start_itself : IsOfItself start_pool
+  pub two_cells_itself : IsOfItself two_cells
+  pub shared_empties_itself : IsOfItself shared_empties
+  pub sub_node_itself : IsOfItself sub_node
+  pub one_line_twice_itself : IsOfItself one_line_twice
+  -- rows are listed in order, whatever links name them
+  pub turned : pool 6 (forms_in start_pool) (2 ∷ 3 ∷ 5 ∷ 4 ∷ []) 32 ≡ start_pool
+  -- the bits are those of another space
+  pub other_bits : value_damage 31 (document start_pool) ≡ Some Bits
+  -- the text of the start space, from which its pool is read again
+  pub start_text : text start_pool ≡ codes "{\"bits\":32,\"format\":\"ewig-pool\",\"roots\":[2,3,4,5],\"rows\":[[\"m\",0,0,0,[]],[\"m\",0,0,0,[]],[\"s\",[0,1]],[\"m\",0,0,0,[]],[\"l\",[]],[\"l\",[]]],\"version\":1}"
+  pub cut_off : bytes_damage 32 (codes "{\"bits\":32") ≡ Some Json
+  pub three_roots : bytes_damage 32 (codes "{\"bits\":32,\"format\":\"ewig-pool\",\"roots\":[2,3,4],\"rows\":[],\"version\":1}") ≡ Some Form
+  pub later_version : bytes_damage 32 (codes "{\"bits\":32,\"format\":\"ewig-pool\",\"roots\":[2,3,4,5],\"rows\":[],\"version\":9}") ≡ Some Version
+  pub unknown_letter : bytes_damage 32 (codes "{\"bits\":32,\"format\":\"ewig-pool\",\"roots\":[0,0,0,0],\"rows\":[[\"q\",[]]],\"version\":1}") ≡ Some Row
+  pub no_damage : bytes_damage 32 (text start_pool) ≡ None

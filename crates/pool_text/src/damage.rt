@@ -1,0 +1,30 @@
+//! What is wrong with a document.
+
+/// The tests of a document, in the order in which they are made: a damage is the first that fails. `Memory` is no test.
+#[derive(Debug, Clone, Copy, PartialEq, Eq, Drop)]
+pub enum Damage {
+    /// The bytes aren't the text of a JSON value.
+    Json,
+    /// The value isn't an object of the five keys, with their values.
+    Form,
+    /// The version isn't 1.
+    Version,
+    /// The number of code bits isn't the space's.
+    Bits,
+    /// A row has no form, or a number or a count of links out of range.
+    Row,
+    /// A link or a root leads to no earlier row.
+    Link,
+    /// A cell's text isn't a line.
+    Text,
+    /// An inner row breaks the fill rule.
+    Vector,
+    /// A trie row or a chain row isn't canonical.
+    Trie,
+    /// A root isn't of its kind.
+    Kind,
+    /// The rows don't stand in their order.
+    Order,
+    /// Memory ran out.
+    Memory,
+}

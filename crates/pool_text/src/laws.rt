@@ -1,0 +1,49 @@
+//! Laws of documents, as the clauses of functions that do nothing.
+ghost use Rattle.pool_text.specs.Laws.{ReadsBack};
+ghost use Rattle.pool_text.specs.Renaming.{RenamedReadsAlike, RenamingTurnsBack, PoolsAreRenamed, HeapsAreRooted, NothingLeaks, PoolsStay, TextsAreForms};
+ghost use Rattle.pool_text.specs.Worked.{WorkedDocuments};
+
+/// The document of a pool in range stands for that pool.
+pub fn reads_back()
+    ensures { ReadsBack }
+{}
+
+/// The pools, documents and texts of small spaces.
+pub fn worked_documents()
+    ensures { WorkedDocuments }
+{}
+
+/// A row under other links reads as itself.
+pub fn renamed_reads_alike<K>()
+    ensures { RenamedReadsAlike K }
+{}
+
+/// A renaming that can be turned back is one the other way round.
+pub fn renaming_turns_back<K>()
+    ensures { RenamingTurnsBack K }
+{}
+
+/// A pool has the rows that its roots reach, under their places, and stands in its own order.
+pub fn pools_are_renamed()
+    ensures { PoolsAreRenamed }
+{}
+
+/// What the roots of a heap reach is there, no deeper than the heap has places.
+pub fn heaps_are_rooted<T>()
+    ensures { HeapsAreRooted T }
+{}
+
+/// Where the roots are all that is held, the pool has every row of the heap.
+pub fn nothing_leaks<T>()
+    ensures { NothingLeaks T }
+{}
+
+/// A pool stays where all that its roots reach stays.
+pub fn pools_stay<T>()
+    ensures { PoolsStay T }
+{}
+
+/// The pool of a heap of texts is that of its forms.
+pub fn texts_are_forms()
+    ensures { TextsAreForms }
+{}

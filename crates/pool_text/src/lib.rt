@@ -1,0 +1,22 @@
+//! Pools: the rows that some links of a heap reach, in first-seen order and with places for links, and the JSON document that
+//! stands for a pool.
+#![tactic(auto)]
+
+mod damage;
+mod from_heap;
+mod laws;
+mod lengths;
+mod pool;
+mod row;
+mod written;
+
+pub use damage::Damage;
+pub use from_heap::pool_of;
+pub use laws::{
+    heaps_are_rooted, nothing_leaks, pools_are_renamed, pools_stay, reads_back,
+    renamed_reads_alike, renaming_turns_back, texts_are_forms, worked_documents,
+};
+pub use lengths::text_length;
+pub use pool::{Pool, Rows};
+pub use row::{Places, PoolText, Row};
+pub use written::{to_bytes, to_json};

@@ -1,0 +1,53 @@
+//! A pool and its rows.
+ghost use Rattle.std.specs.Prelude.{◌≡◌, map};
+ghost use Rattle.pool_text.specs.Rows.{row_form};
+
+use crate::row::{Places, Row};
+use std::marker::Model;
+
+/// The rows of a pool by their places. Contracts see the form of each.
+#[derive(Drop)]
+pub struct Rows {
+    items: Vec<Row>,
+}
+
+impl Model for Rows {
+    ghost use Rattle.std.specs.Prelude.{List, map};
+    ghost use Rattle.node_heap.specs.Forms.{Form};
+    ghost use Rattle.pool_text.specs.Rows.{Bytes, row_form};
+
+    ghost Value = { List (Form Bytes) };
+
+    ghost view = { λ r. map row_form r.items.items };
+}
+
+impl Rows {
+    /// These rows.
+    pub fn from_vec(items: Vec<Row>) -> Rows
+        ensures { result ≡ map row_form items.items }
+    {
+        Rows { items }
+    }
+
+    /// The rows in order.
+    pub fn as_slice(&self) -> &[Row]
+        ensures { map row_form result.now ≡ self.now }
+    {
+        self.items.as_slice()
+    }
+
+    /// The rows, given back.
+    pub fn into_vec(self) -> Vec<Row>
+        ensures { map row_form result.items ≡ self }
+    {
+        self.items
+    }
+}
+
+/// Rows whose links are places, the places of the roots, and the number of code bits kept.
+#[derive(Drop)]
+pub struct Pool {
+    pub bits: u32,
+    pub rows: Rows,
+    pub roots: Places,
+}
