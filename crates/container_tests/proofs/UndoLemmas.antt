@@ -4,22 +4,24 @@ use Rattle.std.specs.Prelude.{IsSome, take, slice_get}
 use Rattle.std.specs.List.{All}
 use Rattle.std.proofs.Math.ListN.{get_or}
 use Rattle.std.proofs.lemmas.List.{take_all, take_more}
-use Rattle.std.proofs.lemmas.List.Elements.{All-append, All-cons, All-nil, All-take}
+use Rattle.std.proofs.lemmas.List.Elements.{All-append, All-cons, All-nil, All-take, All-head}
 use Rattle.std.proofs.lemmas.Option.{slice_get_within, get_or_from_slice_get}
 use Rattle.std.specs.declared.cmp.Ordering.{Ordering}
 use Rattle.elem_core.specs.declared.codes.TheConstants.{CODE_BITS}
-use Rattle.node_heap.specs.Heap.{Heap, row_at, holds_at, hold_count, one_at, IsGraph}
-use Rattle.node_heap.specs.Calls.{Builds, Extends, Releases, Unchanged}
-use Rattle.node_heap.proofs.Frames.{KeepsBelow-Releases, Extends-Unchanged}
+use Rattle.node_heap.specs.Links.{Reaches}
+use Rattle.node_heap.specs.Forms.{cell}
+use Rattle.node_heap.specs.Heap.{Heap, row_at, links_at, holds_at, hold_count, one_at, IsGraph}
+use Rattle.node_heap.specs.Calls.{Builds, Extends, KeepsBelow, Releases, Unchanged}
+use Rattle.node_heap.proofs.Frames.{KeepsBelow-Releases, Extends-Unchanged, Extends-row}
 use Rattle.rrb_core.specs.Vector.{elements, height_at, IsGoodVector}
 use Rattle.rrb_core.proofs.LinkCounts.{one-same}
 use Rattle.rrb_core.proofs.Stays.{well-live, seq-live, vector-stays}
 use Rattle.champ_kinds.specs.Root.{Root}
-use Rattle.champ_kinds.specs.Binding.{Binding}
+use Rattle.champ_kinds.specs.Binding.{Binding, binding, kept_key, unbind, bind}
 use Rattle.champ_kinds.specs.Kinds.{IsMapOf}
-use Rattle.champ_kinds.proofs.StayLemmas.{container-stays, containers-extended}
+use Rattle.champ_kinds.proofs.StayLemmas.{container-stays, containers-extended, map-live, map-reaches}
 use Rattle.container_tests.specs.Stands.{IsSomeMap}
-use Rattle.container_tests.specs.Undo.{IsStore, KeepsOthers, held_by, version_at}
+use Rattle.container_tests.specs.Undo.{IsStore, KeepsOthers, KeepsVersions, HasWritten, held_by, version_at}
 use Rattle.container_tests.specs.declared.store.Store.{Store}
 use Rattle.container_tests.proofs.GainLemmas.{Gained, shared-holds}
 
@@ -150,6 +152,32 @@ module _ {T : Type 0} (cmp : T → T → Ordering) (code : T → ℕ) where
     count = omega (arith, first.count, second.count);
     maps = λ r M held is. second.maps r M (omega (arith, held, first.holds r.root)) (first.maps r M held is);
   }
+
+  -- the versions of a store where every row stays
+  pub versions-kept : {a b : Heap T} (s : Store) → Extends a b → KeepsVersions cmp code a b s
+  versions-kept {a} {b} s extends = λ k d inside M is. (containers-extended a b extends _).map cmp code M is
+
+  -- and where rows were added, and then no row but what is gone has changed
+  pub versions-turned : {a b c : Heap T} (s : Store) → Extends a b → ((l : ℕ) → IsSome (row_at c l) → KeepsBelow b c l) → IsGraph c → IsStore cmp code c s → KeepsVersions cmp code a c s
+  versions-turned {a} {b} {c} s extends below graph store =
+      let first : ℕ = s.notes.root in
+      let second : ℕ = s.earlier in
+      let Live = λ (l : ℕ). IsSome (row_at c l) in
+      let last : IsSome (row_at c first) = map-live c s.notes first refl store.notes.1 in
+      let live : All Live (elements c second ++ first ∷ []) = All-append Live (elements c second) (first ∷ []) (seq-live c graph (height_at c second) second) (All-cons Live first [] last (All-nil Live)) in
+      λ k d inside M is. (container-stays b c _ (below _ (live k d inside))).map cmp code M ((containers-extended a b extends _).map cmp code M is)
+
+  -- a note that was put reads as it was made
+  pub written : {b c d : Heap T} (r : Root) (M : List (Binding T)) (name note : T) (l : ℕ) → row_at b l ≡ Some (cell note) → Extends b c → IsMapOf cmp code c r (bind cmp M name l)
+      → ((k : ℕ) → IsSome (row_at d k) → KeepsBelow c d k) → IsSome (row_at d r.root) → HasWritten cmp code d r M name note
+  written {b} {c} {d} r M name note l here extends map below live =
+      let keeps = below r.root live in
+      let down : Reaches (links_at c) r.root l = All-head (λ (x : Binding T). Reaches (links_at c) r.root x.value) (binding (kept_key cmp name M) l) (unbind cmp name M) (map-reaches cmp code c r (bind cmp M name l) map) in
+      record {
+        link = l;
+        note_cell = keeps l down ∙ (Extends-row extends l (rw here refl) ∙ here);
+        map = (container-stays c d r keeps).map cmp code (bind cmp M name l) map;
+      }
 
   -- a map that is held beside a store
   pub record IsBeside (h : Heap T) (s : Store) (r : Root) : Type 0 where

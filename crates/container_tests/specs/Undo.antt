@@ -1,12 +1,13 @@
 -- What a store of notes promises.
-use Rattle.std.specs.Prelude.{◌≡◌, ◌+◌, ◌<◌, ◌≤◌, ℕ, List}
+use Rattle.std.specs.Prelude.{◌≡◌, ◌+◌, ◌<◌, ◌≤◌, ℕ, List, [], ◌∷◌, ◌++◌, Some}
 use Rattle.std.specs.List.{All}
 use Rattle.std.specs.declared.cmp.Ordering.{Ordering}
 use Rattle.elem_core.specs.declared.codes.TheConstants.{CODE_BITS}
-use Rattle.node_heap.specs.Heap.{Heap, holds_at, hold_count, one_at}
+use Rattle.node_heap.specs.Forms.{cell}
+use Rattle.node_heap.specs.Heap.{Heap, row_at, holds_at, hold_count, one_at}
 use Rattle.rrb_core.specs.Vector.{elements, IsGoodVector}
 use Rattle.champ_kinds.specs.Root.{Root}
-use Rattle.champ_kinds.specs.Binding.{Binding}
+use Rattle.champ_kinds.specs.Binding.{Binding, bind}
 use Rattle.champ_kinds.specs.Kinds.{IsMapOf}
 use Rattle.container_tests.specs.Stands.{IsSomeMap}
 use Rattle.container_tests.specs.declared.store.Store.{Store}
@@ -33,3 +34,13 @@ module _ {T : Type 0} (cmp : T → T → Ordering) (code : T → ℕ) where
     pub holds : (k : ℕ) → holds_at new k + held_by s k ≡ holds_at old k + held_by s' k
     pub count : hold_count new ≡ hold_count old
     pub maps : (r : Root) (M : List (Binding T)) → held_by s r.root < holds_at old r.root → IsMapOf cmp code old r M → IsMapOf cmp code new r M
+
+  -- the root is the map of these bindings with a cell of this note at the name
+  pub record HasWritten (h : Heap T) (r : Root) (M : List (Binding T)) (name note : T) : Type 0 where
+    pub link : ℕ
+    pub note_cell : row_at h link ≡ Some (cell note)
+    pub map : IsMapOf cmp code h r (bind cmp M name link)
+
+  -- each version in the history is the map that it was, and so are the notes where they were a map before
+  abbrev pub KeepsVersions : Heap T → Heap T → Store → Type 0
+  KeepsVersions old new s = All (λ l. (M : List (Binding T)) → IsMapOf cmp code old (version_at l) M → IsMapOf cmp code new (version_at l) M) (elements new s.earlier ++ s.notes.root ∷ [])

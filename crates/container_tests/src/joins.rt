@@ -1,10 +1,10 @@
 //! Joins and cuts of vectors of numbers, beside those of lists.
-ghost use Rattle.std.specs.Prelude.{◌≡◌, ◌+◌, ◌^◌, ◌<◌, ◌≤◌, length, IfOk, OnOk, IsSome};
+ghost use Rattle.std.specs.Prelude.{◌≡◌, ◌+◌, ◌^◌, ◌<◌, ◌≤◌, length, vec_len, IfOk, OnOk, IsSome};
 ghost use Rattle.node_heap.specs.Heap.{row_at, holds_at, hold_count};
 ghost use Rattle.rrb_core.specs.Vector.{IsGoodVector};
 ghost use Rattle.container_tests.specs.Stands.{KeepsVectors, GivesBack};
 
-use crate::samples::pushed;
+use crate::samples::{pushed, pushed_all};
 use elem_core::Num;
 use node_heap::{Heap, Link};
 use rrb_core::{Flex, FlexRef};
@@ -236,19 +236,29 @@ fn cuts_as_the_list(
     Ok(())
 }
 
+// The numbers from 0 to below this one.
+fn numbers_to(alloc: Global, to: u32) -> Result<Vec<u32>, Fail>
+    ensures { IfOk result (λ v. vec_len v ≡ to) }
+{
+    let mut numbers = Vec::new(alloc);
+    for number in 0..to {
+        numbers.push(number)?;
+    }
+    Ok(numbers)
+}
+
 // Parts of a vector of 2,000 numbers, each joined to it on either side, with a number more at each end and without the middle
 // third. All hold what the same of a list holds, and leave no row behind once they are given up.
 #[test]
 fn cuts_and_joins_as_lists_do(rt: HostRuntime) -> Result<(), Fail> {
     let mut heap: Heap<Num> = Heap::new(rt.alloc());
-    let mut numbers: Vec<u32> = Vec::new(rt.alloc());
-    let mut root = Flex::empty(&mut heap)?.into_root();
-    'pushes: for number in 0..2_000u32 {
-        root = pushed(&mut heap, root, number)?;
-        numbers.push(number)?;
-    }
+    let numbers = numbers_to(rt.alloc(), 2_000)?;
+    let empty = Flex::empty(&mut heap)?.into_root();
+    let most = pushed_all(&mut heap, empty, 0, 1_999)?;
+    // The contract of this call tells that its root is held.
+    let root = pushed(&mut heap, most, 1_999)?;
     let live = heap.live();
-    'cuts: for step in 0..28u32 {
+    for step in 0..28u32 {
         let from = 37 * step;
         cuts_as_the_list(rt.alloc(), &mut heap, root, &numbers, from, 2_000 - from)?;
         assert_eq!(rt; heap.live(), live);

@@ -1,5 +1,5 @@
 //! Maps and sets of numbers and of texts, each in one heap.
-ghost use Rattle.std.specs.Prelude.{◌≡◌, ◌+◌, ◌<◌, ◌^◌, length, IsSome, IfOk};
+ghost use Rattle.std.specs.Prelude.{◌≡◌, ◌+◌, ◌<◌, ◌≤◌, ◌^◌, length, IsSome, IfOk};
 ghost use Rattle.node_heap.specs.Heap.{row_at, hold_count};
 ghost use Rattle.container_tests.specs.Stands.{IsSomeMap, IsSomeSet, KeepsMaps, KeepsSets};
 
@@ -8,7 +8,7 @@ use champ_kinds::{
     Map, MapRef, Set, SetRef, containers_stay, map_insert, map_remove, maps_follow_contents,
     set_insert, set_remove, sets_follow_contents,
 };
-use elem_core::{Element, Name, NoMemory, Num, Probe, Text};
+use elem_core::{CODE_BITS, Element, Name, NoMemory, Num, Probe, Text};
 use node_heap::{Head, Heap, Link};
 use std::alloc::Global;
 use std::process::Abort;
@@ -157,37 +157,19 @@ fn same_tree(heap: &Heap<Num>, left: Link, right: Link, levels: u32) -> bool
     true
 }
 
-// Keys with one masked code stand in a chain, and when one is left its tree is that of the map with this key alone.
-#[test]
-fn comes_back_to_one_entry(rt: HostRuntime) -> Result<(), Fail> {
-    let mut heap: Heap<Num> = Heap::new(rt.alloc());
-    let none = kept(Map::empty(&mut heap, 5)?);
-    let one = bound(&mut heap, none, Num(1), Num(1))?;
-    let two = bound(&mut heap, one, Num(33), Num(33))?;
-    let three = bound(&mut heap, two, Num(65), Num(65))?;
-    assert_eq!(rt; three.len(&heap), 3);
-    assert_eq!(rt; three.alike(&heap, &Num(97)), 3);
-    assert!(rt; !same_tree(&heap, one.root(), three.root(), 20));
+// Whether so many keys stand in a chain below seven trie rows, and share the masked code of this key.
+fn is_chain_of<T: Element, P: Probe<T>>(heap: &Heap<T>, map: MapRef, key: &P, number: usize) -> bool
+    requires { IsSomeMap T.cmp T.code_of heap.now map }
+{
     let lowest = Shape::Trie {
         depth: 6,
         entries: 0,
         nodes: 1,
     };
-    assert!(rt; shape_below(&heap, three.root(), 6) == Some(lowest));
-    assert!(rt; shape_below(&heap, three.root(), 7) == Some(Shape::Chain));
-    let less = unbound(&mut heap, three, &Num(33))?;
-    assert_eq!(rt; less.len(&heap), 2);
-    let last = unbound(&mut heap, less, &Num(65))?;
-    assert_eq!(rt; last.len(&heap), 1);
-    assert!(rt; same_tree(&heap, one.root(), last.root(), 20));
-    let alone = Shape::Trie {
-        depth: 0,
-        entries: 1 << 1,
-        nodes: 0,
-    };
-    assert!(rt; shape_of(&heap, last.root()) == alone);
-    assert_eq!(rt; three.len(&heap), 3);
-    Ok(())
+    map.len(heap) == number
+        && map.alike(heap, key) == number
+        && shape_below(heap, map.root(), 6) == Some(lowest)
+        && shape_below(heap, map.root(), 7) == Some(Shape::Chain)
 }
 
 // The map with each of the keys in turn, bound to itself.
@@ -207,6 +189,39 @@ fn bound_all<T: Element + Copy>(
         map = bound(heap, map, *key, *key)?;
     }
     Ok(map)
+}
+
+// Keys with one masked code stand in a chain, and when one is left its tree is that of the map with this key alone.
+#[test]
+fn comes_back_to_one_entry(rt: HostRuntime) -> Result<(), Fail> {
+    let mut heap: Heap<Num> = Heap::new(rt.alloc());
+    let none = kept(Map::empty(&mut heap, 5)?);
+    let one = bound(&mut heap, none, Num(1), Num(1))?;
+    let three = bound_all(&mut heap, one, &[Num(33), Num(65)])?;
+    assert!(rt; is_chain_of(&heap, three, &Num(97), 3));
+    assert!(rt; !same_tree(&heap, one.root(), three.root(), 20));
+    let less = unbound(&mut heap, three, &Num(33))?;
+    assert!(rt; is_chain_of(&heap, less, &Num(97), 2));
+    let last = unbound(&mut heap, less, &Num(65))?;
+    assert_eq!(rt; last.len(&heap), 1);
+    assert!(rt; same_tree(&heap, one.root(), last.root(), 20));
+    assert!(rt; is_chain_of(&heap, three, &Num(97), 3));
+    Ok(())
+}
+
+// A map of one key is its root alone.
+#[test]
+fn keeps_one_entry_in_the_root(rt: HostRuntime) -> Result<(), Fail> {
+    let mut heap: Heap<Num> = Heap::new(rt.alloc());
+    let none = kept(Map::empty(&mut heap, 5)?);
+    let one = bound(&mut heap, none, Num(1), Num(1))?;
+    let alone = Shape::Trie {
+        depth: 0,
+        entries: 1 << 1,
+        nodes: 0,
+    };
+    assert!(rt; shape_of(&heap, one.root()) == alone);
+    Ok(())
 }
 
 #[test]
@@ -230,18 +245,35 @@ fn two_orders_give_one_tree(rt: HostRuntime) -> Result<(), Fail> {
     Ok(())
 }
 
+// A set of two keys.
+fn set_of<T: Element>(heap: &mut Heap<T>, bits: u32, a: T, b: T) -> Result<SetRef, NoMemory>
+    requires bits { bits ≤ CODE_BITS }
+    requires few { hold_count heap.old < 2 ^ 40 }
+    ensures good { IfOk result (IsSomeSet T.cmp T.code_of heap.new) }
+    ensures few { IfOk result (λ _. hold_count heap.new ≡ hold_count heap.old + 3) }
+{
+    let none = kept_set(Set::empty(heap, bits)?);
+    let one = gained(heap, none, a)?;
+    gained(heap, one, b)
+}
+
 // Two numbers with one masked code are two keys of a set.
 #[test]
 fn keeps_numbers(rt: HostRuntime) -> Result<(), Fail> {
     let mut heap: Heap<Num> = Heap::new(rt.alloc());
-    let none = kept_set(Set::empty(&mut heap, 5)?);
-    let one = gained(&mut heap, none, Num(1))?;
-    let two = gained(&mut heap, one, Num(33))?;
+    let two = set_of(&mut heap, 5, Num(1), Num(33))?;
     assert_eq!(rt; two.len(&heap), 2);
     assert!(rt; two.has(&heap, &Num(33)));
     assert!(rt; !two.has(&heap, &Num(65)));
     assert_eq!(rt; two.alike(&heap, &Num(65)), 2);
     assert_eq!(rt; two.members(&heap).count(), 2);
+    Ok(())
+}
+
+#[test]
+fn loses_a_number(rt: HostRuntime) -> Result<(), Fail> {
+    let mut heap: Heap<Num> = Heap::new(rt.alloc());
+    let two = set_of(&mut heap, 5, Num(1), Num(33))?;
     let less = lost(&mut heap, two, &Num(1))?;
     assert!(rt; !less.has(&heap, &Num(1)));
     assert!(rt; less.has(&heap, &Num(33)));
@@ -252,15 +284,22 @@ fn keeps_numbers(rt: HostRuntime) -> Result<(), Fail> {
 #[test]
 fn keeps_names(rt: HostRuntime) -> Result<(), Fail> {
     let mut heap: Heap<Text> = Heap::new(rt.alloc());
-    let none = kept_set(Set::empty(&mut heap, 32)?);
-    let one = gained(&mut heap, none, text(&rt, "z")?)?;
-    let two = gained(&mut heap, one, text(&rt, "b")?)?;
+    let two = set_of(&mut heap, 32, text(&rt, "z")?, text(&rt, "b")?)?;
     let same = gained(&mut heap, two, text(&rt, "z")?)?;
     assert!(rt; same.root() == two.root());
     let name = Name::new("z").ok_or("name")?;
-    assert_eq!(rt; two.len(&heap), 2);
-    assert!(rt; two.has(&heap, &name));
-    assert_eq!(rt; two.alike(&heap, &name), 1);
+    assert_eq!(rt; same.len(&heap), 2);
+    assert!(rt; same.has(&heap, &name));
+    assert_eq!(rt; same.alike(&heap, &name), 1);
+    assert_eq!(rt; same.members(&heap).count(), 2);
+    Ok(())
+}
+
+#[test]
+fn loses_a_name(rt: HostRuntime) -> Result<(), Fail> {
+    let mut heap: Heap<Text> = Heap::new(rt.alloc());
+    let two = set_of(&mut heap, 32, text(&rt, "z")?, text(&rt, "b")?)?;
+    let name = Name::new("z").ok_or("name")?;
     let less = lost(&mut heap, two, &name)?;
     assert!(rt; !less.has(&heap, &name));
     assert_eq!(rt; less.members(&heap).count(), 1);
@@ -291,17 +330,34 @@ fn keeps_values_by_name(rt: HostRuntime) -> Result<(), Fail> {
     let mut heap: Heap<Text> = Heap::new(rt.alloc());
     let none = kept(Map::empty(&mut heap, 32)?);
     let old = bound(&mut heap, none, text(&rt, "k")?, text(&rt, "one")?)?;
-    let name = Name::new("k").ok_or("name")?;
     let new = bound(&mut heap, old, text(&rt, "k")?, text(&rt, "two")?)?;
+    let name = Name::new("k").ok_or("name")?;
     assert!(rt; is_bound(&heap, old, &name, &text(&rt, "one")?));
     assert!(rt; is_bound(&heap, new, &name, &text(&rt, "two")?));
-    // The old cell of the key stays.
+    assert_eq!(rt; new.alike(&heap, &name), 1);
+    Ok(())
+}
+
+#[test]
+fn keeps_the_cell_of_a_key(rt: HostRuntime) -> Result<(), Fail> {
+    let mut heap: Heap<Num> = Heap::new(rt.alloc());
+    let none = kept(Map::empty(&mut heap, 32)?);
+    let old = bound(&mut heap, none, Num(7), Num(1))?;
+    let new = bound(&mut heap, old, Num(7), Num(2))?;
     let cell = first_key(&heap, old);
     assert!(rt; cell.is_some() && first_key(&heap, new) == cell);
     assert_eq!(rt; new.entries(&heap).count(), 1);
     assert_eq!(rt; new.bits(), 32);
-    assert_eq!(rt; new.alike(&heap, &name), 1);
-    let less = unbound(&mut heap, new, &name)?;
+    Ok(())
+}
+
+#[test]
+fn loses_a_value_by_name(rt: HostRuntime) -> Result<(), Fail> {
+    let mut heap: Heap<Text> = Heap::new(rt.alloc());
+    let none = kept(Map::empty(&mut heap, 32)?);
+    let one = bound(&mut heap, none, text(&rt, "k")?, text(&rt, "one")?)?;
+    let name = Name::new("k").ok_or("name")?;
+    let less = unbound(&mut heap, one, &name)?;
     assert_eq!(rt; less.len(&heap), 0);
     assert!(rt; less.get(&heap, &name).is_none());
     Ok(())
@@ -319,12 +375,17 @@ fn keeps_values_by_number(rt: HostRuntime) -> Result<(), Fail> {
     Ok(())
 }
 
-// A map and a set are shared and given up.
-fn share_and_release<T: Element>(rt: &impl Abort, alloc: Global) -> Result<(), Fail> {
-    let mut heap: Heap<T> = Heap::new(alloc);
+// The laws of containers, at a heap without rows.
+fn call_laws<T: Element>(alloc: Global) {
+    let heap: Heap<T> = Heap::new(alloc);
     containers_stay(&heap);
     maps_follow_contents(&heap);
     sets_follow_contents(&heap);
+}
+
+// A map is shared and given up.
+fn share_and_release_map<T: Element>(rt: &impl Abort, alloc: Global) -> Result<(), Fail> {
+    let mut heap: Heap<T> = Heap::new(alloc);
     let map = Map::empty(&mut heap, 5)?;
     let again = map.share(&mut heap);
     map.release(&mut heap);
@@ -332,9 +393,16 @@ fn share_and_release<T: Element>(rt: &impl Abort, alloc: Global) -> Result<(), F
     let root = again.into_root();
     Map::from_root(root, 5).release(&mut heap);
     assert_eq!(rt; heap.live(), 0);
+    Ok(())
+}
+
+// A set is.
+fn share_and_release_set<T: Element>(rt: &impl Abort, alloc: Global) -> Result<(), Fail> {
+    let mut heap: Heap<T> = Heap::new(alloc);
     let set = Set::empty(&mut heap, 5)?;
     let again = set.share(&mut heap);
     set.release(&mut heap);
+    assert_eq!(rt; heap.live(), 1);
     assert_eq!(rt; SetRef::at(again.view().root(), 5).bits(), 5);
     let root = again.into_root();
     Set::from_root(root, 5).release(&mut heap);
@@ -344,12 +412,16 @@ fn share_and_release<T: Element>(rt: &impl Abort, alloc: Global) -> Result<(), F
 
 #[test]
 fn shares_and_releases(rt: HostRuntime) -> Result<(), Fail> {
-    share_and_release::<Num>(&rt, rt.alloc())?;
-    share_and_release::<Text>(&rt, rt.alloc())
+    call_laws::<Num>(rt.alloc());
+    call_laws::<Text>(rt.alloc());
+    share_and_release_map::<Num>(&rt, rt.alloc())?;
+    share_and_release_map::<Text>(&rt, rt.alloc())?;
+    share_and_release_set::<Num>(&rt, rt.alloc())?;
+    share_and_release_set::<Text>(&rt, rt.alloc())
 }
 
 // The codes of `a` and `A`, 0xE40C292C and 0xC40BF6CC, have the same low 5 bits. So by 5 bits they stand in a chain below seven
-// trie rows, `A` first, and the entry of `a` stays the one that it was.
+// trie rows.
 #[test]
 fn keeps_texts_in_a_chain(rt: HostRuntime) -> Result<(), Fail> {
     let mut heap: Heap<Text> = Heap::new(rt.alloc());
@@ -358,25 +430,28 @@ fn keeps_texts_in_a_chain(rt: HostRuntime) -> Result<(), Fail> {
     let both = bound(&mut heap, small, text(&rt, "A")?, text(&rt, "2")?)?;
     let lower = Name::new("a").ok_or("name")?;
     let upper = Name::new("A").ok_or("name")?;
-    assert_eq!(rt; both.len(&heap), 2);
-    assert_eq!(rt; both.alike(&heap, &lower), 2);
-    assert!(rt; is_bound(&heap, both, &lower, &text(&rt, "1")?));
-    assert!(rt; is_bound(&heap, both, &upper, &text(&rt, "2")?));
     let highest = Shape::Trie {
         depth: 0,
         entries: 0,
         nodes: 1 << 12,
     };
-    let lowest = Shape::Trie {
-        depth: 6,
-        entries: 0,
-        nodes: 1,
-    };
     assert!(rt; shape_of(&heap, both.root()) == highest);
-    assert!(rt; shape_below(&heap, both.root(), 6) == Some(lowest));
-    assert!(rt; shape_below(&heap, both.root(), 7) == Some(Shape::Chain));
+    assert!(rt; is_chain_of(&heap, both, &lower, 2));
+    assert!(rt; is_bound(&heap, both, &lower, &text(&rt, "1")?));
+    assert!(rt; is_bound(&heap, both, &upper, &text(&rt, "2")?));
+    Ok(())
+}
+
+// `A` comes first in the chain, and the entry of `a` stays the one that it was, there and when it is alone again.
+#[test]
+fn keeps_the_entry_of_a_text_in_a_chain(rt: HostRuntime) -> Result<(), Fail> {
+    let mut heap: Heap<Text> = Heap::new(rt.alloc());
+    let none = kept(Map::empty(&mut heap, 5)?);
+    let small = bound(&mut heap, none, text(&rt, "a")?, text(&rt, "1")?)?;
+    let both = bound(&mut heap, small, text(&rt, "A")?, text(&rt, "2")?)?;
     let there = small.entries(&heap).next();
     assert!(rt; there.is_some() && both.entries(&heap).last() == there);
+    let upper = Name::new("A").ok_or("name")?;
     let less = unbound(&mut heap, both, &upper)?;
     assert!(rt; shape_of(&heap, less.root()) == shape_of(&heap, small.root()));
     assert!(rt; less.entries(&heap).next() == there);

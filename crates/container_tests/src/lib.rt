@@ -13,10 +13,16 @@ mod kinds;
 #[cfg(test)]
 mod notes;
 #[cfg(test)]
+mod orders;
+#[cfg(test)]
+mod pools;
+#[cfg(test)]
 mod same_root;
 #[cfg(test)]
 mod samples;
 pub mod store;
+#[cfg(test)]
+mod sums;
 #[cfg(test)]
 mod tries;
 #[cfg(test)]

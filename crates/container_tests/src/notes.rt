@@ -1,11 +1,15 @@
 //! A store of notes, with two versions kept beside it.
+ghost use Rattle.std.specs.Prelude.{◌≡◌, ℕ, ◌+◌, ◌^◌, ◌<◌};
+ghost use Rattle.node_heap.specs.Heap.{holds_at, hold_count, one_at};
 ghost use Rattle.container_tests.specs.Stands.{IsSomeMap};
+ghost use Rattle.container_tests.specs.Undo.{IsStore, KeepsOthers, held_by};
 
 use crate::samples::text;
 use crate::store::Store;
-use champ_kinds::MapRef;
+use champ_kinds::{Map, MapRef};
 use elem_core::{Element, Name, Probe, Text};
 use node_heap::Heap;
+use std::process::Abort;
 use std::test::Fail;
 
 // Whether the note of this name is this one.
@@ -18,30 +22,68 @@ fn reads<T: Element, P: Probe<T>>(heap: &Heap<T>, notes: MapRef, name: &P, note:
     }
 }
 
+// Puts three notes, and keeps the versions after the first and after the second.
+fn put_three<T: Element>(
+    rt: &impl Abort,
+    heap: &mut Heap<T>,
+    store: &mut Store,
+    names: (T, T, T),
+    notes: (T, T, T),
+) -> (Map, Map)
+    requires few { hold_count heap.old < 2 ^ 40 }
+    requires store { IsStore T.cmp T.code_of heap.old store.old }
+    ensures store { IsStore T.cmp T.code_of heap.new store.new }
+    ensures one { IsSomeMap T.cmp T.code_of heap.new result.0 }
+    ensures two { IsSomeMap T.cmp T.code_of heap.new result.1 }
+    ensures holds { (k : ℕ) → holds_at heap.new k + held_by store.old k ≡ holds_at heap.old k + (held_by store.new k + (one_at result.0.root k + one_at result.1.root k)) }
+    ensures count { hold_count heap.new ≡ hold_count heap.old + 2 }
+{
+    store.put(heap, names.0, notes.0).expect(rt, "put");
+    let one = store.version(heap);
+    store.put(heap, names.1, notes.1).expect(rt, "put");
+    let two = store.version(heap);
+    store.put(heap, names.2, notes.2).expect(rt, "put");
+    (one, two)
+}
+
+// Goes back by two versions.
+fn undo_two<T: Element>(rt: &impl Abort, heap: &mut Heap<T>, store: &mut Store)
+    requires few { hold_count heap.old < 2 ^ 50 }
+    requires store { IsStore T.cmp T.code_of heap.old store.old }
+    ensures store { IsStore T.cmp T.code_of heap.new store.new }
+    ensures others { KeepsOthers T.cmp T.code_of heap.old heap.new store.old store.new }
+{
+    assert!(rt; store.undo(heap) == Ok(true));
+    assert!(rt; store.undo(heap) == Ok(true));
+}
+
+// Goes back by the one version that is left.
+fn undo_last<T: Element>(rt: &impl Abort, heap: &mut Heap<T>, store: &mut Store)
+    requires few { hold_count heap.old < 2 ^ 50 }
+    requires store { IsStore T.cmp T.code_of heap.old store.old }
+    ensures store { IsStore T.cmp T.code_of heap.new store.new }
+    ensures others { KeepsOthers T.cmp T.code_of heap.old heap.new store.old store.new }
+{
+    assert!(rt; store.undo(heap) == Ok(true));
+    assert_eq!(rt; store.notes.view().len(heap), 0);
+    assert!(rt; store.undo(heap) == Ok(false));
+}
+
 // A store can't be let go, so what may fail comes first, and then the test stops where a call is refused.
 #[test]
 fn keeps_two_versions(rt: HostRuntime) -> Result<(), Fail> {
     let milk = Name::new("milk").ok_or("name")?;
-    let name = text(&rt, "milk")?;
-    let again = text(&rt, "milk")?;
-    let bread = text(&rt, "bread")?;
+    let names = (text(&rt, "milk")?, text(&rt, "milk")?, text(&rt, "bread")?);
     let notes = (text(&rt, "one")?, text(&rt, "two")?, text(&rt, "rye")?);
     let read = (text(&rt, "one")?, text(&rt, "two")?);
     let mut heap: Heap<Text> = Heap::new(rt.alloc());
     let mut store = Store::new(&mut heap)?;
-    store.put(&mut heap, name, notes.0).expect(&rt, "put");
-    let one = store.version(&mut heap);
-    store.put(&mut heap, again, notes.1).expect(&rt, "put");
-    let two = store.version(&mut heap);
-    store.put(&mut heap, bread, notes.2).expect(&rt, "put");
-    assert!(rt; store.undo(&mut heap) == Ok(true));
-    assert!(rt; store.undo(&mut heap) == Ok(true));
+    let (one, two) = put_three(&rt, &mut heap, &mut store, names, notes);
+    undo_two(&rt, &mut heap, &mut store);
     assert!(rt; store.notes.view().root() == one.view().root());
     assert!(rt; reads(&heap, one.view(), &milk, &read.0));
     assert!(rt; reads(&heap, two.view(), &milk, &read.1));
-    assert!(rt; store.undo(&mut heap) == Ok(true));
-    assert_eq!(rt; store.notes.view().len(&heap), 0);
-    assert!(rt; store.undo(&mut heap) == Ok(false));
+    undo_last(&rt, &mut heap, &mut store);
     store.close(&mut heap);
     one.release(&mut heap);
     two.release(&mut heap);

@@ -51,3 +51,15 @@ pub fn number_at(heap: &Heap<Num>, root: Link, index: u32) -> Option<u32>
     let element = FlexRef::at(root).get(heap, index)?;
     heap.value(element).map(|number| number.0)
 }
+
+/// Whether the vector has the numbers from 0 to below this one, in order and no more.
+pub fn counts_to(heap: &Heap<Num>, root: Link, to: u32) -> bool
+    requires { IsGoodVector heap.now root }
+{
+    for index in 0..to {
+        if number_at(heap, root, index) != Some(index) {
+            return false;
+        }
+    }
+    FlexRef::at(root).len(heap) == to && number_at(heap, root, to).is_none()
+}

@@ -2,9 +2,9 @@
 //!
 //! The notes are a map. The history is a vector, and its elements are the roots of the maps that came before. Each edit
 //! makes a new map and a new vector beside the old ones and shares nearly all rows with them.
-ghost use Rattle.std.specs.Prelude.{◌≡◌, ℕ, ◌+◌, ◌^◌, ◌<◌, ◌≤◌, ◌↔◌, List, [], ◌∷◌, ◌++◌, Ok, true, false, IfOk, OnErr, OnOk};
-ghost use Rattle.node_heap.specs.Heap.{holds_at, hold_count};
-ghost use Rattle.node_heap.specs.Calls.{Builds};
+ghost use Rattle.std.specs.Prelude.{◌≡◌, ℕ, ◌+◌, ◌-◌, ◌^◌, ◌<◌, ◌≤◌, ◌↔◌, List, [], ◌∷◌, ◌++◌, length, Ok, Err, true, false, IsSome, IfOk, OnErr, OnOk};
+ghost use Rattle.node_heap.specs.Heap.{row_at, holds_at, hold_count, IsGraph};
+ghost use Rattle.node_heap.specs.Calls.{Builds, KeepsBelow};
 ghost use Rattle.rrb_core.specs.Vector.{elements};
 ghost use Rattle.champ_kinds.specs.Root.{Root};
 ghost use Rattle.champ_kinds.specs.Binding.{Binding};
@@ -26,14 +26,15 @@ pub struct Store {
 }
 
 impl Store {
-    ghost use Rattle.container_tests.specs.Undo.{IsStore, KeepsOthers, held_by};
+    ghost use Rattle.container_tests.specs.Undo.{IsStore, KeepsOthers, KeepsVersions, HasWritten, held_by};
 
-    /// A store without notes and without a history. Refused only where memory runs out.
+    /// A store without notes and without a history. Refused only where memory runs out, and then all holds are as they were.
     pub fn new<T: Element>(heap: &mut Heap<T>) -> Result<Store, NoMemory>
         requires { hold_count heap.old < 2 ^ 50 }
         ensures store { IfOk result (IsStore T.cmp T.code_of heap.new) }
         ensures first { IfOk result (λ s. elements heap.new s.earlier ≡ []) }
         ensures count { IfOk result (λ _. hold_count heap.new ≡ hold_count heap.old + 2) }
+        ensures refused { OnErr result ((k : ℕ) → holds_at heap.new k ≡ holds_at heap.old k) }
     {
         let notes = Map::empty(heap, CODE_BITS)?;
         match Flex::empty(heap) {
@@ -45,15 +46,18 @@ impl Store {
         }
     }
 
-    /// Puts this note at the name, and the version before into the history. Refused where memory runs out or the history
-    /// is full, and then the store is as it was.
+    /// Puts this note at the name, and the version before into the history. Refused with `Memory` where memory runs out, and
+    /// with `Long` only where the history has 2^32 - 1 versions, and then the store is as it was.
     pub fn put<T: Element>(&mut self, heap: &mut Heap<T>, name: T, note: T) -> Result<(), PushFault>
         requires few { hold_count heap.old < 2 ^ 50 }
         requires store { IsStore T.cmp T.code_of heap.old self.old }
         ensures store { IsStore T.cmp T.code_of heap.new self.new }
         ensures others { KeepsOthers T.cmp T.code_of heap.old heap.new self.old self.new }
+        ensures written { OnOk result ((M : List (Binding T)) → IsMapOf T.cmp T.code_of heap.old self.old.notes M → HasWritten T.cmp T.code_of heap.new self.new.notes M name note) }
         ensures kept { OnOk result (elements heap.new self.new.earlier ≡ elements heap.old self.old.earlier ++ self.old.notes.root ∷ []) }
+        ensures versions { KeepsVersions T.cmp T.code_of heap.old heap.new self.new }
         ensures refused { OnErr result (self.new ≡ self.old) }
+        ensures long { result ≡ Err PushFault.Long → length (elements heap.old self.old.earlier) ≡ 2 ^ 32 - 1 }
     {
         heap.reserve(1, 0)?;
         let note = heap.cell(note);
@@ -86,6 +90,7 @@ impl Store {
         ensures store { IsStore T.cmp T.code_of heap.new self.new }
         ensures others { KeepsOthers T.cmp T.code_of heap.old heap.new self.old self.new }
         ensures back { result ≡ Ok true → elements heap.new self.new.earlier ++ self.new.notes.root ∷ [] ≡ elements heap.old self.old.earlier }
+        ensures versions { KeepsVersions T.cmp T.code_of heap.old heap.new self.new }
         ensures first { (result ≡ Ok false) ↔ (elements heap.old self.old.earlier ≡ []) }
         ensures refused { OnErr result (self.new ≡ self.old) }
     {
@@ -133,6 +138,8 @@ impl Store {
         ensures items { elements heap.new earlier ≡ elements heap.old earlier }
         ensures holds { (k : ℕ) → holds_at heap.new k + held_by self.old k ≡ holds_at heap.old k }
         ensures count { hold_count heap.new + 2 ≡ hold_count heap.old }
+        ensures graph { IsGraph heap.new }
+        ensures below { (l : ℕ) → IsSome (row_at heap.new l) → KeepsBelow heap.old heap.new l }
         ensures maps { (r : Root) (M : List (Binding T)) → held_by self.old r.root < holds_at heap.old r.root →
             IsMapOf T.cmp T.code_of heap.old r M → IsMapOf T.cmp T.code_of heap.new r M }
     {

@@ -4,7 +4,7 @@ ghost use Rattle.node_heap.specs.Heap.{hold_count};
 ghost use Rattle.rrb_core.specs.Vector.{IsGoodVector};
 ghost use Rattle.container_tests.specs.Stands.{KeepsVectors};
 
-use crate::samples::{number_at, pushed, pushed_all};
+use crate::samples::{counts_to, number_at, pushed, pushed_all};
 use elem_core::{NoMemory, Num};
 use node_heap::{Heap, Link};
 use rrb_core::{Flex, FlexRef, SetFault, set, take, vectors_stay};
@@ -17,15 +17,8 @@ fn pushes_to_height_three(rt: HostRuntime) -> Result<(), Fail> {
     let early = pushed_all(&mut heap, empty, 0, 1024)?;
     let all = pushed_all(&mut heap, early, 1024, 32_769)?;
     assert_eq!(rt; FlexRef::at(all).height(&heap), 3);
-    assert_eq!(rt; FlexRef::at(all).len(&heap), 32_769);
-    for index in 0..32_769 {
-        assert_eq!(rt; number_at(&heap, all, index), Some(index));
-    }
-    assert_eq!(rt; number_at(&heap, all, 32_769), None);
-    assert_eq!(rt; FlexRef::at(early).len(&heap), 1024);
-    for index in 0..1024 {
-        assert_eq!(rt; number_at(&heap, early, index), Some(index));
-    }
+    assert!(rt; counts_to(&heap, all, 32_769));
+    assert!(rt; counts_to(&heap, early, 1024));
     let refused = set_number(&mut heap, all, 32_769, 7);
     assert!(rt; refused == Err(SetFault::Range));
     // No row was freed, so none was made in vain.
@@ -57,8 +50,8 @@ fn sets_within_the_length_alone(rt: HostRuntime) -> Result<(), Fail> {
     for index in 0..600 {
         let want = if index == 544 { 7 } else { index };
         assert_eq!(rt; number_at(&heap, changed, index), Some(want));
-        assert_eq!(rt; number_at(&heap, all, index), Some(index));
     }
+    assert!(rt; counts_to(&heap, all, 600));
     let refused = set_number(&mut heap, all, 600, 7);
     assert!(rt; refused == Err(SetFault::Range));
     // No row was freed, so none was made in vain.

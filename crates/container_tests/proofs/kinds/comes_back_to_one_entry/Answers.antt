@@ -3,29 +3,19 @@ use Rattle.container_tests.proofs.kinds.comes_back_to_one_entry.Goals as goal
 
 pub same_tree-requires-clause-left : goal.same_tree-requires-clause-left
 same_tree-requires-clause-left g c =
-    let one = c.in_ok-three.ensures.others c.in_ok-one.one (c.in_ok-two.ensures.others c.in_ok-one.one c.in_ok-one.ensures.good) in
-    map-live c.bound-3.new.heap c.in_ok-one.one c.root.result c.root.ensures one
+    map-live c.bound_all.new.heap c.in_ok-one.one c.root.result c.root.ensures (c.in_ok-three.ensures.others c.in_ok-one.one c.in_ok-one.ensures.good)
 
 pub same_tree-requires-clause-right : goal.same_tree-requires-clause-right
-same_tree-requires-clause-right g c = map-live c.bound-3.new.heap c.in_ok-three.three c.root-2.result c.root-2.ensures c.in_ok-three.ensures.good
-
-pub shape_below-requires : goal.shape_below-requires
-shape_below-requires g c = map-live c.bound-3.new.heap c.in_ok-three.three c.root-3.result c.root-3.ensures c.in_ok-three.ensures.good
-
-pub shape_below-requires-2 : goal.shape_below-requires-2
-shape_below-requires-2 g c = map-live c.bound-3.new.heap c.in_ok-three.three c.root-4.result c.root-4.ensures c.in_ok-three.ensures.good
+same_tree-requires-clause-right g c = map-live c.bound_all.new.heap c.in_ok-three.three c.root-2.result c.root-2.ensures c.in_ok-three.ensures.good
 
 pub same_tree-requires-2-clause-left : goal.same_tree-requires-2-clause-left
 same_tree-requires-2-clause-left g c =
-    let one = c.in_ok-three.ensures.others c.in_ok-one.one (c.in_ok-two.ensures.others c.in_ok-one.one c.in_ok-one.ensures.good) in
+    let one = c.in_ok-three.ensures.others c.in_ok-one.one c.in_ok-one.ensures.good in
     let later = c.in_ok-last.ensures.others c.in_ok-one.one (c.in_ok-less.ensures.others c.in_ok-one.one one) in
-    map-live c.unbound-2.new.heap c.in_ok-one.one c.root-5.result c.root-5.ensures later
+    map-live c.unbound-2.new.heap c.in_ok-one.one c.root-3.result c.root-3.ensures later
 
 pub same_tree-requires-2-clause-right : goal.same_tree-requires-2-clause-right
-same_tree-requires-2-clause-right g c = map-live c.unbound-2.new.heap c.in_ok-last.last c.root-6.result c.root-6.ensures c.in_ok-last.ensures.good
+same_tree-requires-2-clause-right g c = map-live c.unbound-2.new.heap c.in_ok-last.last c.root-4.result c.root-4.ensures c.in_ok-last.ensures.good
 
-pub shape_of-requires : goal.shape_of-requires
-shape_of-requires g c = map-live c.unbound-2.new.heap c.in_ok-last.last c.root-7.result c.root-7.ensures c.in_ok-last.ensures.good
-
-pub len-requires-4 : goal.len-requires-4
-len-requires-4 g c = c.in_ok-last.ensures.others c.in_ok-three.three (c.in_ok-less.ensures.others c.in_ok-three.three c.in_ok-three.ensures.good)
+pub is_chain_of-requires-3 : goal.is_chain_of-requires-3
+is_chain_of-requires-3 g c = c.in_ok-last.ensures.others c.in_ok-three.three (c.in_ok-less.ensures.others c.in_ok-three.three c.in_ok-three.ensures.good)

@@ -3,20 +3,3 @@ use Rattle.container_tests.proofs.kinds.keeps_texts_in_a_chain.Goals as goal
 
 pub shape_of-requires : goal.shape_of-requires
 shape_of-requires g c = map-live c.bound-2.new.heap c.in_ok-both.both c.root.result c.root.ensures c.in_ok-both.ensures.good
-
-pub shape_below-requires : goal.shape_below-requires
-shape_below-requires g c = map-live c.bound-2.new.heap c.in_ok-both.both c.root-2.result c.root-2.ensures c.in_ok-both.ensures.good
-
-pub shape_below-requires-2 : goal.shape_below-requires-2
-shape_below-requires-2 g c = map-live c.bound-2.new.heap c.in_ok-both.both c.root-3.result c.root-3.ensures c.in_ok-both.ensures.good
-
-pub entries-requires : goal.entries-requires
-entries-requires g c = c.in_ok-both.ensures.others c.in_ok-small.small c.in_ok-small.ensures.good
-
-pub shape_of-requires-2 : goal.shape_of-requires-2
-shape_of-requires-2 g c = map-live c.unbound.new.heap c.in_ok-less.less c.root-4.result c.root-4.ensures c.in_ok-less.ensures.good
-
-pub shape_of-requires-3 : goal.shape_of-requires-3
-shape_of-requires-3 g c =
-    let small = c.in_ok-both.ensures.others c.in_ok-small.small c.in_ok-small.ensures.good in
-    map-live c.unbound.new.heap c.in_ok-small.small c.root-5.result c.root-5.ensures (c.in_ok-less.ensures.others c.in_ok-small.small small)

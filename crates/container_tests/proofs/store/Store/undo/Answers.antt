@@ -1,11 +1,11 @@
 use Rattle.std.proofs.Common.{◌≡◌, ◌+◌, ◌-◌, ◌∙◌, ℕ, ap, sym, arith}
 use Rattle.std.specs.Prelude.{take}
 use Rattle.node_heap.specs.Heap.{holds_at, hold_count, one_at}
-use Rattle.node_heap.proofs.Frames.{Extends-trans}
+use Rattle.node_heap.proofs.Frames.{Extends-trans, Extends-Unchanged}
 use Rattle.rrb_core.specs.Vector.{elements, height_at}
 use Rattle.rrb_core.proofs.Stays.{well-live, vector-stays}
 use Rattle.champ_kinds.specs.Root.{Root}
-use Rattle.container_tests.proofs.UndoLemmas.{store-refused, others-refused, others-turned, undone, front-last}
+use Rattle.container_tests.proofs.UndoLemmas.{store-refused, others-refused, others-turned, undone, front-last, versions-kept, versions-turned}
 use Rattle.container_tests.proofs.store.Store.undo.Goals as goal
 
 pub returns-in_err-earlier-clause-store : goal.returns-in_err-earlier-clause-store
@@ -13,6 +13,13 @@ returns-in_err-earlier-clause-store g c = store-refused g.T.Ord.cmp g.T.Element.
 
 pub returns-in_err-earlier-clause-others : goal.returns-in_err-earlier-clause-others
 returns-in_err-earlier-clause-others g c = others-refused g.T.Ord.cmp g.T.Element.code_of c.args.self.now c.in_err-earlier.ensures.refused
+
+pub returns-in_err-earlier-clause-versions : goal.returns-in_err-earlier-clause-versions
+returns-in_err-earlier-clause-versions g c = versions-kept g.T.Ord.cmp g.T.Element.code_of c.args.self.now (Extends-Unchanged c.in_err-earlier.ensures.refused)
+
+pub returns-clause-versions : goal.returns-clause-versions
+returns-clause-versions g c =
+    versions-turned g.T.Ord.cmp g.T.Element.code_of _ (Extends-trans {new = c.hold.new.self} c.in_ok-earlier.ensures.answered.extends c.hold.ensures.extends) c.turn_to.ensures.below c.turn_to.ensures.graph c.turn_to.ensures.store
 
 pub turn_to-requires-clause-store : goal.turn_to-requires-clause-store
 turn_to-requires-clause-store g c =

@@ -1,0 +1,61 @@
+//! Pools and their documents.
+use crate::samples::text;
+use elem_core::Text;
+use node_heap::{Head, Heap};
+use pool_order::order;
+use pool_text::{Places, Pool, PoolText, Row, Rows, pool_of, text_length, to_bytes, to_json};
+use std::test::Fail;
+
+// A leaf of one cell, twice among the roots.
+#[test]
+fn gathers_a_leaf_with_its_cell(rt: HostRuntime) -> Result<(), Fail> {
+    let mut heap: Heap<Text> = Heap::new(rt.alloc());
+    heap.reserve(1, 1)?;
+    let cell = heap.cell(text(&rt, "x")?);
+    let leaf = heap.node(Head::Leaf, &[cell]);
+    let roots = [leaf, leaf];
+    let listed = order(rt.alloc(), &heap, &roots)?;
+    let pool = pool_of(rt.alloc(), &heap, &listed, &roots, 5)?;
+    let bytes = to_bytes(rt.alloc(), &pool)?;
+    let expected =
+        b"{\"bits\":5,\"format\":\"ewig-pool\",\"roots\":[1,1],\"rows\":[[\"c\",\"x\"],[\"l\",[0]]],\"version\":1}";
+    assert_eq!(rt; bytes.as_slice(), expected.as_slice());
+    Ok(())
+}
+
+// A pool with a row of each kind.
+fn rows_of_each_kind(rt: &HostRuntime) -> Result<Pool, Fail> {
+    let alloc = rt.alloc();
+    let quotes = String::from_str(alloc, "a\"b\\c\td\u{1}\u{e9}")?;
+    let mut rows = Vec::new(alloc);
+    rows.push(Row::Cell(PoolText::from_text(quotes)))?;
+    rows.push(Row::Leaf(Places::from_vec(Vec::new(alloc))))?;
+    rows.push(Row::Inner(1, Places::from_vec(vec![in alloc; 1]?)))?;
+    rows.push(Row::Trie {
+        depth: 0,
+        entries: 4096,
+        nodes: 0,
+        links: Places::from_vec(vec![in alloc; 0]?),
+    })?;
+    rows.push(Row::Chain(Places::from_vec(vec![in alloc; 0, 10]?)))?;
+    rows.push(Row::Pair(0, 1))?;
+    rows.push(Row::State(3, 18446744073709551615))?;
+    Ok(Pool {
+        bits: 32,
+        rows: Rows::from_vec(rows),
+        roots: Places::from_vec(vec![in alloc; 6, 3, 2, 1]?),
+    })
+}
+
+#[test]
+fn writes_rows_of_each_kind(rt: HostRuntime) -> Result<(), Fail> {
+    let pool = rows_of_each_kind(&rt)?;
+    let bytes = to_bytes(rt.alloc(), &pool)?;
+    let expected =
+        "{\"bits\":32,\"format\":\"ewig-pool\",\"roots\":[6,3,2,1],\"rows\":[[\"c\",\"a\\\"b\\\\c\\td\\u0001\u{e9}\"],[\"l\",[]],[\"i\",1,[1]],[\"m\",0,4096,0,[0]],[\"k\",[0,10]],[\"p\",[0,1]],[\"s\",[3,18446744073709551615]]],\"version\":1}";
+    assert_eq!(rt; bytes.as_slice(), expected.as_bytes());
+    assert_eq!(rt; text_length(&pool), bytes.len() as u64);
+    let value = to_json(rt.alloc(), &pool)?;
+    assert_eq!(rt; value.to_string(rt.alloc())?.as_str(), expected);
+    Ok(())
+}
