@@ -444,6 +444,11 @@ returns-in-Some-clause-turns g c = turns g c
 
 pub returns-in-Some-clause-held : goal.returns-in-Some-clause-held
 returns-in-Some-clause-held g c = turns-held (turns g c) c.requires.held
+
+pub returns-in-Some-clause-count : goal.returns-in-Some-clause-count
+returns-in-Some-clause-count g c =
+    let answered = rw c.in-Some.is at (c.in_ok-left.ensures.answered c.requires.good.0 c.requires.good.1) in
+    omega (arith, answered.count, c.moved.ensures.count)
 PROOF
 for function in inserts removes; do
     cat > "$crate/proofs/$function/Invariants.antt" <<PROOF
@@ -460,6 +465,19 @@ invariant-loop-turn g l =
       turns : Turns l.fn.heap l.heap l.fn.map.root l.top.root;
       count : hold_count l.heap ≡ hold_count l.fn.heap;
     }
+PROOF
+    cat > "$crate/proofs/$function/Answers.antt" <<PROOF
+use Rattle.std.proofs.Common.{arith, ◌∙◌}
+use Rattle.map_rows.proofs.Turn.{turns-then}
+use Rattle.map_rows.proofs.$function.Goals as goal
+
+pub loop-turn-preserved : goal.loop-turn-preserved
+loop-turn-preserved g c = record {
+  good = c.in_ok-top.ensures.good;
+  held = c.in_ok-top.ensures.held;
+  turns = turns-then c.loop-turn.invariant.turns c.in_ok-top.ensures.turns;
+  count = c.in_ok-top.ensures.count ∙ c.loop-turn.invariant.count;
+}
 PROOF
 done
 
