@@ -9,7 +9,7 @@ use Rattle.node_heap.proofs.Counts.{test_same, test_other, count-cons}
 use Rattle.pool_order.specs.declared.walk.Visit.{Visit}
 use Rattle.pool_order.specs.Order.{with_new, with_all_new, firsts, places}
 use Rattle.pool_order.specs.Laws.{IsReady}
-use Rattle.pool_order.specs.Walk.{below_visit, pending, steps_left, AreThere, IsWalk}
+use Rattle.pool_order.proofs.Pending.{below_visit, pending, steps_left, AreThere, IsWalk}
 use Rattle.pool_order.proofs.Firsts.{with_new-cases, with_all-append, with_all-absorbs}
 use Rattle.pool_order.proofs.Places.{places-is, places-reached}
 use Rattle.pool_order.proofs.Grounded.{IsGrounded}

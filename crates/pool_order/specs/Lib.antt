@@ -1,4 +1,3 @@
 pub mod Order
 pub mod Laws
-pub mod Walk
 pub mod Worked

@@ -2,7 +2,7 @@ use Rattle.std.proofs.Common.{◌<◌, length, sym, ◌∙◌, arith}
 use Rattle.node_heap.specs.Heap.{links_at}
 use Rattle.pool_order.specs.Order.{places, with_all_new}
 use Rattle.pool_order.specs.Laws.{IsReady}
-use Rattle.pool_order.specs.Walk.{steps_left}
+use Rattle.pool_order.proofs.Pending.{steps_left}
 use Rattle.pool_order.proofs.Firsts.{count-from_any}
 use Rattle.pool_order.proofs.Places.{ready-places}
 use Rattle.pool_order.proofs.Grounded.{grounded}

@@ -2,7 +2,7 @@ use Rattle.std.proofs.Common.{length}
 use Rattle.std.specs.Prelude.{IsSome}
 use Rattle.node_heap.specs.Heap.{row_at, links_at}
 use Rattle.pool_order.specs.Order.{places, with_all_new}
-use Rattle.pool_order.specs.Walk.{IsWalk, steps_left}
+use Rattle.pool_order.proofs.Pending.{IsWalk, steps_left}
 use Rattle.pool_order.proofs.walk.walk.Given as goal
 
 abbrev pub invariant-loop-visit : goal.invariant-loop-visit
