@@ -1,7 +1,7 @@
 -- Faults are counted over one call after another.
 use Rattle.std.proofs.Common.{ℕ, ◌<◌, arith, ◌∙◌, refl, inl, inr}
 use Rattle.std.proofs.lemmas.Bool.{cases_lt}
-use Rattle.shell_io.specs.Fault.{last_count, CountsFaults, Pulls}
+use Rattle.shell_io.specs.Fault.{last_count, CountsFaults, Calls}
 
 -- a call behind one that didn't fail
 pub CountsFaults-then : {P Q : Type 0} {a b c : ℕ} → CountsFaults P a b → CountsFaults Q b c → CountsFaults Q a c
@@ -19,17 +19,17 @@ pub CountsFaults-as : {P Q : Type 0} {a b : ℕ} → CountsFaults P a b → (Q �
 CountsFaults-as counts back = record { counted = counts.counted; cause = λ q. counts.cause (back q) }
 
 -- no call
-pub Pulls-none : {S : Type 0} (faults : S → ℕ) (steady faultless : S → Type 0) (a : S) → Pulls faults steady faultless a a ⊥
-Pulls-none faults steady faultless a = record {
+pub Calls-none : {S : Type 0} (faults : S → ℕ) (steady faultless : S → Type 0) (a : S) → Calls faults steady faultless a a ⊥
+Calls-none faults steady faultless a = record {
   counts = record { counted = omega arith; cause = λ q. absurd q };
   told = λ s. (s, λ _. refl);
   sure = λ s. (s, refl, λ q. q);
 }
 
 -- a call behind one that didn't fail
-pub Pulls-then : {S : Type 0} {faults : S → ℕ} {steady faultless : S → Type 0} {a b c : S} {P Q : Type 0} →
-    Pulls faults steady faultless a b P → ¬ P → Pulls faults steady faultless b c Q → Pulls faults steady faultless a c Q
-Pulls-then first succeeds next = record {
+pub Calls-then : {S : Type 0} {faults : S → ℕ} {steady faultless : S → Type 0} {a b c : S} {P Q : Type 0} →
+    Calls faults steady faultless a b P → ¬ P → Calls faults steady faultless b c Q → Calls faults steady faultless a c Q
+Calls-then first succeeds next = record {
   counts = CountsFaults-then first.counts next.counts;
   told = λ s.
       let one = first.told s in
@@ -42,9 +42,9 @@ Pulls-then first succeeds next = record {
 }
 
 -- the same failure in other words
-pub Pulls-as : {S : Type 0} {faults : S → ℕ} {steady faultless : S → Type 0} {a b : S} {P Q : Type 0} →
-    Pulls faults steady faultless a b P → (P → Q) → (Q → P) → Pulls faults steady faultless a b Q
-Pulls-as pulls into back = record {
+pub Calls-as : {S : Type 0} {faults : S → ℕ} {steady faultless : S → Type 0} {a b : S} {P Q : Type 0} →
+    Calls faults steady faultless a b P → (P → Q) → (Q → P) → Calls faults steady faultless a b Q
+Calls-as pulls into back = record {
   counts = CountsFaults-as pulls.counts back;
   told = λ s. let one = pulls.told s in (one.0, λ n. one.1 (λ p. n (into p)));
   sure = λ s. let one = pulls.sure s in (one.0, one.1, λ q. one.2 (back q));

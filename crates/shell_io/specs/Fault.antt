@@ -18,10 +18,10 @@ pub record CountsFaults (failed : Type 0) (old new : ℕ) : Type 0 where
   pub counted : old ≤ new
   pub cause : failed → HasCause old new
 
--- a call that pulls from a source, and failed or didn't
-pub record Pulls {S : Type 0} (faults : S → ℕ) (steady faultless : S → Type 0) (old new : S) (failed : Type 0) : Type 0 where
+-- a call of a source or a store, which failed or didn't
+pub record Calls {S : Type 0} (faults : S → ℕ) (steady faultless : S → Type 0) (old new : S) (failed : Type 0) : Type 0 where
   pub counts : CountsFaults failed (faults old) (faults new)
-  -- a steady source stays so, and shows no fault of a call that didn't fail
+  -- a steady device stays so, and shows no fault of a call that didn't fail
   pub told : steady old → steady new × (¬ failed → faults new ≡ faults old)
-  -- a source that can't fail stays so, and the call didn't fail
+  -- a device that can't fail stays so, and the call didn't fail
   pub sure : faultless old → faultless new × (faults new ≡ faults old) × ¬ failed

@@ -2,12 +2,18 @@
 use Rattle.std.specs.Prelude.{map, refl, ◌≡◌, ℕ, ◌+◌, ◌-◌, ◌<◌, min, List, ◌++◌, length, drop, Contains, ◌⊎◌}
 use Rattle.std.specs.Ordering.{nat_cmp}
 use Rattle.std.specs.Cmp.Lexicographic.{slice_cmp}
-use Rattle.std.specs.FinMap.{FinMap, from_entries, code}
+use Rattle.std.specs.FinMap.{FinMap, from_entries, insert, code}
 use Rattle.std.specs.Coded.{Coded, code_by, coded×, coded_ℕ, coded_list}
 use Rattle.std.specs.String.{string_bytes}
 use Rattle.std.specs.declared.string.String.{String}
 use Rattle.std.specs.declared.vec.Vec.{Vec}
+use Rattle.std.specs.declared.result.Result.{Result}
+use Rattle.std.specs.declared.result.Result.TheVariants.{Ok, Err}
 use Rattle.shell_io.specs.Fault.{last_count, one_more}
+use Rattle.shell_io.specs.declared.device.FetchFault.{FetchFault}
+use Rattle.shell_io.specs.declared.device.FetchFault.TheVariants as fetch
+use Rattle.shell_io.specs.declared.device.KeepFault.{KeepFault}
+use Rattle.shell_io.specs.declared.device.KeepFault.TheVariants as keep
 
 -- files: a finite map from the bytes of their names to their bytes
 abbrev pub Files : Type 0
@@ -102,6 +108,17 @@ sink_after s bytes = record s {
   room = s.room - length bytes;
   call = next_call s.call;
 }
+
+-- a fetch changes nothing but its number, and the count of faults where it fails
+abbrev pub store_after_fetch : {A : Type 0} → StoreState → Result A FetchFault → StoreState
+store_after_fetch s (Err fetch.Failed) = record s { fetch_call = next_call s.fetch_call; faults = one_more s.faults }
+store_after_fetch s _ = record s { fetch_call = next_call s.fetch_call }
+
+-- a keep of these bytes under this name: where it is refused, the files are as they were
+abbrev pub store_after_keep : {A : Type 0} → StoreState → List ℕ → List ℕ → Result A KeepFault → StoreState
+store_after_keep s name bytes (Ok _) = record s { held = insert s.held name bytes; keep_call = next_call s.keep_call }
+store_after_keep s name bytes (Err keep.Failed) = record s { keep_call = next_call s.keep_call; faults = one_more s.faults }
+store_after_keep s name bytes (Err keep.Memory) = record s { keep_call = next_call s.keep_call }
 
 -- how many bytes of a piece of this length a call accepts
 abbrev pub accepted_by : SinkState → ℕ → ℕ

@@ -6,3 +6,5 @@ pub mod Window
 pub mod Sound
 pub mod Sending
 pub mod Offer
+pub mod Storing
+pub mod Lines

@@ -3,17 +3,61 @@
 //! A device may tell what it holds, as one over memory does; a file, a stream and a terminal don't.
 //! Where it tells nothing, a clause on its content claims nothing.
 
-ghost use Rattle.std.specs.Prelude.{◌≡◌, ℕ, ◌+◌, ◌-◌, ◌<◌, ◌≤◌, List, length, take, IsOk, IsErr, IfOk, OnErr, MatchResult};
+ghost use Rattle.std.specs.Prelude.{◌≡◌, ℕ, ◌+◌, ◌-◌, ◌<◌, ◌≤◌, List, [], length, take, Err, IsOk, IsErr, IfOk, OnOk, OnErr, MatchResult};
 ghost use Rattle.std.specs.declared.option.Option.{Option};
+ghost use Rattle.std.specs.FinMap.{get};
+ghost use Rattle.std.specs.Option.{IfSome};
 ghost use Rattle.std.specs.Io.KnownBytes.{Consumes, Appends, Keeps, IsAtEnd};
-ghost use Rattle.shell_io.specs.Fault.{HasCause, CountsFaults, Pulls};
+ghost use Rattle.shell_io.specs.declared.device.KeepFault.TheVariants.{Memory};
+ghost use Rattle.shell_io.specs.Fault.{HasCause, CountsFaults, Calls};
 ghost use Rattle.shell_io.specs.InMemory.{Files};
 ghost use Rattle.shell_io.specs.Offer.{IsAmple};
 ghost use Rattle.shell_io.specs.Sending.{Sends};
+ghost use Rattle.shell_io.specs.Storing.{FetchesFile, KeepsFile, ChangesFiles};
+
+use std::alloc::{AllocError, AllocFailed};
 
 /// A device failed at this call.
 #[derive(Clone, Copy, Debug, PartialEq, Eq)]
 pub struct Failed;
+
+/// Why a store didn't give a file.
+#[derive(Clone, Copy, Debug, PartialEq, Eq)]
+pub enum FetchFault {
+    /// No file has this name.
+    Missing,
+    /// The file has more bytes than allowed.
+    Large,
+    /// The store failed at this call.
+    Failed,
+    /// Memory ran out.
+    Memory,
+}
+
+/// Why a store didn't keep a file.
+#[derive(Clone, Copy, Debug, PartialEq, Eq)]
+pub enum KeepFault {
+    /// The store failed at this call. What the file of this name holds then is open.
+    Failed,
+    /// Memory ran out. The files are as they were.
+    Memory,
+}
+
+impl From<AllocError> for KeepFault {
+    ghost from_gives = { λ _ fault. fault ≡ Memory };
+
+    fn from(_error: AllocError) -> KeepFault {
+        KeepFault::Memory
+    }
+}
+
+impl<T: Drop> From<AllocFailed<T>> for KeepFault {
+    ghost from_gives = { λ _ fault. fault ≡ Memory };
+
+    fn from(_error: AllocFailed<T>) -> KeepFault {
+        KeepFault::Memory
+    }
+}
 
 /// What gives bytes.
 pub trait Source {
@@ -43,7 +87,7 @@ pub trait Source {
         ensures at_end { IfOk result (λ n. n ≡ 0 → IsAtEnd (left self.old)) }
         ensures kept { OnErr result (Keeps (left self.old) (left self.new)) }
 
-        ensures pulls { Pulls faults steady faultless self.old self.new (IsErr result) }
+        ensures pulls { Calls faults steady faultless self.old self.new (IsErr result) }
         ensures ample { (room : ℕ) → ample self.old room → IsAmple room (length buf.old) →
             MatchResult result (λ n. ample self.new (room - n)) (λ _. ample self.new room) };
 }
@@ -80,6 +124,28 @@ pub trait Store {
 
     // How often a call has failed. It stays at its last value.
     ghost faults: { Self → ℕ };
+
+    // No call from now on fails. A store that can't know it claims nothing.
+    ghost faultless: { Self → Type 0 };
+
+    // No call that doesn't fail raises the count of faults. A store that can't know it claims nothing.
+    ghost steady: { Self → Type 0 };
+
+    /// Puts the bytes of a file into a vector that is empty. After a refusal the vector may hold
+    /// anything. `Failed` and `Memory` may come in place of `Missing` and `Large`.
+    fn fetch(&mut self, name: &str, limit: usize, into: &mut Vec<u8>) -> Result<(), FetchFault>
+        requires { into.old.items ≡ [] }
+
+        ensures told { IfSome (held self.old) (λ files. FetchesFile (get files name.now) limit result into.new.items) }
+        ensures within { OnOk result (length into.new.items ≤ limit) }
+        ensures same { held self.new ≡ held self.old }
+        ensures calls { Calls faults steady faultless self.old self.new (result ≡ Err FetchFault.Failed) };
+
+    /// Makes these bytes the file of this name.
+    fn keep(&mut self, name: &str, bytes: &[u8]) -> Result<(), KeepFault>
+        ensures told { ChangesFiles (held self.old) (held self.new)
+            (λ old new. KeepsFile old new name.now bytes.now result) }
+        ensures calls { Calls faults steady faultless self.old self.new (result ≡ Err KeepFault.Failed) };
 }
 
 /// Writes the whole piece. `Failed`, and a proper prefix of it is written, where the sink fails, or

@@ -2,6 +2,9 @@
 #![tactic(auto)]
 
 mod device;
+#[cfg(test)]
+mod failing;
+mod lines;
 mod memory;
 mod outside;
 mod reader;
@@ -9,7 +12,8 @@ mod reader;
 mod tests;
 mod window;
 
-pub use device::{Failed, Sink, Source, Store, write_all};
+pub use device::{Failed, FetchFault, KeepFault, Sink, Source, Store, write_all};
+pub use lines::{LinesFault, lines_of};
 pub use memory::{MemSink, MemSource, MemStore};
 pub use outside::{DirStore, StdSink, StdSource};
 pub use reader::{LineReader, Next};

@@ -1,12 +1,13 @@
 //! Devices over memory. They tell all that they hold, and fail at the calls that they were told to.
 
-ghost use Rattle.std.specs.Prelude.{◌≡◌, ℕ, ◌+◌, ◌-◌, ◌<◌, ◌≤◌, ◌↔◌, List, [], ◌∷◌, ◌++◌, length, take, min, None, Some, Contains, IsErr, IfOk, OnErr, ⊤};
+ghost use Rattle.std.specs.Prelude.{◌≡◌, ℕ, ◌+◌, ◌-◌, ◌<◌, ◌≤◌, ◌↔◌, List, [], ◌∷◌, ◌++◌, length, take, min, None, Some, Err, Contains, IsErr, IfOk, OnOk, OnErr, ⊤};
 ghost use Rattle.std.specs.declared.option.Option.{Option};
 ghost use Rattle.std.specs.Option.{option_copied};
 ghost use Rattle.std.specs.FinMap as map;
-ghost use Rattle.shell_io.specs.InMemory.{Files, SourceState, SinkState, StoreState, source_after, source_after_fault, given_by, RefusesPush, sink_after, sink_after_fault, accepted_by};
+ghost use Rattle.shell_io.specs.InMemory.{Files, SourceState, SinkState, StoreState, source_after, source_after_fault, given_by, RefusesPush, sink_after, sink_after_fault, accepted_by, store_after_fetch, store_after_keep};
+ghost use Rattle.shell_io.specs.Storing.{FetchesFile};
 
-use super::device::{Failed, Sink, Source, Store};
+use super::device::{Failed, FetchFault, KeepFault, Sink, Source, Store};
 use elem_core::NoMemory;
 use std::alloc::Global;
 use std::collections::BTreeMap;
@@ -206,6 +207,7 @@ impl Sink for MemSink {
 /// A store over memory.
 #[derive(Drop)]
 pub struct MemStore {
+    alloc: Global,
     files: BTreeMap<String, Vec<u8>>,
     fetch_fails: Vec<u64>,
     keep_fails: Vec<u64>,
@@ -232,8 +234,8 @@ impl Model for MemStore {
 }
 
 impl MemStore {
-    /// A store that holds no file. The numbers, from 0, of the fetches and of the keeps that are to
-    /// fail are kept for these calls, which are yet to come.
+    /// A store that holds no file. The fetches and the keeps whose numbers are listed fail, each
+    /// counted from 0.
     pub fn new(alloc: Global, fetch_fails: Vec<u64>, keep_fails: Vec<u64>) -> MemStore
         ensures { result ≡ record {
           held = map.empty;
@@ -245,6 +247,7 @@ impl MemStore {
         } }
     {
         MemStore {
+            alloc,
             files: BTreeMap::new(alloc),
             fetch_fails,
             keep_fails,
@@ -269,4 +272,50 @@ impl Store for MemStore {
     ghost held = { λ s. Some s.held };
 
     ghost faults = { λ s. s.faults };
+
+    ghost faultless = { λ s. (s.fetch_fails ≡ []) × (s.keep_fails ≡ []) };
+
+    ghost steady = { λ _. ⊤ };
+
+    fn fetch(&mut self, name: &str, limit: usize, into: &mut Vec<u8>) -> Result<(), FetchFault>
+        requires { into.old.items ≡ [] }
+        ensures fails { (result ≡ Err FetchFault.Failed) ↔ Contains self.old.fetch_fails self.old.fetch_call }
+        ensures fetched { FetchesFile (map.get self.old.held name.now) limit result into.new.items }
+        ensures within { OnOk result (length into.new.items ≤ limit) }
+        ensures after { self.new ≡ store_after_fetch self.old result }
+        ensures counted { self.old.faults ≤ self.new.faults }
+    {
+        let listed = self.fetch_fails.contains(&self.fetch_call);
+        self.fetch_call = self.fetch_call.saturating_add(1);
+        if listed {
+            self.faults = self.faults.saturating_add(1);
+            return Err(FetchFault::Failed);
+        }
+        let Some(bytes) = self.file(name) else {
+            return Err(FetchFault::Missing);
+        };
+        if bytes.len() > limit {
+            return Err(FetchFault::Large);
+        }
+        into.extend_from_slice(bytes)
+            .map_err(|_| FetchFault::Memory)
+    }
+
+    /// Where it is refused, the files are as they were.
+    fn keep(&mut self, name: &str, bytes: &[u8]) -> Result<(), KeepFault>
+        ensures fails { (result ≡ Err KeepFault.Failed) ↔ Contains self.old.keep_fails self.old.keep_call }
+        ensures after { self.new ≡ store_after_keep self.old name.now bytes.now result }
+        ensures counted { self.old.faults ≤ self.new.faults }
+    {
+        let listed = self.keep_fails.contains(&self.keep_call);
+        self.keep_call = self.keep_call.saturating_add(1);
+        if listed {
+            self.faults = self.faults.saturating_add(1);
+            return Err(KeepFault::Failed);
+        }
+        let name = String::from_str(self.alloc, name)?;
+        let bytes = Vec::from_slice(self.alloc, bytes)?;
+        self.files.insert(name, bytes)?;
+        Ok(())
+    }
 }

@@ -5,7 +5,7 @@ ghost use Rattle.std.specs.declared.option.Option.{Option};
 ghost use Rattle.std.specs.List.{position};
 ghost use Rattle.std.specs.Option.{ForSome};
 ghost use Rattle.elem_core.specs.Cell.{IsCell};
-ghost use Rattle.shell_io.specs.Fault.{Pulls};
+ghost use Rattle.shell_io.specs.Fault.{Calls};
 ghost use Rattle.shell_io.specs.Pieces.{IsUnbroken};
 ghost use Rattle.shell_io.specs.Reader.{Reading, StandsIn, Answers, SamePlace, Passes, EndsByNewline, EndsBySource, limit_of};
 
@@ -98,7 +98,7 @@ impl LineReader {
 
         // A fault has its cause, and comes only where each line that ended was given, and no byte past
         // the bound was taken.
-        ensures pulls { Pulls S.faults S.steady S.faultless source.old source.new (result ≡ Next.Failed) }
+        ensures pulls { Calls S.faults S.steady S.faultless source.old source.new (result ≡ Next.Failed) }
         ensures all_given { result ≡ Next.Failed → IsUnbroken self.new.held }
         ensures in_bound { result ≡ Next.Failed → self.new.taken ≤ most }
 
@@ -174,7 +174,7 @@ impl LineReader {
         ensures end { result ≡ Next.End → self.new.at_end ≡ true }
         ensures budget { result ≡ Next.Budget → (self.new.taken ≡ most + 1) × (self.new.at_end ≡ false) }
         ensures failed { result ≡ Next.Failed → IsUnbroken self.new.held × (self.new.taken ≤ most) }
-        ensures pulls { Pulls S.faults S.steady S.faultless source.old source.new (result ≡ Next.Failed) }
+        ensures pulls { Calls S.faults S.steady S.faultless source.old source.new (result ≡ Next.Failed) }
         ensures ample { S.ample source.old (most + 1 - self.old.taken) → S.ample source.new (most + 1 - self.new.taken) }
         ensures stands { (input : List ℕ) → StandsIn input self.old (S.left source.old) →
             StandsIn input self.new (S.left source.new) }
@@ -282,7 +282,7 @@ impl LineReader {
         ensures kept { OnErr result ((self.new.taken ≡ self.old.taken) × (self.new.at_end ≡ false)
             × IsUnbroken self.new.held) }
 
-        ensures pulls { Pulls S.faults S.steady S.faultless source.old source.new (IsErr result) }
+        ensures pulls { Calls S.faults S.steady S.faultless source.old source.new (IsErr result) }
         ensures ample { S.ample source.old (most + 1 - self.old.taken) → S.ample source.new (most + 1 - self.new.taken) }
         ensures stands { (input : List ℕ) → StandsIn input self.old (S.left source.old) →
             StandsIn input self.new (S.left source.new) }
@@ -314,7 +314,7 @@ impl LineReader {
 }
 
 // The place of the first newline that isn't among the first `from` bytes.
-fn newline_from(bytes: &[u8], from: usize) -> Option<usize>
+pub(crate) fn newline_from(bytes: &[u8], from: usize) -> Option<usize>
     requires within { from ≤ length bytes.now }
     requires clean { IsUnbroken (take from bytes.now) }
     ensures found { IfSome result (λ at. (at < length bytes.now) × IsUnbroken (take at bytes.now)

@@ -2,11 +2,14 @@
 
 ghost use Rattle.std.specs.Prelude.{◌≡◌, [], Some, true, ⊤};
 
+use super::failing::{Failing, Fails};
 use super::*;
 use std::alloc::Global;
-use std::io;
 use std::io::{ErrorKind, Read, Write};
+use std::os::unix::fs::symlink;
+use std::process::Abort;
 use std::test::Fail;
+use std::{fs, io};
 
 // A source over memory that counts how many bytes may still be taken, and looks whether each call
 // offers ample room for them.
@@ -186,11 +189,81 @@ fn writes_a_piece_or_its_front(rt: HostRuntime) -> Result<(), Fail> {
     Ok(())
 }
 
+// The lines of these bytes, each behind its number of bytes.
+fn lines_told(alloc: Global, bytes: &[u8]) -> Result<Result<String, LinesFault>, Fail> {
+    let lines = match lines_of(alloc, bytes) {
+        Ok(lines) => lines.into_vec(),
+        Err(fault) => return Ok(Err(fault)),
+    };
+    let mut told = String::new(alloc);
+    for line in &lines {
+        write!(told, "{}:{};", line.text().len(), line.text())?;
+    }
+    Ok(Ok(told))
+}
+
 #[test]
-fn holds_no_file_at_first(rt: HostRuntime) -> Result<(), Fail> {
+fn cuts_a_file_into_lines(rt: HostRuntime) -> Result<(), Fail> {
     let alloc = rt.alloc();
-    let store = MemStore::new(alloc, Vec::new(alloc), Vec::new(alloc));
+    let table = [
+        (b"".as_slice(), ""),
+        (b"\n".as_slice(), "0:;"),
+        (b"one".as_slice(), "3:one;"),
+        (b"one\n".as_slice(), "3:one;"),
+        (b"one\n\n".as_slice(), "3:one;0:;"),
+        (
+            b"one\r\n \xc3\xa9\nlast".as_slice(),
+            "4:one\r;3: \u{e9};4:last;",
+        ),
+    ];
+    for (bytes, want) in table {
+        let told = lines_told(alloc, bytes)?;
+        assert_eq!(rt; told.as_ref().map(|text| text.as_str()), Ok(want));
+    }
+    let mut long = vec![in alloc; b'x'; 65_536]?;
+    long.push(b'\n')?;
+    assert!(rt; lines_told(alloc, &long)?.is_ok());
+    long.push(0xff)?;
+    assert_eq!(rt; lines_told(alloc, &long)?.err(), Some(LinesFault::Utf8));
+    long.insert(0, b'x')?;
+    assert_eq!(rt; lines_told(alloc, &long)?.err(), Some(LinesFault::Long));
+    Ok(())
+}
+
+// Keeps files of one name and asks for each, with so many bytes allowed.
+fn keeps_and_gives<D: Store>(
+    rt: &(impl Abort + AllocGlobal),
+    store: &mut D,
+    name: &str,
+) -> Result<(), Fail> {
+    let table = [
+        (b"one\n".as_slice(), 4, Ok(())),
+        (b"longer\n".as_slice(), 6, Err(FetchFault::Large)),
+        (b"longer\n".as_slice(), 7, Ok(())),
+        (b"\n".as_slice(), 100, Ok(())),
+        (b"".as_slice(), 0, Ok(())),
+    ];
+    let mut file = Vec::new(rt.alloc());
+    assert_eq!(rt; store.fetch(name, 100, &mut file), Err(FetchFault::Missing));
+    for (bytes, limit, want) in table {
+        assert_eq!(rt; store.keep(name, bytes), Ok(()));
+        file.clear();
+        assert_eq!(rt; store.fetch(name, limit, &mut file), want);
+        if want.is_ok() {
+            assert_eq!(rt; file.as_slice(), bytes);
+        }
+    }
+    Ok(())
+}
+
+#[test]
+fn keeps_files_in_memory(rt: HostRuntime) -> Result<(), Fail> {
+    let alloc = rt.alloc();
+    let mut store = MemStore::new(alloc, Vec::new(alloc), Vec::new(alloc));
     assert!(rt; store.file("notes").is_none());
+    keeps_and_gives(&rt, &mut store, "notes")?;
+    keeps_and_gives(&rt, &mut store, "others")?;
+    assert_eq!(rt; store.file("notes"), Some(b"".as_slice()));
     Ok(())
 }
 
@@ -279,6 +352,96 @@ fn writes_a_stream(rt: HostRuntime) -> Result<(), Fail> {
     let mut sink = StdSink::new(rt.stdout());
     assert_eq!(rt; sink.push(b""), Ok(0));
     assert_eq!(rt; write_all(&mut sink, b"ok\n"), Ok(()));
-    let _store = DirStore::new(&rt);
+    Ok(())
+}
+
+#[test]
+fn keeps_files_of_the_folder(rt: HostRuntime) -> Result<(), Fail> {
+    let mut store = DirStore::new(&rt);
+    // What an earlier run may have left.
+    let _ = fs::remove_file(&rt, "kept-by-a-test");
+    let _ = fs::remove_file(&rt, ".kept-by-a-test.0");
+    keeps_and_gives(&rt, &mut store, "kept-by-a-test")?;
+    // A call was cut off, and left its file.
+    fs::write(&rt, ".kept-by-a-test.0", b"half")?;
+    assert_eq!(rt; store.keep("kept-by-a-test", b"whole"), Ok(()));
+    let left = fs::read(&rt, ".kept-by-a-test.0")?;
+    assert_eq!(rt; left.as_slice(), b"half".as_slice());
+    fs::remove_file(&rt, ".kept-by-a-test.0")?;
+    let kept = fs::read(&rt, "kept-by-a-test")?;
+    assert_eq!(rt; kept.as_slice(), b"whole".as_slice());
+    fs::remove_file(&rt, "kept-by-a-test")?;
+    Ok(())
+}
+
+#[test]
+fn refuses_what_is_no_plain_file(rt: HostRuntime) -> Result<(), Fail> {
+    let mut store = DirStore::new(&rt);
+    // What an earlier run may have left.
+    let _ = fs::remove_dir(&rt, "folder-of-a-test");
+    let _ = fs::remove_file(&rt, "link-of-a-test");
+    fs::create_dir(&rt, "folder-of-a-test")?;
+    fs::write(&rt, "file-of-a-test", b"old")?;
+    symlink(&rt, "file-of-a-test", "link-of-a-test")?;
+    for name in ["folder-of-a-test", "link-of-a-test", "../link-of-a-test"] {
+        let mut file = Vec::new(rt.alloc());
+        assert_eq!(rt; store.fetch(name, 100, &mut file), Err(FetchFault::Failed));
+        assert_eq!(rt; store.keep(name, b"new"), Err(KeepFault::Failed));
+    }
+    let linked = fs::read(&rt, "file-of-a-test")?;
+    assert_eq!(rt; linked.as_slice(), b"old".as_slice());
+    fs::remove_file(&rt, "link-of-a-test")?;
+    fs::remove_file(&rt, "file-of-a-test")?;
+    fs::remove_dir(&rt, "folder-of-a-test")?;
+    Ok(())
+}
+
+#[test]
+fn leaves_the_old_file_after_a_fault(rt: HostRuntime) -> Result<(), Fail> {
+    fs::write(&rt, "old-of-a-test", b"the old file")?;
+    // The call of the system that fails, and what becomes of a fetch and of a keep then.
+    let table = [
+        (Fails::Look, false, false),
+        (Fails::Open, false, false),
+        (Fails::Read, false, true),
+        (Fails::Write, true, false),
+        (Fails::Sync, true, false),
+        (Fails::Rename, true, false),
+    ];
+    for (fails, fetches, keeps) in table {
+        let system = Failing { system: &rt, fails };
+        let mut store = DirStore::new((system, rt.alloc()));
+        let mut file = Vec::new(rt.alloc());
+        let fetched = store.fetch("old-of-a-test", 100, &mut file);
+        assert_eq!(rt;
+            fetched,
+            if fetches {
+                Ok(())
+            } else {
+                Err(FetchFault::Failed)
+            },
+            "at {fails:?}"
+        );
+        let kept = store.keep("old-of-a-test", b"the new file");
+        assert_eq!(rt;
+            kept,
+            if keeps {
+                Ok(())
+            } else {
+                Err(KeepFault::Failed)
+            },
+            "at {fails:?}"
+        );
+        let file = fs::read(&rt, "old-of-a-test")?;
+        let want = if keeps {
+            b"the new file".as_slice()
+        } else {
+            b"the old file".as_slice()
+        };
+        assert_eq!(rt; file.as_slice(), want, "at {fails:?}");
+        assert!(rt; !fs::exists(&rt, ".old-of-a-test.0")?, "at {fails:?}");
+        fs::write(&rt, "old-of-a-test", b"the old file")?;
+    }
+    fs::remove_file(&rt, "old-of-a-test")?;
     Ok(())
 }

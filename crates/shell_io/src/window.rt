@@ -2,7 +2,7 @@
 
 ghost use Rattle.std.specs.Prelude.{◌≡◌, ℕ, ◌+◌, ◌<◌, ◌≤◌, ◌-◌, ◌^◌, List, [], ◌++◌, take, drop, length, IsErr, IfOk, OnErr, MatchResult};
 ghost use Rattle.std.specs.Io.KnownBytes.{Consumes, Keeps, IsAtEnd};
-ghost use Rattle.shell_io.specs.Fault.{Pulls};
+ghost use Rattle.shell_io.specs.Fault.{Calls};
 ghost use Rattle.shell_io.specs.Offer.{IsAmple};
 ghost use Rattle.shell_io.specs.Window.{TakesMore};
 
@@ -105,7 +105,7 @@ impl Window {
         ensures at_end { IfOk result (λ n. n ≡ 0 → IsAtEnd (S.left source.old)) }
         ensures kept { OnErr result ((self.new.held ≡ self.old.held) × Keeps (S.left source.old) (S.left source.new)) }
 
-        ensures pulls { Pulls S.faults S.steady S.faultless source.old source.new (IsErr result) }
+        ensures pulls { Calls S.faults S.steady S.faultless source.old source.new (IsErr result) }
         ensures ample { S.ample source.old limit →
             MatchResult result (λ n. S.ample source.new (limit - n)) (λ _. S.ample source.new limit) }
     {
@@ -138,7 +138,7 @@ fn pull_behind<S: Source>(
         Consumes (S.left source.old) (S.left source.new) (take n (drop waiting bytes.new))) }
     ensures at_end { IfOk result (λ n. n ≡ 0 → IsAtEnd (S.left source.old)) }
     ensures kept { OnErr result (Keeps (S.left source.old) (S.left source.new)) }
-    ensures pulls { Pulls S.faults S.steady S.faultless source.old source.new (IsErr result) }
+    ensures pulls { Calls S.faults S.steady S.faultless source.old source.new (IsErr result) }
     ensures ample { S.ample source.old limit →
         MatchResult result (λ n. S.ample source.new (limit - n)) (λ _. S.ample source.new limit) }
 {

@@ -1,5 +1,5 @@
 use Rattle.std.proofs.Common.{ap, ◌∙◌, refl, Some, rules, ℕ, ◌+◌, ◌-◌, subst, sym}
-use Rattle.shell_io.proofs.FaultLemmas.{Pulls-then, Pulls-as}
+use Rattle.shell_io.proofs.FaultLemmas.{Calls-then, Calls-as}
 use Rattle.shell_io.proofs.StandsLemmas.{Answers-given, failed-ended}
 use Rattle.shell_io.proofs.reader.LineReader.advance.Goals as goal
 
@@ -41,14 +41,14 @@ loop-answer-preserved g c =
       clean = m.searched.1;
       grows = search rules;
       given = c.take_more.ensures.same.0 ∙ ap (λ r. r.given) first ∙ inv.given;
-      pulls = Pulls-then inv.pulls (λ n. n) (Pulls-as m.pulls (λ n. cc) (λ n. absurd n));
+      pulls = Calls-then inv.pulls (λ n. n) (Calls-as m.pulls (λ n. cc) (λ n. absurd n));
       ample = λ h. c.take_more.ensures.ample (subst P (sym (ap (λ r. r.taken) first)) (inv.ample h));
       stands = λ input s. c.take_more.ensures.stands input (c.decide.ensures.stands input _ (inv.stands input s));
     }
 
 pub returns-in-Some-clause-pulls : goal.returns-in-Some-clause-pulls
-returns-in-Some-clause-pulls g c = Pulls-as c.loop-answer.invariant.pulls (λ n. absurd n) (λ n. c.decide.ensures.no_fault (c.in-Some.is ∙ ap Some n))
+returns-in-Some-clause-pulls g c = Calls-as c.loop-answer.invariant.pulls (λ n. absurd n) (λ n. c.decide.ensures.no_fault (c.in-Some.is ∙ ap Some n))
 
 pub returns-in-Err-clause-pulls : goal.returns-in-Err-clause-pulls
 returns-in-Err-clause-pulls g c =
-    Pulls-as (Pulls-then c.loop-answer.invariant.pulls (λ n. n) c.in-Err.ensures.pulls) (λ n. refl) (λ n. refl)
+    Calls-as (Calls-then c.loop-answer.invariant.pulls (λ n. n) c.in-Err.ensures.pulls) (λ n. refl) (λ n. refl)
