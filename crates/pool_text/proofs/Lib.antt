@@ -7,3 +7,8 @@ pub mod Held
 mod ReadBack
 mod DocumentRows
 mod TextLengths
+mod EachRead
+mod NumbersRead
+mod Refusals
+mod PartsRead
+mod PoolRead

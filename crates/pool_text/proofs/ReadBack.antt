@@ -13,7 +13,7 @@ use Rattle.pool_text.specs.Laws.{ReadsBackAs}
 use Rattle.pool_text.specs.declared.pool.Pool.{Pool}
 use Rattle.pool_text.specs.declared.damage.Damage.TheVariants.{Form as FormDamage, Bits, Row}
 
-item_list-items : (ds : List Data) → item_list (items ds) ≡ ds
+pub item_list-items : (ds : List Data) → item_list (items ds) ≡ ds
 item_list-items [] = refl
 item_list-items (d ∷ ds) = ap (λ es. d ∷ es) (item_list-items ds)
 

@@ -1,5 +1,5 @@
 -- The document of a pool, as a JSON value and as its compact text, and what a document stands for.
-use Rattle.std.specs.Prelude.{ℕ, not, ◌&&◌, ◌==◌, List, [], ◌∷◌, map, Bool, Option, Some, None, is_some, option_map, option_and_then, if◌then◌else◌, codes}
+use Rattle.std.specs.Prelude.{ℕ, not, ◌==◌, List, [], ◌∷◌, map, Bool, Option, Some, None, is_some, option_map, option_and_then, if◌then◌else◌, codes}
 use Rattle.std.specs.Str.{bytes_eq, is_utf8}
 use Rattle.node_heap.specs.Forms.{Form, Kind, cell, node, leaf, inner, trie, chain, pair, state}
 use Rattle.serde_json.specs.Data.{unsigned, Data, number, string, array, object, Items, no_items, item, Members, no_members, member}
@@ -116,16 +116,28 @@ abbrev pub four : List ℕ → Option (List ℕ)
 four (a ∷ b ∷ c ∷ d ∷ []) = Some (a ∷ b ∷ c ∷ d ∷ [])
 four _ = None
 
--- the value's members are these keys, in byte order, and its format is the pool's
-abbrev pub parts_from : Members → Option DocumentParts
-parts_from (member k1 bits (member k2 (string format) (member k3 roots (member k4 rows (member k5 version no_members))))) =
-    if bytes_eq k1 (codes "bits") && bytes_eq k2 (codes "format") && bytes_eq k3 (codes "roots") && bytes_eq k4 (codes "rows") && bytes_eq k5 (codes "version") && bytes_eq format (codes "ewig-pool")
-    then option_and_then (λ b. option_and_then (λ rs. option_and_then (λ ds. option_map (λ v. record { bits = b; roots = rs; rows = ds; version = v }) (number_in version)) (elements_in rows)) (option_and_then four (numbers_in roots))) (number_in bits)
-    else None
+-- the keys of a document, in byte order
+abbrev pub document_keys : List Bytes
+document_keys = codes "bits" ∷ codes "format" ∷ codes "roots" ∷ codes "rows" ∷ codes "version" ∷ []
+
+-- the values of the members, if their keys are exactly these
+abbrev pub values_at : List Bytes → Members → Option (List Data)
+values_at [] no_members = Some []
+values_at (k ∷ ks) (member l d ms) = if bytes_eq l k then option_map (λ ds. d ∷ ds) (values_at ks ms) else None
+values_at _ _ = None
+
+-- the parts that the four values stand for beside the format
+abbrev pub parts_read : Data → Data → Data → Data → Option DocumentParts
+parts_read bits roots rows version =
+    option_and_then (λ b. option_and_then (λ rs. option_and_then (λ ds. option_map (λ v. record { bits = b; roots = rs; rows = ds; version = v }) (number_in version)) (elements_in rows)) (option_and_then four (numbers_in roots))) (number_in bits)
+
+-- the values of the five keys, of which the format is the pool's
+abbrev pub parts_from : List Data → Option DocumentParts
+parts_from (bits ∷ string format ∷ roots ∷ rows ∷ version ∷ []) = if bytes_eq format (codes "ewig-pool") then parts_read bits roots rows version else None
 parts_from _ = None
 
 abbrev pub parts_in : Data → Option DocumentParts
-parts_in (object ms) = parts_from ms
+parts_in (object ms) = option_and_then parts_from (values_at document_keys ms)
 parts_in _ = None
 
 -- what the bytes read as
@@ -143,6 +155,10 @@ pool_from p = option_map (λ rows. record { bits = p.bits; rows = rows; roots = 
 -- the pool that a document stands for
 unfoldable pub pool_in : Data → Option Pool
 pool_in d = option_and_then pool_from (parts_in d)
+
+-- the pool that the bytes stand for
+abbrev pub pool_in_bytes : Bytes → Option Pool
+pool_in_bytes bytes = option_and_then pool_in (value_in bytes)
 
 -- the first of the tests that the parts fail, of `Version`, `Bits` and `Row`, in a space of so many bits
 abbrev pub parts_damage : ℕ → DocumentParts → Option Damage

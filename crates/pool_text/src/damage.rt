@@ -1,4 +1,8 @@
 //! What is wrong with a document.
+ghost use Rattle.std.specs.Prelude.{◌≡◌};
+ghost use Rattle.pool_text.specs.declared.damage.Damage.TheVariants.{Memory};
+
+use std::alloc::{AllocError, AllocFailed};
 
 /// The tests of a document, in the order in which they are made: a damage is the first that fails. `Memory` is no test.
 #[derive(Debug, Clone, Copy, PartialEq, Eq, Drop)]
@@ -27,4 +31,20 @@ pub enum Damage {
     Order,
     /// Memory ran out.
     Memory,
+}
+
+impl From<AllocError> for Damage {
+    ghost from_gives = { λ _ damage. damage ≡ Memory };
+
+    fn from(_error: AllocError) -> Damage {
+        Damage::Memory
+    }
+}
+
+impl<T: Drop> From<AllocFailed<T>> for Damage {
+    ghost from_gives = { λ _ damage. damage ≡ Memory };
+
+    fn from(_error: AllocFailed<T>) -> Damage {
+        Damage::Memory
+    }
 }

@@ -4,14 +4,18 @@
 
 mod damage;
 mod from_heap;
+mod from_json;
 mod laws;
 mod lengths;
+mod numbers;
 mod pool;
 mod row;
+mod row_in;
 mod written;
 
 pub use damage::Damage;
 pub use from_heap::pool_of;
+pub use from_json::{pool_from_bytes, pool_from_json};
 pub use laws::{
     heaps_are_rooted, nothing_leaks, pools_are_renamed, pools_stay, reads_back,
     renamed_reads_alike, renaming_turns_back, texts_are_forms, worked_documents,

@@ -1,0 +1,157 @@
+//! The pool that a document stands for, or the first test that the document fails.
+ghost use Rattle.std.specs.Prelude.{◌≡◌, ◌≢◌, ◌≤◌, List, [], ◌∷◌, if◌then◌else◌, map, length, codes, true, None, Some, option_and_then, option_map, MatchOption, IfOk, IfErr};
+ghost use Rattle.std.specs.List.{list_all};
+ghost use Rattle.std.specs.Str.{bytes_eq};
+ghost use Rattle.serde_json.specs.View.{view, members_view};
+ghost use Rattle.pool_text.specs.Rows.{Bytes, is_in_range};
+ghost use Rattle.pool_text.specs.Document.{values_at, parts_read, parts_in, pool_in, pool_in_bytes, value_damage, bytes_damage};
+ghost use Rattle.pool_text.specs.Reading.{Reads, parts_seen};
+
+use crate::damage::Damage;
+use crate::numbers::{elements_of, number_of, numbers_of};
+use crate::pool::Pool;
+use crate::row::Places;
+use crate::row_in::rows_of;
+use elem_core::CODE_BITS;
+use serde_json::Value;
+use std::alloc::Global;
+use std::collections::btree_map::Iter;
+
+/// The pool that the bytes stand for, in a space of so many code bits. Refused with the first of the tests `Json`, `Form`,
+/// `Version`, `Bits` and `Row` that the bytes fail, and with `Memory` where memory runs out, which may come before any test is
+/// made. It takes time and memory for the bytes.
+pub fn pool_from_bytes(alloc: Global, bytes: &[u8], bits: u32) -> Result<Pool, Damage>
+    requires { bits ≤ CODE_BITS }
+    ensures pool { IfOk result (λ p. pool_in_bytes bytes.now ≡ Some p) }
+    ensures bits { IfOk result (λ p. p.bits ≡ bits) }
+    ensures roots { IfOk result (λ p. length p.roots ≡ 4) }
+    ensures rows { IfOk result (λ p. list_all is_in_range p.rows ≡ true) }
+    ensures whole { IfOk result (λ _. bytes_damage bits bytes.now ≡ None) }
+    ensures damage { IfErr result (λ d. d ≢ Damage.Memory → bytes_damage bits bytes.now ≡ Some d) }
+{
+    match Value::from_slice(alloc, bytes) {
+        Ok(value) => pool_from_json(alloc, &value, bits),
+        Err(error) if error.is_memory() => Err(Damage::Memory),
+        Err(_) => Err(Damage::Json),
+    }
+}
+
+/// The pool that the value stands for, in a space of so many code bits. Refused with the first of the tests `Form`, `Version`,
+/// `Bits` and `Row` that the value fails, and with `Memory` where memory runs out, which may come before any test is made. It
+/// takes time and memory for the value.
+pub fn pool_from_json(alloc: Global, value: &Value, bits: u32) -> Result<Pool, Damage>
+    requires { bits ≤ CODE_BITS }
+    ensures pool { IfOk result (λ p. pool_in (view value.now) ≡ Some p) }
+    ensures bits { IfOk result (λ p. p.bits ≡ bits) }
+    ensures roots { IfOk result (λ p. length p.roots ≡ 4) }
+    ensures rows { IfOk result (λ p. list_all is_in_range p.rows ≡ true) }
+    ensures whole { IfOk result (λ _. value_damage bits (view value.now) ≡ None) }
+    ensures damage { IfErr result (λ d. d ≢ Damage.Memory → value_damage bits (view value.now) ≡ Some d) }
+{
+    let parts = parts_of(alloc, value)?;
+    if parts.version != 1 {
+        return Err(Damage::Version);
+    }
+    if parts.bits != bits as u64 {
+        return Err(Damage::Bits);
+    }
+    let rows = rows_of(alloc, parts.rows)?;
+    Ok(Pool {
+        bits,
+        rows,
+        roots: parts.roots,
+    })
+}
+
+// What a document has beside its format.
+#[derive(Drop)]
+pub struct Parts<'a> {
+    pub bits: u64,
+    pub roots: Places,
+    pub rows: &'a [Value],
+    pub version: u64,
+}
+
+// The parts of a document.
+fn parts_of(alloc: Global, value: &Value) -> Result<Parts<'_>, Damage>
+    ensures value { Reads parts_seen Damage.Form (parts_in (view value.now)) result }
+    ensures roots { IfOk result (λ p. length p.roots ≡ 4) }
+{
+    let Some(values) = values_of(value) else {
+        return Err(Damage::Form);
+    };
+    let (Some(bits), Some(rows), Some(version)) = (
+        number_of(values.bits),
+        elements_of(values.rows),
+        number_of(values.version),
+    ) else {
+        return Err(Damage::Form);
+    };
+    Ok(Parts {
+        bits,
+        roots: numbers_of(alloc, values.roots, 4, 4, Damage::Form)?,
+        rows,
+        version,
+    })
+}
+
+// The values of a document's keys, but for its format.
+#[derive(Clone, Copy)]
+struct Values<'a> {
+    bits: &'a Value,
+    roots: &'a Value,
+    rows: &'a Value,
+    version: &'a Value,
+}
+
+// The values of an object whose keys are a document's, and whose format is the pool's.
+fn values_of(value: &Value) -> Option<Values<'_>>
+    ensures { parts_in (view value.now) ≡ option_and_then (λ v. parts_read (view v.bits.now) (view v.roots.now) (view v.rows.now) (view v.version.now)) result }
+{
+    let mut members = value.as_object()?.iter();
+    let bits = value_at(&mut members, "bits")?;
+    let format = value_at(&mut members, "format")?;
+    let roots = value_at(&mut members, "roots")?;
+    let rows = value_at(&mut members, "rows")?;
+    let version = value_at(&mut members, "version")?;
+    if !is_over(&mut members) {
+        return None;
+    }
+    if is_pool(format.as_str()?) {
+        Some(Values {
+            bits,
+            roots,
+            rows,
+            version,
+        })
+    } else {
+        None
+    }
+}
+
+// The value of the next member, if that is its key.
+fn value_at<'a>(members: &mut Iter<'a, String, Value>, key: &str) -> Option<&'a Value>
+    ensures { (keys : List Bytes) → values_at (key.now ∷ keys) (members_view members.old)
+        ≡ option_and_then (λ v. option_map (λ ds. view v.now ∷ ds) (values_at keys (members_view members.new))) result }
+{
+    let (name, value) = members.next()?;
+    if name.as_str() == key {
+        Some(value)
+    } else {
+        None
+    }
+}
+
+// Whether no member is left.
+fn is_over(members: &mut Iter<'_, String, Value>) -> bool
+    ensures { values_at [] (members_view members.old) ≡ (if result then Some [] else None) }
+{
+    members.next().is_none()
+}
+
+// Whether the format is the pool's.
+fn is_pool(format: &str) -> bool
+    ensures { result ≡ bytes_eq format.now (codes "ewig-pool") }
+{
+    format == "ewig-pool"
+}
