@@ -15,7 +15,7 @@ filter-all : {X : Type 0} (p : X → Bool) (xs : List X) → list_all p xs ≡ t
 filter-all p [] h = refl
 filter-all p (x ∷ xs) h = let here = and-first (p x) (list_all p xs) h in rw (here, filter-all p xs (and-second (p x) (list_all p xs) h)) refl
 
-rank-next : (s a : ℕ) → rank s (a + 1) ≡ rank s a + bit_at s a
+pub rank-next : (s a : ℕ) → rank s (a + 1) ≡ rank s a + bit_at s a
 unfolding rank
 rank-next s a = let e : a + 1 ≡ suc a = omega arith in rw e refl
 

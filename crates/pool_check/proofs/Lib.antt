@@ -1,9 +1,9 @@
-mod TestLemmas
-mod VectorLaw
+pub mod TestLemmas
+pub mod VectorLaw
 mod DamageLemmas
-mod PoolLaws
-mod GroupLemmas
-mod TrieLaw
+pub mod PoolLaws
+pub mod GroupLemmas
+pub mod TrieLaw
 mod History
 pub mod VectorReadings
 pub mod TrieReadings

@@ -26,7 +26,7 @@ pub vector-roots-well : (P : Pool) → IsValid P → (l : ℕ) → is_vector_roo
 unfolding rows_in_range vectors_stand
 vector-roots-well P v = well-shaped (forms_in P) (all-at is_in_range P.rows v.in_range) (all-at (keeps_fill_rule (forms_in P)) P.rows v.vectors)
 
-get-low : {X : Type 0} (xs : List X) (i : ℕ) (x : X) → slice_get xs i ≡ Some x → i < length xs
+pub get-low : {X : Type 0} (xs : List X) (i : ℕ) (x : X) → slice_get xs i ≡ Some x → i < length xs
 get-low [] i x is = absurd (let e : None ≡ Some x = is in cc)
 get-low (y ∷ ys) zero x is = omega arith
 get-low (y ∷ ys) (suc i) x is = omega (arith, get-low ys i x is)

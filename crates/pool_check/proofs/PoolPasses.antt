@@ -25,7 +25,7 @@ use Rattle.pool_check.specs.Passing.{AllReachedPass, PassesAsMade}
 both-true : (a b : Bool) → a ≡ true → b ≡ true → (a && b) ≡ true
 both-true a b h k = ap (λ x. x && b) h ∙ k
 
-less-test : (a b : ℕ) → a < b → nat_lt a b ≡ true
+pub less-test : (a b : ℕ) → a < b → nat_lt a b ≡ true
 less-test a b h = grind (arith, nat_tests)
 
 same-test : (n : ℕ) → nat_eq n n ≡ true

@@ -41,7 +41,7 @@ module _ (F : Forms Bytes) (falls : LeadsDown (λ l. l) (links_in F)) where
   rows-low : (l : ℕ) → All (λ k. k < l) (rows_below (F l))
   rows-low l = All-drop (λ k. k < l) (entry_count (F l)) (links_in F l) (all-counted (λ k. k < l) (links_in F l) (λ k some. falls l k some))
 
-  rows-deep : (n m l : ℕ) → l < n → l < m → rows_from n F l ≡ rows_from m F l
+  pub rows-deep : (n m l : ℕ) → l < n → l < m → rows_from n F l ≡ rows_from m F l
   unfolding rows_from
   rows-deep zero m l low low' = absurd (omega (arith, low))
   rows-deep (suc n) zero l low low' = absurd (omega (arith, low'))
