@@ -1,0 +1,12 @@
+pub mod Zips
+pub mod RowParts
+pub mod VectorRows
+pub mod AlikeLemmas
+pub mod ChainRows
+pub mod ChainPairs
+pub mod TrieRows
+pub mod TriePairs
+pub mod Contents
+pub mod MapContents
+pub mod Roots
+pub mod StateRows

@@ -1,0 +1,179 @@
+use Rattle.std.proofs.Common.{◌≡◌, ◌≢◌, ◌∙◌, ℕ, ◌∷◌, length, drop, refl, sym, arith, ap, Option, Some}
+use Rattle.std.specs.Prelude.{option_to_list}
+use Rattle.std.proofs.lemmas.Bool.{eqb-true, eq-eqb}
+use Rattle.node_heap.specs.Heap.{form_at}
+use Rattle.node_heap.specs.Glass.{lent}
+use Rattle.champ_chain.proofs.FrameLemmas.{rows-live}
+use Rattle.champ_trie.specs.Walk.{depth_of}
+use Rattle.same_value.proofs.ChainRows.{passed-none, passed-more, once-more, apart-more}
+use Rattle.same_value.proofs.ChainPairs.{left-row, right-row, same-links, good-left, good-right, entries-same, as-long, rest-alike, more-alike, last-alike, rows-shorter}
+use Rattle.same_value.proofs.chains.same_chains.Goals as goal
+
+pub loop-left_row-init : goal.loop-left_row-init
+loop-left_row-init g c = λ first second. (
+  passed-none g.T.Ord.cmp g.met.T.Ord.total (form_at (lent c.args.glass.now)) c.args.left c.args.right first.entries second.entries first.rows second.rows,
+  (λ alike. alike, λ alike. alike),
+  λ counted. omega arith,
+)
+
+pub returns-then-eq-clause-alike : goal.returns-then-eq-clause-alike
+returns-then-eq-clause-alike g c =
+    let h = lent c.args.glass.now in
+    let now = c.loop-left_row.invariant c.requires.left c.requires.right in
+    let same : c.loop-left_row.left_row ≡ c.loop-left_row.right_row = eqb-true _ _ (sym c.if-eq.ensures) in (
+      λ yes. now.1.1 (same-links g.T.Ord.cmp g.met.T.Ord.total (form_at h) (g.C.Compares.same c.args.how.now h) (g.C.Compares.good c.args.how.now h) (g.met.C.Compares.itself c.args.how.now h) (g.met.C.Compares.keyed c.args.how.now h)
+          (g.met.C.Compares.outermost c.args.how.now h) c.args.left c.args.right c.requires.left c.requires.right c.loop-left_row.left_row c.loop-left_row.right_row now.0 same),
+      λ alike. refl,
+    )
+
+pub returns-then-eq-clause-few : goal.returns-then-eq-clause-few
+returns-then-eq-clause-few g c = λ counted.
+    let now = c.loop-left_row.invariant c.requires.left c.requires.right in
+    record { rows = now.0.rows; once = now.0.once; apart = now.0.apart; few = omega (arith, now.2 counted) }
+
+pub row_of-first-requires : goal.row_of-first-requires
+row_of-first-requires g c =
+    let h = lent c.args.glass.now in
+    let now = c.loop-left_row.invariant c.requires.left c.requires.right in
+    left-row g.T.Ord.cmp g.met.T.Ord.total (form_at h) (g.C.Compares.same c.args.how.now h) (g.C.Compares.good c.args.how.now h) (g.met.C.Compares.itself c.args.how.now h) (g.met.C.Compares.keyed c.args.how.now h)
+    (g.met.C.Compares.outermost c.args.how.now h) c.args.left c.args.right c.requires.left c.requires.right c.loop-left_row.left_row c.loop-left_row.right_row now.0
+
+pub row_of-second-requires : goal.row_of-second-requires
+row_of-second-requires g c =
+    let h = lent c.args.glass.now in
+    let now = c.loop-left_row.invariant c.requires.left c.requires.right in
+    right-row g.T.Ord.cmp g.met.T.Ord.total (form_at h) (g.C.Compares.same c.args.how.now h) (g.C.Compares.good c.args.how.now h) (g.met.C.Compares.itself c.args.how.now h) (g.met.C.Compares.keyed c.args.how.now h)
+    (g.met.C.Compares.outermost c.args.how.now h) c.args.left c.args.right c.requires.left c.requires.right c.loop-left_row.left_row c.loop-left_row.right_row now.0
+
+pub same_entries-requires-clause-left : goal.same_entries-requires-clause-left
+same_entries-requires-clause-left g c =
+    let h = lent c.args.glass.now in
+    let now = c.loop-left_row.invariant c.requires.left c.requires.right in
+    good-left g.T.Ord.cmp g.met.T.Ord.total (form_at h) (g.C.Compares.same c.args.how.now h) (g.C.Compares.good c.args.how.now h) (g.met.C.Compares.itself c.args.how.now h) (g.met.C.Compares.keyed c.args.how.now h)
+    (g.met.C.Compares.outermost c.args.how.now h) c.args.left c.args.right c.requires.left c.requires.right c.loop-left_row.left_row c.loop-left_row.right_row now.0 c.row_of-first.result.entry c.row_of-second.result.entry c.row_of-first.result.next c.row_of-second.result.next c.row_of-first.ensures.row c.row_of-second.ensures.row
+
+pub same_entries-requires-clause-right : goal.same_entries-requires-clause-right
+same_entries-requires-clause-right g c =
+    let h = lent c.args.glass.now in
+    let now = c.loop-left_row.invariant c.requires.left c.requires.right in
+    good-right g.T.Ord.cmp g.met.T.Ord.total (form_at h) (g.C.Compares.same c.args.how.now h) (g.C.Compares.good c.args.how.now h) (g.met.C.Compares.itself c.args.how.now h) (g.met.C.Compares.keyed c.args.how.now h)
+    (g.met.C.Compares.outermost c.args.how.now h) c.args.left c.args.right c.requires.left c.requires.right c.loop-left_row.left_row c.loop-left_row.right_row now.0 c.row_of-first.result.entry c.row_of-second.result.entry c.row_of-first.result.next c.row_of-second.result.next c.row_of-first.ensures.row c.row_of-second.ensures.row
+
+pub returns-then-not-same_entries-clause-alike : goal.returns-then-not-same_entries-clause-alike
+returns-then-not-same_entries-clause-alike g c =
+    let h = lent c.args.glass.now in
+    let now = c.loop-left_row.invariant c.requires.left c.requires.right in (
+      λ no. absurd cc,
+      λ alike. c.if-not-same_entries.ensures.same.1 (entries-same g.T.Ord.cmp g.met.T.Ord.total (form_at h) (g.C.Compares.same c.args.how.now h) (g.C.Compares.good c.args.how.now h) (g.met.C.Compares.itself c.args.how.now h) (g.met.C.Compares.keyed c.args.how.now h)
+          (g.met.C.Compares.outermost c.args.how.now h) c.args.left c.args.right c.requires.left c.requires.right c.loop-left_row.left_row c.loop-left_row.right_row now.0 c.row_of-first.result.entry c.row_of-second.result.entry c.row_of-first.result.next c.row_of-second.result.next c.row_of-first.ensures.row c.row_of-second.ensures.row (now.1.0 alike)),
+    )
+
+pub returns-then-not-same_entries-clause-few : goal.returns-then-not-same_entries-clause-few
+returns-then-not-same_entries-clause-few g c = λ counted.
+    let now = c.loop-left_row.invariant c.requires.left c.requires.right in
+    record {
+      rows = now.0.rows;
+      once = now.0.once;
+      apart = now.0.apart;
+      few = omega (arith, now.2 counted, c.row_of-first.ensures.step, c.row_of-second.ensures.step, c.same_entries.ensures.few counted);
+    }
+
+pub loop-left_row-smaller : goal.loop-left_row-smaller
+loop-left_row-smaller g c =
+    let h = lent c.args.glass.now in
+    let now = c.loop-left_row.invariant c.requires.left c.requires.right in
+    let few = rows-live h c.row_of-first.ensures.graph (drop now.0.passed c.requires.left.entries) (Some c.loop-left_row.left_row) now.0.left_rows in
+    rows-shorter (form_at h) (depth_of h) c.loop-left_row.left_row c.row_of-first.result.entry c.in-Some-Some.next c.row_of-first.result.next (drop now.0.passed c.requires.left.entries) now.0.left_rows (omega (arith, few)) c.row_of-first.ensures.row c.in-Some-Some.is-0
+
+pub loop-left_row-preserved : goal.loop-left_row-preserved
+loop-left_row-preserved g c = λ first second.
+    let h = lent c.args.glass.now in
+    let now = c.loop-left_row.invariant first second in
+    let other : c.loop-left_row.left_row ≢ c.loop-left_row.right_row = λ same. let bad = c.if-eq.ensures ∙ eq-eqb _ _ same in absurd cc in
+    let same : g.C.Compares.same c.args.how.now h c.row_of-first.result.entry c.row_of-second.result.entry = c.if-not-same_entries.ensures.same.0 refl in
+    let more = passed-more g.T.Ord.cmp g.met.T.Ord.total (form_at h) c.args.left c.args.right first.entries second.entries first.rows second.rows first.rising second.rising c.loop-left_row.left_row c.loop-left_row.right_row now.0
+    c.row_of-first.result.entry c.row_of-second.result.entry c.row_of-first.result.next c.row_of-second.result.next c.row_of-first.ensures.row c.row_of-second.ensures.row (λ j k. g.met.C.Compares.equal_keys c.args.how.now h c.row_of-first.result.entry c.row_of-second.result.entry j k same) other c.in-Some-Some.next c.in-Some-Some.other c.in-Some-Some.is-0 c.in-Some-Some.is-1 in (
+      more.0,
+      (
+        λ alike. rest-alike g.T.Ord.cmp g.met.T.Ord.total (form_at h) (g.C.Compares.same c.args.how.now h) (g.C.Compares.good c.args.how.now h) (g.met.C.Compares.itself c.args.how.now h) (g.met.C.Compares.keyed c.args.how.now h)
+            (g.met.C.Compares.outermost c.args.how.now h) c.args.left c.args.right first second c.loop-left_row.left_row c.loop-left_row.right_row now.0 c.row_of-first.result.entry c.row_of-second.result.entry c.row_of-first.result.next c.row_of-second.result.next c.row_of-first.ensures.row c.row_of-second.ensures.row c.in-Some-Some.next c.in-Some-Some.other c.in-Some-Some.is-0 c.in-Some-Some.is-1 (now.1.0 alike),
+        λ alike. now.1.1 (more-alike g.T.Ord.cmp g.met.T.Ord.total (form_at h) (g.C.Compares.same c.args.how.now h) (g.C.Compares.good c.args.how.now h) (g.met.C.Compares.itself c.args.how.now h) (g.met.C.Compares.keyed c.args.how.now h)
+            (g.met.C.Compares.outermost c.args.how.now h) c.args.left c.args.right first second c.loop-left_row.left_row c.loop-left_row.right_row now.0 c.row_of-first.result.entry c.row_of-second.result.entry c.row_of-first.result.next c.row_of-second.result.next c.row_of-first.ensures.row c.row_of-second.ensures.row c.in-Some-Some.next c.in-Some-Some.other c.in-Some-Some.is-0 c.in-Some-Some.is-1 same alike),
+      ),
+      λ counted. omega (arith, now.2 counted, ap length more.1, c.row_of-first.ensures.step, c.row_of-second.ensures.step, c.same_entries.ensures.few counted),
+    )
+
+pub returns-in-None-None-clause-alike : goal.returns-in-None-None-clause-alike
+returns-in-None-None-clause-alike g c =
+    let h = lent c.args.glass.now in
+    let now = c.loop-left_row.invariant c.requires.left c.requires.right in
+    let same : g.C.Compares.same c.args.how.now h c.row_of-first.result.entry c.row_of-second.result.entry = c.if-not-same_entries.ensures.same.0 refl in (
+      λ yes. now.1.1 (last-alike g.T.Ord.cmp g.met.T.Ord.total (form_at h) (g.C.Compares.same c.args.how.now h) (g.C.Compares.good c.args.how.now h) (g.met.C.Compares.itself c.args.how.now h) (g.met.C.Compares.keyed c.args.how.now h)
+          (g.met.C.Compares.outermost c.args.how.now h) c.args.left c.args.right c.requires.left c.requires.right c.loop-left_row.left_row c.loop-left_row.right_row now.0 c.row_of-first.result.entry c.row_of-second.result.entry c.row_of-first.result.next c.row_of-second.result.next c.row_of-first.ensures.row c.row_of-second.ensures.row c.in-None-None.is-0 c.in-None-None.is-1 same),
+      λ alike. refl,
+    )
+
+pub returns-in-None-None-clause-few : goal.returns-in-None-None-clause-few
+returns-in-None-None-clause-few g c = λ counted.
+    let h = lent c.args.glass.now in
+    let now = c.loop-left_row.invariant c.requires.left c.requires.right in
+    let other : c.loop-left_row.left_row ≢ c.loop-left_row.right_row = λ same. let bad = c.if-eq.ensures ∙ eq-eqb _ _ same in absurd cc in
+    let same : g.C.Compares.same c.args.how.now h c.row_of-first.result.entry c.row_of-second.result.entry = c.if-not-same_entries.ensures.same.0 refl in
+    record {
+      rows = c.loop-left_row.left_row ∷ now.0.rows;
+      once = once-more g.T.Ord.cmp g.met.T.Ord.total (form_at h) c.args.left c.args.right c.requires.left.entries c.requires.right.entries c.requires.left.rows c.requires.right.rows c.requires.left.rising c.requires.right.rising c.loop-left_row.left_row
+          c.loop-left_row.right_row now.0 c.row_of-first.result.entry c.row_of-second.result.entry c.row_of-first.result.next c.row_of-second.result.next c.row_of-first.ensures.row c.row_of-second.ensures.row (λ j k. g.met.C.Compares.equal_keys c.args.how.now h c.row_of-first.result.entry c.row_of-second.result.entry j k same) other;
+      apart = apart-more g.T.Ord.cmp g.met.T.Ord.total (form_at h) c.args.left c.args.right c.requires.left.entries c.requires.right.entries c.requires.left.rows c.requires.right.rows c.requires.left.rising c.requires.right.rising c.loop-left_row.left_row
+          c.loop-left_row.right_row now.0 c.row_of-first.result.entry c.row_of-second.result.entry c.row_of-first.result.next c.row_of-second.result.next c.row_of-first.ensures.row c.row_of-second.ensures.row (λ j k. g.met.C.Compares.equal_keys c.args.how.now h c.row_of-first.result.entry c.row_of-second.result.entry j k same) other;
+      few = omega (arith, now.2 counted, c.row_of-first.ensures.step, c.row_of-second.ensures.step, c.same_entries.ensures.few counted);
+    }
+
+pub returns-in_default-clause-alike : goal.returns-in_default-clause-alike
+returns-in_default-clause-alike g c =
+    let h = lent c.args.glass.now in
+    let now = c.loop-left_row.invariant c.requires.left c.requires.right in
+    let size = λ (next : Option ℕ). length (option_to_list next) in (
+      λ no. absurd cc,
+      λ alike. absurd (omega (
+        arith,
+        as-long g.T.Ord.cmp g.met.T.Ord.total (form_at h) (g.C.Compares.same c.args.how.now h) (g.C.Compares.good c.args.how.now h) (g.met.C.Compares.itself c.args.how.now h) (g.met.C.Compares.keyed c.args.how.now h)
+            (g.met.C.Compares.outermost c.args.how.now h) c.args.left c.args.right c.requires.left c.requires.right c.loop-left_row.left_row c.loop-left_row.right_row now.0 c.row_of-first.result.entry c.row_of-second.result.entry c.row_of-first.result.next c.row_of-second.result.next c.row_of-first.ensures.row c.row_of-second.ensures.row (now.1.0 alike),
+        ap size c.in_default.is-0,
+        ap size c.in_default.is-1,
+      )),
+    )
+
+pub returns-in_default-clause-few : goal.returns-in_default-clause-few
+returns-in_default-clause-few g c = λ counted.
+    let now = c.loop-left_row.invariant c.requires.left c.requires.right in
+    record {
+      rows = now.0.rows;
+      once = now.0.once;
+      apart = now.0.apart;
+      few = omega (arith, now.2 counted, c.row_of-first.ensures.step, c.row_of-second.ensures.step, c.same_entries.ensures.few counted);
+    }
+
+pub returns-in_default-2-clause-alike : goal.returns-in_default-2-clause-alike
+returns-in_default-2-clause-alike g c =
+    let h = lent c.args.glass.now in
+    let now = c.loop-left_row.invariant c.requires.left c.requires.right in
+    let size = λ (next : Option ℕ). length (option_to_list next) in (
+      λ no. absurd cc,
+      λ alike. absurd (omega (
+        arith,
+        as-long g.T.Ord.cmp g.met.T.Ord.total (form_at h) (g.C.Compares.same c.args.how.now h) (g.C.Compares.good c.args.how.now h) (g.met.C.Compares.itself c.args.how.now h) (g.met.C.Compares.keyed c.args.how.now h)
+            (g.met.C.Compares.outermost c.args.how.now h) c.args.left c.args.right c.requires.left c.requires.right c.loop-left_row.left_row c.loop-left_row.right_row now.0 c.row_of-first.result.entry c.row_of-second.result.entry c.row_of-first.result.next c.row_of-second.result.next c.row_of-first.ensures.row c.row_of-second.ensures.row (now.1.0 alike),
+        ap size c.in_default.is-0,
+        ap size c.in_default.is-1,
+      )),
+    )
+
+pub returns-in_default-2-clause-few : goal.returns-in_default-2-clause-few
+returns-in_default-2-clause-few g c = λ counted.
+    let now = c.loop-left_row.invariant c.requires.left c.requires.right in
+    record {
+      rows = now.0.rows;
+      once = now.0.once;
+      apart = now.0.apart;
+      few = omega (arith, now.2 counted, c.row_of-first.ensures.step, c.row_of-second.ensures.step, c.same_entries.ensures.few counted);
+    }

@@ -1,0 +1,26 @@
+use Rattle.std.proofs.Common.{refl, sym, subst}
+use Rattle.node_heap.specs.Heap.{form_at}
+use Rattle.node_heap.specs.Glass.{lent}
+use Rattle.same_value.specs.Apart.{HasApart}
+use Rattle.same_value.specs.Cells.{IsCellLink, IsSameCell}
+use Rattle.same_value.specs.CompareLaws.{cell-itself}
+use Rattle.same_value.proofs.MapContents.{few-steps, no-spare}
+use Rattle.same_value.proofs.Roots.{map-tries, map-alike}
+use Rattle.same_value.proofs.maps.equal_cells.Goals as goal
+
+pub same_tries-requires-clause-tries : goal.same_tries-requires-clause-tries
+same_tries-requires-clause-tries g c =
+    map-tries g.T.Ord.cmp g.met.T.Ord.total g.T.Element.code_of g.met.T.Element.equal_codes (lent c.args.glass) c.args.a c.args.b c.requires.bits c.root.result c.root-2.result c.root.ensures c.root-2.ensures
+    (IsCellLink (form_at (lent c.args.glass))) (IsSameCell g.T.Ord.cmp (form_at (lent c.args.glass))) (cell-itself g.T.Ord.cmp g.met.T.Ord.total (form_at (lent c.args.glass))) c.requires.first.0 c.requires.second.0 c.requires.first.1 c.requires.second.1
+
+pub returns-clause-equal : goal.returns-clause-equal
+returns-clause-equal g c = λ M N first second.
+    let both = map-alike g.T.Ord.cmp g.met.T.Ord.total g.T.Element.code_of g.met.T.Element.equal_codes (lent c.args.glass) c.args.a c.args.b c.requires.bits c.root.result c.root-2.result c.root.ensures c.root-2.ensures
+    (IsCellLink (form_at (lent c.args.glass))) (IsSameCell g.T.Ord.cmp (form_at (lent c.args.glass))) (cell-itself g.T.Ord.cmp g.met.T.Ord.total (form_at (lent c.args.glass))) M N first second in
+    (λ yes. both.0 (c.same_tries.ensures.alike.0 yes), λ same. c.same_tries.ensures.alike.1 (both.1 same))
+
+pub returns-clause-few : goal.returns-clause-few
+returns-clause-few g c = λ rows has.
+    let F = form_at (lent c.args.glass) in
+    few-steps F c.root.result c.root-2.result c.args.steps.now c.same_tries.new.steps _ (c.same_tries.ensures.few tt) (no-spare F c.same_tries.result _ refl) rows
+    (subst (λ l. HasApart F l c.root-2.result rows) (sym c.root.ensures) (subst (λ m. HasApart F c.args.a.root m rows) (sym c.root-2.ensures) has))

@@ -1,0 +1,7 @@
+pub mod Cells
+pub mod Entries
+pub mod Contents
+pub mod Apart
+pub mod Alike
+pub mod Lines
+pub mod CompareLaws

@@ -1,0 +1,21 @@
+//! Whether two vectors, maps, sets or states of one heap have the same in them.
+//!
+//! Equal links end a walk at once, so what two values share isn't read. Two tries are compared row by row: a set of
+//! entries has one trie, so tries of equal sets have equal rows. Two vectors are compared row by row as long as their
+//! rows are cut alike, and else element by element. Nothing here takes memory.
+#![tactic(auto)]
+
+mod cells;
+mod chains;
+mod compare;
+mod entries;
+mod maps;
+mod states;
+mod tries;
+mod values;
+mod vectors;
+
+pub use maps::{equal_cells, equal_map, equal_set};
+pub use states::equal_state;
+pub use values::Values;
+pub use vectors::equal_vec;

@@ -1,0 +1,109 @@
+//! States, and what maps of states need.
+ghost use Rattle.std.specs.Prelude.{◌≡◌, ℕ, ◌↔◌, ◌<◌, IsTrue};
+ghost use Rattle.node_heap.specs.Heap.{form_at};
+ghost use Rattle.same_value.specs.Alike.{Alike, IsFrom};
+ghost use Rattle.same_value.specs.Contents.{IsState, IsSameState};
+ghost use Rattle.same_value.specs.Entries.{IsPairOf, IsSamePair};
+
+use crate::compare::Compares;
+use crate::entries::{Keys, OfLines, values_of};
+use crate::tries::same_tries;
+use elem_core::Element;
+use node_heap::{Glass, Heap, Link, Steps};
+use std::marker::Brand;
+use std::sync::ledger::{Blank, Ledger};
+
+// The same as `same_tries` from two roots on, with steps that are counted on a ledger of its own.
+fn with_steps<T: Element, C: Compares<T>, L: Ledger>(
+    heap: &Heap<T>,
+    left: Link,
+    right: Link,
+    how: &C,
+    blank: Blank,
+) -> bool
+    requires reads { C.reads how.now heap.now }
+    requires tries { (code : T → ℕ) × IsFrom T.cmp (form_at heap.now) (C.good how.now heap.now) code 0 left
+        × IsFrom T.cmp (form_at heap.now) (C.good how.now heap.now) code 0 right }
+    requires name { blank.name ≡ L.name }
+    requires parts { blank.parts ≡ L.parts }
+    requires some { 0 < L.parts }
+    ensures alike { IsTrue result ↔ Alike (form_at heap.now) (C.same how.now heap.now) left right }
+{
+    let mut steps = Steps::<L>::new(blank);
+    same_tries(&Glass::new(heap), left, right, 0, how, &mut steps)
+}
+
+// Whether two tries have the same entries. Nobody asks for the steps.
+pub(crate) fn same_roots<T: Element, C: Compares<T>>(
+    heap: &Heap<T>,
+    left: Link,
+    right: Link,
+    how: &C,
+) -> bool
+    requires reads { C.reads how.now heap.now }
+    requires tries { (code : T → ℕ) × IsFrom T.cmp (form_at heap.now) (C.good how.now heap.now) code 0 left
+        × IsFrom T.cmp (form_at heap.now) (C.good how.now heap.now) code 0 right }
+    ensures alike { IsTrue result ↔ Alike (form_at heap.now) (C.same how.now heap.now) left right }
+{
+    with_steps::<T, C, Brand>(heap, left, right, how, Blank::new(1))
+}
+
+/// Whether two states have equal maps and equal sets, by so many bits of the codes.
+pub fn equal_state<T: Element>(heap: &Heap<T>, bits: u32, a: Link, b: Link) -> bool
+    requires first { IsState T.cmp T.code_of heap.now bits a }
+    requires second { IsState T.cmp T.code_of heap.now bits b }
+    ensures equal { IsTrue result ↔ IsSameState T.cmp T.code_of heap.now bits a b }
+{
+    let _ = bits;
+    if a == b {
+        return true;
+    }
+    let first = heap.links(a);
+    let second = heap.links(b);
+    same_roots(heap, first[0], second[0], &OfLines { heap })
+        && same_roots(heap, first[1], second[1], &Keys)
+}
+
+// Compares the entries of maps whose values are states in this heap, by so many bits of the codes.
+#[derive(Drop)]
+pub(crate) struct OfStates<'h, T> {
+    pub(crate) heap: &'h Heap<T>,
+    pub(crate) bits: u32,
+}
+
+impl<T: Element> Compares<T> for OfStates<'_, T> {
+    ghost use Rattle.std.specs.Prelude.{◌≡◌};
+    ghost use Rattle.same_value.specs.CompareLaws.{state-itself, pair-itself, pair-keyed, pair-keys, pair-outermost};
+
+    ghost reads = { λ s h. s.heap.now ≡ h };
+
+    ghost good = { λ s h l. IsPairOf (form_at h) (IsState T.cmp T.code_of h s.bits) l };
+
+    ghost same = { λ s h l m. IsSamePair (form_at h) T.cmp (IsSameState T.cmp T.code_of h s.bits) l m };
+
+    ghost counted = { ⊥ };
+
+    fn same_entries<L: Ledger>(
+        &self,
+        glass: &Glass<'_, T>,
+        left: Link,
+        right: Link,
+        steps: &mut Steps<L>,
+    ) -> bool {
+        if left == right {
+            return true;
+        }
+        match values_of(glass, left, right, steps) {
+            None => false,
+            Some(both) => equal_state(self.heap, self.bits, both.left, both.right),
+        }
+    }
+
+    ghost itself = { λ s h l. pair-itself T.cmp T.total (form_at h) (IsState T.cmp T.code_of h s.bits) (IsSameState T.cmp T.code_of h s.bits) (state-itself T.cmp T.total T.code_of h s.bits) l };
+
+    ghost keyed = { λ s h l m. pair-keyed T.cmp (form_at h) (IsSameState T.cmp T.code_of h s.bits) l m };
+
+    ghost equal_keys = { λ s h l m j k. pair-keys T.cmp (form_at h) (IsSameState T.cmp T.code_of h s.bits) l m j k };
+
+    ghost outermost = { λ s h l k m kind ks. pair-outermost T.cmp (form_at h) (IsState T.cmp T.code_of h s.bits) (IsSameState T.cmp T.code_of h s.bits) l k m kind ks };
+}
