@@ -1,4 +1,5 @@
 pub mod GainLemmas
 pub mod GivenUpLemmas
 pub mod StandLemmas
+pub mod EqualityLemmas
 pub mod UndoLemmas

@@ -14,8 +14,8 @@ use std::alloc::Global;
 use std::process::Abort;
 use std::test::Fail;
 
-// The map, whose root stays held.
-fn kept(map: Map) -> MapRef
+/// The map, whose root stays held.
+pub fn kept(map: Map) -> MapRef
     ensures { result ≡ map }
 {
     let view = map.view();
@@ -23,8 +23,8 @@ fn kept(map: Map) -> MapRef
     view
 }
 
-// The set, whose root stays held.
-fn kept_set(set: Set) -> SetRef
+/// The set, whose root stays held.
+pub fn kept_set(set: Set) -> SetRef
     ensures { result ≡ set }
 {
     let view = set.view();
@@ -64,11 +64,12 @@ fn unbound<T: Element, P: Probe<T>>(
     }
 }
 
-// The set with the key.
-fn gained<T: Element>(heap: &mut Heap<T>, set: SetRef, key: T) -> Result<SetRef, NoMemory>
+/// The set with the key.
+pub fn gained<T: Element>(heap: &mut Heap<T>, set: SetRef, key: T) -> Result<SetRef, NoMemory>
     requires few { hold_count heap.old < 2 ^ 50 }
     requires good { IsSomeSet T.cmp T.code_of heap.old set }
     ensures good { IfOk result (IsSomeSet T.cmp T.code_of heap.new) }
+    ensures bits { IfOk result (λ made. made.bits ≡ set.bits) }
     ensures others { IfOk result (λ _. KeepsSets T.cmp T.code_of heap.old heap.new) }
     ensures few { IfOk result (λ _. hold_count heap.new ≡ hold_count heap.old + 1) }
 {

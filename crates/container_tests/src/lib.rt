@@ -7,6 +7,8 @@ mod chains;
 #[cfg(test)]
 mod counted_rows;
 #[cfg(test)]
+mod equality;
+#[cfg(test)]
 mod joins;
 #[cfg(test)]
 mod kinds;

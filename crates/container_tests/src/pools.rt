@@ -3,7 +3,10 @@ use crate::samples::text;
 use elem_core::Text;
 use node_heap::{Head, Heap};
 use pool_order::order;
-use pool_text::{Places, Pool, PoolText, Row, Rows, pool_of, text_length, to_bytes, to_json};
+use pool_text::{
+    Damage, Places, Pool, PoolText, Row, Rows, pool_from_bytes, pool_from_json, pool_of,
+    text_length, to_bytes, to_json,
+};
 use std::test::Fail;
 
 // A leaf of one cell, twice among the roots.
@@ -48,7 +51,7 @@ fn rows_of_each_kind(rt: &HostRuntime) -> Result<Pool, Fail> {
 }
 
 #[test]
-fn writes_rows_of_each_kind(rt: HostRuntime) -> Result<(), Fail> {
+fn writes_and_reads_rows_of_each_kind(rt: HostRuntime) -> Result<(), Fail> {
     let pool = rows_of_each_kind(&rt)?;
     let bytes = to_bytes(rt.alloc(), &pool)?;
     let expected =
@@ -57,5 +60,96 @@ fn writes_rows_of_each_kind(rt: HostRuntime) -> Result<(), Fail> {
     assert_eq!(rt; text_length(&pool), bytes.len() as u64);
     let value = to_json(rt.alloc(), &pool)?;
     assert_eq!(rt; value.to_string(rt.alloc())?.as_str(), expected);
+    let read = pool_from_json(rt.alloc(), &value, 32)?;
+    assert_eq!(rt;
+        to_bytes(rt.alloc(), &read)?.as_slice(),
+        expected.as_bytes()
+    );
+    let read = pool_from_bytes(rt.alloc(), expected.as_bytes(), 32)?;
+    assert_eq!(rt;
+        to_bytes(rt.alloc(), &read)?.as_slice(),
+        expected.as_bytes()
+    );
+    Ok(())
+}
+
+// The document of a new space, with white space and its keys in another order.
+#[test]
+fn reads_white_space_and_any_order_of_keys(rt: HostRuntime) -> Result<(), Fail> {
+    let loose =
+        b" {\"version\" : 1,\n\"rows\":[[\"m\",0,0,0,[]], [\"m\",0,0,0,[ ]],[\"s\",[0,1]],[\"m\",0,0,0,[]],[\"l\",[]],[\"l\",[]]],\t\"roots\":[2,3,4,5],\"format\":\"ewig-pool\",\"bits\":32}\r\n";
+    let compact =
+        b"{\"bits\":32,\"format\":\"ewig-pool\",\"roots\":[2,3,4,5],\"rows\":[[\"m\",0,0,0,[]],[\"m\",0,0,0,[]],[\"s\",[0,1]],[\"m\",0,0,0,[]],[\"l\",[]],[\"l\",[]]],\"version\":1}";
+    let pool = pool_from_bytes(rt.alloc(), loose.as_slice(), 32)?;
+    assert_eq!(rt; to_bytes(rt.alloc(), &pool)?.as_slice(), compact.as_slice());
+    Ok(())
+}
+
+// What a space of 32 bits finds wrong with the bytes.
+fn damage_in(rt: &HostRuntime, bytes: &[u8]) -> Option<Damage> {
+    match pool_from_bytes(rt.alloc(), bytes, 32) {
+        Ok(_) => None,
+        Err(damage) => Some(damage),
+    }
+}
+
+// Each document but the last fails the test beside it, and those before it in the order of the tests not.
+#[test]
+fn finds_the_first_damage(rt: HostRuntime) -> Result<(), Fail> {
+    let documents: [(&[u8], Option<Damage>); 14] = [
+        (b"{\"bits\":32", Some(Damage::Json)),
+        (b"[\"\xff\"]", Some(Damage::Json)),
+        (
+            b"{\"bits\":32,\"format\":\"ewig-pool\",\"roots\":[2,3,4],\"rows\":[],\"version\":1}",
+            Some(Damage::Form),
+        ),
+        (
+            b"{\"bits\":32,\"format\":\"ewig-pool\",\"more\":0,\"roots\":[2,3,4,5],\"rows\":[],\"version\":1}",
+            Some(Damage::Form),
+        ),
+        (
+            b"{\"bits\":32,\"format\":\"ewig-pod\",\"roots\":[2,3,4,5],\"rows\":[],\"version\":1}",
+            Some(Damage::Form),
+        ),
+        (
+            b"{\"bits\":-1,\"format\":\"ewig-pool\",\"roots\":[2,3,4,5],\"rows\":[],\"version\":1}",
+            Some(Damage::Form),
+        ),
+        (
+            b"{\"bits\":31,\"format\":\"ewig-pool\",\"roots\":[2,3,4,5],\"rows\":[[\"q\",[]]],\"version\":9}",
+            Some(Damage::Version),
+        ),
+        (
+            b"{\"bits\":31,\"format\":\"ewig-pool\",\"roots\":[2,3,4,5],\"rows\":[[\"q\",[]]],\"version\":1}",
+            Some(Damage::Bits),
+        ),
+        (
+            b"{\"bits\":32,\"format\":\"ewig-pool\",\"roots\":[2,3,4,5],\"rows\":[[\"l\",[]],[\"q\",[]]],\"version\":1}",
+            Some(Damage::Row),
+        ),
+        (
+            b"{\"bits\":32,\"format\":\"ewig-pool\",\"roots\":[2,3,4,5],\"rows\":[[\"i\",8,[0]]],\"version\":1}",
+            Some(Damage::Row),
+        ),
+        (
+            b"{\"bits\":32,\"format\":\"ewig-pool\",\"roots\":[2,3,4,5],\"rows\":[[\"m\",0,4294967296,0,[0]]],\"version\":1}",
+            Some(Damage::Row),
+        ),
+        (
+            b"{\"bits\":32,\"format\":\"ewig-pool\",\"roots\":[2,3,4,5],\"rows\":[[\"k\",[0,1,2]]],\"version\":1}",
+            Some(Damage::Row),
+        ),
+        (
+            b"{\"bits\":32,\"format\":\"ewig-pool\",\"roots\":[2,3,4,5],\"rows\":[[\"p\",[0]]],\"version\":1}",
+            Some(Damage::Row),
+        ),
+        (
+            b"{\"bits\":32,\"format\":\"ewig-pool\",\"roots\":[0,0,0,0],\"rows\":[[\"l\",[0]]],\"version\":1}",
+            None,
+        ),
+    ];
+    for (bytes, damage) in documents {
+        assert_eq!(rt; damage_in(&rt, bytes), damage);
+    }
     Ok(())
 }

@@ -1,0 +1,13 @@
+use Rattle.std.proofs.Common.{◌≡◌, ◌+◌}
+use Rattle.node_heap.specs.Heap.{hold_count}
+use Rattle.container_tests.specs.Stands.{IsCellMap, KeepsCellMaps}
+use Rattle.container_tests.proofs.equality.bound_all.Given as goal
+
+abbrev pub invariant-loop-key : goal.invariant-loop-key
+invariant-loop-key g l =
+    record {
+      good : IsCellMap g.T.Ord.cmp g.T.Element.code_of l.heap l.map;
+      bits : l.map.bits ≡ l.initial.map.bits;
+      others : KeepsCellMaps g.T.Ord.cmp g.T.Element.code_of l.initial.heap l.heap;
+      count : hold_count l.heap ≡ hold_count l.initial.heap + l.key-index;
+    }
