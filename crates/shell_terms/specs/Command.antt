@@ -1,11 +1,22 @@
 -- The commands of the shell, as its definitions see them.
-use Rattle.std.specs.Prelude.{ℕ, List}
+use Rattle.std.specs.Prelude.{ℕ}
+use Rattle.shell_terms.specs.Edit.{Bytes, PlainEdit}
 
--- What a line of the shell asks for: a command, its names and texts as their bytes.
+-- What a line of the shell asks for: a command with its names, numbers and texts, in the order of the line.
 pub data PlainCommand : Type 0 where
-  new : (name : List ℕ) → PlainCommand
-  add : (name text : List ℕ) → PlainCommand
-  get : (name : List ℕ) (index : ℕ) → PlainCommand
-  len : (name : List ℕ) → PlainCommand
+  edit : (change : PlainEdit) → PlainCommand
+  mark : (version : Bytes) → PlainCommand
+  unmark : (version : Bytes) → PlainCommand
+  back : (version : Bytes) → PlainCommand
+  undo : PlainCommand
+  redo : PlainCommand
+  begin : PlainCommand
+  «end» : PlainCommand
+  abort : PlainCommand
+  get : (name : Bytes) (index : ℕ) → PlainCommand
+  len : (name : Bytes) → PlainCommand
+  show : (name : Bytes) (from to : ℕ) → PlainCommand
   list : PlainCommand
+  stars : PlainCommand
+  marks : PlainCommand
   quit : PlainCommand

@@ -38,12 +38,12 @@ pub other_word : (word key : List ℕ) → (word ≡ key → ⊥) → bytes_eq w
 other_word word key other = false_from_ne_true (bytes_eq word key) (λ test. other ((bytes_eq-Decides word key).0 test))
 
 -- what a map over the pieces of a command answers
-pub mapped : {A : Type 0} (pieces : Result A BadLine) (answer : Result Command BadLine) (P : A → Command → Type 0) (f : A → PlainCommand) → MatchResult pieces (λ x. IsOkAnd answer (P x)) (λ bad. answer ≡ Err bad) → ((x : A) (command : Command) → P x command → plain_command command ≡ f x) → plain_answer answer ≡ go_on pieces (λ x. Ok (f x))
+mapped : {A : Type 0} (pieces : Result A BadLine) (answer : Result Command BadLine) (P : A → Command → Type 0) (f : A → PlainCommand) → MatchResult pieces (λ x. IsOkAnd answer (P x)) (λ bad. answer ≡ Err bad) → ((x : A) (command : Command) → P x command → plain_command command ≡ f x) → plain_answer answer ≡ go_on pieces (λ x. Ok (f x))
 mapped (Ok x) (Ok command) P f h each = ap (λ v. Ok v) (each x command h)
 mapped (Ok x) (Err bad) P f h each = absurd h
 mapped (Err bad) answer P f h each = rw h refl
 
--- the answer for a word of the table, from what its pieces gave
-pub answers_word : (line word : List ℕ) (read : RestMeaning) (rest : Option (List ℕ)) (answer pieces : Result PlainCommand BadLine) → IsUtf8 line → first_piece line ≡ word → lookup (bytes_eq word) commands ≡ Some read → rest ≡ after_piece line → read rest ≡ pieces → answer ≡ pieces → answer ≡ meaning line
-answers_word line word read rest answer pieces utf8 e found behind gave is =
-    is ∙ sym gave ∙ ap read behind ∙ sym (meaning-word line word read utf8 e found)
+-- the answer for a word of the table, made of what its pieces gave
+pub answers_word : {A : Type 0} (line word : List ℕ) (read : RestMeaning) (rest : Option (List ℕ)) (pieces : Result A BadLine) (answer : Result Command BadLine) (P : A → Command → Type 0) (f : A → PlainCommand) → IsUtf8 line → first_piece line ≡ word → lookup (bytes_eq word) commands ≡ Some read → rest ≡ after_piece line → read rest ≡ go_on pieces (λ x. Ok (f x)) → MatchResult pieces (λ x. IsOkAnd answer (P x)) (λ bad. answer ≡ Err bad) → ((x : A) (command : Command) → P x command → plain_command command ≡ f x) → plain_answer answer ≡ meaning line
+answers_word line word read rest pieces answer P f utf8 e found behind gave is each =
+    mapped pieces answer P f is each ∙ sym gave ∙ ap read behind ∙ sym (meaning-word line word read utf8 e found)

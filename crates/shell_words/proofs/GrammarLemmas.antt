@@ -1,5 +1,5 @@
 -- What the words of the grammar give, case by case.
-use Rattle.std.proofs.Common.{◌≡◌, ℕ, ◌+◌, ◌<◌, ◌^◌, Bool, true, false, not, ◌||◌, cond, List, [], ◌∷◌, length, drop, Some, None, Result, Ok, Err, slice_index, suc, sym, ap, refl, ◌∙◌, arith, ltb, length-drop}
+use Rattle.std.proofs.Common.{◌≡◌, ℕ, ◌+◌, ◌<◌, ◌^◌, Bool, true, false, not, ◌||◌, cond, List, [], ◌∷◌, length, drop, Some, None, Result, Ok, Err, is_ok, slice_index, suc, sym, ap, refl, ◌∙◌, arith, ltb, length-drop}
 use Rattle.std.specs.List.{list_any, position_or_len, after_first}
 use Rattle.std.specs.Result.{result_ok}
 use Rattle.std.specs.Char.{is_ascii_digit}
@@ -11,7 +11,7 @@ use Rattle.std.proofs.lemmas.Grind.{common_steps}
 use Rattle.std.proofs.lemmas.List.{get_or-drop}
 use Rattle.std.proofs.lemmas.Str.Parse.{IsNumeralModel, numerals_by_value, tells_all_ascii_digits, parse_plain}
 use Rattle.elem_core.specs.Cell.{IsCell}
-use Rattle.elem_core.specs.Naming.{IsName}
+use Rattle.elem_core.specs.Naming.{IsName, is_name}
 use Rattle.shell_words.specs.Number.{leading_zero, is_number, number_of}
 use Rattle.shell_terms.specs.Command.{PlainCommand}
 use Rattle.shell_words.specs.declared.BadLine.{BadLine}
@@ -137,3 +137,20 @@ unfolding if_named
 if_named-no piece command unnamed =
     let e = is_name-no piece unnamed in
     rw e refl
+
+-- a piece that is no name is refused alike where another name follows it
+named_first : (piece other : List ℕ) (one two : Bool) (x y : PlainCommand) (bad : BadLine) → is_name piece ≡ one → is_name other ≡ two → if_named piece (Ok x) ≡ Err bad → if_named piece (if_named other (Ok y)) ≡ Err bad
+unfolding if_named
+named_first piece other true two x y bad p o e =
+    let wrong : Ok x ≡ Err bad = rw p at e in
+    let no : true ≡ false = ap is_ok wrong in
+    absurd (false≢true (sym no))
+named_first piece other false true x y bad p o e =
+    let no : cond false (Ok x) (Err refused.Name) ≡ Err bad = rw p at e in
+    rw o (rw p no)
+named_first piece other false false x y bad p o e =
+    let no : cond false (Ok x) (Err refused.Name) ≡ Err bad = rw p at e in
+    rw o no
+
+pub if_named-first : (piece other : List ℕ) (x y : PlainCommand) (bad : BadLine) → if_named piece (Ok x) ≡ Err bad → if_named piece (if_named other (Ok y)) ≡ Err bad
+if_named-first piece other x y bad e = named_first piece other (is_name piece) (is_name other) x y bad refl refl e

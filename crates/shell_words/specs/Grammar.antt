@@ -6,7 +6,8 @@ use Rattle.std.specs.Option.{option_map_or}
 use Rattle.std.specs.Map.{lookup}
 use Rattle.std.specs.Str.{is_utf8}
 use Rattle.elem_core.specs.Naming.{is_name}
-use Rattle.shell_terms.specs.Command.{PlainCommand, new, add, get, len, list, quit}
+use Rattle.shell_terms.specs.Edit.{new, add, set, put, del, cat, cut, copy, drop, star, unstar}
+use Rattle.shell_terms.specs.Command.{PlainCommand, edit, mark, unmark, back, undo, redo, begin, «end», abort, get, len, show, list, stars, marks, quit}
 use Rattle.shell_words.specs.declared.BadLine.{BadLine}
 use Rattle.shell_words.specs.declared.BadLine.TheVariants as refused
 use Rattle.shell_words.specs.Number.{number_of}
@@ -56,11 +57,31 @@ the_text command (Some rest) = Ok (command rest)
 -- Each command: its word, and what follows the word.
 unfoldable pub commands : List (List ℕ × RestMeaning)
 commands =
-    (codes "new", a_name (λ b. the_end (new b)))
-    ∷ (codes "add", a_name (λ b. the_text (λ t. add b t)))
+    (codes "new", a_name (λ b. the_end (edit (new b))))
+    ∷ (codes "add", a_name (λ b. the_text (λ t. edit (add b t))))
+    ∷ (codes "set", a_name (λ b. a_number (λ i. the_text (λ t. edit (set b i t)))))
+    ∷ (codes "put", a_name (λ b. a_number (λ i. the_text (λ t. edit (put b i t)))))
+    ∷ (codes "del", a_name (λ b. a_number (λ i. a_number (λ j. the_end (edit (del b i j))))))
+    ∷ (codes "cat", a_name (λ b. a_name (λ c. the_end (edit (cat b c)))))
+    ∷ (codes "cut", a_name (λ b. a_number (λ i. a_number (λ j. a_name (λ c. the_end (edit (cut b i j c)))))))
+    ∷ (codes "copy", a_name (λ b. a_name (λ c. the_end (edit (copy b c)))))
+    ∷ (codes "drop", a_name (λ b. the_end (edit (drop b))))
+    ∷ (codes "star", a_name (λ n. the_end (edit (star n))))
+    ∷ (codes "unstar", a_name (λ n. the_end (edit (unstar n))))
+    ∷ (codes "mark", a_name (λ v. the_end (mark v)))
+    ∷ (codes "unmark", a_name (λ v. the_end (unmark v)))
+    ∷ (codes "back", a_name (λ v. the_end (back v)))
+    ∷ (codes "undo", the_end undo)
+    ∷ (codes "redo", the_end redo)
+    ∷ (codes "begin", the_end begin)
+    ∷ (codes "end", the_end end)
+    ∷ (codes "abort", the_end abort)
     ∷ (codes "get", a_name (λ b. a_number (λ i. the_end (get b i))))
     ∷ (codes "len", a_name (λ b. the_end (len b)))
+    ∷ (codes "show", a_name (λ b. a_number (λ i. a_number (λ j. the_end (show b i j)))))
     ∷ (codes "list", the_end list)
+    ∷ (codes "stars", the_end stars)
+    ∷ (codes "marks", the_end marks)
     ∷ (codes "quit", the_end quit)
     ∷ []
 

@@ -1,18 +1,39 @@
 -- What the answer of `read_line` shows: the command with its names, numbers and texts as values.
 use Rattle.std.specs.Prelude.{Result, Ok, Err}
-use Rattle.shell_terms.specs.Command.{PlainCommand, new, add, get, len, list, quit}
+use Rattle.shell_terms.specs.Edit.{new, add, set, put, del, cat, cut, copy, drop, star, unstar}
+use Rattle.shell_terms.specs.Command.{PlainCommand, edit, mark, unmark, back, undo, redo, begin, «end», abort, get, len, show, list, stars, marks, quit}
 use Rattle.elem_core.specs.Shown.{name_bytes, line_bytes}
 use Rattle.shell_words.specs.declared.Command.{Command}
-use Rattle.shell_words.specs.declared.Command.TheVariants.{New, Add, Get, Len, List, Quit}
+use Rattle.shell_words.specs.declared.Command.TheVariants.{New, Add, Set, Put, Del, Cat, Cut, Copy, Drop, Star, Unstar, Mark, Unmark, Back, Undo, Redo, Begin, End, Abort, Get, Len, Show, List, Stars, Marks, Quit}
 use Rattle.shell_words.specs.declared.BadLine.{BadLine}
 
 -- The command with its names and texts as their bytes.
 abbrev pub plain_command : Command → PlainCommand
-plain_command (New b) = new (name_bytes b)
-plain_command (Add b t) = add (name_bytes b) (line_bytes t)
+plain_command (New b) = edit (new (name_bytes b))
+plain_command (Add b t) = edit (add (name_bytes b) (line_bytes t))
+plain_command (Set b i t) = edit (set (name_bytes b) i (line_bytes t))
+plain_command (Put b i t) = edit (put (name_bytes b) i (line_bytes t))
+plain_command (Del b i j) = edit (del (name_bytes b) i j)
+plain_command (Cat b c) = edit (cat (name_bytes b) (name_bytes c))
+plain_command (Cut b i j c) = edit (cut (name_bytes b) i j (name_bytes c))
+plain_command (Copy b c) = edit (copy (name_bytes b) (name_bytes c))
+plain_command (Drop b) = edit (drop (name_bytes b))
+plain_command (Star n) = edit (star (name_bytes n))
+plain_command (Unstar n) = edit (unstar (name_bytes n))
+plain_command (Mark v) = mark (name_bytes v)
+plain_command (Unmark v) = unmark (name_bytes v)
+plain_command (Back v) = back (name_bytes v)
+plain_command Undo = undo
+plain_command Redo = redo
+plain_command Begin = begin
+plain_command End = end
+plain_command Abort = abort
 plain_command (Get b i) = get (name_bytes b) i
 plain_command (Len b) = len (name_bytes b)
+plain_command (Show b i j) = show (name_bytes b) i j
 plain_command List = list
+plain_command Stars = stars
+plain_command Marks = marks
 plain_command Quit = quit
 
 -- Goes on with what was read, or stays with the refusal.

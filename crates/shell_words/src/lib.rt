@@ -13,7 +13,10 @@ mod pieces;
 #[cfg(test)]
 mod tests;
 
-use pieces::{name, name_and_number, name_and_text, nothing, split_piece};
+use pieces::{
+    name, name_and_number, name_and_range, name_and_text, name_number_and_text,
+    name_range_and_name, nothing, split_piece, two_names,
+};
 
 /// Why a line is no command: the first of these that holds.
 #[derive(Clone, Copy, Debug, PartialEq, Eq, Error)]
@@ -29,19 +32,59 @@ pub enum BadLine {
     Name,
 }
 
-/// What one line asks for, over the bytes of that line.
+/// What one line asks for, over the bytes of that line. Lines of buffers are counted from 0.
 #[derive(Clone, Copy, Debug, PartialEq, Eq)]
 pub enum Command<'a> {
     /// `new B`: an empty buffer B.
     New(Name<'a>),
     /// `add B TEXT`: TEXT as the last line of B.
     Add(Name<'a>, Line<'a>),
-    /// `get B I`: line I of B, counted from 0.
+    /// `set B I TEXT`: TEXT in place of line I of B.
+    Set(Name<'a>, u32, Line<'a>),
+    /// `put B I TEXT`: TEXT before line I of B.
+    Put(Name<'a>, u32, Line<'a>),
+    /// `del B I J`: B without its lines I to J-1.
+    Del(Name<'a>, u32, u32),
+    /// `cat B C`: the lines of C at the end of B.
+    Cat(Name<'a>, Name<'a>),
+    /// `cut B I J C`: lines I to J-1 moved from B to a new C.
+    Cut(Name<'a>, u32, u32, Name<'a>),
+    /// `copy B C`: the lines of B as a new C.
+    Copy(Name<'a>, Name<'a>),
+    /// `drop B`: no buffer B.
+    Drop(Name<'a>),
+    /// `star N`: a star at the name N.
+    Star(Name<'a>),
+    /// `unstar N`: no star at N.
+    Unstar(Name<'a>),
+    /// `mark V`: the current state as version V.
+    Mark(Name<'a>),
+    /// `unmark V`: no version V.
+    Unmark(Name<'a>),
+    /// `back V`: version V as the current state.
+    Back(Name<'a>),
+    /// `undo`: the state before the last change.
+    Undo,
+    /// `redo`: the state before the last undo.
+    Redo,
+    /// `begin`: a batch, whose changes are undone as one.
+    Begin,
+    /// `end`: the end of the batch.
+    End,
+    /// `abort`: the end of the batch, without its changes.
+    Abort,
+    /// `get B I`: line I of B.
     Get(Name<'a>, u32),
     /// `len B`: the number of lines of B.
     Len(Name<'a>),
+    /// `show B I J`: lines I to J-1 of B.
+    Show(Name<'a>, u32, u32),
     /// `list`: each buffer with its length.
     List,
+    /// `stars`: each name with a star.
+    Stars,
+    /// `marks`: each version.
+    Marks,
     /// `quit`: the end of the run.
     Quit,
 }
@@ -66,9 +109,35 @@ fn read_text(text: &str) -> Result<Command<'_>, BadLine>
     match word {
         "new" => name(rest).map(Command::New),
         "add" => name_and_text(rest).map(|(buffer, text)| Command::Add(buffer, text)),
+        "set" => name_number_and_text(rest).map(|(buffer, index, text)| Command::Set(
+            buffer, index, text,
+        )),
+        "put" => name_number_and_text(rest).map(|(buffer, index, text)| Command::Put(
+            buffer, index, text,
+        )),
+        "del" => name_and_range(rest).map(|(buffer, from, to)| Command::Del(buffer, from, to)),
+        "cat" => two_names(rest).map(|(buffer, other)| Command::Cat(buffer, other)),
+        "cut" => name_range_and_name(rest).map(|(buffer, from, to, other)| Command::Cut(
+            buffer, from, to, other,
+        )),
+        "copy" => two_names(rest).map(|(buffer, other)| Command::Copy(buffer, other)),
+        "drop" => name(rest).map(Command::Drop),
+        "star" => name(rest).map(Command::Star),
+        "unstar" => name(rest).map(Command::Unstar),
+        "mark" => name(rest).map(Command::Mark),
+        "unmark" => name(rest).map(Command::Unmark),
+        "back" => name(rest).map(Command::Back),
+        "undo" => nothing(rest).map(|()| Command::Undo),
+        "redo" => nothing(rest).map(|()| Command::Redo),
+        "begin" => nothing(rest).map(|()| Command::Begin),
+        "end" => nothing(rest).map(|()| Command::End),
+        "abort" => nothing(rest).map(|()| Command::Abort),
         "get" => name_and_number(rest).map(|(buffer, index)| Command::Get(buffer, index)),
         "len" => name(rest).map(Command::Len),
+        "show" => name_and_range(rest).map(|(buffer, from, to)| Command::Show(buffer, from, to)),
         "list" => nothing(rest).map(|()| Command::List),
+        "stars" => nothing(rest).map(|()| Command::Stars),
+        "marks" => nothing(rest).map(|()| Command::Marks),
         "quit" => nothing(rest).map(|()| Command::Quit),
         _ => Err(BadLine::Command),
     }

@@ -45,9 +45,19 @@ pub fn name(rest: Option<&str>) -> Result<Name<'_>, BadLine>
         → a_name (λ b. the_end (f b)) (option_copied rest.entry)
         ≡ go_on result (λ read. Ok (f (name_bytes read))) }
 {
-    let (piece, rest) = next_piece(rest)?;
-    nothing(rest)?;
+    let piece = last_piece(rest)?;
     named(piece)
+}
+
+// The pieces of a command `WORD NAME NAME`.
+pub fn two_names(rest: Option<&str>) -> Result<(Name<'_>, Name<'_>), BadLine>
+    ensures { (f : List ℕ → List ℕ → PlainCommand)
+        → a_name (λ b. a_name (λ c. the_end (f b c))) (option_copied rest.entry)
+        ≡ go_on result (λ read. Ok (f (name_bytes read.0) (name_bytes read.1))) }
+{
+    let (piece, rest) = next_piece(rest)?;
+    let other = last_piece(rest)?;
+    both_named(piece, other)
 }
 
 // The pieces of a command `WORD NAME NUMBER`.
@@ -63,6 +73,32 @@ pub fn name_and_number(rest: Option<&str>) -> Result<(Name<'_>, u32), BadLine>
     Ok((name, number))
 }
 
+// The pieces of a command `WORD NAME NUMBER NUMBER`.
+pub fn name_and_range(rest: Option<&str>) -> Result<(Name<'_>, u32, u32), BadLine>
+    ensures { (f : List ℕ → ℕ → ℕ → PlainCommand)
+        → a_name (λ b. a_number (λ i. a_number (λ j. the_end (f b i j)))) (option_copied rest.entry)
+        ≡ go_on result (λ read. Ok (f (name_bytes read.0) read.1 read.2)) }
+{
+    let (piece, rest) = next_piece(rest)?;
+    let (from, to, rest) = next_range(rest)?;
+    nothing(rest)?;
+    let name = named(piece)?;
+    Ok((name, from, to))
+}
+
+// The pieces of a command `WORD NAME NUMBER NUMBER NAME`.
+pub fn name_range_and_name(rest: Option<&str>) -> Result<(Name<'_>, u32, u32, Name<'_>), BadLine>
+    ensures { (f : List ℕ → ℕ → ℕ → List ℕ → PlainCommand)
+        → a_name (λ b. a_number (λ i. a_number (λ j. a_name (λ c. the_end (f b i j c))))) (option_copied rest.entry)
+        ≡ go_on result (λ read. Ok (f (name_bytes read.0) read.1 read.2 (name_bytes read.3))) }
+{
+    let (piece, rest) = next_piece(rest)?;
+    let (from, to, rest) = next_range(rest)?;
+    let other = last_piece(rest)?;
+    let (name, other) = both_named(piece, other)?;
+    Ok((name, from, to, other))
+}
+
 // The pieces of a command `WORD NAME TEXT`.
 pub fn name_and_text(rest: Option<&str>) -> Result<(Name<'_>, Line<'_>), BadLine>
     requires { ForSome (option_copied rest) IsCell }
@@ -74,6 +110,20 @@ pub fn name_and_text(rest: Option<&str>) -> Result<(Name<'_>, Line<'_>), BadLine
     let text = text(rest)?;
     let name = named(piece)?;
     Ok((name, text))
+}
+
+// The pieces of a command `WORD NAME NUMBER TEXT`.
+pub fn name_number_and_text(rest: Option<&str>) -> Result<(Name<'_>, u32, Line<'_>), BadLine>
+    requires { ForSome (option_copied rest) IsCell }
+    ensures { (f : List ℕ → ℕ → List ℕ → PlainCommand)
+        → a_name (λ b. a_number (λ i. the_text (λ t. f b i t))) (option_copied rest.entry)
+        ≡ go_on result (λ read. Ok (f (name_bytes read.0) read.1 (line_bytes read.2))) }
+{
+    let (piece, rest) = next_piece(rest)?;
+    let (number, rest) = next_number(rest)?;
+    let text = text(rest)?;
+    let name = named(piece)?;
+    Ok((name, number, text))
 }
 
 // The next piece, which is to be a name, and what follows it.
@@ -106,6 +156,26 @@ fn next_number(rest: Option<&str>) -> Result<(u32, Option<&str>), BadLine>
     }
 }
 
+// The next two pieces, which are to be numbers, and what follows them.
+fn next_range(rest: Option<&str>) -> Result<(u32, u32, Option<&str>), BadLine>
+    ensures { (more : ℕ → ℕ → RestMeaning) → a_number (λ i. a_number (more i)) (option_copied rest.entry)
+        ≡ go_on result (λ read. more read.0 read.1 (option_copied read.2)) }
+{
+    let (from, rest) = next_number(rest)?;
+    let (to, rest) = next_number(rest)?;
+    Ok((from, to, rest))
+}
+
+// The last piece, which is to be a name.
+fn last_piece(rest: Option<&str>) -> Result<&str, BadLine>
+    ensures { (f : List ℕ → PlainCommand) → a_name (λ b. the_end (f b)) (option_copied rest.entry)
+        ≡ go_on result (λ read. if_named read.now (Ok (f read.now))) }
+{
+    let (piece, rest) = next_piece(rest)?;
+    nothing(rest)?;
+    Ok(piece)
+}
+
 // All the rest, as the text of a command.
 fn text(rest: Option<&str>) -> Result<Line<'_>, BadLine>
     requires { ForSome (option_copied rest) IsCell }
@@ -128,6 +198,17 @@ fn named(piece: &str) -> Result<Name<'_>, BadLine>
         Some(name) => Ok(name),
         None => Err(BadLine::Name),
     }
+}
+
+// The two pieces as names.
+fn both_named<'a>(piece: &'a str, other: &'a str) -> Result<(Name<'a>, Name<'a>), BadLine>
+    ensures { (f : List ℕ → List ℕ → PlainCommand)
+        → if_named piece.now (if_named other.now (Ok (f piece.now other.now)))
+        ≡ go_on result (λ read. Ok (f (name_bytes read.0) (name_bytes read.1))) }
+{
+    let name = named(piece)?;
+    let other = named(other)?;
+    Ok((name, other))
 }
 
 // The number that the piece writes in decimal without leading zeros, if it fits 32 bits.

@@ -5,6 +5,7 @@ ghost use Rattle.elem_core.specs.Cell.{IsCell};
 
 use super::{BadLine, Command, read_line};
 use elem_core::{MAX_LINE, NEWLINE};
+use std::process::Abort;
 
 // Whether a line may be read: no newline, and not over-long.
 fn is_cell(line: &[u8]) -> bool
@@ -13,15 +14,50 @@ fn is_cell(line: &[u8]) -> bool
     line.len() <= MAX_LINE && !line.contains(&NEWLINE)
 }
 
-// A command as its word, name, number and text, with an empty one or 0 where it has none.
-fn parts<'a>(command: Command<'a>) -> (&'static str, &'a str, u32, &'a str) {
+// What the line reads as.
+fn read<'a>(rt: &impl Abort, line: &'a [u8]) -> Result<Command<'a>, BadLine> {
+    assert!(rt; is_cell(line));
+    read_line(line)
+}
+
+// A command as its word, its names, its numbers and its text, with an empty one or 0 where it has none.
+type Parts<'a> = (&'static str, &'a str, &'a str, u32, u32, &'a str);
+
+fn parts<'a>(command: Command<'a>) -> Parts<'a> {
     match command {
-        Command::New(buffer) => ("new", buffer.as_str(), 0, ""),
-        Command::Add(buffer, text) => ("add", buffer.as_str(), 0, text.as_str()),
-        Command::Get(buffer, index) => ("get", buffer.as_str(), index, ""),
-        Command::Len(buffer) => ("len", buffer.as_str(), 0, ""),
-        Command::List => ("list", "", 0, ""),
-        Command::Quit => ("quit", "", 0, ""),
+        Command::New(buffer) => ("new", buffer.as_str(), "", 0, 0, ""),
+        Command::Add(buffer, text) => ("add", buffer.as_str(), "", 0, 0, text.as_str()),
+        Command::Set(buffer, index, text) => ("set", buffer.as_str(), "", index, 0, text.as_str()),
+        Command::Put(buffer, index, text) => ("put", buffer.as_str(), "", index, 0, text.as_str()),
+        Command::Del(buffer, from, to) => ("del", buffer.as_str(), "", from, to, ""),
+        Command::Cat(buffer, other) => ("cat", buffer.as_str(), other.as_str(), 0, 0, ""),
+        Command::Cut(buffer, from, to, other) => (
+            "cut",
+            buffer.as_str(),
+            other.as_str(),
+            from,
+            to,
+            "",
+        ),
+        Command::Copy(buffer, other) => ("copy", buffer.as_str(), other.as_str(), 0, 0, ""),
+        Command::Drop(buffer) => ("drop", buffer.as_str(), "", 0, 0, ""),
+        Command::Star(name) => ("star", name.as_str(), "", 0, 0, ""),
+        Command::Unstar(name) => ("unstar", name.as_str(), "", 0, 0, ""),
+        Command::Mark(version) => ("mark", version.as_str(), "", 0, 0, ""),
+        Command::Unmark(version) => ("unmark", version.as_str(), "", 0, 0, ""),
+        Command::Back(version) => ("back", version.as_str(), "", 0, 0, ""),
+        Command::Undo => ("undo", "", "", 0, 0, ""),
+        Command::Redo => ("redo", "", "", 0, 0, ""),
+        Command::Begin => ("begin", "", "", 0, 0, ""),
+        Command::End => ("end", "", "", 0, 0, ""),
+        Command::Abort => ("abort", "", "", 0, 0, ""),
+        Command::Get(buffer, index) => ("get", buffer.as_str(), "", index, 0, ""),
+        Command::Len(buffer) => ("len", buffer.as_str(), "", 0, 0, ""),
+        Command::Show(buffer, from, to) => ("show", buffer.as_str(), "", from, to, ""),
+        Command::List => ("list", "", "", 0, 0, ""),
+        Command::Stars => ("stars", "", "", 0, 0, ""),
+        Command::Marks => ("marks", "", "", 0, 0, ""),
+        Command::Quit => ("quit", "", "", 0, 0, ""),
     }
 }
 
@@ -33,36 +69,82 @@ const NEW_LONGEST: &str = "new abcdefghijklmnopqrstuvwxyzABCDEFGHIJKLMNOPQRSTUVW
 
 const NEW_LONGER: &str = "new abcdefghijklmnopqrstuvwxyzABCDEFGHIJKLMNOPQRSTUVWXYZ0123456789._-";
 
+// Reads the line and compares its parts.
+fn reads(rt: &impl Abort, line: &str, want: Parts<'_>) {
+    match read(rt, line.as_bytes()) {
+        Ok(command) => {
+            let (word, name, other, first, second, text) = parts(command);
+            assert_eq!(rt; word, want.0, "at {line}");
+            assert_eq!(rt; name, want.1, "at {line}");
+            assert_eq!(rt; other, want.2, "at {line}");
+            assert_eq!(rt; first, want.3, "at {line}");
+            assert_eq!(rt; second, want.4, "at {line}");
+            assert_eq!(rt; text, want.5, "at {line}");
+        }
+        Err(bad) => panic!(rt; "{bad} at {line}"),
+    }
+}
+
 #[test]
-fn reads_commands(rt: HostRuntime) {
+fn reads_edits(rt: HostRuntime) {
     let rows = [
-        ("new a", ("new", "a", 0, "")),
-        ("new Z.9_-", ("new", "Z.9_-", 0, "")),
-        (NEW_LONGEST, ("new", LONGEST, 0, "")),
-        ("add a hello", ("add", "a", 0, "hello")),
-        ("add a ", ("add", "a", 0, "")),
-        ("add a  two  spaces ", ("add", "a", 0, " two  spaces ")),
-        ("add a \r", ("add", "a", 0, "\r")),
-        ("add a tab\tand é\r", ("add", "a", 0, "tab\tand é\r")),
-        ("get a 0", ("get", "a", 0, "")),
-        ("get a 10", ("get", "a", 10, "")),
-        ("get a 4294967295", ("get", "a", 4_294_967_295, "")),
-        ("len a", ("len", "a", 0, "")),
-        ("list", ("list", "", 0, "")),
-        ("quit", ("quit", "", 0, "")),
+        ("new a", ("new", "a", "", 0, 0, "")),
+        ("new Z.9_-", ("new", "Z.9_-", "", 0, 0, "")),
+        (NEW_LONGEST, ("new", LONGEST, "", 0, 0, "")),
+        ("add a hello", ("add", "a", "", 0, 0, "hello")),
+        ("add a ", ("add", "a", "", 0, 0, "")),
+        (
+            "add a  two  spaces ",
+            ("add", "a", "", 0, 0, " two  spaces "),
+        ),
+        ("add a \r", ("add", "a", "", 0, 0, "\r")),
+        ("add a tab\tand é\r", ("add", "a", "", 0, 0, "tab\tand é\r")),
+        ("set a 0 x", ("set", "a", "", 0, 0, "x")),
+        ("set a 1 two  2 ", ("set", "a", "", 1, 0, "two  2 ")),
+        ("put a 2 ", ("put", "a", "", 2, 0, "")),
+        (
+            "put a 4294967295 x",
+            ("put", "a", "", 4_294_967_295, 0, "x"),
+        ),
+        ("del a 1 3", ("del", "a", "", 1, 3, "")),
+        ("del a 3 1", ("del", "a", "", 3, 1, "")),
+        ("cat a b", ("cat", "a", "b", 0, 0, "")),
+        ("cat a a", ("cat", "a", "a", 0, 0, "")),
+        ("cut a 0 2 b", ("cut", "a", "b", 0, 2, "")),
+        ("copy b c", ("copy", "b", "c", 0, 0, "")),
+        ("drop a", ("drop", "a", "", 0, 0, "")),
+        ("star z", ("star", "z", "", 0, 0, "")),
+        ("unstar y", ("unstar", "y", "", 0, 0, "")),
     ];
     for (line, want) in rows {
-        assert!(rt; is_cell(line.as_bytes()), "at {line}");
-        match read_line(line.as_bytes()) {
-            Ok(command) => {
-                let (word, name, number, text) = parts(command);
-                assert_eq!(rt; word, want.0, "at {line}");
-                assert_eq!(rt; name, want.1, "at {line}");
-                assert_eq!(rt; number, want.2, "at {line}");
-                assert_eq!(rt; text, want.3, "at {line}");
-            }
-            Err(bad) => panic!(rt; "{bad} at {line}"),
-        }
+        reads(&rt, line, want);
+    }
+}
+
+#[test]
+fn reads_other_commands(rt: HostRuntime) {
+    let rows = [
+        ("mark v", ("mark", "v", "", 0, 0, "")),
+        ("unmark v", ("unmark", "v", "", 0, 0, "")),
+        ("back v", ("back", "v", "", 0, 0, "")),
+        ("undo", ("undo", "", "", 0, 0, "")),
+        ("redo", ("redo", "", "", 0, 0, "")),
+        ("begin", ("begin", "", "", 0, 0, "")),
+        ("end", ("end", "", "", 0, 0, "")),
+        ("abort", ("abort", "", "", 0, 0, "")),
+        ("get a 0", ("get", "a", "", 0, 0, "")),
+        ("get a 10", ("get", "a", "", 10, 0, "")),
+        ("get a 4294967295", ("get", "a", "", 4_294_967_295, 0, "")),
+        ("len a", ("len", "a", "", 0, 0, "")),
+        ("show a 1 1", ("show", "a", "", 1, 1, "")),
+        ("show a 0 2", ("show", "a", "", 0, 2, "")),
+        ("list", ("list", "", "", 0, 0, "")),
+        ("stars", ("stars", "", "", 0, 0, "")),
+        ("marks", ("marks", "", "", 0, 0, "")),
+        ("quit", ("quit", "", "", 0, 0, "")),
+    ];
+    for (line, want) in rows {
+        reads(&rt, line, want);
     }
 }
 
@@ -82,6 +164,30 @@ fn refuses_lines(rt: HostRuntime) {
             BadLine::Command,
             [
                 "len a ", "list ", "list a", "list\r", "quit ", "quit a", "quit\r",
+            ],
+        ),
+        (
+            BadLine::Command,
+            [
+                "set a 0",
+                "put a",
+                "del a 0",
+                "del a 0 1 ",
+                "cat a",
+                "cat a b c",
+                "cut a 0 2",
+            ],
+        ),
+        (
+            BadLine::Command,
+            [
+                "cut a 0 2 b ",
+                "copy  a b",
+                "drop",
+                "star",
+                "undo ",
+                "end x",
+                "show a 1",
             ],
         ),
         // A number that doesn't read, also behind what is no name.
@@ -115,6 +221,18 @@ fn refuses_lines(rt: HostRuntime) {
                 "list .x",
             ],
         ),
+        (
+            BadLine::Command,
+            [
+                "cut .x 0 02 b",
+                "cut a 0 -1 .x",
+                "del a 00 1",
+                "show a 0 1x",
+                "set a 01 t",
+                "put .x x t",
+                "set a  t",
+            ],
+        ),
         // A name that is none.
         (
             BadLine::Name,
@@ -134,11 +252,34 @@ fn refuses_lines(rt: HostRuntime) {
                 "len a\r",
             ],
         ),
+        (
+            BadLine::Name,
+            [
+                "cat a .b",
+                "cat .a b",
+                "copy a ",
+                "cut a 0 2 .b",
+                "cut -a 9 2 b",
+                "mark é",
+                "star ",
+            ],
+        ),
+        (
+            BadLine::Name,
+            [
+                "set .x 0 t",
+                "put  0 t",
+                "del .x 0 1",
+                "show \t 0 1",
+                "back ",
+                "unmark .",
+                "drop -",
+            ],
+        ),
     ];
     for (want, lines) in rows {
         for line in lines {
-            assert!(rt; is_cell(line.as_bytes()), "at {line}");
-            match read_line(line.as_bytes()) {
+            match read(&rt, line.as_bytes()) {
                 Ok(_) => panic!(rt; "a command at {line}"),
                 Err(bad) => assert_eq!(rt; bad, want, "at {line}"),
             }
@@ -158,8 +299,7 @@ fn refuses_bytes_first(rt: HostRuntime) {
         b"\xc0\xaf new a",
     ];
     for (i, line) in rows.into_iter().enumerate() {
-        assert!(rt; is_cell(line), "in row {i}");
-        match read_line(line) {
+        match read(&rt, line) {
             Ok(_) => panic!(rt; "a command in row {i}"),
             Err(bad) => assert_eq!(rt; bad, BadLine::Utf8, "in row {i}"),
         }

@@ -2,7 +2,7 @@ use Rattle.std.proofs.Common.{◌∙◌}
 use Rattle.std.proofs.lemmas.Result.{err_from_is_err_and}
 use Rattle.shell_words.specs.Grammar.{the_end}
 use Rattle.shell_words.proofs.GrammarLemmas.{if_named-bad}
-use Rattle.shell_words.proofs.pieces.name.Goals as goal
+use Rattle.shell_words.proofs.pieces.last_piece.Goals as goal
 
 pub returns-in_err-nothing : goal.returns-in_err-nothing
 returns-in_err-nothing c = λ f.

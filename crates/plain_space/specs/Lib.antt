@@ -1,0 +1,10 @@
+pub mod Workspace
+pub mod Refusing
+pub mod Edited
+pub mod Answer
+pub mod Cost
+pub mod Memory
+pub mod Change
+pub mod Session
+pub mod Rows
+pub mod Laws

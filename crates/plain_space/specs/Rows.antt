@@ -1,0 +1,149 @@
+-- Worked rows: lists of commands with their replies from a new space.
+use Rattle.std.specs.Prelude.{◌≡◌, List, [], ◌∷◌, ◌++◌, map, replicate}
+use Prim.Native.String.{String}
+use lib.Chars.{codes}
+use Rattle.shell_terms.specs.Edit.{Bytes, new, add, set, put, del, cat, cut, copy, drop, star, unstar}
+use Rattle.shell_terms.specs.Command.{PlainCommand, edit, mark, unmark, back, undo, redo, begin, «end», abort, get, len, show, list, stars, marks, quit}
+use Rattle.plain_space.specs.Workspace.{start}
+use Rattle.plain_space.specs.Cost.{cost}
+use Rattle.plain_space.specs.Session.{replies, from}
+
+-- From a new space, the commands get these reply lines.
+abbrev pub Replies : List PlainCommand → List Bytes → Type 0
+Replies commands lines = replies start commands ≡ lines
+
+-- Texts as their bytes.
+abbrev pub lines : List String → List Bytes
+lines = map codes
+
+-- Names and texts of the rows.
+abbrev pub a : Bytes
+a = codes "a"
+
+abbrev pub b : Bytes
+b = codes "b"
+
+abbrev pub c : Bytes
+c = codes "c"
+
+abbrev pub p : Bytes
+p = codes "p"
+
+abbrev pub q : Bytes
+q = codes "q"
+
+abbrev pub r : Bytes
+r = codes "r"
+
+abbrev pub v : Bytes
+v = codes "v"
+
+abbrev pub w : Bytes
+w = codes "w"
+
+abbrev pub x : Bytes
+x = codes "x"
+
+abbrev pub y : Bytes
+y = codes "y"
+
+abbrev pub z : Bytes
+z = codes "z"
+
+-- Lines that a buffer doesn't have, and a name that is taken.
+abbrev pub RangesRow : Type 0
+RangesRow = Replies
+    (edit (new a) ∷ edit (add a x) ∷ get a 1 ∷ show a 1 1 ∷ show a 0 2 ∷ edit (new a) ∷ [])
+    (lines ("ok" ∷ "ok" ∷ "! range" ∷ "ok" ∷ "! range" ∷ "! exists" ∷ []))
+
+-- The place after the last line, and buffers that aren't there.
+abbrev pub MissingRow : Type 0
+MissingRow = Replies
+    (edit (new a) ∷ edit (add a x) ∷ edit (set a 1 y) ∷ edit (set b 0 y) ∷ edit (put b 0 y) ∷ edit (del b 0 0) ∷ edit (cat a b) ∷ edit (cat b a) ∷ edit (copy b a) ∷ edit (drop b) ∷ get b 0 ∷ show b 0 0 ∷ len b ∷ [])
+    (lines ("ok" ∷ "ok" ∷ "! range" ∷ "! none" ∷ "! none" ∷ "! none" ∷ "! none" ∷ "! none" ∷ "! none" ∷ "! none" ∷ "! none" ∷ "! none" ∷ "! none" ∷ []))
+
+-- Lines put before others, and the place after the last.
+abbrev pub PutRow : Type 0
+PutRow = Replies
+    (edit (new a) ∷ edit (put a 0 x) ∷ edit (put a 0 y) ∷ edit (put a 1 z) ∷ show a 0 3 ∷ edit (put a 4 x) ∷ edit (put a 3 p) ∷ get a 3 ∷ [])
+    (lines ("ok" ∷ "ok" ∷ "ok" ∷ "ok" ∷ "= y" ∷ "= z" ∷ "= x" ∷ "ok" ∷ "! range" ∷ "ok" ∷ "= p" ∷ []))
+
+-- Lines that are cut, joined and deleted.
+abbrev pub CutRow : Type 0
+CutRow = Replies
+    (edit (new a) ∷ edit (add a p) ∷ edit (add a q) ∷ edit (add a r) ∷ edit (cut a 0 2 b) ∷ show b 0 2 ∷ len a ∷ edit (cat a b) ∷ show a 0 3 ∷ edit (del a 1 3) ∷ len a ∷ [])
+    (lines ("ok" ∷ "ok" ∷ "ok" ∷ "ok" ∷ "ok" ∷ "= p" ∷ "= q" ∷ "ok" ∷ "= 1" ∷ "ok" ∷ "= r" ∷ "= p" ∷ "= q" ∷ "ok" ∷ "ok" ∷ "= 1" ∷ []))
+
+-- Lines cut from a buffer into itself, and ranges that are none.
+abbrev pub CutItselfRow : Type 0
+CutItselfRow = Replies
+    (edit (new a) ∷ edit (add a x) ∷ edit (add a y) ∷ edit (cut a 1 0 b) ∷ edit (cut a 0 3 b) ∷ edit (cut b 0 0 a) ∷ edit (cut a 0 1 a) ∷ show a 0 1 ∷ len a ∷ [])
+    (lines ("ok" ∷ "ok" ∷ "ok" ∷ "! range" ∷ "! range" ∷ "! none" ∷ "ok" ∷ "= x" ∷ "ok" ∷ "= 1" ∷ []))
+
+-- A copy stays when the first is gone, and takes the place of what was there.
+abbrev pub CopyRow : Type 0
+CopyRow = Replies
+    (edit (new a) ∷ edit (add a x) ∷ edit (copy a b) ∷ edit (drop a) ∷ len a ∷ list ∷ undo ∷ edit (add a y) ∷ edit (copy a b) ∷ show b 0 2 ∷ [])
+    (lines ("ok" ∷ "ok" ∷ "ok" ∷ "ok" ∷ "! none" ∷ "= b 1" ∷ "ok" ∷ "ok" ∷ "ok" ∷ "ok" ∷ "= x" ∷ "= y" ∷ "ok" ∷ []))
+
+-- A buffer is doubled until it would pass the most lines.
+abbrev pub DoublingRow : Type 0
+DoublingRow = Replies
+    (edit (new a) ∷ edit (add a x) ∷ replicate 32 (edit (cat a a)) ++ len a ∷ [])
+    (replicate 33 (codes "ok") ++ lines ("! limit" ∷ "= 2147483648" ∷ []))
+
+-- Stars, and names in byte order.
+abbrev pub StarsRow : Type 0
+StarsRow = Replies
+    (edit (star z) ∷ edit (star z) ∷ edit (new b) ∷ edit (new (codes "B")) ∷ edit (copy b c) ∷ list ∷ stars ∷ edit (unstar y) ∷ undo ∷ list ∷ [])
+    (lines ("ok" ∷ "! exists" ∷ "ok" ∷ "ok" ∷ "ok" ∷ "= B 0" ∷ "= b 0" ∷ "= c 0" ∷ "ok" ∷ "= z" ∷ "ok" ∷ "! none" ∷ "ok" ∷ "= B 0" ∷ "= b 0" ∷ "ok" ∷ []))
+
+-- An edit after an undo empties redo.
+abbrev pub UndoRow : Type 0
+UndoRow = Replies
+    (edit (new a) ∷ edit (add a x) ∷ undo ∷ edit (add a y) ∷ redo ∷ get a 0 ∷ [])
+    (lines ("ok" ∷ "ok" ∷ "ok" ∷ "ok" ∷ "! empty" ∷ "= y" ∷ []))
+
+-- An undo takes back a star, and a redo sets it again.
+abbrev pub UndoStarRow : Type 0
+UndoStarRow = Replies
+    (edit (star z) ∷ edit (star y) ∷ stars ∷ edit (unstar z) ∷ undo ∷ undo ∷ stars ∷ redo ∷ redo ∷ stars ∷ redo ∷ [])
+    (lines ("ok" ∷ "ok" ∷ "= y" ∷ "= z" ∷ "ok" ∷ "ok" ∷ "ok" ∷ "ok" ∷ "= z" ∷ "ok" ∷ "ok" ∷ "ok" ∷ "= y" ∷ "ok" ∷ "! empty" ∷ []))
+
+-- Versions are named, listed and taken away.
+abbrev pub MarksRow : Type 0
+MarksRow = Replies
+    (mark w ∷ mark w ∷ edit (new a) ∷ mark v ∷ marks ∷ unmark w ∷ back w ∷ unmark w ∷ marks ∷ [])
+    (lines ("ok" ∷ "! exists" ∷ "ok" ∷ "ok" ∷ "= v" ∷ "= w" ∷ "ok" ∷ "ok" ∷ "! none" ∷ "! none" ∷ "= v" ∷ "ok" ∷ []))
+
+-- A version that is current again can be undone, and stays a version.
+abbrev pub BackRow : Type 0
+BackRow = Replies
+    (edit (new a) ∷ edit (add a p) ∷ mark v ∷ edit (set a 0 x) ∷ get a 0 ∷ back v ∷ get a 0 ∷ undo ∷ get a 0 ∷ redo ∷ get a 0 ∷ marks ∷ [])
+    (lines ("ok" ∷ "ok" ∷ "ok" ∷ "ok" ∷ "= x" ∷ "ok" ∷ "= p" ∷ "ok" ∷ "= x" ∷ "ok" ∷ "= p" ∷ "= v" ∷ "ok" ∷ []))
+
+-- A batch that ends is one step of undo, and empties redo.
+abbrev pub BatchRow : Type 0
+BatchRow = Replies
+    (edit (new a) ∷ begin ∷ edit (add a x) ∷ edit (add a y) ∷ end ∷ undo ∷ len a ∷ redo ∷ len a ∷ undo ∷ begin ∷ edit (add a z) ∷ end ∷ redo ∷ len a ∷ [])
+    (lines ("ok" ∷ "ok" ∷ "ok" ∷ "ok" ∷ "ok" ∷ "ok" ∷ "= 0" ∷ "ok" ∷ "= 2" ∷ "ok" ∷ "ok" ∷ "ok" ∷ "ok" ∷ "! empty" ∷ "= 1" ∷ []))
+
+-- A batch that is given up leaves all as it was, undo and redo too.
+abbrev pub AbortRow : Type 0
+AbortRow = Replies
+    (edit (new a) ∷ edit (add a p) ∷ edit (add a q) ∷ undo ∷ begin ∷ edit (set a 0 x) ∷ get a 0 ∷ abort ∷ get a 0 ∷ end ∷ redo ∷ undo ∷ undo ∷ len a ∷ [])
+    (lines ("ok" ∷ "ok" ∷ "ok" ∷ "ok" ∷ "ok" ∷ "ok" ∷ "= x" ∷ "ok" ∷ "= p" ∷ "! batch" ∷ "ok" ∷ "ok" ∷ "ok" ∷ "= 0" ∷ []))
+
+-- What a batch refuses, and what is refused where none is open.
+abbrev pub InBatchRow : Type 0
+InBatchRow = Replies
+    (end ∷ abort ∷ begin ∷ begin ∷ mark v ∷ unmark v ∷ back v ∷ undo ∷ redo ∷ edit (new a) ∷ end ∷ redo ∷ undo ∷ list ∷ undo ∷ quit ∷ [])
+    (lines ("! batch" ∷ "! batch" ∷ "ok" ∷ "! batch" ∷ "! batch" ∷ "! batch" ∷ "! batch" ∷ "! batch" ∷ "! batch" ∷ "ok" ∷ "ok" ∷ "! empty" ∷ "ok" ∷ "ok" ∷ "! empty" ∷ "ok" ∷ []))
+
+-- Where all codes are alike, a new name's cost counts the names of its map.
+abbrev pub CostRow : Type 0
+CostRow =
+    from start (edit (new a) ∷ edit (new b) ∷ edit (star z) ∷ mark v ∷ [])
+    (λ work. cost 0 (edit (new c)) work ∷ cost 0 (edit (star a)) work ∷ cost 0 (mark w) work ∷ cost 0 (edit (cut a 0 0 b)) work
+    ∷ cost 0 undo work ∷ cost 0 begin work ∷ cost 32 (edit (new c)) work ∷ cost 32 (edit (add a x)) work ∷ [])
+    ≡ 66 ∷ 65 ∷ 65 ∷ 516 ∷ 64 ∷ 0 ∷ 64 ∷ 65 ∷ []

@@ -1,0 +1,95 @@
+-- The plain workspace: what a space stands for.
+use Rattle.std.specs.Prelude.{ℕ, ◌-◌, ◌^◌, Bool, ◌&&◌, not, if◌then◌else◌, ◌==◌, List, [], ◌∷◌, ◌++◌, Option, None, is_some, length, map as each}
+use Rattle.std.specs.Ordering.{nat_cmp}
+use Rattle.std.specs.Cmp.Lexicographic.{slice_cmp}
+use Rattle.std.specs.FinMap as map
+use Rattle.shell_terms.specs.Edit.{Bytes}
+
+-- A finite map from names, in byte order.
+abbrev pub Named : Type 0 → Type 0
+Named X = map.FinMap (slice_cmp nat_cmp) X
+
+-- A finite set of names, in byte order: a map with nothing at each name.
+abbrev pub Names : Type 0
+Names = Named (Unit {0})
+
+-- A state: the buffers' lines by the buffers' names, and the names that are starred.
+pub record State : Type 0 where
+  pub buffers : Named (List Bytes)
+  pub stars : Names
+
+-- A workspace: the current state, the versions by their names, the states to undo and to redo, the last one last,
+-- and in a batch the base: the state at its begin.
+pub record Workspace : Type 0 where
+  pub current : State
+  pub versions : Named State
+  pub undo : List State
+  pub redo : List State
+  pub base : Option State
+
+-- The most lines that a buffer may have, and the most states that undo or redo may hold.
+abbrev pub most : ℕ
+most = 2 ^ 32 - 1
+
+-- The state without buffers and stars.
+abbrev pub blank : State
+blank = record { buffers = map.empty; stars = map.empty }
+
+-- The workspace of a new space.
+abbrev pub start : Workspace
+start = record { current = blank; versions = map.empty; undo = []; redo = []; base = None }
+
+-- ## A state
+
+-- The lines of the buffer, if there is one of this name.
+abbrev pub lines_of : State → Bytes → Option (List Bytes)
+lines_of state name = map.get state.buffers name
+
+-- The state in which the buffer has these lines, made or replaced.
+abbrev pub with_lines : State → Bytes → List Bytes → State
+with_lines state name lines = record state { buffers = map.insert state.buffers name lines }
+
+-- The state in which the buffer is gone.
+abbrev pub without_lines : State → Bytes → State
+without_lines state name = record state { buffers = map.remove state.buffers name }
+
+-- Whether the name is starred.
+abbrev pub is_starred : State → Bytes → Bool
+is_starred state name = map.contains_key state.stars name
+
+-- The state in which the name is starred.
+abbrev pub with_star : State → Bytes → State
+with_star state name = record state { stars = map.insert state.stars name tt }
+
+-- The state in which the name isn't starred.
+abbrev pub without_star : State → Bytes → State
+without_star state name = record state { stars = map.remove state.stars name }
+
+-- The name of a buffer with the number of its lines.
+abbrev pub size_of : Bytes × List Bytes → Bytes × ℕ
+size_of buffer = (buffer.0, length buffer.1)
+
+-- The names of the buffers with the numbers of their lines, in byte order.
+abbrev pub sizes : State → List (Bytes × ℕ)
+sizes state = each size_of (map.entries state.buffers)
+
+-- ## A workspace
+
+-- Whether a batch is open.
+abbrev pub in_batch : Workspace → Bool
+in_batch work = is_some work.base
+
+-- Whether no edit can be done, since it would have to put a state into a full undo.
+abbrev pub is_full : Workspace → Bool
+is_full work = not (in_batch work) && length work.undo == most
+
+-- The state of the version, if there is one of this name.
+abbrev pub version_of : Workspace → Bytes → Option State
+version_of work version = map.get work.versions version
+
+-- The workspace with another current state. Outside a batch the old one goes to the end of undo, and redo is emptied.
+abbrev pub with_current : Workspace → State → Workspace
+with_current work next =
+    if in_batch work
+    then record work { current = next }
+    else record work { current = next; undo = work.undo ++ work.current ∷ []; redo = [] }
