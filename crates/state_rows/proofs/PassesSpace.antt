@@ -1,0 +1,63 @@
+-- A pool that stands for a workspace, leads back and stands in its order is valid.
+use Rattle.std.proofs.Common.{◌≡◌, ℕ, zero, suc, ◌+◌, ◌<◌, ◌≤◌, true, ap, arith, inl, inr}
+use Rattle.std.specs.List.{range_with_len}
+use Rattle.std.proofs.lemmas.Bool.{cases_eq}
+use Rattle.std.proofs.lemmas.Slice.Eq.{bytes_eq-Decides}
+use Rattle.elem_core.specs.Codes.{text_code}
+use Rattle.elem_core.specs.declared.codes.TheConstants.{CODE_BITS}
+use Rattle.node_heap.specs.Links.{count, Reaches}
+use Rattle.node_heap.specs.Forms.{links_in}
+use Rattle.node_heap.proofs.Counts.{test_same, count-cons}
+use Rattle.champ_trie.specs.Trie.{code_by}
+use Rattle.pool_order.proofs.Places.{order-is}
+use Rattle.pool_text.specs.Rows.{is_in_range}
+use Rattle.pool_text.specs.Pool.{forms_in, row_count, order_in}
+use Rattle.pool_text.specs.declared.pool.Pool.{Pool}
+use Rattle.pool_check.specs.Rows.{rows_in_range, links_lead_back, is_line_or_node, texts_are_lines}
+use Rattle.pool_check.specs.Vectors.{keeps_fill_rule, vectors_stand}
+use Rattle.pool_check.specs.Tries.{is_canonical, tries_stand}
+use Rattle.pool_check.specs.Kinds.{roots_are_of_kind}
+use Rattle.pool_check.specs.Damages.{rows_in_order, IsValid}
+use Rattle.pool_check.proofs.PoolLaws.{get-low}
+use Rattle.pool_check.proofs.TestLemmas.{leads-down, roots-low}
+use Rattle.pool_check.proofs.VectorReadings.{all-at}
+use Rattle.plain_space.specs.Workspace.{Workspace}
+use Rattle.state_rows.specs.Standing.{StandsFor}
+use Rattle.state_rows.proofs.CoverRows.{IsKnown}
+use Rattle.state_rows.proofs.CoverSpace.{Covered, roots-known}
+use Rattle.state_rows.proofs.PassesLists.{rows-pass, range-pass}
+use Rattle.state_rows.proofs.PassesRows.{Passes, known-passes}
+use Rattle.state_rows.proofs.PassesKinds.{roots-are}
+
+-- a range has each number in it
+count-range : (a m p : ℕ) → a ≤ p → p < a + m → 0 < count p (range_with_len a m)
+count-range a zero p from to = absurd (omega (arith, from, to))
+count-range a (suc m) p from to = elim (cases_eq a p) as (λ _. 0 < count p (range_with_len a (suc m))) [
+  | inl same ↦ omega (arith, count-cons p a (range_with_len (a + 1) m), test_same a p same)
+  | inr other ↦ omega (arith, count-cons p a (range_with_len (a + 1) m), count-range (a + 1) m p (omega (arith, from, other)) (omega (arith, to)))
+]
+
+module _ (P : Pool) (W : Workspace) (few : P.bits ≤ CODE_BITS) (stands : StandsFor P W) (back : links_lead_back P ≡ true) (ordered : rows_in_order P ≡ true) where
+  row-reached : (l : ℕ) → l < row_count P → (r : ℕ) × (0 < count r P.roots) × Reaches (links_in (forms_in P)) r l
+  unfolding rows_in_order
+  row-reached l low =
+      let order_is : order_in P ≡ range_with_len 0 (row_count P) = (bytes_eq-Decides (order_in P) (range_with_len 0 (row_count P))).0 ordered in
+      (order-is (λ k. k) (links_in (forms_in P)) (leads-down P back) (row_count P) P.roots (roots-low P back)).reached l (omega (arith, count-range 0 (row_count P) l (omega arith) (omega (arith, low)), ap (count l) order_is))
+
+  row-known : (l : ℕ) → l < row_count P → IsKnown (forms_in P) (code_by text_code P.bits) l
+  row-known l low = let from = row-reached l low in all-at (Covered (forms_in P) P.bits few) P.roots (roots-known (forms_in P) P.bits few P.roots W stands) from.0 from.1 l from.2
+
+  row-passes : (l : ℕ) → l < row_count P → Passes (forms_in P) (leads-down P back) (row_count P) (code_by text_code P.bits) l
+  row-passes l low = known-passes (forms_in P) (leads-down P back) (row_count P) (code_by text_code P.bits) l low (row-known l low)
+
+  pub standing-valid : IsValid P
+  unfolding rows_in_range texts_are_lines vectors_stand tries_stand roots_are_of_kind
+  standing-valid = record {
+    in_range = rows-pass is_in_range P.rows (λ i r is. (row-passes i (get-low P.rows i r is)).in_range r is);
+    lead_back = back;
+    lines = rows-pass is_line_or_node P.rows (λ i r is. (row-passes i (get-low P.rows i r is)).line r is);
+    vectors = rows-pass (keeps_fill_rule (forms_in P)) P.rows (λ i r is. (row-passes i (get-low P.rows i r is)).filled r is);
+    tries = range-pass (λ l. is_canonical (row_count P) (forms_in P) (code_by text_code P.bits) l (forms_in P l)) 0 (row_count P) (λ l from to. (row-passes l (omega (arith, to))).canonical);
+    kinds = roots-are (forms_in P) (leads-down P back) (row_count P) (get-low P.rows) P.bits P.roots W stands;
+    in_order = ordered;
+  }

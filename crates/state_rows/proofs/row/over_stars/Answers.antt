@@ -1,0 +1,22 @@
+use Rattle.std.proofs.Common.{[], ◌∷◌, refl, arith}
+use Rattle.node_heap.proofs.BuildLemmas.{Builds-hold, count-cons, count-one}
+use Rattle.state_rows.proofs.Growth.{Grows-Builds, Grows-over, one-held}
+use Rattle.state_rows.proofs.Staying.{buffers-grown, names-grown}
+use Rattle.state_rows.proofs.row.over_stars.Goals as goal
+
+pub state_row-requires-clause-held : goal.state_row-requires-clause-held
+state_row-requires-clause-held c = λ k.
+    omega (arith, one-held c.args.heap.now c.args.names c.requires.held k, c.hold.ensures.holds k, count-cons k c.args.names (c.args.stars ∷ []), count-one k c.args.stars)
+
+pub state_row-requires-clause-spares : goal.state_row-requires-clause-spares
+state_row-requires-clause-spares c = (omega arith, omega (arith, c.requires.spares.1, c.hold.ensures.makes.spare_nodes))
+
+pub returns-clause-grows : goal.returns-clause-grows
+returns-clause-grows c =
+    let holding = Grows-Builds (Builds-hold c.hold.ensures.holds c.hold.ensures.makes c.hold.ensures.count c.hold.ensures.graph c.hold.ensures.extends) in
+    Grows-over c.args.names c.args.stars c.args.names c.args.stars c.state_row.result holding c.state_row.ensures.grows (λ k. refl)
+
+pub returns-clause-state : goal.returns-clause-state
+returns-clause-state c = λ bits s buffers stars.
+    let more = c.hold.ensures.extends in
+    c.state_row.ensures.state bits s (buffers-grown c.args.heap.now c.hold.new.self more bits c.args.names s.buffers buffers) (names-grown c.args.heap.now c.hold.new.self more bits c.args.stars s.stars stars)

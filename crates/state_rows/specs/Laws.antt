@@ -1,0 +1,24 @@
+-- Laws of roots that stand for a workspace.
+use Rattle.std.specs.Prelude.{◌≡◌, ℕ, ◌≤◌, List}
+use Rattle.elem_core.specs.declared.codes.TheConstants.{CODE_BITS}
+use Rattle.node_heap.specs.Heap.{Heap, IsGraph}
+use Rattle.pool_text.specs.Pool.{pool_at}
+use Rattle.pool_text.specs.declared.pool.Pool.{Pool}
+use Rattle.pool_check.specs.Damages.{IsValid}
+use Rattle.shell_terms.specs.Edit.{Bytes}
+use Rattle.plain_space.specs.Workspace.{Workspace}
+use Rattle.state_rows.specs.Standing.{StandsFor, HeapStandsFor}
+
+-- roots of a heap that stand for a workspace have a valid pool, which stands for it too
+abbrev pub PoolsStand : Type 0
+PoolsStand =
+    (h : Heap Bytes) (bits : ℕ) (roots : List ℕ) (W : Workspace) → IsGraph h → bits ≤ CODE_BITS → HeapStandsFor h bits roots W
+    → IsValid (pool_at (λ text. text) h roots bits) × StandsFor (pool_at (λ text. text) h roots bits) W
+
+-- a pool stands for one workspace
+abbrev pub OneWorkspace : Type 0
+OneWorkspace = (P : Pool) (V W : Workspace) → StandsFor P V → StandsFor P W → V ≡ W
+
+-- every valid pool stands for a workspace
+abbrev pub ValidPoolsStand : Type 0
+ValidPoolsStand = (P : Pool) → IsValid P → (W : Workspace) × StandsFor P W

@@ -1,0 +1,23 @@
+//! Laws of pools that stand for a workspace, as the clauses of functions that do nothing.
+ghost use Rattle.state_rows.specs.Laws.{OneWorkspace, PoolsStand, ValidPoolsStand};
+ghost use Rattle.state_rows.specs.Worked.{WorkedSpaces};
+
+/// Roots of a heap that stand for a workspace have a valid pool, which stands for it too.
+pub fn pools_stand()
+    ensures { PoolsStand }
+{}
+
+/// A pool stands for one workspace.
+pub fn one_workspace()
+    ensures { OneWorkspace }
+{}
+
+/// Every valid pool stands for a workspace.
+pub fn valid_pools_stand()
+    ensures { ValidPoolsStand }
+{}
+
+/// What small pools stand for.
+pub fn worked_spaces()
+    ensures { WorkedSpaces }
+{}

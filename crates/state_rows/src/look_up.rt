@@ -1,0 +1,113 @@
+//! What is asked of states, versions and histories. None of it takes memory.
+ghost use Rattle.std.specs.Prelude.{◌≡◌, ℕ, ◌-◌, ◌^◌, ◌<◌, ◌≤◌, List, length, slice_get};
+ghost use Rattle.std.specs.FinMap as map;
+ghost use Rattle.elem_core.specs.declared.codes.TheConstants.{CODE_BITS};
+ghost use Rattle.elem_core.specs.Shown.{name_bytes};
+ghost use Rattle.plain_space.specs.Workspace.{Named, State, lines_of, is_starred as has_star};
+ghost use Rattle.plain_space.specs.Cost.{alike as alike_names, alike_buffers, alike_stars};
+ghost use Rattle.state_rows.specs.Reading.{StandsIfThere};
+ghost use Rattle.state_rows.specs.InHeap.{AreLinesIn, IsStateIn, AreVersionsIn, IsHistoryIn};
+
+use champ_kinds::{MapRef, SetRef};
+use champ_trie::alike;
+use elem_core::{Name, Text};
+use node_heap::{Heap, Link};
+use rrb_core::FlexRef;
+
+/// The lines of the buffer of this name, None exactly where there is no such buffer.
+pub fn buffer(heap: &Heap<Text>, bits: u32, state: Link, name: Name<'_>) -> Option<FlexRef>
+    requires bits { bits ≤ CODE_BITS }
+    requires state { (s : State) × IsStateIn heap.now bits state s }
+    ensures { (s : State) → IsStateIn heap.now bits state s → StandsIfThere (AreLinesIn heap.now bits) result (lines_of s (name_bytes name.entry)) }
+{
+    let lines = names_of(heap, bits, state).get(heap, &name)?;
+    Some(FlexRef::at(lines))
+}
+
+/// Whether the name is starred.
+pub fn is_starred(heap: &Heap<Text>, bits: u32, state: Link, name: Name<'_>) -> bool
+    requires bits { bits ≤ CODE_BITS }
+    requires state { (s : State) × IsStateIn heap.now bits state s }
+    ensures { (s : State) → IsStateIn heap.now bits state s → result ≡ has_star s (name_bytes name.entry) }
+{
+    stars_of(heap, bits, state).has(heap, &name)
+}
+
+/// The state of the version of this name, None exactly where there is no such version.
+pub fn version(heap: &Heap<Text>, versions: MapRef, name: Name<'_>) -> Option<Link>
+    requires bits { versions.bits ≤ CODE_BITS }
+    requires versions { (m : Named State) × AreVersionsIn heap.now versions.bits versions.root m }
+    ensures { (m : Named State) → AreVersionsIn heap.now versions.bits versions.root m →
+        StandsIfThere (IsStateIn heap.now versions.bits) result (map.get m (name_bytes name.entry)) }
+{
+    versions.get(heap, &name)
+}
+
+/// The last state of the history, None exactly where it is empty.
+pub fn last(heap: &Heap<Text>, history: FlexRef) -> Option<Link>
+    requires history { (bits : ℕ) × (ss : List State) × IsHistoryIn heap.now bits history ss }
+    ensures { (bits : ℕ) (ss : List State) → IsHistoryIn heap.now bits history ss →
+        StandsIfThere (IsStateIn heap.now bits) result (slice_get ss (length ss - 1)) }
+{
+    let count = history.len(heap);
+    if count == 0 {
+        return None;
+    }
+    history.get(heap, count - 1)
+}
+
+/// The number of states of the history.
+pub fn count_states(heap: &Heap<Text>, history: FlexRef) -> u32
+    requires history { (bits : ℕ) × (ss : List State) × IsHistoryIn heap.now bits history ss }
+    ensures { (bits : ℕ) (ss : List State) → IsHistoryIn heap.now bits history ss → result ≡ length ss }
+{
+    history.len(heap)
+}
+
+/// How many of the buffers' names have the masked code of this one, itself included where it is among them.
+pub fn buffers_alike(heap: &Heap<Text>, bits: u32, state: Link, name: Name<'_>) -> usize
+    requires bits { bits ≤ CODE_BITS }
+    requires state { (s : State) × IsStateIn heap.now bits state s }
+    ensures number { (s : State) → IsStateIn heap.now bits state s → result ≡ alike_buffers bits s (name_bytes name.entry) }
+    ensures few { result < 2 ^ 56 }
+{
+    alike(heap, names_of(heap, bits, state).root(), &name, bits)
+}
+
+/// The same among the names that are starred.
+pub fn stars_alike(heap: &Heap<Text>, bits: u32, state: Link, name: Name<'_>) -> usize
+    requires bits { bits ≤ CODE_BITS }
+    requires state { (s : State) × IsStateIn heap.now bits state s }
+    ensures number { (s : State) → IsStateIn heap.now bits state s → result ≡ alike_stars bits s (name_bytes name.entry) }
+    ensures few { result < 2 ^ 56 }
+{
+    alike(heap, stars_of(heap, bits, state).root(), &name, bits)
+}
+
+/// The same among the names of the versions.
+pub fn versions_alike(heap: &Heap<Text>, versions: MapRef, name: Name<'_>) -> usize
+    requires bits { versions.bits ≤ CODE_BITS }
+    requires versions { (m : Named State) × AreVersionsIn heap.now versions.bits versions.root m }
+    ensures number { (m : Named State) → AreVersionsIn heap.now versions.bits versions.root m → result ≡ alike_names versions.bits (map.keys m) (name_bytes name.entry) }
+    ensures few { result < 2 ^ 56 }
+{
+    alike(heap, versions.root(), &name, versions.bits())
+}
+
+// The map of the state's buffers.
+pub(crate) fn names_of(heap: &Heap<Text>, bits: u32, state: Link) -> MapRef
+    requires state { (s : State) × IsStateIn heap.now bits state s }
+    ensures bits { result.bits ≡ bits }
+    ensures root { (s : State) → (is : IsStateIn heap.now bits state s) → result.root ≡ is.names }
+{
+    MapRef::at(heap.links(state)[0], bits)
+}
+
+// The set of the names that the state has starred.
+pub(crate) fn stars_of(heap: &Heap<Text>, bits: u32, state: Link) -> SetRef
+    requires state { (s : State) × IsStateIn heap.now bits state s }
+    ensures bits { result.bits ≡ bits }
+    ensures root { (s : State) → (is : IsStateIn heap.now bits state s) → result.root ≡ is.stars }
+{
+    SetRef::at(heap.links(state)[1], bits)
+}

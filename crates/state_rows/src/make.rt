@@ -1,0 +1,175 @@
+//! States, versions and histories with one thing more or less. Each call takes the rows that it makes from spares, which
+//! its caller has reserved, and keeps every row that is there.
+ghost use Rattle.std.specs.Prelude.{◌≡◌, ℕ, ◌+◌, ◌-◌, ◌^◌, ◌<◌, ◌≤◌, true, List, [], ◌∷◌, ◌++◌, length, take, IsSome};
+ghost use Rattle.std.specs.FinMap as map;
+ghost use Rattle.elem_core.specs.declared.codes.TheConstants.{CODE_BITS, DEEPEST};
+ghost use Rattle.elem_core.specs.Naming.{IsName};
+ghost use Rattle.elem_core.specs.Shown.{name_bytes};
+ghost use Rattle.node_heap.specs.Heap.{holds_at, hold_count, HasSpares};
+ghost use Rattle.shell_terms.specs.Edit.{Bytes};
+ghost use Rattle.plain_space.specs.Workspace.{Named, State, lines_of, is_starred, with_lines as has_lines, without_lines as has_no_lines, with_star as has_star, without_star as has_no_star};
+ghost use Rattle.plain_space.specs.Cost.{alike, alike_buffers, alike_stars};
+ghost use Rattle.state_rows.specs.Growth.{Grows};
+ghost use Rattle.state_rows.specs.InHeap.{AreLinesIn, IsStateIn, AreVersionsIn, IsHistoryIn};
+
+use crate::look_up::{names_of, stars_of};
+use crate::row::{over_names, over_stars};
+use crate::start::empty_history;
+use champ_kinds::{Map, MapRef, map_insert, map_remove, set_insert, set_remove};
+use elem_core::{Name, Text};
+use node_heap::{Heap, Link};
+use rrb_core::{Flex, FlexRef, push, take};
+
+/// The state in which the buffer has these lines, made or replaced. It spends the lines' hold.
+pub fn with_lines(heap: &mut Heap<Text>, bits: u32, state: Link, key: Text, lines: Flex) -> Link
+    requires few { hold_count heap.old < 2 ^ 59 }
+    requires bits { bits ≤ CODE_BITS }
+    requires held { 0 < holds_at heap.old lines }
+    requires name { IsName key }
+    requires state { (s : State) × IsStateIn heap.old bits state s × HasSpares heap.old 1 (DEEPEST + 4 + alike_buffers bits s key) }
+    requires lines { (xs : List Bytes) × AreLinesIn heap.old bits lines xs }
+    ensures grows { (s : State) → IsStateIn heap.old bits state s → Grows heap.old heap.new (lines ∷ []) (result ∷ []) 1 (DEEPEST + 4 + alike_buffers bits s key) }
+    ensures state { (s : State) (xs : List Bytes) → IsStateIn heap.old bits state s → AreLinesIn heap.old bits lines xs → IsStateIn heap.new bits result (has_lines s key xs) }
+{
+    let names = names_of(heap, bits, state);
+    let stars = stars_of(heap, bits, state).root();
+    let Ok(written) = map_insert(heap, names, key, lines.into_root()) else {
+        unreachable!()
+    };
+    over_stars(heap, written.into_root(), stars)
+}
+
+/// The state in which the buffer, which is there, is gone.
+pub fn without_lines(heap: &mut Heap<Text>, bits: u32, state: Link, name: Name<'_>) -> Link
+    requires few { hold_count heap.old < 2 ^ 59 }
+    requires bits { bits ≤ CODE_BITS }
+    requires state { (s : State) × IsStateIn heap.old bits state s × IsSome (lines_of s (name_bytes name))
+        × HasSpares heap.old 0 (DEEPEST + 2 + alike_buffers bits s (name_bytes name)) }
+    ensures grows { (s : State) → IsStateIn heap.old bits state s → Grows heap.old heap.new [] (result ∷ []) 0 (DEEPEST + 2 + alike_buffers bits s (name_bytes name.entry)) }
+    ensures state { (s : State) → IsStateIn heap.old bits state s → IsStateIn heap.new bits result (has_no_lines s (name_bytes name.entry)) }
+{
+    let names = names_of(heap, bits, state);
+    let stars = stars_of(heap, bits, state).root();
+    let Ok(found) = map_remove(heap, names, &name) else {
+        unreachable!()
+    };
+    let Some(left) = found else { unreachable!() };
+    over_stars(heap, left.into_root(), stars)
+}
+
+/// The state in which the name is starred.
+pub fn with_star(heap: &mut Heap<Text>, bits: u32, state: Link, key: Text) -> Link
+    requires few { hold_count heap.old < 2 ^ 59 }
+    requires bits { bits ≤ CODE_BITS }
+    requires name { IsName key }
+    requires state { (s : State) × IsStateIn heap.old bits state s × HasSpares heap.old 1 (DEEPEST + 3 + alike_stars bits s key) }
+    ensures grows { (s : State) → IsStateIn heap.old bits state s → Grows heap.old heap.new [] (result ∷ []) 1 (DEEPEST + 3 + alike_stars bits s key) }
+    ensures state { (s : State) → IsStateIn heap.old bits state s → IsStateIn heap.new bits result (has_star s key) }
+{
+    let names = names_of(heap, bits, state).root();
+    let stars = stars_of(heap, bits, state);
+    let Ok(written) = set_insert(heap, stars, key) else {
+        unreachable!()
+    };
+    over_names(heap, names, written.into_root())
+}
+
+/// The state in which the name, which is starred, isn't starred.
+pub fn without_star(heap: &mut Heap<Text>, bits: u32, state: Link, name: Name<'_>) -> Link
+    requires few { hold_count heap.old < 2 ^ 59 }
+    requires bits { bits ≤ CODE_BITS }
+    requires state { (s : State) × IsStateIn heap.old bits state s × (is_starred s (name_bytes name) ≡ true)
+        × HasSpares heap.old 0 (DEEPEST + 2 + alike_stars bits s (name_bytes name)) }
+    ensures grows { (s : State) → IsStateIn heap.old bits state s → Grows heap.old heap.new [] (result ∷ []) 0 (DEEPEST + 2 + alike_stars bits s (name_bytes name.entry)) }
+    ensures state { (s : State) → IsStateIn heap.old bits state s → IsStateIn heap.new bits result (has_no_star s (name_bytes name.entry)) }
+{
+    let names = names_of(heap, bits, state).root();
+    let stars = stars_of(heap, bits, state);
+    let Ok(found) = set_remove(heap, stars, &name) else {
+        unreachable!()
+    };
+    let Some(left) = found else { unreachable!() };
+    over_names(heap, names, left.into_root())
+}
+
+/// The versions with this state at the name, made or replaced. It spends the state's hold.
+pub fn with_version(heap: &mut Heap<Text>, versions: MapRef, key: Text, state: Link) -> Map
+    requires few { hold_count heap.old < 2 ^ 59 }
+    requires bits { versions.bits ≤ CODE_BITS }
+    requires held { 0 < holds_at heap.old state }
+    requires name { IsName key }
+    requires versions { (m : Named State) × AreVersionsIn heap.old versions.bits versions.root m × HasSpares heap.old 1 (DEEPEST + 3 + alike versions.bits (map.keys m) key) }
+    ensures grows { (m : Named State) → AreVersionsIn heap.old versions.bits versions.root m →
+        Grows heap.old heap.new (state ∷ []) (result.root ∷ []) 1 (DEEPEST + 3 + alike versions.bits (map.keys m) key) }
+    ensures bits { result.bits ≡ versions.bits }
+    ensures versions { (m : Named State) (s : State) → AreVersionsIn heap.old versions.bits versions.root m → IsStateIn heap.old versions.bits state s →
+        AreVersionsIn heap.new versions.bits result.root (map.insert m key s) }
+{
+    let Ok(written) = map_insert(heap, versions, key, state) else {
+        unreachable!()
+    };
+    written
+}
+
+/// The versions without the one of this name, which is there.
+pub fn without_version(heap: &mut Heap<Text>, versions: MapRef, name: Name<'_>) -> Map
+    requires few { hold_count heap.old < 2 ^ 59 }
+    requires bits { versions.bits ≤ CODE_BITS }
+    requires versions { (m : Named State) × AreVersionsIn heap.old versions.bits versions.root m × IsSome (map.get m (name_bytes name))
+        × HasSpares heap.old 0 (DEEPEST + 1 + alike versions.bits (map.keys m) (name_bytes name)) }
+    ensures grows { (m : Named State) → AreVersionsIn heap.old versions.bits versions.root m →
+        Grows heap.old heap.new [] (result.root ∷ []) 0 (DEEPEST + 1 + alike versions.bits (map.keys m) (name_bytes name.entry)) }
+    ensures bits { result.bits ≡ versions.bits }
+    ensures versions { (m : Named State) → AreVersionsIn heap.old versions.bits versions.root m →
+        AreVersionsIn heap.new versions.bits result.root (map.remove m (name_bytes name.entry)) }
+{
+    let Ok(found) = map_remove(heap, versions, &name) else {
+        unreachable!()
+    };
+    let Some(left) = found else { unreachable!() };
+    left
+}
+
+/// The history with the state after its last. It spends the state's hold. There is room for one more.
+pub fn pushed(heap: &mut Heap<Text>, history: FlexRef, state: Link) -> Flex
+    requires few { hold_count heap.old < 2 ^ 59 }
+    requires held { 0 < holds_at heap.old state }
+    requires history { (bits : ℕ) × (ss : List State) × IsHistoryIn heap.old bits history ss × (length ss < 2 ^ 32 - 1) }
+    requires spares { HasSpares heap.old 0 9 }
+    ensures grows { Grows heap.old heap.new (state ∷ []) (result ∷ []) 0 9 }
+    ensures history { (bits : ℕ) (ss : List State) (s : State) → IsHistoryIn heap.old bits history ss → IsStateIn heap.old bits state s → IsHistoryIn heap.new bits result (ss ++ s ∷ []) }
+{
+    let Ok(longer) = push(heap, history, state) else {
+        unreachable!()
+    };
+    longer
+}
+
+/// The history without its last state.
+pub fn popped(heap: &mut Heap<Text>, history: FlexRef) -> Flex
+    requires few { hold_count heap.old < 2 ^ 59 }
+    requires history { (bits : ℕ) × (ss : List State) × IsHistoryIn heap.old bits history ss × (0 < length ss) }
+    requires spares { HasSpares heap.old 0 8 }
+    ensures grows { Grows heap.old heap.new [] (result ∷ []) 0 8 }
+    ensures history { (bits : ℕ) (ss : List State) → IsHistoryIn heap.old bits history ss → IsHistoryIn heap.new bits result (take (length ss - 1) ss) }
+{
+    let Ok(shorter) = take(heap, history, history.len(heap) - 1) else {
+        unreachable!()
+    };
+    shorter
+}
+
+/// A held history without states: the given one where it is empty, and else a new one.
+pub fn emptied(heap: &mut Heap<Text>, history: FlexRef) -> Flex
+    requires few { hold_count heap.old < 2 ^ 59 }
+    requires history { (bits : ℕ) × (ss : List State) × IsHistoryIn heap.old bits history ss }
+    requires spares { HasSpares heap.old 0 1 }
+    ensures grows { Grows heap.old heap.new [] (result ∷ []) 0 1 }
+    ensures history { (bits : ℕ) → IsHistoryIn heap.new bits result [] }
+    ensures same { (bits : ℕ) → IsHistoryIn heap.old bits history [] → result ≡ history }
+{
+    if history.len(heap) == 0 {
+        return history.share(heap);
+    }
+    empty_history(heap)
+}
