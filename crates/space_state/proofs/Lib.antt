@@ -1,4 +1,7 @@
-pub mod InOrder
-pub mod Shelf
-pub mod Answering
-pub mod Ending
+pub mod Keeping
+pub mod Front
+pub mod Editing
+pub mod Steps
+pub mod Texts
+pub mod Beginning
+pub mod NewPool

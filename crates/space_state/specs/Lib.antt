@@ -1,6 +1,5 @@
-pub mod Workspace
-pub mod Answer
+pub mod Roots
+pub mod Turns
 pub mod View
-pub mod Change
-pub mod Places
-pub mod Ends
+pub mod Asked
+pub mod Texts

@@ -1,22 +1,52 @@
 -- What contracts see of a space.
-use Rattle.std.specs.Prelude.{ℕ, refl}
-use Rattle.std.specs.Coded.{Coded, code_by, coded×, coded_ℕ, coded_list}
-use Rattle.std.specs.FinMap as map
-use Rattle.space_state.specs.Workspace.{Buffers, Workspace}
+use Rattle.std.specs.Prelude.{◌≡◌, ℕ, ◌+◌, ◌≤◌, Result, MatchResult}
+use Rattle.node_heap.specs.Heap.{live_count}
+use Rattle.pool_text.specs.Pool.{row_count, pool_at}
+use Rattle.pool_text.specs.declared.pool.Pool.{Pool}
+use Rattle.pool_text.specs.Documents.{start_pool}
+use Rattle.pool_check.specs.Damages.{IsValid}
+use Rattle.shell_terms.specs.Command.{PlainCommand}
+use Rattle.plain_space.specs.declared.refusal.Refusal.{Refusal}
+use Rattle.plain_space.specs.Workspace.{Workspace}
+use Rattle.plain_space.specs.Answer.{answer, done}
+use Rattle.plain_space.specs.Cost.{cost}
+use Rattle.state_rows.specs.Standing.{StandsFor}
+use Rattle.space_state.specs.declared.roots.RootedHeap.{RootedHeap}
+use Rattle.space_state.specs.Roots.{root_list}
+use Rattle.space_state.specs.Turns.{IsDue, MadeRises}
 
--- A space: its workspace and the bits of its codes.
+-- A space: the pool of its rows, the number of rows that its heap has, and the number that it ever made.
 pub record SpaceView : Type 0 where
+  pub pool : Pool
+  pub live : ℕ
+  pub made : ℕ
+
+-- What a rooted heap shows.
+abbrev pub shown : RootedHeap → SpaceView
+shown s = record { pool = pool_at (λ text. text) s.heap (root_list s.roots) s.bits; live = live_count s.heap; made = s.heap.made }
+
+-- A new space by so many bits: an empty map of names, an empty set of stars, the state of both, an empty map of versions, and
+-- two empty histories.
+abbrev pub start_view : ℕ → SpaceView
+start_view bits = record { pool = record start_pool { bits = bits }; live = 6; made = 6 }
+
+-- The command was carried out: the pool stands for the workspace afterwards, valid, with its bits and within the cost.
+pub record CarriesOut (command : PlainCommand) (old new : SpaceView) (W : Workspace) : Type 0 where
+  pub after : Workspace
+  pub told : answer W command ≡ done after
+  pub valid : IsValid new.pool
+  pub bits : new.pool.bits ≡ old.pool.bits
+  pub stands : StandsFor new.pool after
+  pub few : row_count new.pool ≤ row_count old.pool + cost old.pool.bits command W
+  pub made : MadeRises (row_count old.pool) old.made (row_count new.pool) new.made
+
+-- The command was refused for a reason that is due, and the space is as it was.
+pub record Refuses (command : PlainCommand) (old new : SpaceView) (W : Workspace) (why : Refusal) : Type 0 where
+  pub due : IsDue W command why
+  pub same : new ≡ old
+
+-- How a call ends that carries out a command on a space whose pool stands for the workspace.
+pub record Ends (command : PlainCommand) (old : SpaceView) (result : Result (Unit {0}) Refusal) (new : SpaceView) : Type 0 where
   pub work : Workspace
-  pub bits : ℕ
-
--- Buffers are stored as their entries.
-abbrev pub buffers_code : Coded Buffers
-buffers_code = map.code (coded_list coded_ℕ) (coded_list (coded_list coded_ℕ))
-
--- A space is stored as the pair of its buffers and its bits.
-abbrev pub space_code : Coded SpaceView
-space_code =
-    code_by (Buffers × ℕ) (coded× buffers_code coded_ℕ)
-    (λ space. (space.work.buffers, space.bits))
-    (λ stored. record { work = record { buffers = stored.0 }; bits = stored.1 })
-    (λ _. refl)
+  pub stands : StandsFor old.pool work
+  pub ends : MatchResult result (λ _. CarriesOut command old new work) (Refuses command old new work)

@@ -1,129 +1,248 @@
-//! The buffers of a space by their names, in byte order.
+//! The edits of buffers. Each looks for what refuses it, makes room for all that it will make, makes the new lines beside
+//! the old ones, and turns to a state that has them.
+ghost use Rattle.std.specs.Prelude.{◌≡◌, ◌≢◌, ℕ, ◌+◌, ◌*◌, ◌<◌, ◌≤◌, List, [], ◌∷◌, ◌++◌, length, IfOk, IfErr, IsSomeAnd, Some, None, MatchBool, MatchResult, false};
+ghost use Rattle.elem_core.specs.declared.codes.TheConstants.{DEEPEST};
+ghost use Rattle.elem_core.specs.Cell.{IsCell};
+ghost use Rattle.elem_core.specs.Naming.{IsName};
+ghost use Rattle.elem_core.specs.Shown.{name_bytes, line_bytes};
+ghost use Rattle.node_heap.specs.Heap.{HasSpares};
+ghost use Rattle.shell_terms.specs.Edit.{Bytes, new, add, set, put, del, cat, cut, copy, drop};
+ghost use Rattle.shell_terms.specs.Command.{edit};
+ghost use Rattle.plain_space.specs.Workspace.{State, Workspace, lines_of, with_lines as state_with_lines, is_full, with_current};
+ghost use Rattle.plain_space.specs.Cost.{alike_buffers};
+ghost use Rattle.state_rows.specs.Reading.{StandsIfThere};
+ghost use Rattle.state_rows.specs.InHeap.{AreLinesIn};
+ghost use Rattle.space_state.specs.Roots.{Keeps};
+ghost use Rattle.space_state.specs.Turns.{IsSame, Obeys, TurnsTo};
 
-ghost use Rattle.std.specs.Prelude.{◌≡◌, ◌<◌, ◌++◌, ◌∷◌, [], ℕ, List, Some, length, map as map_each, OnOk, OnErr, IfOk, IfSome, MatchResult, slice_get};
-ghost use Rattle.std.specs.Option.{option_copied, option_map};
-ghost use Rattle.std.specs.FinMap as map;
-ghost use Rattle.elem_core.specs.Shown.{name_bytes};
-ghost use Rattle.space_state.specs.Workspace.{most_lines, size_of};
-ghost use Rattle.space_state.specs.Places.{IsPlaceOf, IsBetween, shown_size};
-ghost use Rattle.std.specs.Ordering.{nat_cmp};
-ghost use Rattle.std.specs.Cmp.Lexicographic.{slice_cmp};
+use crate::roots::RootedHeap;
+use crate::turning::{EDIT_NODES, MOST};
+use elem_core::{Line, Name, Text, text_of};
+use plain_space::Refusal;
+use rrb_core::{Flex, FlexRef, push, set};
+use rrb_join::{concat, erase, insert, slice};
+use state_rows::{buffer, buffers_alike, with_lines, without_lines};
 
-use super::lines::Lines;
-use elem_core::{Name, NoMemory, Text, text_of};
-use std::alloc::Global;
-use std::marker::Model;
-
-/// A buffer: its name and its lines. Contracts see the pair of them.
-#[derive(Drop)]
-pub struct Buffer {
-    name: Text,
-    lines: Lines,
-}
-
-impl Model for Buffer {
-    ghost use Rattle.std.specs.Prelude.{ℕ, List};
-
-    ghost Value = { List ℕ × List (List ℕ) };
-
-    ghost view = { λ buffer. (buffer.name, buffer.lines) };
-}
-
-/// Buffers by their names. Contracts see the finite map from the names to the lists of lines.
-#[derive(Drop)]
-pub struct Buffers {
-    items: Vec<Buffer>,
-}
-
-impl Model for Buffers {
-    ghost use Rattle.std.specs.Prelude.{IsTrue};
-    ghost use Rattle.std.specs.FinMap as map;
-    ghost use Rattle.std.specs.Ordering.{nat_cmp};
-    ghost use Rattle.std.specs.Cmp.Lexicographic.{slice_cmp};
-    ghost use Rattle.space_state.specs.View.{buffers_code};
-    ghost use Rattle.space_state.specs.Workspace as plain;
-
-    ghost Value = { plain.Buffers };
-
-    ghost coded = { buffers_code };
-
-    ghost view = { λ buffers. map.from_sorted buffers.items.items };
-
-    ghost invariant = { λ buffers. IsTrue (map.is_sorted (slice_cmp nat_cmp) buffers.items.items) };
-}
-
-impl Buffers {
-    /// No buffers. Takes no memory.
-    pub fn new(alloc: Global) -> Buffers
-        ensures { result ≡ map.empty }
+impl RootedHeap {
+    /// The lines of the buffer.
+    pub(crate) fn buffer(&self, name: Name<'_>) -> Result<FlexRef, Refusal>
+        requires { (W : Workspace) × Keeps self.now [] W }
+        ensures { (W : Workspace) → Keeps self.now [] W → MatchResult result
+            (λ lines. IsSomeAnd (lines_of W.current (name_bytes name.entry)) (AreLinesIn self.now.heap self.now.bits lines))
+            (λ why. (lines_of W.current (name_bytes name.entry) ≡ None) × (why ≡ Refusal.Absent)) }
     {
-        Buffers {
-            items: Vec::new(alloc),
+        buffer(&self.heap, self.bits, self.roots.current, name).ok_or(Refusal::Absent)
+    }
+
+    // Gives the buffer these lines, of which the caller's hold is spent, and turns to that state.
+    fn put_lines(&mut self, key: Text, lines: Flex)
+        requires name { IsName key }
+        requires kept { (W : Workspace) × (xs : List Bytes) × Keeps self.old (lines ∷ []) W × AreLinesIn self.old.heap self.old.bits lines xs × (is_full W ≡ false)
+            × HasSpares self.old.heap 1 (DEEPEST + 14 + alike_buffers self.old.bits W.current key) }
+        ensures { (W : Workspace) (xs : List Bytes) → Keeps self.old (lines ∷ []) W → AreLinesIn self.old.heap self.old.bits lines xs → is_full W ≡ false →
+            TurnsTo self.old self.new [] (DEEPEST + 15 + alike_buffers self.old.bits W.current key) (with_current W (state_with_lines W.current key xs)) }
+    {
+        let next = with_lines(&mut self.heap, self.bits, self.roots.current, key, lines);
+        self.turn_to(next);
+    }
+
+    // Makes room for an edit that writes two buffers, and gives their names as texts. Refused with `Limit` exactly where
+    // undo has no room for an edit, and else with `Memory` alone.
+    fn prepare_both(&mut self, name: Name<'_>, other: Name<'_>) -> Result<(Text, Text), Refusal>
+        requires { (W : Workspace) × Keeps self.old [] W }
+        ensures same { IsSame self.old self.new }
+        ensures keys { IfOk result (λ keys. (keys.0 ≡ name_bytes name.entry) × (keys.1 ≡ name_bytes other.entry)) }
+        ensures room { (W : Workspace) → Keeps self.old [] W →
+            IfOk result (λ _. (is_full W ≡ false) × HasSpares self.new.heap 2 (EDIT_NODES + alike_buffers self.old.bits W.current (name_bytes name.entry) + alike_buffers self.old.bits W.current (name_bytes other.entry))) }
+        ensures refused { (W : Workspace) → Keeps self.old [] W →
+            IfErr result (λ why. MatchBool (is_full W) (why ≡ Refusal.Limit) (why ≡ Refusal.Memory)) }
+    {
+        if self.is_full() {
+            return Err(Refusal::Limit);
         }
+        let alike = buffers_alike(&self.heap, self.bits, self.roots.current, name);
+        let other_alike = buffers_alike(&self.heap, self.bits, self.roots.current, other);
+        self.heap.reserve(2, EDIT_NODES + alike + other_alike)?;
+        let key = text_of(self.alloc, name.as_line())?;
+        let other_key = text_of(self.alloc, other.as_line())?;
+        Ok((key, other_key))
     }
 
-    /// The place of the buffer, or else the place where it belongs.
-    pub fn place(&self, name: Name<'_>) -> Result<usize, usize>
-        ensures { MatchResult result
-            (IsPlaceOf (map.entries self.now) (name_bytes name.entry))
-            (IsBetween (slice_cmp nat_cmp) (map.entries self.now) (name_bytes name.entry)) }
+    // Gives the two buffers these lines, of each of which the caller's hold is spent, the first buffer first, and turns to
+    // that state.
+    fn put_both(&mut self, key: Text, rest: Flex, other_key: Text, part: Flex)
+        requires names { IsName key × IsName other_key }
+        requires kept { (W : Workspace) × (xs ys : List Bytes) × Keeps self.old (rest ∷ part ∷ []) W × AreLinesIn self.old.heap self.old.bits rest xs × AreLinesIn self.old.heap self.old.bits part ys × (is_full W ≡ false)
+            × HasSpares self.old.heap 2 (2 * DEEPEST + 19 + alike_buffers self.old.bits W.current key + alike_buffers self.old.bits W.current other_key) }
+        ensures { (W : Workspace) (xs ys : List Bytes) → Keeps self.old (rest ∷ part ∷ []) W → AreLinesIn self.old.heap self.old.bits rest xs → AreLinesIn self.old.heap self.old.bits part ys → is_full W ≡ false →
+            TurnsTo self.old self.new [] (2 * DEEPEST + 21 + (alike_buffers self.old.bits W.current key + alike_buffers self.old.bits W.current other_key))
+            (with_current W (state_with_lines (state_with_lines W.current key xs) other_key ys)) }
     {
-        self.items
-            .binary_search_by(|buffer| buffer.name.text().cmp(name.as_str()))
+        let mid = with_lines(&mut self.heap, self.bits, self.roots.current, key, rest);
+        let next = with_lines(&mut self.heap, self.bits, mid, other_key, part);
+        self.heap.release(mid);
+        self.turn_to(next);
     }
 
-    /// The lines of the buffer at the place.
-    pub fn lines_at(&self, place: usize) -> &Lines
-        requires { place < length (map.entries self.now) }
-        ensures { option_map (λ buffer. buffer.1) (slice_get (map.entries self.now) place) ≡ Some result.now }
+    /// Makes the buffer, without lines.
+    pub(crate) fn make(&mut self, name: Name<'_>) -> Result<(), Refusal>
+        requires { (W : Workspace) × Keeps self.old [] W }
+        ensures { Obeys (edit (new (name_bytes name.entry))) self.old result self.new }
     {
-        &self.items[place].lines
-    }
-
-    /// The lines of the buffer, None exactly where there is none of the name.
-    pub fn get(&self, name: Name<'_>) -> Option<&Lines>
-        ensures { option_copied result ≡ map.get self.now (name_bytes name.entry) }
-    {
-        match self.place(name) {
-            Ok(place) => Some(self.lines_at(place)),
-            Err(_) => None,
+        if self.buffer(name).is_ok() {
+            return Err(Refusal::Exists);
         }
-    }
-
-    /// Makes a buffer without lines at the place where its name belongs.
-    /// A refused call leaves the buffers as they were.
-    pub fn insert_at(&mut self, alloc: Global, place: usize, name: Text) -> Result<(), NoMemory>
-        requires { IsBetween (slice_cmp nat_cmp) (map.entries self.old) name place }
-        ensures made { OnOk result (self.new ≡ map.insert self.old name []) }
-        ensures unchanged { OnErr result (self.new ≡ self.old) }
-    {
-        let lines = Lines::new(alloc);
-        self.items.insert(place, Buffer { name, lines })?;
+        let key = self.prepare(name)?;
+        let Ok(lines) = Flex::empty(&mut self.heap) else {
+            unreachable!()
+        };
+        self.put_lines(key, lines);
         Ok(())
     }
 
-    /// Adds the line at the end of the buffer at the place.
-    /// A refused call leaves the buffers as they were.
-    pub fn push_at(&mut self, place: usize, line: Text) -> Result<(), NoMemory>
-        requires stands { place < length (map.entries self.old) }
-        requires roomy { IfSome (slice_get (map.entries self.old) place) (λ buffer. length buffer.1 < most_lines) }
-        ensures added { (name : List ℕ) (lines : List (List ℕ)) →
-            OnOk result
-            (slice_get (map.entries self.old) place ≡ Some (name, lines) →
-            self.new ≡ map.insert self.old name (lines ++ line ∷ [])) }
-        ensures unchanged { OnErr result (self.new ≡ self.old) }
+    /// Adds the line at the end of the buffer.
+    pub(crate) fn add(&mut self, name: Name<'_>, line: Line<'_>) -> Result<(), Refusal>
+        requires { (W : Workspace) × Keeps self.old [] W }
+        ensures { Obeys (edit (add (name_bytes name.entry) (line_bytes line.entry))) self.old result self.new }
     {
-        self.items[place].lines.push(line)
+        let lines = self.buffer(name)?;
+        if lines.len(&self.heap) == MOST {
+            return Err(Refusal::Limit);
+        }
+        let key = self.prepare(name)?;
+        let text = text_of(self.alloc, line)?;
+        let line = self.heap.cell(text);
+        let Ok(longer) = push(&mut self.heap, lines, line) else {
+            unreachable!()
+        };
+        self.put_lines(key, longer);
+        Ok(())
     }
 
-    /// The names of the buffers with the numbers of their lines, in byte order.
-    pub fn sizes(&self, alloc: Global) -> Result<Vec<(&Text, u32)>, NoMemory>
-        ensures { IfOk result (λ listed. map_each shown_size listed.items ≡ map_each size_of (map.entries self.now)) }
+    /// Puts the line in place of the one at the index.
+    pub(crate) fn set(&mut self, name: Name<'_>, index: u32, line: Line<'_>) -> Result<(), Refusal>
+        requires { (W : Workspace) × Keeps self.old [] W }
+        ensures { Obeys (edit (set (name_bytes name.entry) index (line_bytes line.entry))) self.old result self.new }
     {
-        let mut sizes = Vec::with_capacity(alloc, self.items.len())?;
-        for buffer in &self.items {
-            sizes.push((&buffer.name, buffer.lines.count()))?;
+        let lines = self.buffer(name)?;
+        if index >= lines.len(&self.heap) {
+            return Err(Refusal::Range);
         }
-        Ok(sizes)
+        let key = self.prepare(name)?;
+        let text = text_of(self.alloc, line)?;
+        let line = self.heap.cell(text);
+        let Ok(changed) = set(&mut self.heap, lines, index, line) else {
+            unreachable!()
+        };
+        self.put_lines(key, changed);
+        Ok(())
+    }
+
+    /// Puts the line before the one at the index, or at the end.
+    pub(crate) fn put(&mut self, name: Name<'_>, index: u32, line: Line<'_>) -> Result<(), Refusal>
+        requires { (W : Workspace) × Keeps self.old [] W }
+        ensures { Obeys (edit (put (name_bytes name.entry) index (line_bytes line.entry))) self.old result self.new }
+    {
+        let lines = self.buffer(name)?;
+        let count = lines.len(&self.heap);
+        if index > count {
+            return Err(Refusal::Range);
+        }
+        if count == MOST {
+            return Err(Refusal::Limit);
+        }
+        let key = self.prepare(name)?;
+        let text = text_of(self.alloc, line)?;
+        let line = self.heap.cell(text);
+        let Ok(longer) = insert(&mut self.heap, lines, index, line) else {
+            unreachable!()
+        };
+        self.put_lines(key, longer);
+        Ok(())
+    }
+
+    /// Takes the lines of the range out of the buffer.
+    pub(crate) fn del(&mut self, name: Name<'_>, from: u32, to: u32) -> Result<(), Refusal>
+        requires { (W : Workspace) × Keeps self.old [] W }
+        ensures { Obeys (edit (del (name_bytes name.entry) from to)) self.old result self.new }
+    {
+        let lines = self.buffer(name)?;
+        if from > to || to > lines.len(&self.heap) {
+            return Err(Refusal::Range);
+        }
+        let key = self.prepare(name)?;
+        let Ok(shorter) = erase(&mut self.heap, lines, from, to) else {
+            unreachable!()
+        };
+        self.put_lines(key, shorter);
+        Ok(())
+    }
+
+    /// Adds the lines of the second buffer at the end of the first.
+    pub(crate) fn cat(&mut self, name: Name<'_>, other: Name<'_>) -> Result<(), Refusal>
+        requires { (W : Workspace) × Keeps self.old [] W }
+        ensures { Obeys (edit (cat (name_bytes name.entry) (name_bytes other.entry))) self.old result self.new }
+    {
+        let lines = self.buffer(name)?;
+        let more = self.buffer(other)?;
+        if lines.len(&self.heap) > MOST - more.len(&self.heap) {
+            return Err(Refusal::Limit);
+        }
+        let key = self.prepare(name)?;
+        let Ok(joined) = concat(&mut self.heap, lines, more) else {
+            unreachable!()
+        };
+        self.put_lines(key, joined);
+        Ok(())
+    }
+
+    /// Takes the lines of the range out of the first buffer; the second is these lines then.
+    pub(crate) fn cut(
+        &mut self,
+        name: Name<'_>,
+        from: u32,
+        to: u32,
+        other: Name<'_>,
+    ) -> Result<(), Refusal>
+        requires { (W : Workspace) × Keeps self.old [] W }
+        ensures { Obeys (edit (cut (name_bytes name.entry) from to (name_bytes other.entry))) self.old result self.new }
+    {
+        let lines = self.buffer(name)?;
+        if from > to || to > lines.len(&self.heap) {
+            return Err(Refusal::Range);
+        }
+        let (key, other_key) = self.prepare_both(name, other)?;
+        let Ok(rest) = erase(&mut self.heap, lines, from, to) else {
+            unreachable!()
+        };
+        let Ok(part) = slice(&mut self.heap, lines, from, to) else {
+            unreachable!()
+        };
+        self.put_both(key, rest, other_key, part);
+        Ok(())
+    }
+
+    /// Gives the second buffer the lines of the first.
+    pub(crate) fn copy(&mut self, name: Name<'_>, other: Name<'_>) -> Result<(), Refusal>
+        requires { (W : Workspace) × Keeps self.old [] W }
+        ensures { Obeys (edit (copy (name_bytes name.entry) (name_bytes other.entry))) self.old result self.new }
+    {
+        let lines = self.buffer(name)?;
+        let key = self.prepare(other)?;
+        let lines = lines.share(&mut self.heap);
+        self.put_lines(key, lines);
+        Ok(())
+    }
+
+    /// Takes the buffer away.
+    pub(crate) fn drop_buffer(&mut self, name: Name<'_>) -> Result<(), Refusal>
+        requires { (W : Workspace) × Keeps self.old [] W }
+        ensures { Obeys (edit (drop (name_bytes name.entry))) self.old result self.new }
+    {
+        self.buffer(name)?;
+        self.make_room(name)?;
+        let next = without_lines(&mut self.heap, self.bits, self.roots.current, name);
+        self.turn_to(next);
+        Ok(())
     }
 }

@@ -1,15 +1,19 @@
-//! The space: the buffers that the shell's commands change and ask about.
+//! The space: buffers of lines, stars, versions, undo, redo and batches, over one heap of shared rows.
 #![tactic(auto)]
 
+mod asking;
+mod batches;
 mod buffers;
-mod edit;
+mod histories;
 mod lines;
-mod refusal;
+mod names;
+mod roots;
 mod space;
+mod stars;
+mod start;
+mod turning;
+mod versions;
 
-pub use edit::Edit;
-pub use refusal::Refusal;
+pub use lines::SpaceLines;
+pub use plain_space::{Edit, Refusal};
 pub use space::Space;
-
-#[cfg(test)]
-mod tests;

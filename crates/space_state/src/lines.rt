@@ -1,72 +1,60 @@
-//! The lines of a buffer.
+//! The lines of a part of a buffer, one by one.
+ghost use Rattle.std.specs.Prelude.{◌≡◌, ◌≤◌, ℕ, List, length, slice_range};
+ghost use Rattle.std.specs.Iterator.{YieldsFirstRef, item_count};
+ghost use Rattle.node_heap.specs.Heap.{form_at};
+ghost use Rattle.rrb_core.specs.Vector.{IsGoodVector};
+ghost use Rattle.shell_terms.specs.Edit.{Bytes};
+ghost use Rattle.state_rows.specs.Reading.{AreLines};
 
-ghost use Rattle.std.specs.Prelude.{◌≡◌, ◌==◌, ◌<◌, ◌≤◌, ◌++◌, ◌∷◌, [], length, OnOk, OnErr, slice_get};
-ghost use Rattle.std.specs.Option.{option_copied};
-ghost use Rattle.space_state.specs.Workspace.{most_lines};
-
-use elem_core::{NoMemory, Text};
-use std::alloc::Global;
+use elem_core::Text;
+use node_heap::Heap;
+use rrb_core::{FlexRef, Lines};
 use std::marker::Model;
 
-/// The most lines that a buffer may have.
-pub const MOST_LINES: usize = u32::MAX as usize;
-
-/// The lines of a buffer, at most `MOST_LINES`. Contracts see the list of their bytes.
+/// Goes over the lines of a part of a buffer, in order. It takes no memory.
 #[derive(Drop)]
-pub struct Lines {
-    items: Vec<Text>,
+pub struct SpaceLines<'h> {
+    heap: &'h Heap<Text>,
+    links: Lines<'h, Text>,
 }
 
-impl Model for Lines {
-    ghost use Rattle.std.specs.Prelude.{ℕ, List, length, ◌≤◌};
-    ghost use Rattle.space_state.specs.Workspace.{most_lines};
+impl<'h> Model for SpaceLines<'h> {
+    ghost use Rattle.std.specs.Prelude.{List, map as each};
+    ghost use Rattle.std.specs.List.{All};
+    ghost use Rattle.node_heap.specs.Heap.{form_at};
+    ghost use Rattle.shell_terms.specs.Edit.{Bytes};
 
-    ghost Value = { List (List ℕ) };
+    ghost Value = { List Bytes };
 
-    ghost view = { λ lines. lines.items.items };
+    ghost use Rattle.space_state.specs.Texts.{text_at, IsTextAt};
 
-    ghost invariant = { λ lines. length lines.items.items ≤ most_lines };
+    ghost view = { λ l. each (text_at (form_at l.heap.now)) l.links };
+
+    ghost invariant = { λ l. All (IsTextAt (form_at l.heap.now)) l.links };
 }
 
-impl Lines {
-    /// No lines. Takes no memory.
-    pub fn new(alloc: Global) -> Lines
-        ensures { result ≡ [] }
+impl<'h> SpaceLines<'h> {
+    /// The lines of the vector from the one index to before the other.
+    pub(crate) fn new(heap: &'h Heap<Text>, lines: FlexRef, from: u32, to: u32) -> SpaceLines<'h>
+        requires lines { (bits : ℕ) × (texts : List Bytes) × AreLines (form_at heap.now) (IsGoodVector heap.now) bits lines texts × (from ≤ to) × (to ≤ length texts) }
+        ensures { (bits : ℕ) (texts : List Bytes) → AreLines (form_at heap.now) (IsGoodVector heap.now) bits lines texts → result ≡ slice_range texts from to }
     {
-        Lines {
-            items: Vec::new(alloc),
+        SpaceLines {
+            heap,
+            links: lines.lines(heap, from, to),
         }
     }
+}
 
-    /// The number of lines.
-    pub fn count(&self) -> u32
-        ensures { result ≡ length self.now }
-    {
-        self.items.len() as u32
-    }
+impl<'h> Iterator for SpaceLines<'h> {
+    type Item = &'h Text;
 
-    /// Whether no further line can be added.
-    pub fn is_full(&self) -> bool
-        ensures full { result ≡ (length self.now == most_lines) }
-        ensures bounded { length self.now ≤ most_lines }
-    {
-        self.items.len() == MOST_LINES
-    }
+    ghost next_gives = { YieldsFirstRef (λ l. l) };
 
-    /// The line at the index, counted from 0. None exactly past the end.
-    pub fn line(&self, index: u32) -> Option<&Text>
-        ensures { option_copied result ≡ slice_get self.now index }
-    {
-        self.items.get(index as usize)
-    }
+    ghost remaining = { item_count (λ l. l) };
 
-    /// Adds the line at the end. A refused call leaves the lines as they were.
-    pub fn push(&mut self, line: Text) -> Result<(), NoMemory>
-        requires { length self.old < most_lines }
-        ensures added { OnOk result (self.new ≡ self.old ++ line ∷ []) }
-        ensures unchanged { OnErr result (self.new ≡ self.old) }
-    {
-        self.items.push(line)?;
-        Ok(())
+    fn next(&mut self) -> Option<&'h Text> {
+        let link = self.links.next()?;
+        self.heap.value(link)
     }
 }

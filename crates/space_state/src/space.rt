@@ -1,137 +1,207 @@
 //! The space and its calls.
+ghost use Rattle.std.specs.Prelude.{◌≡◌, ℕ, ◌≤◌, List, [], length, map as each, IfOk, Some, slice_get, slice_range, true, false};
+ghost use Rattle.std.specs.FinMap as map;
+ghost use Rattle.elem_core.specs.Shown.{name_bytes};
+ghost use Rattle.pool_text.specs.Pool.{row_count};
+ghost use Rattle.pool_check.specs.Damages.{IsValid};
+ghost use Rattle.shell_terms.specs.Command.{mark, unmark, back, undo, redo, begin, «end», abort};
+ghost use Rattle.plain_space.specs.Workspace.{Workspace, start, sizes, in_batch, is_full};
+ghost use Rattle.plain_space.specs.Change.{edit_command};
+ghost use Rattle.state_rows.specs.Standing.{StandsFor};
+ghost use Rattle.space_state.specs.Asked.{OnLines};
+ghost use Rattle.space_state.specs.View.{Ends, start_view};
 
-ghost use Rattle.std.specs.Prelude.{◌≡◌, ◌≤◌, ◌∷◌, [], map, Some, IfOk, MatchResult};
-ghost use Rattle.elem_core.specs.Shown.{name_bytes, line_bytes};
-ghost use Rattle.shell_terms.specs.Command.{new, add, get, len};
-ghost use Rattle.space_state.specs.Workspace.{start, sizes, line_of, count_of};
-ghost use Rattle.space_state.specs.Answer.{answer, told, refused, text_line, number_line};
-ghost use Rattle.space_state.specs.Ends.{Ends};
-ghost use Rattle.space_state.specs.Change.{edit_command};
-ghost use Rattle.space_state.specs.Places.{shown_size};
-
-use super::buffers::Buffers;
-use super::edit::Edit;
-use super::refusal::Refusal;
-use elem_core::{CODE_BITS, Line, Name, NoMemory, Text, text_of};
+use crate::lines::SpaceLines;
+use crate::roots::RootedHeap;
+use elem_core::{CODE_BITS, Name, NoMemory, Text};
+use plain_space::{Edit, Refusal};
 use std::alloc::Global;
 use std::marker::Model;
 
-/// A space: buffers of lines by their names. Contracts see its plain workspace and its bits.
+/// A space: buffers of lines and starred names, versions, undo and redo and, in a batch, the state that it began with, over
+/// one heap of shared rows. Contracts see the pool of its rows, the number of rows
+/// that its heap has, and the number that it ever made.
 #[derive(Drop)]
 pub struct Space {
-    alloc: Global,
-    bits: u32,
-    buffers: Buffers,
+    rows: RootedHeap,
 }
 
 impl Model for Space {
-    ghost use Rattle.std.specs.Prelude.{◌≤◌};
-    ghost use Rattle.elem_core.specs.declared.codes.TheConstants.{CODE_BITS};
-    ghost use Rattle.space_state.specs.View.{SpaceView, space_code};
+    ghost use Rattle.std.specs.Prelude.{[]};
+    ghost use Rattle.plain_space.specs.Workspace.{Workspace};
+    ghost use Rattle.space_state.specs.View.{SpaceView, shown};
+    ghost use Rattle.space_state.specs.Roots.{Keeps};
 
     ghost Value = { SpaceView };
 
-    ghost coded = { space_code };
+    ghost view = { λ space. shown space.rows };
 
-    ghost view = { λ space. record { work = record { buffers = space.buffers }; bits = space.bits } };
-
-    ghost invariant = { λ space. space.bits ≤ CODE_BITS };
+    ghost invariant = { λ space. (W : Workspace) × Keeps space.rows [] W };
 }
 
 impl Space {
-    /// A space without a buffer, whose codes keep `bits` bits.
+    /// The space without buffers, stars and versions, by so many bits of the names' codes. It has made six rows.
     pub fn new(alloc: Global, bits: u32) -> Result<Space, NoMemory>
         requires { bits ≤ CODE_BITS }
-        ensures empty { IfOk result (λ space. space.work ≡ start) }
-        ensures bits { IfOk result (λ space. space.bits ≡ bits) }
+        ensures start { IfOk result (λ space. space ≡ start_view bits) }
+        ensures stands { IfOk result (λ space. StandsFor space.pool start) }
+        ensures valid { IfOk result (λ space. IsValid space.pool) }
     {
-        let buffers = Buffers::new(alloc);
-        Ok(Space {
-            alloc,
-            bits,
-            buffers,
-        })
+        let rows = RootedHeap::start(alloc, bits)?;
+        Ok(Space { rows })
     }
 
-    /// The number of low bits that the space's codes keep.
+    /// Carries out the edit, refused exactly as the row of its command says, want of memory last.
+    pub fn edit(&mut self, change: Edit<'_>) -> Result<(), Refusal>
+        ensures { Ends (edit_command change.entry) self.old result self.new }
+    {
+        self.rows.edit(change)
+    }
+
+    /// Goes back to the state before the last edit. `Batch` in a batch, else `Empty` where there is none, else `Limit` where
+    /// redo holds 2^32 - 1 states.
+    pub fn undo(&mut self) -> Result<(), Refusal>
+        ensures { Ends undo self.old result self.new }
+    {
+        self.rows.undo()
+    }
+
+    /// Goes forward to the state that the last undo left. `Batch` in a batch, else `Empty` where there is none, else `Limit`
+    /// where undo holds 2^32 - 1 states.
+    pub fn redo(&mut self) -> Result<(), Refusal>
+        ensures { Ends redo self.old result self.new }
+    {
+        self.rows.redo()
+    }
+
+    /// Keeps the current state as a version. `Batch` in a batch, else `Exists` where there is one of this name.
+    pub fn mark(&mut self, version: Name<'_>) -> Result<(), Refusal>
+        ensures { Ends (mark (name_bytes version.entry)) self.old result self.new }
+    {
+        self.rows.mark(version)
+    }
+
+    /// Lets the version go. `Batch` in a batch, else `Absent` where there is none of this name.
+    pub fn unmark(&mut self, version: Name<'_>) -> Result<(), Refusal>
+        ensures { Ends (unmark (name_bytes version.entry)) self.old result self.new }
+    {
+        self.rows.unmark(version)
+    }
+
+    /// Makes the version's state the current one, as an edit does. `Batch` in a batch, else `Absent` where there is none of
+    /// this name, else `Limit` where undo holds 2^32 - 1 states.
+    pub fn back(&mut self, version: Name<'_>) -> Result<(), Refusal>
+        ensures { Ends (back (name_bytes version.entry)) self.old result self.new }
+    {
+        self.rows.back(version)
+    }
+
+    /// Opens a batch. `Batch` where one is open. It takes no memory.
+    pub fn begin(&mut self) -> Result<(), Refusal>
+        ensures ends { Ends begin self.old result self.new }
+        ensures made { self.new.made ≡ self.old.made }
+    {
+        self.rows.begin()
+    }
+
+    /// Closes the batch, whose edits undo takes back together. `Batch` where none is open, else `Limit` where undo holds
+    /// 2^32 - 1 states.
+    pub fn end(&mut self) -> Result<(), Refusal>
+        ensures { Ends «end» self.old result self.new }
+    {
+        self.rows.end()
+    }
+
+    /// Closes the batch and goes back to the state that it began with. `Batch` where none is open. It takes no memory.
+    pub fn abort(&mut self) -> Result<(), Refusal>
+        ensures ends { Ends abort self.old result self.new }
+        ensures made { self.new.made ≡ self.old.made }
+    {
+        self.rows.abort()
+    }
+
+    /// How many low bits of the names' codes the space goes by.
     pub fn bits(&self) -> u32
-        ensures kept { result ≡ self.now.bits }
+        ensures kept { result ≡ self.now.pool.bits }
         ensures small { result ≤ CODE_BITS }
     {
-        self.bits
+        self.rows.bits
     }
 
-    /// Carries out the change. It is refused exactly as the row of its command says, want of
-    /// memory last, and then the space is as it was.
-    pub fn edit(&mut self, change: Edit<'_>) -> Result<(), Refusal>
-        ensures { Ends (answer self.old.work (edit_command change.entry)) self.old result self.new }
+    /// Whether a batch is open.
+    pub fn in_batch(&self) -> bool
+        ensures { (W : Workspace) × StandsFor self.now.pool W × (result ≡ in_batch W) }
     {
-        match change {
-            Edit::New(name) => self.make(name),
-            Edit::Add(name, line) => self.append(name, line),
-        }
+        self.rows.in_batch()
     }
 
-    // Makes the buffer, without lines.
-    fn make(&mut self, name: Name<'_>) -> Result<(), Refusal>
-        ensures { Ends (answer self.old.work (new (name_bytes name.entry))) self.old result self.new }
+    /// Whether no edit can be done: undo holds 2^32 - 1 states, and no batch is open.
+    pub fn full(&self) -> bool
+        ensures { (W : Workspace) × StandsFor self.now.pool W × (result ≡ is_full W) }
     {
-        match self.buffers.place(name) {
-            Ok(_) => Err(Refusal::Exists),
-            Err(place) => {
-                let text = text_of(self.alloc, name.as_line())?;
-                self.buffers.insert_at(self.alloc, place, text)?;
-                Ok(())
-            }
-        }
+        self.rows.is_full()
     }
 
-    // Adds the line at the end of the buffer.
-    fn append(&mut self, name: Name<'_>, line: Line<'_>) -> Result<(), Refusal>
-        ensures { Ends (answer self.old.work (add (name_bytes name.entry) (line_bytes line.entry))) self.old result self.new }
-    {
-        let Ok(place) = self.buffers.place(name) else {
-            return Err(Refusal::Absent);
-        };
-        if self.buffers.lines_at(place).is_full() {
-            return Err(Refusal::Limit);
-        }
-        let text = text_of(self.alloc, line)?;
-        self.buffers.push_at(place, text)?;
-        Ok(())
-    }
-
-    /// The line of the buffer at the index, counted from 0. Absent exactly where there is no
-    /// such buffer, else Range exactly past its end.
+    /// The line of the buffer at the index, counted from 0. Absent exactly where there is no such buffer, else Range exactly
+    /// past its end.
     pub fn line(&self, buffer: Name<'_>, index: u32) -> Result<&Text, Refusal>
-        ensures text { IfOk result (λ text. line_of self.now.work (name_bytes buffer.entry) index ≡ Some text.now) }
-        ensures answered { MatchResult result
-            (λ text. answer self.now.work (get (name_bytes buffer.entry) index) ≡ told (text_line text.now ∷ []) self.now.work)
-            (λ reason. answer self.now.work (get (name_bytes buffer.entry) index) ≡ refused reason) }
+        ensures { (W : Workspace) × StandsFor self.now.pool W × OnLines W (name_bytes buffer.entry) result
+            (λ lines text. slice_get lines index ≡ Some text.now) (λ lines. length lines ≤ index) }
     {
-        let Some(lines) = self.buffers.get(buffer) else {
-            return Err(Refusal::Absent);
-        };
-        lines.line(index).ok_or(Refusal::Range)
+        self.rows.line(buffer, index)
+    }
+
+    /// The lines of the buffer from the one index to before the other. Absent exactly where there is no such buffer, else
+    /// Range exactly where it has no such part.
+    pub fn lines(&self, buffer: Name<'_>, from: u32, to: u32) -> Result<SpaceLines<'_>, Refusal>
+        ensures { (W : Workspace) × StandsFor self.now.pool W × OnLines W (name_bytes buffer.entry) result
+            (λ lines shown. (from ≤ to) × (to ≤ length lines) × (shown ≡ slice_range lines from to)) (λ lines. ¬ ((from ≤ to) × (to ≤ length lines))) }
+    {
+        self.rows.lines(buffer, from, to)
     }
 
     /// The number of the buffer's lines. Absent exactly where there is no such buffer.
     pub fn count(&self, buffer: Name<'_>) -> Result<u32, Refusal>
-        ensures number { IfOk result (λ number. count_of self.now.work (name_bytes buffer.entry) ≡ Some number) }
-        ensures answered { MatchResult result
-            (λ number. answer self.now.work (len (name_bytes buffer.entry)) ≡ told (number_line number ∷ []) self.now.work)
-            (λ reason. answer self.now.work (len (name_bytes buffer.entry)) ≡ refused reason) }
+        ensures { (W : Workspace) × StandsFor self.now.pool W × OnLines W (name_bytes buffer.entry) result
+            (λ lines count. count ≡ length lines) (λ lines. ⊥) }
     {
-        match self.buffers.get(buffer) {
-            None => Err(Refusal::Absent),
-            Some(lines) => Ok(lines.count()),
-        }
+        self.rows.count(buffer)
+    }
+
+    /// The number of rows, all of which the pool has: none leaks.
+    pub fn rows(&self) -> usize
+        ensures live { result ≡ self.now.live }
+        ensures count { self.now.live ≡ row_count self.now.pool }
+        ensures valid { IsValid self.now.pool }
+    {
+        self.rows.heap.live()
+    }
+
+    /// The number of rows ever made. It stays at 2^64 - 1 once it is there.
+    pub fn made(&self) -> u64
+        ensures { result ≡ self.now.made }
+    {
+        self.rows.heap.made()
     }
 
     /// The names of the buffers with the numbers of their lines, in byte order.
     pub fn names(&self, alloc: Global) -> Result<Vec<(&Text, u32)>, NoMemory>
-        ensures { IfOk result (λ listed. map shown_size listed.items ≡ sizes self.now.work) }
+        ensures { (W : Workspace) × StandsFor self.now.pool W × IfOk result (λ listed. each (λ size. (size.0.now, size.1)) listed.items ≡ sizes W.current) }
     {
-        self.buffers.sizes(alloc)
+        self.rows.names(alloc)
+    }
+
+    /// The starred names, in byte order.
+    pub fn stars(&self, alloc: Global) -> Result<Vec<&Text>, NoMemory>
+        ensures { (W : Workspace) × StandsFor self.now.pool W × IfOk result (λ listed. each (λ name. name.now) listed.items ≡ map.keys W.current.stars) }
+    {
+        self.rows.stars(alloc)
+    }
+
+    /// The names of the versions, in byte order.
+    pub fn marks(&self, alloc: Global) -> Result<Vec<&Text>, NoMemory>
+        ensures { (W : Workspace) × StandsFor self.now.pool W × IfOk result (λ listed. each (λ name. name.now) listed.items ≡ map.keys W.versions) }
+    {
+        self.rows.marks(alloc)
     }
 }

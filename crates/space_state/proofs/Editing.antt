@@ -1,0 +1,648 @@
+-- The edits of buffers: what each comes to at what was found, what the vector is that a call made, and how a call ends.
+use Rattle.std.proofs.Common.{◌≡◌, ℕ, zero, suc, ◌+◌, ◌-◌, ◌<◌, ◌≤◌, List, [], ◌∷◌, ◌++◌, length, take, drop, set, map, Bool, true, false, cond, ◌&&◌, leb, ltb, Option, Some, None, is_some, IsSome, option_map, eqb, Result, Ok, Err, refl, sym, ap, subst, ◌∙◌, arith}
+use Rattle.std.proofs.lemmas.Bool.Decides.{nat_tests}
+use Rattle.std.proofs.lemmas.List.{drop-take}
+use Rattle.std.specs.Prelude.{nat_le, nat_lt, IsSomeAnd, IsOk, IsErrAnd, is_ok, MatchBool, MatchResult, count_by, slice_range}
+use Rattle.std.specs.List.{AllZip, insert, remove_range}
+use Rattle.std.specs.declared.cmp.Ordering.{Ordering}
+use Rattle.std.specs.declared.cmp.Ordering.TheVariants.{Less, Equal, Greater}
+use Rattle.std.specs.Cmp.Lexicographic.{nat_list_cmp_total}
+use Rattle.std.specs.FinMap as finite
+use Rattle.std.specs.FinMap.Entries as sorted
+use Rattle.elem_core.specs.Cell.{IsCell}
+use Rattle.elem_core.specs.Codes.{text_code, masked_code}
+use Rattle.node_heap.specs.Links.{here}
+use Rattle.node_heap.specs.Forms.{cell, form_of}
+use Rattle.node_heap.specs.Heap.{Heap, form_at, hold_count, HasSpares, IsGraph}
+use Rattle.node_heap.specs.Calls.{Extends, Adds, Makes, Answered, Releases}
+use Rattle.node_heap.proofs.Frames.{Extends-trans}
+use Rattle.node_heap.proofs.GraphLemmas.{IsGraph-kinds}
+use Rattle.node_heap.proofs.BuildLemmas.{count-cons}
+use Rattle.champ_chain.proofs.SetLemmas.{count-cons as counted}
+use Rattle.rrb_core.specs.Vector.{IsGoodVector, elements, height_at}
+use Rattle.rrb_core.proofs.Stays.{well-live, extended-same}
+use Rattle.rrb_core.specs.declared.grow.PushFault.{PushFault}
+use Rattle.rrb_core.specs.declared.grow.PushFault.TheVariants.{Long as push_long, Memory as push_memory}
+use Rattle.rrb_core.specs.declared.replace.SetFault.{SetFault}
+use Rattle.rrb_core.specs.declared.replace.SetFault.TheVariants.{Range as set_range, Memory as set_memory}
+use Rattle.rrb_join.specs.declared.inserting.InsertFault.{InsertFault}
+use Rattle.rrb_join.specs.declared.inserting.InsertFault.TheVariants.{Range as insert_range, Long as insert_long, Memory as insert_memory}
+use Rattle.rrb_join.specs.declared.cutting.SliceFault.{SliceFault}
+use Rattle.rrb_join.specs.declared.cutting.SliceFault.TheVariants.{Range as slice_range_fault, Memory as slice_memory}
+use Rattle.rrb_join.specs.declared.joining.JoinFault.{JoinFault}
+use Rattle.rrb_join.specs.declared.joining.JoinFault.TheVariants.{Long as join_long, Memory as join_memory}
+use Rattle.shell_terms.specs.Edit.{Bytes, PlainEdit, new, add, set as set_line, put, del, cat, cut, copy, drop as drop_buffer}
+use Rattle.shell_terms.specs.Command.{PlainCommand, edit}
+use Rattle.plain_space.specs.declared.refusal.Refusal.{Refusal}
+use Rattle.plain_space.specs.declared.refusal.Refusal.TheVariants.{Absent, Exists, Range, Limit, Memory}
+use Rattle.plain_space.specs.Workspace.{State, Workspace, most, lines_of, with_lines, without_lines, is_full, with_current}
+use Rattle.plain_space.specs.Refusing.{needs, unless, given, on_lines, on_range, room}
+use Rattle.plain_space.specs.Edited.{edited}
+use Rattle.plain_space.specs.Answer.{answer, done, becomes}
+use Rattle.plain_space.specs.Cost.{alike_buffers, edit_cost, cost}
+use Rattle.plain_space.specs.Memory.{MayLackMemory}
+use Rattle.state_rows.specs.Growth.{Grows}
+use Rattle.state_rows.specs.Reading.{IsText}
+use Rattle.state_rows.specs.InHeap.{AreLinesIn, IsStateIn}
+use Rattle.state_rows.proofs.Staying.{states-stay}
+use Rattle.state_rows.proofs.Keys.{by_bytes}
+use Rattle.space_state.specs.declared.roots.RootedHeap.{RootedHeap}
+use Rattle.space_state.specs.Roots.{Keeps}
+use Rattle.space_state.specs.Turns.{IsDue, IsSame, TurnsTo, IsDone, IsRefused}
+use Rattle.space_state.proofs.Keeping.{Rises, rises-grows, rises-then, rises-same, rises-more, keeps-extended, keeps-gained, keeps-same, grows-cell, keeps-turned, keeps-swapped, keeps-released, released-stands, first-counts, unchanged-stands, turns-after}
+
+-- ## Lists that go together
+
+module _ {X Y : Type 0} (R : X → Y → Type 0) where
+  pub zip-append : (ks bs : List X) (xs ys : List Y) → AllZip R ks xs → AllZip R bs ys → AllZip R (ks ++ bs) (xs ++ ys)
+  zip-append [] bs [] ys first second = second
+  zip-append [] bs (x ∷ xs) ys first second = absurd first
+  zip-append (a ∷ ks) bs [] ys first second = absurd first
+  zip-append (a ∷ ks) bs (x ∷ xs) ys first second = (first.0, zip-append ks bs xs ys first.1 second)
+
+  pub zip-take : (n : ℕ) (ks : List X) (xs : List Y) → AllZip R ks xs → AllZip R (take n ks) (take n xs)
+  zip-take zero ks xs zip = tt
+  zip-take (suc n) [] [] zip = tt
+  zip-take (suc n) [] (x ∷ xs) zip = absurd zip
+  zip-take (suc n) (a ∷ ks) [] zip = absurd zip
+  zip-take (suc n) (a ∷ ks) (x ∷ xs) zip = (zip.0, zip-take n ks xs zip.1)
+
+  pub zip-drop : (n : ℕ) (ks : List X) (xs : List Y) → AllZip R ks xs → AllZip R (drop n ks) (drop n xs)
+  zip-drop zero ks xs zip = zip
+  zip-drop (suc n) [] [] zip = tt
+  zip-drop (suc n) [] (x ∷ xs) zip = absurd zip
+  zip-drop (suc n) (a ∷ ks) [] zip = absurd zip
+  zip-drop (suc n) (a ∷ ks) (x ∷ xs) zip = zip-drop n ks xs zip.1
+
+  pub zip-set : (n : ℕ) (a : X) (x : Y) → R a x → (ks : List X) (xs : List Y) → AllZip R ks xs → AllZip R (set ks n a) (set xs n x)
+  zip-set n a x is [] [] zip = tt
+  zip-set n a x is [] (y ∷ ys) zip = absurd zip
+  zip-set n a x is (b ∷ bs) [] zip = absurd zip
+  zip-set zero a x is (b ∷ bs) (y ∷ ys) zip = (is, zip.1)
+  zip-set (suc n) a x is (b ∷ bs) (y ∷ ys) zip = (zip.0, zip-set n a x is bs ys zip.1)
+
+-- a part of a list is what is left of its first elements without the first of these
+pub part-is : {X : Type 0} (from to : ℕ) (xs : List X) → from ≤ to → slice_range xs from to ≡ drop from (take to xs)
+part-is from to xs inside = sym (ap (λ n. drop from (take n xs)) (sums from to inside) ∙ drop-take from (to - from) xs)
+  where
+    sums : (a b : ℕ) → a ≤ b → b ≡ a + (b - a)
+    sums a b le = omega (arith, le)
+
+-- ## Names that are alike
+
+one-at-most : (t : Bool) → (let n : ℕ = cond t 1 0 in n) ≤ 1
+one-at-most true = omega arith
+one-at-most false = omega arith
+
+-- a key put into a list is one more at most
+put-counts : {X : Type 0} (test : Bytes → Bool) (k : Bytes) (v : X) (es : List (Bytes × X)) → count_by test (map (λ e. e.0) (sorted.put by_bytes k v es)) ≤ count_by test (map (λ e. e.0) es) + 1
+put-counts test k v [] = omega (arith, counted test k [], one-at-most (test k))
+put-counts {X} test k v (e ∷ es) = at_head (by_bytes k e.0) (put-counts test k v es)
+  where
+    at_head : (r : Ordering) → count_by test (map (λ d. d.0) (sorted.put by_bytes k v es)) ≤ count_by test (map (λ d. d.0) es) + 1
+        → count_by test (map (λ d. d.0) (sorted.by_order r ((k, v) ∷ e ∷ es) ((e.0, v) ∷ es) (e ∷ sorted.put by_bytes k v es))) ≤ count_by test (e.0 ∷ map (λ d. d.0) es) + 1
+    at_head Less rest = omega (arith, counted test k (e.0 ∷ map (λ d. d.0) es), one-at-most (test k))
+    at_head Equal rest = omega arith
+    at_head Greater rest = omega (arith, counted test e.0 (map (λ d. d.0) es), counted test e.0 (map (λ d. d.0) (sorted.put by_bytes k v es)), rest)
+
+-- with another buffer one name more at most is alike
+pub alike-with : (bits : ℕ) (now : State) (key : Bytes) (xs : List Bytes) (name : Bytes) → alike_buffers bits (with_lines now key xs) name ≤ alike_buffers bits now name + 1
+alike-with bits now key xs name =
+    let test : Bytes → Bool = λ other. eqb (masked_code (text_code other) bits) (masked_code (text_code name) bits) in
+    omega (arith, ap (λ es. count_by test (map (λ e. e.0) es)) (finite.entries-insert nat_list_cmp_total now.buffers key xs), put-counts test key xs (finite.entries now.buffers))
+
+-- ## Tests
+
+pub le-true : (a b : ℕ) → a ≤ b → leb a b ≡ true
+le-true a b le = grind (arith, nat_tests)
+
+pub le-false : (a b : ℕ) → b < a → leb a b ≡ false
+le-false a b lt = grind (arith, nat_tests)
+
+pub lt-true : (a b : ℕ) → a < b → ltb a b ≡ true
+lt-true a b lt = grind (arith, nat_tests)
+
+pub lt-false : (a b : ℕ) → b ≤ a → ltb a b ≡ false
+lt-false a b le = grind (arith, nat_tests)
+
+both-true : (a b : Bool) → a ≡ true → b ≡ true → (a && b) ≡ true
+both-true a b one two = ap (λ t. t && b) one ∙ two
+
+some-of : {X : Type 0} (P : X → Type 0) (o : Option X) → IsSomeAnd o P → (x : X) × (o ≡ Some x) × P x
+some-of P None is = absurd is
+some-of P (Some x) is = (x, refl, is)
+
+-- the lines that a buffer was found to have
+pub found-lines : (s : RootedHeap) (l : ℕ) (now : State) (name : Bytes) → IsSomeAnd (lines_of now name) (AreLinesIn s.heap s.bits l) → (xs : List Bytes) × (lines_of now name ≡ Some xs) × AreLinesIn s.heap s.bits l xs
+found-lines s l now name is = some-of (AreLinesIn s.heap s.bits l) (lines_of now name) is
+
+-- ## What an edit comes to
+
+module _ (now : State) (name : Bytes) where
+  pub new-taken : (xs : List Bytes) → lines_of now name ≡ Some xs → edited now (new name) ≡ Err Exists
+  unfolding edited
+  new-taken xs is = ap (λ o. unless (is_some o) Exists (Ok (with_lines now name []))) is
+
+  pub new-made : lines_of now name ≡ None → edited now (new name) ≡ Ok (with_lines now name [])
+  unfolding edited
+  new-made is = ap (λ o. unless (is_some o) Exists (Ok (with_lines now name []))) is
+
+  module _ (text : Bytes) where
+    pub add-absent : lines_of now name ≡ None → edited now (add name text) ≡ Err Absent
+    unfolding edited
+    add-absent is = ap (λ o. given o Absent (λ lines. room (length lines + 1) (Ok (with_lines now name (lines ++ text ∷ []))))) is
+
+    add-found : (xs : List Bytes) → lines_of now name ≡ Some xs → edited now (add name text) ≡ room (length xs + 1) (Ok (with_lines now name (xs ++ text ∷ [])))
+    unfolding edited
+    add-found xs is = ap (λ o. given o Absent (λ lines. room (length lines + 1) (Ok (with_lines now name (lines ++ text ∷ []))))) is
+
+    pub add-full : (xs : List Bytes) → lines_of now name ≡ Some xs → length xs ≡ most → edited now (add name text) ≡ Err Limit
+    add-full xs is full = add-found xs is ∙ ap (λ t. needs t Limit (Ok (with_lines now name (xs ++ text ∷ [])))) (le-false (length xs + 1) most (omega (arith, full)))
+
+    pub add-made : (xs : List Bytes) → lines_of now name ≡ Some xs → length xs < most → edited now (add name text) ≡ Ok (with_lines now name (xs ++ text ∷ []))
+    add-made xs is short = add-found xs is ∙ ap (λ t. needs t Limit (Ok (with_lines now name (xs ++ text ∷ [])))) (le-true (length xs + 1) most (omega (arith, short)))
+
+    module _ (index : ℕ) where
+      pub set-absent : lines_of now name ≡ None → edited now (set_line name index text) ≡ Err Absent
+      unfolding edited
+      set-absent is = ap (λ o. given o Absent (λ lines. needs (nat_lt index (length lines)) Range (Ok (with_lines now name (set lines index text))))) is
+
+      set-found : (xs : List Bytes) → lines_of now name ≡ Some xs → edited now (set_line name index text) ≡ needs (nat_lt index (length xs)) Range (Ok (with_lines now name (set xs index text)))
+      unfolding edited
+      set-found xs is = ap (λ o. given o Absent (λ lines. needs (nat_lt index (length lines)) Range (Ok (with_lines now name (set lines index text))))) is
+
+      pub set-past : (xs : List Bytes) → lines_of now name ≡ Some xs → length xs ≤ index → edited now (set_line name index text) ≡ Err Range
+      set-past xs is past = set-found xs is ∙ ap (λ t. needs t Range (Ok (with_lines now name (set xs index text)))) (lt-false index (length xs) past)
+
+      pub set-made : (xs : List Bytes) → lines_of now name ≡ Some xs → index < length xs → edited now (set_line name index text) ≡ Ok (with_lines now name (set xs index text))
+      set-made xs is inside = set-found xs is ∙ ap (λ t. needs t Range (Ok (with_lines now name (set xs index text)))) (lt-true index (length xs) inside)
+
+      pub put-absent : lines_of now name ≡ None → edited now (put name index text) ≡ Err Absent
+      unfolding edited
+      put-absent is = ap (λ o. given o Absent (λ lines. needs (nat_le index (length lines)) Range (room (length lines + 1) (Ok (with_lines now name (insert lines index text)))))) is
+
+      put-found : (xs : List Bytes) → lines_of now name ≡ Some xs → edited now (put name index text) ≡ needs (nat_le index (length xs)) Range (room (length xs + 1) (Ok (with_lines now name (insert xs index text))))
+      unfolding edited
+      put-found xs is = ap (λ o. given o Absent (λ lines. needs (nat_le index (length lines)) Range (room (length lines + 1) (Ok (with_lines now name (insert lines index text)))))) is
+
+      pub put-past : (xs : List Bytes) → lines_of now name ≡ Some xs → length xs < index → edited now (put name index text) ≡ Err Range
+      put-past xs is past = put-found xs is ∙ ap (λ t. needs t Range (room (length xs + 1) (Ok (with_lines now name (insert xs index text))))) (le-false index (length xs) past)
+
+      put-inside : (xs : List Bytes) → lines_of now name ≡ Some xs → index ≤ length xs → edited now (put name index text) ≡ room (length xs + 1) (Ok (with_lines now name (insert xs index text)))
+      put-inside xs is inside = put-found xs is ∙ ap (λ t. needs t Range (room (length xs + 1) (Ok (with_lines now name (insert xs index text))))) (le-true index (length xs) inside)
+
+      pub put-full : (xs : List Bytes) → lines_of now name ≡ Some xs → index ≤ length xs → length xs ≡ most → edited now (put name index text) ≡ Err Limit
+      put-full xs is inside full = put-inside xs is inside ∙ ap (λ t. needs t Limit (Ok (with_lines now name (insert xs index text)))) (le-false (length xs + 1) most (omega (arith, full)))
+
+      pub put-made : (xs : List Bytes) → lines_of now name ≡ Some xs → index ≤ length xs → length xs < most → edited now (put name index text) ≡ Ok (with_lines now name (insert xs index text))
+      put-made xs is inside short = put-inside xs is inside ∙ ap (λ t. needs t Limit (Ok (with_lines now name (insert xs index text)))) (le-true (length xs + 1) most (omega (arith, short)))
+
+  module _ (from to : ℕ) where
+    range-true : (xs : List Bytes) → from ≤ to → to ≤ length xs → (nat_le from to && nat_le to (length xs)) ≡ true
+    range-true xs first second = both-true (nat_le from to) (nat_le to (length xs)) (le-true from to first) (le-true to (length xs) second)
+
+    range-late : (xs : List Bytes) → to < from → (nat_le from to && nat_le to (length xs)) ≡ false
+    range-late xs late = ap (λ t. t && nat_le to (length xs)) (le-false from to late)
+
+    range-past : (xs : List Bytes) → from ≤ to → length xs < to → (nat_le from to && nat_le to (length xs)) ≡ false
+    range-past xs first past = ap (λ t. t && nat_le to (length xs)) (le-true from to first) ∙ le-false to (length xs) past
+
+    pub del-absent : lines_of now name ≡ None → edited now (del name from to) ≡ Err Absent
+    unfolding edited
+    del-absent is = ap (λ o. given o Absent (λ lines. on_range from to lines (Ok (with_lines now name (remove_range lines from to))))) is
+
+    del-found : (xs : List Bytes) → lines_of now name ≡ Some xs → edited now (del name from to) ≡ needs (nat_le from to && nat_le to (length xs)) Range (Ok (with_lines now name (remove_range xs from to)))
+    unfolding edited
+    del-found xs is = ap (λ o. given o Absent (λ lines. on_range from to lines (Ok (with_lines now name (remove_range lines from to))))) is
+
+    pub del-late : (xs : List Bytes) → lines_of now name ≡ Some xs → to < from → edited now (del name from to) ≡ Err Range
+    del-late xs is late = del-found xs is ∙ ap (λ t. needs t Range (Ok (with_lines now name (remove_range xs from to)))) (range-late xs late)
+
+    pub del-past : (xs : List Bytes) → lines_of now name ≡ Some xs → from ≤ to → length xs < to → edited now (del name from to) ≡ Err Range
+    del-past xs is first past = del-found xs is ∙ ap (λ t. needs t Range (Ok (with_lines now name (remove_range xs from to)))) (range-past xs first past)
+
+    pub del-made : (xs : List Bytes) → lines_of now name ≡ Some xs → from ≤ to → to ≤ length xs → edited now (del name from to) ≡ Ok (with_lines now name (remove_range xs from to))
+    del-made xs is first second = del-found xs is ∙ ap (λ t. needs t Range (Ok (with_lines now name (remove_range xs from to)))) (range-true xs first second)
+
+    module _ (other : Bytes) where
+      pub cut-absent : lines_of now name ≡ None → edited now (cut name from to other) ≡ Err Absent
+      unfolding edited
+      cut-absent is = ap (λ o. given o Absent (λ lines. on_range from to lines (Ok (with_lines (with_lines now name (remove_range lines from to)) other (slice_range lines from to))))) is
+
+      cut-found : (xs : List Bytes) → lines_of now name ≡ Some xs
+          → edited now (cut name from to other) ≡ needs (nat_le from to && nat_le to (length xs)) Range (Ok (with_lines (with_lines now name (remove_range xs from to)) other (slice_range xs from to)))
+      unfolding edited
+      cut-found xs is = ap (λ o. given o Absent (λ lines. on_range from to lines (Ok (with_lines (with_lines now name (remove_range lines from to)) other (slice_range lines from to))))) is
+
+      pub cut-late : (xs : List Bytes) → lines_of now name ≡ Some xs → to < from → edited now (cut name from to other) ≡ Err Range
+      cut-late xs is late = cut-found xs is ∙ ap (λ t. needs t Range (Ok (with_lines (with_lines now name (remove_range xs from to)) other (slice_range xs from to)))) (range-late xs late)
+
+      pub cut-past : (xs : List Bytes) → lines_of now name ≡ Some xs → from ≤ to → length xs < to → edited now (cut name from to other) ≡ Err Range
+      cut-past xs is first past = cut-found xs is ∙ ap (λ t. needs t Range (Ok (with_lines (with_lines now name (remove_range xs from to)) other (slice_range xs from to)))) (range-past xs first past)
+
+      pub cut-made : (xs : List Bytes) → lines_of now name ≡ Some xs → from ≤ to → to ≤ length xs
+          → edited now (cut name from to other) ≡ Ok (with_lines (with_lines now name (remove_range xs from to)) other (drop from (take to xs)))
+      cut-made xs is first second =
+          cut-found xs is ∙ ap (λ t. needs t Range (Ok (with_lines (with_lines now name (remove_range xs from to)) other (slice_range xs from to)))) (range-true xs first second)
+          ∙ ap (λ ys. Ok (with_lines (with_lines now name (remove_range xs from to)) other ys)) (part-is from to xs first)
+
+  module _ (other : Bytes) where
+    pub cat-absent : lines_of now name ≡ None → edited now (cat name other) ≡ Err Absent
+    unfolding edited
+    cat-absent is = ap (λ o. given o Absent (λ lines. on_lines now other (λ more. room (length lines + length more) (Ok (with_lines now name (lines ++ more)))))) is
+
+    cat-found : (xs : List Bytes) → lines_of now name ≡ Some xs → edited now (cat name other) ≡ on_lines now other (λ more. room (length xs + length more) (Ok (with_lines now name (xs ++ more))))
+    unfolding edited
+    cat-found xs is = ap (λ o. given o Absent (λ lines. on_lines now other (λ more. room (length lines + length more) (Ok (with_lines now name (lines ++ more)))))) is
+
+    pub cat-missing : (xs : List Bytes) → lines_of now name ≡ Some xs → lines_of now other ≡ None → edited now (cat name other) ≡ Err Absent
+    cat-missing xs is none = cat-found xs is ∙ ap (λ o. given o Absent (λ more. room (length xs + length more) (Ok (with_lines now name (xs ++ more))))) none
+
+    cat-both : (xs ys : List Bytes) → lines_of now name ≡ Some xs → lines_of now other ≡ Some ys → edited now (cat name other) ≡ room (length xs + length ys) (Ok (with_lines now name (xs ++ ys)))
+    cat-both xs ys is also = cat-found xs is ∙ ap (λ o. given o Absent (λ more. room (length xs + length more) (Ok (with_lines now name (xs ++ more))))) also
+
+    pub cat-full : (xs ys : List Bytes) → lines_of now name ≡ Some xs → lines_of now other ≡ Some ys → most < length xs + length ys → edited now (cat name other) ≡ Err Limit
+    cat-full xs ys is also full = cat-both xs ys is also ∙ ap (λ t. needs t Limit (Ok (with_lines now name (xs ++ ys)))) (le-false (length xs + length ys) most full)
+
+    pub cat-made : (xs ys : List Bytes) → lines_of now name ≡ Some xs → lines_of now other ≡ Some ys → length xs + length ys ≤ most → edited now (cat name other) ≡ Ok (with_lines now name (xs ++ ys))
+    cat-made xs ys is also short = cat-both xs ys is also ∙ ap (λ t. needs t Limit (Ok (with_lines now name (xs ++ ys)))) (le-true (length xs + length ys) most short)
+
+    pub copy-absent : lines_of now name ≡ None → edited now (copy name other) ≡ Err Absent
+    unfolding edited
+    copy-absent is = ap (λ o. given o Absent (λ lines. Ok (with_lines now other lines))) is
+
+    pub copy-made : (xs : List Bytes) → lines_of now name ≡ Some xs → edited now (copy name other) ≡ Ok (with_lines now other xs)
+    unfolding edited
+    copy-made xs is = ap (λ o. given o Absent (λ lines. Ok (with_lines now other lines))) is
+
+  pub drop-absent : lines_of now name ≡ None → edited now (drop_buffer name) ≡ Err Absent
+  unfolding edited
+  drop-absent is = ap (λ o. given o Absent (λ lines. Ok (without_lines now name))) is
+
+  pub drop-made : (xs : List Bytes) → lines_of now name ≡ Some xs → edited now (drop_buffer name) ≡ Ok (without_lines now name)
+  unfolding edited
+  drop-made xs is = ap (λ o. given o Absent (λ lines. Ok (without_lines now name))) is
+
+-- ## What a command that is an edit comes to
+
+module _ (W : Workspace) (change : PlainEdit) where
+  -- what refuses the edit refuses the command
+  pub refuses : (why : Refusal) → edited W.current change ≡ Err why → answer W (edit change) ≡ Err why
+  unfolding answer
+  refuses why is = ap (becomes W) is
+
+  module _ (next : State) (is : edited W.current change ≡ Ok next) where
+    pub does : is_full W ≡ false → answer W (edit change) ≡ done (with_current W next)
+    unfolding answer
+    does free = ap (becomes W) is ∙ ap (λ t. unless t Limit (done (with_current W next))) free
+
+    pub stuffed : is_full W ≡ true → answer W (edit change) ≡ Err Limit
+    unfolding answer
+    stuffed full = ap (becomes W) is ∙ ap (λ t. unless t Limit (done (with_current W next))) full
+
+    -- memory may be refused to an edit that nothing else refuses
+    pub may-lack : is_full W ≡ false → MayLackMemory W (edit change)
+    may-lack free = record { wants = refl; granted = subst IsOk (sym (does free)) refl }
+
+    -- what refuses the room for it is due
+    pub room-due : (why : Refusal) → MatchBool (is_full W) (why ≡ Limit) (why ≡ Memory) → IsDue W (edit change) why
+    room-due why is_why = at (is_full W) refl is_why
+      where
+        at : (t : Bool) → is_full W ≡ t → MatchBool t (why ≡ Limit) (why ≡ Memory) → IsDue W (edit change) why
+        at true full by = subst (λ r. IsDue W (edit change) r) (sym by) (stuffed full)
+        at false free by = subst (λ r. IsDue W (edit change) r) (sym by) (may-lack free)
+
+-- ## Texts and lines
+
+abbrev pub AreTexts : Heap Bytes → ℕ → List ℕ → List Bytes → Type 0
+AreTexts h bits = AllZip (IsText (form_at h) (IsGoodVector h) bits)
+
+-- a new cell is a text, and it stays one
+pub text-made : {old mid new : Heap Bytes} {bits l : ℕ} {text : Bytes} → Adds old mid l (cell text) → Extends mid new → IsCell text → IsText (form_at new) (IsGoodVector new) bits l text
+text-made {old} {mid} {new} {bits} {l} {text} adds extends is =
+    record { row = ap (λ r. option_map form_of r) (extends.kept l (subst IsSome (sym adds.here) refl) l (here l) ∙ adds.here); line = is }
+
+-- lines stand where every row stays, and so do their texts
+pub lines-stay : {old new : Heap Bytes} {bits l : ℕ} {xs : List Bytes} → Extends old new → AreLinesIn old bits l xs → AreLinesIn new bits l xs
+lines-stay {old} {new} {bits} {l} {xs} extends are =
+    (states-stay old new bits l (extends.kept l (well-live old (height_at old l) l are.vector.shape.well))).lines xs are
+
+pub texts-stay : {old new : Heap Bytes} {bits l : ℕ} {xs : List Bytes} → Extends old new → AreLinesIn old bits l xs → AreTexts new bits (elements old l) xs
+texts-stay {old} {new} {bits} {l} {xs} extends are =
+    subst (λ es. AreTexts new bits es xs) (extended-same extends l are.vector).1 (lines-stay extends are).values
+
+-- a vector of these elements is one of their texts
+pub lines-are : {h : Heap Bytes} {bits l : ℕ} (es : List ℕ) {xs : List Bytes} → IsGoodVector h l → elements h l ≡ es → AreTexts h bits es xs → AreLinesIn h bits l xs
+lines-are {h} {bits} es {xs} good same texts = record { vector = good; values = subst (λ ks. AreTexts h bits ks xs) (sym same) texts }
+
+-- and where nothing changes but spares
+pub lines-same : {s t : RootedHeap} {l : ℕ} {xs : List Bytes} → IsSame s t → AreLinesIn s.heap s.bits l xs → AreLinesIn t.heap t.bits l xs
+lines-same {s} {t} {l} {xs} same are =
+    subst (λ (b : ℕ). AreLinesIn t.heap b l xs) (sym same.bits) ((unchanged-stands s.bits same.heap l).lines xs are)
+
+-- after room was made, a text was made in a cell beside the lines of a buffer
+pub record HasText (t : RootedHeap) (mid : Heap Bytes) (k l : ℕ) (text : Bytes) (xs : List Bytes) (W : Workspace) : Type 0 where
+  pub keeps : Keeps t [] W
+  pub grows : Grows t.heap mid [] (k ∷ []) 1 0
+  pub lines : AreLinesIn mid t.bits l xs
+  pub adds : Adds t.heap mid k (cell text)
+  pub is : IsCell text
+
+pub has-text : {s t : RootedHeap} {mid : Heap Bytes} {k l : ℕ} {made text : Bytes} {xs : List Bytes} {W : Workspace} → Keeps s [] W → IsSame s t → AreLinesIn s.heap s.bits l xs → IsCell text → made ≡ text
+    → Adds t.heap mid k (cell made) → Makes t.heap mid 1 0 → hold_count mid ≡ hold_count t.heap + 1 → IsGraph mid → Extends t.heap mid → HasText t mid k l text xs W
+has-text {s} {t} {mid} {k} {l} {made} {text} {xs} {W} K same are is same_text adds makes total graph extends = record {
+  keeps = keeps-same same K;
+  grows = grows-cell extends graph adds total makes;
+  lines = lines-stay extends (lines-same same are);
+  adds = subst (λ (b : Bytes). Adds t.heap mid k (cell b)) same_text adds;
+  is = is;
+}
+
+-- ## Vectors that were made
+
+pub rises-answered : {old new : Heap Bytes} {spent : List ℕ} {l c n : ℕ} → Answered old new spent l c n → Rises old new (c + n)
+rises-answered {old} {new} a = record {
+  few = omega (arith, IsGraph-kinds old, IsGraph-kinds new, a.cells, a.nodes);
+  made = (omega (arith, a.balance.no_fewer), omega (arith, a.balance.made));
+}
+
+-- a vector of these lines was made of so many spares, and is held besides
+pub record IsMade (s : RootedHeap) (new : Heap Bytes) (b : List ℕ) (l : ℕ) (xs : List Bytes) (W : Workspace) (c n : ℕ) : Type 0 where
+  pub keeps : Keeps (record s { heap = new }) (l ∷ b) W
+  pub lines : AreLinesIn new s.bits l xs
+  pub rises : Rises s.heap new (c + n)
+  pub cells : s.heap.spare_cells ≤ new.spare_cells + c
+  pub nodes : s.heap.spare_nodes ≤ new.spare_nodes + n
+
+-- a call made it that spends no hold
+pub made-by : {s : RootedHeap} {new : Heap Bytes} {b : List ℕ} {l : ℕ} {xs : List Bytes} {W : Workspace} {c n : ℕ} → Keeps s b W → Answered s.heap new [] l c n → AreLinesIn new s.bits l xs → IsMade s new b l xs W c n
+made-by {s} {new} {b} {l} {xs} {W} {c} {n} K a lines = record {
+  keeps = keeps-extended (l ∷ b) K a.extends a.graph (λ k. omega (arith, a.holds k, count-cons k l b)) (omega (arith, a.count));
+  lines = lines;
+  rises = rises-answered a;
+  cells = omega (arith, a.cells, a.balance.spare_cells);
+  nodes = omega (arith, a.nodes, a.balance.spare_nodes);
+}
+
+-- a call made it that spends the hold of a new cell
+pub made-with : {s : RootedHeap} {mid new : Heap Bytes} {k l : ℕ} {xs : List Bytes} {W : Workspace} {n : ℕ} → Keeps s [] W → Grows s.heap mid [] (k ∷ []) 1 0 → Answered mid new (k ∷ []) l 0 n
+    → AreLinesIn new s.bits l xs → IsMade s new [] l xs W 1 n
+made-with {s} {mid} {new} {k} {l} {xs} {W} {n} K g a lines = record {
+  keeps = keeps-extended (l ∷ []) K (Extends-trans g.extends a.extends) a.graph (λ j. omega (arith, g.holds j, a.holds j, count-cons j l [])) (omega (arith, g.total, a.count));
+  lines = lines;
+  rises = rises-more (1 + n) (rises-then (rises-grows g) (rises-answered a)) (omega arith);
+  cells = omega (arith, g.cells, g.balance.spare_cells, a.cells, a.balance.spare_cells);
+  nodes = omega (arith, g.nodes, g.balance.spare_nodes, a.nodes, a.balance.spare_nodes);
+}
+
+-- a hold more of a vector that is there is one made of nothing
+pub made-again : {s : RootedHeap} {new : Heap Bytes} {k l : ℕ} {xs : List Bytes} {W : Workspace} → Keeps s [] W → Grows s.heap new [] (k ∷ []) 0 0 → k ≡ l → AreLinesIn s.heap s.bits l xs → IsMade s new [] k xs W 0 0
+made-again {s} {new} {k} {l} {xs} K g same lines = record {
+  keeps = keeps-gained K g;
+  lines = subst (λ (v : ℕ). AreLinesIn new s.bits v xs) (sym same) (lines-stay g.extends lines);
+  rises = rises-grows g;
+  cells = omega (arith, g.cells, g.balance.spare_cells);
+  nodes = omega (arith, g.nodes, g.balance.spare_nodes);
+}
+
+-- the vector that an edit made with the new cell
+module _ {t : RootedHeap} {mid new : Heap Bytes} {k l v n : ℕ} {text : Bytes} {xs : List Bytes} {W : Workspace} (has : HasText t mid k l text xs W) (a : Answered mid new (k ∷ []) v 0 n) (good : IsGoodVector new v) where
+  made-of : (es : List ℕ) (ys : List Bytes) → elements new v ≡ es → AreTexts new t.bits es ys → IsMade t new [] v ys W 1 n
+  made-of es ys items texts = made-with has.keeps has.grows a (lines-are es good items texts)
+
+  kept : AreTexts new t.bits (elements mid l) xs
+  kept = texts-stay a.extends has.lines
+
+  alone : IsText (form_at new) (IsGoodVector new) t.bits k text
+  alone = text-made has.adds a.extends has.is
+
+  pub longer : elements new v ≡ elements mid l ++ k ∷ [] → IsMade t new [] v (xs ++ text ∷ []) W 1 n
+  longer items = made-of (elements mid l ++ k ∷ []) (xs ++ text ∷ []) items (zip-append (IsText (form_at new) (IsGoodVector new) t.bits) (elements mid l) (k ∷ []) xs (text ∷ []) kept (alone, tt))
+
+  pub changed : (i : ℕ) → elements new v ≡ set (elements mid l) i k → IsMade t new [] v (set xs i text) W 1 n
+  changed i items = made-of (set (elements mid l) i k) (set xs i text) items (zip-set (IsText (form_at new) (IsGoodVector new) t.bits) i k text alone (elements mid l) xs kept)
+
+  pub inserted : (i : ℕ) → elements new v ≡ take i (elements mid l) ++ k ∷ drop i (elements mid l) → IsMade t new [] v (insert xs i text) W 1 n
+  inserted i items =
+      let R : ℕ → Bytes → Type 0 = IsText (form_at new) (IsGoodVector new) t.bits in
+      made-of (take i (elements mid l) ++ k ∷ drop i (elements mid l)) (insert xs i text) items
+      (zip-append R (take i (elements mid l)) (k ∷ drop i (elements mid l)) (take i xs) (text ∷ drop i xs) (zip-take R i (elements mid l) xs kept) (alone, zip-drop R i (elements mid l) xs kept))
+
+-- a part of a buffer, and what is left without it
+module _ {s : RootedHeap} {new : Heap Bytes} {b : List ℕ} {l v n : ℕ} {xs : List Bytes} {W : Workspace} (K : Keeps s b W) (are : AreLinesIn s.heap s.bits l xs) (a : Answered s.heap new [] v 0 n) (good : IsGoodVector new v) where
+  pub erased : (from to : ℕ) → elements new v ≡ take from (elements s.heap l) ++ drop to (elements s.heap l) → IsMade s new b v (remove_range xs from to) W 0 n
+  erased from to items =
+      let R : ℕ → Bytes → Type 0 = IsText (form_at new) (IsGoodVector new) s.bits in
+      let es : List ℕ = elements s.heap l in
+      made-by K a (lines-are (take from es ++ drop to es) good items
+      (zip-append R (take from es) (drop to es) (take from xs) (drop to xs) (zip-take R from es xs (texts-stay a.extends are)) (zip-drop R to es xs (texts-stay a.extends are))))
+
+  pub sliced : (from to : ℕ) → elements new v ≡ drop from (take to (elements s.heap l)) → IsMade s new b v (drop from (take to xs)) W 0 n
+  sliced from to items =
+      let R : ℕ → Bytes → Type 0 = IsText (form_at new) (IsGoodVector new) s.bits in
+      let es : List ℕ = elements s.heap l in
+      made-by K a (lines-are (drop from (take to es)) good items (zip-drop R from (take to es) (take to xs) (zip-take R to es xs (texts-stay a.extends are))))
+
+  pub joined : (k : ℕ) (ys : List Bytes) → AreLinesIn s.heap s.bits k ys → elements new v ≡ elements s.heap l ++ elements s.heap k → IsMade s new b v (xs ++ ys) W 0 n
+  joined k ys also items =
+      let R : ℕ → Bytes → Type 0 = IsText (form_at new) (IsGoodVector new) s.bits in
+      made-by K a (lines-are (elements s.heap l ++ elements s.heap k) good items
+      (zip-append R (elements s.heap l) (elements s.heap k) xs ys (texts-stay a.extends are) (texts-stay a.extends also)))
+
+-- ## Two buffers at once
+
+-- the first buffer has its lines, and the other's lines are held
+pub record HasFirst (s : RootedHeap) (mid : Heap Bytes) (m l : ℕ) (key : Bytes) (xs ys : List Bytes) (W : Workspace) : Type 0 where
+  pub keeps : Keeps (record s { heap = mid }) (l ∷ m ∷ []) W
+  pub state : IsStateIn mid s.bits m (with_lines W.current key xs)
+  pub lines : AreLinesIn mid s.bits l ys
+
+pub has-first : {s : RootedHeap} {mid : Heap Bytes} {k l m c n : ℕ} {key : Bytes} {xs ys : List Bytes} {W : Workspace} → Keeps s (k ∷ l ∷ []) W → Grows s.heap mid (k ∷ []) (m ∷ []) c n
+    → IsStateIn mid s.bits m (with_lines W.current key xs) → AreLinesIn s.heap s.bits l ys → HasFirst s mid m l key xs ys W
+has-first K g is are = record { keeps = keeps-swapped (keeps-turned K g); state = is; lines = lines-stay g.extends are }
+
+-- the spares that the first leaves
+pub first-spares : {old mid : Heap Bytes} {spent gained : List ℕ} (bits : ℕ) (now : State) (key other : Bytes) (xs : List Bytes) → Grows old mid spent gained 1 (10 + alike_buffers bits now key)
+    → HasSpares old 2 (31 + alike_buffers bits now key + alike_buffers bits now other) → HasSpares mid 1 (20 + alike_buffers bits (with_lines now key xs) other)
+first-spares bits now key other xs g spares =
+    (omega (arith, g.cells, g.balance.spare_cells, spares.0), omega (arith, g.nodes, g.balance.spare_nodes, spares.1, alike-with bits now key xs other))
+
+-- both have their lines, and the state between is held too
+pub record HasSecond (s : RootedHeap) (new : Heap Bytes) (n m : ℕ) (key other : Bytes) (xs ys : List Bytes) (W : Workspace) : Type 0 where
+  pub keeps : Keeps (record s { heap = new }) (m ∷ n ∷ []) W
+  pub state : IsStateIn new s.bits n (with_lines (with_lines W.current key xs) other ys)
+
+pub has-second : {s : RootedHeap} {mid new : Heap Bytes} {l m n c d : ℕ} {key other : Bytes} {xs ys : List Bytes} {W : Workspace} → HasFirst s mid m l key xs ys W → Grows mid new (l ∷ []) (n ∷ []) c d
+    → IsStateIn new s.bits n (with_lines (with_lines W.current key xs) other ys) → HasSecond s new n m key other xs ys W
+has-second first g is = record { keeps = keeps-swapped (keeps-turned first.keeps g); state = is }
+
+pub second-spares : {old new : Heap Bytes} {spent gained : List ℕ} (n : ℕ) → Grows old new spent gained 1 (10 + n) → HasSpares old 1 (20 + n) → HasSpares new 0 10
+second-spares n g spares = (omega arith, omega (arith, g.nodes, g.balance.spare_nodes, spares.1))
+
+pub second-rises : {old mid new : Heap Bytes} {us vs xs ys : List ℕ} (bits : ℕ) (now : State) (key other : Bytes) (zs : List Bytes) → Grows old mid us vs 1 (10 + alike_buffers bits now key)
+    → Grows mid new xs ys 1 (10 + alike_buffers bits (with_lines now key zs) other) → Rises old new (23 + (alike_buffers bits now key + alike_buffers bits now other))
+second-rises bits now key other zs f g =
+    rises-more (23 + (alike_buffers bits now key + alike_buffers bits now other)) (rises-then (rises-grows f) (rises-grows g)) (omega (arith, alike-with bits now key zs other))
+
+-- the state between is given up
+pub record HasTurned (s : RootedHeap) (new : Heap Bytes) (n : ℕ) (x : State) (W : Workspace) : Type 0 where
+  pub keeps : Keeps (record s { heap = new }) (n ∷ []) W
+  pub state : IsStateIn new s.bits n x
+
+pub has-turned : {s : RootedHeap} {mid new : Heap Bytes} {n m : ℕ} {key other : Bytes} {xs ys : List Bytes} {W : Workspace} → HasSecond s mid n m key other xs ys W → Releases mid new m → IsGraph new
+    → HasTurned s new n (with_lines (with_lines W.current key xs) other ys) W
+has-turned {s} {mid} {new} {n} {m} {key} {other} {xs} {ys} {W} second rel graph = record {
+  keeps = keeps-released second.keeps rel graph;
+  state = (released-stands second.keeps rel graph n (omega (arith, first-counts n []))).state (with_lines (with_lines W.current key xs) other ys) second.state;
+}
+
+pub released-spares : {old new : Heap Bytes} {l c n : ℕ} → Releases old new l → HasSpares old c n → HasSpares new c n
+released-spares rel spares = (omega (arith, rel.cells, rel.fewer_cells, spares.0), omega (arith, rel.nodes, rel.fewer_nodes, spares.1))
+
+-- ## How an edit ends
+
+cost-edit : (bits : ℕ) (change : PlainEdit) (W : Workspace) → cost bits (edit change) W ≡ edit_cost bits change W.current
+unfolding cost
+cost-edit bits change W = refl
+
+-- what is alike is so after room was made
+pub alike-same : {s t : RootedHeap} → IsSame s t → (now : State) (name : Bytes) → alike_buffers t.bits now name ≡ alike_buffers s.bits now name
+alike-same same now name = λ i. alike_buffers (same.bits i) now name
+
+-- spares are left to put the lines into their buffer
+pub spares-left : {s t : RootedHeap} {new : Heap Bytes} {l c n : ℕ} {xs : List Bytes} {W : Workspace} {key name : Bytes} → IsSame s t → key ≡ name → IsMade t new [] l xs W c n
+    → HasSpares t.heap 2 (128 + alike_buffers s.bits W.current name) → c ≤ 1 → n ≤ 100 → HasSpares new 1 (20 + alike_buffers t.bits W.current key)
+spares-left {s} {t} {W = W} {key = key} {name = name} same is m spares few_cells few_nodes =
+    let one : alike_buffers t.bits W.current key ≡ alike_buffers s.bits W.current name = (λ i. alike_buffers (same.bits i) W.current (is i)) in
+    (omega (arith, m.cells, spares.0, few_cells), omega (arith, m.nodes, spares.1, few_nodes, one))
+
+-- room was made, the lines were made, and the state turned to the one that has them
+pub edit-done : {s t u : RootedHeap} {new : Heap Bytes} {l c n : ℕ} {xs : List Bytes} {W : Workspace} {key name : Bytes} (change : PlainEdit) → IsSame s t → key ≡ name → IsMade t new [] l xs W c n → is_full W ≡ false
+    → edited W.current change ≡ Ok (with_lines W.current name xs) → TurnsTo (record t { heap = new }) u [] (21 + alike_buffers t.bits W.current key) (with_current W (with_lines W.current key xs))
+    → c + n + (21 + alike_buffers s.bits W.current name) ≤ edit_cost s.bits change W.current → IsDone (edit change) s u W
+edit-done {s} {t} {u} {new} {l} {c} {n} {xs} {W} {key} {name} change same is m free made turn less =
+    let named : TurnsTo (record t { heap = new }) u [] (21 + alike_buffers t.bits W.current name) (with_current W (with_lines W.current name xs)) =
+    subst (λ (k : Bytes). TurnsTo (record t { heap = new }) u [] (21 + alike_buffers t.bits W.current k) (with_current W (with_lines W.current k xs))) is turn in
+    let turned : TurnsTo (record t { heap = new }) u [] (21 + alike_buffers s.bits W.current name) (with_current W (with_lines W.current name xs)) =
+    subst (λ (k : ℕ). TurnsTo (record t { heap = new }) u [] (21 + alike_buffers k W.current name) (with_current W (with_lines W.current name xs))) same.bits named in
+    record {
+      after = with_current W (with_lines W.current name xs);
+      told = does W change (with_lines W.current name xs) made free;
+      turns = turns-after (0 + (c + n)) (cost s.bits (edit change) W) (rises-then (rises-same same.heap) m.rises) same.bits turned (omega (arith, less, cost-edit s.bits change W));
+    }
+
+-- room was made, and the state turned to the one in which the buffer is gone
+pub drop-done : {s t u : RootedHeap} {new : Heap Bytes} {spent gained : List ℕ} {W : Workspace} {name : Bytes} (xs : List Bytes) → IsSame s t → Grows t.heap new spent gained 0 (8 + alike_buffers t.bits W.current name)
+    → lines_of W.current name ≡ Some xs → is_full W ≡ false → TurnsTo (record t { heap = new }) u [] 10 (with_current W (without_lines W.current name)) → IsDone (edit (drop_buffer name)) s u W
+drop-done {s} {t} {u} {new} {W = W} {name = name} xs same g there free turn =
+    record {
+      after = with_current W (without_lines W.current name);
+      told = does W (drop_buffer name) (without_lines W.current name) (drop-made W.current name xs there) free;
+      turns = turns-after (0 + (0 + (8 + alike_buffers t.bits W.current name))) (cost s.bits (edit (drop_buffer name)) W) (rises-then (rises-same same.heap) (rises-grows g)) same.bits turn
+          (omega (arith, alike-same same W.current name, cost-edit s.bits (drop_buffer name) W));
+    }
+
+-- what is left of a buffer and its part are both held
+pub record HasParts (t : RootedHeap) (new : Heap Bytes) (k l : ℕ) (xs ys : List Bytes) (W : Workspace) (n : ℕ) : Type 0 where
+  pub keeps : Keeps (record t { heap = new }) (k ∷ l ∷ []) W
+  pub left : AreLinesIn new t.bits k xs
+  pub part : AreLinesIn new t.bits l ys
+  pub rises : Rises t.heap new n
+  pub cells : t.heap.spare_cells ≤ new.spare_cells
+  pub nodes : t.heap.spare_nodes ≤ new.spare_nodes + n
+
+pub has-parts : {t : RootedHeap} {mid new : Heap Bytes} {v k l n m : ℕ} {xs : List Bytes} {W : Workspace} (from to : ℕ) → Keeps t [] W → AreLinesIn t.heap t.bits v xs
+    → Answered t.heap mid [] k 0 n → IsGoodVector mid k → elements mid k ≡ take from (elements t.heap v) ++ drop to (elements t.heap v)
+    → Answered mid new [] l 0 m → IsGoodVector new l → elements new l ≡ drop from (take to (elements mid v)) → HasParts t new k l (remove_range xs from to) (drop from (take to xs)) W (n + m)
+has-parts {t} {mid} {new} {v} {k} {l} {n} {m} {xs} {W} from to K are a good items b fine parts =
+    let first = erased K are a good from to items in
+    let second = sliced {s = record t { heap = mid }} first.keeps (lines-stay a.extends are) b fine from to parts in
+    record {
+      keeps = keeps-swapped second.keeps;
+      left = lines-stay b.extends first.lines;
+      part = second.lines;
+      rises = rises-more (n + m) (rises-then first.rises second.rises) (omega arith);
+      cells = omega (arith, first.cells, second.cells);
+      nodes = omega (arith, first.nodes, second.nodes);
+    }
+
+-- spares are left to put both into their buffers
+pub both-spares-left : {s t : RootedHeap} {new : Heap Bytes} {k l n : ℕ} {xs ys : List Bytes} {W : Workspace} {key name other_key other : Bytes} → IsSame s t → key ≡ name → other_key ≡ other → HasParts t new k l xs ys W n
+    → HasSpares t.heap 2 (128 + alike_buffers s.bits W.current name + alike_buffers s.bits W.current other) → n ≤ 90 → HasSpares new 2 (31 + alike_buffers t.bits W.current key + alike_buffers t.bits W.current other_key)
+both-spares-left {s} {t} {W = W} {key = key} {name = name} {other_key = other_key} {other = other} same is also p spares few =
+    let one : alike_buffers t.bits W.current key ≡ alike_buffers s.bits W.current name = (λ i. alike_buffers (same.bits i) W.current (is i)) in
+    let two : alike_buffers t.bits W.current other_key ≡ alike_buffers s.bits W.current other = (λ i. alike_buffers (same.bits i) W.current (also i)) in
+    (omega (arith, p.cells, spares.0), omega (arith, p.nodes, spares.1, few, one, two))
+
+-- room was made, the parts were made, and the state turned to the one that has them
+pub cut-done : {s t u : RootedHeap} {new : Heap Bytes} {k l n : ℕ} {xs ys : List Bytes} {W : Workspace} {key name other_key other : Bytes} (from to : ℕ) → IsSame s t → key ≡ name → other_key ≡ other → HasParts t new k l xs ys W n
+    → is_full W ≡ false → edited W.current (cut name from to other) ≡ Ok (with_lines (with_lines W.current name xs) other ys)
+    → TurnsTo (record t { heap = new }) u [] (33 + (alike_buffers t.bits W.current key + alike_buffers t.bits W.current other_key)) (with_current W (with_lines (with_lines W.current key xs) other_key ys))
+    → n ≤ 90 → IsDone (edit (cut name from to other)) s u W
+cut-done {s} {t} {u} {new} {n = n} {xs = xs} {ys = ys} {W = W} {key = key} {name = name} {other_key = other_key} {other = other} from to same is also p free made turn few =
+    let one : alike_buffers t.bits W.current key ≡ alike_buffers s.bits W.current name = (λ i. alike_buffers (same.bits i) W.current (is i)) in
+    let two : alike_buffers t.bits W.current other_key ≡ alike_buffers s.bits W.current other = (λ i. alike_buffers (same.bits i) W.current (also i)) in
+    let most_more : ℕ = 33 + (alike_buffers t.bits W.current key + alike_buffers t.bits W.current other_key) in
+    let turned : TurnsTo (record t { heap = new }) u [] most_more (with_current W (with_lines (with_lines W.current name xs) other ys)) =
+    subst (λ (j : Bytes). TurnsTo (record t { heap = new }) u [] most_more (with_current W (with_lines (with_lines W.current name xs) j ys))) also
+    (subst (λ (j : Bytes). TurnsTo (record t { heap = new }) u [] most_more (with_current W (with_lines (with_lines W.current j xs) other_key ys))) is turn) in
+    record {
+      after = with_current W (with_lines (with_lines W.current name xs) other ys);
+      told = does W (cut name from to other) (with_lines (with_lines W.current name xs) other ys) made free;
+      turns = turns-after (0 + n) (cost s.bits (edit (cut name from to other)) W) (rises-then (rises-same same.heap) p.rises) same.bits turned (omega (arith, few, one, two, cost-edit s.bits (cut name from to other) W));
+    }
+
+-- nothing was done, for a reason that is due
+pub edit-refused : {s t : RootedHeap} {W : Workspace} {change : PlainEdit} {why : Refusal} → IsSame s t → IsDue W (edit change) why → IsRefused (edit change) s t W why
+edit-refused same due = record { due = due; same = same }
+
+-- what a look for a buffer says of making it
+pub found-taken : (s : RootedHeap) (now : State) (name : Bytes) (r : Result ℕ Refusal) → is_ok r ≡ true
+    → MatchResult r (λ l. IsSomeAnd (lines_of now name) (AreLinesIn s.heap s.bits l)) (λ why. (lines_of now name ≡ None) × (why ≡ Absent)) → edited now (new name) ≡ Err Exists
+found-taken s now name (Ok l) is found =
+    let lines = found-lines s l now name found in
+    new-taken now name lines.0 lines.1
+found-taken s now name (Err why) is found = absurd cc
+
+pub found-free : (s : RootedHeap) (now : State) (name : Bytes) (r : Result ℕ Refusal) → is_ok r ≡ false
+    → MatchResult r (λ l. IsSomeAnd (lines_of now name) (AreLinesIn s.heap s.bits l)) (λ why. (lines_of now name ≡ None) × (why ≡ Absent)) → edited now (new name) ≡ Ok (with_lines now name [])
+found-free s now name (Ok l) is found = absurd cc
+found-free s now name (Err why) is found = new-made now name found.0
+
+-- a vector without elements has no lines
+pub emptied : {s : RootedHeap} {fresh : Heap Bytes} {v n : ℕ} {W : Workspace} → Keeps s [] W → Answered s.heap fresh [] v 0 n → IsGoodVector fresh v → elements fresh v ≡ [] → IsMade s fresh [] v [] W 0 n
+emptied K a good items = made-by K a (lines-are [] good items tt)
+
+-- no such buffer is a reason that is due
+pub due-absent : (W : Workspace) (change : PlainEdit) {why : Refusal} → why ≡ Absent → edited W.current change ≡ Err Absent → IsDue W (edit change) why
+due-absent W change why is = subst (λ w. IsDue W (edit change) w) (sym why) (refuses W change Absent is)
+
+-- the exit of a `?` that passes a refusal on
+pub fails : {command : PlainCommand} {s t : RootedHeap} {W : Workspace} (why : Refusal) (r : Result (Unit {0}) Refusal) → IsErrAnd r (λ e. e ≡ why) → IsRefused command s t W why → MatchResult r (λ _. IsDone command s t W) (IsRefused command s t W)
+fails why (Ok x) is refused = absurd is
+fails {command} {s} {t} {W} why (Err e) is refused = subst (λ (w : Refusal). IsRefused command s t W w) (sym is) refused
+
+-- ## Calls that have room and spares are done
+
+module _ {X : Type 0} where
+  pub pushes : (fault : PushFault) → (◌≡◌ {A = Result X PushFault} (Err fault) (Err push_long) → ⊥) → (◌≡◌ {A = Result X PushFault} (Err fault) (Err push_memory) → ⊥) → ⊥
+  pushes push_long long memory = long refl
+  pushes push_memory long memory = memory refl
+
+  pub sets : (fault : SetFault) → (◌≡◌ {A = Result X SetFault} (Err fault) (Err set_range) → ⊥) → (◌≡◌ {A = Result X SetFault} (Err fault) (Err set_memory) → ⊥) → ⊥
+  sets set_range range memory = range refl
+  sets set_memory range memory = memory refl
+
+  pub inserts : (fault : InsertFault) → (◌≡◌ {A = Result X InsertFault} (Err fault) (Err insert_range) → ⊥) → (◌≡◌ {A = Result X InsertFault} (Err fault) (Err insert_long) → ⊥)
+      → (◌≡◌ {A = Result X InsertFault} (Err fault) (Err insert_memory) → ⊥) → ⊥
+  inserts insert_range range long memory = range refl
+  inserts insert_long range long memory = long refl
+  inserts insert_memory range long memory = memory refl
+
+  pub slices : (fault : SliceFault) → (◌≡◌ {A = Result X SliceFault} (Err fault) (Err slice_range_fault) → ⊥) → (◌≡◌ {A = Result X SliceFault} (Err fault) (Err slice_memory) → ⊥) → ⊥
+  slices slice_range_fault range memory = range refl
+  slices slice_memory range memory = memory refl
+
+  pub joins : (fault : JoinFault) → (◌≡◌ {A = Result X JoinFault} (Err fault) (Err join_long) → ⊥) → (◌≡◌ {A = Result X JoinFault} (Err fault) (Err join_memory) → ⊥) → ⊥
+  joins join_long long memory = long refl
+  joins join_memory long memory = memory refl

@@ -1,0 +1,288 @@
+-- What the plain answer is to steps through histories, to batches, versions and stars, and how refusals end.
+use Rattle.std.proofs.Common.{◌≡◌, refl, sym, ◌∙◌, ap, subst, ℕ, ◌+◌, ◌-◌, ◌<◌, ◌≤◌, List, [], ◌∷◌, ◌++◌, length, take, arith, Bool, true, false, Option, Some, None, is_some, IsSome, Result, Ok, Err, slice_get, leb, IsTrue, IsOk, MatchOption}
+use Rattle.std.specs.Prelude.{IsErrAnd, MatchResult, MatchBool}
+use Rattle.std.proofs.lemmas.Bool.{le-leb}
+use Rattle.std.specs.FinMap as map
+use Rattle.node_heap.specs.Heap.{Heap}
+use Rattle.node_heap.specs.Calls.{Makes, SameRows, Unchanged}
+use Rattle.rrb_core.specs.Vector.{elements}
+use Rattle.shell_terms.specs.Edit.{Bytes, star, unstar}
+use Rattle.shell_terms.specs.Command.{PlainCommand, edit, mark, unmark, back, undo, redo, begin, «end», abort}
+use Rattle.plain_space.specs.declared.refusal.Refusal.{Refusal}
+use Rattle.plain_space.specs.declared.refusal.Refusal.TheVariants.{Absent, Exists, Limit, Batch, Empty, Memory}
+use Rattle.plain_space.specs.Workspace.{State, Workspace, most, in_batch, is_full, is_starred, version_of, with_current, with_star, without_star}
+use Rattle.plain_space.specs.Edited.{edited}
+use Rattle.plain_space.specs.Answer.{answer, done}
+use Rattle.plain_space.specs.Memory.{wants_memory, MayLackMemory}
+use Rattle.state_rows.specs.Reading.{StandsIfThere}
+use Rattle.state_rows.specs.InHeap.{IsStateIn, IsHistoryIn}
+use Rattle.state_rows.specs.Growth.{Grows}
+use Rattle.state_rows.specs.Standing.{IsBase}
+use Rattle.space_state.specs.declared.roots.RootedHeap.{RootedHeap}
+use Rattle.space_state.specs.declared.roots.Batch.{Batch as Batches}
+use Rattle.space_state.specs.declared.roots.Batch.TheVariants.{Closed, Open}
+use Rattle.space_state.specs.Roots.{base_of, Keeps}
+use Rattle.space_state.specs.Turns.{IsSame, IsDone, IsRefused}
+use Rattle.state_rows.proofs.Staying.{states-stay}
+use Rattle.space_state.proofs.Keeping.{history-length, history-short, same-heap, keeps-same, keeps-gained, keeps-swapped, first-held, held-stands, unchanged-stands, Rises, rises-grows, rises-same, rises-then}
+
+-- a list with fewer than the most elements has room for one more
+fits-one : (n : ℕ) → n < most → leb (n + 1) most ≡ true
+fits-one n room = le-leb (n + 1) most (omega (arith, room))
+
+none-of : {X : Type 0} (o : Option X) → is_some o ≡ false → o ≡ None
+none-of None none = refl
+none-of (Some x) none = absurd (let h = none in cc)
+
+some-of : {X : Type 0} (o : Option X) → IsSome o → (x : X) × (o ≡ Some x)
+some-of None there = absurd (let h = there in cc)
+some-of (Some x) there = (x, refl)
+
+-- ## Plain answers
+
+module _ (W : Workspace) where
+  pub begin-refused : in_batch W ≡ true → answer W begin ≡ Err Batch
+  unfolding answer
+  begin-refused opened = rw opened refl
+
+  pub begin-done : in_batch W ≡ false → answer W begin ≡ done (record W { base = Some W.current })
+  unfolding answer
+  begin-done outside = rw outside refl
+
+  pub abort-refused : W.base ≡ None → answer W abort ≡ Err Batch
+  unfolding answer
+  abort-refused closed = rw closed refl
+
+  pub abort-done : (base : State) → W.base ≡ Some base → answer W abort ≡ done (record W { current = base; base = None })
+  unfolding answer
+  abort-done base opened = rw opened refl
+
+  pub end-refused : W.base ≡ None → answer W «end» ≡ Err Batch
+  unfolding answer
+  end-refused closed = rw closed refl
+
+  pub end-limited : (base : State) → W.base ≡ Some base → length W.undo ≡ most → answer W «end» ≡ Err Limit
+  unfolding answer
+  end-limited base opened full = rw (opened, full) refl
+
+  pub end-done : (base : State) → W.base ≡ Some base → length W.undo < most → answer W «end» ≡ done (record W { undo = W.undo ++ base ∷ []; redo = []; base = None })
+  unfolding answer
+  end-done base opened room = rw (opened, fits-one (length W.undo) room) refl
+
+  pub undo-refused : in_batch W ≡ true → answer W undo ≡ Err Batch
+  unfolding answer
+  undo-refused opened = rw opened refl
+
+  pub undo-empty : in_batch W ≡ false → slice_get W.undo (length W.undo - 1) ≡ None → answer W undo ≡ Err Empty
+  unfolding answer
+  undo-empty outside none = rw (outside, none) refl
+
+  pub undo-limited : in_batch W ≡ false → (last : State) → slice_get W.undo (length W.undo - 1) ≡ Some last → length W.redo ≡ most → answer W undo ≡ Err Limit
+  unfolding answer
+  undo-limited outside last there full = rw (outside, there, full) refl
+
+  pub undo-done : in_batch W ≡ false → (last : State) → slice_get W.undo (length W.undo - 1) ≡ Some last → length W.redo < most
+      → answer W undo ≡ done (record W { current = last; undo = take (length W.undo - 1) W.undo; redo = W.redo ++ W.current ∷ [] })
+  unfolding answer
+  undo-done outside last there room = rw (outside, there, fits-one (length W.redo) room) refl
+
+  pub redo-refused : in_batch W ≡ true → answer W redo ≡ Err Batch
+  unfolding answer
+  redo-refused opened = rw opened refl
+
+  pub redo-empty : in_batch W ≡ false → slice_get W.redo (length W.redo - 1) ≡ None → answer W redo ≡ Err Empty
+  unfolding answer
+  redo-empty outside none = rw (outside, none) refl
+
+  pub redo-limited : in_batch W ≡ false → (last : State) → slice_get W.redo (length W.redo - 1) ≡ Some last → length W.undo ≡ most → answer W redo ≡ Err Limit
+  unfolding answer
+  redo-limited outside last there full = rw (outside, there, full) refl
+
+  pub redo-done : in_batch W ≡ false → (last : State) → slice_get W.redo (length W.redo - 1) ≡ Some last → length W.undo < most
+      → answer W redo ≡ done (record W { current = last; undo = W.undo ++ W.current ∷ []; redo = take (length W.redo - 1) W.redo })
+  unfolding answer
+  redo-done outside last there room = rw (outside, there, fits-one (length W.undo) room) refl
+
+  module _ (name : Bytes) where
+    pub mark-refused : in_batch W ≡ true → answer W (mark name) ≡ Err Batch
+    unfolding answer
+    mark-refused opened = rw opened refl
+
+    pub mark-taken : in_batch W ≡ false → IsSome (version_of W name) → answer W (mark name) ≡ Err Exists
+    unfolding answer
+    mark-taken outside there = rw (outside, there) refl
+
+    pub mark-done : in_batch W ≡ false → is_some (version_of W name) ≡ false → answer W (mark name) ≡ done (record W { versions = map.insert W.versions name W.current })
+    unfolding answer
+    mark-done outside none = rw (outside, none) refl
+
+    pub unmark-refused : in_batch W ≡ true → answer W (unmark name) ≡ Err Batch
+    unfolding answer
+    unmark-refused opened = rw opened refl
+
+    pub unmark-absent : in_batch W ≡ false → is_some (version_of W name) ≡ false → answer W (unmark name) ≡ Err Absent
+    unfolding answer
+    unmark-absent outside none = rw (outside, none-of (version_of W name) none) refl
+
+    pub unmark-done : in_batch W ≡ false → IsSome (version_of W name) → answer W (unmark name) ≡ done (record W { versions = map.remove W.versions name })
+    unfolding answer
+    unmark-done outside there = rw (outside, (some-of (version_of W name) there).1) refl
+
+    pub back-refused : in_batch W ≡ true → answer W (back name) ≡ Err Batch
+    unfolding answer
+    back-refused opened = rw opened refl
+
+    pub back-absent : in_batch W ≡ false → version_of W name ≡ None → answer W (back name) ≡ Err Absent
+    unfolding answer
+    back-absent outside none = rw (outside, none) refl
+
+    pub back-limited : in_batch W ≡ false → (x : State) → version_of W name ≡ Some x → is_full W ≡ true → answer W (back name) ≡ Err Limit
+    unfolding answer
+    back-limited outside x there full = rw (there, full, outside) refl
+
+    pub back-done : in_batch W ≡ false → (x : State) → version_of W name ≡ Some x → is_full W ≡ false → answer W (back name) ≡ done (with_current W x)
+    unfolding answer
+    back-done outside x there room = rw (there, room, outside) refl
+
+    pub star-taken : is_starred W.current name ≡ true → answer W (edit (star name)) ≡ Err Exists
+    unfolding answer edited
+    star-taken there = rw there refl
+
+    pub star-limited : is_starred W.current name ≡ false → is_full W ≡ true → answer W (edit (star name)) ≡ Err Limit
+    unfolding answer edited
+    star-limited none full = rw (none, full) refl
+
+    pub star-done : is_starred W.current name ≡ false → is_full W ≡ false → answer W (edit (star name)) ≡ done (with_current W (with_star W.current name))
+    unfolding answer edited
+    star-done none room = rw (none, room) refl
+
+    pub unstar-absent : is_starred W.current name ≡ false → answer W (edit (unstar name)) ≡ Err Absent
+    unfolding answer edited
+    unstar-absent none = rw none refl
+
+    pub unstar-limited : is_starred W.current name ≡ true → is_full W ≡ true → answer W (edit (unstar name)) ≡ Err Limit
+    unfolding answer edited
+    unstar-limited there full = rw (there, full) refl
+
+    pub unstar-done : is_starred W.current name ≡ true → is_full W ≡ false → answer W (edit (unstar name)) ≡ done (with_current W (without_star W.current name))
+    unfolding answer edited
+    unstar-done there room = rw (there, room) refl
+
+-- ## Want of memory
+
+-- a command that may want memory may be refused it where it would be carried out
+pub may-lack : {W : Workspace} {after : Workspace} (command : PlainCommand) → IsTrue (wants_memory command) → answer W command ≡ done after → MayLackMemory W command
+may-lack command wants told = record { wants = wants; granted = subst IsOk (sym told) refl }
+
+pub memory-refused : {W : Workspace} {command : PlainCommand} {old new : RootedHeap} (result : Result (Unit {0}) Refusal) → IsErrAnd result (λ why. why ≡ Memory) → MayLackMemory W command → IsSame old new
+    → MatchResult result (λ _. IsDone command old new W) (IsRefused command old new W)
+memory-refused {W} {command} {old} {new} (Err why) is lack same = subst (λ why. IsRefused command old new W why) (sym is) (record { due = lack; same = same })
+memory-refused (Ok x) is lack same = absurd is
+
+-- ## The batch
+
+closed-of : (IsIt : ℕ → State → Type 0) (batch : Batches) (base : Option State) → IsBase IsIt (base_of batch) base → is_some base ≡ false → batch ≡ Closed
+closed-of IsIt Closed base is none = refl
+closed-of IsIt (Open l) None is none = absurd is
+closed-of IsIt (Open l) (Some x) is none = absurd (let h = none in cc)
+
+-- the batch is closed exactly where the workspace has no base
+pub closed-batch : {s : RootedHeap} {b : List ℕ} {W : Workspace} → Keeps s b W → in_batch W ≡ false → s.roots.batch ≡ Closed
+closed-batch {s} {b} {W} K outside = closed-of (IsStateIn s.heap s.bits) s.roots.batch W.base K.stands.4 outside
+
+-- the base that a batch told, and that a closed one told none
+pub base-told : {batch : Batches} {told : Option ℕ} {l : ℕ} → MatchOption told (batch ≡ Closed) (λ k. batch ≡ Open k) → told ≡ Some l → batch ≡ Open l
+base-told {batch} is told = subst (λ (o : Option ℕ). MatchOption o (batch ≡ Closed) (λ k. batch ≡ Open k)) told is
+
+pub base-none : {batch : Batches} {told : Option ℕ} → MatchOption told (batch ≡ Closed) (λ k. batch ≡ Open k) → told ≡ None → batch ≡ Closed
+base-none {batch} is told = subst (λ (o : Option ℕ). MatchOption o (batch ≡ Closed) (λ k. batch ≡ Open k)) told is
+
+-- ## Histories
+
+-- a length that a vector told
+pub length-told : {h : Heap Bytes} {bits l r n : ℕ} {ss : List State} → IsHistoryIn h bits l ss → r ≡ l → n ≡ length (elements h r) → n ≡ length ss
+length-told {h} is same told = told ∙ ap (λ l. length (elements h l)) same ∙ history-length is
+
+-- where that isn't the most, there is room for one more
+pub length-below : {h : Heap Bytes} {bits l n : ℕ} {ss : List State} → IsHistoryIn h bits l ss → n ≡ length ss → (n ≡ most → ⊥) → length ss < most
+length-below is same apart = grind (arith, history-short is, same, apart)
+
+-- ## What is there
+
+module _ (h : Heap Bytes) (bits : ℕ) where
+  -- where no link was told, no state is there
+  none-at : (there : Option State) → StandsIfThere (IsStateIn h bits) None there → there ≡ None
+  none-at None stands = refl
+  none-at (Some x) stands = absurd stands
+
+  pub none-there : {told : Option ℕ} {there : Option State} → StandsIfThere (IsStateIn h bits) told there → told ≡ None → there ≡ None
+  none-there {told} {there} stands is = none-at there (subst (λ (o : Option ℕ). StandsIfThere (IsStateIn h bits) o there) is stands)
+
+  -- and where one was told, it stands for the state that is there
+  some-at : (l : ℕ) (there : Option State) → StandsIfThere (IsStateIn h bits) (Some l) there → (x : State) × (there ≡ Some x) × IsStateIn h bits l x
+  some-at l None stands = absurd stands
+  some-at l (Some x) stands = (x, refl, stands)
+
+  pub some-there : {told : Option ℕ} {there : Option State} {l : ℕ} → StandsIfThere (IsStateIn h bits) told there → told ≡ Some l → (x : State) × (there ≡ Some x) × IsStateIn h bits l x
+  some-there {told} {there} {l} stands is = some-at l there (subst (λ (o : Option ℕ). StandsIfThere (IsStateIn h bits) o there) is stands)
+
+  -- a link was told just where a state is there
+  told-there : (told : Option ℕ) (there : Option State) → StandsIfThere (IsStateIn h bits) told there → is_some told ≡ is_some there
+  told-there None None stands = refl
+  told-there None (Some x) stands = absurd stands
+  told-there (Some l) None stands = absurd stands
+  told-there (Some l) (Some x) stands = refl
+
+  pub version-there : (told : Option ℕ) (there : Option State) {test : Bool} → StandsIfThere (IsStateIn h bits) told there → is_some told ≡ test → is_some there ≡ test
+  version-there told there stands is = sym (told-there told there stands) ∙ is
+
+-- a list with an element at some place is not empty
+pub some-elements : {X : Type 0} (xs : List X) (i : ℕ) {x : X} → slice_get xs i ≡ Some x → 0 < length xs
+some-elements [] i there = absurd (let h = there in cc)
+some-elements (x ∷ xs) i there = omega arith
+
+-- ## A step through the histories
+
+-- the state to go to is held besides, and so is the history without it
+pub record Stepped (s : RootedHeap) (new : Heap Bytes) (state shorter : ℕ) (W : Workspace) (x : State) : Type 0 where
+  pub keeps : Keeps (record s { heap = new }) (state ∷ shorter ∷ []) W
+  pub state_is : IsStateIn new s.bits state x
+  pub rises : Rises s.heap new 8
+
+-- the state was held, after room was made
+pub held-once : {s : RootedHeap} {roomy new : Heap Bytes} {state : ℕ} {W : Workspace} {x : State} → Keeps s [] W → IsStateIn s.heap s.bits state x → Unchanged s.heap roomy → SameRows roomy new
+    → Grows roomy new [] (state ∷ []) 0 0 → Keeps (record s { heap = new }) (state ∷ []) W × IsStateIn new s.bits state x
+held-once {s} {roomy} {new} {state} {x = x} K is room same once = (
+  keeps-gained (keeps-same (same-heap room) K) once,
+  (states-stay roomy new s.bits state (λ m down. same m)).state x ((unchanged-stands s.bits room state).state x is),
+)
+
+pub stepped : {s : RootedHeap} {roomy mid new : Heap Bytes} {state shorter : ℕ} {W : Workspace} {x : State} → Keeps s [] W → IsStateIn s.heap s.bits state x → Unchanged s.heap roomy → SameRows roomy mid
+    → Grows roomy mid [] (state ∷ []) 0 0 → Grows mid new [] (shorter ∷ []) 0 8 → Stepped s new state shorter W x
+stepped {state = state} {x = x} K is room same once popped =
+    let held = held-once K is room same once in
+    record {
+      keeps = keeps-swapped (keeps-gained held.0 popped);
+      state_is = (held-stands held.0 popped.extends state (first-held held.0)).state x held.1;
+      rises = rises-then (rises-same room) (rises-then (rises-grows once) (rises-grows popped));
+    }
+
+-- ## Room
+
+-- the spares that were asked for suffice for another map of versions, or for another state, and then for a turn to it
+pub spares-kept : (old new : Heap Bytes) (c k n m : ℕ) → (2 ≤ old.spare_cells) × (128 + n ≤ old.spare_nodes) → Makes old new 0 0 → c ≤ 2 → k ≤ 128 → m ≡ n → (c ≤ new.spare_cells) × (k + m ≤ new.spare_nodes)
+spares-kept old new c k n m spares makes cells nodes same = (omega (arith, spares.0, makes.spare_cells, cells), omega (arith, spares.1, makes.spare_nodes, nodes, same))
+
+pub spares-suffice : (h : Heap Bytes) (c k n m : ℕ) → (2 ≤ h.spare_cells) × (128 + n ≤ h.spare_nodes) → c ≤ 2 → k ≤ 128 → m ≡ n → (c ≤ h.spare_cells) × (k + m ≤ h.spare_nodes)
+spares-suffice h c k n m spares cells nodes same = (omega (arith, spares.0, cells), omega (arith, spares.1, nodes, same))
+
+pub spares-left : {old new : Heap Bytes} {spent gained : List ℕ} {c : ℕ} (k n m : ℕ) → Grows old new spent gained c (k + m) → (2 ≤ old.spare_cells) × (128 + n ≤ old.spare_nodes) → k ≤ 118 → m ≡ n
+    → (0 ≤ new.spare_cells) × (10 ≤ new.spare_nodes)
+spares-left k n m grows spares nodes same = (omega arith, omega (arith, spares.1, grows.balance.spare_nodes, grows.nodes, nodes, same))
+
+-- room for an edit was refused: undo is full, or memory ran out
+pub room-refused : {W : Workspace} {command : PlainCommand} {old new : RootedHeap} (result : Result (Unit {0}) Refusal) (reason : Refusal) (full : Bool) → IsErrAnd result (λ told. told ≡ reason) → MatchBool full (reason ≡ Limit) (reason ≡ Memory)
+    → (full ≡ true → answer W command ≡ Err Limit) → (full ≡ false → MayLackMemory W command) → IsSame old new → MatchResult result (λ _. IsDone command old new W) (IsRefused command old new W)
+room-refused {W} {command} {old} {new} (Err told) reason true is why limited lack same = subst (λ why. IsRefused command old new W why) (sym (is ∙ why)) (record { due = limited refl; same = same })
+room-refused {W} {command} {old} {new} (Err told) reason false is why limited lack same = subst (λ why. IsRefused command old new W why) (sym (is ∙ why)) (record { due = lack refl; same = same })
+room-refused (Ok x) reason full is why limited lack same = absurd is

@@ -1,0 +1,35 @@
+use Rattle.std.proofs.Common.{[], sym, ◌∙◌, arith}
+use Rattle.elem_core.specs.Shown.{name_bytes}
+use Rattle.shell_terms.specs.Edit.{new}
+use Rattle.plain_space.specs.declared.refusal.Refusal.TheVariants.{Exists}
+use Rattle.space_state.proofs.Keeping.{same-refl, keeps-same}
+use Rattle.space_state.proofs.Editing.{refuses, room-due, found-taken, found-free, emptied, spares-left, edit-done, edit-refused, fails}
+use Rattle.space_state.proofs.roots.RootedHeap.make.Goals as goal
+
+pub returns-then-is_ok : goal.returns-then-is_ok
+returns-then-is_ok c = λ W K.
+    let name = name_bytes c.args.name in
+    edit-refused (same-refl K) (refuses W (new name) Exists (found-taken c.args.self.now W.current name c.buffer.result (sym c.is_ok.ensures.value ∙ c.if-is_ok.true) (c.buffer.ensures W K)))
+
+pub returns-in_err-key : goal.returns-in_err-key
+returns-in_err-key c = λ W K.
+    let name = name_bytes c.args.name in
+    let done = found-free c.args.self.now W.current name c.buffer.result (sym c.is_ok.ensures.value ∙ c.if-is_ok.false) (c.buffer.ensures W K) in
+    fails c.in_err-key.field-0.0 c.from_residual.result c.from_residual.ensures.1
+    (edit-refused c.prepare.ensures.same (room-due W (new name) _ done c.in_err-key.field-0.0 (c.in_err-key.ensures.refused W K)))
+
+pub put_lines-requires-clause-kept : goal.put_lines-requires-clause-kept
+put_lines-requires-clause-kept c =
+    let W = c.requires.0 in
+    let K = c.requires.1 in
+    let m = emptied (keeps-same c.prepare.ensures.same K) c.in-Ok.ensures.answered c.in-Ok.ensures.good c.in-Ok.ensures.items in
+    let room = c.in_ok-key.ensures.room W K in
+    (W, [], m.keeps, m.lines, room.0, spares-left c.prepare.ensures.same c.in_ok-key.ensures.key m room.1 (omega arith) (omega arith))
+
+pub returns : goal.returns
+returns c = λ W K.
+    let name = name_bytes c.args.name in
+    let m = emptied (keeps-same c.prepare.ensures.same K) c.in-Ok.ensures.answered c.in-Ok.ensures.good c.in-Ok.ensures.items in
+    let room = c.in_ok-key.ensures.room W K in
+    let done = found-free c.args.self.now W.current name c.buffer.result (sym c.is_ok.ensures.value ∙ c.if-is_ok.false) (c.buffer.ensures W K) in
+    edit-done (new name) c.prepare.ensures.same c.in_ok-key.ensures.key m room.0 done (c.put_lines.ensures W [] m.keeps m.lines room.0) (omega arith)

@@ -1,0 +1,14 @@
+use Rattle.std.proofs.Common.{ℕ, ◌+◌, subst}
+use Rattle.std.specs.Prelude.{IfOk}
+use Rattle.node_heap.specs.Heap.{HasSpares}
+use Rattle.space_state.specs.declared.turning.TheConstants.{EDIT_NODES}
+use Rattle.space_state.proofs.Keeping.{versions-stand}
+use Rattle.space_state.proofs.roots.RootedHeap.make_version_room.Goals as goal
+
+pub versions_alike-alike-requires-clause-versions : goal.versions_alike-alike-requires-clause-versions
+versions_alike-alike-requires-clause-versions c = (c.requires.0.versions, rw c.versions.ensures (versions-stand c.requires.1))
+
+pub returns-clause-room : goal.returns-clause-room
+returns-clause-room c = λ W K.
+    let alike = c.versions_alike-alike.ensures.number W.versions (rw c.versions.ensures (versions-stand K)) in
+    subst (λ (n : ℕ). IfOk c.reserve.result (λ _. HasSpares c.reserve.new.self 2 (EDIT_NODES + n))) (rw c.versions.ensures at alike) c.reserve.ensures.spares

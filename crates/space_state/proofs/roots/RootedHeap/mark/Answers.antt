@@ -1,0 +1,79 @@
+use Rattle.std.proofs.Common.{◌≡◌, ◌+◌, [], false, refl, sym, ◌∙◌, arith}
+use Rattle.elem_core.specs.Shown.{name_bytes}
+use Rattle.shell_terms.specs.Command.{mark}
+use Rattle.std.specs.FinMap as map
+use Rattle.plain_space.specs.Workspace.{in_batch}
+use Rattle.plain_space.specs.Cost.{cost, alike, alike_versions}
+use Rattle.state_rows.specs.InHeap.{IsStateIn, AreVersionsIn}
+use Rattle.space_state.proofs.Keeping.{same-refl, keeps-same, keeps-gained, keeps-turned, current-stands, versions-stand, grows-one, rises-same, rises-grows, rises-then, turns-after}
+use Rattle.space_state.proofs.Steps.{mark-refused, mark-taken, mark-done, version-there, may-lack, memory-refused, spares-kept}
+use Rattle.space_state.proofs.roots.RootedHeap.mark.Goals as goal
+
+pub returns-then-in_batch : goal.returns-then-in_batch
+returns-then-in_batch c = λ W K. record { due = mark-refused W _ (sym (c.in_batch.ensures [] W K) ∙ c.if-in_batch.true); same = same-refl K }
+
+pub returns-then-is_some : goal.returns-then-is_some
+returns-then-is_some c = λ W K.
+    let outside : in_batch W ≡ false = sym (c.in_batch.ensures [] W K) ∙ c.if-in_batch.false in
+    let there = version-there c.args.self.now.heap c.args.self.now.bits _ _ (c.version.ensures W K) (sym c.is_some.ensures ∙ c.if-is_some.true) in
+    record { due = mark-taken W _ outside there; same = same-refl K }
+
+pub returns-in_err-make_version_room : goal.returns-in_err-make_version_room
+returns-in_err-make_version_room c = λ W K.
+    let outside : in_batch W ≡ false = sym (c.in_batch.ensures [] W K) ∙ c.if-in_batch.false in
+    let none = version-there c.args.self.now.heap c.args.self.now.bits _ _ (c.version.ensures W K) (sym c.is_some.ensures ∙ c.if-is_some.false) in
+    memory-refused c.from_residual.result c.from_residual.ensures.1 (may-lack (mark _) refl (mark-done W _ outside none)) c.make_version_room.ensures.same
+
+pub returns-in_err-key : goal.returns-in_err-key
+returns-in_err-key c = λ W K.
+    let outside : in_batch W ≡ false = sym (c.in_batch.ensures [] W K) ∙ c.if-in_batch.false in
+    let none = version-there c.args.self.now.heap c.args.self.now.bits _ _ (c.version.ensures W K) (sym c.is_some.ensures ∙ c.if-is_some.false) in
+    memory-refused c.from_residual-in_err-key.result c.from_residual-in_err-key.ensures.1 (may-lack (mark _) refl (mark-done W _ outside none)) c.make_version_room.ensures.same
+
+pub with_version-map-requires-clause-versions : goal.with_version-map-requires-clause-versions
+with_version-map-requires-clause-versions c =
+    let W = c.requires.0 in
+    let K = c.requires.1 in
+    let once = grows-one c.hold.ensures.extends c.hold.ensures.graph c.hold.ensures.holds c.hold.ensures.count c.hold.ensures.makes in
+    let held = keeps-gained (keeps-same c.make_version_room.ensures.same K) once in
+    let key : c.in_ok-key.key ≡ name_bytes c.args.name = c.in_ok-key.ensures ∙ c.as_line.ensures in
+    let same : alike c.versions-versions.result.bits (map.keys W.versions) c.in_ok-key.key ≡ alike_versions c.args.self.now.bits W (name_bytes c.args.name) =
+    rw (c.versions-versions.ensures, c.make_version_room.ensures.same.bits, key) refl in (
+      W.versions,
+      rw c.versions-versions.ensures (versions-stand held),
+      spares-kept _ _ 1 9 _ _ (c.in_ok-make_version_room.ensures.room W K) c.hold.ensures.makes (omega arith) (omega arith) same,
+    )
+
+pub turn_versions-requires : goal.turn_versions-requires
+turn_versions-requires c =
+    let W = c.requires.0 in
+    let K = c.requires.1 in
+    let once = grows-one c.hold.ensures.extends c.hold.ensures.graph c.hold.ensures.holds c.hold.ensures.count c.hold.ensures.makes in
+    let held = keeps-gained (keeps-same c.make_version_room.ensures.same K) once in
+    let there : AreVersionsIn c.hold.new.self c.versions-versions.result.bits c.versions-versions.result.root W.versions = rw c.versions-versions.ensures (versions-stand held) in
+    let now : IsStateIn c.hold.new.self c.versions-versions.result.bits c.make_version_room.new.self.roots.current W.current = rw c.versions-versions.ensures (current-stands held) in
+    let grows = c.with_version-map.ensures.grows W.versions there in
+    let are = rw c.versions-versions.ensures at (c.with_version-map.ensures.versions W.versions W.current there now) in
+    (W, map.insert W.versions c.in_ok-key.key W.current, keeps-turned held grows, are)
+
+pub returns : goal.returns
+unfolding cost
+returns c = λ W K.
+    let outside : in_batch W ≡ false = sym (c.in_batch.ensures [] W K) ∙ c.if-in_batch.false in
+    let none = version-there c.args.self.now.heap c.args.self.now.bits _ _ (c.version.ensures W K) (sym c.is_some.ensures ∙ c.if-is_some.false) in
+    let once = grows-one c.hold.ensures.extends c.hold.ensures.graph c.hold.ensures.holds c.hold.ensures.count c.hold.ensures.makes in
+    let held = keeps-gained (keeps-same c.make_version_room.ensures.same K) once in
+    let there : AreVersionsIn c.hold.new.self c.versions-versions.result.bits c.versions-versions.result.root W.versions = rw c.versions-versions.ensures (versions-stand held) in
+    let now : IsStateIn c.hold.new.self c.versions-versions.result.bits c.make_version_room.new.self.roots.current W.current = rw c.versions-versions.ensures (current-stands held) in
+    let grows = c.with_version-map.ensures.grows W.versions there in
+    let are = rw c.versions-versions.ensures at (c.with_version-map.ensures.versions W.versions W.current there now) in
+    let key : c.in_ok-key.key ≡ name_bytes c.args.name = c.in_ok-key.ensures ∙ c.as_line.ensures in
+    let same : alike c.versions-versions.result.bits (map.keys W.versions) c.in_ok-key.key ≡ alike_versions c.args.self.now.bits W (name_bytes c.args.name) =
+    rw (c.versions-versions.ensures, c.make_version_room.ensures.same.bits, key) refl in
+    let turned = c.turn_versions.ensures W (map.insert W.versions c.in_ok-key.key W.current) (keeps-turned held grows) are in
+    record {
+      after = record W { versions = map.insert W.versions c.in_ok-key.key W.current };
+      told = rw key (mark-done W (name_bytes c.args.name) outside none);
+      turns = turns-after _ (64 + alike_versions c.args.self.now.bits W (name_bytes c.args.name)) (rises-then (rises-same c.make_version_room.ensures.same.heap) (rises-then (rises-grows once) (rises-grows grows)))
+          c.make_version_room.ensures.same.bits turned (omega (arith, same));
+    }

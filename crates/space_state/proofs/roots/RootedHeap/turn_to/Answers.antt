@@ -1,0 +1,33 @@
+use Rattle.std.proofs.Common.{◌≡◌, [], ◌∷◌, true, false, refl, sym, ◌∙◌, arith}
+use Rattle.plain_space.specs.Workspace.{in_batch}
+use Rattle.space_state.specs.declared.turning.TheConstants.{TURN_NODES}
+use Rattle.space_state.proofs.Keeping.{current-stands, undo-stands, keeps-current, has-room, rises-refl, turns-after}
+use Rattle.space_state.proofs.roots.RootedHeap.turn_to.Goals as goal
+
+pub give_up-requires : goal.give_up-requires
+give_up-requires c =
+    let W = c.requires.kept.0 in
+    let x = c.requires.kept.1 in
+    (record W { current = x }, keeps-current c.args.next x c.requires.kept.2 c.requires.kept.3)
+
+pub record-requires-clause-kept : goal.record-requires-clause-kept
+record-requires-clause-kept c =
+    let W = c.requires.kept.0 in
+    let x = c.requires.kept.1 in
+    let K = c.requires.kept.2 in
+    let turned = keeps-current c.args.next x K c.requires.kept.3 in
+    let outside : in_batch W ≡ false = sym (c.in_batch.ensures (c.args.self.now.roots.current ∷ []) (record W { current = x }) turned) ∙ c.if-in_batch.false in
+    (record W { current = x }, W.current, turned, current-stands K, has-room W (undo-stands K) outside c.requires.kept.4)
+
+pub returns-then-in_batch : goal.returns-then-in_batch
+returns-then-in_batch c = λ W x K is room.
+    let turned = keeps-current c.args.next x K is in
+    let inside : in_batch W ≡ true = sym (c.in_batch.ensures (c.args.self.now.roots.current ∷ []) (record W { current = x }) turned) ∙ c.if-in_batch.true in
+    rw inside (turns-after 0 TURN_NODES (rises-refl c.args.self.now.heap) refl (c.give_up.ensures.turns (record W { current = x }) turned) (omega arith))
+
+pub returns-else-in_batch : goal.returns-else-in_batch
+returns-else-in_batch c = λ W x K is room.
+    let turned = keeps-current c.args.next x K is in
+    let outside : in_batch W ≡ false = sym (c.in_batch.ensures (c.args.self.now.roots.current ∷ []) (record W { current = x }) turned) ∙ c.if-in_batch.false in
+    rw outside (turns-after 0 TURN_NODES (rises-refl c.args.self.now.heap) refl
+    (c.record.ensures (record W { current = x }) W.current turned (current-stands K) (has-room W (undo-stands K) outside room)) (omega arith))

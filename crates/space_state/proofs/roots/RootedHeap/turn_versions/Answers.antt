@@ -1,0 +1,8 @@
+use Rattle.std.proofs.Common.{refl}
+use Rattle.space_state.proofs.Keeping.{keeps-versions, keeps-released, rises-released, turns-by}
+use Rattle.space_state.proofs.roots.RootedHeap.turn_versions.Goals as goal
+
+pub returns : goal.returns
+returns c = λ W m K are.
+    let turned = keeps-versions c.args.map.root m K are in
+    rw c.into_root-self.ensures (turns-by 0 (keeps-released turned c.release.ensures.releases c.release.ensures.graph) refl (rises-released c.release.ensures.releases))

@@ -1,0 +1,67 @@
+use Rattle.std.proofs.Common.{◌≡◌, ◌+◌, [], false, not, ap, refl, sym, ◌∙◌, arith}
+use Rattle.elem_core.specs.Shown.{name_bytes}
+use Rattle.shell_terms.specs.Command.{unmark}
+use Rattle.std.specs.FinMap as map
+use Rattle.plain_space.specs.Workspace.{in_batch}
+use Rattle.plain_space.specs.Cost.{cost, alike, alike_versions}
+use Rattle.state_rows.specs.InHeap.{AreVersionsIn}
+use Rattle.space_state.proofs.Keeping.{same-refl, keeps-same, keeps-gained, versions-stand, rises-same, rises-grows, rises-then, turns-after}
+use Rattle.space_state.proofs.Steps.{unmark-refused, unmark-absent, unmark-done, version-there, may-lack, memory-refused, spares-suffice}
+use Rattle.space_state.proofs.roots.RootedHeap.unmark.Goals as goal
+
+pub returns-then-in_batch : goal.returns-then-in_batch
+returns-then-in_batch c = λ W K. record { due = unmark-refused W _ (sym (c.in_batch.ensures [] W K) ∙ c.if-in_batch.true); same = same-refl K }
+
+pub returns-then-is_none : goal.returns-then-is_none
+returns-then-is_none c = λ W K.
+    let outside : in_batch W ≡ false = sym (c.in_batch.ensures [] W K) ∙ c.if-in_batch.false in
+    let none = version-there c.args.self.now.heap c.args.self.now.bits _ _ (c.version.ensures W K) (c.is_none.ensures ∙ ap not c.if-is_none.true) in
+    record { due = unmark-absent W _ outside none; same = same-refl K }
+
+pub returns-in_err-make_version_room : goal.returns-in_err-make_version_room
+returns-in_err-make_version_room c = λ W K.
+    let outside : in_batch W ≡ false = sym (c.in_batch.ensures [] W K) ∙ c.if-in_batch.false in
+    let there = version-there c.args.self.now.heap c.args.self.now.bits _ _ (c.version.ensures W K) (c.is_none.ensures ∙ ap not c.if-is_none.false) in
+    memory-refused c.from_residual.result c.from_residual.ensures.1 (may-lack (unmark _) refl (unmark-done W _ outside there)) c.make_version_room.ensures.same
+
+pub without_version-map-requires-clause-versions : goal.without_version-map-requires-clause-versions
+without_version-map-requires-clause-versions c =
+    let W = c.requires.0 in
+    let K = c.requires.1 in
+    let there = version-there c.args.self.now.heap c.args.self.now.bits _ _ (c.version.ensures W K) (c.is_none.ensures ∙ ap not c.if-is_none.false) in
+    let same : alike c.versions-versions.result.bits (map.keys W.versions) (name_bytes c.args.name) ≡ alike_versions c.args.self.now.bits W (name_bytes c.args.name) =
+    rw (c.versions-versions.ensures, c.make_version_room.ensures.same.bits) refl in (
+      W.versions,
+      rw c.versions-versions.ensures (versions-stand (keeps-same c.make_version_room.ensures.same K)),
+      there,
+      spares-suffice c.make_version_room.new.self.heap 0 7 _ _ (c.in_ok-make_version_room.ensures.room W K) (omega arith) (omega arith) same,
+    )
+
+pub turn_versions-requires : goal.turn_versions-requires
+turn_versions-requires c =
+    let W = c.requires.0 in
+    let K = c.requires.1 in
+    let held = keeps-same c.make_version_room.ensures.same K in
+    let those : AreVersionsIn c.make_version_room.new.self.heap c.versions-versions.result.bits c.versions-versions.result.root W.versions = rw c.versions-versions.ensures (versions-stand held) in
+    let grows = c.without_version-map.ensures.grows W.versions those in
+    let are = rw c.versions-versions.ensures at (c.without_version-map.ensures.versions W.versions those) in
+    (W, map.remove W.versions (name_bytes c.args.name), keeps-gained held grows, are)
+
+pub returns : goal.returns
+unfolding cost
+returns c = λ W K.
+    let outside : in_batch W ≡ false = sym (c.in_batch.ensures [] W K) ∙ c.if-in_batch.false in
+    let there = version-there c.args.self.now.heap c.args.self.now.bits _ _ (c.version.ensures W K) (c.is_none.ensures ∙ ap not c.if-is_none.false) in
+    let held = keeps-same c.make_version_room.ensures.same K in
+    let those : AreVersionsIn c.make_version_room.new.self.heap c.versions-versions.result.bits c.versions-versions.result.root W.versions = rw c.versions-versions.ensures (versions-stand held) in
+    let grows = c.without_version-map.ensures.grows W.versions those in
+    let are = rw c.versions-versions.ensures at (c.without_version-map.ensures.versions W.versions those) in
+    let same : alike c.versions-versions.result.bits (map.keys W.versions) (name_bytes c.args.name) ≡ alike_versions c.args.self.now.bits W (name_bytes c.args.name) =
+    rw (c.versions-versions.ensures, c.make_version_room.ensures.same.bits) refl in
+    let turned = c.turn_versions.ensures W (map.remove W.versions (name_bytes c.args.name)) (keeps-gained held grows) are in
+    record {
+      after = _;
+      told = unmark-done W (name_bytes c.args.name) outside there;
+      turns = turns-after _ (64 + alike_versions c.args.self.now.bits W (name_bytes c.args.name)) (rises-then (rises-same c.make_version_room.ensures.same.heap) (rises-grows grows)) c.make_version_room.ensures.same.bits
+          turned (omega (arith, same));
+    }

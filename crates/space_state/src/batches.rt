@@ -1,0 +1,60 @@
+//! Batches: edits that undo takes back together.
+ghost use Rattle.std.specs.Prelude.{◌≡◌, []};
+ghost use Rattle.shell_terms.specs.Command.{begin, «end», abort};
+ghost use Rattle.plain_space.specs.Workspace.{Workspace};
+ghost use Rattle.space_state.specs.Roots.{Keeps};
+ghost use Rattle.space_state.specs.Turns.{Obeys};
+
+use crate::roots::{Batch, RootedHeap};
+use crate::turning::{MOST, TURN_NODES};
+use plain_space::Refusal;
+use rrb_core::FlexRef;
+
+impl RootedHeap {
+    /// Opens a batch, whose base is the current state.
+    pub(crate) fn begin(&mut self) -> Result<(), Refusal>
+        requires { (W : Workspace) × Keeps self.old [] W }
+        ensures obeys { Obeys begin self.old result self.new }
+        ensures made { self.new.heap.made ≡ self.old.heap.made }
+    {
+        if self.in_batch() {
+            return Err(Refusal::Batch);
+        }
+        self.heap.hold(self.roots.current);
+        self.roots.batch = Batch::Open(self.roots.current);
+        Ok(())
+    }
+
+    /// Closes the batch. Its base goes to the end of undo, and redo is emptied.
+    pub(crate) fn end(&mut self) -> Result<(), Refusal>
+        requires { (W : Workspace) × Keeps self.old [] W }
+        ensures { Obeys «end» self.old result self.new }
+    {
+        let Some(base) = self.roots.batch.base() else {
+            return Err(Refusal::Batch);
+        };
+        if FlexRef::at(self.roots.undo).len(&self.heap) == MOST {
+            return Err(Refusal::Limit);
+        }
+        self.heap.reserve(0, TURN_NODES)?;
+        self.roots.batch = Batch::Closed;
+        self.record(base);
+        Ok(())
+    }
+
+    /// Closes the batch and goes back to its base.
+    pub(crate) fn abort(&mut self) -> Result<(), Refusal>
+        requires { (W : Workspace) × Keeps self.old [] W }
+        ensures obeys { Obeys abort self.old result self.new }
+        ensures made { self.new.heap.made ≡ self.old.heap.made }
+    {
+        let Some(base) = self.roots.batch.base() else {
+            return Err(Refusal::Batch);
+        };
+        let before = self.roots.current;
+        self.roots.current = base;
+        self.roots.batch = Batch::Closed;
+        self.give_up(before);
+        Ok(())
+    }
+}

@@ -1,0 +1,132 @@
+//! What all edits share: room for an edit, the turn to another current state, and what is given up.
+ghost use Rattle.std.specs.Prelude.{◌≡◌, ◌≢◌, ℕ, ◌+◌, ◌<◌, ◌≤◌, List, [], ◌∷◌, ◌++◌, ◌^◌, length, IfOk, IfErr, MatchBool, true, false};
+ghost use Rattle.elem_core.specs.Shown.{name_bytes};
+ghost use Rattle.node_heap.specs.Heap.{hold_count, HasSpares};
+ghost use Rattle.plain_space.specs.Workspace.{State, Workspace, most, in_batch, is_full, with_current};
+ghost use Rattle.plain_space.specs.Cost.{alike_buffers};
+ghost use Rattle.state_rows.specs.InHeap.{IsStateIn, IsHistoryIn};
+ghost use Rattle.state_rows.specs.Growth.{Grows};
+ghost use Rattle.space_state.specs.Roots.{Keeps};
+ghost use Rattle.space_state.specs.Turns.{IsSame, TurnsTo};
+
+use crate::roots::{Batch, RootedHeap};
+use elem_core::{Name, Text, text_of};
+use node_heap::Link;
+use plain_space::Refusal;
+use rrb_core::FlexRef;
+use state_rows::{buffers_alike, emptied, pushed};
+
+/// The most states that undo or redo may hold, and the most lines of a buffer.
+pub(crate) const MOST: u32 = u32::MAX;
+
+/// The nodes for which room is made before an edit, besides one for each name whose code is alike. No edit makes more.
+pub(crate) const EDIT_NODES: usize = 128;
+
+/// The nodes of a turn to another state: a push to undo, and an empty redo.
+pub(crate) const TURN_NODES: usize = 10;
+
+impl RootedHeap {
+    /// Whether a batch is open.
+    pub(crate) fn in_batch(&self) -> bool
+        ensures { (besides : List ℕ) (W : Workspace) → Keeps self.now besides W → result ≡ in_batch W }
+    {
+        match self.roots.batch {
+            Batch::Closed => false,
+            Batch::Open(_) => true,
+        }
+    }
+
+    /// Whether no edit can be done, since undo is full and no batch is open.
+    pub(crate) fn is_full(&self) -> bool
+        requires { (W : Workspace) × Keeps self.now [] W }
+        ensures { (W : Workspace) → Keeps self.now [] W → result ≡ is_full W }
+    {
+        !self.in_batch() && FlexRef::at(self.roots.undo).len(&self.heap) == MOST
+    }
+
+    /// Makes room for an edit that writes this buffer. Refused with `Limit` exactly where undo has no room for an edit,
+    /// and else with `Memory` alone.
+    pub(crate) fn make_room(&mut self, name: Name<'_>) -> Result<(), Refusal>
+        requires { (W : Workspace) × Keeps self.old [] W }
+        ensures same { IsSame self.old self.new }
+        ensures room { (W : Workspace) → Keeps self.old [] W →
+            IfOk result (λ _. (is_full W ≡ false) × HasSpares self.new.heap 2 (EDIT_NODES + alike_buffers self.old.bits W.current (name_bytes name.entry))) }
+        ensures refused { (W : Workspace) → Keeps self.old [] W →
+            IfErr result (λ why. MatchBool (is_full W) (why ≡ Refusal.Limit) (why ≡ Refusal.Memory)) }
+    {
+        if self.is_full() {
+            return Err(Refusal::Limit);
+        }
+        let alike = buffers_alike(&self.heap, self.bits, self.roots.current, name);
+        self.heap.reserve(2, EDIT_NODES + alike)?;
+        Ok(())
+    }
+
+    /// The same, and gives the buffer's name as a text.
+    pub(crate) fn prepare(&mut self, name: Name<'_>) -> Result<Text, Refusal>
+        requires { (W : Workspace) × Keeps self.old [] W }
+        ensures same { IsSame self.old self.new }
+        ensures key { IfOk result (λ key. key ≡ name_bytes name.entry) }
+        ensures room { (W : Workspace) → Keeps self.old [] W →
+            IfOk result (λ _. (is_full W ≡ false) × HasSpares self.new.heap 2 (EDIT_NODES + alike_buffers self.old.bits W.current (name_bytes name.entry))) }
+        ensures refused { (W : Workspace) → Keeps self.old [] W →
+            IfErr result (λ why. MatchBool (is_full W) (why ≡ Refusal.Limit) (why ≡ Refusal.Memory)) }
+    {
+        self.make_room(name)?;
+        let key = text_of(self.alloc, name.as_line())?;
+        Ok(key)
+    }
+
+    /// Turns to the state, of which the caller's hold is spent. Outside a batch the old state goes to the end of undo, and
+    /// redo is emptied.
+    pub(crate) fn turn_to(&mut self, next: Link)
+        requires spares { HasSpares self.old.heap 0 TURN_NODES }
+        requires kept { (W : Workspace) × (s : State) × Keeps self.old (next ∷ []) W × IsStateIn self.old.heap self.old.bits next s × (is_full W ≡ false) }
+        ensures { (W : Workspace) (s : State) → Keeps self.old (next ∷ []) W → IsStateIn self.old.heap self.old.bits next s → is_full W ≡ false →
+            TurnsTo self.old self.new [] TURN_NODES (with_current W s) }
+    {
+        let before = self.roots.current;
+        self.roots.current = next;
+        if self.in_batch() {
+            self.give_up(before);
+        } else {
+            self.record(before);
+        }
+    }
+
+    /// Gives a hold up.
+    pub(crate) fn give_up(&mut self, link: Link)
+        requires { (W : Workspace) × Keeps self.old (link ∷ []) W }
+        ensures turns { (W : Workspace) → Keeps self.old (link ∷ []) W → TurnsTo self.old self.new [] 0 W }
+        ensures roots { self.new.roots ≡ self.old.roots }
+        ensures made { self.new.heap.made ≡ self.old.heap.made }
+    {
+        self.heap.release(link);
+    }
+
+    // Puts the state at the end of undo, which spends a hold of it, and empties redo.
+    pub(crate) fn record(&mut self, before: Link)
+        requires spares { HasSpares self.old.heap 0 TURN_NODES }
+        requires kept { (W : Workspace) × (s : State) × Keeps self.old (before ∷ []) W × IsStateIn self.old.heap self.old.bits before s × (length W.undo < most) }
+        ensures { (W : Workspace) (s : State) → Keeps self.old (before ∷ []) W → IsStateIn self.old.heap self.old.bits before s → length W.undo < most →
+            TurnsTo self.old self.new [] TURN_NODES (record W { undo = W.undo ++ s ∷ []; redo = [] }) }
+    {
+        let undo = pushed(&mut self.heap, FlexRef::at(self.roots.undo), before);
+        let redo = emptied(&mut self.heap, FlexRef::at(self.roots.redo));
+        self.turn_histories(undo.into_root(), redo.into_root());
+    }
+
+    /// Puts these vectors, of each of which the caller's hold is spent, in place of undo and redo.
+    pub(crate) fn turn_histories(&mut self, undo: Link, redo: Link)
+        requires { (W : Workspace) × (us rs : List State) × Keeps self.old (undo ∷ redo ∷ []) W × IsHistoryIn self.old.heap self.old.bits undo us × IsHistoryIn self.old.heap self.old.bits redo rs }
+        ensures { (W : Workspace) (us rs : List State) → Keeps self.old (undo ∷ redo ∷ []) W → IsHistoryIn self.old.heap self.old.bits undo us → IsHistoryIn self.old.heap self.old.bits redo rs →
+            TurnsTo self.old self.new [] 0 (record W { undo = us; redo = rs }) }
+    {
+        let old_undo = self.roots.undo;
+        let old_redo = self.roots.redo;
+        self.roots.undo = undo;
+        self.roots.redo = redo;
+        self.heap.release(old_undo);
+        self.heap.release(old_redo);
+    }
+}
