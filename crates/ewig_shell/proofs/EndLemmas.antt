@@ -8,9 +8,8 @@ use Rattle.shell_io.specs.Pieces.{ended, pieces_within}
 use Rattle.ewig_shell.specs.Quits.{HasQuit}
 use Rattle.shell_io.specs.declared.device.Source as source_trait
 use Rattle.shell_io.specs.declared.device.Sink as sink_trait
-use Rattle.shell_io.proofs.FaultLemmas.{CountsFaults-as, Pulls-none, Pulls-as}
+use Rattle.shell_io.proofs.FaultLemmas.{CountsFaults-as, Calls-none, Calls-as}
 use Rattle.space_state.specs.View.{SpaceView}
-use Rattle.space_state.specs.Workspace.{Workspace}
 use Rattle.ewig_shell.specs.declared.run.Status.{Status}
 use Rattle.ewig_shell.specs.declared.run.Status.TheVariants as status
 use Rattle.ewig_shell.specs.Going.{HasCauses}
@@ -32,7 +31,7 @@ in_time most input taken rest split read =
     elim read [ inl whole ↦ inl whole.1 | inr quits ↦ inr (subst (λ (w : List ℕ). HasQuit (pieces_within most w)) (sym split) (quit_in_time most taken rest quits)) ]
 
 -- without a fault, the bytes decide
-by_bytes : (most : ℕ) (run : Run) (rest : List ℕ) (s : Status) (last : Workspace) → Says s most run → run.last ≡ Some last → run.input ≡ run.taken ++ rest → (s ≡ status.ReadFault → ⊥) → (s ≡ status.WriteFault → ⊥) → IsComplete most run.input s
+by_bytes : (most : ℕ) (run : Run) (rest : List ℕ) (s : Status) (last : SpaceView) → Says s most run → run.last ≡ Some last → run.input ≡ run.taken ++ rest → (s ≡ status.ReadFault → ⊥) → (s ≡ status.WriteFault → ⊥) → IsComplete most run.input s
 by_bytes most run rest status.Done last says left split no_read no_write = record {
   done = λ _. inl refl;
   too_long = λ never. absurd (never (in_time most run.input run.taken rest split says.read));
@@ -51,7 +50,7 @@ taken_front : (input : List ℕ) (left : Option (List ℕ)) (taken : List ℕ) �
 taken_front input None taken takes = absurd takes
 taken_front input (Some rest) taken takes = (rest, takes)
 
-complete_by : {B : Type 0} {K : sink_trait.Ghosts B} {sink sink' : B} (most : ℕ) (input : List ℕ) (left : Option (List ℕ)) (s : Status) (last : Workspace) → Runs most input left K sink sink' s (Some last) → (s ≡ status.ReadFault → ⊥) → (s ≡ status.WriteFault → ⊥) → IsComplete most input s
+complete_by : {B : Type 0} {K : sink_trait.Ghosts B} {sink sink' : B} (most : ℕ) (input : List ℕ) (left : Option (List ℕ)) (s : Status) (last : SpaceView) → Runs most input left K sink sink' s (Some last) → (s ≡ status.ReadFault → ⊥) → (s ≡ status.WriteFault → ⊥) → IsComplete most input s
 complete_by most input left s last runs no_read no_write =
     let front = taken_front input left runs.run.taken runs.takes in
     subst (λ (w : List ℕ). IsComplete most w s) runs.input_is
@@ -88,7 +87,7 @@ module _ {A B W : Type 0} {S : source_trait.Ghosts A} {source : A} {K : sink_tra
     space = (λ _. early, λ _. refl);
     bits = tt;
     unbegun = λ _. (refl, refl);
-    reads = Pulls-as (Pulls-none S.faults S.steady S.faultless source) (λ p. absurd p) (not_early s early status.ReadFault (λ e. e));
+    reads = Calls-as (Calls-none S.faults S.steady S.faultless source) (λ p. absurd p) (not_early s early status.ReadFault (λ e. e));
     writes = record { counted = omega arith; cause = λ e. absurd (not_early s early status.WriteFault (λ e. e) e) };
     run = IfSome-from (S.left source) (λ (input : List ℕ). Runs most input (S.left source) K sink sink s None) (λ input told. record {
       run = idle input s;
@@ -108,16 +107,16 @@ module _ {A B W : Type 0} {S : source_trait.Ghosts A} {source : A} {K : sink_tra
 
 module _ {A B W : Type 0} {S : source_trait.Ghosts A} {source source' : A} {K : sink_trait.Ghosts B} {sink sink' : B} {most : ℕ} {words : List W} where
   -- a run that read lines
-  pub RunsAs-lines : (s : Status) (space : SpaceView) → (IsEarly s → ⊥) → length words ≡ 0 → space.bits ≡ CODE_BITS → HasCauses S source source' K sink sink' (Some s) →
-      ((input : List ℕ) → S.left source ≡ Some input → Runs most input (S.left source') K sink sink' s (Some space.work)) → RunsAs most words S source source' K sink sink' (record { status = s; space = Some space })
+  pub RunsAs-lines : (s : Status) (space : SpaceView) → (IsEarly s → ⊥) → length words ≡ 0 → space.pool.bits ≡ CODE_BITS → HasCauses S source source' K sink sink' (Some s) →
+      ((input : List ℕ) → S.left source ≡ Some input → Runs most input (S.left source') K sink sink' s (Some space)) → RunsAs most words S source source' K sink sink' (record { status = s; space = Some space })
   RunsAs-lines s space begun none bits causes run = record {
     usage = (λ e. absurd (begun (subst IsEarly (sym e) tt)), λ some. absurd (omega (arith, none, some)));
     space = (λ h. absurd (let never = h in cc), λ early. absurd (begun early));
     bits = bits;
     unbegun = λ early. absurd (begun early);
-    reads = Pulls-as causes.reads (λ p. let same = p in cc) (ap Some);
+    reads = Calls-as causes.reads (λ p. let same = p in cc) (ap Some);
     writes = CountsFaults-as causes.writes (ap Some);
-    run = IfSome-from (S.left source) (λ (input : List ℕ). Runs most input (S.left source') K sink sink' s (Some space.work)) run;
+    run = IfSome-from (S.left source) (λ (input : List ℕ). Runs most input (S.left source') K sink sink' s (Some space)) run;
     complete = λ _ no_read no_write. IfSome-from (S.left source) (λ (input : List ℕ). IsComplete most input s)
-        (λ input told. complete_by most input (S.left source') s space.work (run input told) no_read no_write);
+        (λ input told. complete_by most input (S.left source') s space (run input told) no_read no_write);
   }

@@ -1,7 +1,8 @@
 pub mod SendingLemmas
 pub mod QuitLemmas
+pub mod PageLemmas
+pub mod LinesLemmas
 pub mod StepLemmas
-pub mod NamesLemmas
 pub mod ReadLemmas
 pub mod RunLemmas
 pub mod EndLemmas

@@ -12,7 +12,8 @@ use Rattle.std.specs.Str.{is_utf8}
 use Rattle.elem_core.specs.Naming.{is_name}
 use Rattle.elem_core.specs.declared.TheConstants.{MAX_LINE}
 use Rattle.shell_io.specs.declared.device.Failed.{Failed}
-use Rattle.shell_terms.specs.Command.{PlainCommand, new, add, get, len, list, quit}
+use Rattle.shell_terms.specs.Edit.{new, add, set, put, del, cat, cut, copy, drop, star, unstar}
+use Rattle.shell_terms.specs.Command.{PlainCommand, edit, mark, unmark, back as back_to, undo, redo, begin, «end», abort, get, len, show, list, stars, marks, quit}
 use Rattle.shell_words.specs.Grammar.{RestMeaning, is_space, first_piece, after_piece, if_named, the_end, a_name, a_number, the_text, commands, command_of, meaning}
 use Rattle.shell_words.specs.Number.{number_of}
 use Rattle.shell_words.proofs.GrammarLemmas.{after_piece-spaced}
@@ -59,19 +60,19 @@ unfolding the_end
 ended command None other e = other (let same = e in cc)
 ended command (Some rest) other e = cc
 
-text_last : (name : List ℕ) (rest : Option (List ℕ)) → IsOther (the_text (λ t. add name t) rest)
+text_last : (command : List ℕ → PlainCommand) (rest : Option (List ℕ)) → ((t : List ℕ) → command t ≢ quit) → IsOther (the_text command rest)
 unfolding the_text
-text_last name None e = cc
-text_last name (Some rest) e = cc
+text_last command None other e = cc
+text_last command (Some rest) other e = other rest (let same = e in cc)
 
-numbered : (name : List ℕ) (behind : Option (List ℕ)) (number : Option ℕ) → IsOther (option_map_or (λ (i : ℕ). the_end (get name i) behind) number (Err bad.Command))
-numbered name behind None e = cc
-numbered name behind (Some i) e = ended (get name i) behind (λ h. cc) e
+numbered : (more : ℕ → RestMeaning) (behind : Option (List ℕ)) (number : Option ℕ) → ((n : ℕ) (after : Option (List ℕ)) → IsOther (more n after)) → IsOther (option_map_or (λ (n : ℕ). more n behind) number (Err bad.Command))
+numbered more behind None other e = cc
+numbered more behind (Some n) other e = other n behind e
 
-number_last : (name : List ℕ) (rest : Option (List ℕ)) → IsOther (a_number (λ i. the_end (get name i)) rest)
+number_first : (more : ℕ → RestMeaning) (rest : Option (List ℕ)) → ((n : ℕ) (behind : Option (List ℕ)) → IsOther (more n behind)) → IsOther (a_number more rest)
 unfolding a_number
-number_last name None e = cc
-number_last name (Some rest) e = numbered name (after_piece rest) (number_of (first_piece rest)) e
+number_first more None other e = cc
+number_first more (Some rest) other e = numbered more (after_piece rest) (number_of (first_piece rest)) other e
 
 -- what a table reads for a word, and that no row of it reads as to quit
 abbrev read_by : List (List ℕ × RestMeaning) → List ℕ → Option (List ℕ) → Result PlainCommand BadLine
@@ -98,23 +99,91 @@ at_quit true None e = (refl, refl)
 at_quit true (Some rest) e = cc
 at_quit false rest e = cc
 
+-- no row of the table but the last reads as to quit
+others : (rest : Option (List ℕ)) → AreOthers (take 25 commands) rest
+unfolding commands
+others rest = (
+  name_first _ rest (λ b r. ended (edit (new b)) r (λ h. cc)),
+  (
+    name_first _ rest (λ b r. text_last (λ t. edit (add b t)) r (λ t h. cc)),
+    (
+      name_first _ rest (λ b r. number_first _ r (λ i q. text_last (λ t. edit (set b i t)) q (λ t h. cc))),
+      (
+        name_first _ rest (λ b r. number_first _ r (λ i q. text_last (λ t. edit (put b i t)) q (λ t h. cc))),
+        (
+          name_first _ rest (λ b r. number_first _ r (λ i q. number_first _ q (λ j p. ended (edit (del b i j)) p (λ h. cc)))),
+          (
+            name_first _ rest (λ b r. name_first _ r (λ c q. ended (edit (cat b c)) q (λ h. cc))),
+            (
+              name_first _ rest (λ b r. number_first _ r (λ i q. number_first _ q (λ j p. name_first _ p (λ c o. ended (edit (cut b i j c)) o (λ h. cc))))),
+              (
+                name_first _ rest (λ b r. name_first _ r (λ c q. ended (edit (copy b c)) q (λ h. cc))),
+                (
+                  name_first _ rest (λ b r. ended (edit (drop b)) r (λ h. cc)),
+                  (
+                    name_first _ rest (λ b r. ended (edit (star b)) r (λ h. cc)),
+                    (
+                      name_first _ rest (λ b r. ended (edit (unstar b)) r (λ h. cc)),
+                      (
+                        name_first _ rest (λ b r. ended (mark b) r (λ h. cc)),
+                        (
+                          name_first _ rest (λ b r. ended (unmark b) r (λ h. cc)),
+                          (
+                            name_first _ rest (λ b r. ended (back_to b) r (λ h. cc)),
+                            (
+                              ended undo rest (λ h. cc),
+                              (
+                                ended redo rest (λ h. cc),
+                                (
+                                  ended begin rest (λ h. cc),
+                                  (
+                                    ended «end» rest (λ h. cc),
+                                    (
+                                      ended abort rest (λ h. cc),
+                                      (
+                                        name_first _ rest (λ b r. number_first _ r (λ i q. ended (get b i) q (λ h. cc))),
+                                        (
+                                          name_first _ rest (λ b r. ended (len b) r (λ h. cc)),
+                                          (
+                                            name_first _ rest (λ b r. number_first _ r (λ i q. number_first _ q (λ j p. ended (show b i j) p (λ h. cc)))),
+                                            (
+                                              ended list rest (λ h. cc),
+                                              (
+                                                ended stars rest (λ h. cc),
+                                                (
+                                                  ended marks rest (λ h. cc),
+                                                  tt,
+                                                ),
+                                              ),
+                                            ),
+                                          ),
+                                        ),
+                                      ),
+                                    ),
+                                  ),
+                                ),
+                              ),
+                            ),
+                          ),
+                        ),
+                      ),
+                    ),
+                  ),
+                ),
+              ),
+            ),
+          ),
+        ),
+      ),
+    ),
+  ),
+)
+
 -- the word is `quit`, and nothing follows it
 word_quits : (word : List ℕ) (rest : Option (List ℕ)) → command_of word rest ≡ Ok quit → (word ≡ codes "quit") × (rest ≡ None)
 unfolding command_of commands
 word_quits word rest e =
-    let both = at_quit (bytes_eq word (codes "quit")) rest (past_others (take 5 commands) ((codes "quit", the_end quit) ∷ []) word rest (
-      name_first (λ b. the_end (new b)) rest (λ name behind. ended (new name) behind (λ h. cc)),
-      (
-        name_first (λ b. the_text (λ t. add b t)) rest text_last,
-        (
-          name_first (λ b. a_number (λ i. the_end (get b i))) rest number_last,
-          (
-            name_first (λ b. the_end (len b)) rest (λ name behind. ended (len name) behind (λ h. cc)),
-            (ended list rest (λ h. cc), tt),
-          ),
-        ),
-      ),
-    ) e) in
+    let both = at_quit (bytes_eq word (codes "quit")) rest (past_others (take 25 commands) ((codes "quit", the_end quit) ∷ []) word rest (others rest) e) in
     ((bytes_eq-Decides word (codes "quit")).0 both.0, both.1)
 
 -- a line that ends with its first word is that word
@@ -149,6 +218,12 @@ pub quits-command : (piece : List ℕ) (command : PlainCommand) (result : Result
     IfOk result (λ (w : Went). (w ≡ went.Quit) ↔ (command ≡ quit)) → IfOk result (λ (w : Went). (w ≡ went.Quit) ↔ (piece ≡ codes "quit"))
 quits-command piece command (Ok w) e h = (λ q. reads_quit piece (let same = h.0 q in cc), λ p. h.1 (let read = ap meaning p ∙ quit_reads in cc))
 quits-command piece command (Err f) e h = tt
+
+-- how the run goes on after a command
+pub quits-then : (command : PlainCommand) (sent : Result (Unit {0}) Failed) (w : Went) (result : Result Went Failed) → (w ≡ went.Quit) ↔ (command ≡ quit) → result ≡ sent_then sent w →
+    IfOk result (λ (v : Went). (v ≡ went.Quit) ↔ (command ≡ quit))
+quits-then command (Ok x) w result h is = subst (λ (r : Result Went Failed). IfOk r (λ (v : Went). (v ≡ went.Quit) ↔ (command ≡ quit))) (sym is) h
+quits-then command (Err f) w result h is = subst (λ (r : Result Went Failed). IfOk r (λ (v : Went). (v ≡ went.Quit) ↔ (command ≡ quit))) (sym is) tt
 
 on : (piece : List ℕ) (sent : Result (Unit {0}) Failed) → piece ≢ codes "quit" → IfOk (sent_then sent went.On) (λ (w : Went). (w ≡ went.Quit) ↔ (piece ≡ codes "quit"))
 on piece (Ok x) other = (λ e. cc, λ e. absurd (other e))

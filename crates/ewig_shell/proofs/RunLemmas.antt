@@ -12,7 +12,8 @@ use Rattle.shell_io.specs.Pieces.{pieces, ended, pieces_within}
 use Rattle.shell_io.specs.Reader.{Reading, StandsIn, GivesNext, Answers, pieces_given}
 use Rattle.shell_io.specs.declared.reader.Next.TheVariants as next
 use Rattle.shell_io.proofs.PiecesLemmas.{pieces_within-all}
-use Rattle.space_state.specs.Workspace.{Workspace, start}
+use Rattle.elem_core.specs.declared.codes.TheConstants.{CODE_BITS}
+use Rattle.space_state.specs.View.{SpaceView, start_view}
 use Rattle.ewig_shell.specs.declared.execute.Went.{Went}
 use Rattle.ewig_shell.specs.declared.execute.Went.TheVariants as went
 use Rattle.ewig_shell.specs.declared.run.Status.{Status}
@@ -26,9 +27,9 @@ use Rattle.ewig_shell.proofs.QuitLemmas.{is_quit-true, is_quit-from, none-append
 use Rattle.ewig_shell.proofs.ReadLemmas.{quit_read}
 
 -- one step more
-Steps-append : (W : Workspace) (xs : List (List ℕ)) (output : List ℕ) (mid : Workspace) (piece reply : List ℕ) (last : Workspace) → Steps W xs output mid → Step mid piece reply last → Steps W (xs ++ piece ∷ []) (output ++ reply) last
+Steps-append : (W : SpaceView) (xs : List (List ℕ)) (output : List ℕ) (mid : SpaceView) (piece reply : List ℕ) (last : SpaceView) → Steps W xs output mid → Step mid piece reply last → Steps W (xs ++ piece ∷ []) (output ++ reply) last
 Steps-append W [] output mid piece reply last h step =
-    (reply, last, [], subst (λ (V : Workspace). Step V piece reply last) h.1 step, (refl, refl), ap (λ (w : List ℕ). w ++ reply) h.0 ∙ sym (append-nil reply))
+    (reply, last, [], subst (λ (V : SpaceView). Step V piece reply last) h.1 step, (refl, refl), ap (λ (w : List ℕ). w ++ reply) h.0 ∙ sym (append-nil reply))
 Steps-append W (x ∷ xs) output mid piece reply last h step =
     (h.0, h.1, h.2 ++ reply, h.3, Steps-append h.1 xs h.2 mid piece reply last h.4 step, ap (λ (w : List ℕ). w ++ reply) h.5 ∙ append_assoc h.0 h.2 reply)
 
@@ -42,7 +43,7 @@ given_same : (input : List ℕ) (old new : Reading) → new.given ≡ old.given 
 given_same input old new e = ap (λ (n : ℕ). pieces (take n input)) e
 
 -- what a run did whose reader stands there
-abbrev did : List ℕ → Reading → (replies output : List ℕ) → Status → Workspace → Run
+abbrev did : List ℕ → Reading → (replies output : List ℕ) → Status → SpaceView → Run
 did input reader replies output s last = record {
   input = input;
   taken = take reader.taken input;
@@ -76,7 +77,7 @@ module _ {B : Type 0} {K : sink_trait.Ghosts B} where
 
 module _ {B : Type 0} {K : sink_trait.Ghosts B} {begin sink' : B} {left : Option (List ℕ)} where
   -- a run that ends where its reader stands, with all its replies written
-  ends_there : (most : ℕ) (input : List ℕ) (reader : Reading) (replies : List ℕ) (s : Status) (W : Workspace) → StandsIn input reader left → reader.taken ≤ most + 1 → TakesReplies K begin sink' replies → (s ≡ status.WriteFault → ⊥) → Says s most (did input reader replies replies s W) → Runs most input left K begin sink' s (Some W)
+  ends_there : (most : ℕ) (input : List ℕ) (reader : Reading) (replies : List ℕ) (s : Status) (W : SpaceView) → StandsIn input reader left → reader.taken ≤ most + 1 → TakesReplies K begin sink' replies → (s ≡ status.WriteFault → ⊥) → Says s most (did input reader replies replies s W) → Runs most input left K begin sink' s (Some W)
   ends_there most input reader replies s W stands few writes other says = record {
     run = did input reader replies replies s W;
     input_is = refl;
@@ -90,7 +91,7 @@ module _ {B : Type 0} {K : sink_trait.Ghosts B} {begin sink' : B} {left : Option
   }
 
   -- a piece was given and executed, and its reply was sent, or not
-  by_result : {sink : B} {most : ℕ} {input : List ℕ} {old new : Reading} {old_left : Option (List ℕ)} {W : Workspace} (W' : Workspace) {piece reply : List ℕ} (result : Result Went Failed) →
+  by_result : {sink : B} {most : ℕ} {input : List ℕ} {old new : Reading} {old_left : Option (List ℕ)} {W : SpaceView} (W' : SpaceView) {piece reply : List ℕ} (result : Result Went Failed) →
       IsGoing most input old old_left K begin sink W →
       StandsIn input new left →
       GivesNext most input old new piece →
@@ -106,7 +107,7 @@ module _ {B : Type 0} {K : sink_trait.Ghosts B} {begin sink' : B} {left : Option
     goes_on = subst (λ (w : List (List ℕ)). HasQuit w → ⊥) (sym next.next)
         (none-append is_quit (pieces_given input old) piece going.goes_on (λ test. absurd (let never = quits.1 (is_quit-true piece test) in cc)));
     replies = going.replies ++ reply;
-    steps = subst (λ (w : List (List ℕ)). Steps start w (going.replies ++ reply) W') (sym next.next) (Steps-append start _ going.replies W piece reply W' going.steps step);
+    steps = subst (λ (w : List (List ℕ)). Steps (start_view CODE_BITS) w (going.replies ++ reply) W') (sym next.next) (Steps-append (start_view CODE_BITS) _ going.replies W piece reply W' going.steps step);
     writes = TakesReplies-append going.replies reply going.writes sends;
   }
   by_result {most = most} {input} {old} {new} {W = W} W' {piece} {reply} (Ok went.Quit) going stands next few step sends quits =
@@ -116,9 +117,9 @@ module _ {B : Type 0} {K : sink_trait.Ghosts B} {begin sink' : B} {left : Option
         read = quit_read most input new left next.in_time.0 stands next.in_time.1
             (subst (λ (w : List (List ℕ)). HasQuit w) (sym next.next) (any-here is_quit (pieces_given input old) piece [] test));
         executes = record {
-          steps = subst (λ (w : List (List ℕ)). Steps start w (going.replies ++ reply) W')
+          steps = subst (λ (w : List (List ℕ)). Steps (start_view CODE_BITS) w (going.replies ++ reply) W')
               (sym (ap until_quit these ∙ up_to-first is_quit (pieces_given input old) piece next.in_time.0 going.goes_on test))
-              (Steps-append start _ going.replies W piece reply W' going.steps step);
+              (Steps-append (start_view CODE_BITS) _ going.replies W piece reply W' going.steps step);
           written = refl;
         };
       })
@@ -155,7 +156,7 @@ module _ {B : Type 0} {K : sink_trait.Ghosts B} {begin sink' : B} {left : Option
       }
 
   -- the run goes on or ends as the piece says
-  pub Going-next : {sink : B} {most : ℕ} {input : List ℕ} {old new : Reading} {old_left : Option (List ℕ)} {W : Workspace} (W' : Workspace) {piece : List ℕ} {result : Result Went Failed} {ends : Option Status} →
+  pub Going-next : {sink : B} {most : ℕ} {input : List ℕ} {old new : Reading} {old_left : Option (List ℕ)} {W : SpaceView} (W' : SpaceView) {piece : List ℕ} {result : Result Went Failed} {ends : Option Status} →
       IsGoing most input old old_left K begin sink W →
       StandsIn input new left →
       GivesNext most input old new piece →
@@ -169,37 +170,37 @@ module _ {B : Type 0} {K : sink_trait.Ghosts B} {begin sink' : B} {left : Option
       (by_result W' result going stands next few replies.due replies.sends quits)
 
   -- the source came to its end
-  pub Going-end : (most : ℕ) {input : List ℕ} {old new : Reading} {old_left : Option (List ℕ)} {W : Workspace} → IsGoing most input old old_left K begin sink' W → StandsIn input new left → new.taken ≤ most + 1 → Answers most input old new next.End → Runs most input left K begin sink' status.Done (Some W)
+  pub Going-end : (most : ℕ) {input : List ℕ} {old new : Reading} {old_left : Option (List ℕ)} {W : SpaceView} → IsGoing most input old old_left K begin sink' W → StandsIn input new left → new.taken ≤ most + 1 → Answers most input old new next.End → Runs most input left K begin sink' status.Done (Some W)
   Going-end most {input} {old} {new} {W = W} going stands few all =
       let these : pieces_within most input ≡ pieces_given input old
       = pieces_within-all most input all.1.2 ∙ sym all.1.0 ∙ given_same input old new all.0 in
       ends_there most input new going.replies status.Done W stands few going.writes (λ e. cc) (record {
         read = inl (ap (λ (n : ℕ). take n input) all.1.1 ∙ take_all (length input) input (omega arith), all.1.2);
         executes = record {
-          steps = subst (λ (w : List (List ℕ)). Steps start w going.replies W)
+          steps = subst (λ (w : List (List ℕ)). Steps (start_view CODE_BITS) w going.replies W)
               (sym (ap until_quit these ∙ up_to-none is_quit (pieces_given input old) going.goes_on)) going.steps;
           written = refl;
         };
       })
 
   -- one byte more than the most was taken
-  pub Going-budget : (most : ℕ) {input : List ℕ} {old new : Reading} {old_left : Option (List ℕ)} {W : Workspace} → IsGoing most input old old_left K begin sink' W → StandsIn input new left → new.taken ≤ most + 1 → Answers most input old new next.Budget → Runs most input left K begin sink' status.TooLong (Some W)
+  pub Going-budget : (most : ℕ) {input : List ℕ} {old new : Reading} {old_left : Option (List ℕ)} {W : SpaceView} → IsGoing most input old old_left K begin sink' W → StandsIn input new left → new.taken ≤ most + 1 → Answers most input old new next.Budget → Runs most input left K begin sink' status.TooLong (Some W)
   Going-budget most {input} {old} {new} {W = W} going stands few all =
       let these : pieces_given input old ≡ pieces_within most input = sym (given_same input old new all.0) ∙ all.1.0 in
       ends_there most input new going.replies status.TooLong W stands few going.writes (λ e. cc) (record {
         one_more = length-take-le new.taken input stands.within ∙ all.1.1;
         goes_on = subst (λ (w : List (List ℕ)). HasQuit w → ⊥) these going.goes_on;
-        executes = record { steps = subst (λ (w : List (List ℕ)). Steps start w going.replies W) these going.steps; written = refl };
+        executes = record { steps = subst (λ (w : List (List ℕ)). Steps (start_view CODE_BITS) w going.replies W) these going.steps; written = refl };
       })
 
   -- the source failed
-  pub Going-failed : (most : ℕ) {input : List ℕ} {old new : Reading} {old_left : Option (List ℕ)} {W : Workspace} → IsGoing most input old old_left K begin sink' W → StandsIn input new left → new.taken ≤ most → Answers most input old new next.Failed → Runs most input left K begin sink' status.ReadFault (Some W)
+  pub Going-failed : (most : ℕ) {input : List ℕ} {old new : Reading} {old_left : Option (List ℕ)} {W : SpaceView} → IsGoing most input old old_left K begin sink' W → StandsIn input new left → new.taken ≤ most → Answers most input old new next.Failed → Runs most input left K begin sink' status.ReadFault (Some W)
   Going-failed most {input} {old} {new} {W = W} going stands few all =
       let these : pieces_given input old ≡ ended (take new.taken input) = sym (given_same input old new all.0) ∙ all.1 in
       ends_there most input new going.replies status.ReadFault W stands (omega (arith, few)) going.writes (λ e. cc) (record {
         few = omega (arith, length-take-le new.taken input stands.within, few);
         goes_on = subst (λ (w : List (List ℕ)). HasQuit w → ⊥) these going.goes_on;
-        executes = record { steps = subst (λ (w : List (List ℕ)). Steps start w going.replies W) these going.steps; written = refl };
+        executes = record { steps = subst (λ (w : List (List ℕ)). Steps (start_view CODE_BITS) w going.replies W) these going.steps; written = refl };
       })
 
 -- no pieces of no bytes
@@ -212,13 +213,13 @@ no_quit : HasQuit [] → ⊥
 no_quit e = absurd (let never = e in cc)
 
 -- a run that has given nothing goes on
-pub Going-start : {B : Type 0} {K : sink_trait.Ghosts B} {sink : B} (most : ℕ) {input : List ℕ} {reader : Reading} {left : Option (List ℕ)} {W : Workspace} → left ≡ Some input → ((all : List ℕ) → StandsIn all reader (Some all)) → reader.given ≡ 0 → W ≡ start → IsGoing most input reader left K sink sink W
+pub Going-start : {B : Type 0} {K : sink_trait.Ghosts B} {sink : B} (most : ℕ) {input : List ℕ} {reader : Reading} {left : Option (List ℕ)} {W : SpaceView} → left ≡ Some input → ((all : List ℕ) → StandsIn all reader (Some all)) → reader.given ≡ 0 → W ≡ start_view CODE_BITS → IsGoing most input reader left K sink sink W
 Going-start most {input} {reader} {W = W} told stands none empty = record {
   stands = subst (λ (o : Option (List ℕ)). StandsIn input reader o) (sym told) (stands input);
   later = pieces_within most input;
   in_time = sym (ap (λ (w : List (List ℕ)). w ++ pieces_within most input) (nothing_given input reader none));
   goes_on = subst (λ (w : List (List ℕ)). HasQuit w → ⊥) (sym (nothing_given input reader none)) no_quit;
   replies = [];
-  steps = subst (λ (w : List (List ℕ)). Steps start w [] W) (sym (nothing_given input reader none)) (refl, empty);
+  steps = subst (λ (w : List (List ℕ)). Steps (start_view CODE_BITS) w [] W) (sym (nothing_given input reader none)) (refl, empty);
   writes = TakesReplies-none;
 }

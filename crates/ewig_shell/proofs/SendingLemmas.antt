@@ -1,6 +1,6 @@
 -- Replies sent one after another, and parts of them.
-use Rattle.std.proofs.Common.{◌≡◌, ℕ, ◌+◌, ◌-◌, ◌≤◌, List, [], ◌++◌, length, take, sym, ◌∙◌, subst, refl, arith, length-append, Ok, Err, IsErr, OnOk, OnErr}
-use Rattle.std.proofs.lemmas.List.{take-append-le}
+use Rattle.std.proofs.Common.{◌≡◌, ℕ, ◌+◌, ◌-◌, ◌≤◌, List, [], ◌++◌, length, take, sym, ap, ◌∙◌, subst, refl, arith, append_assoc, length-append, Ok, Err, IsErr, OnOk, OnErr}
+use Rattle.std.proofs.lemmas.List.{take-append-le, append-nil}
 use Rattle.std.proofs.Math.Seq.{take-append-add}
 use Rattle.std.proofs.KnownBytes.{Appends-nil, Appends-trans}
 use Rattle.std.specs.declared.option.Option.{Option}
@@ -9,7 +9,8 @@ use Rattle.std.specs.Io.KnownBytes.{Appends}
 use Rattle.shell_io.specs.Sending.{Sends, WritesPart}
 use Rattle.shell_io.specs.declared.device.Failed.{Failed}
 use Rattle.shell_io.proofs.FaultLemmas.{CountsFaults-then, CountsFaults-as}
-use Rattle.ewig_shell.specs.Sending.{sent_then}
+use Rattle.shell_io.specs.declared.device.Sink as sink_trait
+use Rattle.ewig_shell.specs.Sending.{sent_then, Puts}
 use Rattle.ewig_shell.specs.declared.execute.Went.{Went}
 
 -- a part of the second piece is a part of the two
@@ -94,3 +95,70 @@ OnOk-err (Err f) P h = tt
 pub OnErr-holds : {A : Type 0} (result : Result A Failed) (P : Type 0) → P → OnErr result P
 OnErr-holds (Ok x) P p = tt
 OnErr-holds (Err f) P p = p
+
+-- what holds is said of an Ok too
+pub OnOk-holds : {A : Type 0} (result : Result A Failed) (P : Type 0) → P → OnOk result P
+OnOk-holds (Ok x) P p = p
+OnOk-holds (Err f) P p = tt
+
+module _ {B : Type 0} {K : sink_trait.Ghosts B} where
+  -- the same bytes
+  pub Puts-as : {s s' : B} {p p' bytes bytes' : List ℕ} {r : Result (Unit {0}) Failed} → bytes ≡ bytes' → Puts K s p s' p' r bytes → Puts K s p s' p' r bytes'
+  Puts-as {s = s} {s'} {p} {p'} {r = r} e put = subst (λ (w : List ℕ). Puts K s p s' p' r w) e put
+
+  -- no bytes were put
+  pub Puts-none : {s : B} {p : List ℕ} → Puts K s p s p (Ok tt) []
+  Puts-none {p = p} = record { sent = []; kept = p; whole = sym (append-nil p); page_is = refl; sends = Sends-none }
+
+  -- the page has them all
+  pub Puts-kept : {s : B} {p p' bytes : List ℕ} {x : Unit {0}} → p' ≡ p ++ bytes → Puts K s p s p' (Ok x) bytes
+  Puts-kept {p' = p'} e = record { sent = []; kept = p'; whole = e; page_is = refl; sends = Sends-none }
+
+  -- what the page had was sent in part
+  pub Puts-fails : {s s' : B} {p p' bytes : List ℕ} {x : Failed} {r : Result (Unit {0}) Failed} → IsErr r → Sends {A = Unit {0}} K.written K.faults K.has_room s s' (Err x) p → Puts K s p s' p' r bytes
+  Puts-fails {p = p} {p'} {bytes} {r = r} h sends = record { sent = p; kept = bytes; whole = refl; page_is = OnOk-err r (p' ≡ bytes) h; sends = Sends-err r h sends }
+
+  -- what the page had was sent, and it has the bytes
+  pub Puts-turned : {s s' : B} {p none p' bytes : List ℕ} {x y : Unit {0}} → Sends {A = Unit {0}} K.written K.faults K.has_room s s' (Ok x) p → none ≡ [] → p' ≡ none ++ bytes → Puts K s p s' p' (Ok y) bytes
+  Puts-turned {p = p} {bytes = bytes} sends empty e = record { sent = p; kept = bytes; whole = refl; page_is = e ∙ ap (λ (w : List ℕ). w ++ bytes) empty; sends = record { writes = sends.writes; counts = CountsFaults-as sends.counts (λ h. h); sure = sends.sure } }
+
+  -- what the page had was sent, and then the bytes
+  pub Puts-through : {s m s' : B} {p p' bytes : List ℕ} {x : Unit {0}} (r : Result (Unit {0}) Failed) → Sends {A = Unit {0}} K.written K.faults K.has_room s m (Ok x) p → p' ≡ [] → Sends K.written K.faults K.has_room m s' r bytes → Puts K s p s' p' r bytes
+  Puts-through {p = p} {p'} {bytes} r sends empty more = record { sent = p ++ bytes; kept = []; whole = append-nil (p ++ bytes); page_is = OnOk-holds r (p' ≡ []) empty; sends = Sends-append r p bytes sends more }
+
+  -- bytes were put, and then others
+  pub Puts-then : {s m s' : B} {p q p' a b : List ℕ} {x : Unit {0}} {r : Result (Unit {0}) Failed} → Puts K s p m q (Ok x) a → Puts K m q s' p' r b → Puts K s p s' p' r (a ++ b)
+  Puts-then {p = p} {q} {a = a} {b} {r = r} first second = record {
+    sent = first.sent ++ second.sent;
+    kept = second.kept;
+    whole = append_assoc first.sent second.sent second.kept ∙ ap (λ (w : List ℕ). first.sent ++ w) second.whole ∙ sym (append_assoc first.sent q b) ∙ ap (λ (w : List ℕ). w ++ b) (ap (λ (w : List ℕ). first.sent ++ w) first.page_is ∙ first.whole) ∙ append_assoc p a b;
+    page_is = second.page_is;
+    sends = Sends-append r first.sent second.sent first.sends second.sends;
+  }
+
+  -- bytes were put in part, and no others
+  pub Puts-cut : {s s' : B} {p q p' a : List ℕ} (b : List ℕ) {x : Failed} {r : Result (Unit {0}) Failed} → IsErr r → Puts K s p s' q (Err x) a → Puts K s p s' p' r (a ++ b)
+  Puts-cut {p = p} {p' = p'} {a} b {r = r} h put = record {
+    sent = put.sent;
+    kept = put.kept ++ b;
+    whole = sym (append_assoc put.sent put.kept b) ∙ ap (λ (w : List ℕ). w ++ b) put.whole ∙ append_assoc p a b;
+    page_is = OnOk-err r (p' ≡ put.kept ++ b) h;
+    sends = Sends-err r h put.sends;
+  }
+
+  -- the same, for what comes behind those others
+  pub Puts-more : {s s' : B} {p q a : List ℕ} (b : List ℕ) {x : Failed} → Puts K s p s' q (Err x) a → Puts K s p s' q (Err x) (a ++ b)
+  Puts-more b put = Puts-cut b refl put
+
+  -- bytes were put on an empty page, and then it was sent
+  pub Puts-ends : {s m s' : B} {p q a : List ℕ} {x : Unit {0}} {r : Result (Unit {0}) Failed} → p ≡ [] → Puts K s p m q (Ok x) a → Sends K.written K.faults K.has_room m s' r q → Sends K.written K.faults K.has_room s s' r a
+  Puts-ends {s = s} {s' = s'} {p} {q} {a} {r = r} empty put sends =
+      subst (λ (w : List ℕ). Sends K.written K.faults K.has_room s s' r w)
+      (ap (λ (w : List ℕ). put.sent ++ w) put.page_is ∙ put.whole ∙ ap (λ (w : List ℕ). w ++ a) empty)
+      (Sends-append r put.sent q put.sends sends)
+
+  -- bytes were put on an empty page in part
+  pub Puts-failed : {s s' : B} {p q a : List ℕ} {x : Failed} {r : Result (Unit {0}) Failed} → IsErr r → p ≡ [] → Puts K s p s' q (Err x) a → Sends K.written K.faults K.has_room s s' r a
+  Puts-failed {s = s} {s'} {p} {a = a} {r = r} h empty put =
+      subst (λ (w : List ℕ). Sends K.written K.faults K.has_room s s' r w) (put.whole ∙ ap (λ (w : List ℕ). w ++ a) empty)
+      (Sends-cut r put.sent put.kept h put.sends)

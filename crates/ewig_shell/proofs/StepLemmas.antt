@@ -1,118 +1,225 @@
 -- What shows that a command was obeyed.
-use Rattle.std.proofs.Common.{◌≡◌, ◌≢◌, ℕ, List, [], ◌∷◌, ◌++◌, ◌==◌, length, map, sym, ap, ◌∙◌, subst, refl, codes, Bool, true, false, if◌then◌else◌, IsTrue, inl, inr, Ok, Err, None, Some, is_some, MatchBool, ◌<◌, ◌≤◌}
-use Rattle.std.proofs.lemmas.Bool.{le-ltb, lt-ltb}
-use Rattle.std.proofs.lemmas.List.{append-nil}
-use Rattle.std.proofs.lemmas.List.Concat.{flat_map-append}
+use Rattle.std.proofs.Common.{◌≡◌, ◌≢◌, ℕ, ◌&&◌, nat_le, List, [], ◌∷◌, ◌++◌, length, map, sym, ap, ◌∙◌, subst, refl, codes, Bool, true, false, inl, inr, Ok, Err, None, Some, MatchBool, ◌<◌, ◌≤◌, IsSomeAnd, IsOk, slice_get, slice_range}
+use Rattle.std.proofs.lemmas.Bool.{le-ltb, lt-ltb, le-leb, leb-true}
+use Rattle.std.proofs.lemmas.Option.{slice_get_past}
+use Rattle.std.specs.FinMap as map_of
 use Rattle.std.specs.declared.option.Option.{Option}
 use Rattle.std.specs.declared.result.Result.{Result}
+use Rattle.elem_core.specs.declared.TheConstants.{MAX_LINE}
+use Rattle.shell_terms.specs.Edit.{Bytes}
+use Rattle.shell_terms.specs.Command.{PlainCommand, get, len, show, list, stars, marks, quit}
 use Rattle.shell_words.specs.Grammar.{meaning}
 use Rattle.shell_words.specs.declared.BadLine.{BadLine}
-use Rattle.elem_core.specs.declared.TheConstants.{NEWLINE, MAX_LINE}
-use Rattle.shell_terms.specs.Command.{PlainCommand, list, quit}
-use Rattle.elem_core.specs.Shown.{name_bytes, line_bytes}
-use Rattle.space_state.specs.Workspace.{Workspace, lines_of, with_lines, most_lines, sizes}
-use Rattle.space_state.specs.Answer.{Answer, told, refused, answer, ok_answer, on_lines, ok_line, size_line}
-use Rattle.space_state.specs.Change.{edit_command}
-use Rattle.space_state.specs.Ends.{Ends}
-use Rattle.space_state.specs.View.{SpaceView}
-use Rattle.space_state.specs.declared.edit.Edit.{Edit}
-use Rattle.space_state.specs.declared.edit.Edit.TheVariants as edits
-use Rattle.space_state.specs.declared.refusal.Refusal.{Refusal}
-use Rattle.space_state.specs.declared.refusal.Refusal.TheVariants as why
-use Rattle.ewig_shell.specs.Step.{Step, Means, Gives, Refuses, Obeys, IsGranted, wants_memory, reply_of, refusal_of, reason_of}
+use Rattle.plain_space.specs.declared.refusal.Refusal.{Refusal}
+use Rattle.plain_space.specs.declared.refusal.Refusal.TheVariants as why
+use Rattle.plain_space.specs.Workspace.{Workspace, lines_of, sizes}
+use Rattle.plain_space.specs.Answer.{Answer, tells, answer, ok_line, text_line, number_line, size_line}
+use Rattle.plain_space.specs.Memory.{MayLackMemory, wants_memory}
+use Rattle.plain_space.specs.Session.{reason_of}
+use Rattle.state_rows.specs.Standing.{StandsFor}
+use Rattle.space_state.specs.Asked.{OnLines}
+use Rattle.space_state.specs.View.{SpaceView, CarriesOut, Ends}
+use Rattle.space_state.specs.Turns.{IsDue}
+use Rattle.shell_words.specs.Shown.{plain_command}
+use Rattle.shell_words.specs.declared.Command.{Command}
+use Rattle.shell_io.specs.Sending.{Sends}
+use Rattle.shell_io.specs.declared.device.Failed.{Failed}
+use Rattle.shell_io.specs.declared.device.Sink as sink_trait
+use Rattle.ewig_shell.specs.Sending.{Replies}
+use Rattle.ewig_shell.specs.Step.{Step, Means, Gives, Refuses, LacksMemory, Obeys, only_asks, reply_of, refusal_of, done_reply}
 
--- an answer with these reply lines is given by the reply that they make
-pub Gives-told : (W next : Workspace) (a : Answer) (lines : List (List ℕ)) (reply : List ℕ) → a ≡ told lines next → reply ≡ reply_of lines → Gives W a reply next
-Gives-told W next a lines reply e r = subst (λ (b : Answer). Gives W b reply next) (sym e) (r, refl)
+module _ {command : PlainCommand} {old : SpaceView} (W : Workspace) where
+  -- a command that only asks was answered
+  pub Obeys-asked : (lines : List Bytes) → only_asks command ≡ true → StandsFor old.pool W → answer W command ≡ Ok (tells lines W) → Obeys command old (reply_of lines) old
+  Obeys-asked lines asks stands e = record {
+    work = W;
+    stands = stands;
+    gives = inl (subst (λ (a : Answer). Gives command old W a (reply_of lines) old) (sym e)
+        (refl, subst (λ (b : Bool). MatchBool b (old ≡ old) (CarriesOut command old old W)) (sym asks) refl));
+  }
 
--- a refusal is given by its reply, and leaves the workspace
-pub Gives-refused : (W after : Workspace) (a : Answer) (w : Refusal) (reply : List ℕ) → a ≡ refused w → reply ≡ refusal_of (reason_of w) → after ≡ W → Gives W a reply after
-Gives-refused W after a w reply e r same = subst (λ (b : Answer). Gives W b reply after) (sym e) (record { reply_is = r; same = same })
+  -- a command was refused
+  pub Obeys-refused : (reason : Refusal) {new : SpaceView} {reply : List ℕ} → StandsFor old.pool W → answer W command ≡ Err reason → reply ≡ refusal_of (reason_of reason) → new ≡ old → Obeys command old reply new
+  Obeys-refused reason {new} {reply} stands e is same = record {
+    work = W;
+    stands = stands;
+    gives = inl (subst (λ (a : Answer). Gives command old W a reply new) (sym e) (record { reply_is = is; same = same }));
+  }
 
--- each edit may want memory
-wants_memory-edit : (e : Edit) → IsTrue (wants_memory (edit_command e))
-wants_memory-edit (edits.New b) = refl
-wants_memory-edit (edits.Add b t) = refl
+  -- memory was refused to it
+  pub Obeys-lacks : {new : SpaceView} {reply : List ℕ} → StandsFor old.pool W → MayLackMemory W command → reply ≡ refusal_of (codes "memory") → new ≡ old → Obeys command old reply new
+  Obeys-lacks stands may is same = record { work = W; stands = stands; gives = inr (record { may = may; refuses = record { reply_is = is; same = same } }) }
 
--- what no other refusal stands against is granted
-granted : (a : Answer) → ((w : Refusal) → a ≡ refused w → w ≡ why.Memory) → a ≢ refused why.Memory → IsGranted a
-granted (told lines next) only never = tt
-granted (refused w) only never = never (ap refused (only w refl))
+  -- a refusal that is due
+  due : (reason : Refusal) {new : SpaceView} → StandsFor old.pool W → IsDue W command reason → new ≡ old → Obeys command old (refusal_of (reason_of reason)) new
+  due why.Memory stands is same = Obeys-lacks stands is refl same
+  due why.Absent stands is same = Obeys-refused why.Absent stands is refl same
+  due why.Exists stands is same = Obeys-refused why.Exists stands is refl same
+  due why.Range stands is same = Obeys-refused why.Range stands is refl same
+  due why.Limit stands is same = Obeys-refused why.Limit stands is refl same
+  due why.Batch stands is same = Obeys-refused why.Batch stands is refl same
+  due why.Empty stands is same = Obeys-refused why.Empty stands is refl same
 
--- an edit that was carried out
-pub Obeys-done : (e : Edit) (old new : SpaceView) (reply : List ℕ) → Ends {T = Unit {0}} (answer old.work (edit_command e)) old (Ok tt) new → reply ≡ reply_of (ok_line ∷ []) → Obeys old.work (edit_command e) reply new.work
-Obeys-done e old new reply h r = inl (Gives-told old.work new.work _ (ok_line ∷ []) reply h.carried_out r)
+-- a command that changes the space ended so
+pub Obeys-ends : (command : PlainCommand) {old new : SpaceView} (done : Result (Unit {0}) Refusal) → only_asks command ≡ false → Ends command old done new → Obeys command old (done_reply done) new
+Obeys-ends command {old} {new} (Ok x) asks ends = record {
+  work = ends.work;
+  stands = ends.stands;
+  gives = inl (subst (λ (a : Answer). Gives command old ends.work a (reply_of (ok_line ∷ [])) new) (sym ends.ends.told)
+      (refl, subst (λ (b : Bool). MatchBool b (new ≡ old) (CarriesOut command old new ends.work)) (sym asks) ends.ends));
+}
+Obeys-ends command (Err reason) asks ends = due ends.work reason ends.stands ends.ends.due ends.ends.same
 
--- a name that is taken, or not
-new-never_memory : (W : Workspace) (name : List ℕ) (taken : Bool) → (if taken then refused why.Exists else ok_answer (with_lines W name [])) ≢ refused why.Memory
-new-never_memory W name true e = cc
-new-never_memory W name false e = cc
+-- what holds of the lines that are there
+some_lines : (found : Option (List Bytes)) (P : List Bytes → Type 0) → IsSomeAnd found P → (lines : List Bytes) × (found ≡ Some lines) × P lines
+some_lines None P h = absurd h
+some_lines (Some lines) P h = (lines, refl, h)
 
--- a buffer that is full, or not
-full-never_memory : (W : Workspace) (name text : List ℕ) (lines : List (List ℕ)) (full : Bool) → (if full then refused why.Limit else ok_answer (with_lines W name (lines ++ text ∷ []))) ≢ refused why.Memory
-full-never_memory W name text lines true e = cc
-full-never_memory W name text lines false e = cc
+-- what is answered of lines is the plain answer, where it is so for lines that have no such part, and where there are none
+on_refused : {X : Type 0} (W : Workspace) (name : Bytes) (command : PlainCommand) (reason : Refusal) (IsAnswer : List Bytes → X → Type 0) (IsPast : List Bytes → Type 0) →
+    (lines_of W.current name ≡ None → answer W command ≡ Err why.Absent) →
+    ((lines : List Bytes) → lines_of W.current name ≡ Some lines → IsPast lines → answer W command ≡ Err why.Range) →
+    OnLines {X = X} W name (Err reason) IsAnswer IsPast → answer W command ≡ Err reason
+on_refused W name command why.Absent IsAnswer IsPast none past h = none h
+on_refused W name command why.Range IsAnswer IsPast none past h = let there = some_lines (lines_of W.current name) IsPast h in past there.0 there.1 there.2
+on_refused W name command why.Exists IsAnswer IsPast none past h = absurd h
+on_refused W name command why.Limit IsAnswer IsPast none past h = absurd h
+on_refused W name command why.Batch IsAnswer IsPast none past h = absurd h
+on_refused W name command why.Empty IsAnswer IsPast none past h = absurd h
+on_refused W name command why.Memory IsAnswer IsPast none past h = absurd h
 
--- a buffer that is there, or not
-add-never_memory : (W : Workspace) (name text : List ℕ) (found : Option (List (List ℕ))) → on_lines found (λ (lines : List (List ℕ)). if length lines == most_lines then refused why.Limit else ok_answer (with_lines W name (lines ++ text ∷ []))) ≢ refused why.Memory
-add-never_memory W name text None e = cc
-add-never_memory W name text (Some lines) e = full-never_memory W name text lines (length lines == most_lines) e
+both : (a b : Bool) → (a ≡ true → b ≡ true → ⊥) → (a && b) ≡ false
+both true true h = absurd (h refl refl)
+both true false h = refl
+both false b h = refl
 
--- the plain answer to an edit is never want of memory
-answer-never_memory : (W : Workspace) (e : Edit) → answer W (edit_command e) ≢ refused why.Memory
-unfolding answer
-answer-never_memory W (edits.New b) = new-never_memory W (name_bytes b) (is_some (lines_of W (name_bytes b)))
-answer-never_memory W (edits.Add b t) = add-never_memory W (name_bytes b) (line_bytes t) (lines_of W (name_bytes b))
+-- the test of a range that is none
+no_range : (from to n : ℕ) → ((from ≤ to) × (to ≤ n) → ⊥) → (nat_le from to && nat_le to n) ≡ false
+no_range from to n past = both (nat_le from to) (nat_le to n) (λ a b. past (leb-true from to a, leb-true to n b))
 
--- an edit that was refused: for want of memory, or as the plain answer says
-pub Obeys-refused : (e : Edit) (old new : SpaceView) (w : Refusal) (reply : List ℕ) → Ends {T = Unit {0}} (answer old.work (edit_command e)) old (Err w) new → reply ≡ refusal_of (reason_of w) → Obeys old.work (edit_command e) reply new.work
-Obeys-refused e old new why.Memory reply h r = inr (record {
-  wants = wants_memory-edit e;
-  granted = granted _ (λ w d. let same = h.due w d in cc) (answer-never_memory old.work e);
-  refuses = record { reply_is = r; same = ap (λ (s : SpaceView). s.work) h.unchanged };
-})
-Obeys-refused e old new why.Absent reply h r = inl (Gives-refused old.work new.work _ why.Absent reply (h.only_due (λ d. cc)) r (ap (λ (s : SpaceView). s.work) h.unchanged))
-Obeys-refused e old new why.Exists reply h r = inl (Gives-refused old.work new.work _ why.Exists reply (h.only_due (λ d. cc)) r (ap (λ (s : SpaceView). s.work) h.unchanged))
-Obeys-refused e old new why.Range reply h r = inl (Gives-refused old.work new.work _ why.Range reply (h.only_due (λ d. cc)) r (ap (λ (s : SpaceView). s.work) h.unchanged))
-Obeys-refused e old new why.Limit reply h r = inl (Gives-refused old.work new.work _ why.Limit reply (h.only_due (λ d. cc)) r (ap (λ (s : SpaceView). s.work) h.unchanged))
+module _ (W : Workspace) (name : Bytes) where
+  get-none : (index : ℕ) → lines_of W.current name ≡ None → answer W (get name index) ≡ Err why.Absent
+  unfolding answer
+  get-none index e = rw e refl
 
--- one map after another is one map
-map-map : {X Y Z : Type 0} (f : Y → Z) (g : X → Y) (xs : List X) → map f (map g xs) ≡ map (λ (x : X). f (g x)) xs
-map-map f g [] = refl
-map-map {Z = Z} f g (x ∷ xs) = ap (λ (w : List Z). f (g x) ∷ w) (map-map f g xs)
+  get-past : (index : ℕ) (lines : List Bytes) → lines_of W.current name ≡ Some lines → length lines ≤ index → answer W (get name index) ≡ Err why.Range
+  unfolding answer
+  get-past index lines e past = rw e (rw (slice_get_past lines index past) refl)
 
--- the plain answer to `list`, by the sizes as they were listed
-pub answer-list : {X : Type 0} (W : Workspace) (shown : X → List ℕ × ℕ) (listed : List X) → map shown listed ≡ sizes W → answer W list ≡ told (map (λ (x : X). size_line (shown x)) listed ++ ok_line ∷ []) W
-unfolding answer
-answer-list W shown listed e = ap (λ (w : List (List ℕ)). told (w ++ ok_line ∷ []) W) (ap (map size_line) (sym e) ∙ map-map size_line shown listed)
+  get-told : (index : ℕ) (text : Bytes) (lines : List Bytes) → lines_of W.current name ≡ Some lines → slice_get lines index ≡ Some text → answer W (get name index) ≡ Ok (tells (text_line text ∷ []) W)
+  unfolding answer
+  get-told index text lines e is = rw e (rw is refl)
 
--- want of memory at `list`
-pub Obeys-list_lacks : (W : Workspace) (reply : List ℕ) → reply ≡ refusal_of (codes "memory") → Obeys W list reply W
-unfolding answer
-Obeys-list_lacks W reply r = inr (record { wants = refl; granted = tt; refuses = record { reply_is = r; same = refl } })
+  len-none : lines_of W.current name ≡ None → answer W (len name) ≡ Err why.Absent
+  unfolding answer
+  len-none e = rw e refl
 
--- the reply to `quit`
-pub Obeys-quit : (W : Workspace) → Obeys W quit (codes "ok\n") W
-unfolding answer
-Obeys-quit W = inl (refl, refl)
+  len-told : (lines : List Bytes) → lines_of W.current name ≡ Some lines → answer W (len name) ≡ Ok (tells (number_line (length lines) ∷ []) W)
+  unfolding answer
+  len-told lines e = rw e refl
 
--- a page that was emptied and then holds one line of a reply
-pub page_line : (p0 p1 p2 p3 text : List ℕ) → p0 ≡ [] → p1 ≡ p0 ++ codes "= " → p2 ≡ p1 ++ text → p3 ≡ p2 ++ codes "\n" → p3 ≡ reply_of ((codes "= " ++ text) ∷ [])
-page_line p0 p1 p2 p3 text e0 e1 e2 e3 =
-    e3 ∙ ap (λ (w : List ℕ). w ++ codes "\n") (e2 ∙ ap (λ (w : List ℕ). w ++ text) (e1 ∙ ap (λ (w : List ℕ). w ++ codes "= ") e0)) ∙ sym (append-nil ((codes "= " ++ text) ++ codes "\n"))
+  show-none : (from to : ℕ) → lines_of W.current name ≡ None → answer W (show name from to) ≡ Err why.Absent
+  unfolding answer
+  show-none from to e = rw e refl
 
--- the lines of two lists are those of the first, then those of the second
-pub reply_of-append : (xs ys : List (List ℕ)) → reply_of (xs ++ ys) ≡ reply_of xs ++ reply_of ys
-reply_of-append xs ys = flat_map-append (λ (line : List ℕ). line ++ NEWLINE ∷ []) xs ys
+  show-past : (from to : ℕ) (lines : List Bytes) → lines_of W.current name ≡ Some lines → ((from ≤ to) × (to ≤ length lines) → ⊥) → answer W (show name from to) ≡ Err why.Range
+  unfolding answer
+  show-past from to lines e past = rw e (rw (no_range from to (length lines) past) refl)
+
+  show-told : (from to : ℕ) (lines : List Bytes) → lines_of W.current name ≡ Some lines → from ≤ to → to ≤ length lines → answer W (show name from to) ≡ Ok (tells (map text_line (slice_range lines from to) ++ ok_line ∷ []) W)
+  unfolding answer
+  show-told from to lines e low high = rw e (rw (le-leb from to low) (rw (le-leb to (length lines) high) refl))
+
+module _ {old : SpaceView} where
+  -- the reply to `get`
+  pub Obeys-get : (W : Workspace) (name : Bytes) (index : ℕ) (text : Bytes) → StandsFor old.pool W → IsSomeAnd (lines_of W.current name) (λ (lines : List Bytes). slice_get lines index ≡ Some text) → Obeys (get name index) old (reply_of (text_line text ∷ [])) old
+  Obeys-get W name index text stands h =
+      let there = some_lines (lines_of W.current name) (λ (lines : List Bytes). slice_get lines index ≡ Some text) h in
+      Obeys-asked W (text_line text ∷ []) refl stands (get-told W name index text there.0 there.1 there.2)
+
+  pub Obeys-get_refused : {X : Type 0} (W : Workspace) (name : Bytes) (index : ℕ) (reason : Refusal) {reply : List ℕ} (IsAnswer : List Bytes → X → Type 0) → StandsFor old.pool W → OnLines {X = X} W name (Err reason) IsAnswer (λ (lines : List Bytes). length lines ≤ index) → reply ≡ refusal_of (reason_of reason) → Obeys (get name index) old reply old
+  Obeys-get_refused W name index reason IsAnswer stands h is = Obeys-refused W reason stands (on_refused W name (get name index) reason IsAnswer (λ (lines : List Bytes). length lines ≤ index) (get-none W name index) (get-past W name index) h) is refl
+
+  -- the reply to `len`
+  pub Obeys-len : (W : Workspace) (name : Bytes) (count : ℕ) → StandsFor old.pool W → IsSomeAnd (lines_of W.current name) (λ (lines : List Bytes). count ≡ length lines) → Obeys (len name) old (reply_of (number_line count ∷ [])) old
+  Obeys-len W name count stands h =
+      let there = some_lines (lines_of W.current name) (λ (lines : List Bytes). count ≡ length lines) h in
+      subst (λ (n : ℕ). Obeys (len name) old (reply_of (number_line n ∷ [])) old) (sym there.2) (Obeys-asked W (number_line (length there.0) ∷ []) refl stands (len-told W name there.0 there.1))
+
+  pub Obeys-len_refused : {X : Type 0} (W : Workspace) (name : Bytes) (reason : Refusal) {reply : List ℕ} (IsAnswer : List Bytes → X → Type 0) → StandsFor old.pool W → OnLines {X = X} W name (Err reason) IsAnswer (λ (lines : List Bytes). ⊥) → reply ≡ refusal_of (reason_of reason) → Obeys (len name) old reply old
+  Obeys-len_refused W name reason IsAnswer stands h is = Obeys-refused W reason stands (on_refused W name (len name) reason IsAnswer (λ (lines : List Bytes). ⊥) (len-none W name) (λ lines e never. absurd never) h) is refl
+
+  -- the reply to `show`
+  pub Obeys-show : (W : Workspace) (name : Bytes) (from to : ℕ) (shown : List Bytes) → StandsFor old.pool W → IsSomeAnd (lines_of W.current name) (λ (lines : List Bytes). (from ≤ to) × (to ≤ length lines) × (shown ≡ slice_range lines from to)) → Obeys (show name from to) old (reply_of (map text_line shown ++ ok_line ∷ [])) old
+  Obeys-show W name from to shown stands h =
+      let there = some_lines (lines_of W.current name) (λ (lines : List Bytes). (from ≤ to) × (to ≤ length lines) × (shown ≡ slice_range lines from to)) h in
+      subst (λ (w : List Bytes). Obeys (show name from to) old (reply_of (map text_line w ++ ok_line ∷ [])) old) (sym there.2.2)
+      (Obeys-asked W (map text_line (slice_range there.0 from to) ++ ok_line ∷ []) refl stands (show-told W name from to there.0 there.1 there.2.0 there.2.1))
+
+  pub Obeys-show_refused : {X : Type 0} (W : Workspace) (name : Bytes) (from to : ℕ) (reason : Refusal) {reply : List ℕ} (IsAnswer : List Bytes → X → Type 0) → StandsFor old.pool W → OnLines {X = X} W name (Err reason) IsAnswer (λ (lines : List Bytes). (from ≤ to) × (to ≤ length lines) → ⊥) → reply ≡ refusal_of (reason_of reason) → Obeys (show name from to) old reply old
+  Obeys-show_refused W name from to reason IsAnswer stands h is = Obeys-refused W reason stands (on_refused W name (show name from to) reason IsAnswer (λ (lines : List Bytes). (from ≤ to) × (to ≤ length lines) → ⊥) (show-none W name from to) (show-past W name from to) h) is refl
+
+  -- the replies to `list`, `stars` and `marks`
+  pub Obeys-list : (W : Workspace) (shown : List (Bytes × ℕ)) → StandsFor old.pool W → shown ≡ sizes W.current → Obeys list old (reply_of (map size_line shown ++ ok_line ∷ [])) old
+  unfolding answer
+  Obeys-list W shown stands e = Obeys-asked W (map size_line shown ++ ok_line ∷ []) refl stands (rw e refl)
+
+  pub Obeys-stars : (W : Workspace) (shown : List Bytes) → StandsFor old.pool W → shown ≡ map_of.keys W.current.stars → Obeys stars old (reply_of (map text_line shown ++ ok_line ∷ [])) old
+  unfolding answer
+  Obeys-stars W shown stands e = Obeys-asked W (map text_line shown ++ ok_line ∷ []) refl stands (rw e refl)
+
+  pub Obeys-marks : (W : Workspace) (shown : List Bytes) → StandsFor old.pool W → shown ≡ map_of.keys W.versions → Obeys marks old (reply_of (map text_line shown ++ ok_line ∷ [])) old
+  unfolding answer
+  Obeys-marks W shown stands e = Obeys-asked W (map text_line shown ++ ok_line ∷ []) refl stands (rw e refl)
+
+  pub Obeys-list_lacks : (W : Workspace) {reply : List ℕ} → StandsFor old.pool W → reply ≡ refusal_of (codes "memory") → Obeys list old reply old
+  unfolding answer
+  Obeys-list_lacks W stands is = Obeys-lacks W stands (record { wants = refl; granted = refl }) is refl
+
+  pub Obeys-stars_lacks : (W : Workspace) {reply : List ℕ} → StandsFor old.pool W → reply ≡ refusal_of (codes "memory") → Obeys stars old reply old
+  unfolding answer
+  Obeys-stars_lacks W stands is = Obeys-lacks W stands (record { wants = refl; granted = refl }) is refl
+
+  pub Obeys-marks_lacks : (W : Workspace) {reply : List ℕ} → StandsFor old.pool W → reply ≡ refusal_of (codes "memory") → Obeys marks old reply old
+  unfolding answer
+  Obeys-marks_lacks W stands is = Obeys-lacks W stands (record { wants = refl; granted = refl }) is refl
+
+  -- the reply to `quit`
+  pub Obeys-quit : (W : Workspace) → StandsFor old.pool W → Obeys quit old (codes "ok\n") old
+  unfolding answer
+  Obeys-quit W stands = Obeys-asked W (ok_line ∷ []) refl stands refl
+
+bits_by : (asks : Bool) (command : PlainCommand) (old new : SpaceView) (W : Workspace) → MatchBool asks (new ≡ old) (CarriesOut command old new W) → new.pool.bits ≡ old.pool.bits
+bits_by true command old new W same = ap (λ (s : SpaceView). s.pool.bits) same
+bits_by false command old new W carries = carries.bits
+
+bits_given : (a : Answer) (command : PlainCommand) (old new : SpaceView) (W : Workspace) (reply : List ℕ) → Gives command old W a reply new → new.pool.bits ≡ old.pool.bits
+bits_given (Ok (tells lines after)) command old new W reply gives = bits_by (only_asks command) command old new W gives.1
+bits_given (Err reason) command old new W reply refuses = ap (λ (s : SpaceView). s.pool.bits) refuses.same
+
+-- each command keeps the bits
+pub bits-kept : (command : PlainCommand) (old new : SpaceView) (reply : List ℕ) → Obeys command old reply new → new.pool.bits ≡ old.pool.bits
+bits-kept command old new reply obeys = elim obeys.gives [
+  | inl gives ↦ bits_given (answer obeys.work command) command old new obeys.work reply gives
+  | inr lacks ↦ ap (λ (s : SpaceView). s.pool.bits) lacks.refuses.same
+]
 
 -- a piece that may be a line is obeyed by its meaning
-pub Step-line : (W after : Workspace) (piece reply : List ℕ) (read : Result PlainCommand BadLine) → length piece ≤ MAX_LINE → read ≡ meaning piece → Means W read reply after → Step W piece reply after
-Step-line W after piece reply read short e m =
-    subst (λ (b : Bool). MatchBool b (Refuses W (codes "long") reply after) (Means W (meaning piece) reply after)) (sym (le-ltb MAX_LINE (length piece) short))
-    (subst (λ (r : Result PlainCommand BadLine). Means W r reply after) e m)
+pub Step-line : (old new : SpaceView) (piece reply : List ℕ) (read : Result PlainCommand BadLine) → length piece ≤ MAX_LINE → read ≡ meaning piece → Means old read reply new → Step old piece reply new
+Step-line old new piece reply read short e m =
+    subst (λ (b : Bool). MatchBool b (Refuses old (codes "long") reply new) (Means old (meaning piece) reply new)) (sym (le-ltb MAX_LINE (length piece) short))
+    (subst (λ (r : Result PlainCommand BadLine). Means old r reply new) e m)
 
 -- a piece that is too long is refused
-pub Step-long : (W : Workspace) (piece : List ℕ) → MAX_LINE < length piece → Step W piece (refusal_of (codes "long")) W
-Step-long W piece long =
-    subst (λ (b : Bool). MatchBool b (Refuses W (codes "long") (refusal_of (codes "long")) W) (Means W (meaning piece) (refusal_of (codes "long")) W)) (sym (lt-ltb MAX_LINE (length piece) long))
+pub Step-long : (old : SpaceView) (piece : List ℕ) → MAX_LINE < length piece → Step old piece (refusal_of (codes "long")) old
+Step-long old piece long =
+    subst (λ (b : Bool). MatchBool b (Refuses old (codes "long") (refusal_of (codes "long")) old) (Means old (meaning piece) (refusal_of (codes "long")) old)) (sym (lt-ltb MAX_LINE (length piece) long))
     (record { reply_is = refl; same = refl })
+
+-- the same of the command as it was read
+pub Replies-ends : {B : Type 0} {K : sink_trait.Ghosts B} {sink sink' : B} {result : Result (Unit {0}) Failed} (command it : Command) {old new : SpaceView} (done : Result (Unit {0}) Refusal) → command ≡ it → only_asks (plain_command it) ≡ false → Ends (plain_command it) old done new → Sends K.written K.faults K.has_room sink sink' result (done_reply done) → Replies K sink sink' result (λ (reply : List ℕ). Obeys (plain_command command) old reply new)
+Replies-ends command it {old} {new} done is asks ends sends = record {
+  reply = done_reply done;
+  due = subst (λ (k : Command). Obeys (plain_command k) old (done_reply done) new) (sym is) (Obeys-ends (plain_command it) done asks ends);
+  sends = sends;
+}

@@ -7,8 +7,9 @@ use Rattle.shell_io.specs.Reader.{Reading, StandsIn, pieces_given}
 use Rattle.shell_io.specs.declared.device.Failed.{Failed}
 use Rattle.shell_io.specs.declared.device.Sink as sink_trait
 use Rattle.shell_io.specs.declared.device.Source as source_trait
-use Rattle.shell_io.specs.Fault.{CountsFaults, Pulls}
-use Rattle.space_state.specs.Workspace.{Workspace, start}
+use Rattle.shell_io.specs.Fault.{CountsFaults, Calls}
+use Rattle.elem_core.specs.declared.codes.TheConstants.{CODE_BITS}
+use Rattle.space_state.specs.View.{SpaceView, start_view}
 use Rattle.ewig_shell.specs.declared.execute.Went.{Went}
 use Rattle.ewig_shell.specs.declared.execute.Went.TheVariants.{On, Quit}
 use Rattle.ewig_shell.specs.declared.run.Status.{Status}
@@ -24,19 +25,19 @@ pub record TakesReplies {B : Type 0} (K : sink_trait.Ghosts B) (sink sink' : B) 
 
 -- Where a run over this input stands between two pieces: its sink was the first at its begin, and is the second.
 pub record IsGoing {B : Type 0} (most : ℕ) (input : List ℕ) (reader : Reading) (left : Option (List ℕ))
-    (K : sink_trait.Ghosts B) (sink sink' : B) (space : Workspace) : Type 0 where
+    (K : sink_trait.Ghosts B) (sink sink' : B) (space : SpaceView) : Type 0 where
   pub stands : StandsIn input reader left
   pub later : List (List ℕ)
   pub in_time : pieces_within most input ≡ pieces_given input reader ++ later
   pub goes_on : ¬ HasQuit (pieces_given input reader)
   pub replies : List ℕ
-  pub steps : Steps start (pieces_given input reader) replies space
+  pub steps : Steps (start_view CODE_BITS) (pieces_given input reader) replies space
   pub writes : TakesReplies K sink sink' replies
 
 -- What the counts of faults say of a run that ended so, or that goes on.
 pub record HasCauses {A B : Type 0} (S : source_trait.Ghosts A) (source source' : A)
     (K : sink_trait.Ghosts B) (sink sink' : B) (ends : Option Status) : Type 0 where
-  pub reads : Pulls S.faults S.steady S.faultless source source' (ends ≡ Some ReadFault)
+  pub reads : Calls S.faults S.steady S.faultless source source' (ends ≡ Some ReadFault)
   pub writes : CountsFaults (ends ≡ Some WriteFault) (K.faults sink) (K.faults sink')
 
 -- The status of a run that ends with a piece that was executed so, or none.

@@ -1,15 +1,13 @@
--- What a run does: from its input and what it may take of it to its output, its status and the workspace that it leaves.
+-- What a run does: from its input and what it may take of it to its output, its status and the space that it leaves.
 use Rattle.std.specs.Prelude.{◌≡◌, ◌≢◌, ℕ, ◌+◌, ◌-◌, ◌<◌, ◌≤◌, ◌↔◌, ◌⊎◌, List, [], ◌∷◌, ◌++◌, length, take, None, Some, IsNone, IfSome, IsSomeAnd}
 use Rattle.std.specs.declared.option.Option.{Option}
-use Rattle.std.specs.Option.{option_map}
 use Rattle.std.specs.Io.KnownBytes.{Appends, Consumes}
 use Rattle.elem_core.specs.declared.codes.TheConstants.{CODE_BITS}
-use Rattle.shell_io.specs.Fault.{CountsFaults, Pulls}
+use Rattle.shell_io.specs.Fault.{CountsFaults, Calls}
 use Rattle.shell_io.specs.Pieces.{pieces_within, ended}
 use Rattle.shell_io.specs.declared.device.Source as source_trait
 use Rattle.shell_io.specs.declared.device.Sink as sink_trait
-use Rattle.space_state.specs.View.{SpaceView}
-use Rattle.space_state.specs.Workspace.{Workspace, start}
+use Rattle.space_state.specs.View.{SpaceView, start_view}
 use Rattle.ewig_shell.specs.declared.run.Ended.{Ended}
 use Rattle.ewig_shell.specs.declared.run.Status.{Status}
 use Rattle.ewig_shell.specs.declared.run.Status.TheVariants.{Done, Memory, Usage, ReadFault, WriteFault, TooLong}
@@ -42,13 +40,13 @@ pub record Run : Type 0 where
   -- the replies to the pieces that it executed, joined, and the bytes that it wrote
   pub replies : List ℕ
   pub output : List ℕ
-  -- how it ended, and the workspace that it left, if it had one
+  -- how it ended, and the space that it left, if it had one
   pub status : Status
-  pub last : Option Workspace
+  pub last : Option SpaceView
 
 -- These pieces were executed one after another, and their replies written whole.
 pub record Executes (pieces : List (List ℕ)) (run : Run) : Type 0 where
-  pub steps : IsSomeAnd run.last (λ last. Steps start pieces run.replies last)
+  pub steps : IsSomeAnd run.last (λ last. Steps (start_view CODE_BITS) pieces run.replies last)
   pub written : run.output ≡ run.replies
 
 -- Nothing was taken, executed or written.
@@ -85,8 +83,8 @@ pub record HasWriteFault (most : ℕ) (run : Run) : Type 0 where
   pub in_time : pieces_within most run.input ≡ before ++ piece ∷ later
   pub goes_on : ¬ HasQuit before
   pub whole : List ℕ
-  pub mid : Workspace
-  pub steps : Steps start before whole mid
+  pub mid : SpaceView
+  pub steps : Steps (start_view CODE_BITS) before whole mid
   pub reply : List ℕ
   pub step : IsSomeAnd run.last (λ last. Step mid piece reply last)
   pub replies_are : run.replies ≡ whole ++ reply
@@ -106,7 +104,7 @@ Says TooLong most run = IsTooLong most run
 -- A run over a source that had this input to give: what it did, that what the source has left and the sink show it, and
 -- that its status says so.
 pub record Runs {B : Type 0} (most : ℕ) (input : List ℕ) (left : Option (List ℕ))
-    (K : sink_trait.Ghosts B) (sink sink' : B) (status : Status) (last : Option Workspace) : Type 0 where
+    (K : sink_trait.Ghosts B) (sink sink' : B) (status : Status) (last : Option SpaceView) : Type 0 where
   pub run : Run
   pub input_is : run.input ≡ input
   pub status_is : run.status ≡ status
@@ -128,10 +126,6 @@ pub record IsComplete (most : ℕ) (input : List ℕ) (status : Status) : Type 0
   pub done : EndsInTime most input → (status ≡ Done) ⊎ (status ≡ Memory)
   pub too_long : ¬ EndsInTime most input → (status ≡ TooLong) ⊎ (status ≡ Memory)
 
--- The workspace of the space that is handed back, if there is one.
-abbrev pub left_in : Option SpaceView → Option Workspace
-left_in space = option_map (λ s. s.work) space
-
 -- What a run promises that takes at most so many bytes: of its words, of its source and its sink before and after it,
 -- and of how it ended.
 pub record RunsAs {A B W : Type 0} (most : ℕ) (words : List W) (S : source_trait.Ghosts A) (source source' : A)
@@ -139,14 +133,14 @@ pub record RunsAs {A B W : Type 0} (most : ℕ) (words : List W) (S : source_tra
   -- Whatever the devices tell.
   pub usage : (ended.status ≡ Usage) ↔ (0 < length words)
   pub space : IsNone ended.space ↔ IsEarly ended.status
-  pub bits : IfSome ended.space (λ s. s.bits ≡ CODE_BITS)
+  pub bits : IfSome ended.space (λ s. s.pool.bits ≡ CODE_BITS)
   pub unbegun : IsEarly ended.status → (source' ≡ source) × (sink' ≡ sink)
   -- The counts of faults never fall, and a fault has its cause in this call. A steady source counts a fault with no
   -- other status, and one that can't fail has none.
-  pub reads : Pulls S.faults S.steady S.faultless source source' (ended.status ≡ ReadFault)
+  pub reads : Calls S.faults S.steady S.faultless source source' (ended.status ≡ ReadFault)
   pub writes : CountsFaults (ended.status ≡ WriteFault) (K.faults sink) (K.faults sink')
   -- Where the source tells its bytes.
-  pub run : IfSome (S.left source) (λ input. Runs most input (S.left source') K sink sink' ended.status (left_in ended.space))
+  pub run : IfSome (S.left source) (λ input. Runs most input (S.left source') K sink sink' ended.status ended.space)
   -- Without a fault, the words and the bytes alone decide.
   pub complete : words ≡ [] → ended.status ≢ ReadFault → ended.status ≢ WriteFault →
       IfSome (S.left source) (λ input. IsComplete most input ended.status)

@@ -1,15 +1,18 @@
--- What one piece of the input makes of the workspace, and the reply that it gets.
-use Rattle.std.specs.Prelude.{◌≡◌, ℕ, Bool, true, false, nat_lt, List, [], ◌∷◌, ◌++◌, length, codes, Result, Ok, Err, IsTrue, MatchBool, ◌⊎◌}
+-- What one piece of the input makes of a space, and the reply that it gets.
+use Rattle.std.specs.Prelude.{◌≡◌, ℕ, Bool, true, false, nat_lt, List, [], ◌∷◌, ◌++◌, length, codes, Result, Ok, Err, MatchBool, ◌⊎◌}
 use Rattle.std.specs.List.{flat_map}
 use Rattle.elem_core.specs.declared.TheConstants.{MAX_LINE, NEWLINE}
-use Rattle.shell_terms.specs.Command.{PlainCommand, new, add, get, len, list, quit}
+use Rattle.shell_terms.specs.Command.{PlainCommand, get, len, show, list, stars, marks, quit}
 use Rattle.shell_words.specs.Grammar.{meaning}
 use Rattle.shell_words.specs.declared.BadLine.{BadLine}
 use Rattle.shell_words.specs.declared.BadLine.TheVariants as bad
-use Rattle.space_state.specs.Workspace.{Workspace}
-use Rattle.space_state.specs.Answer.{Answer, told, refused, answer}
-use Rattle.space_state.specs.declared.refusal.Refusal.{Refusal}
-use Rattle.space_state.specs.declared.refusal.Refusal.TheVariants as why
+use Rattle.plain_space.specs.declared.refusal.Refusal.{Refusal}
+use Rattle.plain_space.specs.Workspace.{Workspace}
+use Rattle.plain_space.specs.Answer.{Answer, tells, answer, ok_line}
+use Rattle.plain_space.specs.Memory.{MayLackMemory}
+use Rattle.plain_space.specs.Session.{reason_of}
+use Rattle.state_rows.specs.Standing.{StandsFor}
+use Rattle.space_state.specs.View.{SpaceView, CarriesOut}
 
 -- Reply lines as the bytes of a reply: a newline ends each.
 abbrev pub reply_of : List (List ℕ) → List ℕ
@@ -19,10 +22,15 @@ reply_of lines = flat_map (λ line. line ++ NEWLINE ∷ []) lines
 abbrev pub refusal_of : List ℕ → List ℕ
 refusal_of reason = reply_of ((codes "! " ++ reason) ∷ [])
 
+-- The reply to a command that was carried out, or refused.
+abbrev pub done_reply : Result (Unit {0}) Refusal → List ℕ
+done_reply (Ok done) = reply_of (ok_line ∷ [])
+done_reply (Err reason) = refusal_of (reason_of reason)
+
 -- The reply is this refusal, and nothing has changed.
-pub record Refuses (work : Workspace) (reason reply : List ℕ) (after : Workspace) : Type 0 where
+pub record Refuses (old : SpaceView) (reason reply : List ℕ) (new : SpaceView) : Type 0 where
   pub reply_is : reply ≡ refusal_of reason
-  pub same : after ≡ work
+  pub same : new ≡ old
 
 -- The word for why a line is no command.
 abbrev pub line_reason : BadLine → List ℕ
@@ -30,60 +38,52 @@ line_reason bad.Utf8 = codes "utf8"
 line_reason bad.Command = codes "command"
 line_reason bad.Name = codes "name"
 
--- The word for why a command is refused.
-abbrev pub reason_of : Refusal → List ℕ
-reason_of why.Absent = codes "none"
-reason_of why.Exists = codes "exists"
-reason_of why.Range = codes "range"
-reason_of why.Limit = codes "limit"
-reason_of why.Memory = codes "memory"
+-- Whether the command only asks.
+abbrev pub only_asks : PlainCommand → Bool
+only_asks (get name index) = true
+only_asks (len name) = true
+only_asks (show name from to) = true
+only_asks list = true
+only_asks stars = true
+only_asks marks = true
+only_asks quit = true
+only_asks _ = false
 
--- From this workspace, the plain answer is this reply and leaves this workspace.
-abbrev pub Gives : Workspace → Answer → List ℕ → Workspace → Type 0
-Gives work (told lines next) reply after = (reply ≡ reply_of lines) × (after ≡ next)
-Gives work (refused why) reply after = Refuses work (reason_of why) reply after
+-- From this space, which stands for the workspace, the plain answer is this reply and leaves this space: the same one where
+-- the command only asks, else one in which the command was carried out.
+abbrev pub Gives : PlainCommand → SpaceView → Workspace → Answer → List ℕ → SpaceView → Type 0
+Gives command old work (Ok (tells lines after)) reply new =
+    (reply ≡ reply_of lines) × MatchBool (only_asks command) (new ≡ old) (CarriesOut command old new work)
+Gives command old work (Err reason) reply new = Refuses old (reason_of reason) reply new
 
--- Only these commands may want memory: the edits, and the list before its first line.
-abbrev pub wants_memory : PlainCommand → Bool
-wants_memory (new name) = true
-wants_memory (add name text) = true
-wants_memory (get name index) = false
-wants_memory (len name) = false
-wants_memory list = true
-wants_memory quit = false
+-- Memory was refused, which comes only to a command that may want it, where no other refusal applies.
+pub record LacksMemory (command : PlainCommand) (old : SpaceView) (work : Workspace) (reply : List ℕ) (new : SpaceView) : Type 0 where
+  pub may : MayLackMemory work command
+  pub refuses : Refuses old (codes "memory") reply new
 
--- The plain answer is no refusal.
-abbrev pub IsGranted : Answer → Type 0
-IsGranted (told lines next) = Unit {0}
-IsGranted (refused why) = ⊥
-
--- Memory was refused, which comes only where no other refusal applies.
-pub record LacksMemory (work : Workspace) (command : PlainCommand) (reply : List ℕ) (after : Workspace) : Type 0 where
-  pub wants : IsTrue (wants_memory command)
-  pub granted : IsGranted (answer work command)
-  pub refuses : Refuses work (codes "memory") reply after
-
--- From this workspace, the command gets this reply and leaves this workspace.
-abbrev pub Obeys : Workspace → PlainCommand → List ℕ → Workspace → Type 0
-Obeys work command reply after = Gives work (answer work command) reply after ⊎ LacksMemory work command reply after
+-- From this space, the command gets this reply and leaves this space.
+pub record Obeys (command : PlainCommand) (old : SpaceView) (reply : List ℕ) (new : SpaceView) : Type 0 where
+  pub work : Workspace
+  pub stands : StandsFor old.pool work
+  pub gives : Gives command old work (answer work command) reply new ⊎ LacksMemory command old work reply new
 
 -- The same of a line, by its meaning.
-abbrev pub Means : Workspace → Result PlainCommand BadLine → List ℕ → Workspace → Type 0
-Means work (Ok command) reply after = Obeys work command reply after
-Means work (Err bad) reply after = Refuses work (line_reason bad) reply after
+abbrev pub Means : SpaceView → Result PlainCommand BadLine → List ℕ → SpaceView → Type 0
+Means old (Ok command) reply new = Obeys command old reply new
+Means old (Err bad) reply new = Refuses old (line_reason bad) reply new
 
 -- The piece is too long to be a line.
 abbrev pub is_long : List ℕ → Bool
 is_long piece = nat_lt MAX_LINE (length piece)
 
--- From this workspace, the piece gets this reply and leaves this workspace. Its length is tested first.
-abbrev pub Step : Workspace → List ℕ → List ℕ → Workspace → Type 0
-Step work piece reply after =
-    MatchBool (is_long piece) (Refuses work (codes "long") reply after) (Means work (meaning piece) reply after)
+-- From this space, the piece gets this reply and leaves this space. Its length is tested first.
+abbrev pub Step : SpaceView → List ℕ → List ℕ → SpaceView → Type 0
+Step old piece reply new =
+    MatchBool (is_long piece) (Refuses old (codes "long") reply new) (Means old (meaning piece) reply new)
 
--- From this workspace, the pieces get these replies, joined, one step after another, and leave this workspace.
-abbrev pub Steps : Workspace → List (List ℕ) → List ℕ → Workspace → Type 0
-Steps work [] replies last = (replies ≡ []) × (last ≡ work)
-Steps work (piece ∷ rest) replies last =
-    (reply : List ℕ) × (mid : Workspace) × (more : List ℕ)
-    × Step work piece reply mid × Steps mid rest more last × (replies ≡ reply ++ more)
+-- From this space, the pieces get these replies, joined, one step after another, and leave this space.
+abbrev pub Steps : SpaceView → List (List ℕ) → List ℕ → SpaceView → Type 0
+Steps old [] replies last = (replies ≡ []) × (last ≡ old)
+Steps old (piece ∷ rest) replies last =
+    (reply : List ℕ) × (mid : SpaceView) × (more : List ℕ)
+    × Step old piece reply mid × Steps mid rest more last × (replies ≡ reply ++ more)

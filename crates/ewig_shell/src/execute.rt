@@ -1,21 +1,22 @@
 //! One line of the input: the command is done, and its reply is written.
 
-ghost use Rattle.std.specs.Prelude.{◌≡◌, ◌↔◌, List, ℕ, [], ◌∷◌, ◌++◌, ◌≤◌, length, map, codes, decimal, IfOk, OnOk, OnErr, IsTrue};
+ghost use Rattle.std.specs.Prelude.{◌≡◌, ◌↔◌, codes, IfOk};
 ghost use Rattle.elem_core.specs.Cell.{IsCell};
-ghost use Rattle.shell_terms.specs.Command.{get as get_command, len as len_command, list as list_command, quit as quit_command};
 ghost use Rattle.elem_core.specs.Shown.{name_bytes};
+ghost use Rattle.shell_terms.specs.Command.{get as get_command, len as len_command, show as show_command, list as list_command, stars as stars_command, marks as marks_command, quit as quit_command};
 ghost use Rattle.shell_words.specs.Shown.{plain_command};
-ghost use Rattle.space_state.specs.Answer.{answer, size_line, ok_line};
-ghost use Rattle.space_state.specs.Change.{edit_command};
-ghost use Rattle.space_state.specs.Places.{shown_size};
-ghost use Rattle.ewig_shell.specs.Step.{Step, Obeys, Gives, reply_of, refusal_of, line_reason, reason_of};
-ghost use Rattle.ewig_shell.specs.Sending.{Replies, sent_then};
+ghost use Rattle.plain_space.specs.Change.{edit_command};
 ghost use Rattle.shell_io.specs.Sending.{Sends};
+ghost use Rattle.ewig_shell.specs.Step.{Step, Obeys, refusal_of};
+ghost use Rattle.ewig_shell.specs.Sending.{Replies, sent_then};
 
-use crate::page::{HALF_PAGE, Page};
-use elem_core::{Name, Text};
-use shell_io::{Failed, Sink, write_all};
-use shell_words::{BadLine, Command, read_line};
+use crate::reply::{
+    line_refusal, refusal, send, send_done, send_lines, send_names, send_number, send_sizes,
+    send_text,
+};
+use elem_core::Name;
+use shell_io::{Failed, Sink, Store};
+use shell_words::{Command, read_line};
 use space_state::{Edit, Refusal, Space};
 use std::alloc::Global;
 
@@ -28,24 +29,27 @@ pub enum Went {
     Quit,
 }
 
-/// Does what a line asks for, and writes the reply. The page serves to put a reply together.
+/// Does what a line asks for, and writes the reply.
 /// At `Failed` only a part of the reply was written, and the space is as after the command.
-pub fn execute<K: Sink>(
+pub fn execute<K: Sink, D: Store>(
     alloc: Global,
     space: &mut Space,
     piece: &[u8],
-    page: &mut Page,
     sink: &mut K,
+    store: &mut D,
 ) -> Result<Went, Failed>
     requires { IsCell piece.now }
     ensures replies { Replies K.Sink sink.old sink.new result
-        (λ reply. Step space.old.work piece.now reply space.new.work) }
-    ensures bits { space.new.bits ≡ space.old.bits }
+        (λ reply. Step space.old piece.now reply space.new) }
+    ensures bits { space.new.pool.bits ≡ space.old.pool.bits }
+    ensures store { store.new ≡ store.old }
     ensures quits { IfOk result (λ went. (went ≡ Went.Quit) ↔ (piece.now ≡ codes "quit")) }
 {
+    // No command that stands uses the store yet.
+    let _ = store;
     match read_line(piece) {
-        Ok(command) => obey(alloc, space, command, page, sink),
-        Err(bad) => then_went(send(sink, line_refusal(bad)), Went::On),
+        Ok(command) => obey(alloc, space, command, sink),
+        Err(bad) => then(send(line_refusal(bad), sink), Went::On),
     }
 }
 
@@ -55,39 +59,37 @@ pub fn refuse_long<K: Sink>(sink: &mut K) -> Result<Went, Failed>
         (refusal_of (codes "long")) }
     ensures on { IfOk result (λ went. went ≡ Went.On) }
 {
-    then_went(send(sink, b"! long\n"), Went::On)
+    then(send(b"! long\n", sink), Went::On)
 }
 
-// Does a command, and writes the reply.
+// Does a command, writes the reply, and says how the run goes on.
 fn obey<K: Sink>(
     alloc: Global,
     space: &mut Space,
     command: Command<'_>,
-    page: &mut Page,
     sink: &mut K,
 ) -> Result<Went, Failed>
     ensures replies { Replies K.Sink sink.old sink.new result
-        (λ reply. Obeys space.old.work (plain_command command.entry) reply space.new.work) }
-    ensures bits { space.new.bits ≡ space.old.bits }
+        (λ reply. Obeys (plain_command command.entry) space.old reply space.new) }
     ensures quits { IfOk result (λ went.
         (went ≡ Went.Quit) ↔ (plain_command command.entry ≡ quit_command)) }
 {
+    let went = went_after(command);
+    then(answer(alloc, space, command, sink), went)
+}
+
+// How the run goes on after a command.
+fn went_after(command: Command<'_>) -> Went
+    ensures { (result ≡ Went.Quit) ↔ (plain_command command.entry ≡ quit_command) }
+{
     match command {
-        Command::New(name) => then_went(write_edit(space, Edit::New(name), sink), Went::On),
-        Command::Add(name, line) => {
-            then_went(write_edit(space, Edit::Add(name, line), sink), Went::On)
-        }
-        Command::Get(name, index) => {
-            then_went(write_line(space, name, index, page, sink), Went::On)
-        }
-        Command::Len(name) => then_went(write_count(space, name, page, sink), Went::On),
-        Command::List => then_went(write_list(alloc, space, page, sink), Went::On),
-        Command::Quit => then_went(send(sink, b"ok\n"), Went::Quit),
+        Command::Quit => Went::Quit,
+        _ => Went::On,
     }
 }
 
 // How the run goes on where the reply was sent.
-fn then_went(sent: Result<(), Failed>, went: Went) -> Result<Went, Failed>
+fn then(sent: Result<(), Failed>, went: Went) -> Result<Went, Failed>
     ensures { result ≡ sent_then sent went }
 {
     match sent {
@@ -96,147 +98,132 @@ fn then_went(sent: Result<(), Failed>, went: Went) -> Result<Went, Failed>
     }
 }
 
-// The reply to a line that is no command.
-fn line_refusal(bad: BadLine) -> &'static [u8]
-    ensures { result.now ≡ refusal_of (line_reason bad) }
-{
-    match bad {
-        BadLine::Utf8 => b"! utf8\n",
-        BadLine::Command => b"! command\n",
-        BadLine::Name => b"! name\n",
-    }
-}
-
-// The reply to a command that is refused.
-fn refusal(why: Refusal) -> &'static [u8]
-    ensures { result.now ≡ refusal_of (reason_of why) }
-{
-    match why {
-        Refusal::Absent => b"! none\n",
-        Refusal::Exists => b"! exists\n",
-        Refusal::Range => b"! range\n",
-        Refusal::Limit => b"! limit\n",
-        Refusal::Memory => b"! memory\n",
-    }
-}
-
-// TakesReplies a reply that is ready.
-fn send<K: Sink>(sink: &mut K, reply: &[u8]) -> Result<(), Failed>
-    ensures { Sends K.written K.faults K.has_room sink.old sink.new result reply.now }
-{
-    write_all(sink, reply)
-}
-
-// Does an edit and replies.
-fn write_edit<K: Sink>(space: &mut Space, change: Edit<'_>, sink: &mut K) -> Result<(), Failed>
-    ensures replies { Replies K.Sink sink.old sink.new result
-        (λ reply. Obeys space.old.work (edit_command change.entry) reply space.new.work) }
-    ensures bits { space.new.bits ≡ space.old.bits }
-{
-    match space.edit(change) {
-        Ok(()) => send(sink, b"ok\n"),
-        Err(why) => send(sink, refusal(why)),
-    }
-}
-
-// Replies to `get`.
-fn write_line<K: Sink>(
-    space: &Space,
-    name: Name<'_>,
-    index: u32,
-    page: &mut Page,
+// Does a command, and writes the reply.
+fn answer<K: Sink>(
+    alloc: Global,
+    space: &mut Space,
+    command: Command<'_>,
     sink: &mut K,
 ) -> Result<(), Failed>
     ensures { Replies K.Sink sink.old sink.new result
-        (λ reply. Gives space.now.work (answer space.now.work (get_command (name_bytes name.entry) index)) reply space.now.work) }
+        (λ reply. Obeys (plain_command command.entry) space.old reply space.new) }
 {
-    match space.line(name, index) {
-        Ok(text) => {
-            page.clear();
-            page.put(b"= ");
-            page.put(text.text().as_bytes());
-            page.put(b"\n");
-            send(sink, page.bytes())
-        }
-        Err(why) => send(sink, refusal(why)),
+    match command {
+        Command::New(buffer) => change(space, Edit::New(buffer), sink),
+        Command::Add(buffer, text) => change(space, Edit::Add(buffer, text), sink),
+        Command::Set(buffer, index, text) => change(space, Edit::Set(buffer, index, text), sink),
+        Command::Put(buffer, index, text) => change(space, Edit::Put(buffer, index, text), sink),
+        Command::Del(buffer, from, to) => change(space, Edit::Del(buffer, from, to), sink),
+        Command::Cat(buffer, other) => change(space, Edit::Cat(buffer, other), sink),
+        Command::Cut(from, start, end, to) => change(space, Edit::Cut(from, start, end, to), sink),
+        Command::Copy(buffer, other) => change(space, Edit::Copy(buffer, other), sink),
+        Command::Drop(buffer) => change(space, Edit::Drop(buffer), sink),
+        Command::Star(name) => change(space, Edit::Star(name), sink),
+        Command::Unstar(name) => change(space, Edit::Unstar(name), sink),
+        Command::Mark(version) => send_done(space.mark(version), sink),
+        Command::Unmark(version) => send_done(space.unmark(version), sink),
+        Command::Back(version) => send_done(space.back(version), sink),
+        Command::Undo => send_done(space.undo(), sink),
+        Command::Redo => send_done(space.redo(), sink),
+        Command::Begin => send_done(space.begin(), sink),
+        Command::End => send_done(space.end(), sink),
+        Command::Abort => send_done(space.abort(), sink),
+        Command::Get(buffer, index) => get(space, buffer, index, sink),
+        Command::Len(buffer) => len(space, buffer, sink),
+        Command::Show(buffer, from, to) => show(space, buffer, from, to, sink),
+        Command::List => list(alloc, space, sink),
+        Command::Stars => stars(alloc, space, sink),
+        Command::Marks => marks(alloc, space, sink),
+        Command::Quit => quit(space, sink),
+    }
+}
+
+// Does an edit, and replies.
+fn change<K: Sink>(space: &mut Space, edit: Edit<'_>, sink: &mut K) -> Result<(), Failed>
+    ensures { Replies K.Sink sink.old sink.new result
+        (λ reply. Obeys (edit_command edit.entry) space.old reply space.new) }
+{
+    send_done(space.edit(edit), sink)
+}
+
+// Replies to `get`.
+fn get<K: Sink>(space: &Space, buffer: Name<'_>, index: u32, sink: &mut K) -> Result<(), Failed>
+    ensures { Replies K.Sink sink.old sink.new result
+        (λ reply. Obeys (get_command (name_bytes buffer.entry) index) space.now reply space.now) }
+{
+    match space.line(buffer, index) {
+        Ok(text) => send_text(text, sink),
+        Err(reason) => send(refusal(reason), sink),
     }
 }
 
 // Replies to `len`.
-fn write_count<K: Sink>(
+fn len<K: Sink>(space: &Space, buffer: Name<'_>, sink: &mut K) -> Result<(), Failed>
+    ensures { Replies K.Sink sink.old sink.new result
+        (λ reply. Obeys (len_command (name_bytes buffer.entry)) space.now reply space.now) }
+{
+    match space.count(buffer) {
+        Ok(count) => send_number(count, sink),
+        Err(reason) => send(refusal(reason), sink),
+    }
+}
+
+// Replies to `show`.
+fn show<K: Sink>(
     space: &Space,
-    name: Name<'_>,
-    page: &mut Page,
+    buffer: Name<'_>,
+    from: u32,
+    to: u32,
     sink: &mut K,
 ) -> Result<(), Failed>
     ensures { Replies K.Sink sink.old sink.new result
-        (λ reply. Gives space.now.work (answer space.now.work (len_command (name_bytes name.entry))) reply space.now.work) }
+        (λ reply. Obeys (show_command (name_bytes buffer.entry) from to) space.now reply space.now) }
 {
-    match space.count(name) {
-        Ok(count) => {
-            page.clear();
-            page.put(b"= ");
-            page.put_number(count);
-            page.put(b"\n");
-            send(sink, page.bytes())
-        }
-        Err(why) => send(sink, refusal(why)),
+    match space.lines(buffer, from, to) {
+        Ok(lines) => send_lines(lines, sink),
+        Err(reason) => send(refusal(reason), sink),
     }
 }
 
 // Replies to `list`.
-fn write_list<K: Sink>(
-    alloc: Global,
-    space: &Space,
-    page: &mut Page,
-    sink: &mut K,
-) -> Result<(), Failed>
+fn list<K: Sink>(alloc: Global, space: &Space, sink: &mut K) -> Result<(), Failed>
     ensures { Replies K.Sink sink.old sink.new result
-        (λ reply. Obeys space.now.work list_command reply space.now.work) }
+        (λ reply. Obeys list_command space.now reply space.now) }
 {
     match space.names(alloc) {
-        Ok(names) => write_names(&names, page, sink),
-        Err(_) => send(sink, refusal(Refusal::Memory)),
+        Ok(sizes) => send_sizes(&sizes, sink),
+        Err(_) => send(refusal(Refusal::Memory), sink),
     }
 }
 
-// Each name with its number of lines, then `ok`. What fills the page goes out at once.
-fn write_names<K: Sink>(names: &[(&Text, u32)], page: &mut Page, sink: &mut K) -> Result<(), Failed>
-    ensures { Sends K.written K.faults K.has_room sink.old sink.new result
-        (reply_of (map (λ row. size_line (shown_size row)) names.now ++ ok_line ∷ [])) }
+// Replies to `stars`.
+fn stars<K: Sink>(alloc: Global, space: &Space, sink: &mut K) -> Result<(), Failed>
+    ensures { Replies K.Sink sink.old sink.new result
+        (λ reply. Obeys stars_command space.now reply space.now) }
 {
-    page.clear();
-    for (name, count) in names {
-        make_room(page, sink)?;
-        put_name(name, *count, page);
+    match space.stars(alloc) {
+        Ok(names) => send_names(&names, sink),
+        Err(_) => send(refusal(Refusal::Memory), sink),
     }
-    make_room(page, sink)?;
-    page.put(b"ok\n");
-    send(sink, page.bytes())
 }
 
-// Sends what the page has where no further line would surely fit.
-fn make_room<K: Sink>(page: &mut Page, sink: &mut K) -> Result<(), Failed>
-    ensures room { OnOk result (length page.new ≤ HALF_PAGE) }
-    ensures sent { Replies K.Sink sink.old sink.new result
-        (λ sent. OnOk result (sent ++ page.new ≡ page.old) × OnErr result (sent ≡ page.old)) }
+// Replies to `marks`.
+fn marks<K: Sink>(alloc: Global, space: &Space, sink: &mut K) -> Result<(), Failed>
+    ensures { Replies K.Sink sink.old sink.new result
+        (λ reply. Obeys marks_command space.now reply space.now) }
 {
-    if page.has_room() {
-        return Ok(());
+    match space.marks(alloc) {
+        Ok(names) => send_names(&names, sink),
+        Err(_) => send(refusal(Refusal::Memory), sink),
     }
-    send(sink, page.bytes())?;
-    page.clear();
-    Ok(())
 }
 
-// One line of the reply to `list`.
-fn put_name(name: &Text, count: u32, page: &mut Page)
-    requires { length page.old ≤ HALF_PAGE }
-    ensures { page.new ≡ page.old ++ reply_of (size_line (name.now, count) ∷ []) }
+// Replies to `quit`.
+fn quit<K: Sink>(space: &Space, sink: &mut K) -> Result<(), Failed>
+    ensures { Replies K.Sink sink.old sink.new result
+        (λ reply. Obeys quit_command space.now reply space.now) }
 {
-    page.put(b"= ");
-    page.put(name.text().as_bytes());
-    page.put(b" ");
-    page.put_number(count);
-    page.put(b"\n");
+    // That the space stands for a workspace is known once it has answered.
+    let _ = space.in_batch();
+    send(b"ok\n", sink)
 }

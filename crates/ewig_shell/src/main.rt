@@ -3,6 +3,7 @@
 
 mod execute;
 mod page;
+mod reply;
 mod run;
 #[cfg(test)]
 mod tests;

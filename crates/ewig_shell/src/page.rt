@@ -1,82 +1,88 @@
 //! The buffer in which a reply is put together.
 
-ghost use Rattle.std.specs.Prelude.{◌≡◌, ◌≤◌, ◌+◌, ◌++◌, ◌↔◌, [], length, decimal, IsTrue, IfOk};
+ghost use Rattle.std.specs.Prelude.{◌≡◌, [], ◌∷◌};
+ghost use Rattle.plain_space.specs.Answer.{text_line, size_line};
+ghost use Rattle.shell_io.specs.Sending.{Sends};
+ghost use Rattle.ewig_shell.specs.Sending.{Puts};
+ghost use Rattle.ewig_shell.specs.Step.{reply_of};
 
-use elem_core::NoMemory;
+use arrayvec::ArrayVec;
+use elem_core::Text;
 use itoa::Buffer;
-use std::alloc::Global;
+use shell_io::{Failed, Sink, write_all};
 use std::marker::Model;
 
-/// How many bytes a page takes: more than one line of a reply twice over.
-pub const PAGE: usize = 131_072;
+/// How many bytes a page has room for. It is small, since it stands on the stack.
+pub const PAGE: usize = 1024;
 
-/// How many bytes of a page may be taken where one more line of a reply surely fits: a line has at
-/// most 65,536 bytes of text, and a few around it.
-pub const HALF_PAGE: usize = 65_000;
-
-/// A buffer made once, so that a reply that fits goes out in one piece. Contracts see its bytes.
+/// A buffer of fixed size, so that a short reply goes out in one piece, and a long one in few, with no memory taken. Contracts
+/// see its bytes.
 #[derive(Drop)]
 pub struct Page {
-    bytes: Vec<u8>,
+    bytes: ArrayVec<u8, PAGE>,
 }
 
 impl Model for Page {
-    ghost use Rattle.std.specs.Prelude.{◌≤◌, ℕ, List, vec_capacity};
-    ghost use Rattle.ewig_shell.specs.declared.page.TheConstants.{PAGE};
+    ghost use Rattle.std.specs.Prelude.{ℕ, List};
 
     ghost Value = { List ℕ };
 
     ghost view = { λ it. it.bytes.items };
-
-    ghost invariant = { λ it. PAGE ≤ vec_capacity it.bytes };
 }
 
 impl Page {
     /// An empty page.
-    pub fn new(alloc: Global) -> Result<Page, NoMemory>
-        ensures { IfOk result (λ page. page ≡ []) }
+    pub fn new() -> Page
+        ensures { result ≡ [] }
     {
-        let bytes = Vec::with_capacity(alloc, PAGE)?;
-        Ok(Page { bytes })
+        Page {
+            bytes: ArrayVec::new(),
+        }
     }
 
-    /// The bytes put so far.
-    pub fn bytes(&self) -> &[u8]
-        ensures { result.now ≡ self.now }
+    /// Sends all bytes, and is empty then.
+    pub fn flush<K: Sink>(&mut self, sink: &mut K) -> Result<(), Failed>
+        ensures sends { Sends K.written K.faults K.has_room sink.old sink.new result self.old }
+        ensures empty { self.new ≡ [] }
     {
-        &self.bytes
-    }
-
-    /// Whether one more line of a reply surely fits.
-    pub fn has_room(&self) -> bool
-        ensures { IsTrue result ↔ (length self.now ≤ HALF_PAGE) }
-    {
-        self.bytes.len() <= HALF_PAGE
-    }
-
-    /// Empties the page.
-    pub fn clear(&mut self)
-        ensures { self.new ≡ [] }
-    {
+        let sent = write_all(sink, self.bytes.as_slice());
         self.bytes.clear();
+        sent
     }
 
-    /// Puts the bytes at the end, where they fit.
-    pub fn put(&mut self, bytes: &[u8])
-        requires { length self.old + length bytes.now ≤ PAGE }
-        ensures put { self.new ≡ self.old ++ bytes.now }
-        ensures longer { length self.new ≡ length self.old + length bytes.now }
+    /// Puts the bytes at the end. What stands before them is sent where they don't fit, and they are where a page has no room
+    /// for them.
+    pub fn put<K: Sink>(&mut self, bytes: &[u8], sink: &mut K) -> Result<(), Failed>
+        ensures { Puts K.Sink sink.old self.old sink.new self.new result bytes.now }
     {
-        self.bytes.extend_from_slice(bytes).unwrap();
+        if self.bytes.try_extend_from_slice(bytes).is_ok() {
+            return Ok(());
+        }
+        self.flush(sink)?;
+        if self.bytes.try_extend_from_slice(bytes).is_ok() {
+            return Ok(());
+        }
+        write_all(sink, bytes)
     }
 
-    /// Puts a number in decimal at the end, where it fits.
-    pub fn put_number(&mut self, number: u32)
-        requires { length self.old + 40 ≤ PAGE }
-        ensures put { self.new ≡ self.old ++ decimal number }
-        ensures short { length self.new ≤ length self.old + 40 }
+    /// Puts a line that shows the text.
+    pub fn put_text<K: Sink>(&mut self, text: &Text, sink: &mut K) -> Result<(), Failed>
+        ensures { Puts K.Sink sink.old self.old sink.new self.new result (reply_of (text_line text.now ∷ [])) }
+    {
+        self.put(b"= ", sink)?;
+        self.put(text.text().as_bytes(), sink)?;
+        self.put(b"\n", sink)
+    }
+
+    /// Puts a line that shows a name and a number.
+    pub fn put_size<K: Sink>(&mut self, name: &Text, size: u32, sink: &mut K) -> Result<(), Failed>
+        ensures { Puts K.Sink sink.old self.old sink.new self.new result (reply_of (size_line (name.now, size) ∷ [])) }
     {
         let mut digits = Buffer::new();
-        self.put(digits.format(number).as_bytes());
+        self.put(b"= ", sink)?;
+        self.put(name.text().as_bytes(), sink)?;
+        self.put(b" ", sink)?;
+        self.put(digits.format(size).as_bytes(), sink)?;
+        self.put(b"\n", sink)
     }
 }

@@ -4,12 +4,11 @@ ghost use Rattle.std.specs.Prelude.{◌≡◌, ℕ, ◌+◌, ◌^◌, ◌<◌, �
 ghost use Rattle.std.specs.Option.{ForSome};
 ghost use Rattle.elem_core.specs.declared.codes.TheConstants.{CODE_BITS};
 ghost use Rattle.shell_io.specs.Reader.{StandsIn};
-ghost use Rattle.space_state.specs.Workspace.{start};
+ghost use Rattle.space_state.specs.View.{start_view};
 ghost use Rattle.ewig_shell.specs.Going.{IsGoing, HasCauses, status_of};
 ghost use Rattle.ewig_shell.specs.Run.{RunsAs, Runs, IsEarly, exit_code};
 
 use crate::execute::{Went, execute, refuse_long};
-use crate::page::Page;
 use elem_core::{CODE_BITS, NoMemory};
 use shell_io::{Failed, LineReader, Next, Sink, Source, Store};
 use space_state::Space;
@@ -83,29 +82,19 @@ pub fn run_upto<S: Source, K: Sink, D: Store>(
     ensures run { RunsAs most words.now S.Source source.old source.new K.Sink sink.old sink.new result }
     ensures store { store.new ≡ store.old }
 {
-    // No command that stands uses the store yet.
-    let _ = store;
     if !words.is_empty() {
         return Ended {
             status: Status::Usage,
             space: None,
         };
     }
-    let Ok((mut reader, mut page, mut space)) = made(alloc) else {
+    let Ok((mut reader, mut space)) = made(alloc) else {
         return Ended {
             status: Status::Memory,
             space: None,
         };
     };
-    let status = follow(
-        alloc,
-        most,
-        &mut reader,
-        source,
-        &mut space,
-        &mut page,
-        sink,
-    );
+    let status = follow(alloc, most, &mut reader, source, &mut space, sink, store);
     Ended {
         status,
         space: Some(space),
@@ -113,53 +102,53 @@ pub fn run_upto<S: Source, K: Sink, D: Store>(
 }
 
 // What a run works with: all the memory that it takes before the first line.
-fn made(alloc: Global) -> Result<(LineReader, Page, Space), NoMemory>
+fn made(alloc: Global) -> Result<(LineReader, Space), NoMemory>
     ensures unread { IfOk result (λ made. (made.0.given ≡ 0) × (made.0.most ≡ None)) }
     ensures start { IfOk result (λ made. (input : List ℕ) → StandsIn input made.0 (Some input)) }
-    ensures empty { IfOk result (λ made. (made.2.work ≡ start) × (made.2.bits ≡ CODE_BITS)) }
+    ensures empty { IfOk result (λ made. made.1 ≡ start_view CODE_BITS) }
 {
     let reader = LineReader::new(alloc)?;
-    let page = Page::new(alloc)?;
     let space = Space::new(alloc, CODE_BITS)?;
-    Ok((reader, page, space))
+    Ok((reader, space))
 }
 
 // Executes the lines, one after another, until the run ends.
-fn follow<S: Source, K: Sink>(
+fn follow<S: Source, K: Sink, D: Store>(
     alloc: Global,
     most: u64,
     reader: &mut LineReader,
     source: &mut S,
     space: &mut Space,
-    page: &mut Page,
     sink: &mut K,
+    store: &mut D,
 ) -> Status
     requires small { most < 2 ^ 63 }
     requires same_most { ForSome reader.old.most (λ kept. kept ≡ most) }
 
     ensures begun { ¬ IsEarly result }
-    ensures bits { space.new.bits ≡ space.old.bits }
+    ensures store { store.new ≡ store.old }
+    ensures bits { space.new.pool.bits ≡ space.old.pool.bits }
     ensures causes { HasCauses S.Source source.old source.new K.Sink sink.old sink.new (Some result) }
     ensures told { (input : List ℕ) (begin : K) →
-        IsGoing most input reader.old (S.left source.old) K.Sink begin sink.old space.old.work →
-        Runs most input (S.left source.new) K.Sink begin sink.new result (Some space.new.work) }
+        IsGoing most input reader.old (S.left source.old) K.Sink begin sink.old space.old →
+        Runs most input (S.left source.new) K.Sink begin sink.new result (Some space.new) }
 {
     'lines: loop {
-        if let Some(status) = turn(alloc, most, reader, source, space, page, sink) {
+        if let Some(status) = turn(alloc, most, reader, source, space, sink, store) {
             return status;
         }
     }
 }
 
 // Executes the next line. The status where the run ends with it.
-fn turn<S: Source, K: Sink>(
+fn turn<S: Source, K: Sink, D: Store>(
     alloc: Global,
     most: u64,
     reader: &mut LineReader,
     source: &mut S,
     space: &mut Space,
-    page: &mut Page,
     sink: &mut K,
+    store: &mut D,
 ) -> Option<Status>
     requires small { most < 2 ^ 63 }
     requires same_most { ForSome reader.old.most (λ kept. kept ≡ most) }
@@ -169,16 +158,17 @@ fn turn<S: Source, K: Sink>(
     ensures progress { IfNone result (reader.old.given < reader.new.given) }
 
     ensures begun { IfSome result (λ status. ¬ IsEarly status) }
-    ensures bits { space.new.bits ≡ space.old.bits }
+    ensures store { store.new ≡ store.old }
+    ensures bits { space.new.pool.bits ≡ space.old.pool.bits }
     ensures causes { HasCauses S.Source source.old source.new K.Sink sink.old sink.new result }
     ensures told { (input : List ℕ) (begin : K) →
-        IsGoing most input reader.old (S.left source.old) K.Sink begin sink.old space.old.work →
+        IsGoing most input reader.old (S.left source.old) K.Sink begin sink.old space.old →
         MatchOption result
-        (IsGoing most input reader.new (S.left source.new) K.Sink begin sink.new space.new.work)
-        (λ status. Runs most input (S.left source.new) K.Sink begin sink.new status (Some space.new.work)) }
+        (IsGoing most input reader.new (S.left source.new) K.Sink begin sink.new space.new)
+        (λ status. Runs most input (S.left source.new) K.Sink begin sink.new status (Some space.new)) }
 {
     match reader.next(source, most) {
-        Next::Line => status_after(execute(alloc, space, reader.line(), page, sink)),
+        Next::Line => status_after(execute(alloc, space, reader.line(), sink, store)),
         Next::Long => status_after(refuse_long(sink)),
         Next::End => Some(Status::Done),
         Next::Budget => Some(Status::TooLong),

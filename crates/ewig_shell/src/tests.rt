@@ -98,6 +98,48 @@ fn replies_however_the_input_is_cut(rt: HostRuntime) -> Result<(), Fail> {
 }
 
 #[test]
+fn edits_versions_undo_and_batches(rt: HostRuntime) -> Result<(), Fail> {
+    let rows: [(&[u8], &[u8]); 8] = [
+        (
+            b"new a\nadd a x\nget a 1\nshow a 1 1\nshow a 0 2\nnew a\n",
+            b"ok\nok\n! range\nok\n! range\n! exists\n",
+        ),
+        (
+            b"new a\nadd a p\nmark v\nset a 0 x\nget a 0\nback v\nget a 0\n",
+            b"ok\nok\nok\nok\n= x\nok\n= p\n",
+        ),
+        (
+            b"new a\nadd a x\nundo\nadd a y\nredo\nget a 0\n",
+            b"ok\nok\nok\nok\n! empty\n= y\n",
+        ),
+        (
+            b"new a\nadd a p\nbegin\nset a 0 q\nabort\nget a 0\nend\n",
+            b"ok\nok\nok\nok\nok\n= p\n! batch\n",
+        ),
+        (
+            b"new a\nadd a p\nadd a q\nadd a r\ncut a 0 2 b\nshow b 0 2\nlen a\ncat a b\nshow a 0 3\ndel a 1 3\nlen a\n",
+            b"ok\nok\nok\nok\nok\n= p\n= q\nok\n= 1\nok\n= r\n= p\n= q\nok\nok\n= 1\n",
+        ),
+        (
+            b"star z\nstar z\nnew b\nnew B\ncopy b c\nlist\nstars\nunstar y\nundo\nlist\n",
+            b"ok\n! exists\nok\nok\nok\n= B 0\n= b 0\n= c 0\nok\n= z\nok\n! none\nok\n= B 0\n= b 0\nok\n",
+        ),
+        (
+            b"mark v\nmark v\nnew a\nmark w\nmarks\nunmark v\nback v\n",
+            b"ok\n! exists\nok\nok\n= v\n= w\nok\nok\n! none\n",
+        ),
+        (
+            b"new a\nbegin\nput a 0 x\ndrop a\nend\nundo\nlen a\nredo\nlen a\n",
+            b"ok\nok\nok\nok\nok\nok\n= 0\nok\n! none\n",
+        ),
+    ];
+    for (input, written) in rows {
+        check(&rt, input, 1 << 40, &WHOLE, written, Status::Done)?;
+    }
+    Ok(())
+}
+
+#[test]
 fn long_lines_and_many(rt: HostRuntime) -> Result<(), Fail> {
     let alloc = rt.alloc();
     let mut input = vec![in alloc; b'x'; 65_537]?;
@@ -112,6 +154,32 @@ fn long_lines_and_many(rt: HostRuntime) -> Result<(), Fail> {
     }
     input.extend_from_slice(b"get a 32\nlen a\n")?;
     written.extend_from_slice(b"= l32\n= 33\n")?;
+    check(&rt, &input, 1 << 40, &WHOLE, &written, Status::Done)?;
+
+    // Lines that a page has no room for, alone and behind others.
+    let long = vec![in alloc; b'x'; 2_000]?;
+    let mut input = Vec::from_slice(alloc, b"new a\nadd a y\nadd a ")?;
+    input.extend_from_slice(&long)?;
+    input.extend_from_slice(b"\nget a 1\nshow a 0 2\n")?;
+    let mut written = Vec::from_slice(alloc, b"ok\nok\nok\n= ")?;
+    written.extend_from_slice(&long)?;
+    written.extend_from_slice(b"\n= y\n= ")?;
+    written.extend_from_slice(&long)?;
+    written.extend_from_slice(b"\nok\n")?;
+    check(&rt, &input, 1 << 40, &WHOLE, &written, Status::Done)
+}
+
+#[test]
+fn doubles_a_buffer_to_the_limit(rt: HostRuntime) -> Result<(), Fail> {
+    let alloc = rt.alloc();
+    let mut input = Vec::from_slice(alloc, b"new a\nadd a x\n")?;
+    let mut written = Vec::from_slice(alloc, b"ok\nok\n")?;
+    for _ in 0..31u32 {
+        input.extend_from_slice(b"cat a a\n")?;
+        written.extend_from_slice(b"ok\n")?;
+    }
+    input.extend_from_slice(b"cat a a\nlen a\n")?;
+    written.extend_from_slice(b"! limit\n= 2147483648\n")?;
     check(&rt, &input, 1 << 40, &WHOLE, &written, Status::Done)
 }
 

@@ -1,6 +1,6 @@
 use Rattle.std.proofs.Common.{Err, refl}
 use Rattle.ewig_shell.proofs.SendingLemmas.{Sends-then}
-use Rattle.ewig_shell.proofs.StepLemmas.{Step-line}
+use Rattle.ewig_shell.proofs.StepLemmas.{Step-line, bits-kept}
 use Rattle.ewig_shell.proofs.QuitLemmas.{quits-command, quits-bad}
 use Rattle.ewig_shell.proofs.execute.execute.Goals as goal
 
@@ -9,6 +9,9 @@ returns-in-Ok-clause-replies g c =
     let done = c.obey.ensures.replies in
     record { reply = done.reply; due = Step-line _ _ _ _ _ c.requires.short c.in-Ok.ensures done.due; sends = done.sends }
 
+pub returns-in-Ok-clause-bits : goal.returns-in-Ok-clause-bits
+returns-in-Ok-clause-bits g c = bits-kept _ _ _ _ c.obey.ensures.replies.due
+
 pub returns-in-Ok-clause-quits : goal.returns-in-Ok-clause-quits
 returns-in-Ok-clause-quits g c = quits-command _ _ _ c.in-Ok.ensures c.obey.ensures.quits
 
@@ -16,8 +19,8 @@ pub returns-in-Err-clause-replies : goal.returns-in-Err-clause-replies
 returns-in-Err-clause-replies g c = record {
   reply = c.line_refusal.result.now;
   due = Step-line _ _ _ _ (Err c.in-Err.bad) c.requires.short c.in-Err.ensures (record { reply_is = c.line_refusal.ensures; same = refl });
-  sends = Sends-then _ _ c.then_went.ensures c.send.ensures;
+  sends = Sends-then _ _ c.then.ensures c.send.ensures;
 }
 
 pub returns-in-Err-clause-quits : goal.returns-in-Err-clause-quits
-returns-in-Err-clause-quits g c = quits-bad _ c.in-Err.bad c.send.result _ c.in-Err.ensures c.then_went.ensures
+returns-in-Err-clause-quits g c = quits-bad _ c.in-Err.bad c.send.result _ c.in-Err.ensures c.then.ensures

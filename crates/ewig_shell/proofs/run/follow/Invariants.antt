@@ -7,11 +7,12 @@ use Rattle.ewig_shell.proofs.run.follow.Given as goal
 abbrev pub invariant-lines : goal.invariant-lines
 invariant-lines g l = record {
   same_most : ForSome l.reader.most (λ kept. kept ≡ l.most);
-  bits : l.space.bits ≡ l.fn.space.bits;
+  bits : l.space.pool.bits ≡ l.fn.space.pool.bits;
+  store : l.store ≡ l.fn.store;
   causes : HasCauses g.S.Source l.fn.source l.source g.K.Sink l.fn.sink l.sink None;
   told : (input : List ℕ) (begin : g.row.K.Denot) →
-      IsGoing l.most input l.fn.reader (g.S.Source.left l.fn.source) g.K.Sink begin l.fn.sink l.fn.space.work →
-      IsGoing l.most input l.reader (g.S.Source.left l.source) g.K.Sink begin l.sink l.space.work;
+      IsGoing l.most input l.fn.reader (g.S.Source.left l.fn.source) g.K.Sink begin l.fn.sink l.fn.space →
+      IsGoing l.most input l.reader (g.S.Source.left l.source) g.K.Sink begin l.sink l.space;
 }
 
 -- each line gives a byte more

@@ -1,4 +1,5 @@
-use Rattle.std.proofs.Common.{refl, rules, ◌∙◌}
+use Rattle.std.proofs.Common.{refl, rules, ap, ◌∙◌}
+use Rattle.space_state.specs.View.{SpaceView}
 use Rattle.ewig_shell.specs.declared.run.Status.TheVariants as status
 use Rattle.ewig_shell.proofs.RunLemmas.{Going-start}
 use Rattle.ewig_shell.proofs.EndLemmas.{RunsAs-early, RunsAs-lines}
@@ -13,5 +14,5 @@ returns-in_default-clause-run g c = RunsAs-early status.Memory tt ((λ e. absurd
 pub returns-clause-run : goal.returns-clause-run
 returns-clause-run g c =
     let lines = c.follow-status.ensures in
-    RunsAs-lines c.follow-status.result c.follow-status.new.space lines.begun (search rules) (lines.bits ∙ c.in-Ok.ensures.empty.1) lines.causes
-    (λ input told. lines.told input _ (Going-start _ told c.in-Ok.ensures.start c.in-Ok.ensures.unread.0 c.in-Ok.ensures.empty.0))
+    RunsAs-lines c.follow-status.result c.follow-status.new.space lines.begun (search rules) (lines.bits ∙ ap (λ (s : SpaceView). s.pool.bits) c.in-Ok.ensures.empty) lines.causes
+    (λ input told. lines.told input _ (Going-start _ told c.in-Ok.ensures.start c.in-Ok.ensures.unread.0 c.in-Ok.ensures.empty))

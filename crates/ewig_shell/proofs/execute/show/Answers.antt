@@ -1,0 +1,12 @@
+use Rattle.ewig_shell.proofs.StepLemmas.{Obeys-show, Obeys-show_refused}
+use Rattle.ewig_shell.proofs.execute.show.Goals as goal
+
+pub returns-in-Ok : goal.returns-in-Ok
+returns-in-Ok g c = record { reply = _; due = Obeys-show c.in-Ok.ensures.0 _ _ _ _ c.in-Ok.ensures.1 c.in-Ok.ensures.2; sends = c.send_lines.ensures }
+
+pub returns-in-Err : goal.returns-in-Err
+returns-in-Err g c = record {
+  reply = c.refusal.result.now;
+  due = Obeys-show_refused c.in-Err.ensures.0 _ _ _ c.in-Err.reason _ c.in-Err.ensures.1 c.in-Err.ensures.2 c.refusal.ensures;
+  sends = c.send.ensures;
+}

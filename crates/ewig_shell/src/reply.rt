@@ -1,0 +1,117 @@
+//! What is sent: replies that are ready, and lines of a reply one after another.
+
+ghost use Rattle.std.specs.Prelude.{◌≡◌, [], ◌∷◌, ◌++◌, map as each};
+ghost use Rattle.plain_space.specs.Answer.{ok_line, text_line, number_line, size_line};
+ghost use Rattle.plain_space.specs.Session.{reason_of};
+ghost use Rattle.shell_io.specs.Sending.{Sends};
+ghost use Rattle.ewig_shell.specs.Step.{reply_of, refusal_of, done_reply, line_reason};
+
+use crate::page::Page;
+use elem_core::Text;
+use itoa::Buffer;
+use shell_io::{Failed, Sink, write_all};
+use shell_words::BadLine;
+use space_state::{Refusal, SpaceLines};
+
+/// Sends a reply that is ready.
+pub fn send<K: Sink>(reply: &[u8], sink: &mut K) -> Result<(), Failed>
+    ensures { Sends K.written K.faults K.has_room sink.old sink.new result reply.now }
+{
+    write_all(sink, reply)
+}
+
+/// The reply to a line that is no command.
+pub fn line_refusal(bad: BadLine) -> &'static [u8]
+    ensures { result.now ≡ refusal_of (line_reason bad) }
+{
+    match bad {
+        BadLine::Utf8 => b"! utf8\n",
+        BadLine::Command => b"! command\n",
+        BadLine::Name => b"! name\n",
+    }
+}
+
+/// The reply to a command that is refused.
+pub fn refusal(reason: Refusal) -> &'static [u8]
+    ensures { result.now ≡ refusal_of (reason_of reason) }
+{
+    match reason {
+        Refusal::Absent => b"! none\n",
+        Refusal::Exists => b"! exists\n",
+        Refusal::Range => b"! range\n",
+        Refusal::Limit => b"! limit\n",
+        Refusal::Batch => b"! batch\n",
+        Refusal::Empty => b"! empty\n",
+        Refusal::Memory => b"! memory\n",
+    }
+}
+
+/// Replies to a command that was carried out, or refused.
+pub fn send_done<K: Sink>(done: Result<(), Refusal>, sink: &mut K) -> Result<(), Failed>
+    ensures { Sends K.written K.faults K.has_room sink.old sink.new result (done_reply done) }
+{
+    match done {
+        Ok(()) => send(b"ok\n", sink),
+        Err(reason) => send(refusal(reason), sink),
+    }
+}
+
+/// Sends a line that shows the text.
+pub fn send_text<K: Sink>(text: &Text, sink: &mut K) -> Result<(), Failed>
+    ensures { Sends K.written K.faults K.has_room sink.old sink.new result (reply_of (text_line text.now ∷ [])) }
+{
+    let mut page = Page::new();
+    page.put_text(text, sink)?;
+    page.flush(sink)
+}
+
+/// Sends a line that shows the number.
+pub fn send_number<K: Sink>(number: u32, sink: &mut K) -> Result<(), Failed>
+    ensures { Sends K.written K.faults K.has_room sink.old sink.new result (reply_of (number_line number ∷ [])) }
+{
+    let mut digits = Buffer::new();
+    let mut page = Page::new();
+    page.put(b"= ", sink)?;
+    page.put(digits.format(number).as_bytes(), sink)?;
+    page.put(b"\n", sink)?;
+    page.flush(sink)
+}
+
+/// Sends a line for each name with its number, then `ok`.
+pub fn send_sizes<K: Sink>(sizes: &[(&Text, u32)], sink: &mut K) -> Result<(), Failed>
+    ensures { Sends K.written K.faults K.has_room sink.old sink.new result
+        (reply_of (each size_line (each (λ size. (size.0.now, size.1)) sizes.now) ++ ok_line ∷ [])) }
+{
+    let mut page = Page::new();
+    for (name, size) in sizes {
+        page.put_size(name, *size, sink)?;
+    }
+    page.put(b"ok\n", sink)?;
+    page.flush(sink)
+}
+
+/// Sends a line for each name, then `ok`.
+pub fn send_names<K: Sink>(names: &[&Text], sink: &mut K) -> Result<(), Failed>
+    ensures { Sends K.written K.faults K.has_room sink.old sink.new result
+        (reply_of (each text_line (each (λ name. name.now) names.now) ++ ok_line ∷ [])) }
+{
+    let mut page = Page::new();
+    for name in names {
+        page.put_text(name, sink)?;
+    }
+    page.put(b"ok\n", sink)?;
+    page.flush(sink)
+}
+
+/// Sends a line for each text, then `ok`.
+pub fn send_lines<K: Sink>(lines: SpaceLines<'_>, sink: &mut K) -> Result<(), Failed>
+    ensures { Sends K.written K.faults K.has_room sink.old sink.new result
+        (reply_of (each text_line lines.entry ++ ok_line ∷ [])) }
+{
+    let mut page = Page::new();
+    for line in lines {
+        page.put_text(line, sink)?;
+    }
+    page.put(b"ok\n", sink)?;
+    page.flush(sink)
+}
