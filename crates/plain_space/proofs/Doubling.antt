@@ -1,11 +1,11 @@
 -- A buffer that is joined to itself again and again: what is replied, by the number of its lines alone.
-use Rattle.std.proofs.Common.{◌≡◌, ℕ, zero, suc, ◌+◌, ◌<◌, ◌≤◌, List, [], ◌∷◌, ◌++◌, cond, None, Some, Err, length, refl, ap, ◌∙◌, arith}
+use Rattle.std.proofs.Common.{◌≡◌, ℕ, zero, suc, ◌+◌, ◌<◌, ◌≤◌, List, [], ◌∷◌, ◌++◌, false, cond, None, Some, Err, length, refl, ap, ◌∙◌, arith}
 use Rattle.std.specs.Prelude.{replicate}
 use Rattle.std.proofs.lemmas.Bool.{le-leb, lt-leb, ne_eqb}
 use Rattle.std.proofs.lemmas.List.{length-append}
-use Rattle.std.specs.Ordering.{is_eq}
+use Rattle.std.specs.Ordering.{is_eq, nat_cmp, eq_by_cmp}
 use Rattle.std.specs.Cmp.{tied_itself}
-use Rattle.std.specs.Cmp.Lexicographic.{nat_list_cmp_total}
+use Rattle.std.specs.Cmp.Lexicographic.{slice_cmp, nat_list_cmp_total}
 use Rattle.std.specs.FinMap.{get, insert}
 use Rattle.plain_space.specs.declared.refusal.Refusal.TheVariants.{Limit}
 use Rattle.plain_space.specs.declared.refusal.Refusal.{Refusal}
@@ -26,7 +26,7 @@ unfolding replies
 replies-refused work why c rest e = rw e refl
 
 -- what was put in is there
-put-there : {X : Type 0} (m : Named X) (k : Bytes) (v : X) → get (insert m k v) k ≡ Some v
+pub put-there : {X : Type 0} (m : Named X) (k : Bytes) (v : X) → get (insert m k v) k ≡ Some v
 put-there m k v = get-with m k v k ∙ ap (λ r. cond (is_eq r) (Some v) (get m k)) (tied_itself nat_list_cmp_total k)
 
 -- so many lines after so many doublings
@@ -73,6 +73,13 @@ module _ (work : Workspace) (name : Bytes) (ls : List Bytes) (found : get work.c
   joined-undo : work.base ≡ None → length (joined work name ls).undo ≡ length work.undo + 1
   joined-undo unbatched = rw unbatched (length-append work.undo (work.current ∷ []))
 
+  joined-versions : work.base ≡ None → (joined work name ls).versions ≡ work.versions
+  joined-versions unbatched = rw unbatched refl
+
+  joined-others : work.base ≡ None → (q : Bytes) → eq_by_cmp (slice_cmp nat_cmp) q name ≡ false → get (joined work name ls).current.buffers q ≡ get work.current.buffers q
+  joined-others unbatched q other =
+      rw unbatched (get-with work.current.buffers name (ls ++ ls) q ∙ ap (λ b. cond b (Some (ls ++ ls)) (get work.current.buffers q)) other)
+
 -- What some joinings leave, and what they reply.
 pub record Doubled (work : Workspace) (name : Bytes) (ls : List Bytes) (n : ℕ) (rest : List PlainCommand) : Type 0 where
   pub after : Workspace
@@ -80,11 +87,26 @@ pub record Doubled (work : Workspace) (name : Bytes) (ls : List Bytes) (n : ℕ)
   pub same_replies : replies work (replicate n (edit (cat name name)) ++ rest) ≡ replicate n ok_line ++ replies after rest
   pub found : get after.current.buffers name ≡ Some lines
   pub long : length lines ≡ doubles n (length ls)
+  pub unbatched : after.base ≡ None
+  pub steps : length after.undo ≡ length work.undo + n
+  pub same_versions : after.versions ≡ work.versions
+  pub others : (q : Bytes) → eq_by_cmp (slice_cmp nat_cmp) q name ≡ false → get after.current.buffers q ≡ get work.current.buffers q
 
 pub doubled : (n : ℕ) (work : Workspace) (name : Bytes) (ls : List Bytes) (rest : List PlainCommand)
     → get work.current.buffers name ≡ Some ls → work.base ≡ None → doubles n (length ls) ≤ most → length work.undo + n ≤ most
     → Doubled work name ls n rest
-doubled zero work name ls rest found unbatched few room = record { after = work; lines = ls; same_replies = refl; found = found; long = refl }
+doubled zero work name ls rest found unbatched few room =
+    record {
+      after = work;
+      lines = ls;
+      same_replies = refl;
+      found = found;
+      long = refl;
+      unbatched = unbatched;
+      steps = omega arith;
+      same_versions = refl;
+      others = λ q other. refl;
+    }
 doubled (suc n) work name ls rest found unbatched few room =
     let twice : length (ls ++ ls) ≡ length ls + length ls = length-append ls ls in
     let long : length ls + length ls ≤ doubles n (length ls + length ls) = grows n (length ls + length ls) in
@@ -100,4 +122,8 @@ doubled (suc n) work name ls rest found unbatched few room =
           ∙ ap (ok_line ∷◌) later.same_replies;
       found = later.found;
       long = later.long ∙ ap (doubles n) twice;
+      unbatched = later.unbatched;
+      steps = let s = later.steps in omega arith;
+      same_versions = later.same_versions ∙ joined-versions work name ls found unbatched;
+      others = λ q other. later.others q other ∙ joined-others work name ls found unbatched q other;
     }

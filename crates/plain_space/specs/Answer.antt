@@ -1,19 +1,21 @@
 -- What a command answers on a plain workspace, row by row of the tables of commands.
-use Rattle.std.specs.Prelude.{ℕ, ◌+◌, List, [], ◌∷◌, ◌++◌, Some, None, is_some, length, map as each, slice_get, slice_range, Result, Ok, Err}
+use Rattle.std.specs.Prelude.{ℕ, ◌+◌, Bool, true, false, List, [], ◌∷◌, ◌++◌, Some, None, is_some, length, map as each, slice_get, slice_range, Result, Ok, Err}
 use Rattle.std.specs.Fmt.{decimal}
 use lib.Chars.{codes}
 use Rattle.std.specs.FinMap as map
 use Rattle.plain_space.specs.declared.refusal.Refusal.{Refusal}
 use Rattle.plain_space.specs.declared.refusal.Refusal.TheVariants.{Absent, Exists, Range, Limit}
 use Rattle.shell_terms.specs.Edit.{Bytes}
-use Rattle.shell_terms.specs.Command.{PlainCommand, edit, mark, unmark, back, undo, redo, begin, «end», abort, get, len, show, list, stars, marks, quit}
-use Rattle.plain_space.specs.Workspace.{State, Workspace, sizes, is_full, version_of, with_current}
+use Rattle.shell_terms.specs.Command.{PlainCommand, edit, mark, unmark, back, undo, redo, begin, «end», abort, get, len, show, list, stars, marks, same, eqv, stats, save, load, quit}
+use Rattle.plain_space.specs.Workspace.{State, Workspace, sizes, same_texts, same_state, is_full, version_of, with_current}
 use Rattle.plain_space.specs.Refusing.{unless, given, on_lines, on_range, room, on_last, outside_batch, on_base}
 use Rattle.plain_space.specs.Edited.{edited}
 
--- What a command comes to that nothing refuses: its reply lines, and the workspace afterwards.
+-- What a command comes to that nothing in the workspace refuses: its reply lines, and the workspace afterwards; or what the
+-- pool or the store has to say, and not the workspace.
 pub data Told : Type 0 where
   tells : (reply : List Bytes) (after : Workspace) → Told
+  elsewhere : Told
 
 -- An answer: what the command comes to, or the first refusal that holds, which changes nothing.
 abbrev pub Answer : Type 0
@@ -34,6 +36,11 @@ number_line number = codes "= " ++ decimal number
 -- The reply line that shows a name and a number.
 abbrev pub size_line : Bytes × ℕ → Bytes
 size_line size = codes "= " ++ size.0 ++ codes " " ++ decimal size.1
+
+-- The reply line to a question of equality.
+abbrev pub equal_line : Bool → Bytes
+equal_line true = codes "= yes"
+equal_line false = codes "= no"
 
 -- A command was carried out and left this workspace.
 abbrev pub done : Workspace → Answer
@@ -84,4 +91,13 @@ answer work (show name from to) = asked work (
 answer work list = asked work (Ok (each size_line (sizes work.current) ++ ok_line ∷ []))
 answer work stars = asked work (Ok (each text_line (map.keys work.current.stars) ++ ok_line ∷ []))
 answer work marks = asked work (Ok (each text_line (map.keys work.versions) ++ ok_line ∷ []))
+answer work (same name other) = asked work (
+    on_lines work.current name (λ lines.
+    on_lines work.current other (λ others. Ok (equal_line (same_texts lines others) ∷ []))))
+answer work (eqv version other) = asked work (
+    given (version_of work version) Absent (λ state.
+    given (version_of work other) Absent (λ others. Ok (equal_line (same_state state others) ∷ []))))
+answer work stats = Ok elsewhere
+answer work (save file) = outside_batch work (Ok elsewhere)
+answer work (load file) = outside_batch work (Ok elsewhere)
 answer work quit = done work

@@ -1,9 +1,10 @@
 -- Laws of the plain answer.
 use Rattle.std.specs.Prelude.{◌≡◌, ℕ, ◌<◌, ◌≤◌, List, [], ◌∷◌, None, Some, is_some, length, Ok, Err, IsTrue, MatchResult}
+use Rattle.std.specs.Bool.{Decides}
 use Rattle.plain_space.specs.declared.refusal.Refusal.TheVariants.{Range, Limit}
 use Rattle.shell_terms.specs.Edit.{Bytes, PlainEdit, add, put}
 use Rattle.shell_terms.specs.Command.{edit, back, undo, redo, «end»}
-use Rattle.plain_space.specs.Workspace.{State, Workspace, most, lines_of, in_batch, is_full, version_of, with_current}
+use Rattle.plain_space.specs.Workspace.{State, Workspace, most, lines_of, same_texts, same_state, in_batch, is_full, version_of, with_current}
 use Rattle.plain_space.specs.Edited.{edited}
 use Rattle.plain_space.specs.Answer.{answer, done}
 
@@ -50,3 +51,8 @@ abbrev pub EditsInBatch : Type 0
 EditsInBatch =
     (work : Workspace) (change : PlainEdit) (next : State) → IsTrue (in_batch work) → edited work.current change ≡ Ok next
     → answer work (edit change) ≡ done (record work { current = next })
+
+-- What is the same is equal, and what is equal is the same: of the lines of buffers, and of states.
+pub record SameIsEqual : Type 0 where
+  pub lines : (one other : List Bytes) → Decides (same_texts one other) (one ≡ other)
+  pub states : (one other : State) → Decides (same_state one other) (one ≡ other)

@@ -1,11 +1,14 @@
 -- Worked rows: lists of commands with their replies from a new space.
-use Rattle.std.specs.Prelude.{◌≡◌, List, [], ◌∷◌, ◌++◌, map, replicate}
+use Rattle.std.specs.Prelude.{◌≡◌, ℕ, Bool, true, false, List, [], ◌∷◌, ◌++◌, map, replicate, Ok, Err}
 use Prim.Native.String.{String}
 use lib.Chars.{codes}
 use Rattle.shell_terms.specs.Edit.{Bytes, new, add, set, put, del, cat, cut, copy, drop, star, unstar}
-use Rattle.shell_terms.specs.Command.{PlainCommand, edit, mark, unmark, back, undo, redo, begin, «end», abort, get, len, show, list, stars, marks, quit}
+use Rattle.shell_terms.specs.Command.{PlainCommand, edit, mark, unmark, back, undo, redo, begin, «end», abort, get, len, show, list, stars, marks, same, eqv, stats, save, load, quit}
+use Rattle.plain_space.specs.declared.refusal.Refusal.TheVariants.{Batch}
 use Rattle.plain_space.specs.Workspace.{start}
+use Rattle.plain_space.specs.Answer.{answer, elsewhere}
 use Rattle.plain_space.specs.Cost.{cost}
+use Rattle.plain_space.specs.Memory.{wants_memory}
 use Rattle.plain_space.specs.Session.{replies, from}
 
 -- From a new space, the commands get these reply lines.
@@ -92,11 +95,17 @@ DoublingRow = Replies
     (edit (new a) ∷ edit (add a x) ∷ replicate 32 (edit (cat a a)) ++ len a ∷ [])
     (replicate 33 (codes "ok") ++ lines ("! limit" ∷ "= 2147483648" ∷ []))
 
+-- A buffer with more lines than there is time to compare is the same as its copy, and so are two versions with both.
+abbrev pub DoubledEqualRow : Type 0
+DoubledEqualRow = Replies
+    (edit (new a) ∷ edit (add a x) ∷ replicate 31 (edit (cat a a)) ++ edit (copy a b) ∷ mark v ∷ edit (new c) ∷ edit (drop c) ∷ mark w ∷ replicate 100 (same a b) ++ replicate 100 (eqv v w))
+    (replicate 38 (codes "ok") ++ replicate 200 (codes "= yes"))
+
 -- Stars, and names in byte order.
 abbrev pub StarsRow : Type 0
 StarsRow = Replies
-    (edit (star z) ∷ edit (star z) ∷ edit (new b) ∷ edit (new (codes "B")) ∷ edit (copy b c) ∷ list ∷ stars ∷ edit (unstar y) ∷ undo ∷ list ∷ [])
-    (lines ("ok" ∷ "! exists" ∷ "ok" ∷ "ok" ∷ "ok" ∷ "= B 0" ∷ "= b 0" ∷ "= c 0" ∷ "ok" ∷ "= z" ∷ "ok" ∷ "! none" ∷ "ok" ∷ "= B 0" ∷ "= b 0" ∷ "ok" ∷ []))
+    (edit (star z) ∷ edit (star z) ∷ edit (new b) ∷ edit (new (codes "B")) ∷ edit (copy b c) ∷ same b c ∷ list ∷ stars ∷ edit (unstar y) ∷ undo ∷ list ∷ [])
+    (lines ("ok" ∷ "! exists" ∷ "ok" ∷ "ok" ∷ "ok" ∷ "= yes" ∷ "= B 0" ∷ "= b 0" ∷ "= c 0" ∷ "ok" ∷ "= z" ∷ "ok" ∷ "! none" ∷ "ok" ∷ "= B 0" ∷ "= b 0" ∷ "ok" ∷ []))
 
 -- An edit after an undo empties redo.
 abbrev pub UndoRow : Type 0
@@ -110,11 +119,11 @@ UndoStarRow = Replies
     (edit (star z) ∷ edit (star y) ∷ stars ∷ edit (unstar z) ∷ undo ∷ undo ∷ stars ∷ redo ∷ redo ∷ stars ∷ redo ∷ [])
     (lines ("ok" ∷ "ok" ∷ "= y" ∷ "= z" ∷ "ok" ∷ "ok" ∷ "ok" ∷ "ok" ∷ "= z" ∷ "ok" ∷ "ok" ∷ "ok" ∷ "= y" ∷ "ok" ∷ "! empty" ∷ []))
 
--- Versions are named, listed and taken away.
+-- Versions are named, compared, listed and taken away.
 abbrev pub MarksRow : Type 0
 MarksRow = Replies
-    (mark w ∷ mark w ∷ edit (new a) ∷ mark v ∷ marks ∷ unmark w ∷ back w ∷ unmark w ∷ marks ∷ [])
-    (lines ("ok" ∷ "! exists" ∷ "ok" ∷ "ok" ∷ "= v" ∷ "= w" ∷ "ok" ∷ "ok" ∷ "! none" ∷ "! none" ∷ "= v" ∷ "ok" ∷ []))
+    (mark v ∷ mark v ∷ edit (new a) ∷ mark w ∷ eqv v w ∷ marks ∷ unmark v ∷ back v ∷ unmark v ∷ mark p ∷ marks ∷ [])
+    (lines ("ok" ∷ "! exists" ∷ "ok" ∷ "ok" ∷ "= no" ∷ "= v" ∷ "= w" ∷ "ok" ∷ "ok" ∷ "! none" ∷ "! none" ∷ "ok" ∷ "= p" ∷ "= w" ∷ "ok" ∷ []))
 
 -- A version that is current again can be undone, and stays a version.
 abbrev pub BackRow : Type 0
@@ -131,19 +140,78 @@ BatchRow = Replies
 -- A batch that is given up leaves all as it was, undo and redo too.
 abbrev pub AbortRow : Type 0
 AbortRow = Replies
-    (edit (new a) ∷ edit (add a p) ∷ edit (add a q) ∷ undo ∷ begin ∷ edit (set a 0 x) ∷ get a 0 ∷ abort ∷ get a 0 ∷ end ∷ redo ∷ undo ∷ undo ∷ len a ∷ [])
-    (lines ("ok" ∷ "ok" ∷ "ok" ∷ "ok" ∷ "ok" ∷ "ok" ∷ "= x" ∷ "ok" ∷ "= p" ∷ "! batch" ∷ "ok" ∷ "ok" ∷ "ok" ∷ "= 0" ∷ []))
+    (edit (new a) ∷ edit (add a p) ∷ edit (add a q) ∷ undo ∷ begin ∷ edit (set a 0 x) ∷ get a 0 ∷ save p ∷ abort ∷ get a 0 ∷ end ∷ redo ∷ undo ∷ undo ∷ len a ∷ [])
+    (lines ("ok" ∷ "ok" ∷ "ok" ∷ "ok" ∷ "ok" ∷ "ok" ∷ "= x" ∷ "! batch" ∷ "ok" ∷ "= p" ∷ "! batch" ∷ "ok" ∷ "ok" ∷ "ok" ∷ "= 0" ∷ []))
 
 -- What a batch refuses, and what is refused where none is open.
 abbrev pub InBatchRow : Type 0
 InBatchRow = Replies
-    (end ∷ abort ∷ begin ∷ begin ∷ mark v ∷ unmark v ∷ back v ∷ undo ∷ redo ∷ edit (new a) ∷ end ∷ redo ∷ undo ∷ list ∷ undo ∷ quit ∷ [])
-    (lines ("! batch" ∷ "! batch" ∷ "ok" ∷ "! batch" ∷ "! batch" ∷ "! batch" ∷ "! batch" ∷ "! batch" ∷ "! batch" ∷ "ok" ∷ "ok" ∷ "! empty" ∷ "ok" ∷ "ok" ∷ "! empty" ∷ "ok" ∷ []))
+    (end ∷ abort ∷ begin ∷ begin ∷ mark v ∷ unmark v ∷ back v ∷ undo ∷ redo ∷ save p ∷ load p ∷ eqv v v ∷ edit (new a) ∷ same a a ∷ end ∷ redo ∷ undo ∷ list ∷ undo ∷ quit ∷ [])
+    (lines ("! batch" ∷ "! batch" ∷ "ok" ∷ "! batch" ∷ "! batch" ∷ "! batch" ∷ "! batch" ∷ "! batch" ∷ "! batch" ∷ "! batch" ∷ "! batch" ∷ "! none" ∷ "ok" ∷ "= yes" ∷ "ok" ∷ "! empty" ∷ "ok" ∷ "ok" ∷ "! empty" ∷ "ok" ∷ []))
 
--- Where all codes are alike, a new name's cost counts the names of its map.
-abbrev pub CostRow : Type 0
-CostRow =
+-- Buffers are the same by their lines alone, and both have to be there.
+abbrev pub EqualLinesRow : Type 0
+EqualLinesRow = Replies
+    (edit (new a) ∷ edit (add a x) ∷ same a a ∷ same a b ∷ same b a ∷ edit (copy a b) ∷ same a b ∷ edit (set b 0 y) ∷ same a b ∷ edit (set b 0 x) ∷ same b a ∷ edit (add b x) ∷ same a b ∷ [])
+    (lines ("ok" ∷ "ok" ∷ "= yes" ∷ "! none" ∷ "! none" ∷ "ok" ∷ "= yes" ∷ "ok" ∷ "= no" ∷ "ok" ∷ "= yes" ∷ "ok" ∷ "= no" ∷ []))
+
+-- A version is the same again where a buffer is changed and changed back. It differs by one line, by one name or by stars alone.
+abbrev pub EqualVersionsRow : Type 0
+EqualVersionsRow = Replies
+    (edit (new a) ∷ edit (add a x) ∷ mark v ∷ edit (set a 0 y) ∷ mark p ∷ eqv v p ∷ edit (set a 0 x) ∷ mark w ∷ eqv v w ∷ edit (star z) ∷ mark z ∷ eqv v z ∷ edit (unstar z) ∷ edit (copy a b) ∷ edit (drop a) ∷ mark q ∷ eqv v q ∷ eqv v y ∷ eqv y v ∷ eqv v v ∷ [])
+    (lines ("ok" ∷ "ok" ∷ "ok" ∷ "ok" ∷ "ok" ∷ "= no" ∷ "ok" ∷ "ok" ∷ "= yes" ∷ "ok" ∷ "ok" ∷ "= no" ∷ "ok" ∷ "ok" ∷ "ok" ∷ "ok" ∷ "= no" ∷ "! none" ∷ "! none" ∷ "= yes" ∷ []))
+
+-- Nothing in the workspace refuses to count rows, or outside a batch to save and to load: what these reply isn't said here.
+abbrev pub ElsewhereRow : Type 0
+ElsewhereRow =
+    from start (begin ∷ [])
+    (λ work. answer start stats ∷ answer start (save p) ∷ answer start (load p) ∷ answer work stats ∷ answer work (save p) ∷ answer work (load p) ∷ [])
+    ≡ Ok elsewhere ∷ Ok elsewhere ∷ Ok elsewhere ∷ Ok elsewhere ∷ Err Batch ∷ Err Batch ∷ []
+
+-- The costs of commands by so many bits, in a workspace with two buffers, a star and a version.
+abbrev pub costs : ℕ → List PlainCommand → List ℕ
+costs bits commands =
     from start (edit (new a) ∷ edit (new b) ∷ edit (star z) ∷ mark v ∷ [])
-    (λ work. cost 0 (edit (new c)) work ∷ cost 0 (edit (star a)) work ∷ cost 0 (mark w) work ∷ cost 0 (edit (cut a 0 0 b)) work
-    ∷ cost 0 undo work ∷ cost 0 begin work ∷ cost 32 (edit (new c)) work ∷ cost 32 (edit (add a x)) work ∷ [])
-    ≡ 66 ∷ 65 ∷ 65 ∷ 516 ∷ 64 ∷ 0 ∷ 64 ∷ 65 ∷ []
+    (λ work. map (λ command. cost bits command work) commands)
+
+-- Commands that write the map of the buffers, with names that are there and with new ones.
+abbrev pub on_buffers : List PlainCommand
+on_buffers =
+    edit (new c) ∷ edit (add a x) ∷ edit (set a 0 x) ∷ edit (put a 0 x) ∷ edit (del a 0 0) ∷ edit (cat a b) ∷ edit (cut a 0 0 b)
+    ∷ edit (cut a 0 0 c) ∷ edit (copy a b) ∷ edit (copy a c) ∷ edit (drop a) ∷ []
+
+-- Commands that write the stars or the versions.
+abbrev pub on_names : List PlainCommand
+on_names = edit (star a) ∷ edit (unstar z) ∷ mark w ∷ unmark v ∷ []
+
+-- Commands that write states or lists of states.
+abbrev pub on_states : List PlainCommand
+on_states = back v ∷ undo ∷ redo ∷ end ∷ []
+
+-- Commands that write nothing.
+abbrev pub on_nothing : List PlainCommand
+on_nothing =
+    begin ∷ abort ∷ get a 0 ∷ len a ∷ show a 0 0 ∷ list ∷ stars ∷ marks ∷ same a b ∷ eqv v v ∷ stats ∷ save p ∷ quit ∷ []
+
+-- A cost counts the names of the written map whose codes are alike: all by no bits, and by all bits the name itself.
+pub record CostRow : Type 0 where
+  pub buffers_alike : costs 0 on_buffers ≡ 66 ∷ 66 ∷ 66 ∷ 514 ∷ 514 ∷ 130 ∷ 516 ∷ 516 ∷ 66 ∷ 66 ∷ 66 ∷ []
+  pub buffers_apart : costs 32 on_buffers ≡ 64 ∷ 65 ∷ 65 ∷ 513 ∷ 513 ∷ 129 ∷ 514 ∷ 513 ∷ 65 ∷ 64 ∷ 65 ∷ []
+  pub names_alike : costs 0 on_names ≡ 65 ∷ 65 ∷ 65 ∷ 65 ∷ []
+  pub names_apart : costs 32 on_names ≡ 64 ∷ 65 ∷ 64 ∷ 65 ∷ []
+  pub states : costs 0 on_states ≡ 64 ∷ 64 ∷ 64 ∷ 64 ∷ []
+  pub nothing : costs 0 on_nothing ≡ replicate 13 0
+
+-- Whether each of the commands may want memory.
+abbrev pub wants : List PlainCommand → List Bool
+wants = map wants_memory
+
+-- Memory is wanted where rows are made, names are sorted, or a document is written or read; and not where a command only looks,
+-- begins or gives up a batch, or quits.
+pub record MemoryRow : Type 0 where
+  pub buffers : wants on_buffers ≡ replicate 11 true
+  pub names : wants on_names ≡ replicate 4 true
+  pub states : wants on_states ≡ replicate 4 true
+  pub sorting : wants (list ∷ stars ∷ marks ∷ []) ≡ replicate 3 true
+  pub documents : wants (save p ∷ load p ∷ []) ≡ replicate 2 true
+  pub looking : wants (begin ∷ abort ∷ get a 0 ∷ len a ∷ show a 0 0 ∷ same a b ∷ eqv v v ∷ stats ∷ quit ∷ []) ≡ replicate 9 false

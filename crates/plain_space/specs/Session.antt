@@ -6,7 +6,7 @@ use Rattle.plain_space.specs.declared.refusal.Refusal.TheVariants.{Absent, Exist
 use Rattle.shell_terms.specs.Edit.{Bytes}
 use Rattle.shell_terms.specs.Command.{PlainCommand}
 use Rattle.plain_space.specs.Workspace.{Workspace}
-use Rattle.plain_space.specs.Answer.{Answer, tells, answer}
+use Rattle.plain_space.specs.Answer.{Answer, tells, elsewhere, answer}
 
 -- The word for why a command is refused.
 abbrev pub reason_of : Refusal → Bytes
@@ -22,14 +22,16 @@ reason_of Memory = codes "memory"
 abbrev pub refusal_line : Refusal → Bytes
 refusal_line reason = codes "! " ++ reason_of reason
 
--- The reply lines of an answer.
+-- The reply lines of an answer; of what is said elsewhere there are none here.
 abbrev pub reply_of : Answer → List Bytes
 reply_of (Ok (tells reply after)) = reply
+reply_of (Ok elsewhere) = []
 reply_of (Err reason) = refusal_line reason ∷ []
 
 -- Goes on from the workspace that an answer leaves.
 abbrev pub left_by : {X : Type 0} → Workspace → Answer → (Workspace → X) → X
 left_by work (Ok (tells reply after)) next = next after
+left_by work (Ok elsewhere) next = next work
 left_by work (Err reason) next = next work
 
 -- The reply lines to the commands, one after another, from this workspace.

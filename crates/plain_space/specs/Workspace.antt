@@ -1,8 +1,9 @@
 -- The plain workspace: what a space stands for.
-use Rattle.std.specs.Prelude.{ℕ, ◌-◌, ◌^◌, Bool, ◌&&◌, not, if◌then◌else◌, ◌==◌, List, [], ◌∷◌, ◌++◌, Option, None, is_some, length, map as each}
+use Rattle.std.specs.Prelude.{ℕ, ◌-◌, ◌^◌, Bool, ◌&&◌, not, if◌then◌else◌, ◌==◌, List, [], ◌∷◌, ◌++◌, Option, None, is_some, length, map as each, nat_eq}
 use Rattle.std.specs.Ordering.{nat_cmp}
 use Rattle.std.specs.Cmp.Lexicographic.{slice_cmp}
 use Rattle.std.specs.FinMap as map
+use lib.Pointwise.{pointwise}
 use Rattle.shell_terms.specs.Edit.{Bytes}
 
 -- A finite map from names, in byte order.
@@ -72,6 +73,24 @@ size_of buffer = (buffer.0, length buffer.1)
 -- The names of the buffers with the numbers of their lines, in byte order.
 abbrev pub sizes : State → List (Bytes × ℕ)
 sizes state = each size_of (map.entries state.buffers)
+
+-- Whether two texts are the same bytes.
+abbrev pub same_text : Bytes → Bytes → Bool
+same_text = pointwise nat_eq
+
+-- Whether two lists have the same texts.
+abbrev pub same_texts : List Bytes → List Bytes → Bool
+same_texts = pointwise same_text
+
+-- Whether two buffers have the same name and the same lines.
+abbrev pub same_buffer : Bytes × List Bytes → Bytes × List Bytes → Bool
+same_buffer one other = same_text one.0 other.0 && same_texts one.1 other.1
+
+-- Whether two states have the same buffers and stars.
+abbrev pub same_state : State → State → Bool
+same_state one other =
+    pointwise same_buffer (map.entries one.buffers) (map.entries other.buffers)
+    && same_texts (map.keys one.stars) (map.keys other.stars)
 
 -- ## A workspace
 

@@ -1,5 +1,5 @@
 //! Laws of the plain answer: each function does nothing, and its contract is the law.
-ghost use Rattle.plain_space.specs.Laws.{UndoTakesBack, FullRefuses, FullLines, FullHistories, EditsInBatch};
+ghost use Rattle.plain_space.specs.Laws.{UndoTakesBack, FullRefuses, FullLines, FullHistories, EditsInBatch, SameIsEqual};
 
 /// Outside a batch, an undo takes an edit back.
 pub fn undo_takes_back()
@@ -24,4 +24,9 @@ pub fn full_histories()
 /// In a batch an edit changes the current state alone, however full undo is.
 pub fn edits_in_batch()
     ensures { EditsInBatch }
+{}
+
+/// Buffers have the same lines, and states are the same, just where they are equal.
+pub fn same_is_equal()
+    ensures { SameIsEqual }
 {}

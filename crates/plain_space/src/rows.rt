@@ -1,5 +1,5 @@
 //! Worked commands with their replies, as facts: each function does nothing, and its contract is the fact.
-ghost use Rattle.plain_space.specs.Rows.{RangesRow, MissingRow, PutRow, CutRow, CutItselfRow, CopyRow, DoublingRow, StarsRow, UndoRow, UndoStarRow, MarksRow, BackRow, BatchRow, AbortRow, InBatchRow, CostRow};
+ghost use Rattle.plain_space.specs.Rows.{RangesRow, MissingRow, PutRow, CutRow, CutItselfRow, CopyRow, DoublingRow, DoubledEqualRow, StarsRow, UndoRow, UndoStarRow, MarksRow, BackRow, BatchRow, AbortRow, InBatchRow, EqualLinesRow, EqualVersionsRow, ElsewhereRow, CostRow, MemoryRow};
 
 /// Lines that a buffer doesn't have, and a name that is taken.
 pub fn ranges()
@@ -36,6 +36,11 @@ pub fn doubling()
     ensures { DoublingRow }
 {}
 
+/// A buffer that was doubled is the same as its copy.
+pub fn doubled_equal()
+    ensures { DoubledEqualRow }
+{}
+
 /// Stars, and names in byte order.
 pub fn stars()
     ensures { StarsRow }
@@ -51,7 +56,7 @@ pub fn undo_star()
     ensures { UndoStarRow }
 {}
 
-/// Versions are named, listed and taken away.
+/// Versions are named, compared, listed and taken away.
 pub fn marks()
     ensures { MarksRow }
 {}
@@ -76,7 +81,27 @@ pub fn in_batch()
     ensures { InBatchRow }
 {}
 
-/// Where all codes are alike, a new name's cost counts the names of its map.
+/// Buffers are the same by their lines alone.
+pub fn equal_lines()
+    ensures { EqualLinesRow }
+{}
+
+/// Versions are the same by their buffers and their stars.
+pub fn equal_versions()
+    ensures { EqualVersionsRow }
+{}
+
+/// What the pool or the store has to say, and the workspace doesn't refuse.
+pub fn elsewhere()
+    ensures { ElsewhereRow }
+{}
+
+/// A cost counts the names of the written map whose codes are alike.
 pub fn cost()
     ensures { CostRow }
+{}
+
+/// Which commands may want memory.
+pub fn memory()
+    ensures { MemoryRow }
 {}

@@ -19,4 +19,9 @@ pub data PlainCommand : Type 0 where
   list : PlainCommand
   stars : PlainCommand
   marks : PlainCommand
+  same : (name other : Bytes) → PlainCommand
+  eqv : (version other : Bytes) → PlainCommand
+  stats : PlainCommand
+  save : (file : Bytes) → PlainCommand
+  load : (file : Bytes) → PlainCommand
   quit : PlainCommand

@@ -85,6 +85,16 @@ pub enum Command<'a> {
     Stars,
     /// `marks`: each version.
     Marks,
+    /// `same B C`: whether B and C have the same lines.
+    Same(Name<'a>, Name<'a>),
+    /// `eqv V W`: whether versions V and W have the same buffers and stars.
+    Eqv(Name<'a>, Name<'a>),
+    /// `stats`: the number of rows that the space has.
+    Stats,
+    /// `save F`: the space as a document in the file F.
+    Save(Name<'a>),
+    /// `load F`: the space that the document in the file F stands for.
+    Load(Name<'a>),
     /// `quit`: the end of the run.
     Quit,
 }
@@ -138,6 +148,11 @@ fn read_text(text: &str) -> Result<Command<'_>, BadLine>
         "list" => nothing(rest).map(|()| Command::List),
         "stars" => nothing(rest).map(|()| Command::Stars),
         "marks" => nothing(rest).map(|()| Command::Marks),
+        "same" => two_names(rest).map(|(buffer, other)| Command::Same(buffer, other)),
+        "eqv" => two_names(rest).map(|(version, other)| Command::Eqv(version, other)),
+        "stats" => nothing(rest).map(|()| Command::Stats),
+        "save" => name(rest).map(Command::Save),
+        "load" => name(rest).map(Command::Load),
         "quit" => nothing(rest).map(|()| Command::Quit),
         _ => Err(BadLine::Command),
     }

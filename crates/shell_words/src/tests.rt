@@ -57,6 +57,11 @@ fn parts<'a>(command: Command<'a>) -> Parts<'a> {
         Command::List => ("list", "", "", 0, 0, ""),
         Command::Stars => ("stars", "", "", 0, 0, ""),
         Command::Marks => ("marks", "", "", 0, 0, ""),
+        Command::Same(buffer, other) => ("same", buffer.as_str(), other.as_str(), 0, 0, ""),
+        Command::Eqv(version, other) => ("eqv", version.as_str(), other.as_str(), 0, 0, ""),
+        Command::Stats => ("stats", "", "", 0, 0, ""),
+        Command::Save(file) => ("save", file.as_str(), "", 0, 0, ""),
+        Command::Load(file) => ("load", file.as_str(), "", 0, 0, ""),
         Command::Quit => ("quit", "", "", 0, 0, ""),
     }
 }
@@ -141,6 +146,12 @@ fn reads_other_commands(rt: HostRuntime) {
         ("list", ("list", "", "", 0, 0, "")),
         ("stars", ("stars", "", "", 0, 0, "")),
         ("marks", ("marks", "", "", 0, 0, "")),
+        ("same b c", ("same", "b", "c", 0, 0, "")),
+        ("same b b", ("same", "b", "b", 0, 0, "")),
+        ("eqv v w", ("eqv", "v", "w", 0, 0, "")),
+        ("stats", ("stats", "", "", 0, 0, "")),
+        ("save s.json", ("save", "s.json", "", 0, 0, "")),
+        ("load d", ("load", "d", "", 0, 0, "")),
         ("quit", ("quit", "", "", 0, 0, "")),
     ];
     for (line, want) in rows {
@@ -154,7 +165,7 @@ fn refuses_lines(rt: HostRuntime) {
         // A word that is none, and a wrong number of pieces.
         (
             BadLine::Command,
-            ["", " ", "hello", "New a", " new a", "new\u{a0}a", "save f"],
+            ["", " ", "hello", "New a", " new a", "new\u{a0}a", "sames"],
         ),
         (
             BadLine::Command,
@@ -188,6 +199,18 @@ fn refuses_lines(rt: HostRuntime) {
                 "undo ",
                 "end x",
                 "show a 1",
+            ],
+        ),
+        (
+            BadLine::Command,
+            [
+                "same b",
+                "same b c d",
+                "eqv v",
+                "eqv v w ",
+                "stats x",
+                "save",
+                "load s t",
             ],
         ),
         // A number that doesn't read, also behind what is no name.
@@ -274,6 +297,12 @@ fn refuses_lines(rt: HostRuntime) {
                 "back ",
                 "unmark .",
                 "drop -",
+            ],
+        ),
+        (
+            BadLine::Name,
+            [
+                "same b .", "same . b", "eqv v ", "eqv -v w", "save a/b", "load a/b", "load s\r",
             ],
         ),
     ];

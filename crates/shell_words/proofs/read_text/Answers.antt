@@ -1,7 +1,7 @@
 use Rattle.std.proofs.Common.{◌≡◌, ◌∙◌, sym, refl, ap, None, bytes_eq, rules}
 use Rattle.std.specs.Map.{lookup}
 use Rattle.shell_terms.specs.Edit.{new, add, set, put, del, cat, cut, copy, drop, star, unstar}
-use Rattle.shell_terms.specs.Command.{edit, mark, unmark, back, undo, redo, begin, «end», abort, get, len, show, list, stars, marks, quit}
+use Rattle.shell_terms.specs.Command.{edit, mark, unmark, back, undo, redo, begin, «end», abort, get, len, show, list, stars, marks, same, eqv, stats, save, load, quit}
 use Rattle.elem_core.specs.Shown.{name_bytes, line_bytes}
 use Rattle.shell_words.specs.Grammar.{commands}
 use Rattle.shell_words.specs.Shown.{plain_command}
@@ -183,6 +183,41 @@ returns-in-marks c =
     c.utf8.text (sym c.split_piece.ensures.piece ∙ c.in-marks.is) refl c.split_piece.ensures.rest (c.nothing-in-marks.ensures marks)
     c.map-in-marks.ensures.cases (λ x command is. search rules)
 
+pub returns-in-same : goal.returns-in-same
+unfolding commands
+returns-in-same c =
+    answers_word c.args.text.now _ _ _ c.two_names-in-same.result c.map-in-same.result _ (λ x. same (name_bytes x.0) (name_bytes x.1))
+    c.utf8.text (sym c.split_piece.ensures.piece ∙ c.in-same.is) refl c.split_piece.ensures.rest (c.two_names-in-same.ensures same)
+    c.map-in-same.ensures.cases (λ x command is. search rules)
+
+pub returns-in-eqv : goal.returns-in-eqv
+unfolding commands
+returns-in-eqv c =
+    answers_word c.args.text.now _ _ _ c.two_names-in-eqv.result c.map-in-eqv.result _ (λ x. eqv (name_bytes x.0) (name_bytes x.1))
+    c.utf8.text (sym c.split_piece.ensures.piece ∙ c.in-eqv.is) refl c.split_piece.ensures.rest (c.two_names-in-eqv.ensures eqv)
+    c.map-in-eqv.ensures.cases (λ x command is. search rules)
+
+pub returns-in-stats : goal.returns-in-stats
+unfolding commands
+returns-in-stats c =
+    answers_word c.args.text.now _ _ _ c.nothing-in-stats.result c.map-in-stats.result _ (λ _. stats)
+    c.utf8.text (sym c.split_piece.ensures.piece ∙ c.in-stats.is) refl c.split_piece.ensures.rest (c.nothing-in-stats.ensures stats)
+    c.map-in-stats.ensures.cases (λ x command is. search rules)
+
+pub returns-in-save : goal.returns-in-save
+unfolding commands
+returns-in-save c =
+    answers_word c.args.text.now _ _ _ c.name-in-save.result c.map-in-save.result _ (λ f. save (name_bytes f))
+    c.utf8.text (sym c.split_piece.ensures.piece ∙ c.in-save.is) refl c.split_piece.ensures.rest (c.name-in-save.ensures save)
+    c.map-in-save.ensures.cases (λ x command is. ap plain_command is)
+
+pub returns-in-load : goal.returns-in-load
+unfolding commands
+returns-in-load c =
+    answers_word c.args.text.now _ _ _ c.name-in-load.result c.map-in-load.result _ (λ f. load (name_bytes f))
+    c.utf8.text (sym c.split_piece.ensures.piece ∙ c.in-load.is) refl c.split_piece.ensures.rest (c.name-in-load.ensures load)
+    c.map-in-load.ensures.cases (λ x command is. ap plain_command is)
+
 pub returns-in-quit : goal.returns-in-quit
 unfolding commands
 returns-in-quit c =
@@ -218,6 +253,11 @@ returns-in_default c =
     let no_list = other_word _ _ c.in_default.not-list in
     let no_stars = other_word _ _ c.in_default.not-stars in
     let no_marks = other_word _ _ c.in_default.not-marks in
+    let no_same = other_word _ _ c.in_default.not-same in
+    let no_eqv = other_word _ _ c.in_default.not-eqv in
+    let no_stats = other_word _ _ c.in_default.not-stats in
+    let no_save = other_word _ _ c.in_default.not-save in
+    let no_load = other_word _ _ c.in_default.not-load in
     let no_quit = other_word _ _ c.in_default.not-quit in
-    let none : lookup (bytes_eq c.split_piece.result.0.now) commands ≡ None = rw (no_new, no_add, no_set, no_put, no_del, no_cat, no_cut, no_copy, no_drop, no_star, no_unstar, no_mark, no_unmark, no_back, no_undo, no_redo, no_begin, no_end, no_abort, no_get, no_len, no_show, no_list, no_stars, no_marks, no_quit) refl in
+    let none : lookup (bytes_eq c.split_piece.result.0.now) commands ≡ None = rw (no_new, no_add, no_set, no_put, no_del, no_cat, no_cut, no_copy, no_drop, no_star, no_unstar, no_mark, no_unmark, no_back, no_undo, no_redo, no_begin, no_end, no_abort, no_get, no_len, no_show, no_list, no_stars, no_marks, no_same, no_eqv, no_stats, no_save, no_load, no_quit) refl in
     sym (meaning-unknown c.args.text.now _ c.utf8.text (sym c.split_piece.ensures.piece) none)

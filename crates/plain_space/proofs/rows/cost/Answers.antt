@@ -10,4 +10,11 @@ use Rattle.plain_space.proofs.rows.cost.Goals as goal
 
 pub returns : goal.returns
 unfolding replies from answer edited digits cost text_code
-returns c = simp computing refl
+returns c = record {
+  buffers_alike = simp computing refl;
+  buffers_apart = simp computing refl;
+  names_alike = simp computing refl;
+  names_apart = simp computing refl;
+  states = simp computing refl;
+  nothing = simp computing refl;
+}
