@@ -1,10 +1,29 @@
 pub mod TestLemmas
 pub mod VectorLaw
-mod DamageLemmas
+pub mod DamageLemmas
 pub mod PoolLaws
+pub mod EntriesBelow
 pub mod GroupLemmas
+pub mod TrieTests
 pub mod TrieLaw
 mod History
 pub mod VectorReadings
 pub mod TrieReadings
 pub mod PoolPasses
+mod RowTests
+mod ShapeLemmas
+mod EntryTests
+mod KeptRows
+mod FactLemmas
+mod FactRows
+mod CodeLists
+mod KeptLemmas
+mod DigitSteps
+mod TrieRowLemmas
+mod ChainRowLemmas
+mod RowsKept
+mod CountedLemmas
+mod OrderWalk
+mod OrderTest
+mod DocumentLaw
+mod Refused

@@ -8,7 +8,8 @@ use Rattle.champ_trie.specs.Trie.{IsCanon, code_by}
 use Rattle.pool_check.specs.Tries.{is_canonical, entries_below, tries_stand}
 use Rattle.pool_check.specs.Kinds.{is_trie_root}
 use Rattle.pool_check.proofs.TestLemmas.{leads-down, not-both}
-use Rattle.pool_check.proofs.TrieLaw.{by_bytes, canon-at, range-all}
+use Rattle.pool_check.proofs.TrieTests.{by_bytes}
+use Rattle.pool_check.proofs.TrieLaw.{canon-at, range-all}
 use Rattle.rrb_core.specs.Seq.{IsWellShaped}
 use Rattle.pool_text.specs.Rows.{Bytes}
 use Rattle.pool_text.specs.Pool.{forms_in, row_count}
@@ -36,7 +37,7 @@ get-past [] i past = refl
 get-past (y ∷ ys) zero past = absurd (past (omega arith))
 get-past (y ∷ ys) (suc i) past = get-past ys i (λ low. past (omega (arith, low)))
 
-canonical-at : (P : Pool) → tries_stand P ≡ true → (l : ℕ) → is_canonical (row_count P) (forms_in P) (code_by text_code P.bits) l (forms_in P l) ≡ true
+pub canonical-at : (P : Pool) → tries_stand P ≡ true → (l : ℕ) → is_canonical (row_count P) (forms_in P) (code_by text_code P.bits) l (forms_in P l) ≡ true
 unfolding tries_stand
 canonical-at P h l = elim (cases_lt l (row_count P)) as (λ _. is_canonical (row_count P) (forms_in P) (code_by text_code P.bits) l (forms_in P l) ≡ true) [
   | inl low ↦ range-all (λ k. is_canonical (row_count P) (forms_in P) (code_by text_code P.bits) k (forms_in P k)) 0 (row_count P) l h (omega arith) (omega (arith, low))

@@ -40,7 +40,7 @@ all-counted p (x ∷ xs) h k some = elim (cases_eq x k) as (λ _. p k ≡ true) 
   | inr other ↦ all-counted p xs (and-second (p x) (list_all p xs) h) k (omega (arith, some, count-cons k x xs, test_other x k other))
 ]
 
-lead-back-at : {K : Type 0} (place : ℕ) (rows : List (Form K)) → rows_lead_back place rows ≡ true → (i k : ℕ) → 0 < count k (links_of (slice_get rows i)) → k < place + i
+pub lead-back-at : {K : Type 0} (place : ℕ) (rows : List (Form K)) → rows_lead_back place rows ≡ true → (i k : ℕ) → 0 < count k (links_of (slice_get rows i)) → k < place + i
 lead-back-at place [] h i k some = absurd (omega arith)
 lead-back-at place (row ∷ rows) h zero k some =
     omega (arith, ltb-true k place (all-counted (λ j. nat_lt j place) (links_of (Some row)) (and-first (list_all (λ j. nat_lt j place) (links_of (Some row))) (rows_lead_back (suc place) rows) h) k some))

@@ -1,26 +1,22 @@
 -- In a pool that passes the tests a trie row of depth 0 is the canonical trie of the entries below it.
-use Rattle.std.proofs.Common.{◌≡◌, ◌⊎◌, ℕ, zero, suc, ◌+◌, ◌<◌, ◌≤◌, ◌^◌, Bool, true, false, ◌&&◌, ◌||◌, not, cond, List, [], ◌∷◌, ◌++◌, length, take, drop, map, refl, ap, sym, subst, ◌∙◌, arith, inl, inr, length-append}
-use Rattle.std.specs.Prelude.{Option, Some, None, nat_eq, nat_lt, nat_le, ◌==◌, slice_index, is_some, option_map, option_to_list, count_by}
-use Rattle.std.specs.List.{filter, filter_map, flat_map, list_all, range_with_len, All, cons_option}
-use Rattle.std.specs.Ordering.{nat_cmp, is_lt, is_eq}
+use Rattle.std.proofs.Common.{◌≡◌, ℕ, zero, suc, ◌+◌, ◌<◌, ◌≤◌, ◌^◌, Bool, true, false, ◌&&◌, ◌||◌, not, cond, List, [], ◌∷◌, ◌++◌, length, take, drop, map, refl, ap, sym, subst, ◌∙◌, arith, inl, inr, length-append}
+use Rattle.std.specs.Prelude.{Option, Some, None, nat_eq, nat_lt, nat_le, ◌==◌, slice_index, option_map, option_to_list, count_by}
+use Rattle.std.specs.List.{filter, flat_map, list_all, range_with_len, All}
+use Rattle.std.specs.Ordering.{is_eq}
 use Rattle.std.specs.declared.cmp.Ordering.{Ordering}
 use Rattle.std.specs.declared.cmp.Ordering.TheVariants.{Less, Equal, Greater}
-use Rattle.std.specs.Cmp.Lexicographic.{slice_cmp}
 use Rattle.std.proofs.Math.Nat.{mod-lt}
-use Rattle.std.proofs.lemmas.Bool.{cases_eq, cases_Bool, ne_eqb, eq-eqb, ltb-true, leb-true, eqb-true}
+use Rattle.std.proofs.lemmas.Bool.{cases_eq, cases_Bool, ne_eqb, eq-eqb, ltb-true, leb-true}
 use Rattle.std.proofs.lemmas.List.{append-nil, get_or-take, get_or-drop}
-use Rattle.std.proofs.lemmas.List.Elements.{All-drop, filter-append, filter_map-append}
-use Rattle.std.proofs.lemmas.Grind.{flat_map-append}
+use Rattle.std.proofs.lemmas.List.Elements.{filter-append}
 use lib.Pointwise.{pointwise}
 use Rattle.elem_core.specs.Codes.{digit_at}
 use Rattle.elem_core.specs.declared.codes.TheConstants.{DEEPEST}
 use Rattle.node_heap.specs.Links.{LeadsDown}
-use Rattle.node_heap.specs.Forms.{Form, Forms, cell, node, leaf, inner, trie, chain, pair, state, links_of, links_in}
-use Rattle.rrb_core.proofs.Lists.{flat_map-same}
-use Rattle.rrb_core.proofs.LinkCounts.{all-counted}
+use Rattle.node_heap.specs.Forms.{Form, Forms, node, trie, chain, links_of, links_in}
 use Rattle.champ_chain.specs.Entry.{Entry, entry, key_at}
 use Rattle.champ_trie.specs.Bits.{has, rank}
-use Rattle.champ_trie.specs.Walk.{rows_from, entries_of, own_entries, rows_below, entry_count}
+use Rattle.champ_trie.specs.Walk.{own_entries, rows_below}
 use Rattle.pool_text.specs.Rows.{Bytes}
 use Rattle.std.specs.FinMap.{nat_cmp-IsAntisymmetric, slice_cmp-IsAntisymmetric}
 use Rattle.std.proofs.lemmas.Cmp.{nat_list_cmp_total}
@@ -34,82 +30,10 @@ use Rattle.champ_trie.proofs.BitLemmas.{rank-lt}
 use Rattle.champ_trie.proofs.PlaceLemmas.{place-entry, place-node, place-empty}
 use Rattle.pool_text.specs.Rows.{is_in_range}
 use Rattle.pool_check.specs.Tries.{entry_at, entries_below, entry_passes, first_key, positions, are_apart, is_before, is_sub_node, is_chain_row, has_digit, is_entry_at, is_node_at, agree_above, are_branches, are_chained, all_same, is_canonical}
+use Rattle.pool_check.proofs.EntriesBelow.{own, own-is, rows-low, entries-is}
 use Rattle.pool_check.proofs.GroupLemmas.{positions-length, pointwise-length, Found, found}
 use Rattle.pool_check.proofs.TestLemmas.{and-first, and-second, not-both}
-
-module _ (F : Forms Bytes) (falls : LeadsDown (λ l. l) (links_in F)) where
-  rows-low : (l : ℕ) → All (λ k. k < l) (rows_below (F l))
-  rows-low l = All-drop (λ k. k < l) (entry_count (F l)) (links_in F l) (all-counted (λ k. k < l) (links_in F l) (λ k some. falls l k some))
-
-  pub rows-deep : (n m l : ℕ) → l < n → l < m → rows_from n F l ≡ rows_from m F l
-  unfolding rows_from
-  rows-deep zero m l low low' = absurd (omega (arith, low))
-  rows-deep (suc n) zero l low low' = absurd (omega (arith, low'))
-  rows-deep (suc n) (suc m) l low low' =
-      ap (λ ks. l ∷ ks) (flat_map-same (rows_from n F) (rows_from m F) (rows_below (F l)) (λ i d lt. let below = rows-low l i d lt in rows-deep n m _ (omega (arith, below, low)) (omega (arith, below, low'))))
-
-  rows-is : (n l : ℕ) → l < n → rows_from n F l ≡ l ∷ flat_map (rows_from n F) (rows_below (F l))
-  unfolding rows_from
-  rows-is zero l low = absurd (omega (arith, low))
-  rows-is (suc n) l low =
-      ap (λ ks. l ∷ ks) (flat_map-same (rows_from n F) (rows_from (suc n) F) (rows_below (F l)) (λ i d lt. let below = rows-low l i d lt in rows-deep n (suc n) _ (omega (arith, below, low)) (omega (arith, below, low))))
-
-  -- an entry for each link that names one
-  abbrev pub own : ℕ → List (Entry Bytes)
-  own k = option_to_list (entry_at F k)
-
-  own-map : (xs : List ℕ) → filter_map (entry_at F) xs ≡ flat_map own xs
-  own-map [] = refl
-  own-map (x ∷ xs) = by_entry (entry_at F x) (own-map xs)
-    where
-      by_entry : (o : Option (Entry Bytes)) → filter_map (entry_at F) xs ≡ flat_map own xs → cons_option o (filter_map (entry_at F) xs) ≡ option_to_list o ++ flat_map own xs
-      by_entry None e = e
-      by_entry (Some y) e = ap (λ ys. y ∷ ys) e
-
-  module _ (n : ℕ) where
-    entries-map : (ks : List ℕ) → filter_map (entry_at F) (entries_of F (flat_map (rows_from n F) ks)) ≡ flat_map (entries_below n F) ks
-    unfolding entries_below
-    entries-map [] = refl
-    entries-map (k ∷ ks) =
-        ap (filter_map (entry_at F)) (flat_map-append (λ l. own_entries (F l)) (rows_from n F k) (flat_map (rows_from n F) ks))
-        ∙ filter_map-append (entry_at F) (entries_of F (rows_from n F k)) (entries_of F (flat_map (rows_from n F) ks))
-        ∙ ap (λ es. entries_below n F k ++ es) (entries-map ks)
-
-    -- a row's own entries, and then those below its rows in turn
-    pub entries-is : (l : ℕ) → l < n → entries_below n F l ≡ flat_map own (own_entries (F l)) ++ flat_map (entries_below n F) (rows_below (F l))
-    unfolding entries_below
-    entries-is l low =
-        ap (λ rows. filter_map (entry_at F) (entries_of F rows)) (rows-is n l low)
-        ∙ filter_map-append (entry_at F) (own_entries (F l)) (entries_of F (flat_map (rows_from n F) (rows_below (F l))))
-        ∙ ap (λ es. es ++ filter_map (entry_at F) (entries_of F (flat_map (rows_from n F) (rows_below (F l))))) (own-map (own_entries (F l)))
-        ∙ ap (λ es. flat_map own (own_entries (F l)) ++ es) (entries-map (rows_below (F l)))
-
--- the byte order of texts
-abbrev pub by_bytes : Bytes → Bytes → Ordering
-by_bytes = slice_cmp nat_cmp
-
-less-is : (r : Ordering) → is_lt r ≡ true → r ≡ Less
-less-is Less h = refl
-less-is Equal h = absurd (not-both h)
-less-is Greater h = absurd (not-both h)
-
-before-is : (a : Option Bytes) (b : Bytes) → is_before a (Some b) ≡ true → (key : Bytes) × (a ≡ Some key) × (by_bytes key b ≡ Less)
-before-is None b h = absurd (not-both h)
-before-is (Some a) b h = (a, refl, less-is (by_bytes a b) h)
-
-some-is : (a : Option Bytes) → is_some a ≡ true → (key : Bytes) × (a ≡ Some key)
-some-is None h = absurd (not-both h)
-some-is (Some a) h = (a, refl)
-
-chain-row-is : (r : Option (Form Bytes)) → is_chain_row r ≡ true → (ks : List ℕ) × (r ≡ Some (node chain ks))
-chain-row-is None h = absurd (not-both h)
-chain-row-is (Some (cell _)) h = absurd (not-both h)
-chain-row-is (Some (node leaf _)) h = absurd (not-both h)
-chain-row-is (Some (node (inner _) _)) h = absurd (not-both h)
-chain-row-is (Some (node (trie _ _ _) _)) h = absurd (not-both h)
-chain-row-is (Some (node chain ks)) h = (ks, refl)
-chain-row-is (Some (node pair _)) h = absurd (not-both h)
-chain-row-is (Some (node state _)) h = absurd (not-both h)
+use Rattle.pool_check.proofs.TrieTests.{by_bytes, before-is, some-is, chain-row-is, sub-node-is}
 
 module _ (F : Forms Bytes) (falls : LeadsDown (λ l. l) (links_in F)) (n : ℕ) (code : Bytes → ℕ) (canonical : (l : ℕ) → is_canonical n F code l (F l) ≡ true) where
   -- the chain from a row on
@@ -120,9 +44,6 @@ module _ (F : Forms Bytes) (falls : LeadsDown (λ l. l) (links_in F)) (n : ℕ) 
     pub rows : AreChainRows F (Some l) (first ∷ rest)
     pub rising : IsRising by_bytes (first ∷ rest)
     pub key : first_key F (links_in F l) ≡ Some first.key
-
-  own-is : (k : ℕ) (key : Bytes) → key_at F k ≡ Some key → own F falls k ≡ entry key k ∷ []
-  own-is k key is = ap (λ o. option_to_list (option_map (λ x. entry x k) o)) is
 
   chain-at : (m l : ℕ) → l < m → l < n → (ks : List ℕ) → F l ≡ Some (node chain ks) → ChainAt l
   unfolding AreChainRows
@@ -136,7 +57,7 @@ module _ (F : Forms Bytes) (falls : LeadsDown (λ l. l) (links_in F)) (n : ℕ) 
           record {
             first = entry key.0 k;
             rest = [];
-            is = entries-is F falls n l low ∙ ap (λ r. flat_map (own F falls) (own_entries r) ++ flat_map (entries_below n F) (rows_below r)) is ∙ ap (λ es. (es ++ []) ++ []) (own-is k key.0 key.1);
+            is = entries-is F falls n l low ∙ ap (λ r. flat_map (own F) (own_entries r) ++ flat_map (entries_below n F) (rows_below r)) is ∙ ap (λ es. (es ++ []) ++ []) (own-is F k key.0 key.1);
             rows = record { link = l; next = None; here = refl; row = is; key = key.1; rest = refl };
             rising = (tt, tt);
             key = ap (λ r. first_key F (links_of r)) is ∙ key.1;
@@ -153,8 +74,8 @@ module _ (F : Forms Bytes) (falls : LeadsDown (λ l. l) (links_in F)) (n : ℕ) 
           record {
             first = entry key.0 k;
             rest = next.first ∷ next.rest;
-            is = entries-is F falls n l low ∙ ap (λ r. flat_map (own F falls) (own_entries r) ++ flat_map (entries_below n F) (rows_below r)) is
-                ∙ ap (λ es. (es ++ []) ++ (entries_below n F j ++ [])) (own-is k key.0 key.1) ∙ ap (λ es. entry key.0 k ∷ es) (append-nil (entries_below n F j) ∙ next.is);
+            is = entries-is F falls n l low ∙ ap (λ r. flat_map (own F) (own_entries r) ++ flat_map (entries_below n F) (rows_below r)) is
+                ∙ ap (λ es. (es ++ []) ++ (entries_below n F j ++ [])) (own-is F k key.0 key.1) ∙ ap (λ es. entry key.0 k ∷ es) (append-nil (entries_below n F j) ∙ next.is);
             rows = record { link = l; next = Some j; here = refl; row = is; key = key.1; rest = next.rows };
             rising = ((key.2, above-less by_bytes nat_list_cmp_total key.0 next.first.key key.2 next.rest next.rising.0), next.rising);
             key = ap (λ r. first_key F (links_of r)) is ∙ key.1;
@@ -172,13 +93,13 @@ module _ (F : Forms Bytes) (falls : LeadsDown (λ l. l) (links_in F)) (n : ℕ) 
       let row = chain-row-is (F j) (and-first (is_chain_row (F j)) (is_before (key_at F k) (first_key F (links_in F j)))
       (and-first (is_chain_row (F j) && is_before (key_at F k) (first_key F (links_in F j))) (all_same (map (λ e. code e.key) (entries_below n F l))) (ap (λ r. is_canonical n F code l r) (sym is) ∙ canonical l))) in
       let next : ChainAt j = chain-at (suc j) j (omega arith) (omega (arith, below, low)) row.0 row.1 in
-      let split : entries_below n F l ≡ (own F falls k ++ []) ++ (entries_below n F j ++ []) =
-      entries-is F falls n l low ∙ ap (λ r. flat_map (own F falls) (own_entries r) ++ flat_map (entries_below n F) (rows_below r)) is in
+      let split : entries_below n F l ≡ (own F k ++ []) ++ (entries_below n F j ++ []) =
+      entries-is F falls n l low ∙ ap (λ r. flat_map (own F) (own_entries r) ++ flat_map (entries_below n F) (rows_below r)) is in
       let lower : length (entries_below n F j) ≡ suc (length next.rest) = ap length next.is in
-      let upper : length (entries_below n F l) ≡ length (own F falls k ++ []) + length (entries_below n F j ++ []) = ap length split ∙ length-append (own F falls k ++ []) (entries_below n F j ++ []) in
+      let upper : length (entries_below n F l) ≡ length (own F k ++ []) + length (entries_below n F j ++ []) = ap length split ∙ length-append (own F k ++ []) (entries_below n F j ++ []) in
       let keyed : (key : Bytes) × (key_at F k ≡ Some key) = let key = before-is (key_at F k) next.first.key (ap (is_before (key_at F k)) (sym next.key) ∙ and-second (is_chain_row (F j)) (is_before (key_at F k) (first_key F (links_in F j)))
       (and-first (is_chain_row (F j) && is_before (key_at F k) (first_key F (links_in F j))) (all_same (map (λ e. code e.key) (entries_below n F l))) (ap (λ r. is_canonical n F code l r) (sym is) ∙ canonical l))) in (key.0, key.1) in
-      let one : length (own F falls k ++ []) ≡ 1 = ap (λ es. length (es ++ [])) (own-is k keyed.0 keyed.1) in
+      let one : length (own F k ++ []) ≡ 1 = ap (λ es. length (es ++ [])) (own-is F k keyed.0 keyed.1) in
       let rest : length (entries_below n F j ++ []) ≡ length (entries_below n F j) = ap length (append-nil (entries_below n F j)) in
       let two_entries : 2 ≤ length (entries_below n F l) = omega (arith, upper, one, rest, lower) in (
         two_entries,
@@ -209,18 +130,6 @@ entry-passed F test l h = by_key (key_at F l) refl h
     by_key : (o : Option Bytes) → key_at F l ≡ o → entry_passes test (option_map (λ key. entry key l) o) ≡ true → (key : Bytes) × (key_at F l ≡ Some key) × (list_all test (option_to_list (option_map (λ key. entry key l) (key_at F l))) ≡ true)
     by_key None is h = absurd (not-both h)
     by_key (Some key) is h = (key, is, ap (λ o. list_all test (option_to_list (option_map (λ key. entry key l) o))) is ∙ ap (λ b. b && true) h)
-
-sub-node-is : (depth : ℕ) (r : Option (Form Bytes)) → is_sub_node depth r ≡ true
-    → ((e : ℕ) × (d : ℕ) × (ks : List ℕ) × (r ≡ Some (node (trie (depth + 1) e d) ks))) ⊎ ((ks : List ℕ) × (r ≡ Some (node chain ks)) × (length ks ≡ 2) × (depth ≡ DEEPEST))
-sub-node-is depth None h = absurd (not-both h)
-sub-node-is depth (Some (cell _)) h = absurd (not-both h)
-sub-node-is depth (Some (node leaf _)) h = absurd (not-both h)
-sub-node-is depth (Some (node (inner _) _)) h = absurd (not-both h)
-sub-node-is depth (Some (node (trie c e d) ks)) h =
-    inl (e, d, ks, ap (λ x. Some (node (trie x e d) ks)) (eqb-true c (depth + 1) h))
-sub-node-is depth (Some (node chain ks)) h = inr (ks, refl, eqb-true (length ks) 2 (and-second (depth == DEEPEST) (length ks == 2) h), eqb-true depth DEEPEST (and-first (depth == DEEPEST) (length ks == 2) h))
-sub-node-is depth (Some (node pair _)) h = absurd (not-both h)
-sub-node-is depth (Some (node state _)) h = absurd (not-both h)
 
 module _ (F : Forms Bytes) (falls : LeadsDown (λ l. l) (links_in F)) (n : ℕ) (code : Bytes → ℕ) (canonical : (l : ℕ) → is_canonical n F code l (F l) ≡ true)
     (ranged : (l : ℕ) (r : Form Bytes) → F l ≡ Some r → is_in_range r ≡ true) where
@@ -285,12 +194,12 @@ module _ (F : Forms Bytes) (falls : LeadsDown (λ l. l) (links_in F)) (n : ℕ) 
 
   -- the entries with a digit: those of the entry there, and those below the node there
   part-is : (depth e d l : ℕ) (ks : List ℕ) → Row depth e d l ks → l < n → (p : ℕ)
-      → part by_bytes code depth p (Es l) ≡ filter (λ x. nat_eq (digit depth x) p) (flat_map (own F falls) (take (rank e 32) ks)) ++ filter (λ x. nat_eq (digit depth x) p) (flat_map Es (drop (rank e 32) ks))
+      → part by_bytes code depth p (Es l) ≡ filter (λ x. nat_eq (digit depth x) p) (flat_map (own F) (take (rank e 32) ks)) ++ filter (λ x. nat_eq (digit depth x) p) (flat_map Es (drop (rank e 32) ks))
   part-is depth e d l ks row low p =
-      ap (λ es. filter (λ x. nat_eq (digit depth x) p) es) (entries-is F falls n l low ∙ ap (λ r. flat_map (own F falls) (own_entries r) ++ flat_map Es (rows_below r)) row.row)
-      ∙ filter-append (λ x. nat_eq (digit depth x) p) (flat_map (own F falls) (take (rank e 32) ks)) (flat_map Es (drop (rank e 32) ks))
+      ap (λ es. filter (λ x. nat_eq (digit depth x) p) es) (entries-is F falls n l low ∙ ap (λ r. flat_map (own F) (own_entries r) ++ flat_map Es (rows_below r)) row.row)
+      ∙ filter-append (λ x. nat_eq (digit depth x) p) (flat_map (own F) (take (rank e 32) ks)) (flat_map Es (drop (rank e 32) ks))
 
-  entry-says : (depth q k : ℕ) → is_entry_at n F code depth q k ≡ true → list_all (λ x. nat_eq (digit depth x) q) (own F falls k) ≡ true
+  entry-says : (depth q k : ℕ) → is_entry_at n F code depth q k ≡ true → list_all (λ x. nat_eq (digit depth x) q) (own F k) ≡ true
   entry-says depth q k h = (entry-passed F (has_digit n F code depth q) k h).2
 
   node-says : (depth q k : ℕ) → is_node_at n F code depth q k ≡ true → list_all (λ x. nat_eq (digit depth x) q) (Es k) ≡ true
@@ -329,7 +238,7 @@ module _ (F : Forms Bytes) (falls : LeadsDown (λ l. l) (links_in F)) (n : ℕ) 
         let stands : StandsFor (slice_index (take r ks) (rank e p)) = (
           key.0,
           part-is depth e d l ks row low p ∙ ap (λ es. es ++ filter (λ x. nat_eq (digit depth x) p) (flat_map Es (drop r ks))) found_entry.0
-              ∙ ap (λ es. own F falls (slice_index (take r ks) (rank e p)) ++ es) (nodes.gone (row.apart p small there)) ∙ append-nil (own F falls (slice_index (take r ks) (rank e p)))
+              ∙ ap (λ es. own F (slice_index (take r ks) (rank e p)) ++ es) (nodes.gone (row.apart p small there)) ∙ append-nil (own F (slice_index (take r ks) (rank e p)))
               ∙ ap (λ o. option_to_list (option_map (λ x. entry x (slice_index (take r ks) (rank e p))) o)) key.1,
           key.1,
         ) in
@@ -363,8 +272,8 @@ module _ (F : Forms Bytes) (falls : LeadsDown (λ l. l) (links_in F)) (n : ℕ) 
       NodeFor : ℕ → Type 0
       NodeFor k = (2 ≤ length E) × IsNode left depth k E
 
-      entries : Found (digit depth) (own F falls) (is_entry_at n F code depth) (entry-says depth) e p (take r ks) (rank e p)
-      entries = found (digit depth) (own F falls) (is_entry_at n F code depth) (entry-says depth) e 0 32 (take r ks) p (rank e p) row.entries (omega arith) (omega (arith, small)) (omega (arith, rank-zero e))
+      entries : Found (digit depth) (own F) (is_entry_at n F code depth) (entry-says depth) e p (take r ks) (rank e p)
+      entries = found (digit depth) (own F) (is_entry_at n F code depth) (entry-says depth) e 0 32 (take r ks) p (rank e p) row.entries (omega arith) (omega (arith, small)) (omega (arith, rank-zero e))
 
       nodes : Found (digit depth) Es (is_node_at n F code depth) (node-says depth) d p (drop r ks) (rank d p)
       nodes = found (digit depth) Es (is_node_at n F code depth) (node-says depth) d 0 32 (drop r ks) p (rank d p) row.nodes (omega arith) (omega (arith, small)) (omega (arith, rank-zero d))

@@ -1,8 +1,11 @@
 -- Damage: the first test that a pool fails.
-use Rattle.std.specs.Prelude.{◌≡◌, Bool, true, List, [], ◌∷◌, Option, Some, None, if◌then◌else◌}
+use Rattle.std.specs.Prelude.{◌≡◌, ℕ, Bool, true, List, [], ◌∷◌, Option, Some, None, option_and_then, if◌then◌else◌}
 use Rattle.std.specs.List.{range_with_len}
+use Rattle.std.specs.Option.{option_or}
 use Rattle.std.specs.Str.{bytes_eq}
+use Rattle.pool_text.specs.Rows.{Bytes}
 use Rattle.pool_text.specs.Pool.{order_in, row_count}
+use Rattle.pool_text.specs.Document.{pool_in_bytes, bytes_damage}
 use Rattle.pool_text.specs.declared.pool.Pool.{Pool}
 use Rattle.pool_check.specs.Rows.{rows_in_range, links_lead_back, texts_are_lines}
 use Rattle.pool_check.specs.Vectors.{vectors_stand}
@@ -29,6 +32,11 @@ tests P =
 -- the first test that the pool fails, if any
 unfoldable pub damage : Pool → Option Damage
 damage P = first_failing (tests P)
+
+-- the first of the tests that the bytes fail, if any, in a space of so many bits: one that the document is read by, or else one of
+-- the pool that it stands for
+unfoldable pub document_damage : ℕ → Bytes → Option Damage
+document_damage bits bytes = option_or (bytes_damage bits bytes) (option_and_then damage (pool_in_bytes bytes))
 
 -- a pool that passes every test
 pub record IsValid (P : Pool) : Type 0 where

@@ -1,15 +1,17 @@
 -- Laws of valid pools.
-use Rattle.std.specs.Prelude.{◌≡◌, ◌↔◌, ℕ, true, None}
+use Rattle.std.specs.Prelude.{◌≡◌, ◌↔◌, ℕ, true, length, Some, None}
 use Rattle.std.specs.Ordering.{nat_cmp}
 use Rattle.std.specs.Cmp.Lexicographic.{slice_cmp}
 use Rattle.rrb_core.specs.Seq.{IsWellShaped}
 use Rattle.elem_core.specs.Codes.{text_code}
 use Rattle.champ_trie.specs.Trie.{IsCanon, code_by}
+use Rattle.pool_text.specs.Rows.{Bytes}
 use Rattle.pool_text.specs.Pool.{forms_in, row_count}
+use Rattle.pool_text.specs.Document.{pool_in_bytes}
 use Rattle.pool_text.specs.declared.pool.Pool.{Pool}
 use Rattle.pool_check.specs.Tries.{entries_below}
 use Rattle.pool_check.specs.Kinds.{is_vector_root, is_trie_root}
-use Rattle.pool_check.specs.Damages.{damage, IsValid}
+use Rattle.pool_check.specs.Damages.{damage, document_damage, IsValid}
 
 -- a vector root of a valid pool is the root of a well-shaped vector
 abbrev pub VectorRootsAreGood : Type 0
@@ -22,3 +24,14 @@ TrieRootsAreCanonical = (P : Pool) (l : ℕ) → IsValid P → is_trie_root (for
 -- a pool has no damage exactly where it is valid
 abbrev pub UndamagedIsValid : Type 0
 UndamagedIsValid = (P : Pool) → (damage P ≡ None) ↔ IsValid P
+
+-- the bytes stand for the pool, which is valid, has four roots and keeps so many bits
+pub record IsReadAs (bits : ℕ) (bytes : Bytes) (P : Pool) : Type 0 where
+  pub read : pool_in_bytes bytes ≡ Some P
+  pub kept : P.bits ≡ bits
+  pub roots : length P.roots ≡ 4
+  pub valid : IsValid P
+
+-- bytes without damage stand for a valid pool
+abbrev pub WholeDocumentsStand : Type 0
+WholeDocumentsStand = (bits : ℕ) (bytes : Bytes) → document_damage bits bytes ≡ None → (P : Pool) × IsReadAs bits bytes P

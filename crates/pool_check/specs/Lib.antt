@@ -1,8 +1,13 @@
 pub mod Rows
 pub mod Vectors
+pub mod Shapes
 pub mod Tries
+pub mod Keeping
 pub mod Kinds
+pub mod Facts
 pub mod Damages
+pub mod Counted
+pub mod Checked
 pub mod Passing
 pub mod Readings
 pub mod Laws

@@ -1,9 +1,10 @@
 -- What the tests say of small pools.
-use Rattle.std.specs.Prelude.{◌≡◌, Some, None}
+use Rattle.std.specs.Prelude.{◌≡◌, Some, None, codes}
 use Rattle.pool_text.specs.Documents.{start_pool, two_cells, shared_empties, sub_node, one_line_twice}
-use Rattle.pool_text.specs.declared.damage.Damage.TheVariants.{Row, Link, Text, Vector, Trie, Kind, Order}
+use Rattle.pool_text.specs.Document.{text}
+use Rattle.pool_text.specs.declared.damage.Damage.TheVariants.{Json, Form, Version, Bits, Row, Link, Text, Vector, Trie, Kind, Order}
 use Rattle.pool_check.specs.Documents.{chained, full_history, tall_row, long_pair, forward_link, root_past_end, broken_text, empty_leaf_below, overfull_history, lone_below, two_at_one, wrong_position, turned_chain, trie_for_state, loose_row, turned_roots, turned_lines}
-use Rattle.pool_check.specs.Damages.{damage}
+use Rattle.pool_check.specs.Damages.{damage, document_damage}
 
 -- pools that pass every test
 pub record WholePools : Type 0 where
@@ -32,3 +33,19 @@ pub record DamagedPools : Type 0 where
   pub is_loose_row : damage loose_row ≡ Some Order
   pub is_turned_roots : damage turned_roots ≡ Some Order
   pub is_turned_lines : damage turned_lines ≡ Some Order
+
+-- documents that fail each of the tests, and one that fails none
+pub record WorkedDocuments : Type 0 where
+  pub is_start : document_damage 32 (text start_pool) ≡ None
+  pub is_cut_off : document_damage 32 (codes "{\"bits\":32") ≡ Some Json
+  pub is_three_roots : document_damage 32 (codes "{\"bits\":32,\"format\":\"ewig-pool\",\"roots\":[2,3,4],\"rows\":[],\"version\":1}") ≡ Some Form
+  pub is_later_version : document_damage 32 (codes "{\"bits\":32,\"format\":\"ewig-pool\",\"roots\":[2,3,4,5],\"rows\":[],\"version\":9}") ≡ Some Version
+  pub is_other_bits : document_damage 31 (text start_pool) ≡ Some Bits
+  pub is_tall_row : document_damage 32 (text tall_row) ≡ Some Row
+  pub is_forward_link : document_damage 32 (text forward_link) ≡ Some Link
+  pub is_broken_text : document_damage 32 (text broken_text) ≡ Some Text
+  pub is_empty_leaf_below : document_damage 32 (text empty_leaf_below) ≡ Some Vector
+  pub is_lone_below : document_damage 32 (text lone_below) ≡ Some Trie
+  pub is_trie_for_state : document_damage 32 (text trie_for_state) ≡ Some Kind
+  pub is_loose_row : document_damage 32 (text loose_row) ≡ Some Order
+  pub is_turned_roots : document_damage 32 (text turned_roots) ≡ Some Order

@@ -1,8 +1,8 @@
 //! Laws of valid pools, as the clauses of functions that do nothing.
-ghost use Rattle.pool_check.specs.Laws.{VectorRootsAreGood, TrieRootsAreCanonical, UndamagedIsValid};
+ghost use Rattle.pool_check.specs.Laws.{VectorRootsAreGood, TrieRootsAreCanonical, UndamagedIsValid, WholeDocumentsStand};
 ghost use Rattle.pool_check.specs.Passing.{PoolsPassAsMade};
 ghost use Rattle.pool_check.specs.Readings.{VectorsReadAlike, TriesReadAlike};
-ghost use Rattle.pool_check.specs.Worked.{WholePools, DamagedPools};
+ghost use Rattle.pool_check.specs.Worked.{WholePools, DamagedPools, WorkedDocuments};
 
 /// A vector root of a valid pool is the root of a well-shaped vector.
 pub fn vector_roots_are_good()
@@ -19,6 +19,11 @@ pub fn undamaged_is_valid()
     ensures { UndamagedIsValid }
 {}
 
+/// Bytes without damage stand for a valid pool of four roots, by as many bits as were asked for.
+pub fn whole_documents_stand()
+    ensures { WholeDocumentsStand }
+{}
+
 /// Pools that pass every test.
 pub fn whole_pools()
     ensures { WholePools }
@@ -27,6 +32,11 @@ pub fn whole_pools()
 /// Pools that fail a test and pass those before it.
 pub fn damaged_pools()
     ensures { DamagedPools }
+{}
+
+/// Documents that fail each of the tests, and one that fails none.
+pub fn worked_documents()
+    ensures { WorkedDocuments }
 {}
 
 /// A vector reads alike wherever its rows are renamed, as in a pool.

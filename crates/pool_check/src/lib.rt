@@ -1,9 +1,18 @@
 //! The tests of a pool: which pools are valid, and the damage of those that aren't.
 #![tactic(auto)]
 
+mod checking;
+mod kinds;
 mod laws;
+mod order;
+mod rows;
+mod trie_row;
+mod tries;
+mod vectors;
 
+pub use checking::{Checked, check};
 pub use laws::{
     damaged_pools, pools_pass_as_made, trie_roots_are_canonical, tries_read_alike,
-    undamaged_is_valid, vector_roots_are_good, vectors_read_alike, whole_pools,
+    undamaged_is_valid, vector_roots_are_good, vectors_read_alike, whole_documents_stand,
+    whole_pools, worked_documents,
 };

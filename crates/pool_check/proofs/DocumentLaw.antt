@@ -1,0 +1,93 @@
+-- Bytes without damage stand for a valid pool.
+use Rattle.std.proofs.Common.{◌≡◌, ℕ, Bool, true, false, cond, eqb, Option, Some, None, List, [], ◌∷◌, length, bytes_eq, refl, ap, sym, ◌∙◌}
+use Rattle.std.specs.Prelude.{not, is_some, option_and_then, option_map, codes}
+use Rattle.std.specs.Option.{option_or}
+use Rattle.std.proofs.lemmas.Bool.{eqb-true}
+use Rattle.serde_json.specs.Data.{Data, string, object}
+use Rattle.node_heap.specs.Forms.{Form}
+use Rattle.pool_text.specs.Rows.{Bytes}
+use Rattle.pool_text.specs.Document.{DocumentParts, four, values_at, document_keys, number_in, numbers_in, elements_in, parts_read, parts_from, parts_in, rows_in, pool_from, pool_in, value_in, pool_in_bytes, parts_damage, value_damage, bytes_damage, or_damage}
+use Rattle.pool_text.specs.declared.pool.Pool.{Pool}
+use Rattle.pool_text.specs.declared.damage.Damage.{Damage}
+use Rattle.pool_text.specs.declared.damage.Damage.TheVariants.{Json, Form as FormDamage, Version, Bits, Row}
+use Rattle.pool_check.specs.Damages.{damage, document_damage}
+use Rattle.pool_check.specs.Laws.{IsReadAs}
+use Rattle.pool_check.proofs.DamageLemmas.{undamaged-valid}
+
+-- what is found in two steps
+pub and-then-found : {X Y : Type 0} (f : X → Option Y) (o : Option X) (y : Y) → option_and_then f o ≡ Some y → (x : X) × (o ≡ Some x) × (f x ≡ Some y)
+and-then-found f None y e = absurd (let none : None ≡ Some y = e in cc)
+and-then-found f (Some x) y e = (x, refl, e)
+
+map-found : {X Y : Type 0} (f : X → Y) (o : Option X) (y : Y) → option_map f o ≡ Some y → (x : X) × (f x ≡ y)
+map-found f None y e = absurd (let none : None ≡ Some y = e in cc)
+map-found f (Some x) y e = (x, let same : Some (f x) ≡ Some y = e in cc)
+
+-- what is found where a test is passed
+kept : {X : Type 0} (t : Bool) (o : Option X) (x : X) → cond t o None ≡ Some x → o ≡ Some x
+kept true o x e = e
+kept false o x e = absurd (let none : None ≡ Some x = e in cc)
+
+four-are : (ns rs : List ℕ) → four ns ≡ Some rs → length rs ≡ 4
+four-are (a ∷ b ∷ c ∷ d ∷ []) rs e = let same : Some (a ∷ b ∷ c ∷ d ∷ []) ≡ Some rs = e in let is : rs ≡ a ∷ b ∷ c ∷ d ∷ [] = cc in ap length is
+four-are _ rs e = absurd (let none : None ≡ Some rs = e in cc)
+
+as-four : (q p : DocumentParts) → q ≡ p → length q.roots ≡ 4 → length p.roots ≡ 4
+as-four q p same four = ap (λ (parts : DocumentParts). length parts.roots) (sym same) ∙ four
+
+read-four : (bits roots rows version : Data) (p : DocumentParts) → parts_read bits roots rows version ≡ Some p → length p.roots ≡ 4
+read-four bits roots rows version p e =
+    let by_bits = and-then-found (λ b. option_and_then (λ rs. option_and_then (λ ds. option_map (λ v. record { bits = b; roots = rs; rows = ds; version = v }) (number_in version)) (elements_in rows)) (option_and_then four (numbers_in roots))) (number_in bits) p e in
+    let by_roots = and-then-found (λ rs. option_and_then (λ ds. option_map (λ v. record { bits = by_bits.0; roots = rs; rows = ds; version = v }) (number_in version)) (elements_in rows)) (option_and_then four (numbers_in roots)) p by_bits.2 in
+    let by_rows = and-then-found (λ ds. option_map (λ v. record { bits = by_bits.0; roots = by_roots.0; rows = ds; version = v }) (number_in version)) (elements_in rows) p by_roots.2 in
+    let by_version = map-found (λ v. record { bits = by_bits.0; roots = by_roots.0; rows = by_rows.0; version = v }) (number_in version) p by_rows.2 in
+    let by_four = and-then-found four (numbers_in roots) by_roots.0 by_roots.1 in
+    as-four (record { bits = by_bits.0; roots = by_roots.0; rows = by_rows.0; version = by_version.0 }) p by_version.1 (four-are by_four.0 by_roots.0 by_four.2)
+
+from-four : (ds : List Data) (p : DocumentParts) → parts_from ds ≡ Some p → length p.roots ≡ 4
+from-four (bits ∷ string format ∷ roots ∷ rows ∷ version ∷ []) p e =
+    read-four bits roots rows version p (kept (bytes_eq format (codes "ewig-pool")) (parts_read bits roots rows version) p e)
+from-four _ p e = absurd (let none : None ≡ Some p = e in cc)
+
+parts-four : (d : Data) (p : DocumentParts) → parts_in d ≡ Some p → length p.roots ≡ 4
+parts-four (object ms) p e = let found = and-then-found parts_from (values_at document_keys ms) p e in from-four found.0 p found.2
+parts-four _ p e = absurd (let none : None ≡ Some p = e in cc)
+
+no-damage : {X : Type 0} (d : Damage) (next : X → Option Damage) (o : Option X) → or_damage d next o ≡ None → (x : X) × (o ≡ Some x) × (next x ≡ None)
+no-damage d next None e = absurd (let some : Some d ≡ None = e in cc)
+no-damage d next (Some x) e = (x, refl, e)
+
+both-none : (a b : Option Damage) → option_or a b ≡ None → (a ≡ None) × (b ≡ None)
+both-none None b e = (refl, e)
+both-none (Some d) b e = absurd (let some : Some d ≡ None = e in cc)
+
+-- the two tests after that of the version are passed
+both-passed : (version bits : Bool) (rows : Option (List (Form Bytes))) → cond (not version) (Some Version) (cond (not bits) (Some Bits) (cond (is_some rows) None (Some Row))) ≡ None
+    → (bits ≡ true) × (found : List (Form Bytes)) × (rows ≡ Some found)
+both-passed false bits rows e = absurd (let some : Some Version ≡ None = e in cc)
+both-passed true false rows e = absurd (let some : Some Bits ≡ None = e in cc)
+both-passed true true None e = absurd (let some : Some Row ≡ None = e in cc)
+both-passed true true (Some found) e = (refl, found, refl)
+
+pool-stands : (bits : ℕ) (bytes : Bytes) → bytes_damage bits bytes ≡ None → (P : Pool) × (pool_in_bytes bytes ≡ Some P) × (P.bits ≡ bits) × (length P.roots ≡ 4)
+unfolding bytes_damage value_damage pool_in
+pool-stands bits bytes e =
+    let value = no-damage Json (value_damage bits) (value_in bytes) e in
+    let parts = no-damage FormDamage (parts_damage bits) (parts_in value.0) value.2 in
+    let p : DocumentParts = parts.0 in
+    let passed = both-passed (eqb p.version 1) (eqb p.bits bits) (rows_in p) parts.2 in
+    let P : Pool = record { bits = p.bits; rows = passed.1; roots = p.roots } in
+    let from : pool_from p ≡ Some P = ap (option_map (λ rows. record { bits = p.bits; rows = rows; roots = p.roots })) passed.2 in (
+      P,
+      ap (option_and_then pool_in) value.1 ∙ ap (option_and_then pool_from) parts.1 ∙ from,
+      eqb-true p.bits bits passed.0,
+      parts-four value.0 p parts.1,
+    )
+
+pub whole-stands : (bits : ℕ) (bytes : Bytes) → document_damage bits bytes ≡ None → (P : Pool) × IsReadAs bits bytes P
+unfolding document_damage
+whole-stands bits bytes whole =
+    let none = both-none (bytes_damage bits bytes) (option_and_then damage (pool_in_bytes bytes)) whole in
+    let stands = pool-stands bits bytes none.0 in
+    let P : Pool = stands.0 in
+    (P, record { read = stands.1; kept = stands.2; roots = stands.3; valid = undamaged-valid P (sym (ap (option_and_then damage) stands.1) ∙ none.1) })

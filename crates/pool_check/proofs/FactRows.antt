@@ -1,0 +1,164 @@
+-- What the tests before that of the roots' kinds say of a row, and the facts of roots.
+use Rattle.std.proofs.Common.{◌≡◌, ℕ, suc, ◌-◌, ◌<◌, ◌≤◌, ◌^◌, Bool, true, false, ◌&&◌, ◌||◌, ltb, leb, List, [], ◌∷◌, length, map, take, drop, get_or, refl, ap, sym, ◌∙◌, arith}
+use Rattle.std.specs.Prelude.{Some, IsTrue, ◌↔◌, ◌==◌, nat_lt, nat_le, count_ones, sum_by}
+use Rattle.std.specs.List.{list_all}
+use Rattle.std.proofs.lemmas.List.{length-map}
+use Rattle.std.proofs.lemmas.Bool.{and_parts, leb-true, ltb-true, false≢true}
+use Rattle.elem_core.specs.Codes.{text_code}
+use Rattle.elem_core.specs.Naming.{IsName, is_name}
+use Rattle.elem_core.specs.declared.codes.TheConstants.{DEEPEST}
+use Rattle.elem_core.proofs.NamingLemmas.{is_name-yes, is_name-no}
+use Rattle.node_heap.specs.Forms.{Form, Forms, node, inner, trie, chain, links_of, links_in}
+use Rattle.champ_trie.specs.Bits.{rank}
+use Rattle.champ_trie.specs.Trie.{code_by}
+use Rattle.champ_trie.proofs.BitLemmas.{count-rank}
+use Rattle.pool_text.specs.Rows.{Bytes, is_between, is_in_range, row_form}
+use Rattle.pool_text.specs.Pool.{forms_in, row_count}
+use Rattle.pool_text.specs.declared.pool.Pool.{Pool}
+use Rattle.pool_text.specs.declared.row.Row.{Row}
+use Rattle.pool_check.specs.Vectors.{has_height, is_thick, length_at, are_children, keeps_fill_rule, vectors_stand}
+use Rattle.pool_check.specs.Tries.{is_canonical}
+use Rattle.pool_check.specs.Rows.{rows_lead_back, links_lead_back}
+use Rattle.pool_check.specs.Kinds.{is_vector_root, is_trie_root, is_state, is_versions_map, is_history, are_roots}
+use Rattle.pool_check.specs.declared.kinds.RowFacts.{RowFacts}
+use Rattle.pool_check.specs.Facts.{are_elements, is_named_state, facts_at, facts_in, no_facts, facts_over_entries, common_facts, HasRowsThatStand}
+use Rattle.pool_check.proofs.TestLemmas.{all-at, leads-down}
+use Rattle.pool_check.proofs.PoolLaws.{canonical-at}
+use Rattle.pool_check.proofs.KeptRows.{form-is, range-is, links-are}
+use Rattle.pool_check.proofs.EntryTests.{trie-has, trie-long, chain-has}
+use Rattle.pool_check.proofs.FactLemmas.{vector-of, trie-of, inner-facts, trie-facts, chain-facts}
+
+pub name-is : (found : Bool) (x : Bytes) → (IsTrue found ↔ IsName x) → found ≡ is_name x
+name-is true x h = sym (is_name-yes x (h.0 refl))
+name-is false x h = sym (is_name-no x (λ named. false≢true (h.1 named)))
+
+-- both links of a pair or of a state are low
+pub first-low : (k v bound : ℕ) → list_all (λ j. ltb j bound) (k ∷ v ∷ []) ≡ true → k < bound
+first-low k v bound h = ltb-true k bound (and_parts (ltb k bound) (ltb v bound && true) h).0
+
+pub second-low : (k v bound : ℕ) → list_all (λ j. ltb j bound) (k ∷ v ∷ []) ≡ true → v < bound
+second-low k v bound h = ltb-true v bound (and_parts (ltb v bound) true (and_parts (ltb k bound) (ltb v bound && true) h).1).0
+
+pub chain-some : (ks : List ℕ) → is_in_range {K = Bytes} (node chain ks) ≡ true → 1 ≤ length ks
+chain-some ks h = leb-true 1 (length ks) (and_parts (leb 1 (length ks)) (leb (length ks) 2) h).0
+
+-- what is known of a pool's row that was read at its place
+pub record IsRead (P : Pool) (l : ℕ) (row : Row) : Type 0 where
+  pub more : l < row_count P
+  pub form : forms_in P l ≡ Some (row_form row)
+  pub ranged : is_in_range (row_form row) ≡ true
+  pub low : list_all (λ k. ltb k l) (links_of (Some (row_form row))) ≡ true
+
+pub read-at : (P : Pool) → HasRowsThatStand P → (l : ℕ) → l < row_count P → (rows : List Row) → map row_form rows ≡ P.rows → (row : Row) → row ≡ get_or rows l row → (given : Row) → row ≡ given → IsRead P l given
+read-at P stand l more rows are row at given is =
+    let low : l < length rows = omega (arith, more, length-map rows row_form, ap (λ (forms : List (Form Bytes)). length forms) are) in
+    record {
+      more = more;
+      form = form-is P rows are l row low at given is;
+      ranged = range-is P rows are l row low at given is stand.in_range;
+      low = links-are P rows are l row low at given is stand.lead_back (links_of (Some (row_form given))) refl;
+    }
+
+module _ (P : Pool) (stand : HasRowsThatStand P) (l : ℕ) (low : l < row_count P) where
+  children-high : (h : ℕ) (ks : List ℕ) → forms_in P l ≡ Some (node (inner h) ks) → list_all (λ k. has_height (h - 1) (forms_in P k)) ks ≡ true
+  unfolding vectors_stand are_children
+  children-high h ks is =
+      let F = forms_in P in
+      let a : Bool = list_all (λ k. has_height (h - 1) (F k)) ks in
+      let b : Bool = list_all (is_thick F (h - 1)) (take (length ks - 1) ks) in
+      let c : Bool = list_all (λ k. nat_le 1 (length (links_in F k))) ks in
+      let d : Bool = nat_lt (sum_by (length_at F (h - 1)) ks) (2 ^ 32) in
+      let kept : (a && b && c && d) ≡ true = all-at (keeps_fill_rule F) P.rows stand.vectors l (node (inner h) ks) is in
+      (and_parts a b (and_parts (a && b) c (and_parts (a && b && c) d kept).0).0).0
+
+  pub inner-is : (h : ℕ) (ks : List ℕ) (all : RowFacts) → forms_in P l ≡ Some (node (inner h) ks) → is_in_range {K = Bytes} (node (inner h) ks) ≡ true → all ≡ common_facts (facts_in P) ks
+      → record no_facts { root = leb 2 (length ks); over_cells = all.over_cells; over_states = all.over_states } ≡ facts_in P l
+  inner-is h ks all is ranged common =
+      let some : 1 ≤ h = leb-true 1 h (and_parts (leb 1 h) (leb h 7) (and_parts (is_between 1 7 h) (is_between 1 32 (length ks)) ranged).0).0 in
+      let next : h ≡ suc (h - 1) = omega (arith, some) in
+      inner-facts (row_count P) (forms_in P) l (h - 1) ks all (is ∙ ap (λ m. Some (node (inner m) ks)) next) (children-high h ks is) common
+
+  module _ (depth e d : ℕ) (ks : List ℕ) (is : forms_in P l ≡ Some (node (trie depth e d) ks)) (ranged : is_in_range {K = Bytes} (node (trie depth e d) ks) ≡ true) where
+    count : count_ones e ≡ rank e 32
+    count =
+        let three = (and_parts (nat_le depth DEEPEST && nat_lt e (2 ^ 32) && nat_lt d (2 ^ 32)) (nat_le (length ks) 32) ranged).0 in
+        let two = (and_parts (nat_le depth DEEPEST && nat_lt e (2 ^ 32)) (nat_lt d (2 ^ 32)) three).0 in
+        count-rank e (ltb-true e (2 ^ 32) (and_parts (nat_le depth DEEPEST) (nat_lt e (2 ^ 32)) two).1)
+
+    canonical : is_canonical (row_count P) (forms_in P) (code_by text_code P.bits) l (Some (node (trie depth e d) ks)) ≡ true
+    canonical = ap (is_canonical (row_count P) (forms_in P) (code_by text_code P.bits) l) (sym is) ∙ canonical-at P stand.tries l
+
+    pub entries-fit : count_ones e ≤ length ks
+    entries-fit = omega (arith, count, trie-long (forms_in P) (leads-down P stand.lead_back) (row_count P) (code_by text_code P.bits) l depth e d ks canonical)
+
+    pub trie-is : (all : RowFacts) → all ≡ facts_over_entries (depth == 0) (common_facts (facts_in P) (take (count_ones e) ks)) (common_facts (facts_in P) (drop (count_ones e) ks)) → all ≡ facts_in P l
+    trie-is all over =
+        let falls = leads-down P stand.lead_back in
+        over ∙ ap (λ r. facts_over_entries (depth == 0) (common_facts (facts_in P) (take r ks)) (common_facts (facts_in P) (drop r ks))) count
+        ∙ trie-facts (row_count P) (forms_in P) falls (code_by text_code P.bits) l depth e d ks low is (trie-has (forms_in P) falls (row_count P) (code_by text_code P.bits) l depth e d ks canonical)
+
+  pub chain-is : (ks : List ℕ) (all : RowFacts) → forms_in P l ≡ Some (node chain ks) → all ≡ facts_over_entries false (common_facts (facts_in P) (take 1 ks)) (common_facts (facts_in P) (drop 1 ks)) → all ≡ facts_in P l
+  chain-is ks all is over =
+      let falls = leads-down P stand.lead_back in
+      let canonical = ap (is_canonical (row_count P) (forms_in P) (code_by text_code P.bits) l) (sym is) ∙ canonical-at P stand.tries l in
+      over ∙ chain-facts (row_count P) (forms_in P) falls (code_by text_code P.bits) l ks low is (chain-has (forms_in P) falls (row_count P) (code_by text_code P.bits) l ks canonical)
+
+-- whether rows of these facts are the first four roots of a pool
+abbrev four_are : RowFacts → RowFacts → RowFacts → RowFacts → Bool
+four_are a b c d = a.state && (b.root && b.over_named_states) && (c.root && c.over_states) && (d.root && d.over_states)
+
+module _ (n : ℕ) (F : Forms Bytes) where
+  abbrev first_four : ℕ → ℕ → ℕ → ℕ → Bool
+  first_four x y z w = is_state n F x && is_versions_map n F y && is_history n F z && is_history n F w
+
+  four-is : (x y z w : ℕ) (a b c d : RowFacts) → a ≡ facts_at n F x → b ≡ facts_at n F y → c ≡ facts_at n F z → d ≡ facts_at n F w → four_are a b c d ≡ first_four x y z w
+  unfolding facts_at
+  four-is x y z w a b c d a_is b_is c_is d_is =
+      let history : ℕ → Bool = λ l. (is_vector_root (F l) || is_trie_root (F l)) && are_elements F (is_state n F) l (F l) in
+      ap (λ r. four_are r b c d) a_is ∙ ap (λ r. four_are (facts_at n F x) r c d) b_is ∙ ap (λ r. four_are (facts_at n F x) (facts_at n F y) r d) c_is
+      ∙ ap (λ r. four_are (facts_at n F x) (facts_at n F y) (facts_at n F z) r) d_is
+      ∙ ap (λ t. is_state n F x && t && history z && history w) (trie-of n F (is_named_state n F) y)
+      ∙ ap (λ t. is_state n F x && is_versions_map n F y && t && history w) (vector-of F (is_state n F) z)
+      ∙ ap (λ t. is_state n F x && is_versions_map n F y && is_history n F z && t) (vector-of F (is_state n F) w)
+
+  module _ (a b c d : RowFacts) where
+    pub record AreFirst (roots : List ℕ) : Type 0 where
+      pub first : a ≡ facts_at n F (get_or roots 0 0)
+      pub second : b ≡ facts_at n F (get_or roots 1 0)
+      pub third : c ≡ facts_at n F (get_or roots 2 0)
+      pub fourth : d ≡ facts_at n F (get_or roots 3 0)
+
+    pub four-roots : (roots : List ℕ) → length roots ≡ 4 → AreFirst roots → four_are a b c d ≡ are_roots n F roots
+    unfolding are_roots
+    four-roots [] count are = absurd (omega (arith, count))
+    four-roots (x ∷ []) count are = absurd (omega (arith, count))
+    four-roots (x ∷ y ∷ []) count are = absurd (omega (arith, count))
+    four-roots (x ∷ y ∷ z ∷ []) count are = absurd (omega (arith, count))
+    four-roots (x ∷ y ∷ z ∷ w ∷ []) count are = four-is x y z w a b c d are.first are.second are.third are.fourth
+    four-roots (x ∷ y ∷ z ∷ w ∷ v ∷ rest) count are = absurd (omega (arith, count))
+
+    pub five-roots : (roots : List ℕ) (batch : RowFacts) → length roots ≡ 5 → AreFirst roots → batch ≡ facts_at n F (get_or roots 4 0) → (four_are a b c d && batch.state) ≡ are_roots n F roots
+    unfolding are_roots facts_at
+    five-roots [] batch count are is = absurd (omega (arith, count))
+    five-roots (x ∷ []) batch count are is = absurd (omega (arith, count))
+    five-roots (x ∷ y ∷ []) batch count are is = absurd (omega (arith, count))
+    five-roots (x ∷ y ∷ z ∷ []) batch count are is = absurd (omega (arith, count))
+    five-roots (x ∷ y ∷ z ∷ w ∷ []) batch count are is = absurd (omega (arith, count))
+    five-roots (x ∷ y ∷ z ∷ w ∷ v ∷ []) batch count are is =
+        ap (λ (r : RowFacts). four_are a b c d && r.state) is ∙ ap (λ t. t && is_state n F v) (four-is x y z w a b c d are.first are.second are.third are.fourth)
+    five-roots (x ∷ y ∷ z ∷ w ∷ v ∷ u ∷ rest) batch count are is = absurd (omega (arith, count))
+
+  pub no-roots : (roots : List ℕ) → (length roots ≡ 4 → ⊥) → (length roots ≡ 5 → ⊥) → false ≡ are_roots n F roots
+  unfolding are_roots
+  no-roots [] four five = refl
+  no-roots (x ∷ []) four five = refl
+  no-roots (x ∷ y ∷ []) four five = refl
+  no-roots (x ∷ y ∷ z ∷ []) four five = refl
+  no-roots (x ∷ y ∷ z ∷ w ∷ []) four five = absurd (four (omega arith))
+  no-roots (x ∷ y ∷ z ∷ w ∷ v ∷ []) four five = absurd (five (omega arith))
+  no-roots (x ∷ y ∷ z ∷ w ∷ v ∷ u ∷ rest) four five = refl
+
+pub roots-low : (P : Pool) → links_lead_back P ≡ true → (bound : ℕ) → bound ≡ row_count P → (roots : List ℕ) → roots ≡ P.roots → list_all (λ k. nat_lt k bound) roots ≡ true
+unfolding links_lead_back
+roots-low P h bound same roots are =
+    ap (λ m. list_all (λ k. nat_lt k m) roots) same ∙ ap (λ ks. list_all (λ k. nat_lt k (row_count P)) ks) are ∙ (and_parts (rows_lead_back 0 P.rows) (list_all (λ k. nat_lt k (row_count P)) P.roots) h).1

@@ -1,0 +1,95 @@
+//! Pools that were checked.
+ghost use Rattle.std.specs.Prelude.{◌≡◌, ◌≢◌, ◌≤◌, length, true, None, Some, Ok, IfOk, IfErr};
+ghost use Rattle.std.specs.List.{list_all};
+ghost use Rattle.pool_text.specs.Rows.{is_in_range};
+ghost use Rattle.pool_check.specs.Damages.{IsValid, damage};
+
+use crate::kinds::roots_are_of_kind;
+use crate::order::rows_in_order;
+use crate::rows::{links_lead_back, texts_are_lines};
+use crate::tries::tries_stand;
+use crate::vectors::vectors_stand;
+use elem_core::{CODE_BITS, NoMemory, Stored};
+use pool_text::{Damage, Pool};
+use std::alloc::Global;
+use std::marker::{Model, PhantomData};
+
+/// A pool of four roots that passes every test, to be loaded as rows over values of `T`. Contracts see the pool.
+#[derive(Drop)]
+pub struct Checked<T: Stored> {
+    pool: Pool,
+    of: PhantomData<T>,
+}
+
+impl<T: Stored> Model for Checked<T> {
+    ghost use Rattle.pool_text.specs.declared.pool.Pool.{Pool};
+    ghost use Rattle.pool_check.specs.Checked.{IsWhole};
+
+    ghost Value = { Pool };
+
+    ghost view = { λ checked. checked.pool };
+
+    ghost invariant = { λ checked. IsWhole checked.pool };
+}
+
+impl<T: Stored> Checked<T> {
+    /// The pool. It takes no memory.
+    pub fn pool(&self) -> &Pool
+        ensures same { result.now ≡ self.now }
+        ensures valid { IsValid result.now }
+        ensures roots { length result.now.roots ≡ 4 }
+        ensures bits { result.now.bits ≤ CODE_BITS }
+    {
+        &self.pool
+    }
+
+    /// The pool, given back. It takes no memory.
+    pub fn into_pool(self) -> Pool
+        ensures { result ≡ self }
+    {
+        self.pool
+    }
+}
+
+/// Makes the tests `Link` to `Order` of a pool of four roots whose rows are in range. Refused with the first that fails, and with
+/// `Memory` where memory runs out. It looks at each row once for each test, and takes time and memory for the rows and their
+/// links, however often a row is shared.
+pub fn check<T: Stored>(alloc: Global, pool: Pool) -> Result<Checked<T>, Damage>
+    requires bits { pool.bits ≤ CODE_BITS }
+    requires roots { length pool.roots ≡ 4 }
+    requires rows { list_all is_in_range pool.rows ≡ true }
+    ensures same { IfOk result (λ checked. checked ≡ pool) }
+    ensures whole { IfOk result (λ _. damage pool ≡ None) }
+    ensures damage { IfErr result (λ d. d ≢ Damage.Memory → damage pool ≡ Some d) }
+{
+    if !links_lead_back(&pool) {
+        return Err(Damage::Link);
+    }
+    if !texts_are_lines(&pool) {
+        return Err(Damage::Text);
+    }
+    if !answer(vectors_stand(alloc, &pool))? {
+        return Err(Damage::Vector);
+    }
+    if !answer(tries_stand(alloc, &pool))? {
+        return Err(Damage::Trie);
+    }
+    if !answer(roots_are_of_kind(alloc, &pool))? {
+        return Err(Damage::Kind);
+    }
+    if !answer(rows_in_order(alloc, &pool))? {
+        return Err(Damage::Order);
+    }
+    Ok(Checked {
+        pool,
+        of: PhantomData,
+    })
+}
+
+// The answer of a test, and `Memory` where it has none.
+fn answer(test: Result<bool, NoMemory>) -> Result<bool, Damage>
+    ensures same { IfOk result (λ passed. test ≡ Ok passed) }
+    ensures memory { IfErr result (λ d. d ≡ Damage.Memory) }
+{
+    test.map_err(|_| Damage::Memory)
+}

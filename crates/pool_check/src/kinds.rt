@@ -1,0 +1,257 @@
+//! The test of the roots' kinds: each row is looked at once, and what it is and is over is kept for the rows above it.
+ghost use Rattle.std.specs.Prelude.{◌≡◌, ℕ, ◌<◌, ◌≤◌, ◌&&◌, true, nat_lt, take, drop, length, IfOk};
+ghost use Rattle.std.specs.List.{list_all};
+ghost use Rattle.node_heap.specs.Forms.{Forms};
+ghost use Rattle.pool_text.specs.Rows.{Bytes};
+ghost use Rattle.pool_text.specs.Pool.{row_count};
+ghost use Rattle.pool_check.specs.Rows.{rows_in_range, links_lead_back, texts_are_lines};
+ghost use Rattle.pool_check.specs.Vectors.{vectors_stand};
+ghost use Rattle.pool_check.specs.Tries.{tries_stand};
+ghost use Rattle.pool_check.specs.Kinds.{are_roots as all_are_roots, roots_are_of_kind as all_are};
+ghost use Rattle.pool_check.specs.Facts.{facts_at, facts_in, no_facts, of_both, AreFacts, common_facts, facts_over_entries, HasRowsThatStand};
+
+use elem_core::{NoMemory, is_name};
+use pool_text::{Pool, Row};
+use std::alloc::Global;
+
+// What is kept of a row: what it is, and what all elements of a vector row or all entries of a trie row or a chain row are.
+#[derive(Clone, Copy)]
+pub struct RowFacts {
+    pub cell: bool,
+    // A cell that is a name.
+    pub name: bool,
+    // A state of a names map and a stars set.
+    pub state: bool,
+    // A pair of a name and a vector of cells.
+    pub named_lines: bool,
+    // A pair of a name and a state.
+    pub named_state: bool,
+    // A row that can be the root of a vector or of a trie.
+    pub root: bool,
+    pub over_cells: bool,
+    pub over_states: bool,
+    pub over_names: bool,
+    pub over_named_lines: bool,
+    pub over_named_states: bool,
+}
+
+const NOTHING: RowFacts = RowFacts {
+    cell: false,
+    name: false,
+    state: false,
+    named_lines: false,
+    named_state: false,
+    root: false,
+    over_cells: false,
+    over_states: false,
+    over_names: false,
+    over_named_lines: false,
+    over_named_states: false,
+};
+
+const EVERYTHING: RowFacts = RowFacts {
+    cell: true,
+    name: true,
+    state: true,
+    named_lines: true,
+    named_state: true,
+    root: true,
+    over_cells: true,
+    over_states: true,
+    over_names: true,
+    over_named_lines: true,
+    over_named_states: true,
+};
+
+// Whether the roots are of their kinds.
+pub fn roots_are_of_kind(alloc: Global, pool: &Pool) -> Result<bool, NoMemory>
+    requires rows { rows_in_range pool.now ≡ true }
+    requires links { links_lead_back pool.now ≡ true }
+    requires texts { texts_are_lines pool.now ≡ true }
+    requires vectors { vectors_stand pool.now ≡ true }
+    requires tries { tries_stand pool.now ≡ true }
+    ensures { IfOk result (λ are. are ≡ all_are pool.now) }
+{
+    let count = pool.rows.as_slice().len();
+    let mut kept = Vec::with_capacity(alloc, count)?;
+    for _place in 0..count {
+        kept.push(row_facts(pool, kept.as_slice()))?;
+    }
+    Ok(are_roots(kept.as_slice(), pool.roots.as_slice()))
+}
+
+// Whether these are the roots of a pool: a state, a versions map and two histories, and in a batch a further state.
+fn are_roots(kept: &[RowFacts], roots: &[u64]) -> bool
+    requires { list_all (λ k. nat_lt k (length kept.now)) roots.now ≡ true }
+    ensures { (n : ℕ) (F : Forms Bytes) → AreFacts (facts_at n F) kept.now → result ≡ all_are_roots n F roots.now }
+{
+    match roots {
+        [current, versions, undo, redo] => are_space(
+            facts_of(kept, *current),
+            facts_of(kept, *versions),
+            facts_of(kept, *undo),
+            facts_of(kept, *redo),
+        ),
+        [current, versions, undo, redo, batch] => are_space(
+            facts_of(kept, *current),
+            facts_of(kept, *versions),
+            facts_of(kept, *undo),
+            facts_of(kept, *redo),
+        ) && facts_of(kept, *batch).state,
+        _ => false,
+    }
+}
+
+// Whether rows of these facts are a state, a versions map and two histories.
+fn are_space(current: RowFacts, versions: RowFacts, undo: RowFacts, redo: RowFacts) -> bool
+    ensures { result ≡ (current.state && (versions.root && versions.over_named_states)
+        && (undo.root && undo.over_states) && (redo.root && redo.over_states)) }
+{
+    current.state && is_versions_map(versions) && is_history(undo) && is_history(redo)
+}
+
+// Whether the row of these facts is the root of a map from names to states.
+fn is_versions_map(root: RowFacts) -> bool
+    ensures { result ≡ (root.root && root.over_named_states) }
+{
+    root.root && root.over_named_states
+}
+
+// Whether the row of these facts is the root of a vector of states.
+fn is_history(root: RowFacts) -> bool
+    ensures { result ≡ (root.root && root.over_states) }
+{
+    root.root && root.over_states
+}
+
+// The facts of the first row of which none are kept.
+fn row_facts(pool: &Pool, kept: &[RowFacts]) -> RowFacts
+    requires stand { HasRowsThatStand pool.now }
+    requires more { length kept.now < row_count pool.now }
+    requires kept { AreFacts (facts_in pool.now) kept.now }
+    ensures { result ≡ facts_in pool.now (length kept.now) }
+{
+    match &pool.rows.as_slice()[kept.len()] {
+        Row::Cell(text) => RowFacts {
+            cell: true,
+            name: is_name(text.as_str()),
+            ..NOTHING
+        },
+        Row::Leaf(links) => {
+            let all = common(kept, links.as_slice());
+            vector_facts(true, all.cell, all.state)
+        }
+        Row::Inner(_, links) => {
+            let all = common(kept, links.as_slice());
+            vector_facts(2 <= links.as_slice().len(), all.over_cells, all.over_states)
+        }
+        Row::Trie {
+            depth,
+            entries,
+            links,
+            ..
+        } => trie_facts(
+            kept,
+            *depth == 0,
+            entries.count_ones() as usize,
+            links.as_slice(),
+        ),
+        Row::Chain(links) => trie_facts(kept, false, 1, links.as_slice()),
+        Row::Pair(key, value) => pair_facts(facts_of(kept, *key), facts_of(kept, *value)),
+        Row::State(names, stars) => RowFacts {
+            state: is_state(facts_of(kept, *names), facts_of(kept, *stars)),
+            ..NOTHING
+        },
+    }
+}
+
+// The facts of a vector row that is a root or not, by whether all its elements are cells, and whether all are states.
+fn vector_facts(root: bool, over_cells: bool, over_states: bool) -> RowFacts
+    ensures { result ≡ record no_facts { root = root; over_cells = over_cells; over_states = over_states } }
+{
+    RowFacts {
+        root,
+        over_cells,
+        over_states,
+        ..NOTHING
+    }
+}
+
+// The facts of a trie row or a chain row, so many of whose links are entries.
+fn trie_facts(kept: &[RowFacts], root: bool, count: usize, links: &[u64]) -> RowFacts
+    requires count { count ≤ length links.now }
+    requires low { list_all (λ k. nat_lt k (length kept.now)) links.now ≡ true }
+    ensures { (facts : ℕ → RowFacts) → AreFacts facts kept.now
+        → result ≡ facts_over_entries root (common_facts facts (take count links.now)) (common_facts facts (drop count links.now)) }
+{
+    let (entries, rows) = links.split_at(count);
+    let own = common(kept, entries);
+    let below = common(kept, rows);
+    RowFacts {
+        root,
+        over_names: own.name & below.over_names,
+        over_named_lines: own.named_lines & below.over_named_lines,
+        over_named_states: own.named_state & below.over_named_states,
+        ..NOTHING
+    }
+}
+
+// The facts of a pair of rows of these facts.
+fn pair_facts(key: RowFacts, value: RowFacts) -> RowFacts
+    ensures { result ≡ record no_facts {
+      named_lines = key.name && (value.root && value.over_cells);
+      named_state = key.name && value.state;
+    } }
+{
+    RowFacts {
+        named_lines: key.name & value.root & value.over_cells,
+        named_state: key.name & value.state,
+        ..NOTHING
+    }
+}
+
+// Whether two rows of these facts are the names map and the stars set of a state.
+fn is_state(names: RowFacts, stars: RowFacts) -> bool
+    ensures { result ≡ ((names.root && names.over_named_lines) && (stars.root && stars.over_names)) }
+{
+    names.root && names.over_named_lines && stars.root && stars.over_names
+}
+
+// The facts that hold of all these rows.
+fn common(kept: &[RowFacts], links: &[u64]) -> RowFacts
+    requires { list_all (λ k. nat_lt k (length kept.now)) links.now ≡ true }
+    ensures { (facts : ℕ → RowFacts) → AreFacts facts kept.now → result ≡ common_facts facts links.now }
+{
+    let mut all = EVERYTHING;
+    for link in links {
+        all = common_to(all, facts_of(kept, *link));
+    }
+    all
+}
+
+// The facts that hold of both rows.
+fn common_to(a: RowFacts, b: RowFacts) -> RowFacts
+    ensures { result ≡ of_both a b }
+{
+    RowFacts {
+        cell: a.cell & b.cell,
+        name: a.name & b.name,
+        state: a.state & b.state,
+        named_lines: a.named_lines & b.named_lines,
+        named_state: a.named_state & b.named_state,
+        root: a.root & b.root,
+        over_cells: a.over_cells & b.over_cells,
+        over_states: a.over_states & b.over_states,
+        over_names: a.over_names & b.over_names,
+        over_named_lines: a.over_named_lines & b.over_named_lines,
+        over_named_states: a.over_named_states & b.over_named_states,
+    }
+}
+
+// The facts of the row that the link names.
+fn facts_of(kept: &[RowFacts], link: u64) -> RowFacts
+    requires { link < length kept.now }
+    ensures { (facts : ℕ → RowFacts) → AreFacts facts kept.now → result ≡ facts link }
+{
+    kept[link as usize]
+}

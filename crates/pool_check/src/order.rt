@@ -1,0 +1,93 @@
+//! The test of the rows' order: a walk from the roots that enters no row twice. Links lead back, so while all is well the rows
+//! that were listed are those before the next one.
+ghost use Rattle.std.specs.Prelude.{◌≡◌, ◌<◌, ◌≤◌, ◌+◌, ◌^◌, true, map, length, Some, slice_get, IfOk, IfSome};
+ghost use Rattle.std.specs.List.{range_with_len};
+ghost use Rattle.node_heap.specs.Forms.{links_of};
+ghost use Rattle.pool_order.specs.Order.{places, with_all_new};
+ghost use Rattle.pool_text.specs.Rows.{row_form};
+ghost use Rattle.pool_check.specs.Rows.{rows_lead_back, links_lead_back};
+ghost use Rattle.pool_check.specs.Damages.{rows_in_order as all_in_order};
+ghost use Rattle.pool_check.specs.Counted.{links_from, CountsOn};
+
+use elem_core::NoMemory;
+use pool_text::{Pool, Row};
+use std::alloc::Global;
+
+// Whether the rows stand in their order, and nothing else stands there.
+pub fn rows_in_order(alloc: Global, pool: &Pool) -> Result<bool, NoMemory>
+    requires { links_lead_back pool.now ≡ true }
+    ensures { IfOk result (λ are. are ≡ all_in_order pool.now) }
+{
+    let rows = pool.rows.as_slice();
+    let mut next: u64 = 0;
+    for root in pool.roots.as_slice() {
+        match next_after(alloc, rows, next, *root)? {
+            Some(after) => next = after,
+            None => return Ok(false),
+        }
+    }
+    Ok(next == rows.len() as u64)
+}
+
+// A row that is being walked, and which of its links comes next.
+#[derive(Clone, Copy, Drop)]
+struct Visit {
+    row: u64,
+    link: usize,
+}
+
+// The row that comes next once the root is listed, where the rows before the next one are listed already. None where another
+// row would be listed in its place.
+fn next_after(
+    alloc: Global,
+    rows: &[Row],
+    mut next: u64,
+    root: u64,
+) -> Result<Option<u64>, NoMemory>
+    requires low { root < length rows.now }
+    requires links { rows_lead_back 0 (map row_form rows.now) ≡ true }
+    ensures { IfOk result (λ after. CountsOn (with_all_new (range_with_len 0 next) (places (length rows.now) (links_from (map row_form rows.now)) root)) after) }
+{
+    if root < next {
+        return Ok(Some(next));
+    }
+    let mut stack = Vec::new(alloc);
+    stack.push(Visit { row: root, link: 0 })?;
+    while let Some(visit) = stack.pop() {
+        match link_at(&rows[visit.row as usize], visit.link) {
+            Some(child) => {
+                stack.push(Visit {
+                    row: visit.row,
+                    link: visit.link + 1,
+                })?;
+                if next <= child {
+                    stack.push(Visit {
+                        row: child,
+                        link: 0,
+                    })?;
+                }
+            }
+            None => {
+                if visit.row != next {
+                    return Ok(None);
+                }
+                next += 1;
+            }
+        }
+    }
+    Ok(Some(next))
+}
+
+// The link at this index of the row, if it has so many.
+fn link_at(row: &Row, index: usize) -> Option<u64>
+    ensures link { result ≡ slice_get (links_of (Some (row_form row.now))) index }
+    ensures fits { IfSome result (λ _. index + 1 < 2 ^ 64) }
+{
+    match row {
+        Row::Cell(_) => None,
+        Row::Leaf(links) | Row::Inner(_, links) | Row::Trie { links, .. } | Row::Chain(links) =>
+            links.as_slice().get(index).copied(),
+        Row::Pair(key, value) => [*key, *value].get(index).copied(),
+        Row::State(names, stars) => [*names, *stars].get(index).copied(),
+    }
+}

@@ -1,0 +1,74 @@
+//! The tests of single rows: links and texts.
+ghost use Rattle.std.specs.Prelude.{◌≡◌, ◌&&◌, ◌==◌, not, Some, nat_lt, nat_le, length};
+ghost use Rattle.std.specs.List.{list_all, list_any};
+ghost use Rattle.node_heap.specs.Forms.{links_of};
+ghost use Rattle.pool_text.specs.Rows.{row_form};
+ghost use Rattle.pool_check.specs.Rows.{is_line_or_node, links_lead_back as all_lead_back, texts_are_lines as all_are_lines};
+
+use elem_core::{MAX_LINE, NEWLINE};
+use pool_text::{Pool, Row};
+
+// Whether every link of a row is smaller than the row's place, and every root than the number of rows.
+pub fn links_lead_back(pool: &Pool) -> bool
+    ensures { result ≡ all_lead_back pool.now }
+{
+    let rows = pool.rows.as_slice();
+    for place in 0..rows.len() {
+        if !leads_below(&rows[place], place as u64) {
+            return false;
+        }
+    }
+    are_below(pool.roots.as_slice(), rows.len() as u64)
+}
+
+// Whether every link of the row is smaller than the bound.
+fn leads_below(row: &Row, bound: u64) -> bool
+    ensures { result ≡ list_all (λ k. nat_lt k bound) (links_of (Some (row_form row.now))) }
+{
+    match row {
+        Row::Cell(_) => true,
+        Row::Leaf(links) | Row::Inner(_, links) | Row::Trie { links, .. } | Row::Chain(links) =>
+            are_below(links.as_slice(), bound),
+        Row::Pair(key, value) => are_below(&[*key, *value], bound),
+        Row::State(names, stars) => are_below(&[*names, *stars], bound),
+    }
+}
+
+fn are_below(links: &[u64], bound: u64) -> bool
+    ensures { result ≡ list_all (λ k. nat_lt k bound) links.now }
+{
+    for link in links {
+        if *link >= bound {
+            return false;
+        }
+    }
+    true
+}
+
+// Whether every cell's text is a line.
+pub fn texts_are_lines(pool: &Pool) -> bool
+    ensures { result ≡ all_are_lines pool.now }
+{
+    for row in pool.rows.as_slice() {
+        if !is_line_or_node_row(row) {
+            return false;
+        }
+    }
+    true
+}
+
+// Whether the row is a cell of a line, or a node.
+fn is_line_or_node_row(row: &Row) -> bool
+    ensures { result ≡ is_line_or_node (row_form row.now) }
+{
+    match row {
+        Row::Cell(text) => is_line(text.as_str()),
+        _ => true,
+    }
+}
+
+fn is_line(text: &str) -> bool
+    ensures { result ≡ (not (list_any (λ b. b == NEWLINE) text.now) && nat_le (length text.now) MAX_LINE) }
+{
+    text.len() <= MAX_LINE && !text.as_bytes().contains(&NEWLINE)
+}

@@ -1,0 +1,107 @@
+//! The test of vector rows: each is looked at once, and its shape is kept for the rows above it.
+ghost use Rattle.std.specs.Prelude.{◌≡◌, ℕ, ◌<◌, ◌≤◌, ◌-◌, true, Some, None, nat_lt, length, IfOk, if◌then◌else◌};
+ghost use Rattle.std.specs.List.{list_all};
+ghost use Rattle.node_heap.specs.Forms.{Forms, links_in, links_of};
+ghost use Rattle.pool_text.specs.Rows.{Bytes, is_in_range, row_form};
+ghost use Rattle.pool_check.specs.Rows.{rows_in_range, links_lead_back};
+ghost use Rattle.pool_check.specs.Vectors.{has_height, are_children, keeps_fill_rule, vectors_stand as all_stand};
+ghost use Rattle.pool_check.specs.Shapes.{shape_at, shape_of, AreShapes};
+
+use elem_core::NoMemory;
+use pool_text::{Pool, Row};
+use std::alloc::Global;
+
+// What is kept of a vector row: its height, its length, whether it and all below it are thick, and whether it has no link.
+#[derive(Clone, Copy)]
+pub struct Shape {
+    pub height: u8,
+    pub length: u32,
+    pub thick: bool,
+    pub bare: bool,
+}
+
+// The fewest links of a thick row.
+const THICK: usize = 16;
+
+// The shape of an inner row of this height with these links, if it keeps the fill rule over rows of these shapes.
+fn inner_shape(shapes: &[Option<Shape>], height: u8, links: &[u64]) -> Option<Shape>
+    requires low { 1 ≤ height }
+    requires below { list_all (λ k. nat_lt k (length shapes.now)) links.now ≡ true }
+    ensures { (F : Forms Bytes) (l : ℕ) → AreShapes F shapes.now → links_in F l ≡ links.now
+        → result ≡ (if are_children F (height - 1) links.now then Some (shape_at F height l) else None) }
+{
+    let mut length: u32 = 0;
+    let mut thick = true;
+    for link in links {
+        let child = child_of(shapes, *link, height - 1)?;
+        if !thick || child.bare {
+            return None;
+        }
+        length = length.checked_add(child.length)?;
+        thick = child.thick;
+    }
+    Some(Shape {
+        height,
+        length,
+        thick: thick && THICK <= links.len(),
+        bare: links.is_empty(),
+    })
+}
+
+// The shape of the row of this height that the link names, if it names one.
+fn child_of(shapes: &[Option<Shape>], link: u64, height: u8) -> Option<Shape>
+    requires { link < length shapes.now }
+    ensures { (F : Forms Bytes) → AreShapes F shapes.now
+        → result ≡ (if has_height height (F link) then Some (shape_at F height link) else None) }
+{
+    let shape = shapes[link as usize]?;
+    if shape.height == height {
+        Some(shape)
+    } else {
+        None
+    }
+}
+
+// The shape of the row, which is none where it isn't a vector row. Refused where it is an inner row that breaks the fill rule.
+fn row_shape(shapes: &[Option<Shape>], row: &Row) -> Option<Option<Shape>>
+    requires range { is_in_range (row_form row.now) ≡ true }
+    requires below { list_all (λ k. nat_lt k (length shapes.now)) (links_of (Some (row_form row.now))) ≡ true }
+    ensures { (F : Forms Bytes) (l : ℕ) → AreShapes F shapes.now → F l ≡ Some (row_form row.now)
+        → result ≡ (if keeps_fill_rule F (row_form row.now) then Some (shape_of F l (Some (row_form row.now))) else None) }
+{
+    match row {
+        Row::Leaf(links) => Some(Some(leaf_shape(links.as_slice()))),
+        Row::Inner(height, links) => Some(Some(inner_shape(shapes, *height, links.as_slice())?)),
+        _ => Some(None),
+    }
+}
+
+// The shape of a leaf with these elements.
+fn leaf_shape(elements: &[u64]) -> Shape
+    requires { length elements.now ≤ 32 }
+    ensures { (F : Forms Bytes) (l : ℕ) → links_in F l ≡ elements.now → result ≡ shape_at F 0 l }
+{
+    Shape {
+        height: 0,
+        length: elements.len() as u32,
+        thick: THICK <= elements.len(),
+        bare: elements.is_empty(),
+    }
+}
+
+// Whether every inner row keeps the fill rule.
+pub fn vectors_stand(alloc: Global, pool: &Pool) -> Result<bool, NoMemory>
+    requires rows { rows_in_range pool.now ≡ true }
+    requires links { links_lead_back pool.now ≡ true }
+    ensures { IfOk result (λ stand. stand ≡ all_stand pool.now) }
+{
+    let rows = pool.rows.as_slice();
+    let mut shapes = Vec::with_capacity(alloc, rows.len())?;
+    for row in rows {
+        match row_shape(shapes.as_slice(), row) {
+            Some(shape) => shapes.push(shape)?,
+            None => return Ok(false),
+        }
+    }
+    Ok(true)
+}
