@@ -1,0 +1,11 @@
+//! Rows of a heap made from a checked pool: the way back from a document.
+//!
+//! Each row of the pool becomes one new row, so that what was shared is shared again and what was apart stays apart, and no row
+//! that was there is looked at. All memory is taken before the first row is made.
+#![tactic(auto)]
+
+mod lengths;
+mod loading;
+mod rows;
+
+pub use loading::load;

@@ -1,0 +1,92 @@
+//! A checked pool, loaded into a heap.
+ghost use Rattle.std.specs.Prelude.{◌≡◌, ℕ, ◌^◌, ◌<◌, ◌≤◌, [], length, map, slice_index, IfOk, OnErr};
+ghost use Rattle.std.specs.Prelude.{vec_capacity};
+ghost use Rattle.node_heap.specs.Links.{count};
+ghost use Rattle.node_heap.specs.Heap.{holds_at, hold_count, IsGraph};
+ghost use Rattle.node_heap.specs.Calls.{Unchanged};
+ghost use Rattle.pool_text.specs.Rows.{row_form};
+ghost use Rattle.pool_text.specs.Pool.{pool_at};
+ghost use Rattle.pool_load.specs.Loads.{Loads, KeepSums, cells_of};
+ghost use Rattle.pool_load.specs.Making.{AreBelow, AreReachedWithout, GivesUp};
+
+use crate::lengths::lengths_of;
+use crate::rows::{hold_places, make_rows};
+use elem_core::{NoMemory, Stored};
+use node_heap::{Heap, Link};
+use pool_check::Checked;
+use pool_text::{Pool, Row};
+use std::alloc::Global;
+
+/// Makes new rows that stand for the pool, one for each of its rows, and gives the links of its roots, each held once for each
+/// of its places there. All memory is taken before the first row is made, so that a refused call changes nothing but spares.
+/// All holds together are below 2^59 before.
+pub fn load<T: Stored>(
+    alloc: Global,
+    heap: &mut Heap<T>,
+    checked: Checked<T>,
+) -> Result<Vec<Link>, NoMemory>
+    requires few { hold_count heap.old < 2 ^ 59 }
+    ensures loads { IfOk result (λ roots. Loads heap.old heap.new roots.items checked) }
+    ensures pool { IfOk result (λ roots. pool_at T.bytes_of heap.new roots.items checked.bits ≡ checked) }
+    ensures roots { IfOk result (λ roots. length roots.items ≡ 4) }
+    ensures sums { IfOk result (λ roots. KeepSums heap.new roots.items) }
+    ensures refused { OnErr result (Unchanged heap.old heap.new) }
+{
+    // The call tells the proof that this is the graph of a heap.
+    let _ = heap.live();
+    let pool = checked.pool();
+    let rows = pool.rows.as_slice();
+    let places = pool.roots.as_slice();
+    let lengths = lengths_of(alloc, rows)?;
+    let mut links = Vec::with_capacity(alloc, rows.len())?;
+    let mut roots = Vec::with_capacity(alloc, places.len())?;
+    let cells = count_cells(rows);
+    heap.reserve(cells, rows.len() - cells)?;
+    let Pool {
+        rows,
+        roots: places,
+        ..
+    } = checked.into_pool();
+    make_rows(heap, rows.into_vec(), lengths.as_slice(), &mut links);
+    hold_places(heap, links.as_slice(), places.as_slice());
+    put_links(&mut roots, links.as_slice(), places.as_slice());
+    release_all(heap, links.as_slice());
+    Ok(roots)
+}
+
+// How many of the rows are cells.
+fn count_cells(rows: &[Row]) -> usize
+    ensures { result ≡ cells_of (map row_form rows.now) }
+{
+    let mut cells = 0;
+    for row in rows {
+        if let Row::Cell(_) = row {
+            cells += 1;
+        }
+    }
+    cells
+}
+
+// Appends the links at these places. There is room for them.
+fn put_links(chosen: &mut Vec<Link>, links: &[Link], places: &[u64])
+    requires empty { chosen.old.items ≡ [] }
+    requires room { length places.now ≤ vec_capacity chosen.old }
+    requires places { AreBelow (length links.now) places.now }
+    ensures { chosen.new.items ≡ map (slice_index links.now) places.now }
+{
+    for place in places {
+        chosen.push_reserved(links[*place as usize]);
+    }
+}
+
+// Gives up a hold of each of these links. Each row stays.
+fn release_all<T: Drop>(heap: &mut Heap<T>, links: &[Link])
+    requires held { (k : ℕ) → count k links.now ≤ holds_at heap.old k }
+    requires reached { AreReachedWithout heap.old links.now }
+    requires graph { IsGraph heap.old }
+    ensures { GivesUp heap.old heap.new links.now }
+{
+    for link in links {
+        heap.release(*link);
+    }
+}
