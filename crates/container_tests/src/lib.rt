@@ -15,10 +15,6 @@ mod kinds;
 #[cfg(test)]
 mod notes;
 #[cfg(test)]
-mod orders;
-#[cfg(test)]
-mod pools;
-#[cfg(test)]
 mod same_root;
 #[cfg(test)]
 mod samples;

@@ -6,7 +6,7 @@ use Rattle.node_heap.specs.declared.row.Head.TheVariants.{Leaf}
 use Rattle.node_heap.specs.Heap.{Heap, row_at, form_at, links_at}
 use Rattle.node_heap.proofs.Counts.{test_other, count-cons}
 use Rattle.pool_text.specs.Pool.{fits_pool}
-use Rattle.container_tests.proofs.pools.gathers_a_leaf_with_its_cell.Goals as goal
+use Rattle.pool_tests.proofs.pools.gathers_a_leaf_with_its_cell.Goals as goal
 
 only : (k c : ℕ) → 0 < count k (c ∷ []) → k ≡ c
 only k c some = elim (cases_eq c k) as (λ _. k ≡ c) [ inl same ↦ sym same | inr other ↦ absurd (omega (arith, some, count-cons k c [], test_other c k other)) ]

@@ -1,6 +1,5 @@
 //! Pools and their documents.
-use crate::samples::text;
-use elem_core::Text;
+use elem_core::{Line, Text, text_of};
 use node_heap::{Head, Heap};
 use pool_order::order;
 use pool_text::{
@@ -14,7 +13,7 @@ use std::test::Fail;
 fn gathers_a_leaf_with_its_cell(rt: HostRuntime) -> Result<(), Fail> {
     let mut heap: Heap<Text> = Heap::new(rt.alloc());
     heap.reserve(1, 1)?;
-    let cell = heap.cell(text(&rt, "x")?);
+    let cell = heap.cell(text_of(rt.alloc(), Line::new("x").ok_or("line")?)?);
     let leaf = heap.node(Head::Leaf, &[cell]);
     let roots = [leaf, leaf];
     let listed = order(rt.alloc(), &heap, &roots)?;

@@ -1,0 +1,107 @@
+//! Documents that are checked, loaded, and written again.
+use elem_core::Text;
+use node_heap::Heap;
+use pool_check::{Checked, check};
+use pool_load::load;
+use pool_text::{Damage, pool_from_bytes, to_bytes};
+use std::test::Fail;
+
+// The pool that the bytes stand for, checked for a space of 32 bits, or what is wrong with them.
+fn checked(rt: &HostRuntime, bytes: &[u8]) -> Result<Checked<Text>, Damage> {
+    check(rt.alloc(), pool_from_bytes(rt.alloc(), bytes, 32)?)
+}
+
+// Documents that fail no test: a new space, the same with its empty rows shared, two equal lines as two cells and as one, and two
+// names in a sub-node; and how many rows each has.
+const WHOLE: [(&[u8], usize); 5] = [
+    (
+        b"{\"bits\":32,\"format\":\"ewig-pool\",\"roots\":[2,3,4,5],\"rows\":[[\"m\",0,0,0,[]],[\"m\",0,0,0,[]],[\"s\",[0,1]],[\"m\",0,0,0,[]],[\"l\",[]],[\"l\",[]]],\"version\":1}",
+        6,
+    ),
+    (
+        b"{\"bits\":32,\"format\":\"ewig-pool\",\"roots\":[1,0,2,2],\"rows\":[[\"m\",0,0,0,[]],[\"s\",[0,0]],[\"l\",[]]],\"version\":1}",
+        3,
+    ),
+    (
+        b"{\"bits\":32,\"format\":\"ewig-pool\",\"roots\":[7,8,9,10],\"rows\":[[\"c\",\"a\"],[\"c\",\"x\"],[\"c\",\"x\"],[\"l\",[1,2]],[\"p\",[0,3]],[\"m\",0,4096,0,[4]],[\"m\",0,0,0,[]],[\"s\",[5,6]],[\"m\",0,0,0,[]],[\"l\",[]],[\"l\",[]]],\"version\":1}",
+        11,
+    ),
+    (
+        b"{\"bits\":32,\"format\":\"ewig-pool\",\"roots\":[6,7,8,9],\"rows\":[[\"c\",\"a\"],[\"c\",\"x\"],[\"l\",[1,1]],[\"p\",[0,2]],[\"m\",0,4096,0,[3]],[\"m\",0,0,0,[]],[\"s\",[4,5]],[\"m\",0,0,0,[]],[\"l\",[]],[\"l\",[]]],\"version\":1}",
+        10,
+    ),
+    (
+        b"{\"bits\":32,\"format\":\"ewig-pool\",\"roots\":[9,10,11,12],\"rows\":[[\"c\",\"a\"],[\"l\",[]],[\"p\",[0,1]],[\"c\",\"A\"],[\"l\",[]],[\"p\",[3,4]],[\"m\",1,4194816,0,[2,5]],[\"m\",0,0,4096,[6]],[\"m\",0,0,0,[]],[\"s\",[7,8]],[\"m\",0,0,0,[]],[\"l\",[]],[\"l\",[]]],\"version\":1}",
+        13,
+    ),
+];
+
+#[test]
+fn checks_and_loads_whole_documents(rt: HostRuntime) -> Result<(), Fail> {
+    for (bytes, rows) in WHOLE {
+        let checked = checked(&rt, bytes)?;
+        assert_eq!(rt; to_bytes(rt.alloc(), checked.pool())?.as_slice(), bytes);
+        let mut heap: Heap<Text> = Heap::new(rt.alloc());
+        let roots = load(rt.alloc(), &mut heap, checked)?;
+        assert_eq!(rt; roots.len(), 4);
+        assert_eq!(rt; heap.live(), rows);
+        assert_eq!(rt; heap.made(), rows as u64);
+    }
+    Ok(())
+}
+
+// Each document fails the test beside it, and those before it in the order of the tests not.
+const DAMAGED: [(&[u8], Damage); 8] = [
+    (
+        b"{\"bits\":32,\"format\":\"ewig-pool\",\"roots\":[0,0,0,0],\"rows\":[[\"l\",[0]]],\"version\":1}",
+        Damage::Link,
+    ),
+    (
+        b"{\"bits\":32,\"format\":\"ewig-pool\",\"roots\":[2,3,4,5],\"rows\":[[\"m\",0,0,0,[]],[\"m\",0,0,0,[]],[\"s\",[0,1]],[\"m\",0,0,0,[]],[\"l\",[]],[\"l\",[]],[\"c\",\"x\\ny\"]],\"version\":1}",
+        Damage::Text,
+    ),
+    (
+        b"{\"bits\":32,\"format\":\"ewig-pool\",\"roots\":[2,3,4,5],\"rows\":[[\"m\",0,0,0,[]],[\"m\",0,0,0,[]],[\"s\",[0,1]],[\"m\",0,0,0,[]],[\"l\",[]],[\"i\",1,[4]]],\"version\":1}",
+        Damage::Vector,
+    ),
+    (
+        b"{\"bits\":32,\"format\":\"ewig-pool\",\"roots\":[1,1,1,1],\"rows\":[[\"c\",\"a\"],[\"m\",1,512,0,[0]]],\"version\":1}",
+        Damage::Trie,
+    ),
+    (
+        b"{\"bits\":32,\"format\":\"ewig-pool\",\"roots\":[3,3,4,5],\"rows\":[[\"m\",0,0,0,[]],[\"m\",0,0,0,[]],[\"s\",[0,1]],[\"m\",0,0,0,[]],[\"l\",[]],[\"l\",[]]],\"version\":1}",
+        Damage::Kind,
+    ),
+    (
+        b"{\"bits\":32,\"format\":\"ewig-pool\",\"roots\":[2,3,4,5],\"rows\":[[\"m\",0,0,0,[]],[\"m\",0,0,0,[]],[\"s\",[0,1]],[\"m\",0,0,0,[]],[\"l\",[]],[\"l\",[]],[\"c\",\"z\"]],\"version\":1}",
+        Damage::Order,
+    ),
+    (
+        b"{\"bits\":32,\"format\":\"ewig-pool\",\"roots\":[2,3,5,4],\"rows\":[[\"m\",0,0,0,[]],[\"m\",0,0,0,[]],[\"s\",[0,1]],[\"m\",0,0,0,[]],[\"l\",[]],[\"l\",[]]],\"version\":1}",
+        Damage::Order,
+    ),
+    (
+        b"{\"bits\":32,\"format\":\"ewig-pool\",\"roots\":[2,3,4,5],\"rows\":[[\"m\",0,0,0,[]],[\"m\",0,0,0,[]],[\"s\",[0,1]],[\"m\",0,0,0,[]],[\"l\",[]],[\"q\",[]]],\"version\":1}",
+        Damage::Row,
+    ),
+];
+
+#[test]
+fn tells_the_damage_of_others(rt: HostRuntime) -> Result<(), Fail> {
+    for (bytes, damage) in DAMAGED {
+        assert_eq!(rt; checked(&rt, bytes).err(), Some(damage));
+    }
+    Ok(())
+}
+
+// A state that stands in undo too is one row, with two owners.
+#[test]
+fn loads_a_shared_state(rt: HostRuntime) -> Result<(), Fail> {
+    let bytes =
+        b"{\"bits\":32,\"format\":\"ewig-pool\",\"roots\":[2,3,4,5],\"rows\":[[\"m\",0,0,0,[]],[\"m\",0,0,0,[]],[\"s\",[0,1]],[\"m\",0,0,0,[]],[\"l\",[2]],[\"l\",[]]],\"version\":1}";
+    let mut heap: Heap<Text> = Heap::new(rt.alloc());
+    let roots = load(rt.alloc(), &mut heap, checked(&rt, bytes.as_slice())?)?;
+    assert_eq!(rt; heap.owners(roots[0]), 2);
+    assert_eq!(rt; heap.owners(roots[1]), 1);
+    Ok(())
+}
