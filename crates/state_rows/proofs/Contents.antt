@@ -210,7 +210,7 @@ module _ {X : Type 0} (F : Forms Bytes) (V : ℕ → Type 0) (bits : ℕ) (R : �
       ap (among q) (sym (same-keys F is.entries is.bindings is.pairs)) ∙ sym (found-among (λ (b : Binding Bytes). b.key) q is.bindings)
       ∙ sym (mapped (λ (b : Binding Bytes). b.value) (find (binds by_bytes q) is.bindings)) ∙ stands-both R _ _ (is.reads q)
 
-  keys-of-entries : SameSet (map (λ e. e.key) is.entries) (finite.keys m)
+  pub keys-of-entries : SameSet (map (λ e. e.key) is.entries) (finite.keys m)
   keys-of-entries = keys-same (map (λ e. e.key) is.entries) m keys-apart keys-there
 
   -- the entries of a map of names that are alike are its names that are alike
@@ -233,7 +233,7 @@ module _ (F : Forms Bytes) (V : ℕ → Type 0) (bits : ℕ) (l : ℕ) (names : 
   pub set-there : (q : Bytes) → among q (map (λ e. e.key) is.entries) ≡ finite.contains_key names q
   set-there q = sym (found-among (λ (e : Entry Bytes). e.key) q is.entries) ∙ sym (mapped (λ (e : Entry Bytes). e.link) (find (has_key by_bytes q) is.entries)) ∙ is.reads q
 
-  keys-of-set : SameSet (map (λ e. e.key) is.entries) (finite.keys names)
+  pub keys-of-set : SameSet (map (λ e. e.key) is.entries) (finite.keys names)
   keys-of-set = keys-same (map (λ e. e.key) is.entries) names set-apart set-there
 
   pub names-alike : (name : Bytes) → alike_to text_code bits name is.entries ≡ alike bits (finite.keys names) name

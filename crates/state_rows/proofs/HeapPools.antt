@@ -61,7 +61,7 @@ unfolding IsWell
 well-there F zero l well = form-there F l _ well.kind
 well-there F (suc n) l well = form-there F l _ well.kind
 
-pool-bits : (n : ℕ) (G : Forms Bytes) (roots : List ℕ) (bits : ℕ) → (pool n G roots bits).bits ≡ bits
+pub pool-bits : (n : ℕ) (G : Forms Bytes) (roots : List ℕ) (bits : ℕ) → (pool n G roots bits).bits ≡ bits
 unfolding pool
 pool-bits n G roots bits = refl
 

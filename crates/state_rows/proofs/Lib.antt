@@ -14,6 +14,7 @@ pub mod PassesRows
 pub mod PassesKinds
 pub mod PassesSpace
 pub mod HeapPools
+pub mod HeapRoots
 pub mod OneSpace
 pub mod ValidSpace
 pub mod WorkedSpaces

@@ -37,13 +37,13 @@ one-there Is one (Some l) (Some x) None first second = absurd second
 one-there Is one (Some l) (Some x) (Some y) first second = ap Some (one l x y first second)
 
 -- a set has nothing at a name but that the name is there
-nothing-else : (a b : Option (Unit {0})) → is_some a ≡ is_some b → a ≡ b
+pub nothing-else : (a b : Option (Unit {0})) → is_some a ≡ is_some b → a ≡ b
 nothing-else None None same = refl
 nothing-else None (Some y) same = absurd (not-both same)
 nothing-else (Some x) None same = absurd (not-both (sym same))
 nothing-else (Some x) (Some y) same = refl
 
-same-names : {X : Type 0} (m n : Named X) → ((name : Bytes) → map.get m name ≡ map.get n name) → m ≡ n
+pub same-names : {X : Type 0} (m n : Named X) → ((name : Bytes) → map.get m name ≡ map.get n name) → m ≡ n
 same-names m n same = same_map nat_list_cmp_total (slice_cmp-IsAntisymmetric nat_cmp-IsAntisymmetric) m n same
 
 module _ (F : Forms Bytes) (V : ℕ → Type 0) (bits : ℕ) where

@@ -28,7 +28,7 @@ use Rattle.champ_trie.proofs.WalkLemmas.{trie-walk, trie-entries}
 use Rattle.champ_kinds.proofs.ZipLemmas.{all-turned}
 use Rattle.pool_check.specs.Tries.{all_same, positions, are_apart, entry_at, entry_passes, first_key, is_before, is_sub_node, is_chain_row, entries_below, has_digit, is_entry_at, is_node_at, agree_above, are_branches, are_chained, is_canonical}
 use Rattle.pool_check.proofs.TestLemmas.{not-both}
-use Rattle.pool_check.proofs.TrieLaw.{rows-deep}
+use Rattle.pool_check.proofs.EntriesBelow.{rows-deep}
 use Rattle.shell_terms.specs.Edit.{Bytes}
 use Rattle.state_rows.proofs.PassesLists.{or-from, most-test, range-pass, same-pass, positions-pass, found-any_order}
 

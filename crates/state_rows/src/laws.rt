@@ -1,10 +1,15 @@
 //! Laws of pools that stand for a workspace, as the clauses of functions that do nothing.
-ghost use Rattle.state_rows.specs.Laws.{OneWorkspace, PoolsStand, ValidPoolsStand};
+ghost use Rattle.state_rows.specs.Laws.{OneWorkspace, PoolsStand, RootsStand, ValidPoolsStand};
 ghost use Rattle.state_rows.specs.Worked.{WorkedSpaces};
 
 /// Roots of a heap that stand for a workspace have a valid pool, which stands for it too.
 pub fn pools_stand()
     ensures { PoolsStand }
+{}
+
+/// Roots of a heap stand for a workspace where their pool does, and the inner rows below them keep their sums.
+pub fn roots_stand()
+    ensures { RootsStand }
 {}
 
 /// A pool stands for one workspace.

@@ -15,7 +15,7 @@ mod row;
 mod start;
 
 pub use frame::states_stay;
-pub use laws::{one_workspace, pools_stand, valid_pools_stand, worked_spaces};
+pub use laws::{one_workspace, pools_stand, roots_stand, valid_pools_stand, worked_spaces};
 pub use list::{marked, sizes, starred};
 pub use look_up::{
     buffer, buffers_alike, count_states, is_starred, last, stars_alike, version, versions_alike,
