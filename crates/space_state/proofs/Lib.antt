@@ -1,7 +1,11 @@
 pub mod Keeping
 pub mod Front
+pub mod PoolRows
+pub mod Taking
+pub mod There
 pub mod Editing
 pub mod Steps
 pub mod Texts
 pub mod Beginning
 pub mod NewPool
+pub mod SameContents

@@ -1,5 +1,5 @@
 -- What questions answer.
-use Rattle.std.specs.Prelude.{◌≡◌, List, None, Result, Ok, Err, IsSomeAnd}
+use Rattle.std.specs.Prelude.{◌≡◌, ◌↔◌, Bool, List, Option, Some, None, Result, Ok, Err, IsTrue, IsSomeAnd, IsOkAnd}
 use Rattle.shell_terms.specs.Edit.{Bytes}
 use Rattle.plain_space.specs.declared.refusal.Refusal.{Refusal}
 use Rattle.plain_space.specs.declared.refusal.Refusal.TheVariants.{Absent, Exists, Range, Limit, Batch, Empty, Memory}
@@ -16,3 +16,9 @@ OnLines W name (Err Limit) IsAnswer IsPast = ⊥
 OnLines W name (Err Batch) IsAnswer IsPast = ⊥
 OnLines W name (Err Empty) IsAnswer IsPast = ⊥
 OnLines W name (Err Memory) IsAnswer IsPast = ⊥
+
+-- what is answered of two that may be there: whether they are equal, or Absent exactly where one of them isn't there
+abbrev pub AreEqual : {X : Type 0} → Option X → Option X → Result Bool Refusal → Type 0
+AreEqual (Some x) (Some y) result = IsOkAnd result (λ same. IsTrue same ↔ (x ≡ y))
+AreEqual (Some x) None result = result ≡ Err Absent
+AreEqual None y result = result ≡ Err Absent

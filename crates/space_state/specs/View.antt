@@ -1,5 +1,5 @@
 -- What contracts see of a space.
-use Rattle.std.specs.Prelude.{◌≡◌, ℕ, ◌+◌, ◌≤◌, Result, MatchResult}
+use Rattle.std.specs.Prelude.{◌≡◌, ℕ, ◌+◌, ◌-◌, ◌^◌, ◌≤◌, [], min, Result, Err, MatchBool, MatchResult}
 use Rattle.node_heap.specs.Heap.{live_count}
 use Rattle.pool_text.specs.Pool.{row_count, pool_at}
 use Rattle.pool_text.specs.declared.pool.Pool.{Pool}
@@ -7,12 +7,13 @@ use Rattle.pool_text.specs.Documents.{start_pool}
 use Rattle.pool_check.specs.Damages.{IsValid}
 use Rattle.shell_terms.specs.Command.{PlainCommand}
 use Rattle.plain_space.specs.declared.refusal.Refusal.{Refusal}
-use Rattle.plain_space.specs.Workspace.{Workspace}
+use Rattle.plain_space.specs.declared.refusal.Refusal.TheVariants.{Batch, Memory}
+use Rattle.plain_space.specs.Workspace.{Workspace, in_batch}
 use Rattle.plain_space.specs.Answer.{answer, done}
 use Rattle.plain_space.specs.Cost.{cost}
 use Rattle.state_rows.specs.Standing.{StandsFor}
 use Rattle.space_state.specs.declared.roots.RootedHeap.{RootedHeap}
-use Rattle.space_state.specs.Roots.{root_list}
+use Rattle.space_state.specs.Roots.{root_list, Keeps}
 use Rattle.space_state.specs.Turns.{IsDue, MadeRises}
 
 -- A space: the pool of its rows, the number of rows that its heap has, and the number that it ever made.
@@ -50,3 +51,26 @@ pub record Ends (command : PlainCommand) (old : SpaceView) (result : Result (Uni
   pub work : Workspace
   pub stands : StandsFor old.pool work
   pub ends : MatchResult result (λ _. CarriesOut command old new work) (Refuses command old new work)
+
+-- The pool is the space's, each of its rows a new one.
+pub record IsTaken (P : Pool) (old new : SpaceView) : Type 0 where
+  pub pool : new.pool ≡ P
+  pub made : new.made ≡ min (old.made + row_count P) (2 ^ 64 - 1)
+
+-- How a call ends that takes a pool: refused with Batch in a batch, and else done, or refused with Memory. What is refused
+-- leaves all as it was.
+abbrev pub EndsTaking : Workspace → Result (Unit {0}) Refusal → Type 0 → Type 0 → Type 0
+EndsTaking W result IsDone IsAsBefore = MatchBool (in_batch W) ((result ≡ Err Batch) × IsAsBefore) (MatchResult result (λ _. IsDone) (λ why. (why ≡ Memory) × IsAsBefore))
+
+-- The same of the rows.
+pub record TakesRows (P : Pool) (old new : RootedHeap) : Type 0 where
+  pub after : Workspace
+  pub keeps : Keeps new [] after
+  pub pool : (shown new).pool ≡ P
+  pub made : new.heap.made ≡ min (old.heap.made + row_count P) (2 ^ 64 - 1)
+
+-- How a call ends that puts a checked pool in place of a space whose pool stands for the workspace.
+pub record Takes (P : Pool) (old : SpaceView) (result : Result (Unit {0}) Refusal) (new : SpaceView) : Type 0 where
+  pub work : Workspace
+  pub stands : StandsFor old.pool work
+  pub ends : EndsTaking work result (IsTaken P old new) (new ≡ old)

@@ -4,10 +4,13 @@
 mod asking;
 mod batches;
 mod buffers;
+mod equality;
 mod histories;
 mod lines;
 mod names;
+mod pooling;
 mod roots;
+mod same;
 mod space;
 mod stars;
 mod start;

@@ -5,16 +5,18 @@ ghost use Rattle.elem_core.specs.Shown.{name_bytes};
 ghost use Rattle.pool_text.specs.Pool.{row_count};
 ghost use Rattle.pool_check.specs.Damages.{IsValid};
 ghost use Rattle.shell_terms.specs.Command.{mark, unmark, back, undo, redo, begin, «end», abort};
-ghost use Rattle.plain_space.specs.Workspace.{Workspace, start, sizes, in_batch, is_full};
+ghost use Rattle.plain_space.specs.Workspace.{Workspace, start, sizes, in_batch, is_full, lines_of, version_of};
 ghost use Rattle.plain_space.specs.Change.{edit_command};
 ghost use Rattle.state_rows.specs.Standing.{StandsFor};
-ghost use Rattle.space_state.specs.Asked.{OnLines};
-ghost use Rattle.space_state.specs.View.{Ends, start_view};
+ghost use Rattle.space_state.specs.Asked.{OnLines, AreEqual};
+ghost use Rattle.space_state.specs.View.{Ends, Takes, start_view};
 
 use crate::lines::SpaceLines;
 use crate::roots::RootedHeap;
 use elem_core::{CODE_BITS, Name, NoMemory, Text};
 use plain_space::{Edit, Refusal};
+use pool_check::Checked;
+use pool_text::Pool;
 use std::alloc::Global;
 use std::marker::Model;
 
@@ -166,6 +168,39 @@ impl Space {
             (λ lines count. count ≡ length lines) (λ lines. ⊥) }
     {
         self.rows.count(buffer)
+    }
+
+    /// Whether the buffers have the same lines. Absent exactly where there is no buffer of one of the names.
+    pub fn same(&self, buffer: Name<'_>, other: Name<'_>) -> Result<bool, Refusal>
+        ensures { (W : Workspace) × StandsFor self.now.pool W
+            × AreEqual (lines_of W.current (name_bytes buffer.entry)) (lines_of W.current (name_bytes other.entry)) result }
+    {
+        self.rows.same(buffer, other)
+    }
+
+    /// Whether the versions have the same buffers and stars. Absent exactly where there is no version of one of the names.
+    pub fn eqv(&self, version: Name<'_>, other: Name<'_>) -> Result<bool, Refusal>
+        ensures { (W : Workspace) × StandsFor self.now.pool W
+            × AreEqual (version_of W (name_bytes version.entry)) (version_of W (name_bytes other.entry)) result }
+    {
+        self.rows.eqv(version, other)
+    }
+
+    /// The pool of the space: its rows, each once, with places for links. It takes time and memory for the rows, their links and
+    /// their texts.
+    pub fn pool(&self, alloc: Global) -> Result<Pool, NoMemory>
+        ensures { IfOk result (λ pool. pool ≡ self.now.pool) }
+    {
+        self.rows.pool(alloc)
+    }
+
+    /// Puts the checked pool in place of the space's, with each of its rows made anew before the old ones are given up.
+    /// `Batch` in a batch. The pool goes by as many bits as the space.
+    pub fn take_pool(&mut self, checked: Checked<Text>) -> Result<(), Refusal>
+        requires bits { checked.bits ≡ self.old.pool.bits }
+        ensures { Takes checked self.old result self.new }
+    {
+        self.rows.take_pool(checked)
     }
 
     /// The number of rows, all of which the pool has: none leaks.

@@ -26,8 +26,8 @@ impl RootedHeap {
         MapRef::at(self.roots.versions, self.bits)
     }
 
-    // The state of the version, None exactly where there is none of this name.
-    fn version(&self, name: Name<'_>) -> Option<Link>
+    /// The state of the version, None exactly where there is none of this name.
+    pub(crate) fn version(&self, name: Name<'_>) -> Option<Link>
         requires { (W : Workspace) × Keeps self.now [] W }
         ensures { (W : Workspace) → Keeps self.now [] W →
             StandsIfThere (IsStateIn self.now.heap self.now.bits) result (version_of W (name_bytes name.entry)) }

@@ -1,0 +1,49 @@
+use Rattle.std.proofs.Common.{◌≡◌, [], ◌∷◌, refl, sym, subst, ◌∙◌, arith}
+use Rattle.pool_check.specs.Damages.{IsValid}
+use Rattle.space_state.specs.declared.roots.Batch.TheVariants.{Closed}
+use Rattle.space_state.specs.declared.roots.Roots.{Roots}
+use Rattle.space_state.specs.Turns.{IsSame}
+use Rattle.space_state.specs.View.{TakesRows}
+use Rattle.space_state.proofs.Keeping.{few-holds, same-refl, same-heap}
+use Rattle.space_state.proofs.Steps.{closed-batch}
+use Rattle.space_state.proofs.Taking.{four, taking-batch, taking-memory, taking-done, pool-loaded, keeps-loaded}
+use Rattle.space_state.proofs.roots.RootedHeap.take_pool.Goals as goal
+
+pub load-requires : goal.load-requires
+load-requires c = record { few = few-holds c.requires.keeps.1 (omega arith) }
+
+pub returns-then-in_batch : goal.returns-then-in_batch
+returns-then-in_batch c = λ W K. taking-batch W (TakesRows c.args.checked c.args.self.now c.args.self.now) (IsSame c.args.self.now c.args.self.now) _ (sym (c.in_batch.ensures [] W K) ∙ c.if-in_batch.true) refl (same-refl K)
+
+pub returns-in_err-links : goal.returns-in_err-links
+returns-in_err-links c = λ W K.
+    let new = record c.args.self.now { heap = c.load.new.heap } in
+    taking-memory W (TakesRows c.args.checked c.args.self.now new) (IsSame c.args.self.now new) c.from_residual.result (sym (c.in_batch.ensures [] W K) ∙ c.if-in_batch.false) c.from_residual.ensures.1 (same-heap c.in_err-links.ensures.refused)
+
+pub turn_roots-requires-clause-closed : goal.turn_roots-requires-clause-closed
+turn_roots-requires-clause-closed c = closed-batch c.requires.keeps.1 (sym (c.in_batch.ensures [] c.requires.keeps.0 c.requires.keeps.1) ∙ c.if-in_batch.false)
+
+pub turn_roots-requires-clause-kept : goal.turn_roots-requires-clause-kept
+turn_roots-requires-clause-kept c =
+    let roots : Roots = record { current = c.index.result.now; versions = c.index-2.result.now; undo = c.index-3.result.now; redo = c.index-4.result.now; batch = Closed } in
+    let links = c.in_ok-links.links.items in
+    let same : links ≡ c.index.result.now ∷ c.index-2.result.now ∷ c.index-3.result.now ∷ c.index-4.result.now ∷ [] =
+    four links _ _ _ _ c.in_ok-links.ensures.roots c.index.ensures c.index-2.ensures c.index-3.ensures c.index-4.ensures in
+    keeps-loaded c.args.self.now c.requires.keeps.0 c.requires.keeps.1 c.load.new.heap c.args.checked roots links c.in_ok-links.ensures.loads same c.requires.bits c.in_ok-links.ensures.pool c.in_ok-links.ensures.sums
+    (subst IsValid c.pool.ensures.same c.pool.ensures.valid)
+
+pub returns : goal.returns
+returns c = λ W K.
+    let roots : Roots = record { current = c.index.result.now; versions = c.index-2.result.now; undo = c.index-3.result.now; redo = c.index-4.result.now; batch = Closed } in
+    let links = c.in_ok-links.links.items in
+    let same : links ≡ c.index.result.now ∷ c.index-2.result.now ∷ c.index-3.result.now ∷ c.index-4.result.now ∷ [] =
+    four links _ _ _ _ c.in_ok-links.ensures.roots c.index.ensures c.index-2.ensures c.index-3.ensures c.index-4.ensures in
+    let valid = subst IsValid c.pool.ensures.same c.pool.ensures.valid in
+    let loads = c.in_ok-links.ensures.loads in
+    let kept = keeps-loaded c.args.self.now W K c.load.new.heap c.args.checked roots links loads same c.requires.bits c.in_ok-links.ensures.pool c.in_ok-links.ensures.sums valid in
+    taking-done W (TakesRows c.args.checked c.args.self.now c.turn_roots.new.self) (IsSame c.args.self.now c.turn_roots.new.self) _ (sym (c.in_batch.ensures [] W K) ∙ c.if-in_batch.false) refl (record {
+      after = kept.0;
+      keeps = c.turn_roots.ensures.kept kept.0 kept.1;
+      pool = c.turn_roots.ensures.pool ∙ pool-loaded c.args.self.now W K c.load.new.heap c.args.checked roots links loads same c.requires.bits c.in_ok-links.ensures.pool c.in_ok-links.ensures.sums valid;
+      made = c.turn_roots.ensures.made ∙ loads.made;
+    })
