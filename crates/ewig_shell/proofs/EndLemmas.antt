@@ -8,12 +8,14 @@ use Rattle.shell_io.specs.Pieces.{ended, pieces_within}
 use Rattle.ewig_shell.specs.Quits.{HasQuit}
 use Rattle.shell_io.specs.declared.device.Source as source_trait
 use Rattle.shell_io.specs.declared.device.Sink as sink_trait
+use Rattle.shell_io.specs.declared.device.Store as store_trait
 use Rattle.shell_io.proofs.FaultLemmas.{CountsFaults-as, Calls-none, Calls-as}
 use Rattle.space_state.specs.View.{SpaceView}
 use Rattle.ewig_shell.specs.declared.run.Status.{Status}
 use Rattle.ewig_shell.specs.declared.run.Status.TheVariants as status
 use Rattle.ewig_shell.specs.Going.{HasCauses}
-use Rattle.ewig_shell.specs.Run.{IsEarly, Run, Says, Runs, RunsAs, EndsInTime, IsComplete}
+use Rattle.ewig_shell.specs.Step.{StoreView, CountsStore, shown_store}
+use Rattle.ewig_shell.specs.Run.{IsEarly, Run, Says, Runs, RunsAs, KeepsSure, EndsInTime, IsComplete}
 use Rattle.ewig_shell.proofs.ReadLemmas.{quit_in_time}
 
 -- what is said of a value that is there may use that it is there
@@ -50,23 +52,23 @@ taken_front : (input : List ℕ) (left : Option (List ℕ)) (taken : List ℕ) �
 taken_front input None taken takes = absurd takes
 taken_front input (Some rest) taken takes = (rest, takes)
 
-complete_by : {B : Type 0} {K : sink_trait.Ghosts B} {sink sink' : B} (most : ℕ) (input : List ℕ) (left : Option (List ℕ)) (s : Status) (last : SpaceView) → Runs most input left K sink sink' s (Some last) → (s ≡ status.ReadFault → ⊥) → (s ≡ status.WriteFault → ⊥) → IsComplete most input s
-complete_by most input left s last runs no_read no_write =
+complete_by : {B : Type 0} {K : sink_trait.Ghosts B} {sink sink' : B} (most : ℕ) (input : List ℕ) (left : Option (List ℕ)) (first after : StoreView) (s : Status) (last : SpaceView) → Runs most input left K sink sink' first after s (Some last) → (s ≡ status.ReadFault → ⊥) → (s ≡ status.WriteFault → ⊥) → IsComplete most input s
+complete_by most input left first after s last runs no_read no_write =
     let front = taken_front input left runs.run.taken runs.takes in
     subst (λ (w : List ℕ). IsComplete most w s) runs.input_is
     (by_bytes most runs.run front.0 s last (subst (λ (t : Status). Says t most runs.run) runs.status_is runs.says) runs.last_is (runs.input_is ∙ front.1) no_read no_write)
 
 -- a run that did nothing
-abbrev idle : List ℕ → Status → Run
-idle input s = record { input = input; taken = []; replies = []; output = []; status = s; last = None }
+abbrev idle : List ℕ → Status → StoreView → Run
+idle input s store = record { input = input; taken = []; replies = []; output = []; status = s; last = None; store = store; store' = store }
 
-says_early : (most : ℕ) (input : List ℕ) (s : Status) → IsEarly s → Says s most (idle input s)
-says_early most input status.Usage early = record { untaken = refl; unanswered = refl; unwritten = refl; none_left = refl }
-says_early most input status.Memory early = record { untaken = refl; unanswered = refl; unwritten = refl; none_left = refl }
-says_early most input status.Done early = absurd early
-says_early most input status.ReadFault early = absurd early
-says_early most input status.WriteFault early = absurd early
-says_early most input status.TooLong early = absurd early
+says_early : (most : ℕ) (input : List ℕ) (s : Status) (store : StoreView) → IsEarly s → Says s most (idle input s store)
+says_early most input status.Usage store early = record { untaken = refl; unanswered = refl; unwritten = refl; none_left = refl; untouched = refl }
+says_early most input status.Memory store early = record { untaken = refl; unanswered = refl; unwritten = refl; none_left = refl; untouched = refl }
+says_early most input status.Done store early = absurd early
+says_early most input status.ReadFault store early = absurd early
+says_early most input status.WriteFault store early = absurd early
+says_early most input status.TooLong store early = absurd early
 
 not_early : (s : Status) → IsEarly s → (fault : Status) → (IsEarly fault → ⊥) → s ≡ fault → ⊥
 not_early s early fault never e = never (subst IsEarly e early)
@@ -79,25 +81,44 @@ early_memory status.ReadFault n early usage none = absurd early
 early_memory status.WriteFault n early usage none = absurd early
 early_memory status.TooLong n early usage none = absurd early
 
-module _ {A B W : Type 0} {S : source_trait.Ghosts A} {source : A} {K : sink_trait.Ghosts B} {sink : B} {most : ℕ} {words : List W} where
+-- a store that isn't called
+pub KeepsSure-none : {C : Type 0} {D : store_trait.Ghosts C} {store : C} → KeepsSure D store store
+KeepsSure-none = record { counted = omega arith; steady = λ h. h; sure = λ h. (h, refl) }
+
+-- a store that is called once more
+pub KeepsSure-then : {C : Type 0} {D : store_trait.Ghosts C} {first mid last : C} → KeepsSure D first mid → KeepsSure D mid last → KeepsSure D first last
+KeepsSure-then before next = record {
+  counted = omega (arith, before.counted, next.counted);
+  steady = λ h. next.steady (before.steady h);
+  sure = λ h. let one = before.sure h in let two = next.sure one.0 in (two.0, two.1 ∙ one.1);
+}
+
+-- what a step makes of a store
+pub KeepsSure-step : {C : Type 0} {D : store_trait.Ghosts C} {first last : C} {reply : List ℕ} → CountsStore D first last reply → KeepsSure D first last
+KeepsSure-step counts = record { counted = counts.counted; steady = λ h. (counts.steady h).0; sure = counts.sure }
+
+module _ {A B C W : Type 0} {S : source_trait.Ghosts A} {source : A} {K : sink_trait.Ghosts B} {sink : B} {D : store_trait.Ghosts C} {store : C} {most : ℕ} {words : List W} where
   -- a run that ended before its first line
-  pub RunsAs-early : (s : Status) → IsEarly s → (s ≡ status.Usage) ↔ (0 < length words) → RunsAs most words S source source K sink sink (record { status = s; space = None })
+  pub RunsAs-early : (s : Status) → IsEarly s → (s ≡ status.Usage) ↔ (0 < length words) → RunsAs most words S source source K sink sink D store store (record { status = s; space = None })
   RunsAs-early s early usage = record {
     usage = usage;
     space = (λ _. early, λ _. refl);
     bits = tt;
-    unbegun = λ _. (refl, refl);
+    unbegun = λ _. (refl, refl, refl);
     reads = Calls-as (Calls-none S.faults S.steady S.faultless source) (λ p. absurd p) (not_early s early status.ReadFault (λ e. e));
     writes = record { counted = omega arith; cause = λ e. absurd (not_early s early status.WriteFault (λ e. e) e) };
-    run = IfSome-from (S.left source) (λ (input : List ℕ). Runs most input (S.left source) K sink sink s None) (λ input told. record {
-      run = idle input s;
+    stores = KeepsSure-none;
+    run = IfSome-from (S.left source) (λ (input : List ℕ). Runs most input (S.left source) K sink sink (shown_store D store) (shown_store D store) s None) (λ input told. record {
+      run = idle input s (shown_store D store);
       input_is = refl;
       status_is = refl;
       last_is = refl;
+      store_is = refl;
+      store'_is = refl;
       takes = subst (λ (o : Option (List ℕ)). Consumes (Some input) o []) (sym told) refl;
       few = omega arith;
       writes = Appends-nil (K.written sink);
-      says = says_early most input s early;
+      says = says_early most input s (shown_store D store) early;
       sink_sure = λ room has low. (not_early s early status.WriteFault (λ e. e), refl, subst (λ (n : ℕ). K.has_room sink n) (omega arith) has);
     });
     complete = λ none no_read no_write. IfSome-from (S.left source) (λ (input : List ℕ). IsComplete most input s) (λ input told.
@@ -105,18 +126,19 @@ module _ {A B W : Type 0} {S : source_trait.Ghosts A} {source : A} {K : sink_tra
         record { done = λ _. inr memory; too_long = λ _. inr memory });
   }
 
-module _ {A B W : Type 0} {S : source_trait.Ghosts A} {source source' : A} {K : sink_trait.Ghosts B} {sink sink' : B} {most : ℕ} {words : List W} where
+module _ {A B C W : Type 0} {S : source_trait.Ghosts A} {source source' : A} {K : sink_trait.Ghosts B} {sink sink' : B} {D : store_trait.Ghosts C} {store store' : C} {most : ℕ} {words : List W} where
   -- a run that read lines
-  pub RunsAs-lines : (s : Status) (space : SpaceView) → (IsEarly s → ⊥) → length words ≡ 0 → space.pool.bits ≡ CODE_BITS → HasCauses S source source' K sink sink' (Some s) →
-      ((input : List ℕ) → S.left source ≡ Some input → Runs most input (S.left source') K sink sink' s (Some space)) → RunsAs most words S source source' K sink sink' (record { status = s; space = Some space })
-  RunsAs-lines s space begun none bits causes run = record {
+  pub RunsAs-lines : (s : Status) (space : SpaceView) → (IsEarly s → ⊥) → length words ≡ 0 → space.pool.bits ≡ CODE_BITS → HasCauses S source source' K sink sink' (Some s) → KeepsSure D store store' →
+      ((input : List ℕ) → S.left source ≡ Some input → Runs most input (S.left source') K sink sink' (shown_store D store) (shown_store D store') s (Some space)) → RunsAs most words S source source' K sink sink' D store store' (record { status = s; space = Some space })
+  RunsAs-lines s space begun none bits causes stores run = record {
     usage = (λ e. absurd (begun (subst IsEarly (sym e) tt)), λ some. absurd (omega (arith, none, some)));
     space = (λ h. absurd (let never = h in cc), λ early. absurd (begun early));
     bits = bits;
     unbegun = λ early. absurd (begun early);
     reads = Calls-as causes.reads (λ p. let same = p in cc) (ap Some);
     writes = CountsFaults-as causes.writes (ap Some);
-    run = IfSome-from (S.left source) (λ (input : List ℕ). Runs most input (S.left source') K sink sink' s (Some space)) run;
+    stores = stores;
+    run = IfSome-from (S.left source) (λ (input : List ℕ). Runs most input (S.left source') K sink sink' (shown_store D store) (shown_store D store') s (Some space)) run;
     complete = λ _ no_read no_write. IfSome-from (S.left source) (λ (input : List ℕ). IsComplete most input s)
-        (λ input told. complete_by most input (S.left source') s space (run input told) no_read no_write);
+        (λ input told. complete_by most input (S.left source') (shown_store D store) (shown_store D store') s space (run input told) no_read no_write);
   }

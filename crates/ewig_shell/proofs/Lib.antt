@@ -3,6 +3,8 @@ pub mod QuitLemmas
 pub mod PageLemmas
 pub mod LinesLemmas
 pub mod StepLemmas
+pub mod StoreLemmas
+pub mod LoadLemmas
 pub mod ReadLemmas
 pub mod RunLemmas
 pub mod EndLemmas

@@ -19,17 +19,17 @@ use Rattle.ewig_shell.specs.declared.execute.Went.TheVariants as went
 use Rattle.ewig_shell.specs.declared.run.Status.{Status}
 use Rattle.ewig_shell.specs.declared.run.Status.TheVariants as status
 use Rattle.ewig_shell.specs.Quits.{HasQuit, is_quit, until_quit}
-use Rattle.ewig_shell.specs.Step.{Step, Steps}
+use Rattle.ewig_shell.specs.Step.{StoreView, Machine, Step, Steps}
 use Rattle.ewig_shell.specs.Sending.{Replies}
-use Rattle.ewig_shell.specs.Run.{Run, Says, Runs}
+use Rattle.ewig_shell.specs.Run.{Run, Says, Runs, start_of}
 use Rattle.ewig_shell.specs.Going.{IsGoing, TakesReplies, status_of}
 use Rattle.ewig_shell.proofs.QuitLemmas.{is_quit-true, is_quit-from, none-append, any-here, up_to-none, up_to-first}
 use Rattle.ewig_shell.proofs.ReadLemmas.{quit_read}
 
 -- one step more
-Steps-append : (W : SpaceView) (xs : List (List ℕ)) (output : List ℕ) (mid : SpaceView) (piece reply : List ℕ) (last : SpaceView) → Steps W xs output mid → Step mid piece reply last → Steps W (xs ++ piece ∷ []) (output ++ reply) last
+Steps-append : (W : Machine) (xs : List (List ℕ)) (output : List ℕ) (mid : Machine) (piece reply : List ℕ) (last : Machine) → Steps W xs output mid → Step mid piece reply last → Steps W (xs ++ piece ∷ []) (output ++ reply) last
 Steps-append W [] output mid piece reply last h step =
-    (reply, last, [], subst (λ (V : SpaceView). Step V piece reply last) h.1 step, (refl, refl), ap (λ (w : List ℕ). w ++ reply) h.0 ∙ sym (append-nil reply))
+    (reply, last, [], subst (λ (V : Machine). Step V piece reply last) h.1 step, (refl, refl), ap (λ (w : List ℕ). w ++ reply) h.0 ∙ sym (append-nil reply))
 Steps-append W (x ∷ xs) output mid piece reply last h step =
     (h.0, h.1, h.2 ++ reply, h.3, Steps-append h.1 xs h.2 mid piece reply last h.4 step, ap (λ (w : List ℕ). w ++ reply) h.5 ∙ append_assoc h.0 h.2 reply)
 
@@ -43,14 +43,16 @@ given_same : (input : List ℕ) (old new : Reading) → new.given ≡ old.given 
 given_same input old new e = ap (λ (n : ℕ). pieces (take n input)) e
 
 -- what a run did whose reader stands there
-abbrev did : List ℕ → Reading → (replies output : List ℕ) → Status → SpaceView → Run
-did input reader replies output s last = record {
+abbrev did : List ℕ → Reading → (replies output : List ℕ) → Status → StoreView → Machine → Run
+did input reader replies output s first last = record {
   input = input;
   taken = take reader.taken input;
   replies = replies;
   output = output;
   status = s;
-  last = Some last;
+  last = Some last.space;
+  store = first;
+  store' = last.store;
 }
 
 -- what the source has left is what wasn't taken
@@ -75,14 +77,16 @@ module _ {B : Type 0} {K : sink_trait.Ghosts B} where
         (second.1 ∙ first.0, subst (λ (n : ℕ). K.has_room sink' n) (omega (arith, low, length-append bytes reply)) second.2);
   }
 
-module _ {B : Type 0} {K : sink_trait.Ghosts B} {begin sink' : B} {left : Option (List ℕ)} where
+module _ {B : Type 0} {K : sink_trait.Ghosts B} {begin sink' : B} {left : Option (List ℕ)} {first : StoreView} where
   -- a run that ends where its reader stands, with all its replies written
-  ends_there : (most : ℕ) (input : List ℕ) (reader : Reading) (replies : List ℕ) (s : Status) (W : SpaceView) → StandsIn input reader left → reader.taken ≤ most + 1 → TakesReplies K begin sink' replies → (s ≡ status.WriteFault → ⊥) → Says s most (did input reader replies replies s W) → Runs most input left K begin sink' s (Some W)
+  ends_there : (most : ℕ) (input : List ℕ) (reader : Reading) (replies : List ℕ) (s : Status) (W : Machine) → StandsIn input reader left → reader.taken ≤ most + 1 → TakesReplies K begin sink' replies → (s ≡ status.WriteFault → ⊥) → Says s most (did input reader replies replies s first W) → Runs most input left K begin sink' first W.store s (Some W.space)
   ends_there most input reader replies s W stands few writes other says = record {
-    run = did input reader replies replies s W;
+    run = did input reader replies replies s first W;
     input_is = refl;
     status_is = refl;
     last_is = refl;
+    store_is = refl;
+    store'_is = refl;
     takes = taken_off input reader.taken left stands.left_is;
     few = omega (arith, length-take-le reader.taken input stands.within, few);
     writes = writes.appends;
@@ -91,15 +95,15 @@ module _ {B : Type 0} {K : sink_trait.Ghosts B} {begin sink' : B} {left : Option
   }
 
   -- a piece was given and executed, and its reply was sent, or not
-  by_result : {sink : B} {most : ℕ} {input : List ℕ} {old new : Reading} {old_left : Option (List ℕ)} {W : SpaceView} (W' : SpaceView) {piece reply : List ℕ} (result : Result Went Failed) →
-      IsGoing most input old old_left K begin sink W →
+  by_result : {sink : B} {most : ℕ} {input : List ℕ} {old new : Reading} {old_left : Option (List ℕ)} {W : Machine} (W' : Machine) {piece reply : List ℕ} (result : Result Went Failed) →
+      IsGoing most input old old_left K begin sink first W →
       StandsIn input new left →
       GivesNext most input old new piece →
       new.taken ≤ most + 1 →
       Step W piece reply W' →
       Sends K.written K.faults K.has_room sink sink' result reply →
       IfOk result (λ (w : Went). (w ≡ went.Quit) ↔ (piece ≡ codes "quit")) →
-      MatchOption (status_of result) (IsGoing most input new left K begin sink' W') (λ (s : Status). Runs most input left K begin sink' s (Some W'))
+      MatchOption (status_of result) (IsGoing most input new left K begin sink' first W') (λ (s : Status). Runs most input left K begin sink' first W'.store s (Some W'.space))
   by_result {most = most} {input} {old} {new} {W = W} W' {piece} {reply} (Ok went.On) going stands next few step sends quits = record {
     stands = stands;
     later = next.in_time.0;
@@ -107,7 +111,7 @@ module _ {B : Type 0} {K : sink_trait.Ghosts B} {begin sink' : B} {left : Option
     goes_on = subst (λ (w : List (List ℕ)). HasQuit w → ⊥) (sym next.next)
         (none-append is_quit (pieces_given input old) piece going.goes_on (λ test. absurd (let never = quits.1 (is_quit-true piece test) in cc)));
     replies = going.replies ++ reply;
-    steps = subst (λ (w : List (List ℕ)). Steps (start_view CODE_BITS) w (going.replies ++ reply) W') (sym next.next) (Steps-append (start_view CODE_BITS) _ going.replies W piece reply W' going.steps step);
+    steps = subst (λ (w : List (List ℕ)). Steps (start_of first) w (going.replies ++ reply) W') (sym next.next) (Steps-append (start_of first) _ going.replies W piece reply W' going.steps step);
     writes = TakesReplies-append going.replies reply going.writes sends;
   }
   by_result {most = most} {input} {old} {new} {W = W} W' {piece} {reply} (Ok went.Quit) going stands next few step sends quits =
@@ -117,19 +121,21 @@ module _ {B : Type 0} {K : sink_trait.Ghosts B} {begin sink' : B} {left : Option
         read = quit_read most input new left next.in_time.0 stands next.in_time.1
             (subst (λ (w : List (List ℕ)). HasQuit w) (sym next.next) (any-here is_quit (pieces_given input old) piece [] test));
         executes = record {
-          steps = subst (λ (w : List (List ℕ)). Steps (start_view CODE_BITS) w (going.replies ++ reply) W')
+          steps = subst (λ (w : List (List ℕ)). Steps (start_of first) w (going.replies ++ reply) W')
               (sym (ap until_quit these ∙ up_to-first is_quit (pieces_given input old) piece next.in_time.0 going.goes_on test))
-              (Steps-append (start_view CODE_BITS) _ going.replies W piece reply W' going.steps step);
+              (Steps-append (start_of first) _ going.replies W piece reply W' going.steps step);
           written = refl;
         };
       })
   by_result {most = most} {input} {old} {new} {W = W} W' {piece} {reply} (Err fault) going stands next few step sends quits =
       let part = sends.writes in
       record {
-        run = did input new (going.replies ++ reply) (going.replies ++ take part.0 reply) status.WriteFault W';
+        run = did input new (going.replies ++ reply) (going.replies ++ take part.0 reply) status.WriteFault first W';
         input_is = refl;
         status_is = refl;
         last_is = refl;
+        store_is = refl;
+        store'_is = refl;
         takes = taken_off input new.taken left stands.left_is;
         few = omega (arith, length-take-le new.taken input stands.within, few);
         writes = Appends-trans _ _ _ going.replies (take part.0 reply) going.writes.appends part.2;
@@ -156,51 +162,51 @@ module _ {B : Type 0} {K : sink_trait.Ghosts B} {begin sink' : B} {left : Option
       }
 
   -- the run goes on or ends as the piece says
-  pub Going-next : {sink : B} {most : ℕ} {input : List ℕ} {old new : Reading} {old_left : Option (List ℕ)} {W : SpaceView} (W' : SpaceView) {piece : List ℕ} {result : Result Went Failed} {ends : Option Status} →
-      IsGoing most input old old_left K begin sink W →
+  pub Going-next : {sink : B} {most : ℕ} {input : List ℕ} {old new : Reading} {old_left : Option (List ℕ)} {W : Machine} (W' : Machine) {piece : List ℕ} {result : Result Went Failed} {ends : Option Status} →
+      IsGoing most input old old_left K begin sink first W →
       StandsIn input new left →
       GivesNext most input old new piece →
       new.taken ≤ most + 1 →
       Replies K sink sink' result (λ (reply : List ℕ). Step W piece reply W') →
       IfOk result (λ (w : Went). (w ≡ went.Quit) ↔ (piece ≡ codes "quit")) →
       ends ≡ status_of result →
-      MatchOption ends (IsGoing most input new left K begin sink' W') (λ (s : Status). Runs most input left K begin sink' s (Some W'))
+      MatchOption ends (IsGoing most input new left K begin sink' first W') (λ (s : Status). Runs most input left K begin sink' first W'.store s (Some W'.space))
   Going-next {most = most} {input} {new = new} W' {result = result} going stands next few replies quits e =
-      subst (λ (o : Option Status). MatchOption o (IsGoing most input new left K begin sink' W') (λ (s : Status). Runs most input left K begin sink' s (Some W'))) (sym e)
+      subst (λ (o : Option Status). MatchOption o (IsGoing most input new left K begin sink' first W') (λ (s : Status). Runs most input left K begin sink' first W'.store s (Some W'.space))) (sym e)
       (by_result W' result going stands next few replies.due replies.sends quits)
 
   -- the source came to its end
-  pub Going-end : (most : ℕ) {input : List ℕ} {old new : Reading} {old_left : Option (List ℕ)} {W : SpaceView} → IsGoing most input old old_left K begin sink' W → StandsIn input new left → new.taken ≤ most + 1 → Answers most input old new next.End → Runs most input left K begin sink' status.Done (Some W)
+  pub Going-end : (most : ℕ) {input : List ℕ} {old new : Reading} {old_left : Option (List ℕ)} {W : Machine} → IsGoing most input old old_left K begin sink' first W → StandsIn input new left → new.taken ≤ most + 1 → Answers most input old new next.End → Runs most input left K begin sink' first W.store status.Done (Some W.space)
   Going-end most {input} {old} {new} {W = W} going stands few all =
       let these : pieces_within most input ≡ pieces_given input old
       = pieces_within-all most input all.1.2 ∙ sym all.1.0 ∙ given_same input old new all.0 in
       ends_there most input new going.replies status.Done W stands few going.writes (λ e. cc) (record {
         read = inl (ap (λ (n : ℕ). take n input) all.1.1 ∙ take_all (length input) input (omega arith), all.1.2);
         executes = record {
-          steps = subst (λ (w : List (List ℕ)). Steps (start_view CODE_BITS) w going.replies W)
+          steps = subst (λ (w : List (List ℕ)). Steps (start_of first) w going.replies W)
               (sym (ap until_quit these ∙ up_to-none is_quit (pieces_given input old) going.goes_on)) going.steps;
           written = refl;
         };
       })
 
   -- one byte more than the most was taken
-  pub Going-budget : (most : ℕ) {input : List ℕ} {old new : Reading} {old_left : Option (List ℕ)} {W : SpaceView} → IsGoing most input old old_left K begin sink' W → StandsIn input new left → new.taken ≤ most + 1 → Answers most input old new next.Budget → Runs most input left K begin sink' status.TooLong (Some W)
+  pub Going-budget : (most : ℕ) {input : List ℕ} {old new : Reading} {old_left : Option (List ℕ)} {W : Machine} → IsGoing most input old old_left K begin sink' first W → StandsIn input new left → new.taken ≤ most + 1 → Answers most input old new next.Budget → Runs most input left K begin sink' first W.store status.TooLong (Some W.space)
   Going-budget most {input} {old} {new} {W = W} going stands few all =
       let these : pieces_given input old ≡ pieces_within most input = sym (given_same input old new all.0) ∙ all.1.0 in
       ends_there most input new going.replies status.TooLong W stands few going.writes (λ e. cc) (record {
         one_more = length-take-le new.taken input stands.within ∙ all.1.1;
         goes_on = subst (λ (w : List (List ℕ)). HasQuit w → ⊥) these going.goes_on;
-        executes = record { steps = subst (λ (w : List (List ℕ)). Steps (start_view CODE_BITS) w going.replies W) these going.steps; written = refl };
+        executes = record { steps = subst (λ (w : List (List ℕ)). Steps (start_of first) w going.replies W) these going.steps; written = refl };
       })
 
   -- the source failed
-  pub Going-failed : (most : ℕ) {input : List ℕ} {old new : Reading} {old_left : Option (List ℕ)} {W : SpaceView} → IsGoing most input old old_left K begin sink' W → StandsIn input new left → new.taken ≤ most → Answers most input old new next.Failed → Runs most input left K begin sink' status.ReadFault (Some W)
+  pub Going-failed : (most : ℕ) {input : List ℕ} {old new : Reading} {old_left : Option (List ℕ)} {W : Machine} → IsGoing most input old old_left K begin sink' first W → StandsIn input new left → new.taken ≤ most → Answers most input old new next.Failed → Runs most input left K begin sink' first W.store status.ReadFault (Some W.space)
   Going-failed most {input} {old} {new} {W = W} going stands few all =
       let these : pieces_given input old ≡ ended (take new.taken input) = sym (given_same input old new all.0) ∙ all.1 in
       ends_there most input new going.replies status.ReadFault W stands (omega (arith, few)) going.writes (λ e. cc) (record {
         few = omega (arith, length-take-le new.taken input stands.within, few);
         goes_on = subst (λ (w : List (List ℕ)). HasQuit w → ⊥) these going.goes_on;
-        executes = record { steps = subst (λ (w : List (List ℕ)). Steps (start_view CODE_BITS) w going.replies W) these going.steps; written = refl };
+        executes = record { steps = subst (λ (w : List (List ℕ)). Steps (start_of first) w going.replies W) these going.steps; written = refl };
       })
 
 -- no pieces of no bytes
@@ -213,13 +219,14 @@ no_quit : HasQuit [] → ⊥
 no_quit e = absurd (let never = e in cc)
 
 -- a run that has given nothing goes on
-pub Going-start : {B : Type 0} {K : sink_trait.Ghosts B} {sink : B} (most : ℕ) {input : List ℕ} {reader : Reading} {left : Option (List ℕ)} {W : SpaceView} → left ≡ Some input → ((all : List ℕ) → StandsIn all reader (Some all)) → reader.given ≡ 0 → W ≡ start_view CODE_BITS → IsGoing most input reader left K sink sink W
-Going-start most {input} {reader} {W = W} told stands none empty = record {
+pub Going-start : {B : Type 0} {K : sink_trait.Ghosts B} {sink : B} (most : ℕ) {input : List ℕ} {reader : Reading} {left : Option (List ℕ)} (first : StoreView) {W : SpaceView} → left ≡ Some input → ((all : List ℕ) → StandsIn all reader (Some all)) → reader.given ≡ 0 → W ≡ start_view CODE_BITS →
+    IsGoing most input reader left K sink sink first (record { space = W; store = first })
+Going-start most {input} {reader} first {W} told stands none empty = record {
   stands = subst (λ (o : Option (List ℕ)). StandsIn input reader o) (sym told) (stands input);
   later = pieces_within most input;
   in_time = sym (ap (λ (w : List (List ℕ)). w ++ pieces_within most input) (nothing_given input reader none));
   goes_on = subst (λ (w : List (List ℕ)). HasQuit w → ⊥) (sym (nothing_given input reader none)) no_quit;
   replies = [];
-  steps = subst (λ (w : List (List ℕ)). Steps (start_view CODE_BITS) w [] W) (sym (nothing_given input reader none)) (refl, empty);
+  steps = subst (λ (w : List (List ℕ)). Steps (start_of first) w [] (record { space = W; store = first })) (sym (nothing_given input reader none)) (refl, ap (λ (s : SpaceView). record { space = s; store = first }) empty);
   writes = TakesReplies-none;
 }

@@ -1,57 +1,87 @@
 -- What shows that a command was obeyed.
-use Rattle.std.proofs.Common.{◌≡◌, ◌≢◌, ℕ, ◌&&◌, nat_le, List, [], ◌∷◌, ◌++◌, length, map, sym, ap, ◌∙◌, subst, refl, codes, Bool, true, false, inl, inr, Ok, Err, None, Some, MatchBool, ◌<◌, ◌≤◌, IsSomeAnd, IsOk, slice_get, slice_range}
+use Rattle.std.proofs.Common.{◌≡◌, ◌≢◌, ℕ, ◌&&◌, nat_le, List, [], ◌∷◌, ◌++◌, length, map, sym, ap, ◌∙◌, subst, refl, arith, codes, Bool, true, false, inl, inr, Ok, Err, None, Some, MatchBool, MatchOption, ◌<◌, ◌≤◌, IsSomeAnd, IsOk, slice_get, slice_range}
 use Rattle.std.proofs.lemmas.Bool.{le-ltb, lt-ltb, le-leb, leb-true}
 use Rattle.std.proofs.lemmas.Option.{slice_get_past}
+use Rattle.std.specs.Bool.{Decides}
+use Rattle.std.proofs.lemmas.Bool.Decides.{same_from_decides}
 use Rattle.std.specs.FinMap as map_of
 use Rattle.std.specs.declared.option.Option.{Option}
 use Rattle.std.specs.declared.result.Result.{Result}
 use Rattle.elem_core.specs.declared.TheConstants.{MAX_LINE}
 use Rattle.shell_terms.specs.Edit.{Bytes}
-use Rattle.shell_terms.specs.Command.{PlainCommand, get, len, show, list, stars, marks, quit}
+use Rattle.shell_terms.specs.Command.{PlainCommand, edit, mark, unmark, back, undo, redo, begin, «end», abort, get, len, show, list, stars, marks, same as same_lines, eqv, stats, save, load, quit}
 use Rattle.shell_words.specs.Grammar.{meaning}
 use Rattle.shell_words.specs.declared.BadLine.{BadLine}
 use Rattle.plain_space.specs.declared.refusal.Refusal.{Refusal}
 use Rattle.plain_space.specs.declared.refusal.Refusal.TheVariants as why
-use Rattle.plain_space.specs.Workspace.{Workspace, lines_of, sizes}
-use Rattle.plain_space.specs.Answer.{Answer, tells, answer, ok_line, text_line, number_line, size_line}
+use Rattle.plain_space.specs.Workspace.{Workspace, lines_of, version_of, sizes, same_texts, same_state}
+use Rattle.plain_space.specs.Refusing.{given}
+use Rattle.plain_space.proofs.Equality.{same_texts-Decides, same_state-Decides}
+use Rattle.plain_space.specs.Answer.{Answer, tells, elsewhere, answer, asked, ok_line, text_line, number_line, size_line, equal_line}
 use Rattle.plain_space.specs.Memory.{MayLackMemory, wants_memory}
 use Rattle.plain_space.specs.Session.{reason_of}
 use Rattle.state_rows.specs.Standing.{StandsFor}
-use Rattle.space_state.specs.Asked.{OnLines}
+use Rattle.space_state.specs.Asked.{OnLines, AreEqual}
 use Rattle.space_state.specs.View.{SpaceView, CarriesOut, Ends}
 use Rattle.space_state.specs.Turns.{IsDue}
 use Rattle.shell_words.specs.Shown.{plain_command}
 use Rattle.shell_words.specs.declared.Command.{Command}
+use Rattle.pool_text.specs.Pool.{row_count}
+use Rattle.pool_text.specs.declared.damage.Damage.{Damage}
+use Rattle.pool_check.specs.Damages.{document_damage}
+use Rattle.shell_io.specs.Fault.{Calls}
+use Rattle.shell_io.specs.InMemory.{Files}
+use Rattle.shell_io.specs.Storing.{ChangesFiles}
 use Rattle.shell_io.specs.Sending.{Sends}
 use Rattle.shell_io.specs.declared.device.Failed.{Failed}
 use Rattle.shell_io.specs.declared.device.Sink as sink_trait
+use Rattle.shell_io.specs.declared.device.Store as store_trait
 use Rattle.ewig_shell.specs.Sending.{Replies}
-use Rattle.ewig_shell.specs.Step.{Step, Means, Gives, Refuses, LacksMemory, Obeys, only_asks, reply_of, refusal_of, done_reply}
+use Rattle.ewig_shell.specs.Step.{StoreView, Machine, KeepsFiles, KeepsSpace, Fetched, missing, large, given as given_bytes, IsLoaded, LoadsAs, damage_word, Step, Means, SaysElsewhere, Gives, Refuses, Obeys, ObeysAlone, ObeysOn, CountsStore, shown_store, machine_of, uses_store, only_asks, reply_of, refusal_of, done_reply, equality_reply}
+
+-- the files stay where the store does
+pub same_files : (files : Option Files) → ChangesFiles files files (λ (before now : Files). now ≡ before)
+same_files None = tt
+same_files (Some files) = refl
+
+-- a store that stays is kept, whether or not the command uses it
+store_stays : (uses : Bool) (store : StoreView) → MatchBool uses (KeepsFiles store store) (store ≡ store)
+store_stays true store = record { files = same_files store.files; counted = omega arith }
+store_stays false store = refl
+
+-- a space beside a store
+abbrev beside : SpaceView → StoreView → Machine
+beside space store = record { space = space; store = store }
 
 module _ {command : PlainCommand} {old : SpaceView} (W : Workspace) where
   -- a command that only asks was answered
-  pub Obeys-asked : (lines : List Bytes) → only_asks command ≡ true → StandsFor old.pool W → answer W command ≡ Ok (tells lines W) → Obeys command old (reply_of lines) old
-  Obeys-asked lines asks stands e = record {
+  pub Obeys-asked : (lines : List Bytes) → only_asks command ≡ true → StandsFor old.pool W → answer W command ≡ Ok (tells lines W) → ObeysAlone command old (reply_of lines) old
+  Obeys-asked lines asks stands e = λ store. record {
     work = W;
     stands = stands;
-    gives = inl (subst (λ (a : Answer). Gives command old W a (reply_of lines) old) (sym e)
-        (refl, subst (λ (b : Bool). MatchBool b (old ≡ old) (CarriesOut command old old W)) (sym asks) refl));
+    gives = inl (subst (λ (a : Answer). Gives command (beside old store) W a (reply_of lines) (beside old store)) (sym e)
+        (refl, refl, subst (λ (b : Bool). MatchBool b (old ≡ old) (CarriesOut command old old W)) (sym asks) refl));
   }
 
   -- a command was refused
-  pub Obeys-refused : (reason : Refusal) {new : SpaceView} {reply : List ℕ} → StandsFor old.pool W → answer W command ≡ Err reason → reply ≡ refusal_of (reason_of reason) → new ≡ old → Obeys command old reply new
-  Obeys-refused reason {new} {reply} stands e is same = record {
+  pub Obeys-refused : (reason : Refusal) {new : SpaceView} {reply : List ℕ} → StandsFor old.pool W → answer W command ≡ Err reason → reply ≡ refusal_of (reason_of reason) → new ≡ old → ObeysAlone command old reply new
+  Obeys-refused reason {new} {reply} stands e is same = λ store. record {
     work = W;
     stands = stands;
-    gives = inl (subst (λ (a : Answer). Gives command old W a reply new) (sym e) (record { reply_is = is; same = same }));
+    gives = inl (subst (λ (a : Answer). Gives command (beside old store) W a reply (beside new store)) (sym e)
+        (record { reply_is = is; same = ap (λ (s : SpaceView). beside s store) same }));
   }
 
   -- memory was refused to it
-  pub Obeys-lacks : {new : SpaceView} {reply : List ℕ} → StandsFor old.pool W → MayLackMemory W command → reply ≡ refusal_of (codes "memory") → new ≡ old → Obeys command old reply new
-  Obeys-lacks stands may is same = record { work = W; stands = stands; gives = inr (record { may = may; refuses = record { reply_is = is; same = same } }) }
+  pub Obeys-lacks : {new : SpaceView} {reply : List ℕ} → StandsFor old.pool W → MayLackMemory W command → reply ≡ refusal_of (codes "memory") → new ≡ old → ObeysAlone command old reply new
+  Obeys-lacks stands may is same = λ store. record {
+    work = W;
+    stands = stands;
+    gives = inr (record { may = may; reply_is = is; space = same; store = store_stays (uses_store command) store });
+  }
 
   -- a refusal that is due
-  due : (reason : Refusal) {new : SpaceView} → StandsFor old.pool W → IsDue W command reason → new ≡ old → Obeys command old (refusal_of (reason_of reason)) new
+  due : (reason : Refusal) {new : SpaceView} → StandsFor old.pool W → IsDue W command reason → new ≡ old → ObeysAlone command old (refusal_of (reason_of reason)) new
   due why.Memory stands is same = Obeys-lacks stands is refl same
   due why.Absent stands is same = Obeys-refused why.Absent stands is refl same
   due why.Exists stands is same = Obeys-refused why.Exists stands is refl same
@@ -61,12 +91,12 @@ module _ {command : PlainCommand} {old : SpaceView} (W : Workspace) where
   due why.Empty stands is same = Obeys-refused why.Empty stands is refl same
 
 -- a command that changes the space ended so
-pub Obeys-ends : (command : PlainCommand) {old new : SpaceView} (done : Result (Unit {0}) Refusal) → only_asks command ≡ false → Ends command old done new → Obeys command old (done_reply done) new
-Obeys-ends command {old} {new} (Ok x) asks ends = record {
+pub Obeys-ends : (command : PlainCommand) {old new : SpaceView} (done : Result (Unit {0}) Refusal) → only_asks command ≡ false → Ends command old done new → ObeysAlone command old (done_reply done) new
+Obeys-ends command {old} {new} (Ok x) asks ends = λ store. record {
   work = ends.work;
   stands = ends.stands;
-  gives = inl (subst (λ (a : Answer). Gives command old ends.work a (reply_of (ok_line ∷ [])) new) (sym ends.ends.told)
-      (refl, subst (λ (b : Bool). MatchBool b (new ≡ old) (CarriesOut command old new ends.work)) (sym asks) ends.ends));
+  gives = inl (subst (λ (a : Answer). Gives command (beside old store) ends.work a (reply_of (ok_line ∷ [])) (beside new store)) (sym ends.ends.told)
+      (refl, refl, subst (λ (b : Bool). MatchBool b (new ≡ old) (CarriesOut command old new ends.work)) (sym asks) ends.ends));
 }
 Obeys-ends command (Err reason) asks ends = due ends.work reason ends.stands ends.ends.due ends.ends.same
 
@@ -130,96 +160,202 @@ module _ (W : Workspace) (name : Bytes) where
   unfolding answer
   show-told from to lines e low high = rw e (rw (le-leb from to low) (rw (le-leb to (length lines) high) refl))
 
+-- what is answered of two that may be there is the plain answer, by a test that decides whether they are equal
+module _ {X : Type 0} (test : X → X → Bool) (decides : (x y : X) → Decides (test x y) (x ≡ y)) (W : Workspace) where
+  abbrev compared : Option X → Option X → Answer
+  compared one other = asked W (given one why.Absent (λ (x : X). given other why.Absent (λ (y : X). Ok (equal_line (test x y) ∷ []))))
+
+  absent : (result : Result Bool Refusal) → result ≡ Err why.Absent → {command : PlainCommand} {old : SpaceView} → StandsFor old.pool W → answer W command ≡ Err why.Absent → ObeysAlone command old (equality_reply result) old
+  absent result e {command} {old} stands is =
+      subst (λ (r : Result Bool Refusal). ObeysAlone command old (equality_reply r) old) (sym e) (Obeys-refused W why.Absent stands is refl refl)
+
+  Obeys-equal : {command : PlainCommand} {old : SpaceView} (one other : Option X) (result : Result Bool Refusal) → only_asks command ≡ true → StandsFor old.pool W → answer W command ≡ compared one other → AreEqual one other result →
+      ObeysAlone command old (equality_reply result) old
+  Obeys-equal {command} {old} (Some x) (Some y) (Ok equal) asks stands is same =
+      let tested : test x y ≡ equal = same_from_decides (test x y) equal (decides x y) same in
+      Obeys-asked W (equal_line equal ∷ []) asks stands (is ∙ ap (λ (b : Bool). asked W (Ok (equal_line b ∷ []))) tested)
+  Obeys-equal {command} {old} (Some x) (Some y) (Err reason) asks stands is same = absurd same
+  Obeys-equal {command} {old} (Some x) None result asks stands is none = absent result none stands is
+  Obeys-equal {command} {old} None other result asks stands is none = absent result none stands is
+
 module _ {old : SpaceView} where
   -- the reply to `get`
-  pub Obeys-get : (W : Workspace) (name : Bytes) (index : ℕ) (text : Bytes) → StandsFor old.pool W → IsSomeAnd (lines_of W.current name) (λ (lines : List Bytes). slice_get lines index ≡ Some text) → Obeys (get name index) old (reply_of (text_line text ∷ [])) old
+  pub Obeys-get : (W : Workspace) (name : Bytes) (index : ℕ) (text : Bytes) → StandsFor old.pool W → IsSomeAnd (lines_of W.current name) (λ (lines : List Bytes). slice_get lines index ≡ Some text) → ObeysAlone (get name index) old (reply_of (text_line text ∷ [])) old
   Obeys-get W name index text stands h =
       let there = some_lines (lines_of W.current name) (λ (lines : List Bytes). slice_get lines index ≡ Some text) h in
       Obeys-asked W (text_line text ∷ []) refl stands (get-told W name index text there.0 there.1 there.2)
 
-  pub Obeys-get_refused : {X : Type 0} (W : Workspace) (name : Bytes) (index : ℕ) (reason : Refusal) {reply : List ℕ} (IsAnswer : List Bytes → X → Type 0) → StandsFor old.pool W → OnLines {X = X} W name (Err reason) IsAnswer (λ (lines : List Bytes). length lines ≤ index) → reply ≡ refusal_of (reason_of reason) → Obeys (get name index) old reply old
+  pub Obeys-get_refused : {X : Type 0} (W : Workspace) (name : Bytes) (index : ℕ) (reason : Refusal) {reply : List ℕ} (IsAnswer : List Bytes → X → Type 0) → StandsFor old.pool W → OnLines {X = X} W name (Err reason) IsAnswer (λ (lines : List Bytes). length lines ≤ index) → reply ≡ refusal_of (reason_of reason) → ObeysAlone (get name index) old reply old
   Obeys-get_refused W name index reason IsAnswer stands h is = Obeys-refused W reason stands (on_refused W name (get name index) reason IsAnswer (λ (lines : List Bytes). length lines ≤ index) (get-none W name index) (get-past W name index) h) is refl
 
   -- the reply to `len`
-  pub Obeys-len : (W : Workspace) (name : Bytes) (count : ℕ) → StandsFor old.pool W → IsSomeAnd (lines_of W.current name) (λ (lines : List Bytes). count ≡ length lines) → Obeys (len name) old (reply_of (number_line count ∷ [])) old
+  pub Obeys-len : (W : Workspace) (name : Bytes) (count : ℕ) → StandsFor old.pool W → IsSomeAnd (lines_of W.current name) (λ (lines : List Bytes). count ≡ length lines) → ObeysAlone (len name) old (reply_of (number_line count ∷ [])) old
   Obeys-len W name count stands h =
       let there = some_lines (lines_of W.current name) (λ (lines : List Bytes). count ≡ length lines) h in
-      subst (λ (n : ℕ). Obeys (len name) old (reply_of (number_line n ∷ [])) old) (sym there.2) (Obeys-asked W (number_line (length there.0) ∷ []) refl stands (len-told W name there.0 there.1))
+      subst (λ (n : ℕ). ObeysAlone (len name) old (reply_of (number_line n ∷ [])) old) (sym there.2) (Obeys-asked W (number_line (length there.0) ∷ []) refl stands (len-told W name there.0 there.1))
 
-  pub Obeys-len_refused : {X : Type 0} (W : Workspace) (name : Bytes) (reason : Refusal) {reply : List ℕ} (IsAnswer : List Bytes → X → Type 0) → StandsFor old.pool W → OnLines {X = X} W name (Err reason) IsAnswer (λ (lines : List Bytes). ⊥) → reply ≡ refusal_of (reason_of reason) → Obeys (len name) old reply old
+  pub Obeys-len_refused : {X : Type 0} (W : Workspace) (name : Bytes) (reason : Refusal) {reply : List ℕ} (IsAnswer : List Bytes → X → Type 0) → StandsFor old.pool W → OnLines {X = X} W name (Err reason) IsAnswer (λ (lines : List Bytes). ⊥) → reply ≡ refusal_of (reason_of reason) → ObeysAlone (len name) old reply old
   Obeys-len_refused W name reason IsAnswer stands h is = Obeys-refused W reason stands (on_refused W name (len name) reason IsAnswer (λ (lines : List Bytes). ⊥) (len-none W name) (λ lines e never. absurd never) h) is refl
 
   -- the reply to `show`
-  pub Obeys-show : (W : Workspace) (name : Bytes) (from to : ℕ) (shown : List Bytes) → StandsFor old.pool W → IsSomeAnd (lines_of W.current name) (λ (lines : List Bytes). (from ≤ to) × (to ≤ length lines) × (shown ≡ slice_range lines from to)) → Obeys (show name from to) old (reply_of (map text_line shown ++ ok_line ∷ [])) old
+  pub Obeys-show : (W : Workspace) (name : Bytes) (from to : ℕ) (shown : List Bytes) → StandsFor old.pool W → IsSomeAnd (lines_of W.current name) (λ (lines : List Bytes). (from ≤ to) × (to ≤ length lines) × (shown ≡ slice_range lines from to)) → ObeysAlone (show name from to) old (reply_of (map text_line shown ++ ok_line ∷ [])) old
   Obeys-show W name from to shown stands h =
       let there = some_lines (lines_of W.current name) (λ (lines : List Bytes). (from ≤ to) × (to ≤ length lines) × (shown ≡ slice_range lines from to)) h in
-      subst (λ (w : List Bytes). Obeys (show name from to) old (reply_of (map text_line w ++ ok_line ∷ [])) old) (sym there.2.2)
+      subst (λ (w : List Bytes). ObeysAlone (show name from to) old (reply_of (map text_line w ++ ok_line ∷ [])) old) (sym there.2.2)
       (Obeys-asked W (map text_line (slice_range there.0 from to) ++ ok_line ∷ []) refl stands (show-told W name from to there.0 there.1 there.2.0 there.2.1))
 
-  pub Obeys-show_refused : {X : Type 0} (W : Workspace) (name : Bytes) (from to : ℕ) (reason : Refusal) {reply : List ℕ} (IsAnswer : List Bytes → X → Type 0) → StandsFor old.pool W → OnLines {X = X} W name (Err reason) IsAnswer (λ (lines : List Bytes). (from ≤ to) × (to ≤ length lines) → ⊥) → reply ≡ refusal_of (reason_of reason) → Obeys (show name from to) old reply old
+  pub Obeys-show_refused : {X : Type 0} (W : Workspace) (name : Bytes) (from to : ℕ) (reason : Refusal) {reply : List ℕ} (IsAnswer : List Bytes → X → Type 0) → StandsFor old.pool W → OnLines {X = X} W name (Err reason) IsAnswer (λ (lines : List Bytes). (from ≤ to) × (to ≤ length lines) → ⊥) → reply ≡ refusal_of (reason_of reason) → ObeysAlone (show name from to) old reply old
   Obeys-show_refused W name from to reason IsAnswer stands h is = Obeys-refused W reason stands (on_refused W name (show name from to) reason IsAnswer (λ (lines : List Bytes). (from ≤ to) × (to ≤ length lines) → ⊥) (show-none W name from to) (show-past W name from to) h) is refl
 
   -- the replies to `list`, `stars` and `marks`
-  pub Obeys-list : (W : Workspace) (shown : List (Bytes × ℕ)) → StandsFor old.pool W → shown ≡ sizes W.current → Obeys list old (reply_of (map size_line shown ++ ok_line ∷ [])) old
+  pub Obeys-list : (W : Workspace) (shown : List (Bytes × ℕ)) → StandsFor old.pool W → shown ≡ sizes W.current → ObeysAlone list old (reply_of (map size_line shown ++ ok_line ∷ [])) old
   unfolding answer
   Obeys-list W shown stands e = Obeys-asked W (map size_line shown ++ ok_line ∷ []) refl stands (rw e refl)
 
-  pub Obeys-stars : (W : Workspace) (shown : List Bytes) → StandsFor old.pool W → shown ≡ map_of.keys W.current.stars → Obeys stars old (reply_of (map text_line shown ++ ok_line ∷ [])) old
+  pub Obeys-stars : (W : Workspace) (shown : List Bytes) → StandsFor old.pool W → shown ≡ map_of.keys W.current.stars → ObeysAlone stars old (reply_of (map text_line shown ++ ok_line ∷ [])) old
   unfolding answer
   Obeys-stars W shown stands e = Obeys-asked W (map text_line shown ++ ok_line ∷ []) refl stands (rw e refl)
 
-  pub Obeys-marks : (W : Workspace) (shown : List Bytes) → StandsFor old.pool W → shown ≡ map_of.keys W.versions → Obeys marks old (reply_of (map text_line shown ++ ok_line ∷ [])) old
+  pub Obeys-marks : (W : Workspace) (shown : List Bytes) → StandsFor old.pool W → shown ≡ map_of.keys W.versions → ObeysAlone marks old (reply_of (map text_line shown ++ ok_line ∷ [])) old
   unfolding answer
   Obeys-marks W shown stands e = Obeys-asked W (map text_line shown ++ ok_line ∷ []) refl stands (rw e refl)
 
-  pub Obeys-list_lacks : (W : Workspace) {reply : List ℕ} → StandsFor old.pool W → reply ≡ refusal_of (codes "memory") → Obeys list old reply old
+  pub Obeys-list_lacks : (W : Workspace) {reply : List ℕ} → StandsFor old.pool W → reply ≡ refusal_of (codes "memory") → ObeysAlone list old reply old
   unfolding answer
   Obeys-list_lacks W stands is = Obeys-lacks W stands (record { wants = refl; granted = refl }) is refl
 
-  pub Obeys-stars_lacks : (W : Workspace) {reply : List ℕ} → StandsFor old.pool W → reply ≡ refusal_of (codes "memory") → Obeys stars old reply old
+  pub Obeys-stars_lacks : (W : Workspace) {reply : List ℕ} → StandsFor old.pool W → reply ≡ refusal_of (codes "memory") → ObeysAlone stars old reply old
   unfolding answer
   Obeys-stars_lacks W stands is = Obeys-lacks W stands (record { wants = refl; granted = refl }) is refl
 
-  pub Obeys-marks_lacks : (W : Workspace) {reply : List ℕ} → StandsFor old.pool W → reply ≡ refusal_of (codes "memory") → Obeys marks old reply old
+  pub Obeys-marks_lacks : (W : Workspace) {reply : List ℕ} → StandsFor old.pool W → reply ≡ refusal_of (codes "memory") → ObeysAlone marks old reply old
   unfolding answer
   Obeys-marks_lacks W stands is = Obeys-lacks W stands (record { wants = refl; granted = refl }) is refl
 
   -- the reply to `quit`
-  pub Obeys-quit : (W : Workspace) → StandsFor old.pool W → Obeys quit old (codes "ok\n") old
+  pub Obeys-quit : (W : Workspace) → StandsFor old.pool W → ObeysAlone quit old (codes "ok\n") old
   unfolding answer
   Obeys-quit W stands = Obeys-asked W (ok_line ∷ []) refl stands refl
+
+  -- the replies to `same` and `eqv`
+  pub Obeys-same : (W : Workspace) (name other : Bytes) (result : Result Bool Refusal) {reply : List ℕ} → StandsFor old.pool W → AreEqual (lines_of W.current name) (lines_of W.current other) result → reply ≡ equality_reply result → ObeysAlone (same_lines name other) old reply old
+  unfolding answer
+  Obeys-same W name other result stands equal is =
+      subst (λ (w : List ℕ). ObeysAlone (same_lines name other) old w old) (sym is)
+      (Obeys-equal same_texts same_texts-Decides W (lines_of W.current name) (lines_of W.current other) result refl stands refl equal)
+
+  pub Obeys-eqv : (W : Workspace) (version other : Bytes) (result : Result Bool Refusal) {reply : List ℕ} → StandsFor old.pool W → AreEqual (version_of W version) (version_of W other) result → reply ≡ equality_reply result → ObeysAlone (eqv version other) old reply old
+  unfolding answer
+  Obeys-eqv W version other result stands equal is =
+      subst (λ (w : List ℕ). ObeysAlone (eqv version other) old w old) (sym is)
+      (Obeys-equal same_state same_state-Decides W (version_of W version) (version_of W other) result refl stands refl equal)
+
+  -- the reply to `stats`
+  pub Obeys-stats : (W : Workspace) {count : ℕ} → StandsFor old.pool W → count ≡ row_count old.pool → ObeysAlone stats old (reply_of (number_line count ∷ [])) old
+  unfolding answer
+  Obeys-stats W {count} stands e = λ store. record {
+    work = W;
+    stands = stands;
+    gives = inl (ap (λ (n : ℕ). reply_of (number_line n ∷ [])) e, refl);
+  }
 
 bits_by : (asks : Bool) (command : PlainCommand) (old new : SpaceView) (W : Workspace) → MatchBool asks (new ≡ old) (CarriesOut command old new W) → new.pool.bits ≡ old.pool.bits
 bits_by true command old new W same = ap (λ (s : SpaceView). s.pool.bits) same
 bits_by false command old new W carries = carries.bits
 
-bits_given : (a : Answer) (command : PlainCommand) (old new : SpaceView) (W : Workspace) (reply : List ℕ) → Gives command old W a reply new → new.pool.bits ≡ old.pool.bits
-bits_given (Ok (tells lines after)) command old new W reply gives = bits_by (only_asks command) command old new W gives.1
-bits_given (Err reason) command old new W reply refuses = ap (λ (s : SpaceView). s.pool.bits) refuses.same
+bits_loaded : (found : Option Damage) (bytes : Bytes) (old new : SpaceView) (reply : List ℕ) → MatchOption found (IsLoaded bytes old reply new) (λ (d : Damage). KeepsSpace old (codes "damaged " ++ damage_word d) reply new) → new.pool.bits ≡ old.pool.bits
+bits_loaded None bytes old new reply loads = loads.bits
+bits_loaded (Some d) bytes old new reply keeps = ap (λ (s : SpaceView). s.pool.bits) keeps.same
+
+bits_as : (file : Fetched) (old new : SpaceView) (reply : List ℕ) → LoadsAs file old reply new → new.pool.bits ≡ old.pool.bits
+bits_as missing old new reply keeps = ap (λ (s : SpaceView). s.pool.bits) keeps.same
+bits_as large old new reply keeps = ap (λ (s : SpaceView). s.pool.bits) keeps.same
+bits_as (given_bytes bytes) old new reply loads = bits_loaded (document_damage old.pool.bits bytes) bytes old new reply loads
+
+bits_elsewhere : (command : PlainCommand) (old new : Machine) (reply : List ℕ) → SaysElsewhere command old reply new → new.space.pool.bits ≡ old.space.pool.bits
+bits_elsewhere stats old new reply says = ap (λ (m : Machine). m.space.pool.bits) says.1
+bits_elsewhere (save name) old new reply says = ap (λ (s : SpaceView). s.pool.bits) says.space
+bits_elsewhere (load name) old new reply says = elim says [
+  | inl loads ↦ bits_as loads.file old.space new.space reply loads.loads
+  | inr fails ↦ ap (λ (s : SpaceView). s.pool.bits) fails.space.same
+]
+bits_elsewhere (edit change) old new reply says = absurd says
+bits_elsewhere (mark version) old new reply says = absurd says
+bits_elsewhere (unmark version) old new reply says = absurd says
+bits_elsewhere (back version) old new reply says = absurd says
+bits_elsewhere undo old new reply says = absurd says
+bits_elsewhere redo old new reply says = absurd says
+bits_elsewhere begin old new reply says = absurd says
+bits_elsewhere «end» old new reply says = absurd says
+bits_elsewhere abort old new reply says = absurd says
+bits_elsewhere (get name index) old new reply says = absurd says
+bits_elsewhere (len name) old new reply says = absurd says
+bits_elsewhere (show name from to) old new reply says = absurd says
+bits_elsewhere list old new reply says = absurd says
+bits_elsewhere stars old new reply says = absurd says
+bits_elsewhere marks old new reply says = absurd says
+bits_elsewhere (same_lines name other) old new reply says = absurd says
+bits_elsewhere (eqv version other) old new reply says = absurd says
+bits_elsewhere quit old new reply says = absurd says
+
+bits_given : (a : Answer) (command : PlainCommand) (old new : Machine) (W : Workspace) (reply : List ℕ) → Gives command old W a reply new → new.space.pool.bits ≡ old.space.pool.bits
+bits_given (Ok (tells lines after)) command old new W reply gives = bits_by (only_asks command) command old.space new.space W gives.2
+bits_given (Ok elsewhere) command old new W reply gives = bits_elsewhere command old new reply gives
+bits_given (Err reason) command old new W reply refuses = ap (λ (m : Machine). m.space.pool.bits) refuses.same
 
 -- each command keeps the bits
-pub bits-kept : (command : PlainCommand) (old new : SpaceView) (reply : List ℕ) → Obeys command old reply new → new.pool.bits ≡ old.pool.bits
+pub bits-kept : (command : PlainCommand) (old new : Machine) (reply : List ℕ) → Obeys command old reply new → new.space.pool.bits ≡ old.space.pool.bits
 bits-kept command old new reply obeys = elim obeys.gives [
   | inl gives ↦ bits_given (answer obeys.work command) command old new obeys.work reply gives
-  | inr lacks ↦ ap (λ (s : SpaceView). s.pool.bits) lacks.refuses.same
+  | inr lacks ↦ ap (λ (s : SpaceView). s.pool.bits) lacks.space
 ]
 
 -- a piece that may be a line is obeyed by its meaning
-pub Step-line : (old new : SpaceView) (piece reply : List ℕ) (read : Result PlainCommand BadLine) → length piece ≤ MAX_LINE → read ≡ meaning piece → Means old read reply new → Step old piece reply new
+pub Step-line : (old new : Machine) (piece reply : List ℕ) (read : Result PlainCommand BadLine) → length piece ≤ MAX_LINE → read ≡ meaning piece → Means old read reply new → Step old piece reply new
 Step-line old new piece reply read short e m =
     subst (λ (b : Bool). MatchBool b (Refuses old (codes "long") reply new) (Means old (meaning piece) reply new)) (sym (le-ltb MAX_LINE (length piece) short))
     (subst (λ (r : Result PlainCommand BadLine). Means old r reply new) e m)
 
 -- a piece that is too long is refused
-pub Step-long : (old : SpaceView) (piece : List ℕ) → MAX_LINE < length piece → Step old piece (refusal_of (codes "long")) old
+pub Step-long : (old : Machine) (piece : List ℕ) → MAX_LINE < length piece → Step old piece (refusal_of (codes "long")) old
 Step-long old piece long =
     subst (λ (b : Bool). MatchBool b (Refuses old (codes "long") (refusal_of (codes "long")) old) (Means old (meaning piece) (refusal_of (codes "long")) old)) (sym (lt-ltb MAX_LINE (length piece) long))
     (record { reply_is = refl; same = refl })
 
--- the same of the command as it was read
-pub Replies-ends : {B : Type 0} {K : sink_trait.Ghosts B} {sink sink' : B} {result : Result (Unit {0}) Failed} (command it : Command) {old new : SpaceView} (done : Result (Unit {0}) Refusal) → command ≡ it → only_asks (plain_command it) ≡ false → Ends (plain_command it) old done new → Sends K.written K.faults K.has_room sink sink' result (done_reply done) → Replies K sink sink' result (λ (reply : List ℕ). Obeys (plain_command command) old reply new)
-Replies-ends command it {old} {new} done is asks ends sends = record {
-  reply = done_reply done;
-  due = subst (λ (k : Command). Obeys (plain_command k) old (done_reply done) new) (sym is) (Obeys-ends (plain_command it) done asks ends);
+-- a store that isn't called
+pub CountsStore-none : {C : Type 0} {D : store_trait.Ghosts C} {store : C} {reply : List ℕ} → CountsStore D store store reply
+CountsStore-none = record { counted = omega arith; steady = λ h. (h, λ _. refl); sure = λ h. (h, refl) }
+
+module _ {B C : Type 0} {K : sink_trait.Ghosts B} {D : store_trait.Ghosts C} {sink sink' : B} {store : C} {result : Result (Unit {0}) Failed} {old new : SpaceView} where
+  -- a command that uses no store was obeyed
+  pub Replies-alone : (command it : Command) → command ≡ it → Replies K sink sink' result (λ (reply : List ℕ). ObeysAlone (plain_command it) old reply new) → Replies K sink sink' result (λ (reply : List ℕ). ObeysOn (plain_command command) D old store reply new store)
+  Replies-alone command it is replies = record {
+    reply = replies.reply;
+    due = record {
+      obeys = subst (λ (k : Command). Obeys (plain_command k) (machine_of D old store) replies.reply (machine_of D new store)) (sym is) (replies.due (shown_store D store));
+      counts = CountsStore-none;
+    };
+    sends = replies.sends;
+  }
+
+  -- the same of one that ended so
+  pub Replies-ends : (command it : Command) (done : Result (Unit {0}) Refusal) → command ≡ it → only_asks (plain_command it) ≡ false → Ends (plain_command it) old done new → Sends K.written K.faults K.has_room sink sink' result (done_reply done) → Replies K sink sink' result (λ (reply : List ℕ). ObeysOn (plain_command command) D old store reply new store)
+  Replies-ends command it done is asks ends sends =
+      Replies-alone command it is (record { reply = done_reply done; due = Obeys-ends (plain_command it) done asks ends; sends = sends })
+
+-- a command that uses the store was obeyed, and its reply sent
+pub Replies-on : {B C : Type 0} {K : sink_trait.Ghosts B} {D : store_trait.Ghosts C} {sink sink' : B} {store store' : C} {result : Result (Unit {0}) Failed} {old new : SpaceView} {reply due : List ℕ} (command it : Command) → command ≡ it → reply ≡ due →
+    ObeysOn (plain_command it) D old store due new store' → Sends K.written K.faults K.has_room sink sink' result reply → Replies K sink sink' result (λ (w : List ℕ). ObeysOn (plain_command command) D old store w new store')
+Replies-on {D = D} {store = store} {store'} {old = old} {new} {reply} command it is same obeys sends = record {
+  reply = reply;
+  due = subst (λ (k : Command). ObeysOn (plain_command k) D old store reply new store') (sym is) (subst (λ (w : List ℕ). ObeysOn (plain_command it) D old store w new store') (sym same) obeys);
   sends = sends;
+}
+
+-- what the one call of the store made of its count
+pub CountsStore-called : {C : Type 0} {D : store_trait.Ghosts C} {store store' : C} {failed : Type 0} (reply : List ℕ) → (reply ≢ refusal_of (codes "fault") → failed → ⊥) → Calls D.faults D.steady D.faultless store store' failed → CountsStore D store store' reply
+CountsStore-called reply fault calls = record {
+  counted = calls.counts.counted;
+  steady = λ h. let told = calls.told h in (told.0, λ other. told.1 (fault other));
+  sure = λ h. let told = calls.sure h in (told.0, told.1);
 }

@@ -3,3 +3,4 @@ pub mod Step
 pub mod Sending
 pub mod Run
 pub mod Going
+pub mod Loading

@@ -1,4 +1,5 @@
--- What a run does: from its input and what it may take of it to its output, its status and the space that it leaves.
+-- What a run does: from its input and what it may take of it to its output, its status, and the space and the files that it
+-- leaves.
 use Rattle.std.specs.Prelude.{◌≡◌, ◌≢◌, ℕ, ◌+◌, ◌-◌, ◌<◌, ◌≤◌, ◌↔◌, ◌⊎◌, List, [], ◌∷◌, ◌++◌, length, take, None, Some, IsNone, IfSome, IsSomeAnd}
 use Rattle.std.specs.declared.option.Option.{Option}
 use Rattle.std.specs.Io.KnownBytes.{Appends, Consumes}
@@ -7,12 +8,13 @@ use Rattle.shell_io.specs.Fault.{CountsFaults, Calls}
 use Rattle.shell_io.specs.Pieces.{pieces_within, ended}
 use Rattle.shell_io.specs.declared.device.Source as source_trait
 use Rattle.shell_io.specs.declared.device.Sink as sink_trait
+use Rattle.shell_io.specs.declared.device.Store as store_trait
 use Rattle.space_state.specs.View.{SpaceView, start_view}
 use Rattle.ewig_shell.specs.declared.run.Ended.{Ended}
 use Rattle.ewig_shell.specs.declared.run.Status.{Status}
 use Rattle.ewig_shell.specs.declared.run.Status.TheVariants.{Done, Memory, Usage, ReadFault, WriteFault, TooLong}
 use Rattle.ewig_shell.specs.Quits.{HasQuit, until_quit}
-use Rattle.ewig_shell.specs.Step.{Step, Steps}
+use Rattle.ewig_shell.specs.Step.{StoreView, shown_store, Machine, Step, Steps}
 
 -- The statuses of a run that ended before its first line.
 abbrev pub IsEarly : Status → Type 0
@@ -43,10 +45,17 @@ pub record Run : Type 0 where
   -- how it ended, and the space that it left, if it had one
   pub status : Status
   pub last : Option SpaceView
+  -- its store before and after it
+  pub store : StoreView
+  pub store' : StoreView
+
+-- What a run begins with: a new space, and its store.
+abbrev pub start_of : StoreView → Machine
+start_of store = record { space = start_view CODE_BITS; store = store }
 
 -- These pieces were executed one after another, and their replies written whole.
 pub record Executes (pieces : List (List ℕ)) (run : Run) : Type 0 where
-  pub steps : IsSomeAnd run.last (λ last. Steps (start_view CODE_BITS) pieces run.replies last)
+  pub steps : IsSomeAnd run.last (λ last. Steps (start_of run.store) pieces run.replies (record { space = last; store = run.store' }))
   pub written : run.output ≡ run.replies
 
 -- Nothing was taken, executed or written.
@@ -55,6 +64,7 @@ pub record IsUnbegun (run : Run) : Type 0 where
   pub unanswered : run.replies ≡ []
   pub unwritten : run.output ≡ []
   pub none_left : run.last ≡ None
+  pub untouched : run.store' ≡ run.store
 
 -- The whole input was taken, and it is within the most; or a quit piece ended within the first most of the bytes
 -- taken. All pieces were executed, or those up to the first quit piece.
@@ -83,10 +93,10 @@ pub record HasWriteFault (most : ℕ) (run : Run) : Type 0 where
   pub in_time : pieces_within most run.input ≡ before ++ piece ∷ later
   pub goes_on : ¬ HasQuit before
   pub whole : List ℕ
-  pub mid : SpaceView
-  pub steps : Steps (start_view CODE_BITS) before whole mid
+  pub mid : Machine
+  pub steps : Steps (start_of run.store) before whole mid
   pub reply : List ℕ
-  pub step : IsSomeAnd run.last (λ last. Step mid piece reply last)
+  pub step : IsSomeAnd run.last (λ last. Step mid piece reply (record { space = last; store = run.store' }))
   pub replies_are : run.replies ≡ whole ++ reply
   pub count : ℕ
   pub cut : count < length reply
@@ -101,14 +111,16 @@ Says ReadFault most run = HasReadFault most run
 Says WriteFault most run = HasWriteFault most run
 Says TooLong most run = IsTooLong most run
 
--- A run over a source that had this input to give: what it did, that what the source has left and the sink show it, and
--- that its status says so.
+-- A run over a source that had this input to give: what it did, that what the source has left, the sink and the store show
+-- it, and that its status says so.
 pub record Runs {B : Type 0} (most : ℕ) (input : List ℕ) (left : Option (List ℕ))
-    (K : sink_trait.Ghosts B) (sink sink' : B) (status : Status) (last : Option SpaceView) : Type 0 where
+    (K : sink_trait.Ghosts B) (sink sink' : B) (store store' : StoreView) (status : Status) (last : Option SpaceView) : Type 0 where
   pub run : Run
   pub input_is : run.input ≡ input
   pub status_is : run.status ≡ status
   pub last_is : run.last ≡ last
+  pub store_is : run.store ≡ store
+  pub store'_is : run.store' ≡ store'
   pub takes : Consumes (Some input) left run.taken
   pub few : length run.taken ≤ most + 1
   pub writes : Appends (K.written sink) (K.written sink') run.output
@@ -126,21 +138,28 @@ pub record IsComplete (most : ℕ) (input : List ℕ) (status : Status) : Type 0
   pub done : EndsInTime most input → (status ≡ Done) ⊎ (status ≡ Memory)
   pub too_long : ¬ EndsInTime most input → (status ≡ TooLong) ⊎ (status ≡ Memory)
 
--- What a run promises that takes at most so many bytes: of its words, of its source and its sink before and after it,
--- and of how it ended.
-pub record RunsAs {A B W : Type 0} (most : ℕ) (words : List W) (S : source_trait.Ghosts A) (source source' : A)
-    (K : sink_trait.Ghosts B) (sink sink' : B) (ended : Ended) : Type 0 where
+-- The store's count of faults hasn't fallen. A steady store stays so. A store that can't fail stays so, and counted none.
+pub record KeepsSure {C : Type 0} (D : store_trait.Ghosts C) (store store' : C) : Type 0 where
+  pub counted : D.faults store ≤ D.faults store'
+  pub steady : D.steady store → D.steady store'
+  pub sure : D.faultless store → D.faultless store' × (D.faults store' ≡ D.faults store)
+
+-- What a run promises that takes at most so many bytes: of its words, of its source, its sink and its store before and after
+-- it, and of how it ended.
+pub record RunsAs {A B C W : Type 0} (most : ℕ) (words : List W) (S : source_trait.Ghosts A) (source source' : A)
+    (K : sink_trait.Ghosts B) (sink sink' : B) (D : store_trait.Ghosts C) (store store' : C) (ended : Ended) : Type 0 where
   -- Whatever the devices tell.
   pub usage : (ended.status ≡ Usage) ↔ (0 < length words)
   pub space : IsNone ended.space ↔ IsEarly ended.status
   pub bits : IfSome ended.space (λ s. s.pool.bits ≡ CODE_BITS)
-  pub unbegun : IsEarly ended.status → (source' ≡ source) × (sink' ≡ sink)
+  pub unbegun : IsEarly ended.status → (source' ≡ source) × (sink' ≡ sink) × (store' ≡ store)
   -- The counts of faults never fall, and a fault has its cause in this call. A steady source counts a fault with no
   -- other status, and one that can't fail has none.
   pub reads : Calls S.faults S.steady S.faultless source source' (ended.status ≡ ReadFault)
   pub writes : CountsFaults (ended.status ≡ WriteFault) (K.faults sink) (K.faults sink')
+  pub stores : KeepsSure D store store'
   -- Where the source tells its bytes.
-  pub run : IfSome (S.left source) (λ input. Runs most input (S.left source') K sink sink' ended.status ended.space)
+  pub run : IfSome (S.left source) (λ input. Runs most input (S.left source') K sink sink' (shown_store D store) (shown_store D store') ended.status ended.space)
   -- Without a fault, the words and the bytes alone decide.
   pub complete : words ≡ [] → ended.status ≢ ReadFault → ended.status ≢ WriteFault →
       IfSome (S.left source) (λ input. IsComplete most input ended.status)

@@ -1,18 +1,46 @@
--- What one piece of the input makes of a space, and the reply that it gets.
-use Rattle.std.specs.Prelude.{◌≡◌, ℕ, Bool, true, false, nat_lt, List, [], ◌∷◌, ◌++◌, length, codes, Result, Ok, Err, MatchBool, ◌⊎◌}
+-- What one piece of the input makes of a space and a store, and the reply that it gets.
+use Rattle.std.specs.Prelude.{◌≡◌, ◌≢◌, ℕ, ◌+◌, ◌-◌, ◌*◌, ◌^◌, ◌≤◌, min, Bool, true, false, nat_lt, List, [], ◌∷◌, ◌++◌, length, codes, Result, Ok, Err, Option, Some, None, IfSome, MatchBool, MatchOption, if◌then◌else◌, ◌⊎◌}
+use Rattle.std.specs.FinMap.{insert, get as get_file}
 use Rattle.std.specs.List.{flat_map}
 use Rattle.elem_core.specs.declared.TheConstants.{MAX_LINE, NEWLINE}
-use Rattle.shell_terms.specs.Command.{PlainCommand, get, len, show, list, stars, marks, quit}
+use Rattle.shell_terms.specs.Command.{PlainCommand, get, len, show, list, stars, marks, same, eqv, stats, save, load, quit}
 use Rattle.shell_words.specs.Grammar.{meaning}
 use Rattle.shell_words.specs.declared.BadLine.{BadLine}
 use Rattle.shell_words.specs.declared.BadLine.TheVariants as bad
+use Rattle.shell_io.specs.Fault.{HasCause}
+use Rattle.shell_io.specs.InMemory.{Files}
+use Rattle.shell_io.specs.Storing.{ChangesFiles, OthersStay}
+use Rattle.shell_io.specs.declared.device.Store as store_trait
 use Rattle.plain_space.specs.declared.refusal.Refusal.{Refusal}
 use Rattle.plain_space.specs.Workspace.{Workspace}
-use Rattle.plain_space.specs.Answer.{Answer, tells, answer, ok_line}
+use Rattle.plain_space.specs.Answer.{Answer, tells, elsewhere, answer, ok_line, number_line, equal_line}
 use Rattle.plain_space.specs.Memory.{MayLackMemory}
 use Rattle.plain_space.specs.Session.{reason_of}
+use Rattle.pool_text.specs.Pool.{row_count}
+use Rattle.pool_text.specs.Document.{text, pool_in_bytes}
+use Rattle.pool_text.specs.declared.damage.Damage.{Damage}
+use Rattle.pool_text.specs.declared.damage.Damage.TheVariants as damage
+use Rattle.pool_check.specs.Damages.{document_damage, IsValid}
 use Rattle.state_rows.specs.Standing.{StandsFor}
 use Rattle.space_state.specs.View.{SpaceView, CarriesOut}
+use Rattle.ewig_shell.specs.declared.load.LoadFault.{LoadFault}
+use Rattle.ewig_shell.specs.declared.load.LoadFault.TheVariants as unloaded
+use Rattle.ewig_shell.specs.declared.store.SaveFault.{SaveFault}
+use Rattle.ewig_shell.specs.declared.store.SaveFault.TheVariants as unsaved
+
+-- What a step goes by of a store: its files, where they are told, and how often its calls have failed.
+pub record StoreView : Type 0 where
+  pub files : Option Files
+  pub faults : ℕ
+
+-- What a store shows.
+abbrev pub shown_store : {A : Type 0} → store_trait.Ghosts A → A → StoreView
+shown_store D store = record { files = D.held store; faults = D.faults store }
+
+-- What a piece is executed on: a space, and the files that it may store.
+pub record Machine : Type 0 where
+  pub space : SpaceView
+  pub store : StoreView
 
 -- Reply lines as the bytes of a reply: a newline ends each.
 abbrev pub reply_of : List (List ℕ) → List ℕ
@@ -27,8 +55,46 @@ abbrev pub done_reply : Result (Unit {0}) Refusal → List ℕ
 done_reply (Ok done) = reply_of (ok_line ∷ [])
 done_reply (Err reason) = refusal_of (reason_of reason)
 
+-- The reply to a question of equality.
+abbrev pub equality_reply : Result Bool Refusal → List ℕ
+equality_reply (Ok equal) = reply_of (equal_line equal ∷ [])
+equality_reply (Err reason) = refusal_of (reason_of reason)
+
+-- The reply to `save`.
+abbrev pub saved_reply : Result (Unit {0}) SaveFault → List ℕ
+saved_reply (Ok done) = reply_of (ok_line ∷ [])
+saved_reply (Err unsaved.Batch) = refusal_of (codes "batch")
+saved_reply (Err unsaved.Large) = refusal_of (codes "large")
+saved_reply (Err unsaved.Failed) = refusal_of (codes "fault")
+saved_reply (Err unsaved.Memory) = refusal_of (codes "memory")
+
+-- The word for the first test that a document fails.
+abbrev pub damage_word : Damage → List ℕ
+damage_word damage.Json = codes "json"
+damage_word damage.Form = codes "form"
+damage_word damage.Version = codes "version"
+damage_word damage.Bits = codes "bits"
+damage_word damage.Row = codes "row"
+damage_word damage.Link = codes "link"
+damage_word damage.Text = codes "text"
+damage_word damage.Vector = codes "vector"
+damage_word damage.Trie = codes "trie"
+damage_word damage.Kind = codes "kind"
+damage_word damage.Order = codes "order"
+damage_word damage.Memory = codes "memory"
+
+-- The reply to `load`.
+abbrev pub loaded_reply : Result (Unit {0}) LoadFault → List ℕ
+loaded_reply (Ok done) = reply_of (ok_line ∷ [])
+loaded_reply (Err unloaded.Batch) = refusal_of (codes "batch")
+loaded_reply (Err unloaded.Missing) = refusal_of (codes "missing")
+loaded_reply (Err unloaded.Large) = refusal_of (codes "large")
+loaded_reply (Err unloaded.Failed) = refusal_of (codes "fault")
+loaded_reply (Err (unloaded.Damaged d)) = refusal_of (codes "damaged " ++ damage_word d)
+loaded_reply (Err unloaded.Memory) = refusal_of (codes "memory")
+
 -- The reply is this refusal, and nothing has changed.
-pub record Refuses (old : SpaceView) (reason reply : List ℕ) (new : SpaceView) : Type 0 where
+pub record Refuses (old : Machine) (reason reply : List ℕ) (new : Machine) : Type 0 where
   pub reply_is : reply ≡ refusal_of reason
   pub same : new ≡ old
 
@@ -46,29 +112,135 @@ only_asks (show name from to) = true
 only_asks list = true
 only_asks stars = true
 only_asks marks = true
+only_asks (same name other) = true
+only_asks (eqv version other) = true
 only_asks quit = true
 only_asks _ = false
 
--- From this space, which stands for the workspace, the plain answer is this reply and leaves this space: the same one where
--- the command only asks, else one in which the command was carried out.
-abbrev pub Gives : PlainCommand → SpaceView → Workspace → Answer → List ℕ → SpaceView → Type 0
+-- ## Files
+
+-- The most bytes that a file may have: 64 times 2^20.
+abbrev pub most_stored : ℕ
+most_stored = 64 * 2 ^ 20
+
+-- The bytes are too many for a file.
+abbrev pub is_large : List ℕ → Bool
+is_large bytes = nat_lt most_stored (length bytes)
+
+-- The files, where they are told, are as they were, and the count of faults hasn't fallen.
+pub record KeepsFiles (old new : StoreView) : Type 0 where
+  pub files : ChangesFiles old.files new.files (λ before now. now ≡ before)
+  pub counted : old.faults ≤ new.faults
+
+-- The bytes are the file of this name now, and no other file has changed.
+pub record IsStored (name bytes : List ℕ) (old : StoreView) (reply : List ℕ) (new : StoreView) : Type 0 where
+  pub reply_is : reply ≡ reply_of (ok_line ∷ [])
+  pub files : ChangesFiles old.files new.files (λ before now. now ≡ insert before name bytes)
+  pub counted : old.faults ≤ new.faults
+
+-- The store failed in this step, and at most the file of this name has changed.
+pub record FailsToStore (name : List ℕ) (old : StoreView) (reply : List ℕ) (new : StoreView) : Type 0 where
+  pub reply_is : reply ≡ refusal_of (codes "fault")
+  pub files : ChangesFiles old.files new.files (λ before now. OthersStay before now name)
+  pub counted : old.faults ≤ new.faults
+  pub cause : HasCause old.faults new.faults
+
+-- The space stays. Its document is too large for a file, or is stored, or the store failed.
+pub record Saves (name : List ℕ) (old : Machine) (reply : List ℕ) (new : Machine) : Type 0 where
+  pub space : new.space ≡ old.space
+  pub ends : MatchBool (is_large (text old.space.pool)) (Refuses old (codes "large") reply new)
+      (IsStored name (text old.space.pool) old.store reply new.store ⊎ FailsToStore name old.store reply new.store)
+
+-- What a file is to a load: nothing, too many bytes, or the bytes of a document or not.
+pub data Fetched : Type 0 where
+  missing : Fetched
+  large : Fetched
+  given : (bytes : List ℕ) → Fetched
+
+-- The same of the file that is held.
+abbrev pub fetched : Option (List ℕ) → Fetched
+fetched None = missing
+fetched (Some bytes) = if is_large bytes then large else given bytes
+
+-- The reply is this refusal, and the space stays.
+pub record KeepsSpace (old : SpaceView) (reason reply : List ℕ) (new : SpaceView) : Type 0 where
+  pub reply_is : reply ≡ refusal_of reason
+  pub same : new ≡ old
+
+-- The pool that the document stands for is the space's now, and each of its rows was made.
+pub record IsLoaded (bytes : List ℕ) (old : SpaceView) (reply : List ℕ) (new : SpaceView) : Type 0 where
+  pub reply_is : reply ≡ reply_of (ok_line ∷ [])
+  pub pool : pool_in_bytes bytes ≡ Some new.pool
+  pub valid : IsValid new.pool
+  pub bits : new.pool.bits ≡ old.pool.bits
+  pub made : new.made ≡ min (old.made + row_count new.pool) (2 ^ 64 - 1)
+
+-- What the file makes of the space. A document is refused with the first test that it fails.
+abbrev pub LoadsAs : Fetched → SpaceView → List ℕ → SpaceView → Type 0
+LoadsAs missing old reply new = KeepsSpace old (codes "missing") reply new
+LoadsAs large old reply new = KeepsSpace old (codes "large") reply new
+LoadsAs (given bytes) old reply new =
+    MatchOption (document_damage old.pool.bits bytes) (IsLoaded bytes old reply new) (λ d. KeepsSpace old (codes "damaged " ++ damage_word d) reply new)
+
+-- The files stay. The file is the one of this name, where the files are told.
+pub record LoadsFile (name : List ℕ) (old : Machine) (reply : List ℕ) (new : Machine) : Type 0 where
+  pub store : KeepsFiles old.store new.store
+  pub file : Fetched
+  pub held : IfSome old.store.files (λ files. file ≡ fetched (get_file files name))
+  pub loads : LoadsAs file old.space reply new.space
+
+-- The store failed in this step, and nothing but its count of faults has changed.
+pub record FailsToLoad (old : Machine) (reply : List ℕ) (new : Machine) : Type 0 where
+  pub store : KeepsFiles old.store new.store
+  pub space : KeepsSpace old.space (codes "fault") reply new.space
+  pub cause : HasCause old.store.faults new.store.faults
+
+-- ## Commands
+
+-- What the pool or the store has to say: of `stats` the number of the pool's rows, of `save` what became of the file, and of
+-- `load` what the file made of the space.
+abbrev pub SaysElsewhere : PlainCommand → Machine → List ℕ → Machine → Type 0
+SaysElsewhere stats old reply new = (reply ≡ reply_of (number_line (row_count old.space.pool) ∷ [])) × (new ≡ old)
+SaysElsewhere (save name) old reply new = Saves name old reply new
+SaysElsewhere (load name) old reply new = LoadsFile name old reply new ⊎ FailsToLoad old reply new
+SaysElsewhere _ old reply new = ⊥
+
+-- From this machine, whose space stands for the workspace, the plain answer is this reply and leaves this machine. The store
+-- stays; so does the space where the command only asks, and else the command was carried out in it.
+abbrev pub Gives : PlainCommand → Machine → Workspace → Answer → List ℕ → Machine → Type 0
 Gives command old work (Ok (tells lines after)) reply new =
-    (reply ≡ reply_of lines) × MatchBool (only_asks command) (new ≡ old) (CarriesOut command old new work)
+    (reply ≡ reply_of lines) × (new.store ≡ old.store)
+    × MatchBool (only_asks command) (new.space ≡ old.space) (CarriesOut command old.space new.space work)
+Gives command old work (Ok elsewhere) reply new = SaysElsewhere command old reply new
 Gives command old work (Err reason) reply new = Refuses old (reason_of reason) reply new
 
--- Memory was refused, which comes only to a command that may want it, where no other refusal applies.
-pub record LacksMemory (command : PlainCommand) (old : SpaceView) (work : Workspace) (reply : List ℕ) (new : SpaceView) : Type 0 where
-  pub may : MayLackMemory work command
-  pub refuses : Refuses old (codes "memory") reply new
+-- Whether the command uses the store.
+abbrev pub uses_store : PlainCommand → Bool
+uses_store (save name) = true
+uses_store (load name) = true
+uses_store _ = false
 
--- From this space, the command gets this reply and leaves this space.
-pub record Obeys (command : PlainCommand) (old : SpaceView) (reply : List ℕ) (new : SpaceView) : Type 0 where
+-- Memory was refused, which comes only to a command that may want it, where nothing in the workspace refuses it. The space stays,
+-- and so does the store, but that a command that uses it may have counted faults.
+pub record LacksMemory (command : PlainCommand) (old : Machine) (work : Workspace) (reply : List ℕ) (new : Machine) : Type 0 where
+  pub may : MayLackMemory work command
+  pub reply_is : reply ≡ refusal_of (codes "memory")
+  pub space : new.space ≡ old.space
+  pub store : MatchBool (uses_store command) (KeepsFiles old.store new.store) (new.store ≡ old.store)
+
+-- From this machine, the command gets this reply and leaves this machine.
+pub record Obeys (command : PlainCommand) (old : Machine) (reply : List ℕ) (new : Machine) : Type 0 where
   pub work : Workspace
-  pub stands : StandsFor old.pool work
+  pub stands : StandsFor old.space.pool work
   pub gives : Gives command old work (answer work command) reply new ⊎ LacksMemory command old work reply new
 
+-- The same of a command that uses no store, whatever the store shows.
+abbrev pub ObeysAlone : PlainCommand → SpaceView → List ℕ → SpaceView → Type 0
+ObeysAlone command old reply new =
+    (store : StoreView) → Obeys command (record { space = old; store = store }) reply (record { space = new; store = store })
+
 -- The same of a line, by its meaning.
-abbrev pub Means : SpaceView → Result PlainCommand BadLine → List ℕ → SpaceView → Type 0
+abbrev pub Means : Machine → Result PlainCommand BadLine → List ℕ → Machine → Type 0
 Means old (Ok command) reply new = Obeys command old reply new
 Means old (Err bad) reply new = Refuses old (line_reason bad) reply new
 
@@ -76,14 +248,39 @@ Means old (Err bad) reply new = Refuses old (line_reason bad) reply new
 abbrev pub is_long : List ℕ → Bool
 is_long piece = nat_lt MAX_LINE (length piece)
 
--- From this space, the piece gets this reply and leaves this space. Its length is tested first.
-abbrev pub Step : SpaceView → List ℕ → List ℕ → SpaceView → Type 0
+-- From this machine, the piece gets this reply and leaves this machine. Its length is tested first.
+abbrev pub Step : Machine → List ℕ → List ℕ → Machine → Type 0
 Step old piece reply new =
     MatchBool (is_long piece) (Refuses old (codes "long") reply new) (Means old (meaning piece) reply new)
 
--- From this space, the pieces get these replies, joined, one step after another, and leave this space.
-abbrev pub Steps : SpaceView → List (List ℕ) → List ℕ → SpaceView → Type 0
+-- From this machine, the pieces get these replies, joined, one step after another, and leave this machine.
+abbrev pub Steps : Machine → List (List ℕ) → List ℕ → Machine → Type 0
 Steps old [] replies last = (replies ≡ []) × (last ≡ old)
 Steps old (piece ∷ rest) replies last =
-    (reply : List ℕ) × (mid : SpaceView) × (more : List ℕ)
+    (reply : List ℕ) × (mid : Machine) × (more : List ℕ)
     × Step old piece reply mid × Steps mid rest more last × (replies ≡ reply ++ more)
+
+-- ## Spaces and stores
+
+-- The machine of a space and a store.
+abbrev pub machine_of : {C : Type 0} → store_trait.Ghosts C → SpaceView → C → Machine
+machine_of D space store = record { space = space; store = shown_store D store }
+
+-- What a step with this reply made of the store's count of faults: it hasn't fallen. A steady store stays so, and counts a fault
+-- with no reply but `! fault`. A store that can't fail stays so, and counts none.
+pub record CountsStore {C : Type 0} (D : store_trait.Ghosts C) (store store' : C) (reply : List ℕ) : Type 0 where
+  pub counted : D.faults store ≤ D.faults store'
+  pub steady : D.steady store → D.steady store' × (reply ≢ refusal_of (codes "fault") → D.faults store' ≡ D.faults store)
+  pub sure : D.faultless store → D.faultless store' × (D.faults store' ≡ D.faults store)
+
+-- On a space and a store, the command gets this reply.
+pub record ObeysOn {C : Type 0} (command : PlainCommand) (D : store_trait.Ghosts C) (space : SpaceView) (store : C) (reply : List ℕ)
+    (space' : SpaceView) (store' : C) : Type 0 where
+  pub obeys : Obeys command (machine_of D space store) reply (machine_of D space' store')
+  pub counts : CountsStore D store store' reply
+
+-- On a space and a store, the piece gets this reply.
+pub record StepsOn {C : Type 0} (piece : List ℕ) (D : store_trait.Ghosts C) (space : SpaceView) (store : C) (reply : List ℕ)
+    (space' : SpaceView) (store' : C) : Type 0 where
+  pub step : Step (machine_of D space store) piece reply (machine_of D space' store')
+  pub counts : CountsStore D store store' reply

@@ -3,17 +3,19 @@
 ghost use Rattle.std.specs.Prelude.{◌≡◌, ◌↔◌, codes, IfOk};
 ghost use Rattle.elem_core.specs.Cell.{IsCell};
 ghost use Rattle.elem_core.specs.Shown.{name_bytes};
-ghost use Rattle.shell_terms.specs.Command.{get as get_command, len as len_command, show as show_command, list as list_command, stars as stars_command, marks as marks_command, quit as quit_command};
+ghost use Rattle.shell_terms.specs.Command.{get as get_command, len as len_command, show as show_command, list as list_command, stars as stars_command, marks as marks_command, same as same_command, eqv as eqv_command, stats as stats_command, quit as quit_command};
 ghost use Rattle.shell_words.specs.Shown.{plain_command};
 ghost use Rattle.plain_space.specs.Change.{edit_command};
 ghost use Rattle.shell_io.specs.Sending.{Sends};
-ghost use Rattle.ewig_shell.specs.Step.{Step, Obeys, refusal_of};
+ghost use Rattle.ewig_shell.specs.Step.{ObeysAlone, ObeysOn, StepsOn, refusal_of};
 ghost use Rattle.ewig_shell.specs.Sending.{Replies, sent_then};
 
+use crate::load::load;
 use crate::reply::{
-    line_refusal, refusal, send, send_done, send_lines, send_names, send_number, send_sizes,
-    send_text,
+    equality, line_refusal, loaded, refusal, saved, send, send_done, send_lines, send_names,
+    send_number, send_sizes, send_text,
 };
+use crate::store::save;
 use elem_core::Name;
 use shell_io::{Failed, Sink, Store};
 use shell_words::{Command, read_line};
@@ -30,7 +32,7 @@ pub enum Went {
 }
 
 /// Does what a line asks for, and writes the reply.
-/// At `Failed` only a part of the reply was written, and the space is as after the command.
+/// At `Failed` only a part of the reply was written, and the space and the store are as after the command.
 pub fn execute<K: Sink, D: Store>(
     alloc: Global,
     space: &mut Space,
@@ -40,15 +42,12 @@ pub fn execute<K: Sink, D: Store>(
 ) -> Result<Went, Failed>
     requires { IsCell piece.now }
     ensures replies { Replies K.Sink sink.old sink.new result
-        (λ reply. Step space.old piece.now reply space.new) }
+        (λ reply. StepsOn piece.now D.Store space.old store.old reply space.new store.new) }
     ensures bits { space.new.pool.bits ≡ space.old.pool.bits }
-    ensures store { store.new ≡ store.old }
     ensures quits { IfOk result (λ went. (went ≡ Went.Quit) ↔ (piece.now ≡ codes "quit")) }
 {
-    // No command that stands uses the store yet.
-    let _ = store;
     match read_line(piece) {
-        Ok(command) => obey(alloc, space, command, sink),
+        Ok(command) => obey(alloc, space, command, sink, store),
         Err(bad) => then(send(line_refusal(bad), sink), Went::On),
     }
 }
@@ -63,19 +62,20 @@ pub fn refuse_long<K: Sink>(sink: &mut K) -> Result<Went, Failed>
 }
 
 // Does a command, writes the reply, and says how the run goes on.
-fn obey<K: Sink>(
+fn obey<K: Sink, D: Store>(
     alloc: Global,
     space: &mut Space,
     command: Command<'_>,
     sink: &mut K,
+    store: &mut D,
 ) -> Result<Went, Failed>
     ensures replies { Replies K.Sink sink.old sink.new result
-        (λ reply. Obeys (plain_command command.entry) space.old reply space.new) }
+        (λ reply. ObeysOn (plain_command command.entry) D.Store space.old store.old reply space.new store.new) }
     ensures quits { IfOk result (λ went.
         (went ≡ Went.Quit) ↔ (plain_command command.entry ≡ quit_command)) }
 {
     let went = went_after(command);
-    then(answer(alloc, space, command, sink), went)
+    then(answer(alloc, space, command, sink, store), went)
 }
 
 // How the run goes on after a command.
@@ -99,14 +99,15 @@ fn then(sent: Result<(), Failed>, went: Went) -> Result<Went, Failed>
 }
 
 // Does a command, and writes the reply.
-fn answer<K: Sink>(
+fn answer<K: Sink, D: Store>(
     alloc: Global,
     space: &mut Space,
     command: Command<'_>,
     sink: &mut K,
+    store: &mut D,
 ) -> Result<(), Failed>
     ensures { Replies K.Sink sink.old sink.new result
-        (λ reply. Obeys (plain_command command.entry) space.old reply space.new) }
+        (λ reply. ObeysOn (plain_command command.entry) D.Store space.old store.old reply space.new store.new) }
 {
     match command {
         Command::New(buffer) => change(space, Edit::New(buffer), sink),
@@ -134,6 +135,11 @@ fn answer<K: Sink>(
         Command::List => list(alloc, space, sink),
         Command::Stars => stars(alloc, space, sink),
         Command::Marks => marks(alloc, space, sink),
+        Command::Same(buffer, other) => same(space, buffer, other, sink),
+        Command::Eqv(version, other) => eqv(space, version, other, sink),
+        Command::Stats => stats(space, sink),
+        Command::Save(file) => send(saved(save(alloc, space, file, store)), sink),
+        Command::Load(file) => send(loaded(load(alloc, space, file, store)), sink),
         Command::Quit => quit(space, sink),
     }
 }
@@ -141,7 +147,7 @@ fn answer<K: Sink>(
 // Does an edit, and replies.
 fn change<K: Sink>(space: &mut Space, edit: Edit<'_>, sink: &mut K) -> Result<(), Failed>
     ensures { Replies K.Sink sink.old sink.new result
-        (λ reply. Obeys (edit_command edit.entry) space.old reply space.new) }
+        (λ reply. ObeysAlone (edit_command edit.entry) space.old reply space.new) }
 {
     send_done(space.edit(edit), sink)
 }
@@ -149,7 +155,7 @@ fn change<K: Sink>(space: &mut Space, edit: Edit<'_>, sink: &mut K) -> Result<()
 // Replies to `get`.
 fn get<K: Sink>(space: &Space, buffer: Name<'_>, index: u32, sink: &mut K) -> Result<(), Failed>
     ensures { Replies K.Sink sink.old sink.new result
-        (λ reply. Obeys (get_command (name_bytes buffer.entry) index) space.now reply space.now) }
+        (λ reply. ObeysAlone (get_command (name_bytes buffer.entry) index) space.now reply space.now) }
 {
     match space.line(buffer, index) {
         Ok(text) => send_text(text, sink),
@@ -160,10 +166,10 @@ fn get<K: Sink>(space: &Space, buffer: Name<'_>, index: u32, sink: &mut K) -> Re
 // Replies to `len`.
 fn len<K: Sink>(space: &Space, buffer: Name<'_>, sink: &mut K) -> Result<(), Failed>
     ensures { Replies K.Sink sink.old sink.new result
-        (λ reply. Obeys (len_command (name_bytes buffer.entry)) space.now reply space.now) }
+        (λ reply. ObeysAlone (len_command (name_bytes buffer.entry)) space.now reply space.now) }
 {
     match space.count(buffer) {
-        Ok(count) => send_number(count, sink),
+        Ok(count) => send_number(count as u64, sink),
         Err(reason) => send(refusal(reason), sink),
     }
 }
@@ -177,7 +183,7 @@ fn show<K: Sink>(
     sink: &mut K,
 ) -> Result<(), Failed>
     ensures { Replies K.Sink sink.old sink.new result
-        (λ reply. Obeys (show_command (name_bytes buffer.entry) from to) space.now reply space.now) }
+        (λ reply. ObeysAlone (show_command (name_bytes buffer.entry) from to) space.now reply space.now) }
 {
     match space.lines(buffer, from, to) {
         Ok(lines) => send_lines(lines, sink),
@@ -188,7 +194,7 @@ fn show<K: Sink>(
 // Replies to `list`.
 fn list<K: Sink>(alloc: Global, space: &Space, sink: &mut K) -> Result<(), Failed>
     ensures { Replies K.Sink sink.old sink.new result
-        (λ reply. Obeys list_command space.now reply space.now) }
+        (λ reply. ObeysAlone list_command space.now reply space.now) }
 {
     match space.names(alloc) {
         Ok(sizes) => send_sizes(&sizes, sink),
@@ -199,7 +205,7 @@ fn list<K: Sink>(alloc: Global, space: &Space, sink: &mut K) -> Result<(), Faile
 // Replies to `stars`.
 fn stars<K: Sink>(alloc: Global, space: &Space, sink: &mut K) -> Result<(), Failed>
     ensures { Replies K.Sink sink.old sink.new result
-        (λ reply. Obeys stars_command space.now reply space.now) }
+        (λ reply. ObeysAlone stars_command space.now reply space.now) }
 {
     match space.stars(alloc) {
         Ok(names) => send_names(&names, sink),
@@ -210,7 +216,7 @@ fn stars<K: Sink>(alloc: Global, space: &Space, sink: &mut K) -> Result<(), Fail
 // Replies to `marks`.
 fn marks<K: Sink>(alloc: Global, space: &Space, sink: &mut K) -> Result<(), Failed>
     ensures { Replies K.Sink sink.old sink.new result
-        (λ reply. Obeys marks_command space.now reply space.now) }
+        (λ reply. ObeysAlone marks_command space.now reply space.now) }
 {
     match space.marks(alloc) {
         Ok(names) => send_names(&names, sink),
@@ -218,10 +224,46 @@ fn marks<K: Sink>(alloc: Global, space: &Space, sink: &mut K) -> Result<(), Fail
     }
 }
 
+// Replies to `same`.
+fn same<K: Sink>(
+    space: &Space,
+    buffer: Name<'_>,
+    other: Name<'_>,
+    sink: &mut K,
+) -> Result<(), Failed>
+    ensures { Replies K.Sink sink.old sink.new result
+        (λ reply. ObeysAlone (same_command (name_bytes buffer.entry) (name_bytes other.entry)) space.now reply space.now) }
+{
+    send(equality(space.same(buffer, other)), sink)
+}
+
+// Replies to `eqv`.
+fn eqv<K: Sink>(
+    space: &Space,
+    version: Name<'_>,
+    other: Name<'_>,
+    sink: &mut K,
+) -> Result<(), Failed>
+    ensures { Replies K.Sink sink.old sink.new result
+        (λ reply. ObeysAlone (eqv_command (name_bytes version.entry) (name_bytes other.entry)) space.now reply space.now) }
+{
+    send(equality(space.eqv(version, other)), sink)
+}
+
+// Replies to `stats`.
+fn stats<K: Sink>(space: &Space, sink: &mut K) -> Result<(), Failed>
+    ensures { Replies K.Sink sink.old sink.new result
+        (λ reply. ObeysAlone stats_command space.now reply space.now) }
+{
+    // That the space stands for a workspace is known once it has answered.
+    let _ = space.in_batch();
+    send_number(space.rows() as u64, sink)
+}
+
 // Replies to `quit`.
 fn quit<K: Sink>(space: &Space, sink: &mut K) -> Result<(), Failed>
     ensures { Replies K.Sink sink.old sink.new result
-        (λ reply. Obeys quit_command space.now reply space.now) }
+        (λ reply. ObeysAlone quit_command space.now reply space.now) }
 {
     // That the space stands for a workspace is known once it has answered.
     let _ = space.in_batch();

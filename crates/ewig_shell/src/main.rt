@@ -2,9 +2,11 @@
 #![tactic(auto)]
 
 mod execute;
+mod load;
 mod page;
 mod reply;
 mod run;
+mod store;
 #[cfg(test)]
 mod tests;
 

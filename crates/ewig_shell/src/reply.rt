@@ -1,14 +1,17 @@
 //! What is sent: replies that are ready, and lines of a reply one after another.
 
-ghost use Rattle.std.specs.Prelude.{◌≡◌, [], ◌∷◌, ◌++◌, map as each};
+ghost use Rattle.std.specs.Prelude.{◌≡◌, [], ◌∷◌, ◌++◌, map as each, Err};
 ghost use Rattle.plain_space.specs.Answer.{ok_line, text_line, number_line, size_line};
 ghost use Rattle.plain_space.specs.Session.{reason_of};
 ghost use Rattle.shell_io.specs.Sending.{Sends};
-ghost use Rattle.ewig_shell.specs.Step.{reply_of, refusal_of, done_reply, line_reason};
+ghost use Rattle.ewig_shell.specs.Step.{reply_of, refusal_of, done_reply, equality_reply, saved_reply, loaded_reply, line_reason};
 
+use crate::load::LoadFault;
 use crate::page::Page;
+use crate::store::SaveFault;
 use elem_core::Text;
 use itoa::Buffer;
+use pool_text::Damage;
 use shell_io::{Failed, Sink, write_all};
 use shell_words::BadLine;
 use space_state::{Refusal, SpaceLines};
@@ -46,6 +49,65 @@ pub fn refusal(reason: Refusal) -> &'static [u8]
     }
 }
 
+/// The reply to a question of equality.
+pub fn equality(answer: Result<bool, Refusal>) -> &'static [u8]
+    ensures { result.now ≡ equality_reply answer }
+{
+    match answer {
+        Ok(true) => b"= yes\n",
+        Ok(false) => b"= no\n",
+        Err(reason) => refusal(reason),
+    }
+}
+
+/// The reply to `save`.
+pub fn saved(saved: Result<(), SaveFault>) -> &'static [u8]
+    ensures { result.now ≡ saved_reply saved }
+{
+    match saved {
+        Ok(()) => b"ok\n",
+        Err(SaveFault::Batch) => b"! batch\n",
+        Err(SaveFault::Large) => b"! large\n",
+        Err(SaveFault::Failed) => b"! fault\n",
+        Err(SaveFault::Memory) => b"! memory\n",
+    }
+}
+
+/// The reply to `load`.
+pub fn loaded(loaded: Result<(), LoadFault>) -> &'static [u8]
+    ensures { result.now ≡ loaded_reply loaded }
+{
+    match loaded {
+        Ok(()) => b"ok\n",
+        Err(LoadFault::Batch) => b"! batch\n",
+        Err(LoadFault::Missing) => b"! missing\n",
+        Err(LoadFault::Large) => b"! large\n",
+        Err(LoadFault::Failed) => b"! fault\n",
+        Err(LoadFault::Damaged(damage)) => damaged(damage),
+        Err(LoadFault::Memory) => b"! memory\n",
+    }
+}
+
+// The reply to `load` of a file that fails this test.
+fn damaged(damage: Damage) -> &'static [u8]
+    ensures { result.now ≡ loaded_reply (Err (LoadFault.Damaged damage)) }
+{
+    match damage {
+        Damage::Json => b"! damaged json\n",
+        Damage::Form => b"! damaged form\n",
+        Damage::Version => b"! damaged version\n",
+        Damage::Bits => b"! damaged bits\n",
+        Damage::Row => b"! damaged row\n",
+        Damage::Link => b"! damaged link\n",
+        Damage::Text => b"! damaged text\n",
+        Damage::Vector => b"! damaged vector\n",
+        Damage::Trie => b"! damaged trie\n",
+        Damage::Kind => b"! damaged kind\n",
+        Damage::Order => b"! damaged order\n",
+        Damage::Memory => b"! damaged memory\n",
+    }
+}
+
 /// Replies to a command that was carried out, or refused.
 pub fn send_done<K: Sink>(done: Result<(), Refusal>, sink: &mut K) -> Result<(), Failed>
     ensures { Sends K.written K.faults K.has_room sink.old sink.new result (done_reply done) }
@@ -66,7 +128,7 @@ pub fn send_text<K: Sink>(text: &Text, sink: &mut K) -> Result<(), Failed>
 }
 
 /// Sends a line that shows the number.
-pub fn send_number<K: Sink>(number: u32, sink: &mut K) -> Result<(), Failed>
+pub fn send_number<K: Sink>(number: u64, sink: &mut K) -> Result<(), Failed>
     ensures { Sends K.written K.faults K.has_room sink.old sink.new result (reply_of (number_line number ∷ [])) }
 {
     let mut digits = Buffer::new();

@@ -6,7 +6,8 @@ ghost use Rattle.elem_core.specs.declared.codes.TheConstants.{CODE_BITS};
 ghost use Rattle.shell_io.specs.Reader.{StandsIn};
 ghost use Rattle.space_state.specs.View.{start_view};
 ghost use Rattle.ewig_shell.specs.Going.{IsGoing, HasCauses, status_of};
-ghost use Rattle.ewig_shell.specs.Run.{RunsAs, Runs, IsEarly, exit_code};
+ghost use Rattle.ewig_shell.specs.Run.{RunsAs, Runs, IsEarly, KeepsSure, exit_code};
+ghost use Rattle.ewig_shell.specs.Step.{StoreView, machine_of, shown_store};
 
 use crate::execute::{Went, execute, refuse_long};
 use elem_core::{CODE_BITS, NoMemory};
@@ -63,8 +64,7 @@ pub fn run<S: Source, K: Sink, D: Store>(
     sink: &mut K,
     store: &mut D,
 ) -> Ended
-    ensures run { RunsAs MOST words.now S.Source source.old source.new K.Sink sink.old sink.new result }
-    ensures store { store.new ≡ store.old }
+    ensures { RunsAs MOST words.now S.Source source.old source.new K.Sink sink.old sink.new D.Store store.old store.new result }
 {
     run_upto(alloc, words, MOST, source, sink, store)
 }
@@ -79,8 +79,7 @@ pub fn run_upto<S: Source, K: Sink, D: Store>(
     store: &mut D,
 ) -> Ended
     requires { most < 2 ^ 63 }
-    ensures run { RunsAs most words.now S.Source source.old source.new K.Sink sink.old sink.new result }
-    ensures store { store.new ≡ store.old }
+    ensures { RunsAs most words.now S.Source source.old source.new K.Sink sink.old sink.new D.Store store.old store.new result }
 {
     if !words.is_empty() {
         return Ended {
@@ -126,12 +125,12 @@ fn follow<S: Source, K: Sink, D: Store>(
     requires same_most { ForSome reader.old.most (λ kept. kept ≡ most) }
 
     ensures begun { ¬ IsEarly result }
-    ensures store { store.new ≡ store.old }
+    ensures stores { KeepsSure D.Store store.old store.new }
     ensures bits { space.new.pool.bits ≡ space.old.pool.bits }
     ensures causes { HasCauses S.Source source.old source.new K.Sink sink.old sink.new (Some result) }
-    ensures told { (input : List ℕ) (begin : K) →
-        IsGoing most input reader.old (S.left source.old) K.Sink begin sink.old space.old →
-        Runs most input (S.left source.new) K.Sink begin sink.new result (Some space.new) }
+    ensures told { (input : List ℕ) (begin : K) (first : StoreView) →
+        IsGoing most input reader.old (S.left source.old) K.Sink begin sink.old first (machine_of D.Store space.old store.old) →
+        Runs most input (S.left source.new) K.Sink begin sink.new first (shown_store D.Store store.new) result (Some space.new) }
 {
     'lines: loop {
         if let Some(status) = turn(alloc, most, reader, source, space, sink, store) {
@@ -158,14 +157,14 @@ fn turn<S: Source, K: Sink, D: Store>(
     ensures progress { IfNone result (reader.old.given < reader.new.given) }
 
     ensures begun { IfSome result (λ status. ¬ IsEarly status) }
-    ensures store { store.new ≡ store.old }
+    ensures stores { KeepsSure D.Store store.old store.new }
     ensures bits { space.new.pool.bits ≡ space.old.pool.bits }
     ensures causes { HasCauses S.Source source.old source.new K.Sink sink.old sink.new result }
-    ensures told { (input : List ℕ) (begin : K) →
-        IsGoing most input reader.old (S.left source.old) K.Sink begin sink.old space.old →
+    ensures told { (input : List ℕ) (begin : K) (first : StoreView) →
+        IsGoing most input reader.old (S.left source.old) K.Sink begin sink.old first (machine_of D.Store space.old store.old) →
         MatchOption result
-        (IsGoing most input reader.new (S.left source.new) K.Sink begin sink.new space.new)
-        (λ status. Runs most input (S.left source.new) K.Sink begin sink.new status (Some space.new)) }
+        (IsGoing most input reader.new (S.left source.new) K.Sink begin sink.new first (machine_of D.Store space.new store.new))
+        (λ status. Runs most input (S.left source.new) K.Sink begin sink.new first (shown_store D.Store store.new) status (Some space.new)) }
 {
     match reader.next(source, most) {
         Next::Line => status_after(execute(alloc, space, reader.line(), sink, store)),

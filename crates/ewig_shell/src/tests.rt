@@ -1,11 +1,12 @@
 //! Worked rows over memory. What no clause can say: that memory is there, and that the clauses mean what they should.
 
 use crate::run::{Status, run, run_upto};
-use shell_io::{MemSink, MemSource, MemStore};
+use shell_io::{MemSink, MemSource, MemStore, Store};
 use std::process::Abort;
 use std::test::Fail;
 
-// How the devices of a row are cut, at which calls they fail, and for how many bytes the sink has room.
+// How the devices of a row are cut, at which calls they fail, for how many bytes the sink has room, and what the file `d` of the
+// store is, if it isn't empty.
 #[derive(Clone, Copy)]
 struct Devices<'a> {
     source_piece: usize,
@@ -13,6 +14,8 @@ struct Devices<'a> {
     sink_piece: usize,
     sink_fails: &'a [u64],
     room: usize,
+    keep_fails: &'a [u64],
+    held: &'a str,
 }
 
 // Devices that give and take all at once, never fail, and have room for more than any row writes.
@@ -22,17 +25,19 @@ const WHOLE: Devices<'static> = Devices {
     sink_piece: 1_000_000,
     sink_fails: &[],
     room: 200_000,
+    keep_fails: &[],
+    held: "",
 };
 
-// Runs the input and compares what is written and how the run ends.
-fn check<R: Abort + AllocGlobal>(
+// Runs the input, compares what is written and how the run ends, and gives the store that it left.
+fn left_by<R: Abort + AllocGlobal>(
     rt: &R,
     input: &[u8],
     most: u64,
     devices: &Devices<'_>,
     written: &[u8],
     status: Status,
-) -> Result<(), Fail> {
+) -> Result<MemStore, Fail> {
     let alloc = rt.alloc();
     let bytes = input.to_vec(alloc)?;
     let mut source = MemSource::new(
@@ -42,7 +47,11 @@ fn check<R: Abort + AllocGlobal>(
     );
     let sink_fails = devices.sink_fails.to_vec(alloc)?;
     let mut sink = MemSink::new(alloc, devices.room, devices.sink_piece.max(1), sink_fails)?;
-    let mut store = MemStore::new(alloc, Vec::new(alloc), Vec::new(alloc));
+    let keep_fails = devices.keep_fails.to_vec(alloc)?;
+    let mut store = MemStore::new(alloc, Vec::new(alloc), keep_fails);
+    if !devices.held.is_empty() {
+        assert!(rt; store.keep("d", devices.held.as_bytes()).is_ok());
+    }
     let ended = run_upto(
         alloc,
         &[],
@@ -54,6 +63,19 @@ fn check<R: Abort + AllocGlobal>(
     assert_eq!(rt; sink.bytes(), written);
     assert_eq!(rt; ended.status, status);
     assert!(rt; ended.space.is_some());
+    Ok(store)
+}
+
+// The same where the store is of no interest.
+fn check<R: Abort + AllocGlobal>(
+    rt: &R,
+    input: &[u8],
+    most: u64,
+    devices: &Devices<'_>,
+    written: &[u8],
+    status: Status,
+) -> Result<(), Fail> {
+    left_by(rt, input, most, devices, written, status)?;
     Ok(())
 }
 
@@ -99,7 +121,7 @@ fn replies_however_the_input_is_cut(rt: HostRuntime) -> Result<(), Fail> {
 
 #[test]
 fn edits_versions_undo_and_batches(rt: HostRuntime) -> Result<(), Fail> {
-    let rows: [(&[u8], &[u8]); 8] = [
+    let rows: [(&[u8], &[u8]); 9] = [
         (
             b"new a\nadd a x\nget a 1\nshow a 1 1\nshow a 0 2\nnew a\n",
             b"ok\nok\n! range\nok\n! range\n! exists\n",
@@ -121,12 +143,16 @@ fn edits_versions_undo_and_batches(rt: HostRuntime) -> Result<(), Fail> {
             b"ok\nok\nok\nok\nok\n= p\n= q\nok\n= 1\nok\n= r\n= p\n= q\nok\nok\n= 1\n",
         ),
         (
-            b"star z\nstar z\nnew b\nnew B\ncopy b c\nlist\nstars\nunstar y\nundo\nlist\n",
-            b"ok\n! exists\nok\nok\nok\n= B 0\n= b 0\n= c 0\nok\n= z\nok\n! none\nok\n= B 0\n= b 0\nok\n",
+            b"star z\nstar z\nnew b\nnew B\ncopy b c\nsame b c\nlist\nstars\nunstar y\nundo\nlist\n",
+            b"ok\n! exists\nok\nok\nok\n= yes\n= B 0\n= b 0\n= c 0\nok\n= z\nok\n! none\nok\n= B 0\n= b 0\nok\n",
         ),
         (
-            b"mark v\nmark v\nnew a\nmark w\nmarks\nunmark v\nback v\n",
-            b"ok\n! exists\nok\nok\n= v\n= w\nok\nok\n! none\n",
+            b"mark v\nmark v\nnew a\nmark w\neqv v w\nmarks\nunmark v\nback v\n",
+            b"ok\n! exists\nok\nok\n= no\n= v\n= w\nok\nok\n! none\n",
+        ),
+        (
+            b"new a\nnew b\nsame a b\nadd a x\nsame a b\nsame a c\nmark v\nadd b x\nmark w\nsame a b\neqv v w\neqv v v\neqv v u\n",
+            b"ok\nok\n= yes\nok\n= no\n! none\nok\nok\nok\n= yes\n= no\n= yes\n! none\n",
         ),
         (
             b"new a\nbegin\nput a 0 x\ndrop a\nend\nundo\nlen a\nredo\nlen a\n",
@@ -137,6 +163,125 @@ fn edits_versions_undo_and_batches(rt: HostRuntime) -> Result<(), Fail> {
         check(&rt, input, 1 << 40, &WHOLE, written, Status::Done)?;
     }
     Ok(())
+}
+
+// The document of a new space.
+const START: &str =
+    r#"{"bits":32,"format":"ewig-pool","roots":[2,3,4,5],"rows":[["m",0,0,0,[]],["m",0,0,0,[]],["s",[0,1]],["m",0,0,0,[]],["l",[]],["l",[]]],"version":1}"#;
+
+#[test]
+fn saves_the_document_of_the_pool(rt: HostRuntime) -> Result<(), Fail> {
+    // The input, whether the first keep fails, what is written, and the file `f` that is left.
+    let rows: [(&[u8], bool, &[u8], Option<&str>); 3] = [
+        (b"save f\nstats\n", false, b"ok\n= 6\n", Some(START)),
+        (b"new a\nsave f\nlen a\n", true, b"ok\n! fault\n= 0\n", None),
+        (
+            b"new a\nadd a p\nbegin\nset a 0 q\nsave f\nabort\nget a 0\nend\n",
+            false,
+            b"ok\nok\nok\nok\n! batch\nok\n= p\n! batch\n",
+            None,
+        ),
+    ];
+    for (input, fails, written, file) in rows {
+        let devices = Devices {
+            keep_fails: if fails { &[0] } else { &[] },
+            ..WHOLE
+        };
+        let store = left_by(&rt, input, 1 << 40, &devices, written, Status::Done)?;
+        assert_eq!(rt; store.file("f"), file.map(str::as_bytes));
+    }
+    Ok(())
+}
+
+// A document with two equal cells of different identity.
+const TWO_CELLS: &str =
+    r#"{"bits":32,"format":"ewig-pool","roots":[7,8,9,10],"rows":[["c","a"],["c","x"],["c","x"],["l",[1,2]],["p",[0,3]],["m",0,4096,0,[4]],["m",0,0,0,[]],["s",[5,6]],["m",0,0,0,[]],["l",[]],["l",[]]],"version":1}"#;
+
+#[test]
+fn loads_the_pool_of_a_document(rt: HostRuntime) -> Result<(), Fail> {
+    let rows: [(&str, &[u8], &[u8]); 4] = [
+        (
+            TWO_CELLS,
+            b"load d\nsave e\nstats\nsame a b\n",
+            b"ok\nok\n= 11\n! none\n",
+        ),
+        (
+            TWO_CELLS,
+            b"new b\nload d\nsave e\nlist\nget a 1\nundo\n",
+            b"ok\nok\nok\n= a 2\nok\n= x\n! empty\n",
+        ),
+        (
+            TWO_CELLS,
+            b"load d\nsave e\nbegin\nload d\nabort\nload c\n",
+            b"ok\nok\nok\n! batch\nok\n! missing\n",
+        ),
+        (
+            START,
+            b"load d\nsave e\nlist\nstats\n",
+            b"ok\nok\nok\n= 6\n",
+        ),
+    ];
+    for (held, input, written) in rows {
+        let devices = Devices { held, ..WHOLE };
+        let store = left_by(&rt, input, 1 << 40, &devices, written, Status::Done)?;
+        assert_eq!(rt; store.file("e"), Some(held.as_bytes()));
+    }
+    Ok(())
+}
+
+#[test]
+fn refuses_documents_with_damage(rt: HostRuntime) -> Result<(), Fail> {
+    let rows: [(&str, &str); 4] = [
+        (r#"{"bits":32"#, "json"),
+        (
+            r#"{"bits":32,"format":"ewig-pool","roots":[2,3,4],"rows":[],"version":1}"#,
+            "form",
+        ),
+        (
+            r#"{"bits":32,"format":"ewig-pool","roots":[0,0,0,0],"rows":[["l",[0]]],"version":1}"#,
+            "link",
+        ),
+        (
+            r#"{"bits":32,"format":"ewig-pool","roots":[1,1,1,1],"rows":[["c","a"],["m",1,512,0,[0]]],"version":1}"#,
+            "trie",
+        ),
+    ];
+    for (held, word) in rows {
+        refuses(&rt, held, word)?;
+    }
+    // The document of a new space with other bits, roots, last rows or version.
+    let rows: [(u32, &str, &str, u32, &str); 9] = [
+        (32, "2,3,4,5", r#"["l",[]]"#, 9, "version"),
+        (31, "2,3,4,5", r#"["l",[]]"#, 1, "bits"),
+        (31, "2,3,4,5", r#"["q",[]]"#, 1, "bits"),
+        (32, "2,3,4,5", r#"["q",[]]"#, 1, "row"),
+        (32, "2,3,4,5", r#"["l",[]],["c","x\ny"]"#, 1, "text"),
+        (32, "2,3,4,5", r#"["i",1,[4]]"#, 1, "vector"),
+        (32, "3,3,4,5", r#"["l",[]]"#, 1, "kind"),
+        (32, "2,3,4,5", r#"["l",[]],["c","z"]"#, 1, "order"),
+        (32, "2,3,5,4", r#"["l",[]]"#, 1, "order"),
+    ];
+    for (bits, roots, last, version, word) in rows {
+        let held = format!(in rt.alloc();
+            r#"{{"bits":{bits},"format":"ewig-pool","roots":[{roots}],"rows":[["m",0,0,0,[]],["m",0,0,0,[]],["s",[0,1]],["m",0,0,0,[]],["l",[]],{last}],"version":{version}}}"#
+        )?;
+        refuses(&rt, &held, word)?;
+    }
+    Ok(())
+}
+
+// A load of the document is refused with the word of the first test that it fails.
+fn refuses<R: Abort + AllocGlobal>(rt: &R, held: &str, word: &str) -> Result<(), Fail> {
+    let written = format!(in rt.alloc(); "ok\n! damaged {word}\n= 0\n")?;
+    let devices = Devices { held, ..WHOLE };
+    check(
+        rt,
+        b"new a\nload d\nlen a\n",
+        1 << 40,
+        &devices,
+        written.as_bytes(),
+        Status::Done,
+    )
 }
 
 #[test]
@@ -180,6 +325,27 @@ fn doubles_a_buffer_to_the_limit(rt: HostRuntime) -> Result<(), Fail> {
     }
     input.extend_from_slice(b"cat a a\nlen a\n")?;
     written.extend_from_slice(b"! limit\n= 2147483648\n")?;
+    check(&rt, &input, 1 << 40, &WHOLE, &written, Status::Done)
+}
+
+#[test]
+fn equal_by_shared_rows(rt: HostRuntime) -> Result<(), Fail> {
+    let alloc = rt.alloc();
+    let mut input = Vec::from_slice(alloc, b"new a\nadd a x\n")?;
+    for _ in 0..31u32 {
+        input.extend_from_slice(b"cat a a\n")?;
+    }
+    input.extend_from_slice(b"copy a b\nmark v\nnew c\ndrop c\nmark w\n")?;
+    let mut written = Vec::new(alloc);
+    for _ in 0..38u32 {
+        written.extend_from_slice(b"ok\n")?;
+    }
+    for question in [b"same a b\n".as_slice(), b"eqv v w\n".as_slice()] {
+        for _ in 0..100u32 {
+            input.extend_from_slice(question)?;
+            written.extend_from_slice(b"= yes\n")?;
+        }
+    }
     check(&rt, &input, 1 << 40, &WHOLE, &written, Status::Done)
 }
 

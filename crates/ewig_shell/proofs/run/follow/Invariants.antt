@@ -1,5 +1,7 @@
 use Rattle.std.proofs.Common.{◌≡◌, ℕ, ◌+◌, ◌-◌, List, None}
 use Rattle.std.specs.Option.{ForSome}
+use Rattle.ewig_shell.specs.Step.{StoreView, machine_of}
+use Rattle.ewig_shell.specs.Run.{KeepsSure}
 use Rattle.ewig_shell.specs.Going.{IsGoing, HasCauses}
 use Rattle.ewig_shell.proofs.run.follow.Given as goal
 
@@ -8,11 +10,11 @@ abbrev pub invariant-lines : goal.invariant-lines
 invariant-lines g l = record {
   same_most : ForSome l.reader.most (λ kept. kept ≡ l.most);
   bits : l.space.pool.bits ≡ l.fn.space.pool.bits;
-  store : l.store ≡ l.fn.store;
+  stores : KeepsSure g.D.Store l.fn.store l.store;
   causes : HasCauses g.S.Source l.fn.source l.source g.K.Sink l.fn.sink l.sink None;
-  told : (input : List ℕ) (begin : g.row.K.Denot) →
-      IsGoing l.most input l.fn.reader (g.S.Source.left l.fn.source) g.K.Sink begin l.fn.sink l.fn.space →
-      IsGoing l.most input l.reader (g.S.Source.left l.source) g.K.Sink begin l.sink l.space;
+  told : (input : List ℕ) (begin : g.row.K.Denot) (first : StoreView) →
+      IsGoing l.most input l.fn.reader (g.S.Source.left l.fn.source) g.K.Sink begin l.fn.sink first (machine_of g.D.Store l.fn.space l.fn.store) →
+      IsGoing l.most input l.reader (g.S.Source.left l.source) g.K.Sink begin l.sink first (machine_of g.D.Store l.space l.store);
 }
 
 -- each line gives a byte more

@@ -5,14 +5,14 @@ use Rattle.ewig_shell.proofs.RunLemmas.{Going-start}
 use Rattle.ewig_shell.proofs.EndLemmas.{RunsAs-early, RunsAs-lines}
 use Rattle.ewig_shell.proofs.run.run_upto.Goals as goal
 
-pub returns-then-not-is_empty-clause-run : goal.returns-then-not-is_empty-clause-run
-returns-then-not-is_empty-clause-run g c = RunsAs-early status.Usage tt ((λ _. search rules), λ _. refl)
+pub returns-then-not-is_empty : goal.returns-then-not-is_empty
+returns-then-not-is_empty g c = RunsAs-early status.Usage tt ((λ _. search rules), λ _. refl)
 
-pub returns-in_default-clause-run : goal.returns-in_default-clause-run
-returns-in_default-clause-run g c = RunsAs-early status.Memory tt ((λ e. absurd (let never = e in cc)), search rules)
+pub returns-in_default : goal.returns-in_default
+returns-in_default g c = RunsAs-early status.Memory tt ((λ e. absurd (let never = e in cc)), search rules)
 
-pub returns-clause-run : goal.returns-clause-run
-returns-clause-run g c =
+pub returns : goal.returns
+returns g c =
     let lines = c.follow-status.ensures in
-    RunsAs-lines c.follow-status.result c.follow-status.new.space lines.begun (search rules) (lines.bits ∙ ap (λ (s : SpaceView). s.pool.bits) c.in-Ok.ensures.empty) lines.causes
-    (λ input told. lines.told input _ (Going-start _ told c.in-Ok.ensures.start c.in-Ok.ensures.unread.0 c.in-Ok.ensures.empty))
+    RunsAs-lines c.follow-status.result c.follow-status.new.space lines.begun (search rules) (lines.bits ∙ ap (λ (s : SpaceView). s.pool.bits) c.in-Ok.ensures.empty) lines.causes lines.stores
+    (λ input told. lines.told input _ _ (Going-start _ _ told c.in-Ok.ensures.start c.in-Ok.ensures.unread.0 c.in-Ok.ensures.empty))

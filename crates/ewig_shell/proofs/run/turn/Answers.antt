@@ -3,28 +3,46 @@ use Rattle.shell_io.specs.Reader.{GivesNext}
 use Rattle.ewig_shell.proofs.QuitLemmas.{quits-long}
 use Rattle.ewig_shell.proofs.StepLemmas.{Step-long}
 use Rattle.ewig_shell.proofs.RunLemmas.{Going-next, Going-end, Going-budget, Going-failed}
+use Rattle.ewig_shell.proofs.EndLemmas.{KeepsSure-none, KeepsSure-step}
 use Rattle.ewig_shell.proofs.run.turn.Goals as goal
 
+pub returns-in-Line-clause-stores : goal.returns-in-Line-clause-stores
+returns-in-Line-clause-stores g c = KeepsSure-step c.execute.ensures.replies.due.counts
+
 pub returns-in-Line-clause-told : goal.returns-in-Line-clause-told
-returns-in-Line-clause-told g c = λ input begin going.
+returns-in-Line-clause-told g c = λ input begin first going.
     let next = subst (λ (piece : List ℕ). GivesNext c.args.most input c.args.reader.now c.next.new.self piece) (sym c.line.ensures) (c.in-Line.ensures.answers input going.stands) in
-    Going-next _ going (c.in-Line.ensures.stands input going.stands) next c.in-Line.ensures.bounded c.execute.ensures.replies c.execute.ensures.quits c.status_after.ensures
+    let done = c.execute.ensures.replies in
+    Going-next _ going (c.in-Line.ensures.stands input going.stands) next c.in-Line.ensures.bounded
+    (record { reply = done.reply; due = done.due.step; sends = done.sends }) c.execute.ensures.quits c.status_after.ensures
+
+pub returns-in-Long-clause-stores : goal.returns-in-Long-clause-stores
+returns-in-Long-clause-stores g c = KeepsSure-none
 
 pub returns-in-Long-clause-told : goal.returns-in-Long-clause-told
-returns-in-Long-clause-told g c = λ input begin going.
+returns-in-Long-clause-told g c = λ input begin first going.
     let next = c.in-Long.ensures.answers input going.stands in
     Going-next _ going (c.in-Long.ensures.stands input going.stands) next.2 c.in-Long.ensures.bounded
     (record { reply = _; due = Step-long _ next.0 next.1; sends = c.refuse_long.ensures.sends })
     (quits-long _ next.0 next.1 c.refuse_long.ensures.on) c.status_after-in-Long.ensures
 
+pub returns-in-End-clause-stores : goal.returns-in-End-clause-stores
+returns-in-End-clause-stores g c = KeepsSure-none
+
 pub returns-in-End-clause-told : goal.returns-in-End-clause-told
-returns-in-End-clause-told g c = λ input begin going.
+returns-in-End-clause-told g c = λ input begin first going.
     Going-end _ going (c.in-End.ensures.stands input going.stands) c.in-End.ensures.bounded (c.in-End.ensures.answers input going.stands)
 
+pub returns-in-Budget-clause-stores : goal.returns-in-Budget-clause-stores
+returns-in-Budget-clause-stores g c = KeepsSure-none
+
 pub returns-in-Budget-clause-told : goal.returns-in-Budget-clause-told
-returns-in-Budget-clause-told g c = λ input begin going.
+returns-in-Budget-clause-told g c = λ input begin first going.
     Going-budget _ going (c.in-Budget.ensures.stands input going.stands) c.in-Budget.ensures.bounded (c.in-Budget.ensures.answers input going.stands)
 
+pub returns-in-Failed-clause-stores : goal.returns-in-Failed-clause-stores
+returns-in-Failed-clause-stores g c = KeepsSure-none
+
 pub returns-in-Failed-clause-told : goal.returns-in-Failed-clause-told
-returns-in-Failed-clause-told g c = λ input begin going.
+returns-in-Failed-clause-told g c = λ input begin first going.
     Going-failed _ going (c.in-Failed.ensures.stands input going.stands) (c.in-Failed.ensures.in_bound refl) (c.in-Failed.ensures.answers input going.stands)

@@ -1,0 +1,216 @@
+-- What shows that a document was loaded, or why not.
+use Rattle.std.proofs.Common.{◌≡◌, ◌≢◌, ℕ, ◌<◌, ◌≤◌, ◌+◌, ◌-◌, ◌^◌, min, ◌∙◌, length, sym, ap, subst, refl, arith, codes, Bool, true, false, inl, inr, Result, Ok, Err, IsOk, IsErrAnd, IfSome, MatchBool, MatchOption, MatchResult, List, [], ◌∷◌, ◌++◌, ◌⊎◌, None, Some, if◌then◌else◌}
+use Rattle.std.proofs.lemmas.Bool.{le-ltb, lt-ltb}
+use Rattle.std.specs.declared.option.Option.{Option}
+use Rattle.std.specs.FinMap.{get}
+use Rattle.shell_terms.specs.Edit.{Bytes}
+use Rattle.shell_terms.specs.Command.{load}
+use Rattle.plain_space.specs.declared.refusal.Refusal.{Refusal}
+use Rattle.plain_space.specs.declared.refusal.Refusal.TheVariants as why
+use Rattle.plain_space.specs.Workspace.{Workspace, in_batch}
+use Rattle.plain_space.specs.Answer.{Answer, elsewhere, answer, ok_line}
+use Rattle.plain_space.specs.Memory.{MayLackMemory}
+use Rattle.pool_text.specs.Pool.{row_count}
+use Rattle.pool_text.specs.Document.{pool_in_bytes, bytes_damage}
+use Rattle.pool_text.specs.declared.pool.Pool.{Pool}
+use Rattle.pool_text.specs.declared.damage.Damage.{Damage}
+use Rattle.pool_text.specs.declared.damage.Damage.TheVariants as damage_is
+use Rattle.pool_check.specs.Damages.{damage, document_damage, IsValid}
+use Rattle.state_rows.specs.Standing.{StandsFor}
+use Rattle.space_state.specs.View.{SpaceView, EndsTaking}
+use Rattle.shell_io.specs.Fault.{Calls}
+use Rattle.shell_io.specs.InMemory.{Files}
+use Rattle.shell_io.specs.Storing.{ChangesFiles, FetchesFile}
+use Rattle.shell_io.specs.declared.device.FetchFault.{FetchFault}
+use Rattle.shell_io.specs.declared.device.FetchFault.TheVariants as fetch
+use Rattle.shell_io.specs.declared.device.Store as store_trait
+use Rattle.ewig_shell.specs.declared.load.LoadFault.{LoadFault}
+use Rattle.ewig_shell.specs.declared.load.LoadFault.TheVariants as unloaded
+use Rattle.ewig_shell.specs.Step.{StoreView, KeepsFiles, KeepsSpace, Fetched, fetched, missing, large, given, IsLoaded, LoadsAs, LoadsFile, FailsToLoad, Gives, ObeysOn, CountsStore, shown_store, machine_of, most_stored, is_large, damage_word, reply_of, refusal_of, loaded_reply}
+use Rattle.ewig_shell.specs.Loading.{TakesIn, fault_of}
+use Rattle.ewig_shell.proofs.StepLemmas.{same_files, Obeys-refused, Obeys-lacks, CountsStore-none, CountsStore-called}
+
+-- ## A document
+
+module _ (bits : ℕ) (bytes : Bytes) where
+  -- a damage found by reading it
+  pub read_damage : (d : Damage) → bytes_damage bits bytes ≡ Some d → document_damage bits bytes ≡ Some d
+  unfolding document_damage
+  read_damage d e = rw e refl
+
+  -- one found in the pool that it stands for
+  pub pool_damage : (P : Pool) (found : Option Damage) → bytes_damage bits bytes ≡ None → pool_in_bytes bytes ≡ Some P → damage P ≡ found → document_damage bits bytes ≡ found
+  unfolding document_damage
+  pool_damage P found none is e = rw none (rw is e)
+
+-- a document is refused with its damage
+damaged_as : (d : Damage) (bytes : Bytes) (old new : SpaceView) → document_damage old.pool.bits bytes ≡ Some d → new ≡ old → LoadsAs (given bytes) old (loaded_reply (Err (unloaded.Damaged d))) new
+damaged_as d bytes old new is same =
+    subst (λ (o : Option Damage). MatchOption o (IsLoaded bytes old (loaded_reply (Err (unloaded.Damaged d))) new) (λ (w : Damage). KeepsSpace old (codes "damaged " ++ damage_word w) (loaded_reply (Err (unloaded.Damaged d))) new)) (sym is)
+    (record { reply_is = refl; same = same })
+
+-- but for want of memory
+by_fault : (d : Damage) (bytes : Bytes) (old new : SpaceView) → (d ≢ damage_is.Memory → document_damage old.pool.bits bytes ≡ Some d) → new ≡ old → TakesIn bytes old (Err (fault_of d)) new
+by_fault damage_is.Json bytes old new is same = inl (damaged_as damage_is.Json bytes old new (is (λ e. cc)) same)
+by_fault damage_is.Form bytes old new is same = inl (damaged_as damage_is.Form bytes old new (is (λ e. cc)) same)
+by_fault damage_is.Version bytes old new is same = inl (damaged_as damage_is.Version bytes old new (is (λ e. cc)) same)
+by_fault damage_is.Bits bytes old new is same = inl (damaged_as damage_is.Bits bytes old new (is (λ e. cc)) same)
+by_fault damage_is.Row bytes old new is same = inl (damaged_as damage_is.Row bytes old new (is (λ e. cc)) same)
+by_fault damage_is.Link bytes old new is same = inl (damaged_as damage_is.Link bytes old new (is (λ e. cc)) same)
+by_fault damage_is.Text bytes old new is same = inl (damaged_as damage_is.Text bytes old new (is (λ e. cc)) same)
+by_fault damage_is.Vector bytes old new is same = inl (damaged_as damage_is.Vector bytes old new (is (λ e. cc)) same)
+by_fault damage_is.Trie bytes old new is same = inl (damaged_as damage_is.Trie bytes old new (is (λ e. cc)) same)
+by_fault damage_is.Kind bytes old new is same = inl (damaged_as damage_is.Kind bytes old new (is (λ e. cc)) same)
+by_fault damage_is.Order bytes old new is same = inl (damaged_as damage_is.Order bytes old new (is (λ e. cc)) same)
+by_fault damage_is.Memory bytes old new is same = inr (refl, same)
+
+module _ (bytes : Bytes) (old new : SpaceView) where
+  -- the document has a damage, or memory ran out
+  pub TakesIn-damaged : (result : Result (Unit {0}) LoadFault) (d : Damage) → IsErrAnd result (λ (fault : LoadFault). fault ≡ fault_of d) → (d ≢ damage_is.Memory → document_damage old.pool.bits bytes ≡ Some d) → new ≡ old → TakesIn bytes old result new
+  TakesIn-damaged (Ok done) d e is same = absurd e
+  TakesIn-damaged (Err fault) d e is same = subst (λ (f : LoadFault). TakesIn bytes old (Err f) new) (sym e) (by_fault d bytes old new is same)
+
+  -- its pool is the space's now
+  pub TakesIn-ok : (P : Pool) → pool_in_bytes bytes ≡ Some P → P.bits ≡ old.pool.bits → document_damage old.pool.bits bytes ≡ None → IsValid P → new.pool ≡ P → new.made ≡ min (old.made + row_count P) (2 ^ 64 - 1) → TakesIn bytes old (Ok tt) new
+  TakesIn-ok P is bits whole valid same made =
+      inl (subst (λ (d : Option Damage). MatchOption d (IsLoaded bytes old (reply_of (ok_line ∷ [])) new) (λ (w : Damage). KeepsSpace old (codes "damaged " ++ damage_word w) (reply_of (ok_line ∷ [])) new)) (sym whole) (record {
+        reply_is = refl;
+        pool = is ∙ ap Some (sym same);
+        valid = subst (λ (Q : Pool). IsValid Q) (sym same) valid;
+        bits = ap (λ (Q : Pool). Q.bits) same ∙ bits;
+        made = subst (λ (Q : Pool). new.made ≡ min (old.made + row_count Q) (2 ^ 64 - 1)) (sym same) made;
+      }))
+
+-- ## A space that takes a pool
+
+done_by : (batch : Bool) (IsDone IsAsBefore : Type 0) (x : Unit {0}) → MatchBool batch ((Ok x ≡ Err why.Batch) × IsAsBefore) IsDone → IsDone
+done_by true IsDone IsAsBefore x ends = absurd (let never = ends.0 in cc)
+done_by false IsDone IsAsBefore x ends = ends
+
+pub taken : (W : Workspace) (result : Result (Unit {0}) Refusal) (x : Unit {0}) (IsDone IsAsBefore : Type 0) → EndsTaking W result IsDone IsAsBefore → result ≡ Ok x → IsDone
+taken W result x IsDone IsAsBefore ends is = done_by (in_batch W) IsDone IsAsBefore x (subst (λ (r : Result (Unit {0}) Refusal). EndsTaking W r IsDone IsAsBefore) is ends)
+
+refused_by : (batch : Bool) (reason : Refusal) (IsAsBefore : Type 0) → MatchBool batch ((◌≡◌ {A = Result (Unit {0}) Refusal} (Err reason) (Err why.Batch)) × IsAsBefore) ((reason ≡ why.Memory) × IsAsBefore) → IsAsBefore
+refused_by true reason IsAsBefore ends = ends.1
+refused_by false reason IsAsBefore ends = ends.1
+
+pub untaken : (W : Workspace) (result : Result (Unit {0}) Refusal) (reason : Refusal) (IsDone IsAsBefore : Type 0) → EndsTaking W result IsDone IsAsBefore → result ≡ Err reason → IsAsBefore
+untaken W result reason IsDone IsAsBefore ends is = refused_by (in_batch W) reason IsAsBefore (subst (λ (r : Result (Unit {0}) Refusal). EndsTaking W r IsDone IsAsBefore) is ends)
+
+-- ## A file
+
+large_is : (bytes : Bytes) → most_stored < length bytes → fetched (Some bytes) ≡ large
+large_is bytes many = rw (lt-ltb most_stored (length bytes) many) refl
+
+small_is : (bytes : Bytes) → length bytes ≤ most_stored → fetched (Some bytes) ≡ given bytes
+small_is bytes few = rw (le-ltb most_stored (length bytes) few) refl
+
+is_missing : (file : Option Bytes) → file ≡ None → missing ≡ fetched file
+is_missing file e = ap fetched (sym e)
+
+is_given : (file : Option Bytes) (bytes : Bytes) → file ≡ Some bytes → length bytes ≤ most_stored → given bytes ≡ fetched file
+is_given file bytes e few = sym (ap fetched e ∙ small_is bytes few)
+
+is_large_file : (file : Option Bytes) → (bytes : Bytes) × (file ≡ Some bytes) × (most_stored < length bytes) → large ≡ fetched file
+is_large_file file h = sym (ap fetched h.1 ∙ large_is h.0 h.2)
+
+-- what is said of the files that are told
+told_of : (files : Option Files) (P Q : Files → Type 0) → ((f : Files) → P f → Q f) → IfSome files P → IfSome files Q
+told_of None P Q to h = tt
+told_of (Some f) P Q to h = to f h
+
+-- how a file is refused that the store doesn't give
+abbrev unfetched : FetchFault → LoadFault
+unfetched fetch.Missing = unloaded.Missing
+unfetched fetch.Large = unloaded.Large
+unfetched fetch.Failed = unloaded.Failed
+unfetched fetch.Memory = unloaded.Memory
+
+-- what a fetch said, by the file's name and as it ended
+pub fetched_by : (files : Option Files) (one name : Bytes) (result result' : Result (Unit {0}) FetchFault) (bytes : Bytes) → one ≡ name → result ≡ result' →
+    IfSome files (λ (f : Files). FetchesFile (get f one) most_stored result bytes) → IfSome files (λ (f : Files). FetchesFile (get f name) most_stored result' bytes)
+fetched_by files one name result result' bytes named ends told =
+    subst (λ (r : Result (Unit {0}) FetchFault). IfSome files (λ (f : Files). FetchesFile (get f name) most_stored r bytes)) ends
+    (subst (λ (n : Bytes). IfSome files (λ (f : Files). FetchesFile (get f n) most_stored result bytes)) named told)
+
+-- a fetch leaves the files
+kept : {C : Type 0} (D : store_trait.Ghosts C) (store store' : C) → D.held store' ≡ D.held store → D.faults store ≤ D.faults store' → KeepsFiles (shown_store D store) (shown_store D store')
+kept D store store' e counted = record {
+  files = subst (λ (f : Option Files). ChangesFiles (D.held store) f (λ (before now : Files). now ≡ before)) (sym e) (same_files (D.held store));
+  counted = counted;
+}
+
+module _ (W : Workspace) (name : Bytes) where
+  in_a_batch : in_batch W ≡ true → answer W (load name) ≡ Err why.Batch
+  unfolding answer
+  in_a_batch e = rw e refl
+
+  outside : in_batch W ≡ false → answer W (load name) ≡ Ok elsewhere
+  unfolding answer
+  outside e = rw e refl
+
+  may_lack : in_batch W ≡ false → MayLackMemory W (load name)
+  may_lack e = record { wants = refl; granted = subst (λ (a : Answer). IsOk a) (sym (outside e)) refl }
+
+  module _ {C : Type 0} {D : store_trait.Ghosts C} {space : SpaceView} where
+    -- a batch is open
+    pub Loads-batch : {store : C} → StandsFor space.pool W → in_batch W ≡ true → ObeysOn (load name) D space store (refusal_of (codes "batch")) space store
+    Loads-batch {store} stands e = record {
+      obeys = Obeys-refused W why.Batch stands (in_a_batch e) refl refl (shown_store D store);
+      counts = CountsStore-none;
+    }
+
+    module _ {store store' : C} {failed : Type 0} (stands : StandsFor space.pool W) (e : in_batch W ≡ false) (same : D.held store' ≡ D.held store) (calls : Calls D.faults D.steady D.faultless store store' failed) where
+      -- memory ran out
+      pub Loads-lacks : {space' : SpaceView} → space' ≡ space → (failed → ⊥) → ObeysOn (load name) D space store (refusal_of (codes "memory")) space' store'
+      Loads-lacks stays succeeds = record {
+        obeys = record { work = W; stands = stands; gives = inr (record { may = may_lack e; reply_is = refl; space = stays; store = kept D store store' same calls.counts.counted }) };
+        counts = CountsStore-called (refusal_of (codes "memory")) (λ _. succeeds) calls;
+      }
+
+      -- the store failed
+      pub Loads-failed : failed → ObeysOn (load name) D space store (refusal_of (codes "fault")) space store'
+      Loads-failed fails = record {
+        obeys = record {
+          work = W;
+          stands = stands;
+          gives = inl (subst (λ (a : Answer). Gives (load name) (machine_of D space store) W a (refusal_of (codes "fault")) (machine_of D space store')) (sym (outside e))
+              (inr (record { store = kept D store store' same calls.counts.counted; space = record { reply_is = refl; same = refl }; cause = calls.counts.cause fails })));
+        };
+        counts = CountsStore-called (refusal_of (codes "fault")) (λ other _. other refl) calls;
+      }
+
+      -- the file came to this
+      loaded_as : {space' : SpaceView} {reply : List ℕ} (file : Fetched) → (failed → ⊥) → IfSome (D.held store) (λ (files : Files). file ≡ fetched (get files name)) → LoadsAs file space reply space' → ObeysOn (load name) D space store reply space' store'
+      loaded_as {space'} {reply} file succeeds held loads = record {
+        obeys = record {
+          work = W;
+          stands = stands;
+          gives = inl (subst (λ (a : Answer). Gives (load name) (machine_of D space store) W a reply (machine_of D space' store')) (sym (outside e))
+              (inl (record { store = kept D store store' same calls.counts.counted; file = file; held = held; loads = loads })));
+        };
+        counts = CountsStore-called reply (λ _. succeeds) calls;
+      }
+
+      -- the store gave no bytes
+      pub Loads-refused : (fault : FetchFault) (bytes : Bytes) → (fault ≡ fetch.Failed → failed) → (failed → fault ≡ fetch.Failed) → IfSome (D.held store) (λ (files : Files). FetchesFile {A = Unit {0}} (get files name) most_stored (Err fault) bytes) →
+          ObeysOn (load name) D space store (loaded_reply (Err (unfetched fault))) space store'
+      Loads-refused fetch.Missing bytes into back told = loaded_as missing (λ f. let never = back f in cc) (told_of (D.held store) _ _ (λ files h. is_missing (get files name) h) told) (record { reply_is = refl; same = refl })
+      Loads-refused fetch.Large bytes into back told = loaded_as large (λ f. let never = back f in cc) (told_of (D.held store) _ _ (λ files h. is_large_file (get files name) h) told) (record { reply_is = refl; same = refl })
+      Loads-refused fetch.Failed bytes into back told = Loads-failed (into refl)
+      Loads-refused fetch.Memory bytes into back told = Loads-lacks refl (λ f. let never = back f in cc)
+
+      -- the store gave the bytes, and the space took in what they stand for
+      pub Loads-took : {space' : SpaceView} (bytes : Bytes) (result : Result (Unit {0}) LoadFault) → (failed → ⊥) → length bytes ≤ most_stored → IfSome (D.held store) (λ (files : Files). get files name ≡ Some bytes) → TakesIn bytes space result space' →
+          ObeysOn (load name) D space store (loaded_reply result) space' store'
+      Loads-took {space'} bytes result succeeds few told takes = elim takes [
+        | inl loads ↦ loaded_as (given bytes) succeeds (told_of (D.held store) _ _ (λ files h. is_given (get files name) bytes h few) told) loads
+        | inr lacks ↦ subst (λ (r : Result (Unit {0}) LoadFault). ObeysOn (load name) D space store (loaded_reply r) space' store') (sym lacks.0) (Loads-lacks lacks.1 succeeds)
+      ]
+
+-- how a load ends where the fetch was refused
+pub Loads-unfetched : {C : Type 0} {D : store_trait.Ghosts C} {space : SpaceView} {store store' : C} (W : Workspace) (name one : Bytes) (result : Result (Unit {0}) FetchFault) (fault : FetchFault) (bytes : Bytes) → StandsFor space.pool W → in_batch W ≡ false → D.held store' ≡ D.held store →
+    Calls D.faults D.steady D.faultless store store' (result ≡ Err fetch.Failed) → one ≡ name → IfSome (D.held store) (λ (files : Files). FetchesFile (get files one) most_stored result bytes) → result ≡ Err fault → ObeysOn (load name) D space store (loaded_reply (Err (unfetched fault))) space store'
+Loads-unfetched {D = D} {store = store} W name one result fault bytes stands e same calls named told ended =
+    Loads-refused W name stands e same calls fault bytes (λ is. ended ∙ ap Err is) (λ failed. let both : Err fault ≡ Err fetch.Failed = sym ended ∙ failed in cc)
+    (fetched_by (D.held store) one name result (Err fault) bytes named ended told)

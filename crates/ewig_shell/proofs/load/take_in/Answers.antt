@@ -1,0 +1,33 @@
+use Rattle.std.proofs.Common.{◌≡◌, ◌∙◌, sym, ap, subst, refl, inr, Some, None, ℕ, ◌+◌, ◌-◌, ◌^◌, min}
+use Rattle.pool_text.specs.Document.{bytes_damage}
+use Rattle.pool_text.specs.Pool.{row_count}
+use Rattle.pool_text.specs.declared.damage.Damage.{Damage}
+use Rattle.pool_text.specs.declared.pool.Pool.{Pool}
+use Rattle.ewig_shell.proofs.LoadLemmas.{TakesIn-damaged, TakesIn-ok, taken, untaken, read_damage, pool_damage}
+use Rattle.ewig_shell.proofs.load.take_in.Goals as goal
+
+pub returns-in_err-pool : goal.returns-in_err-pool
+returns-in_err-pool c =
+    TakesIn-damaged c.args.bytes.now c.args.space.now c.args.space.now c.from_residual.result c.in_err-pool.field-0.0 c.from_residual.ensures.1
+    (λ other. read_damage c.args.space.now.pool.bits c.args.bytes.now c.in_err-pool.field-0.0
+    (subst (λ (b : ℕ). bytes_damage b c.args.bytes.now ≡ Some c.in_err-pool.field-0.0) c.bits.ensures.kept (c.in_err-pool.ensures.damage other)))
+    refl
+
+pub returns-in_err-checked : goal.returns-in_err-checked
+returns-in_err-checked c =
+    TakesIn-damaged c.args.bytes.now c.args.space.now c.args.space.now c.from_residual-in_err-checked.result c.in_err-checked.field-0.0 c.from_residual-in_err-checked.ensures.1
+    (λ other. pool_damage c.args.space.now.pool.bits c.args.bytes.now c.in_ok-pool.pool (Some c.in_err-checked.field-0.0)
+    (subst (λ (b : ℕ). bytes_damage b c.args.bytes.now ≡ None) c.bits.ensures.kept c.in_ok-pool.ensures.whole) c.in_ok-pool.ensures.pool (c.in_err-checked.ensures.damage other))
+    refl
+
+pub returns-in-Ok : goal.returns-in-Ok
+returns-in-Ok c =
+    let done = taken c.take_pool.ensures.work c.take_pool.result _ _ _ c.take_pool.ensures.ends c.in-Ok.is in
+    TakesIn-ok c.args.bytes.now c.args.space.now c.take_pool.new.self c.in_ok-pool.pool c.in_ok-pool.ensures.pool (c.in_ok-pool.ensures.bits ∙ c.bits.ensures.kept)
+    (pool_damage c.args.space.now.pool.bits c.args.bytes.now c.in_ok-pool.pool None
+    (subst (λ (b : ℕ). bytes_damage b c.args.bytes.now ≡ None) c.bits.ensures.kept c.in_ok-pool.ensures.whole) c.in_ok-pool.ensures.pool c.in_ok-checked.ensures.whole)
+    ((c.undamaged_is_valid.ensures c.in_ok-pool.pool).0 c.in_ok-checked.ensures.whole)
+    (done.pool ∙ c.in_ok-checked.ensures.same) (subst (λ (P : Pool). c.take_pool.new.self.made ≡ min (c.args.space.now.made + row_count P) (2 ^ 64 - 1)) c.in_ok-checked.ensures.same done.made)
+
+pub returns-in-Err : goal.returns-in-Err
+returns-in-Err c = inr (refl, untaken c.take_pool.ensures.work c.take_pool.result _ _ _ c.take_pool.ensures.ends c.in-Err.is)

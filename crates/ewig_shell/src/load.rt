@@ -1,0 +1,82 @@
+//! What a run loads.
+
+ghost use Rattle.std.specs.Prelude.{◌≡◌};
+ghost use Rattle.elem_core.specs.Shown.{name_bytes};
+ghost use Rattle.shell_terms.specs.Command.{load as load_command};
+ghost use Rattle.ewig_shell.specs.Step.{ObeysOn, loaded_reply};
+ghost use Rattle.ewig_shell.specs.Loading.{TakesIn, fault_of};
+
+use crate::store::MOST_STORED;
+use elem_core::Name;
+use pool_check::{check, undamaged_is_valid};
+use pool_text::{Damage, pool_from_bytes};
+use shell_io::{FetchFault, Store};
+use space_state::Space;
+use std::alloc::Global;
+
+/// Why a file wasn't loaded.
+#[derive(Clone, Copy, Debug, PartialEq, Eq)]
+pub enum LoadFault {
+    /// A batch is open.
+    Batch,
+    /// There is no such file.
+    Missing,
+    /// The file has more bytes than a file may.
+    Large,
+    /// The store failed.
+    Failed,
+    /// The file is no document of a space of so many bits: the first test that it fails.
+    Damaged(Damage),
+    /// Memory ran out.
+    Memory,
+}
+
+impl From<Damage> for LoadFault {
+    ghost from_gives = { λ damage fault. fault ≡ fault_of damage };
+
+    fn from(damage: Damage) -> LoadFault {
+        match damage {
+            Damage::Memory => LoadFault::Memory,
+            damage => LoadFault::Damaged(damage),
+        }
+    }
+}
+
+/// Makes the space the one that the document in the file stands for. `Batch` exactly in a batch; else `Missing` exactly where there
+/// is no such file, and `Large` exactly where it has more than 67,108,864 bytes; `Failed` only where the store failed at this
+/// call; else `Damaged` exactly where the bytes fail a test. After a refusal the space is as it was.
+pub fn load<D: Store>(
+    alloc: Global,
+    space: &mut Space,
+    file: Name<'_>,
+    store: &mut D,
+) -> Result<(), LoadFault>
+    ensures { ObeysOn (load_command (name_bytes file.entry)) D.Store space.old store.old (loaded_reply result) space.new store.new }
+{
+    if space.in_batch() {
+        return Err(LoadFault::Batch);
+    }
+    let mut bytes = Vec::new(alloc);
+    match store.fetch(file.as_str(), MOST_STORED as usize, &mut bytes) {
+        Ok(()) => take_in(alloc, space, &bytes),
+        Err(FetchFault::Missing) => Err(LoadFault::Missing),
+        Err(FetchFault::Large) => Err(LoadFault::Large),
+        Err(FetchFault::Failed) => Err(LoadFault::Failed),
+        Err(FetchFault::Memory) => Err(LoadFault::Memory),
+    }
+}
+
+// Makes the space the one that the bytes stand for.
+fn take_in(alloc: Global, space: &mut Space, bytes: &[u8]) -> Result<(), LoadFault>
+    ensures { TakesIn bytes.now space.old result space.new }
+{
+    let pool = pool_from_bytes(alloc, bytes, space.bits())?;
+    let checked = check(alloc, pool)?;
+    // Nothing is run here: the call cites that a pool without damage is valid.
+    undamaged_is_valid();
+    match space.take_pool(checked) {
+        Ok(()) => Ok(()),
+        // No batch is open where this is called.
+        Err(_) => Err(LoadFault::Memory),
+    }
+}

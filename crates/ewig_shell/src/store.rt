@@ -1,0 +1,63 @@
+//! What a run stores.
+
+ghost use Rattle.std.specs.Prelude.{◌≡◌};
+ghost use Rattle.elem_core.specs.Shown.{name_bytes};
+ghost use Rattle.shell_terms.specs.Command.{save as save_command};
+ghost use Rattle.ewig_shell.specs.declared.store.SaveFault.TheVariants.{Memory};
+ghost use Rattle.ewig_shell.specs.Step.{ObeysOn, saved_reply};
+
+use elem_core::{Name, NoMemory};
+use pool_text::{text_length, to_bytes};
+use shell_io::{KeepFault, Store};
+use space_state::Space;
+use std::alloc::Global;
+
+/// The most bytes that a stored file may have: 64 times 2^20.
+pub const MOST_STORED: u64 = 67_108_864;
+
+/// Why a space wasn't stored.
+#[derive(Clone, Copy, Debug, PartialEq, Eq)]
+pub enum SaveFault {
+    /// A batch is open.
+    Batch,
+    /// The document has more bytes than a file may.
+    Large,
+    /// The store failed.
+    Failed,
+    /// Memory ran out.
+    Memory,
+}
+
+impl From<NoMemory> for SaveFault {
+    ghost from_gives = { λ _ fault. fault ≡ Memory };
+
+    fn from(_error: NoMemory) -> SaveFault {
+        SaveFault::Memory
+    }
+}
+
+/// Stores the document of the space's pool in the file. `Batch` exactly in a batch, else `Large` exactly where the document has more
+/// than 67,108,864 bytes; `Failed` only where the store failed at this call, and then what the file holds is open. How long the
+/// document would be is known before it is made.
+pub fn save<D: Store>(
+    alloc: Global,
+    space: &Space,
+    file: Name<'_>,
+    store: &mut D,
+) -> Result<(), SaveFault>
+    ensures { ObeysOn (save_command (name_bytes file.entry)) D.Store space.now store.old (saved_reply result) space.now store.new }
+{
+    if space.in_batch() {
+        return Err(SaveFault::Batch);
+    }
+    let pool = space.pool(alloc)?;
+    if text_length(&pool) > MOST_STORED {
+        return Err(SaveFault::Large);
+    }
+    let bytes = to_bytes(alloc, &pool)?;
+    match store.keep(file.as_str(), &bytes) {
+        Ok(()) => Ok(()),
+        Err(KeepFault::Failed) => Err(SaveFault::Failed),
+        Err(KeepFault::Memory) => Err(SaveFault::Memory),
+    }
+}
