@@ -25,8 +25,11 @@ NAMES = ["a", "b", "c", "A", "b1", "n.x", "_", "Z-9", "x" * 64]
 NO_NAMES = [".x", "-x", "", "é", "a/b", "x" * 65, "a\r"]
 TEXTS = ["", "x", "y", "two words", " spaced  out ", "é ü 漢", "\r", "ok", "= x", "a" * 300]
 NO_NUMBERS = ["01", "+1", "-1", "4294967296", "1x", ""]
-NO_LINES = [b"", b" ", b"New a", b"list ", b"\xff", b"add a \xc3", b"undo x", b"new  a", b"get a", b"save f"]
-WEIGHTS = {"add": 6, "undo": 4, "redo": 3, "new": 3, "put": 3, "begin": 2, "end": 3, "quit": 0.05, "drop": 0.5}
+NO_LINES = [b"", b" ", b"New a", b"list ", b"\xff", b"add a \xc3", b"undo x", b"new  a", b"get a", b"save", b"stats x"]
+WEIGHTS = {
+    "add": 6, "undo": 4, "redo": 3, "new": 3, "put": 3, "begin": 2, "end": 3, "mark": 2, "same": 2, "eqv": 2,
+    "quit": 0.05, "drop": 0.5,
+}
 
 
 def drawn_name(draw, present):
@@ -53,7 +56,7 @@ def drawn_line(draw, shell):
         return draw.choice(NO_LINES)
     word = draw.choices(list(SHAPES), [WEIGHTS.get(word, 1) for word in SHAPES])[0]
     present = shell.current.buffers
-    if word in ("unmark", "back"):
+    if word in ("unmark", "back", "eqv"):
         present = shell.versions
     elif word in ("star", "unstar"):
         present = shell.current.stars
@@ -69,7 +72,7 @@ def drawn_line(draw, shell):
         if kind == "I":
             arguments.append(numbers.pop(0))
         elif kind == "N":
-            arguments.append(drawn_name(draw, shell.current.buffers))
+            arguments.append(drawn_name(draw, present))
         else:
             arguments.append(draw.choice(TEXTS))
     words = [word] + arguments if SHAPES[word] else [word]

@@ -2,7 +2,8 @@
 """The shell over plain lists and dictionaries: a second reading of docs/SHELL.md.
 
 It shares nothing with the program but the manual, so that tests/fuzz.py can compare the two. It copies whole
-dictionaries at each edit, and is meant for scripts with small buffers. Run alone, it answers its standard input.
+dictionaries at each edit, and is meant for scripts with small buffers. It has no rows and no files, and so it doesn't
+know `stats`, `save` and `load`. Run alone, it answers its standard input.
 """
 
 import re
@@ -16,7 +17,8 @@ SHAPES = {
     "new": "N", "add": "NT", "set": "NIT", "put": "NIT", "del": "NII", "cat": "NN", "cut": "NIIN", "copy": "NN",
     "drop": "N", "star": "N", "unstar": "N",
     "mark": "N", "unmark": "N", "back": "N", "undo": "", "redo": "", "begin": "", "end": "", "abort": "",
-    "get": "NI", "len": "N", "show": "NII", "list": "", "stars": "", "marks": "", "quit": "",
+    "get": "NI", "len": "N", "show": "NII", "list": "", "stars": "", "marks": "", "same": "NN", "eqv": "NN",
+    "quit": "",
 }
 EDITS = {"new", "add", "set", "put", "del", "cat", "cut", "copy", "drop", "star", "unstar"}
 
@@ -57,12 +59,20 @@ def read_line(line):
     return word, arguments
 
 
+def yes_or_no(answer):
+    """The reply line to a question of equality."""
+    return "= yes" if answer else "= no"
+
+
 class State:
     """Buffers by name, each a list of texts, and the names that are starred. It is never changed."""
 
     def __init__(self, buffers=None, stars=frozenset()):
         self.buffers = buffers or {}
         self.stars = stars
+
+    def __eq__(self, other):
+        return self.buffers == other.buffers and self.stars == other.stars
 
     def lines(self, name):
         needs(name in self.buffers, "none")
@@ -213,6 +223,13 @@ class Shell:
 
     def do_marks(self):
         return [f"= {name}" for name in sorted(self.versions)] + ["ok"]
+
+    def do_same(self, one, other):
+        return [yes_or_no(self.current.lines(one) == self.current.lines(other))]
+
+    def do_eqv(self, one, other):
+        needs(one in self.versions and other in self.versions, "none")
+        return [yes_or_no(self.versions[one] == self.versions[other])]
 
     def do_quit(self):
         self.over = True
