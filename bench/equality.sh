@@ -1,0 +1,46 @@
+#!/usr/bin/env bash
+# Compares two versions of 1,000, 10,000 and 100,000 buffers that differ in one, and two that differ in none but were made
+# apart in one, by the built program, and tells the time of one `eqv`. What they share isn't read, so that the time should
+# grow with the way to one name and not with the names.
+#   bench/equality.sh
+# COUNT in the environment takes the place of the thousand.
+set -eu
+. "$(dirname -- "$0")/shared.sh"
+count=${COUNT:-1000}
+begin
+program=$top/crates/ewig_shell/out/ewig_shell
+"$top/ewig" </dev/null >/dev/null
+
+python3 - "$count" "$work" "$program" <<'PYTHON'
+import os, subprocess, sys
+count, room, program = int(sys.argv[1]), sys.argv[2], sys.argv[3]
+TIMES = 100_000
+
+def once(script):
+    """Processor seconds and the replies of one run."""
+    with open(room + "/input", "w") as out:
+        out.write(script)
+    with open(room + "/input") as given, open(room + "/replies", "wb") as out:
+        child = subprocess.Popen([program], stdin=given, stdout=out, cwd=room)
+        _, status, usage = os.wait4(child.pid, 0)
+    if status != 0:
+        sys.exit(f"the program ended with {status}")
+    with open(room + "/replies") as replies:
+        return usage.ru_utime + usage.ru_stime, replies.read().split("\n")[:-1]
+
+def best(script):
+    runs = [once(script) for _ in range(3)]
+    return min(run[0] for run in runs), runs[0][1]
+
+print(f"{'buffers':>10}{'a line differs':>18}{'made apart':>18}")
+for n in (count, 10 * count, 100 * count):
+    made = "begin\n" + "".join(f"new b{i}\n" for i in range(n)) + "end\nmark v\nadd b7 x\nmark w\nset b7 0 y\nset b7 0 x\nmark u\n"
+    bare, _ = best(made)
+    row = f"{n:10,}"
+    for other, answer in (("v", "= no"), ("u", "= yes")):
+        taken, replies = best(made + f"eqv w {other}\n" * TIMES)
+        if replies[-1] != answer:
+            sys.exit(f"eqv says {replies[-1]!r} and not {answer!r}")
+        row += f"{(taken - bare) / TIMES * 1e6:15.2f} us"
+    print(row)
+PYTHON
