@@ -199,33 +199,48 @@ const TWO_CELLS: &str =
 
 #[test]
 fn loads_the_pool_of_a_document(rt: HostRuntime) -> Result<(), Fail> {
-    let rows: [(&str, &[u8], &[u8]); 4] = [
+    let rows: [(&[u8], &[u8]); 3] = [
         (
-            TWO_CELLS,
             b"load d\nsave e\nstats\nsame a b\n",
             b"ok\nok\n= 11\n! none\n",
         ),
         (
-            TWO_CELLS,
             b"new b\nload d\nsave e\nlist\nget a 1\nundo\n",
             b"ok\nok\nok\n= a 2\nok\n= x\n! empty\n",
         ),
         (
-            TWO_CELLS,
             b"load d\nsave e\nbegin\nload d\nabort\nload c\n",
             b"ok\nok\nok\n! batch\nok\n! missing\n",
         ),
-        (
-            START,
-            b"load d\nsave e\nlist\nstats\n",
-            b"ok\nok\nok\n= 6\n",
-        ),
     ];
-    for (held, input, written) in rows {
-        let devices = Devices { held, ..WHOLE };
+    for (input, written) in rows {
+        let devices = Devices {
+            held: TWO_CELLS,
+            ..WHOLE
+        };
         let store = left_by(&rt, input, 1 << 40, &devices, written, Status::Done)?;
-        assert_eq!(rt; store.file("e"), Some(held.as_bytes()));
+        assert_eq!(rt; store.file("e"), Some(TWO_CELLS.as_bytes()));
     }
+    Ok(())
+}
+
+// The document of a new space is loaded, saved again and listed.
+#[test]
+fn loads_the_document_of_a_new_space(rt: HostRuntime) -> Result<(), Fail> {
+    let devices = Devices {
+        held: START,
+        ..WHOLE
+    };
+    let input = b"load d\nsave e\nlist\nstats\n";
+    let store = left_by(
+        &rt,
+        input,
+        1 << 40,
+        &devices,
+        b"ok\nok\nok\n= 6\n",
+        Status::Done,
+    )?;
+    assert_eq!(rt; store.file("e"), Some(START.as_bytes()));
     Ok(())
 }
 
