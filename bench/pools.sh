@@ -1,6 +1,6 @@
 #!/usr/bin/env bash
-# Saves spaces of n, 4n and 16n lines by the built program, and tells the time of one `save` and one `load`, the document's
-# bytes and its rows. The lines are added one by one outside a batch, so that undo keeps a state for each.
+# Saves and loads spaces of n, 2n and 4n lines by the built program, and tells the time of one `save` and one `load`, and the
+# document's rows and bytes. The lines are added one by one outside a batch, so that undo keeps a state for each.
 #   bench/pools.sh
 # COUNT in the environment takes the place of n, which is 10,000.
 set -eu
@@ -11,7 +11,7 @@ program=$top/crates/ewig_shell/out/ewig_shell
 "$top/ewig" </dev/null >/dev/null
 
 python3 - "$count" "$work" "$program" <<'PYTHON'
-import os, subprocess, sys, time
+import os, subprocess, sys
 count, room, program = int(sys.argv[1]), sys.argv[2], sys.argv[3]
 TIMES = 5
 
@@ -27,23 +27,23 @@ def once(script):
     with open(room + "/replies") as replies:
         return usage.ru_utime + usage.ru_stime, usage.ru_maxrss * 1024, replies.read().split("\n")[:-1]
 
-def best(script, last):
-    """The least of three runs, whose last reply has to be this one."""
+def best(script, done):
+    """The least time and peak of three runs, whose last replies have to be so many times `ok`, and the replies of one."""
     runs = [once(script) for _ in range(3)]
-    if any(replies[-1] != last for _, _, replies in runs):
-        sys.exit(f"the last reply isn't {last!r}")
+    if any(replies[len(replies) - done:] != ["ok"] * done for _, _, replies in runs):
+        sys.exit(f"the last {done} replies aren't all ok, but {runs[0][2][-done:]}")
     return min(run[0] for run in runs), min(run[1] for run in runs), runs[0][2]
 
-print(f"{'lines':>10}{'rows':>12}{'bytes':>14}{'save':>10}{'load':>10}{'peak':>10}")
-for n in (count, 4 * count, 16 * count):
+print(f"{'lines':>10}{'rows':>12}{'bytes':>14}{'save':>11}{'load':>11}{'peak':>12}")
+for n in (count, 2 * count, 4 * count):
+    if os.path.exists(room + "/s"):
+        os.remove(room + "/s")
     made = "new a\n" + "".join(f"add a line {i} of the text\n" for i in range(n))
-    bare, _, replies = best(made + "stats\nlist\n", "ok")
-    rows = int(replies[n + 1].split()[1])
-    saved, peak, _ = best(made + "save s\n" * TIMES + "list\n", "ok")
-    once(made + "save s\n")
+    bare, _, _ = best(made, n + 1)
+    rows = int(once(made + "stats\n")[2][-1].split()[1])
+    saved, _, _ = best(made + "save s\n" * TIMES, TIMES)
+    empty, _, _ = best("list\n", 1)
+    loaded, peak, _ = best("load s\n" * TIMES, TIMES)
     size = os.path.getsize(room + "/s")
-    empty, _, _ = best("list\n", "ok")
-    loaded, _, replies = best("load s\n" * TIMES + "list\n", "ok")
-    load = f"{(loaded - empty) / TIMES:9.3f}s" if replies[0] == "ok" else "       -  "
-    print(f"{n:10,}{rows:12,}{size:14,}{(saved - bare) / TIMES:9.3f}s{load}{peak / 1e6:8.1f}MB")
+    print(f"{n:10,}{rows:12,}{size:14,}{(saved - bare) / TIMES:10.3f}s{(loaded - empty) / TIMES:10.3f}s{peak / 1e6:10.1f}MB")
 PYTHON
