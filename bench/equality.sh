@@ -11,26 +11,15 @@ begin
 program=$top/crates/ewig_shell/out/ewig_shell
 "$top/ewig" </dev/null >/dev/null
 
-python3 - "$count" "$work" "$program" <<'PYTHON'
-import os, subprocess, sys
+report "$count" "$work" "$program" <<'PYTHON'
+import sys
+from shared import shell_run
 count, room, program = int(sys.argv[1]), sys.argv[2], sys.argv[3]
 TIMES = 100_000
 
-def once(script):
-    """Processor seconds and the replies of one run."""
-    with open(room + "/input", "w") as out:
-        out.write(script)
-    with open(room + "/input") as given, open(room + "/replies", "wb") as out:
-        child = subprocess.Popen([program], stdin=given, stdout=out, cwd=room)
-        _, status, usage = os.wait4(child.pid, 0)
-    if status != 0:
-        sys.exit(f"the program ended with {status}")
-    with open(room + "/replies") as replies:
-        return usage.ru_utime + usage.ru_stime, replies.read().split("\n")[:-1]
-
 def best(script):
-    runs = [once(script) for _ in range(3)]
-    return min(run[0] for run in runs), runs[0][1]
+    runs = [shell_run(program, room, script) for _ in range(3)]
+    return min(run[0] for run in runs), runs[0][2]
 
 print(f"{'buffers':>10}{'a line differs':>18}{'made apart':>18}")
 for n in (count, 10 * count, 100 * count):

@@ -10,26 +10,15 @@ begin
 program=$top/crates/ewig_shell/out/ewig_shell
 "$top/ewig" </dev/null >/dev/null
 
-python3 - "$count" "$work" "$program" <<'PYTHON'
-import os, subprocess, sys
+report "$count" "$work" "$program" <<'PYTHON'
+import os, sys
+from shared import shell_run
 count, room, program = int(sys.argv[1]), sys.argv[2], sys.argv[3]
 TIMES = 5
 
-def once(script):
-    """Processor seconds, peak bytes and the replies of one run."""
-    with open(room + "/input", "w") as out:
-        out.write(script)
-    with open(room + "/input") as given, open(room + "/replies", "wb") as out:
-        child = subprocess.Popen([program], stdin=given, stdout=out, cwd=room)
-        _, status, usage = os.wait4(child.pid, 0)
-    if status != 0:
-        sys.exit(f"the program ended with {status}")
-    with open(room + "/replies") as replies:
-        return usage.ru_utime + usage.ru_stime, usage.ru_maxrss * 1024, replies.read().split("\n")[:-1]
-
 def best(script, done):
     """The least time and peak of three runs, whose last replies have to be so many times `ok`, and the replies of one."""
-    runs = [once(script) for _ in range(3)]
+    runs = [shell_run(program, room, script) for _ in range(3)]
     if any(replies[len(replies) - done:] != ["ok"] * done for _, _, replies in runs):
         sys.exit(f"the last {done} replies aren't all ok")
     return min(run[0] for run in runs), min(run[1] for run in runs), runs[0][2]
@@ -40,10 +29,10 @@ for n in (count, 2 * count, 4 * count):
         os.remove(room + "/s")
     made = "new a\n" + "".join(f"add a line {i} of the text\n" for i in range(n))
     bare, _, _ = best(made, n + 1)
-    rows = int(once(made + "stats\n")[2][-1].split()[1])
+    rows = int(shell_run(program, room, made + "stats\n")[2][-1].split()[1])
     saved, _, _ = best(made + "save s\n" * TIMES, TIMES)
     empty, _, _ = best("list\n", 1)
     loaded, peak, _ = best("load s\n" * TIMES, TIMES)
     size = os.path.getsize(room + "/s")
-    print(f"{n:10,}{rows:12,}{size:14,}{(saved - bare) / TIMES:10.3f}s{(loaded - empty) / TIMES:10.3f}s{peak / 1e6:10.1f}MB")
+    print(f"{n:10,}{rows:12,}{size:14,}{(saved - bare) / TIMES:10.3f}s{(loaded - empty) / TIMES:10.3f}s{peak:10.1f}MB")
 PYTHON

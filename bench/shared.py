@@ -1,4 +1,5 @@
 """Runs the programs of a bench in turn, and prints what they took."""
+import os
 import subprocess
 import sys
 
@@ -57,3 +58,16 @@ def table(columns, figures, width, digits=2, margin=32):
     (_, ours), *others = figures.items()
     for name, theirs in others:
         row("ratio to " + name, [mine / other for mine, other in zip(ours, theirs)], f"{width}.{digits}f")
+
+
+def shell_run(program, room, script):
+    """What one run of the shell over a script took in this folder: the processor seconds, the peak megabytes, and its replies."""
+    with open(room + "/input", "w") as out:
+        out.write(script)
+    with open(room + "/input") as given, open(room + "/replies", "wb") as out:
+        child = subprocess.Popen([program], stdin=given, stdout=out, cwd=room)
+        _, status, usage = os.wait4(child.pid, 0)
+    if status != 0:
+        sys.exit(f"the program ended with {status}")
+    with open(room + "/replies") as replies:
+        return usage.ru_utime + usage.ru_stime, usage.ru_maxrss * 1024 / 1e6, replies.read().split("\n")[:-1]
