@@ -1,18 +1,25 @@
--- Bytes without damage stand for a valid pool.
-use Rattle.std.proofs.Common.{◌≡◌, ℕ, Bool, true, false, cond, eqb, Option, Some, None, List, [], ◌∷◌, length, bytes_eq, refl, ap, sym, ◌∙◌}
+-- Bytes without damage stand for a valid pool, and those that read as the document of a valid pool have none.
+use Rattle.std.proofs.Common.{◌≡◌, ◌≢◌, ℕ, Bool, true, false, cond, eqb, Option, Some, None, List, [], ◌∷◌, length, bytes_eq, refl, ap, sym, ◌∙◌}
 use Rattle.std.specs.Prelude.{not, is_some, option_and_then, option_map, codes}
+use Rattle.std.specs.List.{list_all}
 use Rattle.std.specs.Option.{option_or}
 use Rattle.std.proofs.lemmas.Bool.{eqb-true}
+use Rattle.std.proofs.lemmas.Option.{none-some, same_Some}
 use Rattle.serde_json.specs.Data.{Data, string, object}
 use Rattle.node_heap.specs.Forms.{Form}
-use Rattle.pool_text.specs.Rows.{Bytes}
-use Rattle.pool_text.specs.Document.{DocumentParts, four, values_at, document_keys, number_in, numbers_in, elements_in, parts_read, parts_from, parts_in, rows_in, pool_from, pool_in, value_in, pool_in_bytes, parts_damage, value_damage, bytes_damage, or_damage}
+use Rattle.pool_text.specs.Rows.{Bytes, is_in_range}
+use Rattle.pool_text.specs.Document.{document, DocumentParts, four, values_at, document_keys, number_in, numbers_in, elements_in, parts_read, parts_from, parts_in, rows_in, pool_from, pool_in, value_in, pool_in_bytes, parts_damage, value_damage, bytes_damage, or_damage}
 use Rattle.pool_text.specs.declared.pool.Pool.{Pool}
 use Rattle.pool_text.specs.declared.damage.Damage.{Damage}
-use Rattle.pool_text.specs.declared.damage.Damage.TheVariants.{Json, Form as FormDamage, Version, Bits, Row}
-use Rattle.pool_check.specs.Damages.{damage, document_damage}
-use Rattle.pool_check.specs.Laws.{IsReadAs}
-use Rattle.pool_check.proofs.DamageLemmas.{undamaged-valid}
+use Rattle.pool_text.specs.declared.damage.Damage.TheVariants.{Json, Form as FormDamage, Version, Bits, Row, Link, Text, Vector, Trie, Kind, Order, Memory}
+use Rattle.pool_check.specs.Rows.{rows_in_range, links_lead_back, texts_are_lines}
+use Rattle.pool_check.specs.Vectors.{vectors_stand}
+use Rattle.pool_check.specs.Tries.{tries_stand}
+use Rattle.pool_check.specs.Kinds.{roots_are_of_kind}
+use Rattle.pool_check.specs.Damages.{rows_in_order, damage, document_damage, IsValid}
+use Rattle.pool_check.specs.Laws.{IsReadAs, IsDocumentOf}
+use Rattle.pool_text.proofs.ReadBack.{reads-back}
+use Rattle.pool_check.proofs.DamageLemmas.{undamaged-valid, valid-undamaged}
 
 -- what is found in two steps
 pub and-then-found : {X Y : Type 0} (f : X → Option Y) (o : Option X) (y : Y) → option_and_then f o ≡ Some y → (x : X) × (o ≡ Some x) × (f x ≡ Some y)
@@ -91,3 +98,61 @@ whole-stands bits bytes whole =
     let stands = pool-stands bits bytes none.0 in
     let P : Pool = stands.0 in
     (P, record { read = stands.1; kept = stands.2; roots = stands.3; valid = undamaged-valid P (sym (ap (option_and_then damage) stands.1) ∙ none.1) })
+
+in-range-rows : (P : Pool) → rows_in_range P ≡ true → list_all is_in_range P.rows ≡ true
+unfolding rows_in_range
+in-range-rows P h = h
+
+pub valid-whole : (P : Pool) (bytes : Bytes) → value_in bytes ≡ Some (document P) → length P.roots ≡ 4 → IsValid P → IsDocumentOf P bytes
+unfolding document_damage bytes_damage
+valid-whole P bytes value four valid =
+    let back = reads-back P four (in-range-rows P valid.in_range) in
+    let read : pool_in_bytes bytes ≡ Some P = ap (option_and_then pool_in) value ∙ back.same in
+    record {
+      whole =
+          ap (λ o. option_or o (option_and_then damage (pool_in_bytes bytes))) (ap (or_damage Json (value_damage P.bits)) value ∙ back.whole)
+          ∙ ap (option_and_then damage) read ∙ valid-undamaged P valid;
+      read = read;
+    }
+
+-- No damage is want of memory.
+
+test-failed : (t : Bool) (d : Damage) (rest : Option Damage) → d ≢ Memory → rest ≢ Some Memory → cond t rest (Some d) ≢ Some Memory
+test-failed true d rest other none e = none e
+test-failed false d rest other none e = other (same_Some d Memory e)
+
+failed-test : (t : Bool) (d : Damage) (rest : Option Damage) → d ≢ Memory → rest ≢ Some Memory → cond t (Some d) rest ≢ Some Memory
+failed-test true d rest other none e = other (same_Some d Memory e)
+failed-test false d rest other none e = none e
+
+damage-is-test : (P : Pool) → damage P ≢ Some Memory
+unfolding damage
+damage-is-test P =
+    test-failed (rows_in_range P) Row _ (λ e. cc)
+    (test-failed (links_lead_back P) Link _ (λ e. cc)
+    (test-failed (texts_are_lines P) Text _ (λ e. cc)
+    (test-failed (vectors_stand P) Vector _ (λ e. cc)
+    (test-failed (tries_stand P) Trie _ (λ e. cc)
+    (test-failed (roots_are_of_kind P) Kind _ (λ e. cc)
+    (test-failed (rows_in_order P) Order _ (λ e. cc) (λ e. none-some Memory e)))))))
+
+-- or nothing is there, or what is there has this damage
+or-damaged : {X : Type 0} (d : Damage) (next : X → Option Damage) (o : Option X) → d ≢ Memory → ((x : X) → next x ≢ Some Memory) → or_damage d next o ≢ Some Memory
+or-damaged d next None other each e = other (same_Some d Memory e)
+or-damaged d next (Some x) other each e = each x e
+
+bytes-damage-is-test : (bits : ℕ) (bytes : Bytes) → bytes_damage bits bytes ≢ Some Memory
+unfolding bytes_damage value_damage
+bytes-damage-is-test bits bytes =
+    or-damaged Json (value_damage bits) (value_in bytes) (λ e. cc) (λ d.
+    or-damaged FormDamage (parts_damage bits) (parts_in d) (λ e. cc) (λ p.
+    failed-test (not (eqb p.version 1)) Version _ (λ e. cc) (failed-test (not (eqb p.bits bits)) Bits _ (λ e. cc) (test-failed (is_some (rows_in p)) Row None (λ e. cc) (λ e. none-some Memory e)))))
+
+pub no-memory : (bits : ℕ) (bytes : Bytes) → document_damage bits bytes ≢ Some Memory
+unfolding document_damage
+no-memory bits bytes e = by (bytes_damage bits bytes) (pool_in_bytes bytes) (bytes-damage-is-test bits bytes) e
+  where
+    by : (o : Option Damage) (p : Option Pool) → o ≢ Some Memory → option_or o (option_and_then damage p) ≢ Some Memory
+    by (Some d) p none e = none e
+    by None None none e = none-some Memory e
+    by None (Some P) none e = damage-is-test P e

@@ -10,6 +10,8 @@ mod History
 pub mod VectorReadings
 pub mod TrieReadings
 pub mod PoolPasses
+pub mod OwnRows
+pub mod DocumentLaw
 mod RowTests
 mod ShapeLemmas
 mod EntryTests
@@ -25,5 +27,4 @@ mod RowsKept
 mod CountedLemmas
 mod OrderWalk
 mod OrderTest
-mod DocumentLaw
 mod Refused

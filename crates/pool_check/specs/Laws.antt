@@ -1,5 +1,5 @@
 -- Laws of valid pools.
-use Rattle.std.specs.Prelude.{◌≡◌, ◌↔◌, ℕ, true, length, Some, None}
+use Rattle.std.specs.Prelude.{◌≡◌, ◌≢◌, ◌↔◌, ℕ, true, length, Some, None}
 use Rattle.std.specs.Ordering.{nat_cmp}
 use Rattle.std.specs.Cmp.Lexicographic.{slice_cmp}
 use Rattle.rrb_core.specs.Seq.{IsWellShaped}
@@ -7,7 +7,9 @@ use Rattle.elem_core.specs.Codes.{text_code}
 use Rattle.champ_trie.specs.Trie.{IsCanon, code_by}
 use Rattle.pool_text.specs.Rows.{Bytes}
 use Rattle.pool_text.specs.Pool.{forms_in, row_count}
-use Rattle.pool_text.specs.Document.{pool_in_bytes}
+use Rattle.pool_text.specs.Document.{document, value_in, pool_in_bytes}
+use Rattle.pool_text.specs.declared.damage.Damage.TheVariants.{Memory}
+use Rattle.pool_text.specs.Worked.{IsOfItself}
 use Rattle.pool_text.specs.declared.pool.Pool.{Pool}
 use Rattle.pool_check.specs.Tries.{entries_below}
 use Rattle.pool_check.specs.Kinds.{is_vector_root, is_trie_root}
@@ -35,3 +37,20 @@ pub record IsReadAs (bits : ℕ) (bytes : Bytes) (P : Pool) : Type 0 where
 -- bytes without damage stand for a valid pool
 abbrev pub WholeDocumentsStand : Type 0
 WholeDocumentsStand = (bits : ℕ) (bytes : Bytes) → document_damage bits bytes ≡ None → (P : Pool) × IsReadAs bits bytes P
+
+-- no test fails of the bytes, and this is the pool that they stand for
+pub record IsDocumentOf (P : Pool) (bytes : Bytes) : Type 0 where
+  pub whole : document_damage P.bits bytes ≡ None
+  pub read : pool_in_bytes bytes ≡ Some P
+
+-- bytes that read as the document of a valid pool of four roots are whole
+abbrev pub ValidDocumentsAreWhole : Type 0
+ValidDocumentsAreWhole = (P : Pool) (bytes : Bytes) → value_in bytes ≡ Some (document P) → length P.roots ≡ 4 → IsValid P → IsDocumentOf P bytes
+
+-- the damage of bytes is a test that they fail, and no want of memory
+abbrev pub DamagesAreTests : Type 0
+DamagesAreTests = (bits : ℕ) (bytes : Bytes) → document_damage bits bytes ≢ Some Memory
+
+-- a valid pool is the pool of its own rows from its roots
+abbrev pub ValidIsOfItself : Type 0
+ValidIsOfItself = (P : Pool) → IsValid P → IsOfItself P

@@ -13,3 +13,4 @@ pub mod Readings
 pub mod Laws
 pub mod Documents
 pub mod Worked
+pub mod Sums

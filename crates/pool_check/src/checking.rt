@@ -1,5 +1,5 @@
 //! Pools that were checked.
-ghost use Rattle.std.specs.Prelude.{◌≡◌, ◌≢◌, ◌≤◌, length, true, None, Some, Ok, IfOk, IfErr};
+ghost use Rattle.std.specs.Prelude.{◌≡◌, ◌≢◌, ◌≤◌, length, true, None, Some, IfOk, IfErr};
 ghost use Rattle.std.specs.List.{list_all};
 ghost use Rattle.pool_text.specs.Rows.{is_in_range};
 ghost use Rattle.pool_check.specs.Damages.{IsValid, damage};
@@ -9,7 +9,7 @@ use crate::order::rows_in_order;
 use crate::rows::{links_lead_back, texts_are_lines};
 use crate::tries::tries_stand;
 use crate::vectors::vectors_stand;
-use elem_core::{CODE_BITS, NoMemory, Stored};
+use elem_core::{CODE_BITS, Stored};
 use pool_text::{Damage, Pool};
 use std::alloc::Global;
 use std::marker::{Model, PhantomData};
@@ -45,7 +45,10 @@ impl<T: Stored> Checked<T> {
 
     /// The pool, given back. It takes no memory.
     pub fn into_pool(self) -> Pool
-        ensures { result ≡ self }
+        ensures same { result ≡ self }
+        ensures valid { IsValid result }
+        ensures roots { length result.roots ≡ 4 }
+        ensures bits { result.bits ≤ CODE_BITS }
     {
         self.pool
     }
@@ -60,6 +63,7 @@ pub fn check<T: Stored>(alloc: Global, pool: Pool) -> Result<Checked<T>, Damage>
     requires rows { list_all is_in_range pool.rows ≡ true }
     ensures same { IfOk result (λ checked. checked ≡ pool) }
     ensures whole { IfOk result (λ _. damage pool ≡ None) }
+    ensures valid { IfOk result (λ _. IsValid pool) }
     ensures damage { IfErr result (λ d. d ≢ Damage.Memory → damage pool ≡ Some d) }
 {
     if !links_lead_back(&pool) {
@@ -68,28 +72,20 @@ pub fn check<T: Stored>(alloc: Global, pool: Pool) -> Result<Checked<T>, Damage>
     if !texts_are_lines(&pool) {
         return Err(Damage::Text);
     }
-    if !answer(vectors_stand(alloc, &pool))? {
+    if !vectors_stand(alloc, &pool)? {
         return Err(Damage::Vector);
     }
-    if !answer(tries_stand(alloc, &pool))? {
+    if !tries_stand(alloc, &pool)? {
         return Err(Damage::Trie);
     }
-    if !answer(roots_are_of_kind(alloc, &pool))? {
+    if !roots_are_of_kind(alloc, &pool)? {
         return Err(Damage::Kind);
     }
-    if !answer(rows_in_order(alloc, &pool))? {
+    if !rows_in_order(alloc, &pool)? {
         return Err(Damage::Order);
     }
     Ok(Checked {
         pool,
         of: PhantomData,
     })
-}
-
-// The answer of a test, and `Memory` where it has none.
-fn answer(test: Result<bool, NoMemory>) -> Result<bool, Damage>
-    ensures same { IfOk result (λ passed. test ≡ Ok passed) }
-    ensures memory { IfErr result (λ d. d ≡ Damage.Memory) }
-{
-    test.map_err(|_| Damage::Memory)
 }

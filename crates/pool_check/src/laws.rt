@@ -1,5 +1,5 @@
 //! Laws of valid pools, as the clauses of functions that do nothing.
-ghost use Rattle.pool_check.specs.Laws.{VectorRootsAreGood, TrieRootsAreCanonical, UndamagedIsValid, WholeDocumentsStand};
+ghost use Rattle.pool_check.specs.Laws.{VectorRootsAreGood, TrieRootsAreCanonical, UndamagedIsValid, WholeDocumentsStand, ValidDocumentsAreWhole, DamagesAreTests, ValidIsOfItself};
 ghost use Rattle.pool_check.specs.Passing.{PoolsPassAsMade};
 ghost use Rattle.pool_check.specs.Readings.{VectorsReadAlike, TriesReadAlike};
 ghost use Rattle.pool_check.specs.Worked.{WholePools, DamagedPools, WorkedDocuments};
@@ -22,6 +22,16 @@ pub fn undamaged_is_valid()
 /// Bytes without damage stand for a valid pool of four roots, by as many bits as were asked for.
 pub fn whole_documents_stand()
     ensures { WholeDocumentsStand }
+{}
+
+/// Bytes that read as the document of a valid pool of four roots are whole.
+pub fn valid_documents_are_whole()
+    ensures { ValidDocumentsAreWhole }
+{}
+
+/// The damage of bytes is a test that they fail, and no want of memory.
+pub fn damages_are_tests()
+    ensures { DamagesAreTests }
 {}
 
 /// Pools that pass every test.
@@ -52,4 +62,9 @@ pub fn tries_read_alike<K, X>()
 /// A pool of rooted rows leads back and stands in order by how it is made.
 pub fn pools_pass_as_made()
     ensures { PoolsPassAsMade }
+{}
+
+/// A valid pool is the pool of its own rows from its roots.
+pub fn valid_is_of_itself()
+    ensures { ValidIsOfItself }
 {}

@@ -2,6 +2,9 @@ pub mod Places
 pub mod Joined
 pub mod Sums
 pub mod Steps
-pub mod OrderRenamed
 pub mod Loaded
 pub mod Released
+pub mod VectorTexts
+pub mod TrieTexts
+pub mod EntryKinds
+pub mod LoadedRoots

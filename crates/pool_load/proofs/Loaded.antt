@@ -1,9 +1,7 @@
 -- Rows that were made stand for their pool.
-use Rattle.std.proofs.Common.{◌≡◌, ℕ, suc, ◌+◌, ◌-◌, ◌<◌, ◌≤◌, true, eqb, Option, Some, None, IsSome, option_map, slice_get, List, [], ◌∷◌, map, length, take, get_or, refl, ap, sym, subst, ◌∙◌, arith}
-use Rattle.std.specs.Prelude.{slice_index, nat_lt, nat_eq}
+use Rattle.std.proofs.Common.{◌≡◌, ℕ, ◌+◌, ◌-◌, ◌<◌, ◌≤◌, true, eqb, Option, Some, None, IsSome, option_map, List, [], ◌∷◌, map, length, take, get_or, refl, ap, sym, subst, ◌∙◌, arith}
+use Rattle.std.specs.Prelude.{slice_index, nat_lt}
 use Rattle.std.specs.List.{list_all, flat_map, range_with_len}
-use Rattle.std.specs.Str.{bytes_eq}
-use Rattle.std.proofs.lemmas.Bool.{eqb-true}
 use Rattle.std.proofs.lemmas.Bool.Decides.{nat_tests}
 use Rattle.std.proofs.lemmas.List.{take_all, ext_get_or}
 use Rattle.std.proofs.lemmas.List.FromFn.{length-range_with_len, get_or-range_with_len, length-map-range_with_len, get_or-map-range_with_len}
@@ -12,7 +10,6 @@ use Rattle.node_heap.specs.Links.{Links, count, Reaches, here, below, IsReached}
 use Rattle.node_heap.specs.Forms.{Form, Forms, Row, cell, node, leaf, inner, trie, chain, pair, state, form_of, links_of, links_in, is_cell, is_node}
 use Rattle.node_heap.specs.Heap.{Heap, row_at, links_at, holds_at, live_count, IsGraph}
 use Rattle.node_heap.specs.Calls.{SameRows, Unchanged, Builds}
-use Rattle.node_heap.proofs.Counts.{test_same, count-cons}
 use Rattle.node_heap.proofs.Frames.{Extends-trans, Extends-rows, Extends-Unchanged}
 use Rattle.node_heap.proofs.Reach.{Reaches-same}
 use Rattle.node_heap.proofs.Trees.{SameBelow-links}
@@ -21,24 +18,24 @@ use Rattle.rrb_core.specs.Vector.{HasSums, height_at}
 use Rattle.rrb_core.proofs.LinkCounts.{count-at}
 use Rattle.rrb_core.proofs.Stays.{live-stays-by, sums-stay}
 use Rattle.pool_order.specs.Order.{places, order}
-use Rattle.pool_order.proofs.Places.{flat_map-found, places-reached, order-is, order-deep}
+use Rattle.pool_order.proofs.Places.{flat_map-found, places-reached, order-deep}
 use Rattle.pool_text.specs.Rows.{Bytes}
-use Rattle.pool_text.specs.Pool.{forms_in, row_count, order_in, place_in, relink, pool, text_form, text_forms, pool_at}
+use Rattle.pool_text.specs.Pool.{forms_in, row_count, place_in, relink, text_form, text_forms, pool_at}
 use Rattle.pool_text.specs.declared.pool.Pool.{Pool}
-use Rattle.pool_text.proofs.Gathered.{made}
 use Rattle.pool_text.proofs.Held.{rooted-heap}
 use Rattle.pool_text.proofs.Placed.{place-is}
-use Rattle.pool_text.proofs.PoolRows.{rows_of, length-rows, row-named}
 use Rattle.pool_text.proofs.Renamed.{map-found, count-map, links-relink}
 use Rattle.pool_check.specs.Rows.{rows_lead_back, rows_in_range, links_lead_back, texts_are_lines}
 use Rattle.pool_check.specs.Vectors.{has_height, vectors_stand}
-use Rattle.pool_check.specs.Damages.{rows_in_order, IsValid}
-use Rattle.pool_check.proofs.TestLemmas.{and-first, and-second, not-both, leads-down, roots-low}
-use Rattle.pool_load.specs.Loads.{cells_of, nodes_of, Loads, KeepSums}
+use Rattle.pool_check.specs.Damages.{IsValid}
+use Rattle.pool_check.specs.Sums.{HaveSums}
+use Rattle.pool_check.proofs.TestLemmas.{and-first, leads-down, roots-low}
+use Rattle.pool_load.specs.Loads.{cells_of, nodes_of, Loads}
 use Rattle.pool_load.specs.Rows.{AreSound}
 use Rattle.pool_load.specs.Making.{AreBelow, AreMade, GivesUp, AreReachedWithout}
-use Rattle.pool_load.proofs.Places.{below-all, place-at, one-place}
-use Rattle.pool_load.proofs.OrderRenamed.{order-renamed}
+use Rattle.pool_check.proofs.OwnRows.{in-order, reached-low, own-order, one-place, pool-of-rows}
+use Rattle.pool_load.proofs.Places.{below-all}
+use Rattle.pool_text.proofs.Ordered.{order-renamed}
 use Rattle.pool_load.proofs.Steps.{links-made}
 
 -- ## Valid pools
@@ -53,17 +50,6 @@ sound-rows P v = record {
   filled = v.vectors;
 }
 
-same-bytes : (xs ys : List ℕ) → bytes_eq xs ys ≡ true → xs ≡ ys
-same-bytes [] [] h = refl
-same-bytes [] (y ∷ ys) h = absurd (not-both h)
-same-bytes (x ∷ xs) [] h = absurd (not-both h)
-same-bytes (x ∷ xs) (y ∷ ys) h =
-    ap (λ z. z ∷ xs) (eqb-true x y (and-first (nat_eq x y) (bytes_eq xs ys) h)) ∙ ap (λ zs. y ∷ zs) (same-bytes xs ys (and-second (nat_eq x y) (bytes_eq xs ys) h))
-
-in-order : (P : Pool) → IsValid P → order_in P ≡ range_with_len 0 (row_count P)
-unfolding rows_in_order
-in-order P v = same-bytes (order_in P) (range_with_len 0 (row_count P)) v.in_order
-
 in-range : (n p : ℕ) → p < n → 0 < count p (range_with_len 0 n)
 in-range n p low =
     let ps : List ℕ = range_with_len 0 n in
@@ -77,13 +63,7 @@ module _ (P : Pool) (v : IsValid P) where
 
   -- each row is reached from a root
   place-reached : (p : ℕ) → p < row_count P → (r : ℕ) × (0 < count r P.roots) × Reaches below_rows r p
-  place-reached p low =
-      let is = order-is (λ l. l) below_rows (leads-down P v.lead_back) (row_count P) P.roots (roots-low P v.lead_back) in
-      is.reached p (omega (arith, in-range (row_count P) p low, ap (count p) (in-order P v)))
-
-  reached-low : (r p : ℕ) → Reaches below_rows r p → r < row_count P → p < row_count P
-  reached-low a b (here l) low = low
-  reached-low a b (below l k m has down) low = reached-low k m down (omega (arith, low, leads-down P v.lead_back l k has))
+  place-reached p low = (own-order P v).reached p (omega (arith, in-range (row_count P) p low, ap (count p) (in-order P v)))
 
 -- the roots are places of rows
 pub roots-below : (P : Pool) → IsValid P → (n : ℕ) (ks : List ℕ) → n ≡ row_count P → ks ≡ P.roots → AreBelow n ks
@@ -133,26 +113,6 @@ relink-height f (Some (node kind links)) = refl
 own-height : (n : ℕ) → eqb n n ≡ true
 own-height n = grind (arith, nat_tests)
 
-map-back : (f g : ℕ → ℕ) (ks : List ℕ) → ((k : ℕ) → 0 < count k ks → g (f k) ≡ k) → map g (map f ks) ≡ ks
-map-back f g [] each = refl
-map-back f g (k ∷ ks) each =
-    ap (λ y. y ∷ map g (map f ks)) (each k (omega (arith, count-cons k k ks, test_same k k refl)))
-    ∙ ap (λ ys. k ∷ ys) (map-back f g ks (λ j some. each j (omega (arith, count-cons j k ks, some))))
-
-relink-back : {K : Type 0} (f g : ℕ → ℕ) (r : Option (Form K)) → ((k : ℕ) → 0 < count k (links_of r) → g (f k) ≡ k) → option_map (relink g) (option_map (relink f) r) ≡ r
-relink-back f g None each = refl
-relink-back f g (Some (cell x)) each = refl
-relink-back f g (Some (node kind links)) each = ap (λ ks. Some (node kind ks)) (map-back f g links each)
-
-same-items : {X : Type 0} (xs ys : List X) → length xs ≡ length ys → ((i : ℕ) → i < length xs → slice_get xs i ≡ slice_get ys i) → xs ≡ ys
-same-items [] [] many each = refl
-same-items [] (y ∷ ys) many each = absurd (omega (arith, many))
-same-items (x ∷ xs) [] many each = absurd (omega (arith, many))
-same-items (x ∷ xs) (y ∷ ys) many each =
-    let e : Some x ≡ Some y = each 0 (omega arith) in
-    let first : x ≡ y = cc in
-    ap (λ z. z ∷ xs) first ∙ ap (λ zs. y ∷ zs) (same-items xs ys (omega (arith, many)) (λ i low. each (suc i) (omega (arith, low))))
-
 some-map : {X Y : Type 0} (f : X → Y) (r : Option X) → IsSome r → IsSome (option_map f r)
 some-map f None live = absurd cc
 some-map f (Some x) live = refl
@@ -183,6 +143,13 @@ module _ {T : Type 0} (text : T → Bytes) (h : Heap T) (P : Pool) (v : IsValid 
       let found = map-found (slice_index links) (links_in (forms_in P) q) b (omega (arith, has, ap (count b) links_are)) in
       ways-back b c rest found.0 (omega (arith, low, links-down q found.0 found.1)) found.2
 
+  -- each row below the roots is one of those rows
+  pub below-roots : (r l : ℕ) → 0 < count r root_links → Reaches (links_at h) r l → 0 < count l links
+  below-roots r l root down =
+      let found = map-found (slice_index links) P.roots r root in
+      let at = ways-back r l down found.0 (roots-low P v.lead_back found.0 found.1) found.2 in
+      subst (λ k. 0 < count k links) at.2 (count-at links at.0 0 (omega (arith, at.1, is.many)))
+
   sums-at : (p : ℕ) → p < row_count P → HasSums h (height_at h (slice_index links p)) (slice_index links p)
   unfolding HasSums
   sums-at p low =
@@ -201,7 +168,7 @@ module _ {T : Type 0} (text : T → Bytes) (h : Heap T) (P : Pool) (v : IsValid 
       by_form (Some (node pair _)) each = tt
       by_form (Some (node state _)) each = tt
 
-  pub sums-loaded : KeepSums h root_links
+  pub sums-loaded : HaveSums h root_links
   sums-loaded r l root down =
       let found = map-found (slice_index links) P.roots r root in
       let at = ways-back r l down found.0 (roots-low P v.lead_back found.0 found.1) found.2 in
@@ -242,24 +209,12 @@ module _ {T : Type 0} (text : T → Bytes) (h : Heap T) (P : Pool) (v : IsValid 
           let size : length js ≡ n = length-map-range_with_len (slice_index ks) 0 n in
           ext_get_or 0 js ks (size ∙ sym many) (λ i low. get_or-map-range_with_len (slice_index ks) 0 n i i 0 (omega (arith, low, size)) (omega arith))
 
-  same-rows : rows_of G (place_in links) links ≡ P.rows
-  same-rows =
-      let there : (k : ℕ) → 0 < count k links → IsSome (G k) = λ k has. some-map (text_form text) (row_at h k) (is.live k has) in
-      let many : length (rows_of G (place_in links) links) ≡ length links = length-rows G (place_in links) links there in
-      same-items (rows_of G (place_in links) links) P.rows (many ∙ is.many)
-      (λ i low.
-      let inside : i < length links = omega (arith, low, many) in
-      row-named G (place_in links) links there i inside ∙ ap (option_map (relink (place_in links))) (is.forms i inside)
-      ∙ relink-back (slice_index links) (place_in links) (forms_in P i) (λ k has. place-at links is.once k (omega (arith, inside, links-down i k has))))
-
   -- the pool of the loaded rows is the pool itself
   pub pool-loaded : pool_at text h root_links P.bits ≡ P
-  unfolding pool
   pool-loaded =
-      let roots_back : map (place_in links) root_links ≡ P.roots =
-      map-back (slice_index links) (place_in links) P.roots (λ k has. place-at links is.once k (omega (arith, roots-low P v.lead_back k has, is.many))) in
-      ap (λ (ks : List ℕ). made P.bits (rows_of G (place_in ks) ks) (map (place_in ks) root_links)) listed
-      ∙ ap (λ (rows : List (Form Bytes)). made P.bits rows (map (place_in links) root_links)) same-rows ∙ ap (made P.bits P.rows) roots_back
+      pool-of-rows G links P
+      (record { many = is.many; forms = is.forms; once = is.once; there = λ k has. some-map (text_form text) (row_at h k) (is.live k has) }) v.lead_back
+      (length h.rows) listed
 
 -- ## The holds that are given up
 
@@ -301,8 +256,8 @@ kinds-add-up (node kind links ∷ rows) =
     omega (arith, sum_by-cons (λ row. is_cell (Some row)) (node kind links) rows, sum_by-cons (λ row. is_node (Some row)) (node kind links) rows, kinds-add-up rows)
 
 pub all-loaded : {T : Type 0} {text : T → Bytes} {first old mid top new : Heap T} {roots : List ℕ} (P : Pool) (links : List ℕ) → Unchanged first old → AreMade text old mid P.rows links → length links ≡ row_count P → Builds mid top [] roots 0 0 → GivesUp top new links
-    → Loads first new roots P
-all-loaded {first = first} {top = top} {new = new} P links room rows many held up =
+    → ((r l : ℕ) → 0 < count r roots → Reaches (links_at new) r l → 0 < count l links) → Loads first new roots P
+all-loaded {first = first} {top = top} {new = new} P links room rows many held up among =
     let cells : cells_of (take (length links) P.rows) ≡ cells_of P.rows = ap (λ (rs : List (Form Bytes)). cells_of rs) (take_all (length links) P.rows (omega (arith, many))) in
     let nodes : nodes_of (take (length links) P.rows) ≡ nodes_of P.rows = ap (λ (rs : List (Form Bytes)). nodes_of rs) (take_all (length links) P.rows (omega (arith, many))) in
     let all : cells_of P.rows + nodes_of P.rows ≡ row_count P = kinds-add-up P.rows in
@@ -310,6 +265,7 @@ all-loaded {first = first} {top = top} {new = new} P links room rows many held u
     record {
       extends = Extends-trans (Extends-Unchanged room) (Extends-trans rows.extends (Extends-trans held.extends (Extends-rows top new up.rows)));
       graph = up.graph;
+      fresh = λ r l root down. sym (room.rows l) ∙ rows.fresh l (among r l root down);
       holds = λ k. omega (arith, room.holds k, rows.holds k, held.holds k, up.holds k);
       count = omega (arith, room.count, rows.count, held.total, up.count);
       cells = omega (arith, room.cells, rows.makes.cells, cells, held.makes.cells, held.few_cells, up.cells);

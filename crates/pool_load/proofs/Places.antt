@@ -1,15 +1,13 @@
 -- Places that passed a test, and the links that stand at them.
-use Rattle.std.proofs.Common.{◌≡◌, ℕ, zero, suc, ◌+◌, ◌<◌, ◌≤◌, true, ◌&&◌, List, [], ◌∷◌, ◌++◌, map, length, take, get_or, refl, ap, sym, ◌∙◌, arith, inl, inr}
+use Rattle.std.proofs.Common.{◌≡◌, ℕ, ◌+◌, ◌<◌, ◌≤◌, true, ◌&&◌, List, [], ◌∷◌, ◌++◌, map, length, take, get_or, refl, ap, sym, ◌∙◌, arith}
 use Rattle.std.specs.Prelude.{slice_index, nat_lt}
 use Rattle.std.specs.List.{list_all}
-use Rattle.std.proofs.lemmas.Bool.{cases_eq, ltb-true}
+use Rattle.std.proofs.lemmas.Bool.{ltb-true}
 use Rattle.std.proofs.lemmas.Bool.Decides.{nat_tests}
 use Rattle.std.proofs.lemmas.List.{map_more, get_or_default}
 use Rattle.node_heap.specs.Links.{count}
 use Rattle.node_heap.proofs.Counts.{test_same, count-cons}
 use Rattle.rrb_core.proofs.LinkCounts.{count-at, count-split}
-use Rattle.pool_text.specs.Pool.{place_in}
-use Rattle.pool_text.proofs.Placed.{place-first, place-later}
 use Rattle.pool_check.proofs.TestLemmas.{all-counted}
 use Rattle.pool_load.specs.Making.{AreBelow}
 
@@ -30,22 +28,6 @@ below-front n ks i h = below-all n (take i ks) (λ k some. place-below n ks h k 
 
 pub below-wider : (n m : ℕ) (ks : List ℕ) → n ≤ m → AreBelow n ks → AreBelow m ks
 below-wider n m ks wide h = below-all m ks (λ k some. omega (arith, wide, place-below n ks h k some))
-
--- where no link stands twice, the link at a place has that place
-pub place-at : (ks : List ℕ) → ((k : ℕ) → count k ks ≤ 1) → (i : ℕ) → i < length ks → place_in ks (get_or ks i 0) ≡ i
-place-at [] once i low = absurd (omega arith)
-place-at (k ∷ ks) once zero low = place-first k k ks refl
-place-at (k ∷ ks) once (suc i) low =
-    let l : ℕ = get_or ks i 0 in
-    let at : 0 < count l ks = count-at ks i 0 (omega arith) in
-    elim (cases_eq l k) as (λ _. place_in (k ∷ ks) l ≡ suc i) [
-      | inl same ↦ absurd (omega (arith, at, once l, count-cons l k ks, test_same k l (sym same)))
-      | inr other ↦ omega (arith, place-later l k ks other, place-at ks (λ j. omega (arith, once j, count-cons j k ks)) i (omega arith))
-    ]
-
--- no two places have one link
-pub one-place : (ks : List ℕ) → ((k : ℕ) → count k ks ≤ 1) → (i j : ℕ) → i < length ks → j < length ks → get_or ks i 0 ≡ get_or ks j 0 → i ≡ j
-one-place ks once i j low low' same = sym (place-at ks once i low) ∙ ap (place_in ks) same ∙ place-at ks once j low'
 
 -- the links at one place more
 pub links-more : (links places : List ℕ) (i link : ℕ) → AreBelow (length links) places → i < length places → link ≡ get_or links (get_or places i 0) link → map (slice_index links) (take (i + 1) places) ≡ map (slice_index links) (take i places) ++ link ∷ []

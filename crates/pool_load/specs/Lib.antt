@@ -1,3 +1,4 @@
 pub mod Loads
 pub mod Rows
 pub mod Making
+pub mod Laws

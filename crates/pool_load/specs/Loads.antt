@@ -1,10 +1,9 @@
 -- What a load does to a heap.
-use Rattle.std.specs.Prelude.{◌≡◌, ℕ, ◌+◌, ◌-◌, ◌^◌, ◌<◌, List, length, Some, min, sum_by}
+use Rattle.std.specs.Prelude.{◌≡◌, ℕ, ◌+◌, ◌-◌, ◌^◌, ◌<◌, List, length, Some, None, min, sum_by}
 use Rattle.node_heap.specs.Links.{count, Reaches}
 use Rattle.node_heap.specs.Forms.{Form, is_cell, is_node}
-use Rattle.node_heap.specs.Heap.{Heap, links_at, holds_at, hold_count, live_count, cell_count, node_count, IsGraph}
+use Rattle.node_heap.specs.Heap.{Heap, row_at, links_at, holds_at, hold_count, live_count, cell_count, node_count, IsGraph}
 use Rattle.node_heap.specs.Calls.{Extends, Balances}
-use Rattle.rrb_core.specs.Vector.{height_at, HasSums}
 use Rattle.pool_text.specs.Pool.{row_count}
 use Rattle.pool_text.specs.declared.pool.Pool.{Pool}
 
@@ -16,10 +15,12 @@ abbrev pub nodes_of : {K : Type 0} → List (Form K) → ℕ
 nodes_of rows = sum_by (λ row. is_node (Some row)) rows
 
 module _ {T : Type 0} where
-  -- every old row stays, just as many rows came as the pool has, and each root is held once more for each of its places
+  -- every old row stays, just as many rows came as the pool has, each row below the roots is a new one, and each root is held
+  -- once more for each of its places
   pub record Loads (old new : Heap T) (roots : List ℕ) (P : Pool) : Type 0 where
     pub extends : Extends old new
     pub graph : IsGraph new
+    pub fresh : (r l : ℕ) → 0 < count r roots → Reaches (links_at new) r l → row_at old l ≡ None
     pub holds : (k : ℕ) → holds_at new k ≡ holds_at old k + count k roots
     pub count : hold_count new ≡ hold_count old + length roots
     pub cells : cell_count new ≡ cell_count old + cells_of P.rows
@@ -27,7 +28,3 @@ module _ {T : Type 0} where
     pub live : live_count new ≡ live_count old + row_count P
     pub made : new.made ≡ min (old.made + row_count P) (2 ^ 64 - 1)
     pub balance : Balances old new
-
-  -- every inner row that these roots reach keeps the sums that a row of a vector keeps
-  abbrev pub KeepSums : Heap T → List ℕ → Type 0
-  KeepSums h roots = (r l : ℕ) → 0 < count r roots → Reaches (links_at h) r l → HasSums h (height_at h l) l

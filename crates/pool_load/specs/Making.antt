@@ -8,6 +8,7 @@ use Rattle.node_heap.specs.Calls.{SameRows, Extends, Makes}
 use Rattle.rrb_core.specs.Vector.{row_sums, HasSums}
 use Rattle.pool_text.specs.Rows.{Bytes, is_in_range}
 use Rattle.pool_text.specs.Pool.{relink, text_form, text_forms}
+use Rattle.pool_text.specs.Renaming.{AreLive}
 use Rattle.pool_check.specs.Rows.{is_line_or_node}
 use Rattle.pool_check.specs.Vectors.{has_height}
 use Rattle.pool_load.specs.Loads.{cells_of, nodes_of}
@@ -18,10 +19,6 @@ abbrev pub AreBelow : ℕ → List ℕ → Type 0
 AreBelow bound places = list_all (λ p. nat_lt p bound) places ≡ true
 
 module _ {T : Type 0} where
-  -- each of these links names a row
-  abbrev pub AreLinks : Heap T → List ℕ → Type 0
-  AreLinks h links = (k : ℕ) → 0 < count k links → IsSome (row_at h k)
-
   -- the new heap has this row besides, held once, and every other hold stays
   pub record Joins (old new : Heap T) (link : ℕ) (row : Row T) : Type 0 where
     pub fresh : row_at old link ≡ None
@@ -39,7 +36,7 @@ module _ {T : Type 0} where
     pub line : is_line_or_node row ≡ true
     pub below : AreBelow (length links) (links_of (Some row))
     pub known : length links ≤ length lengths
-    pub live : AreLinks h links
+    pub live : AreLive T h links
     pub short : length_over lengths row < 2 ^ 32
     pub spares : HasSpares h (is_cell (Some row)) (is_node (Some row))
     pub few : hold_count h + 32 < 2 ^ 60

@@ -4,8 +4,12 @@
 //! that was there is looked at. All memory is taken before the first row is made.
 #![tactic(auto)]
 
+mod laws;
 mod lengths;
 mod loading;
 mod rows;
 
+pub use laws::{
+    loaded_rows_are_listed, loaded_tries_are_good, loaded_vectors_are_good, roots_are_loaded,
+};
 pub use loading::load;

@@ -6,7 +6,8 @@ ghost use Rattle.node_heap.specs.Heap.{holds_at, hold_count, IsGraph};
 ghost use Rattle.node_heap.specs.Calls.{Unchanged};
 ghost use Rattle.pool_text.specs.Rows.{row_form};
 ghost use Rattle.pool_text.specs.Pool.{pool_at};
-ghost use Rattle.pool_load.specs.Loads.{Loads, KeepSums, cells_of};
+ghost use Rattle.pool_check.specs.Sums.{HaveSums};
+ghost use Rattle.pool_load.specs.Loads.{Loads, cells_of};
 ghost use Rattle.pool_load.specs.Making.{AreBelow, AreReachedWithout, GivesUp};
 
 use crate::lengths::lengths_of;
@@ -29,7 +30,7 @@ pub fn load<T: Stored>(
     ensures loads { IfOk result (λ roots. Loads heap.old heap.new roots.items checked) }
     ensures pool { IfOk result (λ roots. pool_at T.bytes_of heap.new roots.items checked.bits ≡ checked) }
     ensures roots { IfOk result (λ roots. length roots.items ≡ 4) }
-    ensures sums { IfOk result (λ roots. KeepSums heap.new roots.items) }
+    ensures sums { IfOk result (λ roots. HaveSums heap.new roots.items) }
     ensures refused { OnErr result (Unchanged heap.old heap.new) }
 {
     // The call tells the proof that this is the graph of a heap.

@@ -5,9 +5,10 @@ ghost use Rattle.node_heap.specs.Forms.{node};
 ghost use Rattle.node_heap.specs.Heap.{hold_count, HasSpares, IsGraph};
 ghost use Rattle.node_heap.specs.Calls.{SameRows, Builds};
 ghost use Rattle.pool_text.specs.Rows.{row_form};
+ghost use Rattle.pool_text.specs.Renaming.{AreLive};
 ghost use Rattle.pool_load.specs.Loads.{cells_of, nodes_of};
 ghost use Rattle.pool_load.specs.Rows.{AreSound, HaveLengths};
-ghost use Rattle.pool_load.specs.Making.{AreBelow, AreLinks, Joins, CanMake, MakesRow, AreMade};
+ghost use Rattle.pool_load.specs.Making.{AreBelow, Joins, CanMake, MakesRow, AreMade};
 
 use crate::lengths::inner_sums;
 use arrayvec::ArrayVec;
@@ -75,7 +76,7 @@ fn make_row<T: Stored>(heap: &mut Heap<T>, links: &[Link], lengths: &[u32], row:
 
 // Makes the node with this head over the rows at these places, each of which keeps its holds. It is held once.
 fn make_node<T>(heap: &mut Heap<T>, links: &[Link], head: Head, places: &[u64]) -> Link
-    requires live { AreLinks heap.old links.now }
+    requires live { AreLive T heap.old links.now }
     requires places { AreBelow (length links.now) places.now }
     requires short { length places.now ≤ 32 }
     requires spare { 0 < heap.old.spare_nodes }
@@ -89,7 +90,7 @@ fn make_node<T>(heap: &mut Heap<T>, links: &[Link], head: Head, places: &[u64]) 
 
 // One hold more of the link at each of these places.
 pub fn hold_places<T>(heap: &mut Heap<T>, links: &[Link], places: &[u64])
-    requires live { AreLinks heap.old links.now }
+    requires live { AreLive T heap.old links.now }
     requires places { AreBelow (length links.now) places.now }
     requires few { hold_count heap.old + length places.now ≤ 2 ^ 60 }
     requires graph { IsGraph heap.old }

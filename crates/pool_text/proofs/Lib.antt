@@ -4,8 +4,9 @@ pub mod Renamed
 pub mod PoolRows
 pub mod Ordered
 pub mod Held
-mod ReadBack
+pub mod ReadBack
 mod DocumentRows
+pub mod DocumentBack
 mod TextLengths
 mod EachRead
 mod NumbersRead

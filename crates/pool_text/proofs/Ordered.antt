@@ -23,7 +23,7 @@ map-flat f g [] = refl
 map-flat f g (k ∷ ks) = map-append f (g k) (flat_map g ks) ∙ ap (λ ys. map f (g k) ++ ys) (map-flat f g ks)
 
 -- f takes no two of the links to one
-abbrev IsOneToOne : (ℕ → ℕ) → List ℕ → Type 0
+abbrev pub IsOneToOne : (ℕ → ℕ) → List ℕ → Type 0
 IsOneToOne f all = (a b : ℕ) → 0 < count a all → 0 < count b all → f a ≡ f b → a ≡ b
 
 abbrev IsWithin : List ℕ → List ℕ → Type 0
@@ -50,7 +50,7 @@ with_all-map f all one ks (x ∷ xs) ins ins' =
     (λ j some. ins' j (omega (arith, some, count-cons j x xs)))
 
 -- M has the links of each row that l reaches, under their new names
-abbrev AreLinked : (ℕ → ℕ) → Links → Links → ℕ → Type 0
+abbrev pub AreLinked : (ℕ → ℕ) → Links → Links → ℕ → Type 0
 AreLinked f L M l = (m : ℕ) → Reaches L l m → M (f m) ≡ map f (L m)
 
 places-renamed : (f : ℕ → ℕ) (L M : Links) (n l : ℕ) → AreLinked f L M l → places n M (f l) ≡ map f (places n L l)
@@ -65,7 +65,7 @@ places-renamed f L M (suc n) l linked =
     ∙ sym (map-append f (flat_map (places n L) (L l)) (l ∷ []))
 
 -- the order of the new links of the roots
-order-renamed : (f : ℕ → ℕ) (L M : Links) (n : ℕ) (roots : List ℕ) → ((r : ℕ) → 0 < count r roots → AreLinked f L M r) → IsOneToOne f (flat_map (places n L) roots) → order n M (map f roots) ≡ map f (order n L roots)
+pub order-renamed : (f : ℕ → ℕ) (L M : Links) (n : ℕ) (roots : List ℕ) → ((r : ℕ) → 0 < count r roots → AreLinked f L M r) → IsOneToOne f (flat_map (places n L) roots) → order n M (map f roots) ≡ map f (order n L roots)
 unfolding order
 order-renamed f L M n roots linked one =
     ap firsts

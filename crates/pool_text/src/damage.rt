@@ -2,6 +2,7 @@
 ghost use Rattle.std.specs.Prelude.{◌≡◌};
 ghost use Rattle.pool_text.specs.declared.damage.Damage.TheVariants.{Memory};
 
+use elem_core::NoMemory;
 use std::alloc::{AllocError, AllocFailed};
 
 /// The tests of a document, in the order in which they are made: a damage is the first that fails. `Memory` is no test.
@@ -31,6 +32,14 @@ pub enum Damage {
     Order,
     /// Memory ran out.
     Memory,
+}
+
+impl From<NoMemory> for Damage {
+    ghost from_gives = { λ _ damage. damage ≡ Memory };
+
+    fn from(_error: NoMemory) -> Damage {
+        Damage::Memory
+    }
 }
 
 impl From<AllocError> for Damage {

@@ -1,11 +1,21 @@
 //! Laws of documents, as the clauses of functions that do nothing.
-ghost use Rattle.pool_text.specs.Laws.{ReadsBack};
+ghost use Rattle.pool_text.specs.Laws.{ReadsBack, DocumentsAreExact, CompactDocumentsAreTexts};
 ghost use Rattle.pool_text.specs.Renaming.{RenamedReadsAlike, RenamingTurnsBack, PoolsAreRenamed, HeapsAreRooted, NothingLeaks, PoolsStay, TextsAreForms};
 ghost use Rattle.pool_text.specs.Worked.{WorkedDocuments};
 
 /// The document of a pool in range stands for that pool.
 pub fn reads_back()
     ensures { ReadsBack }
+{}
+
+/// A value without damage is the document of the pool that it stands for.
+pub fn documents_are_exact()
+    ensures { DocumentsAreExact }
+{}
+
+/// A compact document without damage is the text of the pool that it stands for.
+pub fn compact_documents_are_texts()
+    ensures { CompactDocumentsAreTexts }
 {}
 
 /// The pools, documents and texts of small spaces.

@@ -1,9 +1,9 @@
 //! The document of a pool, as a JSON value and as its compact text.
-ghost use Rattle.std.specs.Prelude.{◌≡◌, ◌∷◌, [], ◌++◌, map, codes, IfOk};
+ghost use Rattle.std.specs.Prelude.{◌≡◌, ◌∷◌, [], ◌++◌, map, codes, Some, IfOk};
 ghost use Rattle.serde_json.specs.Data.{string, object, member, no_members};
 ghost use Rattle.serde_json.specs.View.{view};
 ghost use Rattle.pool_text.specs.Rows.{row_form};
-ghost use Rattle.pool_text.specs.Document.{list, natural, naturals, row_value as value_of_row, document, text as text_of_pool};
+ghost use Rattle.pool_text.specs.Document.{list, natural, naturals, row_value as value_of_row, document, text as text_of_pool, value_in};
 
 use crate::pool::Pool;
 use crate::row::Row;
@@ -20,9 +20,10 @@ pub fn to_json(alloc: Global, pool: &Pool) -> Result<Value, NoMemory>
     Ok(document_value(alloc, pool.bits, roots, rows)?)
 }
 
-/// The compact text of that document.
+/// The compact text of that document, which reads as the document.
 pub fn to_bytes(alloc: Global, pool: &Pool) -> Result<Vec<u8>, NoMemory>
     ensures value { IfOk result (λ b. b.items ≡ text_of_pool pool.now) }
+    ensures reads { IfOk result (λ b. value_in b.items ≡ Some (document pool.now)) }
 {
     Ok(to_json(alloc, pool)?.to_vec(alloc)?)
 }

@@ -10,7 +10,8 @@ use Rattle.pool_text.specs.Pool.{pool_at}
 use Rattle.pool_text.specs.declared.pool.Pool.{Pool}
 use Rattle.pool_text.proofs.Held.{pools-stay}
 use Rattle.pool_check.specs.Damages.{IsValid}
-use Rattle.pool_load.specs.Loads.{Loads, KeepSums}
+use Rattle.pool_check.specs.Sums.{HaveSums}
+use Rattle.pool_load.specs.Loads.{Loads}
 use Rattle.shell_terms.specs.Edit.{Bytes}
 use Rattle.plain_space.specs.declared.refusal.Refusal.{Refusal}
 use Rattle.plain_space.specs.declared.refusal.Refusal.TheVariants.{Batch as InBatch, Memory}
@@ -64,7 +65,7 @@ pool-released {s} {b} {W} {new} {l} K rel graph =
     (λ r root. (KeepsHeld-Releases s.heap new l rel graph).kept r (omega (arith, keeps-holds K r, count-cons r l b, root)))
 
 module _ (s : RootedHeap) (W : Workspace) (K : Keeps s [] W) (h : Heap Bytes) (P : Pool) (roots : Roots) (links : List ℕ) (loads : Loads s.heap h links P) (same : links ≡ root_list roots) (bits : P.bits ≡ s.bits)
-    (pool : pool_at (λ text. text) h links P.bits ≡ P) (sums : KeepSums h links) (valid : IsValid P) where
+    (pool : pool_at (λ text. text) h links P.bits ≡ P) (sums : HaveSums h links) (valid : IsValid P) where
   abbrev pub loaded : RootedHeap
   loaded = record s { heap = h; roots = roots }
 

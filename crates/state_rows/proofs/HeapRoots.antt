@@ -17,11 +17,11 @@ use Rattle.pool_text.proofs.Held.{rooted-forms, texts-are-forms}
 use Rattle.pool_text.proofs.Renamed.{map-found, count-map, renamed-below, renamed-links, renamed-link}
 use Rattle.pool_text.proofs.Ordered.{pool-roots}
 use Rattle.pool_text.proofs.PoolRows.{pool-back, place-back}
+use Rattle.pool_check.specs.Sums.{HaveSums}
 use Rattle.pool_check.proofs.VectorReadings.{vector-reads-alike}
 use Rattle.shell_terms.specs.Edit.{Bytes}
 use Rattle.plain_space.specs.Workspace.{Workspace}
 use Rattle.state_rows.specs.Standing.{StandFor, StandsFor, HeapStandsFor}
-use Rattle.state_rows.specs.Laws.{KeepSumsBelow}
 use Rattle.state_rows.proofs.HeapPools.{pool-bits}
 use Rattle.state_rows.proofs.Renamed.{GoesOver, roots-over}
 
@@ -39,7 +39,7 @@ turned-back f g (k ∷ ks) back =
     ap (λ y. y ∷ map g (map f ks)) (back k (omega (arith, count-cons k k ks, test_same k k refl)))
     ∙ ap (λ ys. k ∷ ys) (turned-back f g ks (λ j some. back j (omega (arith, count-cons j k ks, some))))
 
-module _ (h : Heap Bytes) (bits : ℕ) (roots : List ℕ) (W : Workspace) (graph : IsGraph h) (live : (r : ℕ) → 0 < count r roots → IsSome (row_at h r)) (sums : KeepSumsBelow h roots)
+module _ (h : Heap Bytes) (bits : ℕ) (roots : List ℕ) (W : Workspace) (graph : IsGraph h) (live : (r : ℕ) → 0 < count r roots → IsSome (row_at h r)) (sums : HaveSums h roots)
     (stands : StandsFor (pool_at (λ text. text) h roots bits) W) where
   abbrev made : Pool
   made = pool (length h.rows) (form_at h) roots bits

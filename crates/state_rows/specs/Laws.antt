@@ -1,13 +1,12 @@
 -- Laws of roots that stand for a workspace.
-use Rattle.std.specs.Prelude.{◌≡◌, ℕ, ◌<◌, ◌≤◌, List}
+use Rattle.std.specs.Prelude.{◌≡◌, ℕ, ◌≤◌, List}
 use Rattle.elem_core.specs.declared.codes.TheConstants.{CODE_BITS}
-use Rattle.node_heap.specs.Links.{count, Reaches}
-use Rattle.node_heap.specs.Heap.{Heap, links_at, IsGraph}
-use Rattle.rrb_core.specs.Vector.{height_at, HasSums}
+use Rattle.node_heap.specs.Heap.{Heap, IsGraph}
 use Rattle.pool_text.specs.Pool.{pool_at}
 use Rattle.pool_text.specs.Renaming.{AreLive}
 use Rattle.pool_text.specs.declared.pool.Pool.{Pool}
 use Rattle.pool_check.specs.Damages.{IsValid}
+use Rattle.pool_check.specs.Sums.{HaveSums}
 use Rattle.shell_terms.specs.Edit.{Bytes}
 use Rattle.plain_space.specs.Workspace.{Workspace}
 use Rattle.state_rows.specs.Standing.{StandsFor, HeapStandsFor}
@@ -18,14 +17,10 @@ PoolsStand =
     (h : Heap Bytes) (bits : ℕ) (roots : List ℕ) (W : Workspace) → IsGraph h → bits ≤ CODE_BITS → HeapStandsFor h bits roots W
     → IsValid (pool_at (λ text. text) h roots bits) × StandsFor (pool_at (λ text. text) h roots bits) W
 
--- every inner row that these roots reach keeps the sums that a row of a vector keeps
-abbrev pub KeepSumsBelow : Heap Bytes → List ℕ → Type 0
-KeepSumsBelow h roots = (r l : ℕ) → 0 < count r roots → Reaches (links_at h) r l → HasSums h (height_at h l) l
-
 -- roots of a heap stand for a workspace where their pool does, and the inner rows below them keep their sums
 abbrev pub RootsStand : Type 0
 RootsStand =
-    (h : Heap Bytes) (bits : ℕ) (roots : List ℕ) (W : Workspace) → IsGraph h → AreLive Bytes h roots → KeepSumsBelow h roots → StandsFor (pool_at (λ text. text) h roots bits) W
+    (h : Heap Bytes) (bits : ℕ) (roots : List ℕ) (W : Workspace) → IsGraph h → AreLive Bytes h roots → HaveSums h roots → StandsFor (pool_at (λ text. text) h roots bits) W
     → HeapStandsFor h bits roots W
 
 -- a pool stands for one workspace

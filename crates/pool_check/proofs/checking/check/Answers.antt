@@ -37,6 +37,10 @@ invariant_of-result g c = record {
   valid = record { in_range = in-range c.args.pool c.requires.rows; lead_back = search rules; lines = search rules; vectors = search rules; tries = search rules; kinds = search rules; in_order = search rules };
 }
 
+pub returns-clause-valid : goal.returns-clause-valid
+returns-clause-valid g c =
+    record { in_range = in-range c.args.pool c.requires.rows; lead_back = search rules; lines = search rules; vectors = search rules; tries = search rules; kinds = search rules; in_order = search rules }
+
 pub returns-clause-whole : goal.returns-clause-whole
 returns-clause-whole g c =
     valid-undamaged c.args.pool

@@ -8,10 +8,11 @@ use Rattle.pool_text.specs.Rows.{Bytes, row_form}
 use Rattle.pool_text.specs.Pool.{pool_at}
 use Rattle.pool_text.specs.declared.pool.Pool.{Pool}
 use Rattle.pool_check.specs.Damages.{IsValid}
-use Rattle.pool_load.specs.Loads.{Loads, KeepSums, cells_of, nodes_of}
+use Rattle.pool_check.specs.Sums.{HaveSums}
+use Rattle.pool_load.specs.Loads.{Loads, cells_of, nodes_of}
 use Rattle.pool_load.specs.Rows.{AreSound, HaveLengths}
 use Rattle.pool_load.specs.Making.{AreMade, GivesUp, AreReachedWithout}
-use Rattle.pool_load.proofs.Loaded.{sound-rows, roots-below, kinds-add-up, loaded-made, loaded-same, pool-loaded, sums-loaded, own-held, reached-without, all-loaded}
+use Rattle.pool_load.proofs.Loaded.{sound-rows, roots-below, kinds-add-up, loaded-made, loaded-same, pool-loaded, sums-loaded, below-roots, own-held, reached-without, all-loaded}
 use Rattle.pool_load.proofs.loading.load.Goals as goal
 
 pub lengths_of-requires : goal.lengths_of-requires
@@ -33,7 +34,7 @@ make_rows-requires g c =
     let old = c.as_slice-rows.result.now in
     let new = c.into_vec.result.items in
     let was : map row_form old ≡ P.rows = c.as_slice-rows.ensures ∙ ap (λ (Q : Pool). Q.rows) c.pool-pool.ensures.same in
-    let now : map row_form new ≡ P.rows = c.into_vec.ensures ∙ ap (λ (Q : Pool). Q.rows) c.into_pool-rows.ensures in
+    let now : map row_form new ≡ P.rows = c.into_vec.ensures ∙ ap (λ (Q : Pool). Q.rows) c.into_pool-rows.ensures.same in
     let old_many : length old ≡ length P.rows = sym (length-map old row_form) ∙ ap length was in
     let new_many : length new ≡ length P.rows = sym (length-map new row_form) ∙ ap length now in
     let kinds : cells_of P.rows + nodes_of P.rows ≡ length P.rows = kinds-add-up P.rows in
@@ -60,9 +61,9 @@ hold_places-requires g c =
     let P : Pool = c.args.checked in
     let v : IsValid P = subst IsValid c.pool-pool.ensures.same c.pool-pool.ensures.valid in
     let new = c.into_vec.result.items in
-    let now : map row_form new ≡ P.rows = c.into_vec.ensures ∙ ap (λ (Q : Pool). Q.rows) c.into_pool-rows.ensures in
+    let now : map row_form new ≡ P.rows = c.into_vec.ensures ∙ ap (λ (Q : Pool). Q.rows) c.into_pool-rows.ensures.same in
     let new_many : length new ≡ length P.rows = sym (length-map new row_form) ∙ ap length now in
-    let roots : c.as_slice-3.result.now ≡ P.roots = c.as_slice-3.ensures ∙ ap (λ (Q : Pool). Q.roots) c.into_pool-rows.ensures in
+    let roots : c.as_slice-3.result.now ≡ P.roots = c.as_slice-3.ensures ∙ ap (λ (Q : Pool). Q.roots) c.into_pool-rows.ensures.same in
     let four : length P.roots ≡ 4 = sym (ap (λ (Q : Pool). length Q.roots) c.pool-pool.ensures.same) ∙ c.pool-pool.ensures.roots in
     let made = c.make_rows.ensures.made in
     let many : length c.as_slice-2.result.now ≡ length P.rows = ap length c.as_slice-2.ensures.value ∙ c.make_rows.ensures.many ∙ new_many in
@@ -100,10 +101,10 @@ put_links-requires g c =
     let P : Pool = c.args.checked in
     let v : IsValid P = subst IsValid c.pool-pool.ensures.same c.pool-pool.ensures.valid in
     let new = c.into_vec.result.items in
-    let now : map row_form new ≡ P.rows = c.into_vec.ensures ∙ ap (λ (Q : Pool). Q.rows) c.into_pool-rows.ensures in
+    let now : map row_form new ≡ P.rows = c.into_vec.ensures ∙ ap (λ (Q : Pool). Q.rows) c.into_pool-rows.ensures.same in
     let new_many : length new ≡ length P.rows = sym (length-map new row_form) ∙ ap length now in
     let was : c.as_slice-places.result.now ≡ P.roots = c.as_slice-places.ensures ∙ ap (λ (Q : Pool). Q.roots) c.pool-pool.ensures.same in
-    let roots : c.as_slice-5.result.now ≡ P.roots = c.as_slice-5.ensures ∙ ap (λ (Q : Pool). Q.roots) c.into_pool-rows.ensures in
+    let roots : c.as_slice-5.result.now ≡ P.roots = c.as_slice-5.ensures ∙ ap (λ (Q : Pool). Q.roots) c.into_pool-rows.ensures.same in
     let many : length c.as_slice-4.result.now ≡ length P.rows = ap length c.as_slice-4.ensures.value ∙ c.make_rows.ensures.many ∙ new_many in
     record {
       empty = c.in_ok-roots.ensures.items;
@@ -116,9 +117,9 @@ release_all-requires g c =
     let P : Pool = c.args.checked in
     let v : IsValid P = subst IsValid c.pool-pool.ensures.same c.pool-pool.ensures.valid in
     let new = c.into_vec.result.items in
-    let now : map row_form new ≡ P.rows = c.into_vec.ensures ∙ ap (λ (Q : Pool). Q.rows) c.into_pool-rows.ensures in
+    let now : map row_form new ≡ P.rows = c.into_vec.ensures ∙ ap (λ (Q : Pool). Q.rows) c.into_pool-rows.ensures.same in
     let new_many : length new ≡ length P.rows = sym (length-map new row_form) ∙ ap length now in
-    let roots : c.as_slice-3.result.now ≡ P.roots = c.as_slice-3.ensures ∙ ap (λ (Q : Pool). Q.roots) c.into_pool-rows.ensures in
+    let roots : c.as_slice-3.result.now ≡ P.roots = c.as_slice-3.ensures ∙ ap (λ (Q : Pool). Q.roots) c.into_pool-rows.ensures.same in
     let L : List ℕ = c.make_rows.new.links.items in
     let many : length L ≡ length P.rows = c.make_rows.ensures.many ∙ new_many in
     let made = subst (λ (rs : List (Form Bytes)). AreMade g.T.Stored.bytes_of c.reserve.new.self c.make_rows.new.heap rs L) now c.make_rows.ensures.made in
@@ -139,10 +140,10 @@ returns g c =
     let P : Pool = c.args.checked in
     let v : IsValid P = subst IsValid c.pool-pool.ensures.same c.pool-pool.ensures.valid in
     let new = c.into_vec.result.items in
-    let now : map row_form new ≡ P.rows = c.into_vec.ensures ∙ ap (λ (Q : Pool). Q.rows) c.into_pool-rows.ensures in
+    let now : map row_form new ≡ P.rows = c.into_vec.ensures ∙ ap (λ (Q : Pool). Q.rows) c.into_pool-rows.ensures.same in
     let new_many : length new ≡ length P.rows = sym (length-map new row_form) ∙ ap length now in
-    let roots : c.as_slice-3.result.now ≡ P.roots = c.as_slice-3.ensures ∙ ap (λ (Q : Pool). Q.roots) c.into_pool-rows.ensures in
-    let roots' : c.as_slice-5.result.now ≡ P.roots = c.as_slice-5.ensures ∙ ap (λ (Q : Pool). Q.roots) c.into_pool-rows.ensures in
+    let roots : c.as_slice-3.result.now ≡ P.roots = c.as_slice-3.ensures ∙ ap (λ (Q : Pool). Q.roots) c.into_pool-rows.ensures.same in
+    let roots' : c.as_slice-5.result.now ≡ P.roots = c.as_slice-5.ensures ∙ ap (λ (Q : Pool). Q.roots) c.into_pool-rows.ensures.same in
     let L : List ℕ = c.make_rows.new.links.items in
     let many : length L ≡ length P.rows = c.make_rows.ensures.many ∙ new_many in
     let made = subst (λ (rs : List (Form Bytes)). AreMade g.T.Stored.bytes_of c.reserve.new.self c.make_rows.new.heap rs L) now c.make_rows.ensures.made in
@@ -157,9 +158,9 @@ returns g c =
     record {
       loads =
           subst (λ (ks : List ℕ). Loads c.args.heap.now c.release_all.new.heap ks P) (sym chosen)
-          (all-loaded P L c.reserve.ensures.rest made many held up);
+          (all-loaded P L c.reserve.ensures.rest made many held up (below-roots g.T.Stored.bytes_of c.release_all.new.heap P v L loaded));
       pool = ap (λ (ks : List ℕ). pool_at g.T.Stored.bytes_of c.release_all.new.heap ks P.bits) chosen ∙ pool-loaded g.T.Stored.bytes_of c.release_all.new.heap P v L loaded;
       roots = ap length chosen ∙ length-map P.roots (slice_index L) ∙ four;
-      sums = subst (λ (ks : List ℕ). KeepSums c.release_all.new.heap ks) (sym chosen) (sums-loaded g.T.Stored.bytes_of c.release_all.new.heap P v L loaded);
+      sums = subst (λ (ks : List ℕ). HaveSums c.release_all.new.heap ks) (sym chosen) (sums-loaded g.T.Stored.bytes_of c.release_all.new.heap P v L loaded);
       refused = tt;
     }

@@ -1,0 +1,27 @@
+//! Laws of loaded roots, as the clauses of functions that do nothing.
+ghost use Rattle.pool_load.specs.Laws.{RootsAreLoaded, LoadedRowsAreListed, LoadedVectorsAreGood, LoadedTriesAreGood};
+
+use elem_core::Stored;
+
+/// The roots that a load gives have the loaded pool, and the inner rows below them keep their sums. The other laws speak of all
+/// such roots, in whatever heap.
+pub fn roots_are_loaded<T: Stored>()
+    ensures { RootsAreLoaded T.bytes_of }
+{}
+
+/// The pool lists the rows that loaded roots reach, under their places in first-seen order, and the same ones are vector roots
+/// or trie roots in it as in the heap.
+pub fn loaded_rows_are_listed<T: Stored>()
+    ensures { LoadedRowsAreListed T.bytes_of }
+{}
+
+/// A vector root that loaded roots reach is that of a good vector, of the elements that the pool has at its place.
+pub fn loaded_vectors_are_good<T: Stored>()
+    ensures { LoadedVectorsAreGood T.bytes_of }
+{}
+
+/// A trie root that loaded roots reach is that of the trie of the entries that the pool has at its place, by the pool's bits: a
+/// set where all of them are cells, and a map where all are pairs.
+pub fn loaded_tries_are_good<T: Stored>()
+    ensures { LoadedTriesAreGood T.bytes_of T.cmp T.code_of }
+{}

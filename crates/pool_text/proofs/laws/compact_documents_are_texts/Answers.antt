@@ -1,0 +1,5 @@
+use Rattle.pool_text.proofs.DocumentBack.{compact-stays}
+use Rattle.pool_text.proofs.laws.compact_documents_are_texts.Goals as goal
+
+pub returns : goal.returns
+returns c bits bytes P whole is compact = compact-stays bits bytes P whole is compact
