@@ -1,5 +1,5 @@
 -- The rows of two chains that are passed side by side.
-use Rattle.std.proofs.Common.{◌≡◌, ◌≢◌, ℕ, zero, suc, ◌<◌, ◌≤◌, List, [], ◌∷◌, drop, get_or, refl, ap, sym, subst, ◌∙◌, arith, Option, Some, None, inl, inr, ◌⊎◌}
+use Rattle.std.proofs.Common.{◌≡◌, ◌≢◌, ℕ, zero, suc, ◌+◌, ◌*◌, ◌<◌, ◌≤◌, List, [], ◌∷◌, length, drop, get_or, refl, ap, sym, subst, ◌∙◌, arith, Option, Some, None, inl, inr, ◌⊎◌}
 use Rattle.std.specs.Prelude.{option_to_list}
 use Rattle.std.specs.Cmp.{IsTotalOrder, tied_itself}
 use Rattle.std.specs.declared.cmp.Ordering.{Ordering}
@@ -17,7 +17,7 @@ use Rattle.champ_chain.proofs.CopyLemmas.{one_at-same}
 use Rattle.champ_chain.proofs.RisingLemmas.{greater_flip}
 use Rattle.champ_chain.proofs.SpotLemmas.{FirstRow, first-row, row-entry, row-next, same-key}
 use Rattle.champ_trie.specs.Walk.{rows_below}
-use Rattle.same_value.specs.Apart.{row_links, ReachesRow, IsApart}
+use Rattle.same_value.specs.Apart.{row_links, ReachesRow, IsApart, Spends}
 
 pub one_at-other : (x k : ℕ) → x ≢ k → one_at x k ≡ 0
 one_at-other x k other = test_other k x (λ same. other (sym same))
@@ -203,3 +203,8 @@ module _ {K : Type 0} (cmp : K → K → Ordering) (o : IsTotalOrder cmp) where
                 drop-one zero (u ∷ us) e vs is = (let same : us ≡ vs = cc in sym same)
                 drop-one (suc n) [] e vs is = absurd cc
                 drop-one (suc n) (u ∷ us) e vs is = drop-one n us e vs is
+
+module _ {K : Type 0} {cmp : K → K → Ordering} {o : IsTotalOrder cmp} {F : Forms K} {l m : ℕ} {es ds : List (Entry K)} {left right : ℕ} (p : Passed cmp o F l m es ds left right) where
+  -- the steps for the rows that are passed, and some besides
+  pub passed-spends : (old now new spare : ℕ) → now ≤ old + 204 * length p.rows → new ≤ now + spare → Spends F l m old new spare
+  passed-spends old now new spare few besides = record { rows = p.rows; once = p.once; apart = p.apart; few = omega (arith, few, besides) }

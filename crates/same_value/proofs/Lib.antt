@@ -6,6 +6,7 @@ pub mod ChainRows
 pub mod ChainPairs
 pub mod TrieRows
 pub mod TriePairs
+pub mod TwoRows
 pub mod Contents
 pub mod MapContents
 pub mod Roots

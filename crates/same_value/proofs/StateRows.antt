@@ -6,10 +6,12 @@ use Rattle.std.specs.declared.cmp.Ordering.{Ordering}
 use Rattle.std.specs.declared.cmp.Ordering.TheVariants.{Equal}
 use Rattle.node_heap.specs.Forms.{state, links_of}
 use Rattle.node_heap.specs.Heap.{Heap, row_at, form_at}
+use Rattle.champ_kinds.specs.Binding.{Binding}
+use Rattle.champ_kinds.specs.Root.{Root}
 use Rattle.same_value.specs.Alike.{Alike, IsFrom}
 use Rattle.same_value.specs.Cells.{IsCellLink, IsSameCell, IsLines, IsSameLines}
 use Rattle.same_value.specs.CompareLaws.{cell-itself, lines-itself, state-itself}
-use Rattle.same_value.specs.Contents.{AreSameMaps, AreSameSets, IsState, IsValueOf, IsSameValue}
+use Rattle.same_value.specs.Contents.{AreSameMaps, AreSameSets, IsMapWith, IsState, IsValueOf, IsSameValue}
 use Rattle.same_value.specs.Entries.{IsPairOf, IsSamePair}
 use Rattle.same_value.specs.declared.values.Values.{Values}
 use Rattle.same_value.specs.declared.values.Values.TheVariants.{Cells, Lines, States}
@@ -55,3 +57,19 @@ module _ {T : Type 0} (cmp : T → T → Ordering) (o : IsTotalOrder cmp) (code 
   value-itself Cells bits v is = cell-itself cmp o (form_at h) v is
   value-itself Lines bits v is = lines-itself cmp o h v is
   value-itself States bits v is = state-itself cmp o code h bits v is
+
+  -- maps whose values are of this sort, and the sort and the bits as they are known where their tries are compared
+  module _ (a b : Root) (bits : a.bits ≡ b.bits) (l m : ℕ) (at : l ≡ a.root) (at' : m ≡ b.root) (values sort : Values) (is : values ≡ sort) (width : ℕ) (wide : width ≡ a.bits)
+      (M N : List (Binding T)) (first : IsMapWith cmp code h (IsValueOf cmp code h values a.bits) a M) (second : IsMapWith cmp code h (IsValueOf cmp code h values a.bits) b N) where
+    pub value-tries : (by : T → ℕ) × IsFrom cmp (form_at h) (λ x. IsPairOf (form_at h) (IsValueOf cmp code h sort width) x) by 0 l × IsFrom cmp (form_at h) (λ x. IsPairOf (form_at h) (IsValueOf cmp code h sort width) x) by 0 m
+    value-tries =
+        rw (← is, wide)
+        (map-tries cmp o code equal_codes h a b bits l m at at' (IsValueOf cmp code h values a.bits) (IsSameValue cmp code h values a.bits) (value-itself values a.bits) M N first second)
+
+    -- what tells whether the tries are alike tells whether the maps are the same
+    pub value-same : (A : Type 0) → A ↔ Alike (form_at h) (λ x y. IsSamePair (form_at h) cmp (IsSameValue cmp code h sort width) x y) l m → A ↔ AreSameMaps cmp (IsSameValue cmp code h values a.bits) M N
+    value-same A told =
+        let both : Alike (form_at h) (λ x y. IsSamePair (form_at h) cmp (IsSameValue cmp code h sort width) x y) l m ↔ AreSameMaps cmp (IsSameValue cmp code h values a.bits) M N =
+        rw (← is, wide)
+        (map-alike cmp o code equal_codes h a b bits l m at at' (IsValueOf cmp code h values a.bits) (IsSameValue cmp code h values a.bits) (value-itself values a.bits) M N first second) in
+        (λ yes. both.0 (told.0 yes), λ maps. told.1 (both.1 maps))

@@ -1,13 +1,27 @@
-use Rattle.std.proofs.Common.{◌≡◌, ◌≢◌, ◌∙◌, ℕ, ◌∷◌, length, drop, refl, sym, arith, ap, Option, Some}
-use Rattle.std.specs.Prelude.{option_to_list}
-use Rattle.std.proofs.lemmas.Bool.{eqb-true, eq-eqb}
-use Rattle.node_heap.specs.Heap.{form_at}
+use Rattle.std.proofs.Common.{◌≡◌, ◌≢◌, ℕ, ◌∷◌, length, drop, refl, sym, arith, ap, Option, Some}
+use Rattle.std.specs.Prelude.{◌↔◌, IsTrue, false, option_to_list}
+use Rattle.std.proofs.lemmas.Bool.{eqb-true, eqb-false}
+use Rattle.node_heap.specs.Forms.{node, chain}
+use Rattle.node_heap.specs.Heap.{Heap, form_at}
 use Rattle.node_heap.specs.Glass.{lent}
 use Rattle.champ_chain.proofs.FrameLemmas.{rows-live}
 use Rattle.champ_trie.specs.Walk.{depth_of}
-use Rattle.same_value.proofs.ChainRows.{passed-none, passed-more, once-more, apart-more}
+use Rattle.same_value.specs.Alike.{Alike, IsChainFrom}
+use Rattle.same_value.proofs.ChainRows.{Passed, passed-none, passed-more, once-more, apart-more, passed-spends}
 use Rattle.same_value.proofs.ChainPairs.{left-row, right-row, same-links, good-left, good-right, entries-same, as-long, rest-alike, more-alike, last-alike, rows-shorter}
+use Rattle.same_value.proofs.chains.same_chains.Given as given
 use Rattle.same_value.proofs.chains.same_chains.Goals as goal
+
+-- where one chain goes on and the other ends, they aren't alike
+uneven : (g : given.Over) (how : g.row.C.Denot) (h : Heap g.row.T.Denot) {l m left right x y : ℕ} (next next' : Option ℕ) (first : IsChainFrom g.T.Ord.cmp (form_at h) (g.C.Compares.good how h) l) (second : IsChainFrom g.T.Ord.cmp (form_at h) (g.C.Compares.good how h) m)
+    (p : Passed g.T.Ord.cmp g.met.T.Ord.total (form_at h) l m first.entries second.entries left right) → Alike (form_at h) (g.C.Compares.same how h) l m ↔ Alike (form_at h) (g.C.Compares.same how h) left right
+    → form_at h left ≡ Some (node chain (x ∷ option_to_list next)) → form_at h right ≡ Some (node chain (y ∷ option_to_list next')) → length (option_to_list next) ≢ length (option_to_list next')
+    → IsTrue false ↔ Alike (form_at h) (g.C.Compares.same how h) l m
+uneven g how h {l} {m} {left} {right} {x} {y} next next' first second p here row row' other = (
+  λ no. absurd cc,
+  λ alike. absurd (other
+      (as-long g.T.Ord.cmp g.met.T.Ord.total (form_at h) (g.C.Compares.same how h) (g.C.Compares.good how h) (g.met.C.Compares.itself how h) (g.met.C.Compares.keyed how h) (g.met.C.Compares.outermost how h) l m first second left right p x y next next' row row' (here.0 alike))),
+)
 
 pub loop-left_row-init : goal.loop-left_row-init
 loop-left_row-init g c = λ first second. (
@@ -29,7 +43,7 @@ returns-then-eq-clause-alike g c =
 pub returns-then-eq-clause-few : goal.returns-then-eq-clause-few
 returns-then-eq-clause-few g c = λ counted.
     let now = c.loop-left_row.invariant c.requires.left c.requires.right in
-    record { rows = now.0.rows; once = now.0.once; apart = now.0.apart; few = omega (arith, now.2 counted) }
+    passed-spends now.0 _ _ _ _ (now.2 counted) (omega arith)
 
 pub row_of-first-requires : goal.row_of-first-requires
 row_of-first-requires g c =
@@ -71,12 +85,7 @@ returns-then-not-same_entries-clause-alike g c =
 pub returns-then-not-same_entries-clause-few : goal.returns-then-not-same_entries-clause-few
 returns-then-not-same_entries-clause-few g c = λ counted.
     let now = c.loop-left_row.invariant c.requires.left c.requires.right in
-    record {
-      rows = now.0.rows;
-      once = now.0.once;
-      apart = now.0.apart;
-      few = omega (arith, now.2 counted, c.row_of-first.ensures.step, c.row_of-second.ensures.step, c.same_entries.ensures.few counted);
-    }
+    passed-spends now.0 _ _ _ _ (now.2 counted) (omega (arith, c.row_of-first.ensures.step, c.row_of-second.ensures.step, c.same_entries.ensures.few counted))
 
 pub loop-left_row-smaller : goal.loop-left_row-smaller
 loop-left_row-smaller g c =
@@ -89,7 +98,7 @@ pub loop-left_row-preserved : goal.loop-left_row-preserved
 loop-left_row-preserved g c = λ first second.
     let h = lent c.args.glass.now in
     let now = c.loop-left_row.invariant first second in
-    let other : c.loop-left_row.left_row ≢ c.loop-left_row.right_row = λ same. let bad = c.if-eq.ensures ∙ eq-eqb _ _ same in absurd cc in
+    let other : c.loop-left_row.left_row ≢ c.loop-left_row.right_row = eqb-false _ _ (sym c.if-eq.ensures) in
     let same : g.C.Compares.same c.args.how.now h c.row_of-first.result.entry c.row_of-second.result.entry = c.if-not-same_entries.ensures.same.0 refl in
     let more = passed-more g.T.Ord.cmp g.met.T.Ord.total (form_at h) c.args.left c.args.right first.entries second.entries first.rows second.rows first.rising second.rising c.loop-left_row.left_row c.loop-left_row.right_row now.0
     c.row_of-first.result.entry c.row_of-second.result.entry c.row_of-first.result.next c.row_of-second.result.next c.row_of-first.ensures.row c.row_of-second.ensures.row (λ j k. g.met.C.Compares.equal_keys c.args.how.now h c.row_of-first.result.entry c.row_of-second.result.entry j k same) other c.in-Some-Some.next c.in-Some-Some.other c.in-Some-Some.is-0 c.in-Some-Some.is-1 in (
@@ -117,7 +126,7 @@ pub returns-in-None-None-clause-few : goal.returns-in-None-None-clause-few
 returns-in-None-None-clause-few g c = λ counted.
     let h = lent c.args.glass.now in
     let now = c.loop-left_row.invariant c.requires.left c.requires.right in
-    let other : c.loop-left_row.left_row ≢ c.loop-left_row.right_row = λ same. let bad = c.if-eq.ensures ∙ eq-eqb _ _ same in absurd cc in
+    let other : c.loop-left_row.left_row ≢ c.loop-left_row.right_row = eqb-false _ _ (sym c.if-eq.ensures) in
     let same : g.C.Compares.same c.args.how.now h c.row_of-first.result.entry c.row_of-second.result.entry = c.if-not-same_entries.ensures.same.0 refl in
     record {
       rows = c.loop-left_row.left_row ∷ now.0.rows;
@@ -130,50 +139,22 @@ returns-in-None-None-clause-few g c = λ counted.
 
 pub returns-in_default-clause-alike : goal.returns-in_default-clause-alike
 returns-in_default-clause-alike g c =
-    let h = lent c.args.glass.now in
     let now = c.loop-left_row.invariant c.requires.left c.requires.right in
-    let size = λ (next : Option ℕ). length (option_to_list next) in (
-      λ no. absurd cc,
-      λ alike. absurd (omega (
-        arith,
-        as-long g.T.Ord.cmp g.met.T.Ord.total (form_at h) (g.C.Compares.same c.args.how.now h) (g.C.Compares.good c.args.how.now h) (g.met.C.Compares.itself c.args.how.now h) (g.met.C.Compares.keyed c.args.how.now h)
-            (g.met.C.Compares.outermost c.args.how.now h) c.args.left c.args.right c.requires.left c.requires.right c.loop-left_row.left_row c.loop-left_row.right_row now.0 c.row_of-first.result.entry c.row_of-second.result.entry c.row_of-first.result.next c.row_of-second.result.next c.row_of-first.ensures.row c.row_of-second.ensures.row (now.1.0 alike),
-        ap size c.in_default.is-0,
-        ap size c.in_default.is-1,
-      )),
-    )
+    let size = λ (next : Option ℕ). length (option_to_list next) in
+    uneven g c.args.how.now (lent c.args.glass.now) _ _ c.requires.left c.requires.right now.0 now.1 c.row_of-first.ensures.row c.row_of-second.ensures.row (λ same. omega (arith, same, ap size c.in_default.is-0, ap size c.in_default.is-1))
 
 pub returns-in_default-clause-few : goal.returns-in_default-clause-few
 returns-in_default-clause-few g c = λ counted.
     let now = c.loop-left_row.invariant c.requires.left c.requires.right in
-    record {
-      rows = now.0.rows;
-      once = now.0.once;
-      apart = now.0.apart;
-      few = omega (arith, now.2 counted, c.row_of-first.ensures.step, c.row_of-second.ensures.step, c.same_entries.ensures.few counted);
-    }
+    passed-spends now.0 _ _ _ _ (now.2 counted) (omega (arith, c.row_of-first.ensures.step, c.row_of-second.ensures.step, c.same_entries.ensures.few counted))
 
 pub returns-in_default-2-clause-alike : goal.returns-in_default-2-clause-alike
 returns-in_default-2-clause-alike g c =
-    let h = lent c.args.glass.now in
     let now = c.loop-left_row.invariant c.requires.left c.requires.right in
-    let size = λ (next : Option ℕ). length (option_to_list next) in (
-      λ no. absurd cc,
-      λ alike. absurd (omega (
-        arith,
-        as-long g.T.Ord.cmp g.met.T.Ord.total (form_at h) (g.C.Compares.same c.args.how.now h) (g.C.Compares.good c.args.how.now h) (g.met.C.Compares.itself c.args.how.now h) (g.met.C.Compares.keyed c.args.how.now h)
-            (g.met.C.Compares.outermost c.args.how.now h) c.args.left c.args.right c.requires.left c.requires.right c.loop-left_row.left_row c.loop-left_row.right_row now.0 c.row_of-first.result.entry c.row_of-second.result.entry c.row_of-first.result.next c.row_of-second.result.next c.row_of-first.ensures.row c.row_of-second.ensures.row (now.1.0 alike),
-        ap size c.in_default.is-0,
-        ap size c.in_default.is-1,
-      )),
-    )
+    let size = λ (next : Option ℕ). length (option_to_list next) in
+    uneven g c.args.how.now (lent c.args.glass.now) _ _ c.requires.left c.requires.right now.0 now.1 c.row_of-first.ensures.row c.row_of-second.ensures.row (λ same. omega (arith, same, ap size c.in_default.is-0, ap size c.in_default.is-1))
 
 pub returns-in_default-2-clause-few : goal.returns-in_default-2-clause-few
 returns-in_default-2-clause-few g c = λ counted.
     let now = c.loop-left_row.invariant c.requires.left c.requires.right in
-    record {
-      rows = now.0.rows;
-      once = now.0.once;
-      apart = now.0.apart;
-      few = omega (arith, now.2 counted, c.row_of-first.ensures.step, c.row_of-second.ensures.step, c.same_entries.ensures.few counted);
-    }
+    passed-spends now.0 _ _ _ _ (now.2 counted) (omega (arith, c.row_of-first.ensures.step, c.row_of-second.ensures.step, c.same_entries.ensures.few counted))
