@@ -3,8 +3,9 @@ pub mod QuitLemmas
 pub mod PageLemmas
 pub mod LinesLemmas
 pub mod StepLemmas
-pub mod StoreLemmas
+pub mod SaveLemmas
 pub mod LoadLemmas
+pub mod RoundTripLemmas
 pub mod ReadLemmas
 pub mod RunLemmas
 pub mod EndLemmas

@@ -1,5 +1,5 @@
 -- What shows that a document was loaded, or why not.
-use Rattle.std.proofs.Common.{◌≡◌, ◌≢◌, ℕ, ◌<◌, ◌≤◌, ◌+◌, ◌-◌, ◌^◌, min, ◌∙◌, length, sym, ap, subst, refl, arith, codes, Bool, true, false, inl, inr, Result, Ok, Err, IsOk, IsErrAnd, IfSome, MatchBool, MatchOption, MatchResult, List, [], ◌∷◌, ◌++◌, ◌⊎◌, None, Some, if◌then◌else◌}
+use Rattle.std.proofs.Common.{◌≡◌, ◌≢◌, ℕ, ◌<◌, ◌≤◌, ◌+◌, ◌-◌, ◌^◌, min, ◌∙◌, length, sym, ap, subst, refl, codes, Bool, true, false, inl, inr, Result, Ok, Err, IsErrAnd, IfSome, MatchBool, MatchOption, List, [], ◌∷◌, ◌++◌, None, Some}
 use Rattle.std.proofs.lemmas.Bool.{le-ltb, lt-ltb}
 use Rattle.std.specs.declared.option.Option.{Option}
 use Rattle.std.specs.FinMap.{get}
@@ -8,8 +8,7 @@ use Rattle.shell_terms.specs.Command.{load}
 use Rattle.plain_space.specs.declared.refusal.Refusal.{Refusal}
 use Rattle.plain_space.specs.declared.refusal.Refusal.TheVariants as why
 use Rattle.plain_space.specs.Workspace.{Workspace, in_batch}
-use Rattle.plain_space.specs.Answer.{Answer, elsewhere, answer, ok_line}
-use Rattle.plain_space.specs.Memory.{MayLackMemory}
+use Rattle.plain_space.specs.Answer.{ok_line}
 use Rattle.pool_text.specs.Pool.{row_count}
 use Rattle.pool_text.specs.Document.{pool_in_bytes, bytes_damage}
 use Rattle.pool_text.specs.declared.pool.Pool.{Pool}
@@ -26,9 +25,9 @@ use Rattle.shell_io.specs.declared.device.FetchFault.TheVariants as fetch
 use Rattle.shell_io.specs.declared.device.Store as store_trait
 use Rattle.ewig_shell.specs.declared.load.LoadFault.{LoadFault}
 use Rattle.ewig_shell.specs.declared.load.LoadFault.TheVariants as unloaded
-use Rattle.ewig_shell.specs.Step.{StoreView, KeepsFiles, KeepsSpace, Fetched, fetched, missing, large, given, IsLoaded, LoadsAs, LoadsFile, FailsToLoad, Gives, ObeysOn, CountsStore, shown_store, machine_of, most_stored, is_large, damage_word, reply_of, refusal_of, loaded_reply}
-use Rattle.ewig_shell.specs.Loading.{TakesIn, fault_of}
-use Rattle.ewig_shell.proofs.StepLemmas.{same_files, Obeys-refused, Obeys-lacks, CountsStore-none, CountsStore-called}
+use Rattle.ewig_shell.specs.Step.{KeepsFiles, KeepsSpace, Fetched, fetched, missing, large, given, IsLoaded, LoadsAs, ObeysOn, shown_store, machine_of, most_stored, damage_word, reply_of, refusal_of, loaded_reply}
+use Rattle.ewig_shell.specs.Loading.{TakesIn, fault_of, unfetched}
+use Rattle.ewig_shell.proofs.StepLemmas.{same_files, CountsStore-called, load-OfTheStore, Obeys-elsewhere, may_lack}
 
 -- ## A document
 
@@ -119,13 +118,6 @@ told_of : (files : Option Files) (P Q : Files → Type 0) → ((f : Files) → P
 told_of None P Q to h = tt
 told_of (Some f) P Q to h = to f h
 
--- how a file is refused that the store doesn't give
-abbrev unfetched : FetchFault → LoadFault
-unfetched fetch.Missing = unloaded.Missing
-unfetched fetch.Large = unloaded.Large
-unfetched fetch.Failed = unloaded.Failed
-unfetched fetch.Memory = unloaded.Memory
-
 -- what a fetch said, by the file's name and as it ended
 pub fetched_by : (files : Option Files) (one name : Bytes) (result result' : Result (Unit {0}) FetchFault) (bytes : Bytes) → one ≡ name → result ≡ result' →
     IfSome files (λ (f : Files). FetchesFile (get f one) most_stored result bytes) → IfSome files (λ (f : Files). FetchesFile (get f name) most_stored result' bytes)
@@ -140,77 +132,55 @@ kept D store store' e counted = record {
   counted = counted;
 }
 
-module _ (W : Workspace) (name : Bytes) where
-  in_a_batch : in_batch W ≡ true → answer W (load name) ≡ Err why.Batch
-  unfolding answer
-  in_a_batch e = rw e refl
+module _ (W : Workspace) (name : Bytes) {C : Type 0} {D : store_trait.Ghosts C} {space : SpaceView} {store store' : C} {failed : Type 0}
+    (stands : StandsFor space.pool W) (e : in_batch W ≡ false) (same : D.held store' ≡ D.held store) (calls : Calls D.faults D.steady D.faultless store store' failed) where
+  -- memory ran out
+  pub Loads-lacks : {space' : SpaceView} → space' ≡ space → (failed → ⊥) → ObeysOn (load name) D space store (refusal_of (codes "memory")) space' store'
+  Loads-lacks stays succeeds = record {
+    obeys = record {
+      work = W;
+      stands = stands;
+      gives = inr (record { may = may_lack (load name) (load-OfTheStore name) W refl e; reply_is = refl; space = stays; store = kept D store store' same calls.counts.counted });
+    };
+    counts = CountsStore-called (refusal_of (codes "memory")) (λ _. succeeds) calls;
+  }
 
-  outside : in_batch W ≡ false → answer W (load name) ≡ Ok elsewhere
-  unfolding answer
-  outside e = rw e refl
+  -- the store failed
+  pub Loads-failed : failed → ObeysOn (load name) D space store (refusal_of (codes "fault")) space store'
+  Loads-failed fails = record {
+    obeys = Obeys-elsewhere (load name) (load-OfTheStore name) W (machine_of D space store) (machine_of D space store') (refusal_of (codes "fault")) stands e
+        (inr (record { store = kept D store store' same calls.counts.counted; space = record { reply_is = refl; same = refl }; cause = calls.counts.cause fails }));
+    counts = CountsStore-called (refusal_of (codes "fault")) (λ other _. other refl) calls;
+  }
 
-  may_lack : in_batch W ≡ false → MayLackMemory W (load name)
-  may_lack e = record { wants = refl; granted = subst (λ (a : Answer). IsOk a) (sym (outside e)) refl }
+  -- the file came to this
+  loaded_as : {space' : SpaceView} {reply : List ℕ} (file : Fetched) → (failed → ⊥) → IfSome (D.held store) (λ (files : Files). file ≡ fetched (get files name)) → LoadsAs file space reply space' → ObeysOn (load name) D space store reply space' store'
+  loaded_as {space'} {reply} file succeeds held loads = record {
+    obeys = Obeys-elsewhere (load name) (load-OfTheStore name) W (machine_of D space store) (machine_of D space' store') reply stands e
+        (inl (record { store = kept D store store' same calls.counts.counted; file = file; held = held; loads = loads }));
+    counts = CountsStore-called reply (λ _. succeeds) calls;
+  }
 
-  module _ {C : Type 0} {D : store_trait.Ghosts C} {space : SpaceView} where
-    -- a batch is open
-    pub Loads-batch : {store : C} → StandsFor space.pool W → in_batch W ≡ true → ObeysOn (load name) D space store (refusal_of (codes "batch")) space store
-    Loads-batch {store} stands e = record {
-      obeys = Obeys-refused W why.Batch stands (in_a_batch e) refl refl (shown_store D store);
-      counts = CountsStore-none;
-    }
+  -- the store gave no bytes
+  pub Loads-refused : (fault : FetchFault) (bytes : Bytes) → (fault ≡ fetch.Failed → failed) → (failed → fault ≡ fetch.Failed) → IfSome (D.held store) (λ (files : Files). FetchesFile {A = Unit {0}} (get files name) most_stored (Err fault) bytes) →
+      ObeysOn (load name) D space store (loaded_reply (Err (unfetched fault))) space store'
+  Loads-refused fetch.Missing bytes into back told = loaded_as missing (λ f. let never = back f in cc) (told_of (D.held store) _ _ (λ files h. is_missing (get files name) h) told) (record { reply_is = refl; same = refl })
+  Loads-refused fetch.Large bytes into back told = loaded_as large (λ f. let never = back f in cc) (told_of (D.held store) _ _ (λ files h. is_large_file (get files name) h) told) (record { reply_is = refl; same = refl })
+  Loads-refused fetch.Failed bytes into back told = Loads-failed (into refl)
+  Loads-refused fetch.Memory bytes into back told = Loads-lacks refl (λ f. let never = back f in cc)
 
-    module _ {store store' : C} {failed : Type 0} (stands : StandsFor space.pool W) (e : in_batch W ≡ false) (same : D.held store' ≡ D.held store) (calls : Calls D.faults D.steady D.faultless store store' failed) where
-      -- memory ran out
-      pub Loads-lacks : {space' : SpaceView} → space' ≡ space → (failed → ⊥) → ObeysOn (load name) D space store (refusal_of (codes "memory")) space' store'
-      Loads-lacks stays succeeds = record {
-        obeys = record { work = W; stands = stands; gives = inr (record { may = may_lack e; reply_is = refl; space = stays; store = kept D store store' same calls.counts.counted }) };
-        counts = CountsStore-called (refusal_of (codes "memory")) (λ _. succeeds) calls;
-      }
-
-      -- the store failed
-      pub Loads-failed : failed → ObeysOn (load name) D space store (refusal_of (codes "fault")) space store'
-      Loads-failed fails = record {
-        obeys = record {
-          work = W;
-          stands = stands;
-          gives = inl (subst (λ (a : Answer). Gives (load name) (machine_of D space store) W a (refusal_of (codes "fault")) (machine_of D space store')) (sym (outside e))
-              (inr (record { store = kept D store store' same calls.counts.counted; space = record { reply_is = refl; same = refl }; cause = calls.counts.cause fails })));
-        };
-        counts = CountsStore-called (refusal_of (codes "fault")) (λ other _. other refl) calls;
-      }
-
-      -- the file came to this
-      loaded_as : {space' : SpaceView} {reply : List ℕ} (file : Fetched) → (failed → ⊥) → IfSome (D.held store) (λ (files : Files). file ≡ fetched (get files name)) → LoadsAs file space reply space' → ObeysOn (load name) D space store reply space' store'
-      loaded_as {space'} {reply} file succeeds held loads = record {
-        obeys = record {
-          work = W;
-          stands = stands;
-          gives = inl (subst (λ (a : Answer). Gives (load name) (machine_of D space store) W a reply (machine_of D space' store')) (sym (outside e))
-              (inl (record { store = kept D store store' same calls.counts.counted; file = file; held = held; loads = loads })));
-        };
-        counts = CountsStore-called reply (λ _. succeeds) calls;
-      }
-
-      -- the store gave no bytes
-      pub Loads-refused : (fault : FetchFault) (bytes : Bytes) → (fault ≡ fetch.Failed → failed) → (failed → fault ≡ fetch.Failed) → IfSome (D.held store) (λ (files : Files). FetchesFile {A = Unit {0}} (get files name) most_stored (Err fault) bytes) →
-          ObeysOn (load name) D space store (loaded_reply (Err (unfetched fault))) space store'
-      Loads-refused fetch.Missing bytes into back told = loaded_as missing (λ f. let never = back f in cc) (told_of (D.held store) _ _ (λ files h. is_missing (get files name) h) told) (record { reply_is = refl; same = refl })
-      Loads-refused fetch.Large bytes into back told = loaded_as large (λ f. let never = back f in cc) (told_of (D.held store) _ _ (λ files h. is_large_file (get files name) h) told) (record { reply_is = refl; same = refl })
-      Loads-refused fetch.Failed bytes into back told = Loads-failed (into refl)
-      Loads-refused fetch.Memory bytes into back told = Loads-lacks refl (λ f. let never = back f in cc)
-
-      -- the store gave the bytes, and the space took in what they stand for
-      pub Loads-took : {space' : SpaceView} (bytes : Bytes) (result : Result (Unit {0}) LoadFault) → (failed → ⊥) → length bytes ≤ most_stored → IfSome (D.held store) (λ (files : Files). get files name ≡ Some bytes) → TakesIn bytes space result space' →
-          ObeysOn (load name) D space store (loaded_reply result) space' store'
-      Loads-took {space'} bytes result succeeds few told takes = elim takes [
-        | inl loads ↦ loaded_as (given bytes) succeeds (told_of (D.held store) _ _ (λ files h. is_given (get files name) bytes h few) told) loads
-        | inr lacks ↦ subst (λ (r : Result (Unit {0}) LoadFault). ObeysOn (load name) D space store (loaded_reply r) space' store') (sym lacks.0) (Loads-lacks lacks.1 succeeds)
-      ]
+  -- the store gave the bytes, and the space took in what they stand for
+  pub Loads-took : {space' : SpaceView} (bytes : Bytes) (result : Result (Unit {0}) LoadFault) → (failed → ⊥) → length bytes ≤ most_stored → IfSome (D.held store) (λ (files : Files). get files name ≡ Some bytes) → TakesIn bytes space result space' →
+      ObeysOn (load name) D space store (loaded_reply result) space' store'
+  Loads-took {space'} bytes result succeeds few told takes = elim takes [
+    | inl loads ↦ loaded_as (given bytes) succeeds (told_of (D.held store) _ _ (λ files h. is_given (get files name) bytes h few) told) loads
+    | inr lacks ↦ subst (λ (r : Result (Unit {0}) LoadFault). ObeysOn (load name) D space store (loaded_reply r) space' store') (sym lacks.0) (Loads-lacks lacks.1 succeeds)
+  ]
 
 -- how a load ends where the fetch was refused
-pub Loads-unfetched : {C : Type 0} {D : store_trait.Ghosts C} {space : SpaceView} {store store' : C} (W : Workspace) (name one : Bytes) (result : Result (Unit {0}) FetchFault) (fault : FetchFault) (bytes : Bytes) → StandsFor space.pool W → in_batch W ≡ false → D.held store' ≡ D.held store →
-    Calls D.faults D.steady D.faultless store store' (result ≡ Err fetch.Failed) → one ≡ name → IfSome (D.held store) (λ (files : Files). FetchesFile (get files one) most_stored result bytes) → result ≡ Err fault → ObeysOn (load name) D space store (loaded_reply (Err (unfetched fault))) space store'
-Loads-unfetched {D = D} {store = store} W name one result fault bytes stands e same calls named told ended =
-    Loads-refused W name stands e same calls fault bytes (λ is. ended ∙ ap Err is) (λ failed. let both : Err fault ≡ Err fetch.Failed = sym ended ∙ failed in cc)
-    (fetched_by (D.held store) one name result (Err fault) bytes named ended told)
+pub Loads-unfetched : {C : Type 0} {D : store_trait.Ghosts C} {space : SpaceView} {store store' : C} (W : Workspace) (name one : Bytes) (result : Result (Unit {0}) FetchFault) (fault : FetchFault) (ended : Result (Unit {0}) LoadFault) (bytes : Bytes) → StandsFor space.pool W → in_batch W ≡ false → D.held store' ≡ D.held store →
+    Calls D.faults D.steady D.faultless store store' (result ≡ Err fetch.Failed) → one ≡ name → IfSome (D.held store) (λ (files : Files). FetchesFile (get files one) most_stored result bytes) → result ≡ Err fault → ended ≡ Err (unfetched fault) → ObeysOn (load name) D space store (loaded_reply ended) space store'
+Loads-unfetched {D = D} {space} {store} {store'} W name one result fault ended bytes stands e same calls named told is ends =
+    subst (λ (r : Result (Unit {0}) LoadFault). ObeysOn (load name) D space store (loaded_reply r) space store') (sym ends)
+    (Loads-refused W name stands e same calls fault bytes (λ failed. is ∙ ap Err failed) (λ failed. let both : Err fault ≡ Err fetch.Failed = sym is ∙ failed in cc)
+    (fetched_by (D.held store) one name result (Err fault) bytes named is told))

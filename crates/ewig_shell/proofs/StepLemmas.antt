@@ -1,5 +1,5 @@
 -- What shows that a command was obeyed.
-use Rattle.std.proofs.Common.{◌≡◌, ◌≢◌, ℕ, ◌&&◌, nat_le, List, [], ◌∷◌, ◌++◌, length, map, sym, ap, ◌∙◌, subst, refl, arith, codes, Bool, true, false, inl, inr, Ok, Err, None, Some, MatchBool, MatchOption, ◌<◌, ◌≤◌, IsSomeAnd, IsOk, slice_get, slice_range}
+use Rattle.std.proofs.Common.{◌≡◌, ◌≢◌, ℕ, ◌&&◌, nat_le, List, [], ◌∷◌, ◌++◌, length, map, sym, ap, ◌∙◌, subst, refl, arith, codes, Bool, true, false, inl, inr, Ok, Err, None, Some, MatchBool, MatchOption, ◌<◌, ◌≤◌, IsSomeAnd, IsOk, IsTrue, IsErrAnd, slice_get, slice_range}
 use Rattle.std.proofs.lemmas.Bool.{le-ltb, lt-ltb, le-leb, leb-true}
 use Rattle.std.proofs.lemmas.Option.{slice_get_past}
 use Rattle.std.specs.Bool.{Decides}
@@ -14,8 +14,8 @@ use Rattle.shell_words.specs.Grammar.{meaning}
 use Rattle.shell_words.specs.declared.BadLine.{BadLine}
 use Rattle.plain_space.specs.declared.refusal.Refusal.{Refusal}
 use Rattle.plain_space.specs.declared.refusal.Refusal.TheVariants as why
-use Rattle.plain_space.specs.Workspace.{Workspace, lines_of, version_of, sizes, same_texts, same_state}
-use Rattle.plain_space.specs.Refusing.{given}
+use Rattle.plain_space.specs.Workspace.{Workspace, lines_of, version_of, sizes, same_texts, same_state, in_batch}
+use Rattle.plain_space.specs.Refusing.{given, unless}
 use Rattle.plain_space.proofs.Equality.{same_texts-Decides, same_state-Decides}
 use Rattle.plain_space.specs.Answer.{Answer, tells, elsewhere, answer, asked, ok_line, text_line, number_line, size_line, equal_line}
 use Rattle.plain_space.specs.Memory.{MayLackMemory, wants_memory}
@@ -359,3 +359,44 @@ CountsStore-called reply fault calls = record {
   steady = λ h. let told = calls.told h in (told.0, λ other. told.1 (fault other));
   sure = λ h. let told = calls.sure h in (told.0, told.1);
 }
+
+-- ## Commands of the store
+
+-- nothing in the workspace but an open batch answers the command
+abbrev pub IsOfTheStore : PlainCommand → Type 0
+IsOfTheStore command = (W : Workspace) → answer W command ≡ unless (in_batch W) why.Batch (Ok elsewhere)
+
+pub save-OfTheStore : (name : Bytes) → IsOfTheStore (save name)
+unfolding answer
+save-OfTheStore name W = refl
+
+pub load-OfTheStore : (name : Bytes) → IsOfTheStore (load name)
+unfolding answer
+load-OfTheStore name W = refl
+
+module _ (command : PlainCommand) (of_store : IsOfTheStore command) (W : Workspace) where
+  outside : in_batch W ≡ false → answer W command ≡ Ok elsewhere
+  outside e = of_store W ∙ ap (λ (b : Bool). unless b why.Batch (Ok elsewhere)) e
+
+  -- the store has its say
+  pub Obeys-elsewhere : (old new : Machine) (reply : List ℕ) → StandsFor old.space.pool W → in_batch W ≡ false → SaysElsewhere command old reply new → Obeys command old reply new
+  Obeys-elsewhere old new reply stands e says = record {
+    work = W;
+    stands = stands;
+    gives = inl (subst (λ (a : Answer). Gives command old W a reply new) (sym (outside e)) says);
+  }
+
+  pub may_lack : IsTrue (wants_memory command) → in_batch W ≡ false → MayLackMemory W command
+  may_lack wants e = record { wants = wants; granted = subst (λ (a : Answer). IsOk a) (sym (outside e)) refl }
+
+  -- a batch is open
+  pub ObeysOn-batch : {C : Type 0} {D : store_trait.Ghosts C} {space : SpaceView} {store : C} → StandsFor space.pool W → in_batch W ≡ true → ObeysOn command D space store (refusal_of (codes "batch")) space store
+  ObeysOn-batch {D = D} {store = store} stands e = record {
+    obeys = Obeys-refused W why.Batch stands (of_store W ∙ ap (λ (b : Bool). unless b why.Batch (Ok elsewhere)) e) refl refl (shown_store D store);
+    counts = CountsStore-none;
+  }
+
+-- the fault that a call answered
+pub fault-is : {F : Type 0} (result : Result (Unit {0}) F) (fault : F) → IsErrAnd result (λ (f : F). f ≡ fault) → result ≡ Err fault
+fault-is (Ok done) fault is = absurd is
+fault-is (Err f) fault is = ap Err is

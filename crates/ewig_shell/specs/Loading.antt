@@ -1,16 +1,25 @@
--- How a document is taken in.
+-- How a document is taken in, and how a load is refused.
 use Rattle.std.specs.Prelude.{◌≡◌, ℕ, List, Result, Err, ◌⊎◌}
 use Rattle.pool_text.specs.declared.damage.Damage.{Damage}
 use Rattle.pool_text.specs.declared.damage.Damage.TheVariants as damage
+use Rattle.shell_io.specs.declared.device.FetchFault.{FetchFault}
+use Rattle.shell_io.specs.declared.device.FetchFault.TheVariants as fetch
 use Rattle.space_state.specs.View.{SpaceView}
 use Rattle.ewig_shell.specs.declared.load.LoadFault.{LoadFault}
-use Rattle.ewig_shell.specs.declared.load.LoadFault.TheVariants.{Damaged, Memory}
+use Rattle.ewig_shell.specs.declared.load.LoadFault.TheVariants.{Missing, Large, Failed, Damaged, Memory}
 use Rattle.ewig_shell.specs.Step.{LoadsAs, given, loaded_reply}
 
 -- The fault of a document with this damage. Want of memory is none of the document.
 abbrev pub fault_of : Damage → LoadFault
 fault_of damage.Memory = Memory
 fault_of d = Damaged d
+
+-- The fault of a load whose file the store didn't give.
+abbrev pub unfetched : FetchFault → LoadFault
+unfetched fetch.Missing = Missing
+unfetched fetch.Large = Large
+unfetched fetch.Failed = Failed
+unfetched fetch.Memory = Memory
 
 -- The space takes in what the bytes stand for, or memory ran out and it stays.
 abbrev pub TakesIn : List ℕ → SpaceView → Result (Unit {0}) LoadFault → SpaceView → Type 0

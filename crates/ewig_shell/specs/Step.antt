@@ -18,15 +18,17 @@ use Rattle.plain_space.specs.Memory.{MayLackMemory}
 use Rattle.plain_space.specs.Session.{reason_of}
 use Rattle.pool_text.specs.Pool.{row_count}
 use Rattle.pool_text.specs.Document.{text, pool_in_bytes}
+use Rattle.pool_text.specs.declared.pool.Pool.{Pool}
 use Rattle.pool_text.specs.declared.damage.Damage.{Damage}
 use Rattle.pool_text.specs.declared.damage.Damage.TheVariants as damage
 use Rattle.pool_check.specs.Damages.{document_damage, IsValid}
+use Rattle.pool_check.specs.Laws.{IsDocumentOf}
 use Rattle.state_rows.specs.Standing.{StandsFor}
 use Rattle.space_state.specs.View.{SpaceView, CarriesOut}
 use Rattle.ewig_shell.specs.declared.load.LoadFault.{LoadFault}
 use Rattle.ewig_shell.specs.declared.load.LoadFault.TheVariants as unloaded
-use Rattle.ewig_shell.specs.declared.store.SaveFault.{SaveFault}
-use Rattle.ewig_shell.specs.declared.store.SaveFault.TheVariants as unsaved
+use Rattle.ewig_shell.specs.declared.save.SaveFault.{SaveFault}
+use Rattle.ewig_shell.specs.declared.save.SaveFault.TheVariants as unsaved
 
 -- What a step goes by of a store: its files, where they are told, and how often its calls have failed.
 pub record StoreView : Type 0 where
@@ -132,10 +134,12 @@ pub record KeepsFiles (old new : StoreView) : Type 0 where
   pub files : ChangesFiles old.files new.files (λ before now. now ≡ before)
   pub counted : old.faults ≤ new.faults
 
--- The bytes are the file of this name now, and no other file has changed.
-pub record IsStored (name bytes : List ℕ) (old : StoreView) (reply : List ℕ) (new : StoreView) : Type 0 where
+-- The text of the pool's document is the file of this name now, and no other file has changed. No test fails of that text, and it
+-- stands for the pool.
+pub record IsStored (name : List ℕ) (pool : Pool) (old : StoreView) (reply : List ℕ) (new : StoreView) : Type 0 where
   pub reply_is : reply ≡ reply_of (ok_line ∷ [])
-  pub files : ChangesFiles old.files new.files (λ before now. now ≡ insert before name bytes)
+  pub files : ChangesFiles old.files new.files (λ before now. now ≡ insert before name (text pool))
+  pub document : IsDocumentOf pool (text pool)
   pub counted : old.faults ≤ new.faults
 
 -- The store failed in this step, and at most the file of this name has changed.
@@ -149,7 +153,7 @@ pub record FailsToStore (name : List ℕ) (old : StoreView) (reply : List ℕ) (
 pub record Saves (name : List ℕ) (old : Machine) (reply : List ℕ) (new : Machine) : Type 0 where
   pub space : new.space ≡ old.space
   pub ends : MatchBool (is_large (text old.space.pool)) (Refuses old (codes "large") reply new)
-      (IsStored name (text old.space.pool) old.store reply new.store ⊎ FailsToStore name old.store reply new.store)
+      (IsStored name old.space.pool old.store reply new.store ⊎ FailsToStore name old.store reply new.store)
 
 -- What a file is to a load: nothing, too many bytes, or the bytes of a document or not.
 pub data Fetched : Type 0 where
@@ -167,7 +171,7 @@ pub record KeepsSpace (old : SpaceView) (reason reply : List ℕ) (new : SpaceVi
   pub reply_is : reply ≡ refusal_of reason
   pub same : new ≡ old
 
--- The pool that the document stands for is the space's now, and each of its rows was made.
+-- The pool that the document stands for is the space's now, and the number made has risen by its rows, up to 2^64 - 1.
 pub record IsLoaded (bytes : List ℕ) (old : SpaceView) (reply : List ℕ) (new : SpaceView) : Type 0 where
   pub reply_is : reply ≡ reply_of (ok_line ∷ [])
   pub pool : pool_in_bytes bytes ≡ Some new.pool

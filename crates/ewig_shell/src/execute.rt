@@ -15,7 +15,7 @@ use crate::reply::{
     equality, line_refusal, loaded, refusal, saved, send, send_done, send_lines, send_names,
     send_number, send_sizes, send_text,
 };
-use crate::store::save;
+use crate::save::save;
 use elem_core::Name;
 use shell_io::{Failed, Sink, Store};
 use shell_words::{Command, read_line};
@@ -92,10 +92,7 @@ fn went_after(command: Command<'_>) -> Went
 fn then(sent: Result<(), Failed>, went: Went) -> Result<Went, Failed>
     ensures { result ≡ sent_then sent went }
 {
-    match sent {
-        Ok(()) => Ok(went),
-        Err(failed) => Err(failed),
-    }
+    sent.map(|()| went)
 }
 
 // Does a command, and writes the reply.

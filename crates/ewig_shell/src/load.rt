@@ -4,11 +4,11 @@ ghost use Rattle.std.specs.Prelude.{◌≡◌};
 ghost use Rattle.elem_core.specs.Shown.{name_bytes};
 ghost use Rattle.shell_terms.specs.Command.{load as load_command};
 ghost use Rattle.ewig_shell.specs.Step.{ObeysOn, loaded_reply};
-ghost use Rattle.ewig_shell.specs.Loading.{TakesIn, fault_of};
+ghost use Rattle.ewig_shell.specs.Loading.{TakesIn, fault_of, unfetched};
 
-use crate::store::MOST_STORED;
+use crate::save::MOST_STORED;
 use elem_core::Name;
-use pool_check::{check, undamaged_is_valid};
+use pool_check::check;
 use pool_text::{Damage, pool_from_bytes};
 use shell_io::{FetchFault, Store};
 use space_state::Space;
@@ -42,6 +42,19 @@ impl From<Damage> for LoadFault {
     }
 }
 
+impl From<FetchFault> for LoadFault {
+    ghost from_gives = { λ fetch fault. fault ≡ unfetched fetch };
+
+    fn from(fetch: FetchFault) -> LoadFault {
+        match fetch {
+            FetchFault::Missing => LoadFault::Missing,
+            FetchFault::Large => LoadFault::Large,
+            FetchFault::Failed => LoadFault::Failed,
+            FetchFault::Memory => LoadFault::Memory,
+        }
+    }
+}
+
 /// Makes the space the one that the document in the file stands for. `Batch` exactly in a batch; else `Missing` exactly where there
 /// is no such file, and `Large` exactly where it has more than 67,108,864 bytes; `Failed` only where the store failed at this
 /// call; else `Damaged` exactly where the bytes fail a test. After a refusal the space is as it was.
@@ -57,13 +70,8 @@ pub fn load<D: Store>(
         return Err(LoadFault::Batch);
     }
     let mut bytes = Vec::new(alloc);
-    match store.fetch(file.as_str(), MOST_STORED as usize, &mut bytes) {
-        Ok(()) => take_in(alloc, space, &bytes),
-        Err(FetchFault::Missing) => Err(LoadFault::Missing),
-        Err(FetchFault::Large) => Err(LoadFault::Large),
-        Err(FetchFault::Failed) => Err(LoadFault::Failed),
-        Err(FetchFault::Memory) => Err(LoadFault::Memory),
-    }
+    store.fetch(file.as_str(), MOST_STORED as usize, &mut bytes)?;
+    take_in(alloc, space, &bytes)
 }
 
 // Makes the space the one that the bytes stand for.
@@ -72,8 +80,6 @@ fn take_in(alloc: Global, space: &mut Space, bytes: &[u8]) -> Result<(), LoadFau
 {
     let pool = pool_from_bytes(alloc, bytes, space.bits())?;
     let checked = check(alloc, pool)?;
-    // Nothing is run here: the call cites that a pool without damage is valid.
-    undamaged_is_valid();
     match space.take_pool(checked) {
         Ok(()) => Ok(()),
         // No batch is open where this is called.

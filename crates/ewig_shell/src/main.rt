@@ -2,11 +2,12 @@
 #![tactic(auto)]
 
 mod execute;
+mod laws;
 mod load;
 mod page;
 mod reply;
 mod run;
-mod store;
+mod save;
 #[cfg(test)]
 mod tests;
 

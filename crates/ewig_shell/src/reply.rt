@@ -8,7 +8,7 @@ ghost use Rattle.ewig_shell.specs.Step.{reply_of, refusal_of, done_reply, equali
 
 use crate::load::LoadFault;
 use crate::page::Page;
-use crate::store::SaveFault;
+use crate::save::SaveFault;
 use elem_core::Text;
 use itoa::Buffer;
 use pool_text::Damage;

@@ -14,8 +14,9 @@ struct Devices<'a> {
     sink_piece: usize,
     sink_fails: &'a [u64],
     room: usize,
+    fetch_fails: &'a [u64],
     keep_fails: &'a [u64],
-    held: &'a str,
+    held: &'a [u8],
 }
 
 // Devices that give and take all at once, never fail, and have room for more than any row writes.
@@ -25,8 +26,9 @@ const WHOLE: Devices<'static> = Devices {
     sink_piece: 1_000_000,
     sink_fails: &[],
     room: 200_000,
+    fetch_fails: &[],
     keep_fails: &[],
-    held: "",
+    held: &[],
 };
 
 // Runs the input, compares what is written and how the run ends, and gives the store that it left.
@@ -47,10 +49,11 @@ fn left_by<R: Abort + AllocGlobal>(
     );
     let sink_fails = devices.sink_fails.to_vec(alloc)?;
     let mut sink = MemSink::new(alloc, devices.room, devices.sink_piece.max(1), sink_fails)?;
+    let fetch_fails = devices.fetch_fails.to_vec(alloc)?;
     let keep_fails = devices.keep_fails.to_vec(alloc)?;
-    let mut store = MemStore::new(alloc, Vec::new(alloc), keep_fails);
+    let mut store = MemStore::new(alloc, fetch_fails, keep_fails);
     if !devices.held.is_empty() {
-        assert!(rt; store.keep("d", devices.held.as_bytes()).is_ok());
+        assert!(rt; store.keep("d", devices.held).is_ok());
     }
     let ended = run_upto(
         alloc,
@@ -215,7 +218,7 @@ fn loads_the_pool_of_a_document(rt: HostRuntime) -> Result<(), Fail> {
     ];
     for (input, written) in rows {
         let devices = Devices {
-            held: TWO_CELLS,
+            held: TWO_CELLS.as_bytes(),
             ..WHOLE
         };
         let store = left_by(&rt, input, 1 << 40, &devices, written, Status::Done)?;
@@ -224,23 +227,140 @@ fn loads_the_pool_of_a_document(rt: HostRuntime) -> Result<(), Fail> {
     Ok(())
 }
 
-// The document of a new space is loaded, saved again and listed.
-#[test]
-fn loads_the_document_of_a_new_space(rt: HostRuntime) -> Result<(), Fail> {
+// The document of a new space with spaces in it, so not compact.
+const SPACED: &str =
+    r#"{"bits": 32,"format":"ewig-pool","roots":[2,3,4,5],"rows":[["m",0,0,0,[]],["m",0,0,0,[]],["s",[0,1]],["m",0,0,0,[]],["l",[]],["l",[]]],"version":1}"#;
+
+// A document of a new space is stored as the compact one.
+fn stores_it_compactly<R: Abort + AllocGlobal>(rt: &R, held: &str) -> Result<(), Fail> {
     let devices = Devices {
-        held: START,
+        held: held.as_bytes(),
         ..WHOLE
     };
-    let input = b"load d\nsave e\nlist\nstats\n";
     let store = left_by(
-        &rt,
-        input,
+        rt,
+        b"load d\nsave e\nlist\nstats\n",
         1 << 40,
         &devices,
         b"ok\nok\nok\n= 6\n",
         Status::Done,
     )?;
     assert_eq!(rt; store.file("e"), Some(START.as_bytes()));
+    Ok(())
+}
+
+#[test]
+fn stores_the_compact_text_of_what_was_loaded(rt: HostRuntime) -> Result<(), Fail> {
+    stores_it_compactly(&rt, START)?;
+    stores_it_compactly(&rt, SPACED)
+}
+
+#[test]
+fn keeps_space_and_files_where_the_store_fails(rt: HostRuntime) -> Result<(), Fail> {
+    // The first keep puts the file there.
+    let devices = Devices {
+        fetch_fails: &[0],
+        keep_fails: &[1],
+        held: START.as_bytes(),
+        ..WHOLE
+    };
+    let store = left_by(
+        &rt,
+        b"new a\nsave d\nload d\nlen a\nload d\nlen a\n",
+        1 << 40,
+        &devices,
+        b"ok\n! fault\n! fault\n= 0\nok\n! none\n",
+        Status::Done,
+    )?;
+    assert_eq!(rt; store.file("d"), Some(START.as_bytes()));
+    Ok(())
+}
+
+// A document in sixteen rows, of which one is an undo of 4,294,967,295 times the same state.
+fn full_undo<R: AllocGlobal>(rt: &R) -> Result<String, Fail> {
+    // Of each row behind the first two: how it begins, how many links it has to one row, and its last link.
+    let rows: [(&str, u32, u32, u32); 12] = [
+        (r#""l""#, 31, 1, 1),
+        (r#""i",1"#, 31, 2, 2),
+        (r#""i",2"#, 31, 3, 3),
+        (r#""i",3"#, 31, 4, 4),
+        (r#""i",4"#, 31, 5, 5),
+        (r#""i",5"#, 31, 6, 6),
+        (r#""l""#, 30, 1, 1),
+        (r#""i",1"#, 31, 2, 8),
+        (r#""i",2"#, 31, 3, 9),
+        (r#""i",3"#, 31, 4, 10),
+        (r#""i",4"#, 31, 5, 11),
+        (r#""i",5"#, 31, 6, 12),
+    ];
+    let mut text = String::from_str(
+        rt.alloc(),
+        r#"{"bits":32,"format":"ewig-pool","roots":[1,0,14,15],"rows":[["m",0,0,0,[]],["s",[0,0]],"#,
+    )?;
+    for (begin, many, link, last) in rows {
+        write!(text, "[{begin},[")?;
+        for _ in 0..many {
+            write!(text, "{link},")?;
+        }
+        write!(text, "{last}]],")?;
+    }
+    text.push_str(r#"["i",6,[7,7,7,13]],["l",[]]],"version":1}"#)?;
+    Ok(text)
+}
+
+#[test]
+fn refuses_an_edit_where_undo_is_full(rt: HostRuntime) -> Result<(), Fail> {
+    let held = full_undo(&rt)?;
+    let devices = Devices {
+        held: held.as_bytes(),
+        ..WHOLE
+    };
+    let store = left_by(
+        &rt,
+        b"load d\nsave e\nstats\nnew a\nundo\nnew a\n",
+        1 << 40,
+        &devices,
+        b"ok\nok\n= 16\n! limit\nok\nok\n",
+        Status::Done,
+    )?;
+    assert_eq!(rt; store.file("e"), Some(held.as_bytes()));
+    Ok(())
+}
+
+#[test]
+fn refuses_a_file_of_a_byte_too_many(rt: HostRuntime) -> Result<(), Fail> {
+    let held = vec![in rt.alloc(); b' '; 67_108_865]?;
+    let devices = Devices {
+        held: &held,
+        ..WHOLE
+    };
+    check(
+        &rt,
+        b"new a\nload d\nlen a\n",
+        1 << 40,
+        &devices,
+        b"ok\n! large\n= 0\n",
+        Status::Done,
+    )
+}
+
+#[test]
+fn refuses_a_document_that_is_large(rt: HostRuntime) -> Result<(), Fail> {
+    let alloc = rt.alloc();
+    // Each byte of these lines takes six in a document: 171 * 65,530 * 6 is more than 67,108,864.
+    let line = vec![in alloc; 1u8; 65_530]?;
+    let mut input = Vec::from_slice(alloc, b"new a\n")?;
+    let mut written = Vec::from_slice(alloc, b"ok\n")?;
+    for _ in 0..171u32 {
+        input.extend_from_slice(b"add a ")?;
+        input.extend_from_slice(&line)?;
+        input.extend_from_slice(b"\n")?;
+        written.extend_from_slice(b"ok\n")?;
+    }
+    input.extend_from_slice(b"save f\nlen a\n")?;
+    written.extend_from_slice(b"! large\n= 171\n")?;
+    let store = left_by(&rt, &input, 1 << 40, &WHOLE, &written, Status::Done)?;
+    assert_eq!(rt; store.file("f"), None);
     Ok(())
 }
 
@@ -288,7 +408,10 @@ fn refuses_documents_with_damage(rt: HostRuntime) -> Result<(), Fail> {
 // A load of the document is refused with the word of the first test that it fails.
 fn refuses<R: Abort + AllocGlobal>(rt: &R, held: &str, word: &str) -> Result<(), Fail> {
     let written = format!(in rt.alloc(); "ok\n! damaged {word}\n= 0\n")?;
-    let devices = Devices { held, ..WHOLE };
+    let devices = Devices {
+        held: held.as_bytes(),
+        ..WHOLE
+    };
     check(
         rt,
         b"new a\nload d\nlen a\n",

@@ -186,16 +186,17 @@ impl Space {
         self.rows.eqv(version, other)
     }
 
-    /// The pool of the space: its rows, each once, with places for links. It takes time and memory for the rows, their links and
-    /// their texts.
+    /// The pool of the space, which is valid: its rows, each once, with places for links. It takes time and memory for the rows,
+    /// their links and their texts.
     pub fn pool(&self, alloc: Global) -> Result<Pool, NoMemory>
-        ensures { IfOk result (λ pool. pool ≡ self.now.pool) }
+        ensures value { IfOk result (λ pool. pool ≡ self.now.pool) }
+        ensures valid { IsValid self.now.pool }
     {
         self.rows.pool(alloc)
     }
 
-    /// Puts the checked pool in place of the space's, with each of its rows made anew before the old ones are given up.
-    /// `Batch` in a batch. The pool goes by as many bits as the space.
+    /// Puts the checked pool in place of the space's; the number made rises by its rows. `Batch` in a batch. The pool goes by as
+    /// many bits as the space.
     pub fn take_pool(&mut self, checked: Checked<Text>) -> Result<(), Refusal>
         requires bits { checked.bits ≡ self.old.pool.bits }
         ensures { Takes checked self.old result self.new }

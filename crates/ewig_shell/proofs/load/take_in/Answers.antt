@@ -1,7 +1,6 @@
-use Rattle.std.proofs.Common.{◌≡◌, ◌∙◌, sym, ap, subst, refl, inr, Some, None, ℕ, ◌+◌, ◌-◌, ◌^◌, min}
+use Rattle.std.proofs.Common.{◌≡◌, ◌∙◌, subst, refl, inr, Some, None, ℕ, ◌+◌, ◌-◌, ◌^◌, min}
 use Rattle.pool_text.specs.Document.{bytes_damage}
 use Rattle.pool_text.specs.Pool.{row_count}
-use Rattle.pool_text.specs.declared.damage.Damage.{Damage}
 use Rattle.pool_text.specs.declared.pool.Pool.{Pool}
 use Rattle.ewig_shell.proofs.LoadLemmas.{TakesIn-damaged, TakesIn-ok, taken, untaken, read_damage, pool_damage}
 use Rattle.ewig_shell.proofs.load.take_in.Goals as goal
@@ -26,7 +25,7 @@ returns-in-Ok c =
     TakesIn-ok c.args.bytes.now c.args.space.now c.take_pool.new.self c.in_ok-pool.pool c.in_ok-pool.ensures.pool (c.in_ok-pool.ensures.bits ∙ c.bits.ensures.kept)
     (pool_damage c.args.space.now.pool.bits c.args.bytes.now c.in_ok-pool.pool None
     (subst (λ (b : ℕ). bytes_damage b c.args.bytes.now ≡ None) c.bits.ensures.kept c.in_ok-pool.ensures.whole) c.in_ok-pool.ensures.pool c.in_ok-checked.ensures.whole)
-    ((c.undamaged_is_valid.ensures c.in_ok-pool.pool).0 c.in_ok-checked.ensures.whole)
+    c.in_ok-checked.ensures.valid
     (done.pool ∙ c.in_ok-checked.ensures.same) (subst (λ (P : Pool). c.take_pool.new.self.made ≡ min (c.args.space.now.made + row_count P) (2 ^ 64 - 1)) c.in_ok-checked.ensures.same done.made)
 
 pub returns-in-Err : goal.returns-in-Err

@@ -3,7 +3,8 @@
 ghost use Rattle.std.specs.Prelude.{◌≡◌};
 ghost use Rattle.elem_core.specs.Shown.{name_bytes};
 ghost use Rattle.shell_terms.specs.Command.{save as save_command};
-ghost use Rattle.ewig_shell.specs.declared.store.SaveFault.TheVariants.{Memory};
+ghost use Rattle.ewig_shell.specs.declared.save.SaveFault.TheVariants.{Memory};
+ghost use Rattle.ewig_shell.specs.Saving.{unkept};
 ghost use Rattle.ewig_shell.specs.Step.{ObeysOn, saved_reply};
 
 use elem_core::{Name, NoMemory};
@@ -36,6 +37,17 @@ impl From<NoMemory> for SaveFault {
     }
 }
 
+impl From<KeepFault> for SaveFault {
+    ghost from_gives = { λ kept fault. fault ≡ unkept kept };
+
+    fn from(kept: KeepFault) -> SaveFault {
+        match kept {
+            KeepFault::Failed => SaveFault::Failed,
+            KeepFault::Memory => SaveFault::Memory,
+        }
+    }
+}
+
 /// Stores the document of the space's pool in the file. `Batch` exactly in a batch, else `Large` exactly where the document has more
 /// than 67,108,864 bytes; `Failed` only where the store failed at this call, and then what the file holds is open. How long the
 /// document would be is known before it is made.
@@ -55,9 +67,6 @@ pub fn save<D: Store>(
         return Err(SaveFault::Large);
     }
     let bytes = to_bytes(alloc, &pool)?;
-    match store.keep(file.as_str(), &bytes) {
-        Ok(()) => Ok(()),
-        Err(KeepFault::Failed) => Err(SaveFault::Failed),
-        Err(KeepFault::Memory) => Err(SaveFault::Memory),
-    }
+    store.keep(file.as_str(), &bytes)?;
+    Ok(())
 }

@@ -1,0 +1,10 @@
+-- How a save is refused.
+use Rattle.shell_io.specs.declared.device.KeepFault.{KeepFault}
+use Rattle.shell_io.specs.declared.device.KeepFault.TheVariants as kept
+use Rattle.ewig_shell.specs.declared.save.SaveFault.{SaveFault}
+use Rattle.ewig_shell.specs.declared.save.SaveFault.TheVariants as unsaved
+
+-- The fault of a save whose file the store didn't keep.
+abbrev pub unkept : KeepFault → SaveFault
+unkept kept.Failed = unsaved.Failed
+unkept kept.Memory = unsaved.Memory
