@@ -6,10 +6,7 @@
 # COUNT in the environment takes the place of the thousand.
 set -eu
 . "$(dirname -- "$0")/shared.sh"
-count=${COUNT:-1000}
-begin
-program=$top/crates/ewig_shell/out/ewig_shell
-"$top/ewig" </dev/null >/dev/null
+begin_shell 1000
 
 report "$count" "$work" "$program" <<'PYTHON'
 import sys

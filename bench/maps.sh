@@ -652,15 +652,8 @@ fn main() {
 }
 RUST
 
-if ! command -v rustc > /dev/null; then
-    echo "There is no Rust compiler here: this repository's maps alone."
-elif cargo_builds; then
-    runs+=("im_rc of Rc, persistent|$built|counted" "im_rc of Rc, own codes|$built|coded" "im_rc, persistent|$built|kept")
-    runs+=("im_rc, in place|$built|in_place" "std HashMap, in place|$built|plain")
-else
-    build_without
-    runs+=("std HashMap, in place|$built|plain")
-fi
+add_runs "im_rc of Rc, persistent|counted" "im_rc of Rc, own codes|coded" "im_rc, persistent|kept" \
+    "im_rc, in place|in_place" "std HashMap, in place|plain"
 
 report "$count" "${runs[@]}" <<'PYTHON'
 import sys

@@ -5,10 +5,7 @@
 # COUNT in the environment takes the place of n, which is 10,000.
 set -eu
 . "$(dirname -- "$0")/shared.sh"
-count=${COUNT:-10000}
-begin
-program=$top/crates/ewig_shell/out/ewig_shell
-"$top/ewig" </dev/null >/dev/null
+begin_shell 10000
 
 report "$count" "$work" "$program" <<'PYTHON'
 import os, sys

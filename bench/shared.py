@@ -9,11 +9,26 @@ def programs(arguments):
     return [argument.split("|") for argument in arguments]
 
 
+def spans_of(lines):
+    """The wall and the processor seconds of each phase, from the words of the lines that a program told.
+
+    A line has the phase that it ends, the two clocks in seconds and nanoseconds, and a number that all programs must agree
+    on. A line `start` ends no phase.
+    """
+    spans = []
+    for before, after in zip(lines, lines[1:]):
+        if after[0] != "start":
+            start, end = ([int(word) for word in line[1:5]] for line in (before, after))
+            wall = end[0] - start[0] + (end[1] - start[1]) / 1e9
+            used = end[2] - start[2] + (end[3] - start[3]) / 1e9
+            spans.append((wall, used))
+    return spans
+
+
 def once(program, word, first):
     """What one run told: the wall and the processor seconds of each phase, the peak megabytes, and the numbers.
 
-    A line has the phase that it ends, the two clocks in seconds and nanoseconds, and a number that all programs must agree
-    on. A line `start` ends no phase. The peak is read after the first lines, before the program goes on.
+    The peak is read after the first lines, before the program goes on.
     """
     child = subprocess.Popen([program] + word.split(), stdin=subprocess.PIPE, stdout=subprocess.PIPE, text=True)
     lines = [child.stdout.readline().split() for _ in range(first)]
@@ -22,14 +37,7 @@ def once(program, word, first):
     lines += [line.split() for line in child.communicate("\n")[0].splitlines()]
     if child.returncode != 0:
         sys.exit(f"{program} {word} ended with {child.returncode}")
-    spans = []
-    for before, after in zip(lines, lines[1:]):
-        if after[0] != "start":
-            start, end = ([int(word) for word in line[1:5]] for line in (before, after))
-            wall = end[0] - start[0] + (end[1] - start[1]) / 1e9
-            used = end[2] - start[2] + (end[3] - start[3]) / 1e9
-            spans.append((wall, used))
-    return spans, peak / 1e6, [int(line[5]) for line in lines]
+    return spans_of(lines), peak / 1e6, [int(line[5]) for line in lines]
 
 
 def best_of_three(runs, first, what):

@@ -13,6 +13,15 @@ begin() {
     trap 'rm -rf -- "$work"' EXIT
 }
 
+# begin_shell COUNT: begins a bench of the shell, with so many turns, or as many as COUNT in the environment says. Where the shell
+# isn't proved and built yet, that is done first.
+begin_shell() {
+    count=${COUNT:-$1}
+    begin
+    program=$top/crates/ewig_shell/out/ewig_shell
+    "$top/ewig" </dev/null >/dev/null
+}
+
 # copy_crates NAME..: copies these crates to where the bench works.
 copy_crates() {
     local name
@@ -46,11 +55,9 @@ prove_and_build() {
     fi
 }
 
-# add_measures SUM: adds to the program what it measures with. SUM is the type of the numbers that it tells.
-add_measures() {
+# add_tell SUM: adds to the program what tells the clocks. SUM is the type of the numbers that it tells.
+add_tell() {
     cat >> "$crate/src/main.rt" <<PROGRAM
-
-const COUNT: u32 = $count;
 
 // Prints the two clocks in seconds and nanoseconds, and a number that all programs must agree on.
 fn tell(rt: &(impl Print + Clock + CpuClock), phase: &str, sum: $1) -> io::Result<()> {
@@ -65,6 +72,15 @@ fn tell(rt: &(impl Print + Clock + CpuClock), phase: &str, sum: $1) -> io::Resul
         used.subsec_nanos()
     )
 }
+PROGRAM
+}
+
+# add_measures SUM: adds to the program what it measures with. SUM is the type of the numbers that it tells.
+add_measures() {
+    add_tell "$1"
+    cat >> "$crate/src/main.rt" <<PROGRAM
+
+const COUNT: u32 = $count;
 
 // The next of a row of scattered numbers.
 fn scattered(seed: u32) -> u32 {
@@ -242,8 +258,10 @@ $call-requires-clause-good c =
 PROOF
 }
 
-# begin_rust NAME: begins the Rust program, whose feature `shared` stands for `im_rc`, with what it measures with.
+# begin_rust NAME [DEPENDENCY]: begins the Rust program, whose feature `shared` stands for `im_rc`, or for another crate by
+# its line in Cargo.toml, with what it measures with.
 begin_rust() {
+    local dependency=${2:-'im-rc = "15.1"'}
     rust=$work/$1
     built=$rust/target/release/$1
     mkdir -p "$rust/src"
@@ -259,7 +277,7 @@ default = ["shared"]
 shared = []
 
 [dependencies]
-im-rc = "15.1"
+$dependency
 
 [profile.release]
 opt-level = 3
@@ -337,7 +355,7 @@ impl Element for std::rc::Rc<u32> {
 RUST
 }
 
-# cargo_builds: whether cargo builds the Rust program with `im_rc`.
+# cargo_builds: whether cargo builds the Rust program with the crate that it depends on.
 cargo_builds() {
     local build=(cargo build --release --offline)
     if [ -n "$setup" ]; then
@@ -346,9 +364,9 @@ cargo_builds() {
     command -v cargo > /dev/null && (cd "$rust" && CARGO_TARGET_DIR=$rust/target "${build[@]}" > "$work/cargo.log" 2>&1)
 }
 
-# say_without: says that the figures of `im_rc` are left out.
+# say_without [CRATE]: says that the figures of `im_rc`, or of another crate, are left out.
 say_without() {
-    echo "Cargo does not build with \`im_rc\` here: without it. Give the folder of a cargo set-up that has it."
+    echo "Cargo does not build with \`${1:-im_rc}\` here: without it. Give the folder of a cargo set-up that has it."
 }
 
 # build_without: says so and builds the rest of the Rust program.
@@ -356,6 +374,23 @@ build_without() {
     say_without
     mkdir -p "$(dirname "$built")"
     rustc --edition 2021 -A unexpected_cfgs -A dead_code -C opt-level=3 -C codegen-units=1 -o "$built" "$rust/src/main.rs"
+}
+
+# add_runs RUN.. PLAIN: adds runs of the Rust program to `runs`, each as `NAME|WORD`: all of them where cargo builds it, and else
+# the last, which needs no `im_rc`. Without a Rust compiler there is none.
+add_runs() {
+    local run
+    if ! command -v rustc > /dev/null; then
+        echo "There is no Rust compiler here: this repository alone."
+        return
+    fi
+    if ! cargo_builds; then
+        build_without
+        shift $(($# - 1))
+    fi
+    for run; do
+        runs+=("${run%|*}|$built|${run##*|}")
+    done
 }
 
 # report ARGUMENT..: runs the Python on its input, which finds shared.py.

@@ -5,10 +5,8 @@
 # COUNT in the environment takes the place of the million.
 set -eu
 . "$(dirname -- "$0")/shared.sh"
-begin
+begin_shell 1000000
 other=${1:+$(readlink -f -- "$1")}
-program=$top/crates/ewig_shell/out/ewig_shell
-"$top/ewig" </dev/null >/dev/null
 
 python3 - "$count" "$work/input" <<'PYTHON'
 import sys

@@ -201,15 +201,7 @@ fn main() {
 }
 RUST
 
-if ! command -v rustc > /dev/null; then
-    echo "There is no Rust compiler here: this repository's vectors alone."
-elif cargo_builds; then
-    runs+=("im_rc of Rc, persistent|$built|counted" "im_rc, persistent|$built|kept")
-    runs+=("im_rc, in place|$built|in_place" "Vec, in place|$built|plain")
-else
-    build_without
-    runs+=("Vec, in place|$built|plain")
-fi
+add_runs "im_rc of Rc, persistent|counted" "im_rc, persistent|kept" "im_rc, in place|in_place" "Vec, in place|plain"
 
 report "$count" "${runs[@]}" <<'PYTHON'
 import sys
