@@ -405,7 +405,7 @@ def hurting():
         ("a text to the limit", b'"' + b"x" * (MOST_BYTES - 2) + b'"', "! damaged form"),
         ("a million cells", many, "! damaged kind"),
         ("a million links", wide, "! damaged row"),
-        ("an array of zeros", b"[" + b"0," * (MOST_BYTES // 2 - 1) + b"0]", "! damaged form"),
+        ("an array of zeros", b"[" + b"0," * (MOST_BYTES // 2 - 2) + b"0]", "! damaged form"),
         ("only zeros", b"\x00" * 1000, "! damaged json"),
         ("no bytes", b"", "! damaged json"),
         ("half of a pair", pool_reader.whole([["c", "x"], *rows], [3, 4, 5, 6]).replace(b'"x"', b'"\\udc00"'),
