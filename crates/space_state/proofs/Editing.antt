@@ -13,7 +13,7 @@ use Rattle.elem_core.specs.Cell.{IsCell}
 use Rattle.elem_core.specs.Codes.{text_code, masked_code}
 use Rattle.node_heap.specs.Links.{here}
 use Rattle.node_heap.specs.Forms.{cell, form_of}
-use Rattle.node_heap.specs.Heap.{Heap, form_at, hold_count, HasSpares, IsGraph}
+use Rattle.node_heap.specs.Heap.{Heap, form_at, holds_at, hold_count, HasSpares, IsGraph}
 use Rattle.node_heap.specs.Calls.{Extends, Adds, Makes, Answered, Releases}
 use Rattle.node_heap.proofs.Frames.{Extends-trans}
 use Rattle.node_heap.proofs.GraphLemmas.{IsGraph-kinds}
@@ -49,7 +49,7 @@ use Rattle.state_rows.proofs.Keys.{by_bytes}
 use Rattle.space_state.specs.declared.roots.RootedHeap.{RootedHeap}
 use Rattle.space_state.specs.Roots.{Keeps}
 use Rattle.space_state.specs.Turns.{IsDue, IsSame, TurnsTo, IsDone, IsRefused}
-use Rattle.space_state.proofs.Keeping.{Rises, rises-grows, rises-then, rises-same, rises-more, keeps-extended, keeps-gained, keeps-same, grows-cell, keeps-turned, keeps-swapped, keeps-released, released-stands, first-counts, unchanged-stands, turns-after}
+use Rattle.space_state.proofs.Keeping.{Rises, rises-grows, rises-then, rises-same, rises-more, keeps-extended, keeps-gained, keeps-same, grows-cell, keeps-turned, keeps-swapped, keeps-released, released-stands, first-held, first-counts, unchanged-stands, turns-after}
 
 -- ## Lists that go together
 
@@ -340,23 +340,56 @@ pub lines-same : {s t : RootedHeap} {l : ℕ} {xs : List Bytes} → IsSame s t �
 lines-same {s} {t} {l} {xs} same are =
     subst (λ (b : ℕ). AreLinesIn t.heap b l xs) (sym same.bits) ((unchanged-stands s.bits same.heap l).lines xs are)
 
--- after room was made, a text was made in a cell beside the lines of a buffer
-pub record HasText (t : RootedHeap) (mid : Heap Bytes) (k l : ℕ) (text : Bytes) (xs : List Bytes) (W : Workspace) : Type 0 where
+-- ## What is known once room was made
+
+-- nothing but spares has changed, undo has room, and there are spares for an edit of the buffer, whose name is the key
+pub record MadeRoom (s t : RootedHeap) (key name : Bytes) (W : Workspace) : Type 0 where
+  pub same : IsSame s t
+  pub named : key ≡ name
+  pub free : is_full W ≡ false
+  pub spares : HasSpares t.heap 2 (128 + alike_buffers s.bits W.current name)
+
+pub made-room : {s t : RootedHeap} {key name : Bytes} (W : Workspace) → IsSame s t → key ≡ name → (is_full W ≡ false) × HasSpares t.heap 2 (128 + alike_buffers s.bits W.current name) → MadeRoom s t key name W
+made-room W same named room = record { same = same; named = named; free = room.0; spares = room.1 }
+
+-- the lines that a buffer was found to have are there still
+pub record HasLines (s t : RootedHeap) (l : ℕ) (name : Bytes) (W : Workspace) : Type 0 where
+  pub xs : List Bytes
+  pub found : lines_of W.current name ≡ Some xs
+  pub before : AreLinesIn s.heap s.bits l xs
+  pub now : AreLinesIn t.heap t.bits l xs
+
+pub has-lines : {s t : RootedHeap} {l : ℕ} {name : Bytes} {W : Workspace} → IsSame s t → IsSomeAnd (lines_of W.current name) (AreLinesIn s.heap s.bits l) → HasLines s t l name W
+has-lines {s} {t} {l} {name} {W} same is =
+    let lines = found-lines s l W.current name is in
+    record { xs = lines.0; found = lines.1; before = lines.2; now = lines-same same lines.2 }
+
+-- a line's text is in a new cell, which is held, and the buffer's lines are there still
+pub record HasText (s t : RootedHeap) (mid : Heap Bytes) (k l : ℕ) (key name text : Bytes) (W : Workspace) : Type 0 where
+  pub room : MadeRoom s t key name W
+  pub lines : HasLines s (record t { heap = mid }) l name W
   pub keeps : Keeps t [] W
   pub grows : Grows t.heap mid [] (k ∷ []) 1 0
-  pub lines : AreLinesIn mid t.bits l xs
+  pub held : 0 < holds_at mid k
+  pub nodes : 128 ≤ mid.spare_nodes
   pub adds : Adds t.heap mid k (cell text)
   pub is : IsCell text
 
-pub has-text : {s t : RootedHeap} {mid : Heap Bytes} {k l : ℕ} {made text : Bytes} {xs : List Bytes} {W : Workspace} → Keeps s [] W → IsSame s t → AreLinesIn s.heap s.bits l xs → IsCell text → made ≡ text
-    → Adds t.heap mid k (cell made) → Makes t.heap mid 1 0 → hold_count mid ≡ hold_count t.heap + 1 → IsGraph mid → Extends t.heap mid → HasText t mid k l text xs W
-has-text {s} {t} {mid} {k} {l} {made} {text} {xs} {W} K same are is same_text adds makes total graph extends = record {
-  keeps = keeps-same same K;
-  grows = grows-cell extends graph adds total makes;
-  lines = lines-stay extends (lines-same same are);
-  adds = subst (λ (b : Bytes). Adds t.heap mid k (cell b)) same_text adds;
-  is = is;
-}
+pub has-text : {s t : RootedHeap} {mid : Heap Bytes} {k l : ℕ} {key name made text : Bytes} {W : Workspace} → Keeps s [] W → MadeRoom s t key name W → IsSomeAnd (lines_of W.current name) (AreLinesIn s.heap s.bits l)
+    → IsCell text → made ≡ text → Adds t.heap mid k (cell made) → Makes t.heap mid 1 0 → hold_count mid ≡ hold_count t.heap + 1 → IsGraph mid → Extends t.heap mid → HasText s t mid k l key name text W
+has-text {s} {t} {mid} {k} {l} {key} {name} {made} {text} {W} K room is cell_is same_text adds makes total graph extends =
+    let lines = found-lines s l W.current name is in
+    let grows = grows-cell extends graph adds total makes in
+    record {
+      room = room;
+      lines = record { xs = lines.0; found = lines.1; before = lines.2; now = lines-stay extends (lines-same room.same lines.2) };
+      keeps = keeps-same room.same K;
+      grows = grows;
+      held = first-held (keeps-gained (keeps-same room.same K) grows);
+      nodes = omega (arith, room.spares.1, makes.spare_nodes);
+      adds = subst (λ (b : Bytes). Adds t.heap mid k (cell b)) same_text adds;
+      is = cell_is;
+    }
 
 -- ## Vectors that were made
 
@@ -406,25 +439,30 @@ made-again {s} {new} {k} {l} {xs} K g same lines = record {
 }
 
 -- the vector that an edit made with the new cell
-module _ {t : RootedHeap} {mid new : Heap Bytes} {k l v n : ℕ} {text : Bytes} {xs : List Bytes} {W : Workspace} (has : HasText t mid k l text xs W) (a : Answered mid new (k ∷ []) v 0 n) (good : IsGoodVector new v) where
+module _ {s t : RootedHeap} {mid new : Heap Bytes} {k l v n : ℕ} {key name text : Bytes} {W : Workspace} (has : HasText s t mid k l key name text W) (a : Answered mid new (k ∷ []) v 0 n) (good : IsGoodVector new v) where
   made-of : (es : List ℕ) (ys : List Bytes) → elements new v ≡ es → AreTexts new t.bits es ys → IsMade t new [] v ys W 1 n
   made-of es ys items texts = made-with has.keeps has.grows a (lines-are es good items texts)
 
-  kept : AreTexts new t.bits (elements mid l) xs
-  kept = texts-stay a.extends has.lines
+  kept : AreTexts new t.bits (elements mid l) has.lines.xs
+  kept = texts-stay a.extends has.lines.now
 
   alone : IsText (form_at new) (IsGoodVector new) t.bits k text
   alone = text-made has.adds a.extends has.is
 
-  pub longer : elements new v ≡ elements mid l ++ k ∷ [] → IsMade t new [] v (xs ++ text ∷ []) W 1 n
-  longer items = made-of (elements mid l ++ k ∷ []) (xs ++ text ∷ []) items (zip-append (IsText (form_at new) (IsGoodVector new) t.bits) (elements mid l) (k ∷ []) xs (text ∷ []) kept (alone, tt))
+  pub longer : elements new v ≡ elements mid l ++ k ∷ [] → IsMade t new [] v (has.lines.xs ++ text ∷ []) W 1 n
+  longer items =
+      let R : ℕ → Bytes → Type 0 = IsText (form_at new) (IsGoodVector new) t.bits in
+      made-of (elements mid l ++ k ∷ []) (has.lines.xs ++ text ∷ []) items (zip-append R (elements mid l) (k ∷ []) has.lines.xs (text ∷ []) kept (alone, tt))
 
-  pub changed : (i : ℕ) → elements new v ≡ set (elements mid l) i k → IsMade t new [] v (set xs i text) W 1 n
-  changed i items = made-of (set (elements mid l) i k) (set xs i text) items (zip-set (IsText (form_at new) (IsGoodVector new) t.bits) i k text alone (elements mid l) xs kept)
+  pub changed : (i : ℕ) → elements new v ≡ set (elements mid l) i k → IsMade t new [] v (set has.lines.xs i text) W 1 n
+  changed i items =
+      let R : ℕ → Bytes → Type 0 = IsText (form_at new) (IsGoodVector new) t.bits in
+      made-of (set (elements mid l) i k) (set has.lines.xs i text) items (zip-set R i k text alone (elements mid l) has.lines.xs kept)
 
-  pub inserted : (i : ℕ) → elements new v ≡ take i (elements mid l) ++ k ∷ drop i (elements mid l) → IsMade t new [] v (insert xs i text) W 1 n
+  pub inserted : (i : ℕ) → elements new v ≡ take i (elements mid l) ++ k ∷ drop i (elements mid l) → IsMade t new [] v (insert has.lines.xs i text) W 1 n
   inserted i items =
       let R : ℕ → Bytes → Type 0 = IsText (form_at new) (IsGoodVector new) t.bits in
+      let xs : List Bytes = has.lines.xs in
       made-of (take i (elements mid l) ++ k ∷ drop i (elements mid l)) (insert xs i text) items
       (zip-append R (take i (elements mid l)) (k ∷ drop i (elements mid l)) (take i xs) (text ∷ drop i xs) (zip-take R i (elements mid l) xs kept) (alone, zip-drop R i (elements mid l) xs kept))
 
@@ -509,25 +547,26 @@ cost-edit bits change W = refl
 pub alike-same : {s t : RootedHeap} → IsSame s t → (now : State) (name : Bytes) → alike_buffers t.bits now name ≡ alike_buffers s.bits now name
 alike-same same now name = λ i. alike_buffers (same.bits i) now name
 
--- spares are left to put the lines into their buffer
-pub spares-left : {s t : RootedHeap} {new : Heap Bytes} {l c n : ℕ} {xs : List Bytes} {W : Workspace} {key name : Bytes} → IsSame s t → key ≡ name → IsMade t new [] l xs W c n
-    → HasSpares t.heap 2 (128 + alike_buffers s.bits W.current name) → c ≤ 1 → n ≤ 100 → HasSpares new 1 (20 + alike_buffers t.bits W.current key)
-spares-left {s} {t} {W = W} {key = key} {name = name} same is m spares few_cells few_nodes =
-    let one : alike_buffers t.bits W.current key ≡ alike_buffers s.bits W.current name = (λ i. alike_buffers (same.bits i) W.current (is i)) in
-    (omega (arith, m.cells, spares.0, few_cells), omega (arith, m.nodes, spares.1, few_nodes, one))
+-- room was made and so were the lines: all that it takes to put them into their buffer
+pub can-put : {s t : RootedHeap} {new : Heap Bytes} {l c n : ℕ} {xs : List Bytes} {W : Workspace} {key name : Bytes} → MadeRoom s t key name W → IsMade t new [] l xs W c n → c ≤ 1 → n ≤ 100
+    → (V : Workspace) × (ys : List Bytes) × Keeps (record t { heap = new }) (l ∷ []) V × AreLinesIn new t.bits l ys × (is_full V ≡ false) × HasSpares new 1 (20 + alike_buffers t.bits V.current key)
+can-put {s} {t} {xs = xs} {W = W} {key = key} {name = name} room m few_cells few_nodes =
+    let alike : alike_buffers t.bits W.current key ≡ alike_buffers s.bits W.current name = (λ i. alike_buffers (room.same.bits i) W.current (room.named i)) in
+    (W, xs, m.keeps, m.lines, room.free, (omega (arith, m.cells, room.spares.0, few_cells), omega (arith, m.nodes, room.spares.1, few_nodes, alike)))
 
 -- room was made, the lines were made, and the state turned to the one that has them
-pub edit-done : {s t u : RootedHeap} {new : Heap Bytes} {l c n : ℕ} {xs : List Bytes} {W : Workspace} {key name : Bytes} (change : PlainEdit) → IsSame s t → key ≡ name → IsMade t new [] l xs W c n → is_full W ≡ false
+pub edit-done : {s t u : RootedHeap} {new : Heap Bytes} {l c n : ℕ} {xs : List Bytes} {W : Workspace} {key name : Bytes} (change : PlainEdit) → MadeRoom s t key name W → IsMade t new [] l xs W c n
     → edited W.current change ≡ Ok (with_lines W.current name xs) → TurnsTo (record t { heap = new }) u [] (21 + alike_buffers t.bits W.current key) (with_current W (with_lines W.current key xs))
     → c + n + (21 + alike_buffers s.bits W.current name) ≤ edit_cost s.bits change W.current → IsDone (edit change) s u W
-edit-done {s} {t} {u} {new} {l} {c} {n} {xs} {W} {key} {name} change same is m free made turn less =
+edit-done {s} {t} {u} {new} {l} {c} {n} {xs} {W} {key} {name} change room m made turn less =
+    let same : IsSame s t = room.same in
     let named : TurnsTo (record t { heap = new }) u [] (21 + alike_buffers t.bits W.current name) (with_current W (with_lines W.current name xs)) =
-    subst (λ (k : Bytes). TurnsTo (record t { heap = new }) u [] (21 + alike_buffers t.bits W.current k) (with_current W (with_lines W.current k xs))) is turn in
+    subst (λ (k : Bytes). TurnsTo (record t { heap = new }) u [] (21 + alike_buffers t.bits W.current k) (with_current W (with_lines W.current k xs))) room.named turn in
     let turned : TurnsTo (record t { heap = new }) u [] (21 + alike_buffers s.bits W.current name) (with_current W (with_lines W.current name xs)) =
     subst (λ (k : ℕ). TurnsTo (record t { heap = new }) u [] (21 + alike_buffers k W.current name) (with_current W (with_lines W.current name xs))) same.bits named in
     record {
       after = with_current W (with_lines W.current name xs);
-      told = does W change (with_lines W.current name xs) made free;
+      told = does W change (with_lines W.current name xs) made room.free;
       turns = turns-after (0 + (c + n)) (cost s.bits (edit change) W) (rises-then (rises-same same.heap) m.rises) same.bits turned (omega (arith, less, cost-edit s.bits change W));
     }
 

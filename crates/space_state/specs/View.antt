@@ -52,7 +52,7 @@ pub record Ends (command : PlainCommand) (old : SpaceView) (result : Result (Uni
   pub stands : StandsFor old.pool work
   pub ends : MatchResult result (λ _. CarriesOut command old new work) (Refuses command old new work)
 
--- The pool is the space's, and the number made has risen by its rows.
+-- The pool is the space's, and the number made has risen by its rows, up to 2^64 - 1.
 pub record IsTaken (P : Pool) (old new : SpaceView) : Type 0 where
   pub pool : new.pool ≡ P
   pub made : new.made ≡ min (old.made + row_count P) (2 ^ 64 - 1)

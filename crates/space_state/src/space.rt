@@ -195,8 +195,8 @@ impl Space {
         self.rows.pool(alloc)
     }
 
-    /// Puts the checked pool in place of the space's; the number made rises by its rows. `Batch` in a batch. The pool goes by as
-    /// many bits as the space.
+    /// Puts the checked pool in place of the space's; the number made rises by its rows, up to 2^64 - 1. `Batch` in a batch. The
+    /// pool goes by as many bits as the space.
     pub fn take_pool(&mut self, checked: Checked<Text>) -> Result<(), Refusal>
         requires bits { checked.bits ≡ self.old.pool.bits }
         ensures { Takes checked self.old result self.new }

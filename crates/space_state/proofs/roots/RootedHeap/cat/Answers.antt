@@ -1,10 +1,13 @@
-use Rattle.std.proofs.Common.{◌++◌, arith}
+use Rattle.std.proofs.Common.{[], arith}
 use Rattle.elem_core.specs.Shown.{name_bytes}
 use Rattle.shell_terms.specs.Edit.{cat}
+use Rattle.plain_space.specs.Workspace.{Workspace}
 use Rattle.plain_space.specs.declared.refusal.Refusal.TheVariants.{Limit}
+use Rattle.space_state.specs.Roots.{Keeps}
 use Rattle.space_state.proofs.Keeping.{same-refl, keeps-same, lines-length, lines-short}
-use Rattle.space_state.proofs.Editing.{found-lines, lines-same, cat-absent, cat-missing, cat-full, cat-made, refuses, room-due, due-absent, joined, joins, spares-left, edit-done, edit-refused, fails}
+use Rattle.space_state.proofs.Editing.{found-lines, cat-absent, cat-missing, cat-full, cat-made, refuses, room-due, due-absent, made-room, HasLines, has-lines, joined, joins, can-put, edit-done, edit-refused, fails}
 use Rattle.space_state.proofs.roots.RootedHeap.cat.Goals as goal
+use Rattle.space_state.proofs.roots.RootedHeap.cat.Goals.{In_ok-key}
 
 pub returns-in_err-lines : goal.returns-in_err-lines
 returns-in_err-lines c = λ W K.
@@ -40,58 +43,41 @@ returns-in_err-key c = λ W K.
     fails c.in_err-key.field-0.0 c.from_residual-in_err-key.result c.from_residual-in_err-key.ensures.1
     (edit-refused c.prepare.ensures.same (room-due W (cat name other) _ done c.in_err-key.field-0.0 (c.in_err-key.ensures.refused W K)))
 
+-- the lines of both buffers, once room was made
+there : (c : In_ok-key) (W : Workspace) → Keeps c.args.self.now [] W
+    → HasLines c.args.self.now c.prepare.new.self c.in_ok-lines.lines (name_bytes c.args.name) W × HasLines c.args.self.now c.prepare.new.self c.in_ok-more.more (name_bytes c.args.other) W
+there c W K = (has-lines c.prepare.ensures.same (c.in_ok-lines.ensures W K), has-lines c.prepare.ensures.same (c.in_ok-more.ensures W K))
+
 pub concat-requires-clause-left_good : goal.concat-requires-clause-left_good
-concat-requires-clause-left_good c =
-    let W = c.requires.0 in
-    let K = c.requires.1 in
-    let name = name_bytes c.args.name in
-    let found = found-lines c.args.self.now c.in_ok-lines.lines W.current name (c.in_ok-lines.ensures W K) in
-    (lines-same c.prepare.ensures.same found.2).vector
+concat-requires-clause-left_good c = (there (goal.at.concat-requires-clause-left_good c).In_ok-key c.requires.0 c.requires.1).0.now.vector
 
 pub concat-requires-clause-right_good : goal.concat-requires-clause-right_good
-concat-requires-clause-right_good c =
-    let W = c.requires.0 in
-    let K = c.requires.1 in
-    let other = name_bytes c.args.other in
-    let also = found-lines c.args.self.now c.in_ok-more.more W.current other (c.in_ok-more.ensures W K) in
-    (lines-same c.prepare.ensures.same also.2).vector
+concat-requires-clause-right_good c = (there (goal.at.concat-requires-clause-right_good c).In_ok-key c.requires.0 c.requires.1).1.now.vector
 
 pub unreachable-requires : goal.unreachable-requires
 unreachable-requires c =
-    let W = c.requires.0 in
-    let K = c.requires.1 in
-    let name = name_bytes c.args.name in
-    let other = name_bytes c.args.other in
-    let found = found-lines c.args.self.now c.in_ok-lines.lines W.current name (c.in_ok-lines.ensures W K) in
-    let also = found-lines c.args.self.now c.in_ok-more.more W.current other (c.in_ok-more.ensures W K) in
-    let lines = lines-same c.prepare.ensures.same found.2 in
-    let more = lines-same c.prepare.ensures.same also.2 in
-    joins c.in_default.field-0 (λ long. absurd (omega (arith, c.if-len.false, c.len.ensures.value, c.len-2.ensures.value, lines-length found.2, lines-length also.2, lines-length lines, lines-length more, lines-short also.2, c.in_default.ensures.long.0 long)))
-    (c.in_default.ensures.ample (omega arith, omega (arith, (c.in_ok-key.ensures.room W K).1.1)))
+    let both = there (goal.at.unreachable-requires c).In_ok-key c.requires.0 c.requires.1 in
+    let lines = both.0 in
+    let more = both.1 in
+    joins c.in_default.field-0 (λ long. absurd (omega (arith, c.if-len.false, c.len.ensures.value, c.len-2.ensures.value, lines-length lines.before, lines-length more.before, lines-length lines.now, lines-length more.now, lines-short more.before, c.in_default.ensures.long.0 long)))
+    (c.in_default.ensures.ample (omega arith, omega (arith, (c.in_ok-key.ensures.room c.requires.0 c.requires.1).1.1)))
 
 pub put_lines-requires-clause-kept : goal.put_lines-requires-clause-kept
 put_lines-requires-clause-kept c =
     let W = c.requires.0 in
     let K = c.requires.1 in
-    let name = name_bytes c.args.name in
-    let other = name_bytes c.args.other in
-    let found = found-lines c.args.self.now c.in_ok-lines.lines W.current name (c.in_ok-lines.ensures W K) in
-    let also = found-lines c.args.self.now c.in_ok-more.more W.current other (c.in_ok-more.ensures W K) in
-    let lines = lines-same c.prepare.ensures.same found.2 in
-    let more = lines-same c.prepare.ensures.same also.2 in
-    let m = joined (keeps-same c.prepare.ensures.same K) lines c.in-Ok.ensures.answered c.in-Ok.ensures.good c.in_ok-more.more also.0 more c.in-Ok.ensures.items in
-    let room = c.in_ok-key.ensures.room W K in
-    (W, found.0 ++ also.0, m.keeps, m.lines, room.0, spares-left c.prepare.ensures.same c.in_ok-key.ensures.key m room.1 (omega arith) (omega (arith, lines.vector.shape.low, more.vector.shape.low)))
+    let both = there (goal.at.put_lines-requires-clause-kept c).In_ok-key W K in
+    let m = joined (keeps-same c.prepare.ensures.same K) both.0.now c.in-Ok.ensures.answered c.in-Ok.ensures.good c.in_ok-more.more both.1.xs both.1.now c.in-Ok.ensures.items in
+    can-put (made-room W c.prepare.ensures.same c.in_ok-key.ensures.key (c.in_ok-key.ensures.room W K)) m (omega arith) (omega (arith, both.0.now.vector.shape.low, both.1.now.vector.shape.low))
 
 pub returns : goal.returns
 returns c = λ W K.
     let name = name_bytes c.args.name in
     let other = name_bytes c.args.other in
-    let found = found-lines c.args.self.now c.in_ok-lines.lines W.current name (c.in_ok-lines.ensures W K) in
-    let also = found-lines c.args.self.now c.in_ok-more.more W.current other (c.in_ok-more.ensures W K) in
-    let lines = lines-same c.prepare.ensures.same found.2 in
-    let more = lines-same c.prepare.ensures.same also.2 in
-    let m = joined (keeps-same c.prepare.ensures.same K) lines c.in-Ok.ensures.answered c.in-Ok.ensures.good c.in_ok-more.more also.0 more c.in-Ok.ensures.items in
-    let room = c.in_ok-key.ensures.room W K in
-    let done = cat-made W.current name other found.0 also.0 found.1 also.1 (omega (arith, c.if-len.false, c.len.ensures.value, c.len-2.ensures.value, lines-length found.2, lines-length also.2, lines-short also.2)) in
-    edit-done (cat name other) c.prepare.ensures.same c.in_ok-key.ensures.key m room.0 done (c.put_lines.ensures W (found.0 ++ also.0) m.keeps m.lines room.0) (omega (arith, lines.vector.shape.low, more.vector.shape.low))
+    let both = there (goal.at.returns c).In_ok-key W K in
+    let lines = both.0 in
+    let more = both.1 in
+    let m = joined (keeps-same c.prepare.ensures.same K) lines.now c.in-Ok.ensures.answered c.in-Ok.ensures.good c.in_ok-more.more more.xs more.now c.in-Ok.ensures.items in
+    let room = made-room W c.prepare.ensures.same c.in_ok-key.ensures.key (c.in_ok-key.ensures.room W K) in
+    let done = cat-made W.current name other lines.xs more.xs lines.found more.found (omega (arith, c.if-len.false, c.len.ensures.value, c.len-2.ensures.value, lines-length lines.before, lines-length more.before, lines-short more.before)) in
+    edit-done (cat name other) room m done (c.put_lines.ensures W _ m.keeps m.lines room.free) (omega (arith, lines.now.vector.shape.low, more.now.vector.shape.low))

@@ -3,7 +3,7 @@ use Rattle.elem_core.specs.Shown.{name_bytes}
 use Rattle.shell_terms.specs.Edit.{new}
 use Rattle.plain_space.specs.declared.refusal.Refusal.TheVariants.{Exists}
 use Rattle.space_state.proofs.Keeping.{same-refl, keeps-same}
-use Rattle.space_state.proofs.Editing.{refuses, room-due, found-taken, found-free, emptied, spares-left, edit-done, edit-refused, fails}
+use Rattle.space_state.proofs.Editing.{refuses, room-due, found-taken, found-free, made-room, emptied, can-put, edit-done, edit-refused, fails}
 use Rattle.space_state.proofs.roots.RootedHeap.make.Goals as goal
 
 pub returns-then-is_ok : goal.returns-then-is_ok
@@ -23,13 +23,12 @@ put_lines-requires-clause-kept c =
     let W = c.requires.0 in
     let K = c.requires.1 in
     let m = emptied (keeps-same c.prepare.ensures.same K) c.in-Ok.ensures.answered c.in-Ok.ensures.good c.in-Ok.ensures.items in
-    let room = c.in_ok-key.ensures.room W K in
-    (W, [], m.keeps, m.lines, room.0, spares-left c.prepare.ensures.same c.in_ok-key.ensures.key m room.1 (omega arith) (omega arith))
+    can-put (made-room W c.prepare.ensures.same c.in_ok-key.ensures.key (c.in_ok-key.ensures.room W K)) m (omega arith) (omega arith)
 
 pub returns : goal.returns
 returns c = λ W K.
     let name = name_bytes c.args.name in
     let m = emptied (keeps-same c.prepare.ensures.same K) c.in-Ok.ensures.answered c.in-Ok.ensures.good c.in-Ok.ensures.items in
-    let room = c.in_ok-key.ensures.room W K in
+    let room = made-room W c.prepare.ensures.same c.in_ok-key.ensures.key (c.in_ok-key.ensures.room W K) in
     let done = found-free c.args.self.now W.current name c.buffer.result (sym c.is_ok.ensures.value ∙ c.if-is_ok.false) (c.buffer.ensures W K) in
-    edit-done (new name) c.prepare.ensures.same c.in_ok-key.ensures.key m room.0 done (c.put_lines.ensures W [] m.keeps m.lines room.0) (omega arith)
+    edit-done (new name) room m done (c.put_lines.ensures W [] m.keeps m.lines room.free) (omega arith)

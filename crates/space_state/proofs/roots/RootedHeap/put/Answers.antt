@@ -1,11 +1,13 @@
-use Rattle.std.proofs.Common.{arith}
+use Rattle.std.proofs.Common.{[], arith}
 use Rattle.elem_core.specs.Shown.{name_bytes, line_bytes}
 use Rattle.shell_terms.specs.Edit.{put}
+use Rattle.plain_space.specs.Workspace.{Workspace}
 use Rattle.plain_space.specs.declared.refusal.Refusal.TheVariants.{Range, Limit, Memory}
-use Rattle.std.specs.List.{insert as put_before}
-use Rattle.space_state.proofs.Keeping.{same-refl, first-held, keeps-gained, lines-length, lines-short}
-use Rattle.space_state.proofs.Editing.{found-lines, put-absent, put-past, put-full, put-made, inserts, refuses, room-due, due-absent, may-lack, has-text, inserted, spares-left, edit-done, edit-refused, fails}
+use Rattle.space_state.specs.Roots.{Keeps}
+use Rattle.space_state.proofs.Keeping.{same-refl, lines-length, lines-short}
+use Rattle.space_state.proofs.Editing.{found-lines, put-absent, put-past, put-full, put-made, inserts, refuses, room-due, due-absent, may-lack, made-room, HasText, has-text, inserted, can-put, edit-done, edit-refused, fails}
 use Rattle.space_state.proofs.roots.RootedHeap.put.Goals as goal
+use Rattle.space_state.proofs.roots.RootedHeap.put.Goals.{After-cell-line}
 
 pub returns-in_err-lines : goal.returns-in_err-lines
 returns-in_err-lines c = λ W K.
@@ -46,58 +48,36 @@ returns-in_err-text c = λ W K.
     fails Memory c.from_residual-in_err-text.result c.from_residual-in_err-text.ensures.1
     (edit-refused c.prepare.ensures.same (may-lack W (put name c.args.index text) _ done (c.in_ok-key.ensures.room W K).0))
 
-pub insert-requires-clause-good : goal.insert-requires-clause-good
-insert-requires-clause-good c =
-    let W = c.requires.0 in
-    let K = c.requires.1 in
-    let name = name_bytes c.args.name in
-    let found = found-lines c.args.self.now c.in_ok-lines.lines W.current name (c.in_ok-lines.ensures W K) in
+-- what is known once the text's cell is there
+there : (c : After-cell-line) (W : Workspace) → Keeps c.args.self.now [] W
+    → HasText c.args.self.now c.prepare.new.self c.cell-line.new.self c.cell-line.result c.in_ok-lines.lines c.in_ok-key.key (name_bytes c.args.name) (line_bytes c.args.line) W
+there c W K =
     let e = c.cell-line.ensures in
-    (has-text K c.prepare.ensures.same found.2 c.args.line.cell c.in_ok-text.ensures e.adds e.makes e.count e.graph e.extends).lines.vector
+    has-text K (made-room W c.prepare.ensures.same c.in_ok-key.ensures.key (c.in_ok-key.ensures.room W K)) (c.in_ok-lines.ensures W K) c.args.line.cell c.in_ok-text.ensures e.adds e.makes e.count e.graph e.extends
+
+pub insert-requires-clause-good : goal.insert-requires-clause-good
+insert-requires-clause-good c = (there (goal.at.insert-requires-clause-good c).After-cell-line c.requires.0 c.requires.1).lines.now.vector
 
 pub insert-requires-clause-held : goal.insert-requires-clause-held
-insert-requires-clause-held c =
-    let W = c.requires.0 in
-    let K = c.requires.1 in
-    let name = name_bytes c.args.name in
-    let found = found-lines c.args.self.now c.in_ok-lines.lines W.current name (c.in_ok-lines.ensures W K) in
-    let e = c.cell-line.ensures in
-    let has = has-text K c.prepare.ensures.same found.2 c.args.line.cell c.in_ok-text.ensures e.adds e.makes e.count e.graph e.extends in
-    first-held (keeps-gained has.keeps has.grows)
+insert-requires-clause-held c = (there (goal.at.insert-requires-clause-held c).After-cell-line c.requires.0 c.requires.1).held
 
 pub unreachable-requires : goal.unreachable-requires
 unreachable-requires c =
-    let W = c.requires.0 in
-    let K = c.requires.1 in
-    let name = name_bytes c.args.name in
-    let found = found-lines c.args.self.now c.in_ok-lines.lines W.current name (c.in_ok-lines.ensures W K) in
-    let e = c.cell-line.ensures in
-    let has = has-text K c.prepare.ensures.same found.2 c.args.line.cell c.in_ok-text.ensures e.adds e.makes e.count e.graph e.extends in
-    inserts c.in_default.field-0 (λ range. absurd (omega (arith, c.if-index-count.false, c.len-count.ensures.value, lines-length found.2, lines-length has.lines, c.in_default.ensures.range.0 range)))
-    (λ long. c.if-count.false (omega (arith, c.len-count.ensures.value, lines-length found.2, lines-length has.lines, (c.in_default.ensures.long.0 long).1)))
-    (c.in_default.ensures.ample (omega arith, omega (arith, e.makes.spare_nodes, (c.in_ok-key.ensures.room W K).1.1)))
+    let has = there (goal.at.unreachable-requires c).After-cell-line c.requires.0 c.requires.1 in
+    inserts c.in_default.field-0 (λ range. absurd (omega (arith, c.if-index-count.false, c.len-count.ensures.value, lines-length has.lines.before, lines-length has.lines.now, c.in_default.ensures.range.0 range)))
+    (λ long. c.if-count.false (omega (arith, c.len-count.ensures.value, lines-length has.lines.before, lines-length has.lines.now, (c.in_default.ensures.long.0 long).1)))
+    (c.in_default.ensures.ample (omega arith, omega (arith, has.nodes)))
 
 pub put_lines-requires-clause-kept : goal.put_lines-requires-clause-kept
 put_lines-requires-clause-kept c =
-    let W = c.requires.0 in
-    let K = c.requires.1 in
-    let name = name_bytes c.args.name in
-    let text = line_bytes c.args.line in
-    let found = found-lines c.args.self.now c.in_ok-lines.lines W.current name (c.in_ok-lines.ensures W K) in
-    let e = c.cell-line.ensures in
-    let has = has-text K c.prepare.ensures.same found.2 c.args.line.cell c.in_ok-text.ensures e.adds e.makes e.count e.graph e.extends in
-    let m = inserted has c.in-Ok.ensures.answered c.in-Ok.ensures.good c.args.index c.in-Ok.ensures.items in
-    let room = c.in_ok-key.ensures.room W K in
-    (W, put_before found.0 c.args.index text, m.keeps, m.lines, room.0, spares-left c.prepare.ensures.same c.in_ok-key.ensures.key m room.1 (omega arith) (omega (arith, has.lines.vector.shape.low)))
+    let has = there (goal.at.put_lines-requires-clause-kept c).After-cell-line c.requires.0 c.requires.1 in
+    can-put has.room (inserted has c.in-Ok.ensures.answered c.in-Ok.ensures.good c.args.index c.in-Ok.ensures.items) (omega arith) (omega (arith, has.lines.now.vector.shape.low))
 
 pub returns : goal.returns
 returns c = λ W K.
     let name = name_bytes c.args.name in
     let text = line_bytes c.args.line in
-    let found = found-lines c.args.self.now c.in_ok-lines.lines W.current name (c.in_ok-lines.ensures W K) in
-    let e = c.cell-line.ensures in
-    let has = has-text K c.prepare.ensures.same found.2 c.args.line.cell c.in_ok-text.ensures e.adds e.makes e.count e.graph e.extends in
+    let has = there (goal.at.returns c).After-cell-line W K in
     let m = inserted has c.in-Ok.ensures.answered c.in-Ok.ensures.good c.args.index c.in-Ok.ensures.items in
-    let room = c.in_ok-key.ensures.room W K in
-    let done = put-made W.current name text c.args.index found.0 found.1 (omega (arith, c.if-index-count.false, c.len-count.ensures.value, lines-length found.2)) (grind (arith, c.if-count.false, c.len-count.ensures.value, lines-length found.2, lines-short found.2)) in
-    edit-done (put name c.args.index text) c.prepare.ensures.same c.in_ok-key.ensures.key m room.0 done (c.put_lines.ensures W (put_before found.0 c.args.index text) m.keeps m.lines room.0) (omega (arith, has.lines.vector.shape.low))
+    let done = put-made W.current name text c.args.index has.lines.xs has.lines.found (omega (arith, c.if-index-count.false, c.len-count.ensures.value, lines-length has.lines.before)) (grind (arith, c.if-count.false, c.len-count.ensures.value, lines-length has.lines.before, lines-short has.lines.before)) in
+    edit-done (put name c.args.index text) has.room m done (c.put_lines.ensures W _ m.keeps m.lines has.room.free) (omega (arith, has.lines.now.vector.shape.low))
