@@ -95,7 +95,7 @@ KeepsSure-then before next = record {
 
 -- what a step makes of a store
 pub KeepsSure-step : {C : Type 0} {D : store_trait.Ghosts C} {first last : C} {reply : List ℕ} → CountsStore D first last reply → KeepsSure D first last
-KeepsSure-step counts = record { counted = counts.counted; steady = λ h. (counts.steady h).0; sure = counts.sure }
+KeepsSure-step counts = record { counted = counts.counted; steady = λ h. (counts.steady h).0; sure = λ h. let kept = counts.sure h in (kept.0, kept.1) }
 
 module _ {A B C W : Type 0} {S : source_trait.Ghosts A} {source : A} {K : sink_trait.Ghosts B} {sink : B} {D : store_trait.Ghosts C} {store : C} {most : ℕ} {words : List W} where
   -- a run that ended before its first line

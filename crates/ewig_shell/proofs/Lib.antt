@@ -2,6 +2,7 @@ pub mod SendingLemmas
 pub mod QuitLemmas
 pub mod PageLemmas
 pub mod LinesLemmas
+pub mod ReplyLemmas
 pub mod StepLemmas
 pub mod SaveLemmas
 pub mod LoadLemmas

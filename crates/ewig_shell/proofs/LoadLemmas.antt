@@ -26,8 +26,9 @@ use Rattle.shell_io.specs.declared.device.Store as store_trait
 use Rattle.ewig_shell.specs.declared.load.LoadFault.{LoadFault}
 use Rattle.ewig_shell.specs.declared.load.LoadFault.TheVariants as unloaded
 use Rattle.ewig_shell.specs.Step.{KeepsFiles, KeepsSpace, Fetched, fetched, missing, large, given, IsLoaded, LoadsAs, ObeysOn, shown_store, machine_of, most_stored, damage_word, reply_of, refusal_of, loaded_reply}
-use Rattle.ewig_shell.specs.Loading.{TakesIn, fault_of, unfetched}
-use Rattle.ewig_shell.proofs.StepLemmas.{same_files, CountsStore-called, load-OfTheStore, Obeys-elsewhere, may_lack}
+use Rattle.ewig_shell.specs.Loading.{TakesIn, fault_of, load_fault}
+use Rattle.ewig_shell.proofs.ReplyLemmas.{other-reply}
+use Rattle.ewig_shell.proofs.StepLemmas.{same_files, CountsStore-failed, CountsStore-succeeded, load-OfTheStore, Obeys-elsewhere, may_lack, fault-is}
 
 -- ## A document
 
@@ -80,6 +81,28 @@ module _ (bytes : Bytes) (old new : SpaceView) where
         made = subst (λ (Q : Pool). new.made ≡ min (old.made + row_count Q) (2 ^ 64 - 1)) (sym same) made;
       }))
 
+-- ## Want of memory is no damage
+
+no_memory : (d : Damage) → fault_of d ≢ unloaded.Damaged damage_is.Memory
+no_memory damage_is.Memory e = cc
+no_memory _ e = cc
+
+no_memory_fetched : (fault : FetchFault) → load_fault fault ≢ unloaded.Damaged damage_is.Memory
+no_memory_fetched fetch.Missing e = cc
+no_memory_fetched fetch.Large e = cc
+no_memory_fetched fetch.Failed e = cc
+no_memory_fetched fetch.Memory e = cc
+
+module _ (result : Result (Unit {0}) LoadFault) where
+  other_fault : (fault other : LoadFault) → IsErrAnd result (λ (f : LoadFault). f ≡ fault) → fault ≢ other → result ≢ Err other
+  other_fault fault other is differs e = differs (let both : Err fault ≡ Err other = sym (fault-is result fault is) ∙ e in cc)
+
+  pub document-damage : (d : Damage) → IsErrAnd result (λ (f : LoadFault). f ≡ fault_of d) → result ≢ Err (unloaded.Damaged damage_is.Memory)
+  document-damage d is = other_fault (fault_of d) (unloaded.Damaged damage_is.Memory) is (no_memory d)
+
+  pub fetch-damage : (fault : FetchFault) → IsErrAnd result (λ (f : LoadFault). f ≡ load_fault fault) → result ≢ Err (unloaded.Damaged damage_is.Memory)
+  fetch-damage fault is = other_fault (load_fault fault) (unloaded.Damaged damage_is.Memory) is (no_memory_fetched fault)
+
 -- ## A space that takes a pool
 
 done_by : (batch : Bool) (IsDone IsAsBefore : Type 0) (x : Unit {0}) → MatchBool batch ((Ok x ≡ Err why.Batch) × IsAsBefore) IsDone → IsDone
@@ -125,6 +148,16 @@ fetched_by files one name result result' bytes named ends told =
     subst (λ (r : Result (Unit {0}) FetchFault). IfSome files (λ (f : Files). FetchesFile (get f name) most_stored r bytes)) ends
     (subst (λ (n : Bytes). IfSome files (λ (f : Files). FetchesFile (get f n) most_stored result bytes)) named told)
 
+-- what a file comes to gets another reply than `! fault`
+document-other : (found : Option Damage) (bytes : Bytes) (old new : SpaceView) (reply : List ℕ) → MatchOption found (IsLoaded bytes old reply new) (λ (d : Damage). KeepsSpace old (codes "damaged " ++ damage_word d) reply new) → reply ≢ refusal_of (codes "fault")
+document-other None bytes old new reply loads = other-reply loads.reply_is refl
+document-other (Some d) bytes old new reply keeps = other-reply keeps.reply_is refl
+
+file-other : (file : Fetched) (old new : SpaceView) (reply : List ℕ) → LoadsAs file old reply new → reply ≢ refusal_of (codes "fault")
+file-other missing old new reply keeps = other-reply keeps.reply_is refl
+file-other large old new reply keeps = other-reply keeps.reply_is refl
+file-other (given bytes) old new reply loads = document-other (document_damage old.pool.bits bytes) bytes old new reply loads
+
 -- a fetch leaves the files
 kept : {C : Type 0} (D : store_trait.Ghosts C) (store store' : C) → D.held store' ≡ D.held store → D.faults store ≤ D.faults store' → KeepsFiles (shown_store D store) (shown_store D store')
 kept D store store' e counted = record {
@@ -142,7 +175,7 @@ module _ (W : Workspace) (name : Bytes) {C : Type 0} {D : store_trait.Ghosts C} 
       stands = stands;
       gives = inr (record { may = may_lack (load name) (load-OfTheStore name) W refl e; reply_is = refl; space = stays; store = kept D store store' same calls.counts.counted });
     };
-    counts = CountsStore-called (refusal_of (codes "memory")) (λ _. succeeds) calls;
+    counts = CountsStore-succeeded succeeds (other-reply {due = refusal_of (codes "memory")} refl refl) calls;
   }
 
   -- the store failed
@@ -150,7 +183,7 @@ module _ (W : Workspace) (name : Bytes) {C : Type 0} {D : store_trait.Ghosts C} 
   Loads-failed fails = record {
     obeys = Obeys-elsewhere (load name) (load-OfTheStore name) W (machine_of D space store) (machine_of D space store') (refusal_of (codes "fault")) stands e
         (inr (record { store = kept D store store' same calls.counts.counted; space = record { reply_is = refl; same = refl }; cause = calls.counts.cause fails }));
-    counts = CountsStore-called (refusal_of (codes "fault")) (λ other _. other refl) calls;
+    counts = CountsStore-failed fails calls;
   }
 
   -- the file came to this
@@ -158,12 +191,12 @@ module _ (W : Workspace) (name : Bytes) {C : Type 0} {D : store_trait.Ghosts C} 
   loaded_as {space'} {reply} file succeeds held loads = record {
     obeys = Obeys-elsewhere (load name) (load-OfTheStore name) W (machine_of D space store) (machine_of D space' store') reply stands e
         (inl (record { store = kept D store store' same calls.counts.counted; file = file; held = held; loads = loads }));
-    counts = CountsStore-called reply (λ _. succeeds) calls;
+    counts = CountsStore-succeeded succeeds (file-other file space space' reply loads) calls;
   }
 
   -- the store gave no bytes
   pub Loads-refused : (fault : FetchFault) (bytes : Bytes) → (fault ≡ fetch.Failed → failed) → (failed → fault ≡ fetch.Failed) → IfSome (D.held store) (λ (files : Files). FetchesFile {A = Unit {0}} (get files name) most_stored (Err fault) bytes) →
-      ObeysOn (load name) D space store (loaded_reply (Err (unfetched fault))) space store'
+      ObeysOn (load name) D space store (loaded_reply (Err (load_fault fault))) space store'
   Loads-refused fetch.Missing bytes into back told = loaded_as missing (λ f. let never = back f in cc) (told_of (D.held store) _ _ (λ files h. is_missing (get files name) h) told) (record { reply_is = refl; same = refl })
   Loads-refused fetch.Large bytes into back told = loaded_as large (λ f. let never = back f in cc) (told_of (D.held store) _ _ (λ files h. is_large_file (get files name) h) told) (record { reply_is = refl; same = refl })
   Loads-refused fetch.Failed bytes into back told = Loads-failed (into refl)
@@ -178,9 +211,9 @@ module _ (W : Workspace) (name : Bytes) {C : Type 0} {D : store_trait.Ghosts C} 
   ]
 
 -- how a load ends where the fetch was refused
-pub Loads-unfetched : {C : Type 0} {D : store_trait.Ghosts C} {space : SpaceView} {store store' : C} (W : Workspace) (name one : Bytes) (result : Result (Unit {0}) FetchFault) (fault : FetchFault) (ended : Result (Unit {0}) LoadFault) (bytes : Bytes) → StandsFor space.pool W → in_batch W ≡ false → D.held store' ≡ D.held store →
-    Calls D.faults D.steady D.faultless store store' (result ≡ Err fetch.Failed) → one ≡ name → IfSome (D.held store) (λ (files : Files). FetchesFile (get files one) most_stored result bytes) → result ≡ Err fault → ended ≡ Err (unfetched fault) → ObeysOn (load name) D space store (loaded_reply ended) space store'
-Loads-unfetched {D = D} {space} {store} {store'} W name one result fault ended bytes stands e same calls named told is ends =
+pub Loads-fault : {C : Type 0} {D : store_trait.Ghosts C} {space : SpaceView} {store store' : C} (W : Workspace) (name one : Bytes) (result : Result (Unit {0}) FetchFault) (fault : FetchFault) (ended : Result (Unit {0}) LoadFault) (bytes : Bytes) → StandsFor space.pool W → in_batch W ≡ false → D.held store' ≡ D.held store →
+    Calls D.faults D.steady D.faultless store store' (result ≡ Err fetch.Failed) → one ≡ name → IfSome (D.held store) (λ (files : Files). FetchesFile (get files one) most_stored result bytes) → result ≡ Err fault → ended ≡ Err (load_fault fault) → ObeysOn (load name) D space store (loaded_reply ended) space store'
+Loads-fault {D = D} {space} {store} {store'} W name one result fault ended bytes stands e same calls named told is ends =
     subst (λ (r : Result (Unit {0}) LoadFault). ObeysOn (load name) D space store (loaded_reply r) space store') (sym ends)
     (Loads-refused W name stands e same calls fault bytes (λ failed. is ∙ ap Err failed) (λ failed. let both : Err fault ≡ Err fetch.Failed = sym is ∙ failed in cc)
     (fetched_by (D.held store) one name result (Err fault) bytes named is told))

@@ -23,9 +23,10 @@ use Rattle.shell_io.specs.declared.device.KeepFault.TheVariants as kept
 use Rattle.shell_io.specs.declared.device.Store as store_trait
 use Rattle.ewig_shell.specs.declared.save.SaveFault.{SaveFault}
 use Rattle.ewig_shell.specs.declared.save.SaveFault.TheVariants as unsaved
-use Rattle.ewig_shell.specs.Saving.{unkept}
+use Rattle.ewig_shell.specs.Saving.{save_fault}
 use Rattle.ewig_shell.specs.Step.{Refuses, IsStored, FailsToStore, ObeysOn, CountsStore, shown_store, machine_of, most_stored, is_large, reply_of, refusal_of, saved_reply}
-use Rattle.ewig_shell.proofs.StepLemmas.{Obeys-lacks, CountsStore-none, CountsStore-called, save-OfTheStore, Obeys-elsewhere, may_lack, fault-is}
+use Rattle.ewig_shell.proofs.ReplyLemmas.{other-reply}
+use Rattle.ewig_shell.proofs.StepLemmas.{Obeys-lacks, CountsStore-none, CountsStore-failed, CountsStore-succeeded, save-OfTheStore, Obeys-elsewhere, may_lack, fault-is}
 
 -- a length that is too large is so as it is counted
 is_large-true : (bytes : List ℕ) (counted : ℕ) → counted ≡ capped (length bytes) → most_stored < counted → is_large bytes ≡ true
@@ -43,15 +44,17 @@ document-is W pool made bytes stands e valid same is reads =
 -- how a space was stored where the store kept its file, or didn't
 abbrev pub saved_as : Result (Unit {0}) KeepFault → Result (Unit {0}) SaveFault
 saved_as (Ok done) = Ok done
-saved_as (Err fault) = Err (unkept fault)
+saved_as (Err fault) = Err (save_fault fault)
 
 module _ (W : Workspace) (name : Bytes) {C : Type 0} {D : store_trait.Ghosts C} {space : SpaceView} where
   -- memory ran out before the store was called
   pub Saves-lacks : {store : C} (result : Result (Unit {0}) SaveFault) → IsErrAnd result (λ (fault : SaveFault). fault ≡ unsaved.Memory) → StandsFor space.pool W → in_batch W ≡ false → ObeysOn (save name) D space store (saved_reply result) space store
-  Saves-lacks {store} result lacks stands e = record {
-    obeys = Obeys-lacks W stands (may_lack (save name) (save-OfTheStore name) W refl e) (ap saved_reply (fault-is result unsaved.Memory lacks)) refl (shown_store D store);
-    counts = CountsStore-none;
-  }
+  Saves-lacks {store} result lacks stands e =
+      let is : saved_reply result ≡ refusal_of (codes "memory") = ap saved_reply (fault-is result unsaved.Memory lacks) in
+      record {
+        obeys = Obeys-lacks W stands (may_lack (save name) (save-OfTheStore name) W refl e) is refl (shown_store D store);
+        counts = CountsStore-none (other-reply is refl);
+      }
 
   -- the document is too large
   pub Saves-large : {store : C} (counted : ℕ) → StandsFor space.pool W → in_batch W ≡ false → counted ≡ capped (length (text space.pool)) → most_stored < counted → ObeysOn (save name) D space store (refusal_of (codes "large")) space store
@@ -62,7 +65,7 @@ module _ (W : Workspace) (name : Bytes) {C : Type 0} {D : store_trait.Ghosts C} 
           (IsStored name space.pool (shown_store D store) (refusal_of (codes "large")) (shown_store D store) ⊎ FailsToStore name (shown_store D store) (refusal_of (codes "large")) (shown_store D store)))
           (sym (is_large-true (text space.pool) counted is large)) (record { reply_is = refl; same = refl });
     });
-    counts = CountsStore-none;
+    counts = CountsStore-none (other-reply {due = refusal_of (codes "large")} refl refl);
   }
 
   module _ {store store' : C} {failed : Type 0} (stands : StandsFor space.pool W) (e : in_batch W ≡ false) (calls : Calls D.faults D.steady D.faultless store store' failed) where
@@ -83,7 +86,7 @@ module _ (W : Workspace) (name : Bytes) {C : Type 0} {D : store_trait.Ghosts C} 
     stored : (counted : ℕ) → counted ≡ capped (length (text space.pool)) → counted ≤ most_stored → IsDocumentOf space.pool (text space.pool) →
         ChangesFiles (D.held store) (D.held store') (λ (before now : Files). now ≡ insert before name (text space.pool)) → (failed → ⊥) → ObeysOn (save name) D space store (reply_of (ok_line ∷ [])) space store'
     stored counted is small document told succeeds =
-        called counted is small (inl (record { reply_is = refl; files = told; document = document; counted = calls.counts.counted })) (CountsStore-called (reply_of (ok_line ∷ [])) (λ _. succeeds) calls)
+        called counted is small (inl (record { reply_is = refl; files = told; document = document; counted = calls.counts.counted })) (CountsStore-succeeded succeeds (other-reply {due = reply_of (ok_line ∷ [])} refl refl) calls)
 
     -- or failed
     failed_to : (counted : ℕ) → counted ≡ capped (length (text space.pool)) → counted ≤ most_stored →
@@ -91,7 +94,7 @@ module _ (W : Workspace) (name : Bytes) {C : Type 0} {D : store_trait.Ghosts C} 
     failed_to counted is small told fails =
         called counted is small
         (inr (record { reply_is = refl; files = told; counted = calls.counts.counted; cause = calls.counts.cause fails }))
-        (CountsStore-called (refusal_of (codes "fault")) (λ other _. other refl) calls)
+        (CountsStore-failed fails calls)
 
     -- or had no memory
     lacked : ChangesFiles (D.held store) (D.held store') (λ (before now : Files). now ≡ before) → (failed → ⊥) → ObeysOn (save name) D space store (refusal_of (codes "memory")) space store'
@@ -101,7 +104,7 @@ module _ (W : Workspace) (name : Bytes) {C : Type 0} {D : store_trait.Ghosts C} 
         stands = stands;
         gives = inr (record { may = may_lack (save name) (save-OfTheStore name) W refl e; reply_is = refl; space = refl; store = record { files = told; counted = calls.counts.counted } });
       };
-      counts = CountsStore-called (refusal_of (codes "memory")) (λ _. succeeds) calls;
+      counts = CountsStore-succeeded succeeds (other-reply {due = refusal_of (codes "memory")} refl refl) calls;
     }
 
   -- one of the three

@@ -1,5 +1,5 @@
 -- What shows that a command was obeyed.
-use Rattle.std.proofs.Common.{◌≡◌, ◌≢◌, ℕ, ◌&&◌, nat_le, List, [], ◌∷◌, ◌++◌, length, map, sym, ap, ◌∙◌, subst, refl, arith, codes, Bool, true, false, inl, inr, Ok, Err, None, Some, MatchBool, MatchOption, ◌<◌, ◌≤◌, IsSomeAnd, IsOk, IsTrue, IsErrAnd, slice_get, slice_range}
+use Rattle.std.proofs.Common.{◌≡◌, ◌≢◌, ◌↔◌, ℕ, ◌&&◌, nat_le, List, [], ◌∷◌, ◌++◌, length, map, sym, ap, ◌∙◌, subst, refl, arith, codes, Bool, true, false, inl, inr, Ok, Err, None, Some, MatchBool, MatchOption, ◌<◌, ◌≤◌, IsSomeAnd, IsOk, IsTrue, IsErrAnd, slice_get, slice_range}
 use Rattle.std.proofs.lemmas.Bool.{le-ltb, lt-ltb, le-leb, leb-true}
 use Rattle.std.proofs.lemmas.Option.{slice_get_past}
 use Rattle.std.specs.Bool.{Decides}
@@ -38,6 +38,7 @@ use Rattle.shell_io.specs.declared.device.Sink as sink_trait
 use Rattle.shell_io.specs.declared.device.Store as store_trait
 use Rattle.ewig_shell.specs.Sending.{Replies}
 use Rattle.ewig_shell.specs.Step.{StoreView, Machine, KeepsFiles, KeepsSpace, Fetched, missing, large, given as given_bytes, IsLoaded, LoadsAs, damage_word, Step, Means, SaysElsewhere, Gives, Refuses, Obeys, ObeysAlone, ObeysOn, CountsStore, shown_store, machine_of, uses_store, only_asks, reply_of, refusal_of, done_reply, equality_reply}
+use Rattle.ewig_shell.proofs.ReplyLemmas.{other-reply, obeys-other}
 
 -- the files stay where the store does
 pub same_files : (files : Option Files) → ChangesFiles files files (λ (before now : Files). now ≡ before)
@@ -323,25 +324,27 @@ Step-long old piece long =
     (record { reply_is = refl; same = refl })
 
 -- a store that isn't called
-pub CountsStore-none : {C : Type 0} {D : store_trait.Ghosts C} {store : C} {reply : List ℕ} → CountsStore D store store reply
-CountsStore-none = record { counted = omega arith; steady = λ h. (h, λ _. refl); sure = λ h. (h, refl) }
+pub CountsStore-none : {C : Type 0} {D : store_trait.Ghosts C} {store : C} {reply : List ℕ} → reply ≢ refusal_of (codes "fault") → CountsStore D store store reply
+CountsStore-none other = record { counted = omega arith; steady = λ h. (h, λ _. refl); sure = λ h. (h, refl, other) }
 
 module _ {B C : Type 0} {K : sink_trait.Ghosts B} {D : store_trait.Ghosts C} {sink sink' : B} {store : C} {result : Result (Unit {0}) Failed} {old new : SpaceView} where
   -- a command that uses no store was obeyed
-  pub Replies-alone : (command it : Command) → command ≡ it → Replies K sink sink' result (λ (reply : List ℕ). ObeysAlone (plain_command it) old reply new) → Replies K sink sink' result (λ (reply : List ℕ). ObeysOn (plain_command command) D old store reply new store)
-  Replies-alone command it is replies = record {
-    reply = replies.reply;
-    due = record {
-      obeys = subst (λ (k : Command). Obeys (plain_command k) (machine_of D old store) replies.reply (machine_of D new store)) (sym is) (replies.due (shown_store D store));
-      counts = CountsStore-none;
-    };
-    sends = replies.sends;
-  }
+  pub Replies-alone : (command it : Command) → command ≡ it → uses_store (plain_command it) ≡ false → Replies K sink sink' result (λ (reply : List ℕ). ObeysAlone (plain_command it) old reply new) → Replies K sink sink' result (λ (reply : List ℕ). ObeysOn (plain_command command) D old store reply new store)
+  Replies-alone command it is alone replies =
+      let obeys = replies.due (shown_store D store) in
+      record {
+        reply = replies.reply;
+        due = record {
+          obeys = subst (λ (k : Command). Obeys (plain_command k) (machine_of D old store) replies.reply (machine_of D new store)) (sym is) obeys;
+          counts = CountsStore-none (obeys-other (plain_command it) (machine_of D old store) (machine_of D new store) replies.reply alone obeys);
+        };
+        sends = replies.sends;
+      }
 
   -- the same of one that ended so
-  pub Replies-ends : (command it : Command) (done : Result (Unit {0}) Refusal) → command ≡ it → only_asks (plain_command it) ≡ false → Ends (plain_command it) old done new → Sends K.written K.faults K.has_room sink sink' result (done_reply done) → Replies K sink sink' result (λ (reply : List ℕ). ObeysOn (plain_command command) D old store reply new store)
-  Replies-ends command it done is asks ends sends =
-      Replies-alone command it is (record { reply = done_reply done; due = Obeys-ends (plain_command it) done asks ends; sends = sends })
+  pub Replies-ends : (command it : Command) (done : Result (Unit {0}) Refusal) → command ≡ it → uses_store (plain_command it) ≡ false → only_asks (plain_command it) ≡ false → Ends (plain_command it) old done new → Sends K.written K.faults K.has_room sink sink' result (done_reply done) → Replies K sink sink' result (λ (reply : List ℕ). ObeysOn (plain_command command) D old store reply new store)
+  Replies-ends command it done is alone asks ends sends =
+      Replies-alone command it is alone (record { reply = done_reply done; due = Obeys-ends (plain_command it) done asks ends; sends = sends })
 
 -- a command that uses the store was obeyed, and its reply sent
 pub Replies-on : {B C : Type 0} {K : sink_trait.Ghosts B} {D : store_trait.Ghosts C} {sink sink' : B} {store store' : C} {result : Result (Unit {0}) Failed} {old new : SpaceView} {reply due : List ℕ} (command it : Command) → command ≡ it → reply ≡ due →
@@ -352,13 +355,20 @@ Replies-on {D = D} {store = store} {store'} {old = old} {new} {reply} command it
   sends = sends;
 }
 
--- what the one call of the store made of its count
-pub CountsStore-called : {C : Type 0} {D : store_trait.Ghosts C} {store store' : C} {failed : Type 0} (reply : List ℕ) → (reply ≢ refusal_of (codes "fault") → failed → ⊥) → Calls D.faults D.steady D.faultless store store' failed → CountsStore D store store' reply
-CountsStore-called reply fault calls = record {
+-- what the one call of the store made of its count, where the reply is `! fault` exactly if it failed
+CountsStore-called : {C : Type 0} {D : store_trait.Ghosts C} {store store' : C} {failed : Type 0} {reply : List ℕ} → failed ↔ (reply ≡ refusal_of (codes "fault")) → Calls D.faults D.steady D.faultless store store' failed → CountsStore D store store' reply
+CountsStore-called exactly calls = record {
   counted = calls.counts.counted;
-  steady = λ h. let told = calls.told h in (told.0, λ other. told.1 (fault other));
-  sure = λ h. let told = calls.sure h in (told.0, told.1);
+  steady = λ h. let told = calls.told h in (told.0, λ other. told.1 (λ fails. other (exactly.0 fails)));
+  sure = λ h. let told = calls.sure h in (told.0, told.1, λ fault. told.2 (exactly.1 fault));
 }
+
+-- a call that failed, and one that didn't
+pub CountsStore-failed : {C : Type 0} {D : store_trait.Ghosts C} {store store' : C} {failed : Type 0} → failed → Calls D.faults D.steady D.faultless store store' failed → CountsStore D store store' (refusal_of (codes "fault"))
+CountsStore-failed fails calls = CountsStore-called (λ _. refl, λ _. fails) calls
+
+pub CountsStore-succeeded : {C : Type 0} {D : store_trait.Ghosts C} {store store' : C} {failed : Type 0} {reply : List ℕ} → (failed → ⊥) → reply ≢ refusal_of (codes "fault") → Calls D.faults D.steady D.faultless store store' failed → CountsStore D store store' reply
+CountsStore-succeeded succeeds other calls = CountsStore-called (λ fails. absurd (succeeds fails), λ fault. absurd (other fault)) calls
 
 -- ## Commands of the store
 
@@ -393,7 +403,7 @@ module _ (command : PlainCommand) (of_store : IsOfTheStore command) (W : Workspa
   pub ObeysOn-batch : {C : Type 0} {D : store_trait.Ghosts C} {space : SpaceView} {store : C} → StandsFor space.pool W → in_batch W ≡ true → ObeysOn command D space store (refusal_of (codes "batch")) space store
   ObeysOn-batch {D = D} {store = store} stands e = record {
     obeys = Obeys-refused W why.Batch stands (of_store W ∙ ap (λ (b : Bool). unless b why.Batch (Ok elsewhere)) e) refl refl (shown_store D store);
-    counts = CountsStore-none;
+    counts = CountsStore-none (other-reply {due = refusal_of (codes "batch")} refl refl);
   }
 
 -- the fault that a call answered

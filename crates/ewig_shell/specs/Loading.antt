@@ -15,11 +15,11 @@ fault_of damage.Memory = Memory
 fault_of d = Damaged d
 
 -- The fault of a load whose file the store didn't give.
-abbrev pub unfetched : FetchFault → LoadFault
-unfetched fetch.Missing = Missing
-unfetched fetch.Large = Large
-unfetched fetch.Failed = Failed
-unfetched fetch.Memory = Memory
+abbrev pub load_fault : FetchFault → LoadFault
+load_fault fetch.Missing = Missing
+load_fault fetch.Large = Large
+load_fault fetch.Failed = Failed
+load_fault fetch.Memory = Memory
 
 -- The space takes in what the bytes stand for, or memory ran out and it stays.
 abbrev pub TakesIn : List ℕ → SpaceView → Result (Unit {0}) LoadFault → SpaceView → Type 0

@@ -5,6 +5,6 @@ use Rattle.ewig_shell.specs.declared.save.SaveFault.{SaveFault}
 use Rattle.ewig_shell.specs.declared.save.SaveFault.TheVariants as unsaved
 
 -- The fault of a save whose file the store didn't keep.
-abbrev pub unkept : KeepFault → SaveFault
-unkept kept.Failed = unsaved.Failed
-unkept kept.Memory = unsaved.Memory
+abbrev pub save_fault : KeepFault → SaveFault
+save_fault kept.Failed = unsaved.Failed
+save_fault kept.Memory = unsaved.Memory

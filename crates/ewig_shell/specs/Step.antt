@@ -271,11 +271,11 @@ abbrev pub machine_of : {C : Type 0} → store_trait.Ghosts C → SpaceView → 
 machine_of D space store = record { space = space; store = shown_store D store }
 
 -- What a step with this reply made of the store's count of faults: it hasn't fallen. A steady store stays so, and counts a fault
--- with no reply but `! fault`. A store that can't fail stays so, and counts none.
+-- with no reply but `! fault`. A store that can't fail stays so, counts none, and gets no `! fault`.
 pub record CountsStore {C : Type 0} (D : store_trait.Ghosts C) (store store' : C) (reply : List ℕ) : Type 0 where
   pub counted : D.faults store ≤ D.faults store'
   pub steady : D.steady store → D.steady store' × (reply ≢ refusal_of (codes "fault") → D.faults store' ≡ D.faults store)
-  pub sure : D.faultless store → D.faultless store' × (D.faults store' ≡ D.faults store)
+  pub sure : D.faultless store → D.faultless store' × (D.faults store' ≡ D.faults store) × (reply ≢ refusal_of (codes "fault"))
 
 -- On a space and a store, the command gets this reply.
 pub record ObeysOn {C : Type 0} (command : PlainCommand) (D : store_trait.Ghosts C) (space : SpaceView) (store : C) (reply : List ℕ)

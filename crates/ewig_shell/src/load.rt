@@ -1,10 +1,10 @@
 //! What a run loads.
 
-ghost use Rattle.std.specs.Prelude.{◌≡◌};
+ghost use Rattle.std.specs.Prelude.{◌≡◌, ◌≢◌};
 ghost use Rattle.elem_core.specs.Shown.{name_bytes};
 ghost use Rattle.shell_terms.specs.Command.{load as load_command};
 ghost use Rattle.ewig_shell.specs.Step.{ObeysOn, loaded_reply};
-ghost use Rattle.ewig_shell.specs.Loading.{TakesIn, fault_of, unfetched};
+ghost use Rattle.ewig_shell.specs.Loading.{TakesIn, fault_of, load_fault};
 
 use crate::save::MOST_STORED;
 use elem_core::Name;
@@ -25,7 +25,7 @@ pub enum LoadFault {
     Large,
     /// The store failed.
     Failed,
-    /// The file is no document of a space of so many bits: the first test that it fails.
+    /// The file is no document of a space of so many bits: the first test that it fails, and never `Damage::Memory`.
     Damaged(Damage),
     /// Memory ran out.
     Memory,
@@ -43,7 +43,7 @@ impl From<Damage> for LoadFault {
 }
 
 impl From<FetchFault> for LoadFault {
-    ghost from_gives = { λ fetch fault. fault ≡ unfetched fetch };
+    ghost from_gives = { λ fetch fault. fault ≡ load_fault fetch };
 
     fn from(fetch: FetchFault) -> LoadFault {
         match fetch {
@@ -57,14 +57,15 @@ impl From<FetchFault> for LoadFault {
 
 /// Makes the space the one that the document in the file stands for. `Batch` exactly in a batch; else `Missing` exactly where there
 /// is no such file, and `Large` exactly where it has more than 67,108,864 bytes; `Failed` only where the store failed at this
-/// call; else `Damaged` exactly where the bytes fail a test. After a refusal the space is as it was.
+/// call; else `Damaged` exactly where the bytes fail a test, with the first of these. After a refusal the space is as it was.
 pub fn load<D: Store>(
     alloc: Global,
     space: &mut Space,
     file: Name<'_>,
     store: &mut D,
 ) -> Result<(), LoadFault>
-    ensures { ObeysOn (load_command (name_bytes file.entry)) D.Store space.old store.old (loaded_reply result) space.new store.new }
+    ensures obeys { ObeysOn (load_command (name_bytes file.entry)) D.Store space.old store.old (loaded_reply result) space.new store.new }
+    ensures damage { result ≢ Err (LoadFault.Damaged Damage.Memory) }
 {
     if space.in_batch() {
         return Err(LoadFault::Batch);
@@ -76,7 +77,8 @@ pub fn load<D: Store>(
 
 // Makes the space the one that the bytes stand for.
 fn take_in(alloc: Global, space: &mut Space, bytes: &[u8]) -> Result<(), LoadFault>
-    ensures { TakesIn bytes.now space.old result space.new }
+    ensures takes { TakesIn bytes.now space.old result space.new }
+    ensures damage { result ≢ Err (LoadFault.Damaged Damage.Memory) }
 {
     let pool = pool_from_bytes(alloc, bytes, space.bits())?;
     let checked = check(alloc, pool)?;

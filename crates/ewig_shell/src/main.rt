@@ -1,6 +1,10 @@
 //! The shell: reads commands line by line from standard input, and replies to each on standard output.
 #![tactic(auto)]
 
+ghost use Rattle.std.specs.Prelude.{◌≡◌, drop};
+ghost use Rattle.std.specs.Result.{IfErr};
+ghost use Rattle.ewig_shell.specs.Run.{IsEarly};
+
 mod execute;
 mod laws;
 mod load;
@@ -38,13 +42,28 @@ fn main(rt: HostRuntime) -> ExitCode {
     ExitCode::from(code_of(ended.status))
 }
 
-// The words after the program's name. A word that is no text can't be read, and so is a fault of usage.
-fn words(rt: &HostRuntime) -> Result<Vec<String>, Status> {
-    let mut words = match env::args(rt) {
-        Ok(words) => words,
+// The words after the program's name; the host tells which they are, and no clause can. A word that is no text can't be read, and
+// so is a fault of usage.
+fn words(rt: &HostRuntime) -> Result<Vec<String>, Status>
+    ensures { IfErr result IsEarly }
+{
+    let told = match env::args(rt) {
+        Ok(told) => told,
         Err(error) if error.kind() == io::ErrorKind::OutOfMemory => return Err(Status::Memory),
         Err(_) => return Err(Status::Usage),
     };
-    words.next();
-    words.collect(rt.alloc()).map_err(|_| Status::Memory)
+    match told.collect(rt.alloc()) {
+        Ok(words) => Ok(behind_name(words)),
+        Err(_) => Err(Status::Memory),
+    }
+}
+
+// The words behind the first, which is the program's name.
+fn behind_name(mut words: Vec<String>) -> Vec<String>
+    ensures { result.items ≡ drop 1 words.items }
+{
+    if !words.is_empty() {
+        words.remove(0);
+    }
+    words
 }

@@ -4,7 +4,7 @@ ghost use Rattle.std.specs.Prelude.{◌≡◌};
 ghost use Rattle.elem_core.specs.Shown.{name_bytes};
 ghost use Rattle.shell_terms.specs.Command.{save as save_command};
 ghost use Rattle.ewig_shell.specs.declared.save.SaveFault.TheVariants.{Memory};
-ghost use Rattle.ewig_shell.specs.Saving.{unkept};
+ghost use Rattle.ewig_shell.specs.Saving.{save_fault};
 ghost use Rattle.ewig_shell.specs.Step.{ObeysOn, saved_reply};
 
 use elem_core::{Name, NoMemory};
@@ -38,7 +38,7 @@ impl From<NoMemory> for SaveFault {
 }
 
 impl From<KeepFault> for SaveFault {
-    ghost from_gives = { λ kept fault. fault ≡ unkept kept };
+    ghost from_gives = { λ kept fault. fault ≡ save_fault kept };
 
     fn from(kept: KeepFault) -> SaveFault {
         match kept {

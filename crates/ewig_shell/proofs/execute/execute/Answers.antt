@@ -1,5 +1,6 @@
 use Rattle.std.proofs.Common.{Err, refl}
 use Rattle.ewig_shell.proofs.SendingLemmas.{Sends-then}
+use Rattle.ewig_shell.proofs.ReplyLemmas.{other-reply, line-other}
 use Rattle.ewig_shell.proofs.StepLemmas.{Step-line, CountsStore-none, bits-kept}
 use Rattle.ewig_shell.proofs.QuitLemmas.{quits-command, quits-bad}
 use Rattle.ewig_shell.proofs.execute.execute.Goals as goal
@@ -24,7 +25,7 @@ returns-in-Err-clause-replies g c = record {
   reply = c.line_refusal.result.now;
   due = record {
     step = Step-line _ _ _ _ (Err c.in-Err.bad) c.requires.short c.in-Err.ensures (record { reply_is = c.line_refusal.ensures; same = refl });
-    counts = CountsStore-none;
+    counts = CountsStore-none (other-reply c.line_refusal.ensures (line-other c.in-Err.bad));
   };
   sends = Sends-then _ _ c.then.ensures c.send.ensures;
 }
