@@ -176,6 +176,7 @@ unmade-rows unmade graph low short held few = record { graph = graph; links = un
 pub record AreOver {T : Type 0} (old new : Heap T) (n : ℕ) (made ls : List ℕ) : Type 0 where
   pub rows : AreRows new n made
   pub items : flat_map (seq_at (form_at new) n) made ≡ items_below old n ls
+  pub links : flat_map (links_at new) made ≡ ls
   pub thick : 16 ≤ length ls → AreThick old n ls → All (IsThick (form_at new) n) made
 
 pub one-over : {T : Type 0} (old new : Heap T) (n a : ℕ) (ls : List ℕ) → Stays (λ k. IsSome (row_at old k)) old new → AreLinks old n ls → 1 ≤ length ls
@@ -184,12 +185,14 @@ one-over old new n a ls s links some row is =
     record {
       rows = row-one new n a (items_below old n ls) row (rw is some);
       items = items-one new n a (items_below old n ls) row;
+      links = append-nil (links_at new a) ∙ is;
       thick = λ enough full. thick-one new n a (row-thick old new n a ls s links is enough full);
     }
 
 -- what two rows are over these links, of which the first has the front and the second the rest
 pub record AreTwoOver {T : Type 0} (old mid new : Heap T) (n a b : ℕ) (ls : List ℕ) : Type 0 where
   pub items : flat_map (seq_at (form_at new) n) (a ∷ b ∷ []) ≡ items_below old n ls
+  pub links : flat_map (links_at new) (a ∷ b ∷ []) ≡ ls
   pub rows : 16 ≤ length (links_at mid a) → 1 ≤ length (links_at new b) → AreRows new n (a ∷ b ∷ [])
   pub thick : 16 ≤ length (links_at mid a) → 16 ≤ length (links_at new b) → AreThick old n ls → All (IsThick (form_at new) n) (a ∷ b ∷ [])
 
@@ -205,9 +208,11 @@ two-over {T} {old} {mid} {new} {n} {a} {b} i ls s s' links one one-is two two-is
     let same : items_below mid n (take (length ls - i) (drop i ls)) ≡ items_below old n (drop i ls) = rw cut (items-later s n (drop i ls) named) in
     let first : 16 ≤ length (links_at mid a) → i < length ls → IsThick (form_at new) n a =
     λ low inside. thick-stays s' n a live (row-thick old mid n a (take i ls) s (links-take old n i ls links (omega (arith, inside))) one-is (rw one-is at low) (thick-take old n i ls links inside)) in
+    let all : links_at new a ++ (links_at new b ++ []) ≡ ls = rw (links-stay s' a live, one-is, two-is, cut, append-nil) (take-append-drop i ls) in
     let within : 1 ≤ length (links_at new b) → i < length ls = λ some. omega (arith, length-drop i ls, rw (two-is, cut) at some) in
     record {
       items = ap (λ (xs : List ℕ). xs ++ flat_map (seq_at (form_at new) n) (b ∷ [])) later.items ∙ ap (λ (xs : List ℕ). items_below old n (take i ls) ++ xs) (items-one new n b (items_below mid n (take (length ls - i) (drop i ls))) two ∙ same) ∙ sym (items-split old n i ls);
+      links = all;
       rows = λ low some.
           rows-append new n (a ∷ []) (b ∷ []) (row-one new n a (items_below old n (take i ls)) later (rw (links-stay s' a live) (omega (arith, low)))) (row-one new n b (items_below mid n (take (length ls - i) (drop i ls))) two some) (λ _. thick-one new n a (first low (within some)));
       thick = λ low low' full.

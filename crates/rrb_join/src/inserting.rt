@@ -6,6 +6,7 @@ ghost use Rattle.node_heap.specs.Calls.{Answered, Builds, MakesJust, Unchanged};
 ghost use Rattle.rrb_core.specs.Seq.{seq_at, IsThick, IsWell};
 ghost use Rattle.rrb_core.specs.Vector.{HasSums, elements, height_at, IsGoodVector, IsSameVector};
 ghost use Rattle.rrb_join.specs.Unmade.{AreUnmade, AreThick};
+ghost use Rattle.rrb_join.specs.Answers.{RisesAtNeed};
 
 use crate::joining::SEAM_NODES;
 use crate::over::{root_over, rows_over};
@@ -39,10 +40,10 @@ impl From<NoMemory> for InsertFault {
 }
 
 /// The vector with `element` before the element at `index`, or after the last. It spends the element's hold on Ok alone,
-/// and makes at most two nodes for each height of the vector and three more, so at most 17. A vector whose root has fewer
-/// than 32 links keeps its height. Refused with `Range` where the index is past the length, else with `Long` where the
-/// vector has 2^32 - 1 elements, and with `Memory` where memory runs out. A refusal changes nothing but the heap's
-/// spares.
+/// and makes at most two nodes for each height of the vector and three more, so at most 17. The vector grows one row higher
+/// at most, and only where its root needs two rows, which have more than 32 links together; one whose root has fewer than
+/// 32 links keeps its height. Refused with `Range` where the index is past the length, else with `Long` where the vector
+/// has 2^32 - 1 elements, and with `Memory` where memory runs out. A refusal changes nothing but the heap's spares.
 pub fn insert<T>(
     heap: &mut Heap<T>,
     vector: FlexRef,
@@ -55,6 +56,7 @@ pub fn insert<T>(
     ensures items { IfOk result (λ v. elements heap.new v ≡ take index (elements heap.old vector) ++ element ∷ drop index (elements heap.old vector)) }
     ensures good { IfOk result (λ v. IsGoodVector heap.new v) }
     ensures flat { length (links_at heap.old vector) < 32 → IfOk result (λ v. height_at heap.new v ≡ height_at heap.old vector) }
+    ensures low { IfOk result (λ v. RisesAtNeed heap.new (height_at heap.old vector) v) }
     ensures answered { IfOk result (λ v. Answered heap.old heap.new (element ∷ []) v 0 (2 * height_at heap.old vector + 3)) }
     ensures made { IfOk result (λ v. MakesJust heap.old heap.new) }
     ensures vectors { (l : ℕ) → IsSameVector heap.old heap.new l }
@@ -86,6 +88,7 @@ fn inserted_root<T>(heap: &mut Heap<T>, root: Link, index: u32, element: Link) -
     ensures items { elements heap.new result ≡ take index (elements heap.old root) ++ element ∷ drop index (elements heap.old root) }
     ensures good { IsGoodVector heap.new result }
     ensures flat { length (links_at heap.old root) < 32 → height_at heap.new result ≡ height_at heap.old root }
+    ensures low { RisesAtNeed heap.new (height_at heap.old root) result }
     ensures builds { Builds heap.old heap.new (element ∷ []) (result ∷ []) 0 (2 * height_at heap.old root + 3) }
 {
     let height = height_of(heap, root);

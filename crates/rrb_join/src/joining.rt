@@ -5,7 +5,7 @@ ghost use Rattle.node_heap.specs.Calls.{Answered, Builds, MakesJust, Unchanged};
 ghost use Rattle.rrb_core.specs.Seq.{seq_at, IsThick};
 ghost use Rattle.rrb_core.specs.Vector.{elements, height_at, IsGoodVector, IsSameVector};
 ghost use Rattle.rrb_join.specs.Unmade.{AreUnmade, AreThick, IsSomeRow, EndsIn, BeginsWith};
-ghost use Rattle.rrb_join.specs.Answers.{GivesItself};
+ghost use Rattle.rrb_join.specs.Answers.{GivesItself, RisesAtNeed};
 
 use crate::over::{held_again, root_over, rows_over};
 use elem_core::NoMemory;
@@ -39,9 +39,10 @@ pub(crate) const SEAM_NODES: usize = 17;
 
 /// The elements of `left` and then those of `right`. It makes rows along the seam alone, at most two for each height of the
 /// higher vector and three more, so at most 17 nodes, and shares all others. Where one is empty it gives the other itself,
-/// which takes no memory. Two vectors of one height, whose roots have at most 32 links together, give a vector of that
-/// height. Refused with `Long` where the lengths sum past 2^32 - 1, and with `Memory` where memory runs out. A refusal
-/// changes nothing but the heap's spares.
+/// which takes no memory. The result is no higher than the higher vector, or one row higher where its root needs two rows,
+/// which have more than 32 links together; and two vectors of one height, whose roots have at most 32 links together, give
+/// a vector of that height. Refused with `Long` where the lengths sum past 2^32 - 1, and with `Memory` where memory runs
+/// out. A refusal changes nothing but the heap's spares.
 pub fn concat<T>(heap: &mut Heap<T>, left: FlexRef, right: FlexRef) -> Result<Flex, JoinFault>
     requires left_good { IsGoodVector heap.old left }
     requires right_good { IsGoodVector heap.old right }
@@ -49,6 +50,7 @@ pub fn concat<T>(heap: &mut Heap<T>, left: FlexRef, right: FlexRef) -> Result<Fl
     ensures items { IfOk result (λ v. elements heap.new v ≡ elements heap.old left ++ elements heap.old right) }
     ensures good { IfOk result (λ v. IsGoodVector heap.new v) }
     ensures flat { height_at heap.old left ≡ height_at heap.old right → length (links_at heap.old left) + length (links_at heap.old right) ≤ 32 → IfOk result (λ v. height_at heap.new v ≡ height_at heap.old left) }
+    ensures low { IfOk result (λ v. RisesAtNeed heap.new (max (height_at heap.old left) (height_at heap.old right)) v) }
     ensures answered { IfOk result (λ v. Answered heap.old heap.new [] v 0 (2 * max (height_at heap.old left) (height_at heap.old right) + 3)) }
     ensures made { IfOk result (λ v. MakesJust heap.old heap.new) }
     ensures left_empty { elements heap.old left ≡ [] → GivesItself heap.old heap.new result right }
@@ -84,6 +86,7 @@ pub(crate) fn joined_root<T>(heap: &mut Heap<T>, left: Link, right: Link) -> Lin
     ensures items { elements heap.new result ≡ elements heap.old left ++ elements heap.old right }
     ensures good { IsGoodVector heap.new result }
     ensures flat { height_at heap.old left ≡ height_at heap.old right → length (links_at heap.old left) + length (links_at heap.old right) ≤ 32 → height_at heap.new result ≡ height_at heap.old left }
+    ensures low { RisesAtNeed heap.new (max (height_at heap.old left) (height_at heap.old right)) result }
     ensures builds { Builds heap.old heap.new [] (result ∷ []) 0 (2 * max (height_at heap.old left) (height_at heap.old right) + 3) }
 {
     if heap.links(left).is_empty() {

@@ -7,6 +7,7 @@ ghost use Rattle.rrb_core.specs.Seq.{seq_at, IsThick};
 ghost use Rattle.rrb_core.specs.Vector.{elements, height_at, IsGoodVector, IsSameVector};
 ghost use Rattle.rrb_core.specs.Build.{IsRowOf, AreRows, Shares};
 ghost use Rattle.rrb_join.specs.Unmade.{items_below, AreThick, CanBeRows};
+ghost use Rattle.rrb_join.specs.Answers.{RisesAtNeed};
 
 use arrayvec::ArrayVec;
 use node_heap::{Heap, Link};
@@ -54,6 +55,7 @@ pub(crate) fn rows_over<T>(heap: &mut Heap<T>, links: &[Link], height: u8) -> Ro
     requires spare { 2 ≤ heap.old.spare_nodes }
     ensures rows { AreRows heap.new height result.items }
     ensures items { flat_map (seq_at (form_at heap.new) height) result.items ≡ items_below heap.old height links.now }
+    ensures links { flat_map (links_at heap.new) result.items ≡ links.now }
     ensures some { 1 ≤ length result.items }
     ensures few { length result.items ≤ 2 }
     ensures one { length links.now ≤ 32 → length result.items ≡ 1 }
@@ -80,7 +82,8 @@ pub(crate) fn root_over<T>(heap: &mut Heap<T>, links: &[Link], height: u8) -> Li
     requires spare { 3 ≤ heap.old.spare_nodes }
     ensures good { IsGoodVector heap.new result }
     ensures items { elements heap.new result ≡ items_below heap.old height links.now }
-    ensures low { length links.now ≤ 32 → height_at heap.new result ≡ height }
+    ensures flat { length links.now ≤ 32 → height_at heap.new result ≡ height }
+    ensures low { RisesAtNeed heap.new height result }
     ensures builds { Builds heap.old heap.new links.now (result ∷ []) 0 3 }
 {
     if links.len() <= ROW_LINKS {

@@ -21,3 +21,8 @@ returns-clause-answered g c =
 
 pub returns-clause-vectors : goal.returns-clause-vectors
 returns-clause-vectors g c = answered-same (Builds-Answered c.in_ok-reserve.ensures.rest c.rest_root.ensures.builds)
+
+pub returns-clause-low : goal.returns-clause-low
+returns-clause-low g c =
+    let low = rw c.root.ensures at c.rest_root.ensures.low in
+    rw c.from_root.ensures (omega (arith, unchanged-height c.in_ok-reserve.ensures.rest c.args.vector, low))

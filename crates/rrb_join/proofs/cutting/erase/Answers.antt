@@ -1,11 +1,11 @@
-use Rattle.std.proofs.Common.{rules, arith, ◌≡◌, ◌+◌, ◌*◌, ◌≤◌, refl, ◌∙◌, [], ◌∷◌, length-drop}
+use Rattle.std.proofs.Common.{rules, arith, ◌≡◌, ◌+◌, ◌*◌, ◌≤◌, max, refl, ◌∙◌, [], ◌∷◌, length-drop}
 use Rattle.std.proofs.lemmas.List.{length-take-le}
 use Rattle.node_heap.specs.Calls.{Answered}
 use Rattle.node_heap.proofs.Frames.{Unchanged-refl}
 use Rattle.rrb_core.specs.Vector.{height_at, elements, IsVectorOf}
 use Rattle.rrb_core.proofs.Stays.{extended-same}
 use Rattle.rrb_core.proofs.BuildLemmas.{unchanged-good, answered-same}
-use Rattle.rrb_join.proofs.AnswerLemmas.{unchanged-height, extended-height}
+use Rattle.rrb_join.proofs.AnswerLemmas.{unchanged-height, extended-height, rises-more, rises-held}
 use Rattle.rrb_join.proofs.CutLemmas.{Gives, gives-answered, gives-built, gives-more, gives-released, gives-all, gives-first, gives-second, without-second, gives-first-of, gives-third, without-third, good-held}
 use Rattle.rrb_join.proofs.cutting.erase.Given as given
 use Rattle.rrb_join.proofs.cutting.erase.Goals as goal
@@ -53,13 +53,22 @@ pub release-requires-2 : goal.release-requires-2
 release-requires-2 g c =
     gives-second c.joined_root-root.result c.rest_root-back.result (gives-released {left = c.joined_root-root.result ∷ c.rest_root-back.result ∷ []} c.in_ok-reserve.ensures.rest.graph (gives-built (gives-built (gives-answered c.in_ok-front.ensures.answered c.in_ok-front.ensures.made) c.rest_root-back.ensures.builds) c.joined_root-root.ensures.builds) (without-third c.joined_root-root.result c.rest_root-back.result c.in_ok-front.front) refl c.release.ensures.releases c.release.ensures.graph c.release.ensures.keeps)
 
+-- the vector is as high where its front was taken
+later : (g : given.Over) (c : goal.After-from_root g) → height_at c.take.new.heap c.root.result ≡ height_at c.args.heap.now c.args.vector
+later g c =
+    let first = unchanged-good c.args.vector c.in_ok-reserve.ensures.rest c.requires.good in
+    rw c.root.ensures (extended-height c.in_ok-front.ensures.answered.extends c.args.vector first.0 ∙ unchanged-height c.in_ok-reserve.ensures.rest c.args.vector)
+
+-- the front and the rest are no higher than the vector
+heights : (g : given.Over) (c : goal.After-from_root g) → max (height_at c.rest_root-back.new.heap c.root-2.result) (height_at c.rest_root-back.new.heap c.rest_root-back.result) ≤ height_at c.args.heap.now c.args.vector
+heights g c =
+    let front : height_at c.rest_root-back.new.heap c.root-2.result ≡ height_at c.take.new.heap c.in_ok-front.front = rw (c.root-2.ensures, c.view.ensures) (extended-height c.rest_root-back.ensures.builds.extends c.in_ok-front.front c.in_ok-front.ensures.good) in
+    omega (arith, unchanged-height c.in_ok-reserve.ensures.rest c.args.vector, later g c, front, c.in_ok-front.ensures.low, c.rest_root-back.ensures.low)
+
 whole : (g : given.Over) (c : goal.After-from_root g) → Gives c.reserve.new.self c.joined_root-root.new.heap (c.joined_root-root.result ∷ c.rest_root-back.result ∷ c.in_ok-front.front ∷ []) (5 * height_at c.args.heap.now c.args.vector + 5)
 whole g c =
-    let first = unchanged-good c.args.vector c.in_ok-reserve.ensures.rest c.requires.good in
-    let same = unchanged-height c.in_ok-reserve.ensures.rest c.args.vector in
-    let later : height_at c.take.new.heap c.root.result ≡ height_at c.reserve.new.self c.args.vector = rw c.root.ensures (extended-height c.in_ok-front.ensures.answered.extends c.args.vector first.0) in
-    let front : height_at c.rest_root-back.new.heap c.root-2.result ≡ height_at c.take.new.heap c.in_ok-front.front = rw (c.root-2.ensures, c.view.ensures) (extended-height c.rest_root-back.ensures.builds.extends c.in_ok-front.front c.in_ok-front.ensures.good) in
-    gives-more (gives-built (gives-built (gives-answered c.in_ok-front.ensures.answered c.in_ok-front.ensures.made) c.rest_root-back.ensures.builds) c.joined_root-root.ensures.builds) (omega (arith, same, later, front, c.in_ok-front.ensures.low, c.rest_root-back.ensures.low))
+    gives-more (gives-built (gives-built (gives-answered c.in_ok-front.ensures.answered c.in_ok-front.ensures.made) c.rest_root-back.ensures.builds) c.joined_root-root.ensures.builds)
+    (omega (arith, unchanged-height c.in_ok-reserve.ensures.rest c.args.vector, later g c, heights g c))
 
 both : (g : given.Over) (c : goal.After-from_root g) → Gives c.reserve.new.self c.release.new.heap (c.joined_root-root.result ∷ c.rest_root-back.result ∷ []) (5 * height_at c.args.heap.now c.args.vector + 5)
 both g c = gives-released {left = c.joined_root-root.result ∷ c.rest_root-back.result ∷ []} c.in_ok-reserve.ensures.rest.graph (whole g c) (without-third c.joined_root-root.result c.rest_root-back.result c.in_ok-front.front) refl c.release.ensures.releases c.release.ensures.graph c.release.ensures.keeps
@@ -95,3 +104,9 @@ returns-clause-vectors g c = answered-same (left g c).0
 
 pub returns-clause-range : goal.returns-clause-range
 returns-clause-range g c = (λ is. absurd cc, λ no. absurd (no (c.if-not-is_part.ensures.test.0 (search rules))))
+
+pub returns-clause-low : goal.returns-clause-low
+returns-clause-low g c =
+    let once = rises-held c.release.ensures.keeps c.joined_root-root.result (gives-first-of c.joined_root-root.result c.rest_root-back.result c.in_ok-front.front (whole g c)) c.joined_root-root.ensures.low in
+    let kept = rises-held c.release-2.ensures.keeps c.joined_root-root.result (gives-first c.joined_root-root.result c.rest_root-back.result (both g c)) once in
+    rw c.from_root.ensures (rises-more kept (heights g c))

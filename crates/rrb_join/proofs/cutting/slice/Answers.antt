@@ -3,7 +3,7 @@ use Rattle.node_heap.specs.Calls.{Answered}
 use Rattle.node_heap.proofs.Frames.{Unchanged-refl}
 use Rattle.rrb_core.specs.Vector.{height_at, elements, IsVectorOf}
 use Rattle.rrb_core.proofs.BuildLemmas.{unchanged-good, answered-same}
-use Rattle.rrb_join.proofs.AnswerLemmas.{unchanged-height}
+use Rattle.rrb_join.proofs.AnswerLemmas.{unchanged-height, height-held}
 use Rattle.rrb_join.proofs.CutLemmas.{Gives, gives-answered, gives-built, gives-released, gives-all, gives-first, without-second, good-held}
 use Rattle.rrb_join.proofs.cutting.slice.Given as given
 use Rattle.rrb_join.proofs.cutting.slice.Goals as goal
@@ -45,3 +45,10 @@ returns-clause-made g c = (left g c).1
 
 pub returns-clause-vectors : goal.returns-clause-vectors
 returns-clause-vectors g c = answered-same (left g c).0
+
+pub returns-clause-low : goal.returns-clause-low
+returns-clause-low g c =
+    let same = unchanged-height c.in_ok-reserve.ensures.rest c.args.vector in
+    let front : height_at c.take.new.heap c.root.result ≤ height_at c.reserve.new.self c.args.vector = rw (c.root.ensures, c.view.ensures) c.in_ok-front.ensures.low in
+    let kept = height-held c.release.ensures.keeps c.rest_root-root.result (gives-first c.rest_root-root.result c.in_ok-front.front (made g c)) in
+    rw c.from_root.ensures (omega (arith, same, front, kept, c.rest_root-root.ensures.low))

@@ -1,7 +1,7 @@
 use Rattle.std.proofs.Common.{arith, refl, ◌∙◌}
 use Rattle.node_heap.proofs.BuildLemmas.{Builds-more, Builds-Answered}
 use Rattle.rrb_core.proofs.BuildLemmas.{unchanged-good, answered-same}
-use Rattle.rrb_join.proofs.AnswerLemmas.{unchanged-height, unchanged-links}
+use Rattle.rrb_join.proofs.AnswerLemmas.{unchanged-height, unchanged-links, rises-more}
 use Rattle.rrb_join.proofs.inserting.insert.Goals as goal
 
 pub inserted_root-requires-clause-good : goal.inserted_root-requires-clause-good
@@ -32,3 +32,6 @@ pub returns-clause-flat : goal.returns-clause-flat
 returns-clause-flat g c = λ few.
     let low = c.inserted_root.ensures.flat (rw (c.root.ensures, unchanged-links c.in_ok-reserve.ensures.rest c.args.vector) few) in
     rw c.from_root.ensures (low ∙ rw c.root.ensures (unchanged-height c.in_ok-reserve.ensures.rest c.args.vector))
+
+pub returns-clause-low : goal.returns-clause-low
+returns-clause-low g c = rw c.from_root.ensures (rises-more c.inserted_root.ensures.low (rw c.root.ensures (omega (arith, unchanged-height c.in_ok-reserve.ensures.rest c.args.vector))))

@@ -21,4 +21,7 @@ returns-clause-builds g c =
     Builds-more 0 _ (Builds-then c.insert_links-links.ensures.builds (rw c.as_slice.ensures.value at c.root_over.ensures.builds)) (omega arith) (omega (arith, c.height_of-height.ensures))
 
 pub returns-clause-flat : goal.returns-clause-flat
-returns-clause-flat g c = λ few. c.root_over.ensures.low (rw c.as_slice.ensures.value (omega (arith, c.insert_links-links.ensures.few, few))) ∙ c.height_of-height.ensures
+returns-clause-flat g c = λ few. c.root_over.ensures.flat (rw c.as_slice.ensures.value (omega (arith, c.insert_links-links.ensures.few, few))) ∙ c.height_of-height.ensures
+
+pub returns-clause-low : goal.returns-clause-low
+returns-clause-low g c = rw (← c.height_of-height.ensures) c.root_over.ensures.low

@@ -1,7 +1,7 @@
 use Rattle.std.proofs.Common.{arith, refl, sym, ◌∙◌}
 use Rattle.node_heap.proofs.BuildLemmas.{Builds-more, Builds-Answered}
 use Rattle.rrb_core.proofs.BuildLemmas.{unchanged-good, answered-same}
-use Rattle.rrb_join.proofs.AnswerLemmas.{unchanged-height, unchanged-links}
+use Rattle.rrb_join.proofs.AnswerLemmas.{unchanged-height, unchanged-links, rises-more}
 use Rattle.rrb_join.proofs.joining.concat.Goals as goal
 
 pub returns-in_err-reserve-clause-vectors : goal.returns-in_err-reserve-clause-vectors
@@ -43,3 +43,9 @@ returns-clause-flat g c = λ same few.
     let right_links = unchanged-links c.in_ok-reserve.ensures.rest c.args.right in
     let low = c.joined_root.ensures.flat (rw (c.root.ensures, c.root-2.ensures) (left ∙ same ∙ sym right)) (rw (c.root.ensures, c.root-2.ensures, left_links, right_links) few) in
     rw c.from_root.ensures (low ∙ rw c.root.ensures left)
+
+pub returns-clause-low : goal.returns-clause-low
+returns-clause-low g c =
+    let left = unchanged-height c.in_ok-reserve.ensures.rest c.args.left in
+    let right = unchanged-height c.in_ok-reserve.ensures.rest c.args.right in
+    rw c.from_root.ensures (rises-more c.joined_root.ensures.low (rw (c.root.ensures, c.root-2.ensures) (omega (arith, left, right))))

@@ -4,7 +4,7 @@ use Rattle.node_heap.proofs.BuildLemmas.{Builds-then, Builds-more}
 use Rattle.rrb_core.specs.Vector.{height_at, elements}
 use Rattle.rrb_core.proofs.Stays.{well-live}
 use Rattle.rrb_join.proofs.UnmadeLemmas.{no-elements}
-use Rattle.rrb_join.proofs.AnswerLemmas.{extended-height}
+use Rattle.rrb_join.proofs.AnswerLemmas.{extended-height, no-higher, rises-more}
 use Rattle.rrb_join.proofs.joining.joined_root.Goals as goal
 
 pub links-requires : goal.links-requires
@@ -39,4 +39,13 @@ pub returns-clause-flat : goal.returns-clause-flat
 returns-clause-flat g c = λ same few.
     let left : c.height_of-left_height.result ≡ c.max-height.result = omega (arith, c.max-height.ensures, c.height_of-left_height.ensures, c.height_of-right_height.ensures, same) in
     let right : c.height_of-right_height.result ≡ c.max-height.result = omega (arith, c.max-height.ensures, c.height_of-left_height.ensures, c.height_of-right_height.ensures, same) in
-    c.root_over.ensures.low (rw c.as_slice.ensures.value (omega (arith, c.join-links.ensures.few left right, few))) ∙ (sym left ∙ c.height_of-left_height.ensures)
+    c.root_over.ensures.flat (rw c.as_slice.ensures.value (omega (arith, c.join-links.ensures.few left right, few))) ∙ (sym left ∙ c.height_of-left_height.ensures)
+
+pub returns-then-is_empty-clause-low : goal.returns-then-is_empty-clause-low
+returns-then-is_empty-clause-low g c = rw c.held_again.ensures.same (no-higher (omega (arith, extended-height c.held_again.ensures.shares.builds.extends c.args.right c.requires.right_good)))
+
+pub returns-then-is_empty-2-clause-low : goal.returns-then-is_empty-2-clause-low
+returns-then-is_empty-2-clause-low g c = rw c.held_again-then-is_empty-2.ensures.same (no-higher (omega (arith, extended-height c.held_again-then-is_empty-2.ensures.shares.builds.extends c.args.left c.requires.left_good)))
+
+pub returns-clause-low : goal.returns-clause-low
+returns-clause-low g c = rises-more c.root_over.ensures.low (omega (arith, c.max-height.ensures, c.height_of-left_height.ensures, c.height_of-right_height.ensures))

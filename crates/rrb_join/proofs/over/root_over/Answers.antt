@@ -1,11 +1,14 @@
 use Rattle.std.proofs.Common.{arith, ◌≡◌, ◌+◌, ◌<◌, ◌∙◌, add-one}
-use Rattle.rrb_core.specs.Vector.{elements, IsGoodVector}
+use Rattle.std.specs.List.{flat_map}
+use Rattle.rrb_core.specs.Vector.{elements, height_at, IsGoodVector}
 use Rattle.rrb_join.specs.Unmade.{items_below}
-use Rattle.node_heap.specs.Heap.{form_at}
+use Rattle.node_heap.specs.Heap.{form_at, links_at}
 use Rattle.rrb_core.proofs.FillRule.{height-is}
-use Rattle.rrb_core.proofs.RowLists.{good-row}
+use Rattle.rrb_core.proofs.Stays.{live-stays}
+use Rattle.rrb_core.proofs.RowLists.{good-row, rows-live}
 use Rattle.node_heap.proofs.BuildLemmas.{Builds-then}
 use Rattle.rrb_join.proofs.UnmadeLemmas.{rows-above, items-above, two-low}
+use Rattle.rrb_join.proofs.AnswerLemmas.{no-higher, all-links-stay}
 use Rattle.rrb_join.proofs.over.root_over.Given as given
 use Rattle.rrb_join.proofs.over.root_over.Goals as goal
 
@@ -18,8 +21,11 @@ returns-then-links-le-ROW_LINKS-clause-good g c = (one g c).0
 pub returns-then-links-le-ROW_LINKS-clause-items : goal.returns-then-links-le-ROW_LINKS-clause-items
 returns-then-links-le-ROW_LINKS-clause-items g c = (one g c).1
 
+pub returns-then-links-le-ROW_LINKS-clause-flat : goal.returns-then-links-le-ROW_LINKS-clause-flat
+returns-then-links-le-ROW_LINKS-clause-flat g c = λ _. height-is (form_at c.row_over.new.heap) c.args.height c.row_over.result c.row_over.ensures.row.well
+
 pub returns-then-links-le-ROW_LINKS-clause-low : goal.returns-then-links-le-ROW_LINKS-clause-low
-returns-then-links-le-ROW_LINKS-clause-low g c = λ _. height-is (form_at c.row_over.new.heap) c.args.height c.row_over.result c.row_over.ensures.row.well
+returns-then-links-le-ROW_LINKS-clause-low g c = no-higher (omega (arith, height-is (form_at c.row_over.new.heap) c.args.height c.row_over.result c.row_over.ensures.row.well))
 
 above : (g : given.Over) (c : goal.After-as_slice g) → items_below c.rows_over-rows.new.heap (c.args.height + 1) c.as_slice.result.now ≡ items_below c.args.heap.now c.args.height c.args.links.now
 above g c = rw (add-one, c.as_slice.ensures.value) (items-above c.rows_over-rows.new.heap c.args.height c.rows_over-rows.result.items ∙ c.rows_over-rows.ensures.items)
@@ -50,6 +56,15 @@ returns-clause-good g c = (two g c).0
 
 pub returns-clause-items : goal.returns-clause-items
 returns-clause-items g c = (two g c).1
+
+pub returns-clause-low : goal.returns-clause-low
+returns-clause-low g c =
+    let height : height_at c.row_over-2.new.heap c.row_over-2.result ≡ c.args.height + 1 = height-is (form_at c.row_over-2.new.heap) (c.args.height + 1) c.row_over-2.result c.row_over-2.ensures.row.well in
+    let links : links_at c.row_over-2.new.heap c.row_over-2.result ≡ c.rows_over-rows.result.items = c.row_over-2.ensures.links ∙ c.as_slice.ensures.value in
+    let rows = rows-live c.rows_over-rows.new.heap c.args.height c.rows_over-rows.result.items c.rows_over-rows.ensures.rows in
+    let all : flat_map (links_at c.row_over-2.new.heap) c.rows_over-rows.result.items ≡ c.args.links.now =
+    all-links-stay (live-stays c.rows_over-rows.ensures.builds.graph c.row_over-2.ensures.builds.extends) c.rows_over-rows.result.items rows ∙ c.rows_over-rows.ensures.links in
+    record { most = omega (arith, height); need = λ up. record { two = rw links (omega (arith, c.rows_over-rows.ensures.two, c.rows_over-rows.ensures.few)); more = rw (links, all) (omega arith) } }
 
 pub returns-clause-builds : goal.returns-clause-builds
 returns-clause-builds g c = Builds-then c.rows_over-rows.ensures.builds (rw c.as_slice.ensures.value at c.row_over-2.ensures.builds)

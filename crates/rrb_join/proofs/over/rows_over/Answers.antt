@@ -1,15 +1,21 @@
 use Rattle.std.proofs.Common.{arith, length, ◌/◌, ◌≡◌, refl, ◌∙◌, [], ◌∷◌}
 use Rattle.rrb_core.proofs.LinkCounts.{count-split}
 use Rattle.rrb_core.proofs.Stays.{live-stays}
-use Rattle.rrb_join.proofs.UnmadeLemmas.{links-take, links-rest, front-short, rest-short, held-rest, front-long, rest-long, two-pushed, one-over, AreTwoOver, two-over, builds-two}
+use Rattle.rrb_join.proofs.UnmadeLemmas.{links-take, links-rest, front-short, rest-short, held-rest, front-long, rest-long, two-pushed, AreOver, one-over, AreTwoOver, two-over, builds-two}
 use Rattle.rrb_join.proofs.over.rows_over.Given as given
 use Rattle.rrb_join.proofs.over.rows_over.Goals as goal
 
+alone : (g : given.Over) (c : goal.After-push g) → c.push.new.self.items ≡ c.row_over.result ∷ []
+alone g c = c.push.ensures.items ∙ rw c.new-rows.ensures refl
+
+one : (g : given.Over) (c : goal.After-push g) → AreOver c.args.heap.now c.row_over.new.heap c.args.height (c.row_over.result ∷ []) c.args.links.now
+one g c = one-over c.args.heap.now c.row_over.new.heap c.args.height c.row_over.result c.args.links.now (live-stays c.requires.rows.graph c.row_over.ensures.builds.extends) c.requires.rows.links c.requires.rows.some c.row_over.ensures.row c.row_over.ensures.links
+
 pub returns-then-links-le-ROW_LINKS-clause-thick : goal.returns-then-links-le-ROW_LINKS-clause-thick
-returns-then-links-le-ROW_LINKS-clause-thick g c = λ enough full.
-    let is : c.push.new.self.items ≡ c.row_over.result ∷ [] = c.push.ensures.items ∙ rw c.new-rows.ensures refl in
-    let one = one-over c.args.heap.now c.row_over.new.heap c.args.height c.row_over.result c.args.links.now (live-stays c.requires.rows.graph c.row_over.ensures.builds.extends) c.requires.rows.links c.requires.rows.some c.row_over.ensures.row c.row_over.ensures.links in
-    rw is (one.thick enough full)
+returns-then-links-le-ROW_LINKS-clause-thick g c = λ enough full. rw (alone g c) ((one g c).thick enough full)
+
+pub returns-then-links-le-ROW_LINKS-clause-links : goal.returns-then-links-le-ROW_LINKS-clause-links
+returns-then-links-le-ROW_LINKS-clause-links g c = rw (alone g c) (one g c).links
 
 pub row_over-requires-2-clause-rows : goal.row_over-requires-2-clause-rows
 row_over-requires-2-clause-rows g c =
@@ -49,6 +55,9 @@ returns-clause-rows g c =
 
 pub returns-clause-items : goal.returns-clause-items
 returns-clause-items g c = rw (pushed g c) (two g c).items
+
+pub returns-clause-links : goal.returns-clause-links
+returns-clause-links g c = rw (pushed g c) (two g c).links
 
 pub returns-clause-thick : goal.returns-clause-thick
 returns-clause-thick g c = λ enough full.
