@@ -7,6 +7,7 @@ ghost use Rattle.rrb_core.specs.Seq.{seq_at, IsThick, IsWell};
 ghost use Rattle.rrb_core.specs.Vector.{HasSums, elements, height_at, IsGoodVector, IsSameVector};
 ghost use Rattle.rrb_join.specs.Unmade.{AreUnmade, AreThick};
 ghost use Rattle.rrb_join.specs.Answers.{RisesAtNeed};
+ghost use Rattle.rrb_join.specs.declared.joining.TheConstants.{SEAM_NODES};
 
 use crate::joining::SEAM_NODES;
 use crate::over::{root_over, rows_over};
@@ -63,7 +64,7 @@ pub fn insert<T>(
     ensures refused { OnErr result (Unchanged heap.old heap.new) }
     ensures range { (result ≡ Err InsertFault.Range) ↔ (length (elements heap.old vector) < index) }
     ensures long { (result ≡ Err InsertFault.Long) ↔ ((index ≤ length (elements heap.old vector)) × (length (elements heap.old vector) ≡ 2 ^ 32 - 1)) }
-    ensures ample { HasSpares heap.old 0 17 → result ≢ Err InsertFault.Memory }
+    ensures ample { HasSpares heap.old 0 SEAM_NODES → result ≢ Err InsertFault.Memory }
 {
     let len = vector.len(heap);
     if index > len {
@@ -83,7 +84,7 @@ fn inserted_root<T>(heap: &mut Heap<T>, root: Link, index: u32, element: Link) -
     requires inside { index ≤ length (elements heap.old root) }
     requires short { length (elements heap.old root) + 1 < 2 ^ 32 }
     requires held { 1 ≤ holds_at heap.old element }
-    requires spare { 17 ≤ heap.old.spare_nodes }
+    requires spare { SEAM_NODES ≤ heap.old.spare_nodes }
     requires holds { hold_count heap.old + 128 ≤ 2 ^ 60 }
     ensures items { elements heap.new result ≡ take index (elements heap.old root) ++ element ∷ drop index (elements heap.old root) }
     ensures good { IsGoodVector heap.new result }

@@ -34,8 +34,8 @@ impl From<NoMemory> for JoinFault {
     }
 }
 
-// Joining or cutting makes at most so many nodes: two for each height below the root's, and a root over two.
-pub(crate) const SEAM_NODES: usize = 17;
+/// The most nodes that a join, a cut or an insert makes along its seam: two for each height and a root over two.
+pub const SEAM_NODES: usize = 17;
 
 /// The elements of `left` and then those of `right`. It makes rows along the seam alone, at most two for each height of the
 /// higher vector and three more, so at most 17 nodes, and shares all others. Where one is empty it gives the other itself,
@@ -58,7 +58,7 @@ pub fn concat<T>(heap: &mut Heap<T>, left: FlexRef, right: FlexRef) -> Result<Fl
     ensures vectors { (l : ℕ) → IsSameVector heap.old heap.new l }
     ensures refused { OnErr result (Unchanged heap.old heap.new) }
     ensures long { (result ≡ Err JoinFault.Long) ↔ (2 ^ 32 ≤ length (elements heap.old left) + length (elements heap.old right)) }
-    ensures ample { HasSpares heap.old 0 17 → result ≢ Err JoinFault.Memory }
+    ensures ample { HasSpares heap.old 0 SEAM_NODES → result ≢ Err JoinFault.Memory }
 {
     let left_len = left.len(heap);
     let right_len = right.len(heap);
@@ -81,7 +81,7 @@ pub(crate) fn joined_root<T>(heap: &mut Heap<T>, left: Link, right: Link) -> Lin
     requires left_good { IsGoodVector heap.old left }
     requires right_good { IsGoodVector heap.old right }
     requires short { length (elements heap.old left) + length (elements heap.old right) < 2 ^ 32 }
-    requires spare { 17 ≤ heap.old.spare_nodes }
+    requires spare { SEAM_NODES ≤ heap.old.spare_nodes }
     requires holds { hold_count heap.old + 128 ≤ 2 ^ 60 }
     ensures items { elements heap.new result ≡ elements heap.old left ++ elements heap.old right }
     ensures good { IsGoodVector heap.new result }

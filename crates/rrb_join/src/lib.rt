@@ -14,4 +14,4 @@ mod rests;
 
 pub use cutting::{SliceFault, drop_front, erase, slice};
 pub use inserting::{InsertFault, insert};
-pub use joining::{JoinFault, concat};
+pub use joining::{JoinFault, SEAM_NODES, concat};

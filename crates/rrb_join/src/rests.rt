@@ -11,6 +11,7 @@ ghost use Rattle.rrb_core.specs.Seq.{seq_at, IsThick, IsWell};
 ghost use Rattle.rrb_core.specs.Vector.{HasSums, elements, height_at, IsGoodVector};
 ghost use Rattle.rrb_core.specs.Build.{AreRows};
 ghost use Rattle.rrb_join.specs.Unmade.{items_below, AreLinks, AreThick, AreUnmade, IsSomeRow};
+ghost use Rattle.rrb_join.specs.declared.joining.TheConstants.{SEAM_NODES};
 
 use crate::over::{held_again, row_over, rows_over};
 use node_heap::{Heap, Link};
@@ -27,7 +28,7 @@ struct Rest {
 pub(crate) fn rest_root<T>(heap: &mut Heap<T>, root: Link, count: u32) -> Link
     requires graph { IsGraph heap.old }
     requires good { IsGoodVector heap.old root }
-    requires spare { 17 ≤ heap.old.spare_nodes }
+    requires spare { SEAM_NODES ≤ heap.old.spare_nodes }
     requires holds { hold_count heap.old + 192 ≤ 2 ^ 60 }
     ensures items { elements heap.new result ≡ drop count (elements heap.old root) }
     ensures good { IsGoodVector heap.new result }
