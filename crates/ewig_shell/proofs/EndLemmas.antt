@@ -9,7 +9,7 @@ use Rattle.ewig_shell.specs.Quits.{HasQuit}
 use Rattle.shell_io.specs.declared.device.Source as source_trait
 use Rattle.shell_io.specs.declared.device.Sink as sink_trait
 use Rattle.shell_io.specs.declared.device.Store as store_trait
-use Rattle.shell_io.proofs.FaultLemmas.{CountsFaults-as, Calls-none, Calls-as}
+use Rattle.shell_io.proofs.FaultLemmas.{CountsFaults-none, CountsFaults-as, Calls-none, Calls-as}
 use Rattle.space_state.specs.View.{SpaceView}
 use Rattle.ewig_shell.specs.declared.run.Status.{Status}
 use Rattle.ewig_shell.specs.declared.run.Status.TheVariants as status
@@ -106,7 +106,7 @@ module _ {A B C W : Type 0} {S : source_trait.Ghosts A} {source : A} {K : sink_t
     bits = tt;
     unbegun = λ _. (refl, refl, refl);
     reads = Calls-as (Calls-none S.faults S.steady S.faultless source) (λ p. absurd p) (not_early s early status.ReadFault (λ e. e));
-    writes = record { counted = omega arith; cause = λ e. absurd (not_early s early status.WriteFault (λ e. e) e) };
+    writes = CountsFaults-as CountsFaults-none (λ p. absurd p) (not_early s early status.WriteFault (λ e. e));
     stores = KeepsSure-none;
     run = IfSome-from (S.left source) (λ (input : List ℕ). Runs most input (S.left source) K sink sink (shown_store D store) (shown_store D store) s None) (λ input told. record {
       run = idle input s (shown_store D store);
@@ -136,7 +136,7 @@ module _ {A B C W : Type 0} {S : source_trait.Ghosts A} {source source' : A} {K 
     bits = bits;
     unbegun = λ early. absurd (begun early);
     reads = Calls-as causes.reads (λ p. let same = p in cc) (ap Some);
-    writes = CountsFaults-as causes.writes (ap Some);
+    writes = CountsFaults-as causes.writes (λ p. let same = p in cc) (ap Some);
     stores = stores;
     run = IfSome-from (S.left source) (λ (input : List ℕ). Runs most input (S.left source') K sink sink' (shown_store D store) (shown_store D store') s (Some space)) run;
     complete = λ _ no_read no_write. IfSome-from (S.left source) (λ (input : List ℕ). IsComplete most input s)

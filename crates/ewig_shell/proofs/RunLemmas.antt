@@ -68,7 +68,7 @@ module _ {B : Type 0} {K : sink_trait.Ghosts B} where
   }
 
   -- a reply was sent behind the others
-  TakesReplies-append : {begin sink sink' : B} {w : Went} (bytes reply : List ℕ) → TakesReplies K begin sink bytes → Sends K.written K.faults K.has_room sink sink' (Ok w) reply → TakesReplies K begin sink' (bytes ++ reply)
+  TakesReplies-append : {begin sink sink' : B} {w : Went} (bytes reply : List ℕ) → TakesReplies K begin sink bytes → Sends K.written K.faults K.steady K.has_room sink sink' (Ok w) reply → TakesReplies K begin sink' (bytes ++ reply)
   TakesReplies-append {sink' = sink'} bytes reply before sends = record {
     appends = Appends-trans _ _ _ bytes reply before.appends sends.writes;
     room = λ room has low.
@@ -101,7 +101,7 @@ module _ {B : Type 0} {K : sink_trait.Ghosts B} {begin sink' : B} {left : Option
       GivesNext most input old new piece →
       new.taken ≤ most + 1 →
       Step W piece reply W' →
-      Sends K.written K.faults K.has_room sink sink' result reply →
+      Sends K.written K.faults K.steady K.has_room sink sink' result reply →
       IfOk result (λ (w : Went). (w ≡ went.Quit) ↔ (piece ≡ codes "quit")) →
       MatchOption (status_of result) (IsGoing most input new left K begin sink' first W') (λ (s : Status). Runs most input left K begin sink' first W'.store s (Some W'.space))
   by_result {most = most} {input} {old} {new} {W = W} W' {piece} {reply} (Ok went.On) going stands next few step sends quits = record {

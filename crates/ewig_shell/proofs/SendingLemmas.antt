@@ -8,7 +8,7 @@ use Rattle.std.specs.declared.result.Result.{Result}
 use Rattle.std.specs.Io.KnownBytes.{Appends}
 use Rattle.shell_io.specs.Sending.{Sends, WritesPart}
 use Rattle.shell_io.specs.declared.device.Failed.{Failed}
-use Rattle.shell_io.proofs.FaultLemmas.{CountsFaults-then, CountsFaults-as}
+use Rattle.shell_io.proofs.FaultLemmas.{CountsFaults-none, CountsFaults-then, CountsFaults-as}
 use Rattle.shell_io.specs.declared.device.Sink as sink_trait
 use Rattle.ewig_shell.specs.Sending.{sent_then, Puts}
 use Rattle.ewig_shell.specs.declared.execute.Went.{Went}
@@ -30,12 +30,12 @@ WritesPart-more before now a b q =
       subst (λ (w : List ℕ). Appends before now w) (sym (take-append-le q.0 a b low)) q.2,
     )
 
-module _ {K : Type 0} {written : K → Option (List ℕ)} {faults : K → ℕ} {has_room : K → ℕ → Type 0} where
+module _ {K : Type 0} {written : K → Option (List ℕ)} {faults : K → ℕ} {steady : K → Type 0} {has_room : K → ℕ → Type 0} where
   -- a piece was sent whole, and then another
-  pub Sends-append : {A B : Type 0} {old mid new : K} {x : A} (result : Result B Failed) (a b : List ℕ) → Sends written faults has_room old mid (Ok x) a → Sends written faults has_room mid new result b → Sends written faults has_room old new result (a ++ b)
+  pub Sends-append : {A B : Type 0} {old mid new : K} {x : A} (result : Result B Failed) (a b : List ℕ) → Sends written faults steady has_room old mid (Ok x) a → Sends written faults steady has_room mid new result b → Sends written faults steady has_room old new result (a ++ b)
   Sends-append {new = new} (Ok y) a b p q = record {
     writes = Appends-trans _ _ _ a b p.writes q.writes;
-    counts = CountsFaults-then p.counts q.counts;
+    counts = CountsFaults-then p.counts (λ h. cc) q.counts;
     sure = λ room fits low.
         let first = p.sure room fits (omega (arith, low, length-append a b)) in
         let second = q.sure (room - length a) first.2 (omega (arith, low, length-append a b)) in
@@ -43,7 +43,7 @@ module _ {K : Type 0} {written : K → Option (List ℕ)} {faults : K → ℕ} {
   }
   Sends-append (Err f) a b p q = record {
     writes = WritesPart-append _ _ _ a b p.writes q.writes;
-    counts = CountsFaults-then p.counts q.counts;
+    counts = CountsFaults-then p.counts (λ h. cc) q.counts;
     sure = λ room fits low.
         let first = p.sure room fits (omega (arith, low, length-append a b)) in
         let never = (q.sure (room - length a) first.2 (omega (arith, low, length-append a b))).0 in
@@ -51,38 +51,38 @@ module _ {K : Type 0} {written : K → Option (List ℕ)} {faults : K → ℕ} {
   }
 
   -- a piece of which a part was sent, with more that would have come, whatever the call would have answered
-  pub Sends-cut : {A B : Type 0} {old new : K} {f : Failed} (result : Result B Failed) (a b : List ℕ) → IsErr result → Sends {A = A} written faults has_room old new (Err f) a → Sends written faults has_room old new result (a ++ b)
+  pub Sends-cut : {A B : Type 0} {old new : K} {f : Failed} (result : Result B Failed) (a b : List ℕ) → IsErr result → Sends {A = A} written faults steady has_room old new (Err f) a → Sends written faults steady has_room old new result (a ++ b)
   Sends-cut (Ok x) a b h p = cc
   Sends-cut (Err g) a b h p = record {
     writes = WritesPart-more _ _ a b p.writes;
-    counts = CountsFaults-as p.counts (λ _. refl);
+    counts = CountsFaults-as p.counts (λ _. refl) (λ _. refl);
     sure = λ room fits low. let never = (p.sure room fits (omega (arith, low, length-append a b))).0 in cc;
   }
 
   -- what was sent in part was, whatever the call would have answered
-  pub Sends-err : {A B : Type 0} {old new : K} {f : Failed} (result : Result B Failed) {a : List ℕ} → IsErr result → Sends {A = A} written faults has_room old new (Err f) a → Sends written faults has_room old new result a
+  pub Sends-err : {A B : Type 0} {old new : K} {f : Failed} (result : Result B Failed) {a : List ℕ} → IsErr result → Sends {A = A} written faults steady has_room old new (Err f) a → Sends written faults steady has_room old new result a
   Sends-err (Ok x) h p = cc
   Sends-err (Err g) h p = record {
     writes = p.writes;
-    counts = CountsFaults-as p.counts (λ _. refl);
+    counts = CountsFaults-as p.counts (λ _. refl) (λ _. refl);
     sure = λ room fits low. let never = (p.sure room fits low).0 in cc;
   }
 
   -- what was sent, or not, was, however the run goes on
-  sends_then : {old new : K} (sent : Result (Unit {0}) Failed) (went : Went) {a : List ℕ} → Sends written faults has_room old new sent a → Sends written faults has_room old new (sent_then sent went) a
-  sends_then (Ok x) went p = record { writes = p.writes; counts = CountsFaults-as p.counts (λ h. h); sure = p.sure }
+  sends_then : {old new : K} (sent : Result (Unit {0}) Failed) (went : Went) {a : List ℕ} → Sends written faults steady has_room old new sent a → Sends written faults steady has_room old new (sent_then sent went) a
+  sends_then (Ok x) went p = record { writes = p.writes; counts = CountsFaults-as p.counts (λ h. h) (λ h. h); sure = p.sure }
   sends_then (Err f) went p = record { writes = p.writes; counts = p.counts; sure = p.sure }
 
   -- a reply was sent, and then the run goes on so
-  pub Sends-then : {old new : K} (sent : Result (Unit {0}) Failed) (went : Went) {result : Result Went Failed} {a : List ℕ} → result ≡ sent_then sent went → Sends written faults has_room old new sent a → Sends written faults has_room old new result a
+  pub Sends-then : {old new : K} (sent : Result (Unit {0}) Failed) (went : Went) {result : Result Went Failed} {a : List ℕ} → result ≡ sent_then sent went → Sends written faults steady has_room old new sent a → Sends written faults steady has_room old new result a
   Sends-then {old = old} {new} sent went {result} {a} e p =
-      subst (λ (r : Result Went Failed). Sends written faults has_room old new r a) (sym e) (sends_then sent went p)
+      subst (λ (r : Result Went Failed). Sends written faults steady has_room old new r a) (sym e) (sends_then sent went p)
 
   -- nothing was sent
-  pub Sends-none : {A : Type 0} {at : K} {x : A} → Sends written faults has_room at at (Ok x) []
+  pub Sends-none : {A : Type 0} {at : K} {x : A} → Sends written faults steady has_room at at (Ok x) []
   Sends-none {at = at} = record {
     writes = Appends-nil (written at);
-    counts = record { counted = omega arith; cause = λ h. cc };
+    counts = CountsFaults-as CountsFaults-none (λ q. absurd q) (λ h. cc);
     sure = λ room fits low. (refl, refl, subst (λ (n : ℕ). has_room at n) (omega arith) fits);
   }
 
@@ -115,15 +115,15 @@ module _ {B : Type 0} {K : sink_trait.Ghosts B} where
   Puts-kept {p' = p'} e = record { sent = []; kept = p'; whole = e; page_is = refl; sends = Sends-none }
 
   -- what the page had was sent in part
-  pub Puts-fails : {s s' : B} {p p' bytes : List ℕ} {x : Failed} {r : Result (Unit {0}) Failed} → IsErr r → Sends {A = Unit {0}} K.written K.faults K.has_room s s' (Err x) p → Puts K s p s' p' r bytes
+  pub Puts-fails : {s s' : B} {p p' bytes : List ℕ} {x : Failed} {r : Result (Unit {0}) Failed} → IsErr r → Sends {A = Unit {0}} K.written K.faults K.steady K.has_room s s' (Err x) p → Puts K s p s' p' r bytes
   Puts-fails {p = p} {p'} {bytes} {r = r} h sends = record { sent = p; kept = bytes; whole = refl; page_is = OnOk-err r (p' ≡ bytes) h; sends = Sends-err r h sends }
 
   -- what the page had was sent, and it has the bytes
-  pub Puts-turned : {s s' : B} {p none p' bytes : List ℕ} {x y : Unit {0}} → Sends {A = Unit {0}} K.written K.faults K.has_room s s' (Ok x) p → none ≡ [] → p' ≡ none ++ bytes → Puts K s p s' p' (Ok y) bytes
-  Puts-turned {p = p} {bytes = bytes} sends empty e = record { sent = p; kept = bytes; whole = refl; page_is = e ∙ ap (λ (w : List ℕ). w ++ bytes) empty; sends = record { writes = sends.writes; counts = CountsFaults-as sends.counts (λ h. h); sure = sends.sure } }
+  pub Puts-turned : {s s' : B} {p none p' bytes : List ℕ} {x y : Unit {0}} → Sends {A = Unit {0}} K.written K.faults K.steady K.has_room s s' (Ok x) p → none ≡ [] → p' ≡ none ++ bytes → Puts K s p s' p' (Ok y) bytes
+  Puts-turned {p = p} {bytes = bytes} sends empty e = record { sent = p; kept = bytes; whole = refl; page_is = e ∙ ap (λ (w : List ℕ). w ++ bytes) empty; sends = record { writes = sends.writes; counts = CountsFaults-as sends.counts (λ h. h) (λ h. h); sure = sends.sure } }
 
   -- what the page had was sent, and then the bytes
-  pub Puts-through : {s m s' : B} {p p' bytes : List ℕ} {x : Unit {0}} (r : Result (Unit {0}) Failed) → Sends {A = Unit {0}} K.written K.faults K.has_room s m (Ok x) p → p' ≡ [] → Sends K.written K.faults K.has_room m s' r bytes → Puts K s p s' p' r bytes
+  pub Puts-through : {s m s' : B} {p p' bytes : List ℕ} {x : Unit {0}} (r : Result (Unit {0}) Failed) → Sends {A = Unit {0}} K.written K.faults K.steady K.has_room s m (Ok x) p → p' ≡ [] → Sends K.written K.faults K.steady K.has_room m s' r bytes → Puts K s p s' p' r bytes
   Puts-through {p = p} {p'} {bytes} r sends empty more = record { sent = p ++ bytes; kept = []; whole = append-nil (p ++ bytes); page_is = OnOk-holds r (p' ≡ []) empty; sends = Sends-append r p bytes sends more }
 
   -- bytes were put, and then others
@@ -151,14 +151,14 @@ module _ {B : Type 0} {K : sink_trait.Ghosts B} where
   Puts-more b put = Puts-cut b refl put
 
   -- bytes were put on an empty page, and then it was sent
-  pub Puts-ends : {s m s' : B} {p q a : List ℕ} {x : Unit {0}} {r : Result (Unit {0}) Failed} → p ≡ [] → Puts K s p m q (Ok x) a → Sends K.written K.faults K.has_room m s' r q → Sends K.written K.faults K.has_room s s' r a
+  pub Puts-ends : {s m s' : B} {p q a : List ℕ} {x : Unit {0}} {r : Result (Unit {0}) Failed} → p ≡ [] → Puts K s p m q (Ok x) a → Sends K.written K.faults K.steady K.has_room m s' r q → Sends K.written K.faults K.steady K.has_room s s' r a
   Puts-ends {s = s} {s' = s'} {p} {q} {a} {r = r} empty put sends =
-      subst (λ (w : List ℕ). Sends K.written K.faults K.has_room s s' r w)
+      subst (λ (w : List ℕ). Sends K.written K.faults K.steady K.has_room s s' r w)
       (ap (λ (w : List ℕ). put.sent ++ w) put.page_is ∙ put.whole ∙ ap (λ (w : List ℕ). w ++ a) empty)
       (Sends-append r put.sent q put.sends sends)
 
   -- bytes were put on an empty page in part
-  pub Puts-failed : {s s' : B} {p q a : List ℕ} {x : Failed} {r : Result (Unit {0}) Failed} → IsErr r → p ≡ [] → Puts K s p s' q (Err x) a → Sends K.written K.faults K.has_room s s' r a
+  pub Puts-failed : {s s' : B} {p q a : List ℕ} {x : Failed} {r : Result (Unit {0}) Failed} → IsErr r → p ≡ [] → Puts K s p s' q (Err x) a → Sends K.written K.faults K.steady K.has_room s s' r a
   Puts-failed {s = s} {s'} {p} {a = a} {r = r} h empty put =
-      subst (λ (w : List ℕ). Sends K.written K.faults K.has_room s s' r w) (put.whole ∙ ap (λ (w : List ℕ). w ++ a) empty)
+      subst (λ (w : List ℕ). Sends K.written K.faults K.steady K.has_room s s' r w) (put.whole ∙ ap (λ (w : List ℕ). w ++ a) empty)
       (Sends-cut r put.sent put.kept h put.sends)

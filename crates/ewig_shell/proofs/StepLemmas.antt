@@ -342,13 +342,13 @@ module _ {B C : Type 0} {K : sink_trait.Ghosts B} {D : store_trait.Ghosts C} {si
       }
 
   -- the same of one that ended so
-  pub Replies-ends : (command it : Command) (done : Result (Unit {0}) Refusal) → command ≡ it → uses_store (plain_command it) ≡ false → only_asks (plain_command it) ≡ false → Ends (plain_command it) old done new → Sends K.written K.faults K.has_room sink sink' result (done_reply done) → Replies K sink sink' result (λ (reply : List ℕ). ObeysOn (plain_command command) D old store reply new store)
+  pub Replies-ends : (command it : Command) (done : Result (Unit {0}) Refusal) → command ≡ it → uses_store (plain_command it) ≡ false → only_asks (plain_command it) ≡ false → Ends (plain_command it) old done new → Sends K.written K.faults K.steady K.has_room sink sink' result (done_reply done) → Replies K sink sink' result (λ (reply : List ℕ). ObeysOn (plain_command command) D old store reply new store)
   Replies-ends command it done is alone asks ends sends =
       Replies-alone command it is alone (record { reply = done_reply done; due = Obeys-ends (plain_command it) done asks ends; sends = sends })
 
 -- a command that uses the store was obeyed, and its reply sent
 pub Replies-on : {B C : Type 0} {K : sink_trait.Ghosts B} {D : store_trait.Ghosts C} {sink sink' : B} {store store' : C} {result : Result (Unit {0}) Failed} {old new : SpaceView} {reply due : List ℕ} (command it : Command) → command ≡ it → reply ≡ due →
-    ObeysOn (plain_command it) D old store due new store' → Sends K.written K.faults K.has_room sink sink' result reply → Replies K sink sink' result (λ (w : List ℕ). ObeysOn (plain_command command) D old store w new store')
+    ObeysOn (plain_command it) D old store due new store' → Sends K.written K.faults K.steady K.has_room sink sink' result reply → Replies K sink sink' result (λ (w : List ℕ). ObeysOn (plain_command command) D old store w new store')
 Replies-on {D = D} {store = store} {store'} {old = old} {new} {reply} command it is same obeys sends = record {
   reply = reply;
   due = subst (λ (k : Command). ObeysOn (plain_command k) D old store reply new store') (sym is) (subst (λ (w : List ℕ). ObeysOn (plain_command it) D old store w new store') (sym same) obeys);
@@ -359,7 +359,7 @@ Replies-on {D = D} {store = store} {store'} {old = old} {new} {reply} command it
 CountsStore-called : {C : Type 0} {D : store_trait.Ghosts C} {store store' : C} {failed : Type 0} {reply : List ℕ} → failed ↔ (reply ≡ refusal_of (codes "fault")) → Calls D.faults D.steady D.faultless store store' failed → CountsStore D store store' reply
 CountsStore-called exactly calls = record {
   counted = calls.counts.counted;
-  steady = λ h. let told = calls.told h in (told.0, λ other. told.1 (λ fails. other (exactly.0 fails)));
+  steady = λ h. let told = calls.counts.told h in (told.0, λ other. told.1 (λ fails. other (exactly.0 fails)));
   sure = λ h. let told = calls.sure h in (told.0, told.1, λ fault. told.2 (exactly.1 fault));
 }
 

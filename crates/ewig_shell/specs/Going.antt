@@ -38,7 +38,7 @@ pub record IsGoing {B : Type 0} (most : ℕ) (input : List ℕ) (reader : Readin
 pub record HasCauses {A B : Type 0} (S : source_trait.Ghosts A) (source source' : A)
     (K : sink_trait.Ghosts B) (sink sink' : B) (ends : Option Status) : Type 0 where
   pub reads : Calls S.faults S.steady S.faultless source source' (ends ≡ Some ReadFault)
-  pub writes : CountsFaults (ends ≡ Some WriteFault) (K.faults sink) (K.faults sink')
+  pub writes : CountsFaults K.faults K.steady sink sink' (ends ≡ Some WriteFault)
 
 -- The status of a run that ends with a piece that was executed so, or none.
 abbrev pub status_of : Result Went Failed → Option Status

@@ -153,10 +153,10 @@ pub record RunsAs {A B C W : Type 0} (most : ℕ) (words : List W) (S : source_t
   pub space : IsNone ended.space ↔ IsEarly ended.status
   pub bits : IfSome ended.space (λ s. s.pool.bits ≡ CODE_BITS)
   pub unbegun : IsEarly ended.status → (source' ≡ source) × (sink' ≡ sink) × (store' ≡ store)
-  -- The counts of faults never fall, and a fault has its cause in this call. A steady source counts a fault with no
-  -- other status, and one that can't fail has none.
+  -- The counts of faults never fall, and a fault has its cause in this call. A steady source stays so and counts a fault with
+  -- no status but a read fault, a steady sink with none but a write fault. A source that can't fail has none.
   pub reads : Calls S.faults S.steady S.faultless source source' (ended.status ≡ ReadFault)
-  pub writes : CountsFaults (ended.status ≡ WriteFault) (K.faults sink) (K.faults sink')
+  pub writes : CountsFaults K.faults K.steady sink sink' (ended.status ≡ WriteFault)
   pub stores : KeepsSure D store store'
   -- Where the source tells its bytes.
   pub run : IfSome (S.left source) (λ input. Runs most input (S.left source') K sink sink' (shown_store D store) (shown_store D store') ended.status ended.space)

@@ -10,7 +10,7 @@ pub record Replies {A B : Type 0} (K : sink_trait.Ghosts B) (sink sink' : B) (re
     (IsDue : List ℕ → Type 0) : Type 0 where
   pub reply : List ℕ
   pub due : IsDue reply
-  pub sends : Sends K.written K.faults K.has_room sink sink' result reply
+  pub sends : Sends K.written K.faults K.steady K.has_room sink sink' result reply
 
 -- How a run goes on where a reply was sent, and else the fault.
 abbrev pub sent_then : Result (Unit {0}) Failed → Went → Result Went Failed
@@ -24,4 +24,4 @@ pub record Puts {B : Type 0} (K : sink_trait.Ghosts B) (sink : B) (page : List �
   pub kept : List ℕ
   pub whole : sent ++ kept ≡ page ++ bytes
   pub page_is : OnOk result (page' ≡ kept)
-  pub sends : Sends K.written K.faults K.has_room sink sink' result sent
+  pub sends : Sends K.written K.faults K.steady K.has_room sink sink' result sent

@@ -54,7 +54,7 @@ pub fn execute<K: Sink, D: Store>(
 
 /// Replies to a piece that is too long to be a line.
 pub fn refuse_long<K: Sink>(sink: &mut K) -> Result<Went, Failed>
-    ensures sends { Sends K.written K.faults K.has_room sink.old sink.new result
+    ensures sends { Sends K.written K.faults K.steady K.has_room sink.old sink.new result
         (refusal_of (codes "long")) }
     ensures on { IfOk result (λ went. went ≡ Went.On) }
 {

@@ -42,7 +42,7 @@ impl Page {
 
     /// Sends all bytes, and is empty then.
     pub fn flush<K: Sink>(&mut self, sink: &mut K) -> Result<(), Failed>
-        ensures sends { Sends K.written K.faults K.has_room sink.old sink.new result self.old }
+        ensures sends { Sends K.written K.faults K.steady K.has_room sink.old sink.new result self.old }
         ensures empty { self.new ≡ [] }
     {
         let sent = write_all(sink, self.bytes.as_slice());

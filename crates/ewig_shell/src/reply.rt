@@ -18,7 +18,7 @@ use space_state::{Refusal, SpaceLines};
 
 /// Sends a reply that is ready.
 pub fn send<K: Sink>(reply: &[u8], sink: &mut K) -> Result<(), Failed>
-    ensures { Sends K.written K.faults K.has_room sink.old sink.new result reply.now }
+    ensures { Sends K.written K.faults K.steady K.has_room sink.old sink.new result reply.now }
 {
     write_all(sink, reply)
 }
@@ -110,7 +110,7 @@ fn damaged(damage: Damage) -> &'static [u8]
 
 /// Replies to a command that was carried out, or refused.
 pub fn send_done<K: Sink>(done: Result<(), Refusal>, sink: &mut K) -> Result<(), Failed>
-    ensures { Sends K.written K.faults K.has_room sink.old sink.new result (done_reply done) }
+    ensures { Sends K.written K.faults K.steady K.has_room sink.old sink.new result (done_reply done) }
 {
     match done {
         Ok(()) => send(b"ok\n", sink),
@@ -120,7 +120,7 @@ pub fn send_done<K: Sink>(done: Result<(), Refusal>, sink: &mut K) -> Result<(),
 
 /// Sends a line that shows the text.
 pub fn send_text<K: Sink>(text: &Text, sink: &mut K) -> Result<(), Failed>
-    ensures { Sends K.written K.faults K.has_room sink.old sink.new result (reply_of (text_line text.now ∷ [])) }
+    ensures { Sends K.written K.faults K.steady K.has_room sink.old sink.new result (reply_of (text_line text.now ∷ [])) }
 {
     let mut page = Page::new();
     page.put_text(text, sink)?;
@@ -129,7 +129,7 @@ pub fn send_text<K: Sink>(text: &Text, sink: &mut K) -> Result<(), Failed>
 
 /// Sends a line that shows the number.
 pub fn send_number<K: Sink>(number: u64, sink: &mut K) -> Result<(), Failed>
-    ensures { Sends K.written K.faults K.has_room sink.old sink.new result (reply_of (number_line number ∷ [])) }
+    ensures { Sends K.written K.faults K.steady K.has_room sink.old sink.new result (reply_of (number_line number ∷ [])) }
 {
     let mut digits = Buffer::new();
     let mut page = Page::new();
@@ -141,7 +141,7 @@ pub fn send_number<K: Sink>(number: u64, sink: &mut K) -> Result<(), Failed>
 
 /// Sends a line for each name with its number, then `ok`.
 pub fn send_sizes<K: Sink>(sizes: &[(&Text, u32)], sink: &mut K) -> Result<(), Failed>
-    ensures { Sends K.written K.faults K.has_room sink.old sink.new result
+    ensures { Sends K.written K.faults K.steady K.has_room sink.old sink.new result
         (reply_of (each size_line (each (λ size. (size.0.now, size.1)) sizes.now) ++ ok_line ∷ [])) }
 {
     let mut page = Page::new();
@@ -154,7 +154,7 @@ pub fn send_sizes<K: Sink>(sizes: &[(&Text, u32)], sink: &mut K) -> Result<(), F
 
 /// Sends a line for each name, then `ok`.
 pub fn send_names<K: Sink>(names: &[&Text], sink: &mut K) -> Result<(), Failed>
-    ensures { Sends K.written K.faults K.has_room sink.old sink.new result
+    ensures { Sends K.written K.faults K.steady K.has_room sink.old sink.new result
         (reply_of (each text_line (each (λ name. name.now) names.now) ++ ok_line ∷ [])) }
 {
     let mut page = Page::new();
@@ -167,7 +167,7 @@ pub fn send_names<K: Sink>(names: &[&Text], sink: &mut K) -> Result<(), Failed>
 
 /// Sends a line for each text, then `ok`.
 pub fn send_lines<K: Sink>(lines: SpaceLines<'_>, sink: &mut K) -> Result<(), Failed>
-    ensures { Sends K.written K.faults K.has_room sink.old sink.new result
+    ensures { Sends K.written K.faults K.steady K.has_room sink.old sink.new result
         (reply_of (each text_line lines.entry ++ ok_line ∷ [])) }
 {
     let mut page = Page::new();

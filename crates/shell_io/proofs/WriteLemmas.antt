@@ -36,14 +36,14 @@ stops_within piece done rest a b whole some written =
     (length done, omega arith, subst (λ xs. Appends a b xs) (sym front) written)
 
 -- the same of a call that failed, whose sink has no room for what is left
-pub Sends-stops : {K : Type 0} (written : K → Option (List ℕ)) (faults : K → ℕ) (has_room : K → ℕ → Type 0) (old new : K)
+pub Sends-stops : {K : Type 0} (written : K → Option (List ℕ)) (faults : K → ℕ) (steady : K → Type 0) (has_room : K → ℕ → Type 0) (old new : K)
     (result : Result (Unit {0}) Failed) (piece done rest : List ℕ) → piece ≡ done ++ rest → 0 < length rest → IsErr result →
-    Appends (written old) (written new) done → CountsFaults (IsErr result) (faults old) (faults new) →
+    Appends (written old) (written new) done → CountsFaults faults steady old new (IsErr result) →
     {had : ℕ → Type 0} → ((left : ℕ) → had left → length rest ≤ left → ⊥) →
     ((room : ℕ) → has_room old room → length piece ≤ room → had (room - length done)) →
-    Sends written faults has_room old new result piece
-Sends-stops written faults has_room old new (Ok x) piece done rest whole some failed appends counts none room_left = absurd (cc)
-Sends-stops written faults has_room old new (Err e) piece done rest whole some failed appends counts none room_left = record {
+    Sends written faults steady has_room old new result piece
+Sends-stops written faults steady has_room old new (Ok x) piece done rest whole some failed appends counts none room_left = absurd (cc)
+Sends-stops written faults steady has_room old new (Err e) piece done rest whole some failed appends counts none room_left = record {
   writes = stops_within piece done rest (written old) (written new) whole some appends;
   counts = counts;
   sure = λ room h fits.

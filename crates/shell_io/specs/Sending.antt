@@ -11,11 +11,11 @@ abbrev pub WritesPart : Option (List ℕ) → Option (List ℕ) → List ℕ →
 WritesPart before now bytes = (count : ℕ) × (count < length bytes) × Appends before now (take count bytes)
 
 -- all the bytes were written at Ok, and only a part of them at Failed
-pub record Sends {K A : Type 0} (written : K → Option (List ℕ)) (faults : K → ℕ) (has_room : K → ℕ → Type 0) (old new : K)
-    (result : Result A Failed) (bytes : List ℕ) : Type 0 where
+pub record Sends {K A : Type 0} (written : K → Option (List ℕ)) (faults : K → ℕ) (steady : K → Type 0)
+    (has_room : K → ℕ → Type 0) (old new : K) (result : Result A Failed) (bytes : List ℕ) : Type 0 where
   pub writes : MatchResult result (λ _. Appends (written old) (written new) bytes)
       (λ _. WritesPart (written old) (written new) bytes)
-  pub counts : CountsFaults (IsErr result) (faults old) (faults new)
+  pub counts : CountsFaults faults steady old new (IsErr result)
   -- with room for the bytes there is no fault
   pub sure : (room : ℕ) → has_room old room → length bytes ≤ room →
       IsOk result × (faults new ≡ faults old) × has_room new (room - length bytes)

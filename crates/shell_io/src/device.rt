@@ -100,6 +100,9 @@ pub trait Sink {
     // How often a call has failed. It stays at its last value.
     ghost faults: { Self → ℕ };
 
+    // No call that doesn't fail raises the count of faults. A sink that can't know it claims nothing.
+    ghost steady: { Self → Type 0 };
+
     // So many bytes more are written without a fault. A sink that can't know it claims nothing.
     ghost has_room: { Self → ℕ → Type 0 };
 
@@ -109,7 +112,7 @@ pub trait Sink {
         ensures grown { IfOk result (λ n. Appends (written self.old) (written self.new) (take n piece.now)) }
         ensures kept { OnErr result (Keeps (written self.old) (written self.new)) }
 
-        ensures counts { CountsFaults (IsErr result) (faults self.old) (faults self.new) }
+        ensures counts { CountsFaults faults steady self.old self.new (IsErr result) }
         // None of a piece that has bytes is written only where the sink failed.
         ensures stuck { IfOk result (λ n. n ≡ 0 → 0 < length piece.now → HasCause (faults self.old) (faults self.new)) }
         ensures sure { (room : ℕ) → has_room self.old room → length piece.now ≤ room →
@@ -151,7 +154,7 @@ pub trait Store {
 /// Writes the whole piece. `Failed`, and a proper prefix of it is written, where the sink fails, or
 /// takes no more of it.
 pub fn write_all<K: Sink>(sink: &mut K, piece: &[u8]) -> Result<(), Failed>
-    ensures { Sends K.written K.faults K.has_room sink.old sink.new result piece.now }
+    ensures { Sends K.written K.faults K.steady K.has_room sink.old sink.new result piece.now }
 {
     let mut rest = piece;
     while !rest.is_empty() {

@@ -179,6 +179,8 @@ impl Sink for MemSink {
 
     ghost faults = { λ s. s.faults };
 
+    ghost steady = { λ _. ⊤ };
+
     ghost has_room = { λ s n. (s.fails ≡ []) × (n ≤ s.room) × (0 < s.piece) };
 
     /// Takes no memory: `new` took it.

@@ -78,6 +78,8 @@ impl<W: Write> Sink for StdSink<W> {
 
     ghost faults = { λ s. s.faults };
 
+    ghost steady = { λ _. ⊤ };
+
     ghost has_room = { λ _ _. ⊥ };
 
     /// One write to the writer. One that was interrupted is made again, and one that takes nothing

@@ -9,7 +9,7 @@ invariant-loop-rest g l = record {
   done : List ℕ;
   whole : l.fn.piece ≡ done ++ l.rest;
   written : Appends (g.K.Sink.written l.initial.sink) (g.K.Sink.written l.sink) done;
-  counts : CountsFaults ⊥ (g.K.Sink.faults l.initial.sink) (g.K.Sink.faults l.sink);
+  counts : CountsFaults g.K.Sink.faults g.K.Sink.steady l.initial.sink l.sink ⊥;
   sure : (room : ℕ) → g.K.Sink.has_room l.initial.sink room → length l.fn.piece ≤ room →
       (g.K.Sink.faults l.sink ≡ g.K.Sink.faults l.initial.sink) × g.K.Sink.has_room l.sink (room - length done);
 }
