@@ -61,9 +61,9 @@ fn compacts_a_chain(rt: HostRuntime) -> Result<(), Fail> {
     Ok(())
 }
 
-// Three numbers with one code by five bits: what one walk finds, and how many keys share the code.
+// Three numbers with one code by five bits: a look-up gives what `find` and `alike` give.
 #[test]
-fn looks_up_in_one_walk(rt: HostRuntime) -> Result<(), Fail> {
+fn looks_up_as_find_and_alike(rt: HostRuntime) -> Result<(), Fail> {
     let mut heap: Heap<Num> = Heap::new(rt.alloc());
     let none = empty(&mut heap)?;
     assert_eq!(rt; look_up(&heap, none, &Num(1), 5).alike, 0);

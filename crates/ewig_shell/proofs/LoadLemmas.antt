@@ -25,7 +25,7 @@ use Rattle.shell_io.specs.declared.device.FetchFault.TheVariants as fetch
 use Rattle.shell_io.specs.declared.device.Store as store_trait
 use Rattle.ewig_shell.specs.declared.load.LoadFault.{LoadFault}
 use Rattle.ewig_shell.specs.declared.load.LoadFault.TheVariants as unloaded
-use Rattle.ewig_shell.specs.Step.{KeepsFiles, KeepsSpace, Fetched, fetched, missing, large, given, IsLoaded, LoadsAs, ObeysOn, shown_store, machine_of, most_stored, damage_word, reply_of, refusal_of, loaded_reply}
+use Rattle.ewig_shell.specs.Step.{KeepsFiles, Refuses, Fetched, fetched, missing, large, given, IsLoaded, LoadsAs, ObeysOn, shown_store, machine_of, most_stored, damage_word, reply_of, refusal_of, loaded_reply}
 use Rattle.ewig_shell.specs.Loading.{TakesIn, fault_of, load_fault}
 use Rattle.ewig_shell.proofs.ReplyLemmas.{other-reply}
 use Rattle.ewig_shell.proofs.StepLemmas.{same_files, CountsStore-failed, CountsStore-succeeded, load-OfTheStore, Obeys-elsewhere, may_lack, fault-is}
@@ -46,7 +46,7 @@ module _ (bits : ℕ) (bytes : Bytes) where
 -- a document is refused with its damage
 damaged_as : (d : Damage) (bytes : Bytes) (old new : SpaceView) → document_damage old.pool.bits bytes ≡ Some d → new ≡ old → LoadsAs (given bytes) old (loaded_reply (Err (unloaded.Damaged d))) new
 damaged_as d bytes old new is same =
-    subst (λ (o : Option Damage). MatchOption o (IsLoaded bytes old (loaded_reply (Err (unloaded.Damaged d))) new) (λ (w : Damage). KeepsSpace old (codes "damaged " ++ damage_word w) (loaded_reply (Err (unloaded.Damaged d))) new)) (sym is)
+    subst (λ (o : Option Damage). MatchOption o (IsLoaded bytes old (loaded_reply (Err (unloaded.Damaged d))) new) (λ (w : Damage). Refuses old (codes "damaged " ++ damage_word w) (loaded_reply (Err (unloaded.Damaged d))) new)) (sym is)
     (record { reply_is = refl; same = same })
 
 -- but for want of memory
@@ -73,7 +73,7 @@ module _ (bytes : Bytes) (old new : SpaceView) where
   -- its pool is the space's now
   pub TakesIn-ok : (P : Pool) → pool_in_bytes bytes ≡ Some P → P.bits ≡ old.pool.bits → document_damage old.pool.bits bytes ≡ None → IsValid P → new.pool ≡ P → new.made ≡ min (old.made + row_count P) (2 ^ 64 - 1) → TakesIn bytes old (Ok tt) new
   TakesIn-ok P is bits whole valid same made =
-      inl (subst (λ (d : Option Damage). MatchOption d (IsLoaded bytes old (reply_of (ok_line ∷ [])) new) (λ (w : Damage). KeepsSpace old (codes "damaged " ++ damage_word w) (reply_of (ok_line ∷ [])) new)) (sym whole) (record {
+      inl (subst (λ (d : Option Damage). MatchOption d (IsLoaded bytes old (reply_of (ok_line ∷ [])) new) (λ (w : Damage). Refuses old (codes "damaged " ++ damage_word w) (reply_of (ok_line ∷ [])) new)) (sym whole) (record {
         reply_is = refl;
         pool = is ∙ ap Some (sym same);
         valid = subst (λ (Q : Pool). IsValid Q) (sym same) valid;
@@ -149,7 +149,7 @@ fetched_by files one name result result' bytes named ends told =
     (subst (λ (n : Bytes). IfSome files (λ (f : Files). FetchesFile (get f n) most_stored result bytes)) named told)
 
 -- what a file comes to gets another reply than `! fault`
-document-other : (found : Option Damage) (bytes : Bytes) (old new : SpaceView) (reply : List ℕ) → MatchOption found (IsLoaded bytes old reply new) (λ (d : Damage). KeepsSpace old (codes "damaged " ++ damage_word d) reply new) → reply ≢ refusal_of (codes "fault")
+document-other : (found : Option Damage) (bytes : Bytes) (old new : SpaceView) (reply : List ℕ) → MatchOption found (IsLoaded bytes old reply new) (λ (d : Damage). Refuses old (codes "damaged " ++ damage_word d) reply new) → reply ≢ refusal_of (codes "fault")
 document-other None bytes old new reply loads = other-reply loads.reply_is refl
 document-other (Some d) bytes old new reply keeps = other-reply keeps.reply_is refl
 

@@ -14,12 +14,12 @@ use Rattle.pool_text.specs.declared.pool.Pool.{Pool}
 use Rattle.pool_text.specs.declared.damage.Damage.{Damage}
 use Rattle.pool_text.proofs.DocumentBack.{compact-stays}
 use Rattle.pool_check.specs.Damages.{document_damage}
-use Rattle.pool_check.proofs.DocumentLaw.{whole-stands}
+use Rattle.pool_check.proofs.DocumentLaw.{undamaged-stands}
 use Rattle.shell_io.specs.InMemory.{Files}
 use Rattle.shell_io.specs.Storing.{ChangesFiles}
 use Rattle.space_state.specs.View.{SpaceView}
-use Rattle.space_state.proofs.FourRoots.{outside-batch}
-use Rattle.ewig_shell.specs.Step.{Machine, KeepsSpace, Refuses, IsStored, FailsToStore, IsLoaded, Fetched, large, given, fetched, LoadsAs, LoadsFile, SaysElsewhere, Gives, Obeys, is_large, damage_word, refusal_of}
+use Rattle.state_rows.proofs.FourRoots.{outside-batch}
+use Rattle.ewig_shell.specs.Step.{Machine, Refuses, IsStored, FailsToStore, IsLoaded, Fetched, large, given, fetched, LoadsAs, LoadsFile, SaysElsewhere, Gives, Obeys, is_large, damage_word, refusal_of}
 use Rattle.ewig_shell.specs.RoundTrip.{ok_reply, LoadThenSave, SaveThenLoad}
 use Rattle.ewig_shell.proofs.StepLemmas.{IsOfTheStore, save-OfTheStore, load-OfTheStore}
 
@@ -40,7 +40,7 @@ module _ (command : PlainCommand) (of_store : IsOfTheStore command) where
   by_batch false old new W reply gives = inr gives
 
   ended : (old new : Machine) (reply : List ℕ) → Obeys command old reply new
-      → SaysElsewhere command old reply new ⊎ KeepsSpace old.space (codes "batch") reply new.space ⊎ KeepsSpace old.space (codes "memory") reply new.space
+      → SaysElsewhere command old reply new ⊎ Refuses old.space (codes "batch") reply new.space ⊎ Refuses old.space (codes "memory") reply new.space
   ended old new reply obeys = elim obeys.gives [
     | inl gives ↦ elim (by_batch (in_batch obeys.work) old new obeys.work reply (subst (λ (a : Answer). Gives command old obeys.work a reply new) (of_store obeys.work) gives)) [
       | inl refuses ↦ inr (inl (record { reply_is = refuses.reply_is; same = ap (λ (m : Machine). m.space) refuses.same }))
@@ -86,10 +86,10 @@ given-ok : (too_large : Bool) (bytes : Bytes) (old new : SpaceView) → LoadsAs 
 given-ok true bytes old new keeps = absurd (no-refusal (codes "large") keeps.reply_is)
 given-ok false bytes old new loads = (refl, loads)
 
-whole-ok : (found : Option Damage) (bytes : Bytes) (old new : SpaceView)
-    → MatchOption found (IsLoaded bytes old ok_reply new) (λ (d : Damage). KeepsSpace old (codes "damaged " ++ damage_word d) ok_reply new) → (found ≡ None) × IsLoaded bytes old ok_reply new
-whole-ok None bytes old new loads = (refl, loads)
-whole-ok (Some d) bytes old new keeps = absurd (no-refusal (codes "damaged " ++ damage_word d) keeps.reply_is)
+undamaged-ok : (found : Option Damage) (bytes : Bytes) (old new : SpaceView)
+    → MatchOption found (IsLoaded bytes old ok_reply new) (λ (d : Damage). Refuses old (codes "damaged " ++ damage_word d) ok_reply new) → (found ≡ None) × IsLoaded bytes old ok_reply new
+undamaged-ok None bytes old new loads = (refl, loads)
+undamaged-ok (Some d) bytes old new keeps = absurd (no-refusal (codes "damaged " ++ damage_word d) keeps.reply_is)
 
 -- what was loaded where the reply is `ok`
 loaded-ok : (name : Bytes) (old new : Machine) (files : Files) (bytes : Bytes) → old.store.files ≡ Some files → get files name ≡ Some bytes → Obeys (load name) old ok_reply new
@@ -97,7 +97,7 @@ loaded-ok : (name : Bytes) (old new : Machine) (files : Files) (bytes : Bytes) �
 loaded-ok name old new files bytes told there obeys = elim (said-ok (load name) (load-OfTheStore name) old new obeys) [
   | inl loads ↦
       let small = given-ok (is_large bytes) bytes old.space new.space (read-file name old new ok_reply files bytes told there loads) in
-      let whole = whole-ok (document_damage old.space.pool.bits bytes) bytes old.space new.space small.1 in
+      let whole = undamaged-ok (document_damage old.space.pool.bits bytes) bytes old.space new.space small.1 in
       (small.0, whole.0, whole.1)
   | inr fails ↦ absurd (no-refusal (codes "fault") fails.space.reply_is)
 ]
@@ -108,14 +108,14 @@ first-none : (one other : Option Damage) → option_or one other ≡ None → on
 first-none None other none = refl
 first-none (Some d) other none = absurd (let some : Some d ≡ None = none in cc)
 
-read-whole : (bits : ℕ) (bytes : Bytes) → document_damage bits bytes ≡ None → bytes_damage bits bytes ≡ None
+read-undamaged : (bits : ℕ) (bytes : Bytes) → document_damage bits bytes ≡ None → bytes_damage bits bytes ≡ None
 unfolding document_damage
-read-whole bits bytes whole = first-none (bytes_damage bits bytes) _ whole
+read-undamaged bits bytes whole = first-none (bytes_damage bits bytes) _ whole
 
 -- the loaded pool has four roots
 four-loaded : (bits : ℕ) (bytes : Bytes) (P : Pool) → document_damage bits bytes ≡ None → pool_in_bytes bytes ≡ Some P → length P.roots ≡ 4
 four-loaded bits bytes P whole read =
-    let stands = whole-stands bits bytes whole in
+    let stands = undamaged-stands bits bytes whole in
     ap (λ (Q : Pool). length Q.roots) (same_Some P stands.0 (sym read ∙ stands.1.read)) ∙ stands.1.roots
 
 saved-if : (too_large : Bool) (name bytes reply : Bytes) (old new : Machine) → too_large ≡ false → text old.space.pool ≡ bytes
@@ -131,7 +131,7 @@ saved-if false name bytes reply old new small same ends = elim ends [
 pub load-then-save : LoadThenSave
 load-then-save first loaded later last files file other bytes reply told there compact loads same saves =
     let read = loaded-ok file first loaded files bytes told there loads in
-    let text_is : text later.space.pool ≡ bytes = ap text same ∙ compact-stays first.space.pool.bits bytes loaded.space.pool (read-whole first.space.pool.bits bytes read.1) read.2.pool compact in
+    let text_is : text later.space.pool ≡ bytes = ap text same ∙ compact-stays first.space.pool.bits bytes loaded.space.pool (read-undamaged first.space.pool.bits bytes read.1) read.2.pool compact in
     let four : length later.space.pool.roots ≡ 4 = ap (λ (P : Pool). length P.roots) same ∙ four-loaded first.space.pool.bits bytes loaded.space.pool read.1 read.2.pool in
     elim saves.gives [
       | inl gives ↦
@@ -148,14 +148,14 @@ pub save-then-load : SaveThenLoad
 save-then-load first saved later last files file other reply saves told there bits loads =
     let P : Pool = first.space.pool in
     let stored = stored-ok file first saved saves in
-    let whole : document_damage later.space.pool.bits (text P) ≡ None = ap (λ b. document_damage b (text P)) bits ∙ stored.1.document.whole in
+    let whole : document_damage later.space.pool.bits (text P) ≡ None = ap (λ b. document_damage b (text P)) bits ∙ stored.1.document.undamaged in
     elim (ended (load other) (load-OfTheStore other) later last reply loads) [
       | inl says ↦ elim says [
         | inl reads ↦
             let small : LoadsAs (given (text P)) later.space reply last.space =
             subst (λ (b : Bool). LoadsAs (cond b large (given (text P))) later.space reply last.space) stored.0 (read-file other later last reply files (text P) told there reads) in
             let is : IsLoaded (text P) later.space reply last.space =
-            subst (λ (o : Option Damage). MatchOption o (IsLoaded (text P) later.space reply last.space) (λ (d : Damage). KeepsSpace later.space (codes "damaged " ++ damage_word d) reply last.space)) whole small in
+            subst (λ (o : Option Damage). MatchOption o (IsLoaded (text P) later.space reply last.space) (λ (d : Damage). Refuses later.space (codes "damaged " ++ damage_word d) reply last.space)) whole small in
             inl (is.reply_is, same_Some last.space.pool P (sym is.pool ∙ stored.1.document.read))
         | inr fails ↦ inr (inr (inl fails.space))
       ]

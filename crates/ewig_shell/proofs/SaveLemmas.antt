@@ -11,10 +11,10 @@ use Rattle.pool_text.specs.Length.{capped}
 use Rattle.pool_text.specs.declared.pool.Pool.{Pool}
 use Rattle.pool_check.specs.Damages.{IsValid}
 use Rattle.pool_check.specs.Laws.{IsDocumentOf}
-use Rattle.pool_check.proofs.DocumentLaw.{valid-whole}
+use Rattle.pool_check.proofs.DocumentLaw.{valid-document}
 use Rattle.state_rows.specs.Standing.{StandsFor}
 use Rattle.space_state.specs.View.{SpaceView}
-use Rattle.space_state.proofs.FourRoots.{four-roots}
+use Rattle.state_rows.proofs.FourRoots.{four-roots}
 use Rattle.shell_io.specs.Fault.{Calls}
 use Rattle.shell_io.specs.InMemory.{Files}
 use Rattle.shell_io.specs.Storing.{ChangesFiles, KeepsFile, OthersStay}
@@ -39,7 +39,7 @@ is_large-false bytes counted e small = le-ltb most_stored (length bytes) (omega 
 document-is : (W : Workspace) (pool made : Pool) (bytes : Bytes) → StandsFor pool W → in_batch W ≡ false → IsValid pool → made ≡ pool → bytes ≡ text made → value_in bytes ≡ Some (document made) → IsDocumentOf pool (text pool)
 document-is W pool made bytes stands e valid same is reads =
     subst (λ (w : Bytes). IsDocumentOf pool w) (is ∙ ap text same)
-    (valid-whole pool bytes (reads ∙ ap (λ (P : Pool). Some (document P)) same) (four-roots pool W stands e) valid)
+    (valid-document pool bytes (reads ∙ ap (λ (P : Pool). Some (document P)) same) (four-roots pool W stands e) valid)
 
 -- how a space was stored where the store kept its file, or didn't
 abbrev pub saved_as : Result (Unit {0}) KeepFault → Result (Unit {0}) SaveFault

@@ -37,7 +37,7 @@ use Rattle.shell_io.specs.declared.device.Failed.{Failed}
 use Rattle.shell_io.specs.declared.device.Sink as sink_trait
 use Rattle.shell_io.specs.declared.device.Store as store_trait
 use Rattle.ewig_shell.specs.Sending.{Replies}
-use Rattle.ewig_shell.specs.Step.{StoreView, Machine, KeepsFiles, KeepsSpace, Fetched, missing, large, given as given_bytes, IsLoaded, LoadsAs, damage_word, Step, Means, SaysElsewhere, Gives, Refuses, Obeys, ObeysAlone, ObeysOn, CountsStore, shown_store, machine_of, uses_store, only_asks, reply_of, refusal_of, done_reply, equality_reply}
+use Rattle.ewig_shell.specs.Step.{StoreView, Machine, KeepsFiles, Refuses, Fetched, missing, large, given as given_bytes, IsLoaded, LoadsAs, damage_word, Step, Means, SaysElsewhere, Gives, Obeys, ObeysAlone, ObeysOn, CountsStore, shown_store, machine_of, uses_store, only_asks, reply_of, refusal_of, done_reply, equality_reply}
 use Rattle.ewig_shell.proofs.ReplyLemmas.{other-reply, obeys-other}
 
 -- the files stay where the store does
@@ -264,7 +264,7 @@ bits_by : (asks : Bool) (command : PlainCommand) (old new : SpaceView) (W : Work
 bits_by true command old new W same = ap (λ (s : SpaceView). s.pool.bits) same
 bits_by false command old new W carries = carries.bits
 
-bits_loaded : (found : Option Damage) (bytes : Bytes) (old new : SpaceView) (reply : List ℕ) → MatchOption found (IsLoaded bytes old reply new) (λ (d : Damage). KeepsSpace old (codes "damaged " ++ damage_word d) reply new) → new.pool.bits ≡ old.pool.bits
+bits_loaded : (found : Option Damage) (bytes : Bytes) (old new : SpaceView) (reply : List ℕ) → MatchOption found (IsLoaded bytes old reply new) (λ (d : Damage). Refuses old (codes "damaged " ++ damage_word d) reply new) → new.pool.bits ≡ old.pool.bits
 bits_loaded None bytes old new reply loads = loads.bits
 bits_loaded (Some d) bytes old new reply keeps = ap (λ (s : SpaceView). s.pool.bits) keeps.same
 

@@ -7,7 +7,7 @@ use Rattle.pool_text.specs.Document.{text}
 use Rattle.pool_text.specs.Laws.{IsCompact}
 use Rattle.shell_io.specs.InMemory.{Files}
 use Rattle.shell_io.specs.Storing.{ChangesFiles}
-use Rattle.ewig_shell.specs.Step.{Machine, KeepsSpace, Obeys, reply_of, refusal_of}
+use Rattle.ewig_shell.specs.Step.{Machine, Refuses, Obeys, reply_of, refusal_of}
 
 -- The reply to what was carried out.
 abbrev pub ok_reply : List ℕ
@@ -29,4 +29,4 @@ SaveThenLoad =
     (first saved later last : Machine) (files : Files) (file other reply : List ℕ) → Obeys (save file) first ok_reply saved
     → later.store.files ≡ Some files → get_file files other ≡ Some (text first.space.pool) → later.space.pool.bits ≡ first.space.pool.bits → Obeys (load other) later reply last
     → (reply ≡ ok_reply) × (last.space.pool ≡ first.space.pool)
-    ⊎ KeepsSpace later.space (codes "batch") reply last.space ⊎ KeepsSpace later.space (codes "fault") reply last.space ⊎ KeepsSpace later.space (codes "memory") reply last.space
+    ⊎ Refuses later.space (codes "batch") reply last.space ⊎ Refuses later.space (codes "fault") reply last.space ⊎ Refuses later.space (codes "memory") reply last.space

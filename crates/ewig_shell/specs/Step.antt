@@ -95,8 +95,8 @@ loaded_reply (Err unloaded.Failed) = refusal_of (codes "fault")
 loaded_reply (Err (unloaded.Damaged d)) = refusal_of (codes "damaged " ++ damage_word d)
 loaded_reply (Err unloaded.Memory) = refusal_of (codes "memory")
 
--- The reply is this refusal, and nothing has changed.
-pub record Refuses (old : Machine) (reason reply : List ℕ) (new : Machine) : Type 0 where
+-- The reply is this refusal, and what it was sent for stays: a machine, or the space alone.
+pub record Refuses {S : Type 0} (old : S) (reason reply : List ℕ) (new : S) : Type 0 where
   pub reply_is : reply ≡ refusal_of reason
   pub same : new ≡ old
 
@@ -166,11 +166,6 @@ abbrev pub fetched : Option (List ℕ) → Fetched
 fetched None = missing
 fetched (Some bytes) = if is_large bytes then large else given bytes
 
--- The reply is this refusal, and the space stays.
-pub record KeepsSpace (old : SpaceView) (reason reply : List ℕ) (new : SpaceView) : Type 0 where
-  pub reply_is : reply ≡ refusal_of reason
-  pub same : new ≡ old
-
 -- The pool that the document stands for is the space's now, and the number made has risen by its rows, up to 2^64 - 1.
 pub record IsLoaded (bytes : List ℕ) (old : SpaceView) (reply : List ℕ) (new : SpaceView) : Type 0 where
   pub reply_is : reply ≡ reply_of (ok_line ∷ [])
@@ -181,10 +176,10 @@ pub record IsLoaded (bytes : List ℕ) (old : SpaceView) (reply : List ℕ) (new
 
 -- What the file makes of the space. A document is refused with the first test that it fails.
 abbrev pub LoadsAs : Fetched → SpaceView → List ℕ → SpaceView → Type 0
-LoadsAs missing old reply new = KeepsSpace old (codes "missing") reply new
-LoadsAs large old reply new = KeepsSpace old (codes "large") reply new
+LoadsAs missing old reply new = Refuses old (codes "missing") reply new
+LoadsAs large old reply new = Refuses old (codes "large") reply new
 LoadsAs (given bytes) old reply new =
-    MatchOption (document_damage old.pool.bits bytes) (IsLoaded bytes old reply new) (λ d. KeepsSpace old (codes "damaged " ++ damage_word d) reply new)
+    MatchOption (document_damage old.pool.bits bytes) (IsLoaded bytes old reply new) (λ d. Refuses old (codes "damaged " ++ damage_word d) reply new)
 
 -- The files stay. The file is the one of this name, where the files are told.
 pub record LoadsFile (name : List ℕ) (old : Machine) (reply : List ℕ) (new : Machine) : Type 0 where
@@ -196,7 +191,7 @@ pub record LoadsFile (name : List ℕ) (old : Machine) (reply : List ℕ) (new :
 -- The store failed in this step, and nothing but its count of faults has changed.
 pub record FailsToLoad (old : Machine) (reply : List ℕ) (new : Machine) : Type 0 where
   pub store : KeepsFiles old.store new.store
-  pub space : KeepsSpace old.space (codes "fault") reply new.space
+  pub space : Refuses old.space (codes "fault") reply new.space
   pub cause : HasCause old.store.faults new.store.faults
 
 -- ## Commands

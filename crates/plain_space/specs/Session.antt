@@ -23,10 +23,10 @@ abbrev pub refusal_line : Refusal → Bytes
 refusal_line reason = codes "! " ++ reason_of reason
 
 -- The reply lines of an answer; of what is said elsewhere there are none here.
-abbrev pub reply_of : Answer → List Bytes
-reply_of (Ok (tells reply after)) = reply
-reply_of (Ok elsewhere) = []
-reply_of (Err reason) = refusal_line reason ∷ []
+abbrev pub reply_lines : Answer → List Bytes
+reply_lines (Ok (tells reply after)) = reply
+reply_lines (Ok elsewhere) = []
+reply_lines (Err reason) = refusal_line reason ∷ []
 
 -- Goes on from the workspace that an answer leaves.
 abbrev pub left_by : {X : Type 0} → Workspace → Answer → (Workspace → X) → X
@@ -37,7 +37,7 @@ left_by work (Err reason) next = next work
 -- The reply lines to the commands, one after another, from this workspace.
 unfoldable pub replies : Workspace → List PlainCommand → List Bytes
 replies work [] = []
-replies work (command ∷ rest) = reply_of (answer work command) ++ left_by work (answer work command) (λ after. replies after rest)
+replies work (command ∷ rest) = reply_lines (answer work command) ++ left_by work (answer work command) (λ after. replies after rest)
 
 -- What is asked of the workspace that the commands leave, one after another.
 unfoldable pub from : {X : Type 0} → Workspace → List PlainCommand → (Workspace → X) → X

@@ -91,9 +91,9 @@ pool-stands bits bytes e =
       parts-four value.0 p parts.1,
     )
 
-pub whole-stands : (bits : ℕ) (bytes : Bytes) → document_damage bits bytes ≡ None → (P : Pool) × IsReadAs bits bytes P
+pub undamaged-stands : (bits : ℕ) (bytes : Bytes) → document_damage bits bytes ≡ None → (P : Pool) × IsReadAs bits bytes P
 unfolding document_damage
-whole-stands bits bytes whole =
+undamaged-stands bits bytes whole =
     let none = both-none (bytes_damage bits bytes) (option_and_then damage (pool_in_bytes bytes)) whole in
     let stands = pool-stands bits bytes none.0 in
     let P : Pool = stands.0 in
@@ -103,13 +103,13 @@ in-range-rows : (P : Pool) → rows_in_range P ≡ true → list_all is_in_range
 unfolding rows_in_range
 in-range-rows P h = h
 
-pub valid-whole : (P : Pool) (bytes : Bytes) → value_in bytes ≡ Some (document P) → length P.roots ≡ 4 → IsValid P → IsDocumentOf P bytes
+pub valid-document : (P : Pool) (bytes : Bytes) → value_in bytes ≡ Some (document P) → length P.roots ≡ 4 → IsValid P → IsDocumentOf P bytes
 unfolding document_damage bytes_damage
-valid-whole P bytes value four valid =
+valid-document P bytes value four valid =
     let back = reads-back P four (in-range-rows P valid.in_range) in
     let read : pool_in_bytes bytes ≡ Some P = ap (option_and_then pool_in) value ∙ back.same in
     record {
-      whole =
+      undamaged =
           ap (λ o. option_or o (option_and_then damage (pool_in_bytes bytes))) (ap (or_damage Json (value_damage P.bits)) value ∙ back.whole)
           ∙ ap (option_and_then damage) read ∙ valid-undamaged P valid;
       read = read;

@@ -59,8 +59,8 @@ kinds : roots_are_of_kind full_history ≡ true
 unfolding roots_are_of_kind are_roots elements_pass entries_below rows_from rank
 kinds = refl
 
-pub full_history-whole : damage full_history ≡ None
-full_history-whole = valid-undamaged full_history (record { in_range = in-range; lead_back = links-back; lines = lines; vectors = vectors; tries = tries; kinds = kinds; in_order = in-order })
+pub full_history-undamaged : damage full_history ≡ None
+full_history-undamaged = valid-undamaged full_history (record { in_range = in-range; lead_back = links-back; lines = lines; vectors = vectors; tries = tries; kinds = kinds; in_order = in-order })
 
 too_long : vectors_stand overfull_history ≡ false
 unfolding vectors_stand are_children is_thick length_at

@@ -17,11 +17,12 @@ use Rattle.pool_order.specs.Laws.{IsOrder}
 use Rattle.pool_order.proofs.Places.{order-is}
 use Rattle.pool_text.specs.Rows.{Bytes}
 use Rattle.pool_text.specs.Pool.{forms_in, row_count, order_in, place_in, relink, pool}
-use Rattle.pool_text.specs.Worked.{IsOfItself}
+use Rattle.pool_text.specs.Renaming.{IsOfItself}
 use Rattle.pool_text.specs.declared.pool.Pool.{Pool}
 use Rattle.pool_text.proofs.Gathered.{made}
 use Rattle.pool_text.proofs.Placed.{place-first, place-later}
 use Rattle.pool_text.proofs.PoolRows.{AreThere, rows_of, length-rows, row-named}
+use Rattle.pool_text.proofs.Renamed.{map-back, relink-back}
 use Rattle.pool_check.specs.Rows.{links_lead_back}
 use Rattle.pool_check.specs.Damages.{rows_in_order, IsValid}
 use Rattle.pool_check.proofs.TestLemmas.{leads-down, roots-low}
@@ -44,18 +45,7 @@ place-at (k ∷ ks) once (suc i) low =
 pub one-place : (ks : List ℕ) → ((k : ℕ) → count k ks ≤ 1) → (i j : ℕ) → i < length ks → j < length ks → get_or ks i 0 ≡ get_or ks j 0 → i ≡ j
 one-place ks once i j low low' same = sym (place-at ks once i low) ∙ ap (place_in ks) same ∙ place-at ks once j low'
 
--- ## Links there and back
-
-map-back : (f g : ℕ → ℕ) (ks : List ℕ) → ((k : ℕ) → 0 < count k ks → g (f k) ≡ k) → map g (map f ks) ≡ ks
-map-back f g [] each = refl
-map-back f g (k ∷ ks) each =
-    ap (λ y. y ∷ map g (map f ks)) (each k (omega (arith, count-cons k k ks, test_same k k refl)))
-    ∙ ap (λ ys. k ∷ ys) (map-back f g ks (λ j some. each j (omega (arith, count-cons j k ks, some))))
-
-relink-back : {K : Type 0} (f g : ℕ → ℕ) (r : Option (Form K)) → ((k : ℕ) → 0 < count k (links_of r) → g (f k) ≡ k) → option_map (relink g) (option_map (relink f) r) ≡ r
-relink-back f g None each = refl
-relink-back f g (Some (cell x)) each = refl
-relink-back f g (Some (node kind links)) each = ap (λ ks. Some (node kind ks)) (map-back f g links each)
+-- ## Links that stay
 
 map-own : (f : ℕ → ℕ) (ks : List ℕ) → ((k : ℕ) → 0 < count k ks → f k ≡ k) → map f ks ≡ ks
 map-own f ks each = map-same f (λ k. k) ks each ∙ map-id ks

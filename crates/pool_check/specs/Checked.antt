@@ -5,7 +5,7 @@ use Rattle.pool_text.specs.declared.pool.Pool.{Pool}
 use Rattle.pool_check.specs.Damages.{IsValid}
 
 -- a valid pool of four roots, by no more bits than a code has
-pub record IsWhole (P : Pool) : Type 0 where
+pub record IsChecked (P : Pool) : Type 0 where
   pub bits : P.bits ≤ CODE_BITS
   pub roots : length P.roots ≡ 4
   pub valid : IsValid P

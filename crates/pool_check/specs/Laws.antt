@@ -9,7 +9,7 @@ use Rattle.pool_text.specs.Rows.{Bytes}
 use Rattle.pool_text.specs.Pool.{forms_in, row_count}
 use Rattle.pool_text.specs.Document.{document, value_in, pool_in_bytes}
 use Rattle.pool_text.specs.declared.damage.Damage.TheVariants.{Memory}
-use Rattle.pool_text.specs.Worked.{IsOfItself}
+use Rattle.pool_text.specs.Renaming.{IsOfItself}
 use Rattle.pool_text.specs.declared.pool.Pool.{Pool}
 use Rattle.pool_check.specs.Tries.{entries_below}
 use Rattle.pool_check.specs.Kinds.{is_vector_root, is_trie_root}
@@ -35,17 +35,17 @@ pub record IsReadAs (bits : ℕ) (bytes : Bytes) (P : Pool) : Type 0 where
   pub valid : IsValid P
 
 -- bytes without damage stand for a valid pool
-abbrev pub WholeDocumentsStand : Type 0
-WholeDocumentsStand = (bits : ℕ) (bytes : Bytes) → document_damage bits bytes ≡ None → (P : Pool) × IsReadAs bits bytes P
+abbrev pub UndamagedDocumentsStand : Type 0
+UndamagedDocumentsStand = (bits : ℕ) (bytes : Bytes) → document_damage bits bytes ≡ None → (P : Pool) × IsReadAs bits bytes P
 
 -- no test fails of the bytes, and this is the pool that they stand for
 pub record IsDocumentOf (P : Pool) (bytes : Bytes) : Type 0 where
-  pub whole : document_damage P.bits bytes ≡ None
+  pub undamaged : document_damage P.bits bytes ≡ None
   pub read : pool_in_bytes bytes ≡ Some P
 
--- bytes that read as the document of a valid pool of four roots are whole
-abbrev pub ValidDocumentsAreWhole : Type 0
-ValidDocumentsAreWhole = (P : Pool) (bytes : Bytes) → value_in bytes ≡ Some (document P) → length P.roots ≡ 4 → IsValid P → IsDocumentOf P bytes
+-- bytes that read as the document of a valid pool of four roots have no damage
+abbrev pub ValidDocumentsAreUndamaged : Type 0
+ValidDocumentsAreUndamaged = (P : Pool) (bytes : Bytes) → value_in bytes ≡ Some (document P) → length P.roots ≡ 4 → IsValid P → IsDocumentOf P bytes
 
 -- the damage of bytes is a test that they fail, and no want of memory
 abbrev pub DamagesAreTests : Type 0

@@ -7,7 +7,7 @@ use Rattle.pool_check.specs.Documents.{chained, full_history, tall_row, long_pai
 use Rattle.pool_check.specs.Damages.{damage, document_damage}
 
 -- pools that pass every test
-pub record WholePools : Type 0 where
+pub record UndamagedPools : Type 0 where
   pub is_start : damage start_pool ≡ None
   pub is_two_cells : damage two_cells ≡ None
   pub is_shared_empties : damage shared_empties ≡ None

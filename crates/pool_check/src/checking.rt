@@ -23,13 +23,13 @@ pub struct Checked<T: Stored> {
 
 impl<T: Stored> Model for Checked<T> {
     ghost use Rattle.pool_text.specs.declared.pool.Pool.{Pool};
-    ghost use Rattle.pool_check.specs.Checked.{IsWhole};
+    ghost use Rattle.pool_check.specs.Checked.{IsChecked};
 
     ghost Value = { Pool };
 
     ghost view = { λ checked. checked.pool };
 
-    ghost invariant = { λ checked. IsWhole checked.pool };
+    ghost invariant = { λ checked. IsChecked checked.pool };
 }
 
 impl<T: Stored> Checked<T> {
@@ -62,7 +62,7 @@ pub fn check<T: Stored>(alloc: Global, pool: Pool) -> Result<Checked<T>, Damage>
     requires roots { length pool.roots ≡ 4 }
     requires rows { list_all is_in_range pool.rows ≡ true }
     ensures same { IfOk result (λ checked. checked ≡ pool) }
-    ensures whole { IfOk result (λ _. damage pool ≡ None) }
+    ensures undamaged { IfOk result (λ _. damage pool ≡ None) }
     ensures valid { IfOk result (λ _. IsValid pool) }
     ensures damage { IfErr result (λ d. d ≢ Damage.Memory → damage pool ≡ Some d) }
 {

@@ -1,8 +1,8 @@
 //! Laws of valid pools, as the clauses of functions that do nothing.
-ghost use Rattle.pool_check.specs.Laws.{VectorRootsAreGood, TrieRootsAreCanonical, UndamagedIsValid, WholeDocumentsStand, ValidDocumentsAreWhole, DamagesAreTests, ValidIsOfItself};
+ghost use Rattle.pool_check.specs.Laws.{VectorRootsAreGood, TrieRootsAreCanonical, UndamagedIsValid, UndamagedDocumentsStand, ValidDocumentsAreUndamaged, DamagesAreTests, ValidIsOfItself};
 ghost use Rattle.pool_check.specs.Passing.{PoolsPassAsMade};
 ghost use Rattle.pool_check.specs.Readings.{VectorsReadAlike, TriesReadAlike};
-ghost use Rattle.pool_check.specs.Worked.{WholePools, DamagedPools, WorkedDocuments};
+ghost use Rattle.pool_check.specs.Worked.{UndamagedPools, DamagedPools, WorkedDocuments};
 
 /// A vector root of a valid pool is the root of a well-shaped vector.
 pub fn vector_roots_are_good()
@@ -20,13 +20,13 @@ pub fn undamaged_is_valid()
 {}
 
 /// Bytes without damage stand for a valid pool of four roots, by as many bits as were asked for.
-pub fn whole_documents_stand()
-    ensures { WholeDocumentsStand }
+pub fn undamaged_documents_stand()
+    ensures { UndamagedDocumentsStand }
 {}
 
-/// Bytes that read as the document of a valid pool of four roots are whole.
-pub fn valid_documents_are_whole()
-    ensures { ValidDocumentsAreWhole }
+/// Bytes that read as the document of a valid pool of four roots have no damage.
+pub fn valid_documents_are_undamaged()
+    ensures { ValidDocumentsAreUndamaged }
 {}
 
 /// The damage of bytes is a test that they fail, and no want of memory.
@@ -35,8 +35,8 @@ pub fn damages_are_tests()
 {}
 
 /// Pools that pass every test.
-pub fn whole_pools()
-    ensures { WholePools }
+pub fn undamaged_pools()
+    ensures { UndamagedPools }
 {}
 
 /// Pools that fail a test and pass those before it.

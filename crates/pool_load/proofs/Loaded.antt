@@ -28,9 +28,10 @@ use Rattle.pool_text.proofs.Renamed.{map-found, count-map, links-relink}
 use Rattle.pool_check.specs.Rows.{rows_lead_back, rows_in_range, links_lead_back, texts_are_lines}
 use Rattle.pool_check.specs.Vectors.{has_height, vectors_stand}
 use Rattle.pool_check.specs.Damages.{IsValid}
+use Rattle.pool_check.specs.Checked.{IsChecked}
 use Rattle.pool_check.specs.Sums.{HaveSums}
 use Rattle.pool_check.proofs.TestLemmas.{and-first, leads-down, roots-low}
-use Rattle.pool_load.specs.Loads.{cells_of, nodes_of, Loads}
+use Rattle.pool_load.specs.Loads.{cells_of, nodes_of, Loads, AreLoaded}
 use Rattle.pool_load.specs.Rows.{AreSound}
 use Rattle.pool_load.specs.Making.{AreBelow, AreMade, GivesUp, AreReachedWithout}
 use Rattle.pool_check.proofs.OwnRows.{in-order, reached-low, own-order, one-place, pool-of-rows}
@@ -72,7 +73,7 @@ roots-below P v n ks many same = below-all n ks (λ k has. omega (arith, many, r
 -- ## Loaded rows
 
 -- every row of the pool stands in the heap, at the link of its place
-pub record AreLoaded {T : Type 0} (text : T → Bytes) (h : Heap T) (P : Pool) (links : List ℕ) : Type 0 where
+pub record RowsStand {T : Type 0} (text : T → Bytes) (h : Heap T) (P : Pool) (links : List ℕ) : Type 0 where
   pub many : length links ≡ row_count P
   pub forms : (p : ℕ) → p < length links → text_forms text h (slice_index links p) ≡ option_map (relink (slice_index links)) (forms_in P p)
   pub once : (k : ℕ) → count k links ≤ 1
@@ -80,7 +81,7 @@ pub record AreLoaded {T : Type 0} (text : T → Bytes) (h : Heap T) (P : Pool) (
   pub sums : (p n : ℕ) → p < length links → has_height n (forms_in P p) ≡ true → HasSums h n (slice_index links p)
   pub graph : IsGraph h
 
-pub loaded-made : {T : Type 0} {text : T → Bytes} {old h : Heap T} {P : Pool} {links : List ℕ} → AreMade text old h P.rows links → length links ≡ row_count P → AreLoaded text h P links
+pub loaded-made : {T : Type 0} {text : T → Bytes} {old h : Heap T} {P : Pool} {links : List ℕ} → AreMade text old h P.rows links → length links ≡ row_count P → RowsStand text h P links
 loaded-made is many = record {
   many = many;
   forms = is.forms;
@@ -90,7 +91,7 @@ loaded-made is many = record {
   graph = is.graph;
 }
 
-pub loaded-same : {T : Type 0} {text : T → Bytes} {old new : Heap T} {P : Pool} {links : List ℕ} → SameRows old new → IsGraph new → AreLoaded text old P links → AreLoaded text new P links
+pub loaded-same : {T : Type 0} {text : T → Bytes} {old new : Heap T} {P : Pool} {links : List ℕ} → SameRows old new → IsGraph new → RowsStand text old P links → RowsStand text new P links
 loaded-same {text = text} {old = old} {new = new} {links = links} same graph is = record {
   many = is.many;
   forms = λ p low. ap (option_map (text_form text)) (same (slice_index links p)) ∙ is.forms p low;
@@ -117,7 +118,7 @@ some-map : {X Y : Type 0} (f : X → Y) (r : Option X) → IsSome r → IsSome (
 some-map f None live = absurd cc
 some-map f (Some x) live = refl
 
-module _ {T : Type 0} (text : T → Bytes) (h : Heap T) (P : Pool) (v : IsValid P) (links : List ℕ) (is : AreLoaded text h P links) where
+module _ {T : Type 0} (text : T → Bytes) (h : Heap T) (P : Pool) (v : IsValid P) (links : List ℕ) (is : RowsStand text h P links) where
   abbrev pub root_links : List ℕ
   root_links = map (slice_index links) P.roots
 
@@ -168,7 +169,7 @@ module _ {T : Type 0} (text : T → Bytes) (h : Heap T) (P : Pool) (v : IsValid 
       by_form (Some (node pair _)) each = tt
       by_form (Some (node state _)) each = tt
 
-  pub sums-loaded : HaveSums h root_links
+  sums-loaded : HaveSums h root_links
   sums-loaded r l root down =
       let found = map-found (slice_index links) P.roots r root in
       let at = ways-back r l down found.0 (roots-low P v.lead_back found.0 found.1) found.2 in
@@ -210,11 +211,14 @@ module _ {T : Type 0} (text : T → Bytes) (h : Heap T) (P : Pool) (v : IsValid 
           ext_get_or 0 js ks (size ∙ sym many) (λ i low. get_or-map-range_with_len (slice_index ks) 0 n i i 0 (omega (arith, low, size)) (omega arith))
 
   -- the pool of the loaded rows is the pool itself
-  pub pool-loaded : pool_at text h root_links P.bits ≡ P
+  pool-loaded : pool_at text h root_links P.bits ≡ P
   pool-loaded =
       pool-of-rows G links P
       (record { many = is.many; forms = is.forms; once = is.once; there = λ k has. some-map (text_form text) (row_at h k) (is.live k has) }) v.lead_back
       (length h.rows) listed
+
+  pub are-loaded : IsChecked P → AreLoaded text h root_links P
+  are-loaded checked = record { graph = is.graph; live = root-live; checked = checked; pool = pool-loaded; sums = sums-loaded }
 
 -- ## The holds that are given up
 

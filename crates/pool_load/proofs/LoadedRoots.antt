@@ -32,8 +32,8 @@ use Rattle.pool_check.specs.Readings.{moved}
 use Rattle.pool_check.proofs.PoolLaws.{vector-roots-well, trie-roots-canonical}
 use Rattle.pool_check.proofs.VectorReadings.{vector-reads-alike}
 use Rattle.pool_check.proofs.TrieReadings.{trie-reads-alike}
-use Rattle.pool_load.specs.Loads.{Loads}
-use Rattle.pool_load.specs.Laws.{AreLoaded, AreListed, entries_in, place_at, link_at, IsTrieAt}
+use Rattle.pool_load.specs.Loads.{AreLoaded}
+use Rattle.pool_load.specs.Laws.{AreListed, entries_in, place_at, link_at, IsTrieAt}
 use Rattle.pool_load.proofs.VectorTexts.{elements-over, shaped-over}
 use Rattle.pool_load.proofs.TrieTexts.{form-links, form-height, form-node, entries-typed, canon-typed}
 use Rattle.pool_load.proofs.EntryKinds.{rows-go, cells-are, pairs-are}
@@ -67,9 +67,6 @@ module _ {T : Type 0} (text : T → Bytes) (f : ℕ → ℕ) where
       by_kind state = refl
 
 module _ {T : Type 0} (text : T → Bytes) where
-  pub roots-loaded : (old new : Heap T) (roots : List ℕ) (P : Pool) → Loads old new roots P → (r : ℕ) → 0 < count r roots → IsSome (row_at new r)
-  roots-loaded old new roots P loads r root = loads.graph.held r (omega (arith, loads.holds r, root))
-
   module _ (h : Heap T) (roots : List ℕ) (P : Pool) (loaded : AreLoaded text h roots P) where
     rooted : IsRooted (length h.rows) (text_forms text h) roots
     rooted = rooted-heap text h roots loaded.graph loaded.live
@@ -111,7 +108,7 @@ module _ {T : Type 0} (text : T → Bytes) where
       vector-good test =
           let kind : is_vector_root (forms_in P (place_at h roots l)) ≡ true = same-vector ∙ test in
           let reads = vector-reads-alike (link_at h roots) (forms_in P) (text_forms text h) ℕ (place_at h roots l) back in
-          let shaped : IsWellShaped (text_forms text h) l = subst (IsWellShaped (text_forms text h)) same-link (reads.shaped (vector-roots-well P loaded.whole.valid (place_at h roots l) kind)) in
+          let shaped : IsWellShaped (text_forms text h) l = subst (IsWellShaped (text_forms text h)) same-link (reads.shaped (vector-roots-well P loaded.checked.valid (place_at h roots l) kind)) in
           let height = form-height text (row_at h l) in (
             record {
               shape = shaped-over (text_forms text h) (form_at h) (λ k. form-links text (row_at h k)) (λ k kind ks. form-node text (row_at h k) kind ks) l height shaped;
@@ -128,7 +125,7 @@ module _ {T : Type 0} (text : T → Bytes) where
             let place : ℕ = place_at h roots l in
             let D : List (Entry Bytes) = entries_in P place in
             let kind : is_trie_root (forms_in P place) ≡ true = same-trie ∙ test in
-            let canon : IsCanon by_text of_text (forms_in P) place D = trie-roots-canonical P loaded.whole.valid place kind in
+            let canon : IsCanon by_text of_text (forms_in P) place D = trie-roots-canonical P loaded.checked.valid place kind in
             let reads = trie-reads-alike (link_at h roots) (forms_in P) (text_forms text h) place back ℕ in
             let there : IsCanon by_text of_text (text_forms text h) l (map (moved (link_at h roots)) D) =
             subst (λ k. IsCanon by_text of_text (text_forms text h) k (map (moved (link_at h roots)) D)) same-link (reads.canonical by_text of_text D canon) in
@@ -137,7 +134,7 @@ module _ {T : Type 0} (text : T → Bytes) where
             (canon-reach by_text of_text (forms_in P) place D canon) in
             let rows = rows-go text h (link_at h roots) (forms_in P) typed.0 D typed.1 reached in
             let trie_of : HasEntries cmp code h (record { root = l; bits = P.bits }) typed.0 = record {
-              bits = loaded.whole.bits;
+              bits = loaded.checked.bits;
               trie =
                   canon-typed text cmp (code_by code P.bits) by_text of_text order (λ x. ap (λ n. masked_code n P.bits) (codes x)) h l typed.0 typed.2
                   (subst (IsCanon by_text of_text (text_forms text h) l) (sym typed.1) there);

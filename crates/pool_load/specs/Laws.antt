@@ -1,4 +1,4 @@
--- What roots are after a load: the vectors and the tries that the pool has, at their links.
+-- What loaded roots reach: the vectors and the tries that the pool has, at their links.
 use Rattle.std.specs.Prelude.{◌≡◌, ℕ, ◌<◌, Bool, true, List, map, slice_index}
 use Rattle.std.specs.List.{AllZip, list_all}
 use Rattle.std.specs.declared.cmp.Ordering.{Ordering}
@@ -17,10 +17,8 @@ use Rattle.pool_text.specs.Renaming.{AreLive, IsPoolOf}
 use Rattle.pool_text.specs.declared.pool.Pool.{Pool}
 use Rattle.pool_check.specs.Tries.{entries_below}
 use Rattle.pool_check.specs.Kinds.{is_vector_root, is_trie_root, is_cell_of, is_pair_of}
-use Rattle.pool_check.specs.Checked.{IsWhole}
 use Rattle.pool_check.specs.Readings.{moved}
-use Rattle.pool_check.specs.Sums.{HaveSums}
-use Rattle.pool_load.specs.Loads.{Loads}
+use Rattle.pool_load.specs.Loads.{AreLoaded}
 
 -- the entries below a place of a pool
 abbrev pub entries_in : Pool → ℕ → List (Entry Bytes)
@@ -34,18 +32,6 @@ abbrev pub link_at : {T : Type 0} → Heap T → List ℕ → ℕ → ℕ
 link_at h roots = slice_index (order_of h roots)
 
 module _ {T : Type 0} (text : T → Bytes) where
-  -- the pool of these roots is this one, which is whole, and the inner rows below them keep their sums
-  pub record AreLoaded (h : Heap T) (roots : List ℕ) (P : Pool) : Type 0 where
-    pub graph : IsGraph h
-    pub live : AreLive T h roots
-    pub whole : IsWhole P
-    pub pool : pool_at text h roots P.bits ≡ P
-    pub sums : HaveSums h roots
-
-  -- so it is of the roots that a load gives
-  abbrev pub RootsAreLoaded : Type 0
-  RootsAreLoaded = (old new : Heap T) (roots : List ℕ) (P : Pool) → IsWhole P → Loads old new roots P → pool_at text new roots P.bits ≡ P → HaveSums new roots → AreLoaded new roots P
-
   -- the pool lists the rows that these roots reach, and the same ones are vector roots or trie roots
   pub record AreListed (h : Heap T) (roots : List ℕ) (P : Pool) : Type 0 where
     pub rows : IsPoolOf (text_forms text h) roots (order_of h roots) P
@@ -54,12 +40,12 @@ module _ {T : Type 0} (text : T → Bytes) where
 
   -- so it is of loaded roots
   abbrev pub LoadedRowsAreListed : Type 0
-  LoadedRowsAreListed = (h : Heap T) (roots : List ℕ) (P : Pool) → AreLoaded h roots P → AreListed h roots P
+  LoadedRowsAreListed = (h : Heap T) (roots : List ℕ) (P : Pool) → AreLoaded text h roots P → AreListed h roots P
 
   -- a vector root that they reach is that of a good vector, of the elements that the pool has at its place
   abbrev pub LoadedVectorsAreGood : Type 0
   LoadedVectorsAreGood =
-      (h : Heap T) (roots : List ℕ) (P : Pool) (r l : ℕ) → AreLoaded h roots P → 0 < count r roots → Reaches (links_at h) r l → is_vector_root (form_at h l) ≡ true
+      (h : Heap T) (roots : List ℕ) (P : Pool) (r l : ℕ) → AreLoaded text h roots P → 0 < count r roots → Reaches (links_at h) r l → is_vector_root (form_at h l) ≡ true
       → IsVectorOf h l (map (link_at h roots) (seq (forms_in P) (place_at h roots l)))
 
   module _ (cmp : T → T → Ordering) (code : T → ℕ) where
@@ -76,5 +62,5 @@ module _ {T : Type 0} (text : T → Bytes) where
     -- so is a trie root that loaded roots reach
     abbrev pub LoadedTriesAreGood : Type 0
     LoadedTriesAreGood =
-        (h : Heap T) (roots : List ℕ) (P : Pool) (r l : ℕ) → AreLoaded h roots P → 0 < count r roots → Reaches (links_at h) r l → is_trie_root (form_at h l) ≡ true
+        (h : Heap T) (roots : List ℕ) (P : Pool) (r l : ℕ) → AreLoaded text h roots P → 0 < count r roots → Reaches (links_at h) r l → is_trie_root (form_at h l) ≡ true
         → IsTrieAt h roots P (record { root = l; bits = P.bits })

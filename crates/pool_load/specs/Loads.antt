@@ -1,11 +1,15 @@
--- What a load does to a heap.
+-- What a load does to a heap, and what its roots are.
 use Rattle.std.specs.Prelude.{◌≡◌, ℕ, ◌+◌, ◌-◌, ◌^◌, ◌<◌, List, length, Some, None, min, sum_by}
 use Rattle.node_heap.specs.Links.{count, Reaches}
 use Rattle.node_heap.specs.Forms.{Form, is_cell, is_node}
 use Rattle.node_heap.specs.Heap.{Heap, row_at, links_at, holds_at, hold_count, live_count, cell_count, node_count, IsGraph}
 use Rattle.node_heap.specs.Calls.{Extends, Balances}
-use Rattle.pool_text.specs.Pool.{row_count}
+use Rattle.pool_text.specs.Rows.{Bytes}
+use Rattle.pool_text.specs.Pool.{row_count, pool_at}
+use Rattle.pool_text.specs.Renaming.{AreLive}
 use Rattle.pool_text.specs.declared.pool.Pool.{Pool}
+use Rattle.pool_check.specs.Checked.{IsChecked}
+use Rattle.pool_check.specs.Sums.{HaveSums}
 
 -- how many of the rows are cells, and how many nodes
 abbrev pub cells_of : {K : Type 0} → List (Form K) → ℕ
@@ -28,3 +32,11 @@ module _ {T : Type 0} where
     pub live : live_count new ≡ live_count old + row_count P
     pub made : new.made ≡ min (old.made + row_count P) (2 ^ 64 - 1)
     pub balance : Balances old new
+
+  -- the pool of these roots is this one, which passed its tests, and the inner rows below them keep their sums
+  pub record AreLoaded (text : T → Bytes) (h : Heap T) (roots : List ℕ) (P : Pool) : Type 0 where
+    pub graph : IsGraph h
+    pub live : AreLive T h roots
+    pub checked : IsChecked P
+    pub pool : pool_at text h roots P.bits ≡ P
+    pub sums : HaveSums h roots

@@ -1,13 +1,7 @@
-//! Laws of loaded roots, as the clauses of functions that do nothing.
-ghost use Rattle.pool_load.specs.Laws.{RootsAreLoaded, LoadedRowsAreListed, LoadedVectorsAreGood, LoadedTriesAreGood};
+//! Laws of loaded roots, in whatever heap, as the clauses of functions that do nothing.
+ghost use Rattle.pool_load.specs.Laws.{LoadedRowsAreListed, LoadedVectorsAreGood, LoadedTriesAreGood};
 
 use elem_core::Stored;
-
-/// The roots that a load gives have the loaded pool, and the inner rows below them keep their sums. The other laws speak of all
-/// such roots, in whatever heap.
-pub fn roots_are_loaded<T: Stored>()
-    ensures { RootsAreLoaded T.bytes_of }
-{}
 
 /// The pool lists the rows that loaded roots reach, under their places in first-seen order, and the same ones are vector roots
 /// or trie roots in it as in the heap.

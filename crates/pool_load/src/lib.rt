@@ -9,7 +9,5 @@ mod lengths;
 mod loading;
 mod rows;
 
-pub use laws::{
-    loaded_rows_are_listed, loaded_tries_are_good, loaded_vectors_are_good, roots_are_loaded,
-};
+pub use laws::{loaded_rows_are_listed, loaded_tries_are_good, loaded_vectors_are_good};
 pub use loading::load;

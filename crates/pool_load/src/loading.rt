@@ -5,9 +5,7 @@ ghost use Rattle.node_heap.specs.Links.{count};
 ghost use Rattle.node_heap.specs.Heap.{holds_at, hold_count, IsGraph};
 ghost use Rattle.node_heap.specs.Calls.{Unchanged};
 ghost use Rattle.pool_text.specs.Rows.{row_form};
-ghost use Rattle.pool_text.specs.Pool.{pool_at};
-ghost use Rattle.pool_check.specs.Sums.{HaveSums};
-ghost use Rattle.pool_load.specs.Loads.{Loads, cells_of};
+ghost use Rattle.pool_load.specs.Loads.{Loads, AreLoaded, cells_of};
 ghost use Rattle.pool_load.specs.Making.{AreBelow, AreReachedWithout, GivesUp};
 
 use crate::lengths::lengths_of;
@@ -28,9 +26,8 @@ pub fn load<T: Stored>(
 ) -> Result<Vec<Link>, NoMemory>
     requires few { hold_count heap.old < 2 ^ 59 }
     ensures loads { IfOk result (λ roots. Loads heap.old heap.new roots.items checked) }
-    ensures pool { IfOk result (λ roots. pool_at T.bytes_of heap.new roots.items checked.bits ≡ checked) }
+    ensures loaded { IfOk result (λ roots. AreLoaded T.bytes_of heap.new roots.items checked) }
     ensures roots { IfOk result (λ roots. length roots.items ≡ 4) }
-    ensures sums { IfOk result (λ roots. HaveSums heap.new roots.items) }
     ensures refused { OnErr result (Unchanged heap.old heap.new) }
 {
     // The call tells the proof that this is the graph of a heap.

@@ -25,7 +25,8 @@ count-map f k (x ∷ xs) some = elim (cases_eq x k) as (λ _. 0 < count (f k) (f
   | inr other ↦ omega (arith, count-cons (f k) (f x) (map f xs), count-map f k xs (omega (arith, some, count-cons k x xs, test_other x k other)))
 ]
 
-map-back : (f g : ℕ → ℕ) (ks : List ℕ) → ((k : ℕ) → 0 < count k ks → g (f k) ≡ k) → map g (map f ks) ≡ ks
+-- links that are turned and then turned back
+pub map-back : (f g : ℕ → ℕ) (ks : List ℕ) → ((k : ℕ) → 0 < count k ks → g (f k) ≡ k) → map g (map f ks) ≡ ks
 map-back f g [] each = refl
 map-back f g (k ∷ ks) each =
     ap (λ y. y ∷ map g (map f ks)) (each k (omega (arith, count-cons k k ks, test_same k k refl)))
@@ -47,7 +48,7 @@ module _ {K : Type 0} where
   head-relink f (Some (cell x)) = refl
   head-relink f (Some (node kind links)) = refl
 
-  relink-back : (f g : ℕ → ℕ) (r : Option (Form K)) → ((k : ℕ) → 0 < count k (links_of r) → g (f k) ≡ k) → option_map (relink g) (option_map (relink f) r) ≡ r
+  pub relink-back : (f g : ℕ → ℕ) (r : Option (Form K)) → ((k : ℕ) → 0 < count k (links_of r) → g (f k) ≡ k) → option_map (relink g) (option_map (relink f) r) ≡ r
   relink-back f g None each = refl
   relink-back f g (Some (cell x)) each = refl
   relink-back f g (Some (node kind links)) each = ap (λ ks. Some (node kind ks)) (map-back f g links each)

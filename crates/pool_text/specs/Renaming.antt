@@ -51,6 +51,10 @@ pub record IsPoolOf (G : Forms Bytes) (roots ks : List ℕ) (P : Pool) : Type 0 
 abbrev pub PoolsAreRenamed : Type 0
 PoolsAreRenamed = (n : ℕ) (G : Forms Bytes) (roots : List ℕ) (bits : ℕ) → IsRooted n G roots → IsPoolOf G roots (order n (links_in G) roots) (pool n G roots bits)
 
+-- a pool is the pool of its own rows from its roots
+abbrev pub IsOfItself : Pool → Type 0
+IsOfItself P = pool (row_count P) (forms_in P) P.roots P.bits ≡ P
+
 module _ (T : Type 0) where
   -- these roots are rows of the heap
   abbrev pub AreLive : Heap T → List ℕ → Type 0

@@ -1,14 +1,10 @@
 -- What the definitions say of small spaces.
 use Rattle.std.specs.Prelude.{◌≡◌, Some, None, codes, [], ◌∷◌}
-use Rattle.pool_text.specs.Pool.{pool, forms_in, row_count}
+use Rattle.pool_text.specs.Pool.{pool, forms_in}
 use Rattle.pool_text.specs.Document.{document, text, value_damage, bytes_damage}
 use Rattle.pool_text.specs.Documents.{start_pool, two_cells, shared_empties, sub_node, one_line_twice}
-use Rattle.pool_text.specs.declared.pool.Pool.{Pool}
+use Rattle.pool_text.specs.Renaming.{IsOfItself}
 use Rattle.pool_text.specs.declared.damage.Damage.TheVariants.{Json, Form, Version, Bits, Row}
-
--- a pool in order is the pool of its own rows from its roots
-abbrev pub IsOfItself : Pool → Type 0
-IsOfItself P = pool (row_count P) (forms_in P) P.roots P.bits ≡ P
 
 pub record WorkedDocuments : Type 0 where
   pub start_itself : IsOfItself start_pool

@@ -48,7 +48,7 @@ use Rattle.state_rows.proofs.Staying.{states-stay}
 use Rattle.state_rows.proofs.Keys.{by_bytes}
 use Rattle.space_state.specs.declared.roots.RootedHeap.{RootedHeap}
 use Rattle.space_state.specs.Roots.{Keeps}
-use Rattle.space_state.specs.Turns.{IsDue, IsSame, TurnsTo, IsDone, IsRefused}
+use Rattle.space_state.specs.Turns.{IsDue, IsSame, TurnsTo, IsCarriedOut, IsRefused}
 use Rattle.space_state.proofs.Keeping.{Rises, rises-grows, rises-then, rises-same, rises-more, keeps-extended, keeps-gained, keeps-same, grows-cell, keeps-turned, keeps-swapped, keeps-released, released-stands, first-held, first-counts, unchanged-stands, turns-after}
 
 -- ## Lists that go together
@@ -557,7 +557,7 @@ can-put {s} {t} {xs = xs} {W = W} {key = key} {name = name} room m few_cells few
 -- room was made, the lines were made, and the state turned to the one that has them
 pub edit-done : {s t u : RootedHeap} {new : Heap Bytes} {l c n : ℕ} {xs : List Bytes} {W : Workspace} {key name : Bytes} (change : PlainEdit) → MadeRoom s t key name W → IsMade t new [] l xs W c n
     → edited W.current change ≡ Ok (with_lines W.current name xs) → TurnsTo (record t { heap = new }) u [] (21 + alike_buffers t.bits W.current key) (with_current W (with_lines W.current key xs))
-    → c + n + (21 + alike_buffers s.bits W.current name) ≤ edit_cost s.bits change W.current → IsDone (edit change) s u W
+    → c + n + (21 + alike_buffers s.bits W.current name) ≤ edit_cost s.bits change W.current → IsCarriedOut (edit change) s u W
 edit-done {s} {t} {u} {new} {l} {c} {n} {xs} {W} {key} {name} change room m made turn less =
     let same : IsSame s t = room.same in
     let named : TurnsTo (record t { heap = new }) u [] (21 + alike_buffers t.bits W.current name) (with_current W (with_lines W.current name xs)) =
@@ -572,7 +572,7 @@ edit-done {s} {t} {u} {new} {l} {c} {n} {xs} {W} {key} {name} change room m made
 
 -- room was made, and the state turned to the one in which the buffer is gone
 pub drop-done : {s t u : RootedHeap} {new : Heap Bytes} {spent gained : List ℕ} {W : Workspace} {name : Bytes} (xs : List Bytes) → IsSame s t → Grows t.heap new spent gained 0 (8 + alike_buffers t.bits W.current name)
-    → lines_of W.current name ≡ Some xs → is_full W ≡ false → TurnsTo (record t { heap = new }) u [] 10 (with_current W (without_lines W.current name)) → IsDone (edit (drop_buffer name)) s u W
+    → lines_of W.current name ≡ Some xs → is_full W ≡ false → TurnsTo (record t { heap = new }) u [] 10 (with_current W (without_lines W.current name)) → IsCarriedOut (edit (drop_buffer name)) s u W
 drop-done {s} {t} {u} {new} {W = W} {name = name} xs same g there free turn =
     record {
       after = with_current W (without_lines W.current name);
@@ -617,7 +617,7 @@ both-spares-left {s} {t} {W = W} {key = key} {name = name} {other_key = other_ke
 pub cut-done : {s t u : RootedHeap} {new : Heap Bytes} {k l n : ℕ} {xs ys : List Bytes} {W : Workspace} {key name other_key other : Bytes} (from to : ℕ) → IsSame s t → key ≡ name → other_key ≡ other → HasParts t new k l xs ys W n
     → is_full W ≡ false → edited W.current (cut name from to other) ≡ Ok (with_lines (with_lines W.current name xs) other ys)
     → TurnsTo (record t { heap = new }) u [] (33 + (alike_buffers t.bits W.current key + alike_buffers t.bits W.current other_key)) (with_current W (with_lines (with_lines W.current key xs) other_key ys))
-    → n ≤ 90 → IsDone (edit (cut name from to other)) s u W
+    → n ≤ 90 → IsCarriedOut (edit (cut name from to other)) s u W
 cut-done {s} {t} {u} {new} {n = n} {xs = xs} {ys = ys} {W = W} {key = key} {name = name} {other_key = other_key} {other = other} from to same is also p free made turn few =
     let one : alike_buffers t.bits W.current key ≡ alike_buffers s.bits W.current name = (λ i. alike_buffers (same.bits i) W.current (is i)) in
     let two : alike_buffers t.bits W.current other_key ≡ alike_buffers s.bits W.current other = (λ i. alike_buffers (same.bits i) W.current (also i)) in
@@ -657,7 +657,7 @@ pub due-absent : (W : Workspace) (change : PlainEdit) {why : Refusal} → why �
 due-absent W change why is = subst (λ w. IsDue W (edit change) w) (sym why) (refuses W change Absent is)
 
 -- the exit of a `?` that passes a refusal on
-pub fails : {command : PlainCommand} {s t : RootedHeap} {W : Workspace} (why : Refusal) (r : Result (Unit {0}) Refusal) → IsErrAnd r (λ e. e ≡ why) → IsRefused command s t W why → MatchResult r (λ _. IsDone command s t W) (IsRefused command s t W)
+pub fails : {command : PlainCommand} {s t : RootedHeap} {W : Workspace} (why : Refusal) (r : Result (Unit {0}) Refusal) → IsErrAnd r (λ e. e ≡ why) → IsRefused command s t W why → MatchResult r (λ _. IsCarriedOut command s t W) (IsRefused command s t W)
 fails why (Ok x) is refused = absurd is
 fails {command} {s} {t} {W} why (Err e) is refused = subst (λ (w : Refusal). IsRefused command s t W w) (sym is) refused
 

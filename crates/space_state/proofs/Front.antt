@@ -16,8 +16,8 @@ use Rattle.state_rows.specs.Standing.{StandsFor}
 use Rattle.state_rows.proofs.HeapPools.{pool-stands}
 use Rattle.space_state.specs.declared.roots.RootedHeap.{RootedHeap}
 use Rattle.space_state.specs.Roots.{root_list, Keeps}
-use Rattle.space_state.specs.Turns.{IsSame, IsDone, IsRefused, Obeys}
-use Rattle.space_state.specs.View.{SpaceView, shown, CarriesOut, Refuses, Ends}
+use Rattle.space_state.specs.Turns.{IsSame, IsCarriedOut, IsRefused, EndsOnRows}
+use Rattle.space_state.specs.View.{SpaceView, shown, CarriesOut, RefusesCommand, Ends}
 use Rattle.space_state.proofs.Keeping.{keeps-same}
 
 -- the pool's bits are those of the space
@@ -39,7 +39,7 @@ module _ (s : RootedHeap) (W : Workspace) (K : Keeps s [] W) where
   rows-are = nothing-leaks (λ text. text) s.heap (root_list s.roots) s.bits K.graph roots-held
 
 -- what a command that was carried out on the rows did to the pool
-pub carried : (command : PlainCommand) (old new : RootedHeap) (W : Workspace) → Keeps old [] W → IsDone command old new W → CarriesOut command (shown old) (shown new) W
+pub carried : (command : PlainCommand) (old new : RootedHeap) (W : Workspace) → Keeps old [] W → IsCarriedOut command old new W → CarriesOut command (shown old) (shown new) W
 carried command old new W K done =
     let K' : Keeps new [] done.after = done.turns.keeps in
     let rows : row_count (shown old).pool ≡ live_count old.heap = rows-are old W K in
@@ -68,16 +68,16 @@ same-kept old new W same K =
     ap (λ p. view p (live_count new.heap) new.heap.made) pool ∙ ap (λ l. view (shown old).pool l new.heap.made) same.heap.live ∙ ap (λ m. view (shown old).pool (live_count old.heap) m) same.heap.made
 
 -- a refusal leaves what a space shows
-pub refused : (command : PlainCommand) (old new : RootedHeap) (W : Workspace) (why : Refusal) → Keeps old [] W → IsRefused command old new W why → Refuses command (shown old) (shown new) W why
+pub refused : (command : PlainCommand) (old new : RootedHeap) (W : Workspace) (why : Refusal) → Keeps old [] W → IsRefused command old new W why → RefusesCommand command (shown old) (shown new) W why
 refused command old new W why K refusal = record { due = refusal.due; same = same-kept old new W refusal.same K }
 
 -- how a call on the rows ends, seen by the pool
 pub ends-seen : (command : PlainCommand) (old : RootedHeap) (result : Result (Unit {0}) Refusal) (new : RootedHeap) (W : Workspace) →
-    Keeps old [] W → Obeys command old result new → Ends command (shown old) result (shown new)
+    Keeps old [] W → EndsOnRows command old result new → Ends command (shown old) result (shown new)
 ends-seen command old (Ok done) new W K obeys = record { work = W; stands = pool-is old W K; ends = carried command old new W K (obeys W K) }
 ends-seen command old (Err why) new W K obeys = record { work = W; stands = pool-is old W K; ends = refused command old new W why K (obeys W K) }
 
 -- after a call that carries out a command, or refuses it, the roots stand for a workspace still
-pub kept-on : (command : PlainCommand) (old : RootedHeap) (result : Result (Unit {0}) Refusal) (new : RootedHeap) → (W : Workspace) × Keeps old [] W → Obeys command old result new → (W : Workspace) × Keeps new [] W
-kept-on command old (Ok done) new (W, K) obeys = let is : IsDone command old new W = obeys W K in (is.after, is.turns.keeps)
+pub kept-on : (command : PlainCommand) (old : RootedHeap) (result : Result (Unit {0}) Refusal) (new : RootedHeap) → (W : Workspace) × Keeps old [] W → EndsOnRows command old result new → (W : Workspace) × Keeps new [] W
+kept-on command old (Ok done) new (W, K) obeys = let is : IsCarriedOut command old new W = obeys W K in (is.after, is.turns.keeps)
 kept-on command old (Err why) new (W, K) obeys = let is : IsRefused command old new W why = obeys W K in (W, keeps-same is.same K)

@@ -1,6 +1,5 @@
 pub mod Keeping
 pub mod Front
-pub mod FourRoots
 pub mod PoolRows
 pub mod Taking
 pub mod There

@@ -22,7 +22,7 @@ use Rattle.space_state.specs.declared.roots.RootedHeap.{RootedHeap}
 use Rattle.space_state.specs.declared.roots.Batch.{Batch as Batches}
 use Rattle.space_state.specs.declared.roots.Batch.TheVariants.{Closed, Open}
 use Rattle.space_state.specs.Roots.{base_of, Keeps}
-use Rattle.space_state.specs.Turns.{IsSame, IsDone, IsRefused}
+use Rattle.space_state.specs.Turns.{IsSame, IsCarriedOut, IsRefused}
 use Rattle.state_rows.proofs.Staying.{states-stay}
 use Rattle.space_state.proofs.Keeping.{history-length, history-short, same-heap, keeps-same, keeps-gained, keeps-swapped, first-held, held-stands, unchanged-stands, Rises, rises-grows, rises-same, rises-then}
 
@@ -175,7 +175,7 @@ pub may-lack : {W : Workspace} {after : Workspace} (command : PlainCommand) → 
 may-lack command wants told = record { wants = wants; granted = subst IsOk (sym told) refl }
 
 pub memory-refused : {W : Workspace} {command : PlainCommand} {old new : RootedHeap} (result : Result (Unit {0}) Refusal) → IsErrAnd result (λ why. why ≡ Memory) → MayLackMemory W command → IsSame old new
-    → MatchResult result (λ _. IsDone command old new W) (IsRefused command old new W)
+    → MatchResult result (λ _. IsCarriedOut command old new W) (IsRefused command old new W)
 memory-refused {W} {command} {old} {new} (Err why) is lack same = subst (λ why. IsRefused command old new W why) (sym is) (record { due = lack; same = same })
 memory-refused (Ok x) is lack same = absurd is
 
@@ -282,7 +282,7 @@ spares-left k n m grows spares nodes same = (omega arith, omega (arith, spares.1
 
 -- room for an edit was refused: undo is full, or memory ran out
 pub room-refused : {W : Workspace} {command : PlainCommand} {old new : RootedHeap} (result : Result (Unit {0}) Refusal) (reason : Refusal) (full : Bool) → IsErrAnd result (λ told. told ≡ reason) → MatchBool full (reason ≡ Limit) (reason ≡ Memory)
-    → (full ≡ true → answer W command ≡ Err Limit) → (full ≡ false → MayLackMemory W command) → IsSame old new → MatchResult result (λ _. IsDone command old new W) (IsRefused command old new W)
+    → (full ≡ true → answer W command ≡ Err Limit) → (full ≡ false → MayLackMemory W command) → IsSame old new → MatchResult result (λ _. IsCarriedOut command old new W) (IsRefused command old new W)
 room-refused {W} {command} {old} {new} (Err told) reason true is why limited lack same = subst (λ why. IsRefused command old new W why) (sym (is ∙ why)) (record { due = limited refl; same = same })
 room-refused {W} {command} {old} {new} (Err told) reason false is why limited lack same = subst (λ why. IsRefused command old new W why) (sym (is ∙ why)) (record { due = lack refl; same = same })
 room-refused (Ok x) reason full is why limited lack same = absurd is

@@ -1,17 +1,15 @@
 -- How a checked pool takes the place of all rows.
-use Rattle.std.proofs.Common.{◌≡◌, ℕ, ◌<◌, Bool, true, false, List, [], ◌∷◌, IsSome, get_or, length, Result, Ok, Err, sym, ap, subst, ◌∙◌, arith, length-append}
+use Rattle.std.proofs.Common.{◌≡◌, ℕ, ◌<◌, Bool, true, false, List, [], ◌∷◌, get_or, length, Result, Ok, Err, sym, ap, subst, ◌∙◌, arith, length-append}
 use Rattle.std.specs.Prelude.{IsErrAnd, MatchBool, MatchResult}
 use Rattle.node_heap.specs.Links.{count}
-use Rattle.node_heap.specs.Heap.{Heap, row_at, IsGraph}
+use Rattle.node_heap.specs.Heap.{Heap, IsGraph}
 use Rattle.node_heap.specs.Calls.{Releases}
 use Rattle.node_heap.proofs.Frames.{KeepsHeld-Releases}
 use Rattle.node_heap.proofs.BuildLemmas.{count-cons, count-append}
 use Rattle.pool_text.specs.Pool.{pool_at}
 use Rattle.pool_text.specs.declared.pool.Pool.{Pool}
 use Rattle.pool_text.proofs.Held.{pools-stay}
-use Rattle.pool_check.specs.Damages.{IsValid}
-use Rattle.pool_check.specs.Sums.{HaveSums}
-use Rattle.pool_load.specs.Loads.{Loads}
+use Rattle.pool_load.specs.Loads.{Loads, AreLoaded}
 use Rattle.shell_terms.specs.Edit.{Bytes}
 use Rattle.plain_space.specs.declared.refusal.Refusal.{Refusal}
 use Rattle.plain_space.specs.declared.refusal.Refusal.TheVariants.{Batch as InBatch, Memory}
@@ -65,26 +63,23 @@ pool-released {s} {b} {W} {new} {l} K rel graph =
     (λ r root. (KeepsHeld-Releases s.heap new l rel graph).kept r (omega (arith, keeps-holds K r, count-cons r l b, root)))
 
 module _ (s : RootedHeap) (W : Workspace) (K : Keeps s [] W) (h : Heap Bytes) (P : Pool) (roots : Roots) (links : List ℕ) (loads : Loads s.heap h links P) (same : links ≡ root_list roots) (bits : P.bits ≡ s.bits)
-    (pool : pool_at (λ text. text) h links P.bits ≡ P) (sums : HaveSums h links) (valid : IsValid P) where
+    (all : AreLoaded (λ text. text) h links P) where
   abbrev pub loaded : RootedHeap
   loaded = record s { heap = h; roots = roots }
 
-  live : (r : ℕ) → 0 < count r (root_list roots) → IsSome (row_at h r)
-  live r root = loads.graph.held r (omega (arith, loads.holds r, ap (count r) same, root))
-
   pub pool-loaded : pool_at (λ text. text) h (root_list roots) s.bits ≡ P
-  pool-loaded = sym (ap (λ (ks : List ℕ). pool_at (λ text. text) h ks s.bits) same) ∙ sym (ap (λ b. pool_at (λ text. text) h links b) bits) ∙ pool
+  pool-loaded = sym (ap (λ (ks : List ℕ). pool_at (λ text. text) h ks s.bits) same) ∙ sym (ap (λ b. pool_at (λ text. text) h links b) bits) ∙ all.pool
 
   -- the new roots stand for what the pool stands for, and the old roots are held besides
   pub keeps-loaded : (after : Workspace) × Keeps loaded (root_list s.roots) after
   keeps-loaded =
-      let stands = valid-stands P valid in
+      let stands = valid-stands P all.checked.valid in
       let there : StandsFor (pool_at (λ text. text) h (root_list roots) s.bits) stands.0 = subst (λ (Q : Pool). StandsFor Q stands.0) (sym pool-loaded) stands.1 in (
         stands.0,
         record {
           graph = loads.graph;
           bits = K.bits;
-          stands = roots-stand h s.bits (root_list roots) stands.0 loads.graph live (λ r l root down. sums r l (omega (arith, ap (count r) same, root)) down) there;
+          stands = roots-stand h s.bits (root_list roots) stands.0 loads.graph (λ r root. all.live r (omega (arith, ap (count r) same, root))) (λ r l root down. all.sums r l (omega (arith, ap (count r) same, root)) down) there;
           holds = λ k. omega (arith, loads.holds k, K.holds k, count-append k (root_list s.roots) [], count-append k (root_list roots) (root_list s.roots), ap (count k) same);
           total = omega (arith, loads.count, K.total, length-append (root_list s.roots) [], length-append (root_list roots) (root_list s.roots), ap (λ (ks : List ℕ). length ks) same);
         },

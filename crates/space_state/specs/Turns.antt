@@ -43,7 +43,7 @@ pub record TurnsTo (old new : RootedHeap) (besides : List ℕ) (most : ℕ) (aft
   pub made : RowsRise old.heap new.heap
 
 -- the command was carried out
-pub record IsDone (command : PlainCommand) (old new : RootedHeap) (W : Workspace) : Type 0 where
+pub record IsCarriedOut (command : PlainCommand) (old new : RootedHeap) (W : Workspace) : Type 0 where
   pub after : Workspace
   pub told : answer W command ≡ done after
   pub turns : TurnsTo old new [] (cost old.bits command W) after
@@ -54,6 +54,6 @@ pub record IsRefused (command : PlainCommand) (old new : RootedHeap) (W : Worksp
   pub same : IsSame old new
 
 -- how a call ends that carries out a command: done, or refused for a reason that is due
-abbrev pub Obeys : PlainCommand → RootedHeap → Result (Unit {0}) Refusal → RootedHeap → Type 0
-Obeys command old result new =
-    (W : Workspace) → Keeps old [] W → MatchResult result (λ _. IsDone command old new W) (IsRefused command old new W)
+abbrev pub EndsOnRows : PlainCommand → RootedHeap → Result (Unit {0}) Refusal → RootedHeap → Type 0
+EndsOnRows command old result new =
+    (W : Workspace) → Keeps old [] W → MatchResult result (λ _. IsCarriedOut command old new W) (IsRefused command old new W)

@@ -42,7 +42,7 @@ pub record CarriesOut (command : PlainCommand) (old new : SpaceView) (W : Worksp
   pub made : MadeRises (row_count old.pool) old.made (row_count new.pool) new.made
 
 -- The command was refused for a reason that is due, and the space is as it was.
-pub record Refuses (command : PlainCommand) (old new : SpaceView) (W : Workspace) (why : Refusal) : Type 0 where
+pub record RefusesCommand (command : PlainCommand) (old new : SpaceView) (W : Workspace) (why : Refusal) : Type 0 where
   pub due : IsDue W command why
   pub same : new ≡ old
 
@@ -50,7 +50,7 @@ pub record Refuses (command : PlainCommand) (old new : SpaceView) (W : Workspace
 pub record Ends (command : PlainCommand) (old : SpaceView) (result : Result (Unit {0}) Refusal) (new : SpaceView) : Type 0 where
   pub work : Workspace
   pub stands : StandsFor old.pool work
-  pub ends : MatchResult result (λ _. CarriesOut command old new work) (Refuses command old new work)
+  pub ends : MatchResult result (λ _. CarriesOut command old new work) (RefusesCommand command old new work)
 
 -- The pool is the space's, and the number made has risen by its rows, up to 2^64 - 1.
 pub record IsTaken (P : Pool) (old new : SpaceView) : Type 0 where
@@ -60,7 +60,7 @@ pub record IsTaken (P : Pool) (old new : SpaceView) : Type 0 where
 -- How a call ends that takes a pool: refused with Batch in a batch, and else done, or refused with Memory. What is refused
 -- leaves all as it was.
 abbrev pub EndsTaking : Workspace → Result (Unit {0}) Refusal → Type 0 → Type 0 → Type 0
-EndsTaking W result IsDone IsAsBefore = MatchBool (in_batch W) ((result ≡ Err Batch) × IsAsBefore) (MatchResult result (λ _. IsDone) (λ why. (why ≡ Memory) × IsAsBefore))
+EndsTaking W result IsTurned IsAsBefore = MatchBool (in_batch W) ((result ≡ Err Batch) × IsAsBefore) (MatchResult result (λ _. IsTurned) (λ why. (why ≡ Memory) × IsAsBefore))
 
 -- The same of the rows.
 pub record TakesRows (P : Pool) (old new : RootedHeap) : Type 0 where

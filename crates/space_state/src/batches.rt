@@ -3,7 +3,7 @@ ghost use Rattle.std.specs.Prelude.{◌≡◌, []};
 ghost use Rattle.shell_terms.specs.Command.{begin, «end», abort};
 ghost use Rattle.plain_space.specs.Workspace.{Workspace};
 ghost use Rattle.space_state.specs.Roots.{Keeps};
-ghost use Rattle.space_state.specs.Turns.{Obeys};
+ghost use Rattle.space_state.specs.Turns.{EndsOnRows};
 
 use crate::roots::{Batch, RootedHeap};
 use crate::turning::{MOST, TURN_NODES};
@@ -14,7 +14,7 @@ impl RootedHeap {
     /// Opens a batch, whose base is the current state.
     pub(crate) fn begin(&mut self) -> Result<(), Refusal>
         requires { (W : Workspace) × Keeps self.old [] W }
-        ensures obeys { Obeys begin self.old result self.new }
+        ensures obeys { EndsOnRows begin self.old result self.new }
         ensures made { self.new.heap.made ≡ self.old.heap.made }
     {
         if self.in_batch() {
@@ -28,7 +28,7 @@ impl RootedHeap {
     /// Closes the batch. Its base goes to the end of undo, and redo is emptied.
     pub(crate) fn end(&mut self) -> Result<(), Refusal>
         requires { (W : Workspace) × Keeps self.old [] W }
-        ensures { Obeys «end» self.old result self.new }
+        ensures { EndsOnRows «end» self.old result self.new }
     {
         let Some(base) = self.roots.batch.base() else {
             return Err(Refusal::Batch);
@@ -45,7 +45,7 @@ impl RootedHeap {
     /// Closes the batch and goes back to its base.
     pub(crate) fn abort(&mut self) -> Result<(), Refusal>
         requires { (W : Workspace) × Keeps self.old [] W }
-        ensures obeys { Obeys abort self.old result self.new }
+        ensures obeys { EndsOnRows abort self.old result self.new }
         ensures made { self.new.heap.made ≡ self.old.heap.made }
     {
         let Some(base) = self.roots.batch.base() else {

@@ -13,7 +13,7 @@ ghost use Rattle.plain_space.specs.Cost.{alike_buffers};
 ghost use Rattle.state_rows.specs.Reading.{StandsIfThere};
 ghost use Rattle.state_rows.specs.InHeap.{AreLinesIn};
 ghost use Rattle.space_state.specs.Roots.{Keeps};
-ghost use Rattle.space_state.specs.Turns.{IsSame, Obeys, TurnsTo};
+ghost use Rattle.space_state.specs.Turns.{IsSame, EndsOnRows, TurnsTo};
 
 use crate::roots::RootedHeap;
 use crate::turning::{EDIT_NODES, MOST};
@@ -87,7 +87,7 @@ impl RootedHeap {
     /// Makes the buffer, without lines.
     pub(crate) fn make(&mut self, name: Name<'_>) -> Result<(), Refusal>
         requires { (W : Workspace) × Keeps self.old [] W }
-        ensures { Obeys (edit (new (name_bytes name.entry))) self.old result self.new }
+        ensures { EndsOnRows (edit (new (name_bytes name.entry))) self.old result self.new }
     {
         if self.buffer(name).is_ok() {
             return Err(Refusal::Exists);
@@ -103,7 +103,7 @@ impl RootedHeap {
     /// Adds the line at the end of the buffer.
     pub(crate) fn add(&mut self, name: Name<'_>, line: Line<'_>) -> Result<(), Refusal>
         requires { (W : Workspace) × Keeps self.old [] W }
-        ensures { Obeys (edit (add (name_bytes name.entry) (line_bytes line.entry))) self.old result self.new }
+        ensures { EndsOnRows (edit (add (name_bytes name.entry) (line_bytes line.entry))) self.old result self.new }
     {
         let lines = self.buffer(name)?;
         if lines.len(&self.heap) == MOST {
@@ -122,7 +122,7 @@ impl RootedHeap {
     /// Puts the line in place of the one at the index.
     pub(crate) fn set(&mut self, name: Name<'_>, index: u32, line: Line<'_>) -> Result<(), Refusal>
         requires { (W : Workspace) × Keeps self.old [] W }
-        ensures { Obeys (edit (set (name_bytes name.entry) index (line_bytes line.entry))) self.old result self.new }
+        ensures { EndsOnRows (edit (set (name_bytes name.entry) index (line_bytes line.entry))) self.old result self.new }
     {
         let lines = self.buffer(name)?;
         if index >= lines.len(&self.heap) {
@@ -141,7 +141,7 @@ impl RootedHeap {
     /// Puts the line before the one at the index, or at the end.
     pub(crate) fn put(&mut self, name: Name<'_>, index: u32, line: Line<'_>) -> Result<(), Refusal>
         requires { (W : Workspace) × Keeps self.old [] W }
-        ensures { Obeys (edit (put (name_bytes name.entry) index (line_bytes line.entry))) self.old result self.new }
+        ensures { EndsOnRows (edit (put (name_bytes name.entry) index (line_bytes line.entry))) self.old result self.new }
     {
         let lines = self.buffer(name)?;
         let count = lines.len(&self.heap);
@@ -164,7 +164,7 @@ impl RootedHeap {
     /// Takes the lines of the range out of the buffer.
     pub(crate) fn del(&mut self, name: Name<'_>, from: u32, to: u32) -> Result<(), Refusal>
         requires { (W : Workspace) × Keeps self.old [] W }
-        ensures { Obeys (edit (del (name_bytes name.entry) from to)) self.old result self.new }
+        ensures { EndsOnRows (edit (del (name_bytes name.entry) from to)) self.old result self.new }
     {
         let lines = self.buffer(name)?;
         if from > to || to > lines.len(&self.heap) {
@@ -181,7 +181,7 @@ impl RootedHeap {
     /// Adds the lines of the second buffer at the end of the first.
     pub(crate) fn cat(&mut self, name: Name<'_>, other: Name<'_>) -> Result<(), Refusal>
         requires { (W : Workspace) × Keeps self.old [] W }
-        ensures { Obeys (edit (cat (name_bytes name.entry) (name_bytes other.entry))) self.old result self.new }
+        ensures { EndsOnRows (edit (cat (name_bytes name.entry) (name_bytes other.entry))) self.old result self.new }
     {
         let lines = self.buffer(name)?;
         let more = self.buffer(other)?;
@@ -205,7 +205,7 @@ impl RootedHeap {
         other: Name<'_>,
     ) -> Result<(), Refusal>
         requires { (W : Workspace) × Keeps self.old [] W }
-        ensures { Obeys (edit (cut (name_bytes name.entry) from to (name_bytes other.entry))) self.old result self.new }
+        ensures { EndsOnRows (edit (cut (name_bytes name.entry) from to (name_bytes other.entry))) self.old result self.new }
     {
         let lines = self.buffer(name)?;
         if from > to || to > lines.len(&self.heap) {
@@ -225,7 +225,7 @@ impl RootedHeap {
     /// Gives the second buffer the lines of the first.
     pub(crate) fn copy(&mut self, name: Name<'_>, other: Name<'_>) -> Result<(), Refusal>
         requires { (W : Workspace) × Keeps self.old [] W }
-        ensures { Obeys (edit (copy (name_bytes name.entry) (name_bytes other.entry))) self.old result self.new }
+        ensures { EndsOnRows (edit (copy (name_bytes name.entry) (name_bytes other.entry))) self.old result self.new }
     {
         let lines = self.buffer(name)?;
         let key = self.prepare(other)?;
@@ -237,7 +237,7 @@ impl RootedHeap {
     /// Takes the buffer away.
     pub(crate) fn drop_buffer(&mut self, name: Name<'_>) -> Result<(), Refusal>
         requires { (W : Workspace) × Keeps self.old [] W }
-        ensures { Obeys (edit (drop (name_bytes name.entry))) self.old result self.new }
+        ensures { EndsOnRows (edit (drop (name_bytes name.entry))) self.old result self.new }
     {
         self.buffer(name)?;
         self.make_room(name)?;

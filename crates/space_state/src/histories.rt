@@ -6,7 +6,7 @@ ghost use Rattle.shell_terms.specs.Command.{undo, redo};
 ghost use Rattle.plain_space.specs.Workspace.{State, Workspace, most};
 ghost use Rattle.state_rows.specs.InHeap.{IsStateIn, IsHistoryIn};
 ghost use Rattle.space_state.specs.Roots.{Keeps};
-ghost use Rattle.space_state.specs.Turns.{Obeys, TurnsTo};
+ghost use Rattle.space_state.specs.Turns.{EndsOnRows, TurnsTo};
 
 use crate::roots::RootedHeap;
 use crate::turning::MOST;
@@ -22,7 +22,7 @@ impl RootedHeap {
     /// Goes back to the state before the last edit.
     pub(crate) fn undo(&mut self) -> Result<(), Refusal>
         requires { (W : Workspace) × Keeps self.old [] W }
-        ensures { Obeys undo self.old result self.new }
+        ensures { EndsOnRows undo self.old result self.new }
     {
         if self.in_batch() {
             return Err(Refusal::Batch);
@@ -46,7 +46,7 @@ impl RootedHeap {
     /// Goes forward to the state that the last undo left.
     pub(crate) fn redo(&mut self) -> Result<(), Refusal>
         requires { (W : Workspace) × Keeps self.old [] W }
-        ensures { Obeys redo self.old result self.new }
+        ensures { EndsOnRows redo self.old result self.new }
     {
         if self.in_batch() {
             return Err(Refusal::Batch);

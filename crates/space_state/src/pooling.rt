@@ -65,8 +65,6 @@ impl RootedHeap {
         if self.in_batch() {
             return Err(Refusal::Batch);
         }
-        // The call tells the proof that the pool is valid.
-        let _ = checked.pool();
         let links = load(self.alloc, &mut self.heap, checked)?;
         let roots = Roots {
             current: links[0],

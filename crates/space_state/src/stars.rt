@@ -7,7 +7,7 @@ ghost use Rattle.shell_terms.specs.Command.{edit};
 ghost use Rattle.plain_space.specs.Workspace.{Workspace, is_starred as starred_in, is_full};
 ghost use Rattle.plain_space.specs.Cost.{alike_stars};
 ghost use Rattle.space_state.specs.Roots.{Keeps};
-ghost use Rattle.space_state.specs.Turns.{IsSame, Obeys};
+ghost use Rattle.space_state.specs.Turns.{IsSame, EndsOnRows};
 
 use crate::roots::RootedHeap;
 use crate::turning::EDIT_NODES;
@@ -45,7 +45,7 @@ impl RootedHeap {
     /// Stars the name, which needs no buffer.
     pub(crate) fn star(&mut self, name: Name<'_>) -> Result<(), Refusal>
         requires { (W : Workspace) × Keeps self.old [] W }
-        ensures { Obeys (edit (star (name_bytes name.entry))) self.old result self.new }
+        ensures { EndsOnRows (edit (star (name_bytes name.entry))) self.old result self.new }
     {
         if self.is_starred(name) {
             return Err(Refusal::Exists);
@@ -60,7 +60,7 @@ impl RootedHeap {
     /// Takes the star of the name away.
     pub(crate) fn unstar(&mut self, name: Name<'_>) -> Result<(), Refusal>
         requires { (W : Workspace) × Keeps self.old [] W }
-        ensures { Obeys (edit (unstar (name_bytes name.entry))) self.old result self.new }
+        ensures { EndsOnRows (edit (unstar (name_bytes name.entry))) self.old result self.new }
     {
         if !self.is_starred(name) {
             return Err(Refusal::Absent);

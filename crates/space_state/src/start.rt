@@ -5,7 +5,7 @@ ghost use Rattle.node_heap.specs.Heap.{live_count};
 ghost use Rattle.plain_space.specs.Workspace.{Workspace, start};
 ghost use Rattle.plain_space.specs.Change.{edit_command};
 ghost use Rattle.space_state.specs.Roots.{Keeps};
-ghost use Rattle.space_state.specs.Turns.{Obeys};
+ghost use Rattle.space_state.specs.Turns.{EndsOnRows};
 
 use crate::roots::{Batch, RootedHeap, Roots};
 use elem_core::NoMemory;
@@ -50,7 +50,7 @@ impl RootedHeap {
     /// Carries out the edit.
     pub(crate) fn edit(&mut self, change: Edit<'_>) -> Result<(), Refusal>
         requires { (W : Workspace) × Keeps self.old [] W }
-        ensures { Obeys (edit_command change.entry) self.old result self.new }
+        ensures { EndsOnRows (edit_command change.entry) self.old result self.new }
     {
         match change {
             Edit::New(name) => self.make(name),

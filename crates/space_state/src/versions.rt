@@ -8,7 +8,7 @@ ghost use Rattle.plain_space.specs.Cost.{alike_versions};
 ghost use Rattle.state_rows.specs.Reading.{StandsIfThere};
 ghost use Rattle.state_rows.specs.InHeap.{IsStateIn, AreVersionsIn};
 ghost use Rattle.space_state.specs.Roots.{Keeps};
-ghost use Rattle.space_state.specs.Turns.{IsSame, Obeys, TurnsTo};
+ghost use Rattle.space_state.specs.Turns.{IsSame, EndsOnRows, TurnsTo};
 
 use crate::roots::RootedHeap;
 use crate::turning::{EDIT_NODES, TURN_NODES};
@@ -60,7 +60,7 @@ impl RootedHeap {
     /// Keeps the current state as a version.
     pub(crate) fn mark(&mut self, name: Name<'_>) -> Result<(), Refusal>
         requires { (W : Workspace) × Keeps self.old [] W }
-        ensures { Obeys (mark (name_bytes name.entry)) self.old result self.new }
+        ensures { EndsOnRows (mark (name_bytes name.entry)) self.old result self.new }
     {
         if self.in_batch() {
             return Err(Refusal::Batch);
@@ -80,7 +80,7 @@ impl RootedHeap {
     /// Lets the version go.
     pub(crate) fn unmark(&mut self, name: Name<'_>) -> Result<(), Refusal>
         requires { (W : Workspace) × Keeps self.old [] W }
-        ensures { Obeys (unmark (name_bytes name.entry)) self.old result self.new }
+        ensures { EndsOnRows (unmark (name_bytes name.entry)) self.old result self.new }
     {
         if self.in_batch() {
             return Err(Refusal::Batch);
@@ -98,7 +98,7 @@ impl RootedHeap {
     /// Makes the version's state the current one, as an edit does.
     pub(crate) fn back(&mut self, name: Name<'_>) -> Result<(), Refusal>
         requires { (W : Workspace) × Keeps self.old [] W }
-        ensures { Obeys (back (name_bytes name.entry)) self.old result self.new }
+        ensures { EndsOnRows (back (name_bytes name.entry)) self.old result self.new }
     {
         if self.in_batch() {
             return Err(Refusal::Batch);

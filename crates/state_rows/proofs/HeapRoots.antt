@@ -1,10 +1,9 @@
 -- Roots of a heap stand for a workspace where their pool does, and the inner rows below them keep their sums.
-use Rattle.std.proofs.Common.{◌≡◌, ℕ, ◌<◌, List, [], ◌∷◌, IsSome, length, map, refl, ap, sym, subst, ◌∙◌, arith}
+use Rattle.std.proofs.Common.{◌≡◌, ℕ, ◌<◌, List, IsSome, length, map, refl, ap, sym, subst, ◌∙◌, arith}
 use Rattle.std.specs.Prelude.{slice_index}
 use Rattle.node_heap.specs.Links.{count, Reaches, here, below}
 use Rattle.node_heap.specs.Forms.{Forms, links_in}
 use Rattle.node_heap.specs.Heap.{Heap, row_at, form_at, links_at, IsGraph}
-use Rattle.node_heap.proofs.Counts.{test_same, count-cons}
 use Rattle.node_heap.proofs.Reach.{Reaches-alike}
 use Rattle.node_heap.proofs.Trees.{links_of-form}
 use Rattle.rrb_core.specs.Seq.{IsWellShaped}
@@ -14,7 +13,7 @@ use Rattle.pool_text.specs.Pool.{forms_in, place_in, pool, pool_at}
 use Rattle.pool_text.specs.Renaming.{IsRenamed, IsRooted}
 use Rattle.pool_text.specs.declared.pool.Pool.{Pool}
 use Rattle.pool_text.proofs.Held.{rooted-forms, texts-are-forms}
-use Rattle.pool_text.proofs.Renamed.{map-found, count-map, renamed-below, renamed-links, renamed-link}
+use Rattle.pool_text.proofs.Renamed.{map-found, map-back, count-map, renamed-below, renamed-links, renamed-link}
 use Rattle.pool_text.proofs.Ordered.{pool-roots}
 use Rattle.pool_text.proofs.PoolRows.{pool-back, place-back}
 use Rattle.pool_check.specs.Sums.{HaveSums}
@@ -31,13 +30,6 @@ reaches-renamed f G H a b (here l) image = here (f l)
 reaches-renamed f G H a b (below l k m has down) image =
     below (f l) (f k) (f m) (omega (arith, count-map f k (links_in G l) has, ap (count (f k)) (renamed-links f G H l image)))
     (reaches-renamed f G H k m down (renamed-link f G H l k image has))
-
--- links that are turned and then turned back
-turned-back : (f g : ℕ → ℕ) (ks : List ℕ) → ((k : ℕ) → 0 < count k ks → g (f k) ≡ k) → map g (map f ks) ≡ ks
-turned-back f g [] back = refl
-turned-back f g (k ∷ ks) back =
-    ap (λ y. y ∷ map g (map f ks)) (back k (omega (arith, count-cons k k ks, test_same k k refl)))
-    ∙ ap (λ ys. k ∷ ys) (turned-back f g ks (λ j some. back j (omega (arith, count-cons j k ks, some))))
 
 module _ (h : Heap Bytes) (bits : ℕ) (roots : List ℕ) (W : Workspace) (graph : IsGraph h) (live : (r : ℕ) → 0 < count r roots → IsSome (row_at h r)) (sums : HaveSums h roots)
     (stands : StandsFor (pool_at (λ text. text) h roots bits) W) where
@@ -77,6 +69,6 @@ module _ (h : Heap Bytes) (bits : ℕ) (roots : List ℕ) (W : Workspace) (graph
       let by_bits : StandFor (forms_in made) (IsWellShaped (forms_in made)) bits made.roots W = subst (λ b. StandFor (forms_in made) (IsWellShaped (forms_in made)) b made.roots W) (pool-bits (length h.rows) (form_at h) roots bits) there in
       let back : map (slice_index listed) made.roots ≡ roots =
       ap (map (slice_index listed)) (pool-roots (length h.rows) (form_at h) roots rooted bits)
-      ∙ turned-back (place_in listed) (slice_index listed) roots (λ r root. place-back (length h.rows) (form_at h) roots rooted r r root (here r)) in
+      ∙ map-back (place_in listed) (slice_index listed) roots (λ r root. place-back (length h.rows) (form_at h) roots rooted r r root (here r)) in
       subst (λ rs. StandFor (form_at h) (IsGoodVector h) bits rs W) back
       (roots-over (slice_index listed) (forms_in made) (form_at h) (IsWellShaped (forms_in made)) (IsGoodVector h) bits made.roots W each-over by_bits)

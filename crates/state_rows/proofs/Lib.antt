@@ -15,6 +15,7 @@ pub mod PassesKinds
 pub mod PassesSpace
 pub mod HeapPools
 pub mod HeapRoots
+pub mod FourRoots
 pub mod OneSpace
 pub mod ValidSpace
 pub mod WorkedSpaces

@@ -30,7 +30,7 @@ returns-in-Ok-clause-takes c =
     let done = taken c.take_pool.ensures.work c.take_pool.result _ _ _ c.take_pool.ensures.ends c.in-Ok.is in
     TakesIn-ok c.args.bytes.now c.args.space.now c.take_pool.new.self c.in_ok-pool.pool c.in_ok-pool.ensures.pool (c.in_ok-pool.ensures.bits ∙ c.bits.ensures.kept)
     (pool_damage c.args.space.now.pool.bits c.args.bytes.now c.in_ok-pool.pool None
-    (subst (λ (b : ℕ). bytes_damage b c.args.bytes.now ≡ None) c.bits.ensures.kept c.in_ok-pool.ensures.whole) c.in_ok-pool.ensures.pool c.in_ok-checked.ensures.whole)
+    (subst (λ (b : ℕ). bytes_damage b c.args.bytes.now ≡ None) c.bits.ensures.kept c.in_ok-pool.ensures.whole) c.in_ok-pool.ensures.pool c.in_ok-checked.ensures.undamaged)
     c.in_ok-checked.ensures.valid
     (done.pool ∙ c.in_ok-checked.ensures.same) (subst (λ (P : Pool). c.take_pool.new.self.made ≡ min (c.args.space.now.made + row_count P) (2 ^ 64 - 1)) c.in_ok-checked.ensures.same done.made)
 

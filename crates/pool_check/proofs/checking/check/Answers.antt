@@ -41,7 +41,7 @@ pub returns-clause-valid : goal.returns-clause-valid
 returns-clause-valid g c =
     record { in_range = in-range c.args.pool c.requires.rows; lead_back = search rules; lines = search rules; vectors = search rules; tries = search rules; kinds = search rules; in_order = search rules }
 
-pub returns-clause-whole : goal.returns-clause-whole
-returns-clause-whole g c =
+pub returns-clause-undamaged : goal.returns-clause-undamaged
+returns-clause-undamaged g c =
     valid-undamaged c.args.pool
     (record { in_range = in-range c.args.pool c.requires.rows; lead_back = search rules; lines = search rules; vectors = search rules; tries = search rules; kinds = search rules; in_order = search rules })

@@ -5,14 +5,12 @@ use Rattle.node_heap.specs.Links.{count}
 use Rattle.node_heap.specs.Forms.{Form}
 use Rattle.node_heap.specs.Calls.{Builds}
 use Rattle.pool_text.specs.Rows.{Bytes, row_form}
-use Rattle.pool_text.specs.Pool.{pool_at}
 use Rattle.pool_text.specs.declared.pool.Pool.{Pool}
 use Rattle.pool_check.specs.Damages.{IsValid}
-use Rattle.pool_check.specs.Sums.{HaveSums}
-use Rattle.pool_load.specs.Loads.{Loads, cells_of, nodes_of}
+use Rattle.pool_load.specs.Loads.{Loads, AreLoaded, cells_of, nodes_of}
 use Rattle.pool_load.specs.Rows.{AreSound, HaveLengths}
 use Rattle.pool_load.specs.Making.{AreMade, GivesUp, AreReachedWithout}
-use Rattle.pool_load.proofs.Loaded.{sound-rows, roots-below, kinds-add-up, loaded-made, loaded-same, pool-loaded, sums-loaded, below-roots, own-held, reached-without, all-loaded}
+use Rattle.pool_load.proofs.Loaded.{sound-rows, roots-below, kinds-add-up, loaded-made, loaded-same, are-loaded, below-roots, own-held, reached-without, all-loaded}
 use Rattle.pool_load.proofs.loading.load.Goals as goal
 
 pub lengths_of-requires : goal.lengths_of-requires
@@ -159,8 +157,10 @@ returns g c =
       loads =
           subst (λ (ks : List ℕ). Loads c.args.heap.now c.release_all.new.heap ks P) (sym chosen)
           (all-loaded P L c.reserve.ensures.rest made many held up (below-roots g.T.Stored.bytes_of c.release_all.new.heap P v L loaded));
-      pool = ap (λ (ks : List ℕ). pool_at g.T.Stored.bytes_of c.release_all.new.heap ks P.bits) chosen ∙ pool-loaded g.T.Stored.bytes_of c.release_all.new.heap P v L loaded;
+      loaded =
+          subst (λ (ks : List ℕ). AreLoaded g.T.Stored.bytes_of c.release_all.new.heap ks P) (sym chosen)
+          (are-loaded g.T.Stored.bytes_of c.release_all.new.heap P v L loaded
+          (record { bits = omega (arith, c.pool-pool.ensures.bits, ap (λ (Q : Pool). Q.bits) c.pool-pool.ensures.same); roots = four; valid = v }));
       roots = ap length chosen ∙ length-map P.roots (slice_index L) ∙ four;
-      sums = subst (λ (ks : List ℕ). HaveSums c.release_all.new.heap ks) (sym chosen) (sums-loaded g.T.Stored.bytes_of c.release_all.new.heap P v L loaded);
       refused = tt;
     }

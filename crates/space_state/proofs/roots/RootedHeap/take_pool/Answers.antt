@@ -1,5 +1,4 @@
-use Rattle.std.proofs.Common.{◌≡◌, [], ◌∷◌, refl, sym, subst, ◌∙◌, arith}
-use Rattle.pool_check.specs.Damages.{IsValid}
+use Rattle.std.proofs.Common.{◌≡◌, [], ◌∷◌, refl, sym, ◌∙◌, arith}
 use Rattle.space_state.specs.declared.roots.Batch.TheVariants.{Closed}
 use Rattle.space_state.specs.declared.roots.Roots.{Roots}
 use Rattle.space_state.specs.Turns.{IsSame}
@@ -29,8 +28,7 @@ turn_roots-requires-clause-kept c =
     let links = c.in_ok-links.links.items in
     let same : links ≡ c.index.result.now ∷ c.index-2.result.now ∷ c.index-3.result.now ∷ c.index-4.result.now ∷ [] =
     four links _ _ _ _ c.in_ok-links.ensures.roots c.index.ensures c.index-2.ensures c.index-3.ensures c.index-4.ensures in
-    keeps-loaded c.args.self.now c.requires.keeps.0 c.requires.keeps.1 c.load.new.heap c.args.checked roots links c.in_ok-links.ensures.loads same c.requires.bits c.in_ok-links.ensures.pool c.in_ok-links.ensures.sums
-    (subst IsValid c.pool.ensures.same c.pool.ensures.valid)
+    keeps-loaded c.args.self.now c.requires.keeps.0 c.requires.keeps.1 c.load.new.heap c.args.checked roots links c.in_ok-links.ensures.loads same c.requires.bits c.in_ok-links.ensures.loaded
 
 pub returns : goal.returns
 returns c = λ W K.
@@ -38,12 +36,11 @@ returns c = λ W K.
     let links = c.in_ok-links.links.items in
     let same : links ≡ c.index.result.now ∷ c.index-2.result.now ∷ c.index-3.result.now ∷ c.index-4.result.now ∷ [] =
     four links _ _ _ _ c.in_ok-links.ensures.roots c.index.ensures c.index-2.ensures c.index-3.ensures c.index-4.ensures in
-    let valid = subst IsValid c.pool.ensures.same c.pool.ensures.valid in
     let loads = c.in_ok-links.ensures.loads in
-    let kept = keeps-loaded c.args.self.now W K c.load.new.heap c.args.checked roots links loads same c.requires.bits c.in_ok-links.ensures.pool c.in_ok-links.ensures.sums valid in
+    let kept = keeps-loaded c.args.self.now W K c.load.new.heap c.args.checked roots links loads same c.requires.bits c.in_ok-links.ensures.loaded in
     taking-done W (TakesRows c.args.checked c.args.self.now c.turn_roots.new.self) (IsSame c.args.self.now c.turn_roots.new.self) _ (sym (c.in_batch.ensures [] W K) ∙ c.if-in_batch.false) refl (record {
       after = kept.0;
       keeps = c.turn_roots.ensures.kept kept.0 kept.1;
-      pool = c.turn_roots.ensures.pool ∙ pool-loaded c.args.self.now W K c.load.new.heap c.args.checked roots links loads same c.requires.bits c.in_ok-links.ensures.pool c.in_ok-links.ensures.sums valid;
+      pool = c.turn_roots.ensures.pool ∙ pool-loaded c.args.self.now W K c.load.new.heap c.args.checked roots links loads same c.requires.bits c.in_ok-links.ensures.loaded;
       made = c.turn_roots.ensures.made ∙ loads.made;
     })

@@ -9,8 +9,8 @@ use Rattle.pool_check.specs.Vectors.{is_thick, length_at, are_children, vectors_
 use Rattle.pool_check.specs.Tries.{entries_below, are_branches, tries_stand}
 use Rattle.pool_check.specs.Kinds.{elements_pass, are_roots, roots_are_of_kind}
 use Rattle.pool_check.specs.Damages.{rows_in_order, damage}
-use Rattle.pool_check.proofs.History.{full_history-whole}
-use Rattle.pool_check.proofs.laws.whole_pools.Goals as goal
+use Rattle.pool_check.proofs.History.{full_history-undamaged}
+use Rattle.pool_check.proofs.laws.undamaged_pools.Goals as goal
 
 pub returns : goal.returns
 unfolding places order rows_in_range links_lead_back texts_are_lines is_thick length_at are_children vectors_stand entries_below are_branches tries_stand elements_pass are_roots roots_are_of_kind rows_in_order damage text_code is_name rows_from rank
@@ -21,5 +21,5 @@ returns c = record {
   is_sub_node = refl;
   is_one_line_twice = refl;
   is_chained = refl;
-  is_full_history = full_history-whole;
+  is_full_history = full_history-undamaged;
 }
