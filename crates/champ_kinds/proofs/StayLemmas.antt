@@ -8,7 +8,7 @@ use Rattle.node_heap.specs.Links.{count, Reaches}
 use Rattle.node_heap.specs.Forms.{pair, links_of, links_in}
 use Rattle.node_heap.specs.Heap.{Heap, row_at, form_at, links_at}
 use Rattle.node_heap.specs.Calls.{KeepsBelow, Extends, Unchanged}
-use Rattle.node_heap.proofs.Reach.{Reaches-then, Reaches-alike}
+use Rattle.node_heap.proofs.Reach.{Reaches-then, Reaches-by}
 use Rattle.node_heap.proofs.BuildLemmas.{count-cons, count-one}
 use Rattle.node_heap.proofs.Frames.{Extends-Unchanged}
 use Rattle.champ_chain.specs.Entry.{Entry}
@@ -62,7 +62,7 @@ module _ {T : Type 0} (cmp : T → T → Ordering) (code : T → ℕ) (h : Heap 
   entry-reached : (E : List (Entry T)) → HasEntries cmp code h r E → All (λ e. Reaches (links_at h) r.root e.link) E
   entry-reached E is =
       All-weaker (λ e. Reaches (links_in (form_at h)) r.root e.link) (λ e. Reaches (links_at h) r.root e.link)
-      (λ e down. Reaches-alike (links_in (form_at h)) (links_at h) (λ l. sym (links-form h l)) r.root e.link down) E (canon-reach cmp _ (form_at h) r.root E is.trie)
+      (λ e down. Reaches-by (links_in (form_at h)) (links_at h) (λ l. sym (links-form h l)) r.root e.link down) E (canon-reach cmp _ (form_at h) r.root E is.trie)
 
   value-reached : (e : Entry T) (b : Binding T) → Reaches (links_at h) r.root e.link → IsPair (form_at h) e b → Reaches (links_at h) r.root b.value
   value-reached e b down is =

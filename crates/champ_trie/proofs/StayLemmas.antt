@@ -12,7 +12,7 @@ use Rattle.node_heap.specs.Links.{count, HasLink, Reaches, SameBelow, here, belo
 use Rattle.node_heap.specs.Forms.{Form, Forms, Kind, cell, node, leaf, inner, trie, chain, pair, state, links_of, links_in, value_of, form_of}
 use Rattle.node_heap.specs.Heap.{Heap, row_at, form_at, links_at}
 use Rattle.node_heap.specs.Calls.{KeepsBelow, Extends}
-use Rattle.node_heap.proofs.Reach.{Reaches-then, Reaches-alike}
+use Rattle.node_heap.proofs.Reach.{Reaches-then, Reaches-by}
 use Rattle.champ_chain.specs.Entry.{Entry, entry, key_at, key_of, first_value, SameSet, same_none, same_first, same_turned, same_through}
 use Rattle.champ_chain.specs.Chain.{AreChainRows}
 use Rattle.champ_chain.proofs.FrameLemmas.{links-form, form-live}
@@ -176,7 +176,7 @@ module _ {K : Type 0} where
 module _ {T : Type 0} where
   -- what a link reaches stays by its forms too
   pub forms-below : (old new : Heap T) (l : ℕ) → KeepsBelow old new l → SameBelow (links_in (form_at old)) (form_at old) (form_at new) l
-  forms-below old new l keeps m down = ap (option_map form_of) (keeps m (Reaches-alike (links_in (form_at old)) (links_at old) (λ k. sym (links-form old k)) l m down))
+  forms-below old new l keeps m down = ap (option_map form_of) (keeps m (Reaches-by (links_in (form_at old)) (links_at old) (λ k. sym (links-form old k)) l m down))
 
   -- a trie's root is there
   trie-live : (cmp : T → T → Ordering) (code : T → ℕ) (h : Heap T) (left d l : ℕ) (E : List (Entry T)) → IsTrie cmp code (form_at h) (suc left) d l E → IsSome (row_at h l)

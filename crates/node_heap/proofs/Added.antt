@@ -3,7 +3,7 @@ use Rattle.std.proofs.Common.{◌≡◌, ℕ, ◌+◌, ◌-◌, ◌^◌, ◌<◌
 use Rattle.std.specs.Prelude.{sum_by, sum}
 use Rattle.node_heap.specs.Links.{count}
 use Rattle.node_heap.specs.Forms.{links_of, is_cell, is_node}
-use Rattle.node_heap.specs.Layout.{owners_in, rows_in, holds_in, slot_at, places_at, IsCounted, IsStored, seen, ApartAt}
+use Rattle.node_heap.specs.Layout.{owners_in, rows_of_slots, holds_in, slot_at, places_at, IsCounted, IsHeap, seen, ApartAt}
 use Rattle.node_heap.specs.Calls.{Adds, Makes, Extends, KeepsHeld}
 use Rattle.node_heap.specs.Layout.{Slot}
 use Rattle.node_heap.proofs.Counts.{sum-moved}
@@ -38,18 +38,18 @@ module _ {T : Type 0} where
   makes-joined old new key e a b m a' b' m' c n j is_c is_n one at_c at_n fits made = record {
     spare_cells = at_c;
     spare_nodes = at_n;
-    cells = sum-add is_cell refl old new key e j.was j.is j.apart ∙ ap (λ x. sum_by is_cell (rows_in old) + x) is_c;
-    nodes = sum-add is_node refl old new key e j.was j.is j.apart ∙ ap (λ x. sum_by is_node (rows_in old) + x) is_n;
+    cells = sum-add is_cell refl old new key e j.was j.is j.apart ∙ ap (λ x. sum_by is_cell (rows_of_slots old) + x) is_c;
+    nodes = sum-add is_node refl old new key e j.was j.is j.apart ∙ ap (λ x. sum_by is_node (rows_of_slots old) + x) is_n;
     live = omega (arith, sum-add one_if_some refl old new key e j.was j.is j.apart, one);
     made = omega (arith, made, one);
     no_fewer = omega (arith, made, fits);
   }
 
-  pub extends-joined : (old new : List (Option (Slot T))) (key : ℕ) (e : Slot T) (a b m a' b' m' : ℕ) → IsStored old a b m → Joins old new key e → Extends (seen old a b m) (seen new a' b' m')
+  pub extends-joined : (old new : List (Option (Slot T))) (key : ℕ) (e : Slot T) (a b m a' b' m' : ℕ) → IsHeap old a b m → Joins old new key e → Extends (seen old a b m) (seen new a' b' m')
   extends-joined old new key e a b m a' b' m' stored j =
       Extends-Adds (seen old a b m) (seen new a' b' m') key e.row (IsGraph-stored old a b m stored) (adds-joined old new key e a b m a' b' m' stored.counted j)
 
-  pub keeps-joined : (old new : List (Option (Slot T))) (key : ℕ) (e : Slot T) (a b m a' b' m' : ℕ) → IsStored old a b m → Joins old new key e → KeepsHeld (λ l. count l (links_of (Some e.row))) (seen old a b m) (seen new a' b' m')
+  pub keeps-joined : (old new : List (Option (Slot T))) (key : ℕ) (e : Slot T) (a b m a' b' m' : ℕ) → IsHeap old a b m → Joins old new key e → KeepsHeld (λ l. count l (links_of (Some e.row))) (seen old a b m) (seen new a' b' m')
   keeps-joined old new key e a b m a' b' m' stored j =
       let adds = adds-joined old new key e a b m a' b' m' stored.counted j in
       KeepsHeld-Extends _ (seen old a b m) (seen new a' b' m') (IsGraph-stored old a b m stored)

@@ -68,7 +68,7 @@ module _ {T : Type 0} where
   Builds-beside {xs = xs} {us = us} {ys = ys} {vs = vs} first second =
       Builds-both (xs ++ ys) (us ++ vs) first second (λ k. omega (arith, count-append k xs ys, count-append k us vs)) (omega (arith, length-append xs ys, length-append us vs))
 
-  -- the same with more room, and lists that count alike
+  -- the same with more room, and lists with the same counts
   pub Builds-as : {old new : Heap T} {xs us : List ℕ} {c n : ℕ} (ys vs : List ℕ) (c' n' : ℕ) → Builds old new xs us c n → c ≤ c' → n ≤ n'
       → ((k : ℕ) → count k ys + count k us ≡ count k xs + count k vs) → length ys + length us ≡ length xs + length vs → Builds old new ys vs c' n'
   Builds-as ys vs c' n' b more_cells more_nodes each whole = record {

@@ -7,7 +7,7 @@ use Rattle.node_heap.specs.Links.{count}
 use Rattle.node_heap.specs.Forms.{Row, links_of, is_cell, is_node}
 use Rattle.node_heap.specs.Heap.{places_in, one_at}
 use Rattle.node_heap.specs.InPlace.{other_at}
-use Rattle.node_heap.specs.Layout.{row_in, owners_in, rows_in, holds_in, slot_at, places_at, graph_of, cells_in, nodes_in, IsCounted, Copies}
+use Rattle.node_heap.specs.Layout.{row_of_slot, owners_in, rows_of_slots, holds_in, slot_at, places_at, graph_of, cells_in, nodes_in, IsCounted, Copies}
 use Rattle.node_heap.specs.Layout.{Slot}
 use Rattle.node_heap.proofs.Counts.{test_same, test_other, sum_by-apart}
 use Rattle.node_heap.proofs.Slots.{row_at-slots, holds_at-slots, placed, live-owned}
@@ -23,7 +23,7 @@ module _ {T : Type 0} where
   -- each of the links has an owner more for each of its places, and the rows stay
   pub record AddsOwners (old new : List (Option (Slot T))) (links : List ℕ) : Type 0 where
     pub owners : (l : ℕ) → owners_in (slot_at new l) ≡ owners_in (slot_at old l) + count l links
-    pub rows : rows_in new ≡ rows_in old
+    pub rows : rows_of_slots new ≡ rows_of_slots old
 
   graph-added : (old new : List (Option (Slot T))) (links : List ℕ) → AddsOwners old new links → (l : ℕ) → graph_of new l ≡ graph_of old l
   graph-added old new links adds l = sym (row_at-slots new l) ∙ ap (λ xs. get_or xs l None) adds.rows ∙ row_at-slots old l
@@ -55,26 +55,26 @@ module _ {T : Type 0} where
     held = λ l. omega (arith, ap (λ r. count l (links_of r)) same, adds.owners l, ap (λ xs. places_in xs l) adds.rows, counted.places l);
   }
 
-  none_row : (e : Option (Slot T)) → row_in e ≡ None → e ≡ None
+  none_row : (e : Option (Slot T)) → row_of_slot e ≡ None → e ≡ None
   none_row None none = refl
   none_row (Some e) none = cc
 
   pub copies-joined : (old mid new : List (Option (Slot T))) (place key : ℕ) (e : Slot T) → AddsOwners old mid (links_of (graph_of old place)) → Joins mid new key e → Some e.row ≡ graph_of old place → Copies old new place key
   copies-joined old mid new place key e adds j same = record {
-    fresh = none_row (slot_at old key) (sym (graph-added old mid _ adds key) ∙ ap row_in j.was);
-    row = ap row_in j.is ∙ same;
+    fresh = none_row (slot_at old key) (sym (graph-added old mid _ adds key) ∙ ap row_of_slot j.was);
+    row = ap row_of_slot j.is ∙ same;
     one = ap owners_in j.is ∙ j.one;
-    others = λ k other. ap row_in (j.apart k other) ∙ graph-added old mid _ adds k;
+    others = λ k other. ap row_of_slot (j.apart k other) ∙ graph-added old mid _ adds k;
     owners = λ k other. ap owners_in (j.apart k other) ∙ adds.owners k;
   }
 
   pub places-copied : (old new : List (Option (Slot T))) (place key : ℕ) → Copies old new place key → (k : ℕ) → places_at new k ≡ places_at old k + count k (links_of (graph_of old place))
   places-copied old new place key copies k =
       let f : Option (Row T) → ℕ = λ r. count k (links_of r) in
-      let rows : (l : ℕ) → l ≢ key → get_or (rows_in new) l None ≡ get_or (rows_in old) l None =
+      let rows : (l : ℕ) → l ≢ key → get_or (rows_of_slots new) l None ≡ get_or (rows_of_slots old) l None =
       λ l other. row_at-slots new l ∙ copies.others l other ∙ sym (row_at-slots old l) in
-      let sums = sum_by-apart f None refl (rows_in old) (rows_in new) key rows in
-      omega (arith, sums, ap f (row_at-slots old key ∙ ap row_in copies.fresh), ap f (row_at-slots new key ∙ copies.row))
+      let sums = sum_by-apart f None refl (rows_of_slots old) (rows_of_slots new) key rows in
+      omega (arith, sums, ap f (row_at-slots old key ∙ ap row_of_slot copies.fresh), ap f (row_at-slots new key ∙ copies.row))
 
   -- a key that is not in use is linked nowhere
   pub fresh-unlinked : (old new : List (Option (Slot T))) (place key : ℕ) → IsCounted old → Copies old new place key → count key (links_of (graph_of old place)) ≡ 0

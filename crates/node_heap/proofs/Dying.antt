@@ -6,7 +6,7 @@ use Rattle.std.proofs.lemmas.List.{drop_more}
 use Rattle.std.proofs.Common.{drop}
 use Rattle.node_heap.specs.Links.{count}
 use Rattle.node_heap.specs.Forms.{Row, links_of}
-use Rattle.node_heap.specs.Layout.{row_in, owners_in, rows_in, holds_in, slot_at, places_at, graph_of, IsCounted, ApartAt, SetsOwners, IsLow, IsThreaded, IsDying, Thins}
+use Rattle.node_heap.specs.Layout.{row_of_slot, owners_in, rows_of_slots, holds_in, slot_at, places_at, graph_of, IsCounted, ApartAt, SetsOwners, IsLow, IsThreaded, IsDying, Thins}
 use Rattle.node_heap.specs.Heap.{places_in, one_at}
 use Rattle.node_heap.specs.Layout.{Slot}
 use Rattle.node_heap.proofs.Counts.{count-cons, test_same, test_other, sum_by-apart}
@@ -17,11 +17,11 @@ pub at_link : (links : List ℕ) (i x place : ℕ) → i < length links → plac
 at_link links i x place inside is read = drop_more links i x inside ∙ ap (λ y. y ∷ drop (i + 1) links) (sym (is ∙ read))
 
 module _ {T : Type 0} where
-  live_row : (e : Option (Slot T)) → IsSome e → IsSome (row_in e)
+  live_row : (e : Option (Slot T)) → IsSome e → IsSome (row_of_slot e)
   live_row None some = cc
   live_row (Some e) some = refl
 
-  live_slot : (e : Option (Slot T)) → IsSome (row_in e) → IsSome e
+  live_slot : (e : Option (Slot T)) → IsSome (row_of_slot e) → IsSome e
   live_slot None some = cc
   live_slot (Some e) some = refl
 
@@ -48,7 +48,7 @@ module _ {T : Type 0} where
           let wait = d.waiting k (omega (arith, e)) in
           absurd (omega (arith, wait.1, count-cons k k pend, test_same k k refl))
 
-  pub IsDying-last : (H : ℕ → ℕ) (slots new : List (Option (Slot T))) (first k : ℕ) (pend : List ℕ) → owners_in (slot_at slots k) ≡ 1 → SetsOwners slots new k first → rows_in new ≡ rows_in slots → k < 2 ^ 64 - 1 → IsDying H slots first (k ∷ pend) → IsDying H new k pend
+  pub IsDying-last : (H : ℕ → ℕ) (slots new : List (Option (Slot T))) (first k : ℕ) (pend : List ℕ) → owners_in (slot_at slots k) ≡ 1 → SetsOwners slots new k first → rows_of_slots new ≡ rows_of_slots slots → k < 2 ^ 64 - 1 → IsDying H slots first (k ∷ pend) → IsDying H new k pend
   IsDying-last H slots new first k pend one sets rows low d =
       let off = off_list H slots first k pend d in
       let placed_in : (l : ℕ) → places_at new l ≡ places_at slots l = λ l. ap (λ xs. places_in xs l) rows in
@@ -81,7 +81,7 @@ module _ {T : Type 0} where
             ];
       }
 
-  pub IsDying-not_last : (H : ℕ → ℕ) (slots new : List (Option (Slot T))) (first k n : ℕ) (pend : List ℕ) → owners_in (slot_at slots k) ≡ n + 1 → 0 < n → SetsOwners slots new k n → rows_in new ≡ rows_in slots → IsDying H slots first (k ∷ pend) → IsDying H new first pend
+  pub IsDying-not_last : (H : ℕ → ℕ) (slots new : List (Option (Slot T))) (first k n : ℕ) (pend : List ℕ) → owners_in (slot_at slots k) ≡ n + 1 → 0 < n → SetsOwners slots new k n → rows_of_slots new ≡ rows_of_slots slots → IsDying H slots first (k ∷ pend) → IsDying H new first pend
   IsDying-not_last H slots new first k n pend were some sets rows d =
       let off = off_list H slots first k pend d in
       let placed_in : (l : ℕ) → places_at new l ≡ places_at slots l = λ l. ap (λ xs. places_in xs l) rows in
@@ -129,7 +129,7 @@ module _ {T : Type 0} where
           let off : count first xs ≡ 0 = omega (arith, head, wait.0) in
           let nothing = ap owners_in gone in
           let moved : (l : ℕ) → places_at new l + count l (links_of (graph_of slots first)) ≡ places_at slots l =
-          λ l. let sums = places_at-apart slots new first apart l in let blank = ap (λ o. count l (links_of (row_in o))) gone in omega (arith, sums, blank) in
+          λ l. let sums = places_at-apart slots new first apart l in let blank = ap (λ o. count l (links_of (row_of_slot o))) gone in omega (arith, sums, blank) in
           let same_count : (l : ℕ) → l ≢ first → count l (x ∷ xs) ≡ count l xs = λ l other. omega (arith, count-cons l x xs, test_other x l (λ e. other (sym (is ∙ e)))) in
           record {
             dead = xs;
@@ -195,32 +195,32 @@ module _ {T : Type 0} where
       step (x ∷ xs) threaded waiting = (waiting first (omega (arith, count-cons first x xs, test_same x first (sym threaded.0)))).2
 
   -- a count of rows, after one is gone
-  pub sum-remove : (f : Option (Row T) → ℕ) → f None ≡ 0 → (slots new : List (Option (Slot T))) (first : ℕ) → slot_at new first ≡ None → ApartAt slots new first → sum_by f (rows_in new) + f (graph_of slots first) ≡ sum_by f (rows_in slots)
+  pub sum-remove : (f : Option (Row T) → ℕ) → f None ≡ 0 → (slots new : List (Option (Slot T))) (first : ℕ) → slot_at new first ≡ None → ApartAt slots new first → sum_by f (rows_of_slots new) + f (graph_of slots first) ≡ sum_by f (rows_of_slots slots)
   sum-remove f none slots new first gone apart =
-      let same : (k : ℕ) → k ≢ first → get_or (rows_in new) k None ≡ get_or (rows_in slots) k None =
-      λ k other. row_at-slots new k ∙ ap row_in (apart k other) ∙ sym (row_at-slots slots k) in
-      let sums = sum_by-apart f None none (rows_in slots) (rows_in new) first same in
+      let same : (k : ℕ) → k ≢ first → get_or (rows_of_slots new) k None ≡ get_or (rows_of_slots slots) k None =
+      λ k other. row_at-slots new k ∙ ap row_of_slot (apart k other) ∙ sym (row_at-slots slots k) in
+      let sums = sum_by-apart f None none (rows_of_slots slots) (rows_of_slots new) first same in
       let read = ap f (row_at-slots slots first) in
-      let blank = ap f (row_at-slots new first ∙ ap row_in gone) in
+      let blank = ap f (row_at-slots new first ∙ ap row_of_slot gone) in
       omega (arith, sums, read, blank, none)
 
   -- a count of rows, after one is added
-  pub sum-add : (f : Option (Row T) → ℕ) → f None ≡ 0 → (slots new : List (Option (Slot T))) (key : ℕ) (e : Slot T) → slot_at slots key ≡ None → slot_at new key ≡ Some e → ApartAt slots new key → sum_by f (rows_in new) ≡ sum_by f (rows_in slots) + f (Some e.row)
+  pub sum-add : (f : Option (Row T) → ℕ) → f None ≡ 0 → (slots new : List (Option (Slot T))) (key : ℕ) (e : Slot T) → slot_at slots key ≡ None → slot_at new key ≡ Some e → ApartAt slots new key → sum_by f (rows_of_slots new) ≡ sum_by f (rows_of_slots slots) + f (Some e.row)
   sum-add f none slots new key e was is apart =
-      let same : (k : ℕ) → k ≢ key → get_or (rows_in new) k None ≡ get_or (rows_in slots) k None =
-      λ k other. row_at-slots new k ∙ ap row_in (apart k other) ∙ sym (row_at-slots slots k) in
-      let sums = sum_by-apart f None none (rows_in slots) (rows_in new) key same in
-      let blank = ap f (row_at-slots slots key ∙ ap row_in was) in
-      let read = ap f (row_at-slots new key ∙ ap row_in is) in
+      let same : (k : ℕ) → k ≢ key → get_or (rows_of_slots new) k None ≡ get_or (rows_of_slots slots) k None =
+      λ k other. row_at-slots new k ∙ ap row_of_slot (apart k other) ∙ sym (row_at-slots slots k) in
+      let sums = sum_by-apart f None none (rows_of_slots slots) (rows_of_slots new) key same in
+      let blank = ap f (row_at-slots slots key ∙ ap row_of_slot was) in
+      let read = ap f (row_at-slots new key ∙ ap row_of_slot is) in
       omega (arith, sums, read, blank, none)
 
   pub Thins-remove : (first_slots slots new : List (Option (Slot T))) (first : ℕ) → slot_at new first ≡ None → ApartAt slots new first → Thins first_slots slots → Thins first_slots new
   Thins-remove first_slots slots new first gone apart thins l = elim (cases_eq l first) as (λ _. (graph_of new l ≡ None) ⊎ (graph_of new l ≡ graph_of first_slots l)) [
-    | inl same ↦ inl (ap (graph_of new) same ∙ ap row_in gone)
+    | inl same ↦ inl (ap (graph_of new) same ∙ ap row_of_slot gone)
     | inr other ↦ rw (apart l other) (thins l)
   ]
 
-  pub Thins-rows : (first_slots slots new : List (Option (Slot T))) → rows_in new ≡ rows_in slots → Thins first_slots slots → Thins first_slots new
+  pub Thins-rows : (first_slots slots new : List (Option (Slot T))) → rows_of_slots new ≡ rows_of_slots slots → Thins first_slots slots → Thins first_slots new
   Thins-rows first_slots slots new rows thins l =
       let same : graph_of new l ≡ graph_of slots l = sym (row_at-slots new l) ∙ ap (λ xs. get_or xs l None) rows ∙ row_at-slots slots l in
       rw same (thins l)
@@ -255,7 +255,7 @@ module _ {T : Type 0} where
         | inr other ↦ omega (arith, done, held_at old hs s k, held_at new hs' s' k, test_other k place other)
       ]
 
-  pub rows-thinned : (old mid new : List (Option (Slot T))) → rows_in mid ≡ rows_in old → Thins mid new → Thins old new
+  pub rows-thinned : (old mid new : List (Option (Slot T))) → rows_of_slots mid ≡ rows_of_slots old → Thins mid new → Thins old new
   rows-thinned old mid new rows thins l =
       let same : graph_of mid l ≡ graph_of old l = sym (row_at-slots mid l) ∙ ap (λ xs. get_or xs l None) rows ∙ row_at-slots old l in
       elim (thins l) as (λ _. (graph_of new l ≡ None) ⊎ (graph_of new l ≡ graph_of old l)) [

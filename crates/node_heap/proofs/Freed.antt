@@ -2,7 +2,7 @@
 use Rattle.std.proofs.Common.{◌≡◌, ◌⊎◌, ℕ, ◌+◌, ◌≤◌, List, get_or, refl, sym, ap, ◌∙◌, arith, Option, None, IsSome, inl, inr}
 use Rattle.node_heap.specs.Links.{count, HasLink, Reaches, here, below, IsReached}
 use Rattle.node_heap.specs.Forms.{links_of}
-use Rattle.node_heap.specs.Layout.{rows_in, holds_in, seen, Thins, cells_in, nodes_in}
+use Rattle.node_heap.specs.Layout.{rows_of_slots, holds_in, seen, Thins, cells_in, nodes_in}
 use Rattle.node_heap.specs.Heap.{Heap, row_at, links_at, holds_at, one_at, IsGraph}
 use Rattle.node_heap.specs.Calls.{Releases}
 use Rattle.node_heap.specs.Layout.{Slot}
@@ -26,7 +26,7 @@ module _ {T : Type 0} where
     nodes = nodes;
     fewer_cells = fewer_cells;
     fewer_nodes = fewer_nodes;
-    fewer = omega (arith, rows-kinds (rows_in new), rows-kinds (rows_in old), fewer_cells, fewer_nodes);
+    fewer = omega (arith, rows-kinds (rows_of_slots new), rows-kinds (rows_of_slots old), fewer_cells, fewer_nodes);
     made = refl;
   }
     where

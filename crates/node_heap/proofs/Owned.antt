@@ -8,10 +8,10 @@ use Rattle.node_heap.specs.Forms.{links_of, head_of, links_in, is_cell, is_node}
 use Rattle.node_heap.specs.Heap.{row_at, links_at, holds_at, owners_at, one_at, IsGraph}
 use Rattle.node_heap.specs.Calls.{Extends, Makes}
 use Rattle.node_heap.specs.InPlace.{other_at, Edits}
-use Rattle.node_heap.specs.Layout.{row_in, owners_in, rows_in, holds_in, slot_at, places_at, graph_of, cells_in, nodes_in, IsCounted, SetsOwners, Rewrites, Copies, IsStored, seen}
+use Rattle.node_heap.specs.Layout.{row_of_slot, owners_in, rows_of_slots, holds_in, slot_at, places_at, graph_of, cells_in, nodes_in, IsCounted, SetsOwners, Rewrites, Copies, IsHeap, seen}
 use Rattle.node_heap.specs.Layout.{Slot}
 use Rattle.node_heap.proofs.Counts.{count-cons, one_at-flip, test_same, test_other, sum-exchanged, le-sum}
-use Rattle.node_heap.proofs.Reach.{Reaches-alike, reach-falls}
+use Rattle.node_heap.proofs.Reach.{Reaches-by, reach-falls}
 use Rattle.node_heap.proofs.Slots.{row_at-slots, holds_at-slots, owners_at-slots, placed, live-owned, holds-less, places_at-le, IsCounted-owners}
 use Rattle.node_heap.proofs.Stored.{live_row, live_slot}
 use Rattle.node_heap.proofs.GraphLemmas.{rows-kinds}
@@ -21,7 +21,7 @@ use Rattle.node_heap.proofs.Copied.{other_at-other, places-copied, fresh-unlinke
 
 module _ {T : Type 0} where
   -- there is always room for 32 owners more
-  pub owners-room : (slots : List (Option (Slot T))) (a b n : ℕ) → IsStored slots a b n → (l : ℕ) → owners_in (slot_at slots l) + 32 < 2 ^ 64
+  pub owners-room : (slots : List (Option (Slot T))) (a b n : ℕ) → IsHeap slots a b n → (l : ℕ) → owners_in (slot_at slots l) + 32 < 2 ^ 64
   owners-room slots a b n stored l =
       omega (arith, owners_at-slots slots stored.counted l, stored.few_holds, places_at-le slots stored.counted.short l, le-sum (holds_in slots) l, stored.few)
 
@@ -30,7 +30,7 @@ module _ {T : Type 0} where
     pub copies : Copies old mid place key
     pub counted : IsCounted mid
     pub sets : SetsOwners mid new place n
-    pub rows : rows_in new ≡ rows_in mid
+    pub rows : rows_of_slots new ≡ rows_of_slots mid
     pub fewer : n + 1 ≡ owners_in (slot_at old place)
     pub some : 0 < n
     pub free : places_at old place ≤ n
@@ -139,7 +139,7 @@ module _ {T : Type 0} where
   row-owned old mid new place key n a b m a' b' m' o = row_at-slots new key ∙ graph-owned old mid new place key n o key ∙ o.copies.row ∙ sym (row_at-slots old place)
 
   pub fresh-owned : (old mid new : List (Option (Slot T))) (place key n a b m : ℕ) → Owns old mid new place key n → row_at (seen old a b m) key ≡ None
-  fresh-owned old mid new place key n a b m o = row_at-slots old key ∙ ap row_in o.copies.fresh
+  fresh-owned old mid new place key n a b m o = row_at-slots old key ∙ ap row_of_slot o.copies.fresh
 
   pub other-owned : (old mid new : List (Option (Slot T))) (place key n : ℕ) → Owns old mid new place key n → place ≢ key
   other-owned old mid new place key n o = key-apart old mid new place key n o place (place-live old mid new place key n o)
@@ -158,12 +158,12 @@ module _ {T : Type 0} where
     spare_nodes = spare;
     cells = omega (arith, cells);
     nodes = omega (arith, nodes);
-    live = omega (arith, cells, nodes, rows-kinds (rows_in old), rows-kinds (rows_in new));
+    live = omega (arith, cells, nodes, rows-kinds (rows_of_slots old), rows-kinds (rows_of_slots new));
     made = omega (arith, made);
     no_fewer = omega (arith, made, fits);
   }
 
-  pub Owns-held : (old mid new : List (Option (Slot T))) (place key owners a b m : ℕ) → Copies old mid place key → IsCounted mid → SetsOwners mid new place (owners - 1) → rows_in new ≡ rows_in mid → owners_in (slot_at old place) ≡ owners → 0 < holds_at (seen old a b m) place → owners ≢ 1 → Owns old mid new place key (owners - 1)
+  pub Owns-held : (old mid new : List (Option (Slot T))) (place key owners a b m : ℕ) → Copies old mid place key → IsCounted mid → SetsOwners mid new place (owners - 1) → rows_of_slots new ≡ rows_of_slots mid → owners_in (slot_at old place) ≡ owners → 0 < holds_at (seen old a b m) place → owners ≢ 1 → Owns old mid new place key (owners - 1)
   Owns-held old mid new place key owners a b m copies counted sets rows read held more = record {
     copies = copies;
     counted = counted;
@@ -180,7 +180,7 @@ module _ {T : Type 0} where
     pub counted : IsCounted mid
     pub rewrites : Rewrites mid wrote parent (head_of (graph_of mid parent)) (set (links_of (graph_of mid parent)) index key)
     pub sets : SetsOwners wrote new child n
-    pub rows : rows_in new ≡ rows_in wrote
+    pub rows : rows_of_slots new ≡ rows_of_slots wrote
     pub fewer : n + 1 ≡ owners_in (slot_at old child)
     pub some : 0 < n
     pub sole : owners_in (slot_at old parent) ≡ 1
@@ -239,7 +239,7 @@ module _ {T : Type 0} where
         (omega (arith, owners_at-slots mid o.counted parent, mid-parent-owners))
         (omega (arith, o.inside, ap (λ r. length (links_of r)) parent-mid, ap (λ r. length (links_of r)) (row_at-slots mid parent)))
         (omega (arith, holds-copied old mid child key counted o.copies key, test_same key key refl))
-        (λ way. copy-off (Reaches-alike (links_at (seen mid 0 0 0)) (links_in (graph_of mid)) (λ l. ap links_of (sym (row_at-slots mid l))) key parent way))
+        (λ way. copy-off (Reaches-by (links_at (seen mid 0 0 0)) (links_in (graph_of mid)) (λ l. ap links_of (sym (row_at-slots mid l))) key parent way))
         o.rewrites
 
     counted-wrote : IsCounted wrote
@@ -306,13 +306,13 @@ module _ {T : Type 0} where
     module _ (a b m a' b' m' : ℕ) where
       pub others-child : (k : ℕ) → k ≢ parent → k ≢ key → row_at (seen new a' b' m') k ≡ row_at (seen old a b m) k
       others-child k off_parent off_copy =
-          row_at-slots new k ∙ graph-new k ∙ ap row_in (o.rewrites.others k off_parent) ∙ o.copies.others k off_copy ∙ sym (row_at-slots old k)
+          row_at-slots new k ∙ graph-new k ∙ ap row_of_slot (o.rewrites.others k off_parent) ∙ o.copies.others k off_copy ∙ sym (row_at-slots old k)
 
       pub row-child : row_at (seen new a' b' m') key ≡ row_at (seen old a b m) child
-      row-child = row_at-slots new key ∙ graph-new key ∙ ap row_in (o.rewrites.others key (λ e. off-key parent parent-live (sym e))) ∙ o.copies.row ∙ sym (row_at-slots old child)
+      row-child = row_at-slots new key ∙ graph-new key ∙ ap row_of_slot (o.rewrites.others key (λ e. off-key parent parent-live (sym e))) ∙ o.copies.row ∙ sym (row_at-slots old child)
 
       pub fresh-child : row_at (seen old a b m) key ≡ None
-      fresh-child = row_at-slots old key ∙ ap row_in o.copies.fresh
+      fresh-child = row_at-slots old key ∙ ap row_of_slot o.copies.fresh
 
       pub head-child : head_of (row_at (seen new a' b' m') parent) ≡ head_of (row_at (seen old a b m) parent)
       head-child = ap head_of (row_at-slots new parent ∙ graph-new parent) ∙ o.rewrites.new_head ∙ ap head_of (parent-mid ∙ sym (row_at-slots old parent))
@@ -327,7 +327,7 @@ module _ {T : Type 0} where
       owners-child = owners-step old mid wrote new child key n a b m a' b' m' counted counted-child o.copies wrote-owners o.sets o.fewer apart-child
 
   -- what contracts say of an owned child
-  pub OwnsChild-seen : (old mid wrote new : List (Option (Slot T))) (parent index child key owners a b m : ℕ) → IsCounted old → Copies old mid child key → IsCounted mid → Rewrites mid wrote parent (head_of (graph_of mid parent)) (set (links_of (graph_of mid parent)) index key) → SetsOwners wrote new child (owners - 1) → rows_in new ≡ rows_in wrote
+  pub OwnsChild-seen : (old mid wrote new : List (Option (Slot T))) (parent index child key owners a b m : ℕ) → IsCounted old → Copies old mid child key → IsCounted mid → Rewrites mid wrote parent (head_of (graph_of mid parent)) (set (links_of (graph_of mid parent)) index key) → SetsOwners wrote new child (owners - 1) → rows_of_slots new ≡ rows_of_slots wrote
       → owners_in (slot_at old child) ≡ owners → owners ≢ 1 → owners_at (seen old a b m) parent ≡ 1 → index < length (links_at (seen old a b m) parent) → child ≡ get_or (links_of (graph_of old parent)) index 0 → OwnsChild old mid wrote new parent index child key (owners - 1)
   OwnsChild-seen old mid wrote new parent index child key owners a b m counted copies counted' rewrites sets rows read more sole inside child_is =
       let within : index < length (links_of (graph_of old parent)) = omega (arith, inside, ap (λ r. length (links_of r)) (row_at-slots old parent)) in

@@ -3,8 +3,8 @@ use Rattle.std.proofs.Common.{◌≡◌, ◌≢◌, ℕ, suc, ◌+◌, ◌*◌, 
 use Rattle.std.proofs.lemmas.List.{map-set, length-map, get_or-set_other, length-set}
 use Rattle.std.proofs.lemmas.List.Sums.{sum_by-cons}
 use Rattle.node_heap.specs.Forms.{cell, node, links_of, value_of, head_of, is_node}
-use Rattle.node_heap.specs.Layout.{Slot, row_in, with_owners, slot_at, graph_of, row_count, Puts}
-use Rattle.node_heap.specs.Inside.{woven, SameBut, cell_slot, node_slot, slots_of, shown, IsFree, HasRoom, IsTable}
+use Rattle.node_heap.specs.Layout.{Slot, row_of_slot, with_owners, slot_at, graph_of, filled_count, PutsIn}
+use Rattle.node_heap.specs.Inside.{woven, SameBut, cell_slot, node_slot, slots_of, table_of, IsFree, HasRoom, IsTable}
 use Rattle.node_heap.specs.declared.entry.CellSlot.{CellSlot}
 use Rattle.node_heap.specs.declared.entry.NodeSlot.{NodeSlot}
 use Rattle.node_heap.proofs.Counts.{get_or-map_default}
@@ -51,7 +51,7 @@ module _ (T : Type 0) where
   some_node None live = cc
   some_node (Some s) live = refl
 
-  len-nodes : (nodes : List (Option NodeSlot)) → row_count {T = T} (map node_slot nodes) ≡ count_by is_some nodes
+  len-nodes : (nodes : List (Option NodeSlot)) → filled_count {T = T} (map node_slot nodes) ≡ count_by is_some nodes
   len-nodes [] = refl
   len-nodes (o ∷ os) = omega (arith, len-nodes os, at_one o, sum_by-cons one_if_some (node_slot {T = T} o) (map node_slot os), sum_by-cons one_if_some o os)
     where
@@ -59,7 +59,7 @@ module _ (T : Type 0) where
       at_one None = refl
       at_one (Some s) = refl
 
-  no_value_in : (o : Option NodeSlot) → value_of (row_in (node_slot {T = T} o)) ≡ None
+  no_value_in : (o : Option NodeSlot) → value_of (row_of_slot (node_slot {T = T} o)) ≡ None
   no_value_in None = refl
   no_value_in (Some s) = refl
 
@@ -68,23 +68,23 @@ module _ {T : Type 0} where
   some_cell None live = cc
   some_cell (Some s) live = refl
 
-  cell-no_node : (o : Option (CellSlot T)) → is_node (row_in (cell_slot o)) ≡ 0
+  cell-no_node : (o : Option (CellSlot T)) → is_node (row_of_slot (cell_slot o)) ≡ 0
   cell-no_node None = refl
   cell-no_node (Some s) = refl
 
-  node_some : (o : Option (Slot T)) → is_node (row_in o) ≡ 1 → IsSome o
+  node_some : (o : Option (Slot T)) → is_node (row_of_slot o) ≡ 1 → IsSome o
   node_some None e = absurd (omega (arith, e))
   node_some (Some s) e = refl
 
-  no_head : (o : Option (CellSlot T)) → head_of (row_in (cell_slot o)) ≡ None
+  no_head : (o : Option (CellSlot T)) → head_of (row_of_slot (cell_slot o)) ≡ None
   no_head None = refl
   no_head (Some s) = refl
 
-  no_links : (o : Option (CellSlot T)) → links_of (row_in (cell_slot o)) ≡ []
+  no_links : (o : Option (CellSlot T)) → links_of (row_of_slot (cell_slot o)) ≡ []
   no_links None = refl
   no_links (Some s) = refl
 
-  len-cells : (cells : List (Option (CellSlot T))) → row_count (map cell_slot cells) ≡ count_by is_some cells
+  len-cells : (cells : List (Option (CellSlot T))) → filled_count (map cell_slot cells) ≡ count_by is_some cells
   len-cells [] = refl
   len-cells (o ∷ os) = omega (arith, len-cells os, at_one o, sum_by-cons one_if_some (cell_slot o) (map cell_slot os), sum_by-cons one_if_some o os)
     where
@@ -113,7 +113,7 @@ module _ {T : Type 0} where
 
     -- a node stands at an odd place
     pub is_odd : (place : ℕ) → is_node (graph_of (slots_of cells nodes) place) ≡ 1 → place % 2 ≢ 0
-    is_odd place is e = absurd (omega (arith, is, ap (λ s. is_node (row_in s)) (cell-place place e), cell-no_node (get_or cells (place / 2) None)))
+    is_odd place is e = absurd (omega (arith, is, ap (λ s. is_node (row_of_slot s)) (cell-place place e), cell-no_node (get_or cells (place / 2) None)))
 
     pub node-live : (place : ℕ) → is_node (graph_of (slots_of cells nodes) place) ≡ 1 → IsSome (get_or nodes (place / 2) None)
     node-live place is = live-node place (is_odd place is) (node_some (slot_at (slots_of cells nodes) place) is)
@@ -125,13 +125,13 @@ module _ {T : Type 0} where
     read-node place s e is = node-place place e ∙ ap node_slot is
 
     pub cell-head : (place : ℕ) → place % 2 ≡ 0 → None ≡ head_of (graph_of (slots_of cells nodes) place)
-    cell-head place e = sym (ap (λ o. head_of (row_in o)) (cell-place place e) ∙ no_head (get_or cells (place / 2) None))
+    cell-head place e = sym (ap (λ o. head_of (row_of_slot o)) (cell-place place e) ∙ no_head (get_or cells (place / 2) None))
 
     pub cell-links : (place : ℕ) → place % 2 ≡ 0 → [] ≡ links_of (graph_of (slots_of cells nodes) place)
-    cell-links place e = sym (ap (λ o. links_of (row_in o)) (cell-place place e) ∙ no_links (get_or cells (place / 2) None))
+    cell-links place e = sym (ap (λ o. links_of (row_of_slot o)) (cell-place place e) ∙ no_links (get_or cells (place / 2) None))
 
     pub node-value : (place : ℕ) → place % 2 ≢ 0 → None ≡ value_of (graph_of (slots_of cells nodes) place)
-    node-value place e = sym (ap (λ o. value_of (row_in o)) (node-place place e) ∙ no_value_in T (get_or nodes (place / 2) None))
+    node-value place e = sym (ap (λ o. value_of (row_of_slot o)) (node-place place e) ∙ no_value_in T (get_or nodes (place / 2) None))
 
     -- a write in one list is one in the slots of both
     pub set-cell : (place : ℕ) (o : Option (CellSlot T)) → place % 2 ≡ 0 → IsSome (get_or cells (place / 2) None) → slots_of (set cells (place / 2) o) nodes ≡ set (slots_of cells nodes) place (cell_slot o)
@@ -148,18 +148,18 @@ module _ {T : Type 0} where
 
     -- the owners at a place are written
     pub cell-owners : (place n a b : ℕ) (s : CellSlot T) → place % 2 ≡ 0 → get_or cells (place / 2) None ≡ Some s
-        → shown (set cells (place / 2) (Some (record { owners = n; value = s.value }))) nodes a b ≡ record { slots = set (slots_of cells nodes) place (with_owners (slot_at (slots_of cells nodes) place) n); spare_cells = a; spare_nodes = b }
+        → table_of (set cells (place / 2) (Some (record { owners = n; value = s.value }))) nodes a b ≡ record { slots = set (slots_of cells nodes) place (with_owners (slot_at (slots_of cells nodes) place) n); spare_cells = a; spare_nodes = b }
     cell-owners place n a b s e is =
         ap (λ xs. record { slots = xs; spare_cells = a; spare_nodes = b })
         (set-cell place _ e (rw is refl) ∙ ap (λ o. set (slots_of cells nodes) place (with_owners o n)) (sym (read-cell place s e is)))
 
     pub node-owners : (place n a b : ℕ) (s : NodeSlot) → place % 2 ≢ 0 → get_or nodes (place / 2) None ≡ Some s
-        → shown cells (set nodes (place / 2) (Some (record { owners = n; head = s.head; links = s.links }))) a b ≡ record { slots = set (slots_of cells nodes) place (with_owners (slot_at (slots_of cells nodes) place) n); spare_cells = a; spare_nodes = b }
+        → table_of cells (set nodes (place / 2) (Some (record { owners = n; head = s.head; links = s.links }))) a b ≡ record { slots = set (slots_of cells nodes) place (with_owners (slot_at (slots_of cells nodes) place) n); spare_cells = a; spare_nodes = b }
     node-owners place n a b s e is =
         ap (λ xs. record { slots = xs; spare_cells = a; spare_nodes = b })
         (set-node place _ e (rw is refl) ∙ ap (λ o. set (slots_of cells nodes) place (with_owners o n)) (sym (read-node place s e is)))
 
-    pub len-slots : row_count (slots_of cells nodes) ≡ count_by is_some cells + count_by is_some nodes
+    pub len-slots : filled_count (slots_of cells nodes) ≡ count_by is_some cells + count_by is_some nodes
     len-slots = omega (arith, sum-woven one_if_some refl (map cell_slot cells) (map node_slot nodes), len-cells cells, len-nodes T nodes)
 
   cells-but : (cells cells' : List (Option (CellSlot T))) (i : ℕ) → SameBut cells cells' i → SameBut (map cell_slot cells) (map cell_slot cells') i
@@ -169,7 +169,7 @@ module _ {T : Type 0} where
   nodes-but nodes nodes' i same k other = get_or-map_default node_slot nodes' k None ∙ ap node_slot (same k other) ∙ sym (get_or-map_default node_slot nodes k None)
 
   pub puts-cell : (cells cells' : List (Option (CellSlot T))) (nodes : List (Option NodeSlot)) (i : ℕ) (x : T) → get_or cells i None ≡ None → get_or cells' i None ≡ Some (record { owners = 1; value = x }) → SameBut cells cells' i
-      → i < 2 ^ 56 → count_by is_some cells' ≡ count_by is_some cells + 1 → Puts (slots_of cells nodes) (slots_of cells' nodes) (2 * i) (cell x)
+      → i < 2 ^ 56 → count_by is_some cells' ≡ count_by is_some cells + 1 → PutsIn (slots_of cells nodes) (slots_of cells' nodes) (2 * i) (cell x)
   puts-cell cells cells' nodes i x was now others low len = record {
     was = ap (slot_at (slots_of cells nodes)) (sym (double-is i)) ∙ cell-at cells nodes i ∙ ap cell_slot was;
     now = ap (slot_at (slots_of cells' nodes)) (sym (double-is i)) ∙ cell-at cells' nodes i ∙ ap cell_slot now;
@@ -179,7 +179,7 @@ module _ {T : Type 0} where
   }
 
   pub puts-node : (cells : List (Option (CellSlot T))) (nodes nodes' : List (Option NodeSlot)) (i : ℕ) (s : NodeSlot) → s.owners ≡ 1 → get_or nodes i None ≡ None → get_or nodes' i None ≡ Some s → SameBut nodes nodes' i
-      → i < 2 ^ 56 → count_by is_some nodes' ≡ count_by is_some nodes + 1 → Puts (slots_of cells nodes) (slots_of cells nodes') (2 * i + 1) (node s.head s.links.items)
+      → i < 2 ^ 56 → count_by is_some nodes' ≡ count_by is_some nodes + 1 → PutsIn (slots_of cells nodes) (slots_of cells nodes') (2 * i + 1) (node s.head s.links.items)
   puts-node cells nodes nodes' i s one was now others low len =
       let at : suc (double i) ≡ 2 * i + 1 = omega (arith, double-is i) in
       record {

@@ -14,9 +14,9 @@ pub Reaches-trans : (L : Links) (a b c : ℕ) → Reaches L a b → Reaches L b 
 Reaches-trans L a b c (here l) rest = rest
 Reaches-trans L a b c (below l k m first down) rest = below l k c first (Reaches-trans L k m c down rest)
 
-pub Reaches-alike : (L M : Links) → ((l : ℕ) → M l ≡ L l) → (a b : ℕ) → Reaches L a b → Reaches M a b
-Reaches-alike L M same a b (here l) = here l
-Reaches-alike L M same a b (below l k m has down) = below l k m (HasLink-same L M l k (same l) has) (Reaches-alike L M same k m down)
+pub Reaches-by : (L M : Links) → ((l : ℕ) → M l ≡ L l) → (a b : ℕ) → Reaches L a b → Reaches M a b
+Reaches-by L M same a b (here l) = here l
+Reaches-by L M same a b (below l k m has down) = below l k m (HasLink-same L M l k (same l) has) (Reaches-by L M same k m down)
 
 pub Reaches-within : (L M : Links) → ((l k : ℕ) → HasLink L l k → HasLink M l k) → (a b : ℕ) → Reaches L a b → Reaches M a b
 Reaches-within L M more a b (here l) = here l

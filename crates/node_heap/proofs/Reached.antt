@@ -5,7 +5,7 @@ use Rattle.std.proofs.lemmas.Bool.{cases_eq}
 use Rattle.std.proofs.lemmas.List.Sums.{sum_by-cons}
 use Rattle.node_heap.specs.Links.{count, HasLink, Reaches, here, LeadsDown}
 use Rattle.node_heap.specs.Forms.{links_of, links_in}
-use Rattle.node_heap.specs.Layout.{row_in, owners_in, rows_in, slot_at, places_at, graph_of, IsCounted}
+use Rattle.node_heap.specs.Layout.{row_of_slot, owners_in, rows_of_slots, slot_at, places_at, graph_of, IsCounted}
 use Rattle.node_heap.specs.Layout.{Slot}
 use Rattle.node_heap.proofs.Slots.{row_at-slots}
 use Rattle.node_heap.proofs.Reach.{Reaches-then}
@@ -38,13 +38,13 @@ module _ {T : Type 0} where
   within_slots (o ∷ os) zero h = omega arith
   within_slots (o ∷ os) (suc l) h = omega (arith, within_slots os l h)
 
-  has_row : (e : Option (Slot T)) (k : ℕ) → 0 < count k (links_of (row_in e)) → IsSome e
+  has_row : (e : Option (Slot T)) (k : ℕ) → 0 < count k (links_of (row_of_slot e)) → IsSome e
   has_row None k h = absurd (omega arith)
   has_row (Some e) k h = refl
 
   parent : (slots : List (Option (Slot T))) (l : ℕ) → 0 < places_at slots l → (p : ℕ) × HasLink (links_in (graph_of slots)) p l × IsSome (slot_at slots p)
   parent slots l some =
-      let found = sum_by-found (λ r. count l (links_of r)) None (rows_in slots) some in
+      let found = sum_by-found (λ r. count l (links_of r)) None (rows_of_slots slots) some in
       let has : HasLink (links_in (graph_of slots)) found.0 l = omega (arith, ap (λ r. count l (links_of r)) (row_at-slots slots found.0), found.1) in
       (found.0, has, has_row (slot_at slots found.0) l has)
 

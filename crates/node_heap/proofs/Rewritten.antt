@@ -10,11 +10,11 @@ use Rattle.node_heap.specs.Forms.{Row, cell, node, links_of, head_of, links_in, 
 use Rattle.node_heap.specs.Heap.{Heap, links_at, holds_at, owners_at, one_at}
 use Rattle.node_heap.specs.Calls.{KeepsOwners}
 use Rattle.node_heap.specs.InPlace.{Writes, Edits}
-use Rattle.node_heap.specs.Layout.{row_in, owners_in, rows_in, holds_in, slot_at, places_at, graph_of, nodes_in, cells_in, ApartAt, IsCounted, Rewrites, KeepsRoom, IsStored, seen}
+use Rattle.node_heap.specs.Layout.{row_of_slot, owners_in, rows_of_slots, holds_in, slot_at, places_at, graph_of, nodes_in, cells_in, ApartAt, IsCounted, Rewrites, KeepsRoom, IsHeap, seen}
 use Rattle.node_heap.specs.declared.row.Head.{Head}
 use Rattle.node_heap.specs.Layout.{Slot}
 use Rattle.node_heap.proofs.Counts.{count-cons, one_at-flip, test_same, test_other, sum_by-apart, sum-exchanged}
-use Rattle.node_heap.proofs.Reach.{acyclic-ranked, Reaches-alike}
+use Rattle.node_heap.proofs.Reach.{acyclic-ranked, Reaches-by}
 use Rattle.node_heap.proofs.Ways.{LeadsDown-lifted}
 use Rattle.node_heap.proofs.Slots.{row_at-slots, holds_at-slots, owners_at-slots, places_at-apart, live-owned}
 use Rattle.node_heap.proofs.Stored.{IsGraph-stored, live_row}
@@ -70,14 +70,14 @@ module _ {T : Type 0} where
 
   pub counted-moved : (old new : List (Option (Slot T))) (place : ℕ) (head : Option Head) (links spent gained : List ℕ) → IsCounted old → Moves old new place head links spent gained → IsCounted new
   counted-moved old new place head links spent gained counted m =
-      let lifted = LeadsDown-lifted (links_in (graph_of old)) (links_in (graph_of new)) counted.rank place counted.falls (λ l other. ap (λ o. links_of (row_in o)) (m.rewrites.others l other)) off in
+      let lifted = LeadsDown-lifted (links_in (graph_of old)) (links_in (graph_of new)) counted.rank place counted.falls (λ l other. ap (λ o. links_of (row_of_slot o)) (m.rewrites.others l other)) off in
       record {
         places = λ l. omega (arith, places-moved old new place head links spent gained m l, owners-moved old new place head links spent gained m l, m.held l);
         owned = λ l live. omega (arith, owners-moved old new place head links spent gained m l, counted.owned l (live-moved old new place head links spent gained m l live));
         low = λ l live. counted.low l (live-moved old new place head links spent gained m l live);
         short = λ l. elim (cases_eq l place) as (λ _. length (links_of (graph_of new l)) ≤ 32) [
           | inl same ↦ omega (arith, ap (λ j. length (links_of (graph_of new j))) same, ap length m.rewrites.new_links, m.short)
-          | inr other ↦ omega (arith, ap (λ o. length (links_of (row_in o))) (m.rewrites.others l other), counted.short l)
+          | inr other ↦ omega (arith, ap (λ o. length (links_of (row_of_slot o))) (m.rewrites.others l other), counted.short l)
         ];
         rank = lifted.0;
         falls = lifted.1;
@@ -95,16 +95,16 @@ module _ {T : Type 0} where
       omega (arith, holds_at-slots old k, holds_at-slots new k, places-moved old new place head links spent gained m k, owners-moved old new place head links spent gained m k, m.held k, counted.places k)
 
   -- a count of rows, where the row keeps its kind
-  sum-kept : (f : Option (Row T) → ℕ) → f None ≡ 0 → (old new : List (Option (Slot T))) (place : ℕ) → ApartAt old new place → f (graph_of new place) ≡ f (graph_of old place) → sum_by f (rows_in new) ≡ sum_by f (rows_in old)
+  sum-kept : (f : Option (Row T) → ℕ) → f None ≡ 0 → (old new : List (Option (Slot T))) (place : ℕ) → ApartAt old new place → f (graph_of new place) ≡ f (graph_of old place) → sum_by f (rows_of_slots new) ≡ sum_by f (rows_of_slots old)
   sum-kept f none old new place apart same =
-      let rows : (k : ℕ) → k ≢ place → get_or (rows_in new) k None ≡ get_or (rows_in old) k None =
-      λ k other. row_at-slots new k ∙ ap row_in (apart k other) ∙ sym (row_at-slots old k) in
-      let sums = sum_by-apart f None none (rows_in old) (rows_in new) place rows in
+      let rows : (k : ℕ) → k ≢ place → get_or (rows_of_slots new) k None ≡ get_or (rows_of_slots old) k None =
+      λ k other. row_at-slots new k ∙ ap row_of_slot (apart k other) ∙ sym (row_at-slots old k) in
+      let sums = sum_by-apart f None none (rows_of_slots old) (rows_of_slots new) place rows in
       omega (arith, sums, same, ap f (row_at-slots old place), ap f (row_at-slots new place))
 
-  pub kinds-row : (e : Option (Slot T)) → IsSome e → is_cell (row_in e) + is_node (row_in e) ≡ 1
+  pub kinds-row : (e : Option (Slot T)) → IsSome e → is_cell (row_of_slot e) + is_node (row_of_slot e) ≡ 1
   kinds-row None some = cc
-  kinds-row (Some e) some = of_row (row_in (Some e)) refl
+  kinds-row (Some e) some = of_row (row_of_slot (Some e)) refl
     where
       of_row : (r : Option (Row T)) → IsSome r → is_cell r + is_node r ≡ 1
       of_row None none = cc
@@ -122,22 +122,22 @@ module _ {T : Type 0} where
   writes-moved old new place head links spent gained a b n a' b' n' m = record {
     new_head = ap head_of (row_at-slots new place) ∙ m.rewrites.new_head;
     new_links = ap links_of (row_at-slots new place) ∙ m.rewrites.new_links;
-    others = λ k other. row_at-slots new k ∙ ap row_in (m.rewrites.others k other) ∙ sym (row_at-slots old k);
+    others = λ k other. row_at-slots new k ∙ ap row_of_slot (m.rewrites.others k other) ∙ sym (row_at-slots old k);
   }
 
   pub KeepsOwners-moved : (old new : List (Option (Slot T))) (place : ℕ) (head : Option Head) (links spent gained : List ℕ) (a b n a' b' n' : ℕ) → IsCounted old → Moves old new place head links spent gained → KeepsOwners (seen old a b n) (seen new a' b' n')
   KeepsOwners-moved old new place head links spent gained a b n a' b' n' counted m k =
       omega (arith, owners_at-slots old counted k, owners_at-slots new (counted-moved old new place head links spent gained counted m) k, owners-moved old new place head links spent gained m k)
 
-  pub IsStored-moved : (old new : List (Option (Slot T))) (place : ℕ) (head : Option Head) (links spent gained : List ℕ) (a b a' b' n : ℕ) → IsStored old a b n → Moves old new place head links spent gained → KeepsRoom (record { slots = old; spare_cells = a; spare_nodes = b }) (record { slots = new; spare_cells = a'; spare_nodes = b' }) → sum (holds_in new) ≤ 2 ^ 60 → IsStored new a' b' n
-  IsStored-moved old new place head links spent gained a b a' b' n stored m kept few = record {
+  pub IsHeap-moved : (old new : List (Option (Slot T))) (place : ℕ) (head : Option Head) (links spent gained : List ℕ) (a b a' b' n : ℕ) → IsHeap old a b n → Moves old new place head links spent gained → KeepsRoom (record { slots = old; spare_cells = a; spare_nodes = b }) (record { slots = new; spare_cells = a'; spare_nodes = b' }) → sum (holds_in new) ≤ 2 ^ 60 → IsHeap new a' b' n
+  IsHeap-moved old new place head links spent gained a b a' b' n stored m kept few = record {
     counted = counted-moved old new place head links spent gained stored.counted m;
     few = omega (arith, kept.len, kept.spare_cells, kept.spare_nodes, stored.few);
     few_holds = few;
     fits = stored.fits;
   }
 
-  pub edits-moved : (old new : List (Option (Slot T))) (place : ℕ) (head : Option Head) (links spent gained : List ℕ) (a b a' b' n : ℕ) → IsStored old a b n → IsStored new a' b' n → a' ≡ a → b' ≡ b → Moves old new place head links spent gained → sum (holds_in new) + length spent ≡ sum (holds_in old) + length gained → Edits place (seen old a b n) (seen new a' b' n) spent gained 0 0
+  pub edits-moved : (old new : List (Option (Slot T))) (place : ℕ) (head : Option Head) (links spent gained : List ℕ) (a b a' b' n : ℕ) → IsHeap old a b n → IsHeap new a' b' n → a' ≡ a → b' ≡ b → Moves old new place head links spent gained → sum (holds_in new) + length spent ≡ sum (holds_in old) + length gained → Edits place (seen old a b n) (seen new a' b' n) spent gained 0 0
   edits-moved old new place head links spent gained a b a' b' n stored stored' same_a same_b m total =
       let cells = cells-moved old new place head links spent gained m in
       let nodes = nodes-moved old new place head links spent gained m in
@@ -151,7 +151,7 @@ module _ {T : Type 0} where
         spare_nodes = omega (arith, same_b);
         cells = omega (arith, cells);
         nodes = omega (arith, nodes);
-        live = omega (arith, cells, nodes, rows-kinds (rows_in old), rows-kinds (rows_in new));
+        live = omega (arith, cells, nodes, rows-kinds (rows_of_slots old), rows-kinds (rows_of_slots new));
         made = omega (arith, stored.fits);
         no_fewer = omega arith;
       })
@@ -166,7 +166,7 @@ module _ {T : Type 0} where
     short = short;
     moved = λ k. omega (arith, moved k, ap (λ r. count k (links_of r)) (row_at-slots old place));
     held = λ k. omega (arith, held k, holds_at-slots old k, counted.places k);
-    apart = λ k some way. apart k some (Reaches-alike (links_in (graph_of old)) (links_at (seen old a b n)) (λ l. ap links_of (row_at-slots old l)) k place way);
+    apart = λ k some way. apart k some (Reaches-by (links_in (graph_of old)) (links_at (seen old a b n)) (λ l. ap links_of (row_at-slots old l)) k place way);
   }
 
   -- one link of which a hold is spent

@@ -4,49 +4,49 @@ use Rattle.std.specs.Prelude.{sum_by, sum}
 use Rattle.std.proofs.lemmas.List.Sums.{sum_by-cons}
 use Rattle.node_heap.specs.Links.{count, HasLink}
 use Rattle.node_heap.specs.Forms.{links_of, links_in, is_cell, is_node}
-use Rattle.node_heap.specs.Layout.{row_in, owners_in, rows_in, holds_in, slot_at, places_at, graph_of, IsCounted, IsStored, seen}
+use Rattle.node_heap.specs.Layout.{row_of_slot, owners_in, rows_of_slots, holds_in, slot_at, places_at, graph_of, IsCounted, IsHeap, seen}
 use Rattle.node_heap.specs.Heap.{Heap, row_at, links_at, holds_at, IsGraph}
 use Rattle.node_heap.specs.Calls.{Unchanged}
 use Rattle.node_heap.specs.Layout.{Slot}
 use Rattle.node_heap.proofs.Slots.{row_at-slots, holds_at-slots, placed, live-owned}
 use Rattle.node_heap.proofs.Reached.{under-held}
-use Rattle.node_heap.proofs.Reach.{Reaches-alike}
+use Rattle.node_heap.proofs.Reach.{Reaches-by}
 
 -- 1 where there is a value, and else 0
 abbrev pub one_if_some : {X : Type 0} → Option X → ℕ
 one_if_some o = cond (is_some o) 1 0
 
 module _ {T : Type 0} where
-  pub live_slot : (e : Option (Slot T)) → IsSome (row_in e) → IsSome e
+  pub live_slot : (e : Option (Slot T)) → IsSome (row_of_slot e) → IsSome e
   live_slot None some = cc
   live_slot (Some e) some = refl
 
-  pub live_row : (e : Option (Slot T)) → IsSome e → IsSome (row_in e)
+  pub live_row : (e : Option (Slot T)) → IsSome e → IsSome (row_of_slot e)
   live_row None some = cc
   live_row (Some e) some = refl
 
-  pub live-rows : (old new : List (Option (Slot T))) (place : ℕ) → rows_in new ≡ rows_in old → IsSome (slot_at old place) → IsSome (slot_at new place)
+  pub live-rows : (old new : List (Option (Slot T))) (place : ℕ) → rows_of_slots new ≡ rows_of_slots old → IsSome (slot_at old place) → IsSome (slot_at new place)
   live-rows old new place rows live =
       let same : graph_of new place ≡ graph_of old place = sym (row_at-slots new place) ∙ ap (λ xs. get_or xs place None) rows ∙ row_at-slots old place in
       live_slot (slot_at new place) (rw same (live_row (slot_at old place) live))
 
   -- so many rows as slots in use
-  pub live_slots : (slots : List (Option (Slot T))) → count_by is_some (rows_in slots) ≡ count_by is_some slots
+  pub live_slots : (slots : List (Option (Slot T))) → count_by is_some (rows_of_slots slots) ≡ count_by is_some slots
   live_slots [] = refl
   live_slots (o ∷ os) =
-      omega (arith, live_slots os, at_one o, sum_by-cons (λ x. cond (is_some x) 1 0) (row_in o) (rows_in os), sum_by-cons (λ x. cond (is_some x) 1 0) o os)
+      omega (arith, live_slots os, at_one o, sum_by-cons (λ x. cond (is_some x) 1 0) (row_of_slot o) (rows_of_slots os), sum_by-cons (λ x. cond (is_some x) 1 0) o os)
     where
-      at_one : (o : Option (Slot T)) → one_if_some (row_in o) ≡ one_if_some o
+      at_one : (o : Option (Slot T)) → one_if_some (row_of_slot o) ≡ one_if_some o
       at_one None = refl
       at_one (Some e) = refl
 
-  pub IsGraph-stored : (slots : List (Option (Slot T))) (cells nodes number : ℕ) → IsStored slots cells nodes number → IsGraph (seen slots cells nodes number)
+  pub IsGraph-stored : (slots : List (Option (Slot T))) (cells nodes number : ℕ) → IsHeap slots cells nodes number → IsGraph (seen slots cells nodes number)
   IsGraph-stored slots cells nodes number stored = record {
     closed = λ l k has. live k (live-owned (slot_at slots k) (omega (arith, placed slots l k (linked l k has), counted.places k)));
     held = λ l some. live l (live-owned (slot_at slots l) (omega (arith, hold l, some)));
     reached = λ l some.
         let up = under-held slots counted l (live_slot (slot_at slots l) (rw (← row l) some)) in
-        (up.0, omega (arith, hold up.0, up.1), Reaches-alike (links_in (graph_of slots)) (links_at h) (λ l. ap links_of (row l)) up.0 l up.2);
+        (up.0, omega (arith, hold up.0, up.1), Reaches-by (links_in (graph_of slots)) (links_at h) (λ l. ap links_of (row l)) up.0 l up.2);
     rank = counted.rank;
     falls = λ l k has. counted.falls l k (linked l k has);
     short = λ l. omega (arith, ap (λ r. length (links_of r)) (row l), counted.short l);
@@ -74,14 +74,14 @@ module _ {T : Type 0} where
       live l some = rw (row l) (live_row (slot_at slots l) some)
 
   -- the slots are the same, and no spare is lost
-  pub Unchanged-stored : (slots slots' : List (Option (Slot T))) (a b m a' b' : ℕ) → slots' ≡ slots → IsStored slots' a' b' m → a ≤ a' → b ≤ b' → Unchanged (seen slots a b m) (seen slots' a' b' m)
+  pub Unchanged-stored : (slots slots' : List (Option (Slot T))) (a b m a' b' : ℕ) → slots' ≡ slots → IsHeap slots' a' b' m → a ≤ a' → b ≤ b' → Unchanged (seen slots a b m) (seen slots' a' b' m)
   Unchanged-stored slots slots' a b m a' b' same stored at_a at_b = record {
-    rows = λ k. ap (λ xs. get_or (rows_in xs) k None) same;
+    rows = λ k. ap (λ xs. get_or (rows_of_slots xs) k None) same;
     holds = λ k. ap (λ xs. get_or (holds_in xs) k 0) same;
     count = ap (λ xs. sum (holds_in xs)) same;
-    cells = ap (λ xs. sum_by is_cell (rows_in xs)) same;
-    nodes = ap (λ xs. sum_by is_node (rows_in xs)) same;
-    live = ap (λ xs. count_by is_some (rows_in xs)) same;
+    cells = ap (λ xs. sum_by is_cell (rows_of_slots xs)) same;
+    nodes = ap (λ xs. sum_by is_node (rows_of_slots xs)) same;
+    live = ap (λ xs. count_by is_some (rows_of_slots xs)) same;
     made = refl;
     spare_cells = at_a;
     spare_nodes = at_b;
@@ -89,8 +89,8 @@ module _ {T : Type 0} where
   }
 
   -- the slots are the same, with more spares
-  pub IsStored-reserved : (slots slots' : List (Option (Slot T))) (a b m a' b' : ℕ) → slots' ≡ slots → IsStored slots a b m → count_by is_some slots + (a' + b') < 2 ^ 56 → IsStored slots' a' b' m
-  IsStored-reserved slots slots' a b m a' b' same stored few = record {
+  pub IsHeap-reserved : (slots slots' : List (Option (Slot T))) (a b m a' b' : ℕ) → slots' ≡ slots → IsHeap slots a b m → count_by is_some slots + (a' + b') < 2 ^ 56 → IsHeap slots' a' b' m
+  IsHeap-reserved slots slots' a b m a' b' same stored few = record {
     counted = rw same stored.counted;
     few = omega (arith, few, ap (λ xs. count_by is_some xs) same);
     few_holds = omega (arith, stored.few_holds, ap (λ xs. sum (holds_in xs)) same);

@@ -4,7 +4,7 @@ use Rattle.std.specs.Prelude.{option_map}
 use Rattle.node_heap.specs.Links.{count, HasLink, Reaches, here, LeadsDown, SameBelow}
 use Rattle.node_heap.specs.Forms.{RowOf, Row, Rows, Form, Forms, cell, node, links_of, links_in, form_of, forms_of, Tree, tree_node, tree_then, trees_of, Trees, cut, tree_cell, IsTree, AreTrees, is_cell_tree, is_node_tree, are_none, are_then}
 use Rattle.node_heap.proofs.Counts.{test_same, count-cons}
-use Rattle.node_heap.proofs.Reach.{SameBelow-link, Reaches-alike}
+use Rattle.node_heap.proofs.Reach.{SameBelow-link, Reaches-by}
 
 -- one level of a tree, over the trees of the links
 abbrev grow : {K : Type 0} → (ℕ → Tree K) → Option (Form K) → Tree K
@@ -111,7 +111,7 @@ module _ {T : Type 0} where
 
   -- what forms reach, rows reach
   pub Reaches-forms : (G : Rows T) (l m : ℕ) → Reaches (links_in (forms_of G)) l m → Reaches (links_in G) l m
-  Reaches-forms G = Reaches-alike (links_in (forms_of G)) (links_in G) (λ l. sym (links_in-forms G l))
+  Reaches-forms G = Reaches-by (links_in (forms_of G)) (links_in G) (λ l. sym (links_in-forms G l))
 
   pub SameBelow-forms : (G G' : Rows T) (l : ℕ) → SameBelow (links_in G) G G' l → SameBelow (links_in (forms_of G)) (forms_of G) (forms_of G') l
   SameBelow-forms G G' l same m down = ap (option_map form_of) (same m (Reaches-forms G l m down))

@@ -5,7 +5,7 @@ use Rattle.std.proofs.lemmas.Bool.{cases_eq}
 use Rattle.std.proofs.lemmas.List.{get_or-set_same, get_or-set_other}
 use Rattle.std.proofs.lemmas.List.Sums.{sum_by-set}
 use Rattle.node_heap.specs.Forms.{is_cell, is_node}
-use Rattle.node_heap.specs.Layout.{Slot, Table, row_in, owners_in, with_owners, reown, rows_in, slot_at, SetsOwners, Takes, KeepsRoom}
+use Rattle.node_heap.specs.Layout.{Slot, Table, row_of_slot, owners_in, with_owners, reown, rows_of_slots, slot_at, SetsOwners, TakesOut, KeepsRoom}
 use Rattle.node_heap.specs.Heap.{one_at}
 use Rattle.node_heap.proofs.Counts.{test_same, test_other}
 use Rattle.node_heap.proofs.Slots.{reown_rows}
@@ -23,7 +23,7 @@ module _ {T : Type 0} where
   -- the owners of a row are written
   pub record Reowned (t : Table T) (place n : ℕ) : Type 0 where
     pub sets : SetsOwners t.slots (reown t.slots place n) place n
-    pub rows : rows_in (reown t.slots place n) ≡ rows_in t.slots
+    pub rows : rows_of_slots (reown t.slots place n) ≡ rows_of_slots t.slots
     pub room : KeepsRoom t (record t { slots = reown t.slots place n })
 
   pub reowned : (t : Table T) (place n : ℕ) → IsSome (slot_at t.slots place) → Reowned t place n
@@ -40,7 +40,7 @@ module _ {T : Type 0} where
           let s' : Slot T = record { owners = n; row = s.row } in
           let now = at t.slots place s (Some s') is in (
             record {
-              row = ap row_in now ∙ sym (ap row_in is);
+              row = ap row_of_slot now ∙ sym (ap row_of_slot is);
               owners = ap owners_in now;
               live = rw now refl;
               others = λ k other. get_or-set_other t.slots place k (Some s') None other;
@@ -63,11 +63,11 @@ module _ {T : Type 0} where
 
   -- the row at a place is taken out
   pub taken : (slots : List (Option (Slot T))) (place a b a' b' : ℕ) (s : Slot T) → slot_at slots place ≡ Some s → a' ≡ a + is_cell (Some s.row) → b' ≡ b + is_node (Some s.row)
-      → Takes (record { slots = slots; spare_cells = a; spare_nodes = b }) (record { slots = set slots place None; spare_cells = a'; spare_nodes = b' }) place
+      → TakesOut (record { slots = slots; spare_cells = a; spare_nodes = b }) (record { slots = set slots place None; spare_cells = a'; spare_nodes = b' }) place
   taken slots place a b a' b' s is cells nodes = record {
     gone = at slots place s None is;
     others = λ k other. get_or-set_other slots place k None None other;
     len = omega (arith, count-written slots place s None is);
-    spare_cells = omega (arith, cells, ap (λ o. is_cell (row_in o)) is);
-    spare_nodes = omega (arith, nodes, ap (λ o. is_node (row_in o)) is);
+    spare_cells = omega (arith, cells, ap (λ o. is_cell (row_of_slot o)) is);
+    spare_nodes = omega (arith, nodes, ap (λ o. is_node (row_of_slot o)) is);
   }

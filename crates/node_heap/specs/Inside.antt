@@ -54,8 +54,8 @@ module _ {T : Type 0} where
   slots_of cells nodes = woven (map cell_slot cells) (map node_slot nodes)
 
   -- what contracts see of the fields
-  abbrev pub shown : List (Option (CellSlot T)) → List (Option NodeSlot) → ℕ → ℕ → Table T
-  shown cells nodes spare_cells spare_nodes = record { slots = slots_of cells nodes; spare_cells = spare_cells; spare_nodes = spare_nodes }
+  abbrev pub table_of : List (Option (CellSlot T)) → List (Option NodeSlot) → ℕ → ℕ → Table T
+  table_of cells nodes spare_cells spare_nodes = record { slots = slots_of cells nodes; spare_cells = spare_cells; spare_nodes = spare_nodes }
 
   -- what is true of the fields of each table
   pub record IsTable (cells : List (Option (CellSlot T))) (free_cells : List ℕ) (cell_capacity free_cell_capacity spare_cells : ℕ) (nodes : List (Option NodeSlot)) (free_nodes : List ℕ) (node_capacity free_node_capacity spare_nodes : ℕ) : Type 0 where

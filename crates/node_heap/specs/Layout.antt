@@ -22,9 +22,9 @@ pub record Table (T : Type 0) : Type 0 where
   pub spare_nodes : ℕ
 
 module _ {T : Type 0} where
-  abbrev pub row_in : Option (Slot T) → Option (Row T)
-  row_in None = None
-  row_in (Some s) = Some s.row
+  abbrev pub row_of_slot : Option (Slot T) → Option (Row T)
+  row_of_slot None = None
+  row_of_slot (Some s) = Some s.row
 
   abbrev pub owners_in : Option (Slot T) → ℕ
   owners_in None = 0
@@ -35,12 +35,12 @@ module _ {T : Type 0} where
   with_owners None n = None
   with_owners (Some s) n = Some (record { owners = n; row = s.row })
 
-  abbrev pub rows_in : List (Option (Slot T)) → List (Option (Row T))
-  rows_in slots = map row_in slots
+  abbrev pub rows_of_slots : List (Option (Slot T)) → List (Option (Row T))
+  rows_of_slots slots = map row_of_slot slots
 
   -- the owners of each row that are not places
   abbrev pub holds_in : List (Option (Slot T)) → List ℕ
-  holds_in slots = less (places_in (rows_in slots)) 0 (map owners_in slots)
+  holds_in slots = less (places_in (rows_of_slots slots)) 0 (map owners_in slots)
 
   abbrev pub slot_at : List (Option (Slot T)) → ℕ → Option (Slot T)
   slot_at slots l = slice_index_or slots l None
@@ -50,10 +50,10 @@ module _ {T : Type 0} where
   reown slots place n = slice_set slots place (with_owners (slot_at slots place) n)
 
   abbrev pub places_at : List (Option (Slot T)) → ℕ → ℕ
-  places_at slots l = places_in (rows_in slots) l
+  places_at slots l = places_in (rows_of_slots slots) l
 
   abbrev pub graph_of : List (Option (Slot T)) → ℕ → Option (Row T)
-  graph_of slots l = row_in (slot_at slots l)
+  graph_of slots l = row_of_slot (slot_at slots l)
 
   -- each row has a place below the last number
   abbrev pub IsLow : List (Option (Slot T)) → Type 0
@@ -74,7 +74,7 @@ module _ {T : Type 0} where
 
   -- the row keeps its content, and has so many owners
   pub record SetsOwners (old new : List (Option (Slot T))) (place n : ℕ) : Type 0 where
-    pub row : row_in (slot_at new place) ≡ row_in (slot_at old place)
+    pub row : row_of_slot (slot_at new place) ≡ row_of_slot (slot_at old place)
     pub owners : owners_in (slot_at new place) ≡ n
     pub live : IsSome (slot_at new place)
     pub others : ApartAt old new place
@@ -114,48 +114,48 @@ module _ {T : Type 0} where
   Thins old new = (l : ℕ) → (graph_of new l ≡ None) ⊎ (graph_of new l ≡ graph_of old l)
 
   abbrev pub cells_in : List (Option (Slot T)) → ℕ
-  cells_in slots = sum_by is_cell (rows_in slots)
+  cells_in slots = sum_by is_cell (rows_of_slots slots)
 
   abbrev pub nodes_in : List (Option (Slot T)) → ℕ
-  nodes_in slots = sum_by is_node (rows_in slots)
+  nodes_in slots = sum_by is_node (rows_of_slots slots)
 
-  -- the rows that the slots hold
-  abbrev pub row_count : List (Option (Slot T)) → ℕ
-  row_count slots = count_by is_some slots
+  -- how many of the slots hold a row
+  abbrev pub filled_count : List (Option (Slot T)) → ℕ
+  filled_count slots = count_by is_some slots
 
   -- a row with one owner stands at a place that had none
-  pub record Puts (old new : List (Option (Slot T))) (place : ℕ) (row : Row T) : Type 0 where
+  pub record PutsIn (old new : List (Option (Slot T))) (place : ℕ) (row : Row T) : Type 0 where
     pub was : slot_at old place ≡ None
     pub now : slot_at new place ≡ Some (record { owners = 1; row = row })
     pub others : ApartAt old new place
     pub low : place < 2 ^ 64 - 1
-    pub len : row_count new ≡ row_count old + 1
+    pub len : filled_count new ≡ filled_count old + 1
 
   -- the row at the place is gone, and is a spare of its kind
-  pub record Takes (old new : Table T) (place : ℕ) : Type 0 where
+  pub record TakesOut (old new : Table T) (place : ℕ) : Type 0 where
     pub gone : slot_at new.slots place ≡ None
     pub others : ApartAt old.slots new.slots place
-    pub len : row_count new.slots + 1 ≡ row_count old.slots
+    pub len : filled_count new.slots + 1 ≡ filled_count old.slots
     pub spare_cells : new.spare_cells ≡ old.spare_cells + is_cell (graph_of old.slots place)
     pub spare_nodes : new.spare_nodes ≡ old.spare_nodes + is_node (graph_of old.slots place)
 
   -- there are as many rows and as many spares
   pub record KeepsRoom (old new : Table T) : Type 0 where
-    pub len : row_count new.slots ≡ row_count old.slots
+    pub len : filled_count new.slots ≡ filled_count old.slots
     pub spare_cells : new.spare_cells ≡ old.spare_cells
     pub spare_nodes : new.spare_nodes ≡ old.spare_nodes
 
   -- what is true of the fields of each heap
-  pub record IsStored (slots : List (Option (Slot T))) (cells nodes number : ℕ) : Type 0 where
+  pub record IsHeap (slots : List (Option (Slot T))) (cells nodes number : ℕ) : Type 0 where
     pub counted : IsCounted slots
-    pub few : row_count slots + (cells + nodes) < 2 ^ 56
+    pub few : filled_count slots + (cells + nodes) < 2 ^ 56
     pub few_holds : sum (holds_in slots) ≤ 2 ^ 60
     pub fits : number < 2 ^ 64
 
   -- what contracts see of the slots, the spares and the number made
   abbrev pub seen : List (Option (Slot T)) → ℕ → ℕ → ℕ → Heap T
   seen slots cells nodes number = record {
-    rows = rows_in slots;
+    rows = rows_of_slots slots;
     holds = holds_in slots;
     spare_cells = cells;
     spare_nodes = nodes;

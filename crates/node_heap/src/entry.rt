@@ -41,6 +41,7 @@ pub(crate) fn kept(links: &[Link]) -> ArrayVec<Link, 32>
     ensures { result.items ≡ links.now }
 {
     let mut kept = ArrayVec::new();
+    // They are at most 32, so all of them fit.
     let _ = kept.try_extend_from_slice(links);
     kept
 }

@@ -5,7 +5,7 @@ ghost use Rattle.node_heap.specs.Forms.{cell, node, links_of, value_of, head_of,
 ghost use Rattle.node_heap.specs.Heap.{row_at, links_at, holds_at, owners_at, live_count, hold_count, one_at, HasSpares, IsGraph};
 ghost use Rattle.node_heap.specs.Calls.{KeepsBelow, SameRows, Adds, AddsOwner, KeepsOwners, Makes, Releases, Extends, KeepsHeld, KeepsTrees, Unchanged, HasGreater, HasNoMore, Builds};
 ghost use Rattle.node_heap.specs.InPlace.{child_at, other_at, Writes, Edits};
-ghost use Rattle.node_heap.specs.Layout.{graph_of, slot_at, owners_in, row_count, Copies, rows_in, IsCounted, IsDying, IsLow, KeepsRoom, Thins, cells_in, nodes_in};
+ghost use Rattle.node_heap.specs.Layout.{graph_of, slot_at, owners_in, filled_count, Copies, rows_of_slots, IsCounted, IsDying, IsLow, KeepsRoom, Thins, cells_in, nodes_in};
 
 use crate::entry::kept;
 use crate::row::{Head, Link};
@@ -26,11 +26,11 @@ impl<T> Model for Heap<T> {
 
     ghost Value = { Seen T };
 
-    ghost use Rattle.node_heap.specs.Layout.{seen, IsStored};
+    ghost use Rattle.node_heap.specs.Layout.{seen, IsHeap};
 
     ghost view = { λ h. seen h.table.slots h.table.spare_cells h.table.spare_nodes h.made };
 
-    ghost invariant = { λ h. IsStored h.table.slots h.table.spare_cells h.table.spare_nodes h.made };
+    ghost invariant = { λ h. IsHeap h.table.slots h.table.spare_cells h.table.spare_nodes h.made };
 }
 
 impl<T> Heap<T> {
@@ -328,7 +328,7 @@ fn free_waiting<T: Drop>(table: &mut Table<T>, first: usize)
     ensures nodes { table.new.spare_nodes + nodes_in table.new.slots ≡ table.old.spare_nodes + nodes_in table.old.slots }
     ensures more_cells { table.old.spare_cells ≤ table.new.spare_cells }
     ensures more_nodes { table.old.spare_nodes ≤ table.new.spare_nodes }
-    ensures len { row_count table.new.slots + (table.new.spare_cells + table.new.spare_nodes) ≡ row_count table.old.slots + (table.old.spare_cells + table.old.spare_nodes) }
+    ensures len { filled_count table.new.slots + (table.new.spare_cells + table.new.spare_nodes) ≡ filled_count table.old.slots + (table.old.spare_cells + table.old.spare_nodes) }
     ensures low { IsLow table.new.slots }
 {
     let mut next = first;
@@ -343,7 +343,7 @@ fn drop_places<T>(table: &mut Table<T>, links: &[Link], first: usize) -> usize
     requires dying { (H : ℕ → ℕ) × IsDying H table.old.slots first links.now }
     requires low { IsLow table.old.slots }
     ensures dropped { (H : ℕ → ℕ) → IsDying H table.old.slots first links.now → IsDying H table.new.slots result [] }
-    ensures rows { rows_in table.new.slots ≡ rows_in table.old.slots }
+    ensures rows { rows_of_slots table.new.slots ≡ rows_of_slots table.old.slots }
     ensures low { IsLow table.new.slots }
     ensures room { KeepsRoom table.old table.new }
 {
@@ -370,7 +370,7 @@ fn copied<T>(table: &mut Table<T>, place: usize) -> usize
     ensures counted { IsCounted table.new.slots }
     ensures cells { cells_in table.new.slots ≡ cells_in table.old.slots }
     ensures nodes { nodes_in table.new.slots ≡ nodes_in table.old.slots + 1 }
-    ensures len { row_count table.new.slots ≡ row_count table.old.slots + 1 }
+    ensures len { filled_count table.new.slots ≡ filled_count table.old.slots + 1 }
     ensures spare_cells { table.new.spare_cells ≡ table.old.spare_cells }
     ensures spare_nodes { table.new.spare_nodes + 1 ≡ table.old.spare_nodes }
 {
@@ -384,7 +384,7 @@ fn add_owners<T>(table: &mut Table<T>, links: &[Link])
     requires live { (l : ℕ) → 0 < count l links.now → IsSome (slot_at table.old.slots l) }
     requires room { (l : ℕ) → owners_in (slot_at table.old.slots l) + length links.now < 2 ^ 64 }
     ensures owners { (l : ℕ) → owners_in (slot_at table.new.slots l) ≡ owners_in (slot_at table.old.slots l) + count l links.now }
-    ensures rows { rows_in table.new.slots ≡ rows_in table.old.slots }
+    ensures rows { rows_of_slots table.new.slots ≡ rows_of_slots table.old.slots }
     ensures room { KeepsRoom table.old table.new }
 {
     for child in links {

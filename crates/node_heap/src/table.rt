@@ -5,7 +5,7 @@ ghost use Rattle.std.specs.Borrow.{sem};
 ghost use Rattle.node_heap.specs.LendsSlot.{LendsSlot};
 ghost use Rattle.node_heap.specs.Forms.{cell, node, links_of, value_of, head_of, is_node};
 ghost use Rattle.node_heap.specs.Inside.{IsFree, SameBut, node_slot, links_taken};
-ghost use Rattle.node_heap.specs.Layout.{graph_of, slot_at, owners_in, rows_in, row_count, SetsOwners, Rewrites, Puts, Takes, KeepsRoom};
+ghost use Rattle.node_heap.specs.Layout.{graph_of, slot_at, owners_in, rows_of_slots, filled_count, SetsOwners, Rewrites, PutsIn, TakesOut, KeepsRoom};
 
 use crate::entry::{CellSlot, NodeSlot, kept};
 use crate::row::{Head, Link};
@@ -32,9 +32,9 @@ impl<T> Model for Table<T> {
     ghost Value = { Seen T };
 
     ghost use Rattle.std.specs.Vec.{vec_capacity};
-    ghost use Rattle.node_heap.specs.Inside.{shown, HasRoom, IsTable};
+    ghost use Rattle.node_heap.specs.Inside.{table_of, HasRoom, IsTable};
 
-    ghost view = { λ t. shown t.cells.items t.nodes.items t.spare_cells t.spare_nodes };
+    ghost view = { λ t. table_of t.cells.items t.nodes.items t.spare_cells t.spare_nodes };
 
     ghost invariant = { λ t. IsTable t.cells.items t.free_cells.items (vec_capacity t.cells) (vec_capacity t.free_cells) t.spare_cells t.nodes.items t.free_nodes.items (vec_capacity t.nodes) (vec_capacity t.free_nodes) t.spare_nodes };
 }
@@ -78,7 +78,7 @@ impl<T> Table<T> {
 
     // The number of rows.
     pub(crate) fn len(&self) -> usize
-        ensures { result ≡ row_count self.now.slots }
+        ensures { result ≡ filled_count self.now.slots }
     {
         (self.cells.len() - self.free_cells.len()) + (self.nodes.len() - self.free_nodes.len())
     }
@@ -99,7 +99,7 @@ impl<T> Table<T> {
     pub(crate) fn reserve(&mut self, cells: usize, nodes: usize) -> Result<(), AllocError>
         requires more_cells { self.old.spare_cells ≤ cells }
         requires more_nodes { self.old.spare_nodes ≤ nodes }
-        requires few { row_count self.old.slots + (cells + nodes) < 2 ^ 56 }
+        requires few { filled_count self.old.slots + (cells + nodes) < 2 ^ 56 }
         ensures slots { self.new.slots ≡ self.old.slots }
         ensures cells { OnOk result (self.new.spare_cells ≡ cells) }
         ensures nodes { OnOk result (self.new.spare_nodes ≡ nodes) }
@@ -119,7 +119,7 @@ impl<T> Table<T> {
     // Makes a cell of a spare, with one owner. Answers its place.
     pub(crate) fn put_cell(&mut self, value: T) -> usize
         requires { 0 < self.old.spare_cells }
-        ensures puts { Puts self.old.slots self.new.slots result (cell value) }
+        ensures puts { PutsIn self.old.slots self.new.slots result (cell value) }
         ensures spare_cells { self.new.spare_cells + 1 ≡ self.old.spare_cells }
         ensures spare_nodes { self.new.spare_nodes ≡ self.old.spare_nodes }
     {
@@ -134,7 +134,7 @@ impl<T> Table<T> {
     // Makes a node of a spare, with one owner. Answers its place.
     pub(crate) fn put_node(&mut self, head: Head, links: ArrayVec<Link, 32>) -> usize
         requires { 0 < self.old.spare_nodes }
-        ensures puts { Puts self.old.slots self.new.slots result (node head links.items) }
+        ensures puts { PutsIn self.old.slots self.new.slots result (node head links.items) }
         ensures spare_cells { self.new.spare_cells ≡ self.old.spare_cells }
         ensures spare_nodes { self.new.spare_nodes + 1 ≡ self.old.spare_nodes }
     {
@@ -223,7 +223,7 @@ impl<T> Table<T> {
     pub(crate) fn set_owners(&mut self, place: usize, owners: usize)
         requires { IsSome (slot_at self.old.slots place) }
         ensures sets { SetsOwners self.old.slots self.new.slots place owners }
-        ensures rows { rows_in self.new.slots ≡ rows_in self.old.slots }
+        ensures rows { rows_of_slots self.new.slots ≡ rows_of_slots self.old.slots }
         ensures room { KeepsRoom self.old self.new }
     {
         *self.owners_mut(place) = owners;
@@ -285,7 +285,7 @@ impl<T: Drop> Table<T> {
         requires { IsSome (slot_at self.old.slots place) }
         ensures owners { result.owners ≡ owners_in (slot_at self.old.slots place) }
         ensures links { links_taken result.links ≡ links_of (graph_of self.old.slots place) }
-        ensures takes { Takes self.old self.new place }
+        ensures takes { TakesOut self.old self.new place }
     {
         if place % 2 == 0 {
             let slot = take_out(&mut self.cells, &mut self.free_cells, place / 2);

@@ -10,7 +10,7 @@ use Rattle.elem_core.specs.Codes.{text_code, masked_code}
 use Rattle.node_heap.specs.Links.{count, Reaches, here}
 use Rattle.node_heap.specs.Forms.{Row, Forms, Kind, cell, node, leaf, inner, trie, chain, pair, state, kind_of, form_of, links_in}
 use Rattle.node_heap.specs.Heap.{Heap, row_at, form_at, links_at}
-use Rattle.node_heap.proofs.Reach.{Reaches-alike}
+use Rattle.node_heap.proofs.Reach.{Reaches-by}
 use Rattle.rrb_core.specs.Seq.{seq, IsWellShaped}
 use Rattle.rrb_core.specs.Vector.{IsVectorOf}
 use Rattle.champ_chain.specs.Entry.{Entry}
@@ -87,7 +87,7 @@ module _ {T : Type 0} (text : T → Bytes) where
 
     module _ (r l : ℕ) (root : 0 < count r roots) (down : Reaches (links_at h) r l) where
       down-by-text : Reaches (links_in (text_forms text h)) r l
-      down-by-text = Reaches-alike (links_at h) (links_in (text_forms text h)) (λ k. links-of-text text (row_at h k)) r l down
+      down-by-text = Reaches-by (links_at h) (links_in (text_forms text h)) (λ k. links-of-text text (row_at h k)) r l down
 
       back : IsRenamed (link_at h roots) (forms_in P) (text_forms text h) (place_at h roots l)
       back = listed.back r l root down-by-text

@@ -7,7 +7,7 @@ use Rattle.node_heap.specs.Heap.{Heap, row_at, links_at, holds_at, cell_count, n
 use Rattle.node_heap.specs.Calls.{Releases}
 use Rattle.node_heap.proofs.BuildLemmas.{count-one, count-append}
 use Rattle.node_heap.proofs.Counts.{test_same, sum_by-same}
-use Rattle.node_heap.proofs.Reach.{Reaches-alike}
+use Rattle.node_heap.proofs.Reach.{Reaches-by}
 use Rattle.rrb_core.proofs.LinkCounts.{count-split}
 use Rattle.pool_load.specs.Making.{GivesUp, AreReachedWithout}
 
@@ -30,7 +30,7 @@ module _ {T : Type 0} {old mid : Heap T} (links : List ℕ) (i link : ℕ) (up :
     still-there k live =
         let from = reached k live in
         let held : 0 < holds_at new from.0 = omega (arith, from.1, holds-left from.0, count-split from.0 (i + 1) links) in
-        (released.stays k).1 (from.0, held, Reaches-alike (links_at old) (links_at mid) (λ l. ap links_of (up.rows l)) from.0 k from.2)
+        (released.stays k).1 (from.0, held, Reaches-by (links_at old) (links_at mid) (λ l. ap links_of (up.rows l)) from.0 k from.2)
 
     same-row : (k : ℕ) → row_at new k ≡ row_at old k
     same-row k = by_old (row_at old k) refl

@@ -9,7 +9,7 @@ use Rattle.node_heap.specs.Forms.{Row, Form, Forms, cell, node, form_of, links_o
 use Rattle.node_heap.specs.Heap.{Heap, row_at, form_at, links_at, holds_at, live_count, IsGraph}
 use Rattle.node_heap.specs.Calls.{KeepsBelow}
 use Rattle.node_heap.proofs.Counts.{test_same, test_other, count-cons}
-use Rattle.node_heap.proofs.Reach.{Reaches-alike}
+use Rattle.node_heap.proofs.Reach.{Reaches-by}
 use Rattle.node_heap.proofs.Trees.{links_of-form}
 use Rattle.pool_order.specs.Order.{order, order_of}
 use Rattle.pool_order.proofs.Grounded.{grounded}
@@ -84,7 +84,7 @@ module _ {T : Type 0} where
         falls = λ l k has. ground.falls l k (omega (arith, has, ap (count k) (links-of-text text (row_at h l))));
         low = λ r root. ground.low r (live r root);
         there = λ r l root down.
-            some-text text (row_at h l) (reached-live h graph r l (Reaches-alike (links_in (text_forms text h)) (links_at h) (λ k. sym (links-of-text text (row_at h k))) r l down) (live r root));
+            some-text text (row_at h l) (reached-live h graph r l (Reaches-by (links_in (text_forms text h)) (links_at h) (λ k. sym (links-of-text text (row_at h k))) r l down) (live r root));
       }
 
   some-form : (r : Option (Row T)) → IsSome r → IsSome (option_map form_of r)
@@ -100,7 +100,7 @@ module _ {T : Type 0} where
         falls = λ l k has. ground.falls l k (omega (arith, has, ap (count k) (links_of-form (row_at h l))));
         low = λ r root. ground.low r (live r root);
         there = λ r l root down.
-            some-form (row_at h l) (reached-live h graph r l (Reaches-alike (links_in (form_at h)) (links_at h) (λ k. sym (links_of-form (row_at h k))) r l down) (live r root));
+            some-form (row_at h l) (reached-live h graph r l (Reaches-by (links_in (form_at h)) (links_at h) (λ k. sym (links_of-form (row_at h k))) r l down) (live r root));
       }
 
   pub nothing-leaks : (text : T → Bytes) (h : Heap T) (roots : List ℕ) (bits : ℕ) → IsGraph h → ((l : ℕ) → holds_at h l ≡ count l roots) → row_count (pool_at text h roots bits) ≡ live_count h

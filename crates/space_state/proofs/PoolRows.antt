@@ -5,7 +5,7 @@ use Rattle.std.proofs.lemmas.List.{length-map}
 use Rattle.node_heap.specs.Links.{count, Reaches, here}
 use Rattle.node_heap.specs.Forms.{Form, cell, node, leaf, inner, trie, chain, pair, state, links_in}
 use Rattle.node_heap.specs.Heap.{row_at, form_at, links_at}
-use Rattle.node_heap.proofs.Reach.{Reaches-alike}
+use Rattle.node_heap.proofs.Reach.{Reaches-by}
 use Rattle.node_heap.proofs.Trees.{links_of-form}
 use Rattle.pool_order.specs.Order.{order}
 use Rattle.pool_text.specs.Rows.{is_in_range}
@@ -52,7 +52,7 @@ module _ (s : RootedHeap) (W : Workspace) (K : Keeps s [] W) where
   rows-fit r l root down =
       let P : Pool = pool (length s.heap.rows) (form_at s.heap) (root_list s.roots) s.bits in
       let f : ℕ → ℕ = place_in (order (length s.heap.rows) (links_in (form_at s.heap)) (root_list s.roots)) in
-      let below : Reaches (links_in (form_at s.heap)) r l = Reaches-alike (links_at s.heap) (links_in (form_at s.heap)) (λ k. links_of-form (row_at s.heap k)) r l down in
+      let below : Reaches (links_in (form_at s.heap)) r l = Reaches-by (links_at s.heap) (links_in (form_at s.heap)) (λ k. links_of-form (row_at s.heap k)) r l down in
       let passes : rows_in_range P ≡ true = subst (λ (Q : Pool). rows_in_range Q ≡ true) (texts-are-forms s.heap (root_list s.roots) s.bits) (pool-valid s W K).in_range in
       fits-renamed P f (f l) (form_at s.heap l) passes (rooted.there r l root below)
       (pool-renamed (length s.heap.rows) (form_at s.heap) (root_list s.roots) rooted s.bits r r root (here r) l below)

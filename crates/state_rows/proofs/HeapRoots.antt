@@ -4,7 +4,7 @@ use Rattle.std.specs.Prelude.{slice_index}
 use Rattle.node_heap.specs.Links.{count, Reaches, here, below}
 use Rattle.node_heap.specs.Forms.{Forms, links_in}
 use Rattle.node_heap.specs.Heap.{Heap, row_at, form_at, links_at, IsGraph}
-use Rattle.node_heap.proofs.Reach.{Reaches-alike}
+use Rattle.node_heap.proofs.Reach.{Reaches-by}
 use Rattle.node_heap.proofs.Trees.{links_of-form}
 use Rattle.rrb_core.specs.Seq.{IsWellShaped}
 use Rattle.rrb_core.specs.Vector.{IsGoodVector}
@@ -54,7 +54,7 @@ module _ (h : Heap Bytes) (bits : ℕ) (roots : List ℕ) (W : Workspace) (graph
             let from : Reaches (links_in (form_at h)) r (f k) = subst (λ a. Reaches (links_in (form_at h)) a (f k)) (place-back (length h.rows) (form_at h) roots rooted r r root (here r)) reached in
             record {
               shape = (vector-reads-alike f (forms_in made) (form_at h) ℕ k (renamed-below f (forms_in made) (form_at h) (place_in listed r) k down image)).shaped shaped;
-              sums = sums r (f k) root (Reaches-alike (links_in (form_at h)) (links_at h) (λ j. sym (links_of-form (row_at h j))) r (f k) from);
+              sums = sums r (f k) root (Reaches-by (links_in (form_at h)) (links_at h) (λ j. sym (links_of-form (row_at h j))) r (f k) from);
             };
       }
 

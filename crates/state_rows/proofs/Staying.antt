@@ -4,7 +4,7 @@ use Rattle.node_heap.specs.Forms.{Form, cell, node, links_in}
 use Rattle.std.specs.Prelude.{IsSome}
 use Rattle.node_heap.specs.Heap.{Heap, row_at, form_at, links_at}
 use Rattle.node_heap.specs.Calls.{KeepsBelow, Extends}
-use Rattle.node_heap.proofs.Reach.{Reaches-trans, Reaches-alike}
+use Rattle.node_heap.proofs.Reach.{Reaches-trans, Reaches-by}
 use Rattle.rrb_core.specs.Vector.{IsGoodVector}
 use Rattle.rrb_core.specs.Vector.{height_at}
 use Rattle.rrb_core.proofs.Stays.{form-live, links-form, vector-stays, well-live}
@@ -30,7 +30,7 @@ pub goes-on : (old new : Heap Bytes) (l : ℕ) → KeepsBelow old new l → Goes
 goes-on old new l keeps = record {
   renamed = λ m down. forms-below old new l keeps m down ∙ sym (relink-self (form_at old m));
   vectors = λ k down good.
-      let seen = Reaches-alike (links_in (form_at old)) (links_at old) (λ j. sym (links-form old j)) l k down in
+      let seen = Reaches-by (links_in (form_at old)) (links_at old) (λ j. sym (links-form old j)) l k down in
       (vector-stays Bytes old new k (λ m more. keeps m (Reaches-trans (links_at old) l k m seen more)) good).0;
 }
 

@@ -1,11 +1,11 @@
 use Rattle.std.proofs.Common.{◌≡◌, ℕ, drop}
-use Rattle.node_heap.specs.Layout.{rows_in, IsDying, IsLow, KeepsRoom}
+use Rattle.node_heap.specs.Layout.{rows_of_slots, IsDying, IsLow, KeepsRoom}
 use Rattle.node_heap.proofs.heap.drop_places.Given as goal
 
 abbrev pub invariant-loop-link : goal.invariant-loop-link
 invariant-loop-link g l = record {
   dying : (H : ℕ → ℕ) → IsDying H l.fn.table.slots l.fn.first l.links → IsDying H l.table.slots l.next (drop l.link-index l.links);
   low : IsLow l.table.slots;
-  rows : rows_in l.table.slots ≡ rows_in l.fn.table.slots;
+  rows : rows_of_slots l.table.slots ≡ rows_of_slots l.fn.table.slots;
   room : KeepsRoom l.fn.table l.table;
 }

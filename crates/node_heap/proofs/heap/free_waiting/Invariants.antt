@@ -1,5 +1,5 @@
 use Rattle.std.proofs.Common.{◌≡◌, ℕ, ◌+◌, ◌≤◌, []}
-use Rattle.node_heap.specs.Layout.{IsDying, IsLow, Thins, cells_in, nodes_in, row_count}
+use Rattle.node_heap.specs.Layout.{IsDying, IsLow, Thins, cells_in, nodes_in, filled_count}
 use Rattle.node_heap.proofs.heap.free_waiting.Given as goal
 
 abbrev pub invariant-loop-next : goal.invariant-loop-next
@@ -11,8 +11,8 @@ invariant-loop-next g l = record {
   nodes : l.table.spare_nodes + nodes_in l.table.slots ≡ l.fn.table.spare_nodes + nodes_in l.fn.table.slots;
   more_cells : l.fn.table.spare_cells ≤ l.table.spare_cells;
   more_nodes : l.fn.table.spare_nodes ≤ l.table.spare_nodes;
-  len : row_count l.table.slots + (l.table.spare_cells + l.table.spare_nodes) ≡ row_count l.fn.table.slots + (l.fn.table.spare_cells + l.fn.table.spare_nodes);
+  len : filled_count l.table.slots + (l.table.spare_cells + l.table.spare_nodes) ≡ filled_count l.fn.table.slots + (l.fn.table.spare_cells + l.fn.table.spare_nodes);
 }
 
 abbrev pub decreases-loop-next : goal.decreases-loop-next
-decreases-loop-next g l = row_count l.table.slots
+decreases-loop-next g l = filled_count l.table.slots

@@ -2,7 +2,7 @@ use Rattle.std.proofs.Common.{sym, ap, ◌∙◌, arith}
 use Rattle.std.specs.Prelude.{slice_index}
 use Rattle.node_heap.specs.Forms.{links_of}
 use Rattle.node_heap.proofs.Slots.{row_at-slots}
-use Rattle.node_heap.proofs.Rewritten.{Moves-remove, total-moved, IsStored-moved, edits-moved, writes-moved, KeepsOwners-moved}
+use Rattle.node_heap.proofs.Rewritten.{Moves-remove, total-moved, IsHeap-moved, edits-moved, writes-moved, KeepsOwners-moved}
 use Rattle.node_heap.proofs.heap.Heap.remove_link.Goals as goal
 
 pub invariant_of-self : goal.invariant_of-self
@@ -13,7 +13,7 @@ invariant_of-self g c =
     let index = rw (← c.self.view_is, ← c.parent.view_is) at c.requires.index in
     let few = rw (← c.self.view_is) at c.requires.few in
     let moves = Moves-remove slots _ c.parent.inside.place 0 0 0 c.args.index stored.counted sole index c.remove_link.ensures.rewrites in
-    IsStored-moved slots _ _ _ _ _ _ _ _ _ _ _ stored moves c.remove_link.ensures.room (omega (arith, total-moved slots _ _ _ _ _ _ stored.counted moves, few))
+    IsHeap-moved slots _ _ _ _ _ _ _ _ _ _ _ stored moves c.remove_link.ensures.room (omega (arith, total-moved slots _ _ _ _ _ _ stored.counted moves, few))
 
 pub returns : goal.returns
 returns g c =

@@ -2,7 +2,7 @@ use Rattle.std.proofs.Common.{sym, ap, ◌∙◌, arith}
 use Rattle.std.specs.Prelude.{slice_index}
 use Rattle.node_heap.specs.Forms.{links_of}
 use Rattle.node_heap.proofs.Slots.{row_at-slots}
-use Rattle.node_heap.proofs.Rewritten.{Moves-replace, total-moved, IsStored-moved, edits-moved, writes-moved, KeepsOwners-moved}
+use Rattle.node_heap.proofs.Rewritten.{Moves-replace, total-moved, IsHeap-moved, edits-moved, writes-moved, KeepsOwners-moved}
 use Rattle.node_heap.proofs.heap.Heap.replace.Goals as goal
 
 pub invariant_of-self : goal.invariant_of-self
@@ -14,7 +14,7 @@ invariant_of-self g c =
     let held = rw (← c.self.view_is) at c.requires.held in
     let apart = rw (← c.self.view_is, ← c.parent.view_is) at c.requires.apart in
     let moves = Moves-replace slots _ c.parent.inside.place 0 0 0 c.args.index c.args.new stored.counted sole index held apart c.replace_link.ensures.rewrites in
-    IsStored-moved slots _ _ _ _ _ _ _ _ _ _ _ stored moves c.replace_link.ensures.room (omega (arith, total-moved slots _ _ _ _ _ _ stored.counted moves, stored.few_holds))
+    IsHeap-moved slots _ _ _ _ _ _ _ _ _ _ _ stored moves c.replace_link.ensures.room (omega (arith, total-moved slots _ _ _ _ _ _ stored.counted moves, stored.few_holds))
 
 pub returns : goal.returns
 returns g c =

@@ -1,6 +1,6 @@
 use Rattle.std.proofs.Common.{arith}
 use Rattle.node_heap.proofs.Frames.{Unchanged-refl, KeepsHeld-Unchanged, KeepsTrees-Unchanged}
-use Rattle.node_heap.proofs.Stored.{IsGraph-stored, Unchanged-stored, IsStored-reserved}
+use Rattle.node_heap.proofs.Stored.{IsGraph-stored, Unchanged-stored, IsHeap-reserved}
 use Rattle.node_heap.proofs.Owners.{KeepsOwners-Unchanged}
 use Rattle.node_heap.proofs.heap.Heap.reserve.Goals as goal
 
@@ -25,7 +25,7 @@ returns-then-len-spare_cells-ge-ROWS-clause-keeps g c = KeepsHeld-Unchanged _ _ 
 pub invariant_of-self : goal.invariant_of-self
 invariant_of-self g c =
     let done = c.reserve.ensures in
-    IsStored-reserved c.self.inside.table.slots _ _ _ _ _ _ done.slots c.self.invariant
+    IsHeap-reserved c.self.inside.table.slots _ _ _ _ _ _ done.slots c.self.invariant
     (omega (arith, c.len.ensures, c.if-len-spare_cells-ge-ROWS.false, done.few_cells, done.few_nodes))
 
 pub returns-in_err-reserve-clause-rest : goal.returns-in_err-reserve-clause-rest
@@ -45,7 +45,7 @@ returns-in_err-reserve-clause-trees g c = KeepsTrees-Unchanged _ _ (returns-in_e
 pub invariant_of-self-2 : goal.invariant_of-self-2
 invariant_of-self-2 g c =
     let done = c.reserve.ensures in
-    IsStored-reserved c.self.inside.table.slots _ _ _ _ _ _ done.slots c.self.invariant
+    IsHeap-reserved c.self.inside.table.slots _ _ _ _ _ _ done.slots c.self.invariant
     (omega (arith, c.len.ensures, c.if-len-spare_cells-ge-ROWS.false, done.few_cells, done.few_nodes))
 
 pub returns-clause-rest : goal.returns-clause-rest

@@ -1,6 +1,6 @@
 use Rattle.std.proofs.Common.{arith}
 use Rattle.node_heap.proofs.Slots.{row_at-slots}
-use Rattle.node_heap.proofs.Rewritten.{Moves-head, total-moved, IsStored-moved, edits-moved, writes-moved, KeepsOwners-moved}
+use Rattle.node_heap.proofs.Rewritten.{Moves-head, total-moved, IsHeap-moved, edits-moved, writes-moved, KeepsOwners-moved}
 use Rattle.node_heap.proofs.heap.Heap.set_head.Goals as goal
 
 pub invariant_of-self : goal.invariant_of-self
@@ -9,7 +9,7 @@ invariant_of-self g c =
     let stored = c.self.invariant in
     let sole = rw (← c.self.view_is, ← c.parent.view_is) at c.requires.sole in
     let moves = Moves-head slots _ c.parent.inside.place 0 0 0 c.args.head stored.counted sole c.set_head.ensures.rewrites in
-    IsStored-moved slots _ _ _ _ _ _ _ _ _ _ _ stored moves c.set_head.ensures.room (omega (arith, total-moved slots _ _ _ _ _ _ stored.counted moves, stored.few_holds))
+    IsHeap-moved slots _ _ _ _ _ _ _ _ _ _ _ stored moves c.set_head.ensures.room (omega (arith, total-moved slots _ _ _ _ _ _ stored.counted moves, stored.few_holds))
 
 pub returns : goal.returns
 returns g c =

@@ -1,5 +1,5 @@
 use Rattle.std.proofs.Common.{ap, ◌∙◌}
-use Rattle.node_heap.specs.Layout.{row_in}
+use Rattle.node_heap.specs.Layout.{row_of_slot}
 use Rattle.node_heap.proofs.Placed.{is_odd, node-live, read-node}
 use Rattle.node_heap.proofs.table.Table.copy_node.Goals as goal
 
@@ -11,4 +11,4 @@ returns g c =
     let i = c.self.inside in
     let odd = is_odd i.cells.items i.nodes.items c.args.place (rw (← c.self.view_is) at c.requires) in
     let links = c.kept.ensures ∙ c.as_slice.ensures.value in
-    rw (← c.self.view_is, c.copy.ensures, links) (ap row_in (read-node i.cells.items i.nodes.items c.args.place _ odd c.slot-slot.ensures))
+    rw (← c.self.view_is, c.copy.ensures, links) (ap row_of_slot (read-node i.cells.items i.nodes.items c.args.place _ odd c.slot-slot.ensures))

@@ -1,6 +1,6 @@
 use Rattle.std.proofs.Common.{sym, ap}
 use Rattle.node_heap.specs.Forms.{head_of}
-use Rattle.node_heap.specs.Layout.{row_in}
+use Rattle.node_heap.specs.Layout.{row_of_slot}
 use Rattle.node_heap.proofs.Placed.{live-node, read-node, cell-head}
 use Rattle.node_heap.proofs.table.Table.head.Goals as goal
 
@@ -24,4 +24,4 @@ returns g c =
     let cells = c.self.inside.cells.items in
     let nodes = c.self.inside.nodes.items in
     let place = c.args.place in
-    rw (← c.self.view_is) (sym (ap (λ o. head_of (row_in o)) (read-node cells nodes place _ c.if-place-eq0.false c.slot.ensures)))
+    rw (← c.self.view_is) (sym (ap (λ o. head_of (row_of_slot o)) (read-node cells nodes place _ c.if-place-eq0.false c.slot.ensures)))

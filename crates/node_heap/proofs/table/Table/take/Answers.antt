@@ -1,6 +1,6 @@
 use Rattle.std.proofs.Common.{None, refl, ◌/◌, sym, ap, arith}
 use Rattle.node_heap.specs.Forms.{links_of}
-use Rattle.node_heap.specs.Layout.{row_in, owners_in}
+use Rattle.node_heap.specs.Layout.{row_of_slot, owners_in}
 use Rattle.node_heap.proofs.Placed.{live-cell, live-node, read-cell, read-node, cell-links, set-cell, set-node, HasRoom-free}
 use Rattle.node_heap.proofs.Written.{taken}
 use Rattle.node_heap.proofs.table.Table.take.Goals as goal
@@ -44,7 +44,7 @@ returns-clause-owners g c =
 
 pub returns-clause-links : goal.returns-clause-links
 returns-clause-links g c =
-    rw (← c.self.view_is) (sym (ap (λ o. links_of (row_in o)) (read-node c.self.inside.cells.items c.self.inside.nodes.items c.args.place _ c.if-place-eq0.false c.take_out-slot-2.ensures.value)))
+    rw (← c.self.view_is) (sym (ap (λ o. links_of (row_of_slot o)) (read-node c.self.inside.cells.items c.self.inside.nodes.items c.args.place _ c.if-place-eq0.false c.take_out-slot-2.ensures.value)))
 
 pub returns-clause-takes : goal.returns-clause-takes
 returns-clause-takes g c =

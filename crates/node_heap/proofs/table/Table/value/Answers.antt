@@ -1,6 +1,6 @@
 use Rattle.std.proofs.Common.{sym, ap}
 use Rattle.node_heap.specs.Forms.{value_of}
-use Rattle.node_heap.specs.Layout.{row_in}
+use Rattle.node_heap.specs.Layout.{row_of_slot}
 use Rattle.node_heap.proofs.Placed.{live-cell, read-cell, node-value}
 use Rattle.node_heap.proofs.table.Table.value.Goals as goal
 
@@ -24,4 +24,4 @@ returns g c =
     let cells = c.self.inside.cells.items in
     let nodes = c.self.inside.nodes.items in
     let place = c.args.place in
-    rw (← c.self.view_is) (sym (ap (λ o. value_of (row_in o)) (read-cell cells nodes place _ c.if-place-ne0.false c.slot.ensures)))
+    rw (← c.self.view_is) (sym (ap (λ o. value_of (row_of_slot o)) (read-cell cells nodes place _ c.if-place-ne0.false c.slot.ensures)))
