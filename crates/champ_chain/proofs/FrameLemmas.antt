@@ -35,7 +35,7 @@ module _ {K : Type 0} where
       by_form None e is = cc
       by_form (Some (cell y)) e is = ap (key_of G) (keeps.kept l (cell y) e) ∙ is
       by_form (Some (node leaf links)) e is = cc
-      by_form (Some (node (inner h) links)) e is = cc
+      by_form (Some (node (inner height) links)) e is = cc
       by_form (Some (node (trie d s n) links)) e is = cc
       by_form (Some (node chain links)) e is = cc
       by_form (Some (node pair links)) e is = ap (key_of G) (keeps.kept l (node pair links) e) ∙ by_links links is

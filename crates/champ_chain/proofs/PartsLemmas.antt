@@ -10,8 +10,8 @@ use Rattle.std.specs.declared.cmp.Ordering.TheVariants.{Less, Equal}
 use Rattle.node_heap.specs.Forms.{Forms}
 use Rattle.champ_chain.specs.Entry.{Entry, SameSet, has_key, others, put, link_with, same_through, same_turned, entry}
 use Rattle.champ_chain.specs.Chain.{IsRising, AreChainRows, IsChain, IsEntryOrRows, IsEntryOrChain}
-use Rattle.champ_chain.specs.Spot.{Parts, IsSpot}
-use Rattle.champ_chain.specs.declared.spot.Spot.{Spot}
+use Rattle.champ_chain.specs.KeySpot.{Parts, IsKeySpot}
+use Rattle.champ_chain.specs.declared.spot.KeySpot.{KeySpot}
 use Rattle.champ_chain.proofs.SetLemmas.{same-length, same-middle, same-filter, same-find, same-one, count-cons, same-refl}
 use Rattle.champ_chain.proofs.RisingLemmas.{none-below, none-above, find-none, others-below, others-above, rising-left, rising-right, rising-both, rising-distinct, above-less, same-put}
 use Rattle.champ_chain.proofs.CopyLemmas.{take-front}
@@ -86,7 +86,7 @@ module _ {K : Type 0} (cmp : K → K → Ordering) (o : IsTotalOrder cmp) where
   pub find-chain : (F : Forms K) (l : ℕ) (E : List (Entry K)) (key : K) (c : IsChain cmp F l E) → Parts cmp key c.entries → find (has_key cmp key) c.entries ≡ find (has_key cmp key) E
   find-chain F l E key c p = same-find (has_key cmp key) c.entries E c.same ((rising-distinct cmp o c.entries c.rising).once key)
 
-  pub found-chain : (F : Forms K) (l : ℕ) (E : List (Entry K)) (key : K) (c : IsChain cmp F l E) (spot : Spot) → IsSpot cmp F c.entries key spot → spot.found ≡ link_with cmp key E
+  pub found-chain : (F : Forms K) (l : ℕ) (E : List (Entry K)) (key : K) (c : IsChain cmp F l E) (spot : KeySpot) → IsKeySpot cmp F c.entries key spot → spot.found ≡ link_with cmp key E
   found-chain F l E key c spot s = sym s.found ∙ ap (option_map (λ (e : Entry K). e.link)) (sym (find-parts key c.entries s.parts) ∙ find-chain F l E key c s.parts)
 
   -- the chain with an entry
@@ -120,22 +120,22 @@ module _ {K : Type 0} (cmp : K → K → Ordering) (o : IsTotalOrder cmp) where
       entry-or-chain G m (p.smaller ++ p.greater) (others cmp key E) same (rising-without key c.entries p c.rising) is
 
   -- so many entries come before the place of a key
-  pub before-le : (F : Forms K) (es : List (Entry K)) (key : K) (spot : Spot) → IsSpot cmp F es key spot → spot.before ≤ length es
+  pub before-le : (F : Forms K) (es : List (Entry K)) (key : K) (spot : KeySpot) → IsKeySpot cmp F es key spot → spot.before ≤ length es
   before-le F es key spot s = omega (arith, length-parts key es s.parts, s.before)
 
   -- the entries before the place, the key's own one, and those after it are all
-  pub whole-length : (F : Forms K) (es : List (Entry K)) (key : K) (spot : Spot) (s : IsSpot cmp F es key spot) → spot.before + from_bool (is_some spot.found) + length s.parts.greater ≡ length es
+  pub whole-length : (F : Forms K) (es : List (Entry K)) (key : K) (spot : KeySpot) (s : IsKeySpot cmp F es key spot) → spot.before + from_bool (is_some spot.found) + length s.parts.greater ≡ length es
   whole-length F es key spot s = omega (arith, length-parts key es s.parts, s.before, by_found s.parts.equal, ap (λ r. from_bool (is_some r)) s.found)
     where
       by_found : (e : Option (Entry K)) → from_bool (is_some (option_map (λ (d : Entry K). d.link) e)) ≡ length (option_to_list e)
       by_found None = refl
       by_found (Some d) = refl
 
-  pub take-before : (F : Forms K) (es : List (Entry K)) (key : K) (spot : Spot) (s : IsSpot cmp F es key spot) → take spot.before es ≡ s.parts.smaller
+  pub take-before : (F : Forms K) (es : List (Entry K)) (key : K) (spot : KeySpot) (s : IsKeySpot cmp F es key spot) → take spot.before es ≡ s.parts.smaller
   take-before F es key spot s = ap (λ n. take n es) (sym s.before) ∙ take-parts key es s.parts
 
   -- where the key is there, it is not the only one
-  pub some-left : (F : Forms K) (l : ℕ) (E : List (Entry K)) (key : K) (c : IsChain cmp F l E) (spot : Spot) (s : IsSpot cmp F c.entries key spot) → 0 < spot.before + length s.parts.greater
+  pub some-left : (F : Forms K) (l : ℕ) (E : List (Entry K)) (key : K) (c : IsChain cmp F l E) (spot : KeySpot) (s : IsKeySpot cmp F c.entries key spot) → 0 < spot.before + length s.parts.greater
   some-left F l E key c spot s = omega (arith, length-parts key c.entries s.parts, one-equal key c.entries s.parts, same-length _ _ c.same, c.two, s.before)
 
   -- a chain of two entries

@@ -7,7 +7,7 @@ use Rattle.std.specs.declared.cmp.Ordering.TheVariants.{Less, Equal, Greater}
 use Rattle.node_heap.specs.Forms.{Form, Forms, node, chain}
 use Rattle.champ_chain.specs.Entry.{Entry, key_at}
 use Rattle.champ_chain.specs.Chain.{AreChainRows, AreAbove, AreBelow, IsRising}
-use Rattle.champ_chain.specs.Spot.{IsSpot}
+use Rattle.champ_chain.specs.KeySpot.{IsKeySpot}
 use Rattle.champ_chain.proofs.RisingLemmas.{less_flip, above-less, above-same, below-push, rising-right}
 
 list-inside : (m n : Option ℕ) → option_to_list m ≡ option_to_list n → m ≡ n
@@ -111,7 +111,7 @@ module _ {K : Type 0} where
         rising-left' : IsRising cmp (at.first ∷ at.others)
         rising-left' = subst (IsRising cmp) at.whole (rising-right cmp o p.seen p.left (subst (IsRising cmp) p.whole r))
 
-        pub spot-less : cmp key k ≡ Less → IsSpot cmp F es key (record { before = before; found = None; rest = Some link })
+        pub spot-less : cmp key k ≡ Less → IsKeySpot cmp F es key (record { before = before; found = None; rest = Some link })
         spot-less less = record {
           parts = record {
             smaller = p.seen;
@@ -127,7 +127,7 @@ module _ {K : Type 0} where
           rest = p.rows;
         }
 
-        pub spot-equal : cmp key k ≡ Equal → IsSpot cmp F es key (record { before = before; found = Some x; rest = next })
+        pub spot-equal : cmp key k ≡ Equal → IsKeySpot cmp F es key (record { before = before; found = Some x; rest = next })
         spot-equal equal = record {
           parts = record {
             smaller = p.seen;
@@ -152,7 +152,7 @@ module _ {K : Type 0} where
         smaller_more : cmp key k ≡ Greater → AreBelow cmp key (p.seen ++ at.first ∷ [])
         smaller_more greater = below-push cmp o key p.seen at.first p.smaller (less_flip cmp o key at.first.key (order Greater greater))
 
-        pub spot-greatest : cmp key k ≡ Greater → next ≡ None → IsSpot cmp F es key (record { before = before + 1; found = None; rest = None })
+        pub spot-greatest : cmp key k ≡ Greater → next ≡ None → IsKeySpot cmp F es key (record { before = before + 1; found = None; rest = None })
         unfolding AreChainRows
         spot-greatest greater last =
             let none : at.others ≡ [] = rows-none F at.others (subst (λ n. AreChainRows F n at.others) (same_next ∙ last) at.rows) in

@@ -10,8 +10,8 @@ use Rattle.node_heap.specs.Calls.{Extends, Builds}
 use Rattle.node_heap.specs.declared.row.Head.TheVariants.{Chain}
 use Rattle.champ_chain.specs.Entry.{Entry, entry, key_at, key_of, put}
 use Rattle.champ_chain.specs.Chain.{AreChainRows, IsChain}
-use Rattle.champ_chain.specs.Spot.{IsSpot}
-use Rattle.champ_chain.specs.declared.spot.Spot.{Spot}
+use Rattle.champ_chain.specs.KeySpot.{IsKeySpot}
+use Rattle.champ_chain.specs.declared.spot.KeySpot.{KeySpot}
 use Rattle.champ_chain.proofs.FrameLemmas.{forms-kept, rows-kept, key-kept}
 use Rattle.node_heap.proofs.BuildLemmas.{count-cons, count-one, Builds-both, Builds-then, Builds-more, Builds-as}
 use Rattle.champ_chain.proofs.SpotLemmas.{first-row}
@@ -35,7 +35,7 @@ module _ {T : Type 0} where
 
   module _ (cmp : T → T → Ordering) (o : IsTotalOrder cmp) where
     -- the new rows are the chain with the entry
-    pub with-rows : (old made new : Heap T) (chain x m r : ℕ) (E : List (Entry T)) (key : T) (c : IsChain cmp (form_at old) chain E) (spot : Spot) (s : IsSpot cmp (form_at old) c.entries key spot)
+    pub with-rows : (old made new : Heap T) (chain x m r : ℕ) (E : List (Entry T)) (key : T) (c : IsChain cmp (form_at old) chain E) (spot : KeySpot) (s : IsKeySpot cmp (form_at old) c.entries key spot)
         → Extends old made → key_at (form_at old) x ≡ Some key → row_at made m ≡ Some (node Chain (x ∷ option_to_list spot.rest))
         → ((es ts : List (Entry T)) → AreChainRows (form_at made) (Some chain) es → spot.before ≤ length es → AreChainRows (form_at made) (Some m) ts → AreChainRows (form_at new) (Some r) (take spot.before es ++ ts))
         → spot.before ≤ length c.entries → IsChain cmp (form_at new) r (put cmp E (entry key x))

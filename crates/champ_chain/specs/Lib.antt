@@ -1,3 +1,3 @@
 pub mod Entry
 pub mod Chain
-pub mod Spot
+pub mod KeySpot

@@ -22,7 +22,7 @@ use elem_core::{Element, NoMemory, Probe};
 use node_heap::{Heap, Link};
 pub use rows::key_of;
 use rows::{closed, copied_over, hold_tail, in_order, row_over, rows_from};
-use spot::spot_of;
+use spot::key_spot_of;
 use std::cmp::Ordering;
 
 /// What a look-up finds at a key's place.
@@ -41,7 +41,7 @@ pub fn find<T: Element, P: Probe<T>>(heap: &Heap<T>, chain: Link, key: &P) -> Op
         result ≡ link_with T.cmp (P.stands_for key.now) E }
     ensures graph { IsGraph heap.now }
 {
-    spot_of(heap, chain, key).found
+    key_spot_of(heap, chain, key).found
 }
 
 /// The number of entries of a chain, below 2^56.
@@ -63,7 +63,7 @@ pub fn look_up<T: Element, P: Probe<T>>(heap: &Heap<T>, chain: Link, key: &P) ->
     ensures few { result.alike < 2 ^ 56 }
     ensures graph { IsGraph heap.now }
 {
-    let spot = spot_of(heap, chain, key);
+    let spot = key_spot_of(heap, chain, key);
     Found {
         entry: spot.found,
         alike: spot.before + usize::from(spot.found.is_some()) + rows_from(heap, spot.rest),
@@ -141,7 +141,7 @@ pub fn added<T: Element>(heap: &mut Heap<T>, chain: Link, entry: Link) -> Link
         IsChain T.cmp (form_at heap.new) result (put T.cmp E (entry_of k entry)) }
     ensures chains { KeepsChains heap.old heap.new }
 {
-    let spot = spot_of(heap, chain, key_of(heap, entry));
+    let spot = key_spot_of(heap, chain, key_of(heap, entry));
     hold_tail(heap, spot.rest);
     let made = row_over(heap, entry, spot.rest);
     copied_over(heap, chain, spot.before, made)
@@ -188,6 +188,6 @@ pub fn removed<T: Element, P: Probe<T>>(heap: &mut Heap<T>, chain: Link, key: &P
         IsEntryOrChain T.cmp (form_at heap.new) result (others T.cmp (P.stands_for key.now) E) }
     ensures chains { KeepsChains heap.old heap.new }
 {
-    let spot = spot_of(heap, chain, key);
+    let spot = key_spot_of(heap, chain, key);
     closed(heap, chain, spot.before, spot.rest)
 }

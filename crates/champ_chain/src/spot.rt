@@ -3,7 +3,7 @@ ghost use Rattle.std.specs.Prelude.{◌≡◌, List, Some};
 ghost use Rattle.node_heap.specs.Heap.{form_at, IsGraph};
 ghost use Rattle.champ_chain.specs.Entry.{Entry};
 ghost use Rattle.champ_chain.specs.Chain.{AreChainRows, IsRising};
-ghost use Rattle.champ_chain.specs.Spot.{IsSpot};
+ghost use Rattle.champ_chain.specs.KeySpot.{IsKeySpot};
 
 use crate::rows::{key_of, row_of};
 use elem_core::{Element, Probe};
@@ -12,18 +12,18 @@ use std::cmp::Ordering;
 
 // The place of a key: how many entries come before it, its own entry if there is one, and the first row after it.
 #[derive(Clone, Copy)]
-pub(crate) struct Spot {
+pub(crate) struct KeySpot {
     pub(crate) before: usize,
     pub(crate) found: Option<Link>,
     pub(crate) rest: Option<Link>,
 }
 
 // Where the key belongs in the chain.
-pub(crate) fn spot_of<T: Element, P: Probe<T>>(heap: &Heap<T>, chain: Link, key: &P) -> Spot
+pub(crate) fn key_spot_of<T: Element, P: Probe<T>>(heap: &Heap<T>, chain: Link, key: &P) -> KeySpot
     requires { (es : List (Entry T)) × AreChainRows (form_at heap.now) (Some chain) es × IsRising T.cmp es }
     ensures graph { IsGraph heap.now }
     ensures spot { (es : List (Entry T)) → AreChainRows (form_at heap.now) (Some chain) es → IsRising T.cmp es →
-        IsSpot T.cmp (form_at heap.now) es (P.stands_for key.now) result }
+        IsKeySpot T.cmp (form_at heap.now) es (P.stands_for key.now) result }
 {
     let mut link = chain;
     // A chain has no more rows than the heap.
@@ -31,14 +31,14 @@ pub(crate) fn spot_of<T: Element, P: Probe<T>>(heap: &Heap<T>, chain: Link, key:
         let row = row_of(heap, link);
         match key.order(key_of(heap, row.entry)) {
             Ordering::Less => {
-                return Spot {
+                return KeySpot {
                     before,
                     found: None,
                     rest: Some(link),
                 };
             }
             Ordering::Equal => {
-                return Spot {
+                return KeySpot {
                     before,
                     found: Some(row.entry),
                     rest: row.next,
@@ -47,7 +47,7 @@ pub(crate) fn spot_of<T: Element, P: Probe<T>>(heap: &Heap<T>, chain: Link, key:
             Ordering::Greater => match row.next {
                 Some(next) => link = next,
                 None => {
-                    return Spot {
+                    return KeySpot {
                         before: before + 1,
                         found: None,
                         rest: None,

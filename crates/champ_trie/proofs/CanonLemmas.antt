@@ -412,7 +412,7 @@ module _ {K : Type 0} where
     where
       by_kind : (kind : Kind) → key_of F (Some (node kind links)) ≡ Some k → tree_key (tree_node kind us) ≡ Some k
       by_kind leaf is = absurd cc
-      by_kind (inner h) is = absurd cc
+      by_kind (inner height) is = absurd cc
       by_kind (trie d e n) is = absurd cc
       by_kind chain is = absurd cc
       by_kind pair is = first-tree F pair links k us is are

@@ -42,7 +42,7 @@ module _ {T : Type 0} where
     where
       by_head : (head : Head) → head ≡ Trie d e n → IsWalkRow {K = T} (Some (node (kind_of head) links)) → count_ones e ≡ entry_count {K = T} (Some (node (kind_of head) links))
       by_head Leaf same walk = absurd walk
-      by_head (Inner h sums) same walk = absurd walk
+      by_head (Inner height sums) same walk = absurd walk
       by_head (Trie d' e' n') same walk = (let at : e' ≡ e = cc in ap count_ones (sym at) ∙ count-rank e' walk.entries_small)
       by_head Chain same walk = cc
       by_head Pair same walk = absurd walk
@@ -57,7 +57,7 @@ module _ {T : Type 0} where
   head-walk None walk = absurd walk
   head-walk (Some (cell x)) walk = absurd walk
   head-walk (Some (node Leaf links)) walk = absurd walk
-  head-walk (Some (node (Inner h sums) links)) walk = absurd walk
+  head-walk (Some (node (Inner height sums) links)) walk = absurd walk
   head-walk (Some (node (Trie d e n) links)) walk = inl (d, e, n, refl)
   head-walk (Some (node Chain links)) walk = inr refl
   head-walk (Some (node Pair links)) walk = absurd walk
@@ -68,7 +68,7 @@ module _ {K : Type 0} where
   count-fits None walk = absurd walk
   count-fits (Some (cell x)) walk = absurd walk
   count-fits (Some (node leaf links)) walk = absurd walk
-  count-fits (Some (node (inner h) links)) walk = absurd walk
+  count-fits (Some (node (inner height) links)) walk = absurd walk
   count-fits (Some (node (trie d e n) links)) walk = omega (arith, walk.count)
   count-fits (Some (node chain links)) walk = walk
   count-fits (Some (node pair links)) walk = absurd walk

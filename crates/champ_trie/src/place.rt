@@ -33,7 +33,7 @@ pub(crate) fn rank_of(set: u32, position: u32) -> u32
 }
 
 // The set with the position, which it hasn't.
-pub(crate) fn added(set: u32, position: u32) -> u32
+pub(crate) fn with_position(set: u32, position: u32) -> u32
     requires position { position < 32 }
     requires free { has set position ≡ false }
     ensures { Gains set result position }

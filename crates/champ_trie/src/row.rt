@@ -9,7 +9,7 @@ ghost use Rattle.champ_trie.specs.Trie.{AreSets, IsRow, place_of, links_at_place
 ghost use Rattle.champ_trie.specs.Edit.{Closes};
 ghost use Rattle.champ_trie.specs.declared.place.Place.TheVariants.{Empty, Entry as At, Node};
 
-use crate::place::{Place, added, cleared, contains, place_among, rank_of};
+use crate::place::{Place, cleared, contains, place_among, rank_of, with_position};
 use arrayvec::ArrayVec;
 use node_heap::{Head, Heap, Link};
 
@@ -89,12 +89,12 @@ impl TrieRow {
             Place::Entry(entry) => {
                 self.links
                     .insert(rank_of(self.entries, position) as usize, entry);
-                self.entries = added(self.entries, position);
+                self.entries = with_position(self.entries, position);
             }
             Place::Node(node) => {
-                let place = self.entries.count_ones() + rank_of(self.nodes, position);
-                self.links.insert(place as usize, node);
-                self.nodes = added(self.nodes, position);
+                let index = self.entries.count_ones() + rank_of(self.nodes, position);
+                self.links.insert(index as usize, node);
+                self.nodes = with_position(self.nodes, position);
             }
         }
     }

@@ -5,7 +5,7 @@ use Rattle.std.specs.declared.cmp.Ordering.TheVariants.{Equal}
 use Rattle.node_heap.specs.Forms.{Forms}
 use Rattle.champ_chain.specs.Entry.{Entry}
 use Rattle.champ_chain.specs.Chain.{AreChainRows, AreBelow, AreAbove}
-use Rattle.champ_chain.specs.declared.spot.Spot.{Spot}
+use Rattle.champ_chain.specs.declared.spot.KeySpot.{KeySpot}
 
 -- the entries with smaller keys, the one with the key if there is one, and those with greater keys
 pub record Parts {K : Type 0} (cmp : K → K → Ordering) (key : K) (es : List (Entry K)) : Type 0 where
@@ -18,7 +18,7 @@ pub record Parts {K : Type 0} (cmp : K → K → Ordering) (key : K) (es : List 
   pub are_greater : AreAbove cmp key greater
 
 -- the spot has the number of the smaller keys, the entry with the key, and the rows of the greater ones
-pub record IsSpot {K : Type 0} (cmp : K → K → Ordering) (F : Forms K) (es : List (Entry K)) (key : K) (spot : Spot) : Type 0 where
+pub record IsKeySpot {K : Type 0} (cmp : K → K → Ordering) (F : Forms K) (es : List (Entry K)) (key : K) (spot : KeySpot) : Type 0 where
   pub parts : Parts cmp key es
   pub before : length parts.smaller ≡ spot.before
   pub found : option_map (λ e. e.link) parts.equal ≡ spot.found

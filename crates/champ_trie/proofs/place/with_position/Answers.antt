@@ -1,7 +1,7 @@
 use Rattle.std.specs.Int.{w32}
 use Rattle.std.proofs.lemmas.Nat.Bits.{bit_at_set_same, bit_at_set_other}
 use Rattle.champ_trie.proofs.BitLemmas.{bit-no}
-use Rattle.champ_trie.proofs.place.added.Goals as goal
+use Rattle.champ_trie.proofs.place.with_position.Goals as goal
 
 pub returns : goal.returns
 returns c = record {

@@ -2,7 +2,7 @@ use Rattle.std.proofs.Common.{arith, sym, Some}
 use Rattle.node_heap.specs.Heap.{form_at}
 use Rattle.champ_chain.proofs.FrameLemmas.{rows-live}
 use Rattle.champ_chain.proofs.SpotLemmas.{first-row, entry-keyed, passed-none, passed-more, passed-less, spot-less, spot-equal, spot-greatest}
-use Rattle.champ_chain.proofs.spot.spot_of.Goals as goal
+use Rattle.champ_chain.proofs.spot.key_spot_of.Goals as goal
 
 pub row_of-row-requires : goal.row_of-row-requires
 row_of-row-requires g c =
