@@ -12,8 +12,8 @@ use Rattle.plain_space.specs.Memory.{wants_memory}
 use Rattle.plain_space.specs.Session.{replies, from}
 
 -- From a new space, the commands get these reply lines.
-abbrev pub Replies : List PlainCommand → List Bytes → Type 0
-Replies commands lines = replies start commands ≡ lines
+abbrev pub GetReplies : List PlainCommand → List Bytes → Type 0
+GetReplies commands lines = replies start commands ≡ lines
 
 -- Texts as their bytes.
 abbrev pub lines : List String → List Bytes
@@ -55,109 +55,109 @@ z = codes "z"
 
 -- Lines that a buffer doesn't have, and a name that is taken.
 abbrev pub RangesRow : Type 0
-RangesRow = Replies
+RangesRow = GetReplies
     (edit (new a) ∷ edit (add a x) ∷ get a 1 ∷ show a 1 1 ∷ show a 0 2 ∷ edit (new a) ∷ [])
     (lines ("ok" ∷ "ok" ∷ "! range" ∷ "ok" ∷ "! range" ∷ "! exists" ∷ []))
 
 -- The place after the last line, and buffers that aren't there.
 abbrev pub MissingRow : Type 0
-MissingRow = Replies
+MissingRow = GetReplies
     (edit (new a) ∷ edit (add a x) ∷ edit (set a 1 y) ∷ edit (set b 0 y) ∷ edit (put b 0 y) ∷ edit (del b 0 0) ∷ edit (cat a b) ∷ edit (cat b a) ∷ edit (copy b a) ∷ edit (drop b) ∷ get b 0 ∷ show b 0 0 ∷ len b ∷ [])
     (lines ("ok" ∷ "ok" ∷ "! range" ∷ "! none" ∷ "! none" ∷ "! none" ∷ "! none" ∷ "! none" ∷ "! none" ∷ "! none" ∷ "! none" ∷ "! none" ∷ "! none" ∷ []))
 
 -- Lines put before others, and the place after the last.
 abbrev pub PutRow : Type 0
-PutRow = Replies
+PutRow = GetReplies
     (edit (new a) ∷ edit (put a 0 x) ∷ edit (put a 0 y) ∷ edit (put a 1 z) ∷ show a 0 3 ∷ edit (put a 4 x) ∷ edit (put a 3 p) ∷ get a 3 ∷ [])
     (lines ("ok" ∷ "ok" ∷ "ok" ∷ "ok" ∷ "= y" ∷ "= z" ∷ "= x" ∷ "ok" ∷ "! range" ∷ "ok" ∷ "= p" ∷ []))
 
 -- Lines that are cut, joined and deleted.
 abbrev pub CutRow : Type 0
-CutRow = Replies
+CutRow = GetReplies
     (edit (new a) ∷ edit (add a p) ∷ edit (add a q) ∷ edit (add a r) ∷ edit (cut a 0 2 b) ∷ show b 0 2 ∷ len a ∷ edit (cat a b) ∷ show a 0 3 ∷ edit (del a 1 3) ∷ len a ∷ [])
     (lines ("ok" ∷ "ok" ∷ "ok" ∷ "ok" ∷ "ok" ∷ "= p" ∷ "= q" ∷ "ok" ∷ "= 1" ∷ "ok" ∷ "= r" ∷ "= p" ∷ "= q" ∷ "ok" ∷ "ok" ∷ "= 1" ∷ []))
 
 -- Lines cut from a buffer into itself, and ranges that are none.
 abbrev pub CutItselfRow : Type 0
-CutItselfRow = Replies
+CutItselfRow = GetReplies
     (edit (new a) ∷ edit (add a x) ∷ edit (add a y) ∷ edit (cut a 1 0 b) ∷ edit (cut a 0 3 b) ∷ edit (cut b 0 0 a) ∷ edit (cut a 0 1 a) ∷ show a 0 1 ∷ len a ∷ [])
     (lines ("ok" ∷ "ok" ∷ "ok" ∷ "! range" ∷ "! range" ∷ "! none" ∷ "ok" ∷ "= x" ∷ "ok" ∷ "= 1" ∷ []))
 
 -- A copy stays when the first is gone, and takes the place of what was there.
 abbrev pub CopyRow : Type 0
-CopyRow = Replies
+CopyRow = GetReplies
     (edit (new a) ∷ edit (add a x) ∷ edit (copy a b) ∷ edit (drop a) ∷ len a ∷ list ∷ undo ∷ edit (add a y) ∷ edit (copy a b) ∷ show b 0 2 ∷ [])
     (lines ("ok" ∷ "ok" ∷ "ok" ∷ "ok" ∷ "! none" ∷ "= b 1" ∷ "ok" ∷ "ok" ∷ "ok" ∷ "ok" ∷ "= x" ∷ "= y" ∷ "ok" ∷ []))
 
 -- A buffer is doubled until it would pass the most lines.
 abbrev pub DoublingRow : Type 0
-DoublingRow = Replies
+DoublingRow = GetReplies
     (edit (new a) ∷ edit (add a x) ∷ replicate 32 (edit (cat a a)) ++ len a ∷ [])
     (replicate 33 (codes "ok") ++ lines ("! limit" ∷ "= 2147483648" ∷ []))
 
 -- A buffer with more lines than there is time to compare is the same as its copy, and so are two versions with both.
 abbrev pub DoubledEqualRow : Type 0
-DoubledEqualRow = Replies
+DoubledEqualRow = GetReplies
     (edit (new a) ∷ edit (add a x) ∷ replicate 31 (edit (cat a a)) ++ edit (copy a b) ∷ mark v ∷ edit (new c) ∷ edit (drop c) ∷ mark w ∷ replicate 100 (same a b) ++ replicate 100 (eqv v w))
     (replicate 38 (codes "ok") ++ replicate 200 (codes "= yes"))
 
 -- Stars, and names in byte order.
 abbrev pub StarsRow : Type 0
-StarsRow = Replies
+StarsRow = GetReplies
     (edit (star z) ∷ edit (star z) ∷ edit (new b) ∷ edit (new (codes "B")) ∷ edit (copy b c) ∷ same b c ∷ list ∷ stars ∷ edit (unstar y) ∷ undo ∷ list ∷ [])
     (lines ("ok" ∷ "! exists" ∷ "ok" ∷ "ok" ∷ "ok" ∷ "= yes" ∷ "= B 0" ∷ "= b 0" ∷ "= c 0" ∷ "ok" ∷ "= z" ∷ "ok" ∷ "! none" ∷ "ok" ∷ "= B 0" ∷ "= b 0" ∷ "ok" ∷ []))
 
 -- An edit after an undo empties redo.
 abbrev pub UndoRow : Type 0
-UndoRow = Replies
+UndoRow = GetReplies
     (edit (new a) ∷ edit (add a x) ∷ undo ∷ edit (add a y) ∷ redo ∷ get a 0 ∷ [])
     (lines ("ok" ∷ "ok" ∷ "ok" ∷ "ok" ∷ "! empty" ∷ "= y" ∷ []))
 
 -- An undo takes back a star, and a redo sets it again.
 abbrev pub UndoStarRow : Type 0
-UndoStarRow = Replies
+UndoStarRow = GetReplies
     (edit (star z) ∷ edit (star y) ∷ stars ∷ edit (unstar z) ∷ undo ∷ undo ∷ stars ∷ redo ∷ redo ∷ stars ∷ redo ∷ [])
     (lines ("ok" ∷ "ok" ∷ "= y" ∷ "= z" ∷ "ok" ∷ "ok" ∷ "ok" ∷ "ok" ∷ "= z" ∷ "ok" ∷ "ok" ∷ "ok" ∷ "= y" ∷ "ok" ∷ "! empty" ∷ []))
 
 -- Versions are named, compared, listed and taken away.
 abbrev pub MarksRow : Type 0
-MarksRow = Replies
+MarksRow = GetReplies
     (mark v ∷ mark v ∷ edit (new a) ∷ mark w ∷ eqv v w ∷ marks ∷ unmark v ∷ back v ∷ unmark v ∷ mark p ∷ marks ∷ [])
     (lines ("ok" ∷ "! exists" ∷ "ok" ∷ "ok" ∷ "= no" ∷ "= v" ∷ "= w" ∷ "ok" ∷ "ok" ∷ "! none" ∷ "! none" ∷ "ok" ∷ "= p" ∷ "= w" ∷ "ok" ∷ []))
 
 -- A version that is current again can be undone, and stays a version.
 abbrev pub BackRow : Type 0
-BackRow = Replies
+BackRow = GetReplies
     (edit (new a) ∷ edit (add a p) ∷ mark v ∷ edit (set a 0 x) ∷ get a 0 ∷ back v ∷ get a 0 ∷ undo ∷ get a 0 ∷ redo ∷ get a 0 ∷ marks ∷ [])
     (lines ("ok" ∷ "ok" ∷ "ok" ∷ "ok" ∷ "= x" ∷ "ok" ∷ "= p" ∷ "ok" ∷ "= x" ∷ "ok" ∷ "= p" ∷ "= v" ∷ "ok" ∷ []))
 
 -- A batch that ends is one step of undo, and empties redo.
 abbrev pub BatchRow : Type 0
-BatchRow = Replies
+BatchRow = GetReplies
     (edit (new a) ∷ begin ∷ edit (add a x) ∷ edit (add a y) ∷ end ∷ undo ∷ len a ∷ redo ∷ len a ∷ undo ∷ begin ∷ edit (add a z) ∷ end ∷ redo ∷ len a ∷ [])
     (lines ("ok" ∷ "ok" ∷ "ok" ∷ "ok" ∷ "ok" ∷ "ok" ∷ "= 0" ∷ "ok" ∷ "= 2" ∷ "ok" ∷ "ok" ∷ "ok" ∷ "ok" ∷ "! empty" ∷ "= 1" ∷ []))
 
 -- A batch that is given up leaves all as it was, undo and redo too.
 abbrev pub AbortRow : Type 0
-AbortRow = Replies
+AbortRow = GetReplies
     (edit (new a) ∷ edit (add a p) ∷ edit (add a q) ∷ undo ∷ begin ∷ edit (set a 0 x) ∷ get a 0 ∷ save p ∷ abort ∷ get a 0 ∷ end ∷ redo ∷ undo ∷ undo ∷ len a ∷ [])
     (lines ("ok" ∷ "ok" ∷ "ok" ∷ "ok" ∷ "ok" ∷ "ok" ∷ "= x" ∷ "! batch" ∷ "ok" ∷ "= p" ∷ "! batch" ∷ "ok" ∷ "ok" ∷ "ok" ∷ "= 0" ∷ []))
 
 -- What a batch refuses, and what is refused where none is open.
 abbrev pub InBatchRow : Type 0
-InBatchRow = Replies
+InBatchRow = GetReplies
     (end ∷ abort ∷ begin ∷ begin ∷ mark v ∷ unmark v ∷ back v ∷ undo ∷ redo ∷ save p ∷ load p ∷ eqv v v ∷ edit (new a) ∷ same a a ∷ end ∷ redo ∷ undo ∷ list ∷ undo ∷ quit ∷ [])
     (lines ("! batch" ∷ "! batch" ∷ "ok" ∷ "! batch" ∷ "! batch" ∷ "! batch" ∷ "! batch" ∷ "! batch" ∷ "! batch" ∷ "! batch" ∷ "! batch" ∷ "! none" ∷ "ok" ∷ "= yes" ∷ "ok" ∷ "! empty" ∷ "ok" ∷ "ok" ∷ "! empty" ∷ "ok" ∷ []))
 
 -- Buffers are the same by their lines alone, and both have to be there.
 abbrev pub EqualLinesRow : Type 0
-EqualLinesRow = Replies
+EqualLinesRow = GetReplies
     (edit (new a) ∷ edit (add a x) ∷ same a a ∷ same a b ∷ same b a ∷ edit (copy a b) ∷ same a b ∷ edit (set b 0 y) ∷ same a b ∷ edit (set b 0 x) ∷ same b a ∷ edit (add b x) ∷ same a b ∷ [])
     (lines ("ok" ∷ "ok" ∷ "= yes" ∷ "! none" ∷ "! none" ∷ "ok" ∷ "= yes" ∷ "ok" ∷ "= no" ∷ "ok" ∷ "= yes" ∷ "ok" ∷ "= no" ∷ []))
 
 -- A version is the same again where a buffer is changed and changed back. It differs by one line, by one name or by stars alone.
 abbrev pub EqualVersionsRow : Type 0
-EqualVersionsRow = Replies
+EqualVersionsRow = GetReplies
     (edit (new a) ∷ edit (add a x) ∷ mark v ∷ edit (set a 0 y) ∷ mark p ∷ eqv v p ∷ edit (set a 0 x) ∷ mark w ∷ eqv v w ∷ edit (star z) ∷ mark z ∷ eqv v z ∷ edit (unstar z) ∷ edit (copy a b) ∷ edit (drop a) ∷ mark q ∷ eqv v q ∷ eqv v y ∷ eqv y v ∷ eqv v v ∷ [])
     (lines ("ok" ∷ "ok" ∷ "ok" ∷ "ok" ∷ "ok" ∷ "= no" ∷ "ok" ∷ "ok" ∷ "= yes" ∷ "ok" ∷ "ok" ∷ "= no" ∷ "ok" ∷ "ok" ∷ "ok" ∷ "ok" ∷ "= no" ∷ "! none" ∷ "! none" ∷ "= yes" ∷ []))
 
