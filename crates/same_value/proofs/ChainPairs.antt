@@ -10,8 +10,8 @@ use Rattle.champ_chain.specs.Entry.{Entry, key_at, key_of}
 use Rattle.champ_chain.specs.Chain.{AreChainRows}
 use Rattle.champ_chain.proofs.SpotLemmas.{first-row, row-entry, row-next, rows-none}
 use Rattle.champ_trie.specs.Walk.{rows_below, rows_from}
-use Rattle.same_value.specs.Alike.{Alike, AreAlike, alike_entries, alike_rows, alike_none, alike_then, IsChainFrom}
-use Rattle.same_value.proofs.AlikeLemmas.{alike-at, alike-count, links-alike, entry-alike, chain-itself}
+use Rattle.same_value.specs.Congruent.{Congruent, AreCongruent, congruent_entries, congruent_rows, congruent_none, congruent_then, IsChainFrom}
+use Rattle.same_value.proofs.CongruentLemmas.{congruent-at, congruent-count, links-congruent, entry-congruent, chain-itself}
 use Rattle.same_value.proofs.ChainRows.{Passed}
 
 module _ {K : Type 0} (F : Forms K) where
@@ -47,9 +47,9 @@ module _ {K : Type 0} (cmp : K → K → Ordering) (o : IsTotalOrder cmp) (F : F
   pub right-row : (x : ℕ) × (next : Option ℕ) × (F right ≡ Some (node chain (x ∷ option_to_list next)))
   right-row = (let at = first-row F right (drop p.passed second.entries) p.right_rows in (at.first.link, at.next, at.row))
 
-  pub same-links : left ≡ right → Alike F IsSame left right
+  pub same-links : left ≡ right → Congruent F IsSame left right
   same-links same =
-      subst (Alike F IsSame left) same
+      subst (Congruent F IsSame left) same
       (chain-itself F IsSame IsGood itself keyed outermost left (drop p.passed first.entries) p.left_rows (All-drop (λ (e : Entry K). IsGood e.link) p.passed first.entries first.good))
 
   module _ (x y : ℕ) (next next' : Option ℕ) (row : F left ≡ Some (node chain (x ∷ option_to_list next))) (row' : F right ≡ Some (node chain (y ∷ option_to_list next'))) where
@@ -65,25 +65,25 @@ module _ {K : Type 0} (cmp : K → K → Ordering) (o : IsTotalOrder cmp) (F : F
         let Good = λ (e : Entry K). IsGood e.link in
         subst IsGood (row-entry F right at.first.link y at.next next' at.row row') (All-head Good at.first at.others (subst (All Good) at.whole (All-drop Good p.passed second.entries second.good)))
 
-    links : Alike F IsSame left right → AreAlike F IsSame (x ∷ option_to_list next) (y ∷ option_to_list next')
-    links alike = (links-alike F IsSame keyed left right chain chain (x ∷ option_to_list next) (y ∷ option_to_list next') (ap (key_of F) row) row row' alike).1
+    links : Congruent F IsSame left right → AreCongruent F IsSame (x ∷ option_to_list next) (y ∷ option_to_list next')
+    links congruent = (links-congruent F IsSame keyed left right chain chain (x ∷ option_to_list next) (y ∷ option_to_list next') (ap (key_of F) row) row row' congruent).1
 
-    pub entries-same : Alike F IsSame left right → IsSame x y
-    entries-same alike = entry-alike F IsSame IsGood itself keyed outermost x y good-left (alike-at F IsSame _ _ 0 (links alike) (omega arith))
+    pub entries-same : Congruent F IsSame left right → IsSame x y
+    entries-same congruent = entry-congruent F IsSame IsGood itself keyed outermost x y good-left (congruent-at F IsSame _ _ 0 (links congruent) (omega arith))
 
-    pub as-long : Alike F IsSame left right → length (option_to_list next) ≡ length (option_to_list next')
-    as-long alike = (let same = alike-count F IsSame _ _ (links alike) in omega (arith, same))
+    pub as-long : Congruent F IsSame left right → length (option_to_list next) ≡ length (option_to_list next')
+    as-long congruent = (let same = congruent-count F IsSame _ _ (links congruent) in omega (arith, same))
 
-    pub rest-alike : (j k : ℕ) → next ≡ Some j → next' ≡ Some k → Alike F IsSame left right → Alike F IsSame j k
-    rest-alike j k is is' alike =
-        let are : AreAlike F IsSame (x ∷ j ∷ []) (y ∷ k ∷ []) = subst (λ n. AreAlike F IsSame (x ∷ option_to_list n) (y ∷ k ∷ [])) is (subst (λ n. AreAlike F IsSame (x ∷ option_to_list next) (y ∷ option_to_list n)) is' (links alike)) in
-        alike-at F IsSame (x ∷ j ∷ []) (y ∷ k ∷ []) 1 are (omega arith)
+    pub rest-congruent : (j k : ℕ) → next ≡ Some j → next' ≡ Some k → Congruent F IsSame left right → Congruent F IsSame j k
+    rest-congruent j k is is' congruent =
+        let are : AreCongruent F IsSame (x ∷ j ∷ []) (y ∷ k ∷ []) = subst (λ n. AreCongruent F IsSame (x ∷ option_to_list n) (y ∷ k ∷ [])) is (subst (λ n. AreCongruent F IsSame (x ∷ option_to_list next) (y ∷ option_to_list n)) is' (links congruent)) in
+        congruent-at F IsSame (x ∷ j ∷ []) (y ∷ k ∷ []) 1 are (omega arith)
 
-    pub both-alike : IsSame x y → AreAlike F IsSame (option_to_list next) (option_to_list next') → Alike F IsSame left right
-    both-alike same rest = alike_rows left right chain (x ∷ option_to_list next) (y ∷ option_to_list next') row row' (alike_then x y _ _ (alike_entries x y same) rest)
+    pub both-congruent : IsSame x y → AreCongruent F IsSame (option_to_list next) (option_to_list next') → Congruent F IsSame left right
+    both-congruent same rest = congruent_rows left right chain (x ∷ option_to_list next) (y ∷ option_to_list next') row row' (congruent_then x y _ _ (congruent_entries x y same) rest)
 
-    pub more-alike : (j k : ℕ) → next ≡ Some j → next' ≡ Some k → IsSame x y → Alike F IsSame j k → Alike F IsSame left right
-    more-alike j k is is' same rest = both-alike same (subst (λ n. AreAlike F IsSame (option_to_list n) (option_to_list next')) (sym is) (subst (λ n. AreAlike F IsSame (j ∷ []) (option_to_list n)) (sym is') (alike_then j k [] [] rest alike_none)))
+    pub more-congruent : (j k : ℕ) → next ≡ Some j → next' ≡ Some k → IsSame x y → Congruent F IsSame j k → Congruent F IsSame left right
+    more-congruent j k is is' same rest = both-congruent same (subst (λ n. AreCongruent F IsSame (option_to_list n) (option_to_list next')) (sym is) (subst (λ n. AreCongruent F IsSame (j ∷ []) (option_to_list n)) (sym is') (congruent_then j k [] [] rest congruent_none)))
 
-    pub last-alike : next ≡ None → next' ≡ None → IsSame x y → Alike F IsSame left right
-    last-alike is is' same = both-alike same (subst (λ n. AreAlike F IsSame (option_to_list n) (option_to_list next')) (sym is) (subst (λ n. AreAlike F IsSame [] (option_to_list n)) (sym is') alike_none))
+    pub last-congruent : next ≡ None → next' ≡ None → IsSame x y → Congruent F IsSame left right
+    last-congruent is is' same = both-congruent same (subst (λ n. AreCongruent F IsSame (option_to_list n) (option_to_list next')) (sym is) (subst (λ n. AreCongruent F IsSame [] (option_to_list n)) (sym is') congruent_none))

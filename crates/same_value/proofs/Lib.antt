@@ -1,7 +1,7 @@
 pub mod Zips
 pub mod RowParts
 pub mod VectorRows
-pub mod AlikeLemmas
+pub mod CongruentLemmas
 pub mod ChainRows
 pub mod ChainPairs
 pub mod TrieRows

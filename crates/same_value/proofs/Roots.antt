@@ -12,12 +12,12 @@ use Rattle.champ_trie.specs.Trie.{IsTrie, code_by}
 use Rattle.champ_kinds.specs.Root.{Root}
 use Rattle.champ_kinds.specs.Binding.{Binding}
 use Rattle.champ_kinds.specs.Kinds.{HasEntries, IsSetOf}
-use Rattle.same_value.specs.Alike.{Alike, IsFrom}
+use Rattle.same_value.specs.Congruent.{Congruent, IsFrom}
 use Rattle.same_value.specs.Cells.{IsCellLink, IsSameCell}
 use Rattle.same_value.specs.CompareLaws.{cell-itself, cell-keyed, cell-keys, cell-outermost, pair-itself, pair-keyed, pair-keys, pair-outermost}
 use Rattle.same_value.specs.Contents.{AreSameSets, AreSameMaps, IsMapWith}
 use Rattle.same_value.specs.Entries.{IsPairOf, IsSamePair}
-use Rattle.same_value.proofs.Contents.{alike-contents, contents-alike}
+use Rattle.same_value.proofs.Contents.{congruent-contents, contents-congruent}
 use Rattle.same_value.proofs.MapContents.{set-keys, key-sets, pairs-good, map-bindings, bindings-map}
 
 module _ {T : Type 0} (cmp : T → T → Ordering) (o : IsTotalOrder cmp) (code : T → ℕ) (equal_codes : (j k : T) → cmp j k ≡ Equal → code j ≡ code k) (h : Heap T) where
@@ -38,15 +38,15 @@ module _ {T : Type 0} (cmp : T → T → Ordering) (o : IsTotalOrder cmp) (code 
       record { left = DEEPEST + 1; entries = D; levels = refl; trie = root-trie s r.bits m D bits at' second.rooted; good = λ k d low. ((get_or D k d).key, second.cells k d low) },
     )
 
-    pub set-alike : (E D : List (Entry T)) → IsSetOf cmp code h r E → IsSetOf cmp code h s D → Alike (form_at h) (λ x y. IsSameCell cmp (form_at h) x y) l m ↔ AreSameSets cmp E D
-    set-alike E D first second =
+    pub set-congruent : (E D : List (Entry T)) → IsSetOf cmp code h r E → IsSetOf cmp code h s D → Congruent (form_at h) (λ x y. IsSameCell cmp (form_at h) x y) l m ↔ AreSameSets cmp E D
+    set-congruent E D first second =
         let F = form_at h in
         let by = code_by code r.bits in
         let trie = root-trie r r.bits l E refl at first.rooted in
         let trie' = root-trie s r.bits m D bits at' second.rooted in (
-          λ alike. set-keys cmp F E D first.cells second.cells
-              (alike-contents cmp o by (by_bits r.bits) F (IsCellLink F) (IsSameCell cmp F) (cell-itself cmp o F) (cell-keyed cmp F) (cell-keys cmp F) (cell-outermost cmp F) DEEPEST 0 l m E D trie trie' (λ k d low. ((get_or E k d).key, first.cells k d low)) alike),
-          λ same. contents-alike cmp o by (by_bits r.bits) F (IsCellLink F) (IsSameCell cmp F) (cell-itself cmp o F) (cell-keyed cmp F) (cell-keys cmp F) (cell-outermost cmp F) DEEPEST 0 l m E D trie trie' (key-sets cmp F E D first.cells second.cells same),
+          λ congruent. set-keys cmp F E D first.cells second.cells
+              (congruent-contents cmp o by (by_bits r.bits) F (IsCellLink F) (IsSameCell cmp F) (cell-itself cmp o F) (cell-keyed cmp F) (cell-keys cmp F) (cell-outermost cmp F) DEEPEST 0 l m E D trie trie' (λ k d low. ((get_or E k d).key, first.cells k d low)) congruent),
+          λ same. contents-congruent cmp o by (by_bits r.bits) F (IsCellLink F) (IsSameCell cmp F) (cell-itself cmp o F) (cell-keyed cmp F) (cell-keys cmp F) (cell-outermost cmp F) DEEPEST 0 l m E D trie trie' (key-sets cmp F E D first.cells second.cells same),
         )
 
     module _ (IsValue : ℕ → Type 0) (IsSame : ℕ → ℕ → Type 0) (itself : (v : ℕ) → IsValue v → IsSame v v) (M N : List (Binding T)) (first : IsMapWith cmp code h IsValue r M) (second : IsMapWith cmp code h IsValue s N) where
@@ -58,8 +58,8 @@ module _ {T : Type 0} (cmp : T → T → Ordering) (o : IsTotalOrder cmp) (code 
             record { left = DEEPEST + 1; entries = second.map.entries; levels = refl; trie = root-trie s r.bits m second.map.entries bits at' second.map.rooted; good = pairs-good cmp F IsValue IsSame second.map.entries N second.map.pairs second.values },
           )
 
-      pub map-alike : Alike (form_at h) (λ x y. IsSamePair (form_at h) cmp IsSame x y) l m ↔ AreSameMaps cmp IsSame M N
-      map-alike =
+      pub map-congruent : Congruent (form_at h) (λ x y. IsSamePair (form_at h) cmp IsSame x y) l m ↔ AreSameMaps cmp IsSame M N
+      map-congruent =
           let F = form_at h in
           let by = code_by code r.bits in
           let E = first.map.entries in
@@ -67,8 +67,8 @@ module _ {T : Type 0} (cmp : T → T → Ordering) (o : IsTotalOrder cmp) (code 
           let trie = root-trie r r.bits l E refl at first.map.rooted in
           let trie' = root-trie s r.bits m D bits at' second.map.rooted in
           let good = pairs-good cmp F IsValue IsSame E M first.map.pairs first.values in (
-            λ alike. map-bindings cmp F IsValue IsSame E D M N first.map.pairs second.map.pairs
-                (alike-contents cmp o by (by_bits r.bits) F (IsPairOf F IsValue) (IsSamePair F cmp IsSame) (pair-itself cmp o F IsValue IsSame itself) (pair-keyed cmp F IsSame) (pair-keys cmp F IsSame) (pair-outermost cmp F IsValue IsSame) DEEPEST 0 l m E D trie trie' good alike),
-            λ same. contents-alike cmp o by (by_bits r.bits) F (IsPairOf F IsValue) (IsSamePair F cmp IsSame) (pair-itself cmp o F IsValue IsSame itself) (pair-keyed cmp F IsSame) (pair-keys cmp F IsSame) (pair-outermost cmp F IsValue IsSame) DEEPEST 0 l m E D
+            λ congruent. map-bindings cmp F IsValue IsSame E D M N first.map.pairs second.map.pairs
+                (congruent-contents cmp o by (by_bits r.bits) F (IsPairOf F IsValue) (IsSamePair F cmp IsSame) (pair-itself cmp o F IsValue IsSame itself) (pair-keyed cmp F IsSame) (pair-keys cmp F IsSame) (pair-outermost cmp F IsValue IsSame) DEEPEST 0 l m E D trie trie' good congruent),
+            λ same. contents-congruent cmp o by (by_bits r.bits) F (IsPairOf F IsValue) (IsSamePair F cmp IsSame) (pair-itself cmp o F IsValue IsSame itself) (pair-keyed cmp F IsSame) (pair-keys cmp F IsSame) (pair-outermost cmp F IsValue IsSame) DEEPEST 0 l m E D
                 trie trie' (bindings-map cmp F IsValue IsSame E D M N first.map.pairs second.map.pairs same),
           )

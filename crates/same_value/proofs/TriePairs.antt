@@ -20,9 +20,9 @@ use Rattle.champ_trie.proofs.CanonLemmas.{Match, AreMatched, tries-match}
 use Rattle.champ_trie.proofs.WalkLemmas.{trie-walk}
 use Rattle.champ_trie.proofs.PlaceLemmas.{sets-short}
 use Rattle.champ_kinds.proofs.ZipLemmas.{all-turned}
-use Rattle.same_value.specs.Alike.{Alike, AreAlike, alike_entries, alike_rows, IsFrom, IsChainFrom}
+use Rattle.same_value.specs.Congruent.{Congruent, AreCongruent, congruent_entries, congruent_rows, IsFrom, IsChainFrom}
 use Rattle.same_value.specs.Apart.{row_links, ReachesRow, IsApart, Spends}
-use Rattle.same_value.proofs.AlikeLemmas.{alike-zip, alike-at, alike-by, alike-take, links-alike, entries-alike}
+use Rattle.same_value.proofs.CongruentLemmas.{congruent-zip, congruent-at, congruent-by, congruent-take, links-congruent, entries-congruent}
 use Rattle.same_value.proofs.Zips.{zip-at}
 use Rattle.same_value.proofs.ChainRows.{one_at-other, one-counted}
 use Rattle.same_value.proofs.TrieRows.{child-at, link-child, child-stands, child-link, stands-reach, stands-deeper, one-digit, Stands, trie-opened}
@@ -192,14 +192,14 @@ module _ {K : Type 0} (cmp : K → K → Ordering) (code : K → ℕ) (F : Forms
       }
 
 module _ {K : Type 0} (cmp : K → K → Ordering) (o : IsTotalOrder cmp) (code : K → ℕ) (F : Forms K) (IsSame : ℕ → ℕ → Type 0) where
-  -- rows whose links are alike
-  pub rows-follow : (l m : ℕ) (kind : Kind) (ls ks : List ℕ) → F l ≡ Some (node kind ls) → F m ≡ Some (node kind ks) → AllZip (Alike F IsSame) ls ks → Alike F IsSame l m
-  rows-follow l m kind ls ks first second zip = alike_rows l m kind ls ks first second (alike-zip F IsSame ls ks zip)
+  -- rows whose links are congruent
+  pub rows-follow : (l m : ℕ) (kind : Kind) (ls ks : List ℕ) → F l ≡ Some (node kind ls) → F m ≡ Some (node kind ks) → AllZip (Congruent F IsSame) ls ks → Congruent F IsSame l m
+  rows-follow l m kind ls ks first second zip = congruent_rows l m kind ls ks first second (congruent-zip F IsSame ls ks zip)
 
-  -- a trie of good entries is alike to itself
-  pub trie-itself : (IsGood : ℕ → Type 0) → ((l : ℕ) → IsGood l → IsSame l l) → (left d l : ℕ) (E : List (Entry K)) → IsTrie cmp code F left d l E → All (λ e. IsGood e.link) E → Alike F IsSame l l
+  -- a trie of good entries is congruent with itself
+  pub trie-itself : (IsGood : ℕ → Type 0) → ((l : ℕ) → IsGood l → IsSame l l) → (left d l : ℕ) (E : List (Entry K)) → IsTrie cmp code F left d l E → All (λ e. IsGood e.link) E → Congruent F IsSame l l
   trie-itself IsGood itself left d l E is good =
-      tries-match cmp code o F F (Alike F IsSame) rows-follow left d l l (map twice E) E E (subst (λ xs. SameSet xs E) (sym (firsts E)) (same-refl E)) (subst (λ xs. SameSet xs E) (sym (seconds E)) (same-refl E)) (matched E good) is is
+      tries-match cmp code o F F (Congruent F IsSame) rows-follow left d l l (map twice E) E E (subst (λ xs. SameSet xs E) (sym (firsts E)) (same-refl E)) (subst (λ xs. SameSet xs E) (sym (seconds E)) (same-refl E)) (matched E good) is is
     where
       twice : Entry K → Match K
       twice e = record { first = e; second = e }
@@ -212,9 +212,9 @@ module _ {K : Type 0} (cmp : K → K → Ordering) (o : IsTotalOrder cmp) (code 
       seconds [] = refl
       seconds (e ∷ es) = ap (λ xs. e ∷ xs) (seconds es)
 
-      matched : (es : List (Entry K)) → All (λ e. IsGood e.link) es → (w : Match K) → Among w (map twice es) → AreMatched cmp code o F F (Alike F IsSame) rows-follow w
+      matched : (es : List (Entry K)) → All (λ e. IsGood e.link) es → (w : Match K) → Among w (map twice es) → AreMatched cmp code o F F (Congruent F IsSame) rows-follow w
       matched [] good w nowhere = absurd nowhere
-      matched (e ∷ es) good w (inl same) = subst (AreMatched cmp code o F F (Alike F IsSame) rows-follow) same (tied_itself o e.key, refl, alike_entries e.link e.link (itself e.link (All-head (λ (d : Entry K). IsGood d.link) e es good)))
+      matched (e ∷ es) good w (inl same) = subst (AreMatched cmp code o F F (Congruent F IsSame) rows-follow) same (tied_itself o e.key, refl, congruent_entries e.link e.link (itself e.link (All-head (λ (d : Entry K). IsGood d.link) e es good)))
       matched (e ∷ es) good w (inr i) = matched es (All-tail (λ (d : Entry K). IsGood d.link) e es good) w i
 
 -- two opened rows of one depth whose sets of positions are equal
@@ -227,22 +227,22 @@ module _ {K : Type 0} (cmp : K → K → Ordering) (code : K → ℕ) (F : Forms
   abbrev ks : List ℕ
   ks = second.row.links
 
-  -- alike rows have equal sets of positions, and alike links
-  alike-links : Alike F IsSame l m → (trie depth first.row.entries first.row.nodes ≡ trie depth second.row.entries second.row.nodes) × AreAlike F IsSame ls ks
-  alike-links alike = links-alike F IsSame keyed l m (trie depth first.row.entries first.row.nodes) (trie depth second.row.entries second.row.nodes) ls ks (ap (key_of F) first.row.row.row) first.row.row.row second.row.row.row alike
+  -- congruent rows have equal sets of positions, and congruent links
+  congruent-links : Congruent F IsSame l m → (trie depth first.row.entries first.row.nodes ≡ trie depth second.row.entries second.row.nodes) × AreCongruent F IsSame ls ks
+  congruent-links congruent = links-congruent F IsSame keyed l m (trie depth first.row.entries first.row.nodes) (trie depth second.row.entries second.row.nodes) ls ks (ap (key_of F) first.row.row.row) first.row.row.row second.row.row.row congruent
 
-  pub alike-positions : Alike F IsSame l m → (first.row.entries ≡ second.row.entries) × (first.row.nodes ≡ second.row.nodes)
-  alike-positions alike =
-      let kinds = (alike-links alike).0 in
+  pub congruent-positions : Congruent F IsSame l m → (first.row.entries ≡ second.row.entries) × (first.row.nodes ≡ second.row.nodes)
+  congruent-positions congruent =
+      let kinds = (congruent-links congruent).0 in
       let entries : first.row.entries ≡ second.row.entries = cc in
       let nodes : first.row.nodes ≡ second.row.nodes = cc in
       (entries, nodes)
 
-  pub alike-entries : Alike F IsSame l m → AllZip IsSame (take (rank first.row.entries 32) ls) (take (rank first.row.entries 32) ks)
-  alike-entries alike = entries-alike F IsSame IsGood itself keyed outermost _ _ (own-good cmp code F IsGood depth l left first) (alike-take F IsSame (rank first.row.entries 32) ls ks (alike-links alike).1)
+  pub congruent-entries : Congruent F IsSame l m → AllZip IsSame (take (rank first.row.entries 32) ls) (take (rank first.row.entries 32) ks)
+  congruent-entries congruent = entries-congruent F IsSame IsGood itself keyed outermost _ _ (own-good cmp code F IsGood depth l left first) (congruent-take F IsSame (rank first.row.entries 32) ls ks (congruent-links congruent).1)
 
-  pub alike-child : Alike F IsSame l m → (i : ℕ) → i < length ls → Alike F IsSame (get_or ls i 0) (get_or ks i 0)
-  alike-child alike i low = alike-at F IsSame ls ks i (alike-links alike).1 low
+  pub congruent-child : Congruent F IsSame l m → (i : ℕ) → i < length ls → Congruent F IsSame (get_or ls i 0) (get_or ks i 0)
+  congruent-child congruent i low = congruent-at F IsSame ls ks i (congruent-links congruent).1 low
 
   pub row-short : length ls ≤ 32
   row-short = sets-short first.row.entries first.row.nodes ls first.row.row.sets
@@ -251,15 +251,15 @@ module _ {K : Type 0} (cmp : K → K → Ordering) (code : K → ℕ) (F : Forms
     pub links-number : length ls ≡ length ks
     links-number = as-many cmp code F left depth l m first.entries second.entries first.row second.row entries nodes
 
-    pub rows-alike-by : AllZip IsSame (take (rank first.row.entries 32) ls) (take (rank first.row.entries 32) ks) → ((i : ℕ) → rank first.row.entries 32 ≤ i → i < length ls → Alike F IsSame (get_or ls i 0) (get_or ks i 0)) → Alike F IsSame l m
-    rows-alike-by own others =
-        alike_rows l m (trie depth first.row.entries first.row.nodes) ls ks first.row.row.row
+    pub rows-congruent-by : AllZip IsSame (take (rank first.row.entries 32) ls) (take (rank first.row.entries 32) ks) → ((i : ℕ) → rank first.row.entries 32 ≤ i → i < length ls → Congruent F IsSame (get_or ls i 0) (get_or ks i 0)) → Congruent F IsSame l m
+    rows-congruent-by own others =
+        congruent_rows l m (trie depth first.row.entries first.row.nodes) ls ks first.row.row.row
         (second.row.row.row ∙ ap (λ e. Some (node (trie depth e second.row.nodes) ks)) (sym entries) ∙ ap (λ n. Some (node (trie depth first.row.entries n) ks)) (sym nodes))
-        (alike-by F IsSame ls ks links-number (λ i low. by_place i low (cases_lt i (rank first.row.entries 32))))
+        (congruent-by F IsSame ls ks links-number (λ i low. by_place i low (cases_lt i (rank first.row.entries 32))))
       where
-        by_place : (i : ℕ) → i < length ls → (i < rank first.row.entries 32) ⊎ (rank first.row.entries 32 ≤ i) → Alike F IsSame (get_or ls i 0) (get_or ks i 0)
+        by_place : (i : ℕ) → i < length ls → (i < rank first.row.entries 32) ⊎ (rank first.row.entries 32 ≤ i) → Congruent F IsSame (get_or ls i 0) (get_or ks i 0)
         by_place i low (inl inside) =
-            alike_entries _ _
+            congruent_entries _ _
             (subst (λ x. IsSame x (get_or ks i 0)) (get_or-take (rank first.row.entries 32) ls i 0 inside)
             (subst (λ y. IsSame (get_or (take (rank first.row.entries 32) ls) i 0) y) (get_or-take (rank first.row.entries 32) ks i 0 inside)
             (zip-at IsSame (take (rank first.row.entries 32) ls) (take (rank first.row.entries 32) ks) i own (omega (arith, inside, low, length-take (rank first.row.entries 32) ls)))))

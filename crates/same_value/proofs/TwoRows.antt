@@ -7,10 +7,10 @@ use Rattle.node_heap.specs.Forms.{Forms, Kind, node}
 use Rattle.champ_chain.specs.Entry.{key_at}
 use Rattle.champ_trie.specs.Bits.{rank}
 use Rattle.champ_trie.specs.Trie.{IsRow}
-use Rattle.same_value.specs.Alike.{Alike, IsFrom}
+use Rattle.same_value.specs.Congruent.{Congruent, IsFrom}
 use Rattle.same_value.specs.Apart.{Spends}
 use Rattle.same_value.proofs.VectorRows.{read-at}
-use Rattle.same_value.proofs.TriePairs.{Apart, Opened, apart-none, unreached, as-many, own-good, child-from, apart-more, alike-positions, alike-entries, alike-child, row-short, rows-alike-by}
+use Rattle.same_value.proofs.TriePairs.{Apart, Opened, apart-none, unreached, as-many, own-good, child-from, apart-more, congruent-positions, congruent-entries, congruent-child, row-short, rows-congruent-by}
 
 -- two rows of a depth, opened, and what is known of the way in which their entries are compared
 pub record TwoRows {K : Type 0} (cmp : K → K → Ordering) (code : K → ℕ) (F : Forms K) (IsGood : ℕ → Type 0) (IsSame : ℕ → ℕ → Type 0) (left depth l m : ℕ) : Type 0 where
@@ -42,8 +42,8 @@ pub opened-row : {K : Type 0} {cmp : K → K → Ordering} {code : K → ℕ} {F
 opened-row {depth} o = (depth, o.row.entries, o.row.nodes, o.row.links, o.row.row)
 
 module _ {K : Type 0} {cmp : K → K → Ordering} {code : K → ℕ} {F : Forms K} {IsGood : ℕ → Type 0} {IsSame : ℕ → ℕ → Type 0} {left depth l m : ℕ} (rows : TwoRows cmp code F IsGood IsSame left depth l m) where
-  pub positions-same : Alike F IsSame l m → (rows.first.row.entries ≡ rows.second.row.entries) × (rows.first.row.nodes ≡ rows.second.row.nodes)
-  positions-same alike = alike-positions cmp code F IsGood IsSame rows.itself rows.keyed rows.outermost left depth l m rows.first rows.second alike
+  pub positions-same : Congruent F IsSame l m → (rows.first.row.entries ≡ rows.second.row.entries) × (rows.first.row.nodes ≡ rows.second.row.nodes)
+  positions-same congruent = congruent-positions cmp code F IsGood IsSame rows.itself rows.keyed rows.outermost left depth l m rows.first rows.second congruent
 
   -- where the rows are different, the first is apart
   pub row-apart : l ≢ m → (from place : ℕ) (links : List ℕ) → Apart F l m from place links (l ∷ [])
@@ -84,20 +84,20 @@ module _ {K : Type 0} {cmp : K → K → Ordering} {code : K → ℕ} {F : Forms
   pub right-good : All IsGood (take count others)
   right-good = rw (read.number, read.entries, read.others_read) (own-good cmp code F IsGood depth m left read.rows.second)
 
-  pub entries-same : Alike F IsSame l m → AllZip IsSame (take count links) (take count others)
-  entries-same alike =
+  pub entries-same : Congruent F IsSame l m → AllZip IsSame (take count links) (take count others)
+  entries-same congruent =
       rw (read.number, read.links_read, read.others_read)
-      (alike-entries cmp code F IsGood IsSame read.rows.itself read.rows.keyed read.rows.outermost left depth l m read.rows.first read.rows.second alike)
+      (congruent-entries cmp code F IsGood IsSame read.rows.itself read.rows.keyed read.rows.outermost left depth l m read.rows.first read.rows.second congruent)
 
-  pub links-same : Alike F IsSame l m → (i : ℕ) → i < length links → Alike F IsSame (get_or links i 0) (get_or others i 0)
-  links-same alike i low =
+  pub links-same : Congruent F IsSame l m → (i : ℕ) → i < length links → Congruent F IsSame (get_or links i 0) (get_or others i 0)
+  links-same congruent i low =
       rw (read.links_read, read.others_read)
-      (alike-child cmp code F IsGood IsSame read.rows.itself read.rows.keyed read.rows.outermost left depth l m read.rows.first read.rows.second alike i (omega (arith, low, ap length read.links_read)))
+      (congruent-child cmp code F IsGood IsSame read.rows.itself read.rows.keyed read.rows.outermost left depth l m read.rows.first read.rows.second congruent i (omega (arith, low, ap length read.links_read)))
 
-  -- the rows are alike where their entries are the same and their children are alike
-  pub rows-alike : AllZip IsSame (take count links) (take count others) → ((i : ℕ) → count ≤ i → i < length links → Alike F IsSame (get_or links i 0) (get_or others i 0)) → Alike F IsSame l m
-  rows-alike own children =
-      rows-alike-by cmp code F IsGood IsSame read.rows.itself read.rows.keyed read.rows.outermost left depth l m read.rows.first read.rows.second read.entries read.nodes (rw (read.number, read.links_read, read.others_read) at own)
+  -- the rows are congruent where their entries are the same and their children are congruent
+  pub rows-congruent : AllZip IsSame (take count links) (take count others) → ((i : ℕ) → count ≤ i → i < length links → Congruent F IsSame (get_or links i 0) (get_or others i 0)) → Congruent F IsSame l m
+  rows-congruent own children =
+      rows-congruent-by cmp code F IsGood IsSame read.rows.itself read.rows.keyed read.rows.outermost left depth l m read.rows.first read.rows.second read.entries read.nodes (rw (read.number, read.links_read, read.others_read) at own)
       (λ i from low. rw (read.links_read, read.others_read) at (children i (omega (arith, from, read.number)) (omega (arith, low, ap length read.links_read))))
 
 -- the place of the loop over both rows
@@ -122,13 +122,13 @@ module _ {K : Type 0} {cmp : K → K → Ordering} {code : K → ℕ} {F : Forms
       rw (spot.other_child, spot.read.others_read)
       (child-from cmp code F IsGood depth m left spot.read.rows.second place (omega (arith, spot.from, spot.read.number, ap (λ e. rank e 32) spot.read.entries)) (omega (arith, spot.inside, links-number spot.read, ap length spot.read.others_read)))
 
-  pub children-alike : Alike F IsSame l m → Alike F IsSame x y
-  children-alike alike = rw (spot.child, spot.other_child) (links-same spot.read alike place spot.inside)
+  pub children-congruent : Congruent F IsSame l m → Congruent F IsSame x y
+  children-congruent congruent = rw (spot.child, spot.other_child) (links-same spot.read congruent place spot.inside)
 
-  -- the children up to this place are alike
-  pub alike-more : ((i : ℕ) → count ≤ i → i < place → Alike F IsSame (get_or links i 0) (get_or others i 0)) → Alike F IsSame x y → (i : ℕ) → count ≤ i → i < place + 1 → Alike F IsSame (get_or links i 0) (get_or others i 0)
-  alike-more before here i from low =
-      below_more (λ k. count ≤ k → Alike F IsSame (get_or links k 0) (get_or others k 0)) place (λ k less after. before k after less) (λ after. rw (spot.child, spot.other_child) at here) i low from
+  -- the children up to this place are congruent
+  pub congruent-more : ((i : ℕ) → count ≤ i → i < place → Congruent F IsSame (get_or links i 0) (get_or others i 0)) → Congruent F IsSame x y → (i : ℕ) → count ≤ i → i < place + 1 → Congruent F IsSame (get_or links i 0) (get_or others i 0)
+  congruent-more before here i from low =
+      below_more (λ k. count ≤ k → Congruent F IsSame (get_or links k 0) (get_or others k 0)) place (λ k less after. before k after less) (λ after. rw (spot.child, spot.other_child) at here) i low from
 
   -- the steps from old to new at the children of this place are those of more rows apart
   pub apart-below : (rows : List ℕ) → Apart F l m count place links rows → (old new spare : ℕ) → Spends F x y old new spare

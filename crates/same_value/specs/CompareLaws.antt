@@ -13,7 +13,7 @@ use Rattle.champ_kinds.specs.Laws.{GoOneToOne}
 use Rattle.rrb_core.specs.Vector.{elements}
 use Rattle.same_value.specs.Cells.{IsCellLink, IsSameCell, IsLines, IsSameLines}
 use Rattle.same_value.specs.Entries.{IsPairOf, IsSamePair}
-use Rattle.same_value.specs.Contents.{IsState, IsSameState, IsSameBinding}
+use Rattle.same_value.specs.Contents.{IsStateLink, IsSameState, IsSameBinding}
 
 some-same : {X : Type 0} (x y : X) → Some x ≡ Some y → x ≡ y
 some-same x y e = cc
@@ -77,7 +77,7 @@ module _ {T : Type 0} (cmp : T → T → Ordering) (o : IsTotalOrder cmp) where
   pub lines-itself : (h : Heap T) (l : ℕ) → IsLines h l → IsSameLines cmp h l l
   lines-itself h l is = all-itself (IsSameCell cmp (form_at h)) (IsCellLink (form_at h)) (cell-itself cmp o (form_at h)) (elements h l) is.cells
 
-  pub state-itself : (code : T → ℕ) (h : Heap T) (bits l : ℕ) → IsState cmp code h bits l → IsSameState cmp code h bits l l
+  pub state-itself : (code : T → ℕ) (h : Heap T) (bits l : ℕ) → IsStateLink cmp code h bits l → IsSameState cmp code h bits l l
   state-itself code h bits l is = record {
     first = is;
     second = is;

@@ -34,7 +34,7 @@ module _ {T : Type 0} (cmp : T → T → Ordering) where
       pub values : All (λ b. IsValue b.value) M
 
     -- the link names a state: a map of vectors of cells, and a set
-    pub record IsState (bits l : ℕ) : Type 0 where
+    pub record IsStateLink (bits l : ℕ) : Type 0 where
       pub map_root : ℕ
       pub set_root : ℕ
       pub row : form_at h l ≡ Some (node state (map_root ∷ set_root ∷ []))
@@ -45,8 +45,8 @@ module _ {T : Type 0} (cmp : T → T → Ordering) where
 
     -- the links name states with equal maps and equal sets
     pub record IsSameState (bits l m : ℕ) : Type 0 where
-      pub first : IsState bits l
-      pub second : IsState bits m
+      pub first : IsStateLink bits l
+      pub second : IsStateLink bits m
       pub maps : AreSameMaps (IsSameLines cmp h) first.bindings second.bindings
       pub sets : AreSameSets first.entries second.entries
 
@@ -54,7 +54,7 @@ module _ {T : Type 0} (cmp : T → T → Ordering) where
     abbrev pub IsValueOf : Values → ℕ → ℕ → Type 0
     IsValueOf Cells bits l = IsCellLink (form_at h) l
     IsValueOf Lines bits l = IsLines h l
-    IsValueOf States bits l = IsState bits l
+    IsValueOf States bits l = IsStateLink bits l
 
     -- the links are the same value of this sort
     abbrev pub IsSameValue : Values → ℕ → ℕ → ℕ → Type 0

@@ -2,6 +2,6 @@ pub mod Cells
 pub mod Entries
 pub mod Contents
 pub mod Apart
-pub mod Alike
+pub mod Congruent
 pub mod Lines
 pub mod CompareLaws

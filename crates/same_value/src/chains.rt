@@ -3,7 +3,7 @@ ghost use Rattle.std.specs.Prelude.{◌≡◌, ℕ, ◌↔◌, ◌+◌, ◌∷�
 ghost use Rattle.node_heap.specs.Forms.{node, chain};
 ghost use Rattle.node_heap.specs.Heap.{form_at, IsGraph};
 ghost use Rattle.node_heap.specs.Glass.{lent};
-ghost use Rattle.same_value.specs.Alike.{Alike, IsChainFrom};
+ghost use Rattle.same_value.specs.Congruent.{Congruent, IsChainFrom};
 ghost use Rattle.same_value.specs.Apart.{Spends};
 
 use crate::compare::Compares;
@@ -44,7 +44,7 @@ pub(crate) fn same_chains<T: Element, C: Compares<T>, L: Ledger>(
     requires reads { C.reads how.now (lent glass.now) }
     requires left { IsChainFrom T.cmp (form_at (lent glass.now)) (C.good how.now (lent glass.now)) left }
     requires right { IsChainFrom T.cmp (form_at (lent glass.now)) (C.good how.now (lent glass.now)) right }
-    ensures alike { IsTrue result ↔ Alike (form_at (lent glass.now)) (C.same how.now (lent glass.now)) left right }
+    ensures congruent { IsTrue result ↔ Congruent (form_at (lent glass.now)) (C.same how.now (lent glass.now)) left right }
     ensures few { C.counted → Spends (form_at (lent glass.now)) left right steps.old steps.new (if result then 0 else 8) }
 {
     let mut left_row = left;

@@ -2,7 +2,7 @@
 //!
 //! Equal links end a walk at once, so what two values share isn't read. Two tries are compared row by row: a set of
 //! entries has one trie, so tries of equal sets have equal rows. Two vectors are compared row by row as long as their
-//! rows are cut alike, and else element by element. Nothing here takes memory.
+//! rows are cut in the same places, and else element by element. Nothing here takes memory.
 #![tactic(auto)]
 
 mod cells;

@@ -1,8 +1,8 @@
 //! States, and what maps of states need.
 ghost use Rattle.std.specs.Prelude.{◌≡◌, ℕ, ◌↔◌, ◌<◌, IsTrue};
 ghost use Rattle.node_heap.specs.Heap.{form_at};
-ghost use Rattle.same_value.specs.Alike.{Alike, IsFrom};
-ghost use Rattle.same_value.specs.Contents.{IsState, IsSameState};
+ghost use Rattle.same_value.specs.Congruent.{Congruent, IsFrom};
+ghost use Rattle.same_value.specs.Contents.{IsStateLink, IsSameState};
 ghost use Rattle.same_value.specs.Entries.{IsPairOf, IsSamePair};
 
 use crate::compare::Compares;
@@ -27,7 +27,7 @@ fn with_steps<T: Element, C: Compares<T>, L: Ledger>(
     requires name { blank.name ≡ L.name }
     requires parts { blank.parts ≡ L.parts }
     requires some { 0 < L.parts }
-    ensures alike { IsTrue result ↔ Alike (form_at heap.now) (C.same how.now heap.now) left right }
+    ensures congruent { IsTrue result ↔ Congruent (form_at heap.now) (C.same how.now heap.now) left right }
 {
     let mut steps = Steps::<L>::new(blank);
     same_tries(&Glass::new(heap), left, right, 0, how, &mut steps)
@@ -43,17 +43,18 @@ pub(crate) fn same_roots<T: Element, C: Compares<T>>(
     requires reads { C.reads how.now heap.now }
     requires tries { (code : T → ℕ) × IsFrom T.cmp (form_at heap.now) (C.good how.now heap.now) code 0 left
         × IsFrom T.cmp (form_at heap.now) (C.good how.now heap.now) code 0 right }
-    ensures alike { IsTrue result ↔ Alike (form_at heap.now) (C.same how.now heap.now) left right }
+    ensures congruent { IsTrue result ↔ Congruent (form_at heap.now) (C.same how.now heap.now) left right }
 {
     with_steps::<T, C, Brand>(heap, left, right, how, Blank::new(1))
 }
 
 /// Whether two states have equal maps and equal sets, by so many bits of the codes.
 pub fn equal_state<T: Element>(heap: &Heap<T>, bits: u32, a: Link, b: Link) -> bool
-    requires first { IsState T.cmp T.code_of heap.now bits a }
-    requires second { IsState T.cmp T.code_of heap.now bits b }
+    requires first { IsStateLink T.cmp T.code_of heap.now bits a }
+    requires second { IsStateLink T.cmp T.code_of heap.now bits b }
     ensures equal { IsTrue result ↔ IsSameState T.cmp T.code_of heap.now bits a b }
 {
+    // The bits are there for the clauses alone: tries are compared row by row.
     let _ = bits;
     if a == b {
         return true;
@@ -77,7 +78,7 @@ impl<T: Element> Compares<T> for OfStates<'_, T> {
 
     ghost reads = { λ s h. s.heap.now ≡ h };
 
-    ghost good = { λ s h l. IsPairOf (form_at h) (IsState T.cmp T.code_of h s.bits) l };
+    ghost good = { λ s h l. IsPairOf (form_at h) (IsStateLink T.cmp T.code_of h s.bits) l };
 
     ghost same = { λ s h l m. IsSamePair (form_at h) T.cmp (IsSameState T.cmp T.code_of h s.bits) l m };
 
@@ -99,11 +100,11 @@ impl<T: Element> Compares<T> for OfStates<'_, T> {
         }
     }
 
-    ghost itself = { λ s h l. pair-itself T.cmp T.total (form_at h) (IsState T.cmp T.code_of h s.bits) (IsSameState T.cmp T.code_of h s.bits) (state-itself T.cmp T.total T.code_of h s.bits) l };
+    ghost itself = { λ s h l. pair-itself T.cmp T.total (form_at h) (IsStateLink T.cmp T.code_of h s.bits) (IsSameState T.cmp T.code_of h s.bits) (state-itself T.cmp T.total T.code_of h s.bits) l };
 
     ghost keyed = { λ s h l m. pair-keyed T.cmp (form_at h) (IsSameState T.cmp T.code_of h s.bits) l m };
 
     ghost equal_keys = { λ s h l m j k. pair-keys T.cmp (form_at h) (IsSameState T.cmp T.code_of h s.bits) l m j k };
 
-    ghost outermost = { λ s h l k m kind ks. pair-outermost T.cmp (form_at h) (IsState T.cmp T.code_of h s.bits) (IsSameState T.cmp T.code_of h s.bits) l k m kind ks };
+    ghost outermost = { λ s h l k m kind ks. pair-outermost T.cmp (form_at h) (IsStateLink T.cmp T.code_of h s.bits) (IsSameState T.cmp T.code_of h s.bits) l k m kind ks };
 }

@@ -6,7 +6,7 @@ ghost use Rattle.node_heap.specs.Heap.{form_at};
 ghost use Rattle.node_heap.specs.Glass.{lent};
 ghost use Rattle.champ_trie.specs.Trie.{IsRow};
 ghost use Rattle.champ_trie.specs.Bits.{rank};
-ghost use Rattle.same_value.specs.Alike.{Alike, IsFrom};
+ghost use Rattle.same_value.specs.Congruent.{Congruent, IsFrom};
 ghost use Rattle.same_value.specs.Apart.{Spends};
 
 use crate::chains::same_chains;
@@ -97,7 +97,7 @@ pub(crate) fn same_tries<T: Element, C: Compares<T>, L: Ledger>(
     requires reads { C.reads how.now (lent glass.now) }
     requires tries { (code : T → ℕ) × IsFrom T.cmp (form_at (lent glass.now)) (C.good how.now (lent glass.now)) code depth left
         × IsFrom T.cmp (form_at (lent glass.now)) (C.good how.now (lent glass.now)) code depth right }
-    ensures alike { IsTrue result ↔ Alike (form_at (lent glass.now)) (C.same how.now (lent glass.now)) left right }
+    ensures congruent { IsTrue result ↔ Congruent (form_at (lent glass.now)) (C.same how.now (lent glass.now)) left right }
     ensures few { C.counted → Spends (form_at (lent glass.now)) left right steps.old steps.new (if result then 0 else 8 * (depth - DEEPEST)) }
 {
     if left == right {

@@ -233,7 +233,7 @@ module _ (F : Forms Bytes) (V : ℕ → Type 0) (bits : ℕ) where
 
 module _ (h : Heap Bytes) (bits : ℕ) (few : bits ≤ CODE_BITS) where
   -- a state of names is a state
-  pub as-state : (l : ℕ) (s : State) → IsStateIn h bits l s → contents.IsState by_bytes text_code h bits l
+  pub as-state : (l : ℕ) (s : State) → IsStateIn h bits l s → contents.IsStateLink by_bytes text_code h bits l
   as-state l s is =
       let Value = λ (b : Binding Bytes). IsLines h b.value in
       record {
@@ -253,7 +253,7 @@ module _ (h : Heap Bytes) (bits : ℕ) (few : bits ≤ CODE_BITS) where
   equal-codes j k same = ap text_code (one-name j k same)
 
   -- whatever is said of a state of names, its bindings and its entries are those of the names
-  module _ (l : ℕ) (s : State) (is : IsStateIn h bits l s) (said : contents.IsState by_bytes text_code h bits l) where
+  module _ (l : ℕ) (s : State) (is : IsStateIn h bits l s) (said : contents.IsStateLink by_bytes text_code h bits l) where
     said-bindings : SameSet said.bindings is.buffers_are.bindings
     said-bindings =
         let rows : Some (node state (said.map_root ∷ said.set_root ∷ [])) ≡ Some (node state (is.names ∷ is.stars ∷ [])) = sym said.row ∙ is.row in

@@ -6,38 +6,38 @@ use Rattle.node_heap.specs.Heap.{Heap, form_at}
 use Rattle.node_heap.specs.Glass.{lent}
 use Rattle.champ_chain.proofs.FrameLemmas.{rows-live}
 use Rattle.champ_trie.specs.Walk.{depth_of}
-use Rattle.same_value.specs.Alike.{Alike, IsChainFrom}
+use Rattle.same_value.specs.Congruent.{Congruent, IsChainFrom}
 use Rattle.same_value.proofs.ChainRows.{Passed, passed-none, passed-more, once-more, apart-more, passed-spends}
-use Rattle.same_value.proofs.ChainPairs.{left-row, right-row, same-links, good-left, good-right, entries-same, as-long, rest-alike, more-alike, last-alike, rows-shorter}
+use Rattle.same_value.proofs.ChainPairs.{left-row, right-row, same-links, good-left, good-right, entries-same, as-long, rest-congruent, more-congruent, last-congruent, rows-shorter}
 use Rattle.same_value.proofs.chains.same_chains.Given as given
 use Rattle.same_value.proofs.chains.same_chains.Goals as goal
 
--- where one chain goes on and the other ends, they aren't alike
+-- where one chain goes on and the other ends, they aren't congruent
 uneven : (g : given.Over) (how : g.row.C.Denot) (h : Heap g.row.T.Denot) {l m left right x y : ℕ} (next next' : Option ℕ) (first : IsChainFrom g.T.Ord.cmp (form_at h) (g.C.Compares.good how h) l) (second : IsChainFrom g.T.Ord.cmp (form_at h) (g.C.Compares.good how h) m)
-    (p : Passed g.T.Ord.cmp g.met.T.Ord.total (form_at h) l m first.entries second.entries left right) → Alike (form_at h) (g.C.Compares.same how h) l m ↔ Alike (form_at h) (g.C.Compares.same how h) left right
+    (p : Passed g.T.Ord.cmp g.met.T.Ord.total (form_at h) l m first.entries second.entries left right) → Congruent (form_at h) (g.C.Compares.same how h) l m ↔ Congruent (form_at h) (g.C.Compares.same how h) left right
     → form_at h left ≡ Some (node chain (x ∷ option_to_list next)) → form_at h right ≡ Some (node chain (y ∷ option_to_list next')) → length (option_to_list next) ≢ length (option_to_list next')
-    → IsTrue false ↔ Alike (form_at h) (g.C.Compares.same how h) l m
+    → IsTrue false ↔ Congruent (form_at h) (g.C.Compares.same how h) l m
 uneven g how h {l} {m} {left} {right} {x} {y} next next' first second p here row row' other = (
   λ no. absurd cc,
-  λ alike. absurd (other
-      (as-long g.T.Ord.cmp g.met.T.Ord.total (form_at h) (g.C.Compares.same how h) (g.C.Compares.good how h) (g.met.C.Compares.itself how h) (g.met.C.Compares.keyed how h) (g.met.C.Compares.outermost how h) l m first second left right p x y next next' row row' (here.0 alike))),
+  λ congruent. absurd (other
+      (as-long g.T.Ord.cmp g.met.T.Ord.total (form_at h) (g.C.Compares.same how h) (g.C.Compares.good how h) (g.met.C.Compares.itself how h) (g.met.C.Compares.keyed how h) (g.met.C.Compares.outermost how h) l m first second left right p x y next next' row row' (here.0 congruent))),
 )
 
 pub loop-left_row-init : goal.loop-left_row-init
 loop-left_row-init g c = λ first second. (
   passed-none g.T.Ord.cmp g.met.T.Ord.total (form_at (lent c.args.glass.now)) c.args.left c.args.right first.entries second.entries first.rows second.rows,
-  (λ alike. alike, λ alike. alike),
+  (λ congruent. congruent, λ congruent. congruent),
   λ counted. omega arith,
 )
 
-pub returns-then-eq-clause-alike : goal.returns-then-eq-clause-alike
-returns-then-eq-clause-alike g c =
+pub returns-then-eq-clause-congruent : goal.returns-then-eq-clause-congruent
+returns-then-eq-clause-congruent g c =
     let h = lent c.args.glass.now in
     let now = c.loop-left_row.invariant c.requires.left c.requires.right in
     let same : c.loop-left_row.left_row ≡ c.loop-left_row.right_row = eqb-true _ _ (sym c.if-eq.ensures) in (
       λ yes. now.1.1 (same-links g.T.Ord.cmp g.met.T.Ord.total (form_at h) (g.C.Compares.same c.args.how.now h) (g.C.Compares.good c.args.how.now h) (g.met.C.Compares.itself c.args.how.now h) (g.met.C.Compares.keyed c.args.how.now h)
           (g.met.C.Compares.outermost c.args.how.now h) c.args.left c.args.right c.requires.left c.requires.right c.loop-left_row.left_row c.loop-left_row.right_row now.0 same),
-      λ alike. refl,
+      λ congruent. refl,
     )
 
 pub returns-then-eq-clause-few : goal.returns-then-eq-clause-few
@@ -73,13 +73,13 @@ same_entries-requires-clause-right g c =
     good-right g.T.Ord.cmp g.met.T.Ord.total (form_at h) (g.C.Compares.same c.args.how.now h) (g.C.Compares.good c.args.how.now h) (g.met.C.Compares.itself c.args.how.now h) (g.met.C.Compares.keyed c.args.how.now h)
     (g.met.C.Compares.outermost c.args.how.now h) c.args.left c.args.right c.requires.left c.requires.right c.loop-left_row.left_row c.loop-left_row.right_row now.0 c.row_of-first.result.entry c.row_of-second.result.entry c.row_of-first.result.next c.row_of-second.result.next c.row_of-first.ensures.row c.row_of-second.ensures.row
 
-pub returns-then-not-same_entries-clause-alike : goal.returns-then-not-same_entries-clause-alike
-returns-then-not-same_entries-clause-alike g c =
+pub returns-then-not-same_entries-clause-congruent : goal.returns-then-not-same_entries-clause-congruent
+returns-then-not-same_entries-clause-congruent g c =
     let h = lent c.args.glass.now in
     let now = c.loop-left_row.invariant c.requires.left c.requires.right in (
       λ no. absurd cc,
-      λ alike. c.if-not-same_entries.ensures.same.1 (entries-same g.T.Ord.cmp g.met.T.Ord.total (form_at h) (g.C.Compares.same c.args.how.now h) (g.C.Compares.good c.args.how.now h) (g.met.C.Compares.itself c.args.how.now h) (g.met.C.Compares.keyed c.args.how.now h)
-          (g.met.C.Compares.outermost c.args.how.now h) c.args.left c.args.right c.requires.left c.requires.right c.loop-left_row.left_row c.loop-left_row.right_row now.0 c.row_of-first.result.entry c.row_of-second.result.entry c.row_of-first.result.next c.row_of-second.result.next c.row_of-first.ensures.row c.row_of-second.ensures.row (now.1.0 alike)),
+      λ congruent. c.if-not-same_entries.ensures.same.1 (entries-same g.T.Ord.cmp g.met.T.Ord.total (form_at h) (g.C.Compares.same c.args.how.now h) (g.C.Compares.good c.args.how.now h) (g.met.C.Compares.itself c.args.how.now h) (g.met.C.Compares.keyed c.args.how.now h)
+          (g.met.C.Compares.outermost c.args.how.now h) c.args.left c.args.right c.requires.left c.requires.right c.loop-left_row.left_row c.loop-left_row.right_row now.0 c.row_of-first.result.entry c.row_of-second.result.entry c.row_of-first.result.next c.row_of-second.result.next c.row_of-first.ensures.row c.row_of-second.ensures.row (now.1.0 congruent)),
     )
 
 pub returns-then-not-same_entries-clause-few : goal.returns-then-not-same_entries-clause-few
@@ -104,22 +104,22 @@ loop-left_row-preserved g c = λ first second.
     c.row_of-first.result.entry c.row_of-second.result.entry c.row_of-first.result.next c.row_of-second.result.next c.row_of-first.ensures.row c.row_of-second.ensures.row (λ j k. g.met.C.Compares.equal_keys c.args.how.now h c.row_of-first.result.entry c.row_of-second.result.entry j k same) other c.in-Some-Some.next c.in-Some-Some.other c.in-Some-Some.is-0 c.in-Some-Some.is-1 in (
       more.0,
       (
-        λ alike. rest-alike g.T.Ord.cmp g.met.T.Ord.total (form_at h) (g.C.Compares.same c.args.how.now h) (g.C.Compares.good c.args.how.now h) (g.met.C.Compares.itself c.args.how.now h) (g.met.C.Compares.keyed c.args.how.now h)
-            (g.met.C.Compares.outermost c.args.how.now h) c.args.left c.args.right first second c.loop-left_row.left_row c.loop-left_row.right_row now.0 c.row_of-first.result.entry c.row_of-second.result.entry c.row_of-first.result.next c.row_of-second.result.next c.row_of-first.ensures.row c.row_of-second.ensures.row c.in-Some-Some.next c.in-Some-Some.other c.in-Some-Some.is-0 c.in-Some-Some.is-1 (now.1.0 alike),
-        λ alike. now.1.1 (more-alike g.T.Ord.cmp g.met.T.Ord.total (form_at h) (g.C.Compares.same c.args.how.now h) (g.C.Compares.good c.args.how.now h) (g.met.C.Compares.itself c.args.how.now h) (g.met.C.Compares.keyed c.args.how.now h)
-            (g.met.C.Compares.outermost c.args.how.now h) c.args.left c.args.right first second c.loop-left_row.left_row c.loop-left_row.right_row now.0 c.row_of-first.result.entry c.row_of-second.result.entry c.row_of-first.result.next c.row_of-second.result.next c.row_of-first.ensures.row c.row_of-second.ensures.row c.in-Some-Some.next c.in-Some-Some.other c.in-Some-Some.is-0 c.in-Some-Some.is-1 same alike),
+        λ congruent. rest-congruent g.T.Ord.cmp g.met.T.Ord.total (form_at h) (g.C.Compares.same c.args.how.now h) (g.C.Compares.good c.args.how.now h) (g.met.C.Compares.itself c.args.how.now h) (g.met.C.Compares.keyed c.args.how.now h)
+            (g.met.C.Compares.outermost c.args.how.now h) c.args.left c.args.right first second c.loop-left_row.left_row c.loop-left_row.right_row now.0 c.row_of-first.result.entry c.row_of-second.result.entry c.row_of-first.result.next c.row_of-second.result.next c.row_of-first.ensures.row c.row_of-second.ensures.row c.in-Some-Some.next c.in-Some-Some.other c.in-Some-Some.is-0 c.in-Some-Some.is-1 (now.1.0 congruent),
+        λ congruent. now.1.1 (more-congruent g.T.Ord.cmp g.met.T.Ord.total (form_at h) (g.C.Compares.same c.args.how.now h) (g.C.Compares.good c.args.how.now h) (g.met.C.Compares.itself c.args.how.now h) (g.met.C.Compares.keyed c.args.how.now h)
+            (g.met.C.Compares.outermost c.args.how.now h) c.args.left c.args.right first second c.loop-left_row.left_row c.loop-left_row.right_row now.0 c.row_of-first.result.entry c.row_of-second.result.entry c.row_of-first.result.next c.row_of-second.result.next c.row_of-first.ensures.row c.row_of-second.ensures.row c.in-Some-Some.next c.in-Some-Some.other c.in-Some-Some.is-0 c.in-Some-Some.is-1 same congruent),
       ),
       λ counted. omega (arith, now.2 counted, ap length more.1, c.row_of-first.ensures.step, c.row_of-second.ensures.step, c.same_entries.ensures.few counted),
     )
 
-pub returns-in-None-None-clause-alike : goal.returns-in-None-None-clause-alike
-returns-in-None-None-clause-alike g c =
+pub returns-in-None-None-clause-congruent : goal.returns-in-None-None-clause-congruent
+returns-in-None-None-clause-congruent g c =
     let h = lent c.args.glass.now in
     let now = c.loop-left_row.invariant c.requires.left c.requires.right in
     let same : g.C.Compares.same c.args.how.now h c.row_of-first.result.entry c.row_of-second.result.entry = c.if-not-same_entries.ensures.same.0 refl in (
-      λ yes. now.1.1 (last-alike g.T.Ord.cmp g.met.T.Ord.total (form_at h) (g.C.Compares.same c.args.how.now h) (g.C.Compares.good c.args.how.now h) (g.met.C.Compares.itself c.args.how.now h) (g.met.C.Compares.keyed c.args.how.now h)
+      λ yes. now.1.1 (last-congruent g.T.Ord.cmp g.met.T.Ord.total (form_at h) (g.C.Compares.same c.args.how.now h) (g.C.Compares.good c.args.how.now h) (g.met.C.Compares.itself c.args.how.now h) (g.met.C.Compares.keyed c.args.how.now h)
           (g.met.C.Compares.outermost c.args.how.now h) c.args.left c.args.right c.requires.left c.requires.right c.loop-left_row.left_row c.loop-left_row.right_row now.0 c.row_of-first.result.entry c.row_of-second.result.entry c.row_of-first.result.next c.row_of-second.result.next c.row_of-first.ensures.row c.row_of-second.ensures.row c.in-None-None.is-0 c.in-None-None.is-1 same),
-      λ alike. refl,
+      λ congruent. refl,
     )
 
 pub returns-in-None-None-clause-few : goal.returns-in-None-None-clause-few
@@ -137,8 +137,8 @@ returns-in-None-None-clause-few g c = λ counted.
       few = omega (arith, now.2 counted, c.row_of-first.ensures.step, c.row_of-second.ensures.step, c.same_entries.ensures.few counted);
     }
 
-pub returns-in_default-clause-alike : goal.returns-in_default-clause-alike
-returns-in_default-clause-alike g c =
+pub returns-in_default-clause-congruent : goal.returns-in_default-clause-congruent
+returns-in_default-clause-congruent g c =
     let now = c.loop-left_row.invariant c.requires.left c.requires.right in
     let size = λ (next : Option ℕ). length (option_to_list next) in
     uneven g c.args.how.now (lent c.args.glass.now) _ _ c.requires.left c.requires.right now.0 now.1 c.row_of-first.ensures.row c.row_of-second.ensures.row (λ same. omega (arith, same, ap size c.in_default.is-0, ap size c.in_default.is-1))
@@ -148,8 +148,8 @@ returns-in_default-clause-few g c = λ counted.
     let now = c.loop-left_row.invariant c.requires.left c.requires.right in
     passed-spends now.0 _ _ _ _ (now.2 counted) (omega (arith, c.row_of-first.ensures.step, c.row_of-second.ensures.step, c.same_entries.ensures.few counted))
 
-pub returns-in_default-2-clause-alike : goal.returns-in_default-2-clause-alike
-returns-in_default-2-clause-alike g c =
+pub returns-in_default-2-clause-congruent : goal.returns-in_default-2-clause-congruent
+returns-in_default-2-clause-congruent g c =
     let now = c.loop-left_row.invariant c.requires.left c.requires.right in
     let size = λ (next : Option ℕ). length (option_to_list next) in
     uneven g c.args.how.now (lent c.args.glass.now) _ _ c.requires.left c.requires.right now.0 now.1 c.row_of-first.ensures.row c.row_of-second.ensures.row (λ same. omega (arith, same, ap size c.in_default.is-0, ap size c.in_default.is-1))

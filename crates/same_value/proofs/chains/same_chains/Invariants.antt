@@ -2,7 +2,7 @@ use Rattle.std.proofs.Common.{◌↔◌, ◌+◌, ◌*◌, ◌≤◌, length}
 use Rattle.node_heap.specs.Heap.{form_at}
 use Rattle.node_heap.specs.Glass.{lent}
 use Rattle.champ_trie.specs.Walk.{rows_from, depth_of}
-use Rattle.same_value.specs.Alike.{Alike, IsChainFrom}
+use Rattle.same_value.specs.Congruent.{Congruent, IsChainFrom}
 use Rattle.same_value.proofs.ChainRows.{Passed}
 use Rattle.same_value.proofs.chains.same_chains.Given as goal
 
@@ -14,5 +14,5 @@ invariant-loop-left_row g l =
     (first : IsChainFrom g.T.Ord.cmp (form_at (lent l.glass)) (g.C.Compares.good l.how (lent l.glass)) l.fn.left)
     → (second : IsChainFrom g.T.Ord.cmp (form_at (lent l.glass)) (g.C.Compares.good l.how (lent l.glass)) l.fn.right)
     → (p : Passed g.T.Ord.cmp g.met.T.Ord.total (form_at (lent l.glass)) l.fn.left l.fn.right first.entries second.entries l.left_row l.right_row)
-    × (Alike (form_at (lent l.glass)) (g.C.Compares.same l.how (lent l.glass)) l.fn.left l.fn.right ↔ Alike (form_at (lent l.glass)) (g.C.Compares.same l.how (lent l.glass)) l.left_row l.right_row)
+    × (Congruent (form_at (lent l.glass)) (g.C.Compares.same l.how (lent l.glass)) l.fn.left l.fn.right ↔ Congruent (form_at (lent l.glass)) (g.C.Compares.same l.how (lent l.glass)) l.left_row l.right_row)
     × (g.C.Compares.counted → l.steps ≤ l.fn.steps + 204 * length p.rows)

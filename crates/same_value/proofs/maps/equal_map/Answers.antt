@@ -11,7 +11,7 @@ same_roots-requires-clause-tries g c =
 pub returns-in-Cells : goal.returns-in-Cells
 returns-in-Cells g c = record {
   equal = λ M N first second. value-same g.T.Ord.cmp g.met.T.Ord.total g.T.Element.code_of g.met.T.Element.equal_codes c.args.heap.now c.args.a c.args.b c.requires.bits c.root-left.result c.root-right.result c.root-left.ensures c.root-right.ensures
-      c.args.values Cells c.in-Cells.is c.args.a.bits refl M N first second _ c.same_roots.ensures.alike;
+      c.args.values Cells c.in-Cells.is c.args.a.bits refl M N first second _ c.same_roots.ensures.congruent;
 }
 
 pub same_roots-requires-in-Lines-clause-tries : goal.same_roots-requires-in-Lines-clause-tries
@@ -22,7 +22,7 @@ same_roots-requires-in-Lines-clause-tries g c =
 pub returns-in-Lines : goal.returns-in-Lines
 returns-in-Lines g c = record {
   equal = λ M N first second. value-same g.T.Ord.cmp g.met.T.Ord.total g.T.Element.code_of g.met.T.Element.equal_codes c.args.heap.now c.args.a c.args.b c.requires.bits c.root-left.result c.root-right.result c.root-left.ensures c.root-right.ensures
-      c.args.values Lines c.in-Lines.is c.args.a.bits refl M N first second _ c.same_roots-in-Lines.ensures.alike;
+      c.args.values Lines c.in-Lines.is c.args.a.bits refl M N first second _ c.same_roots-in-Lines.ensures.congruent;
 }
 
 pub same_roots-requires-in-States-clause-tries : goal.same_roots-requires-in-States-clause-tries
@@ -33,5 +33,5 @@ same_roots-requires-in-States-clause-tries g c =
 pub returns-in-States : goal.returns-in-States
 returns-in-States g c = record {
   equal = λ M N first second. value-same g.T.Ord.cmp g.met.T.Ord.total g.T.Element.code_of g.met.T.Element.equal_codes c.args.heap.now c.args.a c.args.b c.requires.bits c.root-left.result c.root-right.result c.root-left.ensures c.root-right.ensures
-      c.args.values States c.in-States.is c.bits-bits.result c.bits-bits.ensures M N first second _ c.same_roots-in-States.ensures.alike;
+      c.args.values States c.in-States.is c.bits-bits.result c.bits-bits.ensures M N first second _ c.same_roots-in-States.ensures.congruent;
 }

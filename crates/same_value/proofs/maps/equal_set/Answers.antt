@@ -3,7 +3,7 @@ use Rattle.node_heap.specs.Heap.{form_at}
 use Rattle.node_heap.specs.Glass.{lent}
 use Rattle.same_value.specs.Apart.{HasApart}
 use Rattle.same_value.proofs.MapContents.{few-steps, no-spare}
-use Rattle.same_value.proofs.Roots.{set-tries, set-alike}
+use Rattle.same_value.proofs.Roots.{set-tries, set-congruent}
 use Rattle.same_value.proofs.maps.equal_set.Goals as goal
 
 pub same_tries-requires-clause-tries : goal.same_tries-requires-clause-tries
@@ -13,8 +13,8 @@ same_tries-requires-clause-tries g c =
 
 pub returns-clause-equal : goal.returns-clause-equal
 returns-clause-equal g c = λ E D first second.
-    let both = set-alike g.T.Ord.cmp g.met.T.Ord.total g.T.Element.code_of g.met.T.Element.equal_codes (lent c.args.glass) c.args.a c.args.b c.requires.bits c.root.result c.root-2.result c.root.ensures c.root-2.ensures E D first second in
-    (λ yes. both.0 (c.same_tries.ensures.alike.0 yes), λ same. c.same_tries.ensures.alike.1 (both.1 same))
+    let both = set-congruent g.T.Ord.cmp g.met.T.Ord.total g.T.Element.code_of g.met.T.Element.equal_codes (lent c.args.glass) c.args.a c.args.b c.requires.bits c.root.result c.root-2.result c.root.ensures c.root-2.ensures E D first second in
+    (λ yes. both.0 (c.same_tries.ensures.congruent.0 yes), λ same. c.same_tries.ensures.congruent.1 (both.1 same))
 
 pub returns-clause-few : goal.returns-clause-few
 returns-clause-few g c = λ rows has.

@@ -5,10 +5,10 @@ use Rattle.elem_core.specs.declared.codes.TheConstants.{DEEPEST}
 use Rattle.node_heap.specs.Heap.{Heap, form_at}
 use Rattle.node_heap.specs.Glass.{lent}
 use Rattle.champ_chain.proofs.FrameLemmas.{form-live}
-use Rattle.same_value.specs.Alike.{Alike, IsFrom}
+use Rattle.same_value.specs.Congruent.{Congruent, IsFrom}
 use Rattle.same_value.proofs.TriePairs.{from-opened, from-chain, trie-itself}
 use Rattle.same_value.proofs.VectorRows.{read-row}
-use Rattle.same_value.proofs.TwoRows.{TwoRows, TwoRead, AtPlace, opened-row, positions-same, row-apart, row-spends, links-number, entries-taken, others-taken, entries-few, left-good, right-good, entries-same, rows-alike, at-place, child-left, child-right, children-alike, alike-more, apart-below}
+use Rattle.same_value.proofs.TwoRows.{TwoRows, TwoRead, AtPlace, opened-row, positions-same, row-apart, row-spends, links-number, entries-taken, others-taken, entries-few, left-good, right-good, entries-same, rows-congruent, at-place, child-left, child-right, children-congruent, congruent-more, apart-below}
 use Rattle.same_value.proofs.tries.+same_tries.Given as given
 use Rattle.same_value.proofs.tries.+same_tries.Goals as goal
 use Rattle.same_value.proofs.tries.+same_tries.Goals.{After-links-others, After-index-links-place}
@@ -49,15 +49,15 @@ placed : (g : given.Over) (t : ℕ) (c : After-index-links-place g t) (y : ℕ) 
     c.in-Some.entries c.links-links.result.now c.links-others.result.now c.loop-place.place c.index-links-place.result y
 placed g t c y is = at-place (read g t (goal.at.After-index-links-place g t c).After-links-others) c.loop-place.place c.loop-place.invariant.1 c.loop-place-test.true c.index-links-place.is is
 
-pub returns-then-eq-clause-alike : goal.returns-then-eq-clause-alike
-returns-then-eq-clause-alike g t c =
+pub returns-then-eq-clause-congruent : goal.returns-then-eq-clause-congruent
+returns-then-eq-clause-congruent g t c =
     let h = lent c.args.glass.now in
     let F = form_at h in
     let tries = c.requires.tries in
     let same : c.args.left ≡ c.args.right = grind (arith, nat_tests) in (
-      λ yes. subst (Alike F (g.C.Compares.same c.args.how.now h) c.args.left) same
+      λ yes. subst (Congruent F (g.C.Compares.same c.args.how.now h) c.args.left) same
           (trie-itself g.T.Ord.cmp g.met.T.Ord.total tries.0 F (g.C.Compares.same c.args.how.now h) (g.C.Compares.good c.args.how.now h) (g.met.C.Compares.itself c.args.how.now h) tries.1.left c.args.depth c.args.left tries.1.entries tries.1.trie tries.1.good),
-      λ alike. refl,
+      λ congruent. refl,
     )
 
 pub returns-then-eq-clause-few : goal.returns-then-eq-clause-few
@@ -81,13 +81,13 @@ entries_of_both-requires-clause-left g t c = opened-row (opened g c.args.how.now
 pub entries_of_both-requires-clause-right : goal.entries_of_both-requires-clause-right
 entries_of_both-requires-clause-right g t c = opened-row (opened g c.args.how.now (lent c.args.glass.now) c.args.depth c.args.left c.args.right c.requires.tries c.if-depth-gt-DEEPEST.false).second
 
-pub returns-in-None-clause-alike : goal.returns-in-None-clause-alike
-returns-in-None-clause-alike g t c =
+pub returns-in-None-clause-congruent : goal.returns-in-None-clause-congruent
+returns-in-None-clause-congruent g t c =
     let rows = opened g c.args.how.now (lent c.args.glass.now) c.args.depth c.args.left c.args.right c.requires.tries c.if-depth-gt-DEEPEST.false in
     let first = rows.first.row in
     let second = rows.second.row in (
       λ no. absurd cc,
-      λ alike. absurd (c.in-None.ensures.same c.args.depth first.entries first.nodes c.args.depth second.entries second.nodes first.links second.links first.row second.row (positions-same rows alike)),
+      λ congruent. absurd (c.in-None.ensures.same c.args.depth first.entries first.nodes c.args.depth second.entries second.nodes first.links second.links first.row second.row (positions-same rows congruent)),
     )
 
 pub returns-in-None-clause-few : goal.returns-in-None-clause-few
@@ -116,10 +116,10 @@ same_in_turn-requires-clause-left g t c = left-good (read g t (goal.at.same_in_t
 pub same_in_turn-requires-clause-right : goal.same_in_turn-requires-clause-right
 same_in_turn-requires-clause-right g t c = right-good (read g t (goal.at.same_in_turn-requires-clause-right g t c).After-links-others)
 
-pub returns-then-not-same_in_turn-clause-alike : goal.returns-then-not-same_in_turn-clause-alike
-returns-then-not-same_in_turn-clause-alike g t c = (
+pub returns-then-not-same_in_turn-clause-congruent : goal.returns-then-not-same_in_turn-clause-congruent
+returns-then-not-same_in_turn-clause-congruent g t c = (
   λ no. absurd cc,
-  λ alike. c.if-not-same_in_turn.ensures.same.1 (entries-same (read g t (goal.at.returns-then-not-same_in_turn-clause-alike g t c).After-links-others) alike),
+  λ congruent. c.if-not-same_in_turn.ensures.same.1 (entries-same (read g t (goal.at.returns-then-not-same_in_turn-clause-congruent g t c).After-links-others) congruent),
 )
 
 pub returns-then-not-same_in_turn-clause-few : goal.returns-then-not-same_in_turn-clause-few
@@ -149,10 +149,10 @@ same_tries-requires g t c κs within =
       (within.0, (within.1.0, (within.1.1, (c.requires.reads, (c.requires.tries.0, child-left here, child-right here))))),
     )
 
-pub returns-then-not-same_tries-clause-alike : goal.returns-then-not-same_tries-clause-alike
-returns-then-not-same_tries-clause-alike g t c = (
+pub returns-then-not-same_tries-clause-congruent : goal.returns-then-not-same_tries-clause-congruent
+returns-then-not-same_tries-clause-congruent g t c = (
   λ no. absurd cc,
-  λ alike. c.if-not-same_tries.ensures.alike.1 (children-alike (placed g t (goal.at.returns-then-not-same_tries-clause-alike g t c).After-index-links-place c.index-others-place.result c.index-others-place.is) alike),
+  λ congruent. c.if-not-same_tries.ensures.congruent.1 (children-congruent (placed g t (goal.at.returns-then-not-same_tries-clause-congruent g t c).After-index-links-place c.index-others-place.result c.index-others-place.is) congruent),
 )
 
 pub returns-then-not-same_tries-clause-few : goal.returns-then-not-same_tries-clause-few
@@ -164,7 +164,7 @@ returns-then-not-same_tries-clause-few g t c = λ counted.
 pub loop-place-preserved : goal.loop-place-preserved
 loop-place-preserved g t c =
     let here = placed g t (goal.at.loop-place-preserved g t c).After-index-links-place c.index-others-place.result c.index-others-place.is in (
-      alike-more here c.loop-place.invariant.0 (c.if-not-same_tries.ensures.alike.0 refl),
+      congruent-more here c.loop-place.invariant.0 (c.if-not-same_tries.ensures.congruent.0 refl),
       omega (arith, c.loop-place.invariant.1),
       λ counted.
           let st = c.loop-place.invariant.2 counted in
@@ -172,10 +172,10 @@ loop-place-preserved g t c =
           (st.0 ++ more.0, more.1, omega (arith, st.2, more.2, length-append st.0 more.0)),
     )
 
-pub returns-clause-alike : goal.returns-clause-alike
-returns-clause-alike g t c = (
-  λ yes. rows-alike (read g t (goal.at.returns-clause-alike g t c).After-links-others) (c.if-not-same_in_turn.ensures.same.0 refl) (λ i from below. c.loop-place.invariant.0 i from (omega (arith, below, c.loop-place-test.false))),
-  λ alike. refl,
+pub returns-clause-congruent : goal.returns-clause-congruent
+returns-clause-congruent g t c = (
+  λ yes. rows-congruent (read g t (goal.at.returns-clause-congruent g t c).After-links-others) (c.if-not-same_in_turn.ensures.same.0 refl) (λ i from below. c.loop-place.invariant.0 i from (omega (arith, below, c.loop-place-test.false))),
+  λ congruent. refl,
 )
 
 pub returns-clause-few : goal.returns-clause-few

@@ -1,4 +1,4 @@
--- Tries that are alike, row by row.
+-- Tries that are congruent, row by row.
 use Rattle.std.specs.Prelude.{◌≡◌, ℕ, ◌+◌, List, [], ◌∷◌, Some}
 use Rattle.std.specs.List.{All}
 use Rattle.std.specs.declared.cmp.Ordering.{Ordering}
@@ -10,15 +10,15 @@ use Rattle.champ_trie.specs.Trie.{IsTrie}
 
 module _ {K : Type 0} (F : Forms K) (IsSame : ℕ → ℕ → Type 0) where
   mutual
-    -- the links name entries that are the same, or rows of one kind whose links are alike
-    pub data Alike : ℕ → ℕ → Type 0 where
-      alike_entries : (l m : ℕ) → IsSame l m → Alike l m
-      alike_rows : (l m : ℕ) (kind : Kind) (ls ks : List ℕ) → F l ≡ Some (node kind ls) → F m ≡ Some (node kind ks) → AreAlike ls ks → Alike l m
+    -- the links name entries that are the same, or rows of one kind whose links are congruent
+    pub data Congruent : ℕ → ℕ → Type 0 where
+      congruent_entries : (l m : ℕ) → IsSame l m → Congruent l m
+      congruent_rows : (l m : ℕ) (kind : Kind) (ls ks : List ℕ) → F l ≡ Some (node kind ls) → F m ≡ Some (node kind ks) → AreCongruent ls ks → Congruent l m
 
-    -- as many links on both sides, alike one by one
-    pub data AreAlike : List ℕ → List ℕ → Type 0 where
-      alike_none : AreAlike [] []
-      alike_then : (l m : ℕ) (ls ks : List ℕ) → Alike l m → AreAlike ls ks → AreAlike (l ∷ ls) (m ∷ ks)
+    -- as many links on both sides, congruent one by one
+    pub data AreCongruent : List ℕ → List ℕ → Type 0 where
+      congruent_none : AreCongruent [] []
+      congruent_then : (l m : ℕ) (ls ks : List ℕ) → Congruent l m → AreCongruent ls ks → AreCongruent (l ∷ ls) (m ∷ ks)
 
 module _ {K : Type 0} (cmp : K → K → Ordering) (F : Forms K) (IsGood : ℕ → Type 0) where
   -- the trie from a depth down, or the chain below the deepest row, of good entries
