@@ -12,7 +12,7 @@ use Rattle.pool_check.specs.declared.trie_row.Kept.TheVariants.{Entry as At, Nod
 use Rattle.pool_check.proofs.TestLemmas.{and-second, not-both}
 use Rattle.pool_check.proofs.TrieTests.{chain-row-is}
 use Rattle.pool_check.proofs.EntriesBelow.{own-is}
-use Rattle.pool_check.proofs.CodeLists.{all-alike}
+use Rattle.pool_check.proofs.CodeLists.{all-the-same}
 use Rattle.pool_check.proofs.KeptLemmas.{Chained, chained-first, one-below, two-below, low-in, canonical-as, no-empty}
 
 module _ (n : ℕ) (F : Forms Bytes) (code : Bytes → ℕ) where
@@ -230,7 +230,7 @@ module _ (n : ℕ) (F : Forms Bytes) (code : Bytes → ℕ) where
             let same : all_same (map (λ e. code e.key) (first.first ∷ first.rest)) ≡ true = ap (λ E. all_same (map (λ e. code e.key) E)) (sym first.is) ∙ one-code m b.first b.rest low_m b.row in
             ap (λ E. all_same (map (λ e. code e.key) E)) (two-below n F code kept are l k m low is ∙ ap (λ E. E ++ Es m) (own-is F k a.key a.is) ∙ ap (λ E. entry a.key k ∷ E) first.is)
             ∙ list_all-map (nat_eq (code a.key)) (λ e. code e.key) (first.first ∷ first.rest)
-            ∙ all-alike (λ e. code e.key) (λ e. nat_eq (code a.key) (code e.key)) first.first (λ e alike. ap (nat_eq (code a.key)) (sym alike)) first.rest same
+            ∙ all-the-same (λ e. code e.key) (λ e. nat_eq (code a.key) (code e.key)) first.first (λ e same_code. ap (nat_eq (code a.key)) (sym same_code)) first.rest same
             ∙ ap (λ x. nat_eq x (code first.first.key)) a.code_is
             ∙ ap (nat_eq c) first-code
 

@@ -17,26 +17,26 @@ use Rattle.pool_check.proofs.TestLemmas.{and-first, and-second}
 pub nat_eq-same : (n : ℕ) → nat_eq n n ≡ true
 nat_eq-same n = eq-eqb n n refl
 
--- a test that answers alike for all elements
+-- a test that answers the same for all elements
 module _ {X : Type 0} (m : X → ℕ) (q : X → Bool) (x : X) (follows : (y : X) → m x ≡ m y → q y ≡ q x) where
-  rest-alike : (ys : List X) → list_all (nat_eq (m x)) (map m ys) ≡ true → (q x && list_all q ys) ≡ q x
-  rest-alike [] h = by_test (q x)
+  rest-the-same : (ys : List X) → list_all (nat_eq (m x)) (map m ys) ≡ true → (q x && list_all q ys) ≡ q x
+  rest-the-same [] h = by_test (q x)
     where
       by_test : (b : Bool) → (b && true) ≡ b
       by_test true = refl
       by_test false = refl
-  rest-alike (y ∷ ys) h =
+  rest-the-same (y ∷ ys) h =
       let here : m x ≡ m y = eqb-true (m x) (m y) (and-first (nat_eq (m x) (m y)) (list_all (nat_eq (m x)) (map m ys)) h) in
       ap (λ b. q x && (b && list_all q ys)) (follows y here)
       ∙ twice (q x) (list_all q ys)
-      ∙ rest-alike ys (and-second (nat_eq (m x) (m y)) (list_all (nat_eq (m x)) (map m ys)) h)
+      ∙ rest-the-same ys (and-second (nat_eq (m x) (m y)) (list_all (nat_eq (m x)) (map m ys)) h)
     where
       twice : (a b : Bool) → (a && (a && b)) ≡ (a && b)
       twice true b = refl
       twice false b = refl
 
-  pub all-alike : (ys : List X) → list_all (nat_eq (m x)) (map m ys) ≡ true → list_all q (x ∷ ys) ≡ q x
-  all-alike ys h = rest-alike ys h
+  pub all-the-same : (ys : List X) → list_all (nat_eq (m x)) (map m ys) ≡ true → list_all q (x ∷ ys) ≡ q x
+  all-the-same ys h = rest-the-same ys h
 
 -- codes that agree above a depth have one digit at the depth before it, and agree above that
 pub one-deeper : (depth a b : ℕ) → a % 2 ^ (5 * (depth + 1)) ≡ b % 2 ^ (5 * (depth + 1)) → (digit_at a depth ≡ digit_at b depth) × (a % 2 ^ (5 * depth) ≡ b % 2 ^ (5 * depth))

@@ -11,7 +11,7 @@ use Rattle.node_heap.proofs.Counts.{test_same, test_other, count-cons}
 use Rattle.pool_order.specs.Order.{with_new, with_all_new}
 use Rattle.pool_order.proofs.Firsts.{with_new-cases}
 use Rattle.pool_order.proofs.Walked.{with_all-before}
-use Rattle.pool_check.specs.Counted.{IsCounted}
+use Rattle.pool_check.specs.Counted.{CountsUp}
 
 counts-from : (a n k : ℕ) → 0 < count k (range_with_len a n) → (a ≤ k) × (k < a + n)
 counts-from a zero k some = absurd (omega arith)
@@ -54,7 +54,7 @@ counted-last a zero k (suc c) e = let same : k ≡ a = cc in omega (arith, same)
 counted-last a (suc n) k zero e = absurd cc
 counted-last a (suc n) k (suc c) e = let rest : range_with_len (a + 1) n ++ k ∷ [] ≡ range_with_len (a + 1) c = cc in omega (arith, counted-last (a + 1) n k c rest)
 
-pub other-last : (next k : ℕ) → next ≤ k → k ≢ next → ¬ IsCounted (with_new (range_with_len 0 next) k)
+pub other-last : (next k : ℕ) → next ≤ k → k ≢ next → ¬ CountsUp (with_new (range_with_len 0 next) k)
 other-last next k high other counted =
     other (omega (arith, counted-last 0 next k (length (with_new (range_with_len 0 next) k)) (sym (next-listed next k high) ∙ counted)))
 
@@ -67,7 +67,7 @@ counted-front a (suc c) (k ∷ ks) more e =
     ap (λ j. j ∷ ks) same ∙ ap (λ js. a ∷ js) (counted-front (a + 1) c ks more rest)
 
 -- what a list that counts up began with counts up
-pub counted-before : (ks xs : List ℕ) (c : ℕ) → with_all_new ks xs ≡ range_with_len 0 c → IsCounted ks
+pub counted-before : (ks xs : List ℕ) (c : ℕ) → with_all_new ks xs ≡ range_with_len 0 c → CountsUp ks
 counted-before ks xs c e = let before = with_all-before ks xs in counted-front 0 c ks before.0 (sym before.1 ∙ e)
 
 test-none : (b : Bool) (P : Type 0) → Decides b P → ¬ P → false ≡ b

@@ -91,7 +91,7 @@ pool-stands bits bytes e =
       parts-four value.0 p parts.1,
     )
 
-pub undamaged-stands : (bits : ℕ) (bytes : Bytes) → document_damage bits bytes ≡ None → (P : Pool) × IsReadAs bits bytes P
+pub undamaged-stands : (bits : ℕ) (bytes : Bytes) → document_damage bits bytes ≡ None → (P : Pool) × IsReadAs bits P bytes
 unfolding document_damage
 undamaged-stands bits bytes whole =
     let none = both-none (bytes_damage bits bytes) (option_and_then damage (pool_in_bytes bytes)) whole in

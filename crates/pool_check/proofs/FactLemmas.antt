@@ -16,7 +16,7 @@ use Rattle.pool_check.specs.Vectors.{has_height}
 use Rattle.pool_check.specs.Tries.{entries_below}
 use Rattle.pool_check.specs.Kinds.{is_vector_root, is_trie_root, is_pair_of, is_state_of, is_cell_of, elements_pass, is_vector_of, is_trie_of, is_name_cell, is_lines_vector, is_names_map, is_stars_set, is_state}
 use Rattle.pool_check.specs.declared.kinds.RowFacts.{RowFacts}
-use Rattle.pool_check.specs.Facts.{are_elements, are_entries, is_cell, is_named_lines, is_named_state, facts_at, no_facts, facts_over_entries, of_both, common_facts}
+use Rattle.pool_check.specs.Facts.{are_elements, are_entries, is_any_cell, is_named_lines, is_named_state, facts_at, no_facts, facts_over_entries, of_both, common_facts}
 use Rattle.pool_check.proofs.TestLemmas.{not-both}
 use Rattle.pool_check.proofs.EntryTests.{list_all-same, is_entry_row, entries-pass, HasRows}
 
@@ -100,7 +100,7 @@ module _ (n : ℕ) (F : Forms Bytes) where
     named_lines = is_pair_of (is_name_cell n F) (is_lines_vector n F) r;
     named_state = is_pair_of (is_name_cell n F) (is_state n F) r;
     root = is_vector_root r || is_trie_root r;
-    over_cells = are_elements F (is_cell n F) l r;
+    over_cells = are_elements F (is_any_cell n F) l r;
     over_states = are_elements F (is_state n F) l r;
     over_names = are_entries n F (is_name_cell n F) l r;
     over_named_lines = are_entries n F (is_named_lines n F) l r;
@@ -122,21 +122,21 @@ module _ (n : ℕ) (F : Forms Bytes) where
   leaf-facts l ks all is common =
       let same : ks ≡ links_in F l = sym (ap links_of is) in
       ap (λ (a : RowFacts). record no_facts { root = true; over_cells = a.cell; over_states = a.state }) common
-      ∙ ap (λ js. record no_facts { root = true; over_cells = list_all (is_cell n F) js; over_states = list_all (is_state n F) js }) same
+      ∙ ap (λ js. record no_facts { root = true; over_cells = list_all (is_any_cell n F) js; over_states = list_all (is_state n F) js }) same
       ∙ by-form l (Some (node leaf ks)) is
 
-  pub inner-facts : (l h : ℕ) (ks : List ℕ) (all : RowFacts) → F l ≡ Some (node (inner (suc h)) ks) → list_all (λ k. has_height h (F k)) ks ≡ true → all ≡ common_facts facts ks
+  pub inner-facts : (l height : ℕ) (ks : List ℕ) (all : RowFacts) → F l ≡ Some (node (inner (suc height)) ks) → list_all (λ k. has_height height (F k)) ks ≡ true → all ≡ common_facts facts ks
       → record no_facts { root = leb 2 (length ks); over_cells = all.over_cells; over_states = all.over_states } ≡ facts l
   unfolding facts_at common_facts elements_pass
-  inner-facts l h ks all is high common =
+  inner-facts l height ks all is high common =
       let same : ks ≡ links_in F l = sym (ap links_of is) in
       let wide : Bool = leb 2 (length ks) in
       ap (λ (a : RowFacts). record no_facts { root = wide; over_cells = a.over_cells; over_states = a.over_states }) common
-      ∙ ap (λ b. record no_facts { root = wide; over_cells = b; over_states = list_all (λ k. are_elements F (is_state n F) k (F k)) ks }) (children-pass F (is_cell n F) h ks high)
-      ∙ ap (λ b. record no_facts { root = wide; over_cells = list_all (elements_pass F (is_cell n F) h) ks; over_states = b }) (children-pass F (is_state n F) h ks high)
-      ∙ ap (λ js. record no_facts { root = wide; over_cells = list_all (elements_pass F (is_cell n F) h) js; over_states = list_all (elements_pass F (is_state n F) h) js }) same
-      ∙ ap (λ b. record no_facts { root = b; over_cells = elements_pass F (is_cell n F) (suc h) l; over_states = elements_pass F (is_state n F) (suc h) l }) (sym (or-false wide))
-      ∙ by-form l (Some (node (inner (suc h)) ks)) is
+      ∙ ap (λ b. record no_facts { root = wide; over_cells = b; over_states = list_all (λ k. are_elements F (is_state n F) k (F k)) ks }) (children-pass F (is_any_cell n F) height ks high)
+      ∙ ap (λ b. record no_facts { root = wide; over_cells = list_all (elements_pass F (is_any_cell n F) height) ks; over_states = b }) (children-pass F (is_state n F) height ks high)
+      ∙ ap (λ js. record no_facts { root = wide; over_cells = list_all (elements_pass F (is_any_cell n F) height) js; over_states = list_all (elements_pass F (is_state n F) height) js }) same
+      ∙ ap (λ b. record no_facts { root = b; over_cells = elements_pass F (is_any_cell n F) (suc height) l; over_states = elements_pass F (is_state n F) (suc height) l }) (sym (or-false wide))
+      ∙ by-form l (Some (node (inner (suc height)) ks)) is
 
   pub pair-facts : (l k v : ℕ) (key value : RowFacts) (lines version : Bool) → F l ≡ Some (node pair (k ∷ v ∷ [])) → key ≡ facts k → value ≡ facts v → lines ≡ (key.name && (value.root && value.over_cells)) → version ≡ (key.name && value.state)
       → record no_facts { named_lines = lines; named_state = version } ≡ facts l
@@ -144,7 +144,7 @@ module _ (n : ℕ) (F : Forms Bytes) where
   pair-facts l k v key value lines version is key_is value_is lines_are version_is =
       let lines_at : lines ≡ (is_name_cell n F k && is_lines_vector n F v) =
       lines_are ∙ ap (λ (a : RowFacts). a.name && (value.root && value.over_cells)) key_is ∙ ap (λ (b : RowFacts). is_name_cell n F k && (b.root && b.over_cells)) value_is
-      ∙ ap (λ b. is_name_cell n F k && b) (vector-of F (is_cell n F) v) in
+      ∙ ap (λ b. is_name_cell n F k && b) (vector-of F (is_any_cell n F) v) in
       let version_at : version ≡ (is_name_cell n F k && is_state n F v) = version_is ∙ ap (λ (a : RowFacts). a.name && value.state) key_is ∙ ap (λ (b : RowFacts). is_name_cell n F k && b.state) value_is in
       ap (λ b. record no_facts { named_lines = b; named_state = version }) lines_at
       ∙ ap (λ b. record no_facts { named_lines = is_name_cell n F k && is_lines_vector n F v; named_state = b }) version_at

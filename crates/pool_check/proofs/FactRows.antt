@@ -60,23 +60,23 @@ read-at P stand l more rows are row at given is =
     }
 
 module _ (P : Pool) (stand : HasRowsThatStand P) (l : ℕ) (low : l < row_count P) where
-  children-high : (h : ℕ) (ks : List ℕ) → forms_in P l ≡ Some (node (inner h) ks) → list_all (λ k. has_height (h - 1) (forms_in P k)) ks ≡ true
+  children-high : (height : ℕ) (ks : List ℕ) → forms_in P l ≡ Some (node (inner height) ks) → list_all (λ k. has_height (height - 1) (forms_in P k)) ks ≡ true
   unfolding vectors_stand are_children
-  children-high h ks is =
+  children-high height ks is =
       let F = forms_in P in
-      let a : Bool = list_all (λ k. has_height (h - 1) (F k)) ks in
-      let b : Bool = list_all (is_thick F (h - 1)) (take (length ks - 1) ks) in
+      let a : Bool = list_all (λ k. has_height (height - 1) (F k)) ks in
+      let b : Bool = list_all (is_thick F (height - 1)) (take (length ks - 1) ks) in
       let c : Bool = list_all (λ k. nat_le 1 (length (links_in F k))) ks in
-      let d : Bool = nat_lt (sum_by (length_at F (h - 1)) ks) (2 ^ 32) in
-      let kept : (a && b && c && d) ≡ true = all-at (keeps_fill_rule F) P.rows stand.vectors l (node (inner h) ks) is in
+      let d : Bool = nat_lt (sum_by (length_at F (height - 1)) ks) (2 ^ 32) in
+      let kept : (a && b && c && d) ≡ true = all-at (keeps_fill_rule F) P.rows stand.vectors l (node (inner height) ks) is in
       (and_parts a b (and_parts (a && b) c (and_parts (a && b && c) d kept).0).0).0
 
-  pub inner-is : (h : ℕ) (ks : List ℕ) (all : RowFacts) → forms_in P l ≡ Some (node (inner h) ks) → is_in_range {K = Bytes} (node (inner h) ks) ≡ true → all ≡ common_facts (facts_in P) ks
+  pub inner-is : (height : ℕ) (ks : List ℕ) (all : RowFacts) → forms_in P l ≡ Some (node (inner height) ks) → is_in_range {K = Bytes} (node (inner height) ks) ≡ true → all ≡ common_facts (facts_in P) ks
       → record no_facts { root = leb 2 (length ks); over_cells = all.over_cells; over_states = all.over_states } ≡ facts_in P l
-  inner-is h ks all is ranged common =
-      let some : 1 ≤ h = leb-true 1 h (and_parts (leb 1 h) (leb h 7) (and_parts (is_between 1 7 h) (is_between 1 32 (length ks)) ranged).0).0 in
-      let next : h ≡ suc (h - 1) = omega (arith, some) in
-      inner-facts (row_count P) (forms_in P) l (h - 1) ks all (is ∙ ap (λ m. Some (node (inner m) ks)) next) (children-high h ks is) common
+  inner-is height ks all is ranged common =
+      let some : 1 ≤ height = leb-true 1 height (and_parts (leb 1 height) (leb height 7) (and_parts (is_between 1 7 height) (is_between 1 32 (length ks)) ranged).0).0 in
+      let next : height ≡ suc (height - 1) = omega (arith, some) in
+      inner-facts (row_count P) (forms_in P) l (height - 1) ks all (is ∙ ap (λ m. Some (node (inner m) ks)) next) (children-high height ks is) common
 
   module _ (depth e d : ℕ) (ks : List ℕ) (is : forms_in P l ≡ Some (node (trie depth e d) ks)) (ranged : is_in_range {K = Bytes} (node (trie depth e d) ks) ≡ true) where
     count : count_ones e ≡ rank e 32

@@ -18,7 +18,7 @@ use Rattle.pool_check.specs.declared.trie_row.Part.TheVariants.{Entries, Nodes}
 use Rattle.pool_check.proofs.TestLemmas.{and-first, and-second, not-both}
 use Rattle.pool_check.proofs.TrieTests.{some-is, chain-row-is, sub-node-is}
 use Rattle.pool_check.proofs.EntriesBelow.{own, own-is, rows-low, entries-is}
-use Rattle.pool_check.proofs.CodeLists.{all-alike, one-deeper, Stand, OneSays}
+use Rattle.pool_check.proofs.CodeLists.{all-the-same, one-deeper, Stand, OneSays}
 
 -- a smaller key is a key
 before-some : (a b : Option Bytes) → is_before a b ≡ true → (key : Bytes) × (a ≡ Some key)
@@ -80,17 +80,17 @@ module _ (n : ℕ) (F : Forms Bytes) (code : Bytes → ℕ) (kept : List Kept) (
   pub no-empty : (l : ℕ) → l < length kept → F l ≡ Some (node chain []) → ⊥
   no-empty l low is = not-both (canonical-as l (Some (node chain [])) low is)
 
-  -- the entries below a sub-node: two or more, for which a test answers alike where it asks no more than a digit and those above
-  pub record Alike (depth k : ℕ) : Type 0 where
+  -- the entries below a sub-node: two or more, for which a test answers the same where it asks no more than a digit and those above
+  pub record AnswersAsFirst (depth k : ℕ) : Type 0 where
     pub first : Entry Bytes
     pub rest : List (Entry Bytes)
     pub is : Es k ≡ first ∷ rest
     pub two : 2 ≤ length (first ∷ rest)
-    pub alike : (q : Entry Bytes → Bool) → ((e : Entry Bytes) → digit_at (code e.key) depth ≡ digit_at (code first.key) depth → code e.key % 2 ^ (5 * depth) ≡ code first.key % 2 ^ (5 * depth) → q e ≡ q first)
+    pub as_first : (q : Entry Bytes → Bool) → ((e : Entry Bytes) → digit_at (code e.key) depth ≡ digit_at (code first.key) depth → code e.key % 2 ^ (5 * depth) ≡ code first.key % 2 ^ (5 * depth) → q e ≡ q first)
         → list_all q (first ∷ rest) ≡ q first
 
-  trie-alike : (depth k e d : ℕ) (ks : List ℕ) → k < length kept → F k ≡ Some (node (trie (depth + 1) e d) ks) → Alike depth k
-  trie-alike depth k e d ks low is = by_entries (Es k) refl agree two
+  trie-as-first : (depth k e d : ℕ) (ks : List ℕ) → k < length kept → F k ≡ Some (node (trie (depth + 1) e d) ks) → AnswersAsFirst depth k
+  trie-as-first depth k e d ks low is = by_entries (Es k) refl agree two
     where
       m : Entry Bytes → ℕ
       m x = code x.key % 2 ^ (5 * (depth + 1))
@@ -106,21 +106,21 @@ module _ (n : ℕ) (F : Forms Bytes) (code : Bytes → ℕ) (kept : List Kept) (
       two = leb-true 2 (length (Es k)) (or-second (depth + 1 == 0) (nat_le 2 (length (Es k))) (ne_eqb (depth + 1) 0 (λ z. absurd (omega (arith, z))))
           (and-second (are_branches n F code (depth + 1) e d ks && agree_above n F code (depth + 1) k) ((depth + 1 == 0) || nat_le 2 (length (Es k))) h))
 
-      by_entries : (E : List (Entry Bytes)) → Es k ≡ E → all_same (map m E) ≡ true → 2 ≤ length E → Alike depth k
+      by_entries : (E : List (Entry Bytes)) → Es k ≡ E → all_same (map m E) ≡ true → 2 ≤ length E → AnswersAsFirst depth k
       by_entries [] is h two = absurd (omega (arith, two))
       by_entries (x ∷ xs) is h two = record {
         first = x;
         rest = xs;
         is = is;
         two = two;
-        alike = λ q follows. all-alike m q x (λ y same. let deeper = one-deeper depth (code y.key) (code x.key) (sym same) in follows y deeper.0 deeper.1) xs h;
+        as_first = λ q follows. all-the-same m q x (λ y same. let deeper = one-deeper depth (code y.key) (code x.key) (sym same) in follows y deeper.0 deeper.1) xs h;
       }
 
-  chain-alike : (depth k : ℕ) (ks : List ℕ) → k < length kept → F k ≡ Some (node chain ks) → length ks ≡ 2 → Alike depth k
-  chain-alike depth k [] low is two = absurd (omega (arith, two))
-  chain-alike depth k (j ∷ []) low is two = absurd (omega (arith, two))
-  chain-alike depth k (j ∷ i ∷ m ∷ ks) low is two = absurd (omega (arith, two))
-  chain-alike depth k (j ∷ m ∷ []) low is two = by_entries (Es k) refl same more
+  chain-as-first : (depth k : ℕ) (ks : List ℕ) → k < length kept → F k ≡ Some (node chain ks) → length ks ≡ 2 → AnswersAsFirst depth k
+  chain-as-first depth k [] low is two = absurd (omega (arith, two))
+  chain-as-first depth k (j ∷ []) low is two = absurd (omega (arith, two))
+  chain-as-first depth k (j ∷ i ∷ m ∷ ks) low is two = absurd (omega (arith, two))
+  chain-as-first depth k (j ∷ m ∷ []) low is two = by_entries (Es k) refl same more
     where
       h : are_chained n F code k (j ∷ m ∷ []) ≡ true
       h = canonical-as k (Some (node chain (j ∷ m ∷ []))) low is
@@ -151,20 +151,20 @@ module _ (n : ℕ) (F : Forms Bytes) (code : Bytes → ℕ) (kept : List Kept) (
           let one : length (own F j) ≡ 1 = ap length (own-is F j first.first.key first.key) in
           omega (arith, all, one, next row.0 row.1)
 
-      by_entries : (E : List (Entry Bytes)) → Es k ≡ E → all_same (map (λ e. code e.key) E) ≡ true → 2 ≤ length E → Alike depth k
+      by_entries : (E : List (Entry Bytes)) → Es k ≡ E → all_same (map (λ e. code e.key) E) ≡ true → 2 ≤ length E → AnswersAsFirst depth k
       by_entries [] is h two = absurd (omega (arith, two))
       by_entries (x ∷ xs) is h two = record {
         first = x;
         rest = xs;
         is = is;
         two = two;
-        alike = λ q follows. all-alike (λ e. code e.key) q x (λ y same. follows y (ap (λ c. digit_at c depth) (sym same)) (ap (λ c. c % 2 ^ (5 * depth)) (sym same))) xs h;
+        as_first = λ q follows. all-the-same (λ e. code e.key) q x (λ y same. follows y (ap (λ c. digit_at c depth) (sym same)) (ap (λ c. c % 2 ^ (5 * depth)) (sym same))) xs h;
       }
 
-  pub sub-alike : (depth k : ℕ) → k < length kept → is_sub_node depth (F k) ≡ true → Alike depth k
-  sub-alike depth k low h = elim (sub-node-is depth (F k) h) as (λ _. Alike depth k) [
-    | inl row ↦ trie-alike depth k row.0 row.1 row.2 low row.3
-    | inr row ↦ chain-alike depth k row.0 low row.1 row.2
+  pub sub-as-first : (depth k : ℕ) → k < length kept → is_sub_node depth (F k) ≡ true → AnswersAsFirst depth k
+  sub-as-first depth k low h = elim (sub-node-is depth (F k) h) as (λ _. AnswersAsFirst depth k) [
+    | inl row ↦ trie-as-first depth k row.0 row.1 row.2 low row.3
+    | inr row ↦ chain-as-first depth k row.0 low row.1 row.2
   ]
 
   -- what the code of the key at a link says, where the link is to name an entry
@@ -197,16 +197,16 @@ module _ (n : ℕ) (F : Forms Bytes) (code : Bytes → ℕ) (kept : List Kept) (
         digit = λ c e p. absurd (let f : None ≡ Some c = e in cc);
         stand = λ c e. absurd (let f : None ≡ Some c = e in cc);
       }
-      by_kind true h = by_alike (sub-alike depth k low h)
+      by_kind true h = by_first (sub-as-first depth k low h)
         where
-          by_alike : Alike depth k → OneSays code depth (λ p. true && list_all (has_digit n F code depth p) (Es k)) (Es k) (slice_get (codes_below n F code k) 0)
-          by_alike below = record {
+          by_first : AnswersAsFirst depth k → OneSays code depth (λ p. true && list_all (has_digit n F code depth p) (Es k)) (Es k) (slice_get (codes_below n F code k) 0)
+          by_first below = record {
             none = λ e p. absurd (let f : Some (code below.first.key) ≡ None = sym head ∙ e in cc);
             digit = λ c e p.
                 let f : Some (code below.first.key) ≡ Some c = sym head ∙ e in
                 let is : code below.first.key ≡ c = cc in
                 ap (list_all (has_digit n F code depth p)) below.is
-                ∙ below.alike (has_digit n F code depth p) (λ x same _. ap (λ d. nat_eq d p) same)
+                ∙ below.as_first (has_digit n F code depth p) (λ x same _. ap (λ d. nat_eq d p) same)
                 ∙ ap (λ x. nat_eq (digit_at x depth) p) is;
             stand = λ c e.
                 let f : Some (code below.first.key) ≡ Some c = sym head ∙ e in
@@ -225,7 +225,7 @@ module _ (n : ℕ) (F : Forms Bytes) (code : Bytes → ℕ) (kept : List Kept) (
               same : (x : ℕ) → list_all (nat_eq x) (map (λ e. code e.key % 2 ^ (5 * depth)) (below.first ∷ below.rest)) ≡ list_all (nat_eq x) (map (λ c. c % 2 ^ (5 * depth)) (code below.first.key ∷ []))
               same x =
                   list_all-map (nat_eq x) (λ e. code e.key % 2 ^ (5 * depth)) (below.first ∷ below.rest)
-                  ∙ below.alike (λ e. nat_eq x (code e.key % 2 ^ (5 * depth))) (λ e _ high. ap (nat_eq x) high)
+                  ∙ below.as_first (λ e. nat_eq x (code e.key % 2 ^ (5 * depth))) (λ e _ high. ap (nat_eq x) high)
                   ∙ and-true (nat_eq x (code below.first.key % 2 ^ (5 * depth)))
 
   no-code : (b : Bool) → ◌≡◌ {A = Option ℕ} None (cond b None None)
@@ -237,7 +237,7 @@ module _ (n : ℕ) (F : Forms Bytes) (code : Bytes → ℕ) (kept : List Kept) (
   entry-code k None = refl
   entry-code k (Some (cell x)) = refl
   entry-code k (Some (node leaf ks)) = refl
-  entry-code k (Some (node (inner h) ks)) = refl
+  entry-code k (Some (node (inner height) ks)) = refl
   entry-code k (Some (node (trie d e m) ks)) = by_codes (codes_below n F code k)
     where
       by_codes : (cs : List ℕ) → code_of_entry (kept_node d cs) ≡ None
@@ -262,7 +262,7 @@ module _ (n : ℕ) (F : Forms Bytes) (code : Bytes → ℕ) (kept : List Kept) (
   node-code depth k None low is = refl
   node-code depth k (Some (cell x)) low is = refl
   node-code depth k (Some (node leaf ks)) low is = refl
-  node-code depth k (Some (node (inner h) ks)) low is = refl
+  node-code depth k (Some (node (inner height) ks)) low is = refl
   node-code depth k (Some (node (trie d e m) ks)) low is = by_codes (codes_below n F code k)
     where
       by_codes : (cs : List ℕ) → code_of_node depth (kept_node d cs) ≡ cond (d == depth + 1) (slice_get cs 0) None

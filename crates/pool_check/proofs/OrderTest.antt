@@ -15,12 +15,12 @@ use Rattle.pool_text.specs.declared.pool.Pool.{Pool}
 use Rattle.pool_text.specs.declared.row.Row.{Row}
 use Rattle.pool_check.specs.Rows.{rows_lead_back, links_lead_back}
 use Rattle.pool_check.specs.Damages.{rows_in_order}
-use Rattle.pool_check.specs.Counted.{links_from, IsCounted}
+use Rattle.pool_check.specs.Counted.{links_from, CountsUp}
 use Rattle.pool_check.proofs.TestLemmas.{and-first, roots-low}
 use Rattle.pool_check.proofs.CountedLemmas.{counted-before, not-counted, counted-test}
 
 -- where the whole order counts up, so does what the first roots list
-front-counted : (f : ℕ → List ℕ) (roots : List ℕ) (j c : ℕ) → firsts (flat_map f roots) ≡ range_with_len 0 c → IsCounted (firsts (flat_map f (take j roots)))
+front-counted : (f : ℕ → List ℕ) (roots : List ℕ) (j c : ℕ) → firsts (flat_map f roots) ≡ range_with_len 0 c → CountsUp (firsts (flat_map f (take j roots)))
 front-counted f roots j c e =
     let front : List ℕ = flat_map f (take j roots) in
     let rest : List ℕ = flat_map f (drop j roots) in
@@ -53,13 +53,13 @@ module _ (P : Pool) (rows : List Row) (roots : List ℕ) (are : map row_form row
   order-more i next ks before low e =
       sym (firsts-more places_in (range_with_len 0 next) ks i (get_or roots i 0) roots (sym before) low (get_or-default roots i 0 (get_or roots i 0) low) (sym e ∙ ap (with_all_new (range_with_len 0 next)) (places-are (get_or roots i 0))))
 
-  pub order-stops : (i next : ℕ) → firsts (flat_map places_in (take i roots)) ≡ range_with_len 0 next → i < length roots → ¬ IsCounted (with_all_new (range_with_len 0 next) (places_read (get_or roots i 0))) → false ≡ rows_in_order P
+  pub order-stops : (i next : ℕ) → firsts (flat_map places_in (take i roots)) ≡ range_with_len 0 next → i < length roots → ¬ CountsUp (with_all_new (range_with_len 0 next) (places_read (get_or roots i 0))) → false ≡ rows_in_order P
   unfolding rows_in_order order
   order-stops i next before low none =
       not-counted (order_in P) (row_count P)
       (λ e.
       let whole : firsts (flat_map places_in roots) ≡ range_with_len 0 (row_count P) = ap (λ ks. firsts (flat_map places_in ks)) same ∙ e in
-      none (subst IsCounted (order-more i next (with_all_new (range_with_len 0 next) (places_read (get_or roots i 0))) before low refl) (front-counted places_in roots (i + 1) (row_count P) whole)))
+      none (subst CountsUp (order-more i next (with_all_new (range_with_len 0 next) (places_read (get_or roots i 0))) before low refl) (front-counted places_in roots (i + 1) (row_count P) whole)))
 
   pub order-ends : (i next : ℕ) → firsts (flat_map places_in (take i roots)) ≡ range_with_len 0 next → length roots ≤ i → nat_eq next (length rows) ≡ rows_in_order P
   unfolding rows_in_order order

@@ -13,7 +13,7 @@ use Rattle.pool_text.specs.Rows.{Bytes, row_form}
 use Rattle.pool_text.specs.declared.row.Row.{Row}
 use Rattle.pool_check.specs.declared.order.Visit.{Visit}
 use Rattle.pool_check.specs.Rows.{rows_lead_back}
-use Rattle.pool_check.specs.Counted.{links_from, IsCounted}
+use Rattle.pool_check.specs.Counted.{links_from, CountsUp}
 use Rattle.pool_check.proofs.TestLemmas.{lead-back-at}
 use Rattle.pool_check.proofs.CountedLemmas.{is-listed, one-more, other-last, counted-before}
 
@@ -117,7 +117,7 @@ module _ (n : ℕ) (L : Links) where
   }
 
   -- and where it doesn't come next, the whole doesn't count up
-  walk-stops : (next : ℕ) (whole : List ℕ) (vs : List Visit) (v : Visit) → IsWalk next whole (vs ++ v ∷ []) → length (L v.row) ≤ v.link → v.row ≢ next → ¬ IsCounted whole
+  walk-stops : (next : ℕ) (whole : List ℕ) (vs : List Visit) (v : Visit) → IsWalk next whole (vs ++ v ∷ []) → length (L v.row) ≤ v.link → v.row ≢ next → ¬ CountsUp whole
   walk-stops next whole vs v walk done other counted =
       let all : with_all_new (with_new (range_with_len 0 next) v.row) (pending vs) ≡ whole = sym (ap (with_all_new (range_with_len 0 next)) (pending-done vs v done)) ∙ walk.total in
       other-last next v.row (falls-last n next vs v walk.falls).1 other (counted-before (with_new (range_with_len 0 next) v.row) (pending vs) (length whole) (all ∙ counted))
@@ -229,7 +229,7 @@ module _ (rows : List Row) where
     )
 
     -- no link is left, and another row comes next
-    pub turn-stops : IsTurn rows old vs v row None → v.row ≢ next → ¬ IsCounted whole
+    pub turn-stops : IsTurn rows old vs v row None → v.row ≢ next → ¬ CountsUp whole
     turn-stops turn other = walk-stops (length rows) links next whole vs v (now turn.popped) (none-left (length rows) links v.row v.link (read-links None turn)) other
 
     module _ (back : rows_lead_back 0 (map row_form rows) ≡ true) (mid : List Visit) (child : ℕ) (turn : IsTurn rows old vs v row (Some child)) (pushed : mid ≡ vs ++ record { row = v.row; link = v.link + 1 } ∷ []) where

@@ -124,7 +124,7 @@ module _ (n : ℕ) (F : Forms Bytes) (code : Bytes → ℕ) where
 
 -- nothing is kept of a leaf, an inner row or a state
 pub other-kept : (rows : List Row) (code : Bytes → ℕ) (l : ℕ) (row : Row) → l < length rows → row ≡ get_or rows l row
-    → ((ks : List ℕ) × (row ≡ Leaf ks)) ⊎ (((h : ℕ) × (ks : List ℕ) × (row ≡ Inner h ks)) ⊎ ((k : ℕ) × (m : ℕ) × (row ≡ State k m))) → Some Other ≡ canonical_kept (length rows) (forms_at rows) code l
+    → ((ks : List ℕ) × (row ≡ Leaf ks)) ⊎ (((height : ℕ) × (ks : List ℕ) × (row ≡ Inner height ks)) ⊎ ((k : ℕ) × (m : ℕ) × (row ≡ State k m))) → Some Other ≡ canonical_kept (length rows) (forms_at rows) code l
 other-kept rows code l row low at kind =
     let is = form-at rows l row low at in
     elim kind as (λ _. Some Other ≡ canonical_kept (length rows) (forms_at rows) code l) [

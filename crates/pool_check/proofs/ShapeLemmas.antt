@@ -39,10 +39,10 @@ module _ {K : Type 0} (F : Forms K) where
       let same : shape ≡ shape_at F 0 l = cc in
       let here : 0 ≡ n = sym (ap (λ (s : Shape). s.height) same) ∙ high in
       is ∙ ap (λ m. Some (shape_at F m l)) here ∙ ap (λ b. cond b (Some (shape_at F n l)) None) (sym (ap (eqb n) here ∙ eqb-same n))
-  some-child (Some (node (inner h) links)) n l shape is high =
-      let e : Some shape ≡ Some (shape_at F h l) = is in
-      let same : shape ≡ shape_at F h l = cc in
-      let here : h ≡ n = sym (ap (λ (s : Shape). s.height) same) ∙ high in
+  some-child (Some (node (inner height) links)) n l shape is high =
+      let e : Some shape ≡ Some (shape_at F height l) = is in
+      let same : shape ≡ shape_at F height l = cc in
+      let here : height ≡ n = sym (ap (λ (s : Shape). s.height) same) ∙ high in
       is ∙ ap (λ m. Some (shape_at F m l)) here ∙ ap (λ b. cond b (Some (shape_at F n l)) None) (sym (ap (eqb n) here ∙ eqb-same n))
   some-child (Some (node (trie d e m) links)) n l shape is high = absurd (let e : Some shape ≡ None = is in cc)
   some-child (Some (node chain links)) n l shape is high = absurd (let e : Some shape ≡ None = is in cc)
@@ -57,11 +57,11 @@ module _ {K : Type 0} (F : Forms K) where
       let same : shape ≡ shape_at F 0 l = cc in
       let apart : 0 ≢ n = λ here. other (ap (λ (s : Shape). s.height) same ∙ here) in
       sym (ap (λ b. cond b (Some (shape_at F n l)) None) (eqb-other n 0 apart))
-  other-child (Some (node (inner h) links)) n l shape is other =
-      let e : Some shape ≡ Some (shape_at F h l) = is in
-      let same : shape ≡ shape_at F h l = cc in
-      let apart : h ≢ n = λ here. other (ap (λ (s : Shape). s.height) same ∙ here) in
-      sym (ap (λ b. cond b (Some (shape_at F n l)) None) (eqb-other n h apart))
+  other-child (Some (node (inner height) links)) n l shape is other =
+      let e : Some shape ≡ Some (shape_at F height l) = is in
+      let same : shape ≡ shape_at F height l = cc in
+      let apart : height ≢ n = λ here. other (ap (λ (s : Shape). s.height) same ∙ here) in
+      sym (ap (λ b. cond b (Some (shape_at F n l)) None) (eqb-other n height apart))
   other-child (Some (node (trie d e m) links)) n l shape is other = refl
   other-child (Some (node chain links)) n l shape is other = refl
   other-child (Some (node pair links)) n l shape is other = refl
@@ -71,7 +71,7 @@ module _ {K : Type 0} (F : Forms K) where
   no-child None n l is = refl
   no-child (Some (cell x)) n l is = refl
   no-child (Some (node leaf links)) n l is = absurd (let e : None ≡ Some (shape_at F 0 l) = is in cc)
-  no-child (Some (node (inner h) links)) n l is = absurd (let e : None ≡ Some (shape_at F h l) = is in cc)
+  no-child (Some (node (inner height) links)) n l is = absurd (let e : None ≡ Some (shape_at F height l) = is in cc)
   no-child (Some (node (trie d e m) links)) n l is = refl
   no-child (Some (node chain links)) n l is = refl
   no-child (Some (node pair links)) n l is = refl
@@ -224,15 +224,15 @@ module _ {K : Type 0} (F : Forms K) where
   not-inner n links at fails = ap (λ b. cond b (Some at) None) (sym fails)
 
   -- the shape of an inner row over children that do
-  pub inner-is : (n h l : ℕ) (links : List ℕ) (sum : ℕ) (thick : Bool) (shape : Shape) → h ≡ suc n → links_in F l ≡ links → AreGrown n links sum thick
-      → shape ≡ record { height = h; length = sum; thick = leb 16 (length links) && thick; bare = length links == 0 } → Some shape ≡ cond (are_children F n links) (Some (shape_at F h l)) None
+  pub inner-is : (n own l : ℕ) (links : List ℕ) (sum : ℕ) (thick : Bool) (shape : Shape) → own ≡ suc n → links_in F l ≡ links → AreGrown n links sum thick
+      → shape ≡ record { height = own; length = sum; thick = leb 16 (length links) && thick; bare = length links == 0 } → Some shape ≡ cond (are_children F n links) (Some (shape_at F own l)) None
   unfolding length_at is_thick
-  inner-is n h l links sum thick shape high same grown is =
+  inner-is n own l links sum thick shape high same grown is =
       let adds : sum ≡ length_at F (suc n) l = grown.adds ∙ ap (λ ks. sum_by (length_at F n) ks) (sym same) in
       let all : (leb 16 (length links) && thick) ≡ is_thick F (suc n) l = ap (λ b. leb 16 (length links) && b) grown.all ∙ ap (λ ks. leb 16 (length ks) && list_all (is_thick F n) ks) (sym same) in
       let bare : (length links == 0) ≡ (length (links_in F l) == 0) = ap (λ ks. length ks == 0) (sym same) in
       let at : shape ≡ shape_at F (suc n) l = is ∙ cc in
-      ap Some at ∙ ap (λ m. Some (shape_at F m l)) (sym high) ∙ ap (λ b. cond b (Some (shape_at F h l)) None) (sym grown.children)
+      ap Some at ∙ ap (λ m. Some (shape_at F m l)) (sym high) ∙ ap (λ b. cond b (Some (shape_at F own l)) None) (sym grown.children)
 
   shape-is : (b : Bool) (shape given : Option Shape) → Some given ≡ cond b (Some shape) None → (b ≡ true) × (given ≡ shape)
   shape-is true shape given is = (refl, cc)

@@ -25,9 +25,9 @@ use Rattle.champ_trie.proofs.StayLemmas.{has-first}
 use Rattle.pool_order.proofs.Places.{flat_map-same, flat_map-found}
 use Rattle.pool_text.specs.Pool.{relink}
 use Rattle.pool_text.specs.Renaming.{IsRenamed}
-use Rattle.pool_text.proofs.Renamed.{renamed-link, renamed-below, reads-alike}
+use Rattle.pool_text.proofs.Renamed.{renamed-link, renamed-below, reads-the-same}
 use Rattle.pool_text.proofs.Ordered.{map-flat}
-use Rattle.pool_check.specs.Readings.{moved, TrieReadsAlike}
+use Rattle.pool_check.specs.Readings.{moved, TrieReadsTheSame}
 use Rattle.pool_check.proofs.VectorReadings.{map-twice, all-at}
 
 drop-map : (f : ℕ → ℕ) (n : ℕ) (ks : List ℕ) → drop n (map f ks) ≡ map f (drop n ks)
@@ -109,31 +109,31 @@ module _ {K : Type 0} where
   own-count k (Some (node kind links)) some = omega (arith, some, count-take k (entries_first kind) links)
 
 module _ {K : Type 0} (f : ℕ → ℕ) (G H : Forms K) where
-  key-alike : (l : ℕ) → IsRenamed f G H l → key_at H (f l) ≡ key_at G l
-  key-alike l image = ap (key_of H) (image l (here l)) ∙ by_form (G l) refl
+  key-renamed : (l : ℕ) → IsRenamed f G H l → key_at H (f l) ≡ key_at G l
+  key-renamed l image = ap (key_of H) (image l (here l)) ∙ by_form (G l) refl
     where
       by_links : (links : List ℕ) → G l ≡ Some (node pair links) → first_value H (map f links) ≡ first_value G links
       by_links [] e = refl
-      by_links (j ∷ js) e = (reads-alike f G H j (renamed-link f G H l j image (has-first G l j pair js e))).value
+      by_links (j ∷ js) e = (reads-the-same f G H j (renamed-link f G H l j image (has-first G l j pair js e))).value
 
       by_form : (r : Option (Form K)) → G l ≡ r → key_of H (option_map (relink f) r) ≡ key_of G r
       by_form None e = refl
       by_form (Some (cell y)) e = refl
       by_form (Some (node leaf links)) e = refl
-      by_form (Some (node (inner h) links)) e = refl
+      by_form (Some (node (inner height) links)) e = refl
       by_form (Some (node (trie d s n) links)) e = refl
       by_form (Some (node chain links)) e = refl
       by_form (Some (node pair links)) e = by_links links e
       by_form (Some (node state links)) e = refl
 
-  rows-alike : (n l : ℕ) → IsRenamed f G H l → rows_from n H (f l) ≡ map f (rows_from n G l)
+  rows-renamed : (n l : ℕ) → IsRenamed f G H l → rows_from n H (f l) ≡ map f (rows_from n G l)
   unfolding rows_from
-  rows-alike zero l image = refl
-  rows-alike (suc n) l image =
+  rows-renamed zero l image = refl
+  rows-renamed (suc n) l image =
       ap (λ ys. f l ∷ flat_map (rows_from n H) ys) (ap rows_below (image l (here l)) ∙ below-relink f (G l))
       ∙ ap (λ ys. f l ∷ ys)
       (flat_map-map (rows_from n H) f (rows_below (G l))
-      ∙ flat_map-same (λ k. rows_from n H (f k)) (λ k. map f (rows_from n G k)) (rows_below (G l)) (λ k some. rows-alike n k (renamed-link f G H l k image (below-count k (G l) some)))
+      ∙ flat_map-same (λ k. rows_from n H (f k)) (λ k. map f (rows_from n G k)) (rows_below (G l)) (λ k some. rows-renamed n k (renamed-link f G H l k image (below-count k (G l) some)))
       ∙ sym (map-flat f (rows_from n G) (rows_below (G l))))
 
   -- a row reaches the rows of its walk
@@ -147,9 +147,9 @@ module _ {K : Type 0} (f : ℕ → ℕ) (G H : Forms K) where
         below l found.0 k (below-count found.0 (G l) found.1) (rows-reached n found.0 k found.2)
   ]
 
-  entries-alike : (n l : ℕ) → IsRenamed f G H l → entries_of H (rows_from n H (f l)) ≡ map f (entries_of G (rows_from n G l))
-  entries-alike n l image =
-      ap (entries_of H) (rows-alike n l image) ∙ flat_map-map (λ k. own_entries (H k)) f (rows_from n G l)
+  entries-renamed : (n l : ℕ) → IsRenamed f G H l → entries_of H (rows_from n H (f l)) ≡ map f (entries_of G (rows_from n G l))
+  entries-renamed n l image =
+      ap (entries_of H) (rows-renamed n l image) ∙ flat_map-map (λ k. own_entries (H k)) f (rows_from n G l)
       ∙ flat_map-same (λ k. own_entries (H (f k))) (λ k. map f (own_entries (G k))) (rows_from n G l) (λ k some. ap own_entries (image k (rows-reached n l k some)) ∙ own-relink f (G k))
       ∙ sym (map-flat f (λ k. own_entries (G k)) (rows_from n G l))
 
@@ -161,7 +161,7 @@ module _ {K : Type 0} (f : ℕ → ℕ) (G H : Forms K) where
 
 module _ {K : Type 0} (f : ℕ → ℕ) (G H : Forms K) (root : ℕ) (image : IsRenamed f G H root) where
   key-moved : (l : ℕ) (key : K) → Reaches (links_in G) root l → key_at G l ≡ Some key → key_at H (f l) ≡ Some key
-  key-moved l key down is = key-alike f G H l (renamed-below f G H root l down image) ∙ is
+  key-moved l key down is = key-renamed f G H l (renamed-below f G H root l down image) ∙ is
 
   -- the chain rows from a link on
   chain-moved : (o : Option ℕ) (es : List (Entry K)) → ((m : ℕ) → o ≡ Some m → Reaches (links_in G) root m) → AreChainRows G o es → AreChainRows H (option_map f o) (map (moved f) es)
@@ -241,13 +241,13 @@ module _ {K : Type 0} (f : ℕ → ℕ) (G H : Forms K) (root : ℕ) (image : Is
     canon-moved : (E : List (Entry K)) → IsCanon cmp code G root E → IsCanon cmp code H (f root) (map (moved f) E)
     canon-moved E canon = record { trie = trie-moved (DEEPEST + 1) 0 root E (here root) canon.trie; distinct = distinct-moved f cmp code E canon.distinct }
 
-  pub trie-reads-alike : (X : Type 0) → TrieReadsAlike X f G H root
-  trie-reads-alike X = record {
-    key = key-alike f G H root image;
-    entries = λ n. entries-alike f G H n root image;
+  pub trie-reads-the-same : (X : Type 0) → TrieReadsTheSame X f G H root
+  trie-reads-the-same X = record {
+    key = key-renamed f G H root image;
+    entries = λ n. entries-renamed f G H n root image;
     reached = λ n. all-counted (λ k. Reaches (links_in G) root k) (entries_of G (rows_from n G root)) (λ k some. entries-reached f G H n root k some);
     readings = λ n was now each.
-        ap (map now) (entries-alike f G H n root image) ∙ map-twice now f (entries_of G (rows_from n G root))
+        ap (map now) (entries-renamed f G H n root image) ∙ map-twice now f (entries_of G (rows_from n G root))
         ∙ map-same (λ k. now (f k)) was (entries_of G (rows_from n G root)) (all-at (λ k. now (f k) ≡ was k) (entries_of G (rows_from n G root)) each);
     canonical = λ cmp code E canon. canon-moved cmp code E canon;
   }

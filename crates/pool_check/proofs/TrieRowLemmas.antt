@@ -26,7 +26,7 @@ use Rattle.pool_check.proofs.TestLemmas.{and-first, and-second}
 use Rattle.pool_check.proofs.GroupLemmas.{positions-length, pointwise-length}
 use Rattle.pool_check.proofs.EntriesBelow.{own, entries-is}
 use Rattle.pool_check.proofs.CodeLists.{Stand, stand-append, stand-agree, tests-codes, tests-fail, stand-all, codes-length, cons-some}
-use Rattle.pool_check.proofs.KeptLemmas.{sub-alike, entry-says, node-says}
+use Rattle.pool_check.proofs.KeptLemmas.{sub-as-first, entry-says, node-says}
 
 le-true : (a b : ℕ) → a ≤ b → nat_le a b ≡ true
 le-true a b h = grind (arith, nat_tests)
@@ -221,7 +221,7 @@ module _ (n : ℕ) (F : Forms Bytes) (code : Bytes → ℕ) (kept : List Kept) (
       where
         some-nodes : (k : ℕ) (js : List ℕ) → drop r ks ≡ k ∷ js → k < length kept → is_sub_node depth (F k) ≡ true → nat_le 2 (length (Es l)) ≡ (nat_lt r (length ks) || nat_le 2 r)
         some-nodes k js rest low_k sub =
-            let here = sub-alike n F code kept are depth k low_k sub in
+            let here = sub-as-first n F code kept are depth k low_k sub in
             let most : length (Es l) ≡ length (flat_map (own F) (take r ks)) + length (flat_map Es (drop r ks)) = ap length entries-are ∙ length-append (flat_map (own F) (take r ks)) (flat_map Es (drop r ks)) in
             let first : length (flat_map Es (drop r ks)) ≡ length (Es k) + length (flat_map Es js) = ap (λ xs. length (flat_map Es xs)) rest ∙ length-append (Es k) (flat_map Es js) in
             let two : 2 ≤ length (Es l) = omega (arith, most, first, ap length here.is, here.two) in

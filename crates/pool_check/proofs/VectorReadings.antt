@@ -16,7 +16,7 @@ use Rattle.pool_text.specs.Pool.{relink}
 use Rattle.pool_text.specs.Renaming.{IsRenamed}
 use Rattle.pool_text.proofs.Renamed.{renamed-links, renamed-link}
 use Rattle.pool_text.proofs.Ordered.{map-flat}
-use Rattle.pool_check.specs.Readings.{VectorReadsAlike}
+use Rattle.pool_check.specs.Readings.{VectorReadsTheSame}
 
 pub map-twice : {X : Type 0} (g : ℕ → X) (f : ℕ → ℕ) (ks : List ℕ) → map g (map f ks) ≡ map (λ k. g (f k)) ks
 map-twice g f [] = refl
@@ -50,15 +50,15 @@ height-relink f (Some (cell x)) = refl
 height-relink f (Some (node kind links)) = refl
 
 module _ {K : Type 0} (f : ℕ → ℕ) (G H : Forms K) where
-  height-alike : (l : ℕ) → IsRenamed f G H l → height_in H (f l) ≡ height_in G l
-  height-alike l image = ap form_height (image l (here l)) ∙ height-relink f (G l)
+  height-renamed : (l : ℕ) → IsRenamed f G H l → height_in H (f l) ≡ height_in G l
+  height-renamed l image = ap form_height (image l (here l)) ∙ height-relink f (G l)
 
-  seq-alike : (n l : ℕ) → IsRenamed f G H l → seq_at H n (f l) ≡ map f (seq_at G n l)
+  seq-renamed : (n l : ℕ) → IsRenamed f G H l → seq_at H n (f l) ≡ map f (seq_at G n l)
   unfolding seq_at
-  seq-alike zero l image = renamed-links f G H l image
-  seq-alike (suc n) l image =
+  seq-renamed zero l image = renamed-links f G H l image
+  seq-renamed (suc n) l image =
       ap (flat_map (seq_at H n)) (renamed-links f G H l image) ∙ flat_map-map (seq_at H n) f (links_in G l)
-      ∙ flat_map-same (λ k. seq_at H n (f k)) (λ k. map f (seq_at G n k)) (links_in G l) (λ k has. seq-alike n k (renamed-link f G H l k image has))
+      ∙ flat_map-same (λ k. seq_at H n (f k)) (λ k. map f (seq_at G n k)) (links_in G l) (λ k has. seq-renamed n k (renamed-link f G H l k image has))
       ∙ sym (map-flat f (seq_at G n) (links_in G l))
 
   -- a vector's root reaches its elements
@@ -70,55 +70,55 @@ module _ {K : Type 0} (f : ℕ → ℕ) (G H : Forms K) where
   same-length : (l : ℕ) → IsRenamed f G H l → length (links_in H (f l)) ≡ length (links_in G l)
   same-length l image = ap length (renamed-links f G H l image) ∙ length-map (links_in G l) f
 
-  thick-alike : (n l : ℕ) → IsRenamed f G H l → IsThick G n l → IsThick H n (f l)
+  thick-renamed : (n l : ℕ) → IsRenamed f G H l → IsThick G n l → IsThick H n (f l)
   unfolding IsThick
-  thick-alike zero l image t = omega (arith, t, same-length l image)
-  thick-alike (suc n) l image t = (
+  thick-renamed zero l image t = omega (arith, t, same-length l image)
+  thick-renamed (suc n) l image t = (
     omega (arith, t.0, same-length l image),
-    subst (All (IsThick H n)) (sym (renamed-links f G H l image)) (all-image (IsThick G n) (IsThick H n) f (links_in G l) (λ k has u. thick-alike n k (renamed-link f G H l k image has) u) t.1),
+    subst (All (IsThick H n)) (sym (renamed-links f G H l image)) (all-image (IsThick G n) (IsThick H n) f (links_in G l) (λ k has u. thick-renamed n k (renamed-link f G H l k image has) u) t.1),
   )
 
-  well-alike : (n l : ℕ) → IsRenamed f G H l → IsWell G n l → IsWell H n (f l)
+  well-renamed : (n l : ℕ) → IsRenamed f G H l → IsWell G n l → IsWell H n (f l)
   unfolding IsWell
-  well-alike zero l image w = record {
+  well-renamed zero l image w = record {
     kind = image l (here l) ∙ ap (option_map (relink f)) w.kind ∙ ap (λ ks. Some (node leaf ks)) (sym (renamed-links f G H l image));
     most = omega (arith, w.most, same-length l image);
   }
-  well-alike (suc n) l image w =
+  well-renamed (suc n) l image w =
       let links : links_in H (f l) ≡ map f (links_in G l) = renamed-links f G H l image in
       record {
         kind = image l (here l) ∙ ap (option_map (relink f)) w.kind ∙ ap (λ ks. Some (node (inner (suc n)) ks)) (sym links);
         some = omega (arith, w.some, same-length l image);
         most = omega (arith, w.most, same-length l image);
-        children = subst (All (IsWell H n)) (sym links) (all-image (IsWell G n) (IsWell H n) f (links_in G l) (λ k has u. well-alike n k (renamed-link f G H l k image has) u) w.children);
+        children = subst (All (IsWell H n)) (sym links) (all-image (IsWell G n) (IsWell H n) f (links_in G l) (λ k has u. well-renamed n k (renamed-link f G H l k image has) u) w.children);
         thick =
             subst (λ (ks : List ℕ). All (IsThick H n) (take (length ks - 1) ks)) (sym links)
             (subst (All (IsThick H n)) (sym (front-map f (links_in G l)))
             (all-image (IsThick G n) (IsThick H n) f (take (length (links_in G l) - 1) (links_in G l))
-            (λ k has u. thick-alike n k (renamed-link f G H l k image (omega (arith, has, count-take k (length (links_in G l) - 1) (links_in G l)))) u) w.thick));
+            (λ k has u. thick-renamed n k (renamed-link f G H l k image (omega (arith, has, count-take k (length (links_in G l) - 1) (links_in G l)))) u) w.thick));
         not_empty =
             subst (All (λ k. 1 ≤ length (links_in H k))) (sym links)
             (all-image (λ k. 1 ≤ length (links_in G k)) (λ k. 1 ≤ length (links_in H k)) f (links_in G l) (λ k has some. omega (arith, some, same-length k (renamed-link f G H l k image has))) w.not_empty);
       }
 
-  elements-alike : (l : ℕ) → IsRenamed f G H l → seq H (f l) ≡ map f (seq G l)
-  elements-alike l image = ap (λ n. seq_at H n (f l)) (height-alike l image) ∙ seq-alike (height_in G l) l image
+  elements-renamed : (l : ℕ) → IsRenamed f G H l → seq H (f l) ≡ map f (seq G l)
+  elements-renamed l image = ap (λ n. seq_at H n (f l)) (height-renamed l image) ∙ seq-renamed (height_in G l) l image
 
-  shaped-alike : (l : ℕ) → IsRenamed f G H l → IsWellShaped G l → IsWellShaped H (f l)
-  shaped-alike l image w =
-      let height : height_in H (f l) ≡ height_in G l = height-alike l image in
+  shaped-renamed : (l : ℕ) → IsRenamed f G H l → IsWellShaped G l → IsWellShaped H (f l)
+  shaped-renamed l image w =
+      let height : height_in H (f l) ≡ height_in G l = height-renamed l image in
       record {
-        well = subst (λ n. IsWell H n (f l)) (sym height) (well-alike (height_in G l) l image w.well);
+        well = subst (λ n. IsWell H n (f l)) (sym height) (well-renamed (height_in G l) l image w.well);
         two = λ h. let old : 2 ≤ length (links_in G l) = w.two (omega (arith, h, height)) in omega (arith, old, same-length l image);
-        short = omega (arith, w.short, ap length (elements-alike l image), length-map (seq G l) f);
+        short = omega (arith, w.short, ap length (elements-renamed l image), length-map (seq G l) f);
         low = omega (arith, w.low, height);
       }
 
-  pub vector-reads-alike : (X : Type 0) (l : ℕ) → IsRenamed f G H l → VectorReadsAlike X f G H l
-  vector-reads-alike X l image = record {
-    height = height-alike l image;
-    elements = elements-alike l image;
+  pub vector-reads-the-same : (X : Type 0) (l : ℕ) → IsRenamed f G H l → VectorReadsTheSame X f G H l
+  vector-reads-the-same X l image = record {
+    height = height-renamed l image;
+    elements = elements-renamed l image;
     reached = all-counted (λ k. Reaches (links_in G) l k) (seq G l) (λ k some. seq-reached (height_in G l) l k some);
-    readings = λ was now each. ap (map now) (elements-alike l image) ∙ map-twice now f (seq G l) ∙ map-same (λ k. now (f k)) was (seq G l) (all-at (λ k. now (f k) ≡ was k) (seq G l) each);
-    shaped = shaped-alike l image;
+    readings = λ was now each. ap (map now) (elements-renamed l image) ∙ map-twice now f (seq G l) ∙ map-same (λ k. now (f k)) was (seq G l) (all-at (λ k. now (f k) ≡ was k) (seq G l) each);
+    shaped = shaped-renamed l image;
   }

@@ -9,10 +9,10 @@ abbrev pub links_from : {K : Type 0} → List (Form K) → Links
 links_from rows l = links_of (slice_get rows l)
 
 -- the list is 0, 1, 2 and so on
-abbrev pub IsCounted : List ℕ → Type 0
-IsCounted ks = ks ≡ range_with_len 0 (length ks)
+abbrev pub CountsUp : List ℕ → Type 0
+CountsUp ks = ks ≡ range_with_len 0 (length ks)
 
 -- the list counts up to the next number, or doesn't count up
 abbrev pub CountsOn : List ℕ → Option ℕ → Type 0
 CountsOn ks (Some next) = ks ≡ range_with_len 0 next
-CountsOn ks None = ¬ IsCounted ks
+CountsOn ks None = ¬ CountsUp ks

@@ -24,8 +24,8 @@ module _ (n : ℕ) (F : Forms Bytes) where
   are_entries test l (Some (node chain _)) = list_all (λ e. test e.link) (entries_below n F l)
   are_entries test l _ = false
 
-  abbrev pub is_cell : ℕ → Bool
-  is_cell l = is_cell_of (λ _. true) (F l)
+  abbrev pub is_any_cell : ℕ → Bool
+  is_any_cell l = is_cell_of (λ _. true) (F l)
 
   abbrev pub is_named_lines : ℕ → Bool
   is_named_lines l = is_pair_of (is_name_cell n F) (is_lines_vector n F) (F l)
@@ -36,13 +36,13 @@ module _ (n : ℕ) (F : Forms Bytes) where
   -- the facts of the row
   unfoldable pub facts_at : ℕ → RowFacts
   facts_at l = record {
-    cell = is_cell l;
+    cell = is_any_cell l;
     name = is_name_cell n F l;
     state = is_state n F l;
     named_lines = is_named_lines l;
     named_state = is_named_state l;
     root = is_vector_root (F l) || is_trie_root (F l);
-    over_cells = are_elements F is_cell l (F l);
+    over_cells = are_elements F is_any_cell l (F l);
     over_states = are_elements F (is_state n F) l (F l);
     over_names = are_entries (is_name_cell n F) l (F l);
     over_named_lines = are_entries is_named_lines l (F l);

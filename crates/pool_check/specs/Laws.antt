@@ -28,7 +28,7 @@ abbrev pub UndamagedIsValid : Type 0
 UndamagedIsValid = (P : Pool) → (damage P ≡ None) ↔ IsValid P
 
 -- the bytes stand for the pool, which is valid, has four roots and keeps so many bits
-pub record IsReadAs (bits : ℕ) (bytes : Bytes) (P : Pool) : Type 0 where
+pub record IsReadAs (bits : ℕ) (P : Pool) (bytes : Bytes) : Type 0 where
   pub read : pool_in_bytes bytes ≡ Some P
   pub kept : P.bits ≡ bits
   pub roots : length P.roots ≡ 4
@@ -36,7 +36,7 @@ pub record IsReadAs (bits : ℕ) (bytes : Bytes) (P : Pool) : Type 0 where
 
 -- bytes without damage stand for a valid pool
 abbrev pub UndamagedDocumentsStand : Type 0
-UndamagedDocumentsStand = (bits : ℕ) (bytes : Bytes) → document_damage bits bytes ≡ None → (P : Pool) × IsReadAs bits bytes P
+UndamagedDocumentsStand = (bits : ℕ) (bytes : Bytes) → document_damage bits bytes ≡ None → (P : Pool) × IsReadAs bits P bytes
 
 -- no test fails of the bytes, and this is the pool that they stand for
 pub record IsDocumentOf (P : Pool) (bytes : Bytes) : Type 0 where

@@ -15,31 +15,31 @@ abbrev pub moved : {K : Type 0} → (ℕ → ℕ) → Entry K → Entry K
 moved f e = entry e.key (f e.link)
 
 -- what is read of the new links is what was read of these links
-abbrev pub AreReadAlike : {X : Type 0} → (ℕ → ℕ) → List ℕ → (ℕ → X) → (ℕ → X) → Type 0
-AreReadAlike f ks was now = All (λ k. now (f k) ≡ was k) ks
+abbrev pub AreReadTheSame : {X : Type 0} → (ℕ → ℕ) → List ℕ → (ℕ → X) → (ℕ → X) → Type 0
+AreReadTheSame f ks was now = All (λ k. now (f k) ≡ was k) ks
 
 module _ {K : Type 0} (X : Type 0) (f : ℕ → ℕ) (G H : Forms K) (l : ℕ) where
   -- a vector under other links has the new links of its elements, whatever is read of them, and keeps the fill rule
-  pub record VectorReadsAlike : Type 0 where
+  pub record VectorReadsTheSame : Type 0 where
     pub height : height_in H (f l) ≡ height_in G l
     pub elements : seq H (f l) ≡ map f (seq G l)
     pub reached : All (λ k. Reaches (links_in G) l k) (seq G l)
-    pub readings : (was now : ℕ → X) → AreReadAlike f (seq G l) was now → map now (seq H (f l)) ≡ map was (seq G l)
+    pub readings : (was now : ℕ → X) → AreReadTheSame f (seq G l) was now → map now (seq H (f l)) ≡ map was (seq G l)
     pub shaped : IsWellShaped G l → IsWellShaped H (f l)
 
   -- a trie under other links has the new links of its entries in the order of the walk, whatever is read of them, and is the
   -- canonical trie of these entries
-  pub record TrieReadsAlike : Type 0 where
+  pub record TrieReadsTheSame : Type 0 where
     pub key : key_at H (f l) ≡ key_at G l
     pub entries : (n : ℕ) → entries_of H (rows_from n H (f l)) ≡ map f (entries_of G (rows_from n G l))
     pub reached : (n : ℕ) → All (λ k. Reaches (links_in G) l k) (entries_of G (rows_from n G l))
-    pub readings : (n : ℕ) (was now : ℕ → X) → AreReadAlike f (entries_of G (rows_from n G l)) was now → map now (entries_of H (rows_from n H (f l))) ≡ map was (entries_of G (rows_from n G l))
+    pub readings : (n : ℕ) (was now : ℕ → X) → AreReadTheSame f (entries_of G (rows_from n G l)) was now → map now (entries_of H (rows_from n H (f l))) ≡ map was (entries_of G (rows_from n G l))
     pub canonical : (cmp : K → K → Ordering) (code : K → ℕ) (E : List (Entry K)) → IsCanon cmp code G l E → IsCanon cmp code H (f l) (map (moved f) E)
 
--- a vector reads alike wherever its rows are renamed
-abbrev pub VectorsReadAlike : Type 0 → Type 0 → Type 0
-VectorsReadAlike K X = (f : ℕ → ℕ) (G H : Forms K) (l : ℕ) → IsRenamed f G H l → VectorReadsAlike X f G H l
+-- a vector reads the same wherever its rows are renamed
+abbrev pub VectorsReadTheSame : Type 0 → Type 0 → Type 0
+VectorsReadTheSame K X = (f : ℕ → ℕ) (G H : Forms K) (l : ℕ) → IsRenamed f G H l → VectorReadsTheSame X f G H l
 
--- a trie reads alike wherever its rows are renamed
-abbrev pub TriesReadAlike : Type 0 → Type 0 → Type 0
-TriesReadAlike K X = (f : ℕ → ℕ) (G H : Forms K) (l : ℕ) → IsRenamed f G H l → TrieReadsAlike X f G H l
+-- a trie reads the same wherever its rows are renamed
+abbrev pub TriesReadTheSame : Type 0 → Type 0 → Type 0
+TriesReadTheSame K X = (f : ℕ → ℕ) (G H : Forms K) (l : ℕ) → IsRenamed f G H l → TrieReadsTheSame X f G H l

@@ -35,7 +35,7 @@ pub record DamagedPools : Type 0 where
   pub is_turned_lines : damage turned_lines ≡ Some Order
 
 -- documents that fail each of the tests, and one that fails none
-pub record WorkedDocuments : Type 0 where
+pub record WorkedDamages : Type 0 where
   pub is_start : document_damage 32 (text start_pool) ≡ None
   pub is_cut_off : document_damage 32 (codes "{\"bits\":32") ≡ Some Json
   pub is_three_roots : document_damage 32 (codes "{\"bits\":32,\"format\":\"ewig-pool\",\"roots\":[2,3,4],\"rows\":[],\"version\":1}") ≡ Some Form

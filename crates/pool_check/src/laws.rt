@@ -1,8 +1,8 @@
 //! Laws of valid pools, as the clauses of functions that do nothing.
 ghost use Rattle.pool_check.specs.Laws.{VectorRootsAreGood, TrieRootsAreCanonical, UndamagedIsValid, UndamagedDocumentsStand, ValidDocumentsAreUndamaged, DamagesAreTests, ValidIsOfItself};
 ghost use Rattle.pool_check.specs.Passing.{PoolsPassAsMade};
-ghost use Rattle.pool_check.specs.Readings.{VectorsReadAlike, TriesReadAlike};
-ghost use Rattle.pool_check.specs.Worked.{UndamagedPools, DamagedPools, WorkedDocuments};
+ghost use Rattle.pool_check.specs.Readings.{VectorsReadTheSame, TriesReadTheSame};
+ghost use Rattle.pool_check.specs.Worked.{UndamagedPools, DamagedPools, WorkedDamages};
 
 /// A vector root of a valid pool is the root of a well-shaped vector.
 pub fn vector_roots_are_good()
@@ -45,18 +45,18 @@ pub fn damaged_pools()
 {}
 
 /// Documents that fail each of the tests, and one that fails none.
-pub fn worked_documents()
-    ensures { WorkedDocuments }
+pub fn worked_damages()
+    ensures { WorkedDamages }
 {}
 
-/// A vector reads alike wherever its rows are renamed, as in a pool.
-pub fn vectors_read_alike<K, X>()
-    ensures { VectorsReadAlike K X }
+/// A vector reads the same wherever its rows are renamed, as in a pool.
+pub fn vectors_read_the_same<K, X>()
+    ensures { VectorsReadTheSame K X }
 {}
 
-/// A trie reads alike wherever its rows are renamed.
-pub fn tries_read_alike<K, X>()
-    ensures { TriesReadAlike K X }
+/// A trie reads the same wherever its rows are renamed.
+pub fn tries_read_the_same<K, X>()
+    ensures { TriesReadTheSame K X }
 {}
 
 /// A pool of rooted rows leads back and stands in order by how it is made.

@@ -13,7 +13,7 @@ mod vectors;
 pub use checking::{Checked, check};
 pub use laws::{
     damaged_pools, damages_are_tests, pools_pass_as_made, trie_roots_are_canonical,
-    tries_read_alike, undamaged_documents_stand, undamaged_is_valid, undamaged_pools,
-    valid_documents_are_undamaged, valid_is_of_itself, vector_roots_are_good, vectors_read_alike,
-    worked_documents,
+    tries_read_the_same, undamaged_documents_stand, undamaged_is_valid, undamaged_pools,
+    valid_documents_are_undamaged, valid_is_of_itself, vector_roots_are_good,
+    vectors_read_the_same, worked_damages,
 };

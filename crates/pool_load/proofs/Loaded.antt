@@ -33,7 +33,7 @@ use Rattle.pool_check.specs.Sums.{HaveSums}
 use Rattle.pool_check.proofs.TestLemmas.{and-first, leads-down, roots-low}
 use Rattle.pool_load.specs.Loads.{cells_of, nodes_of, Loads, AreLoaded}
 use Rattle.pool_load.specs.Rows.{AreSound}
-use Rattle.pool_load.specs.Making.{AreBelow, AreMade, GivesUp, AreReachedWithout}
+use Rattle.pool_load.specs.Making.{ArePlacesBelow, AreMade, GivesUp, AreReachedWithout}
 use Rattle.pool_check.proofs.OwnRows.{in-order, reached-low, own-order, one-place, pool-of-rows}
 use Rattle.pool_load.proofs.Places.{below-all}
 use Rattle.pool_text.proofs.Ordered.{order-renamed}
@@ -67,7 +67,7 @@ module _ (P : Pool) (v : IsValid P) where
   place-reached p low = (own-order P v).reached p (omega (arith, in-range (row_count P) p low, ap (count p) (in-order P v)))
 
 -- the roots are places of rows
-pub roots-below : (P : Pool) → IsValid P → (n : ℕ) (ks : List ℕ) → n ≡ row_count P → ks ≡ P.roots → AreBelow n ks
+pub roots-below : (P : Pool) → IsValid P → (n : ℕ) (ks : List ℕ) → n ≡ row_count P → ks ≡ P.roots → ArePlacesBelow n ks
 roots-below P v n ks many same = below-all n ks (λ k has. omega (arith, many, roots-low P v.lead_back k (omega (arith, has, ap (count k) same))))
 
 -- ## Loaded rows

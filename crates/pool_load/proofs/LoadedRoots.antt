@@ -30,8 +30,8 @@ use Rattle.pool_text.proofs.PoolRows.{pool-length, pool-renamed, pool-back, plac
 use Rattle.pool_check.specs.Kinds.{is_vector_root, is_trie_root}
 use Rattle.pool_check.specs.Readings.{moved}
 use Rattle.pool_check.proofs.PoolLaws.{vector-roots-well, trie-roots-canonical}
-use Rattle.pool_check.proofs.VectorReadings.{vector-reads-alike}
-use Rattle.pool_check.proofs.TrieReadings.{trie-reads-alike}
+use Rattle.pool_check.proofs.VectorReadings.{vector-reads-the-same}
+use Rattle.pool_check.proofs.TrieReadings.{trie-reads-the-same}
 use Rattle.pool_load.specs.Loads.{AreLoaded}
 use Rattle.pool_load.specs.Laws.{AreListed, entries_in, place_at, link_at, IsTrieAt}
 use Rattle.pool_load.proofs.VectorTexts.{elements-over, shaped-over}
@@ -107,7 +107,7 @@ module _ {T : Type 0} (text : T → Bytes) where
       pub vector-good : is_vector_root (form_at h l) ≡ true → IsVectorOf h l (map (link_at h roots) (seq (forms_in P) (place_at h roots l)))
       vector-good test =
           let kind : is_vector_root (forms_in P (place_at h roots l)) ≡ true = same-vector ∙ test in
-          let reads = vector-reads-alike (link_at h roots) (forms_in P) (text_forms text h) ℕ (place_at h roots l) back in
+          let reads = vector-reads-the-same (link_at h roots) (forms_in P) (text_forms text h) ℕ (place_at h roots l) back in
           let shaped : IsWellShaped (text_forms text h) l = subst (IsWellShaped (text_forms text h)) same-link (reads.shaped (vector-roots-well P loaded.checked.valid (place_at h roots l) kind)) in
           let height = form-height text (row_at h l) in (
             record {
@@ -126,7 +126,7 @@ module _ {T : Type 0} (text : T → Bytes) where
             let D : List (Entry Bytes) = entries_in P place in
             let kind : is_trie_root (forms_in P place) ≡ true = same-trie ∙ test in
             let canon : IsCanon by_text of_text (forms_in P) place D = trie-roots-canonical P loaded.checked.valid place kind in
-            let reads = trie-reads-alike (link_at h roots) (forms_in P) (text_forms text h) place back ℕ in
+            let reads = trie-reads-the-same (link_at h roots) (forms_in P) (text_forms text h) place back ℕ in
             let there : IsCanon by_text of_text (text_forms text h) l (map (moved (link_at h roots)) D) =
             subst (λ k. IsCanon by_text of_text (text_forms text h) k (map (moved (link_at h roots)) D)) same-link (reads.canonical by_text of_text D canon) in
             let typed = entries-typed text h (map (moved (link_at h roots)) D) (names-keys by_text of_text (text_forms text h) l (map (moved (link_at h roots)) D) there) in

@@ -32,7 +32,7 @@ use Rattle.pool_check.proofs.TestLemmas.{and-first, and-second, all-at, all-coun
 use Rattle.pool_check.proofs.VectorLaw.{length_at-is, well}
 use Rattle.pool_load.specs.Loads.{cells_of, nodes_of}
 use Rattle.pool_load.specs.Rows.{AreSound, HaveLengths, sum_over, length_over, AreSumsOver, KeepsSumsOver}
-use Rattle.pool_load.specs.Making.{AreBelow, CanMake, MakesRow, AreMade}
+use Rattle.pool_load.specs.Making.{ArePlacesBelow, CanMake, MakesPoolRow, AreMade}
 use Rattle.pool_load.proofs.Places.{below-all}
 use Rattle.pool_load.proofs.Sums.{keeps-over, length-renamed}
 
@@ -107,7 +107,7 @@ module _ (rows : List (Form Bytes)) (sound : AreSound rows) (p : ℕ) (lengths :
       by_form (node pair _) is = omega arith
       by_form (node state _) is = omega arith
 
-  pub below-row : AreBelow (length lengths) (links_of (Some form))
+  pub below-row : ArePlacesBelow (length lengths) (links_of (Some form))
   below-row = below-all (length lengths) (links_of (Some form)) (λ k has. omega (arith, known, lead-low rows sound p k (omega (arith, has, ap (λ r. count k (links_of r)) at))))
 
   own-length : (n : ℕ) → has_height n (Some form) ≡ true → length_over lengths form ≡ length_at (slice_get rows) n p
@@ -199,7 +199,7 @@ was-none {T} {old} {mid} more l gone = by_row (row_at old l) refl
 -- ## One more row
 
 module _ {T : Type 0} (text : T → Bytes) {old mid new : Heap T} (rows : List (Form Bytes)) (links lengths : List ℕ) (link : ℕ) (form : Form Bytes)
-    (made : AreMade text old mid rows links) (at : slice_get rows (length links) ≡ Some form) (makes : MakesRow text mid new links lengths form link)
+    (made : AreMade text old mid rows links) (at : slice_get rows (length links) ≡ Some form) (makes : MakesPoolRow text mid new links lengths form link)
     (sound : AreSound rows) (have : HaveLengths rows lengths) (known : length lengths ≡ length rows) where
   abbrev longer : List ℕ
   longer = links ++ link ∷ []
@@ -249,8 +249,8 @@ module _ {T : Type 0} (text : T → Bytes) {old mid new : Heap T} (rows : List (
   ]
 
   -- the rows that are there have their links in the new heap
-  alike : (p : ℕ) → p < length links → links_in (form_at new) (slice_index links p) ≡ map (slice_index links) (links_in (slice_get rows) p)
-  alike p low =
+  links_are : (p : ℕ) → p < length links → links_in (form_at new) (slice_index links p) ≡ map (slice_index links) (links_in (slice_get rows) p)
+  links_are p low =
       links-form new (slice_index links p) ∙ ap links_of (kept (slice_index links p) (item p low))
       ∙ links-made text (slice_index links) (row_at mid (slice_index links p)) (slice_get rows p) (made.forms p low)
 
@@ -261,7 +261,7 @@ module _ {T : Type 0} (text : T → Bytes) {old mid new : Heap T} (rows : List (
   long-below : (n k : ℕ) → k < length links → has_height n (slice_get rows k) ≡ true → (length (seq_at (form_at new) n (slice_index links k)) ≡ get_or lengths k 0) × (length (seq_at (form_at new) n (slice_index links k)) ≤ 32 ^ suc n)
   long-below n k low high =
       let F : Forms Bytes = slice_get rows in
-      let same : length (seq_at (form_at new) n (slice_index links k)) ≡ length (seq_at F n k) = length-renamed F (form_at new) (slice_index links) (length links) alike (lead-low rows sound) n k low in
+      let same : length (seq_at (form_at new) n (slice_index links k)) ≡ length (seq_at F n k) = length-renamed F (form_at new) (slice_index links) (length links) links_are (lead-low rows sound) n k low in
       let kept_length : slice_index lengths k ≡ length_at F n k = have k n (omega (arith, low, inside, known)) high in
       let full : IsWell F n k = well F (all-at is_in_range rows sound.in_range) (all-at (keeps_fill_rule F) rows sound.filled) n k high in
       (same ∙ sym (length_at-is F n k) ∙ sym kept_length, omega (arith, same, seq-le F n k full))

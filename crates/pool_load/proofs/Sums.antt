@@ -56,12 +56,12 @@ keeps-over G n f lengths ks ss some sums each =
     by_case e to (inr other) = absurd (omega (arith, some, sums.count other, ap length e))
 
 -- the first places have the same links in both, under their new names
-module _ {K K' : Type 0} (F : Forms K) (G : Forms K') (f : ℕ → ℕ) (bound : ℕ) (alike : (p : ℕ) → p < bound → links_in G (f p) ≡ map f (links_in F p)) (low : (p k : ℕ) → 0 < count k (links_in F p) → k < p) where
+module _ {K K' : Type 0} (F : Forms K) (G : Forms K') (f : ℕ → ℕ) (bound : ℕ) (links_are : (p : ℕ) → p < bound → links_in G (f p) ≡ map f (links_in F p)) (low : (p k : ℕ) → 0 < count k (links_in F p) → k < p) where
   pub seq-renamed : (n p : ℕ) → p < bound → seq_at G n (f p) ≡ map f (seq_at F n p)
   unfolding seq_at
-  seq-renamed zero p inside = alike p inside
+  seq-renamed zero p inside = links_are p inside
   seq-renamed (suc n) p inside =
-      ap (flat_map (seq_at G n)) (alike p inside) ∙ flat_map-map (seq_at G n) f (links_in F p)
+      ap (flat_map (seq_at G n)) (links_are p inside) ∙ flat_map-map (seq_at G n) f (links_in F p)
       ∙ flat_map-same (λ k. seq_at G n (f k)) (λ k. map f (seq_at F n k)) (links_in F p) (λ k has. seq-renamed n k (omega (arith, inside, low p k has)))
       ∙ sym (map-flat f (seq_at F n) (links_in F p))
 

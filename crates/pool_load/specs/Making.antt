@@ -15,8 +15,8 @@ use Rattle.pool_load.specs.Loads.{cells_of, nodes_of}
 use Rattle.pool_load.specs.Rows.{length_over, KeepsSumsOver}
 
 -- every place is below the bound
-abbrev pub AreBelow : ℕ → List ℕ → Type 0
-AreBelow bound places = list_all (λ p. nat_lt p bound) places ≡ true
+abbrev pub ArePlacesBelow : ℕ → List ℕ → Type 0
+ArePlacesBelow bound places = list_all (λ p. nat_lt p bound) places ≡ true
 
 module _ {T : Type 0} where
   -- the new heap has this row besides, held once, and every other hold stays
@@ -34,7 +34,7 @@ module _ {T : Type 0} where
   pub record CanMake (h : Heap T) (links lengths : List ℕ) (row : Form Bytes) : Type 0 where
     pub in_range : is_in_range row ≡ true
     pub line : is_line_or_node row ≡ true
-    pub below : AreBelow (length links) (links_of (Some row))
+    pub below : ArePlacesBelow (length links) (links_of (Some row))
     pub known : length links ≤ length lengths
     pub live : AreLive T h links
     pub short : length_over lengths row < 2 ^ 32
@@ -43,7 +43,7 @@ module _ {T : Type 0} where
     pub graph : IsGraph h
 
   -- the row was made, with these links for its places
-  pub record MakesRow (text : T → Bytes) (old new : Heap T) (links lengths : List ℕ) (form : Form Bytes) (link : ℕ) : Type 0 where
+  pub record MakesPoolRow (text : T → Bytes) (old new : Heap T) (links lengths : List ℕ) (form : Form Bytes) (link : ℕ) : Type 0 where
     pub row : Row T
     pub joins : Joins old new link row
     pub stands : text_form text row ≡ relink (slice_index links) form

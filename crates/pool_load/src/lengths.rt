@@ -3,7 +3,7 @@ ghost use Rattle.std.specs.Prelude.{◌≡◌, ℕ, ◌+◌, ◌*◌, ◌^◌, �
 ghost use Rattle.node_heap.specs.Forms.{links_of};
 ghost use Rattle.pool_text.specs.Rows.{row_form};
 ghost use Rattle.pool_load.specs.Rows.{AreSound, HaveLengths, sum_over, length_over, AreSumsOver};
-ghost use Rattle.pool_load.specs.Making.{AreBelow};
+ghost use Rattle.pool_load.specs.Making.{ArePlacesBelow};
 
 use arrayvec::ArrayVec;
 use elem_core::NoMemory;
@@ -27,7 +27,7 @@ pub fn lengths_of(alloc: Global, rows: &[Row]) -> Result<Vec<u32>, NoMemory>
 
 // The length of a row over rows of these lengths.
 fn length_of(lengths: &[u32], row: &Row) -> u32
-    requires places { AreBelow (length lengths.now) (links_of (Some (row_form row.now))) }
+    requires places { ArePlacesBelow (length lengths.now) (links_of (Some (row_form row.now))) }
     requires short { length_over lengths.now (row_form row.now) < 2 ^ 32 }
     ensures { result ≡ length_over lengths.now (row_form row.now) }
 {
@@ -40,7 +40,7 @@ fn length_of(lengths: &[u32], row: &Row) -> u32
 
 // What the rows at these places have together.
 fn sum_of(lengths: &[u32], places: &[u64]) -> u32
-    requires places { AreBelow (length lengths.now) places.now }
+    requires places { ArePlacesBelow (length lengths.now) places.now }
     requires short { sum_over lengths.now places.now < 2 ^ 32 }
     ensures { result ≡ sum_over lengths.now places.now }
 {
@@ -56,7 +56,7 @@ pub fn inner_sums(lengths: &[u32], places: &[u64], below: u8) -> Sums
     requires some { 1 ≤ length places.now }
     requires few { length places.now ≤ 32 }
     requires low { below < 7 }
-    requires places { AreBelow (length lengths.now) places.now }
+    requires places { ArePlacesBelow (length lengths.now) places.now }
     requires short { sum_over lengths.now places.now < 2 ^ 32 }
     ensures { AreSumsOver lengths.now below places.now result }
 {
@@ -80,7 +80,7 @@ fn full_size(count: usize, height: u8) -> u64
 // The running sums of the lengths of the rows at these places.
 fn running_sums(lengths: &[u32], places: &[u64]) -> Sums
     requires few { length places.now ≤ 32 }
-    requires places { AreBelow (length lengths.now) places.now }
+    requires places { ArePlacesBelow (length lengths.now) places.now }
     requires short { sum_over lengths.now places.now < 2 ^ 32 }
     ensures count { length result ≡ length places.now }
     ensures each { (i : ℕ) → i < length places.now → slice_index result i ≡ sum_over lengths.now (take (i + 1) places.now) }

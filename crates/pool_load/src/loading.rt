@@ -6,7 +6,7 @@ ghost use Rattle.node_heap.specs.Heap.{holds_at, hold_count, IsGraph};
 ghost use Rattle.node_heap.specs.Calls.{Unchanged};
 ghost use Rattle.pool_text.specs.Rows.{row_form};
 ghost use Rattle.pool_load.specs.Loads.{Loads, AreLoaded, cells_of};
-ghost use Rattle.pool_load.specs.Making.{AreBelow, AreReachedWithout, GivesUp};
+ghost use Rattle.pool_load.specs.Making.{ArePlacesBelow, AreReachedWithout, GivesUp};
 
 use crate::lengths::lengths_of;
 use crate::rows::{hold_places, make_rows};
@@ -69,7 +69,7 @@ fn count_cells(rows: &[Row]) -> usize
 fn put_links(chosen: &mut Vec<Link>, links: &[Link], places: &[u64])
     requires empty { chosen.old.items ≡ [] }
     requires room { length places.now ≤ vec_capacity chosen.old }
-    requires places { AreBelow (length links.now) places.now }
+    requires places { ArePlacesBelow (length links.now) places.now }
     ensures { chosen.new.items ≡ map (slice_index links.now) places.now }
 {
     for place in places {

@@ -8,7 +8,7 @@ ghost use Rattle.pool_text.specs.Rows.{row_form};
 ghost use Rattle.pool_text.specs.Renaming.{AreLive};
 ghost use Rattle.pool_load.specs.Loads.{cells_of, nodes_of};
 ghost use Rattle.pool_load.specs.Rows.{AreSound, HaveLengths};
-ghost use Rattle.pool_load.specs.Making.{AreBelow, Joins, CanMake, MakesRow, AreMade};
+ghost use Rattle.pool_load.specs.Making.{ArePlacesBelow, Joins, CanMake, MakesPoolRow, AreMade};
 
 use crate::lengths::inner_sums;
 use arrayvec::ArrayVec;
@@ -43,7 +43,7 @@ pub fn make_rows<T: Stored>(
 // Makes the row, over rows with these links and lengths by place. It is held once.
 fn make_row<T: Stored>(heap: &mut Heap<T>, links: &[Link], lengths: &[u32], row: Row) -> Link
     requires { CanMake heap.old links.now lengths.now (row_form row) }
-    ensures { MakesRow T.bytes_of heap.old heap.new links.now lengths.now (row_form row) result }
+    ensures { MakesPoolRow T.bytes_of heap.old heap.new links.now lengths.now (row_form row) result }
 {
     match row {
         Row::Cell(text) => match T::from_text(text.into_text()) {
@@ -77,7 +77,7 @@ fn make_row<T: Stored>(heap: &mut Heap<T>, links: &[Link], lengths: &[u32], row:
 // Makes the node with this head over the rows at these places, each of which keeps its holds. It is held once.
 fn make_node<T>(heap: &mut Heap<T>, links: &[Link], head: Head, places: &[u64]) -> Link
     requires live { AreLive T heap.old links.now }
-    requires places { AreBelow (length links.now) places.now }
+    requires places { ArePlacesBelow (length links.now) places.now }
     requires short { length places.now ≤ 32 }
     requires spare { 0 < heap.old.spare_nodes }
     requires few { hold_count heap.old + 32 < 2 ^ 60 }
@@ -91,7 +91,7 @@ fn make_node<T>(heap: &mut Heap<T>, links: &[Link], head: Head, places: &[u64]) 
 // One hold more of the link at each of these places.
 pub fn hold_places<T>(heap: &mut Heap<T>, links: &[Link], places: &[u64])
     requires live { AreLive T heap.old links.now }
-    requires places { AreBelow (length links.now) places.now }
+    requires places { ArePlacesBelow (length links.now) places.now }
     requires few { hold_count heap.old + length places.now ≤ 2 ^ 60 }
     requires graph { IsGraph heap.old }
     ensures rows { SameRows heap.old heap.new }
@@ -104,7 +104,7 @@ pub fn hold_places<T>(heap: &mut Heap<T>, links: &[Link], places: &[u64])
 
 // The links at these places, at most 32.
 fn links_at_places(links: &[Link], places: &[u64]) -> ArrayVec<Link, 32>
-    requires places { AreBelow (length links.now) places.now }
+    requires places { ArePlacesBelow (length links.now) places.now }
     requires short { length places.now ≤ 32 }
     ensures { result.items ≡ map (slice_index links.now) places.now }
 {

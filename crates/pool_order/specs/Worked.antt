@@ -4,12 +4,12 @@ use Rattle.node_heap.specs.Links.{Links}
 use Rattle.pool_order.specs.Order.{order, listed}
 
 -- the links of the rows from 0 on, one list a row
-abbrev pub links_from : List (List ℕ) → Links
-links_from rows l = slice_index_or rows l []
+abbrev pub links_by_row : List (List ℕ) → Links
+links_by_row rows l = slice_index_or rows l []
 
 -- two rows over one row, below a fourth
 abbrev pub diamond : Links
-diamond = links_from ([] ∷ (0 ∷ []) ∷ (0 ∷ []) ∷ (1 ∷ 2 ∷ []) ∷ [])
+diamond = links_by_row ([] ∷ (0 ∷ []) ∷ (0 ∷ []) ∷ (1 ∷ 2 ∷ []) ∷ [])
 
 -- each row has its own number less one in both places
 abbrev pub doubled : Links

@@ -129,9 +129,9 @@ module _ {T : Type 0} where
       (filter_map-same (λ k. option_map (relink (place_in was)) (text_forms text new k)) (λ k. option_map (relink (place_in was)) (text_forms text old k)) was kept)
 
 -- equal forms have equal pools
-pool-alike : (n : ℕ) (G H : Forms Bytes) (roots : List ℕ) (bits : ℕ) → ((l : ℕ) → H l ≡ G l) → pool n H roots bits ≡ pool n G roots bits
+pool-same : (n : ℕ) (G H : Forms Bytes) (roots : List ℕ) (bits : ℕ) → ((l : ℕ) → H l ≡ G l) → pool n H roots bits ≡ pool n G roots bits
 unfolding pool
-pool-alike n G H roots bits same =
+pool-same n G H roots bits same =
     let now : List ℕ = order n (links_in H) roots in
     let was : List ℕ = order n (links_in G) roots in
     let listed : now ≡ was = order-same n (links_in G) (links_in H) roots (λ r root m down. ap links_of (same m)) in
@@ -140,7 +140,7 @@ pool-alike n G H roots bits same =
     (filter_map-same (λ k. option_map (relink (place_in was)) (H k)) (λ k. option_map (relink (place_in was)) (G k)) was (λ k some. ap (option_map (relink (place_in was))) (same k)))
 
 pub texts-are-forms : (h : Heap Bytes) (roots : List ℕ) (bits : ℕ) → pool_at (λ text. text) h roots bits ≡ pool (length h.rows) (form_at h) roots bits
-texts-are-forms h roots bits = pool-alike (length h.rows) (form_at h) (text_forms (λ text. text) h) roots bits (λ l. by_row (row_at h l))
+texts-are-forms h roots bits = pool-same (length h.rows) (form_at h) (text_forms (λ text. text) h) roots bits (λ l. by_row (row_at h l))
   where
     by_row : (r : Option (Row Bytes)) → option_map (text_form (λ text. text)) r ≡ option_map form_of r
     by_row None = refl

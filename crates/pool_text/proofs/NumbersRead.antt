@@ -8,7 +8,7 @@ use Rattle.serde_json.specs.View.{view, items_view}
 use Rattle.serde_json.specs.declared.value.Value.{Value}
 use Rattle.pool_text.specs.Rows.{is_between}
 use Rattle.pool_text.specs.Document.{number_in, elements_in, all_of, numbers_in, kept_if}
-use Rattle.pool_text.specs.Reading.{numbers_between}
+use Rattle.pool_text.specs.Parsing.{numbers_between}
 use Rattle.pool_text.proofs.ReadBack.{item_list-items}
 use Rattle.pool_text.proofs.EachRead.{length-all_of}
 

@@ -5,7 +5,7 @@ use Rattle.serde_json.specs.Data.{Data, null, boolean, number, string, array, ob
 use Rattle.serde_json.specs.Find.{as_object, as_str}
 use Rattle.pool_text.specs.Rows.{Bytes, is_between}
 use Rattle.pool_text.specs.Document.{DocumentParts, number_in, elements_in, numbers_in, four, document_keys, values_at, parts_read, parts_from, parts_in}
-use Rattle.pool_text.specs.Reading.{numbers_between}
+use Rattle.pool_text.specs.Parsing.{numbers_between}
 use Rattle.pool_text.proofs.NumbersRead.{between-false}
 
 pub object-parts : (d : Data) (ms : Members) → Some ms ≡ as_object d → parts_in d ≡ option_and_then parts_from (values_at document_keys ms)

@@ -1,7 +1,7 @@
 -- What a reader answers, carried on to its caller.
 use Rattle.std.proofs.Common.{◌≡◌, ◌≢◌, Option, None, Result, Ok, Err, sym, subst}
 use Rattle.std.specs.Result.{IsErrAnd}
-use Rattle.pool_text.specs.Reading.{Reads}
+use Rattle.pool_text.specs.Parsing.{Reads}
 use Rattle.pool_text.specs.declared.damage.Damage.{Damage}
 use Rattle.pool_text.specs.declared.damage.Damage.TheVariants.{Memory}
 

@@ -1,4 +1,4 @@
--- Rows under other links read alike.
+-- Rows under other links read the same.
 use Rattle.std.proofs.Common.{◌≡◌, ℕ, ◌<◌, Option, Some, None, option_map, List, [], ◌∷◌, map, refl, ap, sym, ◌∙◌, arith, inl, inr}
 use Rattle.std.proofs.lemmas.Bool.{cases_eq}
 use Rattle.node_heap.specs.Links.{count, HasLink, Reaches, here, below}
@@ -6,7 +6,7 @@ use Rattle.node_heap.specs.Forms.{Form, Forms, cell, node, links_of, value_of, h
 use Rattle.node_heap.proofs.Counts.{test_same, test_other, count-cons}
 use Rattle.node_heap.proofs.Reach.{Reaches-then, Reaches-trans}
 use Rattle.pool_text.specs.Pool.{relink}
-use Rattle.pool_text.specs.Renaming.{IsRenamed, ReadsAlike}
+use Rattle.pool_text.specs.Renaming.{IsRenamed, ReadsTheSame}
 
 -- what is new in a list is the new name of what is old
 pub map-found : (f : ℕ → ℕ) (ks : List ℕ) (j : ℕ) → 0 < count j (map f ks) → (k : ℕ) × (0 < count k ks) × (f k ≡ j)
@@ -77,8 +77,8 @@ module _ {K : Type 0} where
         (tree-renamed f G H k t (image k (omega (arith, count-cons k k ks, test_same k k refl))) is)
         (trees-renamed f G H ks ts (λ j some. image j (omega (arith, count-cons j k ks, some))) are)
 
-  pub reads-alike : (f : ℕ → ℕ) (G H : Forms K) (l : ℕ) → IsRenamed f G H l → ReadsAlike f G H l
-  reads-alike f G H l image = record {
+  pub reads-the-same : (f : ℕ → ℕ) (G H : Forms K) (l : ℕ) → IsRenamed f G H l → ReadsTheSame f G H l
+  reads-the-same f G H l image = record {
     kind = ap head_of (image l (here l)) ∙ head-relink f (G l);
     value = ap value_of (image l (here l)) ∙ value-relink f (G l);
     links = renamed-links f G H l image;

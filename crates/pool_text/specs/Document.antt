@@ -76,7 +76,7 @@ node_form kind (links ∷ []) = option_map (node kind) (numbers_in links)
 node_form kind _ = None
 
 abbrev pub inner_form : List Data → Option (Form Bytes)
-inner_form (height ∷ rest) = option_and_then (λ h. node_form (inner h) rest) (number_in height)
+inner_form (height ∷ rest) = option_and_then (λ n. node_form (inner n) rest) (number_in height)
 inner_form _ = None
 
 abbrev pub trie_form : List Data → Option (Form Bytes)

@@ -6,4 +6,4 @@ pub mod Renaming
 pub mod Laws
 pub mod Documents
 pub mod Worked
-pub mod Reading
+pub mod Parsing

@@ -17,7 +17,7 @@ module _ {K : Type 0} where
   IsRenamed f G H l = (m : ℕ) → Reaches (links_in G) l m → H (f m) ≡ option_map (relink f) (G m)
 
   -- the new link reads as the old one: of one kind, with one value, with new links, and with one tree
-  pub record ReadsAlike (f : ℕ → ℕ) (G H : Forms K) (l : ℕ) : Type 0 where
+  pub record ReadsTheSame (f : ℕ → ℕ) (G H : Forms K) (l : ℕ) : Type 0 where
     pub kind : head_of (H (f l)) ≡ head_of (G l)
     pub value : value_of (H (f l)) ≡ value_of (G l)
     pub links : links_in H (f l) ≡ map f (links_in G l)
@@ -31,8 +31,8 @@ module _ {K : Type 0} where
     pub there : (r l : ℕ) → 0 < count r roots → Reaches (links_in G) r l → IsSome (G l)
 
 -- a link reads as its new link
-abbrev pub RenamedReadsAlike : Type 0 → Type 0
-RenamedReadsAlike K = (f : ℕ → ℕ) (G H : Forms K) (l : ℕ) → IsRenamed f G H l → ReadsAlike f G H l
+abbrev pub RenamedReadsTheSame : Type 0 → Type 0
+RenamedReadsTheSame K = (f : ℕ → ℕ) (G H : Forms K) (l : ℕ) → IsRenamed f G H l → ReadsTheSame f G H l
 
 -- where new links can be turned back into the old ones, the old rows are the new ones renamed
 abbrev pub RenamingTurnsBack : Type 0 → Type 0

@@ -5,7 +5,7 @@ ghost use Rattle.std.specs.Str.{bytes_eq};
 ghost use Rattle.serde_json.specs.View.{view, members_view};
 ghost use Rattle.pool_text.specs.Rows.{Bytes, is_in_range};
 ghost use Rattle.pool_text.specs.Document.{values_at, parts_read, parts_in, pool_in, pool_in_bytes, value_damage, bytes_damage};
-ghost use Rattle.pool_text.specs.Reading.{Reads, parts_seen};
+ghost use Rattle.pool_text.specs.Parsing.{Reads, parts_seen};
 
 use crate::damage::Damage;
 use crate::numbers::{elements_of, number_of, numbers_of};

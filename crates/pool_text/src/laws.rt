@@ -1,6 +1,6 @@
 //! Laws of documents, as the clauses of functions that do nothing.
 ghost use Rattle.pool_text.specs.Laws.{ReadsBack, DocumentsAreExact, CompactDocumentsAreTexts};
-ghost use Rattle.pool_text.specs.Renaming.{RenamedReadsAlike, RenamingTurnsBack, PoolsAreRenamed, HeapsAreRooted, NothingLeaks, PoolsStay, TextsAreForms};
+ghost use Rattle.pool_text.specs.Renaming.{RenamedReadsTheSame, RenamingTurnsBack, PoolsAreRenamed, HeapsAreRooted, NothingLeaks, PoolsStay, TextsAreForms};
 ghost use Rattle.pool_text.specs.Worked.{WorkedDocuments};
 
 /// The document of a pool in range stands for that pool.
@@ -24,8 +24,8 @@ pub fn worked_documents()
 {}
 
 /// A row under other links reads as itself.
-pub fn renamed_reads_alike<K>()
-    ensures { RenamedReadsAlike K }
+pub fn renamed_reads_the_same<K>()
+    ensures { RenamedReadsTheSame K }
 {}
 
 /// A renaming that can be turned back is one the other way round.

@@ -18,7 +18,7 @@ pub use from_heap::pool_of;
 pub use from_json::{pool_from_bytes, pool_from_json};
 pub use laws::{
     compact_documents_are_texts, documents_are_exact, heaps_are_rooted, nothing_leaks,
-    pools_are_renamed, pools_stay, reads_back, renamed_reads_alike, renaming_turns_back,
+    pools_are_renamed, pools_stay, reads_back, renamed_reads_the_same, renaming_turns_back,
     texts_are_forms, worked_documents,
 };
 pub use lengths::text_length;

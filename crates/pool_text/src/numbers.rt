@@ -3,7 +3,7 @@ ghost use Rattle.std.specs.Prelude.{◌≡◌, ◌≤◌, ℕ, List, map, option
 ghost use Rattle.serde_json.specs.View.{view};
 ghost use Rattle.pool_text.specs.Rows.{is_between};
 ghost use Rattle.pool_text.specs.Document.{number_in, elements_in, all_of, kept_if};
-ghost use Rattle.pool_text.specs.Reading.{Reads, numbers_between};
+ghost use Rattle.pool_text.specs.Parsing.{Reads, numbers_between};
 
 use crate::damage::Damage;
 use crate::row::Places;

@@ -4,7 +4,7 @@ ghost use Rattle.node_heap.specs.Forms.{leaf};
 ghost use Rattle.serde_json.specs.View.{view};
 ghost use Rattle.pool_text.specs.Rows.{is_in_range, row_form};
 ghost use Rattle.pool_text.specs.Document.{all_of, cell_form, inner_form, trie_form, form_after, kept_if, row_in};
-ghost use Rattle.pool_text.specs.Reading.{Reads, links_between, two_links};
+ghost use Rattle.pool_text.specs.Parsing.{Reads, links_between, two_links};
 
 use crate::damage::Damage;
 use crate::numbers::{elements_of, number_between, number_of, numbers_of};

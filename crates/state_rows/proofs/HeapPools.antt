@@ -20,7 +20,7 @@ use Rattle.pool_text.proofs.Ordered.{pool-roots}
 use Rattle.pool_text.proofs.PoolRows.{pool-renamed}
 use Rattle.pool_check.specs.Damages.{IsValid}
 use Rattle.pool_check.specs.Passing.{PassesAsMade}
-use Rattle.pool_check.proofs.VectorReadings.{all-at, vector-reads-alike}
+use Rattle.pool_check.proofs.VectorReadings.{all-at, vector-reads-the-same}
 use Rattle.pool_check.proofs.PoolPasses.{passes-as-made}
 use Rattle.shell_terms.specs.Edit.{Bytes}
 use Rattle.plain_space.specs.Workspace.{State, Workspace}
@@ -86,7 +86,7 @@ module _ (h : Heap Bytes) (bits : ℕ) (roots : List ℕ) (W : Workspace) (graph
       let image = pool-renamed (length h.rows) (form_at h) roots rooted bits r r root (here r) in
       record {
         renamed = image;
-        vectors = λ k down good. (vector-reads-alike f (form_at h) (forms_in made) ℕ k (renamed-below f (form_at h) (forms_in made) r k down image)).shaped good.shape;
+        vectors = λ k down good. (vector-reads-the-same f (form_at h) (forms_in made) ℕ k (renamed-below f (form_at h) (forms_in made) r k down image)).shaped good.shape;
       }
 
   made-stands : StandsFor made W

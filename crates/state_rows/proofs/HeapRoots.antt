@@ -17,7 +17,7 @@ use Rattle.pool_text.proofs.Renamed.{map-found, map-back, count-map, renamed-bel
 use Rattle.pool_text.proofs.Ordered.{pool-roots}
 use Rattle.pool_text.proofs.PoolRows.{pool-back, place-back}
 use Rattle.pool_check.specs.Sums.{HaveSums}
-use Rattle.pool_check.proofs.VectorReadings.{vector-reads-alike}
+use Rattle.pool_check.proofs.VectorReadings.{vector-reads-the-same}
 use Rattle.shell_terms.specs.Edit.{Bytes}
 use Rattle.plain_space.specs.Workspace.{Workspace}
 use Rattle.state_rows.specs.Standing.{StandFor, StandsFor, HeapStandsFor}
@@ -53,7 +53,7 @@ module _ (h : Heap Bytes) (bits : ℕ) (roots : List ℕ) (W : Workspace) (graph
             let reached : Reaches (links_in (form_at h)) (f (place_in listed r)) (f k) = reaches-renamed f (forms_in made) (form_at h) (place_in listed r) k down image in
             let from : Reaches (links_in (form_at h)) r (f k) = subst (λ a. Reaches (links_in (form_at h)) a (f k)) (place-back (length h.rows) (form_at h) roots rooted r r root (here r)) reached in
             record {
-              shape = (vector-reads-alike f (forms_in made) (form_at h) ℕ k (renamed-below f (forms_in made) (form_at h) (place_in listed r) k down image)).shaped shaped;
+              shape = (vector-reads-the-same f (forms_in made) (form_at h) ℕ k (renamed-below f (forms_in made) (form_at h) (place_in listed r) k down image)).shaped shaped;
               sums = sums r (f k) root (Reaches-by (links_in (form_at h)) (links_at h) (λ j. sym (links_of-form (row_at h j))) r (f k) from);
             };
       }

@@ -28,16 +28,16 @@ counted-pass test ks each = list_all-from_AllPass test ks (all-counted (λ k. te
 
 -- each row that is there has a link below n
 module _ (F : Forms Bytes) (falls : LeadsDown (λ l. l) (links_in F)) (n : ℕ) (there : (l : ℕ) (r : Form Bytes) → F l ≡ Some r → l < n) (bits : ℕ) where
-  vector-root-is : (h l : ℕ) → height_in F l ≡ h → IsWell F h l → (1 ≤ h → 2 ≤ length (links_in F l)) → is_vector_root (F l) ≡ true
+  vector-root-is : (height l : ℕ) → height_in F l ≡ height → IsWell F height l → (1 ≤ height → 2 ≤ length (links_in F l)) → is_vector_root (F l) ≡ true
   unfolding IsWell
   vector-root-is zero l high well two = ap is_vector_root well.kind
-  vector-root-is (suc h) l high well two = ap is_vector_root well.kind ∙ most-test 2 (length (links_in F l)) (two (omega arith))
+  vector-root-is (suc height) l high well two = ap is_vector_root well.kind ∙ most-test 2 (length (links_in F l)) (two (omega arith))
 
-  elements-pass : (test : ℕ → Bool) (h l : ℕ) → ((k : ℕ) → 0 < count k (seq_at F h l) → test k ≡ true) → elements_pass F test h l ≡ true
+  elements-pass : (test : ℕ → Bool) (height l : ℕ) → ((k : ℕ) → 0 < count k (seq_at F height l) → test k ≡ true) → elements_pass F test height l ≡ true
   unfolding elements_pass seq_at
   elements-pass test zero l each = counted-pass test (links_in F l) each
-  elements-pass test (suc h) l each =
-      counted-pass (elements_pass F test h) (links_in F l) (λ k has. elements-pass test h k (λ j some. each j (flat_map-has (seq_at F h) (links_in F l) k j has some)))
+  elements-pass test (suc height) l each =
+      counted-pass (elements_pass F test height) (links_in F l) (λ k has. elements-pass test height k (λ j some. each j (flat_map-has (seq_at F height) (links_in F l) k j has some)))
 
   vector-is : {X : Type 0} (IsValue : ℕ → X → Type 0) (test : ℕ → Bool) → ((k : ℕ) (x : X) → IsValue k x → test k ≡ true) → (l : ℕ) (xs : List X) → IsVectorOver F (IsWellShaped F) bits IsValue l xs → is_vector_of F test l ≡ true
   vector-is IsValue test each l xs is =

@@ -47,34 +47,34 @@ line-test : (text : Bytes) → IsCell text → is_line_or_node (cell text) ≡ t
 line-test text is = and_from (not (list_any (λ b. b == NEWLINE) text)) (nat_le (length text) MAX_LINE) (unbroken-test text is.unbroken) (most-test (length text) MAX_LINE is.short)
 
 module _ (F : Forms Bytes) where
-  high-test : (h k : ℕ) → IsWell F h k → has_height h (F k) ≡ true
+  high-test : (n k : ℕ) → IsWell F n k → has_height n (F k) ≡ true
   unfolding IsWell
   high-test zero k well = ap (has_height 0) well.kind
-  high-test (suc h) k well = ap (has_height (suc h)) well.kind ∙ eq-eqb (suc h) (suc h) refl
+  high-test (suc n) k well = ap (has_height (suc n)) well.kind ∙ eq-eqb (suc n) (suc n) refl
 
-  thick-test : (h k : ℕ) → IsThick F h k → is_thick F h k ≡ true
+  thick-test : (n k : ℕ) → IsThick F n k → is_thick F n k ≡ true
   unfolding IsThick is_thick
   thick-test zero k thick = most-test 16 (length (links_in F k)) thick
-  thick-test (suc h) k thick =
-      and_from (nat_le 16 (length (links_in F k))) (list_all (is_thick F h) (links_in F k)) (most-test 16 (length (links_in F k)) thick.0) (list-pass (is_thick F h) (IsThick F h) (thick-test h) (links_in F k) thick.1)
+  thick-test (suc n) k thick =
+      and_from (nat_le 16 (length (links_in F k))) (list_all (is_thick F n) (links_in F k)) (most-test 16 (length (links_in F k)) thick.0) (list-pass (is_thick F n) (IsThick F n) (thick-test n) (links_in F k) thick.1)
 
-  sum-is : (h l : ℕ) → sum_by (length_at F h) (links_in F l) ≡ length (seq_at F (suc h) l)
+  sum-is : (n l : ℕ) → sum_by (length_at F n) (links_in F l) ≡ length (seq_at F (suc n) l)
   unfolding length_at
-  sum-is h l = length_at-is F (suc h) l
+  sum-is n l = length_at-is F (suc n) l
 
-  children-test : (h l : ℕ) → IsWell F (suc h) l → length (seq_at F (suc h) l) < 2 ^ 32 → are_children F h (links_in F l) ≡ true
+  children-test : (n l : ℕ) → IsWell F (suc n) l → length (seq_at F (suc n) l) < 2 ^ 32 → are_children F n (links_in F l) ≡ true
   unfolding IsWell are_children
-  children-test h l well short =
+  children-test n l well short =
       let ks : List ℕ = links_in F l in
-      let a : Bool = list_all (λ k. has_height h (F k)) ks in
-      let b : Bool = list_all (is_thick F h) (take (length ks - 1) ks) in
+      let a : Bool = list_all (λ k. has_height n (F k)) ks in
+      let b : Bool = list_all (is_thick F n) (take (length ks - 1) ks) in
       let c : Bool = list_all (λ k. nat_le 1 (length (links_in F k))) ks in
-      let d : Bool = nat_lt (sum_by (length_at F h) ks) (2 ^ 32) in
+      let d : Bool = nat_lt (sum_by (length_at F n) ks) (2 ^ 32) in
       and_from (a && b && c) d
       (and_from (a && b) c
-      (and_from a b (list-pass (λ k. has_height h (F k)) (IsWell F h) (high-test h) ks well.children) (list-pass (is_thick F h) (IsThick F h) (thick-test h) (take (length ks - 1) ks) well.thick))
+      (and_from a b (list-pass (λ k. has_height n (F k)) (IsWell F n) (high-test n) ks well.children) (list-pass (is_thick F n) (IsThick F n) (thick-test n) (take (length ks - 1) ks) well.thick))
       (list-pass (λ k. nat_le 1 (length (links_in F k))) (λ k. 1 ≤ length (links_in F k)) (λ k some. most-test 1 (length (links_in F k)) some) ks well.not_empty))
-      (less-test (sum_by (length_at F h) ks) (2 ^ 32) (omega (arith, short, sum-is h l)))
+      (less-test (sum_by (length_at F n) ks) (2 ^ 32) (omega (arith, short, sum-is n l)))
 
 module _ (F : Forms Bytes) (falls : LeadsDown (λ l. l) (links_in F)) (n : ℕ) (code : Bytes → ℕ) where
   -- the row of a link passes the tests of rows, of vectors and of tries
@@ -91,14 +91,14 @@ module _ (F : Forms Bytes) (falls : LeadsDown (λ l. l) (links_in F)) (n : ℕ) 
   passes-as : (l : ℕ) (form : Form Bytes) → F l ≡ Some form → is_in_range form ≡ true → is_line_or_node form ≡ true → keeps_fill_rule F form ≡ true → is_canonical n F code l (F l) ≡ true → Passes l
   passes-as l form is ranged line filled canonical = record { in_range = by-form l form is is_in_range ranged; line = by-form l form is is_line_or_node line; filled = by-form l form is (keeps_fill_rule F) filled; canonical = canonical }
 
-  vector-passes : (h l : ℕ) → h ≤ 7 → IsWell F h l → length (seq_at F h l) < 2 ^ 32 → Passes l
+  vector-passes : (height l : ℕ) → height ≤ 7 → IsWell F height l → length (seq_at F height l) < 2 ^ 32 → Passes l
   unfolding IsWell
   vector-passes zero l low well short = passes-as l (node leaf (links_in F l)) well.kind (most-test (length (links_in F l)) 32 well.most) refl refl (ap (is_canonical n F code l) well.kind)
-  vector-passes (suc h) l low well short =
-      let one : suc h - 1 ≡ h = omega arith in
-      passes-as l (node (inner (suc h)) (links_in F l)) well.kind
-      (and_from (is_between 1 7 (suc h)) (is_between 1 32 (length (links_in F l))) (between-test 1 7 (suc h) (omega arith) low) (between-test 1 32 (length (links_in F l)) well.some well.most))
-      refl (ap (λ k. are_children F k (links_in F l)) one ∙ children-test F h l well short) (ap (is_canonical n F code l) well.kind)
+  vector-passes (suc height) l low well short =
+      let one : suc height - 1 ≡ height = omega arith in
+      passes-as l (node (inner (suc height)) (links_in F l)) well.kind
+      (and_from (is_between 1 7 (suc height)) (is_between 1 32 (length (links_in F l))) (between-test 1 7 (suc height) (omega arith) low) (between-test 1 32 (length (links_in F l)) well.some well.most))
+      refl (ap (λ k. are_children F k (links_in F l)) one ∙ children-test F height l well short) (ap (is_canonical n F code l) well.kind)
 
   trie-row-passes : (left depth l c : ℕ) (E : List (Entry Bytes)) → l < n → depth + suc left ≡ 7 → IsTrie (slice_cmp nat_cmp) code F (suc left) depth l E → is_canonical n F code l (F l) ≡ true → Passes l
   unfolding IsTrie

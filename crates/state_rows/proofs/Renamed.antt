@@ -21,8 +21,8 @@ use Rattle.pool_text.specs.Pool.{relink}
 use Rattle.pool_text.specs.Renaming.{IsRenamed}
 use Rattle.pool_text.proofs.Renamed.{renamed-below}
 use Rattle.pool_check.specs.Readings.{moved}
-use Rattle.pool_check.proofs.VectorReadings.{vector-reads-alike}
-use Rattle.pool_check.proofs.TrieReadings.{trie-reads-alike}
+use Rattle.pool_check.proofs.VectorReadings.{vector-reads-the-same}
+use Rattle.pool_check.proofs.TrieReadings.{trie-reads-the-same}
 use Rattle.shell_terms.specs.Edit.{Bytes}
 use Rattle.plain_space.specs.Workspace.{Named, Names, State, Workspace}
 use Rattle.state_rows.specs.Reading.{StandsIfThere, IsVectorOver, IsTrieOfNames, IsNamed, AreNames, IsText, AreLines, IsState, AreVersions, IsHistory}
@@ -130,7 +130,7 @@ module _ (f : ℕ → ℕ) (G H : Forms Bytes) (V W : ℕ → Type 0) (bits : �
   pub vector-over : {X : Type 0} (R S : ℕ → X → Type 0) (l : ℕ) (xs : List X) → GoesOver f G H V W l → ((k : ℕ) (x : X) → GoesOver f G H V W k → R k x → S (f k) x)
       → IsVectorOver G V bits R l xs → IsVectorOver H W bits S (f l) xs
   vector-over R S l xs over so is =
-      let reads = vector-reads-alike f G H ℕ l over.renamed in
+      let reads = vector-reads-the-same f G H ℕ l over.renamed in
       record {
         vector = over.vectors l (here l) is.vector;
         values =
@@ -140,7 +140,7 @@ module _ (f : ℕ → ℕ) (G H : Forms Bytes) (V W : ℕ → Type 0) (bits : �
 
   trie-over : (l : ℕ) (E : List (Entry Bytes)) → GoesOver f G H V W l → IsTrieOfNames G V bits l E → IsTrieOfNames H W bits (f l) (map (moved f) E)
   trie-over l E over is = record {
-    trie = (trie-reads-alike f G H l over.renamed ℕ).canonical (slice_cmp nat_cmp) (code_by text_code bits) E is.trie;
+    trie = (trie-reads-the-same f G H l over.renamed ℕ).canonical (slice_cmp nat_cmp) (code_by text_code bits) E is.trie;
     names = All-map (λ e. IsName e.key) (moved f) E is.names;
   }
 

@@ -112,10 +112,10 @@ flat-passed p q f each [] h = refl
 flat-passed p q f each (k ∷ ks) h =
     list_all-append p (f k) (flat_map f ks) ∙ and_from (list_all p (f k)) (list_all p (flat_map f ks)) (each k (and-first (q k) (list_all q ks) h)) (flat-passed p q f each ks (and-second (q k) (list_all q ks) h))
 
-elements-passed : (F : Forms Bytes) (test : ℕ → Bool) (h l : ℕ) → elements_pass F test h l ≡ true → list_all test (seq_at F h l) ≡ true
+elements-passed : (F : Forms Bytes) (test : ℕ → Bool) (n l : ℕ) → elements_pass F test n l ≡ true → list_all test (seq_at F n l) ≡ true
 unfolding elements_pass seq_at
 elements-passed F test zero l e = e
-elements-passed F test (suc h) l e = flat-passed test (elements_pass F test h) (seq_at F h) (elements-passed F test h) (links_in F l) e
+elements-passed F test (suc n) l e = flat-passed test (elements_pass F test n) (seq_at F n) (elements-passed F test n) (links_in F l) e
 
 zip-from : {X : Type 0} (test : ℕ → Bool) (Is : ℕ → X → Type 0) → ((k : ℕ) → test k ≡ true → (x : X) × Is k x) → (ks : List ℕ) → list_all test ks ≡ true → (xs : List X) × AllZip Is ks xs
 zip-from test Is each [] h = ([], tt)

@@ -3,7 +3,7 @@ use Rattle.std.specs.Prelude.{slice_index}
 use Rattle.node_heap.specs.Forms.{cell, links_of}
 use Rattle.pool_text.specs.Rows.{row_form}
 use Rattle.pool_text.specs.Pool.{relink}
-use Rattle.pool_load.specs.Making.{AreBelow}
+use Rattle.pool_load.specs.Making.{ArePlacesBelow}
 use Rattle.pool_load.proofs.Joined.{joined-cell}
 use Rattle.pool_load.proofs.Places.{below-wider}
 use Rattle.pool_load.proofs.rows.make_row.Goals as goal
@@ -12,7 +12,7 @@ pub inner_sums-sums-requires-clause-places : goal.inner_sums-sums-requires-claus
 inner_sums-sums-requires-clause-places g c =
     let places = c.as_slice-in-Inner.result.now in
     let same : links_of (Some (row_form c.args.row)) ≡ places = ap (λ r. links_of (Some (row_form r))) c.in-Inner.is ∙ sym c.as_slice-in-Inner.ensures in
-    below-wider (length c.args.links.now) (length c.args.lengths.now) places c.requires.known (subst (AreBelow (length c.args.links.now)) same c.requires.below)
+    below-wider (length c.args.links.now) (length c.args.lengths.now) places c.requires.known (subst (ArePlacesBelow (length c.args.links.now)) same c.requires.below)
 
 pub returns-in-Ok : goal.returns-in-Ok
 returns-in-Ok g c = record {

@@ -6,7 +6,7 @@ use Rattle.node_heap.specs.Forms.{Form}
 use Rattle.node_heap.specs.Heap.{Heap}
 use Rattle.pool_text.specs.Rows.{Bytes, row_form}
 use Rattle.pool_load.specs.Rows.{AreSound, HaveLengths}
-use Rattle.pool_load.specs.Making.{CanMake, MakesRow, AreMade}
+use Rattle.pool_load.specs.Making.{CanMake, MakesPoolRow, AreMade}
 use Rattle.pool_load.proofs.Steps.{get-map, can-make, one-more-made, none-made}
 use Rattle.pool_load.proofs.rows.make_rows.Goals as goal
 
@@ -39,11 +39,11 @@ one-longer : (xs ys : List ℕ) (x : ℕ) → ys ≡ xs ++ x ∷ [] → length y
 one-longer xs ys x e = omega (arith, ap length e, length-append xs (x ∷ []))
 
 -- one more row, where the links are read as a slice
-next-made : {T : Type 0} (text : T → Bytes) {old mid new : Heap T} (rows : List (Form Bytes)) (links seen longer lengths : List ℕ) (link : ℕ) (form : Form Bytes) → AreMade text old mid rows links → slice_get rows (length links) ≡ Some form → seen ≡ links → MakesRow text mid new seen lengths form link → longer ≡ links ++ link ∷ []
+next-made : {T : Type 0} (text : T → Bytes) {old mid new : Heap T} (rows : List (Form Bytes)) (links seen longer lengths : List ℕ) (link : ℕ) (form : Form Bytes) → AreMade text old mid rows links → slice_get rows (length links) ≡ Some form → seen ≡ links → MakesPoolRow text mid new seen lengths form link → longer ≡ links ++ link ∷ []
     → AreSound rows → HaveLengths rows lengths → length lengths ≡ length rows → AreMade text old new rows longer
 next-made text {old} {mid} {new} rows links seen longer lengths link form made at same makes e sound have known =
     subst (λ (ls : List ℕ). AreMade text old new rows ls) (sym e)
-    (one-more-made text rows links lengths link form made at (subst (λ (ls : List ℕ). MakesRow text mid new ls lengths form link) same makes) sound have known)
+    (one-more-made text rows links lengths link form made at (subst (λ (ls : List ℕ). MakesPoolRow text mid new ls lengths form link) same makes) sound have known)
 
 pub loop-row-preserved : goal.loop-row-preserved
 loop-row-preserved g c =

@@ -1,7 +1,7 @@
 use Rattle.std.proofs.Common.{map, sym, ◌∙◌}
 use Rattle.serde_json.specs.View.{view}
 use Rattle.pool_text.specs.Document.{parts_in}
-use Rattle.pool_text.specs.Reading.{parts_seen}
+use Rattle.pool_text.specs.Parsing.{parts_seen}
 use Rattle.pool_text.specs.declared.damage.Damage.TheVariants.{Form}
 use Rattle.pool_text.proofs.NumbersRead.{four-of}
 use Rattle.pool_text.proofs.PartsRead.{no-roots, all-parts}

@@ -1,7 +1,7 @@
 use Rattle.std.proofs.Common.{◌∙◌, ap, sym, Some}
 use Rattle.serde_json.specs.View.{view}
 use Rattle.pool_text.specs.Document.{value_damage}
-use Rattle.pool_text.specs.Reading.{parts_seen}
+use Rattle.pool_text.specs.Parsing.{parts_seen}
 use Rattle.pool_text.specs.declared.damage.Damage.{Damage}
 use Rattle.pool_text.proofs.PoolRead.{rows-in-range, form-damage, version-damage, bits-damage, row-damage, no-damage, pool-read, handed-on}
 use Rattle.pool_text.proofs.from_json.pool_from_json.Goals as goal

@@ -3,7 +3,7 @@ use Rattle.std.specs.Prelude.{◌⊎◌}
 use Rattle.std.proofs.lemmas.List.{length-map}
 use Rattle.serde_json.specs.View.{view}
 use Rattle.pool_text.specs.Document.{number_in, all_of}
-use Rattle.pool_text.specs.Reading.{numbers_between}
+use Rattle.pool_text.specs.Parsing.{numbers_between}
 use Rattle.pool_text.proofs.NumbersRead.{numbers-out, numbers-in}
 use Rattle.pool_text.proofs.Refusals.{reads-same}
 use Rattle.pool_text.proofs.numbers.numbers_of.Goals as goal

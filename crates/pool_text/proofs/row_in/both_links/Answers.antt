@@ -1,7 +1,7 @@
 use Rattle.std.proofs.Common.{map, length, ap, sym, ◌∙◌, refl, inl, inr, arith}
 use Rattle.std.proofs.lemmas.List.{length-map}
 use Rattle.serde_json.specs.View.{view}
-use Rattle.pool_text.specs.Reading.{links_between}
+use Rattle.pool_text.specs.Parsing.{links_between}
 use Rattle.pool_text.proofs.NumbersRead.{numbers-out}
 use Rattle.pool_text.proofs.row_in.both_links.Goals as goal
 
