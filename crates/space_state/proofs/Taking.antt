@@ -20,7 +20,7 @@ use Rattle.state_rows.proofs.ValidSpace.{valid-stands}
 use Rattle.space_state.specs.declared.roots.Roots.{Roots}
 use Rattle.space_state.specs.declared.roots.RootedHeap.{RootedHeap}
 use Rattle.space_state.specs.Roots.{root_list, Keeps}
-use Rattle.space_state.specs.View.{shown, TakesRows, IsTaken, EndsTaking, Takes}
+use Rattle.space_state.specs.View.{shown, TakesRows, IsTaken, EndsTaking, TakesPool}
 use Rattle.space_state.specs.Turns.{IsSame}
 use Rattle.space_state.proofs.Keeping.{keeps-holds, root-held, held-live, keeps-same}
 use Rattle.space_state.proofs.Front.{pool-is, same-kept}
@@ -87,7 +87,7 @@ module _ (s : RootedHeap) (W : Workspace) (K : Keeps s [] W) (h : Heap Bytes) (P
 
 -- how a call on the rows that takes a pool ends, seen by the pool
 pub taken-seen : (P : Pool) (old : RootedHeap) (result : Result (Unit {0}) Refusal) (new : RootedHeap) (W : Workspace) → Keeps old [] W
-    → EndsTaking W result (TakesRows P old new) (IsSame old new) → Takes P (shown old) result (shown new)
+    → EndsTaking W result (TakesRows P old new) (IsSame old new) → TakesPool P (shown old) result (shown new)
 taken-seen P old result new W K ends = record { work = W; stands = pool-is old W K; ends = by_batch (in_batch W) result ends }
   where
     by_batch : (b : Bool) (r : Result (Unit {0}) Refusal)

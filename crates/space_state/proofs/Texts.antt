@@ -10,13 +10,13 @@ use Rattle.rrb_core.specs.Vector.{IsGoodVector, elements}
 use Rattle.shell_terms.specs.Edit.{Bytes}
 use Rattle.state_rows.specs.Reading.{IsText}
 use Rattle.state_rows.specs.InHeap.{AreLinesIn}
-use Rattle.space_state.specs.Texts.{text_at, IsTextAt}
+use Rattle.space_state.specs.Texts.{text_at, NamesCell}
 
 module _ (F : Forms Bytes) (V : ℕ → Type 0) (bits : ℕ) where
   text-is : (l : ℕ) (text : Bytes) → IsText F V bits l text → text_at F l ≡ text
   text-is l text is = ap (λ (r : Option (Form Bytes)). unwrap_or (value_of r) []) is.row
 
-  text-there : (l : ℕ) (text : Bytes) → IsText F V bits l text → IsTextAt F l
+  text-there : (l : ℕ) (text : Bytes) → IsText F V bits l text → NamesCell F l
   text-there l text is = subst (λ (r : Option (Form Bytes)). IsSome (value_of r)) (sym is.row) refl
 
   pub texts-are : (ks : List ℕ) (texts : List Bytes) → AllZip (IsText F V bits) ks texts → map (text_at F) ks ≡ texts
@@ -25,7 +25,7 @@ module _ (F : Forms Bytes) (V : ℕ → Type 0) (bits : ℕ) where
   texts-are (k ∷ ks) [] zip = absurd zip
   texts-are (k ∷ ks) (t ∷ ts) zip = ap (λ x. x ∷ map (text_at F) ks) (text-is k t zip.0) ∙ ap (λ xs. t ∷ xs) (texts-are ks ts zip.1)
 
-  pub texts-there : (ks : List ℕ) (texts : List Bytes) → AllZip (IsText F V bits) ks texts → All (IsTextAt F) ks
+  pub texts-there : (ks : List ℕ) (texts : List Bytes) → AllZip (IsText F V bits) ks texts → All (NamesCell F) ks
   texts-there [] texts zip k d short = absurd (omega arith)
   texts-there (j ∷ ks) [] zip k d short = absurd zip
   texts-there (j ∷ ks) (t ∷ ts) zip zero d short = text-there j t zip.0
@@ -35,8 +35,8 @@ module _ (F : Forms Bytes) (V : ℕ → Type 0) (bits : ℕ) where
   pub part-are : (ks : List ℕ) (texts : List Bytes) (from to : ℕ) → AllZip (IsText F V bits) ks texts → map (text_at F) (take (to - from) (drop from ks)) ≡ slice_range texts from to
   part-are ks texts from to zip = sym (take-map (text_at F) (to - from) (drop from ks)) ∙ ap (take (to - from)) (sym (drop-map (text_at F) from ks)) ∙ ap (λ xs. take (to - from) (drop from xs)) (texts-are ks texts zip)
 
-  pub part-there : (ks : List ℕ) (texts : List Bytes) (from to : ℕ) → AllZip (IsText F V bits) ks texts → All (IsTextAt F) (take (to - from) (drop from ks))
-  part-there ks texts from to zip = All-take (IsTextAt F) (to - from) (drop from ks) (All-drop (IsTextAt F) from ks (texts-there ks texts zip))
+  pub part-there : (ks : List ℕ) (texts : List Bytes) (from to : ℕ) → AllZip (IsText F V bits) ks texts → All (NamesCell F) (take (to - from) (drop from ks))
+  part-there ks texts from to zip = All-take (NamesCell F) (to - from) (drop from ks) (All-drop (NamesCell F) from ks (texts-there ks texts zip))
 
 -- a row whose form is a cell of the text has it as its value
 found-text : (o : Option Bytes) (row : Option (Row Bytes)) (text : Bytes) → IsSomeAnd o (λ t. option_map form_of row ≡ Some (cell t)) → value_of row ≡ Some text → o ≡ Some text

@@ -8,5 +8,5 @@ abbrev pub text_at : Forms Bytes → ℕ → Bytes
 text_at F l = unwrap_or (value_of (F l)) []
 
 -- the link names a cell
-abbrev pub IsTextAt : Forms Bytes → ℕ → Type 0
-IsTextAt F l = IsSome (value_of (F l))
+abbrev pub NamesCell : Forms Bytes → ℕ → Type 0
+NamesCell F l = IsSome (value_of (F l))

@@ -70,7 +70,7 @@ pub record TakesRows (P : Pool) (old new : RootedHeap) : Type 0 where
   pub made : new.heap.made ≡ min (old.heap.made + row_count P) (2 ^ 64 - 1)
 
 -- How a call ends that puts a checked pool in place of a space whose pool stands for the workspace.
-pub record Takes (P : Pool) (old : SpaceView) (result : Result (Unit {0}) Refusal) (new : SpaceView) : Type 0 where
+pub record TakesPool (P : Pool) (old : SpaceView) (result : Result (Unit {0}) Refusal) (new : SpaceView) : Type 0 where
   pub work : Workspace
   pub stands : StandsFor old.pool work
   pub ends : EndsTaking work result (IsTaken P old new) (new ≡ old)

@@ -26,11 +26,11 @@ impl<'h> Model for SpaceLines<'h> {
 
     ghost Value = { List Bytes };
 
-    ghost use Rattle.space_state.specs.Texts.{text_at, IsTextAt};
+    ghost use Rattle.space_state.specs.Texts.{text_at, NamesCell};
 
     ghost view = { λ l. each (text_at (form_at l.heap.now)) l.links };
 
-    ghost invariant = { λ l. All (IsTextAt (form_at l.heap.now)) l.links };
+    ghost invariant = { λ l. All (NamesCell (form_at l.heap.now)) l.links };
 }
 
 impl<'h> SpaceLines<'h> {

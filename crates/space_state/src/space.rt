@@ -9,7 +9,7 @@ ghost use Rattle.plain_space.specs.Workspace.{Workspace, start, sizes, in_batch,
 ghost use Rattle.plain_space.specs.Change.{edit_command};
 ghost use Rattle.state_rows.specs.Standing.{StandsFor};
 ghost use Rattle.space_state.specs.Asked.{OnLines, AreEqual};
-ghost use Rattle.space_state.specs.View.{Ends, Takes, start_view};
+ghost use Rattle.space_state.specs.View.{Ends, TakesPool, start_view};
 
 use crate::lines::SpaceLines;
 use crate::roots::RootedHeap;
@@ -199,7 +199,7 @@ impl Space {
     /// pool goes by as many bits as the space.
     pub fn take_pool(&mut self, checked: Checked<Text>) -> Result<(), Refusal>
         requires bits { checked.bits ≡ self.old.pool.bits }
-        ensures { Takes checked self.old result self.new }
+        ensures { TakesPool checked self.old result self.new }
     {
         self.rows.take_pool(checked)
     }

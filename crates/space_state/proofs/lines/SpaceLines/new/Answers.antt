@@ -2,7 +2,7 @@ use Rattle.std.proofs.Common.{◌∙◌, ap, subst, sym, map, arith}
 use Rattle.std.specs.List.{All}
 use Rattle.node_heap.specs.Heap.{form_at}
 use Rattle.rrb_core.specs.Vector.{IsGoodVector, elements}
-use Rattle.space_state.specs.Texts.{text_at, IsTextAt}
+use Rattle.space_state.specs.Texts.{text_at, NamesCell}
 use Rattle.space_state.proofs.Keeping.{lines-length}
 use Rattle.space_state.proofs.Texts.{part-are, part-there}
 use Rattle.space_state.proofs.lines.SpaceLines.new.Goals as goal
@@ -12,7 +12,7 @@ lines-requires-clause-within c = omega (arith, lines-length c.requires.lines.2, 
 
 pub invariant_of-result : goal.invariant_of-result
 invariant_of-result c =
-    subst (All (IsTextAt (form_at c.args.heap.now))) (sym c.lines.ensures)
+    subst (All (NamesCell (form_at c.args.heap.now))) (sym c.lines.ensures)
     (part-there (form_at c.args.heap.now) (IsGoodVector c.args.heap.now) c.requires.lines.0 (elements c.args.heap.now c.args.lines) c.requires.lines.1 c.args.from c.args.to c.requires.lines.2.values)
 
 pub returns : goal.returns

@@ -1,5 +1,5 @@
 use Rattle.std.proofs.Common.{sym, ap, subst, ◌∙◌}
-use Rattle.space_state.specs.View.{SpaceView, Takes, shown}
+use Rattle.space_state.specs.View.{SpaceView, TakesPool, shown}
 use Rattle.space_state.proofs.Front.{bits-are}
 use Rattle.space_state.proofs.Taking.{taken-seen, taken-kept}
 use Rattle.space_state.proofs.space.Space.take_pool.Goals as goal
@@ -12,5 +12,5 @@ invariant_of-self c = taken-kept c.args.checked c.self.inside.rows c.take_pool.r
 
 pub returns : goal.returns
 returns c =
-    subst (λ (v : SpaceView). Takes c.args.checked v c.take_pool.result (shown c.take_pool.new.self)) c.self.view_is
+    subst (λ (v : SpaceView). TakesPool c.args.checked v c.take_pool.result (shown c.take_pool.new.self)) c.self.view_is
     (taken-seen c.args.checked c.self.inside.rows c.take_pool.result c.take_pool.new.self c.self.invariant.0 c.self.invariant.1 (c.take_pool.ensures c.self.invariant.0 c.self.invariant.1))
