@@ -33,7 +33,7 @@ pub(crate) fn rest_root<T>(heap: &mut Heap<T>, root: Link, count: u32) -> Link
     ensures items { elements heap.new result ≡ drop count (elements heap.old root) }
     ensures good { IsGoodVector heap.new result }
     ensures low { height_at heap.new result ≤ height_at heap.old root }
-    ensures builds { Builds heap.old heap.new [] (result ∷ []) 0 (2 * height_at heap.old root + 1) }
+    ensures builds { Builds heap.old heap.new [] (result ∷ []) 0 (2 * height_at heap.new result + 1) }
 {
     if count == 0 {
         return held_again(heap, root);
