@@ -105,12 +105,12 @@ pub fn slice<T: Drop>(
     Ok(Flex::from_root(root))
 }
 
-/// The vector without the elements from the index `from` to the one before `to`. It makes at most five nodes for each height
-/// of the vector and five more, so at most 40, and gives up again what it made on the way. The vector grows one row higher
-/// at most, and only where its root needs two rows, which have more than 32 links together: a cut inside a full row can
-/// leave one row more. Where it erases nothing it gives the vector itself, which takes no memory. Refused with `Range`
-/// unless `from` is at most `to` and `to` at most the length, and with `Memory` where memory runs out. A refusal changes
-/// nothing but the heap's spares.
+/// The vector without the elements from the index `from` to the one before `to`. It makes at most five nodes for each
+/// height of the vector and five more, so at most 40, and gives up again what it made on the way. The vector grows one
+/// row higher at most, and only where its root needs two rows, which have more than 32 links together: a cut inside a
+/// row of 32 links can leave one row more. Where it erases nothing it gives the vector itself, which takes no memory.
+/// Refused with `Range` unless `from` is at most `to` and `to` at most the length, and with `Memory` where memory runs
+/// out. A refusal changes nothing but the heap's spares.
 pub fn erase<T: Drop>(
     heap: &mut Heap<T>,
     vector: FlexRef,

@@ -11,10 +11,7 @@ ghost use Rattle.rrb_join.specs.Answers.{RisesAtNeed};
 
 use arrayvec::ArrayVec;
 use node_heap::{Heap, Link};
-use rrb_core::{inner_over, leaf_over};
-
-// The most links that one row holds.
-const ROW_LINKS: usize = 32;
+use rrb_core::{ROW_LINKS, inner_over, leaf_over};
 
 // One row, or two side by side.
 pub(crate) type Rows = ArrayVec<Link, 2>;
