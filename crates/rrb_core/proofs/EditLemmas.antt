@@ -9,7 +9,7 @@ use Rattle.node_heap.specs.Calls.{Extends, Builds, Unchanged}
 use Rattle.node_heap.specs.Forms.{links_in}
 use Rattle.node_heap.proofs.BuildLemmas.{Builds-then, Builds-more}
 use Rattle.rrb_core.specs.Seq.{seq_at, IsThick, IsWell}
-use Rattle.rrb_core.specs.Push.{last_in, IsFull, into_leaf, into_last, into_new, IsPushedRoot, into_root, over_root}
+use Rattle.rrb_core.specs.Push.{last_in, IsPacked, into_leaf, into_last, into_new, IsPushedRoot, into_root, over_root}
 use Rattle.rrb_core.specs.Vector.{KeepsSums, sums_at, height_at, elements, IsGoodVector, IsVectorOf, HasSums}
 use Rattle.rrb_core.specs.Build.{IsRowOf, AreRows}
 use Rattle.rrb_core.specs.Edit.{links_with, CanEdit, CanEditRoot, CanPlace, MakesRow, Pushes, Sets, Takes}
@@ -17,7 +17,7 @@ use Rattle.rrb_core.proofs.Lists.{items-cut, items-around, items-set, items-fron
 use Rattle.rrb_core.proofs.LinkCounts.{one-held}
 use Rattle.rrb_core.proofs.Stays.{live-stays, links-form, links-stay, items-stay, seq-stays, thick-stays, all-thick-stay, row-stays, rows-stay, keeps-stay, well-live}
 use Rattle.rrb_core.proofs.BuildLemmas.{gained-held, builds-pair, unchanged-good}
-use Rattle.rrb_core.proofs.PushLemmas.{all-last, full-thick, pushed-more, pushed-stays}
+use Rattle.rrb_core.proofs.PushLemmas.{all-last, packed-thick, pushed-more, pushed-stays}
 use Rattle.rrb_core.proofs.RowLists.{rows-append, rows-take, rows-drop, rows-around, one-row, take-thick, rows-live, IsOver, over, inner-thick, leaf-thick, child-at, good-row, root-row, at-place}
 use Rattle.rrb_core.proofs.FillRule.{height-is, seq-leaf, well-most, thick-links, thick-low, well-pos}
 
@@ -170,8 +170,8 @@ module _ {T : Type 0} {old mid : Heap T} {n l e child : ℕ} (row : CanEdit old 
         rule = into_last n l m child (pushed-stays stays (well-live mid n child sub.edits.row.well) sub.rule) (rw (ap length (links-form old l)) (placed-links row sub.edits.builds place-last made more links (omega arith)));
       }
 
--- a row over one element, beside the children, of which the last is full
-module _ {T : Type 0} {old mid : Heap T} {n l e child : ℕ} (row : CanEdit old (suc n) l) (short : length (seq_at (form_at old) (suc n) l) + 1 < 2 ^ 32) (held : 1 ≤ holds_at old e) (full : IsFull (form_at old) n (last_in (form_at old) l)) (narrow : length (links_at old l) ≡ 32 → ⊥) (sub : MakesRow old mid (e ∷ []) n child (e ∷ [])) where
+-- a row over one element, beside the children, of which the last is packed
+module _ {T : Type 0} {old mid : Heap T} {n l e child : ℕ} (row : CanEdit old (suc n) l) (short : length (seq_at (form_at old) (suc n) l) + 1 < 2 ^ 32) (held : 1 ≤ holds_at old e) (packed : IsPacked (form_at old) n (last_in (form_at old) l)) (narrow : length (links_at old l) ≡ 32 → ⊥) (sub : MakesRow old mid (e ∷ []) n child (e ∷ [])) where
   room : length (links_at old l) < 32
   room = omega (arith, (over old n l row.well row.sums).most, narrow)
 
@@ -180,8 +180,8 @@ module _ {T : Type 0} {old mid : Heap T} {n l e child : ℕ} (row : CanEdit old 
       let o = over old n l row.well row.sums in
       let ks : List ℕ = links_at old l in
       let f : ℕ → List ℕ = seq_at (form_at old) n in
-      let last : IsFull (form_at old) n (get_or ks (length ks - 1) 0) = rw (links-form old l) at full in
-      let thick : All (IsThick (form_at old) n) ks = all-last (IsThick (form_at old) n) ks o.rows.thick (full-thick (form_at old) n (get_or ks (length ks - 1) 0) (o.rows.well (length ks - 1) 0 (omega (arith, o.some))) last) in
+      let last : IsPacked (form_at old) n (get_or ks (length ks - 1) 0) = rw (links-form old l) at packed in
+      let thick : All (IsThick (form_at old) n) ks = all-last (IsThick (form_at old) n) ks o.rows.thick (packed-thick (form_at old) n (get_or ks (length ks - 1) 0) (o.rows.well (length ks - 1) 0 (omega (arith, o.some))) last) in
       let whole : take (length ks) ks ≡ ks = take_all (length ks) ks (omega arith) in
       let items : flat_map f (take (length ks) ks) ++ (e ∷ [] ++ flat_map f (drop (length ks) ks)) ≡ seq_at (form_at old) (suc n) l ++ e ∷ [] =
       rw (whole, none-behind f ks (length ks) (omega arith), o.items) refl in
@@ -195,7 +195,7 @@ module _ {T : Type 0} {old mid : Heap T} {n l e child : ℕ} (row : CanEdit old 
       let all : take (length (links_at old l)) (links_in (form_at old) l) ≡ links_in (form_at old) l = take_all (length (links_at old l)) (links_in (form_at old) l) (omega (arith, ap length (links-form old l))) in
       record {
         edits = placed-edits row sub.builds place-beside made more links;
-        rule = into_new n l m child full (seq-stays stays n child (well-live mid n child sub.row.well) ∙ sub.row.items) (record { room = fewer; links = rw all at (placed-links row sub.builds place-beside made more links (omega arith)) });
+        rule = into_new n l m child packed (seq-stays stays n child (well-live mid n child sub.row.well) ∙ sub.row.items) (record { room = fewer; links = rw all at (placed-links row sub.builds place-beside made more links (omega arith)) });
       }
 
 -- the child with the element at an index, by its place and the index in it
@@ -288,7 +288,7 @@ module _ {T : Type 0} {old new : Heap T} {l m : ℕ} where
   pub takes-leaf : (count : ℕ) → IsRowOf new 0 m (take count (links_at old l)) → Builds old new [] (m ∷ []) 0 1 → Takes old new 0 l count m
   takes-leaf count row builds = record { edits = record { row = rw (leaf-items old l) row; builds = builds }; two = λ some. absurd (omega (arith, some)) }
 
--- a full root and a row with one element beside it: what the new root over them wants
+-- a packed root and a row with one element beside it: what the new root over them wants
 pub record IsPair {T : Type 0} (old new : Heap T) (n root child e : ℕ) : Type 0 where
   pub rows : AreRows new n (root ∷ child ∷ [])
   pub items : flat_map (seq_at (form_at new) n) (root ∷ child ∷ []) ≡ elements old root ++ e ∷ []
@@ -297,14 +297,14 @@ pub record IsPair {T : Type 0} (old new : Heap T) (n root child e : ℕ) : Type 
   pub beside : seq_at (form_at new) n child ≡ e ∷ []
   pub live : IsSome (row_at new child)
 
-module _ {T : Type 0} {old mid new : Heap T} {n root child e : ℕ} (graph : IsGraph old) (good : IsGoodVector old root) (is : n ≡ height_at old root) (full : IsFull (form_at old) n root) (short : length (elements old root) + 1 < 2 ^ 32) (sub : MakesRow old mid (e ∷ []) n child (e ∷ [])) (held : Builds mid new [] (root ∷ []) 0 0) where
+module _ {T : Type 0} {old mid new : Heap T} {n root child e : ℕ} (graph : IsGraph old) (good : IsGoodVector old root) (is : n ≡ height_at old root) (packed : IsPacked (form_at old) n root) (short : length (elements old root) + 1 < 2 ^ 32) (sub : MakesRow old mid (e ∷ []) n child (e ∷ [])) (held : Builds mid new [] (root ∷ []) 0 0) where
   pub root-pair : IsPair old new n root child e
   root-pair =
       let row : IsRowOf old n root (elements old root) = rw is (root-row old root good) in
       let both = builds-pair e sub.builds held in
       let stays = live-stays graph both.extends in
       let live = well-live old n root row.well in
-      let thick = full-thick (form_at old) n root row.well full in
+      let thick = packed-thick (form_at old) n root row.well packed in
       let some : 1 ≤ length (elements old root) = rw (← row.items) (well-pos (form_at old) n root row.well (omega (arith, thick-links (form_at old) n root thick))) in
       let root' = row-stays stays n root (elements old root) live row in
       let live' = well-live mid n child sub.row.well in
@@ -327,7 +327,7 @@ module _ {T : Type 0} {old mid new : Heap T} {n root child e : ℕ} (graph : IsG
       let stays = live-stays held.graph ext in
       let one : seq_at (form_at top) n child ≡ e ∷ [] = seq-stays stays n child root-pair.live ∙ root-pair.beside in
       let up : height_at top m ≡ suc n = height-is (form_at top) (suc n) m made.well in
-      over_root child (up ∙ ap suc is) (rw is at full) (rw is at one) (links-form top m ∙ links)
+      over_root child (up ∙ ap suc is) (rw is at packed) (rw is at one) (links-form top m ∙ links)
 
 -- a row that was pushed to as a root
 module _ {T : Type 0} {old new : Heap T} {root e m : ℕ} (good : IsGoodVector old root) (short : length (elements old root) + 1 < 2 ^ 32) (p : Pushes old new (height_at old root) root e m) where

@@ -8,10 +8,10 @@ module _ {K : Type 0} where
   abbrev pub last_in : Forms K → ℕ → ℕ
   last_in F l = slice_index (links_in F l) (length (links_in F l) - 1)
 
-  -- a row of this height with 32 links in each row of its right spine
-  unfoldable pub IsFull : Forms K → ℕ → ℕ → Type 0
-  IsFull F zero l = length (links_in F l) ≡ 32
-  IsFull F (suc n) l = (length (links_in F l) ≡ 32) × IsFull F n (last_in F l)
+  -- a packed row of this height: each row of its right spine has 32 links
+  unfoldable pub IsPacked : Forms K → ℕ → ℕ → Type 0
+  IsPacked F zero l = length (links_in F l) ≡ 32
+  IsPacked F (suc n) l = (length (links_in F l) ≡ 32) × IsPacked F n (last_in F l)
 
   -- the row m of G has the links of the row l of F, which are fewer than 32, and after them the link k
   pub record AddsLink (F G : Forms K) (l m k : ℕ) : Type 0 where
@@ -19,14 +19,14 @@ module _ {K : Type 0} where
     pub links : links_in G m ≡ links_in F l ++ k ∷ []
 
   -- the row m of G is the row l of F, of a height, with the element e put into it: into a leaf, into the last child, or,
-  -- where that one is full, into a new child over e alone
+  -- where that one is packed, into a new child over e alone
   pub data IsPushed (F G : Forms K) (e : ℕ) : ℕ → ℕ → ℕ → Type 0 where
     into_leaf : (l m : ℕ) → AddsLink F G l m e → IsPushed F G e zero l m
     into_last : (n l m k : ℕ) → IsPushed F G e n (last_in F l) k → links_in G m ≡ take (length (links_in F l) - 1) (links_in F l) ++ k ∷ [] → IsPushed F G e (suc n) l m
-    into_new : (n l m k : ℕ) → IsFull F n (last_in F l) → seq_at G n k ≡ e ∷ [] → AddsLink F G l m k → IsPushed F G e (suc n) l m
+    into_new : (n l m k : ℕ) → IsPacked F n (last_in F l) → seq_at G n k ≡ e ∷ [] → AddsLink F G l m k → IsPushed F G e (suc n) l m
 
-  -- the root m of G is the root l of F with the element e put into it or, where l is full, a root over l and a row over e
+  -- the root m of G is the root l of F with the element e put into it or, where l is packed, a root over l and a row over e
   -- alone
   pub data IsPushedRoot (F G : Forms K) (e l m : ℕ) : Type 0 where
     into_root : height_in G m ≡ height_in F l → IsPushed F G e (height_in F l) l m → IsPushedRoot F G e l m
-    over_root : (k : ℕ) → height_in G m ≡ suc (height_in F l) → IsFull F (height_in F l) l → seq_at G (height_in F l) k ≡ e ∷ [] → links_in G m ≡ l ∷ k ∷ [] → IsPushedRoot F G e l m
+    over_root : (k : ℕ) → height_in G m ≡ suc (height_in F l) → IsPacked F (height_in F l) l → seq_at G (height_in F l) k ≡ e ∷ [] → links_in G m ≡ l ∷ k ∷ [] → IsPushedRoot F G e l m

@@ -17,7 +17,7 @@ use node_heap::{Heap, Link};
 pub const TAKE_NODES: usize = 8;
 
 /// The vector of the first `count` elements, or all where there are no more. It makes rows along the cut alone, at most as
-/// many as the height and 1, so 8, and shares the others; with all elements it is the vector itself, held once more, and
+/// many as its own height and 1, so 8, and shares the others; with all elements it is the vector itself, held once more, and
 /// wants no memory. Else refused only where memory runs out, and then nothing but the heap's spares changes.
 pub fn take<T>(heap: &mut Heap<T>, vector: FlexRef, count: u32) -> Result<Flex, NoMemory>
     requires good { IsGoodVector heap.old vector }
@@ -25,7 +25,7 @@ pub fn take<T>(heap: &mut Heap<T>, vector: FlexRef, count: u32) -> Result<Flex, 
     ensures items { IfOk result (λ v. elements heap.new v ≡ take count (elements heap.old vector)) }
     ensures good { IfOk result (λ v. IsGoodVector heap.new v) }
     ensures low { IfOk result (λ v. height_at heap.new v ≤ height_at heap.old vector) }
-    ensures answered { IfOk result (λ v. Answered heap.old heap.new [] v 0 (height_at heap.old vector + 1)) }
+    ensures answered { IfOk result (λ v. Answered heap.old heap.new [] v 0 (height_at heap.new v + 1)) }
     ensures made { IfOk result (λ _. MakesJust heap.old heap.new) }
     ensures whole { length (elements heap.old vector) ≤ count → IsOkAnd result (λ v. (v ≡ vector) × Shares heap.old heap.new v) }
     ensures vectors { (l : ℕ) → IsSameVector heap.old heap.new l }
@@ -46,7 +46,7 @@ fn front_root<T>(heap: &mut Heap<T>, root: Link, count: u32) -> Link
     requires inside { count ≤ length (elements heap.old root) }
     ensures vector { IsVectorOf heap.new result (take count (elements heap.old root)) }
     ensures low { height_at heap.new result ≤ height_at heap.old root }
-    ensures builds { Builds heap.old heap.new [] (result ∷ []) 0 (height_at heap.old root + 1) }
+    ensures builds { Builds heap.old heap.new [] (result ∷ []) 0 (height_at heap.new result + 1) }
 {
     if count == 0 {
         return empty_root(heap);

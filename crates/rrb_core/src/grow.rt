@@ -3,12 +3,12 @@ ghost use Rattle.std.specs.Prelude.{◌≡◌, ℕ, suc, ◌+◌, ◌-◌, ◌^�
 ghost use Rattle.node_heap.specs.Heap.{form_at, links_at, holds_at, hold_count, IsGraph, HasSpares};
 ghost use Rattle.node_heap.specs.Calls.{Answered, Builds, MakesJust, Unchanged};
 ghost use Rattle.rrb_core.specs.Seq.{seq_at, IsWell};
-ghost use Rattle.rrb_core.specs.Push.{last_in, IsFull, IsPushedRoot};
+ghost use Rattle.rrb_core.specs.Push.{last_in, IsPacked, IsPushedRoot};
 ghost use Rattle.rrb_core.specs.Vector.{HasSums, elements, height_at, IsGoodVector, IsSameVector, IsVectorOf};
 ghost use Rattle.rrb_core.specs.Edit.{CanEdit, CanEditRoot, MakesRow, Pushes};
 
 use crate::flex::{Flex, FlexRef};
-use crate::rows::{height_of, inner_over, inner_with, leaf_over, leaf_with};
+use crate::rows::{ROW_LINKS, height_of, inner_over, inner_with, leaf_over, leaf_with};
 use elem_core::NoMemory;
 use node_heap::{Heap, Link};
 use thiserror::Error;
@@ -48,7 +48,7 @@ pub fn push<T>(heap: &mut Heap<T>, vector: FlexRef, element: Link) -> Result<Fle
     ensures items { IfOk result (λ v. elements heap.new v ≡ elements heap.old vector ++ element ∷ []) }
     ensures good { IfOk result (λ v. IsGoodVector heap.new v) }
     ensures rule { IfOk result (λ v. IsPushedRoot (form_at heap.old) (form_at heap.new) element vector v) }
-    ensures taller { IfOk result (λ v. (height_at heap.new v ≡ suc (height_at heap.old vector)) ↔ IsFull (form_at heap.old) (height_at heap.old vector) vector) }
+    ensures taller { IfOk result (λ v. (height_at heap.new v ≡ suc (height_at heap.old vector)) ↔ IsPacked (form_at heap.old) (height_at heap.old vector) vector) }
     ensures answered { IfOk result (λ v. Answered heap.old heap.new (element ∷ []) v 0 (height_at heap.old vector + 2)) }
     ensures made { IfOk result (λ _. MakesJust heap.old heap.new) }
     ensures vectors { (l : ℕ) → IsSameVector heap.old heap.new l }
@@ -80,11 +80,11 @@ fn push_root<T>(heap: &mut Heap<T>, root: Link, element: Link) -> Link
     }
 }
 
-// The root over a full root and one element beside it.
+// The root over a packed root and one element beside it.
 fn root_beside<T>(heap: &mut Heap<T>, root: Link, height: u8, element: Link) -> Link
     requires root { CanEditRoot heap.old root 9 }
     requires height { height ≡ height_at heap.old root }
-    requires full { IsFull (form_at heap.old) height root }
+    requires packed { IsPacked (form_at heap.old) height root }
     requires short { length (elements heap.old root) + 1 < 2 ^ 32 }
     requires held { 1 ≤ holds_at heap.old element }
     ensures vector { IsVectorOf heap.new result (elements heap.old root ++ element ∷ []) }
@@ -96,13 +96,13 @@ fn root_beside<T>(heap: &mut Heap<T>, root: Link, height: u8, element: Link) -> 
     inner_over(heap, &[root, child], height)
 }
 
-// The row with `element` after its last element, or None where it is full.
+// The row with `element` after its last element, or None where it is packed.
 #[cycle(push)]
 fn push_below<T>(heap: &mut Heap<T>, link: Link, height: u8, element: Link) -> Option<Link>
     requires row { CanEdit heap.old height link }
     requires short { length (seq_at (form_at heap.old) height link) + 1 < 2 ^ 32 }
     requires held { 1 ≤ holds_at heap.old element }
-    ensures full { IfNone result (IsFull (form_at heap.old) height link × (heap.new ≡ heap.old)) }
+    ensures packed { IfNone result (IsPacked (form_at heap.old) height link × (heap.new ≡ heap.old)) }
     ensures pushes { IfSome result (λ m. Pushes heap.old heap.new height link element m) }
 {
     if height == 0 {
@@ -117,7 +117,7 @@ fn push_inner<T>(heap: &mut Heap<T>, link: Link, below: u8, element: Link) -> Op
     requires row { CanEdit heap.old (suc below) link }
     requires short { length (seq_at (form_at heap.old) (suc below) link) + 1 < 2 ^ 32 }
     requires held { 1 ≤ holds_at heap.old element }
-    ensures full { IfNone result (IsFull (form_at heap.old) (suc below) link × (heap.new ≡ heap.old)) }
+    ensures packed { IfNone result (IsPacked (form_at heap.old) (suc below) link × (heap.new ≡ heap.old)) }
     ensures pushes { IfSome result (λ m. Pushes heap.old heap.new (suc below) link element m) }
 {
     let count = heap.links(link).len();
@@ -138,17 +138,17 @@ fn last_child<T>(heap: &Heap<T>, link: Link, below: u8) -> Link
     links[links.len() - 1]
 }
 
-// The inner row whose last child is full with one child more, over `element` alone, or None where it has 32.
+// The inner row whose last child is packed with one child more, over `element` alone, or None where it has 32 children.
 fn push_beside<T>(heap: &mut Heap<T>, link: Link, below: u8, element: Link) -> Option<Link>
     requires row { CanEdit heap.old (suc below) link }
-    requires full { IsFull (form_at heap.old) below (last_in (form_at heap.old) link) }
+    requires packed { IsPacked (form_at heap.old) below (last_in (form_at heap.old) link) }
     requires short { length (seq_at (form_at heap.old) (suc below) link) + 1 < 2 ^ 32 }
     requires held { 1 ≤ holds_at heap.old element }
-    ensures full { IfNone result (IsFull (form_at heap.old) (suc below) link × (heap.new ≡ heap.old)) }
+    ensures packed { IfNone result (IsPacked (form_at heap.old) (suc below) link × (heap.new ≡ heap.old)) }
     ensures pushes { IfSome result (λ m. Pushes heap.old heap.new (suc below) link element m) }
 {
     let count = heap.links(link).len();
-    if count == 32 {
+    if count == ROW_LINKS {
         return None;
     }
     let child = spine(heap, below, element);
@@ -160,11 +160,11 @@ fn push_beside<T>(heap: &mut Heap<T>, link: Link, below: u8, element: Link) -> O
 fn push_leaf<T>(heap: &mut Heap<T>, link: Link, element: Link) -> Option<Link>
     requires row { CanEdit heap.old 0 link }
     requires held { 1 ≤ holds_at heap.old element }
-    ensures full { IfNone result (IsFull (form_at heap.old) 0 link × (heap.new ≡ heap.old)) }
+    ensures packed { IfNone result (IsPacked (form_at heap.old) 0 link × (heap.new ≡ heap.old)) }
     ensures pushes { IfSome result (λ m. Pushes heap.old heap.new 0 link element m) }
 {
     let count = heap.links(link).len();
-    if count == 32 {
+    if count == ROW_LINKS {
         return None;
     }
     let row = leaf_with(heap, link, count, element, count);

@@ -13,6 +13,9 @@ use crate::search::sum_before;
 use arrayvec::ArrayVec;
 use node_heap::{Head, Heap, Link, Sums};
 
+/// The most links that a row holds.
+pub const ROW_LINKS: usize = 32;
+
 /// The links of a row to be made, or of two.
 pub type Gathered = ArrayVec<Link, 64>;
 

@@ -1,6 +1,9 @@
 pub mod AnswerLemmas
+pub mod RowsOfHeights
 pub mod UnmadeLemmas
 pub mod SeamLemmas
+pub mod SeamRows
+pub mod JoinLemmas
 pub mod RestLemmas
 pub mod InsertLemmas
 pub mod CutLemmas

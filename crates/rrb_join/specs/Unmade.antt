@@ -6,6 +6,7 @@ use Rattle.node_heap.specs.Heap.{Heap, form_at, links_at, holds_at, hold_count, 
 use Rattle.rrb_core.specs.Seq.{seq_at, IsThick, IsWell}
 use Rattle.rrb_core.specs.Vector.{HasSums}
 use Rattle.rrb_core.specs.Build.{AreRows}
+use Rattle.rrb_join.specs.Seam.{rows_at, but_last}
 
 module _ {T : Type 0} where
   -- the elements below links that a row of height n may hold
@@ -55,6 +56,7 @@ module _ {T : Type 0} where
     pub thick : All (IsThick (form_at h) below) (take place (links_at h l))
     pub items : seq_at (form_at h) n l ≡ flat_map (seq_at (form_at h) below) (take place (links_at h l)) ++ seq_at (form_at h) m last
     pub wide : n ≡ suc below → place + 1 ≡ length (links_at h l)
+    pub before : (p : ℕ) → p ≤ below → but_last (rows_at (links_at h) n p l) ≡ flat_map (rows_at (links_at h) below p) (take place (links_at h l)) ++ but_last (rows_at (links_at h) m p last)
     pub few : place ≤ 31
 
   -- the row l of height n is a row of height m, and then its links from `place` on, which are rows of the height `below`
@@ -66,5 +68,6 @@ module _ {T : Type 0} where
     pub close : place < length (links_at h l) → (m ≡ below) × IsThick (form_at h) below first
     pub items : seq_at (form_at h) n l ≡ seq_at (form_at h) m first ++ flat_map (seq_at (form_at h) below) (drop place (links_at h l))
     pub wide : n ≡ suc below → place ≡ 1
+    pub after : (p : ℕ) → p ≤ below → drop 1 (rows_at (links_at h) n p l) ≡ drop 1 (rows_at (links_at h) m p first) ++ flat_map (rows_at (links_at h) below p) (drop place (links_at h l))
     pub thick : n ≡ suc below → IsThick (form_at h) n l → (m ≡ below) × IsThick (form_at h) below first × All (IsThick (form_at h) below) (drop place (links_at h l)) × (16 ≤ length (links_at h l))
     pub few : length (links_at h l) ≤ place + 31

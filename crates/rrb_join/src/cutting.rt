@@ -36,7 +36,7 @@ impl From<NoMemory> for SliceFault {
 }
 
 /// The vector without its first `count` elements, which is the empty one past the end. It makes rows along the cut alone,
-/// at most two for each height of the vector and one more, so at most 15 nodes, and shares all others. The rest is no higher
+/// at most two for each height of the rest and one more, so at most 15 nodes, and shares all others. The rest is no higher
 /// than the vector. With no element dropped it gives the vector itself, which takes no memory. Refused only where memory
 /// runs out, and then nothing but the heap's spares changes.
 pub fn drop_front<T>(heap: &mut Heap<T>, vector: FlexRef, count: u32) -> Result<Flex, NoMemory>
@@ -45,7 +45,7 @@ pub fn drop_front<T>(heap: &mut Heap<T>, vector: FlexRef, count: u32) -> Result<
     ensures items { IfOk result (λ v. elements heap.new v ≡ drop count (elements heap.old vector)) }
     ensures good { IfOk result (λ v. IsGoodVector heap.new v) }
     ensures low { IfOk result (λ v. height_at heap.new v ≤ height_at heap.old vector) }
-    ensures answered { IfOk result (λ v. Answered heap.old heap.new [] v 0 (2 * height_at heap.old vector + 1)) }
+    ensures answered { IfOk result (λ v. Answered heap.old heap.new [] v 0 (2 * height_at heap.new v + 1)) }
     ensures made { IfOk result (λ v. MakesJust heap.old heap.new) }
     ensures none { count ≡ 0 → GivesItself heap.old heap.new result vector }
     ensures vectors { (l : ℕ) → IsSameVector heap.old heap.new l }
@@ -105,12 +105,12 @@ pub fn slice<T: Drop>(
     Ok(Flex::from_root(root))
 }
 
-/// The vector without the elements from the index `from` to the one before `to`. It makes at most five nodes for each height
-/// of the vector and five more, so at most 40, and gives up again what it made on the way. The vector grows one row higher
-/// at most, and only where its root needs two rows, which have more than 32 links together: a cut inside a full row can
-/// leave one row more. Where it erases nothing it gives the vector itself, which takes no memory. Refused with `Range`
-/// unless `from` is at most `to` and `to` at most the length, and with `Memory` where memory runs out. A refusal changes
-/// nothing but the heap's spares.
+/// The vector without the elements from the index `from` to the one before `to`. It makes at most five nodes for each
+/// height of the vector and five more, so at most 40, and gives up again what it made on the way. The vector grows one
+/// row higher at most, and only where its root needs two rows, which have more than 32 links together: a cut inside a
+/// row of 32 links can leave one row more. Where it erases nothing it gives the vector itself, which takes no memory.
+/// Refused with `Range` unless `from` is at most `to` and `to` at most the length, and with `Memory` where memory runs
+/// out. A refusal changes nothing but the heap's spares.
 pub fn erase<T: Drop>(
     heap: &mut Heap<T>,
     vector: FlexRef,

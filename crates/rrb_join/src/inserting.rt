@@ -7,6 +7,7 @@ ghost use Rattle.rrb_core.specs.Seq.{seq_at, IsThick, IsWell};
 ghost use Rattle.rrb_core.specs.Vector.{HasSums, elements, height_at, IsGoodVector, IsSameVector};
 ghost use Rattle.rrb_join.specs.Unmade.{AreUnmade, AreThick};
 ghost use Rattle.rrb_join.specs.Answers.{RisesAtNeed};
+ghost use Rattle.rrb_join.specs.Seam.{PutsInRow, PutsBelow};
 ghost use Rattle.rrb_join.specs.declared.joining.TheConstants.{SEAM_NODES};
 
 use crate::joining::SEAM_NODES;
@@ -40,11 +41,13 @@ impl From<NoMemory> for InsertFault {
     }
 }
 
-/// The vector with `element` before the element at `index`, or after the last. It spends the element's hold on Ok alone,
-/// and makes at most two nodes for each height of the vector and three more, so at most 17. The vector grows one row higher
-/// at most, and only where its root needs two rows, which have more than 32 links together; one whose root has fewer than
-/// 32 links keeps its height. Refused with `Range` where the index is past the length, else with `Long` where the vector
-/// has 2^32 - 1 elements, and with `Memory` where memory runs out. A refusal changes nothing but the heap's spares.
+/// The vector with `element` before the element at `index`, or after the last. It spends the element's hold on Ok
+/// alone, and makes at most two nodes for each height of the vector and three more, so at most 17. The vector grows one
+/// row higher at most, and only where its root needs two rows, which have more than 32 links together; one whose root
+/// has fewer than 32 links keeps its height. Its rows of each height are those of the old vector, with at most two in
+/// the place of one, and two only where they have more than 32 links together. Refused with `Range` where the index is
+/// past the length, else with `Long` where the vector has 2^32 - 1 elements, and with `Memory` where memory runs out. A
+/// refusal changes nothing but the heap's spares.
 pub fn insert<T>(
     heap: &mut Heap<T>,
     vector: FlexRef,
@@ -58,6 +61,7 @@ pub fn insert<T>(
     ensures good { IfOk result (λ v. IsGoodVector heap.new v) }
     ensures flat { length (links_at heap.old vector) < 32 → IfOk result (λ v. height_at heap.new v ≡ height_at heap.old vector) }
     ensures low { IfOk result (λ v. RisesAtNeed heap.new (height_at heap.old vector) v) }
+    ensures seam { IfOk result (λ v. PutsInRow heap.old heap.new vector v) }
     ensures answered { IfOk result (λ v. Answered heap.old heap.new (element ∷ []) v 0 (2 * height_at heap.old vector + 3)) }
     ensures made { IfOk result (λ v. MakesJust heap.old heap.new) }
     ensures vectors { (l : ℕ) → IsSameVector heap.old heap.new l }
@@ -90,6 +94,7 @@ fn inserted_root<T>(heap: &mut Heap<T>, root: Link, index: u32, element: Link) -
     ensures good { IsGoodVector heap.new result }
     ensures flat { length (links_at heap.old root) < 32 → height_at heap.new result ≡ height_at heap.old root }
     ensures low { RisesAtNeed heap.new (height_at heap.old root) result }
+    ensures seam { PutsInRow heap.old heap.new root result }
     ensures builds { Builds heap.old heap.new (element ∷ []) (result ∷ []) 0 (2 * height_at heap.old root + 3) }
 {
     let height = height_of(heap, root);
@@ -142,6 +147,7 @@ fn insert_links<T>(
     ensures thick { IsThick (form_at heap.old) height link → (16 ≤ length result.items) × AreThick heap.new height result.items }
     ensures wide { length (links_at heap.old link) ≤ length result.items }
     ensures few { length result.items ≤ length (links_at heap.old link) + 1 }
+    ensures seam { PutsBelow heap.old heap.new link height result.items }
     ensures builds { Builds heap.old heap.new (element ∷ []) result.items 0 (2 * height) }
 {
     if height == 0 {

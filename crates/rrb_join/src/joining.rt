@@ -6,6 +6,7 @@ ghost use Rattle.rrb_core.specs.Seq.{seq_at, IsThick};
 ghost use Rattle.rrb_core.specs.Vector.{elements, height_at, IsGoodVector, IsSameVector};
 ghost use Rattle.rrb_join.specs.Unmade.{AreUnmade, AreThick, IsSomeRow, EndsIn, BeginsWith};
 ghost use Rattle.rrb_join.specs.Answers.{GivesItself, RisesAtNeed};
+ghost use Rattle.rrb_join.specs.Seam.{JoinsRows, JoinsBelow};
 
 use crate::over::{held_again, root_over, rows_over};
 use elem_core::NoMemory;
@@ -37,12 +38,14 @@ impl From<NoMemory> for JoinFault {
 /// The most nodes that a join, a cut or an insert makes along its seam: two for each height and a root over two.
 pub const SEAM_NODES: usize = 17;
 
-/// The elements of `left` and then those of `right`. It makes rows along the seam alone, at most two for each height of the
-/// higher vector and three more, so at most 17 nodes, and shares all others. Where one is empty it gives the other itself,
-/// which takes no memory. The result is no higher than the higher vector, or one row higher where its root needs two rows,
-/// which have more than 32 links together; and two vectors of one height, whose roots have at most 32 links together, give
-/// a vector of that height. Refused with `Long` where the lengths sum past 2^32 - 1, and with `Memory` where memory runs
-/// out. A refusal changes nothing but the heap's spares.
+/// The elements of `left` and then those of `right`. It makes rows along the seam alone, at most two for each height of
+/// the higher vector and three more, so at most 17 nodes, and shares all others. Where one is empty it gives the other
+/// itself, which takes no memory. The result is no higher than the higher vector, or one row higher where its root
+/// needs two rows, which have more than 32 links together; and two vectors of one height, whose roots have at most 32
+/// links together, give a vector of that height. Nor is a row further down split in vain: the rows of each height are
+/// those of `left` but its last, then at most two, and two only where they have more than 32 links together, then those
+/// of `right` but its first. Refused with `Long` where the lengths sum past 2^32 - 1, and with `Memory` where memory
+/// runs out. A refusal changes nothing but the heap's spares.
 pub fn concat<T>(heap: &mut Heap<T>, left: FlexRef, right: FlexRef) -> Result<Flex, JoinFault>
     requires left_good { IsGoodVector heap.old left }
     requires right_good { IsGoodVector heap.old right }
@@ -51,6 +54,7 @@ pub fn concat<T>(heap: &mut Heap<T>, left: FlexRef, right: FlexRef) -> Result<Fl
     ensures good { IfOk result (λ v. IsGoodVector heap.new v) }
     ensures flat { height_at heap.old left ≡ height_at heap.old right → length (links_at heap.old left) + length (links_at heap.old right) ≤ 32 → IfOk result (λ v. height_at heap.new v ≡ height_at heap.old left) }
     ensures low { IfOk result (λ v. RisesAtNeed heap.new (max (height_at heap.old left) (height_at heap.old right)) v) }
+    ensures seam { IfOk result (λ v. JoinsRows heap.old heap.new left right v) }
     ensures answered { IfOk result (λ v. Answered heap.old heap.new [] v 0 (2 * max (height_at heap.old left) (height_at heap.old right) + 3)) }
     ensures made { IfOk result (λ v. MakesJust heap.old heap.new) }
     ensures left_empty { elements heap.old left ≡ [] → GivesItself heap.old heap.new result right }
@@ -87,6 +91,7 @@ pub(crate) fn joined_root<T>(heap: &mut Heap<T>, left: Link, right: Link) -> Lin
     ensures good { IsGoodVector heap.new result }
     ensures flat { height_at heap.old left ≡ height_at heap.old right → length (links_at heap.old left) + length (links_at heap.old right) ≤ 32 → height_at heap.new result ≡ height_at heap.old left }
     ensures low { RisesAtNeed heap.new (max (height_at heap.old left) (height_at heap.old right)) result }
+    ensures seam { JoinsRows heap.old heap.new left right result }
     ensures builds { Builds heap.old heap.new [] (result ∷ []) 0 (2 * max (height_at heap.old left) (height_at heap.old right) + 3) }
 {
     if heap.links(left).is_empty() {
@@ -179,6 +184,7 @@ fn join<T>(
     ensures left_wide { left_height ≡ height → length (links_at heap.old left) ≤ length result.items }
     ensures right_wide { right_height ≡ height → length (links_at heap.old right) ≤ length result.items }
     ensures few { left_height ≡ height → right_height ≡ height → length result.items ≤ length (links_at heap.old left) + length (links_at heap.old right) }
+    ensures seam { JoinsBelow heap.old heap.new left_height left right_height right height result.items }
     ensures builds { Builds heap.old heap.new [] result.items 0 (2 * height) }
 {
     if height == 0 {

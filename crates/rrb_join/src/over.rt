@@ -8,13 +8,11 @@ ghost use Rattle.rrb_core.specs.Vector.{elements, height_at, IsGoodVector, IsSam
 ghost use Rattle.rrb_core.specs.Build.{IsRowOf, AreRows, Shares};
 ghost use Rattle.rrb_join.specs.Unmade.{items_below, AreThick, CanBeRows};
 ghost use Rattle.rrb_join.specs.Answers.{RisesAtNeed};
+ghost use Rattle.rrb_join.specs.Seam.{rows_below, rows_of, AreAtNeed};
 
 use arrayvec::ArrayVec;
 use node_heap::{Heap, Link};
-use rrb_core::{inner_over, leaf_over};
-
-// The most links that one row holds.
-const ROW_LINKS: usize = 32;
+use rrb_core::{ROW_LINKS, inner_over, leaf_over};
 
 // One row, or two side by side.
 pub(crate) type Rows = ArrayVec<Link, 2>;
@@ -84,6 +82,8 @@ pub(crate) fn root_over<T>(heap: &mut Heap<T>, links: &[Link], height: u8) -> Li
     ensures items { elements heap.new result ≡ items_below heap.old height links.now }
     ensures flat { length links.now ≤ 32 → height_at heap.new result ≡ height }
     ensures low { RisesAtNeed heap.new height result }
+    ensures below { (m : ℕ) → m < height → rows_of heap.new m result ≡ rows_below (links_at heap.old) height m links.now }
+    ensures top { (m : ℕ) → height ≤ m → AreAtNeed heap.new (rows_of heap.new m result) }
     ensures builds { Builds heap.old heap.new links.now (result ∷ []) 0 3 }
 {
     if links.len() <= ROW_LINKS {

@@ -15,7 +15,7 @@ ghost use Rattle.rrb_join.specs.declared.joining.TheConstants.{SEAM_NODES};
 
 use crate::over::{held_again, row_over, rows_over};
 use node_heap::{Heap, Link};
-use rrb_core::{FlexRef, Gathered, gathered, height_of, leaf_over, spot_of};
+use rrb_core::{FlexRef, Gathered, ROW_LINKS, gathered, height_of, leaf_over, spot_of};
 
 // Links of one row of this height, or of two, that aren't made yet.
 #[derive(Drop)]
@@ -33,7 +33,7 @@ pub(crate) fn rest_root<T>(heap: &mut Heap<T>, root: Link, count: u32) -> Link
     ensures items { elements heap.new result ≡ drop count (elements heap.old root) }
     ensures good { IsGoodVector heap.new result }
     ensures low { height_at heap.new result ≤ height_at heap.old root }
-    ensures builds { Builds heap.old heap.new [] (result ∷ []) 0 (2 * height_at heap.old root + 1) }
+    ensures builds { Builds heap.old heap.new [] (result ∷ []) 0 (2 * height_at heap.new result + 1) }
 {
     if count == 0 {
         return held_again(heap, root);
@@ -145,7 +145,7 @@ fn raised<T>(heap: &mut Heap<T>, rest: Rest, link: Link, from: usize) -> Rest
     ensures thick { AreThick heap.old rest.height rest.links.items → 16 ≤ length rest.links.items → All (IsThick (form_at heap.old) rest.height) (drop from (links_at heap.old link)) → AreThick heap.new result.height result.links.items }
     ensures builds { Builds heap.old heap.new rest.links.items result.links.items 0 (2 * (result.height - rest.height)) }
 {
-    if rest.links.len() <= 32 && from == heap.links(link).len() {
+    if rest.links.len() <= ROW_LINKS && from == heap.links(link).len() {
         return rest;
     }
     let rows = rows_over(heap, rest.links.as_slice(), rest.height);

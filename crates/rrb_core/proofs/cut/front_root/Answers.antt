@@ -13,7 +13,7 @@ pub returns-then-count-eq0-clause-low : goal.returns-then-count-eq0-clause-low
 returns-then-count-eq0-clause-low g c = omega (arith, c.empty_root.ensures.flat)
 
 pub returns-then-count-eq0-clause-builds : goal.returns-then-count-eq0-clause-builds
-returns-then-count-eq0-clause-builds g c = Builds-more 0 (height_at c.args.heap.now c.args.root + 1) c.empty_root.ensures.builds (omega arith) (omega arith)
+returns-then-count-eq0-clause-builds g c = Builds-more 0 (height_at c.empty_root.new.heap c.empty_root.result + 1) c.empty_root.ensures.builds (omega arith) (omega arith)
 
 pub take_below-requires-clause-row : goal.take_below-requires-clause-row
 take_below-requires-clause-row g c =
@@ -35,4 +35,4 @@ pub returns-clause-low : goal.returns-clause-low
 returns-clause-low g c = rw (height-is (form_at c.take_below.new.heap) c.lowest_with-lowest.result.height c.take_below.result c.take_below.ensures.edits.row.well) c.lowest_with-lowest.ensures.low
 
 pub returns-clause-builds : goal.returns-clause-builds
-returns-clause-builds g c = Builds-more 0 (height_at c.args.heap.now c.args.root + 1) c.take_below.ensures.edits.builds (omega arith) (omega (arith, c.lowest_with-lowest.ensures.low))
+returns-clause-builds g c = Builds-more 0 (height_at c.take_below.new.heap c.take_below.result + 1) c.take_below.ensures.edits.builds (omega arith) (omega (arith, height-is (form_at c.take_below.new.heap) c.lowest_with-lowest.result.height c.take_below.result c.take_below.ensures.edits.row.well))

@@ -47,7 +47,7 @@ pub returns-clause-low : goal.returns-clause-low
 returns-clause-low g c = rw (c.from_root.ensures, ← same-height c.args.heap.now c.reserve.new.self c.args.vector c.in_ok-reserve.ensures.rest.rows) (rw c.root.ensures at c.front_root-root.ensures.low)
 
 pub returns-clause-answered : goal.returns-clause-answered
-returns-clause-answered g c = rw (c.from_root.ensures, ← same-height c.args.heap.now c.reserve.new.self c.args.vector c.in_ok-reserve.ensures.rest.rows) (Builds-Answered c.in_ok-reserve.ensures.rest (rw c.root.ensures at c.front_root-root.ensures.builds))
+returns-clause-answered g c = rw c.from_root.ensures (Builds-Answered c.in_ok-reserve.ensures.rest c.front_root-root.ensures.builds)
 
 pub returns-clause-made : goal.returns-clause-made
 returns-clause-made g c = Builds-MakesJust c.in_ok-reserve.ensures.rest c.front_root-root.ensures.builds

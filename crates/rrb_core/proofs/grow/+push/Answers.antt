@@ -12,16 +12,16 @@ push_below-push_inner-requires g t c = λ κs sub.
     let down : suc (c.args.height - 1) ≡ c.args.height = omega arith in
     (search rules, (search rules, (rw down c.requires.row, (rw down c.requires.short, c.requires.held))))
 
-pub push_below-returns-then-height-eq0-clause-full : goal.push_below-returns-then-height-eq0-clause-full
-push_below-returns-then-height-eq0-clause-full g t c = rw c.if-height-eq0.true c.push_leaf.ensures.full
+pub push_below-returns-then-height-eq0-clause-packed : goal.push_below-returns-then-height-eq0-clause-packed
+push_below-returns-then-height-eq0-clause-packed g t c = rw c.if-height-eq0.true c.push_leaf.ensures.packed
 
 pub push_below-returns-then-height-eq0-clause-pushes : goal.push_below-returns-then-height-eq0-clause-pushes
 push_below-returns-then-height-eq0-clause-pushes g t c = rw c.if-height-eq0.true c.push_leaf.ensures.pushes
 
-pub push_below-returns-clause-full : goal.push_below-returns-clause-full
-push_below-returns-clause-full g t c =
+pub push_below-returns-clause-packed : goal.push_below-returns-clause-packed
+push_below-returns-clause-packed g t c =
     let down : suc (c.args.height - 1) ≡ c.args.height = omega arith in
-    rw down at c.push_inner.ensures.full
+    rw down at c.push_inner.ensures.packed
 
 pub push_below-returns-clause-pushes : goal.push_below-returns-clause-pushes
 push_below-returns-clause-pushes g t c =
@@ -49,19 +49,19 @@ push_inner-returns-in-Some-clause-pushes g t c =
     pushes-last c.requires.row c.requires.short c.requires.held (rw c.last_child-last.ensures at c.in-Some.ensures.pushes) (rw e at c.inner_with.ensures.row) c.inner_with.ensures.builds (rw e at c.inner_with.ensures.links)
 
 pub push_inner-push_beside-requires-clause-row : goal.push_inner-push_beside-requires-clause-row
-push_inner-push_beside-requires-clause-row g t c = rw c.in-None.ensures.full.1 c.requires.row
+push_inner-push_beside-requires-clause-row g t c = rw c.in-None.ensures.packed.1 c.requires.row
 
-pub push_inner-push_beside-requires-clause-full : goal.push_inner-push_beside-requires-clause-full
-push_inner-push_beside-requires-clause-full g t c = rw c.in-None.ensures.full.1 (rw c.last_child-last.ensures at c.in-None.ensures.full.0)
+pub push_inner-push_beside-requires-clause-packed : goal.push_inner-push_beside-requires-clause-packed
+push_inner-push_beside-requires-clause-packed g t c = rw c.in-None.ensures.packed.1 (rw c.last_child-last.ensures at c.in-None.ensures.packed.0)
 
 pub push_inner-push_beside-requires-clause-short : goal.push_inner-push_beside-requires-clause-short
-push_inner-push_beside-requires-clause-short g t c = rw c.in-None.ensures.full.1 c.requires.short
+push_inner-push_beside-requires-clause-short g t c = rw c.in-None.ensures.packed.1 c.requires.short
 
 pub push_inner-push_beside-requires-clause-held : goal.push_inner-push_beside-requires-clause-held
-push_inner-push_beside-requires-clause-held g t c = rw c.in-None.ensures.full.1 c.requires.held
+push_inner-push_beside-requires-clause-held g t c = rw c.in-None.ensures.packed.1 c.requires.held
 
-pub push_inner-returns-in-None-clause-full : goal.push_inner-returns-in-None-clause-full
-push_inner-returns-in-None-clause-full g t c = rw c.in-None.ensures.full.1 at c.push_beside.ensures.full
+pub push_inner-returns-in-None-clause-packed : goal.push_inner-returns-in-None-clause-packed
+push_inner-returns-in-None-clause-packed g t c = rw c.in-None.ensures.packed.1 at c.push_beside.ensures.packed
 
 pub push_inner-returns-in-None-clause-pushes : goal.push_inner-returns-in-None-clause-pushes
-push_inner-returns-in-None-clause-pushes g t c = rw c.in-None.ensures.full.1 at c.push_beside.ensures.pushes
+push_inner-returns-in-None-clause-pushes g t c = rw c.in-None.ensures.packed.1 at c.push_beside.ensures.pushes

@@ -24,25 +24,25 @@ pub returns-in-Some-clause-builds : goal.returns-in-Some-clause-builds
 returns-in-Some-clause-builds g c = rw (← c.height_of-height.ensures) (Builds-more 0 (c.height_of-height.result + 2) c.in-Some.ensures.pushes.edits.builds (omega arith) (omega arith))
 
 pub root_beside-requires-clause-root : goal.root_beside-requires-clause-root
-root_beside-requires-clause-root g c = rw c.in-None.ensures.full.1 c.requires.root
+root_beside-requires-clause-root g c = rw c.in-None.ensures.packed.1 c.requires.root
 
 pub root_beside-requires-clause-height : goal.root_beside-requires-clause-height
-root_beside-requires-clause-height g c = rw c.in-None.ensures.full.1 c.height_of-height.ensures
+root_beside-requires-clause-height g c = rw c.in-None.ensures.packed.1 c.height_of-height.ensures
 
-pub root_beside-requires-clause-full : goal.root_beside-requires-clause-full
-root_beside-requires-clause-full g c = rw c.in-None.ensures.full.1 c.in-None.ensures.full.0
+pub root_beside-requires-clause-packed : goal.root_beside-requires-clause-packed
+root_beside-requires-clause-packed g c = rw c.in-None.ensures.packed.1 c.in-None.ensures.packed.0
 
 pub root_beside-requires-clause-short : goal.root_beside-requires-clause-short
-root_beside-requires-clause-short g c = rw c.in-None.ensures.full.1 c.requires.short
+root_beside-requires-clause-short g c = rw c.in-None.ensures.packed.1 c.requires.short
 
 pub root_beside-requires-clause-held : goal.root_beside-requires-clause-held
-root_beside-requires-clause-held g c = rw c.in-None.ensures.full.1 c.requires.held
+root_beside-requires-clause-held g c = rw c.in-None.ensures.packed.1 c.requires.held
 
 pub returns-in-None-clause-vector : goal.returns-in-None-clause-vector
-returns-in-None-clause-vector g c = rw c.in-None.ensures.full.1 at c.root_beside.ensures.vector
+returns-in-None-clause-vector g c = rw c.in-None.ensures.packed.1 at c.root_beside.ensures.vector
 
 pub returns-in-None-clause-rule : goal.returns-in-None-clause-rule
-returns-in-None-clause-rule g c = rw c.in-None.ensures.full.1 at c.root_beside.ensures.rule
+returns-in-None-clause-rule g c = rw c.in-None.ensures.packed.1 at c.root_beside.ensures.rule
 
 pub returns-in-None-clause-builds : goal.returns-in-None-clause-builds
-returns-in-None-clause-builds g c = rw (← c.height_of-height.ensures) (rw c.in-None.ensures.full.1 at c.root_beside.ensures.builds)
+returns-in-None-clause-builds g c = rw (← c.height_of-height.ensures) (rw c.in-None.ensures.packed.1 at c.root_beside.ensures.builds)

@@ -1,5 +1,5 @@
 use Rattle.std.proofs.Common.{arith, refl, ◌∙◌}
-use Rattle.node_heap.proofs.BuildLemmas.{Builds-more, Builds-Answered}
+use Rattle.node_heap.proofs.BuildLemmas.{Builds-Answered}
 use Rattle.rrb_core.proofs.BuildLemmas.{unchanged-good, answered-same}
 use Rattle.rrb_join.proofs.AnswerLemmas.{unchanged-height}
 use Rattle.rrb_join.proofs.cutting.drop_front.Goals as goal
@@ -15,9 +15,7 @@ returns-clause-items g c = rw c.from_root.ensures (c.rest_root.ensures.items ∙
 
 pub returns-clause-answered : goal.returns-clause-answered
 returns-clause-answered g c =
-    let same = unchanged-height c.in_ok-reserve.ensures.rest c.args.vector in
-    let built = rw c.root.ensures at c.rest_root.ensures.builds in
-    rw c.from_root.ensures (Builds-Answered c.in_ok-reserve.ensures.rest (Builds-more 0 _ built (omega arith) (omega (arith, same))))
+    rw c.from_root.ensures (Builds-Answered c.in_ok-reserve.ensures.rest c.rest_root.ensures.builds)
 
 pub returns-clause-vectors : goal.returns-clause-vectors
 returns-clause-vectors g c = answered-same (Builds-Answered c.in_ok-reserve.ensures.rest c.rest_root.ensures.builds)

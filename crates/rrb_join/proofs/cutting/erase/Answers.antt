@@ -43,7 +43,7 @@ joined_root-root-requires-clause-spare g c =
     let second = c.in_ok-front.ensures.vectors c.args.vector first.0 in
     let low : height_at c.take.new.heap c.root.result ≤ 7 = rw c.root.ensures second.0.shape.low in
     let taken = c.in_ok-front.ensures.answered in
-    omega (arith, c.in_ok-reserve.ensures.spares, first.0.shape.low, low, taken.nodes, taken.balance.spare_nodes, c.rest_root-back.ensures.builds.makes.spare_nodes, c.rest_root-back.ensures.builds.few_nodes)
+    omega (arith, c.in_ok-reserve.ensures.spares, first.0.shape.low, low, c.in_ok-front.ensures.low, taken.nodes, taken.balance.spare_nodes, c.rest_root-back.ensures.builds.makes.spare_nodes, c.rest_root-back.ensures.builds.few_nodes, c.rest_root-back.ensures.low)
 
 pub release-requires : goal.release-requires
 release-requires g c =
@@ -68,7 +68,7 @@ heights g c =
 whole : (g : given.Over) (c : goal.After-from_root g) → Gives c.reserve.new.self c.joined_root-root.new.heap (c.joined_root-root.result ∷ c.rest_root-back.result ∷ c.in_ok-front.front ∷ []) (5 * height_at c.args.heap.now c.args.vector + 5)
 whole g c =
     gives-more (gives-built (gives-built (gives-answered c.in_ok-front.ensures.answered c.in_ok-front.ensures.made) c.rest_root-back.ensures.builds) c.joined_root-root.ensures.builds)
-    (omega (arith, unchanged-height c.in_ok-reserve.ensures.rest c.args.vector, later g c, heights g c))
+    (omega (arith, unchanged-height c.in_ok-reserve.ensures.rest c.args.vector, later g c, heights g c, c.in_ok-front.ensures.low, c.rest_root-back.ensures.low))
 
 both : (g : given.Over) (c : goal.After-from_root g) → Gives c.reserve.new.self c.release.new.heap (c.joined_root-root.result ∷ c.rest_root-back.result ∷ []) (5 * height_at c.args.heap.now c.args.vector + 5)
 both g c = gives-released {left = c.joined_root-root.result ∷ c.rest_root-back.result ∷ []} c.in_ok-reserve.ensures.rest.graph (whole g c) (without-third c.joined_root-root.result c.rest_root-back.result c.in_ok-front.front) refl c.release.ensures.releases c.release.ensures.graph c.release.ensures.keeps

@@ -17,7 +17,7 @@ returns-in_err-reserve-clause-vectors g c = λ l. unchanged-good l c.in_err-rese
 pub take-requires-clause-good : goal.take-requires-clause-good
 take-requires-clause-good g c = (unchanged-good c.args.vector c.in_ok-reserve.ensures.rest c.requires.good).0
 
-made : (g : given.Over) (c : goal.After-from_root g) → Gives c.reserve.new.self c.rest_root-root.new.heap (c.rest_root-root.result ∷ c.in_ok-front.front ∷ []) (height_at c.reserve.new.self c.args.vector + 1 + (2 * height_at c.take.new.heap c.root.result + 1))
+made : (g : given.Over) (c : goal.After-from_root g) → Gives c.reserve.new.self c.rest_root-root.new.heap (c.rest_root-root.result ∷ c.in_ok-front.front ∷ []) (height_at c.take.new.heap c.in_ok-front.front + 1 + (2 * height_at c.rest_root-root.new.heap c.rest_root-root.result + 1))
 made g c = gives-built (gives-answered c.in_ok-front.ensures.answered c.in_ok-front.ensures.made) c.rest_root-root.ensures.builds
 
 kept : (g : given.Over) (c : goal.After-from_root g) → IsVectorOf c.release.new.heap c.rest_root-root.result (elements c.rest_root-root.new.heap c.rest_root-root.result)
@@ -28,7 +28,7 @@ left : (g : given.Over) (c : goal.After-from_root g) → Answered c.args.heap.no
 left g c =
     let same = unchanged-height c.in_ok-reserve.ensures.rest c.args.vector in
     let low : height_at c.take.new.heap c.root.result ≤ height_at c.reserve.new.self c.args.vector = rw (c.root.ensures, c.view.ensures) c.in_ok-front.ensures.low in
-    gives-all c.in_ok-reserve.ensures.rest (gives-released {left = c.rest_root-root.result ∷ []} c.in_ok-reserve.ensures.rest.graph (made g c) (without-second c.rest_root-root.result c.in_ok-front.front) refl c.release.ensures.releases c.release.ensures.graph c.release.ensures.keeps) (omega (arith, same, low))
+    gives-all c.in_ok-reserve.ensures.rest (gives-released {left = c.rest_root-root.result ∷ []} c.in_ok-reserve.ensures.rest.graph (made g c) (without-second c.rest_root-root.result c.in_ok-front.front) refl c.release.ensures.releases c.release.ensures.graph c.release.ensures.keeps) (omega (arith, same, low, c.in_ok-front.ensures.low, c.rest_root-root.ensures.low))
 
 pub returns-clause-items : goal.returns-clause-items
 returns-clause-items g c =

@@ -1,4 +1,4 @@
-use Rattle.std.proofs.Common.{rules, arith, ◌≡◌, ℕ, ◌-◌, ◌*◌, ◌≤◌, length, get_or, ap, ◌∙◌, ◌∷◌, ◌++◌, take, drop}
+use Rattle.std.proofs.Common.{rules, arith, ◌≡◌, ℕ, suc, ◌-◌, ◌*◌, ◌≤◌, length, get_or, ap, ◌∙◌, ◌∷◌, ◌++◌, take, drop}
 use Rattle.node_heap.specs.Heap.{form_at, links_at}
 use Rattle.node_heap.specs.Calls.{Extends}
 use Rattle.rrb_core.specs.Seq.{seq_at}
@@ -10,6 +10,7 @@ use Rattle.node_heap.proofs.BuildLemmas.{Builds-then, Builds-more}
 use Rattle.rrb_core.proofs.BuildLemmas.{builds-held}
 use Rattle.rrb_join.proofs.UnmadeLemmas.{has-links, leaf-length, unmade-rows}
 use Rattle.rrb_join.proofs.SeamLemmas.{over-at, child-of}
+use Rattle.rrb_join.proofs.SeamRows.{puts-up}
 use Rattle.rrb_join.proofs.InsertLemmas.{IsInserted, inserted, leaf-inserted, inserted-length}
 use Rattle.rrb_join.proofs.inserting.+insert_links.Given as given
 use Rattle.rrb_join.proofs.inserting.+insert_links.Goals as goal
@@ -104,3 +105,15 @@ returns-then-height-eq0-clause-wide g t c = (leaf g t c).wide
 
 pub returns-then-height-eq0-clause-few : goal.returns-then-height-eq0-clause-few
 returns-then-height-eq0-clause-few g t c = (leaf g t c).few
+
+pub returns-then-height-eq0-clause-seam : goal.returns-then-height-eq0-clause-seam
+returns-then-height-eq0-clause-seam g t c = λ p low. absurd (omega arith)
+
+pub returns-clause-seam : goal.returns-clause-seam
+returns-clause-seam g t c =
+    let up : c.args.height ≡ suc (c.args.height - 1) = omega arith in
+    let ext : Extends c.args.heap.now c.rows_over-rows.new.heap = Extends-trans c.insert_links-seam.ensures.builds.extends c.rows_over-rows.ensures.builds.extends in
+    let place-is = at-place c.links.result.now (links_at c.args.heap.now c.args.link) c.spot_before-spot.result.place c.index-links-spot.result c.index-links-spot.is c.links.ensures.links c.spot_before-spot.ensures.place in
+    puts-up up (live-stays c.requires.graph (Extends-trans ext c.gathered-2.ensures.builds.extends)) (live-stays c.insert_links-seam.ensures.builds.graph (Extends-trans c.rows_over-rows.ensures.builds.extends c.gathered-2.ensures.builds.extends)) (live-stays c.rows_over-rows.ensures.builds.graph c.gathered-2.ensures.builds.extends)
+    (over-at c.args.heap.now c.args.height (c.args.height - 1) c.args.link up c.requires.well c.requires.sums) c.spot_before-spot.ensures.place place-is c.insert_links-seam.ensures.links.links c.rows_over-rows.ensures.rows (c.rows_over-rows.ensures.links ∙ c.as_slice.ensures.value) c.rows_over-rows.ensures.few
+    (λ short. c.rows_over-rows.ensures.one (rw c.as_slice.ensures.value short)) c.insert_links-seam.ensures.seam (rw c.as_slice-2.ensures.value at c.gathered-2.ensures.items) (links-stay (live-stays c.requires.graph ext) c.args.link (well-live c.args.heap.now c.args.height c.args.link c.requires.well))

@@ -2,6 +2,7 @@ use Rattle.std.proofs.Common.{arith, refl, ◌∙◌}
 use Rattle.node_heap.proofs.BuildLemmas.{Builds-more, Builds-Answered}
 use Rattle.rrb_core.proofs.BuildLemmas.{unchanged-good, answered-same}
 use Rattle.rrb_join.proofs.AnswerLemmas.{unchanged-height, unchanged-links, rises-more}
+use Rattle.rrb_join.proofs.JoinLemmas.{puts-after}
 use Rattle.rrb_join.proofs.inserting.insert.Goals as goal
 
 pub inserted_root-requires-clause-good : goal.inserted_root-requires-clause-good
@@ -35,3 +36,6 @@ returns-clause-flat g c = λ few.
 
 pub returns-clause-low : goal.returns-clause-low
 returns-clause-low g c = rw c.from_root.ensures (rises-more c.inserted_root.ensures.low (rw c.root.ensures (omega (arith, unchanged-height c.in_ok-reserve.ensures.rest c.args.vector))))
+
+pub returns-clause-seam : goal.returns-clause-seam
+returns-clause-seam g c = rw c.from_root.ensures (puts-after c.args.heap.now c.reserve.new.self c.inserted_root.new.heap c.args.vector c.inserted_root.result c.in_ok-reserve.ensures.rest (rw c.root.ensures at c.inserted_root.ensures.seam))

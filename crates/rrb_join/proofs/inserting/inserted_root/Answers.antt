@@ -1,10 +1,11 @@
 use Rattle.std.proofs.Common.{arith, ◌<◌, ◌^◌, ◌∙◌, ◌∷◌, ◌++◌, length, take, drop}
 use Rattle.rrb_core.specs.Vector.{height_at, elements}
-use Rattle.rrb_core.proofs.Stays.{well-live}
+use Rattle.rrb_core.proofs.Stays.{well-live, live-stays}
 use Rattle.node_heap.proofs.BuildLemmas.{Builds-then, Builds-more}
 use Rattle.rrb_core.proofs.BuildLemmas.{builds-held}
 use Rattle.rrb_join.proofs.UnmadeLemmas.{unmade-rows}
 use Rattle.rrb_join.proofs.InsertLemmas.{inserted-length}
+use Rattle.rrb_join.proofs.JoinLemmas.{puts-root}
 use Rattle.rrb_join.proofs.inserting.inserted_root.Goals as goal
 
 pub height_of-height-requires : goal.height_of-height-requires
@@ -25,3 +26,8 @@ returns-clause-flat g c = λ few. c.root_over.ensures.flat (rw c.as_slice.ensure
 
 pub returns-clause-low : goal.returns-clause-low
 returns-clause-low g c = rw (← c.height_of-height.ensures) c.root_over.ensures.low
+
+pub returns-clause-seam : goal.returns-clause-seam
+returns-clause-seam g c =
+    puts-root c.args.heap.now c.insert_links-links.new.heap c.root_over.new.heap c.args.root c.height_of-height.result c.root_over.result c.insert_links-links.result.items c.height_of-height.ensures (live-stays c.insert_links-links.ensures.builds.graph c.root_over.ensures.builds.extends)
+    c.insert_links-links.ensures.links.links c.insert_links-links.ensures.seam (λ m low. rw c.as_slice.ensures.value at (c.root_over.ensures.below m low)) c.root_over.ensures.top

@@ -1,4 +1,4 @@
-use Rattle.std.proofs.Common.{arith, ◌≡◌, ℕ, ◌+◌, ◌-◌, ◌*◌, ◌≤◌, length, ap, ◌∙◌, ◌++◌}
+use Rattle.std.proofs.Common.{arith, ◌≡◌, ℕ, suc, ◌+◌, ◌-◌, ◌*◌, ◌≤◌, length, ap, ◌∙◌, ◌++◌}
 use Rattle.node_heap.specs.Heap.{form_at, links_at}
 use Rattle.node_heap.specs.Calls.{Extends}
 use Rattle.rrb_core.specs.Seq.{seq_at}
@@ -8,6 +8,7 @@ use Rattle.node_heap.proofs.Frames.{Extends-trans}
 use Rattle.node_heap.proofs.BuildLemmas.{Builds-then, Builds-more}
 use Rattle.rrb_join.proofs.UnmadeLemmas.{has-links, leaf-are-thick}
 use Rattle.rrb_join.proofs.SeamLemmas.{IsSeam, seam, leaf-seam}
+use Rattle.rrb_join.proofs.SeamRows.{joins-up}
 use Rattle.rrb_join.proofs.joining.+join.Given as given
 use Rattle.rrb_join.proofs.joining.+join.Goals as goal
 
@@ -67,3 +68,14 @@ returns-clause-few g t c = λ e e'. (joined g t c).few e e'
 pub returns-clause-builds : goal.returns-clause-builds
 returns-clause-builds g t c =
     Builds-more 0 (2 * c.args.height) (Builds-then (Builds-then c.join-seam.ensures.builds (rw c.as_slice.ensures.value at c.rows_over-rows.ensures.builds)) (rw c.as_slice-2.ensures.value at c.gathered-2.ensures.builds)) (omega arith) (omega arith)
+
+pub returns-then-height-eq0-clause-seam : goal.returns-then-height-eq0-clause-seam
+returns-then-height-eq0-clause-seam g t c = λ p low. absurd (omega arith)
+
+pub returns-clause-seam : goal.returns-clause-seam
+returns-clause-seam g t c =
+    let up : c.args.height ≡ suc (c.args.height - 1) = omega arith in
+    let ext : Extends c.args.heap.now c.rows_over-rows.new.heap = Extends-trans c.join-seam.ensures.builds.extends c.rows_over-rows.ensures.builds.extends in
+    joins-up up (live-stays c.requires.graph (Extends-trans ext c.gathered-2.ensures.builds.extends)) (live-stays c.join-seam.ensures.builds.graph (Extends-trans c.rows_over-rows.ensures.builds.extends c.gathered-2.ensures.builds.extends)) (live-stays c.rows_over-rows.ensures.builds.graph c.gathered-2.ensures.builds.extends)
+    c.last_edge-last.ensures c.first_edge-first.ensures c.join-seam.ensures.links.links c.rows_over-rows.ensures.rows (c.rows_over-rows.ensures.links ∙ c.as_slice.ensures.value) c.rows_over-rows.ensures.few (λ short. c.rows_over-rows.ensures.one (rw c.as_slice.ensures.value short)) c.join-seam.ensures.seam (rw c.as_slice-2.ensures.value at c.gathered-2.ensures.items)
+    (links-stay (live-stays c.requires.graph ext) c.args.left (well-live c.args.heap.now c.args.left_height c.args.left c.requires.left.well)) (links-stay (live-stays c.requires.graph ext) c.args.right (well-live c.args.heap.now c.args.right_height c.args.right c.requires.right.well))

@@ -2,6 +2,7 @@ use Rattle.std.proofs.Common.{arith, refl, sym, ◌∙◌}
 use Rattle.node_heap.proofs.BuildLemmas.{Builds-more, Builds-Answered}
 use Rattle.rrb_core.proofs.BuildLemmas.{unchanged-good, answered-same}
 use Rattle.rrb_join.proofs.AnswerLemmas.{unchanged-height, unchanged-links, rises-more}
+use Rattle.rrb_join.proofs.JoinLemmas.{no-items, rows-of-same, joins-left-none, joins-right-none, joins-after}
 use Rattle.rrb_join.proofs.joining.concat.Goals as goal
 
 pub returns-in_err-reserve-clause-vectors : goal.returns-in_err-reserve-clause-vectors
@@ -49,3 +50,16 @@ returns-clause-low g c =
     let left = unchanged-height c.in_ok-reserve.ensures.rest c.args.left in
     let right = unchanged-height c.in_ok-reserve.ensures.rest c.args.right in
     rw c.from_root.ensures (rises-more c.joined_root.ensures.low (rw (c.root.ensures, c.root-2.ensures) (omega (arith, left, right))))
+
+pub returns-then-left_len-eq0-clause-seam : goal.returns-then-left_len-eq0-clause-seam
+returns-then-left_len-eq0-clause-seam g c =
+    let low = no-items c.args.heap.now c.args.left c.requires.left_good (omega (arith, c.len-left_len.ensures.value)) in
+    rw c.share.ensures.same (joins-left-none c.args.heap.now c.share.new.heap c.args.left c.args.right low (λ m. rows-of-same c.args.heap.now c.share.new.heap c.share.ensures.shares.rows m c.args.right))
+
+pub returns-then-right_len-eq0-clause-seam : goal.returns-then-right_len-eq0-clause-seam
+returns-then-right_len-eq0-clause-seam g c =
+    let low = no-items c.args.heap.now c.args.right c.requires.right_good (omega (arith, c.len-right_len.ensures.value)) in
+    rw c.share-then-right_len-eq0.ensures.same (joins-right-none c.args.heap.now c.share-then-right_len-eq0.new.heap c.args.left c.args.right low (λ m. rows-of-same c.args.heap.now c.share-then-right_len-eq0.new.heap c.share-then-right_len-eq0.ensures.shares.rows m c.args.left))
+
+pub returns-clause-seam : goal.returns-clause-seam
+returns-clause-seam g c = rw c.from_root.ensures (joins-after c.args.heap.now c.reserve.new.self c.joined_root.new.heap c.args.left c.args.right c.joined_root.result c.in_ok-reserve.ensures.rest (rw (c.root.ensures, c.root-2.ensures) at c.joined_root.ensures.seam))

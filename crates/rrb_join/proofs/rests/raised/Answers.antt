@@ -5,7 +5,7 @@ use Rattle.node_heap.proofs.BuildLemmas.{Builds-refl, Builds-then, Builds-more}
 use Rattle.rrb_join.proofs.RestLemmas.{IsRaised, raised}
 use Rattle.rrb_join.proofs.rests.raised.Given as given
 use Rattle.rrb_join.proofs.rests.raised.Goals as goal
-use Rattle.rrb_join.proofs.rests.raised.Goals.{else-len-le32-via-then-len-le32+else-from-links, else-len-le32-via-else-len-le32}
+use Rattle.rrb_join.proofs.rests.raised.Goals.{else-len-le-ROW_LINKS-via-then-len-le-ROW_LINKS+else-from-links, else-len-le-ROW_LINKS-via-else-len-le-ROW_LINKS}
 
 pub gathered-requires-clause-skip : goal.gathered-requires-clause-skip
 gathered-requires-clause-skip g c = rw (links-stay (live-stays c.requires.graph c.rows_over-rows.ensures.builds.extends) c.args.link c.requires.live) c.requires.from
@@ -26,9 +26,9 @@ returns-clause-few g c = λ le. omega (arith, (up g c).size, c.rows_over-rows.en
 pub returns-clause-two : goal.returns-clause-two
 returns-clause-two g c = λ _.
     let size = (up g c).size in
-    elim c.else-len-le32.branch as (λ _. 2 ≤ length c.gathered.result.items) [
-      | else-len-le32-via-then-len-le32+else-from-links w ↦ omega (arith, size, c.rows_over-rows.ensures.some, c.requires.from, ap length w.links.ensures.links, w.if-from-links.false)
-      | else-len-le32-via-else-len-le32 w ↦ omega (arith, size, c.rows_over-rows.ensures.two, ap length c.as_slice.ensures.value, c.len.ensures.value, w.if-len-le32.false)
+    elim c.else-len-le-ROW_LINKS.branch as (λ _. 2 ≤ length c.gathered.result.items) [
+      | else-len-le-ROW_LINKS-via-then-len-le-ROW_LINKS+else-from-links w ↦ omega (arith, size, c.rows_over-rows.ensures.some, c.requires.from, ap length w.links.ensures.links, w.if-from-links.false)
+      | else-len-le-ROW_LINKS-via-else-len-le-ROW_LINKS w ↦ omega (arith, size, c.rows_over-rows.ensures.two, ap length c.as_slice.ensures.value, c.len.ensures.value, w.if-len-le-ROW_LINKS.false)
     ]
 
 pub returns-clause-count : goal.returns-clause-count

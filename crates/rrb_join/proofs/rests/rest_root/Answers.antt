@@ -47,4 +47,4 @@ returns-clause-low g c =
 
 pub returns-clause-builds : goal.returns-clause-builds
 returns-clause-builds g c =
-    Builds-more 0 _ (Builds-then c.rest_of-rest.ensures.builds (rw c.as_slice.ensures.value at c.row_over.ensures.builds)) (omega arith) (omega (arith, c.rest_of-rest.ensures.low, c.height_of-height.ensures))
+    Builds-more 0 _ (Builds-then c.rest_of-rest.ensures.builds (rw c.as_slice.ensures.value at c.row_over.ensures.builds)) (omega arith) (omega (arith, height-is (form_at c.row_over.new.heap) c.rest_of-rest.result.height c.row_over.result c.row_over.ensures.row.well))

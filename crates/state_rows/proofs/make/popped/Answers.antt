@@ -13,7 +13,7 @@ unreachable-requires c = let ample = c.in_default.ensures.ample c.requires.spare
 
 pub returns-clause-grows : goal.returns-clause-grows
 returns-clause-grows c =
-    Grows-more 0 8 (Grows-Answered c.in-Ok.ensures.answered c.in-Ok.ensures.made) (omega arith) (omega (arith, c.requires.history.2.vector.shape.low))
+    Grows-more 0 8 (Grows-Answered c.in-Ok.ensures.answered c.in-Ok.ensures.made) (omega arith) (omega (arith, c.in-Ok.ensures.good.shape.low))
 
 pub returns-clause-history : goal.returns-clause-history
 returns-clause-history c = λ bits ss history.
