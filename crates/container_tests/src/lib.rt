@@ -1,11 +1,13 @@
-//! What stands on all the containers: a small store that uses them, and the tests of the heap, of vectors, and of
-//! chains, tries, maps and sets.
+//! What stands on all the containers: a small store that uses them, and the tests of their elements, of the heap, of
+//! vectors, and of chains, tries, maps and sets.
 #![tactic(auto)]
 
 #[cfg(test)]
 mod chains;
 #[cfg(test)]
 mod counted_rows;
+#[cfg(test)]
+mod elements;
 #[cfg(test)]
 mod equality;
 #[cfg(test)]
@@ -25,3 +27,5 @@ mod sums;
 mod tries;
 #[cfg(test)]
 mod vectors;
+#[cfg(test)]
+mod writes;

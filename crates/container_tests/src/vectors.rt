@@ -59,6 +59,18 @@ fn sets_within_the_length_alone(rt: HostRuntime) -> Result<(), Fail> {
     Ok(())
 }
 
+// The first program of `docs/CONTAINERS.md`: a cell and a leaf come with each push, and the vectors before it stay.
+#[test]
+fn keeps_the_vector_before_each_push(rt: HostRuntime) -> Result<(), Fail> {
+    let mut heap: Heap<Num> = Heap::new(rt.alloc());
+    let none = Flex::empty(&mut heap)?.into_root();
+    let one = pushed(&mut heap, none, 7)?;
+    let two = pushed(&mut heap, one, 8)?;
+    assert_eq!(rt; FlexRef::at(two).len(&heap), 2);
+    assert_eq!(rt; heap.live(), 5);
+    Ok(())
+}
+
 // Each push makes a cell and a leaf, and from the 33rd element on a root besides. A `set` makes as much.
 #[test]
 fn makes_the_rows_on_the_way_alone(rt: HostRuntime) -> Result<(), Fail> {

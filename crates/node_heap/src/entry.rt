@@ -3,6 +3,8 @@ ghost use Rattle.std.specs.Prelude.{◌<◌, length, ◌≡◌, ◌≤◌, slice
 
 use crate::row::{Head, Link};
 use arrayvec::ArrayVec;
+use elem_core::Num;
+use std::mem::size_of;
 
 // A cell and its owners, which are its holds and its places. While a row waits to be freed they name the next that waits.
 #[derive(Drop)]
@@ -10,6 +12,9 @@ pub(crate) struct CellSlot<T> {
     pub(crate) owners: usize,
     pub(crate) value: T,
 }
+
+// It has no room for links.
+const _: () = prove!(size_of::<Option<CellSlot<Num>>>() <= 40);
 
 // A node and its owners.
 #[derive(Drop)]

@@ -6,7 +6,8 @@ ghost use Rattle.node_heap.specs.Heap.{row_at, IsGraph};
 use crate::heap::Heap;
 use crate::row::{Head, Link};
 use std::alloc::AllocError;
-use std::marker::Model;
+use std::marker::{Brand, Model};
+use std::mem::size_of;
 use std::sync::ledger::{Blank, Book, Ledger, Share};
 
 /// How many steps were taken. It takes no bytes, and a step is never taken back.
@@ -15,6 +16,8 @@ pub struct Steps<L: Ledger> {
     book: Book<L>,
     share: Share<L>,
 }
+
+const _: () = prove!(size_of::<Steps<Brand>>() == 0);
 
 impl<L: Ledger> Model for Steps<L> {
     ghost use Rattle.std.specs.Prelude.{ℕ, ◌<◌};

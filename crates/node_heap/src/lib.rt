@@ -8,8 +8,6 @@
 mod entry;
 mod glass;
 mod heap;
-#[cfg(test)]
-mod in_place_tests;
 mod laws;
 mod row;
 mod table;

@@ -2,14 +2,10 @@
 #![tactic(auto)]
 
 mod device;
-#[cfg(test)]
-mod failing;
 mod lines;
 mod memory;
 mod outside;
 mod reader;
-#[cfg(test)]
-mod tests;
 mod window;
 
 pub use device::{Failed, FetchFault, KeepFault, Sink, Source, Store, write_all};

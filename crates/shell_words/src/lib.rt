@@ -10,8 +10,6 @@ use elem_core::{Line, Name};
 use thiserror::Error;
 
 mod pieces;
-#[cfg(test)]
-mod tests;
 
 use pieces::{
     name, name_and_number, name_and_range, name_and_text, name_number_and_text,

@@ -3,7 +3,7 @@ use Rattle.std.specs.Prelude.{slice_index}
 use Rattle.node_heap.specs.Forms.{links_of}
 use Rattle.node_heap.specs.InPlace.{child_at}
 use Rattle.node_heap.proofs.Frames.{Extends-row}
-use Rattle.node_heap.proofs.in_place_tests.writes_below_a_kept_version.Goals as goal
+use Rattle.container_tests.proofs.writes.writes_below_a_kept_version.Goals as goal
 
 pub write_third-top-requires-clause-middle : goal.write_third-top-requires-clause-middle
 write_third-top-requires-clause-middle g c =

@@ -1,4 +1,4 @@
-use Rattle.node_heap.proofs.in_place_tests.counts_each_read.Given as goal
+use Rattle.container_tests.proofs.writes.counts_each_read.Given as goal
 
 abbrev pub ghosts-is_seven : goal.ghosts-is_seven
 ghosts-is_seven g a = record { name = a.blank.name; parts = a.blank.parts }

@@ -1,5 +1,5 @@
 use Rattle.std.proofs.Common.{◌≡◌, ℕ, ◌+◌, ◌-◌, Some, true}
-use Rattle.shell_io.proofs.tests.answers.Given as goal
+use Rattle.shell_tests.proofs.readers.answers.Given as goal
 
 -- the reader keeps the one bound that it is given, and each offer was ample
 abbrev pub invariant-loop : goal.invariant-loop

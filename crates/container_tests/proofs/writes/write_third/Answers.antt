@@ -13,7 +13,7 @@ use Rattle.node_heap.proofs.GraphLemmas.{IsGraph-acyclic}
 use Rattle.node_heap.proofs.Ways.{Reaches-around}
 use Rattle.node_heap.proofs.Edited.{count-at, Reaches-back, Edits-then, Edits-path, OwnsDown-child}
 use Rattle.node_heap.proofs.EditLaws.{Edits-Builds, KeepsHeld-own}
-use Rattle.node_heap.proofs.in_place_tests.write_third.Goals as goal
+use Rattle.container_tests.proofs.writes.write_third.Goals as goal
 
 module _ {T : Type 0} where
   row-live : (r : Option (Row T)) → 0 < length (links_of r) → IsSome r

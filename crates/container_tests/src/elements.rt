@@ -1,4 +1,9 @@
-use super::*;
+//! Texts, lines, names and codes.
+use elem_core::{
+    CODE_BITS, Code, DEEPEST, Element, Line, MAX_LINE, Name, NoMemory, Num, Probe, Stored, Text,
+    Texts, digit, fnv32, is_name, masked, text_of,
+};
+use std::alloc::{AllocError, AllocFailed};
 use std::cmp::Ordering;
 use std::test::Fail;
 

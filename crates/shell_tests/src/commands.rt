@@ -3,8 +3,8 @@
 ghost use Rattle.std.specs.Prelude.{IsTrue};
 ghost use Rattle.elem_core.specs.Cell.{IsCell};
 
-use super::{BadLine, Command, read_line};
 use elem_core::{MAX_LINE, NEWLINE};
+use shell_words::{BadLine, Command, read_line};
 use std::process::Abort;
 
 // Whether a line may be read: no newline, and not over-long.

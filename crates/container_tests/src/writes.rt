@@ -1,3 +1,4 @@
+//! Writes in place and counted reads.
 ghost use Rattle.std.specs.Prelude.{◌≡◌, ℕ, ◌+◌, ◌^◌, ◌<◌, ◌≤◌, Some, length, option_copied};
 ghost use Rattle.node_heap.specs.Forms.{value_of, IsTree, Tree};
 ghost use Rattle.node_heap.specs.Heap.{row_at, form_at, links_at, holds_at, hold_count, one_at, HasSpares};
@@ -5,19 +6,11 @@ ghost use Rattle.node_heap.specs.Calls.{KeepsHeld};
 ghost use Rattle.node_heap.specs.InPlace.{child_at};
 ghost use Rattle.node_heap.specs.Glass.{lent};
 
-use crate::entry::CellSlot;
-use crate::{Glass, Head, Heap, Link, Steps};
 use elem_core::Num;
+use node_heap::{Glass, Head, Heap, Link, Steps};
 use std::marker::Brand;
-use std::mem::size_of;
 use std::sync::ledger::{Blank, Ledger};
 use std::test::Fail;
-
-// A cell's slot has no room for links.
-const _: () = prove!(size_of::<Option<CellSlot<Num>>>() <= 40);
-
-// A count of steps takes no bytes.
-const _: () = prove!(size_of::<Steps<Brand>>() == 0);
 
 // Makes three rows its own, from a root down by first children, and puts a cell in place of the last one's first link.
 // The root has another hold, whose version stays. Answers the new root, and the old first link with a hold.

@@ -1,0 +1,136 @@
+//! Stores: one over memory, and one over real files.
+
+use crate::failing::{Failing, Fails};
+use shell_io::{DirStore, FetchFault, KeepFault, MemStore, Store};
+use std::fs;
+use std::os::unix::fs::symlink;
+use std::process::Abort;
+use std::test::Fail;
+
+// Keeps files of one name and asks for each, with so many bytes allowed.
+fn keeps_and_gives<D: Store>(
+    rt: &(impl Abort + AllocGlobal),
+    store: &mut D,
+    name: &str,
+) -> Result<(), Fail> {
+    let table = [
+        (b"one\n".as_slice(), 4, Ok(())),
+        (b"longer\n".as_slice(), 6, Err(FetchFault::Large)),
+        (b"longer\n".as_slice(), 7, Ok(())),
+        (b"\n".as_slice(), 100, Ok(())),
+        (b"".as_slice(), 0, Ok(())),
+    ];
+    let mut file = Vec::new(rt.alloc());
+    assert_eq!(rt; store.fetch(name, 100, &mut file), Err(FetchFault::Missing));
+    for (bytes, limit, want) in table {
+        assert_eq!(rt; store.keep(name, bytes), Ok(()));
+        file.clear();
+        assert_eq!(rt; store.fetch(name, limit, &mut file), want);
+        if want.is_ok() {
+            assert_eq!(rt; file.as_slice(), bytes);
+        }
+    }
+    Ok(())
+}
+
+#[test]
+fn keeps_files_in_memory(rt: HostRuntime) -> Result<(), Fail> {
+    let alloc = rt.alloc();
+    let mut store = MemStore::new(alloc, Vec::new(alloc), Vec::new(alloc));
+    assert!(rt; store.file("notes").is_none());
+    keeps_and_gives(&rt, &mut store, "notes")?;
+    keeps_and_gives(&rt, &mut store, "others")?;
+    assert_eq!(rt; store.file("notes"), Some(b"".as_slice()));
+    Ok(())
+}
+
+#[test]
+fn keeps_files_of_the_folder(rt: HostRuntime) -> Result<(), Fail> {
+    let mut store = DirStore::new(&rt);
+    // What an earlier run may have left.
+    let _ = fs::remove_file(&rt, "kept-by-a-test");
+    let _ = fs::remove_file(&rt, ".kept-by-a-test.0");
+    keeps_and_gives(&rt, &mut store, "kept-by-a-test")?;
+    // A call was cut off, and left its file.
+    fs::write(&rt, ".kept-by-a-test.0", b"half")?;
+    assert_eq!(rt; store.keep("kept-by-a-test", b"whole"), Ok(()));
+    let left = fs::read(&rt, ".kept-by-a-test.0")?;
+    assert_eq!(rt; left.as_slice(), b"half".as_slice());
+    fs::remove_file(&rt, ".kept-by-a-test.0")?;
+    let kept = fs::read(&rt, "kept-by-a-test")?;
+    assert_eq!(rt; kept.as_slice(), b"whole".as_slice());
+    fs::remove_file(&rt, "kept-by-a-test")?;
+    Ok(())
+}
+
+#[test]
+fn refuses_what_is_no_plain_file(rt: HostRuntime) -> Result<(), Fail> {
+    let mut store = DirStore::new(&rt);
+    // What an earlier run may have left.
+    let _ = fs::remove_dir(&rt, "folder-of-a-test");
+    let _ = fs::remove_file(&rt, "link-of-a-test");
+    fs::create_dir(&rt, "folder-of-a-test")?;
+    fs::write(&rt, "file-of-a-test", b"old")?;
+    symlink(&rt, "file-of-a-test", "link-of-a-test")?;
+    for name in ["folder-of-a-test", "link-of-a-test", "../link-of-a-test"] {
+        let mut file = Vec::new(rt.alloc());
+        assert_eq!(rt; store.fetch(name, 100, &mut file), Err(FetchFault::Failed));
+        assert_eq!(rt; store.keep(name, b"new"), Err(KeepFault::Failed));
+    }
+    let linked = fs::read(&rt, "file-of-a-test")?;
+    assert_eq!(rt; linked.as_slice(), b"old".as_slice());
+    fs::remove_file(&rt, "link-of-a-test")?;
+    fs::remove_file(&rt, "file-of-a-test")?;
+    fs::remove_dir(&rt, "folder-of-a-test")?;
+    Ok(())
+}
+
+#[test]
+fn leaves_the_old_file_after_a_fault(rt: HostRuntime) -> Result<(), Fail> {
+    fs::write(&rt, "old-of-a-test", b"the old file")?;
+    // The call of the system that fails, and what becomes of a fetch and of a keep then.
+    let table = [
+        (Fails::Look, false, false),
+        (Fails::Open, false, false),
+        (Fails::Read, false, true),
+        (Fails::Write, true, false),
+        (Fails::Sync, true, false),
+        (Fails::Rename, true, false),
+    ];
+    for (fails, fetches, keeps) in table {
+        let system = Failing { system: &rt, fails };
+        let mut store = DirStore::new((system, rt.alloc()));
+        let mut file = Vec::new(rt.alloc());
+        let fetched = store.fetch("old-of-a-test", 100, &mut file);
+        assert_eq!(rt;
+            fetched,
+            if fetches {
+                Ok(())
+            } else {
+                Err(FetchFault::Failed)
+            },
+            "at {fails:?}"
+        );
+        let kept = store.keep("old-of-a-test", b"the new file");
+        assert_eq!(rt;
+            kept,
+            if keeps {
+                Ok(())
+            } else {
+                Err(KeepFault::Failed)
+            },
+            "at {fails:?}"
+        );
+        let file = fs::read(&rt, "old-of-a-test")?;
+        let want = if keeps {
+            b"the new file".as_slice()
+        } else {
+            b"the old file".as_slice()
+        };
+        assert_eq!(rt; file.as_slice(), want, "at {fails:?}");
+        assert!(rt; !fs::exists(&rt, ".old-of-a-test.0")?, "at {fails:?}");
+        fs::write(&rt, "old-of-a-test", b"the old file")?;
+    }
+    fs::remove_file(&rt, "old-of-a-test")?;
+    Ok(())
+}
