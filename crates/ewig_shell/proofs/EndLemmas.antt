@@ -14,7 +14,7 @@ use Rattle.space_state.specs.View.{SpaceView}
 use Rattle.ewig_shell.specs.declared.run.Status.{Status}
 use Rattle.ewig_shell.specs.declared.run.Status.TheVariants as status
 use Rattle.ewig_shell.specs.Going.{HasCauses}
-use Rattle.ewig_shell.specs.Step.{StoreView, CountsStore, shown_store}
+use Rattle.ewig_shell.specs.Step.{CountsStore}
 use Rattle.ewig_shell.specs.Run.{IsEarly, Run, Says, Runs, RunsAs, KeepsSure, EndsInTime, IsComplete}
 use Rattle.ewig_shell.proofs.ReadLemmas.{quit_in_time}
 
@@ -33,42 +33,42 @@ in_time most input taken rest split read =
     elim read [ inl whole ↦ inl whole.1 | inr quits ↦ inr (subst (λ (w : List ℕ). HasQuit (pieces_within most w)) (sym split) (quit_in_time most taken rest quits)) ]
 
 -- without a fault, the bytes decide
-by_bytes : (most : ℕ) (run : Run) (rest : List ℕ) (s : Status) (last : SpaceView) → Says s most run → run.last ≡ Some last → run.input ≡ run.taken ++ rest → (s ≡ status.ReadFault → ⊥) → (s ≡ status.WriteFault → ⊥) → IsComplete most run.input s
-by_bytes most run rest status.Done last says left split no_read no_write = record {
+by_bytes : {C : Type 0} (D : store_trait.Ghosts C) (most : ℕ) (run : Run C) (rest : List ℕ) (s : Status) (last : SpaceView) → Says s most D run → run.last ≡ Some last → run.input ≡ run.taken ++ rest → (s ≡ status.ReadFault → ⊥) → (s ≡ status.WriteFault → ⊥) → IsComplete most run.input s
+by_bytes D most run rest status.Done last says left split no_read no_write = record {
   done = λ _. inl refl;
   too_long = λ never. absurd (never (in_time most run.input run.taken rest split says.read));
 }
-by_bytes most run rest status.TooLong last says left split no_read no_write = record {
+by_bytes D most run rest status.TooLong last says left split no_read no_write = record {
   done = λ ends. absurd (elim ends [ inl short ↦ past_most most run.input run.taken rest split says.one_more short | inr quits ↦ says.goes_on quits ]);
   too_long = λ _. inl refl;
 }
-by_bytes most run rest status.Memory last says left split no_read no_write = record { done = λ _. inr refl; too_long = λ _. inr refl }
-by_bytes most run rest status.Usage last says left split no_read no_write = absurd (let none = says.none_left in cc)
-by_bytes most run rest status.ReadFault last says left split no_read no_write = absurd (no_read refl)
-by_bytes most run rest status.WriteFault last says left split no_read no_write = absurd (no_write refl)
+by_bytes D most run rest status.Memory last says left split no_read no_write = record { done = λ _. inr refl; too_long = λ _. inr refl }
+by_bytes D most run rest status.Usage last says left split no_read no_write = absurd (let none = says.none_left in cc)
+by_bytes D most run rest status.ReadFault last says left split no_read no_write = absurd (no_read refl)
+by_bytes D most run rest status.WriteFault last says left split no_read no_write = absurd (no_write refl)
 
 -- what was taken is the front of the input
 taken_front : (input : List ℕ) (left : Option (List ℕ)) (taken : List ℕ) → Consumes (Some input) left taken → (rest : List ℕ) × (input ≡ taken ++ rest)
 taken_front input None taken takes = absurd takes
 taken_front input (Some rest) taken takes = (rest, takes)
 
-complete_by : {B : Type 0} {K : sink_trait.Ghosts B} {sink sink' : B} (most : ℕ) (input : List ℕ) (left : Option (List ℕ)) (first after : StoreView) (s : Status) (last : SpaceView) → Runs most input left K sink sink' first after s (Some last) → (s ≡ status.ReadFault → ⊥) → (s ≡ status.WriteFault → ⊥) → IsComplete most input s
-complete_by most input left first after s last runs no_read no_write =
+complete_by : {B C : Type 0} {K : sink_trait.Ghosts B} {sink sink' : B} {D : store_trait.Ghosts C} (most : ℕ) (input : List ℕ) (left : Option (List ℕ)) (first after : C) (s : Status) (last : SpaceView) → Runs most input left K sink sink' D first after s (Some last) → (s ≡ status.ReadFault → ⊥) → (s ≡ status.WriteFault → ⊥) → IsComplete most input s
+complete_by {D = D} most input left first after s last runs no_read no_write =
     let front = taken_front input left runs.run.taken runs.takes in
     subst (λ (w : List ℕ). IsComplete most w s) runs.input_is
-    (by_bytes most runs.run front.0 s last (subst (λ (t : Status). Says t most runs.run) runs.status_is runs.says) runs.last_is (runs.input_is ∙ front.1) no_read no_write)
+    (by_bytes D most runs.run front.0 s last (subst (λ (t : Status). Says t most D runs.run) runs.status_is runs.says) runs.last_is (runs.input_is ∙ front.1) no_read no_write)
 
 -- a run that did nothing
-abbrev idle : List ℕ → Status → StoreView → Run
+abbrev idle : {C : Type 0} → List ℕ → Status → C → Run C
 idle input s store = record { input = input; taken = []; replies = []; output = []; status = s; last = None; store = store; store' = store }
 
-says_early : (most : ℕ) (input : List ℕ) (s : Status) (store : StoreView) → IsEarly s → Says s most (idle input s store)
-says_early most input status.Usage store early = record { untaken = refl; unanswered = refl; unwritten = refl; none_left = refl; untouched = refl }
-says_early most input status.Memory store early = record { untaken = refl; unanswered = refl; unwritten = refl; none_left = refl; untouched = refl }
-says_early most input status.Done store early = absurd early
-says_early most input status.ReadFault store early = absurd early
-says_early most input status.WriteFault store early = absurd early
-says_early most input status.TooLong store early = absurd early
+says_early : {C : Type 0} (D : store_trait.Ghosts C) (most : ℕ) (input : List ℕ) (s : Status) (store : C) → IsEarly s → Says s most D (idle input s store)
+says_early D most input status.Usage store early = record { untaken = refl; unanswered = refl; unwritten = refl; none_left = refl; untouched = refl }
+says_early D most input status.Memory store early = record { untaken = refl; unanswered = refl; unwritten = refl; none_left = refl; untouched = refl }
+says_early D most input status.Done store early = absurd early
+says_early D most input status.ReadFault store early = absurd early
+says_early D most input status.WriteFault store early = absurd early
+says_early D most input status.TooLong store early = absurd early
 
 not_early : (s : Status) → IsEarly s → (fault : Status) → (IsEarly fault → ⊥) → s ≡ fault → ⊥
 not_early s early fault never e = never (subst IsEarly e early)
@@ -108,8 +108,8 @@ module _ {A B C W : Type 0} {S : source_trait.Ghosts A} {source : A} {K : sink_t
     reads = Calls-as (Calls-none S.faults S.steady S.faultless source) (λ p. absurd p) (not_early s early status.ReadFault (λ e. e));
     writes = CountsFaults-as CountsFaults-none (λ p. absurd p) (not_early s early status.WriteFault (λ e. e));
     stores = KeepsSure-none;
-    run = IfSome-from (S.left source) (λ (input : List ℕ). Runs most input (S.left source) K sink sink (shown_store D store) (shown_store D store) s None) (λ input told. record {
-      run = idle input s (shown_store D store);
+    run = IfSome-from (S.left source) (λ (input : List ℕ). Runs most input (S.left source) K sink sink D store store s None) (λ input told. record {
+      run = idle input s store;
       input_is = refl;
       status_is = refl;
       last_is = refl;
@@ -118,7 +118,7 @@ module _ {A B C W : Type 0} {S : source_trait.Ghosts A} {source : A} {K : sink_t
       takes = subst (λ (o : Option (List ℕ)). Consumes (Some input) o []) (sym told) refl;
       few = omega arith;
       writes = Appends-nil (K.written sink);
-      says = says_early most input s (shown_store D store) early;
+      says = says_early D most input s store early;
       sink_sure = λ room has low. (not_early s early status.WriteFault (λ e. e), refl, subst (λ (n : ℕ). K.has_room sink n) (omega arith) has);
     });
     complete = λ none no_read no_write. IfSome-from (S.left source) (λ (input : List ℕ). IsComplete most input s) (λ input told.
@@ -129,7 +129,7 @@ module _ {A B C W : Type 0} {S : source_trait.Ghosts A} {source : A} {K : sink_t
 module _ {A B C W : Type 0} {S : source_trait.Ghosts A} {source source' : A} {K : sink_trait.Ghosts B} {sink sink' : B} {D : store_trait.Ghosts C} {store store' : C} {most : ℕ} {words : List W} where
   -- a run that read lines
   pub RunsAs-lines : (s : Status) (space : SpaceView) → (IsEarly s → ⊥) → length words ≡ 0 → space.pool.bits ≡ CODE_BITS → HasCauses S source source' K sink sink' (Some s) → KeepsSure D store store' →
-      ((input : List ℕ) → S.left source ≡ Some input → Runs most input (S.left source') K sink sink' (shown_store D store) (shown_store D store') s (Some space)) → RunsAs most words S source source' K sink sink' D store store' (record { status = s; space = Some space })
+      ((input : List ℕ) → S.left source ≡ Some input → Runs most input (S.left source') K sink sink' D store store' s (Some space)) → RunsAs most words S source source' K sink sink' D store store' (record { status = s; space = Some space })
   RunsAs-lines s space begun none bits causes stores run = record {
     usage = (λ e. absurd (begun (subst IsEarly (sym e) tt)), λ some. absurd (omega (arith, none, some)));
     space = (λ h. absurd (let never = h in cc), λ early. absurd (begun early));
@@ -138,7 +138,7 @@ module _ {A B C W : Type 0} {S : source_trait.Ghosts A} {source source' : A} {K 
     reads = Calls-as causes.reads (λ p. let same = p in cc) (ap Some);
     writes = CountsFaults-as causes.writes (λ p. let same = p in cc) (ap Some);
     stores = stores;
-    run = IfSome-from (S.left source) (λ (input : List ℕ). Runs most input (S.left source') K sink sink' (shown_store D store) (shown_store D store') s (Some space)) run;
+    run = IfSome-from (S.left source) (λ (input : List ℕ). Runs most input (S.left source') K sink sink' D store store' s (Some space)) run;
     complete = λ _ no_read no_write. IfSome-from (S.left source) (λ (input : List ℕ). IsComplete most input s)
-        (λ input told. complete_by most input (S.left source') (shown_store D store) (shown_store D store') s space (run input told) no_read no_write);
+        (λ input told. complete_by most input (S.left source') store store' s space (run input told) no_read no_write);
   }

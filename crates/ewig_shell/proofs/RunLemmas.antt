@@ -8,6 +8,7 @@ use Rattle.std.specs.Io.KnownBytes.{Consumes}
 use Rattle.shell_io.specs.Sending.{Sends}
 use Rattle.shell_io.specs.declared.device.Failed.{Failed}
 use Rattle.shell_io.specs.declared.device.Sink as sink_trait
+use Rattle.shell_io.specs.declared.device.Store as store_trait
 use Rattle.shell_io.specs.Pieces.{pieces, ended, pieces_within}
 use Rattle.shell_io.specs.Reader.{Reading, StandsIn, GivesNext, Answers, pieces_given}
 use Rattle.shell_io.specs.declared.reader.Next.TheVariants as next
@@ -19,19 +20,26 @@ use Rattle.ewig_shell.specs.declared.execute.Went.TheVariants as went
 use Rattle.ewig_shell.specs.declared.run.Status.{Status}
 use Rattle.ewig_shell.specs.declared.run.Status.TheVariants as status
 use Rattle.ewig_shell.specs.Quits.{HasQuit, is_quit, until_quit}
-use Rattle.ewig_shell.specs.Step.{StoreView, Machine, Step, Steps}
+use Rattle.ewig_shell.specs.Step.{StepsOn, Steps}
 use Rattle.ewig_shell.specs.Sending.{Replies}
-use Rattle.ewig_shell.specs.Run.{Run, Says, Runs, start_of}
+use Rattle.ewig_shell.specs.Run.{Run, Says, Runs}
 use Rattle.ewig_shell.specs.Going.{IsGoing, TakesReplies, status_of}
 use Rattle.ewig_shell.proofs.QuitLemmas.{is_quit-true, is_quit-from, none-append, any-here, up_to-none, up_to-first}
 use Rattle.ewig_shell.proofs.ReadLemmas.{quit_read}
 
 -- one step more
-Steps-append : (W : Machine) (xs : List (List ℕ)) (output : List ℕ) (mid : Machine) (piece reply : List ℕ) (last : Machine) → Steps W xs output mid → Step mid piece reply last → Steps W (xs ++ piece ∷ []) (output ++ reply) last
-Steps-append W [] output mid piece reply last h step =
-    (reply, last, [], subst (λ (V : Machine). Step V piece reply last) h.1 step, (refl, refl), ap (λ (w : List ℕ). w ++ reply) h.0 ∙ sym (append-nil reply))
-Steps-append W (x ∷ xs) output mid piece reply last h step =
-    (h.0, h.1, h.2 ++ reply, h.3, Steps-append h.1 xs h.2 mid piece reply last h.4 step, ap (λ (w : List ℕ). w ++ reply) h.5 ∙ append_assoc h.0 h.2 reply)
+Steps-append : {C : Type 0} {D : store_trait.Ghosts C} (W : SpaceView) (V : C) (xs : List (List ℕ)) (output : List ℕ) (W' : SpaceView) (V' : C) (piece reply : List ℕ) (last : SpaceView) (V'' : C) → Steps xs D W V output W' V' → StepsOn piece D W' V' reply last V'' → Steps (xs ++ piece ∷ []) D W V (output ++ reply) last V''
+Steps-append {C = C} {D} W V [] output W' V' piece reply last V'' h step = (
+  reply,
+  last,
+  V'',
+  [],
+  subst (λ (v : C). StepsOn piece D W v reply last V'') h.2 (subst (λ (w : SpaceView). StepsOn piece D w V' reply last V'') h.1 step),
+  (refl, refl, refl),
+  ap (λ (w : List ℕ). w ++ reply) h.0 ∙ sym (append-nil reply),
+)
+Steps-append W V (x ∷ xs) output W' V' piece reply last V'' h step =
+    (h.0, h.1, h.2, h.3 ++ reply, h.4, Steps-append h.1 h.2 xs h.3 W' V' piece reply last V'' h.5 step, ap (λ (w : List ℕ). w ++ reply) h.6 ∙ append_assoc h.0 h.3 reply)
 
 -- the pieces given after the next one, in the order that they stand
 given_then : {most : ℕ} {input : List ℕ} {old new : Reading} {piece : List ℕ} (next : GivesNext most input old new piece) → pieces_within most input ≡ pieces_given input old ++ piece ∷ next.in_time.0
@@ -43,16 +51,16 @@ given_same : (input : List ℕ) (old new : Reading) → new.given ≡ old.given 
 given_same input old new e = ap (λ (n : ℕ). pieces (take n input)) e
 
 -- what a run did whose reader stands there
-abbrev did : List ℕ → Reading → (replies output : List ℕ) → Status → StoreView → Machine → Run
-did input reader replies output s first last = record {
+abbrev did : {C : Type 0} → List ℕ → Reading → (replies output : List ℕ) → Status → C → C → SpaceView → Run C
+did input reader replies output s first after last = record {
   input = input;
   taken = take reader.taken input;
   replies = replies;
   output = output;
   status = s;
-  last = Some last.space;
+  last = Some last;
   store = first;
-  store' = last.store;
+  store' = after;
 }
 
 -- what the source has left is what wasn't taken
@@ -77,11 +85,11 @@ module _ {B : Type 0} {K : sink_trait.Ghosts B} where
         (second.1 ∙ first.0, subst (λ (n : ℕ). K.has_room sink' n) (omega (arith, low, length-append bytes reply)) second.2);
   }
 
-module _ {B : Type 0} {K : sink_trait.Ghosts B} {begin sink' : B} {left : Option (List ℕ)} {first : StoreView} where
+module _ {B C : Type 0} {K : sink_trait.Ghosts B} {begin sink' : B} {D : store_trait.Ghosts C} {first : C} {left : Option (List ℕ)} where
   -- a run that ends where its reader stands, with all its replies written
-  ends_there : (most : ℕ) (input : List ℕ) (reader : Reading) (replies : List ℕ) (s : Status) (W : Machine) → StandsIn input reader left → reader.taken ≤ most + 1 → TakesReplies K begin sink' replies → (s ≡ status.WriteFault → ⊥) → Says s most (did input reader replies replies s first W) → Runs most input left K begin sink' first W.store s (Some W.space)
-  ends_there most input reader replies s W stands few writes other says = record {
-    run = did input reader replies replies s first W;
+  ends_there : (most : ℕ) (input : List ℕ) (reader : Reading) (replies : List ℕ) (s : Status) (V : C) (W : SpaceView) → StandsIn input reader left → reader.taken ≤ most + 1 → TakesReplies K begin sink' replies → (s ≡ status.WriteFault → ⊥) → Says s most D (did input reader replies replies s first V W) → Runs most input left K begin sink' D first V s (Some W)
+  ends_there most input reader replies s V W stands few writes other says = record {
+    run = did input reader replies replies s first V W;
     input_is = refl;
     status_is = refl;
     last_is = refl;
@@ -95,42 +103,42 @@ module _ {B : Type 0} {K : sink_trait.Ghosts B} {begin sink' : B} {left : Option
   }
 
   -- a piece was given and executed, and its reply was sent, or not
-  by_result : {sink : B} {most : ℕ} {input : List ℕ} {old new : Reading} {old_left : Option (List ℕ)} {W : Machine} (W' : Machine) {piece reply : List ℕ} (result : Result Went Failed) →
-      IsGoing most input old old_left K begin sink first W →
+  by_result : {sink : B} {most : ℕ} {input : List ℕ} {old new : Reading} {old_left : Option (List ℕ)} {V V' : C} {W W' : SpaceView} {piece reply : List ℕ} (result : Result Went Failed) →
+      IsGoing most input old old_left K begin sink D first V W →
       StandsIn input new left →
       GivesNext most input old new piece →
       new.taken ≤ most + 1 →
-      Step W piece reply W' →
+      StepsOn piece D W V reply W' V' →
       Sends K.written K.faults K.steady K.has_room sink sink' result reply →
       IfOk result (λ (w : Went). (w ≡ went.Quit) ↔ (piece ≡ codes "quit")) →
-      MatchOption (status_of result) (IsGoing most input new left K begin sink' first W') (λ (s : Status). Runs most input left K begin sink' first W'.store s (Some W'.space))
-  by_result {most = most} {input} {old} {new} {W = W} W' {piece} {reply} (Ok went.On) going stands next few step sends quits = record {
+      MatchOption (status_of result) (IsGoing most input new left K begin sink' D first V' W') (λ (s : Status). Runs most input left K begin sink' D first V' s (Some W'))
+  by_result {most = most} {input} {old} {new} {V = V} {V'} {W} {W'} {piece} {reply} (Ok went.On) going stands next few step sends quits = record {
     stands = stands;
     later = next.in_time.0;
     in_time = next.in_time.1;
     goes_on = subst (λ (w : List (List ℕ)). HasQuit w → ⊥) (sym next.next)
         (none-append is_quit (pieces_given input old) piece going.goes_on (λ test. absurd (let never = quits.1 (is_quit-true piece test) in cc)));
     replies = going.replies ++ reply;
-    steps = subst (λ (w : List (List ℕ)). Steps (start_of first) w (going.replies ++ reply) W') (sym next.next) (Steps-append (start_of first) _ going.replies W piece reply W' going.steps step);
+    steps = subst (λ (w : List (List ℕ)). Steps w D (start_view CODE_BITS) first (going.replies ++ reply) W' V') (sym next.next) (Steps-append (start_view CODE_BITS) first _ going.replies W V piece reply W' V' going.steps step);
     writes = TakesReplies-append going.replies reply going.writes sends;
   }
-  by_result {most = most} {input} {old} {new} {W = W} W' {piece} {reply} (Ok went.Quit) going stands next few step sends quits =
+  by_result {most = most} {input} {old} {new} {V = V} {V'} {W} {W'} {piece} {reply} (Ok went.Quit) going stands next few step sends quits =
       let these = given_then next in
       let test = is_quit-from piece (quits.0 refl) in
-      ends_there most input new (going.replies ++ reply) status.Done W' stands few (TakesReplies-append going.replies reply going.writes sends) (λ e. cc) (record {
+      ends_there most input new (going.replies ++ reply) status.Done V' W' stands few (TakesReplies-append going.replies reply going.writes sends) (λ e. cc) (record {
         read = quit_read most input new left next.in_time.0 stands next.in_time.1
             (subst (λ (w : List (List ℕ)). HasQuit w) (sym next.next) (any-here is_quit (pieces_given input old) piece [] test));
         executes = record {
-          steps = subst (λ (w : List (List ℕ)). Steps (start_of first) w (going.replies ++ reply) W')
+          steps = subst (λ (w : List (List ℕ)). Steps w D (start_view CODE_BITS) first (going.replies ++ reply) W' V')
               (sym (ap until_quit these ∙ up_to-first is_quit (pieces_given input old) piece next.in_time.0 going.goes_on test))
-              (Steps-append (start_of first) _ going.replies W piece reply W' going.steps step);
+              (Steps-append (start_view CODE_BITS) first _ going.replies W V piece reply W' V' going.steps step);
           written = refl;
         };
       })
-  by_result {most = most} {input} {old} {new} {W = W} W' {piece} {reply} (Err fault) going stands next few step sends quits =
+  by_result {most = most} {input} {old} {new} {V = V} {V'} {W} {W'} {piece} {reply} (Err fault) going stands next few step sends quits =
       let part = sends.writes in
       record {
-        run = did input new (going.replies ++ reply) (going.replies ++ take part.0 reply) status.WriteFault first W';
+        run = did input new (going.replies ++ reply) (going.replies ++ take part.0 reply) status.WriteFault first V' W';
         input_is = refl;
         status_is = refl;
         last_is = refl;
@@ -146,7 +154,8 @@ module _ {B : Type 0} {K : sink_trait.Ghosts B} {begin sink' : B} {left : Option
           in_time = given_then next;
           goes_on = going.goes_on;
           whole = going.replies;
-          mid = W;
+          mid_space = W;
+          mid_store = V;
           steps = going.steps;
           reply = reply;
           step = step;
@@ -162,51 +171,51 @@ module _ {B : Type 0} {K : sink_trait.Ghosts B} {begin sink' : B} {left : Option
       }
 
   -- the run goes on or ends as the piece says
-  pub Going-next : {sink : B} {most : ℕ} {input : List ℕ} {old new : Reading} {old_left : Option (List ℕ)} {W : Machine} (W' : Machine) {piece : List ℕ} {result : Result Went Failed} {ends : Option Status} →
-      IsGoing most input old old_left K begin sink first W →
+  pub Going-next : {sink : B} {most : ℕ} {input : List ℕ} {old new : Reading} {old_left : Option (List ℕ)} {V V' : C} {W W' : SpaceView} {piece : List ℕ} {result : Result Went Failed} {ends : Option Status} →
+      IsGoing most input old old_left K begin sink D first V W →
       StandsIn input new left →
       GivesNext most input old new piece →
       new.taken ≤ most + 1 →
-      Replies K sink sink' result (λ (reply : List ℕ). Step W piece reply W') →
+      Replies K sink sink' result (λ (reply : List ℕ). StepsOn piece D W V reply W' V') →
       IfOk result (λ (w : Went). (w ≡ went.Quit) ↔ (piece ≡ codes "quit")) →
       ends ≡ status_of result →
-      MatchOption ends (IsGoing most input new left K begin sink' first W') (λ (s : Status). Runs most input left K begin sink' first W'.store s (Some W'.space))
-  Going-next {most = most} {input} {new = new} W' {result = result} going stands next few replies quits e =
-      subst (λ (o : Option Status). MatchOption o (IsGoing most input new left K begin sink' first W') (λ (s : Status). Runs most input left K begin sink' first W'.store s (Some W'.space))) (sym e)
-      (by_result W' result going stands next few replies.due replies.sends quits)
+      MatchOption ends (IsGoing most input new left K begin sink' D first V' W') (λ (s : Status). Runs most input left K begin sink' D first V' s (Some W'))
+  Going-next {most = most} {input} {new = new} {V' = V'} {W' = W'} {result = result} going stands next few replies quits e =
+      subst (λ (o : Option Status). MatchOption o (IsGoing most input new left K begin sink' D first V' W') (λ (s : Status). Runs most input left K begin sink' D first V' s (Some W'))) (sym e)
+      (by_result result going stands next few replies.due replies.sends quits)
 
   -- the source came to its end
-  pub Going-end : (most : ℕ) {input : List ℕ} {old new : Reading} {old_left : Option (List ℕ)} {W : Machine} → IsGoing most input old old_left K begin sink' first W → StandsIn input new left → new.taken ≤ most + 1 → Answers most input old new next.End → Runs most input left K begin sink' first W.store status.Done (Some W.space)
-  Going-end most {input} {old} {new} {W = W} going stands few all =
+  pub Going-end : (most : ℕ) {input : List ℕ} {old new : Reading} {old_left : Option (List ℕ)} {V : C} {W : SpaceView} → IsGoing most input old old_left K begin sink' D first V W → StandsIn input new left → new.taken ≤ most + 1 → Answers most input old new next.End → Runs most input left K begin sink' D first V status.Done (Some W)
+  Going-end most {input} {old} {new} {V = V} {W} going stands few all =
       let these : pieces_within most input ≡ pieces_given input old
       = pieces_within-all most input all.1.2 ∙ sym all.1.0 ∙ given_same input old new all.0 in
-      ends_there most input new going.replies status.Done W stands few going.writes (λ e. cc) (record {
+      ends_there most input new going.replies status.Done V W stands few going.writes (λ e. cc) (record {
         read = inl (ap (λ (n : ℕ). take n input) all.1.1 ∙ take_all (length input) input (omega arith), all.1.2);
         executes = record {
-          steps = subst (λ (w : List (List ℕ)). Steps (start_of first) w going.replies W)
+          steps = subst (λ (w : List (List ℕ)). Steps w D (start_view CODE_BITS) first going.replies W V)
               (sym (ap until_quit these ∙ up_to-none is_quit (pieces_given input old) going.goes_on)) going.steps;
           written = refl;
         };
       })
 
   -- one byte more than the most was taken
-  pub Going-budget : (most : ℕ) {input : List ℕ} {old new : Reading} {old_left : Option (List ℕ)} {W : Machine} → IsGoing most input old old_left K begin sink' first W → StandsIn input new left → new.taken ≤ most + 1 → Answers most input old new next.Budget → Runs most input left K begin sink' first W.store status.TooLong (Some W.space)
-  Going-budget most {input} {old} {new} {W = W} going stands few all =
+  pub Going-budget : (most : ℕ) {input : List ℕ} {old new : Reading} {old_left : Option (List ℕ)} {V : C} {W : SpaceView} → IsGoing most input old old_left K begin sink' D first V W → StandsIn input new left → new.taken ≤ most + 1 → Answers most input old new next.Budget → Runs most input left K begin sink' D first V status.TooLong (Some W)
+  Going-budget most {input} {old} {new} {V = V} {W} going stands few all =
       let these : pieces_given input old ≡ pieces_within most input = sym (given_same input old new all.0) ∙ all.1.0 in
-      ends_there most input new going.replies status.TooLong W stands few going.writes (λ e. cc) (record {
+      ends_there most input new going.replies status.TooLong V W stands few going.writes (λ e. cc) (record {
         one_more = length-take-le new.taken input stands.within ∙ all.1.1;
         goes_on = subst (λ (w : List (List ℕ)). HasQuit w → ⊥) these going.goes_on;
-        executes = record { steps = subst (λ (w : List (List ℕ)). Steps (start_of first) w going.replies W) these going.steps; written = refl };
+        executes = record { steps = subst (λ (w : List (List ℕ)). Steps w D (start_view CODE_BITS) first going.replies W V) these going.steps; written = refl };
       })
 
   -- the source failed
-  pub Going-failed : (most : ℕ) {input : List ℕ} {old new : Reading} {old_left : Option (List ℕ)} {W : Machine} → IsGoing most input old old_left K begin sink' first W → StandsIn input new left → new.taken ≤ most → Answers most input old new next.Failed → Runs most input left K begin sink' first W.store status.ReadFault (Some W.space)
-  Going-failed most {input} {old} {new} {W = W} going stands few all =
+  pub Going-failed : (most : ℕ) {input : List ℕ} {old new : Reading} {old_left : Option (List ℕ)} {V : C} {W : SpaceView} → IsGoing most input old old_left K begin sink' D first V W → StandsIn input new left → new.taken ≤ most → Answers most input old new next.Failed → Runs most input left K begin sink' D first V status.ReadFault (Some W)
+  Going-failed most {input} {old} {new} {V = V} {W} going stands few all =
       let these : pieces_given input old ≡ ended (take new.taken input) = sym (given_same input old new all.0) ∙ all.1 in
-      ends_there most input new going.replies status.ReadFault W stands (omega (arith, few)) going.writes (λ e. cc) (record {
+      ends_there most input new going.replies status.ReadFault V W stands (omega (arith, few)) going.writes (λ e. cc) (record {
         few = omega (arith, length-take-le new.taken input stands.within, few);
         goes_on = subst (λ (w : List (List ℕ)). HasQuit w → ⊥) these going.goes_on;
-        executes = record { steps = subst (λ (w : List (List ℕ)). Steps (start_of first) w going.replies W) these going.steps; written = refl };
+        executes = record { steps = subst (λ (w : List (List ℕ)). Steps w D (start_view CODE_BITS) first going.replies W V) these going.steps; written = refl };
       })
 
 -- no pieces of no bytes
@@ -219,14 +228,14 @@ no_quit : HasQuit [] → ⊥
 no_quit e = absurd (let never = e in cc)
 
 -- a run that has given nothing goes on
-pub Going-start : {B : Type 0} {K : sink_trait.Ghosts B} {sink : B} (most : ℕ) {input : List ℕ} {reader : Reading} {left : Option (List ℕ)} (first : StoreView) {W : SpaceView} → left ≡ Some input → ((all : List ℕ) → StandsIn all reader (Some all)) → reader.given ≡ 0 → W ≡ start_view CODE_BITS →
-    IsGoing most input reader left K sink sink first (record { space = W; store = first })
-Going-start most {input} {reader} first {W} told stands none empty = record {
+pub Going-start : {B C : Type 0} {K : sink_trait.Ghosts B} {sink : B} {D : store_trait.Ghosts C} (most : ℕ) {input : List ℕ} {reader : Reading} {left : Option (List ℕ)} (first : C) {W : SpaceView} → left ≡ Some input → ((all : List ℕ) → StandsIn all reader (Some all)) → reader.given ≡ 0 → W ≡ start_view CODE_BITS →
+    IsGoing most input reader left K sink sink D first first W
+Going-start {D = D} most {input} {reader} first {W} told stands none empty = record {
   stands = subst (λ (o : Option (List ℕ)). StandsIn input reader o) (sym told) (stands input);
   later = pieces_within most input;
   in_time = sym (ap (λ (w : List (List ℕ)). w ++ pieces_within most input) (nothing_given input reader none));
   goes_on = subst (λ (w : List (List ℕ)). HasQuit w → ⊥) (sym (nothing_given input reader none)) no_quit;
   replies = [];
-  steps = subst (λ (w : List (List ℕ)). Steps (start_of first) w [] (record { space = W; store = first })) (sym (nothing_given input reader none)) (refl, ap (λ (s : SpaceView). record { space = s; store = first }) empty);
+  steps = subst (λ (w : List (List ℕ)). Steps w D (start_view CODE_BITS) first [] W first) (sym (nothing_given input reader none)) (refl, empty, refl);
   writes = TakesReplies-none;
 }

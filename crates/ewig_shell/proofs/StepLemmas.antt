@@ -37,7 +37,7 @@ use Rattle.shell_io.specs.declared.device.Failed.{Failed}
 use Rattle.shell_io.specs.declared.device.Sink as sink_trait
 use Rattle.shell_io.specs.declared.device.Store as store_trait
 use Rattle.ewig_shell.specs.Sending.{Replies}
-use Rattle.ewig_shell.specs.Step.{StoreView, Machine, KeepsFiles, Refuses, Fetched, missing, large, given as given_bytes, IsLoaded, LoadsAs, damage_word, Step, Means, SaysElsewhere, Gives, Obeys, ObeysAlone, ObeysOn, CountsStore, shown_store, machine_of, uses_store, only_asks, reply_of, refusal_of, done_reply, equality_reply}
+use Rattle.ewig_shell.specs.Step.{StoreView, Machine, KeepsFiles, Refuses, Fetched, missing, large, given as given_bytes, IsLoaded, LoadsAs, damage_word, Step, Means, SaysElsewhere, Gives, Obeys, ObeysAlone, ObeysOn, StepsOn, CountsStore, shown_store, machine_of, uses_store, only_asks, reply_of, refusal_of, done_reply, equality_reply}
 use Rattle.ewig_shell.proofs.ReplyLemmas.{other-reply, obeys-other}
 
 -- the files stay where the store does
@@ -318,7 +318,7 @@ Step-line old new piece reply read short e m =
     (subst (λ (r : Result PlainCommand BadLine). Means old r reply new) e m)
 
 -- a piece that is too long is refused
-pub Step-long : (old : Machine) (piece : List ℕ) → MAX_LINE < length piece → Step old piece (refusal_of (codes "long")) old
+Step-long : (old : Machine) (piece : List ℕ) → MAX_LINE < length piece → Step old piece (refusal_of (codes "long")) old
 Step-long old piece long =
     subst (λ (b : Bool). MatchBool b (Refuses old (codes "long") (refusal_of (codes "long")) old) (Means old (meaning piece) (refusal_of (codes "long")) old)) (sym (lt-ltb MAX_LINE (length piece) long))
     (record { reply_is = refl; same = refl })
@@ -326,6 +326,13 @@ Step-long old piece long =
 -- a store that isn't called
 pub CountsStore-none : {C : Type 0} {D : store_trait.Ghosts C} {store : C} {reply : List ℕ} → reply ≢ refusal_of (codes "fault") → CountsStore D store store reply
 CountsStore-none other = record { counted = omega arith; steady = λ h. (h, λ _. refl); sure = λ h. (h, refl, other) }
+
+-- a piece that is too long calls none
+pub StepsOn-long : {C : Type 0} {D : store_trait.Ghosts C} {space : SpaceView} {store : C} (piece : List ℕ) → MAX_LINE < length piece → StepsOn piece D space store (refusal_of (codes "long")) space store
+StepsOn-long {D = D} {space} {store} piece long = record {
+  step = Step-long (machine_of D space store) piece long;
+  counts = CountsStore-none (other-reply {due = refusal_of (codes "long")} refl refl);
+}
 
 module _ {B C : Type 0} {K : sink_trait.Ghosts B} {D : store_trait.Ghosts C} {sink sink' : B} {store : C} {result : Result (Unit {0}) Failed} {old new : SpaceView} where
   -- a command that uses no store was obeyed

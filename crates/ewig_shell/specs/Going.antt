@@ -7,14 +7,16 @@ use Rattle.shell_io.specs.Reader.{Reading, StandsIn, pieces_given}
 use Rattle.shell_io.specs.declared.device.Failed.{Failed}
 use Rattle.shell_io.specs.declared.device.Sink as sink_trait
 use Rattle.shell_io.specs.declared.device.Source as source_trait
+use Rattle.shell_io.specs.declared.device.Store as store_trait
 use Rattle.shell_io.specs.Fault.{CountsFaults, Calls}
+use Rattle.elem_core.specs.declared.codes.TheConstants.{CODE_BITS}
+use Rattle.space_state.specs.View.{SpaceView, start_view}
 use Rattle.ewig_shell.specs.declared.execute.Went.{Went}
 use Rattle.ewig_shell.specs.declared.execute.Went.TheVariants.{On, Quit}
 use Rattle.ewig_shell.specs.declared.run.Status.{Status}
 use Rattle.ewig_shell.specs.declared.run.Status.TheVariants.{Done, ReadFault, WriteFault}
 use Rattle.ewig_shell.specs.Quits.{HasQuit}
-use Rattle.ewig_shell.specs.Step.{StoreView, Machine, Steps}
-use Rattle.ewig_shell.specs.Run.{start_of}
+use Rattle.ewig_shell.specs.Step.{Steps}
 
 -- A sink has taken these bytes, and without a fault where it had room for them.
 pub record TakesReplies {B : Type 0} (K : sink_trait.Ghosts B) (sink sink' : B) (bytes : List ℕ) : Type 0 where
@@ -22,16 +24,16 @@ pub record TakesReplies {B : Type 0} (K : sink_trait.Ghosts B) (sink sink' : B) 
   pub room : (room : ℕ) → K.has_room sink room → length bytes ≤ room →
       (K.faults sink' ≡ K.faults sink) × K.has_room sink' (room - length bytes)
 
--- Where a run over this input stands between two pieces: its sink and its store were the first at its begin, and its sink and
--- its machine are the second.
-pub record IsGoing {B : Type 0} (most : ℕ) (input : List ℕ) (reader : Reading) (left : Option (List ℕ))
-    (K : sink_trait.Ghosts B) (sink sink' : B) (store : StoreView) (machine : Machine) : Type 0 where
+-- Where a run over this input stands between two pieces: its sink and its store were the first at its begin and are the second
+-- now, and its space is this one.
+pub record IsGoing {B C : Type 0} (most : ℕ) (input : List ℕ) (reader : Reading) (left : Option (List ℕ)) (K : sink_trait.Ghosts B)
+    (sink sink' : B) (D : store_trait.Ghosts C) (store store' : C) (space : SpaceView) : Type 0 where
   pub stands : StandsIn input reader left
   pub later : List (List ℕ)
   pub in_time : pieces_within most input ≡ pieces_given input reader ++ later
   pub goes_on : ¬ HasQuit (pieces_given input reader)
   pub replies : List ℕ
-  pub steps : Steps (start_of store) (pieces_given input reader) replies machine
+  pub steps : Steps (pieces_given input reader) D (start_view CODE_BITS) store replies space store'
   pub writes : TakesReplies K sink sink' replies
 
 -- What the counts of faults say of a run that ended so, or that goes on.

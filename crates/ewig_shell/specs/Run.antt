@@ -14,7 +14,7 @@ use Rattle.ewig_shell.specs.declared.run.Ended.{Ended}
 use Rattle.ewig_shell.specs.declared.run.Status.{Status}
 use Rattle.ewig_shell.specs.declared.run.Status.TheVariants.{Done, Memory, Usage, ReadFault, WriteFault, TooLong}
 use Rattle.ewig_shell.specs.Quits.{HasQuit, until_quit}
-use Rattle.ewig_shell.specs.Step.{StoreView, shown_store, Machine, Step, Steps}
+use Rattle.ewig_shell.specs.Step.{StepsOn, Steps}
 
 -- The statuses of a run that ended before its first line.
 abbrev pub IsEarly : Status → Type 0
@@ -35,7 +35,7 @@ exit_code WriteFault = 4
 exit_code TooLong = 5
 
 -- What a run did.
-pub record Run : Type 0 where
+pub record Run (C : Type 0) : Type 0 where
   -- the bytes that its source had to give, and those of them that it took
   pub input : List ℕ
   pub taken : List ℕ
@@ -46,20 +46,16 @@ pub record Run : Type 0 where
   pub status : Status
   pub last : Option SpaceView
   -- its store before and after it
-  pub store : StoreView
-  pub store' : StoreView
+  pub store : C
+  pub store' : C
 
--- What a run begins with: a new space, and its store.
-abbrev pub start_of : StoreView → Machine
-start_of store = record { space = start_view CODE_BITS; store = store }
-
--- These pieces were executed one after another, and their replies written whole.
-pub record Executes (pieces : List (List ℕ)) (run : Run) : Type 0 where
-  pub steps : IsSomeAnd run.last (λ last. Steps (start_of run.store) pieces run.replies (record { space = last; store = run.store' }))
+-- These pieces were executed one after another, on a new space and the store, and their replies written whole.
+pub record Executes {C : Type 0} (pieces : List (List ℕ)) (D : store_trait.Ghosts C) (run : Run C) : Type 0 where
+  pub steps : IsSomeAnd run.last (λ last. Steps pieces D (start_view CODE_BITS) run.store run.replies last run.store')
   pub written : run.output ≡ run.replies
 
 -- Nothing was taken, executed or written.
-pub record IsUnbegun (run : Run) : Type 0 where
+pub record IsUnbegun {C : Type 0} (run : Run C) : Type 0 where
   pub untaken : run.taken ≡ []
   pub unanswered : run.replies ≡ []
   pub unwritten : run.output ≡ []
@@ -68,54 +64,55 @@ pub record IsUnbegun (run : Run) : Type 0 where
 
 -- The whole input was taken, and it is within the most; or a quit piece ended within the first most of the bytes
 -- taken. All pieces were executed, or those up to the first quit piece.
-pub record IsDone (most : ℕ) (run : Run) : Type 0 where
+pub record IsDone {C : Type 0} (most : ℕ) (D : store_trait.Ghosts C) (run : Run C) : Type 0 where
   pub read : (run.taken ≡ run.input) × (length run.input ≤ most) ⊎ HasQuit (ended (take most run.taken))
-  pub executes : Executes (until_quit (pieces_within most run.input)) run
+  pub executes : Executes (until_quit (pieces_within most run.input)) D run
 
 -- At most the most was taken. The pieces that had ended in it were executed, and none of them was to quit.
-pub record HasReadFault (most : ℕ) (run : Run) : Type 0 where
+pub record HasReadFault {C : Type 0} (most : ℕ) (D : store_trait.Ghosts C) (run : Run C) : Type 0 where
   pub few : length run.taken ≤ most
   pub goes_on : ¬ HasQuit (ended run.taken)
-  pub executes : Executes (ended run.taken) run
+  pub executes : Executes (ended run.taken) D run
 
 -- One byte more than the most was taken. The pieces that end before it were executed, and none was to quit.
-pub record IsTooLong (most : ℕ) (run : Run) : Type 0 where
+pub record IsTooLong {C : Type 0} (most : ℕ) (D : store_trait.Ghosts C) (run : Run C) : Type 0 where
   pub one_more : length run.taken ≡ most + 1
   pub goes_on : ¬ HasQuit (pieces_within most run.input)
-  pub executes : Executes (pieces_within most run.input) run
+  pub executes : Executes (pieces_within most run.input) D run
 
 -- Some first pieces were executed and their replies written. The next was executed too, and of its reply only the
 -- first bytes were written.
-pub record HasWriteFault (most : ℕ) (run : Run) : Type 0 where
+pub record HasWriteFault {C : Type 0} (most : ℕ) (D : store_trait.Ghosts C) (run : Run C) : Type 0 where
   pub before : List (List ℕ)
   pub piece : List ℕ
   pub later : List (List ℕ)
   pub in_time : pieces_within most run.input ≡ before ++ piece ∷ later
   pub goes_on : ¬ HasQuit before
   pub whole : List ℕ
-  pub mid : Machine
-  pub steps : Steps (start_of run.store) before whole mid
+  pub mid_space : SpaceView
+  pub mid_store : C
+  pub steps : Steps before D (start_view CODE_BITS) run.store whole mid_space mid_store
   pub reply : List ℕ
-  pub step : IsSomeAnd run.last (λ last. Step mid piece reply (record { space = last; store = run.store' }))
+  pub step : IsSomeAnd run.last (λ last. StepsOn piece D mid_space mid_store reply last run.store')
   pub replies_are : run.replies ≡ whole ++ reply
   pub count : ℕ
   pub cut : count < length reply
   pub output_is : run.output ≡ whole ++ take count reply
 
 -- What the status says of a run of at most so many bytes.
-abbrev pub Says : Status → ℕ → Run → Type 0
-Says Done most run = IsDone most run
-Says Memory most run = IsUnbegun run
-Says Usage most run = IsUnbegun run
-Says ReadFault most run = HasReadFault most run
-Says WriteFault most run = HasWriteFault most run
-Says TooLong most run = IsTooLong most run
+abbrev pub Says : {C : Type 0} → Status → ℕ → store_trait.Ghosts C → Run C → Type 0
+Says Done most D run = IsDone most D run
+Says Memory most D run = IsUnbegun run
+Says Usage most D run = IsUnbegun run
+Says ReadFault most D run = HasReadFault most D run
+Says WriteFault most D run = HasWriteFault most D run
+Says TooLong most D run = IsTooLong most D run
 
--- A run over a source that had this input to give: what it did, that what the source has left, the sink and the store show
--- it, and that its status says so.
-pub record Runs {B : Type 0} (most : ℕ) (input : List ℕ) (left : Option (List ℕ))
-    (K : sink_trait.Ghosts B) (sink sink' : B) (store store' : StoreView) (status : Status) (last : Option SpaceView) : Type 0 where
-  pub run : Run
+-- A run over a source that had this input to give: what it did, that what the source has left and the sink show it, that the
+-- store is the one that it left, and that its status says so.
+pub record Runs {B C : Type 0} (most : ℕ) (input : List ℕ) (left : Option (List ℕ)) (K : sink_trait.Ghosts B) (sink sink' : B)
+    (D : store_trait.Ghosts C) (store store' : C) (status : Status) (last : Option SpaceView) : Type 0 where
+  pub run : Run C
   pub input_is : run.input ≡ input
   pub status_is : run.status ≡ status
   pub last_is : run.last ≡ last
@@ -124,7 +121,7 @@ pub record Runs {B : Type 0} (most : ℕ) (input : List ℕ) (left : Option (Lis
   pub takes : Consumes (Some input) left run.taken
   pub few : length run.taken ≤ most + 1
   pub writes : Appends (K.written sink) (K.written sink') run.output
-  pub says : Says run.status most run
+  pub says : Says run.status most D run
   -- a sink with room for the replies takes them without a fault
   pub sink_sure : (room : ℕ) → K.has_room sink room → length run.replies ≤ room →
       status ≢ WriteFault × (K.faults sink' ≡ K.faults sink) × K.has_room sink' (room - length run.replies)
@@ -138,7 +135,8 @@ pub record IsComplete (most : ℕ) (input : List ℕ) (status : Status) : Type 0
   pub done : EndsInTime most input → (status ≡ Done) ⊎ (status ≡ Memory)
   pub too_long : ¬ EndsInTime most input → (status ≡ TooLong) ⊎ (status ≡ Memory)
 
--- The store's count of faults hasn't fallen. A steady store stays so. A store that can't fail stays so, and counted none.
+-- Whatever was executed: the store's count of faults hasn't fallen. A steady store stays so. A store that can't fail stays so,
+-- and counted none.
 pub record KeepsSure {C : Type 0} (D : store_trait.Ghosts C) (store store' : C) : Type 0 where
   pub counted : D.faults store ≤ D.faults store'
   pub steady : D.steady store → D.steady store'
@@ -159,7 +157,7 @@ pub record RunsAs {A B C W : Type 0} (most : ℕ) (words : List W) (S : source_t
   pub writes : CountsFaults K.faults K.steady sink sink' (ended.status ≡ WriteFault)
   pub stores : KeepsSure D store store'
   -- Where the source tells its bytes.
-  pub run : IfSome (S.left source) (λ input. Runs most input (S.left source') K sink sink' (shown_store D store) (shown_store D store') ended.status ended.space)
+  pub run : IfSome (S.left source) (λ input. Runs most input (S.left source') K sink sink' D store store' ended.status ended.space)
   -- Without a fault, the words and the bytes alone decide.
   pub complete : words ≡ [] → ended.status ≢ ReadFault → ended.status ≢ WriteFault →
       IfSome (S.left source) (λ input. IsComplete most input ended.status)

@@ -252,13 +252,6 @@ abbrev pub Step : Machine → List ℕ → List ℕ → Machine → Type 0
 Step old piece reply new =
     MatchBool (is_long piece) (Refuses old (codes "long") reply new) (Means old (meaning piece) reply new)
 
--- From this machine, the pieces get these replies, joined, one step after another, and leave this machine.
-abbrev pub Steps : Machine → List (List ℕ) → List ℕ → Machine → Type 0
-Steps old [] replies last = (replies ≡ []) × (last ≡ old)
-Steps old (piece ∷ rest) replies last =
-    (reply : List ℕ) × (mid : Machine) × (more : List ℕ)
-    × Step old piece reply mid × Steps mid rest more last × (replies ≡ reply ++ more)
-
 -- ## Spaces and stores
 
 -- The machine of a space and a store.
@@ -283,3 +276,10 @@ pub record StepsOn {C : Type 0} (piece : List ℕ) (D : store_trait.Ghosts C) (s
     (space' : SpaceView) (store' : C) : Type 0 where
   pub step : Step (machine_of D space store) piece reply (machine_of D space' store')
   pub counts : CountsStore D store store' reply
+
+-- On a space and a store, the pieces get these replies, joined, one step after another.
+abbrev pub Steps : {C : Type 0} → List (List ℕ) → store_trait.Ghosts C → SpaceView → C → List ℕ → SpaceView → C → Type 0
+Steps [] D space store replies space' store' = (replies ≡ []) × (space' ≡ space) × (store' ≡ store)
+Steps {C = C} (piece ∷ rest) D space store replies space' store' =
+    (reply : List ℕ) × (mid_space : SpaceView) × (mid_store : C) × (more : List ℕ)
+    × StepsOn piece D space store reply mid_space mid_store × Steps rest D mid_space mid_store more space' store' × (replies ≡ reply ++ more)

@@ -7,7 +7,6 @@ ghost use Rattle.shell_io.specs.Reader.{StandsIn};
 ghost use Rattle.space_state.specs.View.{start_view};
 ghost use Rattle.ewig_shell.specs.Going.{IsGoing, HasCauses, status_of};
 ghost use Rattle.ewig_shell.specs.Run.{RunsAs, Runs, IsEarly, KeepsSure, exit_code};
-ghost use Rattle.ewig_shell.specs.Step.{StoreView, machine_of, shown_store};
 
 use crate::execute::{Went, execute, refuse_long};
 use elem_core::{CODE_BITS, NoMemory};
@@ -128,9 +127,9 @@ fn follow<S: Source, K: Sink, D: Store>(
     ensures stores { KeepsSure D.Store store.old store.new }
     ensures bits { space.new.pool.bits ≡ space.old.pool.bits }
     ensures causes { HasCauses S.Source source.old source.new K.Sink sink.old sink.new (Some result) }
-    ensures told { (input : List ℕ) (begin : K) (first : StoreView) →
-        IsGoing most input reader.old (S.left source.old) K.Sink begin sink.old first (machine_of D.Store space.old store.old) →
-        Runs most input (S.left source.new) K.Sink begin sink.new first (shown_store D.Store store.new) result (Some space.new) }
+    ensures told { (input : List ℕ) (begin : K) (first : D) →
+        IsGoing most input reader.old (S.left source.old) K.Sink begin sink.old D.Store first store.old space.old →
+        Runs most input (S.left source.new) K.Sink begin sink.new D.Store first store.new result (Some space.new) }
 {
     'lines: loop {
         if let Some(status) = turn(alloc, most, reader, source, space, sink, store) {
@@ -160,11 +159,11 @@ fn turn<S: Source, K: Sink, D: Store>(
     ensures stores { KeepsSure D.Store store.old store.new }
     ensures bits { space.new.pool.bits ≡ space.old.pool.bits }
     ensures causes { HasCauses S.Source source.old source.new K.Sink sink.old sink.new result }
-    ensures told { (input : List ℕ) (begin : K) (first : StoreView) →
-        IsGoing most input reader.old (S.left source.old) K.Sink begin sink.old first (machine_of D.Store space.old store.old) →
+    ensures told { (input : List ℕ) (begin : K) (first : D) →
+        IsGoing most input reader.old (S.left source.old) K.Sink begin sink.old D.Store first store.old space.old →
         MatchOption result
-        (IsGoing most input reader.new (S.left source.new) K.Sink begin sink.new first (machine_of D.Store space.new store.new))
-        (λ status. Runs most input (S.left source.new) K.Sink begin sink.new first (shown_store D.Store store.new) status (Some space.new)) }
+        (IsGoing most input reader.new (S.left source.new) K.Sink begin sink.new D.Store first store.new space.new)
+        (λ status. Runs most input (S.left source.new) K.Sink begin sink.new D.Store first store.new status (Some space.new)) }
 {
     match reader.next(source, most) {
         Next::Line => status_after(execute(alloc, space, reader.line(), sink, store)),

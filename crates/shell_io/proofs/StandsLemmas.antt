@@ -8,9 +8,13 @@ use Rattle.elem_core.specs.declared.TheConstants.{NEWLINE, MAX_LINE}
 use Rattle.shell_io.specs.declared.reader.Next.{Next}
 use Rattle.shell_io.specs.declared.reader.Next.TheVariants.{Line, Long, End, Budget, Failed}
 use Rattle.shell_io.specs.Pieces.{pieces, ended, pieces_within, IsWhole, IsOverlong, IsUnbroken}
-use Rattle.shell_io.specs.Reader.{Reading, StandsIn, Answers, HasGivenAll, GivesNext, pieces_given, Passes, EndsByNewline, EndsBySource, SamePlace, limit_of}
+use Rattle.shell_io.specs.Reader.{Reading, StandsIn, Answers, HasGivenAll, GivesNext, pieces_given, Passes, EndsByNewline, EndsBySource, SamePlace, limit_of, may_take}
 use Rattle.shell_io.specs.Window.{TakesMore}
 use Rattle.shell_io.proofs.PiecesLemmas.{take_past, pieces-append_line, IsWhole-append_line, pieces-append_last, ended-append_unbroken, pieces_within-all, pieces_within-part, pieces_within-front}
+
+-- as many bytes may still be taken where as many were
+pub may_take-as : (most : ℕ) (old new : Reading) → new.taken ≡ old.taken → new.at_end ≡ old.at_end → may_take most new ≡ may_take most old
+may_take-as most old new taken at_end = ap (λ (b : Bool). cond b 0 (most + 1 - new.taken)) at_end ∙ ap (λ (n : ℕ). cond old.at_end 0 (most + 1 - n)) taken
 
 pub IsUnbroken-nil : IsUnbroken []
 IsUnbroken-nil = λ (k, h, e). omega arith
@@ -258,6 +262,11 @@ stands-same input old new left_old left_new s left taken given let_go held at_en
 consumed : (left : Option (List ℕ)) (xs more : List ℕ) → Consumes (Some xs) left more → (ys : List ℕ) × (left ≡ Some ys) × (xs ≡ more ++ ys)
 consumed None xs more h = absurd h
 consumed (Some ys) xs more h = (ys, refl, h)
+
+-- no answer is settled, whichever it would be
+pub still_open : (over : Bool) (answer other : Next) → cond over (Some answer) None ≡ None → cond over (Some other) None ≡ None
+still_open true answer other e = cc
+still_open false answer other e = refl
 
 -- the reader took more bytes, or came to the end
 pub record Pulled (old new : Reading) (n : ℕ) (left : Option (List ℕ)) : Type 0 where

@@ -1,5 +1,5 @@
 -- What a reader of lines is, where it stands in an input, and what its answers say.
-use Rattle.std.specs.Prelude.{◌≡◌, ℕ, ◌+◌, ◌<◌, ◌≤◌, Bool, true, false, List, [], ◌∷◌, ◌++◌, length, take, drop, None, Some}
+use Rattle.std.specs.Prelude.{◌≡◌, ℕ, ◌+◌, ◌-◌, ◌<◌, ◌≤◌, Bool, true, false, if◌then◌else◌, List, [], ◌∷◌, ◌++◌, length, take, drop, None, Some}
 use Rattle.std.specs.declared.option.Option.{Option}
 use Rattle.shell_io.specs.declared.reader.Next.{Next}
 use Rattle.shell_io.specs.declared.reader.Next.TheVariants.{Line, Long, End, Budget, Failed}
@@ -82,6 +82,10 @@ pub record SamePlace (old new : Reading) : Type 0 where
 abbrev pub limit_of : Option ℕ → ℕ
 limit_of None = 0
 limit_of (Some most) = most + 1
+
+-- how many bytes the reader may still take, of one more than the most in all: none once the source has come to its end
+abbrev pub may_take : ℕ → Reading → ℕ
+may_take most reader = if reader.at_end then 0 else most + 1 - reader.taken
 
 -- a newline follows so many of the bytes held
 pub record EndsByNewline (r : Reading) (count end : ℕ) : Type 0 where

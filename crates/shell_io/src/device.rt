@@ -11,7 +11,7 @@ ghost use Rattle.std.specs.Io.KnownBytes.{Consumes, Appends, Keeps, IsAtEnd};
 ghost use Rattle.shell_io.specs.declared.device.KeepFault.TheVariants.{Memory};
 ghost use Rattle.shell_io.specs.Fault.{HasCause, CountsFaults, Calls};
 ghost use Rattle.shell_io.specs.InMemory.{Files};
-ghost use Rattle.shell_io.specs.Offer.{IsAmple};
+ghost use Rattle.shell_io.specs.Offer.{IsAmple, left_after};
 ghost use Rattle.shell_io.specs.Sending.{Sends};
 ghost use Rattle.shell_io.specs.Storing.{FetchesFile, KeepsFile, ChangesFiles};
 
@@ -73,8 +73,8 @@ pub trait Source {
     // No call that succeeds raises the count of faults. A source that can't know it claims nothing.
     ghost steady: { Self → Type 0 };
 
-    // So many bytes may still be taken, and each call so far offered ample room for them. A source
-    // that keeps no count of them claims nothing.
+    // So many bytes may still be taken, none behind the end of input, and each call so far offered
+    // ample room for them. A source that keeps no count of them claims nothing.
     ghost ample: { Self → ℕ → Type 0 };
 
     /// Moves the next bytes to the front of the buffer, and answers how many: 0 is the end of input.
@@ -89,7 +89,7 @@ pub trait Source {
 
         ensures pulls { Calls faults steady faultless self.old self.new (IsErr result) }
         ensures ample { (room : ℕ) → ample self.old room → IsAmple room (length buf.old) →
-            MatchResult result (λ n. ample self.new (room - n)) (λ _. ample self.new room) };
+            MatchResult result (λ n. ample self.new (left_after room n)) (λ _. ample self.new room) };
 }
 
 /// What takes bytes.

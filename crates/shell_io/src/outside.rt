@@ -45,6 +45,7 @@ impl<R: Read> Source for StdSource<R> {
     /// One read of the reader, so it returns as soon as some bytes are there. A read that was
     /// interrupted is no fault: it is made again.
     fn pull(&mut self, buf: &mut [u8]) -> Result<usize, Failed> {
+        // The call has to return, so the loop has an end; no read is interrupted so often.
         for _ in 0..u64::MAX {
             match self.input.read(buf) {
                 Ok(count) => return Ok(count),
@@ -85,6 +86,7 @@ impl<W: Write> Sink for StdSink<W> {
     /// One write to the writer. One that was interrupted is made again, and one that takes nothing
     /// of a piece that has bytes is a fault.
     fn push(&mut self, piece: &[u8]) -> Result<usize, Failed> {
+        // The call has to return, so the loop has an end; no write is interrupted so often.
         for _ in 0..u64::MAX {
             match self.output.write(piece) {
                 Ok(count) if count > 0 || piece.is_empty() => return Ok(count),

@@ -7,7 +7,7 @@ ghost use Rattle.std.specs.Option.{ForSome};
 ghost use Rattle.elem_core.specs.Cell.{IsCell};
 ghost use Rattle.shell_io.specs.Fault.{Calls};
 ghost use Rattle.shell_io.specs.Pieces.{IsUnbroken};
-ghost use Rattle.shell_io.specs.Reader.{Reading, StandsIn, Answers, SamePlace, Passes, EndsByNewline, EndsBySource, limit_of};
+ghost use Rattle.shell_io.specs.Reader.{Reading, StandsIn, Answers, SamePlace, Passes, EndsByNewline, EndsBySource, limit_of, may_take};
 
 use super::device::{Failed, Source};
 use super::window::Window;
@@ -57,7 +57,7 @@ impl LineReader {
     /// A reader that has taken nothing. It makes its whole buffer here.
     pub fn new(alloc: Global) -> Result<LineReader, NoMemory>
         ensures fresh { IfOk result (λ reader. (reader.taken ≡ 0) × (reader.given ≡ 0)
-            × (reader.most ≡ None) × (reader.settled ≡ None)) }
+            × (reader.most ≡ None) × (reader.at_end ≡ false) × (reader.settled ≡ None)) }
         ensures start { IfOk result (λ reader. (input : List ℕ) → StandsIn input reader (Some input)) }
     {
         let window = Window::new(alloc)?;
@@ -102,8 +102,9 @@ impl LineReader {
         ensures all_given { result ≡ Next.Failed → IsUnbroken self.new.held }
         ensures in_bound { result ≡ Next.Failed → self.new.taken ≤ most }
 
-        // Each pull offers room for at least 4,096 bytes, or for all that are left.
-        ensures ample { S.ample source.old (most + 1 - self.old.taken) → S.ample source.new (most + 1 - self.new.taken) }
+        // Each pull offers room for at least 4,096 bytes, or for all that are left, and none comes behind
+        // the end of the source.
+        ensures ample { S.ample source.old (may_take most self.old) → S.ample source.new (may_take most self.new) }
 
         // Where the source tells its bytes.
         ensures stands { (input : List ℕ) → StandsIn input self.old (S.left source.old) →
@@ -175,7 +176,7 @@ impl LineReader {
         ensures budget { result ≡ Next.Budget → (self.new.taken ≡ most + 1) × (self.new.at_end ≡ false) }
         ensures failed { result ≡ Next.Failed → IsUnbroken self.new.held × (self.new.taken ≤ most) }
         ensures pulls { Calls S.faults S.steady S.faultless source.old source.new (result ≡ Next.Failed) }
-        ensures ample { S.ample source.old (most + 1 - self.old.taken) → S.ample source.new (most + 1 - self.new.taken) }
+        ensures ample { S.ample source.old (may_take most self.old) → S.ample source.new (may_take most self.new) }
         ensures stands { (input : List ℕ) → StandsIn input self.old (S.left source.old) →
             StandsIn input self.new (S.left source.new) }
         ensures answers { (input : List ℕ) → StandsIn input self.old (S.left source.old) →
@@ -283,16 +284,14 @@ impl LineReader {
             × IsUnbroken self.new.held) }
 
         ensures pulls { Calls S.faults S.steady S.faultless source.old source.new (IsErr result) }
-        ensures ample { S.ample source.old (most + 1 - self.old.taken) → S.ample source.new (most + 1 - self.new.taken) }
+        ensures ample { S.ample source.old (may_take most self.old) → S.ample source.new (may_take most self.new) }
         ensures stands { (input : List ℕ) → StandsIn input self.old (S.left source.old) →
             StandsIn input self.new (S.left source.new) }
     {
         self.let_go_of_front();
         let limit = most + 1 - self.taken();
         let before = self.window.held().len();
-        if self.window.pull(source, limit)? == 0 {
-            self.at_end = true;
-        }
+        self.at_end = self.window.pull(source, limit)? == 0;
         Ok(before)
     }
 

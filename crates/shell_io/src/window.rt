@@ -3,7 +3,7 @@
 ghost use Rattle.std.specs.Prelude.{◌≡◌, ℕ, ◌+◌, ◌<◌, ◌≤◌, ◌-◌, ◌^◌, List, [], ◌++◌, take, drop, length, IsErr, IfOk, OnErr, MatchResult};
 ghost use Rattle.std.specs.Io.KnownBytes.{Consumes, Keeps, IsAtEnd};
 ghost use Rattle.shell_io.specs.Fault.{Calls};
-ghost use Rattle.shell_io.specs.Offer.{IsAmple};
+ghost use Rattle.shell_io.specs.Offer.{IsAmple, left_after};
 ghost use Rattle.shell_io.specs.Window.{TakesMore};
 
 use super::device::{Failed, Source};
@@ -107,7 +107,7 @@ impl Window {
 
         ensures pulls { Calls S.faults S.steady S.faultless source.old source.new (IsErr result) }
         ensures ample { S.ample source.old limit →
-            MatchResult result (λ n. S.ample source.new (limit - n)) (λ _. S.ample source.new limit) }
+            MatchResult result (λ n. S.ample source.new (left_after limit n)) (λ _. S.ample source.new limit) }
     {
         let waiting = self.end - self.start;
         self.bytes.copy_within(self.start..self.end, 0);
@@ -140,7 +140,7 @@ fn pull_behind<S: Source>(
     ensures kept { OnErr result (Keeps (S.left source.old) (S.left source.new)) }
     ensures pulls { Calls S.faults S.steady S.faultless source.old source.new (IsErr result) }
     ensures ample { S.ample source.old limit →
-        MatchResult result (λ n. S.ample source.new (limit - n)) (λ _. S.ample source.new limit) }
+        MatchResult result (λ n. S.ample source.new (left_after limit n)) (λ _. S.ample source.new limit) }
 {
     let offer = offer_of(waiting, limit);
     source.pull(&mut bytes[waiting..waiting + offer])

@@ -6,8 +6,8 @@ use shell_io::{Failed, LineReader, LinesFault, MemSource, Next, Source, lines_of
 use std::alloc::Global;
 use std::test::Fail;
 
-// A source over memory that counts how many bytes may still be taken, and looks whether each call
-// offers ample room for them.
+// A source over memory that counts how many bytes may still be taken, none behind its end, and looks
+// whether each call offers ample room for them.
 #[derive(Drop)]
 struct Watched {
     source: MemSource,
@@ -30,7 +30,11 @@ impl Source for Watched {
         let offered = buf.len() as u64;
         self.ample = self.ample && self.room.min(4096) <= offered && offered <= self.room;
         let count = self.source.pull(buf)?;
-        self.room = self.room.saturating_sub(count as u64);
+        self.room = if count == 0 {
+            0
+        } else {
+            self.room.saturating_sub(count as u64)
+        };
         Ok(count)
     }
 }
@@ -69,7 +73,7 @@ fn answers(
             }
         }
     }
-    // That each offer was ample is a fact here, by the clause of `next`.
+    // That each offer was ample, and none came behind the end, is a fact here, by the clause of `next`.
     let ample = source.ample;
     prove!(ample);
     Ok(log)
@@ -154,11 +158,22 @@ fn passes_over_lines_past_the_limit(rt: HostRuntime) -> Result<(), Fail> {
     }
     input.push(b'c')?;
     want.extend_from_slice(b"c\n.")?;
-    for piece in [100usize, 4096, 65_537, 1_000_000] {
-        let mut fails = Vec::new(alloc);
-        fails.push(1_000_000)?;
-        let log = answers(alloc, &input, piece, fails, 1_000_000)?;
+    // How many bytes a call gives, which call fails, amid one of these lines, and where the log tells it.
+    let table = [
+        (100usize, 1000, 65_537usize),
+        (4096, 24, 65_537),
+        (65_537, 2, 65_537),
+        (1_000_000, 1, 65_542),
+    ];
+    for (piece, call, at) in table {
+        let log = answers(alloc, &input, piece, Vec::new(alloc), 1_000_000)?;
         assert!(rt; log.as_slice() == want.as_slice(), "by {piece}");
+        let mut fails = Vec::new(alloc);
+        fails.push(call)?;
+        let log = answers(alloc, &input, piece, fails, 1_000_000)?;
+        let mut told = want.clone()?;
+        told.insert(at, b'?')?;
+        assert!(rt; log.as_slice() == told.as_slice(), "at {call} by {piece}");
     }
     Ok(())
 }

@@ -1,6 +1,5 @@
 use Rattle.std.proofs.Common.{◌≡◌, ℕ, ◌+◌, ◌-◌, List, None}
 use Rattle.std.specs.Option.{ForSome}
-use Rattle.ewig_shell.specs.Step.{StoreView, machine_of}
 use Rattle.ewig_shell.specs.Run.{KeepsSure}
 use Rattle.ewig_shell.specs.Going.{IsGoing, HasCauses}
 use Rattle.ewig_shell.proofs.run.follow.Given as goal
@@ -12,9 +11,9 @@ invariant-lines g l = record {
   bits : l.space.pool.bits ≡ l.fn.space.pool.bits;
   stores : KeepsSure g.D.Store l.fn.store l.store;
   causes : HasCauses g.S.Source l.fn.source l.source g.K.Sink l.fn.sink l.sink None;
-  told : (input : List ℕ) (begin : g.row.K.Denot) (first : StoreView) →
-      IsGoing l.most input l.fn.reader (g.S.Source.left l.fn.source) g.K.Sink begin l.fn.sink first (machine_of g.D.Store l.fn.space l.fn.store) →
-      IsGoing l.most input l.reader (g.S.Source.left l.source) g.K.Sink begin l.sink first (machine_of g.D.Store l.space l.store);
+  told : (input : List ℕ) (begin : g.row.K.Denot) (first : g.row.D.Denot) →
+      IsGoing l.most input l.fn.reader (g.S.Source.left l.fn.source) g.K.Sink begin l.fn.sink g.D.Store first l.fn.store l.fn.space →
+      IsGoing l.most input l.reader (g.S.Source.left l.source) g.K.Sink begin l.sink g.D.Store first l.store l.space;
 }
 
 -- each line gives a byte more

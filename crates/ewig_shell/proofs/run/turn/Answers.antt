@@ -1,7 +1,7 @@
 use Rattle.std.proofs.Common.{List, ℕ, sym, subst, refl}
 use Rattle.shell_io.specs.Reader.{GivesNext}
 use Rattle.ewig_shell.proofs.QuitLemmas.{quits-long}
-use Rattle.ewig_shell.proofs.StepLemmas.{Step-long}
+use Rattle.ewig_shell.proofs.StepLemmas.{StepsOn-long}
 use Rattle.ewig_shell.proofs.RunLemmas.{Going-next, Going-end, Going-budget, Going-failed}
 use Rattle.ewig_shell.proofs.EndLemmas.{KeepsSure-none, KeepsSure-step}
 use Rattle.ewig_shell.proofs.run.turn.Goals as goal
@@ -13,8 +13,8 @@ pub returns-in-Line-clause-told : goal.returns-in-Line-clause-told
 returns-in-Line-clause-told g c = λ input begin first going.
     let next = subst (λ (piece : List ℕ). GivesNext c.args.most input c.args.reader.now c.next.new.self piece) (sym c.line.ensures) (c.in-Line.ensures.answers input going.stands) in
     let done = c.execute.ensures.replies in
-    Going-next _ going (c.in-Line.ensures.stands input going.stands) next c.in-Line.ensures.bounded
-    (record { reply = done.reply; due = done.due.step; sends = done.sends }) c.execute.ensures.quits c.status_after.ensures
+    Going-next going (c.in-Line.ensures.stands input going.stands) next c.in-Line.ensures.bounded
+    (record { reply = done.reply; due = done.due; sends = done.sends }) c.execute.ensures.quits c.status_after.ensures
 
 pub returns-in-Long-clause-stores : goal.returns-in-Long-clause-stores
 returns-in-Long-clause-stores g c = KeepsSure-none
@@ -22,8 +22,8 @@ returns-in-Long-clause-stores g c = KeepsSure-none
 pub returns-in-Long-clause-told : goal.returns-in-Long-clause-told
 returns-in-Long-clause-told g c = λ input begin first going.
     let next = c.in-Long.ensures.answers input going.stands in
-    Going-next _ going (c.in-Long.ensures.stands input going.stands) next.2 c.in-Long.ensures.bounded
-    (record { reply = _; due = Step-long _ next.0 next.1; sends = c.refuse_long.ensures.sends })
+    Going-next going (c.in-Long.ensures.stands input going.stands) next.2 c.in-Long.ensures.bounded
+    (record { reply = _; due = StepsOn-long next.0 next.1; sends = c.refuse_long.ensures.sends })
     (quits-long _ next.0 next.1 c.refuse_long.ensures.on) c.status_after-in-Long.ensures
 
 pub returns-in-End-clause-stores : goal.returns-in-End-clause-stores

@@ -1,6 +1,7 @@
-use Rattle.std.proofs.Common.{ap, ◌∙◌, refl, Some, rules, ℕ, ◌+◌, ◌-◌, subst, sym}
+use Rattle.std.proofs.Common.{ap, ◌∙◌, refl, Some, rules, subst, sym}
 use Rattle.shell_io.proofs.FaultLemmas.{Calls-then, Calls-as}
-use Rattle.shell_io.proofs.StandsLemmas.{Answers-given, failed-ended}
+use Rattle.shell_io.specs.Reader.{Reading, may_take}
+use Rattle.shell_io.proofs.StandsLemmas.{Answers-given, failed-ended, may_take-as}
 use Rattle.shell_io.proofs.reader.LineReader.advance.Goals as goal
 
 pub returns-in-Some-clause-answers : goal.returns-in-Some-clause-answers
@@ -19,20 +20,19 @@ returns-in-Err-clause-answers g c = λ input s.
 
 pub returns-in-Some-clause-ample : goal.returns-in-Some-clause-ample
 returns-in-Some-clause-ample g c = λ h.
-    let P : ℕ → Type 0 = λ taken. g.S.Source.ample c.loop-answer.source (c.args.most + 1 - taken) in
-    subst P (sym c.in-Some.ensures.same.0) (c.loop-answer.invariant.ample h)
+    let same = c.in-Some.ensures.same in
+    subst (λ left. g.S.Source.ample c.loop-answer.source left) (sym (may_take-as c.args.most c.loop-answer.self c.decide.new.self same.0 same.2)) (c.loop-answer.invariant.ample h)
 
 pub returns-in-Err-clause-ample : goal.returns-in-Err-clause-ample
 returns-in-Err-clause-ample g c = λ h.
-    let P : ℕ → Type 0 = λ taken. g.S.Source.ample c.loop-answer.source (c.args.most + 1 - taken) in
-    let first = c.in_default.ensures.undecided.0 in
-    c.take_more.ensures.ample (subst P (sym (ap (λ r. r.taken) first)) (c.loop-answer.invariant.ample h))
+    let P : Reading → Type 0 = λ r. g.S.Source.ample c.loop-answer.source (may_take c.args.most r) in
+    c.take_more.ensures.ample (subst P (sym c.in_default.ensures.undecided.0) (c.loop-answer.invariant.ample h))
 
 pub loop-answer-preserved : goal.loop-answer-preserved
 loop-answer-preserved g c =
     let inv = c.loop-answer.invariant in
     let first = c.in_default.ensures.undecided.0 in
-    let P : ℕ → Type 0 = λ taken. g.S.Source.ample c.loop-answer.source (c.args.most + 1 - taken) in
+    let P : Reading → Type 0 = λ r. g.S.Source.ample c.loop-answer.source (may_take c.args.most r) in
     let m = c.in-Ok.ensures in record {
       known = c.take_more.ensures.same.1 ∙ ap (λ r. r.most) first ∙ inv.known;
       open_still = c.take_more.ensures.same.2;
@@ -42,7 +42,7 @@ loop-answer-preserved g c =
       grows = search rules;
       given = c.take_more.ensures.same.0 ∙ ap (λ r. r.given) first ∙ inv.given;
       pulls = Calls-then inv.pulls (λ n. n) (Calls-as m.pulls (λ n. cc) (λ n. absurd n));
-      ample = λ h. c.take_more.ensures.ample (subst P (sym (ap (λ r. r.taken) first)) (inv.ample h));
+      ample = λ h. c.take_more.ensures.ample (subst P (sym first) (inv.ample h));
       stands = λ input s. c.take_more.ensures.stands input (c.decide.ensures.stands input _ (inv.stands input s));
     }
 
