@@ -1,5 +1,5 @@
 //! What stands on all the containers: a small store that uses them, and the tests of their elements, of the heap, of
-//! vectors, and of chains, tries, maps and sets.
+//! vectors, of chains, tries, maps and sets, and of equality.
 #![tactic(auto)]
 
 #[cfg(test)]

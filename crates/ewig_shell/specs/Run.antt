@@ -54,7 +54,7 @@ pub record Executes {C : Type 0} (pieces : List (List ℕ)) (D : store_trait.Gho
   pub steps : IsSomeAnd run.last (λ last. Steps pieces D (start_view CODE_BITS) run.store run.replies last run.store')
   pub written : run.output ≡ run.replies
 
--- Nothing was taken, executed or written.
+-- Nothing was taken, executed or written, and the store is as it was.
 pub record IsUnbegun {C : Type 0} (run : Run C) : Type 0 where
   pub untaken : run.taken ≡ []
   pub unanswered : run.replies ≡ []

@@ -39,7 +39,7 @@ pub record StoreView : Type 0 where
 abbrev pub shown_store : {A : Type 0} → store_trait.Ghosts A → A → StoreView
 shown_store D store = record { files = D.held store; faults = D.faults store }
 
--- What a piece is executed on: a space, and the files that it may store.
+-- What a piece is executed on: a space, and what its store shows.
 pub record Machine : Type 0 where
   pub space : SpaceView
   pub store : StoreView

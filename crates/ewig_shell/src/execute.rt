@@ -149,7 +149,6 @@ fn change<K: Sink>(space: &mut Space, edit: Edit<'_>, sink: &mut K) -> Result<()
     send_done(space.edit(edit), sink)
 }
 
-// Replies to `get`.
 fn get<K: Sink>(space: &Space, buffer: Name<'_>, index: u32, sink: &mut K) -> Result<(), Failed>
     ensures { Replies K.Sink sink.old sink.new result
         (λ reply. ObeysAlone (get_command (name_bytes buffer.entry) index) space.now reply space.now) }
@@ -160,7 +159,6 @@ fn get<K: Sink>(space: &Space, buffer: Name<'_>, index: u32, sink: &mut K) -> Re
     }
 }
 
-// Replies to `len`.
 fn len<K: Sink>(space: &Space, buffer: Name<'_>, sink: &mut K) -> Result<(), Failed>
     ensures { Replies K.Sink sink.old sink.new result
         (λ reply. ObeysAlone (len_command (name_bytes buffer.entry)) space.now reply space.now) }
@@ -171,7 +169,6 @@ fn len<K: Sink>(space: &Space, buffer: Name<'_>, sink: &mut K) -> Result<(), Fai
     }
 }
 
-// Replies to `show`.
 fn show<K: Sink>(
     space: &Space,
     buffer: Name<'_>,
@@ -188,7 +185,6 @@ fn show<K: Sink>(
     }
 }
 
-// Replies to `list`.
 fn list<K: Sink>(alloc: Global, space: &Space, sink: &mut K) -> Result<(), Failed>
     ensures { Replies K.Sink sink.old sink.new result
         (λ reply. ObeysAlone list_command space.now reply space.now) }
@@ -199,7 +195,6 @@ fn list<K: Sink>(alloc: Global, space: &Space, sink: &mut K) -> Result<(), Faile
     }
 }
 
-// Replies to `stars`.
 fn stars<K: Sink>(alloc: Global, space: &Space, sink: &mut K) -> Result<(), Failed>
     ensures { Replies K.Sink sink.old sink.new result
         (λ reply. ObeysAlone stars_command space.now reply space.now) }
@@ -210,7 +205,6 @@ fn stars<K: Sink>(alloc: Global, space: &Space, sink: &mut K) -> Result<(), Fail
     }
 }
 
-// Replies to `marks`.
 fn marks<K: Sink>(alloc: Global, space: &Space, sink: &mut K) -> Result<(), Failed>
     ensures { Replies K.Sink sink.old sink.new result
         (λ reply. ObeysAlone marks_command space.now reply space.now) }
@@ -221,7 +215,6 @@ fn marks<K: Sink>(alloc: Global, space: &Space, sink: &mut K) -> Result<(), Fail
     }
 }
 
-// Replies to `same`.
 fn same<K: Sink>(
     space: &Space,
     buffer: Name<'_>,
@@ -234,7 +227,6 @@ fn same<K: Sink>(
     send(equality(space.same(buffer, other)), sink)
 }
 
-// Replies to `eqv`.
 fn eqv<K: Sink>(
     space: &Space,
     version: Name<'_>,
@@ -247,7 +239,6 @@ fn eqv<K: Sink>(
     send(equality(space.eqv(version, other)), sink)
 }
 
-// Replies to `stats`.
 fn stats<K: Sink>(space: &Space, sink: &mut K) -> Result<(), Failed>
     ensures { Replies K.Sink sink.old sink.new result
         (λ reply. ObeysAlone stats_command space.now reply space.now) }
@@ -257,7 +248,6 @@ fn stats<K: Sink>(space: &Space, sink: &mut K) -> Result<(), Failed>
     send_number(space.rows() as u64, sink)
 }
 
-// Replies to `quit`.
 fn quit<K: Sink>(space: &Space, sink: &mut K) -> Result<(), Failed>
     ensures { Replies K.Sink sink.old sink.new result
         (λ reply. ObeysAlone quit_command space.now reply space.now) }

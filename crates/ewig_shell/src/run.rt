@@ -131,6 +131,7 @@ fn follow<S: Source, K: Sink, D: Store>(
         IsGoing most input reader.old (S.left source.old) K.Sink begin sink.old D.Store first store.old space.old →
         Runs most input (S.left source.new) K.Sink begin sink.new D.Store first store.new result (Some space.new) }
 {
+    // The proof names the loop's invariant by this label.
     'lines: loop {
         if let Some(status) = turn(alloc, most, reader, source, space, sink, store) {
             return status;
