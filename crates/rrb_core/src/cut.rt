@@ -30,7 +30,7 @@ pub fn take<T>(heap: &mut Heap<T>, vector: FlexRef, count: u32) -> Result<Flex, 
     ensures whole { length (elements heap.old vector) ≤ count → IsOkAnd result (λ v. (v ≡ vector) × Shares heap.old heap.new v) }
     ensures vectors { (l : ℕ) → IsSameVector heap.old heap.new l }
     ensures refused { OnErr result (Unchanged heap.old heap.new) }
-    ensures ample { HasSpares heap.old 0 TAKE_NODES → IsOk result }
+    ensures ample { HasSpares heap.old 0 8 → IsOk result }
 {
     if count >= vector.len(heap) {
         return Ok(vector.share(heap));

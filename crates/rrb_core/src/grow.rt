@@ -54,7 +54,7 @@ pub fn push<T>(heap: &mut Heap<T>, vector: FlexRef, element: Link) -> Result<Fle
     ensures vectors { (l : ℕ) → IsSameVector heap.old heap.new l }
     ensures refused { OnErr result (Unchanged heap.old heap.new) }
     ensures long { (result ≡ Err PushFault.Long) ↔ (length (elements heap.old vector) ≡ 2 ^ 32 - 1) }
-    ensures ample { HasSpares heap.old 0 PUSH_NODES → result ≢ Err PushFault.Memory }
+    ensures ample { HasSpares heap.old 0 9 → result ≢ Err PushFault.Memory }
 {
     if vector.len(heap) == u32::MAX {
         return Err(PushFault::Long);

@@ -56,7 +56,7 @@ pub fn set<T>(
     ensures vectors { (l : ℕ) → IsSameVector heap.old heap.new l }
     ensures refused { OnErr result (Unchanged heap.old heap.new) }
     ensures range { (result ≡ Err SetFault.Range) ↔ (length (elements heap.old vector) ≤ index) }
-    ensures ample { HasSpares heap.old 0 SET_NODES → result ≢ Err SetFault.Memory }
+    ensures ample { HasSpares heap.old 0 8 → result ≢ Err SetFault.Memory }
 {
     if index >= vector.len(heap) {
         return Err(SetFault::Range);

@@ -3,9 +3,7 @@ ghost use Rattle.std.specs.Prelude.{◌≡◌, ◌≢◌, ◌↔◌, ℕ, ◌+�
 ghost use Rattle.node_heap.specs.Heap.{hold_count, HasSpares, IsGraph};
 ghost use Rattle.node_heap.specs.Calls.{Answered, MakesJust, Unchanged};
 ghost use Rattle.rrb_core.specs.Vector.{elements, height_at, IsGoodVector, IsSameVector};
-ghost use Rattle.rrb_core.specs.declared.cut.TheConstants.{TAKE_NODES};
 ghost use Rattle.rrb_join.specs.Answers.{GivesItself, IsPart, RisesAtNeed};
-ghost use Rattle.rrb_join.specs.declared.joining.TheConstants.{SEAM_NODES};
 
 use crate::joining::{SEAM_NODES, joined_root};
 use crate::rests::rest_root;
@@ -50,7 +48,7 @@ pub fn drop_front<T>(heap: &mut Heap<T>, vector: FlexRef, count: u32) -> Result<
     ensures none { count ≡ 0 → GivesItself heap.old heap.new result vector }
     ensures vectors { (l : ℕ) → IsSameVector heap.old heap.new l }
     ensures refused { OnErr result (Unchanged heap.old heap.new) }
-    ensures ample { HasSpares heap.old 0 SEAM_NODES → IsOk result }
+    ensures ample { HasSpares heap.old 0 17 → IsOk result }
 {
     if count == 0 {
         return Ok(vector.share(heap));
@@ -90,7 +88,7 @@ pub fn slice<T: Drop>(
     ensures vectors { (l : ℕ) → IsSameVector heap.old heap.new l }
     ensures refused { OnErr result (Unchanged heap.old heap.new) }
     ensures range { (result ≡ Err SliceFault.Range) ↔ (¬ IsPart from to (elements heap.old vector)) }
-    ensures ample { HasSpares heap.old 0 (TAKE_NODES + SEAM_NODES) → result ≢ Err SliceFault.Memory }
+    ensures ample { HasSpares heap.old 0 25 → result ≢ Err SliceFault.Memory }
 {
     if !is_part(heap, vector, from, to) {
         return Err(SliceFault::Range);
@@ -128,7 +126,7 @@ pub fn erase<T: Drop>(
     ensures vectors { (l : ℕ) → IsSameVector heap.old heap.new l }
     ensures refused { OnErr result (Unchanged heap.old heap.new) }
     ensures range { (result ≡ Err SliceFault.Range) ↔ (¬ IsPart from to (elements heap.old vector)) }
-    ensures ample { HasSpares heap.old 0 (TAKE_NODES + 2 * SEAM_NODES) → result ≢ Err SliceFault.Memory }
+    ensures ample { HasSpares heap.old 0 42 → result ≢ Err SliceFault.Memory }
 {
     if !is_part(heap, vector, from, to) {
         return Err(SliceFault::Range);

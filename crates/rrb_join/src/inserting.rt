@@ -68,7 +68,7 @@ pub fn insert<T>(
     ensures refused { OnErr result (Unchanged heap.old heap.new) }
     ensures range { (result ≡ Err InsertFault.Range) ↔ (length (elements heap.old vector) < index) }
     ensures long { (result ≡ Err InsertFault.Long) ↔ ((index ≤ length (elements heap.old vector)) × (length (elements heap.old vector) ≡ 2 ^ 32 - 1)) }
-    ensures ample { HasSpares heap.old 0 SEAM_NODES → result ≢ Err InsertFault.Memory }
+    ensures ample { HasSpares heap.old 0 17 → result ≢ Err InsertFault.Memory }
 {
     let len = vector.len(heap);
     if index > len {

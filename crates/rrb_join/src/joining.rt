@@ -62,7 +62,7 @@ pub fn concat<T>(heap: &mut Heap<T>, left: FlexRef, right: FlexRef) -> Result<Fl
     ensures vectors { (l : ℕ) → IsSameVector heap.old heap.new l }
     ensures refused { OnErr result (Unchanged heap.old heap.new) }
     ensures long { (result ≡ Err JoinFault.Long) ↔ (2 ^ 32 ≤ length (elements heap.old left) + length (elements heap.old right)) }
-    ensures ample { HasSpares heap.old 0 SEAM_NODES → result ≢ Err JoinFault.Memory }
+    ensures ample { HasSpares heap.old 0 17 → result ≢ Err JoinFault.Memory }
 {
     let left_len = left.len(heap);
     let right_len = right.len(heap);

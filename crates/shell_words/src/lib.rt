@@ -45,9 +45,9 @@ pub enum Command<'a> {
     Del(Name<'a>, u32, u32),
     /// `cat B C`: the lines of C at the end of B.
     Cat(Name<'a>, Name<'a>),
-    /// `cut B I J C`: lines I to J-1 moved from B to a new C.
+    /// `cut B I J C`: lines I to J-1 taken out of B; C is these lines, made or replaced.
     Cut(Name<'a>, u32, u32, Name<'a>),
-    /// `copy B C`: the lines of B as a new C.
+    /// `copy B C`: C with the lines of B, made or replaced.
     Copy(Name<'a>, Name<'a>),
     /// `drop B`: no buffer B.
     Drop(Name<'a>),
