@@ -13,4 +13,3 @@ pub mod Readings
 pub mod Laws
 pub mod Documents
 pub mod Worked
-pub mod Sums

@@ -14,7 +14,7 @@ use Rattle.node_heap.proofs.Frames.{Extends-trans, Extends-rows, Extends-Unchang
 use Rattle.node_heap.proofs.Reach.{Reaches-same}
 use Rattle.node_heap.proofs.Trees.{SameBelow-links}
 use Rattle.rrb_core.specs.Seq.{form_height}
-use Rattle.rrb_core.specs.Vector.{HasSums, height_at}
+use Rattle.rrb_core.specs.Vector.{HasSums, height_at, HaveSums}
 use Rattle.rrb_core.proofs.LinkCounts.{count-at}
 use Rattle.rrb_core.proofs.Stays.{live-stays-by, sums-stay}
 use Rattle.pool_order.specs.Order.{places, order}
@@ -29,7 +29,6 @@ use Rattle.pool_check.specs.Rows.{rows_lead_back, rows_in_range, links_lead_back
 use Rattle.pool_check.specs.Vectors.{has_height, vectors_stand}
 use Rattle.pool_check.specs.Damages.{IsValid}
 use Rattle.pool_check.specs.Checked.{IsChecked}
-use Rattle.pool_check.specs.Sums.{HaveSums}
 use Rattle.pool_check.proofs.TestLemmas.{and-first, leads-down, roots-low}
 use Rattle.pool_load.specs.Loads.{cells_of, nodes_of, Loads, AreLoaded}
 use Rattle.pool_load.specs.Rows.{AreSound}

@@ -9,7 +9,7 @@ use Rattle.pool_text.specs.Pool.{row_count, pool_at}
 use Rattle.pool_text.specs.Renaming.{AreLive}
 use Rattle.pool_text.specs.declared.pool.Pool.{Pool}
 use Rattle.pool_check.specs.Checked.{IsChecked}
-use Rattle.pool_check.specs.Sums.{HaveSums}
+use Rattle.rrb_core.specs.Vector.{HaveSums}
 
 -- how many of the rows are cells, and how many nodes
 abbrev pub cells_of : {K : Type 0} → List (Form K) → ℕ

@@ -1,6 +1,7 @@
 -- Vectors in a heap: the fill rule with the sums of inner rows.
 use Rattle.std.specs.Prelude.{◌≡◌, ◌↔◌, ℕ, zero, suc, ◌+◌, ◌-◌, ◌^◌, ◌<◌, List, [], length, take, Option, Some, None, slice_index}
 use Rattle.std.specs.List.{All, flat_map}
+use Rattle.node_heap.specs.Links.{count, Reaches}
 use Rattle.node_heap.specs.Forms.{Forms, Row, cell, node, sums_of}
 use Rattle.node_heap.specs.Heap.{Heap, row_at, form_at, links_at}
 use Rattle.node_heap.specs.Calls.{KeepsBelow}
@@ -39,6 +40,10 @@ module _ {T : Type 0} where
   -- the height of the row that a link names
   abbrev pub height_at : Heap T → ℕ → ℕ
   height_at h l = height_in (form_at h) l
+
+  -- every inner row that these roots reach keeps the sums that a row of a good vector keeps
+  abbrev pub HaveSums : Heap T → List ℕ → Type 0
+  HaveSums h roots = (r l : ℕ) → 0 < count r roots → Reaches (links_at h) r l → HasSums h (height_at h l) l
 
   -- the links of the elements of the vector with this root
   abbrev pub elements : Heap T → ℕ → List ℕ

@@ -7,7 +7,7 @@ use Rattle.node_heap.specs.Heap.{Heap, row_at, form_at, links_at, IsGraph}
 use Rattle.node_heap.proofs.Reach.{Reaches-by}
 use Rattle.node_heap.proofs.Trees.{links_of-form}
 use Rattle.rrb_core.specs.Seq.{IsWellShaped}
-use Rattle.rrb_core.specs.Vector.{IsGoodVector}
+use Rattle.rrb_core.specs.Vector.{IsGoodVector, HaveSums}
 use Rattle.pool_order.specs.Order.{order}
 use Rattle.pool_text.specs.Pool.{forms_in, place_in, pool, pool_at}
 use Rattle.pool_text.specs.Renaming.{IsRenamed, IsRooted}
@@ -16,7 +16,6 @@ use Rattle.pool_text.proofs.Held.{rooted-forms, texts-are-forms}
 use Rattle.pool_text.proofs.Renamed.{map-found, map-back, count-map, renamed-below, renamed-links, renamed-link}
 use Rattle.pool_text.proofs.Ordered.{pool-roots}
 use Rattle.pool_text.proofs.PoolRows.{pool-back, place-back}
-use Rattle.pool_check.specs.Sums.{HaveSums}
 use Rattle.pool_check.proofs.VectorReadings.{vector-reads-the-same}
 use Rattle.shell_terms.specs.Edit.{Bytes}
 use Rattle.plain_space.specs.Workspace.{Workspace}

@@ -6,7 +6,7 @@ use Rattle.pool_text.specs.Pool.{pool_at}
 use Rattle.pool_text.specs.Renaming.{AreLive}
 use Rattle.pool_text.specs.declared.pool.Pool.{Pool}
 use Rattle.pool_check.specs.Damages.{IsValid}
-use Rattle.pool_check.specs.Sums.{HaveSums}
+use Rattle.rrb_core.specs.Vector.{HaveSums}
 use Rattle.shell_terms.specs.Edit.{Bytes}
 use Rattle.plain_space.specs.Workspace.{Workspace}
 use Rattle.state_rows.specs.Standing.{StandsFor, HeapStandsFor}
