@@ -1,33 +1,33 @@
 -- What a new space keeps.
-use Rattle.std.proofs.Common.{◌≡◌, ℕ, ◌≤◌, List, [], ◌∷◌, length, IsSome, None, ap, sym, subst, arith}
+use Rattle.std.proofs.Common.{◌≡◌, ℕ, ◌≤◌, List, [], length, IsSome, None, refl, ap, sym, subst, arith}
 use Rattle.std.specs.FinMap as map
 use Rattle.elem_core.specs.declared.codes.TheConstants.{CODE_BITS}
 use Rattle.node_heap.specs.Links.{count}
 use Rattle.node_heap.specs.Heap.{Heap, row_at, holds_at, hold_count}
-use Rattle.node_heap.proofs.BuildLemmas.{count-cons}
+use Rattle.node_heap.specs.Calls.{Answered}
+use Rattle.node_heap.proofs.Counts.{test_same}
 use Rattle.shell_terms.specs.Edit.{Bytes}
 use Rattle.plain_space.specs.Workspace.{blank, start}
 use Rattle.state_rows.specs.Stay.{StandsOn}
-use Rattle.state_rows.specs.Growth.{Grows}
 use Rattle.state_rows.specs.InHeap.{IsStateIn, AreVersionsIn, IsHistoryIn}
 use Rattle.state_rows.specs.Standing.{IsBase}
 use Rattle.state_rows.proofs.Staying.{states-stay}
 use Rattle.space_state.specs.declared.roots.Batch.TheVariants.{Closed}
 use Rattle.space_state.specs.declared.roots.RootedHeap.{RootedHeap}
 use Rattle.space_state.specs.Roots.{base_of, Keeps}
-use Rattle.space_state.proofs.Keeping.{first-counts, roots-count, keeps-of}
+use Rattle.space_state.proofs.Keeping.{roots-count, keeps-of}
 
--- what a step gains is there
-gained-there : {old new : Heap Bytes} {l c n : ℕ} → Grows old new [] (l ∷ []) c n → IsSome (row_at new l)
-gained-there {l = l} g = g.graph.held l (omega (arith, g.holds l, first-counts l []))
+-- what a call gives is there
+gained-there : {old new : Heap Bytes} {l c n : ℕ} → Answered old new [] l c n → IsSome (row_at new l)
+gained-there {l = l} a = a.graph.held l (omega (arith, a.holds l, test_same l l refl))
 
--- what is there stands on through a step
-stays : {old new : Heap Bytes} {spent gained : List ℕ} {c n : ℕ} → Grows old new spent gained c n → (bits k : ℕ) → IsSome (row_at old k) → StandsOn old new bits k
-stays {old} {new} g bits k live = states-stay old new bits k (g.extends.kept k live)
+-- what is there stands on through a call
+stays : {old new : Heap Bytes} {spent : List ℕ} {l c n : ℕ} → Answered old new spent l c n → (bits k : ℕ) → IsSome (row_at old k) → StandsOn old new bits k
+stays {old} {new} a bits k live = states-stay old new bits k (a.extends.kept k live)
 
--- four steps from a heap without holds make the roots of a space that has nothing
+-- four calls from a heap without holds make the roots of a space that has nothing
 pub starts : (s : RootedHeap) (h0 h1 h2 h3 : Heap Bytes) → s.roots.batch ≡ Closed → s.bits ≤ CODE_BITS → ((k : ℕ) → holds_at h0 k ≡ 0) → hold_count h0 ≡ 0
-    → Grows h0 h1 [] (s.roots.current ∷ []) 0 3 → Grows h1 h2 [] (s.roots.versions ∷ []) 0 1 → Grows h2 h3 [] (s.roots.undo ∷ []) 0 1 → Grows h3 s.heap [] (s.roots.redo ∷ []) 0 1
+    → Answered h0 h1 [] s.roots.current 0 3 → Answered h1 h2 [] s.roots.versions 0 1 → Answered h2 h3 [] s.roots.undo 0 1 → Answered h3 s.heap [] s.roots.redo 0 1
     → IsStateIn h1 s.bits s.roots.current blank → AreVersionsIn h2 s.bits s.roots.versions map.empty → IsHistoryIn h3 s.bits s.roots.undo [] → IsHistoryIn s.heap s.bits s.roots.redo [] → Keeps s [] start
 starts s h0 h1 h2 h3 closed small unheld none g1 g2 g3 g4 state versions undo redo =
     let c : ℕ = s.roots.current in
@@ -50,10 +50,6 @@ starts s h0 h1 h2 h3 closed small unheld none g1 g2 g3 g4 state versions undo re
       g2.holds k,
       g3.holds k,
       g4.holds k,
-      count-cons k c [],
-      count-cons k v [],
-      count-cons k u [],
-      count-cons k r [],
       roots-count s.roots k,
       ap (count k) base,
-    )) (omega (arith, none, g1.total, g2.total, g3.total, g4.total, ap (λ (ls : List ℕ). length ls) base))
+    )) (omega (arith, none, g1.count, g2.count, g3.count, g4.count, ap (λ (ls : List ℕ). length ls) base))

@@ -16,7 +16,6 @@ use Rattle.node_heap.specs.Forms.{cell, form_of}
 use Rattle.node_heap.specs.Heap.{Heap, form_at, holds_at, hold_count, HasSpares, IsGraph}
 use Rattle.node_heap.specs.Calls.{Extends, Adds, Makes, Answered, Releases}
 use Rattle.node_heap.proofs.Frames.{Extends-trans}
-use Rattle.node_heap.proofs.GraphLemmas.{IsGraph-kinds}
 use Rattle.node_heap.proofs.BuildLemmas.{count-cons}
 use Rattle.champ_chain.proofs.SetLemmas.{count-cons as counted}
 use Rattle.rrb_core.specs.Vector.{IsGoodVector, elements, height_at}
@@ -41,7 +40,6 @@ use Rattle.plain_space.specs.Edited.{edited}
 use Rattle.plain_space.specs.Answer.{answer, done, becomes}
 use Rattle.plain_space.specs.Cost.{alike_buffers, edit_cost, cost}
 use Rattle.plain_space.specs.Memory.{MayLackMemory}
-use Rattle.state_rows.specs.Growth.{Grows}
 use Rattle.state_rows.specs.Reading.{IsText}
 use Rattle.state_rows.specs.InHeap.{AreLinesIn, IsStateIn}
 use Rattle.state_rows.proofs.Staying.{states-stay}
@@ -49,7 +47,7 @@ use Rattle.state_rows.proofs.Keys.{by_bytes}
 use Rattle.space_state.specs.declared.roots.RootedHeap.{RootedHeap}
 use Rattle.space_state.specs.Roots.{Keeps}
 use Rattle.space_state.specs.Turns.{IsDue, IsSame, TurnsTo, IsCarriedOut, IsRefused}
-use Rattle.space_state.proofs.Keeping.{Rises, rises-grows, rises-then, rises-same, rises-more, keeps-extended, keeps-gained, keeps-same, grows-cell, keeps-turned, keeps-swapped, keeps-released, released-stands, first-held, first-counts, unchanged-stands, turns-after}
+use Rattle.space_state.proofs.Keeping.{Rises, rises-answered, rises-then, rises-same, rises-more, keeps-extended, keeps-gained, keeps-same, answered-cell, keeps-turned, keeps-swapped, keeps-released, released-stands, first-held, first-counts, unchanged-stands, turns-after}
 
 -- ## Lists that go together
 
@@ -369,7 +367,7 @@ pub record HasText (s t : RootedHeap) (mid : Heap Bytes) (k l : ℕ) (key name t
   pub room : MadeRoom s t key name W
   pub lines : HasLines s (record t { heap = mid }) l name W
   pub keeps : Keeps t [] W
-  pub grows : Grows t.heap mid [] (k ∷ []) 1 0
+  pub answered : Answered t.heap mid [] k 1 0
   pub held : 0 < holds_at mid k
   pub nodes : 128 ≤ mid.spare_nodes
   pub adds : Adds t.heap mid k (cell text)
@@ -379,25 +377,19 @@ pub has-text : {s t : RootedHeap} {mid : Heap Bytes} {k l : ℕ} {key name made 
     → IsCell text → made ≡ text → Adds t.heap mid k (cell made) → Makes t.heap mid 1 0 → hold_count mid ≡ hold_count t.heap + 1 → IsGraph mid → Extends t.heap mid → HasText s t mid k l key name text W
 has-text {s} {t} {mid} {k} {l} {key} {name} {made} {text} {W} K room is cell_is same_text adds makes total graph extends =
     let lines = found-lines s l W.current name is in
-    let grows = grows-cell extends graph adds total makes in
+    let answered = answered-cell extends graph adds total makes in
     record {
       room = room;
       lines = record { xs = lines.0; found = lines.1; before = lines.2; now = lines-stay extends (lines-same room.same lines.2) };
       keeps = keeps-same room.same K;
-      grows = grows;
-      held = first-held (keeps-gained (keeps-same room.same K) grows);
+      answered = answered;
+      held = first-held (keeps-gained (keeps-same room.same K) answered);
       nodes = omega (arith, room.spares.1, makes.spare_nodes);
       adds = subst (λ (b : Bytes). Adds t.heap mid k (cell b)) same_text adds;
       is = cell_is;
     }
 
 -- ## Vectors that were made
-
-pub rises-answered : {old new : Heap Bytes} {spent : List ℕ} {l c n : ℕ} → Answered old new spent l c n → Rises old new (c + n)
-rises-answered {old} {new} a = record {
-  few = omega (arith, IsGraph-kinds old, IsGraph-kinds new, a.cells, a.nodes);
-  made = (omega (arith, a.balance.no_fewer), omega (arith, a.balance.made));
-}
 
 -- a vector of these lines was made of so many spares, and is held besides
 pub record IsMade (s : RootedHeap) (new : Heap Bytes) (b : List ℕ) (l : ℕ) (xs : List Bytes) (W : Workspace) (c n : ℕ) : Type 0 where
@@ -418,22 +410,22 @@ made-by {s} {new} {b} {l} {xs} {W} {c} {n} K a lines = record {
 }
 
 -- a call made it that spends the hold of a new cell
-pub made-with : {s : RootedHeap} {mid new : Heap Bytes} {k l : ℕ} {xs : List Bytes} {W : Workspace} {n : ℕ} → Keeps s [] W → Grows s.heap mid [] (k ∷ []) 1 0 → Answered mid new (k ∷ []) l 0 n
+pub made-with : {s : RootedHeap} {mid new : Heap Bytes} {k l : ℕ} {xs : List Bytes} {W : Workspace} {n : ℕ} → Keeps s [] W → Answered s.heap mid [] k 1 0 → Answered mid new (k ∷ []) l 0 n
     → AreLinesIn new s.bits l xs → IsMade s new [] l xs W 1 n
 made-with {s} {mid} {new} {k} {l} {xs} {W} {n} K g a lines = record {
-  keeps = keeps-extended (l ∷ []) K (Extends-trans g.extends a.extends) a.graph (λ j. omega (arith, g.holds j, a.holds j, count-cons j l [])) (omega (arith, g.total, a.count));
+  keeps = keeps-extended (l ∷ []) K (Extends-trans g.extends a.extends) a.graph (λ j. omega (arith, g.holds j, a.holds j, count-cons j l [])) (omega (arith, g.count, a.count));
   lines = lines;
-  rises = rises-more (1 + n) (rises-then (rises-grows g) (rises-answered a)) (omega arith);
+  rises = rises-more (1 + n) (rises-then (rises-answered g) (rises-answered a)) (omega arith);
   cells = omega (arith, g.cells, g.balance.spare_cells, a.cells, a.balance.spare_cells);
   nodes = omega (arith, g.nodes, g.balance.spare_nodes, a.nodes, a.balance.spare_nodes);
 }
 
 -- a hold more of a vector that is there is one made of nothing
-pub made-again : {s : RootedHeap} {new : Heap Bytes} {k l : ℕ} {xs : List Bytes} {W : Workspace} → Keeps s [] W → Grows s.heap new [] (k ∷ []) 0 0 → k ≡ l → AreLinesIn s.heap s.bits l xs → IsMade s new [] k xs W 0 0
+pub made-again : {s : RootedHeap} {new : Heap Bytes} {k l : ℕ} {xs : List Bytes} {W : Workspace} → Keeps s [] W → Answered s.heap new [] k 0 0 → k ≡ l → AreLinesIn s.heap s.bits l xs → IsMade s new [] k xs W 0 0
 made-again {s} {new} {k} {l} {xs} K g same lines = record {
   keeps = keeps-gained K g;
   lines = subst (λ (v : ℕ). AreLinesIn new s.bits v xs) (sym same) (lines-stay g.extends lines);
-  rises = rises-grows g;
+  rises = rises-answered g;
   cells = omega (arith, g.cells, g.balance.spare_cells);
   nodes = omega (arith, g.nodes, g.balance.spare_nodes);
 }
@@ -441,7 +433,7 @@ made-again {s} {new} {k} {l} {xs} K g same lines = record {
 -- the vector that an edit made with the new cell
 module _ {s t : RootedHeap} {mid new : Heap Bytes} {k l v n : ℕ} {key name text : Bytes} {W : Workspace} (has : HasText s t mid k l key name text W) (a : Answered mid new (k ∷ []) v 0 n) (good : IsGoodVector new v) where
   made-of : (es : List ℕ) (ys : List Bytes) → elements new v ≡ es → AreTexts new t.bits es ys → IsMade t new [] v ys W 1 n
-  made-of es ys items texts = made-with has.keeps has.grows a (lines-are es good items texts)
+  made-of es ys items texts = made-with has.keeps has.answered a (lines-are es good items texts)
 
   kept : AreTexts new t.bits (elements mid l) has.lines.xs
   kept = texts-stay a.extends has.lines.now
@@ -495,12 +487,12 @@ pub record HasFirst (s : RootedHeap) (mid : Heap Bytes) (m l : ℕ) (key : Bytes
   pub state : IsStateIn mid s.bits m (with_lines W.current key xs)
   pub lines : AreLinesIn mid s.bits l ys
 
-pub has-first : {s : RootedHeap} {mid : Heap Bytes} {k l m c n : ℕ} {key : Bytes} {xs ys : List Bytes} {W : Workspace} → Keeps s (k ∷ l ∷ []) W → Grows s.heap mid (k ∷ []) (m ∷ []) c n
+pub has-first : {s : RootedHeap} {mid : Heap Bytes} {k l m c n : ℕ} {key : Bytes} {xs ys : List Bytes} {W : Workspace} → Keeps s (k ∷ l ∷ []) W → Answered s.heap mid (k ∷ []) m c n
     → IsStateIn mid s.bits m (with_lines W.current key xs) → AreLinesIn s.heap s.bits l ys → HasFirst s mid m l key xs ys W
 has-first K g is are = record { keeps = keeps-swapped (keeps-turned K g); state = is; lines = lines-stay g.extends are }
 
 -- the spares that the first leaves
-pub first-spares : {old mid : Heap Bytes} {spent gained : List ℕ} (bits : ℕ) (now : State) (key other : Bytes) (xs : List Bytes) → Grows old mid spent gained 1 (10 + alike_buffers bits now key)
+pub first-spares : {old mid : Heap Bytes} {spent : List ℕ} {l : ℕ} (bits : ℕ) (now : State) (key other : Bytes) (xs : List Bytes) → Answered old mid spent l 1 (10 + alike_buffers bits now key)
     → HasSpares old 2 (31 + alike_buffers bits now key + alike_buffers bits now other) → HasSpares mid 1 (20 + alike_buffers bits (with_lines now key xs) other)
 first-spares bits now key other xs g spares =
     (omega (arith, g.cells, g.balance.spare_cells, spares.0), omega (arith, g.nodes, g.balance.spare_nodes, spares.1, alike-with bits now key xs other))
@@ -510,17 +502,17 @@ pub record HasSecond (s : RootedHeap) (new : Heap Bytes) (n m : ℕ) (key other 
   pub keeps : Keeps (record s { heap = new }) (m ∷ n ∷ []) W
   pub state : IsStateIn new s.bits n (with_lines (with_lines W.current key xs) other ys)
 
-pub has-second : {s : RootedHeap} {mid new : Heap Bytes} {l m n c d : ℕ} {key other : Bytes} {xs ys : List Bytes} {W : Workspace} → HasFirst s mid m l key xs ys W → Grows mid new (l ∷ []) (n ∷ []) c d
+pub has-second : {s : RootedHeap} {mid new : Heap Bytes} {l m n c d : ℕ} {key other : Bytes} {xs ys : List Bytes} {W : Workspace} → HasFirst s mid m l key xs ys W → Answered mid new (l ∷ []) n c d
     → IsStateIn new s.bits n (with_lines (with_lines W.current key xs) other ys) → HasSecond s new n m key other xs ys W
 has-second first g is = record { keeps = keeps-swapped (keeps-turned first.keeps g); state = is }
 
-pub second-spares : {old new : Heap Bytes} {spent gained : List ℕ} (n : ℕ) → Grows old new spent gained 1 (10 + n) → HasSpares old 1 (20 + n) → HasSpares new 0 10
+pub second-spares : {old new : Heap Bytes} {spent : List ℕ} {l : ℕ} (n : ℕ) → Answered old new spent l 1 (10 + n) → HasSpares old 1 (20 + n) → HasSpares new 0 10
 second-spares n g spares = (omega arith, omega (arith, g.nodes, g.balance.spare_nodes, spares.1))
 
-pub second-rises : {old mid new : Heap Bytes} {us vs xs ys : List ℕ} (bits : ℕ) (now : State) (key other : Bytes) (zs : List Bytes) → Grows old mid us vs 1 (10 + alike_buffers bits now key)
-    → Grows mid new xs ys 1 (10 + alike_buffers bits (with_lines now key zs) other) → Rises old new (23 + (alike_buffers bits now key + alike_buffers bits now other))
+pub second-rises : {old mid new : Heap Bytes} {us xs : List ℕ} {v y : ℕ} (bits : ℕ) (now : State) (key other : Bytes) (zs : List Bytes) → Answered old mid us v 1 (10 + alike_buffers bits now key)
+    → Answered mid new xs y 1 (10 + alike_buffers bits (with_lines now key zs) other) → Rises old new (23 + (alike_buffers bits now key + alike_buffers bits now other))
 second-rises bits now key other zs f g =
-    rises-more (23 + (alike_buffers bits now key + alike_buffers bits now other)) (rises-then (rises-grows f) (rises-grows g)) (omega (arith, alike-with bits now key zs other))
+    rises-more (23 + (alike_buffers bits now key + alike_buffers bits now other)) (rises-then (rises-answered f) (rises-answered g)) (omega (arith, alike-with bits now key zs other))
 
 -- the state between is given up
 pub record HasTurned (s : RootedHeap) (new : Heap Bytes) (n : ℕ) (x : State) (W : Workspace) : Type 0 where
@@ -571,13 +563,13 @@ edit-done {s} {t} {u} {new} {l} {c} {n} {xs} {W} {key} {name} change room m made
     }
 
 -- room was made, and the state turned to the one in which the buffer is gone
-pub drop-done : {s t u : RootedHeap} {new : Heap Bytes} {spent gained : List ℕ} {W : Workspace} {name : Bytes} (xs : List Bytes) → IsSame s t → Grows t.heap new spent gained 0 (8 + alike_buffers t.bits W.current name)
+pub drop-done : {s t u : RootedHeap} {new : Heap Bytes} {spent : List ℕ} {l : ℕ} {W : Workspace} {name : Bytes} (xs : List Bytes) → IsSame s t → Answered t.heap new spent l 0 (8 + alike_buffers t.bits W.current name)
     → lines_of W.current name ≡ Some xs → is_full W ≡ false → TurnsTo (record t { heap = new }) u [] 10 (with_current W (without_lines W.current name)) → IsCarriedOut (edit (drop_buffer name)) s u W
 drop-done {s} {t} {u} {new} {W = W} {name = name} xs same g there free turn =
     record {
       after = with_current W (without_lines W.current name);
       told = does W (drop_buffer name) (without_lines W.current name) (drop-made W.current name xs there) free;
-      turns = turns-after (0 + (0 + (8 + alike_buffers t.bits W.current name))) (cost s.bits (edit (drop_buffer name)) W) (rises-then (rises-same same.heap) (rises-grows g)) same.bits turn
+      turns = turns-after (0 + (0 + (8 + alike_buffers t.bits W.current name))) (cost s.bits (edit (drop_buffer name)) W) (rises-then (rises-same same.heap) (rises-answered g)) same.bits turn
           (omega (arith, alike-same same W.current name, cost-edit s.bits (drop_buffer name) W));
     }
 

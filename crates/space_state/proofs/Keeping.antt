@@ -1,4 +1,4 @@
--- How what a rooted heap keeps follows from one call to the next: what grows, what is released, which root is another, and how
+-- How what a rooted heap keeps follows from one call to the next: what calls answer, what is released, which root is another, and how
 -- far the rows rise.
 use Rattle.std.proofs.Common.{◌≡◌, ℕ, ◌+◌, ◌^◌, ◌<◌, ◌≤◌, List, [], ◌∷◌, length, true, false, eqb, Option, Some, None, IsSome, refl, sym, ap, subst, ◌∙◌, arith, length-append}
 use Rattle.std.proofs.lemmas.Bool.Decides.{nat_tests}
@@ -6,17 +6,16 @@ use Rattle.elem_core.specs.declared.codes.TheConstants.{CODE_BITS}
 use Rattle.node_heap.specs.Links.{count}
 use Rattle.node_heap.specs.Forms.{cell}
 use Rattle.node_heap.specs.Heap.{Heap, row_at, holds_at, hold_count, live_count, one_at, form_at, IsGraph}
-use Rattle.node_heap.specs.Calls.{Extends, Makes, Releases, Unchanged, Adds}
+use Rattle.node_heap.specs.Calls.{Extends, Makes, Releases, Unchanged, Adds, Answered}
 use Rattle.node_heap.proofs.Counts.{test_same}
 use Rattle.node_heap.proofs.Frames.{KeepsHeld-Releases, Balances-Makes, Unchanged-refl, Unchanged-trans}
 use Rattle.node_heap.proofs.GraphLemmas.{IsGraph-kinds}
 use Rattle.node_heap.proofs.BuildLemmas.{count-cons, count-append}
-use Rattle.rrb_core.specs.Vector.{IsGoodVector, elements}
+use Rattle.rrb_core.specs.Vector.{IsGoodVector, elements, height_at}
 use Rattle.champ_kinds.proofs.ZipLemmas.{zip-length}
 use Rattle.shell_terms.specs.Edit.{Bytes}
 use Rattle.plain_space.specs.Workspace.{Named, State, Workspace, most, in_batch, is_full}
 use Rattle.state_rows.specs.Stay.{StandsOn}
-use Rattle.state_rows.specs.Growth.{Grows}
 use Rattle.state_rows.specs.Reading.{IsText}
 use Rattle.state_rows.specs.InHeap.{AreLinesIn, IsStateIn, AreVersionsIn, IsHistoryIn}
 use Rattle.state_rows.specs.Standing.{IsBase, HeapStandsFor}
@@ -164,39 +163,31 @@ keeps-extended {s} {b} {W} {new} b' K extends graph holds total =
     (roots-stay s.heap new s.bits s.roots W (λ l some. held-stands K extends l (root-held K l some)) K.stands)
     (λ k. omega (arith, keeps-holds K k, holds k)) (omega (arith, keeps-total K, total))
 
--- a step: what is besides may be other links, by what was spent and gained
-pub keeps-grows : {s : RootedHeap} {b : List ℕ} {W : Workspace} {new : Heap Bytes} {spent gained : List ℕ} {c n : ℕ} (b' : List ℕ) → Keeps s b W → Grows s.heap new spent gained c n
-    → ((k : ℕ) → count k b' + count k spent ≡ count k b + count k gained) → length b' + length spent ≡ length b + length gained → Keeps (record s { heap = new }) b' W
-keeps-grows b' K g counts lengths =
-    keeps-extended b' K g.extends g.graph (λ k. omega (arith, g.holds k, counts k)) (omega (arith, g.total, lengths))
-
--- a link more is held
-pub keeps-gained : {s : RootedHeap} {b : List ℕ} {W : Workspace} {new : Heap Bytes} {l c n : ℕ} → Keeps s b W → Grows s.heap new [] (l ∷ []) c n → Keeps (record s { heap = new }) (l ∷ b) W
-keeps-gained {b = b} {l = l} K g = keeps-grows (l ∷ b) K g (λ k. omega (arith, count-cons k l b, count-cons k l [])) (omega arith)
+-- a call that answers holds a link more
+pub keeps-gained : {s : RootedHeap} {b : List ℕ} {W : Workspace} {new : Heap Bytes} {l c n : ℕ} → Keeps s b W → Answered s.heap new [] l c n → Keeps (record s { heap = new }) (l ∷ b) W
+keeps-gained {b = b} {l = l} K a = keeps-extended (l ∷ b) K a.extends a.graph (λ k. omega (arith, a.holds k, count-cons k l b)) (omega (arith, a.count))
 
 -- one link is held in place of another
-pub keeps-turned : {s : RootedHeap} {b : List ℕ} {W : Workspace} {new : Heap Bytes} {l k c n : ℕ} → Keeps s (l ∷ b) W → Grows s.heap new (l ∷ []) (k ∷ []) c n → Keeps (record s { heap = new }) (k ∷ b) W
-keeps-turned {b = b} {l = l} {k = k} K g =
-    keeps-grows (k ∷ b) K g (λ n. omega (arith, count-cons n k b, count-cons n k [], count-cons n l b, count-cons n l [])) (omega arith)
+pub keeps-turned : {s : RootedHeap} {b : List ℕ} {W : Workspace} {new : Heap Bytes} {l k c n : ℕ} → Keeps s (l ∷ b) W → Answered s.heap new (l ∷ []) k c n → Keeps (record s { heap = new }) (k ∷ b) W
+keeps-turned {b = b} {l = l} {k = k} K a =
+    keeps-extended (k ∷ b) K a.extends a.graph (λ n. omega (arith, a.holds n, count-cons n k b, count-cons n l b, count-cons n l [])) (omega (arith, a.count))
 
--- a hold more of a row, or a new row that is held once, is a step
-pub grows-one : {old new : Heap Bytes} {l c n : ℕ} → Extends old new → IsGraph new → ((k : ℕ) → holds_at new k ≡ holds_at old k + one_at l k) → hold_count new ≡ hold_count old + 1 → Makes old new c n
-    → Grows old new [] (l ∷ []) c n
-grows-one {l = l} extends graph holds total makes = record {
+-- a hold more of a row, or a new row that is held once, is as a call that answers
+pub answered-one : {old new : Heap Bytes} {l c n : ℕ} → Extends old new → IsGraph new → ((k : ℕ) → holds_at new k ≡ holds_at old k + one_at l k) → hold_count new ≡ hold_count old + 1 → Makes old new c n
+    → Answered old new [] l c n
+answered-one extends graph holds total makes = record {
   extends = extends;
   graph = graph;
-  holds = λ k. omega (arith, holds k, count-cons k l []);
-  total = omega (arith, total);
-  more = omega (arith, makes.live);
+  holds = λ k. omega (arith, holds k);
+  count = omega (arith, total);
   cells = omega (arith, makes.cells);
   nodes = omega (arith, makes.nodes);
   balance = Balances-Makes makes;
-  just = omega (arith, makes.made, makes.live);
 }
 
--- a new cell is a step
-pub grows-cell : {old new : Heap Bytes} {l : ℕ} {text : Bytes} → Extends old new → IsGraph new → Adds old new l (cell text) → hold_count new ≡ hold_count old + 1 → Makes old new 1 0 → Grows old new [] (l ∷ []) 1 0
-grows-cell extends graph adds total makes = grows-one extends graph (λ k. omega (arith, adds.holds k)) total makes
+-- a new cell is so too
+pub answered-cell : {old new : Heap Bytes} {l : ℕ} {text : Bytes} → Extends old new → IsGraph new → Adds old new l (cell text) → hold_count new ≡ hold_count old + 1 → Makes old new 1 0 → Answered old new [] l 1 0
+answered-cell extends graph adds total makes = answered-one extends graph (λ k. omega (arith, adds.holds k)) total makes
 
 -- ## Where nothing changes but spares
 
@@ -332,6 +323,10 @@ has-room W is outside room =
 pub full-inside : (W : Workspace) → in_batch W ≡ true → is_full W ≡ false
 full-inside W inside = rw inside refl
 
+-- the root of a history is low
+pub history-low : {h : Heap Bytes} {bits l : ℕ} {ss : List State} → IsHistoryIn h bits l ss → height_at h l ≤ 7
+history-low is = is.vector.shape.low
+
 -- ## How far the rows rise
 
 -- so many rows more at most, and the number made rises by no fewer than came
@@ -339,11 +334,18 @@ pub record Rises (old new : Heap Bytes) (m : ℕ) : Type 0 where
   pub few : live_count new ≤ live_count old + m
   pub made : RowsRise old new
 
-pub rises-grows : {old new : Heap Bytes} {spent gained : List ℕ} {c n : ℕ} → Grows old new spent gained c n → Rises old new (c + n)
-rises-grows {old} {new} g = record {
-  few = omega (arith, IsGraph-kinds old, IsGraph-kinds new, g.cells, g.nodes);
-  made = (omega (arith, g.balance.no_fewer), omega (arith, g.balance.made));
+pub rises-answered : {old new : Heap Bytes} {spent : List ℕ} {l c n : ℕ} → Answered old new spent l c n → Rises old new (c + n)
+rises-answered {old} {new} a = record {
+  few = omega (arith, IsGraph-kinds old, IsGraph-kinds new, a.cells, a.nodes);
+  made = (omega (arith, a.balance.no_fewer), omega (arith, a.balance.made));
 }
+
+pub rises-more : {old new : Heap Bytes} {m : ℕ} (m' : ℕ) → Rises old new m → m ≤ m' → Rises old new m'
+rises-more m' r more = record { few = omega (arith, r.few, more); made = r.made }
+
+-- the same of a call that makes nodes alone, with more room
+pub rises-nodes : {old new : Heap Bytes} {spent : List ℕ} {l n : ℕ} (m : ℕ) → Answered old new spent l 0 n → n ≤ m → Rises old new m
+rises-nodes m a few = rises-more m (rises-answered a) (omega (arith, few))
 
 pub rises-makes : {old new : Heap Bytes} {c n : ℕ} → Makes old new c n → Rises old new (c + n)
 rises-makes makes = record {
@@ -365,9 +367,6 @@ rises-same same = record {
 
 pub rises-refl : (h : Heap Bytes) → Rises h h 0
 rises-refl h = record { few = omega arith; made = (omega arith, omega arith) }
-
-pub rises-more : {old new : Heap Bytes} {m : ℕ} (m' : ℕ) → Rises old new m → m ≤ m' → Rises old new m'
-rises-more m' r more = record { few = omega (arith, r.few, more); made = r.made }
 
 pub rises-then : {old mid new : Heap Bytes} {m m' : ℕ} → Rises old mid m → Rises mid new m' → Rises old new (m + m')
 rises-then first second = record {

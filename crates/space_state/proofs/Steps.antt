@@ -4,7 +4,7 @@ use Rattle.std.specs.Prelude.{IsErrAnd, MatchResult, MatchBool}
 use Rattle.std.proofs.lemmas.Bool.{le-leb}
 use Rattle.std.specs.FinMap as map
 use Rattle.node_heap.specs.Heap.{Heap}
-use Rattle.node_heap.specs.Calls.{Makes, SameRows, Unchanged}
+use Rattle.node_heap.specs.Calls.{Answered, Makes, SameRows, Unchanged}
 use Rattle.rrb_core.specs.Vector.{elements}
 use Rattle.shell_terms.specs.Edit.{Bytes, star, unstar}
 use Rattle.shell_terms.specs.Command.{PlainCommand, edit, mark, unmark, back, undo, redo, begin, «end», abort}
@@ -16,7 +16,6 @@ use Rattle.plain_space.specs.Answer.{answer, done}
 use Rattle.plain_space.specs.Memory.{wants_memory, MayLackMemory}
 use Rattle.state_rows.specs.Reading.{StandsIfThere}
 use Rattle.state_rows.specs.InHeap.{IsStateIn, IsHistoryIn}
-use Rattle.state_rows.specs.Growth.{Grows}
 use Rattle.state_rows.specs.Standing.{IsBase}
 use Rattle.space_state.specs.declared.roots.RootedHeap.{RootedHeap}
 use Rattle.space_state.specs.declared.roots.Batch.{Batch as Batches}
@@ -24,7 +23,7 @@ use Rattle.space_state.specs.declared.roots.Batch.TheVariants.{Closed, Open}
 use Rattle.space_state.specs.Roots.{base_of, Keeps}
 use Rattle.space_state.specs.Turns.{IsSame, IsCarriedOut, IsRefused}
 use Rattle.state_rows.proofs.Staying.{states-stay}
-use Rattle.space_state.proofs.Keeping.{history-length, history-short, same-heap, keeps-same, keeps-gained, keeps-swapped, first-held, held-stands, unchanged-stands, Rises, rises-grows, rises-same, rises-then}
+use Rattle.space_state.proofs.Keeping.{history-length, history-short, same-heap, keeps-same, keeps-gained, keeps-swapped, first-held, held-stands, unchanged-stands, Rises, rises-answered, rises-nodes, rises-same, rises-then}
 
 -- a list with fewer than the most elements has room for one more
 fits-one : (n : ℕ) → n < most → leb (n + 1) most ≡ true
@@ -251,20 +250,20 @@ pub record Stepped (s : RootedHeap) (new : Heap Bytes) (state shorter : ℕ) (W 
 
 -- the state was held, after room was made
 pub held-once : {s : RootedHeap} {roomy new : Heap Bytes} {state : ℕ} {W : Workspace} {x : State} → Keeps s [] W → IsStateIn s.heap s.bits state x → Unchanged s.heap roomy → SameRows roomy new
-    → Grows roomy new [] (state ∷ []) 0 0 → Keeps (record s { heap = new }) (state ∷ []) W × IsStateIn new s.bits state x
+    → Answered roomy new [] state 0 0 → Keeps (record s { heap = new }) (state ∷ []) W × IsStateIn new s.bits state x
 held-once {s} {roomy} {new} {state} {x = x} K is room same once = (
   keeps-gained (keeps-same (same-heap room) K) once,
   (states-stay roomy new s.bits state (λ m down. same m)).state x ((unchanged-stands s.bits room state).state x is),
 )
 
-pub stepped : {s : RootedHeap} {roomy mid new : Heap Bytes} {state shorter : ℕ} {W : Workspace} {x : State} → Keeps s [] W → IsStateIn s.heap s.bits state x → Unchanged s.heap roomy → SameRows roomy mid
-    → Grows roomy mid [] (state ∷ []) 0 0 → Grows mid new [] (shorter ∷ []) 0 8 → Stepped s new state shorter W x
-stepped {state = state} {x = x} K is room same once popped =
+pub stepped : {s : RootedHeap} {roomy mid new : Heap Bytes} {state shorter n : ℕ} {W : Workspace} {x : State} → Keeps s [] W → IsStateIn s.heap s.bits state x → Unchanged s.heap roomy → SameRows roomy mid
+    → Answered roomy mid [] state 0 0 → Answered mid new [] shorter 0 n → n ≤ 8 → Stepped s new state shorter W x
+stepped {state = state} {x = x} K is room same once popped few =
     let held = held-once K is room same once in
     record {
       keeps = keeps-swapped (keeps-gained held.0 popped);
       state_is = (held-stands held.0 popped.extends state (first-held held.0)).state x held.1;
-      rises = rises-then (rises-same room) (rises-then (rises-grows once) (rises-grows popped));
+      rises = rises-then (rises-same room) (rises-then (rises-answered once) (rises-nodes 8 popped few));
     }
 
 -- ## Room
@@ -276,9 +275,9 @@ spares-kept old new c k n m spares makes cells nodes same = (omega (arith, spare
 pub spares-suffice : (h : Heap Bytes) (c k n m : ℕ) → (2 ≤ h.spare_cells) × (128 + n ≤ h.spare_nodes) → c ≤ 2 → k ≤ 128 → m ≡ n → (c ≤ h.spare_cells) × (k + m ≤ h.spare_nodes)
 spares-suffice h c k n m spares cells nodes same = (omega (arith, spares.0, cells), omega (arith, spares.1, nodes, same))
 
-pub spares-left : {old new : Heap Bytes} {spent gained : List ℕ} {c : ℕ} (k n m : ℕ) → Grows old new spent gained c (k + m) → (2 ≤ old.spare_cells) × (128 + n ≤ old.spare_nodes) → k ≤ 118 → m ≡ n
+pub spares-left : {old new : Heap Bytes} {spent : List ℕ} {l c : ℕ} (k n m : ℕ) → Answered old new spent l c (k + m) → (2 ≤ old.spare_cells) × (128 + n ≤ old.spare_nodes) → k ≤ 118 → m ≡ n
     → (0 ≤ new.spare_cells) × (10 ≤ new.spare_nodes)
-spares-left k n m grows spares nodes same = (omega arith, omega (arith, spares.1, grows.balance.spare_nodes, grows.nodes, nodes, same))
+spares-left k n m answered spares nodes same = (omega arith, omega (arith, spares.1, answered.balance.spare_nodes, answered.nodes, nodes, same))
 
 -- room for an edit was refused: undo is full, or memory ran out
 pub room-refused : {W : Workspace} {command : PlainCommand} {old new : RootedHeap} (result : Result (Unit {0}) Refusal) (reason : Refusal) (full : Bool) → IsErrAnd result (λ told. told ≡ reason) → MatchBool full (reason ≡ Limit) (reason ≡ Memory)

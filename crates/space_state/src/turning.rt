@@ -5,7 +5,6 @@ ghost use Rattle.node_heap.specs.Heap.{hold_count, HasSpares};
 ghost use Rattle.plain_space.specs.Workspace.{State, Workspace, most, in_batch, is_full, with_current};
 ghost use Rattle.plain_space.specs.Cost.{alike_buffers};
 ghost use Rattle.state_rows.specs.InHeap.{IsStateIn, IsHistoryIn};
-ghost use Rattle.state_rows.specs.Growth.{Grows};
 ghost use Rattle.space_state.specs.Roots.{Keeps};
 ghost use Rattle.space_state.specs.Turns.{IsSame, TurnsTo};
 

@@ -1,6 +1,6 @@
 pub mod Renamed
 pub mod Staying
-pub mod Growth
+pub mod Answering
 pub mod Keys
 pub mod Contents
 pub mod Histories

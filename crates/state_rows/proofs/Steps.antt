@@ -1,11 +1,11 @@
--- What an insertion into a map or a set of names does, and a removal, as steps of an edit.
+-- What an insertion into a map or a set of names does, and a removal, as calls that answer.
 use Rattle.std.proofs.Common.{◌≡◌, ℕ, ◌+◌, ◌≤◌, List, [], ◌∷◌, ap, subst, ◌∙◌, arith}
 use Rattle.std.specs.FinMap as finite
 use Rattle.elem_core.specs.declared.codes.TheConstants.{CODE_BITS}
 use Rattle.elem_core.specs.Naming.{IsName}
 use Rattle.elem_core.specs.Codes.{text_code}
 use Rattle.node_heap.specs.Heap.{Heap, form_at}
-use Rattle.node_heap.specs.Calls.{Answered, MakesJust}
+use Rattle.node_heap.specs.Calls.{Answered}
 use Rattle.champ_chain.specs.Entry.{Entry, entry, others}
 use Rattle.champ_trie.specs.Reach.{alike_to}
 use Rattle.champ_kinds.specs.Root.{Root}
@@ -15,9 +15,8 @@ use Rattle.shell_terms.specs.Edit.{Bytes}
 use Rattle.plain_space.specs.Workspace.{Named, Names}
 use Rattle.plain_space.specs.Cost.{alike}
 use Rattle.state_rows.specs.Reading.{IsNamed, AreNames}
-use Rattle.state_rows.specs.Growth.{Grows}
 use Rattle.state_rows.proofs.Contents.{map-at, set-at, bindings-alike, names-alike, named-insert, named-remove, names-insert, names-remove}
-use Rattle.state_rows.proofs.Growth.{Grows-Answered, Grows-more}
+use Rattle.state_rows.proofs.Answering.{answered-more}
 use Rattle.state_rows.proofs.Keys.{by_bytes}
 
 -- a map of names, named by a root of the same bits
@@ -28,15 +27,15 @@ module _ {X : Type 0} (old : Heap Bytes) (V : ℕ → Type 0) (bits : ℕ) (R : 
   pub map-alike : (key : Bytes) → alike_keys text_code r.bits key is.bindings ≡ alike bits (finite.keys m) key
   map-alike key = ap (λ b. alike_keys text_code b key is.bindings) by ∙ bindings-alike (form_at old) V bits R l m is key
 
-  pub inserted-grows : (new : Heap Bytes) (key : Bytes) (v w : ℕ) → ((M : List (Binding Bytes)) → IsMapOf by_bytes text_code old r M → Answered old new (v ∷ []) w 1 (9 + alike_keys text_code r.bits key M)) → MakesJust old new
-      → Grows old new (v ∷ []) (w ∷ []) 1 (9 + alike bits (finite.keys m) key)
-  inserted-grows new key v w answers just =
-      Grows-more 1 (9 + alike bits (finite.keys m) key) (Grows-Answered (answers is.bindings map-is) just) (omega arith) (omega (arith, map-alike key))
+  pub inserted-answered : (new : Heap Bytes) (key : Bytes) (v w : ℕ) → ((M : List (Binding Bytes)) → IsMapOf by_bytes text_code old r M → Answered old new (v ∷ []) w 1 (9 + alike_keys text_code r.bits key M))
+      → Answered old new (v ∷ []) w 1 (9 + alike bits (finite.keys m) key)
+  inserted-answered new key v w answers =
+      answered-more 1 (9 + alike bits (finite.keys m) key) (answers is.bindings map-is) (omega arith) (omega (arith, map-alike key))
 
-  pub removed-grows : (new : Heap Bytes) (key : Bytes) (w : ℕ) → ((M : List (Binding Bytes)) → IsMapOf by_bytes text_code old r M → Answered old new [] w 0 (7 + alike_keys text_code r.bits key M)) → MakesJust old new
-      → Grows old new [] (w ∷ []) 0 (7 + alike bits (finite.keys m) key)
-  removed-grows new key w answers just =
-      Grows-more 0 (7 + alike bits (finite.keys m) key) (Grows-Answered (answers is.bindings map-is) just) (omega arith) (omega (arith, map-alike key))
+  pub removed-answered : (new : Heap Bytes) (key : Bytes) (w : ℕ) → ((M : List (Binding Bytes)) → IsMapOf by_bytes text_code old r M → Answered old new [] w 0 (7 + alike_keys text_code r.bits key M))
+      → Answered old new [] w 0 (7 + alike bits (finite.keys m) key)
+  removed-answered new key w answers =
+      answered-more 0 (7 + alike bits (finite.keys m) key) (answers is.bindings map-is) (omega arith) (omega (arith, map-alike key))
 
   module _ (new : Heap Bytes) (W : ℕ → Type 0) (S : ℕ → X → Type 0) (so : (k : ℕ) (x : X) → R k x → S k x) (w : Root) (same : w.bits ≡ r.bits) where
     here : (M : List (Binding Bytes)) → IsMapOf by_bytes text_code new w M → IsMapOf by_bytes text_code new (record { root = w.root; bits = bits }) M
@@ -56,15 +55,15 @@ module _ (old : Heap Bytes) (V : ℕ → Type 0) (bits : ℕ) (l : ℕ) (names :
   pub set-alike : (key : Bytes) → alike_to text_code r.bits key is.entries ≡ alike bits (finite.keys names) key
   set-alike key = ap (λ b. alike_to text_code b key is.entries) by ∙ names-alike (form_at old) V bits l names is key
 
-  pub added-grows : (new : Heap Bytes) (key : Bytes) (w : ℕ) → ((E : List (Entry Bytes)) → IsSetOf by_bytes text_code old r E → Answered old new [] w 1 (8 + alike_to text_code r.bits key E)) → MakesJust old new
-      → Grows old new [] (w ∷ []) 1 (8 + alike bits (finite.keys names) key)
-  added-grows new key w answers just =
-      Grows-more 1 (8 + alike bits (finite.keys names) key) (Grows-Answered (answers is.entries set-is) just) (omega arith) (omega (arith, set-alike key))
+  pub added-answered : (new : Heap Bytes) (key : Bytes) (w : ℕ) → ((E : List (Entry Bytes)) → IsSetOf by_bytes text_code old r E → Answered old new [] w 1 (8 + alike_to text_code r.bits key E))
+      → Answered old new [] w 1 (8 + alike bits (finite.keys names) key)
+  added-answered new key w answers =
+      answered-more 1 (8 + alike bits (finite.keys names) key) (answers is.entries set-is) (omega arith) (omega (arith, set-alike key))
 
-  pub taken-grows : (new : Heap Bytes) (key : Bytes) (w : ℕ) → ((E : List (Entry Bytes)) → IsSetOf by_bytes text_code old r E → Answered old new [] w 0 (7 + alike_to text_code r.bits key E)) → MakesJust old new
-      → Grows old new [] (w ∷ []) 0 (7 + alike bits (finite.keys names) key)
-  taken-grows new key w answers just =
-      Grows-more 0 (7 + alike bits (finite.keys names) key) (Grows-Answered (answers is.entries set-is) just) (omega arith) (omega (arith, set-alike key))
+  pub taken-answered : (new : Heap Bytes) (key : Bytes) (w : ℕ) → ((E : List (Entry Bytes)) → IsSetOf by_bytes text_code old r E → Answered old new [] w 0 (7 + alike_to text_code r.bits key E))
+      → Answered old new [] w 0 (7 + alike bits (finite.keys names) key)
+  taken-answered new key w answers =
+      answered-more 0 (7 + alike bits (finite.keys names) key) (answers is.entries set-is) (omega arith) (omega (arith, set-alike key))
 
   module _ (new : Heap Bytes) (W : ℕ → Type 0) (w : Root) (same : w.bits ≡ r.bits) where
     set-here : (E : List (Entry Bytes)) → IsSetOf by_bytes text_code new w E → IsSetOf by_bytes text_code new (record { root = w.root; bits = bits }) E

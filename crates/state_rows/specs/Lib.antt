@@ -1,7 +1,6 @@
 pub mod Reading
 pub mod Standing
 pub mod InHeap
-pub mod Growth
 pub mod Stay
 pub mod Listing
 pub mod Laws

@@ -6,10 +6,11 @@ ghost use Rattle.elem_core.specs.declared.codes.TheConstants.{CODE_BITS, DEEPEST
 ghost use Rattle.elem_core.specs.Naming.{IsName};
 ghost use Rattle.elem_core.specs.Shown.{name_bytes};
 ghost use Rattle.node_heap.specs.Heap.{holds_at, hold_count, HasSpares};
+ghost use Rattle.node_heap.specs.Calls.{Answered, MakesJust};
+ghost use Rattle.rrb_core.specs.Vector.{height_at};
 ghost use Rattle.shell_terms.specs.Edit.{Bytes};
 ghost use Rattle.plain_space.specs.Workspace.{Named, State, lines_of, is_starred, with_lines as has_lines, without_lines as has_no_lines, with_star as has_star, without_star as has_no_star};
 ghost use Rattle.plain_space.specs.Cost.{alike, alike_buffers, alike_stars};
-ghost use Rattle.state_rows.specs.Growth.{Grows};
 ghost use Rattle.state_rows.specs.InHeap.{AreLinesIn, IsStateIn, AreVersionsIn, IsHistoryIn};
 
 use crate::look_up::{names_of, stars_of};
@@ -28,7 +29,8 @@ pub fn with_lines(heap: &mut Heap<Text>, bits: u32, state: Link, key: Text, line
     requires name { IsName key }
     requires state { (s : State) × IsStateIn heap.old bits state s × HasSpares heap.old 1 (DEEPEST + 4 + alike_buffers bits s key) }
     requires lines { (xs : List Bytes) × AreLinesIn heap.old bits lines xs }
-    ensures grows { (s : State) → IsStateIn heap.old bits state s → Grows heap.old heap.new (lines ∷ []) (result ∷ []) 1 (DEEPEST + 4 + alike_buffers bits s key) }
+    ensures answered { (s : State) → IsStateIn heap.old bits state s → Answered heap.old heap.new (lines ∷ []) result 1 (DEEPEST + 4 + alike_buffers bits s key) }
+    ensures made { MakesJust heap.old heap.new }
     ensures state { (s : State) (xs : List Bytes) → IsStateIn heap.old bits state s → AreLinesIn heap.old bits lines xs → IsStateIn heap.new bits result (has_lines s key xs) }
 {
     let names = names_of(heap, bits, state);
@@ -45,7 +47,8 @@ pub fn without_lines(heap: &mut Heap<Text>, bits: u32, state: Link, name: Name<'
     requires bits { bits ≤ CODE_BITS }
     requires state { (s : State) × IsStateIn heap.old bits state s × IsSome (lines_of s (name_bytes name))
         × HasSpares heap.old 0 (DEEPEST + 2 + alike_buffers bits s (name_bytes name)) }
-    ensures grows { (s : State) → IsStateIn heap.old bits state s → Grows heap.old heap.new [] (result ∷ []) 0 (DEEPEST + 2 + alike_buffers bits s (name_bytes name.entry)) }
+    ensures answered { (s : State) → IsStateIn heap.old bits state s → Answered heap.old heap.new [] result 0 (DEEPEST + 2 + alike_buffers bits s (name_bytes name.entry)) }
+    ensures made { MakesJust heap.old heap.new }
     ensures state { (s : State) → IsStateIn heap.old bits state s → IsStateIn heap.new bits result (has_no_lines s (name_bytes name.entry)) }
 {
     let names = names_of(heap, bits, state);
@@ -63,7 +66,8 @@ pub fn with_star(heap: &mut Heap<Text>, bits: u32, state: Link, key: Text) -> Li
     requires bits { bits ≤ CODE_BITS }
     requires name { IsName key }
     requires state { (s : State) × IsStateIn heap.old bits state s × HasSpares heap.old 1 (DEEPEST + 3 + alike_stars bits s key) }
-    ensures grows { (s : State) → IsStateIn heap.old bits state s → Grows heap.old heap.new [] (result ∷ []) 1 (DEEPEST + 3 + alike_stars bits s key) }
+    ensures answered { (s : State) → IsStateIn heap.old bits state s → Answered heap.old heap.new [] result 1 (DEEPEST + 3 + alike_stars bits s key) }
+    ensures made { MakesJust heap.old heap.new }
     ensures state { (s : State) → IsStateIn heap.old bits state s → IsStateIn heap.new bits result (has_star s key) }
 {
     let names = names_of(heap, bits, state).root();
@@ -80,7 +84,8 @@ pub fn without_star(heap: &mut Heap<Text>, bits: u32, state: Link, name: Name<'_
     requires bits { bits ≤ CODE_BITS }
     requires state { (s : State) × IsStateIn heap.old bits state s × (is_starred s (name_bytes name) ≡ true)
         × HasSpares heap.old 0 (DEEPEST + 2 + alike_stars bits s (name_bytes name)) }
-    ensures grows { (s : State) → IsStateIn heap.old bits state s → Grows heap.old heap.new [] (result ∷ []) 0 (DEEPEST + 2 + alike_stars bits s (name_bytes name.entry)) }
+    ensures answered { (s : State) → IsStateIn heap.old bits state s → Answered heap.old heap.new [] result 0 (DEEPEST + 2 + alike_stars bits s (name_bytes name.entry)) }
+    ensures made { MakesJust heap.old heap.new }
     ensures state { (s : State) → IsStateIn heap.old bits state s → IsStateIn heap.new bits result (has_no_star s (name_bytes name.entry)) }
 {
     let names = names_of(heap, bits, state).root();
@@ -99,8 +104,9 @@ pub fn with_version(heap: &mut Heap<Text>, versions: MapRef, key: Text, state: L
     requires held { 0 < holds_at heap.old state }
     requires name { IsName key }
     requires versions { (m : Named State) × AreVersionsIn heap.old versions.bits versions.root m × HasSpares heap.old 1 (DEEPEST + 3 + alike versions.bits (map.keys m) key) }
-    ensures grows { (m : Named State) → AreVersionsIn heap.old versions.bits versions.root m →
-        Grows heap.old heap.new (state ∷ []) (result.root ∷ []) 1 (DEEPEST + 3 + alike versions.bits (map.keys m) key) }
+    ensures answered { (m : Named State) → AreVersionsIn heap.old versions.bits versions.root m →
+        Answered heap.old heap.new (state ∷ []) result.root 1 (DEEPEST + 3 + alike versions.bits (map.keys m) key) }
+    ensures made { MakesJust heap.old heap.new }
     ensures bits { result.bits ≡ versions.bits }
     ensures versions { (m : Named State) (s : State) → AreVersionsIn heap.old versions.bits versions.root m → IsStateIn heap.old versions.bits state s →
         AreVersionsIn heap.new versions.bits result.root (map.insert m key s) }
@@ -117,8 +123,9 @@ pub fn without_version(heap: &mut Heap<Text>, versions: MapRef, name: Name<'_>) 
     requires bits { versions.bits ≤ CODE_BITS }
     requires versions { (m : Named State) × AreVersionsIn heap.old versions.bits versions.root m × IsSome (map.get m (name_bytes name))
         × HasSpares heap.old 0 (DEEPEST + 1 + alike versions.bits (map.keys m) (name_bytes name)) }
-    ensures grows { (m : Named State) → AreVersionsIn heap.old versions.bits versions.root m →
-        Grows heap.old heap.new [] (result.root ∷ []) 0 (DEEPEST + 1 + alike versions.bits (map.keys m) (name_bytes name.entry)) }
+    ensures answered { (m : Named State) → AreVersionsIn heap.old versions.bits versions.root m →
+        Answered heap.old heap.new [] result.root 0 (DEEPEST + 1 + alike versions.bits (map.keys m) (name_bytes name.entry)) }
+    ensures made { MakesJust heap.old heap.new }
     ensures bits { result.bits ≡ versions.bits }
     ensures versions { (m : Named State) → AreVersionsIn heap.old versions.bits versions.root m →
         AreVersionsIn heap.new versions.bits result.root (map.remove m (name_bytes name.entry)) }
@@ -130,13 +137,15 @@ pub fn without_version(heap: &mut Heap<Text>, versions: MapRef, name: Name<'_>) 
     left
 }
 
-/// The history with the state after its last. It spends the state's hold. There is room for one more.
+/// The history with the state after its last. It spends the state's hold. There is room for one more. It makes at most as
+/// many nodes as the history's height and 2, so 9.
 pub fn pushed(heap: &mut Heap<Text>, history: FlexRef, state: Link) -> Flex
     requires few { hold_count heap.old < 2 ^ 59 }
     requires held { 0 < holds_at heap.old state }
     requires history { (bits : ℕ) × (ss : List State) × IsHistoryIn heap.old bits history ss × (length ss < 2 ^ 32 - 1) }
     requires spares { HasSpares heap.old 0 9 }
-    ensures grows { Grows heap.old heap.new (state ∷ []) (result ∷ []) 0 9 }
+    ensures answered { Answered heap.old heap.new (state ∷ []) result 0 (height_at heap.old history + 2) }
+    ensures made { MakesJust heap.old heap.new }
     ensures history { (bits : ℕ) (ss : List State) (s : State) → IsHistoryIn heap.old bits history ss → IsStateIn heap.old bits state s → IsHistoryIn heap.new bits result (ss ++ s ∷ []) }
 {
     let Ok(longer) = push(heap, history, state) else {
@@ -145,12 +154,13 @@ pub fn pushed(heap: &mut Heap<Text>, history: FlexRef, state: Link) -> Flex
     longer
 }
 
-/// The history without its last state.
+/// The history without its last state. It makes at most as many nodes as its own height and 1, so 8.
 pub fn popped(heap: &mut Heap<Text>, history: FlexRef) -> Flex
     requires few { hold_count heap.old < 2 ^ 59 }
     requires history { (bits : ℕ) × (ss : List State) × IsHistoryIn heap.old bits history ss × (0 < length ss) }
     requires spares { HasSpares heap.old 0 8 }
-    ensures grows { Grows heap.old heap.new [] (result ∷ []) 0 8 }
+    ensures answered { Answered heap.old heap.new [] result 0 (height_at heap.new result + 1) }
+    ensures made { MakesJust heap.old heap.new }
     ensures history { (bits : ℕ) (ss : List State) → IsHistoryIn heap.old bits history ss → IsHistoryIn heap.new bits result (take (length ss - 1) ss) }
 {
     let Ok(shorter) = take(heap, history, history.len(heap) - 1) else {
@@ -164,7 +174,8 @@ pub fn emptied(heap: &mut Heap<Text>, history: FlexRef) -> Flex
     requires few { hold_count heap.old < 2 ^ 59 }
     requires history { (bits : ℕ) × (ss : List State) × IsHistoryIn heap.old bits history ss }
     requires spares { HasSpares heap.old 0 1 }
-    ensures grows { Grows heap.old heap.new [] (result ∷ []) 0 1 }
+    ensures answered { Answered heap.old heap.new [] result 0 1 }
+    ensures made { MakesJust heap.old heap.new }
     ensures history { (bits : ℕ) → IsHistoryIn heap.new bits result [] }
     ensures same { (bits : ℕ) → IsHistoryIn heap.old bits history [] → result ≡ history }
 {

@@ -2,9 +2,8 @@
 ghost use Rattle.std.specs.Prelude.{◌≡◌, ℕ, ◌+◌, ◌^◌, ◌<◌, ◌≤◌, [], ◌∷◌, IsSome};
 ghost use Rattle.node_heap.specs.Links.{count};
 ghost use Rattle.node_heap.specs.Heap.{row_at, holds_at, hold_count, HasSpares};
-ghost use Rattle.node_heap.specs.Calls.{Makes};
+ghost use Rattle.node_heap.specs.Calls.{Answered, Makes};
 ghost use Rattle.plain_space.specs.Workspace.{State};
-ghost use Rattle.state_rows.specs.Growth.{Grows};
 ghost use Rattle.state_rows.specs.InHeap.{AreBuffersIn, AreNamesIn, IsStateIn};
 
 use elem_core::Text;
@@ -15,7 +14,7 @@ pub(crate) fn state_row(heap: &mut Heap<Text>, names: Link, stars: Link) -> Link
     requires few { hold_count heap.old < 2 ^ 60 }
     requires held { (k : ℕ) → count k (names ∷ stars ∷ []) ≤ holds_at heap.old k }
     requires spares { HasSpares heap.old 0 1 }
-    ensures grows { Grows heap.old heap.new (names ∷ stars ∷ []) (result ∷ []) 0 1 }
+    ensures answered { Answered heap.old heap.new (names ∷ stars ∷ []) result 0 1 }
     ensures makes { Makes heap.old heap.new 0 1 }
     ensures state { (bits : ℕ) (s : State) → AreBuffersIn heap.old bits names s.buffers → AreNamesIn heap.old bits stars s.stars → IsStateIn heap.new bits result s }
 {
@@ -28,7 +27,8 @@ pub(crate) fn over_stars(heap: &mut Heap<Text>, names: Link, stars: Link) -> Lin
     requires held { 0 < holds_at heap.old names }
     requires live { IsSome (row_at heap.old stars) }
     requires spares { HasSpares heap.old 0 1 }
-    ensures grows { Grows heap.old heap.new (names ∷ []) (result ∷ []) 0 1 }
+    ensures answered { Answered heap.old heap.new (names ∷ []) result 0 1 }
+    ensures makes { Makes heap.old heap.new 0 1 }
     ensures state { (bits : ℕ) (s : State) → AreBuffersIn heap.old bits names s.buffers → AreNamesIn heap.old bits stars s.stars → IsStateIn heap.new bits result s }
 {
     heap.hold(stars);
@@ -41,7 +41,8 @@ pub(crate) fn over_names(heap: &mut Heap<Text>, names: Link, stars: Link) -> Lin
     requires live { IsSome (row_at heap.old names) }
     requires held { 0 < holds_at heap.old stars }
     requires spares { HasSpares heap.old 0 1 }
-    ensures grows { Grows heap.old heap.new (stars ∷ []) (result ∷ []) 0 1 }
+    ensures answered { Answered heap.old heap.new (stars ∷ []) result 0 1 }
+    ensures makes { Makes heap.old heap.new 0 1 }
     ensures state { (bits : ℕ) (s : State) → AreBuffersIn heap.old bits names s.buffers → AreNamesIn heap.old bits stars s.stars → IsStateIn heap.new bits result s }
 {
     heap.hold(names);

@@ -6,10 +6,9 @@ ghost use Rattle.std.specs.FinMap as map;
 ghost use Rattle.elem_core.specs.declared.codes.TheConstants.{CODE_BITS};
 ghost use Rattle.elem_core.specs.Codes.{text_code};
 ghost use Rattle.node_heap.specs.Heap.{hold_count, HasSpares, IsGraph};
-ghost use Rattle.node_heap.specs.Calls.{Makes};
+ghost use Rattle.node_heap.specs.Calls.{Answered, Makes};
 ghost use Rattle.champ_trie.specs.Trie.{IsTrieOf};
 ghost use Rattle.plain_space.specs.Workspace.{blank};
-ghost use Rattle.state_rows.specs.Growth.{Grows};
 ghost use Rattle.state_rows.specs.InHeap.{IsStateIn, AreVersionsIn, IsHistoryIn};
 
 use crate::row::state_row;
@@ -22,7 +21,7 @@ use rrb_core::Flex;
 pub fn empty_state(heap: &mut Heap<Text>, bits: u32) -> Link
     requires few { hold_count heap.old < 2 ^ 59 }
     requires spares { HasSpares heap.old 0 3 }
-    ensures grows { Grows heap.old heap.new [] (result ∷ []) 0 3 }
+    ensures answered { Answered heap.old heap.new [] result 0 3 }
     ensures makes { Makes heap.old heap.new 0 3 }
     ensures state { IsStateIn heap.new bits result blank }
 {
@@ -35,7 +34,7 @@ pub fn empty_state(heap: &mut Heap<Text>, bits: u32) -> Link
 pub fn empty_versions(heap: &mut Heap<Text>, bits: u32) -> Map
     requires few { hold_count heap.old < 2 ^ 59 }
     requires spares { HasSpares heap.old 0 1 }
-    ensures grows { Grows heap.old heap.new [] (result.root ∷ []) 0 1 }
+    ensures answered { Answered heap.old heap.new [] result.root 0 1 }
     ensures makes { Makes heap.old heap.new 0 1 }
     ensures bits { result.bits ≡ bits }
     ensures versions { AreVersionsIn heap.new bits result.root map.empty }
@@ -47,7 +46,7 @@ pub fn empty_versions(heap: &mut Heap<Text>, bits: u32) -> Map
 pub fn empty_history(heap: &mut Heap<Text>) -> Flex
     requires few { hold_count heap.old < 2 ^ 59 }
     requires spares { HasSpares heap.old 0 1 }
-    ensures grows { Grows heap.old heap.new [] (result ∷ []) 0 1 }
+    ensures answered { Answered heap.old heap.new [] result 0 1 }
     ensures makes { Makes heap.old heap.new 0 1 }
     ensures history { (bits : ℕ) → IsHistoryIn heap.new bits result [] }
 {
@@ -58,7 +57,7 @@ pub fn empty_history(heap: &mut Heap<Text>) -> Flex
 fn empty_trie(heap: &mut Heap<Text>) -> Link
     requires few { hold_count heap.old < 2 ^ 60 }
     requires spares { HasSpares heap.old 0 1 }
-    ensures grows { Grows heap.old heap.new [] (result ∷ []) 0 1 }
+    ensures answered { Answered heap.old heap.new [] result 0 1 }
     ensures makes { Makes heap.old heap.new 0 1 }
     ensures trie { (bits : ℕ) → IsTrieOf (slice_cmp nat_cmp) text_code bits heap.new result [] }
 {

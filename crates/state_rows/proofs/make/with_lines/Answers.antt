@@ -2,16 +2,16 @@ use Rattle.std.proofs.Common.{ℕ, ◌+◌, List, ◌∷◌, [], sym, subst, ◌
 use Rattle.std.specs.Prelude.{◌<◌, IsSome}
 use Rattle.std.specs.FinMap as map
 use Rattle.node_heap.specs.Heap.{row_at, holds_at}
+use Rattle.node_heap.specs.Calls.{Answered}
 use Rattle.rrb_core.specs.Vector.{IsGoodVector}
 use Rattle.champ_trie.proofs.StayLemmas.{canon-live}
 use Rattle.shell_terms.specs.Edit.{Bytes}
 use Rattle.plain_space.specs.Workspace.{with_lines}
 use Rattle.plain_space.specs.Cost.{alike_buffers}
-use Rattle.state_rows.specs.Growth.{Grows}
 use Rattle.state_rows.specs.InHeap.{AreLinesIn, AreBuffersIn, AreNamesIn}
-use Rattle.state_rows.proofs.Growth.{Grows-then, Grows-more, Grows-spares, Grows-gained}
+use Rattle.state_rows.proofs.Answering.{answered-then, answered-more, answered-spares, answered-held, just-then, just-makes}
 use Rattle.state_rows.proofs.Staying.{grown, names-grown}
-use Rattle.state_rows.proofs.Steps.{map-is, map-alike, inserted-grows, inserted-is}
+use Rattle.state_rows.proofs.Steps.{map-is, map-alike, inserted-answered, inserted-is}
 use Rattle.state_rows.proofs.make.with_lines.Goals as goal
 
 pub map_insert-requires-clause-contents : goal.map_insert-requires-clause-contents
@@ -36,59 +36,68 @@ over_stars-requires-clause-few c =
     let old = c.args.heap.now in
     let s = c.requires.state.0 in
     let is = c.requires.state.1 in
-    let grows = inserted-grows old (IsGoodVector old) c.args.bits (AreLinesIn old c.args.bits) is.names s.buffers c.requires.bits is.buffers_are c.names_of-names.result (c.names_of-names.ensures.root s is) c.names_of-names.ensures.bits
-    c.map_insert.new.heap c.args.key c.into_root.result c.in-Ok.written.root c.in-Ok.ensures.answered c.in-Ok.ensures.made in
-    omega (arith, c.requires.few, grows.total)
+    let answered = inserted-answered old (IsGoodVector old) c.args.bits (AreLinesIn old c.args.bits) is.names s.buffers c.requires.bits is.buffers_are c.names_of-names.result (c.names_of-names.ensures.root s is) c.names_of-names.ensures.bits
+    c.map_insert.new.heap c.args.key c.into_root.result c.in-Ok.written.root c.in-Ok.ensures.answered in
+    omega (arith, c.requires.few, answered.count)
 
 pub over_stars-requires-clause-held : goal.over_stars-requires-clause-held
 over_stars-requires-clause-held c =
     let old = c.args.heap.now in
     let s = c.requires.state.0 in
     let is = c.requires.state.1 in
-    let grows = inserted-grows old (IsGoodVector old) c.args.bits (AreLinesIn old c.args.bits) is.names s.buffers c.requires.bits is.buffers_are c.names_of-names.result (c.names_of-names.ensures.root s is) c.names_of-names.ensures.bits
-    c.map_insert.new.heap c.args.key c.into_root.result c.in-Ok.written.root c.in-Ok.ensures.answered c.in-Ok.ensures.made in
-    subst (λ (l : ℕ). 0 < holds_at c.map_insert.new.heap l) (sym c.into_root-2.ensures) (Grows-gained grows (subst (λ (l : ℕ). 0 < holds_at old l) (sym c.into_root.ensures) c.requires.held))
+    let answered = inserted-answered old (IsGoodVector old) c.args.bits (AreLinesIn old c.args.bits) is.names s.buffers c.requires.bits is.buffers_are c.names_of-names.result (c.names_of-names.ensures.root s is) c.names_of-names.ensures.bits
+    c.map_insert.new.heap c.args.key c.into_root.result c.in-Ok.written.root c.in-Ok.ensures.answered in
+    subst (λ (l : ℕ). 0 < holds_at c.map_insert.new.heap l) (sym c.into_root-2.ensures) (answered-held answered (subst (λ (l : ℕ). 0 < holds_at old l) (sym c.into_root.ensures) c.requires.held))
 
 pub over_stars-requires-clause-live : goal.over_stars-requires-clause-live
 over_stars-requires-clause-live c =
     let old = c.args.heap.now in
     let s = c.requires.state.0 in
     let is = c.requires.state.1 in
-    let grows = inserted-grows old (IsGoodVector old) c.args.bits (AreLinesIn old c.args.bits) is.names s.buffers c.requires.bits is.buffers_are c.names_of-names.result (c.names_of-names.ensures.root s is) c.names_of-names.ensures.bits
-    c.map_insert.new.heap c.args.key c.into_root.result c.in-Ok.written.root c.in-Ok.ensures.answered c.in-Ok.ensures.made in
+    let answered = inserted-answered old (IsGoodVector old) c.args.bits (AreLinesIn old c.args.bits) is.names s.buffers c.requires.bits is.buffers_are c.names_of-names.result (c.names_of-names.ensures.root s is) c.names_of-names.ensures.bits
+    c.map_insert.new.heap c.args.key c.into_root.result c.in-Ok.written.root c.in-Ok.ensures.answered in
     subst (λ (l : ℕ). IsSome (row_at c.map_insert.new.heap l)) (sym (c.root-stars.ensures ∙ c.stars_of.ensures.root s is))
-    (grows.extends.live is.stars (canon-live _ _ old is.stars is.stars_are.entries is.stars_are.trie.trie))
+    (answered.extends.live is.stars (canon-live _ _ old is.stars is.stars_are.entries is.stars_are.trie.trie))
 
 pub over_stars-requires-clause-spares : goal.over_stars-requires-clause-spares
 over_stars-requires-clause-spares c =
     let old = c.args.heap.now in
     let s = c.requires.state.0 in
     let is = c.requires.state.1 in
-    let grows = inserted-grows old (IsGoodVector old) c.args.bits (AreLinesIn old c.args.bits) is.names s.buffers c.requires.bits is.buffers_are c.names_of-names.result (c.names_of-names.ensures.root s is) c.names_of-names.ensures.bits
-    c.map_insert.new.heap c.args.key c.into_root.result c.in-Ok.written.root c.in-Ok.ensures.answered c.in-Ok.ensures.made in
-    Grows-spares 0 1 grows (omega (arith, c.requires.state.2.0), omega (arith, c.requires.state.2.1))
+    let answered = inserted-answered old (IsGoodVector old) c.args.bits (AreLinesIn old c.args.bits) is.names s.buffers c.requires.bits is.buffers_are c.names_of-names.result (c.names_of-names.ensures.root s is) c.names_of-names.ensures.bits
+    c.map_insert.new.heap c.args.key c.into_root.result c.in-Ok.written.root c.in-Ok.ensures.answered in
+    answered-spares 0 1 answered (omega (arith, c.requires.state.2.0), omega (arith, c.requires.state.2.1))
 
-pub returns-clause-grows : goal.returns-clause-grows
-returns-clause-grows c = λ s is.
+pub returns-clause-answered : goal.returns-clause-answered
+returns-clause-answered c = λ s is.
     let old = c.args.heap.now in
     let new = c.map_insert.new.heap in
     let more = 9 + alike_buffers c.args.bits s c.args.key in
-    let grows = inserted-grows old (IsGoodVector old) c.args.bits (AreLinesIn old c.args.bits) is.names s.buffers c.requires.bits is.buffers_are c.names_of-names.result (c.names_of-names.ensures.root s is) c.names_of-names.ensures.bits
-    c.map_insert.new.heap c.args.key c.into_root.result c.in-Ok.written.root c.in-Ok.ensures.answered c.in-Ok.ensures.made in
-    let spent = subst (λ (l : ℕ). Grows old new (l ∷ []) (c.in-Ok.written.root ∷ []) 1 more) c.into_root.ensures grows in
-    let gained = subst (λ (l : ℕ). Grows old new (c.args.lines ∷ []) (l ∷ []) 1 more) (sym c.into_root-2.ensures) spent in
-    Grows-more 1 (10 + alike_buffers c.args.bits s c.args.key) (Grows-then gained c.over_stars.ensures.grows) (omega arith) (omega arith)
+    let answered = inserted-answered old (IsGoodVector old) c.args.bits (AreLinesIn old c.args.bits) is.names s.buffers c.requires.bits is.buffers_are c.names_of-names.result (c.names_of-names.ensures.root s is) c.names_of-names.ensures.bits
+    c.map_insert.new.heap c.args.key c.into_root.result c.in-Ok.written.root c.in-Ok.ensures.answered in
+    let spent = subst (λ (l : ℕ). Answered old new (l ∷ []) c.in-Ok.written.root 1 more) c.into_root.ensures answered in
+    let gained = subst (λ (l : ℕ). Answered old new (c.args.lines ∷ []) l 1 more) (sym c.into_root-2.ensures) spent in
+    answered-more 1 (10 + alike_buffers c.args.bits s c.args.key) (answered-then gained c.over_stars.ensures.answered) (omega arith) (omega arith)
+
+pub returns-clause-made : goal.returns-clause-made
+returns-clause-made c =
+    let old = c.args.heap.now in
+    let s = c.requires.state.0 in
+    let is = c.requires.state.1 in
+    let answered = inserted-answered old (IsGoodVector old) c.args.bits (AreLinesIn old c.args.bits) is.names s.buffers c.requires.bits is.buffers_are c.names_of-names.result (c.names_of-names.ensures.root s is) c.names_of-names.ensures.bits
+    c.map_insert.new.heap c.args.key c.into_root.result c.in-Ok.written.root c.in-Ok.ensures.answered in
+    just-then answered.extends c.over_stars.ensures.answered.extends c.in-Ok.ensures.made (just-makes c.over_stars.ensures.makes)
 
 pub returns-clause-state : goal.returns-clause-state
 returns-clause-state c = λ s xs is lines.
     let old = c.args.heap.now in
     let new = c.map_insert.new.heap in
-    let grows = inserted-grows old (IsGoodVector old) c.args.bits (AreLinesIn old c.args.bits) is.names s.buffers c.requires.bits is.buffers_are c.names_of-names.result (c.names_of-names.ensures.root s is) c.names_of-names.ensures.bits
-    c.map_insert.new.heap c.args.key c.into_root.result c.in-Ok.written.root c.in-Ok.ensures.answered c.in-Ok.ensures.made in
-    let stays = λ (k : ℕ) (ys : List Bytes) (are : AreLinesIn old c.args.bits k ys). (grown old new grows.extends c.args.bits k).lines ys are in
+    let answered = inserted-answered old (IsGoodVector old) c.args.bits (AreLinesIn old c.args.bits) is.names s.buffers c.requires.bits is.buffers_are c.names_of-names.result (c.names_of-names.ensures.root s is) c.names_of-names.ensures.bits
+    c.map_insert.new.heap c.args.key c.into_root.result c.in-Ok.written.root c.in-Ok.ensures.answered in
+    let stays = λ (k : ℕ) (ys : List Bytes) (are : AreLinesIn old c.args.bits k ys). (grown old new answered.extends c.args.bits k).lines ys are in
     let stands = subst (λ (l : ℕ). AreLinesIn new c.args.bits l xs) (sym c.into_root.ensures) (stays c.args.lines xs lines) in
     let buffers = inserted-is old (IsGoodVector old) c.args.bits (AreLinesIn old c.args.bits) is.names s.buffers c.requires.bits is.buffers_are c.names_of-names.result (c.names_of-names.ensures.root s is) c.names_of-names.ensures.bits
     new (IsGoodVector new) (AreLinesIn new c.args.bits) stays c.in-Ok.written c.in-Ok.ensures.bits c.into_root.result c.args.key xs c.requires.name stands (c.in-Ok.ensures.contents is.buffers_are.bindings (map-is old (IsGoodVector old) c.args.bits (AreLinesIn old c.args.bits) is.names s.buffers c.requires.bits is.buffers_are c.names_of-names.result (c.names_of-names.ensures.root s is) c.names_of-names.ensures.bits)) in
     c.over_stars.ensures.state c.args.bits (with_lines s c.args.key xs)
     (subst (λ (l : ℕ). AreBuffersIn new c.args.bits l (map.insert s.buffers c.args.key xs)) (sym c.into_root-2.ensures) buffers)
-    (subst (λ (l : ℕ). AreNamesIn new c.args.bits l s.stars) (sym (c.root-stars.ensures ∙ c.stars_of.ensures.root s is)) (names-grown old new grows.extends c.args.bits is.stars s.stars is.stars_are))
+    (subst (λ (l : ℕ). AreNamesIn new c.args.bits l s.stars) (sym (c.root-stars.ensures ∙ c.stars_of.ensures.root s is)) (names-grown old new answered.extends c.args.bits is.stars s.stars is.stars_are))

@@ -3,7 +3,7 @@ use Rattle.rrb_core.specs.Vector.{IsGoodVector}
 use Rattle.plain_space.specs.Workspace.{State}
 use Rattle.state_rows.specs.InHeap.{IsStateIn}
 use Rattle.state_rows.proofs.Staying.{grown}
-use Rattle.state_rows.proofs.Steps.{map-is, map-alike, inserted-grows, inserted-is}
+use Rattle.state_rows.proofs.Steps.{map-is, map-alike, inserted-answered, inserted-is}
 use Rattle.state_rows.proofs.make.with_version.Goals as goal
 
 pub unreachable-requires : goal.unreachable-requires
@@ -16,11 +16,11 @@ unreachable-requires c =
     let ample = c.in_default.ensures.ample is.bindings (map-is old (IsGoodVector old) r.bits (IsStateIn old r.bits) r.root m c.requires.bits is r refl refl) (omega (arith, c.requires.versions.2.0), omega (arith, c.requires.versions.2.1, counted)) in
     cc
 
-pub returns-clause-grows : goal.returns-clause-grows
-returns-clause-grows c = λ m is.
+pub returns-clause-answered : goal.returns-clause-answered
+returns-clause-answered c = λ m is.
     let old = c.args.heap.now in
     let r = c.args.versions in
-    inserted-grows old (IsGoodVector old) r.bits (IsStateIn old r.bits) r.root m c.requires.bits is r refl refl c.map_insert.new.heap c.args.key c.args.state c.in-Ok.written.root c.in-Ok.ensures.answered c.in-Ok.ensures.made
+    inserted-answered old (IsGoodVector old) r.bits (IsStateIn old r.bits) r.root m c.requires.bits is r refl refl c.map_insert.new.heap c.args.key c.args.state c.in-Ok.written.root c.in-Ok.ensures.answered
 
 pub returns-clause-versions : goal.returns-clause-versions
 returns-clause-versions c = λ m s is state.

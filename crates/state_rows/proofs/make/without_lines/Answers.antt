@@ -1,4 +1,4 @@
-use Rattle.std.proofs.Common.{◌≡◌, ℕ, ◌+◌, List, ◌∷◌, [], Ok, is_some, ap, sym, subst, ◌∙◌, arith}
+use Rattle.std.proofs.Common.{◌≡◌, ℕ, ◌+◌, List, [], Ok, is_some, ap, sym, subst, ◌∙◌, arith}
 use Rattle.std.specs.Prelude.{◌<◌, IsSome}
 use Rattle.std.specs.FinMap as map
 use Rattle.elem_core.specs.Codes.{text_code}
@@ -14,13 +14,12 @@ use Rattle.champ_kinds.proofs.EditLemmas.{if-some}
 use Rattle.shell_terms.specs.Edit.{Bytes}
 use Rattle.plain_space.specs.Workspace.{without_lines}
 use Rattle.plain_space.specs.Cost.{alike_buffers}
-use Rattle.state_rows.specs.Growth.{Grows}
 use Rattle.state_rows.specs.InHeap.{AreLinesIn, AreBuffersIn, AreNamesIn}
+use Rattle.state_rows.proofs.Answering.{answered-then, answered-more, answered-spares, answered-gives, just-then, just-makes}
 use Rattle.state_rows.proofs.Contents.{named-there}
-use Rattle.state_rows.proofs.Growth.{Grows-then, Grows-more, Grows-spares, Grows-gains}
 use Rattle.state_rows.proofs.Keys.{by_bytes}
 use Rattle.state_rows.proofs.Staying.{grown, names-grown}
-use Rattle.state_rows.proofs.Steps.{map-is, map-alike, removed-grows, removed-is}
+use Rattle.state_rows.proofs.Steps.{map-is, map-alike, removed-answered, removed-is}
 use Rattle.state_rows.proofs.make.without_lines.Goals as goal
 
 pub map_remove-requires-clause-contents : goal.map_remove-requires-clause-contents
@@ -57,11 +56,11 @@ over_stars-requires-clause-few c =
     let s = c.requires.state.0 in
     let is = c.requires.state.1 in
     let name = name_bytes c.args.name in
-    let grows = removed-grows old (IsGoodVector old) c.args.bits (AreLinesIn old c.args.bits) is.names s.buffers c.requires.bits is.buffers_are c.names_of-names.result (c.names_of-names.ensures.root s is) c.names_of-names.ensures.bits
+    let answered = removed-answered old (IsGoodVector old) c.args.bits (AreLinesIn old c.args.bits) is.names s.buffers c.requires.bits is.buffers_are c.names_of-names.result (c.names_of-names.ensures.root s is) c.names_of-names.ensures.bits
     c.map_remove.new.heap name c.in-Some.left.root
     (λ (M : List (Binding Bytes)) made. if-some c.in-Ok.found c.in-Some.left (λ (r : Root). Answered old c.map_remove.new.heap [] r.root 0 (7 + alike_keys text_code c.names_of-names.result.bits name M)) c.in-Some.is (c.in-Ok.ensures.answered M made))
-    c.in-Ok.ensures.made in
-    omega (arith, c.requires.few, grows.total)
+    in
+    omega (arith, c.requires.few, answered.count)
 
 pub over_stars-requires-clause-held : goal.over_stars-requires-clause-held
 over_stars-requires-clause-held c =
@@ -69,11 +68,11 @@ over_stars-requires-clause-held c =
     let s = c.requires.state.0 in
     let is = c.requires.state.1 in
     let name = name_bytes c.args.name in
-    let grows = removed-grows old (IsGoodVector old) c.args.bits (AreLinesIn old c.args.bits) is.names s.buffers c.requires.bits is.buffers_are c.names_of-names.result (c.names_of-names.ensures.root s is) c.names_of-names.ensures.bits
+    let answered = removed-answered old (IsGoodVector old) c.args.bits (AreLinesIn old c.args.bits) is.names s.buffers c.requires.bits is.buffers_are c.names_of-names.result (c.names_of-names.ensures.root s is) c.names_of-names.ensures.bits
     c.map_remove.new.heap name c.in-Some.left.root
     (λ (M : List (Binding Bytes)) made. if-some c.in-Ok.found c.in-Some.left (λ (r : Root). Answered old c.map_remove.new.heap [] r.root 0 (7 + alike_keys text_code c.names_of-names.result.bits name M)) c.in-Some.is (c.in-Ok.ensures.answered M made))
-    c.in-Ok.ensures.made in
-    subst (λ (l : ℕ). 0 < holds_at c.map_remove.new.heap l) (sym c.into_root.ensures) (Grows-gains grows)
+    in
+    subst (λ (l : ℕ). 0 < holds_at c.map_remove.new.heap l) (sym c.into_root.ensures) (answered-gives answered)
 
 pub over_stars-requires-clause-live : goal.over_stars-requires-clause-live
 over_stars-requires-clause-live c =
@@ -81,12 +80,12 @@ over_stars-requires-clause-live c =
     let s = c.requires.state.0 in
     let is = c.requires.state.1 in
     let name = name_bytes c.args.name in
-    let grows = removed-grows old (IsGoodVector old) c.args.bits (AreLinesIn old c.args.bits) is.names s.buffers c.requires.bits is.buffers_are c.names_of-names.result (c.names_of-names.ensures.root s is) c.names_of-names.ensures.bits
+    let answered = removed-answered old (IsGoodVector old) c.args.bits (AreLinesIn old c.args.bits) is.names s.buffers c.requires.bits is.buffers_are c.names_of-names.result (c.names_of-names.ensures.root s is) c.names_of-names.ensures.bits
     c.map_remove.new.heap name c.in-Some.left.root
     (λ (M : List (Binding Bytes)) made. if-some c.in-Ok.found c.in-Some.left (λ (r : Root). Answered old c.map_remove.new.heap [] r.root 0 (7 + alike_keys text_code c.names_of-names.result.bits name M)) c.in-Some.is (c.in-Ok.ensures.answered M made))
-    c.in-Ok.ensures.made in
+    in
     subst (λ (l : ℕ). IsSome (row_at c.map_remove.new.heap l)) (sym (c.root-stars.ensures ∙ c.stars_of.ensures.root s is))
-    (grows.extends.live is.stars (canon-live _ _ old is.stars is.stars_are.entries is.stars_are.trie.trie))
+    (answered.extends.live is.stars (canon-live _ _ old is.stars is.stars_are.entries is.stars_are.trie.trie))
 
 pub over_stars-requires-clause-spares : goal.over_stars-requires-clause-spares
 over_stars-requires-clause-spares c =
@@ -94,37 +93,49 @@ over_stars-requires-clause-spares c =
     let s = c.requires.state.0 in
     let is = c.requires.state.1 in
     let name = name_bytes c.args.name in
-    let grows = removed-grows old (IsGoodVector old) c.args.bits (AreLinesIn old c.args.bits) is.names s.buffers c.requires.bits is.buffers_are c.names_of-names.result (c.names_of-names.ensures.root s is) c.names_of-names.ensures.bits
+    let answered = removed-answered old (IsGoodVector old) c.args.bits (AreLinesIn old c.args.bits) is.names s.buffers c.requires.bits is.buffers_are c.names_of-names.result (c.names_of-names.ensures.root s is) c.names_of-names.ensures.bits
     c.map_remove.new.heap name c.in-Some.left.root
     (λ (M : List (Binding Bytes)) made. if-some c.in-Ok.found c.in-Some.left (λ (r : Root). Answered old c.map_remove.new.heap [] r.root 0 (7 + alike_keys text_code c.names_of-names.result.bits name M)) c.in-Some.is (c.in-Ok.ensures.answered M made))
-    c.in-Ok.ensures.made in
-    Grows-spares 0 1 grows (omega arith, omega (arith, c.requires.state.3.1))
+    in
+    answered-spares 0 1 answered (omega arith, omega (arith, c.requires.state.3.1))
 
-pub returns-clause-grows : goal.returns-clause-grows
-returns-clause-grows c = λ s is.
+pub returns-clause-answered : goal.returns-clause-answered
+returns-clause-answered c = λ s is.
     let old = c.args.heap.now in
     let name = name_bytes c.args.name in
-    let grows = removed-grows old (IsGoodVector old) c.args.bits (AreLinesIn old c.args.bits) is.names s.buffers c.requires.bits is.buffers_are c.names_of-names.result (c.names_of-names.ensures.root s is) c.names_of-names.ensures.bits
+    let answered = removed-answered old (IsGoodVector old) c.args.bits (AreLinesIn old c.args.bits) is.names s.buffers c.requires.bits is.buffers_are c.names_of-names.result (c.names_of-names.ensures.root s is) c.names_of-names.ensures.bits
     c.map_remove.new.heap name c.in-Some.left.root
     (λ (M : List (Binding Bytes)) made. if-some c.in-Ok.found c.in-Some.left (λ (r : Root). Answered old c.map_remove.new.heap [] r.root 0 (7 + alike_keys text_code c.names_of-names.result.bits name M)) c.in-Some.is (c.in-Ok.ensures.answered M made))
-    c.in-Ok.ensures.made in
-    let gained = subst (λ (l : ℕ). Grows old c.map_remove.new.heap [] (l ∷ []) 0 (7 + alike_buffers c.args.bits s name)) (sym c.into_root.ensures) grows in
-    Grows-more 0 (8 + alike_buffers c.args.bits s name) (Grows-then gained c.over_stars.ensures.grows) (omega arith) (omega arith)
+    in
+    let gained = subst (λ (l : ℕ). Answered old c.map_remove.new.heap [] l 0 (7 + alike_buffers c.args.bits s name)) (sym c.into_root.ensures) answered in
+    answered-more 0 (8 + alike_buffers c.args.bits s name) (answered-then gained c.over_stars.ensures.answered) (omega arith) (omega arith)
+
+pub returns-clause-made : goal.returns-clause-made
+returns-clause-made c =
+    let old = c.args.heap.now in
+    let s = c.requires.state.0 in
+    let is = c.requires.state.1 in
+    let name = name_bytes c.args.name in
+    let answered = removed-answered old (IsGoodVector old) c.args.bits (AreLinesIn old c.args.bits) is.names s.buffers c.requires.bits is.buffers_are c.names_of-names.result (c.names_of-names.ensures.root s is) c.names_of-names.ensures.bits
+    c.map_remove.new.heap name c.in-Some.left.root
+    (λ (M : List (Binding Bytes)) made. if-some c.in-Ok.found c.in-Some.left (λ (r : Root). Answered old c.map_remove.new.heap [] r.root 0 (7 + alike_keys text_code c.names_of-names.result.bits name M)) c.in-Some.is (c.in-Ok.ensures.answered M made))
+    in
+    just-then answered.extends c.over_stars.ensures.answered.extends c.in-Ok.ensures.made (just-makes c.over_stars.ensures.makes)
 
 pub returns-clause-state : goal.returns-clause-state
 returns-clause-state c = λ s is.
     let old = c.args.heap.now in
     let new = c.map_remove.new.heap in
     let name = name_bytes c.args.name in
-    let grows = removed-grows old (IsGoodVector old) c.args.bits (AreLinesIn old c.args.bits) is.names s.buffers c.requires.bits is.buffers_are c.names_of-names.result (c.names_of-names.ensures.root s is) c.names_of-names.ensures.bits
+    let answered = removed-answered old (IsGoodVector old) c.args.bits (AreLinesIn old c.args.bits) is.names s.buffers c.requires.bits is.buffers_are c.names_of-names.result (c.names_of-names.ensures.root s is) c.names_of-names.ensures.bits
     c.map_remove.new.heap name c.in-Some.left.root
     (λ (M : List (Binding Bytes)) made. if-some c.in-Ok.found c.in-Some.left (λ (r : Root). Answered old c.map_remove.new.heap [] r.root 0 (7 + alike_keys text_code c.names_of-names.result.bits name M)) c.in-Some.is (c.in-Ok.ensures.answered M made))
-    c.in-Ok.ensures.made in
-    let stays = λ (k : ℕ) (ys : List Bytes) (are : AreLinesIn old c.args.bits k ys). (grown old new grows.extends c.args.bits k).lines ys are in
+    in
+    let stays = λ (k : ℕ) (ys : List Bytes) (are : AreLinesIn old c.args.bits k ys). (grown old new answered.extends c.args.bits k).lines ys are in
     let left_is = if-some c.in-Ok.found c.in-Some.left (λ (r : Root). IsMapOf by_bytes text_code new r (unbind by_bytes name is.buffers_are.bindings)) c.in-Some.is (c.in-Ok.ensures.contents is.buffers_are.bindings (map-is old (IsGoodVector old) c.args.bits (AreLinesIn old c.args.bits) is.names s.buffers c.requires.bits is.buffers_are c.names_of-names.result (c.names_of-names.ensures.root s is) c.names_of-names.ensures.bits)) in
     let same_bits = if-some c.in-Ok.found c.in-Some.left (λ (r : Root). r.bits ≡ c.names_of-names.result.bits) c.in-Some.is c.in-Ok.ensures.bits in
     let buffers = removed-is old (IsGoodVector old) c.args.bits (AreLinesIn old c.args.bits) is.names s.buffers c.requires.bits is.buffers_are c.names_of-names.result (c.names_of-names.ensures.root s is) c.names_of-names.ensures.bits
     new (IsGoodVector new) (AreLinesIn new c.args.bits) stays c.in-Some.left same_bits name left_is in
     c.over_stars.ensures.state c.args.bits (without_lines s name)
     (subst (λ (l : ℕ). AreBuffersIn new c.args.bits l (map.remove s.buffers name)) (sym c.into_root.ensures) buffers)
-    (subst (λ (l : ℕ). AreNamesIn new c.args.bits l s.stars) (sym (c.root-stars.ensures ∙ c.stars_of.ensures.root s is)) (names-grown old new grows.extends c.args.bits is.stars s.stars is.stars_are))
+    (subst (λ (l : ℕ). AreNamesIn new c.args.bits l s.stars) (sym (c.root-stars.ensures ∙ c.stars_of.ensures.root s is)) (names-grown old new answered.extends c.args.bits is.stars s.stars is.stars_are))

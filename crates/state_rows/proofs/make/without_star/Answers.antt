@@ -1,4 +1,4 @@
-use Rattle.std.proofs.Common.{◌≡◌, ℕ, ◌+◌, List, ◌∷◌, [], Ok, is_some, ap, sym, subst, ◌∙◌, arith}
+use Rattle.std.proofs.Common.{◌≡◌, ℕ, ◌+◌, List, [], Ok, is_some, ap, sym, subst, ◌∙◌, arith}
 use Rattle.std.specs.Prelude.{◌<◌, IsSome}
 use Rattle.std.specs.FinMap as map
 use Rattle.elem_core.specs.Codes.{text_code}
@@ -15,12 +15,11 @@ use Rattle.champ_kinds.proofs.EditLemmas.{if-some}
 use Rattle.shell_terms.specs.Edit.{Bytes}
 use Rattle.plain_space.specs.Workspace.{without_star}
 use Rattle.plain_space.specs.Cost.{alike_stars}
-use Rattle.state_rows.specs.Growth.{Grows}
 use Rattle.state_rows.specs.InHeap.{AreBuffersIn, AreNamesIn}
-use Rattle.state_rows.proofs.Growth.{Grows-then, Grows-more, Grows-spares, Grows-gains}
+use Rattle.state_rows.proofs.Answering.{answered-then, answered-more, answered-spares, answered-gives, just-then, just-makes}
 use Rattle.state_rows.proofs.Keys.{by_bytes}
 use Rattle.state_rows.proofs.Staying.{buffers-grown}
-use Rattle.state_rows.proofs.Steps.{set-is, set-alike, taken-grows, taken-is}
+use Rattle.state_rows.proofs.Steps.{set-is, set-alike, taken-answered, taken-is}
 use Rattle.state_rows.proofs.make.without_star.Goals as goal
 
 pub set_remove-requires-clause-contents : goal.set_remove-requires-clause-contents
@@ -57,11 +56,11 @@ over_names-requires-clause-few c =
     let s = c.requires.state.0 in
     let is = c.requires.state.1 in
     let name = name_bytes c.args.name in
-    let grows = taken-grows old (IsGoodVector old) c.args.bits is.stars s.stars c.requires.bits is.stars_are c.stars_of-stars.result (c.stars_of-stars.ensures.root s is) c.stars_of-stars.ensures.bits
+    let answered = taken-answered old (IsGoodVector old) c.args.bits is.stars s.stars c.requires.bits is.stars_are c.stars_of-stars.result (c.stars_of-stars.ensures.root s is) c.stars_of-stars.ensures.bits
     c.set_remove.new.heap name c.in-Some.left.root
     (λ (E : List (Entry Bytes)) made. if-some c.in-Ok.found c.in-Some.left (λ (r : Root). Answered old c.set_remove.new.heap [] r.root 0 (7 + alike_to text_code c.stars_of-stars.result.bits name E)) c.in-Some.is (c.in-Ok.ensures.answered E made))
-    c.in-Ok.ensures.made in
-    omega (arith, c.requires.few, grows.total)
+    in
+    omega (arith, c.requires.few, answered.count)
 
 pub over_names-requires-clause-held : goal.over_names-requires-clause-held
 over_names-requires-clause-held c =
@@ -69,11 +68,11 @@ over_names-requires-clause-held c =
     let s = c.requires.state.0 in
     let is = c.requires.state.1 in
     let name = name_bytes c.args.name in
-    let grows = taken-grows old (IsGoodVector old) c.args.bits is.stars s.stars c.requires.bits is.stars_are c.stars_of-stars.result (c.stars_of-stars.ensures.root s is) c.stars_of-stars.ensures.bits
+    let answered = taken-answered old (IsGoodVector old) c.args.bits is.stars s.stars c.requires.bits is.stars_are c.stars_of-stars.result (c.stars_of-stars.ensures.root s is) c.stars_of-stars.ensures.bits
     c.set_remove.new.heap name c.in-Some.left.root
     (λ (E : List (Entry Bytes)) made. if-some c.in-Ok.found c.in-Some.left (λ (r : Root). Answered old c.set_remove.new.heap [] r.root 0 (7 + alike_to text_code c.stars_of-stars.result.bits name E)) c.in-Some.is (c.in-Ok.ensures.answered E made))
-    c.in-Ok.ensures.made in
-    subst (λ (l : ℕ). 0 < holds_at c.set_remove.new.heap l) (sym c.into_root.ensures) (Grows-gains grows)
+    in
+    subst (λ (l : ℕ). 0 < holds_at c.set_remove.new.heap l) (sym c.into_root.ensures) (answered-gives answered)
 
 pub over_names-requires-clause-live : goal.over_names-requires-clause-live
 over_names-requires-clause-live c =
@@ -81,12 +80,12 @@ over_names-requires-clause-live c =
     let s = c.requires.state.0 in
     let is = c.requires.state.1 in
     let name = name_bytes c.args.name in
-    let grows = taken-grows old (IsGoodVector old) c.args.bits is.stars s.stars c.requires.bits is.stars_are c.stars_of-stars.result (c.stars_of-stars.ensures.root s is) c.stars_of-stars.ensures.bits
+    let answered = taken-answered old (IsGoodVector old) c.args.bits is.stars s.stars c.requires.bits is.stars_are c.stars_of-stars.result (c.stars_of-stars.ensures.root s is) c.stars_of-stars.ensures.bits
     c.set_remove.new.heap name c.in-Some.left.root
     (λ (E : List (Entry Bytes)) made. if-some c.in-Ok.found c.in-Some.left (λ (r : Root). Answered old c.set_remove.new.heap [] r.root 0 (7 + alike_to text_code c.stars_of-stars.result.bits name E)) c.in-Some.is (c.in-Ok.ensures.answered E made))
-    c.in-Ok.ensures.made in
+    in
     subst (λ (l : ℕ). IsSome (row_at c.set_remove.new.heap l)) (sym (c.root-names.ensures ∙ c.names_of.ensures.root s is))
-    (grows.extends.live is.names (canon-live _ _ old is.names is.buffers_are.entries is.buffers_are.trie.trie))
+    (answered.extends.live is.names (canon-live _ _ old is.names is.buffers_are.entries is.buffers_are.trie.trie))
 
 pub over_names-requires-clause-spares : goal.over_names-requires-clause-spares
 over_names-requires-clause-spares c =
@@ -94,35 +93,47 @@ over_names-requires-clause-spares c =
     let s = c.requires.state.0 in
     let is = c.requires.state.1 in
     let name = name_bytes c.args.name in
-    let grows = taken-grows old (IsGoodVector old) c.args.bits is.stars s.stars c.requires.bits is.stars_are c.stars_of-stars.result (c.stars_of-stars.ensures.root s is) c.stars_of-stars.ensures.bits
+    let answered = taken-answered old (IsGoodVector old) c.args.bits is.stars s.stars c.requires.bits is.stars_are c.stars_of-stars.result (c.stars_of-stars.ensures.root s is) c.stars_of-stars.ensures.bits
     c.set_remove.new.heap name c.in-Some.left.root
     (λ (E : List (Entry Bytes)) made. if-some c.in-Ok.found c.in-Some.left (λ (r : Root). Answered old c.set_remove.new.heap [] r.root 0 (7 + alike_to text_code c.stars_of-stars.result.bits name E)) c.in-Some.is (c.in-Ok.ensures.answered E made))
-    c.in-Ok.ensures.made in
-    Grows-spares 0 1 grows (omega arith, omega (arith, c.requires.state.3.1))
+    in
+    answered-spares 0 1 answered (omega arith, omega (arith, c.requires.state.3.1))
 
-pub returns-clause-grows : goal.returns-clause-grows
-returns-clause-grows c = λ s is.
+pub returns-clause-answered : goal.returns-clause-answered
+returns-clause-answered c = λ s is.
     let old = c.args.heap.now in
     let name = name_bytes c.args.name in
-    let grows = taken-grows old (IsGoodVector old) c.args.bits is.stars s.stars c.requires.bits is.stars_are c.stars_of-stars.result (c.stars_of-stars.ensures.root s is) c.stars_of-stars.ensures.bits
+    let answered = taken-answered old (IsGoodVector old) c.args.bits is.stars s.stars c.requires.bits is.stars_are c.stars_of-stars.result (c.stars_of-stars.ensures.root s is) c.stars_of-stars.ensures.bits
     c.set_remove.new.heap name c.in-Some.left.root
     (λ (E : List (Entry Bytes)) made. if-some c.in-Ok.found c.in-Some.left (λ (r : Root). Answered old c.set_remove.new.heap [] r.root 0 (7 + alike_to text_code c.stars_of-stars.result.bits name E)) c.in-Some.is (c.in-Ok.ensures.answered E made))
-    c.in-Ok.ensures.made in
-    let gained = subst (λ (l : ℕ). Grows old c.set_remove.new.heap [] (l ∷ []) 0 (7 + alike_stars c.args.bits s name)) (sym c.into_root.ensures) grows in
-    Grows-more 0 (8 + alike_stars c.args.bits s name) (Grows-then gained c.over_names.ensures.grows) (omega arith) (omega arith)
+    in
+    let gained = subst (λ (l : ℕ). Answered old c.set_remove.new.heap [] l 0 (7 + alike_stars c.args.bits s name)) (sym c.into_root.ensures) answered in
+    answered-more 0 (8 + alike_stars c.args.bits s name) (answered-then gained c.over_names.ensures.answered) (omega arith) (omega arith)
+
+pub returns-clause-made : goal.returns-clause-made
+returns-clause-made c =
+    let old = c.args.heap.now in
+    let s = c.requires.state.0 in
+    let is = c.requires.state.1 in
+    let name = name_bytes c.args.name in
+    let answered = taken-answered old (IsGoodVector old) c.args.bits is.stars s.stars c.requires.bits is.stars_are c.stars_of-stars.result (c.stars_of-stars.ensures.root s is) c.stars_of-stars.ensures.bits
+    c.set_remove.new.heap name c.in-Some.left.root
+    (λ (E : List (Entry Bytes)) made. if-some c.in-Ok.found c.in-Some.left (λ (r : Root). Answered old c.set_remove.new.heap [] r.root 0 (7 + alike_to text_code c.stars_of-stars.result.bits name E)) c.in-Some.is (c.in-Ok.ensures.answered E made))
+    in
+    just-then answered.extends c.over_names.ensures.answered.extends c.in-Ok.ensures.made (just-makes c.over_names.ensures.makes)
 
 pub returns-clause-state : goal.returns-clause-state
 returns-clause-state c = λ s is.
     let old = c.args.heap.now in
     let new = c.set_remove.new.heap in
     let name = name_bytes c.args.name in
-    let grows = taken-grows old (IsGoodVector old) c.args.bits is.stars s.stars c.requires.bits is.stars_are c.stars_of-stars.result (c.stars_of-stars.ensures.root s is) c.stars_of-stars.ensures.bits
+    let answered = taken-answered old (IsGoodVector old) c.args.bits is.stars s.stars c.requires.bits is.stars_are c.stars_of-stars.result (c.stars_of-stars.ensures.root s is) c.stars_of-stars.ensures.bits
     c.set_remove.new.heap name c.in-Some.left.root
     (λ (E : List (Entry Bytes)) made. if-some c.in-Ok.found c.in-Some.left (λ (r : Root). Answered old c.set_remove.new.heap [] r.root 0 (7 + alike_to text_code c.stars_of-stars.result.bits name E)) c.in-Some.is (c.in-Ok.ensures.answered E made))
-    c.in-Ok.ensures.made in
+    in
     let left_is = if-some c.in-Ok.found c.in-Some.left (λ (r : Root). IsSetOf by_bytes text_code new r (others by_bytes name is.stars_are.entries)) c.in-Some.is (c.in-Ok.ensures.contents is.stars_are.entries (set-is old (IsGoodVector old) c.args.bits is.stars s.stars c.requires.bits is.stars_are c.stars_of-stars.result (c.stars_of-stars.ensures.root s is) c.stars_of-stars.ensures.bits)) in
     let same_bits = if-some c.in-Ok.found c.in-Some.left (λ (r : Root). r.bits ≡ c.stars_of-stars.result.bits) c.in-Some.is c.in-Ok.ensures.bits in
     let stars = taken-is old (IsGoodVector old) c.args.bits is.stars s.stars c.requires.bits is.stars_are c.stars_of-stars.result (c.stars_of-stars.ensures.root s is) c.stars_of-stars.ensures.bits new (IsGoodVector new) c.in-Some.left same_bits name left_is in
     c.over_names.ensures.state c.args.bits (without_star s name)
-    (subst (λ (l : ℕ). AreBuffersIn new c.args.bits l s.buffers) (sym (c.root-names.ensures ∙ c.names_of.ensures.root s is)) (buffers-grown old new grows.extends c.args.bits is.names s.buffers is.buffers_are))
+    (subst (λ (l : ℕ). AreBuffersIn new c.args.bits l s.buffers) (sym (c.root-names.ensures ∙ c.names_of.ensures.root s is)) (buffers-grown old new answered.extends c.args.bits is.names s.buffers is.buffers_are))
     (subst (λ (l : ℕ). AreNamesIn new c.args.bits l (map.remove s.stars name)) (sym c.into_root.ensures) stars)

@@ -12,7 +12,7 @@ use Rattle.plain_space.specs.Workspace.{State}
 use Rattle.state_rows.specs.InHeap.{IsStateIn}
 use Rattle.state_rows.proofs.Keys.{by_bytes}
 use Rattle.state_rows.proofs.Staying.{grown}
-use Rattle.state_rows.proofs.Steps.{map-is, map-alike, removed-grows, removed-is}
+use Rattle.state_rows.proofs.Steps.{map-is, map-alike, removed-answered, removed-is}
 use Rattle.state_rows.proofs.make.without_version.Goals as goal
 
 pub unreachable-requires : goal.unreachable-requires
@@ -25,14 +25,14 @@ unreachable-requires c =
     let ample = c.in_default.ensures.ample is.bindings (map-is old (IsGoodVector old) r.bits (IsStateIn old r.bits) r.root m c.requires.bits is r refl refl) (omega arith, omega (arith, c.requires.versions.3.1, counted)) in
     cc
 
-pub returns-clause-grows : goal.returns-clause-grows
-returns-clause-grows c = λ m is.
+pub returns-clause-answered : goal.returns-clause-answered
+returns-clause-answered c = λ m is.
     let old = c.args.heap.now in
     let new = c.map_remove.new.heap in
     let r = c.args.versions in
     let name = name_bytes c.args.name in
-    removed-grows old (IsGoodVector old) r.bits (IsStateIn old r.bits) r.root m c.requires.bits is r refl refl new name c.in-Some.left.root
-    (λ (M : List (Binding Bytes)) made. if-some c.in-Ok.found c.in-Some.left (λ (q : Root). Answered old new [] q.root 0 (7 + alike_keys text_code r.bits name M)) c.in-Some.is (c.in-Ok.ensures.answered M made)) c.in-Ok.ensures.made
+    removed-answered old (IsGoodVector old) r.bits (IsStateIn old r.bits) r.root m c.requires.bits is r refl refl new name c.in-Some.left.root
+    (λ (M : List (Binding Bytes)) made. if-some c.in-Ok.found c.in-Some.left (λ (q : Root). Answered old new [] q.root 0 (7 + alike_keys text_code r.bits name M)) c.in-Some.is (c.in-Ok.ensures.answered M made))
 
 pub returns-clause-versions : goal.returns-clause-versions
 returns-clause-versions c = λ m is.

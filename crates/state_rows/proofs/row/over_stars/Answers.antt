@@ -1,6 +1,7 @@
 use Rattle.std.proofs.Common.{[], ◌∷◌, refl, arith}
-use Rattle.node_heap.proofs.BuildLemmas.{Builds-hold, count-cons, count-one}
-use Rattle.state_rows.proofs.Growth.{Grows-Builds, Grows-over, one-held}
+use Rattle.node_heap.proofs.Frames.{Makes-trans}
+use Rattle.node_heap.proofs.BuildLemmas.{Builds-hold, Answered-Builds, count-cons, count-one}
+use Rattle.state_rows.proofs.Answering.{answered-over, one-held}
 use Rattle.state_rows.proofs.Staying.{buffers-grown, names-grown}
 use Rattle.state_rows.proofs.row.over_stars.Goals as goal
 
@@ -11,10 +12,13 @@ state_row-requires-clause-held c = λ k.
 pub state_row-requires-clause-spares : goal.state_row-requires-clause-spares
 state_row-requires-clause-spares c = (omega arith, omega (arith, c.requires.spares.1, c.hold.ensures.makes.spare_nodes))
 
-pub returns-clause-grows : goal.returns-clause-grows
-returns-clause-grows c =
-    let holding = Grows-Builds (Builds-hold c.hold.ensures.holds c.hold.ensures.makes c.hold.ensures.count c.hold.ensures.graph c.hold.ensures.extends) in
-    Grows-over c.args.names c.args.stars c.args.names c.args.stars c.state_row.result holding c.state_row.ensures.grows (λ k. refl)
+pub returns-clause-answered : goal.returns-clause-answered
+returns-clause-answered c =
+    let holding = Answered-Builds (Builds-hold c.hold.ensures.holds c.hold.ensures.makes c.hold.ensures.count c.hold.ensures.graph c.hold.ensures.extends) in
+    answered-over c.args.names c.args.stars c.args.names c.args.stars holding c.state_row.ensures.answered (λ k. refl)
+
+pub returns-clause-makes : goal.returns-clause-makes
+returns-clause-makes c = Makes-trans c.hold.ensures.makes c.state_row.ensures.makes
 
 pub returns-clause-state : goal.returns-clause-state
 returns-clause-state c = λ bits s buffers stars.

@@ -1,12 +1,11 @@
 use Rattle.std.proofs.Common.{ap, option_map}
 use Rattle.node_heap.specs.Forms.{form_of}
-use Rattle.node_heap.proofs.BuildLemmas.{Builds-node}
-use Rattle.state_rows.proofs.Growth.{Grows-Builds}
+use Rattle.node_heap.proofs.BuildLemmas.{Builds-node, Answered-Builds}
 use Rattle.state_rows.proofs.Staying.{buffers-grown, names-grown}
 use Rattle.state_rows.proofs.row.state_row.Goals as goal
 
-pub returns-clause-grows : goal.returns-clause-grows
-returns-clause-grows c = Grows-Builds (Builds-node c.node.ensures.adds c.node.ensures.makes c.node.ensures.count c.node.ensures.graph c.node.ensures.extends)
+pub returns-clause-answered : goal.returns-clause-answered
+returns-clause-answered c = Answered-Builds (Builds-node c.node.ensures.adds c.node.ensures.makes c.node.ensures.count c.node.ensures.graph c.node.ensures.extends)
 
 pub returns-clause-state : goal.returns-clause-state
 returns-clause-state c = λ bits s buffers stars.

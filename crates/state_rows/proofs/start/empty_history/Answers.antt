@@ -1,15 +1,14 @@
-use Rattle.std.proofs.Common.{◌∷◌, [], sym, subst}
-use Rattle.node_heap.proofs.BuildLemmas.{Builds-node}
-use Rattle.state_rows.specs.Growth.{Grows}
+use Rattle.std.proofs.Common.{[], sym, subst}
+use Rattle.node_heap.specs.Calls.{Answered}
+use Rattle.node_heap.proofs.BuildLemmas.{Builds-node, Answered-Builds}
 use Rattle.state_rows.specs.InHeap.{IsHistoryIn, IsStateIn}
-use Rattle.state_rows.proofs.Growth.{Grows-Builds}
 use Rattle.state_rows.proofs.Empty.{vector-empty}
 use Rattle.state_rows.proofs.start.empty_history.Goals as goal
 
-pub returns-clause-grows : goal.returns-clause-grows
-returns-clause-grows c =
-    subst (λ l. Grows c.args.heap.now c.node.new.self [] (l ∷ []) 0 1) (sym c.from_root.ensures)
-    (Grows-Builds (Builds-node c.node.ensures.adds c.node.ensures.makes c.node.ensures.count c.node.ensures.graph c.node.ensures.extends))
+pub returns-clause-answered : goal.returns-clause-answered
+returns-clause-answered c =
+    subst (λ l. Answered c.args.heap.now c.node.new.self [] l 0 1) (sym c.from_root.ensures)
+    (Answered-Builds (Builds-node c.node.ensures.adds c.node.ensures.makes c.node.ensures.count c.node.ensures.graph c.node.ensures.extends))
 
 pub returns-clause-history : goal.returns-clause-history
 returns-clause-history c = λ bits.

@@ -1,16 +1,16 @@
-use Rattle.std.proofs.Common.{◌∷◌, [], sym, subst}
+use Rattle.std.proofs.Common.{[], sym, subst}
 use Rattle.std.specs.FinMap as map
 use Rattle.node_heap.specs.Heap.{form_at}
+use Rattle.node_heap.specs.Calls.{Answered}
 use Rattle.rrb_core.specs.Vector.{IsGoodVector}
 use Rattle.champ_kinds.specs.Root.{Root}
-use Rattle.state_rows.specs.Growth.{Grows}
 use Rattle.state_rows.specs.InHeap.{AreVersionsIn, IsStateIn}
 use Rattle.state_rows.proofs.Empty.{named-empty}
 use Rattle.state_rows.proofs.start.empty_versions.Goals as goal
 
-pub returns-clause-grows : goal.returns-clause-grows
-returns-clause-grows c =
-    subst (λ (r : Root). Grows c.args.heap.now c.empty_trie.new.heap [] (r.root ∷ []) 0 1) (sym c.from_root.ensures) c.empty_trie.ensures.grows
+pub returns-clause-answered : goal.returns-clause-answered
+returns-clause-answered c =
+    subst (λ (r : Root). Answered c.args.heap.now c.empty_trie.new.heap [] r.root 0 1) (sym c.from_root.ensures) c.empty_trie.ensures.answered
 
 pub returns-clause-versions : goal.returns-clause-versions
 returns-clause-versions c =

@@ -1,7 +1,7 @@
 use Rattle.std.proofs.Common.{◌≡◌, [], false, sym, ◌∙◌, refl}
 use Rattle.plain_space.specs.Workspace.{in_batch}
 use Rattle.plain_space.specs.Cost.{cost}
-use Rattle.space_state.proofs.Keeping.{same-refl, keeps-gained, keeps-open, current-stands, grows-one, rises-grows, turns-by}
+use Rattle.space_state.proofs.Keeping.{same-refl, keeps-gained, keeps-open, current-stands, answered-one, rises-answered, turns-by}
 use Rattle.space_state.proofs.Steps.{begin-refused, begin-done, closed-batch}
 use Rattle.space_state.proofs.roots.RootedHeap.begin.Goals as goal
 
@@ -12,10 +12,10 @@ pub returns-clause-obeys : goal.returns-clause-obeys
 unfolding cost
 returns-clause-obeys c = λ W K.
     let outside : in_batch W ≡ false = sym (c.in_batch.ensures [] W K) ∙ c.if-in_batch.false in
-    let once = grows-one c.hold.ensures.extends c.hold.ensures.graph c.hold.ensures.holds c.hold.ensures.count c.hold.ensures.makes in
+    let once = answered-one c.hold.ensures.extends c.hold.ensures.graph c.hold.ensures.holds c.hold.ensures.count c.hold.ensures.makes in
     let held = keeps-gained K once in
     record {
       after = _;
       told = begin-done W outside;
-      turns = turns-by 0 (keeps-open c.args.self.now.roots.current W.current (closed-batch K outside) held (current-stands held)) refl (rises-grows once);
+      turns = turns-by 0 (keeps-open c.args.self.now.roots.current W.current (closed-batch K outside) held (current-stands held)) refl (rises-answered once);
     }

@@ -1,8 +1,8 @@
 use Rattle.std.proofs.Common.{[], arith}
 use Rattle.elem_core.specs.Shown.{name_bytes}
+use Rattle.node_heap.proofs.BuildLemmas.{Answered-Builds}
 use Rattle.shell_terms.specs.Edit.{copy}
 use Rattle.plain_space.specs.Workspace.{Workspace}
-use Rattle.state_rows.proofs.Growth.{Grows-Builds}
 use Rattle.space_state.specs.Roots.{Keeps}
 use Rattle.space_state.proofs.Keeping.{same-refl, keeps-same}
 use Rattle.space_state.proofs.Editing.{found-lines, copy-absent, copy-made, room-due, due-absent, made-room, HasLines, has-lines, made-again, can-put, edit-done, edit-refused, fails}
@@ -37,7 +37,7 @@ put_lines-requires-clause-kept c =
     let W = c.requires.0 in
     let K = c.requires.1 in
     let lines = there (goal.at.put_lines-requires-clause-kept c).In_ok-key W K in
-    let m = made-again (keeps-same c.prepare.ensures.same K) (Grows-Builds c.share-lines.ensures.shares.builds) c.share-lines.ensures.same lines.now in
+    let m = made-again (keeps-same c.prepare.ensures.same K) (Answered-Builds c.share-lines.ensures.shares.builds) c.share-lines.ensures.same lines.now in
     can-put (made-room W c.prepare.ensures.same c.in_ok-key.ensures.key (c.in_ok-key.ensures.room W K)) m (omega arith) (omega arith)
 
 pub returns : goal.returns
@@ -45,7 +45,7 @@ returns c = λ W K.
     let name = name_bytes c.args.name in
     let other = name_bytes c.args.other in
     let lines = there (goal.at.returns c).In_ok-key W K in
-    let m = made-again (keeps-same c.prepare.ensures.same K) (Grows-Builds c.share-lines.ensures.shares.builds) c.share-lines.ensures.same lines.now in
+    let m = made-again (keeps-same c.prepare.ensures.same K) (Answered-Builds c.share-lines.ensures.shares.builds) c.share-lines.ensures.same lines.now in
     let room = made-room W c.prepare.ensures.same c.in_ok-key.ensures.key (c.in_ok-key.ensures.room W K) in
     let done = copy-made W.current name other lines.xs lines.found in
     edit-done (copy name other) room m done (c.put_lines.ensures W _ m.keeps m.lines room.free) (omega arith)

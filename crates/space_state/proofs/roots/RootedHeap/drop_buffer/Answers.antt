@@ -36,7 +36,7 @@ turn_to-requires-clause-spares c =
     let W = c.requires.0 in
     let K = c.requires.1 in
     let name = name_bytes c.args.name in
-    let g = c.without_lines-next.ensures.grows W.current (current-stands (keeps-same c.make_room.ensures.same K)) in
+    let g = c.without_lines-next.ensures.answered W.current (current-stands (keeps-same c.make_room.ensures.same K)) in
     (omega arith, omega (arith, (c.in_ok-make_room.ensures.room W K).1.1, alike-same c.make_room.ensures.same W.current name, g.nodes, g.balance.spare_nodes))
 
 pub turn_to-requires-clause-kept : goal.turn_to-requires-clause-kept
@@ -45,13 +45,13 @@ turn_to-requires-clause-kept c =
     let K = c.requires.1 in
     let name = name_bytes c.args.name in
     let made = keeps-same c.make_room.ensures.same K in
-    (W, without_lines W.current name, keeps-gained made (c.without_lines-next.ensures.grows W.current (current-stands made)), c.without_lines-next.ensures.state W.current (current-stands made), (c.in_ok-make_room.ensures.room W K).0)
+    (W, without_lines W.current name, keeps-gained made (c.without_lines-next.ensures.answered W.current (current-stands made)), c.without_lines-next.ensures.state W.current (current-stands made), (c.in_ok-make_room.ensures.room W K).0)
 
 pub returns : goal.returns
 returns c = λ W K.
     let name = name_bytes c.args.name in
     let found = found-lines c.args.self.now c.in_ok-buffer.field-0 W.current name (c.in_ok-buffer.ensures W K) in
     let made = keeps-same c.make_room.ensures.same K in
-    let g = c.without_lines-next.ensures.grows W.current (current-stands made) in
+    let g = c.without_lines-next.ensures.answered W.current (current-stands made) in
     let free = (c.in_ok-make_room.ensures.room W K).0 in
     drop-done found.0 c.make_room.ensures.same g found.1 free (c.turn_to.ensures W (without_lines W.current name) (keeps-gained made g) (c.without_lines-next.ensures.state W.current (current-stands made)) free)

@@ -5,7 +5,7 @@ use Rattle.std.specs.FinMap as map
 use Rattle.plain_space.specs.Workspace.{in_batch}
 use Rattle.plain_space.specs.Cost.{cost, alike, alike_versions}
 use Rattle.state_rows.specs.InHeap.{IsStateIn, AreVersionsIn}
-use Rattle.space_state.proofs.Keeping.{same-refl, keeps-same, keeps-gained, keeps-turned, current-stands, versions-stand, grows-one, rises-same, rises-grows, rises-then, turns-after}
+use Rattle.space_state.proofs.Keeping.{same-refl, keeps-same, keeps-gained, keeps-turned, current-stands, versions-stand, answered-one, rises-same, rises-answered, rises-then, turns-after}
 use Rattle.space_state.proofs.Steps.{mark-refused, mark-taken, mark-done, version-there, may-lack, memory-refused, spares-kept}
 use Rattle.space_state.proofs.roots.RootedHeap.mark.Goals as goal
 
@@ -34,7 +34,7 @@ pub with_version-map-requires-clause-versions : goal.with_version-map-requires-c
 with_version-map-requires-clause-versions c =
     let W = c.requires.0 in
     let K = c.requires.1 in
-    let once = grows-one c.hold.ensures.extends c.hold.ensures.graph c.hold.ensures.holds c.hold.ensures.count c.hold.ensures.makes in
+    let once = answered-one c.hold.ensures.extends c.hold.ensures.graph c.hold.ensures.holds c.hold.ensures.count c.hold.ensures.makes in
     let held = keeps-gained (keeps-same c.make_version_room.ensures.same K) once in
     let key : c.in_ok-key.key ≡ name_bytes c.args.name = c.in_ok-key.ensures ∙ c.as_line.ensures in
     let same : alike c.versions-versions.result.bits (map.keys W.versions) c.in_ok-key.key ≡ alike_versions c.args.self.now.bits W (name_bytes c.args.name) =
@@ -48,32 +48,32 @@ pub turn_versions-requires : goal.turn_versions-requires
 turn_versions-requires c =
     let W = c.requires.0 in
     let K = c.requires.1 in
-    let once = grows-one c.hold.ensures.extends c.hold.ensures.graph c.hold.ensures.holds c.hold.ensures.count c.hold.ensures.makes in
+    let once = answered-one c.hold.ensures.extends c.hold.ensures.graph c.hold.ensures.holds c.hold.ensures.count c.hold.ensures.makes in
     let held = keeps-gained (keeps-same c.make_version_room.ensures.same K) once in
     let there : AreVersionsIn c.hold.new.self c.versions-versions.result.bits c.versions-versions.result.root W.versions = rw c.versions-versions.ensures (versions-stand held) in
     let now : IsStateIn c.hold.new.self c.versions-versions.result.bits c.make_version_room.new.self.roots.current W.current = rw c.versions-versions.ensures (current-stands held) in
-    let grows = c.with_version-map.ensures.grows W.versions there in
+    let answered = c.with_version-map.ensures.answered W.versions there in
     let are = rw c.versions-versions.ensures at (c.with_version-map.ensures.versions W.versions W.current there now) in
-    (W, map.insert W.versions c.in_ok-key.key W.current, keeps-turned held grows, are)
+    (W, map.insert W.versions c.in_ok-key.key W.current, keeps-turned held answered, are)
 
 pub returns : goal.returns
 unfolding cost
 returns c = λ W K.
     let outside : in_batch W ≡ false = sym (c.in_batch.ensures [] W K) ∙ c.if-in_batch.false in
     let none = version-there c.args.self.now.heap c.args.self.now.bits _ _ (c.version.ensures W K) (sym c.is_some.ensures ∙ c.if-is_some.false) in
-    let once = grows-one c.hold.ensures.extends c.hold.ensures.graph c.hold.ensures.holds c.hold.ensures.count c.hold.ensures.makes in
+    let once = answered-one c.hold.ensures.extends c.hold.ensures.graph c.hold.ensures.holds c.hold.ensures.count c.hold.ensures.makes in
     let held = keeps-gained (keeps-same c.make_version_room.ensures.same K) once in
     let there : AreVersionsIn c.hold.new.self c.versions-versions.result.bits c.versions-versions.result.root W.versions = rw c.versions-versions.ensures (versions-stand held) in
     let now : IsStateIn c.hold.new.self c.versions-versions.result.bits c.make_version_room.new.self.roots.current W.current = rw c.versions-versions.ensures (current-stands held) in
-    let grows = c.with_version-map.ensures.grows W.versions there in
+    let answered = c.with_version-map.ensures.answered W.versions there in
     let are = rw c.versions-versions.ensures at (c.with_version-map.ensures.versions W.versions W.current there now) in
     let key : c.in_ok-key.key ≡ name_bytes c.args.name = c.in_ok-key.ensures ∙ c.as_line.ensures in
     let same : alike c.versions-versions.result.bits (map.keys W.versions) c.in_ok-key.key ≡ alike_versions c.args.self.now.bits W (name_bytes c.args.name) =
     rw (c.versions-versions.ensures, c.make_version_room.ensures.same.bits, key) refl in
-    let turned = c.turn_versions.ensures W (map.insert W.versions c.in_ok-key.key W.current) (keeps-turned held grows) are in
+    let turned = c.turn_versions.ensures W (map.insert W.versions c.in_ok-key.key W.current) (keeps-turned held answered) are in
     record {
       after = record W { versions = map.insert W.versions c.in_ok-key.key W.current };
       told = rw key (mark-done W (name_bytes c.args.name) outside none);
-      turns = turns-after _ (64 + alike_versions c.args.self.now.bits W (name_bytes c.args.name)) (rises-then (rises-same c.make_version_room.ensures.same.heap) (rises-then (rises-grows once) (rises-grows grows)))
+      turns = turns-after _ (64 + alike_versions c.args.self.now.bits W (name_bytes c.args.name)) (rises-then (rises-same c.make_version_room.ensures.same.heap) (rises-then (rises-answered once) (rises-answered answered)))
           c.make_version_room.ensures.same.bits turned (omega (arith, same));
     }

@@ -2,7 +2,7 @@ use Rattle.std.proofs.Common.{◌+◌, refl, arith}
 use Rattle.plain_space.specs.Workspace.{with_lines}
 use Rattle.plain_space.specs.Cost.{alike_buffers}
 use Rattle.elem_core.specs.declared.codes.TheConstants.{DEEPEST}
-use Rattle.space_state.proofs.Keeping.{current-stands, first-held, keeps-turned, rises-grows, turns-after}
+use Rattle.space_state.proofs.Keeping.{current-stands, first-held, keeps-turned, rises-answered, turns-after}
 use Rattle.space_state.proofs.roots.RootedHeap.put_lines.Goals as goal
 
 pub with_lines-next-requires-clause-held : goal.with_lines-next-requires-clause-held
@@ -18,10 +18,10 @@ turn_to-requires-clause-kept c =
     let W = c.requires.kept.0 in
     let xs = c.requires.kept.1 in
     let K = c.requires.kept.2 in
-    (W, with_lines W.current c.args.key xs, keeps-turned K (c.with_lines-next.ensures.grows W.current (current-stands K)), c.with_lines-next.ensures.state W.current xs (current-stands K) c.requires.kept.3, c.requires.kept.4)
+    (W, with_lines W.current c.args.key xs, keeps-turned K (c.with_lines-next.ensures.answered W.current (current-stands K)), c.with_lines-next.ensures.state W.current xs (current-stands K) c.requires.kept.3, c.requires.kept.4)
 
 pub returns : goal.returns
 returns c = λ W xs K are free.
-    let g = c.with_lines-next.ensures.grows W.current (current-stands K) in
-    turns-after (1 + (DEEPEST + 4 + alike_buffers c.args.self.now.bits W.current c.args.key)) (DEEPEST + 15 + alike_buffers c.args.self.now.bits W.current c.args.key) (rises-grows g) refl
+    let g = c.with_lines-next.ensures.answered W.current (current-stands K) in
+    turns-after (1 + (DEEPEST + 4 + alike_buffers c.args.self.now.bits W.current c.args.key)) (DEEPEST + 15 + alike_buffers c.args.self.now.bits W.current c.args.key) (rises-answered g) refl
     (c.turn_to.ensures W (with_lines W.current c.args.key xs) (keeps-turned K g) (c.with_lines-next.ensures.state W.current xs (current-stands K) are) free) (omega arith)

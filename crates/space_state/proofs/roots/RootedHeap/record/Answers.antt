@@ -1,13 +1,13 @@
 use Rattle.std.proofs.Common.{ℕ, [], ◌∷◌, ◌++◌, refl, arith}
 use Rattle.node_heap.specs.Heap.{Heap}
+use Rattle.node_heap.specs.Calls.{Answered}
 use Rattle.shell_terms.specs.Edit.{Bytes}
 use Rattle.plain_space.specs.Workspace.{State, Workspace}
-use Rattle.state_rows.specs.Growth.{Grows}
 use Rattle.state_rows.specs.InHeap.{IsHistoryIn}
 use Rattle.space_state.specs.declared.roots.RootedHeap.{RootedHeap}
 use Rattle.space_state.specs.declared.turning.TheConstants.{TURN_NODES}
 use Rattle.space_state.specs.Roots.{Keeps}
-use Rattle.space_state.proofs.Keeping.{first-held, redo-held, redo-stands, undo-stands, held-stands, keeps-turned, keeps-gained, keeps-swapped, rises-grows, rises-then, turns-after}
+use Rattle.space_state.proofs.Keeping.{first-held, redo-held, redo-stands, undo-stands, held-stands, history-low, keeps-turned, keeps-gained, keeps-swapped, rises-answered, rises-nodes, rises-then, turns-after}
 use Rattle.space_state.proofs.roots.RootedHeap.record.Goals as goal
 
 -- both new histories are held besides, and stand
@@ -15,7 +15,7 @@ record Recorded (s : RootedHeap) (new : Heap Bytes) (undo redo : ℕ) (W : Works
   keeps : Keeps (record s { heap = new }) (undo ∷ redo ∷ []) W
   longer : IsHistoryIn new s.bits undo (W.undo ++ x ∷ [])
 
-recorded : {s : RootedHeap} {mid new : Heap Bytes} {before undo redo : ℕ} {W : Workspace} (x : State) → Keeps s (before ∷ []) W → Grows s.heap mid (before ∷ []) (undo ∷ []) 0 9 → Grows mid new [] (redo ∷ []) 0 1
+recorded : {s : RootedHeap} {mid new : Heap Bytes} {before undo redo n : ℕ} {W : Workspace} (x : State) → Keeps s (before ∷ []) W → Answered s.heap mid (before ∷ []) undo 0 n → Answered mid new [] redo 0 1
     → IsHistoryIn mid s.bits undo (W.undo ++ x ∷ []) → Recorded s new undo redo W x
 recorded {undo = undo} {W = W} x K first second is =
     let pushed = keeps-turned K first in
@@ -28,7 +28,7 @@ pub emptied-redo-requires-clause-history : goal.emptied-redo-requires-clause-his
 emptied-redo-requires-clause-history c =
     let K = c.requires.kept.2 in
     let W = c.requires.kept.0 in
-    (c.args.self.now.bits, W.redo, rw c.at-2.ensures ((held-stands K c.pushed-undo.ensures.grows.extends c.args.self.now.roots.redo (redo-held K)).history W.redo (redo-stands K)))
+    (c.args.self.now.bits, W.redo, rw c.at-2.ensures ((held-stands K c.pushed-undo.ensures.answered.extends c.args.self.now.roots.redo (redo-held K)).history W.redo (redo-stands K)))
 
 pub turn_histories-requires : goal.turn_histories-requires
 turn_histories-requires c =
@@ -36,14 +36,14 @@ turn_histories-requires c =
     let x = c.requires.kept.1 in
     let K = c.requires.kept.2 in
     let pushed = c.pushed-undo.ensures.history c.args.self.now.bits W.undo x (rw c.at.ensures (undo-stands K)) c.requires.kept.3 in
-    let both = recorded x K c.pushed-undo.ensures.grows c.emptied-redo.ensures.grows pushed in
+    let both = recorded x K c.pushed-undo.ensures.answered c.emptied-redo.ensures.answered pushed in
     (W, W.undo ++ x ∷ [], [], rw (c.into_root.ensures, c.into_root-2.ensures) both.keeps, rw c.into_root.ensures both.longer, rw c.into_root-2.ensures (c.emptied-redo.ensures.history c.args.self.now.bits))
 
 pub returns : goal.returns
 returns c = λ W x K is room.
     let pushed = c.pushed-undo.ensures.history c.args.self.now.bits W.undo x (rw c.at.ensures (undo-stands K)) is in
-    let both = recorded x K c.pushed-undo.ensures.grows c.emptied-redo.ensures.grows pushed in
-    turns-after 10 TURN_NODES (rises-then (rises-grows c.pushed-undo.ensures.grows) (rises-grows c.emptied-redo.ensures.grows)) refl
+    let both = recorded x K c.pushed-undo.ensures.answered c.emptied-redo.ensures.answered pushed in
+    turns-after 10 TURN_NODES (rises-then (rises-nodes 9 c.pushed-undo.ensures.answered (omega (arith, rw c.at.ensures (history-low (undo-stands K))))) (rises-answered c.emptied-redo.ensures.answered)) refl
     (c.turn_histories.ensures W (W.undo ++ x ∷ []) [] (rw (c.into_root.ensures, c.into_root-2.ensures) both.keeps) (rw c.into_root.ensures both.longer)
     (rw c.into_root-2.ensures (c.emptied-redo.ensures.history c.args.self.now.bits)))
     (omega arith)

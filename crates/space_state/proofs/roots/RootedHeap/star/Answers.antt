@@ -4,7 +4,7 @@ use Rattle.shell_terms.specs.Edit.{star}
 use Rattle.shell_terms.specs.Command.{edit}
 use Rattle.plain_space.specs.Workspace.{is_full, is_starred, with_current, with_star}
 use Rattle.plain_space.specs.Cost.{cost, alike_stars}
-use Rattle.space_state.proofs.Keeping.{same-refl, keeps-same, keeps-gained, current-stands, rises-same, rises-grows, rises-then, turns-after}
+use Rattle.space_state.proofs.Keeping.{same-refl, keeps-same, keeps-gained, current-stands, rises-same, rises-answered, rises-then, turns-after}
 use Rattle.space_state.proofs.Steps.{star-taken, star-limited, star-done, may-lack, memory-refused, room-refused, spares-suffice, spares-left}
 use Rattle.space_state.proofs.roots.RootedHeap.star.Goals as goal
 
@@ -41,7 +41,7 @@ turn_to-requires-clause-spares c =
     let key : c.in_ok-key.key ≡ name_bytes c.args.name = c.in_ok-key.ensures ∙ c.as_line.ensures in
     let same : alike_stars c.make_star_room.new.self.bits W.current c.in_ok-key.key ≡ alike_stars c.args.self.now.bits W.current (name_bytes c.args.name) =
     rw (c.make_star_room.ensures.same.bits, key) refl in
-    spares-left 9 _ _ (c.with_star-next.ensures.grows W.current (current-stands (keeps-same c.make_star_room.ensures.same K))) room.1 (omega arith) same
+    spares-left 9 _ _ (c.with_star-next.ensures.answered W.current (current-stands (keeps-same c.make_star_room.ensures.same K))) room.1 (omega arith) same
 
 pub turn_to-requires-clause-kept : goal.turn_to-requires-clause-kept
 turn_to-requires-clause-kept c =
@@ -49,7 +49,7 @@ turn_to-requires-clause-kept c =
     let K = c.requires.1 in
     let room = c.in_ok-make_star_room.ensures.room W K in
     let held = keeps-same c.make_star_room.ensures.same K in
-    (W, with_star W.current c.in_ok-key.key, keeps-gained held (c.with_star-next.ensures.grows W.current (current-stands held)), c.with_star-next.ensures.state W.current (current-stands held), room.0)
+    (W, with_star W.current c.in_ok-key.key, keeps-gained held (c.with_star-next.ensures.answered W.current (current-stands held)), c.with_star-next.ensures.state W.current (current-stands held), room.0)
 
 pub returns : goal.returns
 unfolding cost
@@ -57,14 +57,14 @@ returns c = λ W K.
     let none : is_starred W.current (name_bytes c.args.name) ≡ false = sym (c.is_starred.ensures W K) ∙ c.if-is_starred.false in
     let room = c.in_ok-make_star_room.ensures.room W K in
     let held = keeps-same c.make_star_room.ensures.same K in
-    let grows = c.with_star-next.ensures.grows W.current (current-stands held) in
+    let answered = c.with_star-next.ensures.answered W.current (current-stands held) in
     let key : c.in_ok-key.key ≡ name_bytes c.args.name = c.in_ok-key.ensures ∙ c.as_line.ensures in
     let same : alike_stars c.make_star_room.new.self.bits W.current c.in_ok-key.key ≡ alike_stars c.args.self.now.bits W.current (name_bytes c.args.name) =
     rw (c.make_star_room.ensures.same.bits, key) refl in
-    let turned = c.turn_to.ensures W (with_star W.current c.in_ok-key.key) (keeps-gained held grows) (c.with_star-next.ensures.state W.current (current-stands held)) room.0 in
+    let turned = c.turn_to.ensures W (with_star W.current c.in_ok-key.key) (keeps-gained held answered) (c.with_star-next.ensures.state W.current (current-stands held)) room.0 in
     record {
       after = with_current W (with_star W.current c.in_ok-key.key);
       told = rw key (star-done W (name_bytes c.args.name) none room.0);
-      turns = turns-after _ (64 + alike_stars c.args.self.now.bits W.current (name_bytes c.args.name)) (rises-then (rises-same c.make_star_room.ensures.same.heap) (rises-grows grows)) c.make_star_room.ensures.same.bits
+      turns = turns-after _ (64 + alike_stars c.args.self.now.bits W.current (name_bytes c.args.name)) (rises-then (rises-same c.make_star_room.ensures.same.heap) (rises-answered answered)) c.make_star_room.ensures.same.bits
           turned (omega (arith, same));
     }

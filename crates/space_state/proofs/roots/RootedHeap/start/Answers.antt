@@ -9,5 +9,5 @@ returns-clause-keeps c =
     rw (c.into_root-versions.ensures, c.into_root-undo.ensures, c.into_root-redo.ensures)
     (starts _ c.reserve.new.self c.empty_state-current.new.heap c.empty_versions.new.heap c.empty_history.new.heap refl c.requires
     (λ k. rest.holds k ∙ ap (λ hs. slice_index_or hs k 0) c.new-heap.ensures.holds) (rest.count ∙ ap sum c.new-heap.ensures.holds)
-    c.empty_state-current.ensures.grows c.empty_versions.ensures.grows c.empty_history.ensures.grows c.empty_history-2.ensures.grows
+    c.empty_state-current.ensures.answered c.empty_versions.ensures.answered c.empty_history.ensures.answered c.empty_history-2.ensures.answered
     c.empty_state-current.ensures.state c.empty_versions.ensures.versions (c.empty_history.ensures.history c.args.bits) (c.empty_history-2.ensures.history c.args.bits))

@@ -5,7 +5,7 @@ use Rattle.std.specs.FinMap as map
 use Rattle.plain_space.specs.Workspace.{in_batch}
 use Rattle.plain_space.specs.Cost.{cost, alike, alike_versions}
 use Rattle.state_rows.specs.InHeap.{AreVersionsIn}
-use Rattle.space_state.proofs.Keeping.{same-refl, keeps-same, keeps-gained, versions-stand, rises-same, rises-grows, rises-then, turns-after}
+use Rattle.space_state.proofs.Keeping.{same-refl, keeps-same, keeps-gained, versions-stand, rises-same, rises-answered, rises-then, turns-after}
 use Rattle.space_state.proofs.Steps.{unmark-refused, unmark-absent, unmark-done, version-there, may-lack, memory-refused, spares-suffice}
 use Rattle.space_state.proofs.roots.RootedHeap.unmark.Goals as goal
 
@@ -43,9 +43,9 @@ turn_versions-requires c =
     let K = c.requires.1 in
     let held = keeps-same c.make_version_room.ensures.same K in
     let those : AreVersionsIn c.make_version_room.new.self.heap c.versions-versions.result.bits c.versions-versions.result.root W.versions = rw c.versions-versions.ensures (versions-stand held) in
-    let grows = c.without_version-map.ensures.grows W.versions those in
+    let answered = c.without_version-map.ensures.answered W.versions those in
     let are = rw c.versions-versions.ensures at (c.without_version-map.ensures.versions W.versions those) in
-    (W, map.remove W.versions (name_bytes c.args.name), keeps-gained held grows, are)
+    (W, map.remove W.versions (name_bytes c.args.name), keeps-gained held answered, are)
 
 pub returns : goal.returns
 unfolding cost
@@ -54,14 +54,14 @@ returns c = λ W K.
     let there = version-there c.args.self.now.heap c.args.self.now.bits _ _ (c.version.ensures W K) (c.is_none.ensures ∙ ap not c.if-is_none.false) in
     let held = keeps-same c.make_version_room.ensures.same K in
     let those : AreVersionsIn c.make_version_room.new.self.heap c.versions-versions.result.bits c.versions-versions.result.root W.versions = rw c.versions-versions.ensures (versions-stand held) in
-    let grows = c.without_version-map.ensures.grows W.versions those in
+    let answered = c.without_version-map.ensures.answered W.versions those in
     let are = rw c.versions-versions.ensures at (c.without_version-map.ensures.versions W.versions those) in
     let same : alike c.versions-versions.result.bits (map.keys W.versions) (name_bytes c.args.name) ≡ alike_versions c.args.self.now.bits W (name_bytes c.args.name) =
     rw (c.versions-versions.ensures, c.make_version_room.ensures.same.bits) refl in
-    let turned = c.turn_versions.ensures W (map.remove W.versions (name_bytes c.args.name)) (keeps-gained held grows) are in
+    let turned = c.turn_versions.ensures W (map.remove W.versions (name_bytes c.args.name)) (keeps-gained held answered) are in
     record {
       after = _;
       told = unmark-done W (name_bytes c.args.name) outside there;
-      turns = turns-after _ (64 + alike_versions c.args.self.now.bits W (name_bytes c.args.name)) (rises-then (rises-same c.make_version_room.ensures.same.heap) (rises-grows grows)) c.make_version_room.ensures.same.bits
+      turns = turns-after _ (64 + alike_versions c.args.self.now.bits W (name_bytes c.args.name)) (rises-then (rises-same c.make_version_room.ensures.same.heap) (rises-answered answered)) c.make_version_room.ensures.same.bits
           turned (omega (arith, same));
     }

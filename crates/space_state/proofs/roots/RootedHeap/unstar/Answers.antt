@@ -4,7 +4,7 @@ use Rattle.shell_terms.specs.Edit.{unstar}
 use Rattle.shell_terms.specs.Command.{edit}
 use Rattle.plain_space.specs.Workspace.{is_full, is_starred, with_current, without_star}
 use Rattle.plain_space.specs.Cost.{cost, alike_stars}
-use Rattle.space_state.proofs.Keeping.{same-refl, keeps-same, keeps-gained, current-stands, rises-same, rises-grows, rises-then, turns-after}
+use Rattle.space_state.proofs.Keeping.{same-refl, keeps-same, keeps-gained, current-stands, rises-same, rises-answered, rises-then, turns-after}
 use Rattle.space_state.proofs.Steps.{unstar-absent, unstar-limited, unstar-done, may-lack, room-refused, spares-suffice, spares-left}
 use Rattle.space_state.proofs.roots.RootedHeap.unstar.Goals as goal
 
@@ -34,7 +34,7 @@ turn_to-requires-clause-spares c =
     let room = c.in_ok-make_star_room.ensures.room W K in
     let same : alike_stars c.make_star_room.new.self.bits W.current (name_bytes c.args.name) ≡ alike_stars c.args.self.now.bits W.current (name_bytes c.args.name) =
     rw c.make_star_room.ensures.same.bits refl in
-    spares-left 8 _ _ (c.without_star-next.ensures.grows W.current (current-stands (keeps-same c.make_star_room.ensures.same K))) room.1 (omega arith) same
+    spares-left 8 _ _ (c.without_star-next.ensures.answered W.current (current-stands (keeps-same c.make_star_room.ensures.same K))) room.1 (omega arith) same
 
 pub turn_to-requires-clause-kept : goal.turn_to-requires-clause-kept
 turn_to-requires-clause-kept c =
@@ -42,7 +42,7 @@ turn_to-requires-clause-kept c =
     let K = c.requires.1 in
     let room = c.in_ok-make_star_room.ensures.room W K in
     let held = keeps-same c.make_star_room.ensures.same K in
-    (W, without_star W.current (name_bytes c.args.name), keeps-gained held (c.without_star-next.ensures.grows W.current (current-stands held)), c.without_star-next.ensures.state W.current (current-stands held), room.0)
+    (W, without_star W.current (name_bytes c.args.name), keeps-gained held (c.without_star-next.ensures.answered W.current (current-stands held)), c.without_star-next.ensures.state W.current (current-stands held), room.0)
 
 pub returns : goal.returns
 unfolding cost
@@ -50,13 +50,13 @@ returns c = λ W K.
     let there : is_starred W.current (name_bytes c.args.name) ≡ true = sym (c.is_starred.ensures W K) ∙ c.if-not-is_starred.false in
     let room = c.in_ok-make_star_room.ensures.room W K in
     let held = keeps-same c.make_star_room.ensures.same K in
-    let grows = c.without_star-next.ensures.grows W.current (current-stands held) in
+    let answered = c.without_star-next.ensures.answered W.current (current-stands held) in
     let same : alike_stars c.make_star_room.new.self.bits W.current (name_bytes c.args.name) ≡ alike_stars c.args.self.now.bits W.current (name_bytes c.args.name) =
     rw c.make_star_room.ensures.same.bits refl in
-    let turned = c.turn_to.ensures W (without_star W.current (name_bytes c.args.name)) (keeps-gained held grows) (c.without_star-next.ensures.state W.current (current-stands held)) room.0 in
+    let turned = c.turn_to.ensures W (without_star W.current (name_bytes c.args.name)) (keeps-gained held answered) (c.without_star-next.ensures.state W.current (current-stands held)) room.0 in
     record {
       after = with_current W (without_star W.current (name_bytes c.args.name));
       told = unstar-done W (name_bytes c.args.name) there room.0;
-      turns = turns-after _ (64 + alike_stars c.args.self.now.bits W.current (name_bytes c.args.name)) (rises-then (rises-same c.make_star_room.ensures.same.heap) (rises-grows grows)) c.make_star_room.ensures.same.bits
+      turns = turns-after _ (64 + alike_stars c.args.self.now.bits W.current (name_bytes c.args.name)) (rises-then (rises-same c.make_star_room.ensures.same.heap) (rises-answered answered)) c.make_star_room.ensures.same.bits
           turned (omega (arith, same));
     }
