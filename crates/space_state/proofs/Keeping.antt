@@ -11,7 +11,7 @@ use Rattle.node_heap.proofs.Counts.{test_same}
 use Rattle.node_heap.proofs.Frames.{KeepsHeld-Releases, Balances-Makes, Unchanged-refl, Unchanged-trans}
 use Rattle.node_heap.proofs.GraphLemmas.{IsGraph-kinds}
 use Rattle.node_heap.proofs.BuildLemmas.{count-cons, count-append}
-use Rattle.rrb_core.specs.Vector.{IsGoodVector, elements}
+use Rattle.rrb_core.specs.Vector.{IsGoodVector, elements, height_at}
 use Rattle.champ_kinds.proofs.ZipLemmas.{zip-length}
 use Rattle.shell_terms.specs.Edit.{Bytes}
 use Rattle.plain_space.specs.Workspace.{Named, State, Workspace, most, in_batch, is_full}
@@ -323,6 +323,10 @@ has-room W is outside room =
 pub full-inside : (W : Workspace) → in_batch W ≡ true → is_full W ≡ false
 full-inside W inside = rw inside refl
 
+-- the root of a history is low
+pub history-low : {h : Heap Bytes} {bits l : ℕ} {ss : List State} → IsHistoryIn h bits l ss → height_at h l ≤ 7
+history-low is = is.vector.shape.low
+
 -- ## How far the rows rise
 
 -- so many rows more at most, and the number made rises by no fewer than came
@@ -335,6 +339,13 @@ rises-answered {old} {new} a = record {
   few = omega (arith, IsGraph-kinds old, IsGraph-kinds new, a.cells, a.nodes);
   made = (omega (arith, a.balance.no_fewer), omega (arith, a.balance.made));
 }
+
+pub rises-more : {old new : Heap Bytes} {m : ℕ} (m' : ℕ) → Rises old new m → m ≤ m' → Rises old new m'
+rises-more m' r more = record { few = omega (arith, r.few, more); made = r.made }
+
+-- the same of a call that makes nodes alone, with more room
+pub rises-nodes : {old new : Heap Bytes} {spent : List ℕ} {l n : ℕ} (m : ℕ) → Answered old new spent l 0 n → n ≤ m → Rises old new m
+rises-nodes m a few = rises-more m (rises-answered a) (omega (arith, few))
 
 pub rises-makes : {old new : Heap Bytes} {c n : ℕ} → Makes old new c n → Rises old new (c + n)
 rises-makes makes = record {
@@ -356,9 +367,6 @@ rises-same same = record {
 
 pub rises-refl : (h : Heap Bytes) → Rises h h 0
 rises-refl h = record { few = omega arith; made = (omega arith, omega arith) }
-
-pub rises-more : {old new : Heap Bytes} {m : ℕ} (m' : ℕ) → Rises old new m → m ≤ m' → Rises old new m'
-rises-more m' r more = record { few = omega (arith, r.few, more); made = r.made }
 
 pub rises-then : {old mid new : Heap Bytes} {m m' : ℕ} → Rises old mid m → Rises mid new m' → Rises old new (m + m')
 rises-then first second = record {

@@ -23,7 +23,7 @@ use Rattle.space_state.specs.declared.roots.Batch.TheVariants.{Closed, Open}
 use Rattle.space_state.specs.Roots.{base_of, Keeps}
 use Rattle.space_state.specs.Turns.{IsSame, IsCarriedOut, IsRefused}
 use Rattle.state_rows.proofs.Staying.{states-stay}
-use Rattle.space_state.proofs.Keeping.{history-length, history-short, same-heap, keeps-same, keeps-gained, keeps-swapped, first-held, held-stands, unchanged-stands, Rises, rises-answered, rises-same, rises-then}
+use Rattle.space_state.proofs.Keeping.{history-length, history-short, same-heap, keeps-same, keeps-gained, keeps-swapped, first-held, held-stands, unchanged-stands, Rises, rises-answered, rises-nodes, rises-same, rises-then}
 
 -- a list with fewer than the most elements has room for one more
 fits-one : (n : ℕ) → n < most → leb (n + 1) most ≡ true
@@ -256,14 +256,14 @@ held-once {s} {roomy} {new} {state} {x = x} K is room same once = (
   (states-stay roomy new s.bits state (λ m down. same m)).state x ((unchanged-stands s.bits room state).state x is),
 )
 
-pub stepped : {s : RootedHeap} {roomy mid new : Heap Bytes} {state shorter : ℕ} {W : Workspace} {x : State} → Keeps s [] W → IsStateIn s.heap s.bits state x → Unchanged s.heap roomy → SameRows roomy mid
-    → Answered roomy mid [] state 0 0 → Answered mid new [] shorter 0 8 → Stepped s new state shorter W x
-stepped {state = state} {x = x} K is room same once popped =
+pub stepped : {s : RootedHeap} {roomy mid new : Heap Bytes} {state shorter n : ℕ} {W : Workspace} {x : State} → Keeps s [] W → IsStateIn s.heap s.bits state x → Unchanged s.heap roomy → SameRows roomy mid
+    → Answered roomy mid [] state 0 0 → Answered mid new [] shorter 0 n → n ≤ 8 → Stepped s new state shorter W x
+stepped {state = state} {x = x} K is room same once popped few =
     let held = held-once K is room same once in
     record {
       keeps = keeps-swapped (keeps-gained held.0 popped);
       state_is = (held-stands held.0 popped.extends state (first-held held.0)).state x held.1;
-      rises = rises-then (rises-same room) (rises-then (rises-answered once) (rises-answered popped));
+      rises = rises-then (rises-same room) (rises-then (rises-answered once) (rises-nodes 8 popped few));
     }
 
 -- ## Room

@@ -7,6 +7,7 @@ ghost use Rattle.elem_core.specs.Naming.{IsName};
 ghost use Rattle.elem_core.specs.Shown.{name_bytes};
 ghost use Rattle.node_heap.specs.Heap.{holds_at, hold_count, HasSpares};
 ghost use Rattle.node_heap.specs.Calls.{Answered, MakesJust};
+ghost use Rattle.rrb_core.specs.Vector.{height_at};
 ghost use Rattle.shell_terms.specs.Edit.{Bytes};
 ghost use Rattle.plain_space.specs.Workspace.{Named, State, lines_of, is_starred, with_lines as has_lines, without_lines as has_no_lines, with_star as has_star, without_star as has_no_star};
 ghost use Rattle.plain_space.specs.Cost.{alike, alike_buffers, alike_stars};
@@ -136,13 +137,14 @@ pub fn without_version(heap: &mut Heap<Text>, versions: MapRef, name: Name<'_>) 
     left
 }
 
-/// The history with the state after its last. It spends the state's hold. There is room for one more.
+/// The history with the state after its last. It spends the state's hold. There is room for one more. It makes at most as
+/// many nodes as the history's height and 2, so 9.
 pub fn pushed(heap: &mut Heap<Text>, history: FlexRef, state: Link) -> Flex
     requires few { hold_count heap.old < 2 ^ 59 }
     requires held { 0 < holds_at heap.old state }
     requires history { (bits : ℕ) × (ss : List State) × IsHistoryIn heap.old bits history ss × (length ss < 2 ^ 32 - 1) }
     requires spares { HasSpares heap.old 0 9 }
-    ensures answered { Answered heap.old heap.new (state ∷ []) result 0 9 }
+    ensures answered { Answered heap.old heap.new (state ∷ []) result 0 (height_at heap.old history + 2) }
     ensures made { MakesJust heap.old heap.new }
     ensures history { (bits : ℕ) (ss : List State) (s : State) → IsHistoryIn heap.old bits history ss → IsStateIn heap.old bits state s → IsHistoryIn heap.new bits result (ss ++ s ∷ []) }
 {
@@ -152,12 +154,12 @@ pub fn pushed(heap: &mut Heap<Text>, history: FlexRef, state: Link) -> Flex
     longer
 }
 
-/// The history without its last state.
+/// The history without its last state. It makes at most as many nodes as its own height and 1, so 8.
 pub fn popped(heap: &mut Heap<Text>, history: FlexRef) -> Flex
     requires few { hold_count heap.old < 2 ^ 59 }
     requires history { (bits : ℕ) × (ss : List State) × IsHistoryIn heap.old bits history ss × (0 < length ss) }
     requires spares { HasSpares heap.old 0 8 }
-    ensures answered { Answered heap.old heap.new [] result 0 8 }
+    ensures answered { Answered heap.old heap.new [] result 0 (height_at heap.new result + 1) }
     ensures made { MakesJust heap.old heap.new }
     ensures history { (bits : ℕ) (ss : List State) → IsHistoryIn heap.old bits history ss → IsHistoryIn heap.new bits result (take (length ss - 1) ss) }
 {

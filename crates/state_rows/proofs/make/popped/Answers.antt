@@ -1,19 +1,14 @@
-use Rattle.std.proofs.Common.{ℕ, ◌-◌, List, length, take, ap, sym, subst, ◌∙◌, arith}
+use Rattle.std.proofs.Common.{ℕ, ◌-◌, List, length, take, ap, sym, subst, ◌∙◌}
 use Rattle.std.specs.List.{AllZip}
 use Rattle.rrb_core.specs.Vector.{elements}
 use Rattle.champ_kinds.proofs.ZipLemmas.{zip-as, zip-length}
 use Rattle.state_rows.specs.InHeap.{IsStateIn}
-use Rattle.state_rows.proofs.Answering.{answered-more}
 use Rattle.state_rows.proofs.Histories.{zip-take}
 use Rattle.state_rows.proofs.Staying.{grown}
 use Rattle.state_rows.proofs.make.popped.Goals as goal
 
 pub unreachable-requires : goal.unreachable-requires
 unreachable-requires c = let ample = c.in_default.ensures.ample c.requires.spares in cc
-
-pub returns-clause-answered : goal.returns-clause-answered
-returns-clause-answered c =
-    answered-more 0 8 c.in-Ok.ensures.answered (omega arith) (omega (arith, c.in-Ok.ensures.good.shape.low))
 
 pub returns-clause-history : goal.returns-clause-history
 returns-clause-history c = λ bits ss history.

@@ -6,7 +6,6 @@ use Rattle.rrb_core.specs.declared.grow.PushFault.TheVariants.{Long, Memory}
 use Rattle.champ_kinds.proofs.ZipLemmas.{zip-as, zip-length}
 use Rattle.plain_space.specs.Workspace.{State}
 use Rattle.state_rows.specs.InHeap.{IsStateIn}
-use Rattle.state_rows.proofs.Answering.{answered-more}
 use Rattle.state_rows.proofs.Histories.{zip-push}
 use Rattle.state_rows.proofs.Staying.{grown}
 use Rattle.state_rows.proofs.make.pushed.Goals as goal
@@ -21,10 +20,6 @@ unreachable-requires c = by_fault c.in_default.field-0 c.in_default.is
         let long = c.push.ensures.long.0 is in
         omega (arith, many, long, history.3)
     by_fault Memory is = c.push.ensures.ample c.requires.spares is
-
-pub returns-clause-answered : goal.returns-clause-answered
-returns-clause-answered c =
-    answered-more 0 9 c.in-Ok.ensures.answered (omega arith) (omega (arith, c.requires.history.2.vector.shape.low))
 
 pub returns-clause-history : goal.returns-clause-history
 returns-clause-history c = λ bits ss s history state.

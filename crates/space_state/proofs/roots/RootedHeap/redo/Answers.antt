@@ -2,7 +2,7 @@ use Rattle.std.proofs.Common.{◌≡◌, ◌-◌, [], ◌∷◌, ◌++◌, lengt
 use Rattle.shell_terms.specs.Command.{redo}
 use Rattle.plain_space.specs.Workspace.{in_batch}
 use Rattle.plain_space.specs.Cost.{cost}
-use Rattle.space_state.proofs.Keeping.{same-refl, same-heap, second-held, held-stands, redo-stands, undo-stands, answered-one, turns-then, turns-after}
+use Rattle.space_state.proofs.Keeping.{same-refl, same-heap, second-held, held-stands, history-low, redo-stands, undo-stands, answered-one, turns-then, turns-after}
 use Rattle.space_state.proofs.Steps.{redo-refused, redo-empty, redo-limited, redo-done, none-there, some-there, some-elements, length-told, length-below, held-once, stepped, may-lack, memory-refused}
 use Rattle.space_state.proofs.roots.RootedHeap.redo.Goals as goal
 
@@ -38,13 +38,26 @@ popped-shorter-requires-clause-history c =
     let held = held-once K last.2 c.reserve.ensures.rest c.hold.ensures.rows once in
     (c.args.self.now.bits, W.redo, rw c.at-redo.ensures (redo-stands held.0), some-elements W.redo _ last.1)
 
+pub push_current-longer-requires-clause-spares : goal.push_current-longer-requires-clause-spares
+push_current-longer-requires-clause-spares c =
+    let W = c.requires.0 in
+    let K = c.requires.1 in
+    let last = some-there c.args.self.now.heap c.args.self.now.bits (c.last.ensures c.args.self.now.bits W.redo (rw c.at-redo.ensures (redo-stands K))) c.in-Some.is in
+    let once = answered-one c.hold.ensures.extends c.hold.ensures.graph c.hold.ensures.holds c.hold.ensures.count c.hold.ensures.makes in
+    let held = held-once K last.2 c.reserve.ensures.rest c.hold.ensures.rows once in
+    let shorter = c.popped-shorter.ensures.history c.args.self.now.bits W.redo (rw c.at-redo.ensures (redo-stands held.0)) in
+    let popped = c.popped-shorter.ensures.answered in
+    (omega arith, omega (arith, c.in_ok-reserve.ensures.spares.1, c.hold.ensures.makes.spare_nodes, popped.nodes, popped.balance.spare_nodes, history-low shorter))
+
 pub push_current-longer-requires-clause-kept : goal.push_current-longer-requires-clause-kept
 push_current-longer-requires-clause-kept c =
     let W = c.requires.0 in
     let K = c.requires.1 in
     let last = some-there c.args.self.now.heap c.args.self.now.bits (c.last.ensures c.args.self.now.bits W.redo (rw c.at-redo.ensures (redo-stands K))) c.in-Some.is in
     let once = answered-one c.hold.ensures.extends c.hold.ensures.graph c.hold.ensures.holds c.hold.ensures.count c.hold.ensures.makes in
-    let step = stepped K last.2 c.reserve.ensures.rest c.hold.ensures.rows once c.popped-shorter.ensures.answered in
+    let held = held-once K last.2 c.reserve.ensures.rest c.hold.ensures.rows once in
+    let shorter = c.popped-shorter.ensures.history c.args.self.now.bits W.redo (rw c.at-redo.ensures (redo-stands held.0)) in
+    let step = stepped K last.2 c.reserve.ensures.rest c.hold.ensures.rows once c.popped-shorter.ensures.answered (omega (arith, history-low shorter)) in
     let room = length-below (undo-stands K) (length-told (undo-stands K) c.at-undo.ensures c.len.ensures.value) c.if-len.false in
     (_, W, last.0, W.undo, step.keeps, step.state_is, rw c.at-undo.ensures (undo-stands step.keeps), room)
 
@@ -55,8 +68,8 @@ turn_histories-requires c =
     let last = some-there c.args.self.now.heap c.args.self.now.bits (c.last.ensures c.args.self.now.bits W.redo (rw c.at-redo.ensures (redo-stands K))) c.in-Some.is in
     let once = answered-one c.hold.ensures.extends c.hold.ensures.graph c.hold.ensures.holds c.hold.ensures.count c.hold.ensures.makes in
     let held = held-once K last.2 c.reserve.ensures.rest c.hold.ensures.rows once in
-    let step = stepped K last.2 c.reserve.ensures.rest c.hold.ensures.rows once c.popped-shorter.ensures.answered in
     let shorter = c.popped-shorter.ensures.history c.args.self.now.bits W.redo (rw c.at-redo.ensures (redo-stands held.0)) in
+    let step = stepped K last.2 c.reserve.ensures.rest c.hold.ensures.rows once c.popped-shorter.ensures.answered (omega (arith, history-low shorter)) in
     let turned = c.push_current-longer.ensures.turns _ W last.0 step.keeps step.state_is in
     let kept = held-stands step.keeps c.push_current-longer.ensures.extends _ (second-held step.keeps) in
     let longer = c.push_current-longer.ensures.longer _ W W.undo step.keeps (rw c.at-undo.ensures (undo-stands step.keeps)) in
@@ -70,8 +83,8 @@ returns c = λ W K.
     let room = length-below (undo-stands K) (length-told (undo-stands K) c.at-undo.ensures c.len.ensures.value) c.if-len.false in
     let once = answered-one c.hold.ensures.extends c.hold.ensures.graph c.hold.ensures.holds c.hold.ensures.count c.hold.ensures.makes in
     let held = held-once K last.2 c.reserve.ensures.rest c.hold.ensures.rows once in
-    let step = stepped K last.2 c.reserve.ensures.rest c.hold.ensures.rows once c.popped-shorter.ensures.answered in
     let shorter = c.popped-shorter.ensures.history c.args.self.now.bits W.redo (rw c.at-redo.ensures (redo-stands held.0)) in
+    let step = stepped K last.2 c.reserve.ensures.rest c.hold.ensures.rows once c.popped-shorter.ensures.answered (omega (arith, history-low shorter)) in
     let turned = c.push_current-longer.ensures.turns _ W last.0 step.keeps step.state_is in
     let kept = held-stands step.keeps c.push_current-longer.ensures.extends _ (second-held step.keeps) in
     let longer = c.push_current-longer.ensures.longer _ W W.undo step.keeps (rw c.at-undo.ensures (undo-stands step.keeps)) in
