@@ -1,8 +1,8 @@
 -- Calls that answer, one after the other: what they add together, what they leave, and how far they raise the number made.
 use Rattle.std.proofs.Common.{◌≡◌, ℕ, suc, ◌+◌, ◌≤◌, List, [], ◌∷◌, length, Option, Some, None, IsSome, is_some, refl, sym, subst, arith, inl, inr, get_or}
-use Rattle.std.specs.Prelude.{count_by, ◌<◌}
+use Rattle.std.specs.Prelude.{count_by, ◌^◌, ◌<◌}
 use Rattle.node_heap.specs.Links.{count}
-use Rattle.node_heap.specs.Heap.{Heap, holds_at, live_count, one_at, HasSpares}
+use Rattle.node_heap.specs.Heap.{Heap, row_at, holds_at, hold_count, live_count, one_at, HasSpares}
 use Rattle.node_heap.specs.Calls.{Extends, Makes, MakesJust, Answered}
 use Rattle.node_heap.proofs.Frames.{Extends-trans, Balances-trans}
 use Rattle.std.proofs.lemmas.Bool.{cases_eq}
@@ -88,3 +88,20 @@ module _ {T : Type 0} where
 
   pub just-makes : {old new : Heap T} {c n : ℕ} → Makes old new c n → MakesJust old new
   just-makes makes = omega (arith, makes.made, makes.live)
+
+  -- one part of a state was made, the other is there: all that the row over both asks for
+  pub record IsReady (h : Heap T) (part other : ℕ) : Type 0 where
+    pub few : hold_count h + 1 < 2 ^ 60
+    pub held : 0 < holds_at h part
+    pub live : IsSome (row_at h other)
+    pub spares : HasSpares h 0 1
+
+  -- it is so after the call that made the part, by whichever names the two go then
+  pub ready : {old mid : Heap T} {xs : List ℕ} {w c n l : ℕ} (part other : ℕ) → Answered old mid xs w c n → 0 < holds_at mid w → hold_count old < 2 ^ 59 → HasSpares old c (n + 1) → IsSome (row_at old l) → part ≡ w → other ≡ l
+      → IsReady mid part other
+  ready {mid = mid} {l = l} part other a held few spares live same there = record {
+    few = omega (arith, few, a.count);
+    held = subst (λ (k : ℕ). 0 < holds_at mid k) (sym same) held;
+    live = subst (λ (k : ℕ). IsSome (row_at mid k)) (sym there) (a.extends.live l live);
+    spares = answered-spares 0 1 a (omega (arith, spares.0), spares.1);
+  }

@@ -1,5 +1,6 @@
 -- What an insertion into a map or a set of names does, and a removal, as calls that answer.
-use Rattle.std.proofs.Common.{◌≡◌, ℕ, ◌+◌, ◌≤◌, List, [], ◌∷◌, ap, subst, ◌∙◌, arith}
+use Rattle.std.proofs.Common.{◌≡◌, ℕ, ◌+◌, ◌≤◌, List, [], ◌∷◌, Option, Some, ap, subst, ◌∙◌, arith}
+use Rattle.std.specs.Prelude.{IfSome}
 use Rattle.std.specs.FinMap as finite
 use Rattle.elem_core.specs.declared.codes.TheConstants.{CODE_BITS}
 use Rattle.elem_core.specs.Naming.{IsName}
@@ -11,6 +12,7 @@ use Rattle.champ_trie.specs.Reach.{alike_to}
 use Rattle.champ_kinds.specs.Root.{Root}
 use Rattle.champ_kinds.specs.Binding.{Binding, alike_keys, bind, unbind}
 use Rattle.champ_kinds.specs.Kinds.{IsMapOf, IsSetOf}
+use Rattle.champ_kinds.proofs.EditLemmas.{if-some}
 use Rattle.shell_terms.specs.Edit.{Bytes}
 use Rattle.plain_space.specs.Workspace.{Named, Names}
 use Rattle.plain_space.specs.Cost.{alike}
@@ -20,7 +22,7 @@ use Rattle.state_rows.proofs.Answering.{answered-more}
 use Rattle.state_rows.proofs.Keys.{by_bytes}
 
 -- a map of names, named by a root of the same bits
-module _ {X : Type 0} (old : Heap Bytes) (V : ℕ → Type 0) (bits : ℕ) (R : ℕ → X → Type 0) (l : ℕ) (m : Named X) (fits : bits ≤ CODE_BITS) (is : IsNamed (form_at old) V bits R l m) (r : Root) (root : r.root ≡ l) (by : r.bits ≡ bits) where
+module _ {X : Type 0} (old : Heap Bytes) {V : ℕ → Type 0} {bits : ℕ} {R : ℕ → X → Type 0} {l : ℕ} {m : Named X} (fits : bits ≤ CODE_BITS) (is : IsNamed (form_at old) V bits R l m) (r : Root) (root : r.root ≡ l) (by : r.bits ≡ bits) where
   pub map-is : IsMapOf by_bytes text_code old r is.bindings
   map-is = map-at old V bits R r l m fits is root by
 
@@ -32,10 +34,12 @@ module _ {X : Type 0} (old : Heap Bytes) (V : ℕ → Type 0) (bits : ℕ) (R : 
   inserted-answered new key v w answers =
       answered-more 1 (9 + alike bits (finite.keys m) key) (answers is.bindings map-is) (omega arith) (omega (arith, map-alike key))
 
-  pub removed-answered : (new : Heap Bytes) (key : Bytes) (w : ℕ) → ((M : List (Binding Bytes)) → IsMapOf by_bytes text_code old r M → Answered old new [] w 0 (7 + alike_keys text_code r.bits key M))
-      → Answered old new [] w 0 (7 + alike bits (finite.keys m) key)
-  removed-answered new key w answers =
-      answered-more 0 (7 + alike bits (finite.keys m) key) (answers is.bindings map-is) (omega arith) (omega (arith, map-alike key))
+  pub removed-answered : (new : Heap Bytes) (key : Bytes) (found : Option Root) (w : Root) → found ≡ Some w
+      → ((M : List (Binding Bytes)) → IsMapOf by_bytes text_code old r M → IfSome found (λ q. Answered old new [] q.root 0 (7 + alike_keys text_code r.bits key M)))
+      → Answered old new [] w.root 0 (7 + alike bits (finite.keys m) key)
+  removed-answered new key found w there answers =
+      let done = if-some found w (λ (q : Root). Answered old new [] q.root 0 (7 + alike_keys text_code r.bits key is.bindings)) there (answers is.bindings map-is) in
+      answered-more 0 (7 + alike bits (finite.keys m) key) done (omega arith) (omega (arith, map-alike key))
 
   module _ (new : Heap Bytes) (W : ℕ → Type 0) (S : ℕ → X → Type 0) (so : (k : ℕ) (x : X) → R k x → S k x) (w : Root) (same : w.bits ≡ r.bits) where
     here : (M : List (Binding Bytes)) → IsMapOf by_bytes text_code new w M → IsMapOf by_bytes text_code new (record { root = w.root; bits = bits }) M
@@ -48,7 +52,7 @@ module _ {X : Type 0} (old : Heap Bytes) (V : ℕ → Type 0) (bits : ℕ) (R : 
     removed-is key made = named-remove old new V W bits R S so l m is w.root key (here (unbind by_bytes key is.bindings) made)
 
 -- a set of names, named by a root of the same bits
-module _ (old : Heap Bytes) (V : ℕ → Type 0) (bits : ℕ) (l : ℕ) (names : Names) (fits : bits ≤ CODE_BITS) (is : AreNames (form_at old) V bits l names) (r : Root) (root : r.root ≡ l) (by : r.bits ≡ bits) where
+module _ (old : Heap Bytes) {V : ℕ → Type 0} {bits : ℕ} {l : ℕ} {names : Names} (fits : bits ≤ CODE_BITS) (is : AreNames (form_at old) V bits l names) (r : Root) (root : r.root ≡ l) (by : r.bits ≡ bits) where
   pub set-is : IsSetOf by_bytes text_code old r is.entries
   set-is = set-at old V bits r l names fits is root by
 
@@ -60,10 +64,12 @@ module _ (old : Heap Bytes) (V : ℕ → Type 0) (bits : ℕ) (l : ℕ) (names :
   added-answered new key w answers =
       answered-more 1 (8 + alike bits (finite.keys names) key) (answers is.entries set-is) (omega arith) (omega (arith, set-alike key))
 
-  pub taken-answered : (new : Heap Bytes) (key : Bytes) (w : ℕ) → ((E : List (Entry Bytes)) → IsSetOf by_bytes text_code old r E → Answered old new [] w 0 (7 + alike_to text_code r.bits key E))
-      → Answered old new [] w 0 (7 + alike bits (finite.keys names) key)
-  taken-answered new key w answers =
-      answered-more 0 (7 + alike bits (finite.keys names) key) (answers is.entries set-is) (omega arith) (omega (arith, set-alike key))
+  pub taken-answered : (new : Heap Bytes) (key : Bytes) (found : Option Root) (w : Root) → found ≡ Some w
+      → ((E : List (Entry Bytes)) → IsSetOf by_bytes text_code old r E → IfSome found (λ q. Answered old new [] q.root 0 (7 + alike_to text_code r.bits key E)))
+      → Answered old new [] w.root 0 (7 + alike bits (finite.keys names) key)
+  taken-answered new key found w there answers =
+      let done = if-some found w (λ (q : Root). Answered old new [] q.root 0 (7 + alike_to text_code r.bits key is.entries)) there (answers is.entries set-is) in
+      answered-more 0 (7 + alike bits (finite.keys names) key) done (omega arith) (omega (arith, set-alike key))
 
   module _ (new : Heap Bytes) (W : ℕ → Type 0) (w : Root) (same : w.bits ≡ r.bits) where
     set-here : (E : List (Entry Bytes)) → IsSetOf by_bytes text_code new w E → IsSetOf by_bytes text_code new (record { root = w.root; bits = bits }) E

@@ -12,23 +12,23 @@ unreachable-requires c =
     let r = c.args.versions in
     let m = c.requires.versions.0 in
     let is = c.requires.versions.1 in
-    let counted = map-alike old (IsGoodVector old) r.bits (IsStateIn old r.bits) r.root m c.requires.bits is r refl refl c.args.key in
-    let ample = c.in_default.ensures.ample is.bindings (map-is old (IsGoodVector old) r.bits (IsStateIn old r.bits) r.root m c.requires.bits is r refl refl) (omega (arith, c.requires.versions.2.0), omega (arith, c.requires.versions.2.1, counted)) in
+    let counted = map-alike old c.requires.bits is r refl refl c.args.key in
+    let ample = c.in_default.ensures.ample is.bindings (map-is old c.requires.bits is r refl refl) (omega (arith, c.requires.versions.2.0), omega (arith, c.requires.versions.2.1, counted)) in
     cc
 
 pub returns-clause-answered : goal.returns-clause-answered
 returns-clause-answered c = λ m is.
     let old = c.args.heap.now in
     let r = c.args.versions in
-    inserted-answered old (IsGoodVector old) r.bits (IsStateIn old r.bits) r.root m c.requires.bits is r refl refl c.map_insert.new.heap c.args.key c.args.state c.in-Ok.written.root c.in-Ok.ensures.answered
+    inserted-answered old c.requires.bits is r refl refl c.map_insert.new.heap c.args.key c.args.state c.in-Ok.written.root c.in-Ok.ensures.answered
 
 pub returns-clause-versions : goal.returns-clause-versions
 returns-clause-versions c = λ m s is state.
     let old = c.args.heap.now in
     let new = c.map_insert.new.heap in
     let r = c.args.versions in
-    let map_is = map-is old (IsGoodVector old) r.bits (IsStateIn old r.bits) r.root m c.requires.bits is r refl refl in
+    let map_is = map-is old c.requires.bits is r refl refl in
     let more = (c.in-Ok.ensures.answered is.bindings map_is).extends in
     let stays = λ (k : ℕ) (t : State) (held : IsStateIn old r.bits k t). (grown old new more r.bits k).state t held in
-    inserted-is old (IsGoodVector old) r.bits (IsStateIn old r.bits) r.root m c.requires.bits is r refl refl
+    inserted-is old c.requires.bits is r refl refl
     new (IsGoodVector new) (IsStateIn new r.bits) stays c.in-Ok.written c.in-Ok.ensures.bits c.args.state c.args.key s c.requires.name (stays c.args.state s state) (c.in-Ok.ensures.contents is.bindings map_is)

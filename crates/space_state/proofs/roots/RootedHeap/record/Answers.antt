@@ -1,6 +1,7 @@
-use Rattle.std.proofs.Common.{ℕ, [], ◌∷◌, ◌++◌, refl, arith}
+use Rattle.std.proofs.Common.{ℕ, ◌≤◌, [], ◌∷◌, ◌++◌, refl, arith}
 use Rattle.node_heap.specs.Heap.{Heap}
 use Rattle.node_heap.specs.Calls.{Answered}
+use Rattle.rrb_core.specs.Vector.{height_at}
 use Rattle.shell_terms.specs.Edit.{Bytes}
 use Rattle.plain_space.specs.Workspace.{State, Workspace}
 use Rattle.state_rows.specs.InHeap.{IsHistoryIn}
@@ -43,7 +44,8 @@ pub returns : goal.returns
 returns c = λ W x K is room.
     let pushed = c.pushed-undo.ensures.history c.args.self.now.bits W.undo x (rw c.at.ensures (undo-stands K)) is in
     let both = recorded x K c.pushed-undo.ensures.answered c.emptied-redo.ensures.answered pushed in
-    turns-after 10 TURN_NODES (rises-then (rises-nodes 9 c.pushed-undo.ensures.answered (omega (arith, rw c.at.ensures (history-low (undo-stands K))))) (rises-answered c.emptied-redo.ensures.answered)) refl
+    let low : height_at c.args.self.now.heap c.at.result ≤ 7 = rw c.at.ensures (history-low (undo-stands K)) in
+    turns-after 10 TURN_NODES (rises-then (rises-nodes 9 c.pushed-undo.ensures.answered (omega (arith, low))) (rises-answered c.emptied-redo.ensures.answered)) refl
     (c.turn_histories.ensures W (W.undo ++ x ∷ []) [] (rw (c.into_root.ensures, c.into_root-2.ensures) both.keeps) (rw c.into_root.ensures both.longer)
     (rw c.into_root-2.ensures (c.emptied-redo.ensures.history c.args.self.now.bits)))
     (omega arith)

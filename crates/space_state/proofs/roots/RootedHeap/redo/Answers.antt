@@ -38,6 +38,17 @@ popped-shorter-requires-clause-history c =
     let held = held-once K last.2 c.reserve.ensures.rest c.hold.ensures.rows once in
     (c.args.self.now.bits, W.redo, rw c.at-redo.ensures (redo-stands held.0), some-elements W.redo _ last.1)
 
+pub push_current-longer-requires-clause-spares : goal.push_current-longer-requires-clause-spares
+push_current-longer-requires-clause-spares c =
+    let W = c.requires.0 in
+    let K = c.requires.1 in
+    let last = some-there c.args.self.now.heap c.args.self.now.bits (c.last.ensures c.args.self.now.bits W.redo (rw c.at-redo.ensures (redo-stands K))) c.in-Some.is in
+    let once = answered-one c.hold.ensures.extends c.hold.ensures.graph c.hold.ensures.holds c.hold.ensures.count c.hold.ensures.makes in
+    let held = held-once K last.2 c.reserve.ensures.rest c.hold.ensures.rows once in
+    let shorter = c.popped-shorter.ensures.history c.args.self.now.bits W.redo (rw c.at-redo.ensures (redo-stands held.0)) in
+    let popped = c.popped-shorter.ensures.answered in
+    (omega arith, omega (arith, c.in_ok-reserve.ensures.spares.1, c.hold.ensures.makes.spare_nodes, popped.nodes, popped.balance.spare_nodes, history-low shorter))
+
 pub push_current-longer-requires-clause-kept : goal.push_current-longer-requires-clause-kept
 push_current-longer-requires-clause-kept c =
     let W = c.requires.0 in
