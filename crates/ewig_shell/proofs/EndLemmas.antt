@@ -13,7 +13,7 @@ use Rattle.shell_io.proofs.FaultLemmas.{CountsFaults-none, CountsFaults-as, Call
 use Rattle.space_state.specs.View.{SpaceView}
 use Rattle.ewig_shell.specs.declared.run.Status.{Status}
 use Rattle.ewig_shell.specs.declared.run.Status.TheVariants as status
-use Rattle.ewig_shell.specs.Going.{HasCauses}
+use Rattle.ewig_shell.specs.Going.{GoesAs}
 use Rattle.ewig_shell.specs.Step.{CountsStore}
 use Rattle.ewig_shell.specs.Run.{IsEarly, Run, Says, Runs, RunsAs, KeepsSure, EndsInTime, IsComplete}
 use Rattle.ewig_shell.proofs.ReadLemmas.{quit_in_time}
@@ -128,16 +128,16 @@ module _ {A B C W : Type 0} {S : source_trait.Ghosts A} {source : A} {K : sink_t
 
 module _ {A B C W : Type 0} {S : source_trait.Ghosts A} {source source' : A} {K : sink_trait.Ghosts B} {sink sink' : B} {D : store_trait.Ghosts C} {store store' : C} {most : ℕ} {words : List W} where
   -- a run that read lines
-  pub RunsAs-lines : (s : Status) (space : SpaceView) → (IsEarly s → ⊥) → length words ≡ 0 → space.pool.bits ≡ CODE_BITS → HasCauses S source source' K sink sink' (Some s) → KeepsSure D store store' →
+  pub RunsAs-lines : (s : Status) (first space : SpaceView) → length words ≡ 0 → first.pool.bits ≡ CODE_BITS → GoesAs S source source' K sink sink' D store store' first space (Some s) →
       ((input : List ℕ) → S.left source ≡ Some input → Runs most input (S.left source') K sink sink' D store store' s (Some space)) → RunsAs most words S source source' K sink sink' D store store' (record { status = s; space = Some space })
-  RunsAs-lines s space begun none bits causes stores run = record {
-    usage = (λ e. absurd (begun (subst IsEarly (sym e) tt)), λ some. absurd (omega (arith, none, some)));
-    space = (λ h. absurd (let never = h in cc), λ early. absurd (begun early));
-    bits = bits;
-    unbegun = λ early. absurd (begun early);
-    reads = Calls-as causes.reads (λ p. let same = p in cc) (ap Some);
-    writes = CountsFaults-as causes.writes (λ p. let same = p in cc) (ap Some);
-    stores = stores;
+  RunsAs-lines s first space none bits goes run = record {
+    usage = (λ e. absurd (goes.begun (subst IsEarly (sym e) tt)), λ some. absurd (omega (arith, none, some)));
+    space = (λ h. absurd (let never = h in cc), λ early. absurd (goes.begun early));
+    bits = goes.bits ∙ bits;
+    unbegun = λ early. absurd (goes.begun early);
+    reads = Calls-as goes.causes.reads (λ p. let same = p in cc) (ap Some);
+    writes = CountsFaults-as goes.causes.writes (λ p. let same = p in cc) (ap Some);
+    stores = goes.stores;
     run = IfSome-from (S.left source) (λ (input : List ℕ). Runs most input (S.left source') K sink sink' D store store' s (Some space)) run;
     complete = λ _ no_read no_write. IfSome-from (S.left source) (λ (input : List ℕ). IsComplete most input s)
         (λ input told. complete_by most input (S.left source') store store' s space (run input told) no_read no_write);

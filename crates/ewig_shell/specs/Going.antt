@@ -1,5 +1,5 @@
 -- A run that goes on: the pieces given so far were executed, and their replies written.
-use Rattle.std.specs.Prelude.{◌≡◌, ℕ, ◌-◌, ◌≤◌, List, ◌++◌, length, None, Some, Result, Ok, Err}
+use Rattle.std.specs.Prelude.{◌≡◌, ℕ, ◌-◌, ◌≤◌, List, ◌++◌, length, None, Some, IfSome, Result, Ok, Err}
 use Rattle.std.specs.declared.option.Option.{Option}
 use Rattle.std.specs.Io.KnownBytes.{Appends}
 use Rattle.shell_io.specs.Pieces.{pieces_within}
@@ -16,6 +16,7 @@ use Rattle.ewig_shell.specs.declared.execute.Went.TheVariants.{On, Quit}
 use Rattle.ewig_shell.specs.declared.run.Status.{Status}
 use Rattle.ewig_shell.specs.declared.run.Status.TheVariants.{Done, ReadFault, WriteFault}
 use Rattle.ewig_shell.specs.Quits.{HasQuit}
+use Rattle.ewig_shell.specs.Run.{IsEarly, KeepsSure}
 use Rattle.ewig_shell.specs.Step.{Steps}
 
 -- A sink has taken these bytes, and without a fault where it had room for them.
@@ -41,6 +42,15 @@ pub record HasCauses {A B : Type 0} (S : source_trait.Ghosts A) (source source' 
     (K : sink_trait.Ghosts B) (sink sink' : B) (ends : Option Status) : Type 0 where
   pub reads : Calls S.faults S.steady S.faultless source source' (ends ≡ Some ReadFault)
   pub writes : CountsFaults K.faults K.steady sink sink' (ends ≡ Some WriteFault)
+
+-- What some lines made of a run that ended so with them, or that goes on, whatever the devices tell: it didn't end before its first
+-- line, its space goes by the same bits, and the counts of faults say this of it.
+pub record GoesAs {A B C : Type 0} (S : source_trait.Ghosts A) (source source' : A) (K : sink_trait.Ghosts B) (sink sink' : B)
+    (D : store_trait.Ghosts C) (store store' : C) (space space' : SpaceView) (ends : Option Status) : Type 0 where
+  pub begun : IfSome ends (λ status. ¬ IsEarly status)
+  pub bits : space'.pool.bits ≡ space.pool.bits
+  pub causes : HasCauses S source source' K sink sink' ends
+  pub stores : KeepsSure D store store'
 
 -- The status of a run that ends with a piece that was executed so, or none.
 abbrev pub status_of : Result Went Failed → Option Status

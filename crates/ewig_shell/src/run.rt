@@ -1,12 +1,12 @@
 //! A run: from the words and the lines of a source to the replies in a sink, and how it ended.
 
-ghost use Rattle.std.specs.Prelude.{◌≡◌, ℕ, ◌+◌, ◌^◌, ◌<◌, ◌≤◌, List, None, Some, IfSome, IfNone, IfOk, MatchOption};
+ghost use Rattle.std.specs.Prelude.{◌≡◌, ℕ, ◌+◌, ◌^◌, ◌<◌, ◌≤◌, List, None, Some, IfNone, IfOk, MatchOption};
 ghost use Rattle.std.specs.Option.{ForSome};
 ghost use Rattle.elem_core.specs.declared.codes.TheConstants.{CODE_BITS};
 ghost use Rattle.shell_io.specs.Reader.{StandsIn};
 ghost use Rattle.space_state.specs.View.{start_view};
-ghost use Rattle.ewig_shell.specs.Going.{IsGoing, HasCauses, status_of};
-ghost use Rattle.ewig_shell.specs.Run.{RunsAs, Runs, IsEarly, KeepsSure, exit_code};
+ghost use Rattle.ewig_shell.specs.Going.{GoesAs, IsGoing, status_of};
+ghost use Rattle.ewig_shell.specs.Run.{RunsAs, Runs, exit_code};
 
 use crate::execute::{Went, execute, refuse_long};
 use elem_core::{CODE_BITS, NoMemory};
@@ -63,7 +63,7 @@ pub fn run<S: Source, K: Sink, D: Store>(
     sink: &mut K,
     store: &mut D,
 ) -> Ended
-    ensures { RunsAs MOST words.now S.Source source.old source.new K.Sink sink.old sink.new D.Store store.old store.new result }
+    ensures { RunsAs (2 ^ 40) words.now S.Source source.old source.new K.Sink sink.old sink.new D.Store store.old store.new result }
 {
     run_upto(alloc, words, MOST, source, sink, store)
 }
@@ -123,10 +123,7 @@ fn follow<S: Source, K: Sink, D: Store>(
     requires small { most < 2 ^ 63 }
     requires same_most { ForSome reader.old.most (λ kept. kept ≡ most) }
 
-    ensures begun { ¬ IsEarly result }
-    ensures stores { KeepsSure D.Store store.old store.new }
-    ensures bits { space.new.pool.bits ≡ space.old.pool.bits }
-    ensures causes { HasCauses S.Source source.old source.new K.Sink sink.old sink.new (Some result) }
+    ensures goes { GoesAs S.Source source.old source.new K.Sink sink.old sink.new D.Store store.old store.new space.old space.new (Some result) }
     ensures told { (input : List ℕ) (begin : K) (first : D) →
         IsGoing most input reader.old (S.left source.old) K.Sink begin sink.old D.Store first store.old space.old →
         Runs most input (S.left source.new) K.Sink begin sink.new D.Store first store.new result (Some space.new) }
@@ -156,10 +153,7 @@ fn turn<S: Source, K: Sink, D: Store>(
     ensures within { reader.new.given ≤ most + 1 }
     ensures progress { IfNone result (reader.old.given < reader.new.given) }
 
-    ensures begun { IfSome result (λ status. ¬ IsEarly status) }
-    ensures stores { KeepsSure D.Store store.old store.new }
-    ensures bits { space.new.pool.bits ≡ space.old.pool.bits }
-    ensures causes { HasCauses S.Source source.old source.new K.Sink sink.old sink.new result }
+    ensures goes { GoesAs S.Source source.old source.new K.Sink sink.old sink.new D.Store store.old store.new space.old space.new result }
     ensures told { (input : List ℕ) (begin : K) (first : D) →
         IsGoing most input reader.old (S.left source.old) K.Sink begin sink.old D.Store first store.old space.old →
         MatchOption result

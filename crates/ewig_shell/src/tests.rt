@@ -557,6 +557,27 @@ fn faults_at_each_call_in_turn(rt: HostRuntime) -> Result<(), Fail> {
 }
 
 #[test]
+fn short_replies_go_out_in_one_write(rt: HostRuntime) -> Result<(), Fail> {
+    // The call of the sink that fails, and the replies that went out before it, one a call.
+    let rows: [(u64, &[u8], Status); 5] = [
+        (0, b"", Status::WriteFault),
+        (1, b"ok\n", Status::WriteFault),
+        (2, b"ok\n= 0\n", Status::WriteFault),
+        (3, b"ok\n= 0\n= a 0\nok\n", Status::WriteFault),
+        (4, b"ok\n= 0\n= a 0\nok\n! none\n", Status::Done),
+    ];
+    for (call, written, status) in rows {
+        let devices = Devices {
+            sink_fails: &[call],
+            ..WHOLE
+        };
+        let input = b"new a\nlen a\nlist\nget b 0\n";
+        check(&rt, input, 1 << 40, &devices, written, status)?;
+    }
+    Ok(())
+}
+
+#[test]
 fn any_word_is_usage(rt: HostRuntime) -> Result<(), Fail> {
     let alloc = rt.alloc();
     let mut words = Vec::new(alloc);

@@ -1,4 +1,4 @@
-use Rattle.std.proofs.Common.{refl, rules, ap, ◌∙◌}
+use Rattle.std.proofs.Common.{refl, rules, ap}
 use Rattle.space_state.specs.View.{SpaceView}
 use Rattle.ewig_shell.specs.declared.run.Status.TheVariants as status
 use Rattle.ewig_shell.proofs.RunLemmas.{Going-start}
@@ -14,5 +14,5 @@ returns-in_default g c = RunsAs-early status.Memory tt ((λ e. absurd (let never
 pub returns : goal.returns
 returns g c =
     let lines = c.follow-status.ensures in
-    RunsAs-lines c.follow-status.result c.follow-status.new.space lines.begun (search rules) (lines.bits ∙ ap (λ (s : SpaceView). s.pool.bits) c.in-Ok.ensures.empty) lines.causes lines.stores
+    RunsAs-lines c.follow-status.result _ c.follow-status.new.space (search rules) (ap (λ (s : SpaceView). s.pool.bits) c.in-Ok.ensures.empty) lines.goes
     (λ input told. lines.told input _ _ (Going-start _ _ told c.in-Ok.ensures.start c.in-Ok.ensures.unread.0 c.in-Ok.ensures.empty))

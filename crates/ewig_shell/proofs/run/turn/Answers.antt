@@ -1,4 +1,4 @@
-use Rattle.std.proofs.Common.{List, ℕ, sym, subst, refl}
+use Rattle.std.proofs.Common.{List, ℕ, sym, subst, refl, rules}
 use Rattle.shell_io.specs.Reader.{GivesNext}
 use Rattle.ewig_shell.proofs.QuitLemmas.{quits-long}
 use Rattle.ewig_shell.proofs.StepLemmas.{StepsOn-long}
@@ -6,8 +6,8 @@ use Rattle.ewig_shell.proofs.RunLemmas.{Going-next, Going-end, Going-budget, Goi
 use Rattle.ewig_shell.proofs.EndLemmas.{KeepsSure-none, KeepsSure-step}
 use Rattle.ewig_shell.proofs.run.turn.Goals as goal
 
-pub returns-in-Line-clause-stores : goal.returns-in-Line-clause-stores
-returns-in-Line-clause-stores g c = KeepsSure-step c.execute.ensures.replies.due.counts
+pub returns-in-Line-clause-goes : goal.returns-in-Line-clause-goes
+returns-in-Line-clause-goes g c = record { begun = search rules; bits = search rules; causes = search rules; stores = KeepsSure-step c.execute.ensures.replies.due.counts }
 
 pub returns-in-Line-clause-told : goal.returns-in-Line-clause-told
 returns-in-Line-clause-told g c = λ input begin first going.
@@ -16,8 +16,8 @@ returns-in-Line-clause-told g c = λ input begin first going.
     Going-next going (c.in-Line.ensures.stands input going.stands) next c.in-Line.ensures.bounded
     (record { reply = done.reply; due = done.due; sends = done.sends }) c.execute.ensures.quits c.status_after.ensures
 
-pub returns-in-Long-clause-stores : goal.returns-in-Long-clause-stores
-returns-in-Long-clause-stores g c = KeepsSure-none
+pub returns-in-Long-clause-goes : goal.returns-in-Long-clause-goes
+returns-in-Long-clause-goes g c = record { begun = search rules; bits = search rules; causes = search rules; stores = KeepsSure-none }
 
 pub returns-in-Long-clause-told : goal.returns-in-Long-clause-told
 returns-in-Long-clause-told g c = λ input begin first going.
@@ -26,22 +26,22 @@ returns-in-Long-clause-told g c = λ input begin first going.
     (record { reply = _; due = StepsOn-long next.0 next.1; sends = c.refuse_long.ensures.sends })
     (quits-long _ next.0 next.1 c.refuse_long.ensures.on) c.status_after-in-Long.ensures
 
-pub returns-in-End-clause-stores : goal.returns-in-End-clause-stores
-returns-in-End-clause-stores g c = KeepsSure-none
+pub returns-in-End-clause-goes : goal.returns-in-End-clause-goes
+returns-in-End-clause-goes g c = record { begun = search rules; bits = search rules; causes = search rules; stores = KeepsSure-none }
 
 pub returns-in-End-clause-told : goal.returns-in-End-clause-told
 returns-in-End-clause-told g c = λ input begin first going.
     Going-end _ going (c.in-End.ensures.stands input going.stands) c.in-End.ensures.bounded (c.in-End.ensures.answers input going.stands)
 
-pub returns-in-Budget-clause-stores : goal.returns-in-Budget-clause-stores
-returns-in-Budget-clause-stores g c = KeepsSure-none
+pub returns-in-Budget-clause-goes : goal.returns-in-Budget-clause-goes
+returns-in-Budget-clause-goes g c = record { begun = search rules; bits = search rules; causes = search rules; stores = KeepsSure-none }
 
 pub returns-in-Budget-clause-told : goal.returns-in-Budget-clause-told
 returns-in-Budget-clause-told g c = λ input begin first going.
     Going-budget _ going (c.in-Budget.ensures.stands input going.stands) c.in-Budget.ensures.bounded (c.in-Budget.ensures.answers input going.stands)
 
-pub returns-in-Failed-clause-stores : goal.returns-in-Failed-clause-stores
-returns-in-Failed-clause-stores g c = KeepsSure-none
+pub returns-in-Failed-clause-goes : goal.returns-in-Failed-clause-goes
+returns-in-Failed-clause-goes g c = record { begun = search rules; bits = search rules; causes = search rules; stores = KeepsSure-none }
 
 pub returns-in-Failed-clause-told : goal.returns-in-Failed-clause-told
 returns-in-Failed-clause-told g c = λ input begin first going.
