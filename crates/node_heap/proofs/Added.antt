@@ -1,56 +1,88 @@
 -- What the slots say of a row that is added.
-use Rattle.std.proofs.Common.{◌≡◌, ℕ, ◌+◌, ◌-◌, ◌^◌, ◌<◌, ◌≤◌, List, length, refl, ap, ◌∙◌, arith, Option, Some, None, min}
-use Rattle.std.specs.Prelude.{sum_by, sum}
+use Rattle.std.proofs.Common.{◌≡◌, ℕ, ◌+◌, ◌-◌, ◌^◌, ◌<◌, ◌≤◌, List, length, refl, sym, ap, arith, Option, Some, min, inl, inr}
+use Rattle.std.specs.Prelude.{sum}
+use Rattle.std.proofs.lemmas.Bool.{cases_eq}
 use Rattle.node_heap.specs.Links.{count}
-use Rattle.node_heap.specs.Forms.{links_of, is_cell, is_node}
-use Rattle.node_heap.specs.Layout.{owners_in, rows_of_slots, holds_in, slot_at, places_at, IsCounted, IsHeap, seen, ApartAt}
-use Rattle.node_heap.specs.Calls.{Adds, Makes, Extends, KeepsHeld}
-use Rattle.node_heap.specs.Layout.{Slot}
-use Rattle.node_heap.proofs.Counts.{sum-moved}
-use Rattle.node_heap.proofs.Slots.{IsCounted-add, Adds-slots, holds_at-slots}
+use Rattle.node_heap.specs.Forms.{Row, links_of, is_cell, is_node}
+use Rattle.node_heap.specs.Heap.{Heap, holds_at, owners_at, hold_count, one_at, IsGraph}
+use Rattle.node_heap.specs.Calls.{Adds, AddsOwner, Makes, Extends, KeepsHeld, KeepsTrees}
+use Rattle.node_heap.specs.Layout.{Slot, owners_in, holds_in, slot_at, places_at, PutsIn, IsCounted, IsHeap, seen}
+use Rattle.node_heap.proofs.Counts.{sum-moved, test_same, test_other}
+use Rattle.node_heap.proofs.Slots.{IsCounted-add, Adds-slots, holds_at-slots, owners_at-slots, holds-room}
 use Rattle.node_heap.proofs.Dying.{sum-add}
-use Rattle.node_heap.proofs.Frames.{Extends-Adds, KeepsHeld-Extends}
-use Rattle.node_heap.proofs.Stored.{IsGraph-stored, one_if_some}
+use Rattle.node_heap.proofs.Frames.{Extends-Adds, KeepsHeld-Extends, KeepsTrees-Extends}
+use Rattle.node_heap.proofs.Stored.{IsGraph-stored, Makes-stored, kinds}
 
 module _ {T : Type 0} where
-  -- the new slots have this entry besides, and its links were held
-  pub record Joins (old new : List (Option (Slot T))) (key : ℕ) (e : Slot T) : Type 0 where
-    pub was : slot_at old key ≡ None
-    pub «is» : slot_at new key ≡ Some e
-    pub apart : ApartAt old new key
-    pub one : e.owners ≡ 1
-    pub short : length (links_of (Some e.row)) ≤ 32
-    pub held : (l : ℕ) → count l (links_of (Some e.row)) + places_at old l ≤ owners_in (slot_at old l)
+  -- the new slots have this row besides, and its links were held
+  pub record Joins (old new : List (Option (Slot T))) (key : ℕ) (row : Row T) : Type 0 where
+    pub puts : PutsIn old new key row
+    pub short : length (links_of (Some row)) ≤ 32
+    pub held : (l : ℕ) → count l (links_of (Some row)) + places_at old l ≤ owners_in (slot_at old l)
 
-  pub counted-joined : (old new : List (Option (Slot T))) (key : ℕ) (e : Slot T) → key < 2 ^ 64 - 1 → IsCounted old → Joins old new key e → IsCounted new
-  counted-joined old new key e low counted j = IsCounted-add old new key e counted j.was j.is j.apart j.one low j.short j.held
+  -- what contracts say of a row that was made of a spare
+  pub record MakesRow (old new : Heap T) (key : ℕ) (row : Row T) : Type 0 where
+    pub adds : Adds old new key row
+    pub owners : AddsOwner old new key
+    pub sole : owners_at new key ≡ 1
+    pub makes : Makes old new (is_cell (Some row)) (is_node (Some row))
+    pub graph : IsGraph new
+    pub extends : Extends old new
+    pub keeps : KeepsHeld (λ l. count l (links_of (Some row))) old new
+    pub trees : KeepsTrees old new
+    pub count : hold_count new + length (links_of (Some row)) ≡ hold_count old + 1
 
-  pub adds-joined : (old new : List (Option (Slot T))) (key : ℕ) (e : Slot T) (a b m a' b' m' : ℕ) → IsCounted old → Joins old new key e → Adds (seen old a b m) (seen new a' b' m') key e.row
-  adds-joined old new key e a b m a' b' m' counted j =
-      Adds-slots old new key e (seen old a b m) (seen new a' b' m') refl refl refl refl counted j.was j.is j.apart j.one j.held
+  module _ {old new : List (Option (Slot T))} {key : ℕ} {row : Row T} (counted : IsCounted old) (j : Joins old new key row) where
+    pub counted-joined : IsCounted new
+    counted-joined = IsCounted-add old new key _ counted j.puts.was j.puts.now j.puts.others refl j.puts.low j.short j.held
 
-  pub count-joined : (old new : List (Option (Slot T))) (key : ℕ) (e : Slot T) → IsCounted old → Joins old new key e → sum (holds_in new) + length (links_of (Some e.row)) ≡ sum (holds_in old) + 1
-  count-joined old new key e counted j =
-      let adds = adds-joined old new key e 0 0 0 0 0 0 counted j in
-      sum-moved (links_of (Some e.row)) (holds_in old) (holds_in new) key (omega (arith, holds_at-slots old key, j.held key)) adds.holds
+    adds-joined : (a b m a' b' m' : ℕ) → Adds (seen old a b m) (seen new a' b' m') key row
+    adds-joined a b m a' b' m' = Adds-slots old new key _ (seen old a b m) (seen new a' b' m') refl refl refl refl counted j.puts.was j.puts.now j.puts.others refl j.held
 
-  pub makes-joined : (old new : List (Option (Slot T))) (key : ℕ) (e : Slot T) (a b m a' b' m' c n : ℕ) → Joins old new key e → is_cell (Some e.row) ≡ c → is_node (Some e.row) ≡ n → c + n ≡ 1 → a' + c ≡ a → b' + n ≡ b → m < 2 ^ 64 → m' ≡ min (m + 1) (2 ^ 64 - 1) → Makes (seen old a b m) (seen new a' b' m') c n
-  makes-joined old new key e a b m a' b' m' c n j is_c is_n one at_c at_n fits made = record {
-    spare_cells = at_c;
-    spare_nodes = at_n;
-    cells = sum-add is_cell refl old new key e j.was j.is j.apart ∙ ap (λ x. sum_by is_cell (rows_of_slots old) + x) is_c;
-    nodes = sum-add is_node refl old new key e j.was j.is j.apart ∙ ap (λ x. sum_by is_node (rows_of_slots old) + x) is_n;
-    live = omega (arith, sum-add one_if_some refl old new key e j.was j.is j.apart, one);
-    made = omega (arith, made, one);
-    no_fewer = omega (arith, made, fits);
+    count-joined : sum (holds_in new) + length (links_of (Some row)) ≡ sum (holds_in old) + 1
+    count-joined = sum-moved (links_of (Some row)) (holds_in old) (holds_in new) key (omega (arith, holds_at-slots old key, j.held key)) (adds-joined 0 0 0 0 0 0).holds
+
+    owners-joined : (a b m a' b' m' : ℕ) → AddsOwner (seen old a b m) (seen new a' b' m') key
+    owners-joined a b m a' b' m' k =
+        let at_old = owners_at-slots old counted k in
+        let at_new = owners_at-slots new counted-joined k in
+        elim (cases_eq k key) as (λ _. owners_at (seen new a' b' m') k ≡ owners_at (seen old a b m) k + one_at key k) [
+          | inl same ↦ omega (arith, at_old, at_new, ap (λ i. owners_in (slot_at old i)) same, ap (λ i. owners_in (slot_at new i)) same, ap owners_in j.puts.was, ap owners_in j.puts.now, test_same k key same)
+          | inr other ↦ omega (arith, at_old, at_new, ap owners_in (j.puts.others k other), test_other k key other)
+        ]
+
+  -- a row that the table has put, with links that the caller held
+  pub Joins-held : {old new : List (Option (Slot T))} {a b m key : ℕ} {row : Row T} {heap : Heap T} → IsHeap old a b m → seen old a b m ≡ heap → PutsIn old new key row → length (links_of (Some row)) ≤ 32 → ((l : ℕ) → count l (links_of (Some row)) ≤ holds_at heap l) → Joins old new key row
+  Joins-held {old} {heap = heap} stored heap_is puts short held = record {
+    puts = puts;
+    short = short;
+    held = λ l. holds-room old heap.holds (sym (ap (λ h. h.holds) heap_is)) stored.counted l _ (held l);
   }
 
-  pub extends-joined : (old new : List (Option (Slot T))) (key : ℕ) (e : Slot T) (a b m a' b' m' : ℕ) → IsHeap old a b m → Joins old new key e → Extends (seen old a b m) (seen new a' b' m')
-  extends-joined old new key e a b m a' b' m' stored j =
-      Extends-Adds (seen old a b m) (seen new a' b' m') key e.row (IsGraph-stored old a b m stored) (adds-joined old new key e a b m a' b' m' stored.counted j)
+  pub IsHeap-joined : {old new : List (Option (Slot T))} {a b m a' b' m' key : ℕ} {row : Row T} {heap : Heap T} → IsHeap old a b m → seen old a b m ≡ heap → Joins old new key row → a' + is_cell (Some row) ≡ a → b' + is_node (Some row) ≡ b → hold_count heap < 2 ^ 60 → m' < 2 ^ 64 → IsHeap new a' b' m'
+  IsHeap-joined {row = row} stored heap_is j spare_cells spare_nodes few fits = record {
+    counted = counted-joined stored.counted j;
+    few = omega (arith, spare_cells, spare_nodes, kinds row, j.puts.len, stored.few);
+    few_holds = omega (arith, few, ap hold_count heap_is, count-joined stored.counted j);
+    fits = fits;
+  }
 
-  pub keeps-joined : (old new : List (Option (Slot T))) (key : ℕ) (e : Slot T) (a b m a' b' m' : ℕ) → IsHeap old a b m → Joins old new key e → KeepsHeld (λ l. count l (links_of (Some e.row))) (seen old a b m) (seen new a' b' m')
-  keeps-joined old new key e a b m a' b' m' stored j =
-      let adds = adds-joined old new key e a b m a' b' m' stored.counted j in
-      KeepsHeld-Extends _ (seen old a b m) (seen new a' b' m') (IsGraph-stored old a b m stored)
-      (extends-joined old new key e a b m a' b' m' stored j) (λ l. omega (arith, adds.holds l))
+  pub MakesRow-joined : {old new : List (Option (Slot T))} {a b m a' b' m' key : ℕ} {row : Row T} {heap : Heap T} → IsHeap old a b m → seen old a b m ≡ heap → IsHeap new a' b' m' → Joins old new key row → a' + is_cell (Some row) ≡ a → b' + is_node (Some row) ≡ b → m' ≡ min (m + (is_cell (Some row) + is_node (Some row))) (2 ^ 64 - 1)
+      → MakesRow heap (seen new a' b' m') key row
+  MakesRow-joined {old} {new} {a} {b} {m} {a'} {b'} {m'} {key} {row} stored heap_is stored' j spare_cells spare_nodes made =
+      let h = seen old a b m in
+      let h' = seen new a' b' m' in
+      let adds = adds-joined stored.counted j a b m a' b' m' in
+      let graph = IsGraph-stored _ _ _ _ stored in
+      let extends = Extends-Adds h h' key row graph adds in
+      rw (← heap_is) (record {
+        adds = adds;
+        owners = owners-joined stored.counted j a b m a' b' m';
+        sole = omega (arith, owners_at-slots new stored'.counted key, ap owners_in j.puts.now);
+        makes = Makes-stored old new _ _ _ _ _ _ _ _ (sum-add is_cell refl old new key _ j.puts.was j.puts.now j.puts.others) (sum-add is_node refl old new key _ j.puts.was j.puts.now j.puts.others) spare_cells spare_nodes stored.fits made;
+        count = count-joined stored.counted j;
+        graph = IsGraph-stored _ _ _ _ stored';
+        extends = extends;
+        keeps = KeepsHeld-Extends _ h h' graph extends (λ l. omega (arith, adds.holds l));
+        trees = KeepsTrees-Extends h h' extends;
+      })

@@ -29,18 +29,18 @@ module _ {T : Type 0} where
     no_fewer = omega arith;
   }
 
-  -- nothing is done, and holds may be given for themselves
-  pub Builds-refl : (h : Heap T) (xs : List ℕ) (c n : ℕ) → IsGraph h → Builds h h xs xs c n
-  Builds-refl h xs c n graph = record {
-    extends = Extends-refl h;
+  -- just so many rows came
+  pub Builds-made : {old new : Heap T} {spent gained : List ℕ} {c n : ℕ} → Extends old new → IsGraph new → ((k : ℕ) → holds_at new k + count k spent ≡ holds_at old k + count k gained) → hold_count new + length spent ≡ hold_count old + length gained → Makes old new c n → Builds old new spent gained c n
+  Builds-made {c = c} {n = n} extends graph holds total makes = record {
+    extends = extends;
     graph = graph;
-    holds = λ k. refl;
-    total = refl;
-    cells = 0;
-    nodes = 0;
+    holds = holds;
+    total = total;
+    cells = c;
+    nodes = n;
     few_cells = omega arith;
     few_nodes = omega arith;
-    makes = Makes-refl h graph;
+    makes = makes;
   }
 
   -- two steps, of which the first may gain what the second spends
@@ -86,47 +86,21 @@ module _ {T : Type 0} where
   pub Builds-more : {old new : Heap T} {xs us : List ℕ} {c n : ℕ} (c' n' : ℕ) → Builds old new xs us c n → c ≤ c' → n ≤ n' → Builds old new xs us c' n'
   Builds-more {xs = xs} {us = us} c' n' b more_cells more_nodes = Builds-as xs us c' n' b more_cells more_nodes (λ k. refl) refl
 
+  -- nothing is done, and holds may be given for themselves
+  pub Builds-refl : (h : Heap T) (xs : List ℕ) (c n : ℕ) → IsGraph h → Builds h h xs xs c n
+  Builds-refl h xs c n graph = Builds-more c n (Builds-made (Extends-refl h) graph (λ k. refl) refl (Makes-refl h graph)) (omega arith) (omega arith)
+
   -- one hold more
   pub Builds-hold : {old new : Heap T} {link : ℕ} → ((k : ℕ) → holds_at new k ≡ holds_at old k + one_at link k) → Makes old new 0 0 → hold_count new ≡ hold_count old + 1 → IsGraph new → Extends old new → Builds old new [] (link ∷ []) 0 0
-  Builds-hold {link = link} holds makes total graph more = record {
-    extends = more;
-    graph = graph;
-    holds = λ k. omega (arith, holds k, count-one k link);
-    total = omega (arith, total);
-    cells = 0;
-    nodes = 0;
-    few_cells = omega arith;
-    few_nodes = omega arith;
-    makes = makes;
-  }
+  Builds-hold {link = link} holds makes total graph more = Builds-made more graph (λ k. omega (arith, holds k, count-one k link)) (omega (arith, total)) makes
 
   -- one node more, for which a hold of each of its places was spent
   pub Builds-node : {old new : Heap T} {link : ℕ} {head : Head} {links : List ℕ} → Adds old new link (node head links) → Makes old new 0 1 → hold_count new + length links ≡ hold_count old + 1 → IsGraph new → Extends old new → Builds old new links (link ∷ []) 0 1
-  Builds-node {link = link} adds makes total graph more = record {
-    extends = more;
-    graph = graph;
-    holds = λ k. omega (arith, adds.holds k, count-one k link);
-    total = omega (arith, total);
-    cells = 0;
-    nodes = 1;
-    few_cells = omega arith;
-    few_nodes = omega arith;
-    makes = makes;
-  }
+  Builds-node {link = link} adds makes total graph more = Builds-made more graph (λ k. omega (arith, adds.holds k, count-one k link)) (omega (arith, total)) makes
 
   -- one cell more
   pub Builds-cell : {old new : Heap T} {link : ℕ} {x : T} → Adds old new link (cell x) → Makes old new 1 0 → hold_count new ≡ hold_count old + 1 → IsGraph new → Extends old new → Builds old new [] (link ∷ []) 1 0
-  Builds-cell {link = link} adds makes total graph more = record {
-    extends = more;
-    graph = graph;
-    holds = λ k. omega (arith, adds.holds k, count-one k link);
-    total = omega (arith, total);
-    cells = 1;
-    nodes = 0;
-    few_cells = omega arith;
-    few_nodes = omega arith;
-    makes = makes;
-  }
+  Builds-cell {link = link} adds makes total graph more = Builds-made more graph (λ k. omega (arith, adds.holds k, count-one k link)) (omega (arith, total)) makes
 
   -- so many spares are left
   pub Builds-spare_cells : {old new : Heap T} {xs us : List ℕ} {c n : ℕ} → Builds old new xs us c n → old.spare_cells ≤ new.spare_cells + c

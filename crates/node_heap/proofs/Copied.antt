@@ -1,5 +1,5 @@
 -- What the slots say of a node that is copied.
-use Rattle.std.proofs.Common.{◌≡◌, ◌≢◌, ℕ, zero, suc, ◌+◌, ◌<◌, List, length, get_or, refl, sym, ap, ◌∙◌, arith, Option, Some, None, IsSome, inl, inr}
+use Rattle.std.proofs.Common.{◌≡◌, ◌≢◌, ℕ, zero, suc, ◌+◌, ◌<◌, List, length, get_or, refl, sym, ap, subst, ◌∙◌, arith, Option, Some, None, IsSome, inl, inr}
 use Rattle.std.specs.Prelude.{sum_by}
 use Rattle.std.proofs.lemmas.Bool.{cases_eq}
 use Rattle.std.proofs.lemmas.Bool.Decides.{nat_tests}
@@ -7,14 +7,13 @@ use Rattle.node_heap.specs.Links.{count}
 use Rattle.node_heap.specs.Forms.{Row, links_of, is_cell, is_node}
 use Rattle.node_heap.specs.Heap.{places_in, one_at}
 use Rattle.node_heap.specs.InPlace.{other_at}
-use Rattle.node_heap.specs.Layout.{row_of_slot, owners_in, rows_of_slots, holds_in, slot_at, places_at, graph_of, cells_in, nodes_in, IsCounted, Copies}
+use Rattle.node_heap.specs.Layout.{row_of_slot, owners_in, rows_of_slots, holds_in, slot_at, places_at, graph_of, cells_in, nodes_in, IsCounted, PutsIn, Copies}
 use Rattle.node_heap.specs.Layout.{Slot}
 use Rattle.node_heap.proofs.Counts.{test_same, test_other, sum_by-apart}
 use Rattle.node_heap.proofs.Slots.{row_at-slots, holds_at-slots, placed, live-owned}
-use Rattle.node_heap.proofs.Stored.{live_row, live_slot}
+use Rattle.node_heap.proofs.Stored.{live_row, live_slot, kinds}
 use Rattle.node_heap.proofs.Dying.{sum-add}
 use Rattle.node_heap.proofs.Added.{Joins}
-use Rattle.node_heap.proofs.Rewritten.{kinds-row}
 
 pub other_at-other : (l k : ℕ) → l ≢ k → other_at l k ≡ 1
 other_at-other l k other = grind (arith, nat_tests)
@@ -45,12 +44,9 @@ module _ {T : Type 0} where
   pub live-linked : (slots : List (Option (Slot T))) → IsCounted slots → (place l : ℕ) → 0 < count l (links_of (graph_of slots place)) → IsSome (slot_at slots l)
   live-linked slots counted place l has = live-owned (slot_at slots l) (omega (arith, placed slots place l has, counted.places l))
 
-  pub joins-copied : (old mid new : List (Option (Slot T))) (place key : ℕ) (e : Slot T) → IsCounted old → AddsOwners old mid (links_of (graph_of old place)) → slot_at mid key ≡ None → slot_at new key ≡ Some e → ((k : ℕ) → k ≢ key → slot_at new k ≡ slot_at mid k) → e.owners ≡ 1 → Some e.row ≡ graph_of old place → Joins mid new key e
-  joins-copied old mid new place key e counted adds was now apart one same = record {
-    was = was;
-    «is» = now;
-    apart = apart;
-    one = one;
+  pub joins-copied : (old mid new : List (Option (Slot T))) (place key : ℕ) (row : Row T) → IsCounted old → AddsOwners old mid (links_of (graph_of old place)) → PutsIn mid new key row → Some row ≡ graph_of old place → Joins mid new key row
+  joins-copied old mid new place key row counted adds puts same = record {
+    puts = puts;
     short = omega (arith, ap (λ r. length (links_of r)) same, counted.short place);
     held = λ l. omega (arith, ap (λ r. count l (links_of r)) same, adds.owners l, ap (λ xs. places_in xs l) adds.rows, counted.places l);
   }
@@ -59,14 +55,18 @@ module _ {T : Type 0} where
   none_row None none = refl
   none_row (Some e) none = cc
 
-  pub copies-joined : (old mid new : List (Option (Slot T))) (place key : ℕ) (e : Slot T) → AddsOwners old mid (links_of (graph_of old place)) → Joins mid new key e → Some e.row ≡ graph_of old place → Copies old new place key
-  copies-joined old mid new place key e adds j same = record {
-    fresh = none_row (slot_at old key) (sym (graph-added old mid _ adds key) ∙ ap row_of_slot j.was);
-    row = ap row_of_slot j.is ∙ same;
-    one = ap owners_in j.is ∙ j.one;
-    others = λ k other. ap row_of_slot (j.apart k other) ∙ graph-added old mid _ adds k;
-    owners = λ k other. ap owners_in (j.apart k other) ∙ adds.owners k;
+  pub copies-joined : (old mid new : List (Option (Slot T))) (place key : ℕ) (row : Row T) → AddsOwners old mid (links_of (graph_of old place)) → PutsIn mid new key row → Some row ≡ graph_of old place → Copies old new place key
+  copies-joined old mid new place key row adds puts same = record {
+    fresh = none_row (slot_at old key) (sym (graph-added old mid _ adds key) ∙ ap row_of_slot puts.was);
+    row = ap row_of_slot puts.now ∙ same;
+    one = ap owners_in puts.now;
+    others = λ k other. ap row_of_slot (puts.others k other) ∙ graph-added old mid _ adds k;
+    owners = λ k other. ap owners_in (puts.others k other) ∙ adds.owners k;
   }
+
+  -- a row that was there isn't the copy
+  pub copy-apart : {old new : List (Option (Slot T))} {place key : ℕ} → Copies old new place key → (l : ℕ) → IsSome (slot_at old l) → l ≢ key
+  copy-apart {old} copies l live same = absurd (let gone = subst (λ j. IsSome (slot_at old j)) same live in let dead : IsSome {T = Slot T} None = subst IsSome copies.fresh gone in cc)
 
   pub places-copied : (old new : List (Option (Slot T))) (place key : ℕ) → Copies old new place key → (k : ℕ) → places_at new k ≡ places_at old k + count k (links_of (graph_of old place))
   places-copied old new place key copies k =
@@ -115,10 +115,10 @@ module _ {T : Type 0} where
         | inr other ↦ omega (arith, holds_at-slots old k, holds_at-slots new k, moved, counted.places k, copies.owners k other, test_other k key other)
       ]
 
-  pub nodes-copied : (old mid new : List (Option (Slot T))) (place key : ℕ) (e : Slot T) → AddsOwners old mid (links_of (graph_of old place)) → Joins mid new key e → Some e.row ≡ graph_of old place → is_node (graph_of old place) ≡ 1 → nodes_in new ≡ nodes_in old + 1
-  nodes-copied old mid new place key e adds j same node =
-      omega (arith, sum-add is_node refl mid new key e j.was j.is j.apart, ap (λ xs. sum_by is_node xs) adds.rows, ap is_node same, node)
+  pub nodes-copied : (old mid new : List (Option (Slot T))) (place key : ℕ) (row : Row T) → AddsOwners old mid (links_of (graph_of old place)) → PutsIn mid new key row → Some row ≡ graph_of old place → is_node (graph_of old place) ≡ 1 → nodes_in new ≡ nodes_in old + 1
+  nodes-copied old mid new place key row adds puts same node =
+      omega (arith, sum-add is_node refl mid new key _ puts.was puts.now puts.others, ap (λ xs. sum_by is_node xs) adds.rows, ap is_node same, node)
 
-  pub cells-copied : (old mid new : List (Option (Slot T))) (place key : ℕ) (e : Slot T) → AddsOwners old mid (links_of (graph_of old place)) → Joins mid new key e → Some e.row ≡ graph_of old place → is_node (graph_of old place) ≡ 1 → cells_in new ≡ cells_in old
-  cells-copied old mid new place key e adds j same node =
-      omega (arith, sum-add is_cell refl mid new key e j.was j.is j.apart, ap (λ xs. sum_by is_cell xs) adds.rows, ap is_node same, kinds-row (Some e) refl, node)
+  pub cells-copied : (old mid new : List (Option (Slot T))) (place key : ℕ) (row : Row T) → AddsOwners old mid (links_of (graph_of old place)) → PutsIn mid new key row → Some row ≡ graph_of old place → is_node (graph_of old place) ≡ 1 → cells_in new ≡ cells_in old
+  cells-copied old mid new place key row adds puts same node =
+      omega (arith, sum-add is_cell refl mid new key _ puts.was puts.now puts.others, ap (λ xs. sum_by is_cell xs) adds.rows, ap is_node same, kinds row, node)

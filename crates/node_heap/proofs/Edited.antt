@@ -12,7 +12,7 @@ use Rattle.node_heap.specs.InPlace.{other_at, ReachesAround, IsSolePath, path_st
 use Rattle.node_heap.proofs.Counts.{le-sum_by, count-cons, one_at-flip, test_same, test_other}
 use Rattle.node_heap.proofs.Reach.{HasLink-same, Reaches-trans}
 use Rattle.node_heap.proofs.Frames.{IsTree-KeepsBelow, Makes-trans}
-use Rattle.node_heap.proofs.BuildLemmas.{count-append, Makes-refl}
+use Rattle.node_heap.proofs.BuildLemmas.{count-append}
 use Rattle.node_heap.proofs.GraphLemmas.{linked-places, IsGraph-acyclic}
 use Rattle.node_heap.proofs.Ways.{IsOwners, ReachesAround-end, ReachesAround-Reaches, Reaches-around, ReachesAround-same, ReachesAround-path, ReachesAround-trans, Reaches-avoids, Reaches-last, IsSolePath-Reaches}
 
@@ -111,9 +111,6 @@ module _ {T : Type 0} where
     left = keeps.left;
   }
 
-  pub KeepsPaths-refl : (first : ℕ) (h : Heap T) → KeepsPaths first h h
-  KeepsPaths-refl first h = record { ways = λ x y up way. way; owned = λ x y up path. path }
-
   pub KeepsPaths-trans : {first : ℕ} {old mid new : Heap T} → KeepsPaths first old mid → KeepsPaths first mid new → KeepsPaths first old new
   KeepsPaths-trans {first} one two = record {
     ways = λ x y up way. two.ways x y (one.ways y first (here first) up) (one.ways x y up way);
@@ -150,21 +147,6 @@ module _ {T : Type 0} where
   pub OwnsDown-child : (h : Heap T) (first parent child index : ℕ) (ks : List ℕ) → OwnsDown h first parent → links_at h parent ≡ set ks index child → index < length ks → owners_at h child ≡ 1 → OwnsDown h first child
   OwnsDown-child h first parent child index ks path links inside one =
       path_then parent child path (rw links (count-at (set ks index child) index child (omega (arith, inside, length-set ks index child)) (get_or-set_same ks index child 0 inside))) one
-
-  pub Edits-refl : (first : ℕ) (h : Heap T) (xs : List ℕ) (c n : ℕ) → IsGraph h → Edits first h h xs xs c n
-  Edits-refl first h xs c n graph = record {
-    apart = record { live = λ l some. graph.held l (omega (arith, some)); kept = λ l m some way. refl; left = λ l. omega arith };
-    paths = KeepsPaths-refl first h;
-    stays = λ l live. live;
-    graph = graph;
-    holds = λ k. refl;
-    total = refl;
-    cells = 0;
-    nodes = 0;
-    few_cells = omega arith;
-    few_nodes = omega arith;
-    makes = Makes-refl h graph;
-  }
 
   -- two edits, of which the first may gain what the second spends
   pub Edits-both : {first : ℕ} {old mid new : Heap T} {xs us ys vs : List ℕ} {c n c' n' : ℕ} (spent gained : List ℕ) → Edits first old mid xs us c n → Edits first mid new ys vs c' n'

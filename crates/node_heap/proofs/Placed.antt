@@ -3,7 +3,7 @@ use Rattle.std.proofs.Common.{◌≡◌, ◌≢◌, ℕ, suc, ◌+◌, ◌*◌, 
 use Rattle.std.proofs.lemmas.List.{map-set, length-map, get_or-set_other, length-set}
 use Rattle.std.proofs.lemmas.List.Sums.{sum_by-cons}
 use Rattle.node_heap.specs.Forms.{cell, node, links_of, value_of, head_of, is_node}
-use Rattle.node_heap.specs.Layout.{Slot, row_of_slot, with_owners, slot_at, graph_of, filled_count, PutsIn}
+use Rattle.node_heap.specs.Layout.{Slot, Table, row_of_slot, reown, slot_at, graph_of, filled_count, PutsIn}
 use Rattle.node_heap.specs.Inside.{woven, SameBut, cell_slot, node_slot, slots_of, table_of, IsFree, HasRoom, IsTable}
 use Rattle.node_heap.specs.declared.entry.CellSlot.{CellSlot}
 use Rattle.node_heap.specs.declared.entry.NodeSlot.{NodeSlot}
@@ -99,40 +99,6 @@ module _ {T : Type 0} where
     node-at : (i : ℕ) → slot_at (slots_of cells nodes) (suc (double i)) ≡ node_slot (get_or nodes i None)
     node-at i = at-odd (map cell_slot cells) (map node_slot nodes) i ∙ get_or-map_default node_slot nodes i None
 
-    cell-place : (place : ℕ) → place % 2 ≡ 0 → slot_at (slots_of cells nodes) place ≡ cell_slot (get_or cells (place / 2) None)
-    cell-place place e = ap (slot_at (slots_of cells nodes)) (even place e) ∙ cell-at (place / 2)
-
-    node-place : (place : ℕ) → place % 2 ≢ 0 → slot_at (slots_of cells nodes) place ≡ node_slot (get_or nodes (place / 2) None)
-    node-place place e = ap (slot_at (slots_of cells nodes)) (odd place e) ∙ node-at (place / 2)
-
-    pub live-cell : (place : ℕ) → place % 2 ≡ 0 → IsSome (slot_at (slots_of cells nodes) place) → IsSome (get_or cells (place / 2) None)
-    live-cell place e live = some_cell _ (subst IsSome (cell-place place e) live)
-
-    pub live-node : (place : ℕ) → place % 2 ≢ 0 → IsSome (slot_at (slots_of cells nodes) place) → IsSome (get_or nodes (place / 2) None)
-    live-node place e live = some_node T _ (subst IsSome (node-place place e) live)
-
-    -- a node stands at an odd place
-    pub is_odd : (place : ℕ) → is_node (graph_of (slots_of cells nodes) place) ≡ 1 → place % 2 ≢ 0
-    is_odd place is e = absurd (omega (arith, is, ap (λ s. is_node (row_of_slot s)) (cell-place place e), cell-no_node (get_or cells (place / 2) None)))
-
-    pub node-live : (place : ℕ) → is_node (graph_of (slots_of cells nodes) place) ≡ 1 → IsSome (get_or nodes (place / 2) None)
-    node-live place is = live-node place (is_odd place is) (node_some (slot_at (slots_of cells nodes) place) is)
-
-    pub read-cell : (place : ℕ) (s : CellSlot T) → place % 2 ≡ 0 → get_or cells (place / 2) None ≡ Some s → slot_at (slots_of cells nodes) place ≡ cell_slot (Some s)
-    read-cell place s e is = cell-place place e ∙ ap cell_slot is
-
-    pub read-node : (place : ℕ) (s : NodeSlot) → place % 2 ≢ 0 → get_or nodes (place / 2) None ≡ Some s → slot_at (slots_of cells nodes) place ≡ node_slot (Some s)
-    read-node place s e is = node-place place e ∙ ap node_slot is
-
-    pub cell-head : (place : ℕ) → place % 2 ≡ 0 → None ≡ head_of (graph_of (slots_of cells nodes) place)
-    cell-head place e = sym (ap (λ o. head_of (row_of_slot o)) (cell-place place e) ∙ no_head (get_or cells (place / 2) None))
-
-    pub cell-links : (place : ℕ) → place % 2 ≡ 0 → [] ≡ links_of (graph_of (slots_of cells nodes) place)
-    cell-links place e = sym (ap (λ o. links_of (row_of_slot o)) (cell-place place e) ∙ no_links (get_or cells (place / 2) None))
-
-    pub node-value : (place : ℕ) → place % 2 ≢ 0 → None ≡ value_of (graph_of (slots_of cells nodes) place)
-    node-value place e = sym (ap (λ o. value_of (row_of_slot o)) (node-place place e) ∙ no_value_in T (get_or nodes (place / 2) None))
-
     -- a write in one list is one in the slots of both
     pub set-cell : (place : ℕ) (o : Option (CellSlot T)) → place % 2 ≡ 0 → IsSome (get_or cells (place / 2) None) → slots_of (set cells (place / 2) o) nodes ≡ set (slots_of cells nodes) place (cell_slot o)
     set-cell place o e live =
@@ -146,18 +112,52 @@ module _ {T : Type 0} where
         ∙ set-odd (map cell_slot cells) _ (place / 2) (node_slot o) (omega (arith, slot-inside nodes (place / 2) live, length-map nodes (node_slot {T = T})))
         ∙ ap (λ k. set (slots_of cells nodes) k (node_slot o)) (sym (odd place e))
 
-    -- the owners at a place are written
-    pub cell-owners : (place n a b : ℕ) (s : CellSlot T) → place % 2 ≡ 0 → get_or cells (place / 2) None ≡ Some s
-        → table_of (set cells (place / 2) (Some (record { owners = n; value = s.value }))) nodes a b ≡ record { slots = set (slots_of cells nodes) place (with_owners (slot_at (slots_of cells nodes) place) n); spare_cells = a; spare_nodes = b }
-    cell-owners place n a b s e is =
-        ap (λ xs. record { slots = xs; spare_cells = a; spare_nodes = b })
-        (set-cell place _ e (rw is refl) ∙ ap (λ o. set (slots_of cells nodes) place (with_owners o n)) (sym (read-cell place s e is)))
+    -- a table that is seen as the two lists
+    module _ {a b : ℕ} {table : Table T} (view_is : table_of cells nodes a b ≡ table) where
+      cell-place : (place : ℕ) → place % 2 ≡ 0 → slot_at table.slots place ≡ cell_slot (get_or cells (place / 2) None)
+      cell-place place e = rw (← view_is) (ap (slot_at (slots_of cells nodes)) (even place e) ∙ cell-at (place / 2))
 
-    pub node-owners : (place n a b : ℕ) (s : NodeSlot) → place % 2 ≢ 0 → get_or nodes (place / 2) None ≡ Some s
-        → table_of cells (set nodes (place / 2) (Some (record { owners = n; head = s.head; links = s.links }))) a b ≡ record { slots = set (slots_of cells nodes) place (with_owners (slot_at (slots_of cells nodes) place) n); spare_cells = a; spare_nodes = b }
-    node-owners place n a b s e is =
-        ap (λ xs. record { slots = xs; spare_cells = a; spare_nodes = b })
-        (set-node place _ e (rw is refl) ∙ ap (λ o. set (slots_of cells nodes) place (with_owners o n)) (sym (read-node place s e is)))
+      node-place : (place : ℕ) → place % 2 ≢ 0 → slot_at table.slots place ≡ node_slot (get_or nodes (place / 2) None)
+      node-place place e = rw (← view_is) (ap (slot_at (slots_of cells nodes)) (odd place e) ∙ node-at (place / 2))
+
+      pub live-cell : (place : ℕ) → place % 2 ≡ 0 → IsSome (slot_at table.slots place) → IsSome (get_or cells (place / 2) None)
+      live-cell place e live = some_cell _ (subst IsSome (cell-place place e) live)
+
+      pub live-node : (place : ℕ) → place % 2 ≢ 0 → IsSome (slot_at table.slots place) → IsSome (get_or nodes (place / 2) None)
+      live-node place e live = some_node T _ (subst IsSome (node-place place e) live)
+
+      -- a node stands at an odd place
+      pub is_odd : (place : ℕ) → is_node (graph_of table.slots place) ≡ 1 → place % 2 ≢ 0
+      is_odd place is e = absurd (omega (arith, is, ap (λ s. is_node (row_of_slot s)) (cell-place place e), cell-no_node (get_or cells (place / 2) None)))
+
+      pub node-live : (place : ℕ) → is_node (graph_of table.slots place) ≡ 1 → IsSome (get_or nodes (place / 2) None)
+      node-live place is = live-node place (is_odd place is) (node_some (slot_at table.slots place) is)
+
+      pub read-cell : (place : ℕ) (s : CellSlot T) → place % 2 ≡ 0 → get_or cells (place / 2) None ≡ Some s → slot_at table.slots place ≡ cell_slot (Some s)
+      read-cell place s e is = cell-place place e ∙ ap cell_slot is
+
+      pub read-node : (place : ℕ) (s : NodeSlot) → place % 2 ≢ 0 → get_or nodes (place / 2) None ≡ Some s → slot_at table.slots place ≡ node_slot (Some s)
+      read-node place s e is = node-place place e ∙ ap node_slot is
+
+      pub cell-head : (place : ℕ) → place % 2 ≡ 0 → None ≡ head_of (graph_of table.slots place)
+      cell-head place e = sym (ap (λ o. head_of (row_of_slot o)) (cell-place place e) ∙ no_head (get_or cells (place / 2) None))
+
+      pub cell-links : (place : ℕ) → place % 2 ≡ 0 → [] ≡ links_of (graph_of table.slots place)
+      cell-links place e = sym (ap (λ o. links_of (row_of_slot o)) (cell-place place e) ∙ no_links (get_or cells (place / 2) None))
+
+      pub node-value : (place : ℕ) → place % 2 ≢ 0 → None ≡ value_of (graph_of table.slots place)
+      node-value place e = sym (ap (λ o. value_of (row_of_slot o)) (node-place place e) ∙ no_value_in T (get_or nodes (place / 2) None))
+
+      -- the owners at a place are written
+      pub cell-owners : (place n : ℕ) (s : CellSlot T) → place % 2 ≡ 0 → get_or cells (place / 2) None ≡ Some s
+          → table_of (set cells (place / 2) (Some (record { owners = n; value = s.value }))) nodes a b ≡ record { slots = reown table.slots place n; spare_cells = table.spare_cells; spare_nodes = table.spare_nodes }
+      cell-owners place n s e is =
+          rw (read-cell place s e is, ← view_is) (ap (λ xs. record { slots = xs; spare_cells = a; spare_nodes = b }) (set-cell place _ e (rw is refl)))
+
+      pub node-owners : (place n : ℕ) (s : NodeSlot) → place % 2 ≢ 0 → get_or nodes (place / 2) None ≡ Some s
+          → table_of cells (set nodes (place / 2) (Some (record { owners = n; head = s.head; links = s.links }))) a b ≡ record { slots = reown table.slots place n; spare_cells = table.spare_cells; spare_nodes = table.spare_nodes }
+      node-owners place n s e is =
+          rw (read-node place s e is, ← view_is) (ap (λ xs. record { slots = xs; spare_cells = a; spare_nodes = b }) (set-node place _ e (rw is refl)))
 
     pub len-slots : filled_count (slots_of cells nodes) ≡ count_by is_some cells + count_by is_some nodes
     len-slots = omega (arith, sum-woven one_if_some refl (map cell_slot cells) (map node_slot nodes), len-cells cells, len-nodes T nodes)

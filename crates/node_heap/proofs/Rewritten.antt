@@ -2,23 +2,23 @@
 use Rattle.std.proofs.Common.{◌≡◌, ◌≢◌, ℕ, suc, ◌+◌, ◌^◌, ◌<◌, ◌≤◌, List, [], ◌∷◌, length, get_or, set, insert, remove, take, drop, refl, sym, ap, subst, ◌∙◌, arith, Option, Some, None, IsSome, cond, eqb, inl, inr, zero, drop-cons}
 use Rattle.std.specs.Prelude.{sum_by, sum}
 use Rattle.std.proofs.lemmas.Bool.{cases_eq}
+use Rattle.std.proofs.lemmas.Grind.{get_or_default_zero}
 use Rattle.std.proofs.lemmas.List.{take-append-drop, length-set}
 use Rattle.std.proofs.lemmas.List.Edits.{length-insert, length-remove}
 use Rattle.std.proofs.lemmas.List.Sums.{sum_by-cons, sum_by-append, sum_by-set}
 use Rattle.node_heap.specs.Links.{count, HasLink, Reaches}
-use Rattle.node_heap.specs.Forms.{Row, cell, node, links_of, head_of, links_in, is_cell, is_node}
-use Rattle.node_heap.specs.Heap.{Heap, links_at, holds_at, owners_at, one_at}
+use Rattle.node_heap.specs.Forms.{Row, links_of, head_of, links_in, is_cell, is_node}
+use Rattle.node_heap.specs.Heap.{Heap, row_at, links_at, holds_at, owners_at, one_at}
 use Rattle.node_heap.specs.Calls.{KeepsOwners}
 use Rattle.node_heap.specs.InPlace.{Writes, Edits}
-use Rattle.node_heap.specs.Layout.{row_of_slot, owners_in, rows_of_slots, holds_in, slot_at, places_at, graph_of, nodes_in, cells_in, ApartAt, IsCounted, Rewrites, KeepsRoom, IsHeap, seen}
+use Rattle.node_heap.specs.Layout.{row_of_slot, owners_in, rows_of_slots, holds_in, slot_at, places_at, graph_of, nodes_in, cells_in, ApartAt, IsCounted, Rewrites, KeepsRoom, IsHeap, Table, seen}
 use Rattle.node_heap.specs.declared.row.Head.{Head}
 use Rattle.node_heap.specs.Layout.{Slot}
 use Rattle.node_heap.proofs.Counts.{count-cons, one_at-flip, test_same, test_other, sum_by-apart, sum-exchanged}
 use Rattle.node_heap.proofs.Reach.{acyclic-ranked, Reaches-by}
 use Rattle.node_heap.proofs.Ways.{LeadsDown-lifted}
 use Rattle.node_heap.proofs.Slots.{row_at-slots, holds_at-slots, owners_at-slots, places_at-apart, live-owned}
-use Rattle.node_heap.proofs.Stored.{IsGraph-stored, live_row}
-use Rattle.node_heap.proofs.GraphLemmas.{rows-kinds}
+use Rattle.node_heap.proofs.Stored.{IsGraph-stored, Makes-stored, live_row, kinds-row, row-seen, owners-seen}
 use Rattle.node_heap.proofs.Edited.{Edits-Writes}
 
 -- how often links stand in a list after an edit of it
@@ -52,47 +52,11 @@ module _ {T : Type 0} where
     pub held : (k : ℕ) → count k spent + places_at old k ≤ owners_in (slot_at old k)
     pub apart : (k : ℕ) → 0 < count k spent → ¬ Reaches (links_in (graph_of old)) k place
 
-  pub places-moved : (old new : List (Option (Slot T))) (place : ℕ) (head : Option Head) (links spent gained : List ℕ) → Moves old new place head links spent gained → (k : ℕ) → places_at new k + count k gained ≡ places_at old k + count k spent
-  places-moved old new place head links spent gained m k =
-      omega (arith, places_at-apart old new place m.rewrites.others k, ap (count k) m.rewrites.new_links, m.moved k)
-
-  pub owners-moved : (old new : List (Option (Slot T))) (place : ℕ) (head : Option Head) (links spent gained : List ℕ) → Moves old new place head links spent gained → (k : ℕ) → owners_in (slot_at new k) ≡ owners_in (slot_at old k)
-  owners-moved old new place head links spent gained m k = elim (cases_eq k place) as (λ _. owners_in (slot_at new k) ≡ owners_in (slot_at old k)) [
-    | inl same ↦ omega (arith, ap (λ j. owners_in (slot_at new j)) same, ap (λ j. owners_in (slot_at old j)) same, m.rewrites.same_owners)
-    | inr other ↦ ap owners_in (m.rewrites.others k other)
-  ]
-
-  live-moved : (old new : List (Option (Slot T))) (place : ℕ) (head : Option Head) (links spent gained : List ℕ) → Moves old new place head links spent gained → (k : ℕ) → IsSome (slot_at new k) → IsSome (slot_at old k)
-  live-moved old new place head links spent gained m k live = elim (cases_eq k place) as (λ _. IsSome (slot_at old k)) [
-    | inl same ↦ subst (λ j. IsSome (slot_at old j)) (sym same) m.was
-    | inr other ↦ rw (← m.rewrites.others k other) live
-  ]
-
-  pub counted-moved : (old new : List (Option (Slot T))) (place : ℕ) (head : Option Head) (links spent gained : List ℕ) → IsCounted old → Moves old new place head links spent gained → IsCounted new
-  counted-moved old new place head links spent gained counted m =
-      let lifted = LeadsDown-lifted (links_in (graph_of old)) (links_in (graph_of new)) counted.rank place counted.falls (λ l other. ap (λ o. links_of (row_of_slot o)) (m.rewrites.others l other)) off in
-      record {
-        places = λ l. omega (arith, places-moved old new place head links spent gained m l, owners-moved old new place head links spent gained m l, m.held l);
-        owned = λ l live. omega (arith, owners-moved old new place head links spent gained m l, counted.owned l (live-moved old new place head links spent gained m l live));
-        low = λ l live. counted.low l (live-moved old new place head links spent gained m l live);
-        short = λ l. elim (cases_eq l place) as (λ _. length (links_of (graph_of new l)) ≤ 32) [
-          | inl same ↦ omega (arith, ap (λ j. length (links_of (graph_of new j))) same, ap length m.rewrites.new_links, m.short)
-          | inr other ↦ omega (arith, ap (λ o. length (links_of (row_of_slot o))) (m.rewrites.others l other), counted.short l)
-        ];
-        rank = lifted.0;
-        falls = lifted.1;
-      }
-    where
-      off : (k : ℕ) → HasLink (links_in (graph_of new)) place k → ¬ Reaches (links_in (graph_of old)) k place
-      off k has = by_spent (count k spent) refl
-        where
-          by_spent : (n : ℕ) → count k spent ≡ n → ¬ Reaches (links_in (graph_of old)) k place
-          by_spent zero none = acyclic-ranked (links_in (graph_of old)) counted.rank counted.falls place k (omega (arith, has, ap (count k) m.rewrites.new_links, m.moved k, none))
-          by_spent (suc n) some = m.apart k (omega (arith, some))
-
-  pub holds-moved : (old new : List (Option (Slot T))) (place : ℕ) (head : Option Head) (links spent gained : List ℕ) → IsCounted old → Moves old new place head links spent gained → (k : ℕ) → get_or (holds_in new) k 0 + count k spent ≡ get_or (holds_in old) k 0 + count k gained
-  holds-moved old new place head links spent gained counted m k =
-      omega (arith, holds_at-slots old k, holds_at-slots new k, places-moved old new place head links spent gained m k, owners-moved old new place head links spent gained m k, m.held k, counted.places k)
+  -- what contracts say of a node that was written in place
+  pub record WritesNode (old new : Heap T) (parent : ℕ) (head : Option Head) (links spent gained : List ℕ) : Type 0 where
+    pub writes : Writes old new parent head links
+    pub owners : KeepsOwners old new
+    pub edits : Edits parent old new spent gained 0 0
 
   -- a count of rows, where the row keeps its kind
   sum-kept : (f : Option (Row T) → ℕ) → f None ≡ 0 → (old new : List (Option (Slot T))) (place : ℕ) → ApartAt old new place → f (graph_of new place) ≡ f (graph_of old place) → sum_by f (rows_of_slots new) ≡ sum_by f (rows_of_slots old)
@@ -102,72 +66,94 @@ module _ {T : Type 0} where
       let sums = sum_by-apart f None none (rows_of_slots old) (rows_of_slots new) place rows in
       omega (arith, sums, same, ap f (row_at-slots old place), ap f (row_at-slots new place))
 
-  pub kinds-row : (e : Option (Slot T)) → IsSome e → is_cell (row_of_slot e) + is_node (row_of_slot e) ≡ 1
-  kinds-row None some = cc
-  kinds-row (Some e) some = of_row (row_of_slot (Some e)) refl
-    where
-      of_row : (r : Option (Row T)) → IsSome r → is_cell r + is_node r ≡ 1
-      of_row None none = cc
-      of_row (Some (cell x)) some = refl
-      of_row (Some (node h ks)) some = refl
+  module _ {old new : List (Option (Slot T))} {place : ℕ} {head : Option Head} {links spent gained : List ℕ} (m : Moves old new place head links spent gained) where
+    pub places-moved : (k : ℕ) → places_at new k + count k gained ≡ places_at old k + count k spent
+    places-moved k = omega (arith, places_at-apart old new place m.rewrites.others k, ap (count k) m.rewrites.new_links, m.moved k)
 
-  pub nodes-moved : (old new : List (Option (Slot T))) (place : ℕ) (head : Option Head) (links spent gained : List ℕ) → Moves old new place head links spent gained → nodes_in new ≡ nodes_in old
-  nodes-moved old new place head links spent gained m = sum-kept is_node refl old new place m.rewrites.others m.rewrites.is_same_kind
+    pub owners-moved : (k : ℕ) → owners_in (slot_at new k) ≡ owners_in (slot_at old k)
+    owners-moved k = elim (cases_eq k place) as (λ _. owners_in (slot_at new k) ≡ owners_in (slot_at old k)) [
+      | inl same ↦ omega (arith, ap (λ j. owners_in (slot_at new j)) same, ap (λ j. owners_in (slot_at old j)) same, m.rewrites.same_owners)
+      | inr other ↦ ap owners_in (m.rewrites.others k other)
+    ]
 
-  pub cells-moved : (old new : List (Option (Slot T))) (place : ℕ) (head : Option Head) (links spent gained : List ℕ) → Moves old new place head links spent gained → cells_in new ≡ cells_in old
-  cells-moved old new place head links spent gained m =
-      sum-kept is_cell refl old new place m.rewrites.others (omega (arith, m.rewrites.is_same_kind, kinds-row (slot_at old place) m.was, kinds-row (slot_at new place) m.rewrites.live))
+    live-moved : (k : ℕ) → IsSome (slot_at new k) → IsSome (slot_at old k)
+    live-moved k live = elim (cases_eq k place) as (λ _. IsSome (slot_at old k)) [
+      | inl same ↦ subst (λ j. IsSome (slot_at old j)) (sym same) m.was
+      | inr other ↦ rw (← m.rewrites.others k other) live
+    ]
 
-  pub writes-moved : (old new : List (Option (Slot T))) (place : ℕ) (head : Option Head) (links spent gained : List ℕ) (a b n a' b' n' : ℕ) → Moves old new place head links spent gained → Writes (seen old a b n) (seen new a' b' n') place head links
-  writes-moved old new place head links spent gained a b n a' b' n' m = record {
-    new_head = ap head_of (row_at-slots new place) ∙ m.rewrites.new_head;
-    new_links = ap links_of (row_at-slots new place) ∙ m.rewrites.new_links;
-    others = λ k other. row_at-slots new k ∙ ap row_of_slot (m.rewrites.others k other) ∙ sym (row_at-slots old k);
-  }
+    pub nodes-moved : nodes_in new ≡ nodes_in old
+    nodes-moved = sum-kept is_node refl old new place m.rewrites.others m.rewrites.is_same_kind
 
-  pub KeepsOwners-moved : (old new : List (Option (Slot T))) (place : ℕ) (head : Option Head) (links spent gained : List ℕ) (a b n a' b' n' : ℕ) → IsCounted old → Moves old new place head links spent gained → KeepsOwners (seen old a b n) (seen new a' b' n')
-  KeepsOwners-moved old new place head links spent gained a b n a' b' n' counted m k =
-      omega (arith, owners_at-slots old counted k, owners_at-slots new (counted-moved old new place head links spent gained counted m) k, owners-moved old new place head links spent gained m k)
+    pub cells-moved : cells_in new ≡ cells_in old
+    cells-moved =
+        sum-kept is_cell refl old new place m.rewrites.others (omega (arith, m.rewrites.is_same_kind, kinds-row (slot_at old place) m.was, kinds-row (slot_at new place) m.rewrites.live))
 
-  pub IsHeap-moved : (old new : List (Option (Slot T))) (place : ℕ) (head : Option Head) (links spent gained : List ℕ) (a b a' b' n : ℕ) → IsHeap old a b n → Moves old new place head links spent gained → KeepsRoom (record { slots = old; spare_cells = a; spare_nodes = b }) (record { slots = new; spare_cells = a'; spare_nodes = b' }) → sum (holds_in new) ≤ 2 ^ 60 → IsHeap new a' b' n
-  IsHeap-moved old new place head links spent gained a b a' b' n stored m kept few = record {
-    counted = counted-moved old new place head links spent gained stored.counted m;
-    few = omega (arith, kept.len, kept.spare_cells, kept.spare_nodes, stored.few);
-    few_holds = few;
+    writes-moved : (a b n a' b' n' : ℕ) → Writes (seen old a b n) (seen new a' b' n') place head links
+    writes-moved a b n a' b' n' = record {
+      new_head = ap head_of (row_at-slots new place) ∙ m.rewrites.new_head;
+      new_links = ap links_of (row_at-slots new place) ∙ m.rewrites.new_links;
+      others = λ k other. row_at-slots new k ∙ ap row_of_slot (m.rewrites.others k other) ∙ sym (row_at-slots old k);
+    }
+
+    module _ (counted : IsCounted old) where
+      pub counted-moved : IsCounted new
+      counted-moved =
+          let lifted = LeadsDown-lifted (links_in (graph_of old)) (links_in (graph_of new)) counted.rank place counted.falls (λ l other. ap (λ o. links_of (row_of_slot o)) (m.rewrites.others l other)) off in
+          record {
+            places = λ l. omega (arith, places-moved l, owners-moved l, m.held l);
+            owned = λ l live. omega (arith, owners-moved l, counted.owned l (live-moved l live));
+            low = λ l live. counted.low l (live-moved l live);
+            short = λ l. elim (cases_eq l place) as (λ _. length (links_of (graph_of new l)) ≤ 32) [
+              | inl same ↦ omega (arith, ap (λ j. length (links_of (graph_of new j))) same, ap length m.rewrites.new_links, m.short)
+              | inr other ↦ omega (arith, ap (λ o. length (links_of (row_of_slot o))) (m.rewrites.others l other), counted.short l)
+            ];
+            rank = lifted.0;
+            falls = lifted.1;
+          }
+        where
+          off : (k : ℕ) → HasLink (links_in (graph_of new)) place k → ¬ Reaches (links_in (graph_of old)) k place
+          off k has = by_spent (count k spent) refl
+            where
+              by_spent : (n : ℕ) → count k spent ≡ n → ¬ Reaches (links_in (graph_of old)) k place
+              by_spent zero none = acyclic-ranked (links_in (graph_of old)) counted.rank counted.falls place k (omega (arith, has, ap (count k) m.rewrites.new_links, m.moved k, none))
+              by_spent (suc n) some = m.apart k (omega (arith, some))
+
+      pub holds-moved : (k : ℕ) → get_or (holds_in new) k 0 + count k spent ≡ get_or (holds_in old) k 0 + count k gained
+      holds-moved k = omega (arith, holds_at-slots old k, holds_at-slots new k, places-moved k, owners-moved k, m.held k, counted.places k)
+
+      total-moved : sum (holds_in new) + length spent ≡ sum (holds_in old) + length gained
+      total-moved = sum-exchanged spent gained (holds_in old) (holds_in new) holds-moved
+
+      KeepsOwners-moved : (a b n a' b' n' : ℕ) → KeepsOwners (seen old a b n) (seen new a' b' n')
+      KeepsOwners-moved a b n a' b' n' k = omega (arith, owners_at-slots old counted k, owners_at-slots new counted-moved k, owners-moved k)
+
+  pub IsHeap-moved : {t t' : Table T} {place n : ℕ} {head : Option Head} {links spent gained : List ℕ} → KeepsRoom t t' → IsHeap t.slots t.spare_cells t.spare_nodes n → Moves t.slots t'.slots place head links spent gained
+      → sum (holds_in t.slots) + length gained ≤ 2 ^ 60 + length spent → IsHeap t'.slots t'.spare_cells t'.spare_nodes n
+  IsHeap-moved room stored m few = record {
+    counted = counted-moved m stored.counted;
+    few = omega (arith, room.len, room.spare_cells, room.spare_nodes, stored.few);
+    few_holds = omega (arith, total-moved m stored.counted, few);
     fits = stored.fits;
   }
 
-  pub edits-moved : (old new : List (Option (Slot T))) (place : ℕ) (head : Option Head) (links spent gained : List ℕ) (a b a' b' n : ℕ) → IsHeap old a b n → IsHeap new a' b' n → a' ≡ a → b' ≡ b → Moves old new place head links spent gained → sum (holds_in new) + length spent ≡ sum (holds_in old) + length gained → Edits place (seen old a b n) (seen new a' b' n) spent gained 0 0
-  edits-moved old new place head links spent gained a b a' b' n stored stored' same_a same_b m total =
-      let cells = cells-moved old new place head links spent gained m in
-      let nodes = nodes-moved old new place head links spent gained m in
-      Edits-Writes (seen old a b n) (seen new a' b' n) place spent gained (IsGraph-stored _ _ _ _ stored) (IsGraph-stored _ _ _ _ stored')
-      (rw (row_at-slots new place) (live_row (slot_at new place) m.rewrites.live))
-      (writes-moved old new place head links spent gained a b n a' b' n m).others
-      (KeepsOwners-moved old new place head links spent gained a b n a' b' n stored.counted m)
-      (holds-moved old new place head links spent gained stored.counted m) total
-      (record {
-        spare_cells = omega (arith, same_a);
-        spare_nodes = omega (arith, same_b);
-        cells = omega (arith, cells);
-        nodes = omega (arith, nodes);
-        live = omega (arith, cells, nodes, rows-kinds (rows_of_slots old), rows-kinds (rows_of_slots new));
-        made = omega (arith, stored.fits);
-        no_fewer = omega arith;
+  pub WritesNode-moved : {t t' : Table T} {place n parent : ℕ} {head : Option Head} {links spent gained : List ℕ} {heap : Heap T} → KeepsRoom t t' → IsHeap t.slots t.spare_cells t.spare_nodes n → seen t.slots t.spare_cells t.spare_nodes n ≡ heap → place ≡ parent
+      → IsHeap t'.slots t'.spare_cells t'.spare_nodes n → Moves t.slots t'.slots place head links spent gained → WritesNode heap (seen t'.slots t'.spare_cells t'.spare_nodes n) parent head links spent gained
+  WritesNode-moved {t} {t'} {place} {n} {spent = spent} {gained = gained} room stored heap_is parent_is stored' m =
+      let a = t.spare_cells in
+      let b = t.spare_nodes in
+      let a' = t'.spare_cells in
+      let b' = t'.spare_nodes in
+      let counted = stored.counted in
+      let writes = writes-moved m a b n a' b' n in
+      let owners = KeepsOwners-moved m counted a b n a' b' n in
+      rw (← heap_is, ← parent_is) (record {
+        writes = writes;
+        owners = owners;
+        edits = Edits-Writes (seen t.slots a b n) (seen t'.slots a' b' n) place spent gained (IsGraph-stored _ _ _ _ stored) (IsGraph-stored _ _ _ _ stored') (rw (row_at-slots t'.slots place) (live_row (slot_at t'.slots place) m.rewrites.live)) writes.others owners
+            (holds-moved m counted) (total-moved m counted)
+            (Makes-stored t.slots t'.slots a b n a' b' n 0 0 (omega (arith, cells-moved m)) (omega (arith, nodes-moved m)) (omega (arith, room.spare_cells)) (omega (arith, room.spare_nodes)) stored.fits (omega (arith, stored.fits)));
       })
-
-  -- what contracts say of such a write
-  pub Moves-seen : (old new : List (Option (Slot T))) (place a b n : ℕ) {head : Option Head} {links : List ℕ} (spent gained : List ℕ) → IsCounted old → owners_at (seen old a b n) place ≡ 1 → Rewrites old new place head links → length links ≤ 32
-      → ((k : ℕ) → count k links + count k gained ≡ count k (links_at (seen old a b n) place) + count k spent)
-      → ((k : ℕ) → count k spent ≤ holds_at (seen old a b n) k) → ((k : ℕ) → 0 < count k spent → ¬ Reaches (links_at (seen old a b n)) k place) → Moves old new place head links spent gained
-  Moves-seen old new place a b n spent gained counted sole rewrites short moved held apart = record {
-    rewrites = rewrites;
-    was = live-owned (slot_at old place) (omega (arith, owners_at-slots old counted place, sole));
-    short = short;
-    moved = λ k. omega (arith, moved k, ap (λ r. count k (links_of r)) (row_at-slots old place));
-    held = λ k. omega (arith, held k, holds_at-slots old k, counted.places k);
-    apart = λ k some way. apart k some (Reaches-by (links_in (graph_of old)) (links_at (seen old a b n)) (λ l. ap links_of (row_at-slots old l)) k place way);
-  }
 
   -- one link of which a hold is spent
   pub held-one : (h : Heap T) (x : ℕ) → 0 < holds_at h x → (k : ℕ) → count k (x ∷ []) ≤ holds_at h k
@@ -182,43 +168,61 @@ module _ {T : Type 0} where
     | inr other ↦ absurd (omega (arith, some, count-cons k x [], test_other x k (λ e. other (sym e))))
   ]
 
-  pub total-moved : (old new : List (Option (Slot T))) (place : ℕ) (head : Option Head) (links spent gained : List ℕ) → IsCounted old → Moves old new place head links spent gained → sum (holds_in new) + length spent ≡ sum (holds_in old) + length gained
-  total-moved old new place head links spent gained counted m = sum-exchanged spent gained (holds_in old) (holds_in new) (holds-moved old new place head links spent gained counted m)
+  -- a node with one owner, as contracts speak of it
+  module _ {old : List (Option (Slot T))} {a b n place parent : ℕ} {heap : Heap T} (counted : IsCounted old) (heap_is : seen old a b n ≡ heap) (parent_is : place ≡ parent) where
+    row : row_at heap parent ≡ graph_of old place
+    row = row-seen counted heap_is parent_is
 
-  pub Moves-replace : (old new : List (Option (Slot T))) (place a b n index x : ℕ) → IsCounted old → owners_at (seen old a b n) place ≡ 1 → index < length (links_at (seen old a b n) place) → 0 < holds_at (seen old a b n) x → ¬ Reaches (links_at (seen old a b n)) x place
-      → Rewrites old new place (head_of (graph_of old place)) (set (links_of (graph_of old place)) index x)
-      → Moves old new place (head_of (graph_of old place)) (set (links_of (graph_of old place)) index x) (x ∷ []) (get_or (links_of (graph_of old place)) index 0 ∷ [])
-  Moves-replace old new place a b n index x counted sole inside held apart rewrites =
-      let ks = links_of (graph_of old place) in
-      let same = ap links_of (row_at-slots old place) in
-      Moves-seen old new place a b n (x ∷ []) (get_or ks index 0 ∷ []) counted sole rewrites (omega (arith, length-set ks index x, counted.short place))
-      (λ k. omega (arith, count-set k ks index x (omega (arith, inside, ap length same)), ap (count k) same, count-cons k x [], count-cons k (get_or ks index 0) [], one_at-flip x k, one_at-flip (get_or ks index 0) k))
-      (held-one (seen old a b n) x held) (apart-one (seen old a b n) x place apart)
+    few-links : length (links_at heap parent) ≤ 32
+    few-links = omega (arith, ap (λ r. length (links_of r)) row, counted.short place)
 
-  pub Moves-insert : (old new : List (Option (Slot T))) (place a b n index x : ℕ) → IsCounted old → owners_at (seen old a b n) place ≡ 1 → index ≤ length (links_at (seen old a b n) place) → length (links_at (seen old a b n) place) < 32 → 0 < holds_at (seen old a b n) x → ¬ Reaches (links_at (seen old a b n)) x place
-      → Rewrites old new place (head_of (graph_of old place)) (insert (links_of (graph_of old place)) index x)
-      → Moves old new place (head_of (graph_of old place)) (insert (links_of (graph_of old place)) index x) (x ∷ []) []
-  Moves-insert old new place a b n index x counted sole inside room held apart rewrites =
-      let ks = links_of (graph_of old place) in
-      let same = ap links_of (row_at-slots old place) in
-      Moves-seen old new place a b n (x ∷ []) [] counted sole rewrites (omega (arith, length-insert ks index x (omega (arith, inside, ap length same)), room, ap length same))
-      (λ k. omega (arith, count-insert k ks index x, ap (count k) same, count-cons k x [], one_at-flip x k))
-      (held-one (seen old a b n) x held) (apart-one (seen old a b n) x place apart)
+    -- the child at an index
+    pub child-seen : (index x : ℕ) → x ≡ get_or (links_of (graph_of old place)) index 0 → x ≡ get_or (links_at heap parent) index 0
+    child-seen index x is = is ∙ sym (ap (λ r. get_or (links_of r) index 0) row)
 
-  pub Moves-remove : (old new : List (Option (Slot T))) (place a b n index : ℕ) → IsCounted old → owners_at (seen old a b n) place ≡ 1 → index < length (links_at (seen old a b n) place)
-      → Rewrites old new place (head_of (graph_of old place)) (remove (links_of (graph_of old place)) index)
-      → Moves old new place (head_of (graph_of old place)) (remove (links_of (graph_of old place)) index) [] (get_or (links_of (graph_of old place)) index 0 ∷ [])
-  Moves-remove old new place a b n index counted sole inside rewrites =
-      let ks = links_of (graph_of old place) in
-      let same = ap links_of (row_at-slots old place) in
-      let within : index < length ks = omega (arith, inside, ap length same) in
-      Moves-seen old new place a b n [] (get_or ks index 0 ∷ []) counted sole rewrites (omega (arith, length-remove ks index within, counted.short place))
-      (λ k. omega (arith, count-remove k ks index within, ap (count k) same, count-cons k (get_or ks index 0) [], one_at-flip (get_or ks index 0) k))
-      (λ k. omega arith) (λ k some. absurd (omega (arith, some)))
+    -- the child that a read of the links gives
+    pub child-read : (index x y : ℕ) (ks : List ℕ) → ks ≡ links_of (graph_of old place) → x ≡ y → y ≡ get_or ks index y → index < length (links_at heap parent) → x ≡ get_or (links_at heap parent) index 0
+    child-read index x y ks all same read within = same ∙ read ∙ ap (λ ys. get_or ys index y) (all ∙ sym (ap links_of row)) ∙ get_or_default_zero (links_at heap parent) index y within
 
-  pub Moves-head : (old new : List (Option (Slot T))) (place a b n : ℕ) (head : Head) → IsCounted old → owners_at (seen old a b n) place ≡ 1
-      → Rewrites old new place (Some head) (links_of (graph_of old place)) → Moves old new place (Some head) (links_of (graph_of old place)) [] []
-  Moves-head old new place a b n head counted sole rewrites =
-      let same = ap links_of (row_at-slots old place) in
-      Moves-seen old new place a b n [] [] counted sole rewrites (counted.short place)
-      (λ k. omega (arith, ap (count k) same)) (λ k. omega arith) (λ k some. absurd (omega (arith, some)))
+    Moves-seen : {new : List (Option (Slot T))} {head : Option Head} {links : List ℕ} (spent gained : List ℕ) → owners_at heap parent ≡ 1 → Rewrites old new place head links → length links ≤ 32
+        → ((k : ℕ) → count k links + count k gained ≡ count k (links_at heap parent) + count k spent)
+        → ((k : ℕ) → count k spent ≤ holds_at heap k) → ((k : ℕ) → 0 < count k spent → ¬ Reaches (links_at heap) k parent) → Moves old new place head links spent gained
+    Moves-seen spent gained sole rewrites short moved held apart = record {
+      rewrites = rewrites;
+      was = live-owned (slot_at old place) (omega (arith, owners-seen counted heap_is parent_is, sole));
+      short = short;
+      moved = λ k. omega (arith, moved k, ap (λ r. count k (links_of r)) row);
+      held = λ k. omega (arith, held k, ap (λ h. holds_at h k) heap_is, holds_at-slots old k, counted.places k);
+      apart = λ k some way. apart k some (subst (Reaches (links_at heap) k) parent_is (Reaches-by (links_in (graph_of old)) (links_at heap) (λ l. ap links_of (row-seen counted heap_is refl)) k place way));
+    }
+
+    pub Moves-replace : {new : List (Option (Slot T))} (index x y : ℕ) → owners_at heap parent ≡ 1 → index < length (links_at heap parent) → 0 < holds_at heap x → ¬ Reaches (links_at heap) x parent → y ≡ get_or (links_at heap parent) index 0
+        → Rewrites old new place (head_of (graph_of old place)) (set (links_of (graph_of old place)) index x)
+        → Moves old new place (head_of (row_at heap parent)) (set (links_at heap parent) index x) (x ∷ []) (y ∷ [])
+    Moves-replace index x y sole inside held apart y_is rewrites =
+        let ks = links_at heap parent in
+        Moves-seen (x ∷ []) (y ∷ []) sole (rw row rewrites) (omega (arith, length-set ks index x, few-links))
+        (λ k. omega (arith, count-set k ks index x inside, ap (λ l. one_at l k) y_is, count-cons k x [], count-cons k y [], one_at-flip x k, one_at-flip y k))
+        (held-one heap x held) (apart-one heap x parent apart)
+
+    pub Moves-insert : {new : List (Option (Slot T))} (index x : ℕ) → owners_at heap parent ≡ 1 → index ≤ length (links_at heap parent) → length (links_at heap parent) < 32 → 0 < holds_at heap x → ¬ Reaches (links_at heap) x parent
+        → Rewrites old new place (head_of (graph_of old place)) (insert (links_of (graph_of old place)) index x)
+        → Moves old new place (head_of (row_at heap parent)) (insert (links_at heap parent) index x) (x ∷ []) []
+    Moves-insert index x sole inside room held apart rewrites =
+        let ks = links_at heap parent in
+        Moves-seen (x ∷ []) [] sole (rw row rewrites) (omega (arith, length-insert ks index x inside, room))
+        (λ k. omega (arith, count-insert k ks index x, count-cons k x [], one_at-flip x k))
+        (held-one heap x held) (apart-one heap x parent apart)
+
+    pub Moves-remove : {new : List (Option (Slot T))} (index y : ℕ) → owners_at heap parent ≡ 1 → index < length (links_at heap parent) → y ≡ get_or (links_at heap parent) index 0
+        → Rewrites old new place (head_of (graph_of old place)) (remove (links_of (graph_of old place)) index)
+        → Moves old new place (head_of (row_at heap parent)) (remove (links_at heap parent) index) [] (y ∷ [])
+    Moves-remove index y sole inside y_is rewrites =
+        let ks = links_at heap parent in
+        Moves-seen [] (y ∷ []) sole (rw row rewrites) (omega (arith, length-remove ks index inside, few-links))
+        (λ k. omega (arith, count-remove k ks index inside, ap (λ l. one_at l k) y_is, count-cons k y [], one_at-flip y k))
+        (λ k. omega arith) (λ k some. absurd (omega (arith, some)))
+
+    pub Moves-head : {new : List (Option (Slot T))} (head : Head) → owners_at heap parent ≡ 1
+        → Rewrites old new place (Some head) (links_of (graph_of old place)) → Moves old new place (Some head) (links_at heap parent) [] []
+    Moves-head head sole rewrites = Moves-seen [] [] sole (rw row rewrites) few-links (λ k. omega arith) (λ k. omega arith) (λ k some. absurd (omega (arith, some)))

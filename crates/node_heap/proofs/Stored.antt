@@ -1,16 +1,17 @@
 -- What the fields of a heap say of the heap that contracts see.
-use Rattle.std.proofs.Common.{◌≡◌, ℕ, ◌+◌, ◌-◌, ◌^◌, ◌<◌, ◌≤◌, List, [], ◌∷◌, length, get_or, refl, sym, ap, ◌∙◌, arith, Option, Some, None, IsSome, is_some, count_by, cond}
+use Rattle.std.proofs.Common.{◌≡◌, ℕ, ◌+◌, ◌-◌, ◌^◌, ◌<◌, ◌≤◌, List, [], ◌∷◌, length, get_or, refl, sym, ap, ◌∙◌, arith, Option, Some, None, IsSome, is_some, count_by, cond, min}
 use Rattle.std.specs.Prelude.{sum_by, sum}
 use Rattle.std.proofs.lemmas.List.Sums.{sum_by-cons}
 use Rattle.node_heap.specs.Links.{count, HasLink}
-use Rattle.node_heap.specs.Forms.{links_of, links_in, is_cell, is_node}
-use Rattle.node_heap.specs.Layout.{row_of_slot, owners_in, rows_of_slots, holds_in, slot_at, places_at, graph_of, IsCounted, IsHeap, seen}
-use Rattle.node_heap.specs.Heap.{Heap, row_at, links_at, holds_at, IsGraph}
-use Rattle.node_heap.specs.Calls.{Unchanged}
+use Rattle.node_heap.specs.Forms.{Row, cell, node, links_of, links_in, is_cell, is_node}
+use Rattle.node_heap.specs.Layout.{row_of_slot, owners_in, rows_of_slots, holds_in, slot_at, places_at, graph_of, cells_in, nodes_in, IsCounted, IsHeap, seen}
+use Rattle.node_heap.specs.Heap.{Heap, row_at, links_at, holds_at, owners_at, IsGraph}
+use Rattle.node_heap.specs.Calls.{Makes, Unchanged}
 use Rattle.node_heap.specs.Layout.{Slot}
-use Rattle.node_heap.proofs.Slots.{row_at-slots, holds_at-slots, placed, live-owned}
+use Rattle.node_heap.proofs.Slots.{row_at-slots, holds_at-slots, owners_at-slots, placed, live-owned}
 use Rattle.node_heap.proofs.Reached.{under-held}
 use Rattle.node_heap.proofs.Reach.{Reaches-by}
+use Rattle.node_heap.proofs.GraphLemmas.{rows-kinds}
 
 -- 1 where there is a value, and else 0
 abbrev pub one_if_some : {X : Type 0} → Option X → ℕ
@@ -24,6 +25,15 @@ module _ {T : Type 0} where
   pub live_row : (e : Option (Slot T)) → IsSome e → IsSome (row_of_slot e)
   live_row None some = cc
   live_row (Some e) some = refl
+
+  -- a row is a cell or a node
+  pub kinds : (r : Row T) → is_cell (Some r) + is_node (Some r) ≡ 1
+  kinds (cell x) = refl
+  kinds (node head links) = refl
+
+  pub kinds-row : (e : Option (Slot T)) → IsSome e → is_cell (row_of_slot e) + is_node (row_of_slot e) ≡ 1
+  kinds-row None some = cc
+  kinds-row (Some e) some = kinds e.row
 
   pub live-rows : (old new : List (Option (Slot T))) (place : ℕ) → rows_of_slots new ≡ rows_of_slots old → IsSome (slot_at old place) → IsSome (slot_at new place)
   live-rows old new place rows live =
@@ -72,6 +82,29 @@ module _ {T : Type 0} where
 
       live : (l : ℕ) → IsSome (slot_at slots l) → IsSome (row_at h l)
       live l some = rw (row l) (live_row (slot_at slots l) some)
+
+  -- what a heap shows of a link
+  module _ {slots : List (Option (Slot T))} {a b n place link : ℕ} {heap : Heap T} (counted : IsCounted slots) (heap_is : seen slots a b n ≡ heap) (link_is : place ≡ link) where
+    pub row-seen : row_at heap link ≡ graph_of slots place
+    row-seen = rw (← heap_is, ← link_is) (row_at-slots slots place)
+
+    pub owners-seen : owners_in (slot_at slots place) ≡ owners_at heap link
+    owners-seen = rw (← heap_is, ← link_is) (owners_at-slots slots counted place)
+
+    pub live-seen : 0 < owners_at heap link → IsSome (row_at heap link)
+    live-seen some = rw row-seen (live_row (slot_at slots place) (live-owned (slot_at slots place) (omega (arith, owners-seen, some))))
+
+  -- so many rows of each kind were made of spares
+  pub Makes-stored : (old new : List (Option (Slot T))) (a b m a' b' m' c n : ℕ) → cells_in new ≡ cells_in old + c → nodes_in new ≡ nodes_in old + n → a' + c ≡ a → b' + n ≡ b → m < 2 ^ 64 → m' ≡ min (m + (c + n)) (2 ^ 64 - 1) → Makes (seen old a b m) (seen new a' b' m') c n
+  Makes-stored old new a b m a' b' m' c n cells nodes spare_cells spare_nodes fits made = record {
+    spare_cells = spare_cells;
+    spare_nodes = spare_nodes;
+    cells = cells;
+    nodes = nodes;
+    live = omega (arith, cells, nodes, rows-kinds (rows_of_slots old), rows-kinds (rows_of_slots new));
+    made = made;
+    no_fewer = omega (arith, made, fits);
+  }
 
   -- the slots are the same, and no spare is lost
   pub Unchanged-stored : (slots slots' : List (Option (Slot T))) (a b m a' b' : ℕ) → slots' ≡ slots → IsHeap slots' a' b' m → a ≤ a' → b ≤ b' → Unchanged (seen slots a b m) (seen slots' a' b' m)

@@ -16,6 +16,7 @@ pub fn unfolds_to_one_tree<T>(heap: &Heap<T>, link: Link)
 {
     // The call tells the proof that this is the graph of a heap.
     let _ = heap.live();
+    // The link is there for the clauses alone.
     let _ = link;
 }
 

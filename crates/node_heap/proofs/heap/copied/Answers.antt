@@ -1,4 +1,4 @@
-use Rattle.std.proofs.Common.{◌≡◌, refl, sym, ap, ◌∙◌, arith, Some}
+use Rattle.std.proofs.Common.{◌≡◌, sym, ap, ◌∙◌, arith, Some}
 use Rattle.node_heap.specs.Links.{count}
 use Rattle.node_heap.specs.Forms.{links_of, node}
 use Rattle.node_heap.specs.Layout.{graph_of}
@@ -17,12 +17,12 @@ returns g c =
     let same : Some (node c.copy_node-head.result.0 c.copy_node-head.result.1.items) ≡ graph_of slots c.args.place = sym c.copy_node-head.ensures in
     let adds : AddsOwners slots c.add_owners.new.table.slots (links_of (graph_of slots c.args.place)) =
     record { owners = rw (← ap links_of same, ← c.as_slice.ensures.value) c.add_owners.ensures.owners; rows = c.add_owners.ensures.rows } in
-    let joins = joins-copied slots _ _ c.args.place _ _ c.requires.counted adds put.puts.was put.puts.now put.puts.others refl same in
+    let joins = joins-copied slots _ _ c.args.place _ _ c.requires.counted adds put.puts same in
     record {
-      copies = copies-joined slots _ _ _ _ _ adds joins same;
-      counted = counted-joined _ _ _ _ put.puts.low (counted-added slots _ _ adds c.requires.counted) joins;
-      cells = cells-copied slots _ _ _ _ _ adds joins same c.requires.node;
-      nodes = nodes-copied slots _ _ _ _ _ adds joins same c.requires.node;
+      copies = copies-joined slots _ _ _ _ _ adds put.puts same;
+      counted = counted-joined (counted-added slots _ _ adds c.requires.counted) joins;
+      cells = cells-copied slots _ _ _ _ _ adds put.puts same c.requires.node;
+      nodes = nodes-copied slots _ _ _ _ _ adds put.puts same c.requires.node;
       len = omega (arith, put.puts.len, c.add_owners.ensures.room.len);
       spare_cells = put.spare_cells ∙ c.add_owners.ensures.room.spare_cells;
       spare_nodes = omega (arith, put.spare_nodes, c.add_owners.ensures.room.spare_nodes);

@@ -3,7 +3,7 @@ use Rattle.std.specs.Prelude.{sum_by}
 use Rattle.node_heap.specs.Forms.{is_cell, is_node}
 use Rattle.node_heap.specs.Layout.{slot_at}
 use Rattle.node_heap.proofs.Dying.{IsDying-taken, first_live, sum-remove, Thins-remove, Thins-rows}
-use Rattle.node_heap.proofs.Rewritten.{kinds-row}
+use Rattle.node_heap.proofs.Stored.{kinds-row}
 use Rattle.node_heap.proofs.heap.free_waiting.Goals as goal
 
 pub take-row-requires : goal.take-row-requires

@@ -1,10 +1,10 @@
 use Rattle.std.proofs.Common.{ℕ, ◌+◌, arith, refl, sym, ap, None}
-use Rattle.std.specs.Prelude.{sum_by, count_by, is_some, slice_index_or}
+use Rattle.std.specs.Prelude.{sum_by, slice_index_or}
 use Rattle.node_heap.specs.Forms.{is_cell, is_node}
 use Rattle.node_heap.specs.Layout.{reown, holds_in, slot_at, seen}
 use Rattle.node_heap.proofs.Counts.{sum-more, le-sum}
 use Rattle.node_heap.proofs.Slots.{owners_at-slots, holds-more, IsCounted-owners, places_at-le, row_at-slots}
-use Rattle.node_heap.proofs.Stored.{IsGraph-stored, live_slot}
+use Rattle.node_heap.proofs.Stored.{IsGraph-stored, Makes-stored, live_slot}
 use Rattle.node_heap.proofs.Written.{reowned}
 use Rattle.node_heap.proofs.Frames.{Extends-rows, KeepsHeld-Extends, KeepsTrees-Extends}
 use Rattle.node_heap.proofs.Owners.{AddsOwner-rows}
@@ -60,15 +60,7 @@ returns g c =
       rows = rows;
       holds = holds;
       owners = AddsOwner-rows (seen slots 0 0 0) (seen new 0 0 0) place rows holds;
-      makes = record {
-        spare_cells = omega arith;
-        spare_nodes = omega arith;
-        cells = omega (arith, ap (λ xs. sum_by is_cell xs) done.rows);
-        nodes = omega (arith, ap (λ xs. sum_by is_node xs) done.rows);
-        live = omega (arith, ap (λ xs. count_by is_some xs) done.rows);
-        made = omega (arith, stored.fits);
-        no_fewer = omega arith;
-      };
+      makes = Makes-stored slots new _ _ _ _ _ _ 0 0 (omega (arith, ap (λ xs. sum_by is_cell xs) done.rows)) (omega (arith, ap (λ xs. sum_by is_node xs) done.rows)) (omega arith) (omega arith) stored.fits (omega (arith, stored.fits));
       count = sum-more _ _ place holds;
       graph = IsGraph-stored _ _ _ _ (invariant_of-self g c);
       extends = extends;

@@ -1,34 +1,18 @@
-use Rattle.std.proofs.Common.{arith}
-use Rattle.node_heap.proofs.Slots.{row_at-slots}
-use Rattle.node_heap.proofs.Rewritten.{Moves-insert, total-moved, IsHeap-moved, edits-moved, writes-moved, KeepsOwners-moved}
+use Rattle.std.proofs.Common.{[], ◌∷◌, insert, arith}
+use Rattle.node_heap.specs.Forms.{head_of}
+use Rattle.node_heap.specs.Heap.{row_at, links_at}
+use Rattle.node_heap.proofs.Rewritten.{Moves, Moves-insert, IsHeap-moved, WritesNode-moved}
+use Rattle.node_heap.proofs.heap.Heap.insert_link.Given.{Over}
 use Rattle.node_heap.proofs.heap.Heap.insert_link.Goals as goal
 
+-- the node has the new link besides
+moves : (g : Over) (c : goal.After-insert_link g) → Moves c.self.inside.table.slots c.insert_link.new.self.slots c.parent.inside.place (head_of (row_at c.args.self.now c.args.parent)) (insert (links_at c.args.self.now c.args.parent) c.args.index c.args.new) (c.args.new ∷ []) []
+moves g c =
+    let r = c.requires in
+    Moves-insert c.self.invariant.counted c.self.view_is c.parent.view_is _ _ r.sole r.index r.room r.held r.apart c.insert_link.ensures.rewrites
+
 pub invariant_of-self : goal.invariant_of-self
-invariant_of-self g c =
-    let slots = c.self.inside.table.slots in
-    let stored = c.self.invariant in
-    let sole = rw (← c.self.view_is, ← c.parent.view_is) at c.requires.sole in
-    let index = rw (← c.self.view_is, ← c.parent.view_is) at c.requires.index in
-    let room = rw (← c.self.view_is, ← c.parent.view_is) at c.requires.room in
-    let held = rw (← c.self.view_is) at c.requires.held in
-    let apart = rw (← c.self.view_is, ← c.parent.view_is) at c.requires.apart in
-    let moves = Moves-insert slots _ c.parent.inside.place 0 0 0 c.args.index c.args.new stored.counted sole index room held apart c.insert_link.ensures.rewrites in
-    IsHeap-moved slots _ _ _ _ _ _ _ _ _ _ _ stored moves c.insert_link.ensures.room (omega (arith, total-moved slots _ _ _ _ _ _ stored.counted moves, stored.few_holds))
+invariant_of-self g c = IsHeap-moved c.insert_link.ensures.room c.self.invariant (moves g c) (omega (arith, c.self.invariant.few_holds))
 
 pub returns : goal.returns
-returns g c =
-    let slots = c.self.inside.table.slots in
-    let stored = c.self.invariant in
-    let sole = rw (← c.self.view_is, ← c.parent.view_is) at c.requires.sole in
-    let index = rw (← c.self.view_is, ← c.parent.view_is) at c.requires.index in
-    let room = rw (← c.self.view_is, ← c.parent.view_is) at c.requires.room in
-    let held = rw (← c.self.view_is) at c.requires.held in
-    let apart = rw (← c.self.view_is, ← c.parent.view_is) at c.requires.apart in
-    let moves = Moves-insert slots _ c.parent.inside.place 0 0 0 c.args.index c.args.new stored.counted sole index room held apart c.insert_link.ensures.rewrites in
-    let row = row_at-slots slots c.parent.inside.place in
-    rw (← c.self.view_is, ← c.parent.view_is)
-    (record {
-      writes = rw row (writes-moved slots _ _ _ _ _ _ _ _ _ _ _ _ moves);
-      owners = KeepsOwners-moved slots _ _ _ _ _ _ 0 0 0 0 0 0 stored.counted moves;
-      edits = (edits-moved slots _ _ _ _ _ _ _ _ _ _ _ stored (invariant_of-self g c) c.insert_link.ensures.room.spare_cells c.insert_link.ensures.room.spare_nodes moves (total-moved slots _ _ _ _ _ _ stored.counted moves));
-    })
+returns g c = assumption (WritesNode-moved c.insert_link.ensures.room c.self.invariant c.self.view_is c.parent.view_is (invariant_of-self g c) (moves g c))

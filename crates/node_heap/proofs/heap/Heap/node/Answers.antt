@@ -1,56 +1,19 @@
-use Rattle.std.proofs.Common.{Some, arith, refl, sym, ap, ◌∙◌}
+use Rattle.std.proofs.Common.{arith}
 use Rattle.node_heap.specs.Forms.{node}
-use Rattle.node_heap.proofs.Slots.{holds-room}
-use Rattle.node_heap.proofs.Stored.{IsGraph-stored}
-use Rattle.node_heap.proofs.Added.{Joins, counted-joined, adds-joined, count-joined, makes-joined, extends-joined, keeps-joined}
-use Rattle.node_heap.proofs.Frames.{KeepsTrees-Extends}
-use Rattle.node_heap.proofs.Owners.{owners-joined, sole-joined}
+use Rattle.node_heap.proofs.Added.{Joins, Joins-held, IsHeap-joined, MakesRow-joined}
+use Rattle.node_heap.proofs.heap.Heap.node.Given.{Over}
 use Rattle.node_heap.proofs.heap.Heap.node.Goals as goal
+
+-- the node stands at a place of its own, and the links that it takes were held
+joins : (g : Over) (c : goal.After-put_node-place g) → Joins c.self.inside.table.slots c.put_node-place.new.self.slots c.put_node-place.result (node c.args.head c.args.links.now)
+joins g c = Joins-held c.self.invariant c.self.view_is (rw c.kept.ensures at c.put_node-place.ensures.puts) c.requires.short c.requires.held
 
 pub invariant_of-self : goal.invariant_of-self
 invariant_of-self g c =
-    let made = c.put_node-place in
-    let slots = c.self.inside.table.slots in
-    let stored = c.self.invariant in
-    let spare = rw (← c.self.view_is) at c.requires.spare in
-    let few = rw (← c.self.view_is) at c.requires.few in
-    let joins : Joins slots made.new.self.slots made.result (record { owners = 1; row = node c.args.head c.args.links.now }) = record {
-      was = made.ensures.puts.was;
-      «is» = made.ensures.puts.now ∙ ap (λ ks. Some (record { owners = 1; row = node c.args.head ks })) c.kept.ensures;
-      apart = made.ensures.puts.others;
-      one = refl;
-      short = c.requires.short;
-      held = λ l. holds-room slots _ (sym (ap (λ h. h.holds) c.self.view_is)) stored.counted l _ (c.requires.held l);
-    } in
-    record {
-      counted = counted-joined slots _ _ _ made.ensures.puts.low stored.counted joins;
-      few = omega (arith, made.ensures.spare_cells, made.ensures.spare_nodes, made.ensures.puts.len, stored.few);
-      few_holds = omega (arith, few, count-joined slots _ _ _ stored.counted joins);
-      fits = c.saturating_add-self-inside.type_inv;
-    }
+    let put = c.put_node-place.ensures in
+    IsHeap-joined c.self.invariant c.self.view_is (joins g c) (omega (arith, put.spare_cells)) put.spare_nodes c.requires.few c.saturating_add-self-inside.type_inv
 
 pub returns : goal.returns
 returns g c =
-    let made = c.put_node-place in
-    let slots = c.self.inside.table.slots in
-    let stored = c.self.invariant in
-    let joins : Joins slots made.new.self.slots made.result (record { owners = 1; row = node c.args.head c.args.links.now }) = record {
-      was = made.ensures.puts.was;
-      «is» = made.ensures.puts.now ∙ ap (λ ks. Some (record { owners = 1; row = node c.args.head ks })) c.kept.ensures;
-      apart = made.ensures.puts.others;
-      one = refl;
-      short = c.requires.short;
-      held = λ l. holds-room slots _ (sym (ap (λ h. h.holds) c.self.view_is)) stored.counted l _ (c.requires.held l);
-    } in
-    rw (← c.self.view_is)
-    (record {
-      adds = adds-joined slots _ _ _ _ _ _ _ _ _ stored.counted joins;
-      owners = owners-joined slots _ _ _ 0 0 0 0 0 0 stored.counted (invariant_of-self g c).counted joins;
-      sole = sole-joined slots _ _ _ 0 0 0 (invariant_of-self g c).counted joins;
-      makes = makes-joined slots _ _ _ _ _ _ _ _ _ 0 1 joins refl refl refl (omega (arith, made.ensures.spare_cells)) made.ensures.spare_nodes stored.fits c.saturating_add-self-inside.ensures;
-      count = count-joined slots _ _ _ stored.counted joins;
-      graph = IsGraph-stored _ _ _ _ (invariant_of-self g c);
-      extends = extends-joined slots _ _ _ _ _ _ _ _ _ stored joins;
-      keeps = keeps-joined slots _ _ _ _ _ _ _ _ _ stored joins;
-      trees = KeepsTrees-Extends _ _ (extends-joined slots _ _ _ _ _ _ 0 0 0 stored joins);
-    })
+    let put = c.put_node-place.ensures in
+    assumption (MakesRow-joined c.self.invariant c.self.view_is (invariant_of-self g c) (joins g c) (omega (arith, put.spare_cells)) put.spare_nodes c.saturating_add-self-inside.ensures)

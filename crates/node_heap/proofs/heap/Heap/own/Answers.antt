@@ -1,11 +1,12 @@
-use Rattle.std.proofs.Common.{sym, ap, ◌∙◌, arith}
+use Rattle.std.proofs.Common.{◌-◌, sym, ap, ◌∙◌, arith}
 use Rattle.std.specs.Prelude.{sum_by}
 use Rattle.node_heap.specs.Forms.{is_cell, is_node}
 use Rattle.node_heap.proofs.Slots.{owners_at-slots}
-use Rattle.node_heap.proofs.Stored.{IsGraph-stored}
-use Rattle.node_heap.proofs.BuildLemmas.{Builds-refl}
+use Rattle.node_heap.proofs.Stored.{IsGraph-stored, Makes-stored}
+use Rattle.node_heap.proofs.BuildLemmas.{Builds-refl, Builds-made}
 use Rattle.node_heap.proofs.Copied.{other_at-other}
-use Rattle.node_heap.proofs.Owned.{Owns-held, owners-room, counted-owned, holds-owned, total-owned, owners-owned, sole-owned, row-owned, fresh-owned, other-owned, extends-owned, makes-one}
+use Rattle.node_heap.proofs.Owned.{Owns, Owns-held, owners-room, counted-owned, holds-owned, total-owned, owners-owned, sole-owned, row-owned, fresh-owned, other-owned, extends-owned}
+use Rattle.node_heap.proofs.heap.Heap.own.Given.{Over}
 use Rattle.node_heap.proofs.heap.Heap.own.Goals as goal
 
 pub returns-then-owners-eq1-clause-same : goal.returns-then-owners-eq1-clause-same
@@ -18,56 +19,43 @@ pub returns-then-owners-eq1-clause-builds : goal.returns-then-owners-eq1-clause-
 returns-then-owners-eq1-clause-builds g c = rw c.link.view_is (Builds-refl _ _ 0 1 (rw (← c.self.view_is) (IsGraph-stored _ _ _ _ c.self.invariant)))
 
 pub copied-place-requires-clause-room : goal.copied-place-requires-clause-room
-copied-place-requires-clause-room g c = owners-room c.self.inside.table.slots _ _ _ c.self.invariant
+copied-place-requires-clause-room g c = owners-room c.self.invariant
+
+-- the copy is made, and the link has an owner less
+owns : (g : Over) (c : goal.After-set_owners g) → Owns c.self.inside.table.slots c.copied-place.new.table.slots c.set_owners.new.self.slots c.link.inside.place c.copied-place.result (c.owners-owners.result - 1)
+owns g c =
+    let held = rw (← c.self.view_is, ← c.link.view_is) at c.requires.held in
+    Owns-held c.self.inside.table.slots _ _ c.link.inside.place _ _ 0 0 0 c.copied-place.ensures.copies c.copied-place.ensures.counted c.set_owners.ensures.sets c.set_owners.ensures.rows (sym c.owners-owners.ensures) held c.if-owners-eq1.false
 
 pub invariant_of-self : goal.invariant_of-self
 invariant_of-self g c =
-    let slots = c.self.inside.table.slots in
-    let place = c.link.inside.place in
     let stored = c.self.invariant in
-    let held = rw (← c.self.view_is, ← c.link.view_is) at c.requires.held in
-    let spare = rw (← c.self.view_is) at c.requires.spare in
-    let read = sym c.owners-owners.ensures in
     let copied = c.copied-place.ensures in
-    let done = c.set_owners.ensures in
-    let owns = Owns-held slots _ _ place _ _ 0 0 0 copied.copies copied.counted done.sets done.rows read held c.if-owners-eq1.false in
+    let room = c.set_owners.ensures.room in
     record {
-      counted = counted-owned slots _ _ place _ _ stored.counted owns;
-      few = omega (arith, copied.spare_cells, copied.spare_nodes, copied.len, done.room.len, done.room.spare_cells, done.room.spare_nodes, stored.few);
-      few_holds = omega (arith, stored.few_holds, total-owned slots _ _ place _ _ stored.counted owns);
+      counted = counted-owned stored.counted (owns g c);
+      few = omega (arith, copied.spare_cells, copied.spare_nodes, copied.len, room.len, room.spare_cells, room.spare_nodes, stored.few);
+      few_holds = omega (arith, stored.few_holds, total-owned stored.counted (owns g c));
       fits = c.saturating_add-self-inside.type_inv;
     }
 
 pub returns : goal.returns
 returns g c =
     let slots = c.self.inside.table.slots in
-    let place = c.link.inside.place in
     let stored = c.self.invariant in
-    let held = rw (← c.self.view_is, ← c.link.view_is) at c.requires.held in
-    let read = sym c.owners-owners.ensures in
+    let counted = stored.counted in
+    let o = owns g c in
     let copied = c.copied-place.ensures in
     let done = c.set_owners.ensures in
-    let owns = Owns-held slots _ _ place _ _ 0 0 0 copied.copies copied.counted done.sets done.rows read held c.if-owners-eq1.false in
-    let other = other-owned slots _ _ place _ _ owns in
-    let graph = IsGraph-stored _ _ _ _ (invariant_of-self g c) in
-    let makes = makes-one slots c.set_owners.new.self.slots _ _ c.self.inside.made _ _ c.saturating_add-self-inside.result (ap (λ xs. sum_by is_cell xs) done.rows ∙ copied.cells) (ap (λ xs. sum_by is_node xs) done.rows ∙ copied.nodes) (done.room.spare_cells ∙ copied.spare_cells) (omega (arith, done.room.spare_nodes, copied.spare_nodes)) stored.fits c.saturating_add-self-inside.ensures in
+    let other = other-owned counted o in
+    let makes = Makes-stored slots c.set_owners.new.self.slots _ _ c.self.inside.made _ _ c.saturating_add-self-inside.result 0 1 (omega (arith, ap (λ xs. sum_by is_cell xs) done.rows, copied.cells)) (ap (λ xs. sum_by is_node xs) done.rows ∙ copied.nodes) (omega (arith, done.room.spare_cells, copied.spare_cells)) (omega (arith, done.room.spare_nodes, copied.spare_nodes)) stored.fits c.saturating_add-self-inside.ensures in
     rw (← c.self.view_is, ← c.link.view_is)
     (record {
-      same = (λ e. absurd (other (sym e)), λ one. absurd (c.if-owners-eq1.false (sym read ∙ owners_at-slots slots stored.counted place ∙ one)));
-      row = row-owned slots _ _ place _ _ 0 0 0 0 0 0 owns;
-      sole = sole-owned slots _ _ place _ _ 0 0 0 stored.counted owns;
-      fresh = λ _. fresh-owned slots _ _ place _ _ 0 0 0 owns;
-      owners = owners-owned slots _ _ place _ _ 0 0 0 0 0 0 stored.counted owns;
-      builds = record {
-        extends = extends-owned slots _ _ place _ _ _ _ _ _ _ _ (IsGraph-stored _ _ _ _ stored) owns;
-        graph = graph;
-        holds = holds-owned slots _ _ place _ _ stored.counted owns;
-        total = omega (arith, total-owned slots _ _ place _ _ stored.counted owns);
-        cells = 0;
-        nodes = 1;
-        few_cells = omega arith;
-        few_nodes = omega arith;
-        makes = makes;
-      };
-      makes = rw (other_at-other place _ other) makes;
+      same = (λ e. absurd (other (sym e)), λ one. absurd (c.if-owners-eq1.false (c.owners-owners.ensures ∙ owners_at-slots slots counted c.link.inside.place ∙ one)));
+      row = row-owned counted o 0 0 0 0 0 0;
+      sole = sole-owned counted o 0 0 0 0 0 0;
+      fresh = λ _. fresh-owned counted o 0 0 0 0 0 0;
+      owners = owners-owned counted o 0 0 0 0 0 0;
+      builds = Builds-made (extends-owned counted o _ _ _ _ _ _ (IsGraph-stored _ _ _ _ stored)) (IsGraph-stored _ _ _ _ (invariant_of-self g c)) (holds-owned counted o) (total-owned counted o) makes;
+      makes = rw (other_at-other c.link.inside.place _ other) makes;
     })

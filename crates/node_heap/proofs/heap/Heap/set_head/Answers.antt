@@ -1,26 +1,15 @@
-use Rattle.std.proofs.Common.{arith}
-use Rattle.node_heap.proofs.Slots.{row_at-slots}
-use Rattle.node_heap.proofs.Rewritten.{Moves-head, total-moved, IsHeap-moved, edits-moved, writes-moved, KeepsOwners-moved}
+use Rattle.std.proofs.Common.{Some, [], arith}
+use Rattle.node_heap.specs.Heap.{links_at}
+use Rattle.node_heap.proofs.Rewritten.{Moves, Moves-head, IsHeap-moved, WritesNode-moved}
+use Rattle.node_heap.proofs.heap.Heap.set_head.Given.{Over}
 use Rattle.node_heap.proofs.heap.Heap.set_head.Goals as goal
 
+-- the node has the new head
+moves : (g : Over) (c : goal.After-set_head g) → Moves c.self.inside.table.slots c.set_head.new.self.slots c.parent.inside.place (Some c.args.head) (links_at c.args.self.now c.args.parent) [] []
+moves g c = Moves-head c.self.invariant.counted c.self.view_is c.parent.view_is _ c.requires.sole c.set_head.ensures.rewrites
+
 pub invariant_of-self : goal.invariant_of-self
-invariant_of-self g c =
-    let slots = c.self.inside.table.slots in
-    let stored = c.self.invariant in
-    let sole = rw (← c.self.view_is, ← c.parent.view_is) at c.requires.sole in
-    let moves = Moves-head slots _ c.parent.inside.place 0 0 0 c.args.head stored.counted sole c.set_head.ensures.rewrites in
-    IsHeap-moved slots _ _ _ _ _ _ _ _ _ _ _ stored moves c.set_head.ensures.room (omega (arith, total-moved slots _ _ _ _ _ _ stored.counted moves, stored.few_holds))
+invariant_of-self g c = IsHeap-moved c.set_head.ensures.room c.self.invariant (moves g c) (omega (arith, c.self.invariant.few_holds))
 
 pub returns : goal.returns
-returns g c =
-    let slots = c.self.inside.table.slots in
-    let stored = c.self.invariant in
-    let sole = rw (← c.self.view_is, ← c.parent.view_is) at c.requires.sole in
-    let moves = Moves-head slots _ c.parent.inside.place 0 0 0 c.args.head stored.counted sole c.set_head.ensures.rewrites in
-    let row = row_at-slots slots c.parent.inside.place in
-    rw (← c.self.view_is, ← c.parent.view_is)
-    (record {
-      writes = rw row (writes-moved slots _ _ _ _ _ _ _ _ _ _ _ _ moves);
-      owners = KeepsOwners-moved slots _ _ _ _ _ _ 0 0 0 0 0 0 stored.counted moves;
-      edits = (edits-moved slots _ _ _ _ _ _ _ _ _ _ _ stored (invariant_of-self g c) c.set_head.ensures.room.spare_cells c.set_head.ensures.room.spare_nodes moves (total-moved slots _ _ _ _ _ _ stored.counted moves));
-    })
+returns g c = assumption (WritesNode-moved c.set_head.ensures.room c.self.invariant c.self.view_is c.parent.view_is (invariant_of-self g c) (moves g c))

@@ -5,23 +5,10 @@ use Rattle.node_heap.proofs.Placed.{live-node, read-node, cell-head}
 use Rattle.node_heap.proofs.table.Table.head.Goals as goal
 
 pub returns-then-place-eq0 : goal.returns-then-place-eq0
-returns-then-place-eq0 g c =
-    let cells = c.self.inside.cells.items in
-    let nodes = c.self.inside.nodes.items in
-    let place = c.args.place in
-    rw (← c.self.view_is) (cell-head cells nodes place c.if-place-eq0.true)
+returns-then-place-eq0 g c = cell-head _ _ c.self.view_is c.args.place c.if-place-eq0.true
 
 pub slot-requires : goal.slot-requires
-slot-requires g c =
-    let cells = c.self.inside.cells.items in
-    let nodes = c.self.inside.nodes.items in
-    let place = c.args.place in
-    let live = rw (← c.self.view_is) at c.requires in
-    live-node cells nodes place c.if-place-eq0.false live
+slot-requires g c = live-node _ _ c.self.view_is c.args.place c.if-place-eq0.false c.requires
 
 pub returns : goal.returns
-returns g c =
-    let cells = c.self.inside.cells.items in
-    let nodes = c.self.inside.nodes.items in
-    let place = c.args.place in
-    rw (← c.self.view_is) (sym (ap (λ o. head_of (row_of_slot o)) (read-node cells nodes place _ c.if-place-eq0.false c.slot.ensures)))
+returns g c = sym (ap (λ o. head_of (row_of_slot o)) (read-node _ _ c.self.view_is c.args.place _ c.if-place-eq0.false c.slot.ensures))

@@ -3,8 +3,7 @@ use Rattle.node_heap.proofs.Placed.{is_odd, node-live, read-node, set-node, IsTa
 use Rattle.node_heap.proofs.table.Table.node_mut.Goals as goal
 
 pub slot_mut-requires : goal.slot_mut-requires
-slot_mut-requires g c =
-    node-live c.self.inside.cells.items c.self.inside.nodes.items c.args.place (rw (← c.self.view_is) at c.requires)
+slot_mut-requires g c = node-live _ _ c.self.view_is c.args.place c.requires
 
 pub invariant_of-self-lent : goal.invariant_of-self-lent
 invariant_of-self-lent g c w =
@@ -13,9 +12,8 @@ invariant_of-self-lent g c w =
 pub returns : goal.returns
 returns g c =
     let i = c.self.inside in
-    let kind = rw (← c.self.view_is) at c.requires in
-    let odd = is_odd i.cells.items i.nodes.items c.args.place kind in
-    let live = node-live i.cells.items i.nodes.items c.args.place kind in (
+    let odd = is_odd _ _ c.self.view_is c.args.place c.requires in
+    let live = node-live _ _ c.self.view_is c.args.place c.requires in (
       (refl, λ w. rw (← c.self.view_is) (ap (λ xs. record { slots = xs; spare_cells = i.spare_cells; spare_nodes = i.spare_nodes }) (set-node i.cells.items i.nodes.items c.args.place (Some w) odd live))),
-      record { writes_back = tt; value = rw (← c.self.view_is) (read-node i.cells.items i.nodes.items c.args.place _ odd c.slot_mut.ensures.value) },
+      record { writes_back = tt; value = read-node _ _ c.self.view_is c.args.place _ odd c.slot_mut.ensures.value },
     )

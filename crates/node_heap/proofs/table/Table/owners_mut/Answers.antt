@@ -4,8 +4,7 @@ use Rattle.node_heap.proofs.Placed.{live-cell, live-node, read-cell, read-node, 
 use Rattle.node_heap.proofs.table.Table.owners_mut.Goals as goal
 
 pub slot_mut-slot-requires : goal.slot_mut-slot-requires
-slot_mut-slot-requires g c =
-    live-cell c.self.inside.cells.items c.self.inside.nodes.items c.args.place c.if-place-eq0.true (rw (← c.self.view_is) at c.requires)
+slot_mut-slot-requires g c = live-cell _ _ c.self.view_is c.args.place c.if-place-eq0.true c.requires
 
 pub invariant_of-self-lent : goal.invariant_of-self-lent
 invariant_of-self-lent g c w =
@@ -14,13 +13,12 @@ invariant_of-self-lent g c w =
 pub returns-then-place-eq0 : goal.returns-then-place-eq0
 returns-then-place-eq0 g c =
     let is = c.slot_mut-slot.ensures.value in (
-      (refl, λ w. rw (← c.self.view_is) (cell-owners c.self.inside.cells.items c.self.inside.nodes.items c.args.place w _ _ _ c.if-place-eq0.true is)),
-      record { writes_back = tt; value = rw (← c.self.view_is) (sym (ap owners_in (read-cell c.self.inside.cells.items c.self.inside.nodes.items c.args.place _ c.if-place-eq0.true is))) },
+      (refl, λ w. cell-owners _ _ c.self.view_is c.args.place w _ c.if-place-eq0.true is),
+      record { writes_back = tt; value = sym (ap owners_in (read-cell _ _ c.self.view_is c.args.place _ c.if-place-eq0.true is)) },
     )
 
 pub slot_mut-slot-requires-else-place-eq0 : goal.slot_mut-slot-requires-else-place-eq0
-slot_mut-slot-requires-else-place-eq0 g c =
-    live-node c.self.inside.cells.items c.self.inside.nodes.items c.args.place c.if-place-eq0.false (rw (← c.self.view_is) at c.requires)
+slot_mut-slot-requires-else-place-eq0 g c = live-node _ _ c.self.view_is c.args.place c.if-place-eq0.false c.requires
 
 pub invariant_of-self-lent-else-place-eq0 : goal.invariant_of-self-lent-else-place-eq0
 invariant_of-self-lent-else-place-eq0 g c w =
@@ -29,6 +27,6 @@ invariant_of-self-lent-else-place-eq0 g c w =
 pub returns-else-place-eq0 : goal.returns-else-place-eq0
 returns-else-place-eq0 g c =
     let is = c.slot_mut-slot-else-place-eq0.ensures.value in (
-      (refl, λ w. rw (← c.self.view_is) (node-owners c.self.inside.cells.items c.self.inside.nodes.items c.args.place w _ _ _ c.if-place-eq0.false is)),
-      record { writes_back = tt; value = rw (← c.self.view_is) (sym (ap owners_in (read-node c.self.inside.cells.items c.self.inside.nodes.items c.args.place _ c.if-place-eq0.false is))) },
+      (refl, λ w. node-owners _ _ c.self.view_is c.args.place w _ c.if-place-eq0.false is),
+      record { writes_back = tt; value = sym (ap owners_in (read-node _ _ c.self.view_is c.args.place _ c.if-place-eq0.false is)) },
     )

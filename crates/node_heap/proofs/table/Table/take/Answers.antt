@@ -6,49 +6,45 @@ use Rattle.node_heap.proofs.Written.{taken}
 use Rattle.node_heap.proofs.table.Table.take.Goals as goal
 
 pub take_out-slot-requires-clause-some : goal.take_out-slot-requires-clause-some
-take_out-slot-requires-clause-some g c =
-    live-cell c.self.inside.cells.items c.self.inside.nodes.items c.args.place c.if-place-eq0.true (rw (← c.self.view_is) at c.requires)
+take_out-slot-requires-clause-some g c = live-cell _ _ c.self.view_is c.args.place c.if-place-eq0.true c.requires
 
 pub take_out-slot-requires-clause-room : goal.take_out-slot-requires-clause-room
 take_out-slot-requires-clause-room g c =
-    let live = live-cell c.self.inside.cells.items c.self.inside.nodes.items c.args.place c.if-place-eq0.true (rw (← c.self.view_is) at c.requires) in
+    let live = live-cell _ _ c.self.view_is c.args.place c.if-place-eq0.true c.requires in
     omega (arith, HasRoom-free _ _ (c.args.place / 2) _ _ _ live c.self.invariant.of_cells, c.self.inside.free_cells.ok.0)
 
 pub returns-then-place-eq0-clause-owners : goal.returns-then-place-eq0-clause-owners
 returns-then-place-eq0-clause-owners g c =
-    rw (← c.self.view_is) (sym (ap owners_in (read-cell c.self.inside.cells.items c.self.inside.nodes.items c.args.place _ c.if-place-eq0.true c.take_out-slot.ensures.value)))
+    sym (ap owners_in (read-cell _ _ c.self.view_is c.args.place _ c.if-place-eq0.true c.take_out-slot.ensures.value))
 
 pub returns-then-place-eq0-clause-links : goal.returns-then-place-eq0-clause-links
-returns-then-place-eq0-clause-links g c =
-    rw (← c.self.view_is) (cell-links c.self.inside.cells.items c.self.inside.nodes.items c.args.place c.if-place-eq0.true)
+returns-then-place-eq0-clause-links g c = cell-links _ _ c.self.view_is c.args.place c.if-place-eq0.true
 
 pub returns-then-place-eq0-clause-takes : goal.returns-then-place-eq0-clause-takes
 returns-then-place-eq0-clause-takes g c =
     let i = c.self.inside in
-    let live = live-cell i.cells.items i.nodes.items c.args.place c.if-place-eq0.true (rw (← c.self.view_is) at c.requires) in
+    let live = live-cell _ _ c.self.view_is c.args.place c.if-place-eq0.true c.requires in
     rw (← c.self.view_is, c.take_out-slot.ensures.slots, set-cell i.cells.items i.nodes.items c.args.place None c.if-place-eq0.true live)
-    (taken _ c.args.place _ _ _ _ _ (read-cell i.cells.items i.nodes.items c.args.place _ c.if-place-eq0.true c.take_out-slot.ensures.value) refl (omega arith))
+    (taken _ c.args.place _ _ _ _ _ (rw (← c.self.view_is) at (read-cell _ _ c.self.view_is c.args.place _ c.if-place-eq0.true c.take_out-slot.ensures.value)) refl (omega arith))
 
 pub take_out-slot-requires-2-clause-some : goal.take_out-slot-requires-2-clause-some
-take_out-slot-requires-2-clause-some g c =
-    live-node c.self.inside.cells.items c.self.inside.nodes.items c.args.place c.if-place-eq0.false (rw (← c.self.view_is) at c.requires)
+take_out-slot-requires-2-clause-some g c = live-node _ _ c.self.view_is c.args.place c.if-place-eq0.false c.requires
 
 pub take_out-slot-requires-2-clause-room : goal.take_out-slot-requires-2-clause-room
 take_out-slot-requires-2-clause-room g c =
-    let live = live-node c.self.inside.cells.items c.self.inside.nodes.items c.args.place c.if-place-eq0.false (rw (← c.self.view_is) at c.requires) in
+    let live = live-node _ _ c.self.view_is c.args.place c.if-place-eq0.false c.requires in
     omega (arith, HasRoom-free _ _ (c.args.place / 2) _ _ _ live c.self.invariant.of_nodes, c.self.inside.free_nodes.ok.0)
 
 pub returns-clause-owners : goal.returns-clause-owners
-returns-clause-owners g c =
-    rw (← c.self.view_is) (sym (ap owners_in (read-node c.self.inside.cells.items c.self.inside.nodes.items c.args.place _ c.if-place-eq0.false c.take_out-slot-2.ensures.value)))
+returns-clause-owners g c = sym (ap owners_in (read-node _ _ c.self.view_is c.args.place _ c.if-place-eq0.false c.take_out-slot-2.ensures.value))
 
 pub returns-clause-links : goal.returns-clause-links
 returns-clause-links g c =
-    rw (← c.self.view_is) (sym (ap (λ o. links_of (row_of_slot o)) (read-node c.self.inside.cells.items c.self.inside.nodes.items c.args.place _ c.if-place-eq0.false c.take_out-slot-2.ensures.value)))
+    sym (ap (λ o. links_of (row_of_slot o)) (read-node _ _ c.self.view_is c.args.place _ c.if-place-eq0.false c.take_out-slot-2.ensures.value))
 
 pub returns-clause-takes : goal.returns-clause-takes
 returns-clause-takes g c =
     let i = c.self.inside in
-    let live = live-node i.cells.items i.nodes.items c.args.place c.if-place-eq0.false (rw (← c.self.view_is) at c.requires) in
+    let live = live-node _ _ c.self.view_is c.args.place c.if-place-eq0.false c.requires in
     rw (← c.self.view_is, c.take_out-slot-2.ensures.slots, set-node i.cells.items i.nodes.items c.args.place None c.if-place-eq0.false live)
-    (taken _ c.args.place _ _ _ _ _ (read-node i.cells.items i.nodes.items c.args.place _ c.if-place-eq0.false c.take_out-slot-2.ensures.value) (omega arith) refl)
+    (taken _ c.args.place _ _ _ _ _ (rw (← c.self.view_is) at (read-node _ _ c.self.view_is c.args.place _ c.if-place-eq0.false c.take_out-slot-2.ensures.value)) (omega arith) refl)
