@@ -1,7 +1,8 @@
 -- An inner row with one child in the place of some of its children, and the edits that make it.
-use Rattle.std.proofs.Common.{◌≡◌, ℕ, suc, ◌-◌, ◌+◌, ◌<◌, ◌≤◌, ◌^◌, List, [], ◌∷◌, ◌++◌, length, take, drop, get_or, set, refl, ap, sym, ◌∙◌, arith, length-append, length-drop, length-set, append-nil, append_assoc, IsSome, zero}
+use Rattle.std.proofs.Common.{◌≡◌, ℕ, suc, ◌-◌, ◌+◌, ◌<◌, ◌≤◌, ◌^◌, List, [], ◌∷◌, ◌++◌, length, take, drop, get_or, set, refl, ap, sym, ◌∙◌, arith, length-append, length-drop, length-set, append-nil, append_assoc, IsSome, zero, inl, inr}
 use Rattle.std.specs.List.{All, flat_map}
 use Rattle.std.proofs.lemmas.List.{take_all, length-take-le, get_or-take, drop_all, length_push}
+use Rattle.std.proofs.lemmas.Bool.{cases_lt}
 use Rattle.std.proofs.lemmas.List.Elements.{All-append, All-cons, All-nil, All-take, All-drop}
 use Rattle.node_heap.specs.Links.{count}
 use Rattle.node_heap.specs.Heap.{Heap, row_at, form_at, links_at, holds_at, hold_count, HasSpares, IsGraph}
@@ -12,11 +13,13 @@ use Rattle.rrb_core.specs.Seq.{seq_at, IsThick, IsWell}
 use Rattle.rrb_core.specs.Push.{last_in, IsPacked, into_leaf, into_last, into_new, IsPushedRoot, into_root, over_root}
 use Rattle.rrb_core.specs.Vector.{KeepsSums, sums_at, height_at, elements, IsGoodVector, IsVectorOf, HasSums}
 use Rattle.rrb_core.specs.Build.{IsRowOf, AreRows}
-use Rattle.rrb_core.specs.Edit.{links_with, CanEdit, CanEditRoot, CanPlace, MakesRow, Pushes, Sets, Takes}
+use Rattle.rrb_core.specs.Levels.{rows_at, rows_of, HasFront, TakesFirstRows}
+use Rattle.rrb_core.specs.Edit.{links_with, CanEdit, CanEditRoot, CanPlace, MakesRow, Pushes, SetsAt, Takes, IsAtFront}
 use Rattle.rrb_core.proofs.Lists.{items-cut, items-around, items-set, items-front, not-first, leaf-end, set-parts, take-first}
 use Rattle.rrb_core.proofs.LinkCounts.{one-held}
 use Rattle.rrb_core.proofs.Stays.{live-stays, links-form, links-stay, items-stay, seq-stays, thick-stays, all-thick-stay, row-stays, rows-stay, keeps-stay, well-live}
 use Rattle.rrb_core.proofs.BuildLemmas.{gained-held, builds-pair, unchanged-good}
+use Rattle.rrb_core.proofs.LevelLemmas.{rows-inner, rows-few, rows-kept, all-kept, front-few, front-on, first-of, first-rows, front-below}
 use Rattle.rrb_core.proofs.PushLemmas.{all-last, packed-thick, pushed-more, pushed-stays}
 use Rattle.rrb_core.proofs.RowLists.{rows-append, rows-take, rows-drop, rows-around, one-row, take-thick, rows-live, IsOver, over, inner-thick, leaf-thick, child-at, good-row, root-row, at-place}
 use Rattle.rrb_core.proofs.FillRule.{height-is, seq-leaf, well-most, thick-links, thick-low, well-pos}
@@ -205,7 +208,7 @@ pub record IsSpot {T : Type 0} (h : Heap T) (n l i within index : ℕ) : Type 0 
   pub before : length (flat_map (seq_at (form_at h) n) (take i (links_at h l))) + within ≡ index
 
 -- a child with one element set, in its own place
-module _ {T : Type 0} {old mid : Heap T} {n l i within index e child : ℕ} (row : CanEdit old (suc n) l) (held : 1 ≤ holds_at old e) (spot : IsSpot old n l i within index) (sub : Sets old mid n (get_or (links_at old l) i 0) within e child) where
+module _ {T : Type 0} {old mid : Heap T} {n l i within index e child : ℕ} (row : CanEdit old (suc n) l) (held : 1 ≤ holds_at old e) (spot : IsSpot old n l i within index) (sub : SetsAt old mid n (get_or (links_at old l) i 0) within e child) where
   pub place-set : IsPlaced old mid n l i (i + 1) child (set (seq_at (form_at old) (suc n) l) index e)
   place-set =
       let o = over old n l row.well row.sums in
@@ -221,7 +224,7 @@ module _ {T : Type 0} {old mid : Heap T} {n l i within index e child : ℕ} (row
           rw at at (take-thick old n (i + 1) (links_at old l) o.rows more i 0 (omega (arith, length-take-le (i + 1) (links_at old l) (omega arith))))
 
   pub sets-inner : {new : Heap T} {m : ℕ} → IsRowOf new (suc n) m (flat_map (seq_at (form_at mid) n) (links_with (links_at mid l) i child (i + 1))) → Builds mid new (child ∷ []) (m ∷ []) 0 1
-      → links_at new m ≡ links_with (links_at mid l) i child (i + 1) → Sets old new (suc n) l index e m
+      → links_at new m ≡ links_with (links_at mid l) i child (i + 1) → SetsAt old new (suc n) l index e m
   sets-inner {new} {m} made more links =
       let o = over old n l row.well row.sums in
       let p = place-set in
@@ -249,6 +252,21 @@ module _ {T : Type 0} {old mid : Heap T} {n l i within count' child : ℕ} (row 
       rw (none-behind f ks (length ks) (omega arith), append-nil, o.items) (sym (items-front f ks i (within + 1) count' spot.place (omega (arith, spot.before)) (omega (arith, spot.inside)))) in
       place row sub.edits.builds (λ k. omega arith) i (length ks) (take (within + 1) (f (get_or ks i 0))) _ (omega (arith, spot.place)) (omega arith) (omega (arith, o.most, spot.place)) (take-thick old n i ks o.rows spot.place) sub.edits.row (omega (arith, length-take-le (within + 1) (f (get_or ks i 0)) (omega (arith, spot.inside)))) (λ more. absurd (omega arith)) items (omega (arith, length-take-le count' (seq_at (form_at old) (suc n) l) fits, row.short, fits))
 
+  -- of each height its rows are those below the links before the child, and then the child's
+  takes-rows : {new : Heap T} {m : ℕ} → Builds mid new (child ∷ []) (m ∷ []) 0 1 → links_at new m ≡ links_with (links_at mid l) i child (length (links_at old l)) → (p : ℕ) → p ≤ suc n → HasFront (rows_at (links_at old) (suc n) p l) (rows_at (links_at new) (suc n) p m)
+  takes-rows {new} {m} more links p le = elim (cases_lt n p) as (λ _. HasFront (rows_at (links_at old) (suc n) p l) (rows_at (links_at new) (suc n) p m)) [
+    | inl top ↦ front-few (rows-few (links_at new) (suc n) p m (omega arith))
+    | inr low ↦
+        let o = over old n l row.well row.sums in
+        let ks : List ℕ = links_at old l in
+        let live = rows-live old n (take i ks) (rows-take old n i ks o.rows (omega (arith, spot.place))) in
+        let kept = all-kept (live-stays row.graph (Builds-then sub.edits.builds more).extends) n p (take i ks) live in
+        let own = rows-kept (live-stays sub.edits.builds.graph more.extends) n p child (well-live mid n child sub.edits.row.well) in
+        let over-links : links_at new m ≡ take i ks ++ child ∷ [] = links ∙ rw (place-take.same, drop_all (length ks) ks (omega arith), append-nil) refl in
+        rw (rows-inner (links_at old) n p l low, rows-inner (links_at new) n p m low, over-links)
+        (front-below (rows_at (links_at old) n p) (rows_at (links_at new) n p) ks i child spot.place kept (rw own (sub.rows p low)))
+  ]
+
   pub takes-inner : {new : Heap T} {m : ℕ} → IsRowOf new (suc n) m (flat_map (seq_at (form_at mid) n) (links_with (links_at mid l) i child (length (links_at old l)))) → Builds mid new (child ∷ []) (m ∷ []) 0 1
       → links_at new m ≡ links_with (links_at mid l) i child (length (links_at old l)) → Takes old new (suc n) l count' m
   takes-inner {new} {m} made more links =
@@ -257,6 +275,7 @@ module _ {T : Type 0} {old mid : Heap T} {n l i within count' child : ℕ} (row 
       record {
         edits = placed-edits row sub.edits.builds p made more links;
         two = λ _ past. omega (arith, ap length links, p.size, ap length p.same, not-first (seq_at (form_at old) n) (links_at old l) i within count' spot.inside spot.before (rw down at past));
+        rows = takes-rows more links;
       }
 
 -- the elements of a leaf are its links
@@ -275,7 +294,7 @@ module _ {T : Type 0} {old new : Heap T} {l m : ℕ} where
         rule = into_leaf l m (record { room = rw (links-form old l) (omega (arith, leaf-most row, narrow)); links = rw (links-form old l, links-form new m) (links ∙ end) });
       }
 
-  pub sets-leaf : (i e : ℕ) → i < length (links_at old l) → MakesRow old new (e ∷ []) 0 m (links_with (links_at old l) i e (i + 1)) → links_at new m ≡ links_with (links_at old l) i e (i + 1) → Sets old new 0 l i e m
+  pub sets-leaf : (i e : ℕ) → i < length (links_at old l) → MakesRow old new (e ∷ []) 0 m (links_with (links_at old l) i e (i + 1)) → links_at new m ≡ links_with (links_at old l) i e (i + 1) → SetsAt old new 0 l i e m
   sets-leaf i e lt edits links =
       let parts = set-parts (links_at old l) i e lt in
       let width : length (links_with (links_at old l) i e (i + 1)) ≡ length (links_at old l) = rw (← parts) (length-set (links_at old l) i e) in
@@ -286,7 +305,12 @@ module _ {T : Type 0} {old new : Heap T} {l m : ℕ} where
       }
 
   pub takes-leaf : (count : ℕ) → IsRowOf new 0 m (take count (links_at old l)) → Builds old new [] (m ∷ []) 0 1 → Takes old new 0 l count m
-  takes-leaf count row builds = record { edits = record { row = rw (leaf-items old l) row; builds = builds }; two = λ some. absurd (omega (arith, some)) }
+  takes-leaf count row builds =
+      record {
+        edits = record { row = rw (leaf-items old l) row; builds = builds };
+        two = λ some. absurd (omega (arith, some));
+        rows = λ p low. front-few (rows-few (links_at new) 0 p m (omega arith));
+      }
 
 -- a packed root and a row with one element beside it: what the new root over them wants
 pub record IsPair {T : Type 0} (old new : Heap T) (n root child e : ℕ) : Type 0 where
@@ -338,7 +362,7 @@ module _ {T : Type 0} {old new : Heap T} {root e m : ℕ} (good : IsGoodVector o
   pushed-root = into_root (height-is (form_at new) (height_at old root) m p.edits.row.well) p.rule
 
 -- a root with one element set
-pub set-vector : {T : Type 0} {old new : Heap T} {root i e m : ℕ} → IsGoodVector old root → Sets old new (height_at old root) root i e m → IsVectorOf new m (set (elements old root) i e)
+pub set-vector : {T : Type 0} {old new : Heap T} {root i e m : ℕ} → IsGoodVector old root → SetsAt old new (height_at old root) root i e m → IsVectorOf new m (set (elements old root) i e)
 set-vector {T} {old} {new} {root} {i} {e} {m} good s =
     good-row new (height_at old root) m (set (elements old root) i e) s.edits.row good.shape.low (λ some. omega (arith, s.count, ap length (links-form old root), good.shape.two some)) (omega (arith, length-set (elements old root) i e, good.shape.short))
 
@@ -347,6 +371,15 @@ pub takes-vector : {T : Type 0} {old new : Heap T} {n l count m : ℕ} → Takes
 takes-vector {T} {old} {new} {n} {l} {count} {m} t low past fits short =
     good-row new n m (take count (seq_at (form_at old) n l)) t.edits.row low (λ some. t.two some (past some)) (omega (arith, length-take-le count (seq_at (form_at old) n l) fits, short))
 
+-- its rows of each height
+pub takes-front : {T : Type 0} {old new : Heap T} {root n l count m : ℕ} → IsAtFront old root n l → Takes old new n l count m → TakesFirstRows old new root m
+takes-front {T} {old} {new} {root} {n} {l} {count} {m} edge t p =
+    let height : height_at new m ≡ n = height-is (form_at new) n m t.edits.row.well in
+    rw height (elim (cases_lt n p) as (λ _. HasFront (rows_of old p root) (rows_at (links_at new) n p m)) [
+      | inl past ↦ front-few (rows-few (links_at new) n p m (omega arith))
+      | inr low ↦ front-on (rows_at (links_at old) n p l) (rows_of old p root) (edge.first p low) (t.rows p low)
+    ])
+
 -- the first child of an inner row, in the words of the code
 pub record IsFirst {T : Type 0} (h : Heap T) (n l child : ℕ) : Type 0 where
   pub well : IsWell (form_at h) (n - 1) child
@@ -354,6 +387,7 @@ pub record IsFirst {T : Type 0} (h : Heap T) (n l child : ℕ) : Type 0 where
   pub short : length (seq_at (form_at h) (n - 1) child) ≤ length (seq_at (form_at h) n l)
   pub is : child ≡ get_or (links_at h l) 0 0
   pub front : (count : ℕ) → count ≤ length (seq_at (form_at h) (n - 1) child) → take count (seq_at (form_at h) (n - 1) child) ≡ take count (seq_at (form_at h) n l)
+  pub edge : (root : ℕ) → IsAtFront h root n l → IsAtFront h root (n - 1) child
 
 pub first-child : {T : Type 0} (h : Heap T) (n l child : ℕ) (ls : List ℕ) → 0 < n → IsWell (form_at h) n l → HasSums h n l → child ≡ get_or ls 0 child → ls ≡ links_at h l → IsFirst h n l child
 first-child h zero l child ls some well sums is links = absurd (omega arith)
@@ -364,12 +398,18 @@ first-child h (suc n) l child ls some well sums is links =
     let first = child-at h n l 0 child o (omega (arith, o.some)) at in
     let front : (count : ℕ) → count ≤ length (seq_at (form_at h) n child) → take count (seq_at (form_at h) n child) ≡ take count (seq_at (form_at h) (suc n) l) = λ count fits.
     rw (o.items, at) (sym (take-first (seq_at (form_at h) n) (links_at h l) count (omega (arith, o.some)) (rw at at fits))) in
+    let child-is = at in
+    let edge : (root : ℕ) → IsAtFront h root (suc n) l → IsAtFront h root n child = λ root e.
+    record {
+      first = λ p le. first-of (rows_at (links_at h) n p child) (rows_at (links_at h) (suc n) p l) (rows_of h p root) (rw child-is (first-rows (links_at h) n p l le o.some)) (e.first p (omega arith));
+    } in
     record {
       well = rw down first.well;
       sums = rw down first.sums;
       short = rw down first.short;
       is = at;
       front = rw down front;
+      edge = rw down edge;
     }
 
 -- the children that a row is made with, after their links were gathered

@@ -4,6 +4,7 @@ pub mod FillRule
 pub mod LinkCounts
 pub mod Stays
 pub mod BuildLemmas
+pub mod LevelLemmas
 pub mod RowLists
 pub mod PushLemmas
 pub mod EditLemmas

@@ -7,6 +7,7 @@ use Rattle.rrb_core.specs.Seq.{seq_at, IsThick, IsWell}
 use Rattle.rrb_core.specs.Push.{IsPushed}
 use Rattle.rrb_core.specs.Vector.{KeepsSums, HasSums, sums_at, IsGoodVector}
 use Rattle.rrb_core.specs.Build.{IsRowOf, AreRows}
+use Rattle.rrb_core.specs.Levels.{rows_at, rows_of, HasFront}
 
 -- the first `keep` links, then the link k, then the links from the place `skip` on
 abbrev pub links_with : List ℕ → ℕ → ℕ → ℕ → List ℕ
@@ -41,28 +42,33 @@ module _ {T : Type 0} where
     pub rule : IsPushed (form_at old) (form_at new) e n l m
 
   -- the row m is the row l of height n with the element e at the index i, and as many links
-  pub record Sets (old new : Heap T) (n l i e m : ℕ) : Type 0 where
+  pub record SetsAt (old new : Heap T) (n l i e m : ℕ) : Type 0 where
     pub edits : MakesRow old new (e ∷ []) n m (slice_set (seq_at (form_at old) n l) i e)
     pub thick : IsThick (form_at old) n l → IsThick (form_at new) n m
     pub count : length (links_at new m) ≡ length (links_at old l)
 
-  -- the row m has the first `count` elements of the row l of height n; it has two links or more where the first child has
-  -- too few
+  -- the row m has the first `count` elements of the row l of height n, and of the rows below l the first ones and at most one
+  -- more of each height; it has two links or more where the first child has too few
   pub record Takes (old new : Heap T) (n l count m : ℕ) : Type 0 where
     pub edits : MakesRow old new [] n m (take count (seq_at (form_at old) n l))
     pub two : 1 ≤ n → length (seq_at (form_at old) (n - 1) (slice_index (links_at old l) 0)) < count → 2 ≤ length (links_at new m)
+    pub rows : (p : ℕ) → p ≤ n → HasFront (rows_at (links_at old) n p l) (rows_at (links_at new) n p m)
 
-  -- a row over links_with of a row's children, of the height n, can be made
-  pub record CanPlace (h : Heap T) (n l keep k skip : ℕ) : Type 0 where
+  -- the rows of each height below the row l of height n are the first ones of the vector with this root
+  pub record IsAtFront (h : Heap T) (root n l : ℕ) : Type 0 where
+    pub first : (p : ℕ) → p ≤ n → rows_at (links_at h) n p l ≡ take (length (rows_at (links_at h) n p l)) (rows_of h p root)
+
+  -- a row over links_with of a row's children, which have the height below, can be made
+  pub record CanPlace (h : Heap T) (below l keep k skip : ℕ) : Type 0 where
     pub graph : IsGraph h
     pub live : IsSome (row_at h l)
-    pub sums : KeepsSums (form_at h) n (links_at h l) (sums_at h l)
+    pub sums : KeepsSums (form_at h) below (links_at h l) (sums_at h l)
     pub keep_in : keep ≤ length (links_at h l)
     pub skip_in : skip ≤ length (links_at h l)
     pub few : keep + 1 + (length (links_at h l) - skip) ≤ 32
-    pub rows : AreRows h n (links_with (links_at h l) keep k skip)
-    pub low : n < 7
-    pub short : length (flat_map (seq_at (form_at h) n) (links_with (links_at h l) keep k skip)) < 2 ^ 32
+    pub rows : AreRows h below (links_with (links_at h l) keep k skip)
+    pub low : below < 7
+    pub short : length (flat_map (seq_at (form_at h) below) (links_with (links_at h l) keep k skip)) < 2 ^ 32
     pub held : 1 ≤ holds_at h k
     pub spare : 1 ≤ h.spare_nodes
     pub holds : hold_count h + 64 ≤ 2 ^ 60

@@ -4,8 +4,9 @@ ghost use Rattle.node_heap.specs.Heap.{form_at, links_at, hold_count, IsGraph, H
 ghost use Rattle.node_heap.specs.Calls.{Answered, Builds, MakesJust, Unchanged};
 ghost use Rattle.rrb_core.specs.Seq.{seq_at, IsWell};
 ghost use Rattle.rrb_core.specs.Vector.{HasSums, elements, height_at, IsGoodVector, IsSameVector, IsVectorOf};
+ghost use Rattle.rrb_core.specs.Levels.{TakesFirstRows};
 ghost use Rattle.rrb_core.specs.Build.{Shares};
-ghost use Rattle.rrb_core.specs.Edit.{CanEdit, CanEditRoot, Takes};
+ghost use Rattle.rrb_core.specs.Edit.{CanEdit, CanEditRoot, Takes, IsAtFront};
 
 use crate::flex::{Flex, FlexRef, empty_root};
 use crate::rows::{gathered, height_of, inner_with, leaf_over, size};
@@ -17,14 +18,16 @@ use node_heap::{Heap, Link};
 pub const TAKE_NODES: usize = 8;
 
 /// The vector of the first `count` elements, or all where there are no more. It makes rows along the cut alone, at most as
-/// many as its own height and 1, so 8, and shares the others; with all elements it is the vector itself, held once more, and
-/// wants no memory. Else refused only where memory runs out, and then nothing but the heap's spares changes.
+/// many as its own height and 1, so 8, and shares the others: its rows of each height are the first ones of the vector, and at
+/// most one more behind them. With all elements it is the vector itself, held once more, and wants no memory. Else refused only
+/// where memory runs out, and then nothing but the heap's spares changes.
 pub fn take<T>(heap: &mut Heap<T>, vector: FlexRef, count: u32) -> Result<Flex, NoMemory>
     requires good { IsGoodVector heap.old vector }
     requires few { hold_count heap.old < 2 ^ 59 }
     ensures items { IfOk result (λ v. elements heap.new v ≡ take count (elements heap.old vector)) }
     ensures good { IfOk result (λ v. IsGoodVector heap.new v) }
     ensures low { IfOk result (λ v. height_at heap.new v ≤ height_at heap.old vector) }
+    ensures rows { IfOk result (λ v. TakesFirstRows heap.old heap.new vector v) }
     ensures answered { IfOk result (λ v. Answered heap.old heap.new [] v 0 (height_at heap.new v + 1)) }
     ensures made { IfOk result (λ _. MakesJust heap.old heap.new) }
     ensures whole { length (elements heap.old vector) ≤ count → IsOkAnd result (λ v. (v ≡ vector) × Shares heap.old heap.new v) }
@@ -46,6 +49,7 @@ fn front_root<T>(heap: &mut Heap<T>, root: Link, count: u32) -> Link
     requires inside { count ≤ length (elements heap.old root) }
     ensures vector { IsVectorOf heap.new result (take count (elements heap.old root)) }
     ensures low { height_at heap.new result ≤ height_at heap.old root }
+    ensures rows { TakesFirstRows heap.old heap.new root result }
     ensures builds { Builds heap.old heap.new [] (result ∷ []) 0 (height_at heap.new result + 1) }
 {
     if count == 0 {
@@ -72,6 +76,7 @@ fn lowest_with<T>(heap: &Heap<T>, root: Link, count: u32) -> Placed
     ensures inside { count ≤ length (seq_at (form_at heap.now) result.height result.link) }
     ensures short { length (seq_at (form_at heap.now) result.height result.link) < 2 ^ 32 }
     ensures same { take count (seq_at (form_at heap.now) result.height result.link) ≡ take count (elements heap.now root) }
+    ensures edge { IsAtFront heap.now root result.height result.link }
     ensures past { 1 ≤ result.height → length (seq_at (form_at heap.now) (result.height - 1) (slice_index (links_at heap.now result.link) 0)) < count }
 {
     let mut link = root;

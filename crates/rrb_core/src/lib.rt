@@ -22,5 +22,5 @@ pub use grow::{PushFault, push};
 pub use laws::vectors_stay;
 pub use lines::Lines;
 pub use replace::{SetFault, set};
-pub use rows::{Gathered, ROW_LINKS, gathered, height_of, inner_over, leaf_over};
+pub use rows::{Gathered, ROW_LINKS, full_size, gathered, height_of, inner_over, leaf_over};
 pub use search::{Spot, spot_of};

@@ -4,7 +4,7 @@ ghost use Rattle.node_heap.specs.Heap.{form_at, holds_at, hold_count, IsGraph, H
 ghost use Rattle.node_heap.specs.Calls.{Answered, Builds, MakesJust, Unchanged};
 ghost use Rattle.rrb_core.specs.Seq.{seq_at};
 ghost use Rattle.rrb_core.specs.Vector.{elements, height_at, IsGoodVector, IsSameVector, IsVectorOf};
-ghost use Rattle.rrb_core.specs.Edit.{CanEdit, CanEditRoot, Sets};
+ghost use Rattle.rrb_core.specs.Edit.{CanEdit, CanEditRoot, SetsAt};
 
 use crate::flex::{Flex, FlexRef};
 use crate::rows::{height_of, inner_with, leaf_with};
@@ -84,7 +84,7 @@ fn set_below<T>(heap: &mut Heap<T>, link: Link, height: u8, index: u32, element:
     requires row { CanEdit heap.old height link }
     requires inside { index < length (seq_at (form_at heap.old) height link) }
     requires held { 1 ≤ holds_at heap.old element }
-    ensures { Sets heap.old heap.new height link index element result }
+    ensures { SetsAt heap.old heap.new height link index element result }
 {
     if height == 0 {
         return set_leaf(heap, link, index as usize, element);
@@ -98,7 +98,7 @@ fn set_inner<T>(heap: &mut Heap<T>, link: Link, below: u8, index: u32, element: 
     requires row { CanEdit heap.old (suc below) link }
     requires inside { index < length (seq_at (form_at heap.old) (suc below) link) }
     requires held { 1 ≤ holds_at heap.old element }
-    ensures { Sets heap.old heap.new (suc below) link index element result }
+    ensures { SetsAt heap.old heap.new (suc below) link index element result }
 {
     let found = spot_of(heap, link, below, index);
     let old = heap.links(link)[found.place];
@@ -111,7 +111,7 @@ fn set_leaf<T>(heap: &mut Heap<T>, link: Link, place: usize, element: Link) -> L
     requires row { CanEdit heap.old 0 link }
     requires inside { place < length (seq_at (form_at heap.old) 0 link) }
     requires held { 1 ≤ holds_at heap.old element }
-    ensures { Sets heap.old heap.new 0 link place element result }
+    ensures { SetsAt heap.old heap.new 0 link place element result }
 {
     leaf_with(heap, link, place, element, place + 1)
 }

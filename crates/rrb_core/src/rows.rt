@@ -41,8 +41,8 @@ pub(crate) fn sums_of<T>(heap: &Heap<T>, link: Link) -> &[u32]
     }
 }
 
-// How many elements so many full children of an inner row of this height have.
-pub(crate) fn full_size(count: usize, height: u8) -> u64
+/// How many elements so many full children of an inner row of this height have.
+pub fn full_size(count: usize, height: u8) -> u64
     requires few { count ≤ 32 }
     requires low { height ≤ 7 }
     ensures { result ≡ count * 32 ^ height }

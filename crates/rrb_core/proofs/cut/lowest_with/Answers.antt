@@ -38,6 +38,7 @@ loop-height-preserved g c =
       low = omega (arith, c.loop-height.invariant.low);
       inside = fits;
       short = omega (arith, first.short, c.loop-height.invariant.short);
+      edge = first.edge c.args.root c.loop-height.invariant.edge;
       same = first.front c.args.count fits ∙ c.loop-height.invariant.same;
     }
 

@@ -2,6 +2,7 @@ use Rattle.std.proofs.Common.{◌≡◌, ◌<◌, ◌≤◌, ◌^◌, length, ta
 use Rattle.node_heap.specs.Heap.{form_at}
 use Rattle.rrb_core.specs.Seq.{seq_at, IsWell}
 use Rattle.rrb_core.specs.Vector.{HasSums, height_at, elements}
+use Rattle.rrb_core.specs.Edit.{IsAtFront}
 use Rattle.rrb_core.proofs.cut.lowest_with.Given as goal
 
 abbrev pub invariant-loop-height : goal.invariant-loop-height
@@ -12,6 +13,7 @@ invariant-loop-height g l =
       low : l.height ≤ height_at l.heap l.fn.root;
       inside : l.count ≤ length (seq_at (form_at l.heap) l.height l.link);
       short : length (seq_at (form_at l.heap) l.height l.link) < 2 ^ 32;
+      edge : IsAtFront l.heap l.fn.root l.height l.link;
       same : take l.count (seq_at (form_at l.heap) l.height l.link) ≡ take l.count (elements l.heap l.fn.root);
     }
 

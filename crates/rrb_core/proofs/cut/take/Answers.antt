@@ -3,6 +3,7 @@ use Rattle.std.proofs.lemmas.List.{take_all}
 use Rattle.node_heap.proofs.BuildLemmas.{Answered-Builds, Builds-Answered, Builds-MakesJust, Builds-more}
 use Rattle.rrb_core.specs.Vector.{elements}
 use Rattle.rrb_core.proofs.BuildLemmas.{answered-same, unchanged-good, same-height, shares-just}
+use Rattle.rrb_core.proofs.LevelLemmas.{takes-whole, takes-after}
 use Rattle.rrb_core.proofs.EditLemmas.{root-after}
 use Rattle.rrb_core.proofs.cut.take.Goals as goal
 
@@ -15,6 +16,9 @@ returns-then-count-len-clause-good g c = rw c.share.ensures.same (c.share.ensure
 
 pub returns-then-count-len-clause-low : goal.returns-then-count-len-clause-low
 returns-then-count-len-clause-low g c = rw (c.share.ensures.same, same-height c.args.heap.now c.share.new.heap c.args.vector c.share.ensures.shares.rows) (omega arith)
+
+pub returns-then-count-len-clause-rows : goal.returns-then-count-len-clause-rows
+returns-then-count-len-clause-rows g c = rw c.share.ensures.same (takes-whole c.args.heap.now c.share.new.heap c.share.ensures.shares.rows c.args.vector)
 
 pub returns-then-count-len-clause-answered : goal.returns-then-count-len-clause-answered
 returns-then-count-len-clause-answered g c = Answered-Builds (Builds-more 0 _ c.share.ensures.shares.builds (omega arith) (omega arith))
@@ -45,6 +49,9 @@ returns-clause-good g c = rw c.from_root.ensures c.front_root-root.ensures.vecto
 
 pub returns-clause-low : goal.returns-clause-low
 returns-clause-low g c = rw (c.from_root.ensures, ← same-height c.args.heap.now c.reserve.new.self c.args.vector c.in_ok-reserve.ensures.rest.rows) (rw c.root.ensures at c.front_root-root.ensures.low)
+
+pub returns-clause-rows : goal.returns-clause-rows
+returns-clause-rows g c = rw c.from_root.ensures (takes-after c.args.heap.now c.reserve.new.self c.in_ok-reserve.ensures.rest.rows c.front_root-root.new.heap c.args.vector c.front_root-root.result (rw c.root.ensures at c.front_root-root.ensures.rows))
 
 pub returns-clause-answered : goal.returns-clause-answered
 returns-clause-answered g c = rw c.from_root.ensures (Builds-Answered c.in_ok-reserve.ensures.rest c.front_root-root.ensures.builds)

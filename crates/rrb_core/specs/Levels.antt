@@ -1,0 +1,28 @@
+-- The rows of each height, and what a take makes of them.
+use Rattle.std.specs.Prelude.{◌≡◌, ℕ, zero, suc, ◌≤◌, List, [], ◌∷◌, ◌++◌, length, take, ◌==◌, if◌then◌else◌}
+use Rattle.std.specs.List.{flat_map}
+use Rattle.node_heap.specs.Links.{Links}
+use Rattle.node_heap.specs.Heap.{Heap, links_at}
+use Rattle.rrb_core.specs.Vector.{height_at}
+
+-- the rows of height m below a row of height n, in order; at its own height it is the row itself
+unfoldable pub rows_at : Links → ℕ → ℕ → ℕ → List ℕ
+rows_at L zero m l = if m == zero then l ∷ [] else []
+rows_at L (suc n) m l = if m == suc n then l ∷ [] else flat_map (rows_at L n m) (L l)
+
+-- the first of these rows, then at most one more
+pub record HasFront (rows all : List ℕ) : Type 0 where
+  pub place : ℕ
+  pub inside : place ≤ length rows
+  pub cut : List ℕ
+  pub one : length cut ≤ 1
+  pub front : all ≡ take place rows ++ cut
+
+module _ {T : Type 0} where
+  -- the rows of height m of the vector with this root, in order
+  abbrev pub rows_of : Heap T → ℕ → ℕ → List ℕ
+  rows_of h m l = rows_at (links_at h) (height_at h l) m l
+
+  -- the new vector's rows of each height are the first ones of the old vector, then at most one more
+  abbrev pub TakesFirstRows : Heap T → Heap T → ℕ → ℕ → Type 0
+  TakesFirstRows old new vector v = (m : ℕ) → HasFront (rows_of old m vector) (rows_of new m v)
