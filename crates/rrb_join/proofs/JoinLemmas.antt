@@ -3,16 +3,18 @@ use Rattle.std.proofs.Common.{◌≡◌, ℕ, ◌-◌, ◌+◌, ◌<◌, ◌≤�
 use Rattle.std.proofs.lemmas.List.{length-take}
 use Rattle.std.proofs.lemmas.Bool.{cases_lt}
 use Rattle.node_heap.specs.Heap.{Heap, row_at, form_at, links_at}
-use Rattle.node_heap.specs.Calls.{SameRows, Unchanged}
+use Rattle.node_heap.specs.Calls.{Unchanged}
 use Rattle.rrb_core.specs.Vector.{height_at, elements, IsGoodVector}
 use Rattle.rrb_core.proofs.ClosedRows.{Stays}
 use Rattle.rrb_core.proofs.FillRule.{well-pos}
 use Rattle.rrb_core.proofs.Stays.{links-form}
-use Rattle.rrb_join.specs.Seam.{rows_at, rows_below, rows_of, but_last, AreAtNeed, HasSeam, JoinsRows, JoinsBelow, PutsInRow, PutsBelow}
+use Rattle.rrb_core.specs.Levels.{rows_at, rows_of}
+use Rattle.rrb_join.specs.Seam.{rows_under, but_last, AreAtNeed, HasSeam, JoinsRows, JoinsBelow, PutsInRow, PutsBelow}
 use Rattle.rrb_join.specs.Unmade.{AreLinks}
 use Rattle.rrb_join.proofs.AnswerLemmas.{height-stays}
 use Rattle.rrb_join.proofs.UnmadeLemmas.{links-live}
-use Rattle.rrb_join.proofs.RowsOfHeights.{none-before, none-after, rows-kept, below-named, seam-kept, one-at-need}
+use Rattle.rrb_core.proofs.LevelLemmas.{rows-kept, rows-of-same}
+use Rattle.rrb_join.proofs.RowsOfHeights.{none-before, none-after, below-named, seam-kept, one-at-need}
 
 module _ {T : Type 0} where
   -- a root with fewer than two links is a leaf
@@ -31,13 +33,6 @@ module _ {T : Type 0} where
 
   pub rows-of-kept : {P : ℕ → Type 0} {old new : Heap T} → Stays P old new → (m l : ℕ) → P l → rows_of new m l ≡ rows_of old m l
   rows-of-kept {P} {old} {new} s m l p = rw (height-stays s l p) (rows-kept s (height_at old l) m l p)
-
-  -- where all rows are the same, each of them stays
-  all-stay : (old new : Heap T) → SameRows old new → Stays (λ _. Unit {0}) old new
-  all-stay old new same = record { closed = λ l p k d b. tt; kept = λ l p. same l }
-
-  pub rows-of-same : (old new : Heap T) → SameRows old new → (m l : ℕ) → rows_of new m l ≡ rows_of old m l
-  rows-of-same old new same m l = rows-of-kept (all-stay old new same) m l tt
 
   -- a join with an empty side is the other side
   pub joins-left-none : (old new : Heap T) (left right : ℕ) → height_at old left ≡ 0 → ((m : ℕ) → rows_of new m right ≡ rows_of old m right) → JoinsRows old new left right right
@@ -66,8 +61,8 @@ module _ {T : Type 0} where
 
   -- a root over the links that were joined
   pub joins-root : (old mid new : Heap T) (left right n k height v : ℕ) (ls : List ℕ) → n ≡ height_at old left → k ≡ height_at old right → n ≤ height → k ≤ height → Stays (λ x. IsSome (row_at mid x)) mid new → AreLinks mid height ls
-      → JoinsBelow old mid n left k right height ls → ((m : ℕ) → m < height → rows_of new m v ≡ rows_below (links_at mid) height m ls) → ((m : ℕ) → height ≤ m → AreAtNeed new (rows_of new m v)) → JoinsRows old new left right v
-  joins-root old mid new left right n k height v ls e e' low low' s links joins below top m = rw (← e, ← e') (elim (cases_lt m height) as (λ _. HasSeam new (but_last (rows_at (links_at old) n m left)) (drop 1 (rows_at (links_at old) k m right)) (rows_of new m v)) [
+      → JoinsBelow old mid n left k right height ls → ((m : ℕ) → m < height → rows_of new m v ≡ rows_under (links_at mid) height m ls) → ((m : ℕ) → height ≤ m → AreAtNeed new 2 (rows_of new m v)) → JoinsRows old new left right v
+  joins-root old mid new left right n k height v ls e e' low low' s links joins below top m = rw (← e, ← e') (elim (cases_lt m height) as (λ _. HasSeam new 2 (but_last (rows_at (links_at old) n m left)) (drop 1 (rows_at (links_at old) k m right)) (rows_of new m v)) [
     | inl lower ↦
         let has = seam-kept s (below-named s height m ls (links-live mid height ls links)) (joins m lower) in
         record { seam = has.seam; few = has.few; rows = below m lower ∙ has.rows }
@@ -82,13 +77,14 @@ module _ {T : Type 0} where
   puts-after old mid new l v same puts m = let has = puts m in rw (rows-of-same old mid same.rows m l) at has
 
   pub puts-root : (old mid new : Heap T) (l height v : ℕ) (ls : List ℕ) → height ≡ height_at old l → Stays (λ x. IsSome (row_at mid x)) mid new → AreLinks mid height ls → PutsBelow old mid l height ls
-      → ((m : ℕ) → m < height → rows_of new m v ≡ rows_below (links_at mid) height m ls) → ((m : ℕ) → height ≤ m → AreAtNeed new (rows_of new m v)) → PutsInRow old new l v
-  puts-root old mid new l height v ls e s links puts below top m = rw (← e) (elim (cases_lt m height) as (λ _. (i : ℕ) × HasSeam new (take i (rows_at (links_at old) height m l)) (drop (i + 1) (rows_at (links_at old) height m l)) (rows_of new m v)) [
+      → ((m : ℕ) → m < height → rows_of new m v ≡ rows_under (links_at mid) height m ls) → ((m : ℕ) → height ≤ m → AreAtNeed new 2 (rows_of new m v)) → PutsInRow old new l v
+  puts-root old mid new l height v ls e s links puts below top m = rw (← e) (elim (cases_lt m height) as (λ _. (i : ℕ) × (i ≤ length (rows_at (links_at old) height m l) - 1) × HasSeam new 2 (take i (rows_at (links_at old) height m l)) (drop (i + 1) (rows_at (links_at old) height m l)) (rows_of new m v)) [
     | inl lower ↦
         let sub = puts m lower in
         let has = seam-kept s (below-named s height m ls (links-live mid height ls links)) sub.2 in
-        (sub.0, record { seam = has.seam; few = has.few; rows = below m lower ∙ has.rows })
+        let inside : sub.0 < length (rows_at (links_at old) height m l) = sub.1 in
+        (sub.0, omega arith, record { seam = has.seam; few = has.few; rows = below m lower ∙ has.rows })
     | inr high ↦
         let none : drop (0 + 1) (rows_at (links_at old) height m l) ≡ [] = none-after (links_at old) height m l (omega arith) in
-        (0, record { seam = rows_of new m v; few = top m high; rows = rw (none, append-nil) refl })
+        (0, omega arith, record { seam = rows_of new m v; few = top m high; rows = rw (none, append-nil) refl })
   ])

@@ -4,6 +4,8 @@ pub mod UnmadeLemmas
 pub mod SeamLemmas
 pub mod SeamRows
 pub mod JoinLemmas
+pub mod RestRows
 pub mod RestLemmas
 pub mod InsertLemmas
 pub mod CutLemmas
+pub mod CutRows

@@ -15,6 +15,10 @@ use Rattle.rrb_core.proofs.Lists.{items-drop}
 use Rattle.rrb_core.proofs.Stays.{links-stay, seq-stays, well-stays, thick-stays, sums-stay, items-stay, all-thick-stay, rows-stay}
 use Rattle.rrb_core.proofs.RowLists.{no-rows, rows-drop, rows-append, rows-live, IsOver, at-place, child-at}
 use Rattle.rrb_join.proofs.UnmadeLemmas.{has-links, rows-above, items-above, thick-above, leaf-items, leaf-are-links, links-append, thick-append, items-append, links-later, items-later, thick-later, links-live}
+use Rattle.rrb_core.specs.Levels.{rows_at}
+use Rattle.rrb_join.specs.Rest.{PutsBefore}
+use Rattle.rrb_core.proofs.LevelLemmas.{rows-kept, all-kept}
+use Rattle.rrb_join.proofs.RestRows.{merged-before}
 use Rattle.rrb_join.proofs.SeamLemmas.{child-thick, child-row}
 
 pub row-later : {T : Type 0} {P : ℕ → Type 0} {old new : Heap T} → Stays P old new → (n l : ℕ) → P l → IsSomeRow old n l → IsSomeRow new n l
@@ -25,6 +29,7 @@ pub record IsMerged {T : Type 0} (h z : Heap T) (n m r : ℕ) (parts all : List 
   pub unmade : AreUnmade z m all (items_below h m parts ++ seq_at (form_at h) n r)
   pub more : length parts < length all
   pub thick : IsThick (form_at h) n r → (16 ≤ length all) × AreThick z m all
+  pub rows : PutsBefore h z m parts n r m all
 
 pub merged : {T : Type 0} (h z : Heap T) (n m r : ℕ) (parts all : List ℕ) → Stays (λ x. IsSome (row_at h x)) h z → m ≡ n → AreLinks h m parts → AreThick h m parts → length parts ≤ 32
     → IsSomeRow h n r → all ≡ (take 0 (links_at h r) ++ parts) ++ drop 0 (links_at h r) → IsMerged h z n m r parts all
@@ -45,6 +50,7 @@ merged h z n m r parts all s e links thick few row is =
       thick = λ t.
           let own-thick = own.thick (rw e t) in
           (omega (arith, size, own-thick.0), rw is (thick-later s m (parts ++ links_at h r) live (thick-append h m parts (links_at h r) thick own-thick.1)));
+      rows = merged-before s e whole is;
     }
 
 -- the later children of a row, beside links of which the height is known where there is a later child
@@ -53,6 +59,7 @@ pub record AreBeside {T : Type 0} (h z : Heap T) (below m l from : ℕ) : Type 0
   pub items : flat_map (seq_at (form_at z) m) (drop from (links_at z l)) ≡ flat_map (seq_at (form_at h) below) (drop from (links_at h l))
   pub thick : All (IsThick (form_at h) below) (drop from (links_at h l)) → All (IsThick (form_at z) m) (drop from (links_at z l))
   pub same : links_at z l ≡ links_at h l
+  pub levels : (p : ℕ) → flat_map (rows_at (links_at z) m p) (drop from (links_at z l)) ≡ flat_map (rows_at (links_at h) below p) (drop from (links_at h l))
 
 pub beside : {T : Type 0} (h z : Heap T) (below m l from : ℕ) → Stays (λ x. IsSome (row_at h x)) h z → IsOver h below l → (from < length (links_at h l) → m ≡ below) → AreBeside h z below m l from
 beside h z below m l from s o more =
@@ -67,6 +74,7 @@ beside h z below m l from s o more =
             items = rw (same, e) (items-stay s below (drop from (links_at h l)) live);
             thick = rw (same, e) (λ t. all-thick-stay s below (drop from (links_at h l)) live t);
             same = same;
+            levels = λ p. rw (same, e) (all-kept s below p (drop from (links_at h l)) live);
           }
       | inr ge ↦
           let none : drop from (links_at h l) ≡ [] = drop_all from (links_at h l) ge in
@@ -75,6 +83,7 @@ beside h z below m l from s o more =
             items = rw (same, none) refl;
             thick = rw (same, none) (λ t. All-nil (IsThick (form_at z) m));
             same = same;
+            levels = λ p. rw (same, none) refl;
           }
     ]
 
@@ -158,6 +167,8 @@ module _ {T : Type 0} (h : Heap T) (below l : ℕ) (o : IsOver h below l) (i wit
 -- the child in which the rest of a row begins isn't its last, and the next one stands in a later heap
 pub record IsNext {T : Type 0} (h a : Heap T) (height below l i within count child next : ℕ) : Type 0 where
   pub more : i + 1 < length (links_at h l)
+  pub place : next ≡ get_or (links_at h l) (i + 1) 0
+  pub levels : (p : ℕ) → rows_at (links_at a) below p next ≡ rows_at (links_at h) below p next
   pub child_thick : IsThick (form_at h) below child
   pub row : IsSomeRow a below next
   pub same : seq_at (form_at a) below next ≡ seq_at (form_at h) below next
@@ -175,6 +186,8 @@ is-next h a height below l i within count child next links e s o lt is inside ch
     let keep : IsThick (form_at h) below next → IsThick (form_at a) below next = λ t. thick-stays s below next there.live t in
     rw e (record {
       more = more;
+      place = next-is;
+      levels = λ p. rows-kept s below p next there.live;
       child_thick = rw child-is (child-thick h below l i o more);
       row = row-later s below next there.live (child-row h below l next there);
       same = seq-stays s below next there.live;

@@ -13,9 +13,11 @@ use Rattle.rrb_join.specs.Unmade.{AreThick, IsSomeRow, AreUnmade, EndsIn, Begins
 use Rattle.rrb_core.proofs.Lists.{items-cut}
 use Rattle.rrb_core.proofs.Stays.{items-stay, all-thick-stay, rows-stay}
 use Rattle.rrb_core.proofs.RowLists.{no-rows, rows-take, rows-drop, take-thick, rows-around, rows-live, IsOver, over, IsChild, child-at}
-use Rattle.rrb_join.specs.Seam.{rows_at, but_last}
+use Rattle.rrb_core.specs.Levels.{rows_at}
+use Rattle.rrb_join.specs.Seam.{but_last}
 use Rattle.rrb_join.proofs.UnmadeLemmas.{has-links, rows-above, items-above, thick-above, leaf-items, leaf-are-links}
-use Rattle.rrb_join.proofs.RowsOfHeights.{rows-inner, rows-some, but-last-append}
+use Rattle.rrb_core.proofs.LevelLemmas.{rows-inner}
+use Rattle.rrb_join.proofs.RowsOfHeights.{rows-some, but-last-append}
 
 -- an inner row by its children, in the words of its own height
 pub over-at : {T : Type 0} (h : Heap T) (n below l : ℕ) → n ≡ suc below → IsWell (form_at h) n l → HasSums h n l → IsOver h below l

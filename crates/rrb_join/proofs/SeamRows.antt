@@ -8,72 +8,74 @@ use Rattle.rrb_core.proofs.ClosedRows.{Stays}
 use Rattle.rrb_core.proofs.Lists.{items-cut, items-front, items-drop}
 use Rattle.rrb_core.specs.Build.{AreRows}
 use Rattle.rrb_core.proofs.RowLists.{rows-take, rows-drop, rows-live, IsOver}
-use Rattle.rrb_join.specs.Seam.{rows_at, rows_below, but_last, HasSeam, JoinsBelow, PutsBelow}
+use Rattle.rrb_core.specs.Levels.{rows_at}
+use Rattle.rrb_join.specs.Seam.{rows_under, but_last, AreAtNeed, HasSeam, JoinsBelow, PutsBelow}
 use Rattle.rrb_join.specs.Unmade.{AreLinks, EndsIn, BeginsWith}
 use Rattle.rrb_join.proofs.AnswerLemmas.{all-links-stay}
 use Rattle.rrb_join.proofs.UnmadeLemmas.{links-live}
-use Rattle.rrb_join.proofs.RowsOfHeights.{rows-own, rows-inner, rows-own-all, below-above, below-rows, none-before, none-after, below-named, all-kept, below-kept, need-kept, seam-kept, made-at-need, around}
+use Rattle.rrb_core.proofs.LevelLemmas.{rows-own, rows-inner, all-kept}
+use Rattle.rrb_join.proofs.RowsOfHeights.{rows-own-all, below-above, below-rows, none-before, none-after, below-named, below-kept, need-kept, seam-kept, around}
 
 -- what the rows that are made over links lead to
 module _ {T : Type 0} {y k z : Heap T} {below : ℕ} {unmade made : List ℕ} (sy : Stays (λ x. IsSome (row_at y x)) y z) (sk : Stays (λ x. IsSome (row_at k x)) k z) (named : AreLinks y below unmade) (rows : AreRows k below made) (over-links : flat_map (links_at k) made ≡ unmade) where
-  pub amid-lower : (p : ℕ) (front back : List ℕ) → p < below → HasSeam y front back (rows_below (links_at y) below p unmade) → HasSeam z front back (flat_map (rows_at (links_at z) below p) made)
+  pub amid-lower : (p : ℕ) (front back : List ℕ) → p < below → HasSeam y 2 front back (rows_under (links_at y) below p unmade) → HasSeam z 2 front back (flat_map (rows_at (links_at z) below p) made)
   amid-lower p front back lower sub =
       let live : 0 < below → All (λ x. IsSome (row_at y x)) unmade = links-live y below unmade named in
       let has = seam-kept sy (below-named sy below p unmade live) sub in
       let links : flat_map (links_at z) made ≡ unmade = all-links-stay sk made (rows-live k below made rows) ∙ over-links in
-      record { seam = has.seam; few = has.few; rows = below-rows (links_at z) below p made lower ∙ ap (rows_below (links_at z) below p) links ∙ below-kept sy below p unmade live ∙ has.rows }
+      record { seam = has.seam; few = has.few; rows = below-rows (links_at z) below p made lower ∙ ap (rows_under (links_at z) below p) links ∙ below-kept sy below p unmade live ∙ has.rows }
 
-  pub amid-own : length made ≤ 2 → (length unmade ≤ 32 → length made ≡ 1) → (p : ℕ) (front back : List ℕ) → p ≡ below → front ≡ [] → back ≡ [] → HasSeam z front back (flat_map (rows_at (links_at z) below p) made)
-  amid-own few one p front back top none none' =
+  pub amid-own : AreAtNeed k 2 made → (p : ℕ) (front back : List ℕ) → p ≡ below → front ≡ [] → back ≡ [] → HasSeam z 2 front back (flat_map (rows_at (links_at z) below p) made)
+  amid-own few p front back top none none' =
       record {
         seam = made;
-        few = need-kept sk made (rows-live k below made rows) (made-at-need k made unmade over-links few one);
+        few = need-kept sk 2 made (rows-live k below made rows) few;
         rows = rw (none, none', append-nil, top) (rows-own-all (links_at z) below made);
       }
 
 -- those rows between two lists of rows that stay
 pub beside : {T : Type 0} (h z : Heap T) (height below p : ℕ) (ks made js all front back x y : List ℕ) → height ≡ suc below → Stays (λ l. IsSome (row_at h l)) h z → AreRows h below ks → AreRows h below js → all ≡ (ks ++ made) ++ js
-    → front ≡ flat_map (rows_at (links_at h) below p) ks ++ x → back ≡ y ++ flat_map (rows_at (links_at h) below p) js → HasSeam z x y (flat_map (rows_at (links_at z) below p) made) → HasSeam z front back (rows_below (links_at z) height p all)
+    → front ≡ flat_map (rows_at (links_at h) below p) ks ++ x → back ≡ y ++ flat_map (rows_at (links_at h) below p) js → HasSeam z 2 x y (flat_map (rows_at (links_at z) below p) made) → HasSeam z 2 front back (rows_under (links_at z) height p all)
 beside h z height below p ks made js all front back x y e s left right is before after mid =
     let f : ℕ → List ℕ = rows_at (links_at z) below p in
     let g : ℕ → List ℕ = rows_at (links_at h) below p in
     let split : flat_map f ((ks ++ made) ++ js) ≡ (flat_map f ks ++ flat_map f made) ++ flat_map f js = flat_map-append f (ks ++ made) js ∙ ap (λ (xs : List ℕ). xs ++ flat_map f js) (flat_map-append f ks made) in
     let kept : flat_map f ks ≡ flat_map g ks = all-kept s below p ks (rows-live h below ks left) in
     let kept' : flat_map f js ≡ flat_map g js = all-kept s below p js (rows-live h below js right) in
-    let whole : rows_below (links_at z) height p all ≡ (flat_map g ks ++ ((x ++ mid.seam) ++ y)) ++ flat_map g js =
-    ap (λ (q : ℕ). rows_below (links_at z) q p all) e ∙ below-above (links_at z) below p all ∙ ap (flat_map f) is ∙ split ∙ rw (kept, kept', mid.rows) refl in
-    record { seam = mid.seam; few = mid.few; rows = around front back (flat_map g ks) (flat_map g js) x mid.seam y (rows_below (links_at z) height p all) before after whole }
+    let whole : rows_under (links_at z) height p all ≡ (flat_map g ks ++ ((x ++ mid.seam) ++ y)) ++ flat_map g js =
+    ap (λ (q : ℕ). rows_under (links_at z) q p all) e ∙ below-above (links_at z) below p all ∙ ap (flat_map f) is ∙ split ∙ rw (kept, kept', mid.rows) refl in
+    record { seam = mid.seam; few = mid.few; rows = around front back (flat_map g ks) (flat_map g js) x mid.seam y (rows_under (links_at z) height p all) before after whole }
 
 -- the links over a seam
 pub joins-up : {T : Type 0} {h y k z : Heap T} {height below n l place i last m r from j first : ℕ} {unmade made all : List ℕ} → height ≡ suc below → Stays (λ x. IsSome (row_at h x)) h z → Stays (λ x. IsSome (row_at y x)) y z → Stays (λ x. IsSome (row_at k x)) k z
-    → EndsIn h below n l place i last → BeginsWith h below m r from j first → AreLinks y below unmade → AreRows k below made → flat_map (links_at k) made ≡ unmade → length made ≤ 2 → (length unmade ≤ 32 → length made ≡ 1)
+    → EndsIn h below n l place i last → BeginsWith h below m r from j first → AreLinks y below unmade → AreRows k below made → flat_map (links_at k) made ≡ unmade → AreAtNeed k 2 made
     → JoinsBelow h y i last j first below unmade → all ≡ (take place (links_at k l) ++ made) ++ drop from (links_at k r) → links_at k l ≡ links_at h l → links_at k r ≡ links_at h r → JoinsBelow h z n l m r height all
-joins-up {T} {h} {y} {k} {z} {height} {below} {n} {l} {place} {i} {last} {m} {r} {from} {j} {first} {unmade} {made} {all} e s sy sk ends begins named rows over-links few one sub gathered left right p lower =
+joins-up {T} {h} {y} {k} {z} {height} {below} {n} {l} {place} {i} {last} {m} {r} {from} {j} {first} {unmade} {made} {all} e s sy sk ends begins named rows over-links few sub gathered left right p lower =
     let low : p ≤ below = omega arith in
     let is : all ≡ (take place (links_at h l) ++ made) ++ drop from (links_at h r) = rw (left, right) at gathered in
-    let mid : HasSeam z (but_last (rows_at (links_at h) i p last)) (drop 1 (rows_at (links_at h) j p first)) (flat_map (rows_at (links_at z) below p) made) =
-    elim (cases_lt p below) as (λ _. HasSeam z (but_last (rows_at (links_at h) i p last)) (drop 1 (rows_at (links_at h) j p first)) (flat_map (rows_at (links_at z) below p) made)) [
+    let mid : HasSeam z 2 (but_last (rows_at (links_at h) i p last)) (drop 1 (rows_at (links_at h) j p first)) (flat_map (rows_at (links_at z) below p) made) =
+    elim (cases_lt p below) as (λ _. HasSeam z 2 (but_last (rows_at (links_at h) i p last)) (drop 1 (rows_at (links_at h) j p first)) (flat_map (rows_at (links_at z) below p) made)) [
       | inl inner ↦ amid-lower sy sk named rows over-links p _ _ inner (sub p inner)
-      | inr high ↦ amid-own sy sk named rows over-links few one p _ _ (omega arith) (none-before (links_at h) i p last (omega (arith, ends.low))) (none-after (links_at h) j p first (omega (arith, begins.low)))
+      | inr high ↦ amid-own sy sk named rows over-links few p _ _ (omega arith) (none-before (links_at h) i p last (omega (arith, ends.low))) (none-after (links_at h) j p first (omega (arith, begins.low)))
     ] in
     beside h z height below p (take place (links_at h l)) made (drop from (links_at h r)) all (but_last (rows_at (links_at h) n p l)) (drop 1 (rows_at (links_at h) m p r)) (but_last (rows_at (links_at h) i p last)) (drop 1 (rows_at (links_at h) j p first)) e s ends.rows begins.rows is (ends.before p low) (begins.after p low) mid
 
 -- the links over a child into which an element was put
 pub puts-up : {T : Type 0} {h y k z : Heap T} {height below l i child : ℕ} {unmade made all : List ℕ} → height ≡ suc below → Stays (λ x. IsSome (row_at h x)) h z → Stays (λ x. IsSome (row_at y x)) y z → Stays (λ x. IsSome (row_at k x)) k z
-    → IsOver h below l → i < length (links_at h l) → child ≡ get_or (links_at h l) i 0 → AreLinks y below unmade → AreRows k below made → flat_map (links_at k) made ≡ unmade → length made ≤ 2 → (length unmade ≤ 32 → length made ≡ 1)
+    → IsOver h below l → i < length (links_at h l) → child ≡ get_or (links_at h l) i 0 → AreLinks y below unmade → AreRows k below made → flat_map (links_at k) made ≡ unmade → AreAtNeed k 2 made
     → PutsBelow h y child below unmade → all ≡ (take i (links_at k l) ++ made) ++ drop (i + 1) (links_at k l) → links_at k l ≡ links_at h l → PutsBelow h z l height all
-puts-up {T} {h} {y} {k} {z} {height} {below} {l} {i} {child} {unmade} {made} {all} e s sy sk o lt child-is named rows over-links few one sub gathered same p lower =
+puts-up {T} {h} {y} {k} {z} {height} {below} {l} {i} {child} {unmade} {made} {all} e s sy sk o lt child-is named rows over-links few sub gathered same p lower =
     let low : p ≤ below = omega arith in
     let is : all ≡ (take i (links_at h l) ++ made) ++ drop (i + 1) (links_at h l) = rw same at gathered in
     let g : ℕ → List ℕ = rows_at (links_at h) below p in
     let own : rows_at (links_at h) height p l ≡ flat_map g (links_at h l) = ap (λ (q : ℕ). rows_at (links_at h) q p l) e ∙ rows-inner (links_at h) below p l low in
-    let mid : (q : ℕ) × (q < length (g child)) × HasSeam z (take q (g child)) (drop (q + 1) (g child)) (flat_map (rows_at (links_at z) below p) made) =
-    elim (cases_lt p below) as (λ _. (q : ℕ) × (q < length (rows_at (links_at h) below p child)) × HasSeam z (take q (rows_at (links_at h) below p child)) (drop (q + 1) (rows_at (links_at h) below p child)) (flat_map (rows_at (links_at z) below p) made)) [
+    let mid : (q : ℕ) × (q < length (g child)) × HasSeam z 2 (take q (g child)) (drop (q + 1) (g child)) (flat_map (rows_at (links_at z) below p) made) =
+    elim (cases_lt p below) as (λ _. (q : ℕ) × (q < length (rows_at (links_at h) below p child)) × HasSeam z 2 (take q (rows_at (links_at h) below p child)) (drop (q + 1) (rows_at (links_at h) below p child)) (flat_map (rows_at (links_at z) below p) made)) [
       | inl inner ↦ let has = sub p inner in (has.0, has.1, amid-lower sy sk named rows over-links p _ _ inner has.2)
       | inr high ↦
           let top : p ≡ below = omega arith in
           let alone : rows_at (links_at h) below p child ≡ child ∷ [] = rw top (rows-own (links_at h) below child) in
-          (0, rw alone (omega arith), amid-own sy sk named rows over-links few one p _ _ top refl (rw alone refl))
+          (0, rw alone (omega arith), amid-own sy sk named rows over-links few p _ _ top refl (rw alone refl))
     ] in
     let inside : mid.0 < length (g (get_or (links_at h l) i 0)) = rw (← child-is) mid.1 in
     let count : ℕ = length (flat_map g (take i (links_at h l))) + mid.0 in

@@ -13,6 +13,7 @@ use Rattle.rrb_core.specs.Vector.{HasSums, height_at, elements, IsGoodVector}
 use Rattle.rrb_core.proofs.ClosedRows.{Stays}
 use Rattle.rrb_core.specs.Build.{IsRowOf, AreRows}
 use Rattle.rrb_join.specs.Unmade.{items_below, AreLinks, AreThick, IsSomeRow, AreUnmade, CanBeRows}
+use Rattle.rrb_join.specs.Rest.{AreHalves}
 use Rattle.rrb_core.proofs.Lists.{child-short}
 use Rattle.rrb_core.proofs.LinkCounts.{count-split}
 use Rattle.node_heap.proofs.BuildLemmas.{Builds-beside}
@@ -194,6 +195,7 @@ pub record AreTwoOver {T : Type 0} (old mid new : Heap T) (n a b : ℕ) (ls : Li
   pub items : flat_map (seq_at (form_at new) n) (a ∷ b ∷ []) ≡ items_below old n ls
   pub links : flat_map (links_at new) (a ∷ b ∷ []) ≡ ls
   pub rows : 16 ≤ length (links_at mid a) → 1 ≤ length (links_at new b) → AreRows new n (a ∷ b ∷ [])
+  pub halves : 16 ≤ length (links_at mid a) → 17 ≤ length (links_at new b) → AreHalves new (a ∷ b ∷ [])
   pub thick : 16 ≤ length (links_at mid a) → 16 ≤ length (links_at new b) → AreThick old n ls → All (IsThick (form_at new) n) (a ∷ b ∷ [])
 
 pub two-over : {T : Type 0} {old mid new : Heap T} {n a b : ℕ} (i : ℕ) (ls : List ℕ) → Stays (λ k. IsSome (row_at old k)) old mid → Stays (λ k. IsSome (row_at mid k)) mid new → AreLinks old n ls
@@ -215,6 +217,7 @@ two-over {T} {old} {mid} {new} {n} {a} {b} i ls s s' links one one-is two two-is
       links = all;
       rows = λ low some.
           rows-append new n (a ∷ []) (b ∷ []) (row-one new n a (items_below old n (take i ls)) later (rw (links-stay s' a live) (omega (arith, low)))) (row-one new n b (items_below mid n (take (length ls - i) (drop i ls))) two some) (λ _. thick-one new n a (first low (within some)));
+      halves = λ low low'. record { most = omega arith; first = λ _. rw (links-stay s' a live) low; second = λ _. low' };
       thick = λ low low' full.
           All-cons (IsThick (form_at new) n) a (b ∷ []) (first low (within (omega (arith, low')))) (thick-one new n b (row-thick mid new n b (take (length ls - i) (drop i ls)) s' (rw cut (links-later s n (drop i ls) named rest)) two-is (rw two-is at low') (rw cut (thick-later s n (drop i ls) named (thick-drop old n i ls full)))));
     }

@@ -1,3 +1,4 @@
 pub mod Answers
 pub mod Seam
+pub mod Rest
 pub mod Unmade

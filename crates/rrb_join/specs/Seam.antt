@@ -1,55 +1,59 @@
--- What a join or an insert makes of the rows of each height.
-use Rattle.std.specs.Prelude.{◌≡◌, ℕ, zero, suc, ◌-◌, ◌+◌, ◌<◌, ◌≤◌, List, [], ◌∷◌, ◌++◌, length, take, drop, ◌==◌, if◌then◌else◌}
+-- What a join, an insert and a cut make of the rows of each height.
+use Rattle.std.specs.Prelude.{◌≡◌, ℕ, zero, suc, ◌-◌, ◌+◌, ◌<◌, ◌≤◌, List, [], ◌++◌, length, take, drop, slice_index}
 use Rattle.std.specs.List.{flat_map}
 use Rattle.node_heap.specs.Links.{Links}
 use Rattle.node_heap.specs.Heap.{Heap, links_at}
-use Rattle.rrb_core.specs.Vector.{height_at}
+use Rattle.rrb_core.specs.Levels.{rows_at, rows_of}
 
--- the rows of height m below a row of height n, in order; at its own height it is the row itself
-unfoldable pub rows_at : Links → ℕ → ℕ → ℕ → List ℕ
-rows_at L zero m l = if m == zero then l ∷ [] else []
-rows_at L (suc n) m l = if m == suc n then l ∷ [] else flat_map (rows_at L n m) (L l)
-
--- the same below links that a row of height n may hold
-unfoldable pub rows_below : Links → ℕ → ℕ → List ℕ → List ℕ
-rows_below L zero m ls = []
-rows_below L (suc n) m ls = flat_map (rows_at L n m) ls
+-- the rows of height m below links that a row of height n may hold, in order
+unfoldable pub rows_under : Links → ℕ → ℕ → List ℕ → List ℕ
+rows_under L zero m ls = []
+rows_under L (suc n) m ls = flat_map (rows_at L n m) ls
 
 -- all but the last
 abbrev pub but_last : List ℕ → List ℕ
 but_last ls = take (length ls - 1) ls
 
 module _ {T : Type 0} where
-  -- the rows of height m of the vector with this root, in order
-  abbrev pub rows_of : Heap T → ℕ → ℕ → List ℕ
-  rows_of h m l = rows_at (links_at h) (height_at h l) m l
+  -- at most `count` rows, and each two neighbours have more links together than one row can hold
+  pub record AreAtNeed (h : Heap T) (count : ℕ) (rows : List ℕ) : Type 0 where
+    pub most : length rows ≤ count
+    pub need : (i : ℕ) → i + 1 < length rows → 32 < length (links_at h (slice_index rows i)) + length (links_at h (slice_index rows (i + 1)))
 
-  -- at most two rows, and two only where they have more links together than one row can hold
-  pub record AreAtNeed (h : Heap T) (rows : List ℕ) : Type 0 where
-    pub most : length rows ≤ 2
-    pub need : 2 ≤ length rows → 32 < length (flat_map (links_at h) rows)
-
-  -- the rows in front, then at most two rows at need, then the rows behind
-  pub record HasSeam (h : Heap T) (front back all : List ℕ) : Type 0 where
+  -- the rows in front, then at most `count` rows at need, then the rows behind
+  pub record HasSeam (h : Heap T) (count : ℕ) (front back all : List ℕ) : Type 0 where
     pub seam : List ℕ
-    pub few : AreAtNeed h seam
+    pub few : AreAtNeed h count seam
     pub rows : all ≡ (front ++ seam) ++ back
 
   -- the new vector's rows of each height are those of the left one but its last, then at most two at need, then those of the
   -- right one but its first
   abbrev pub JoinsRows : Heap T → Heap T → ℕ → ℕ → ℕ → Type 0
-  JoinsRows old new left right v = (m : ℕ) → HasSeam new (but_last (rows_of old m left)) (drop 1 (rows_of old m right)) (rows_of new m v)
+  JoinsRows old new left right v = (m : ℕ) → HasSeam new 2 (but_last (rows_of old m left)) (drop 1 (rows_of old m right)) (rows_of new m v)
 
   -- the new vector's rows of each height are the old one's, with at most two at need in the place of one
   abbrev pub PutsInRow : Heap T → Heap T → ℕ → ℕ → Type 0
-  PutsInRow old new vector v = (m : ℕ) → (i : ℕ) × HasSeam new (take i (rows_of old m vector)) (drop (i + 1) (rows_of old m vector)) (rows_of new m v)
+  PutsInRow old new vector v = (m : ℕ) → (i : ℕ) × (i ≤ length (rows_of old m vector) - 1) × HasSeam new 2 (take i (rows_of old m vector)) (drop (i + 1) (rows_of old m vector)) (rows_of new m v)
 
-  -- the same of the rows below links that one row or two of a height may hold, where those links join two rows
+  -- the new vector's rows of each height are at most two at need, then the last ones of the old vector
+  abbrev pub DropsRows : Heap T → Heap T → ℕ → ℕ → Type 0
+  DropsRows old new vector v = (m : ℕ) → (i : ℕ) × HasSeam new 2 [] (drop i (rows_of old m vector)) (rows_of new m v)
+
+  -- the new vector's rows of each height are at most two at need, then a part of the old vector's, then at most one more
+  abbrev pub SlicesRows : Heap T → Heap T → ℕ → ℕ → Type 0
+  SlicesRows old new vector v = (m : ℕ) → (i : ℕ) × (j : ℕ) × (cut : List ℕ) × (length cut ≤ 1) × HasSeam new 2 [] (drop i (take j (rows_of old m vector)) ++ cut) (rows_of new m v)
+
+  -- the new vector's rows of each height are the first ones of the old vector, then at most three at need, then the last ones
+  -- of the old vector
+  abbrev pub ErasesRows : Heap T → Heap T → ℕ → ℕ → Type 0
+  ErasesRows old new vector v = (m : ℕ) → (i : ℕ) × (j : ℕ) × HasSeam new 3 (take i (rows_of old m vector)) (drop j (rows_of old m vector)) (rows_of new m v)
+
+  -- what JoinsRows says, of the rows below links that one row or two of a height may hold, where those links join two rows
   abbrev pub JoinsBelow : Heap T → Heap T → ℕ → ℕ → ℕ → ℕ → ℕ → List ℕ → Type 0
   JoinsBelow old new n left m right height ls =
-      (p : ℕ) → p < height → HasSeam new (but_last (rows_at (links_at old) n p left)) (drop 1 (rows_at (links_at old) m p right)) (rows_below (links_at new) height p ls)
+      (p : ℕ) → p < height → HasSeam new 2 (but_last (rows_at (links_at old) n p left)) (drop 1 (rows_at (links_at old) m p right)) (rows_under (links_at new) height p ls)
 
-  -- or where they have one element more than a row of that height
+  -- and what PutsInRow says, where those links have one element more than a row of that height
   abbrev pub PutsBelow : Heap T → Heap T → ℕ → ℕ → List ℕ → Type 0
   PutsBelow old new l height ls =
-      (p : ℕ) → p < height → (i : ℕ) × (i < length (rows_at (links_at old) height p l)) × HasSeam new (take i (rows_at (links_at old) height p l)) (drop (i + 1) (rows_at (links_at old) height p l)) (rows_below (links_at new) height p ls)
+      (p : ℕ) → p < height → (i : ℕ) × (i < length (rows_at (links_at old) height p l)) × HasSeam new 2 (take i (rows_at (links_at old) height p l)) (drop (i + 1) (rows_at (links_at old) height p l)) (rows_under (links_at new) height p ls)

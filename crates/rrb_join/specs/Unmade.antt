@@ -6,7 +6,8 @@ use Rattle.node_heap.specs.Heap.{Heap, form_at, links_at, holds_at, hold_count, 
 use Rattle.rrb_core.specs.Seq.{seq_at, IsThick, IsWell}
 use Rattle.rrb_core.specs.Vector.{HasSums}
 use Rattle.rrb_core.specs.Build.{AreRows}
-use Rattle.rrb_join.specs.Seam.{rows_at, but_last}
+use Rattle.rrb_core.specs.Levels.{rows_at}
+use Rattle.rrb_join.specs.Seam.{but_last}
 
 module _ {T : Type 0} where
   -- the elements below links that a row of height n may hold

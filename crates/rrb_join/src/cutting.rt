@@ -4,6 +4,7 @@ ghost use Rattle.node_heap.specs.Heap.{hold_count, HasSpares, IsGraph};
 ghost use Rattle.node_heap.specs.Calls.{Answered, MakesJust, Unchanged};
 ghost use Rattle.rrb_core.specs.Vector.{elements, height_at, IsGoodVector, IsSameVector};
 ghost use Rattle.rrb_join.specs.Answers.{GivesItself, IsPart, RisesAtNeed};
+ghost use Rattle.rrb_join.specs.Seam.{DropsRows, SlicesRows, ErasesRows};
 
 use crate::joining::{SEAM_NODES, joined_root};
 use crate::rests::rest_root;
@@ -35,14 +36,16 @@ impl From<NoMemory> for SliceFault {
 
 /// The vector without its first `count` elements, which is the empty one past the end. It makes rows along the cut alone,
 /// at most two for each height of the rest and one more, so at most 15 nodes, and shares all others. The rest is no higher
-/// than the vector. With no element dropped it gives the vector itself, which takes no memory. Refused only where memory
-/// runs out, and then nothing but the heap's spares changes.
+/// than the vector, and no row is split in vain: at each height it has at most two rows, and two only where they have more
+/// than 32 links together, then the last rows of the vector. With no element dropped it gives the vector itself, which
+/// takes no memory. Refused only where memory runs out, and then nothing but the heap's spares changes.
 pub fn drop_front<T>(heap: &mut Heap<T>, vector: FlexRef, count: u32) -> Result<Flex, NoMemory>
     requires good { IsGoodVector heap.old vector }
     requires few { hold_count heap.old < 2 ^ 59 }
     ensures items { IfOk result (λ v. elements heap.new v ≡ drop count (elements heap.old vector)) }
     ensures good { IfOk result (λ v. IsGoodVector heap.new v) }
     ensures low { IfOk result (λ v. height_at heap.new v ≤ height_at heap.old vector) }
+    ensures seam { IfOk result (λ v. DropsRows heap.old heap.new vector v) }
     ensures answered { IfOk result (λ v. Answered heap.old heap.new [] v 0 (2 * height_at heap.new v + 1)) }
     ensures made { IfOk result (λ v. MakesJust heap.old heap.new) }
     ensures none { count ≡ 0 → GivesItself heap.old heap.new result vector }
@@ -68,9 +71,11 @@ fn is_part<T>(heap: &Heap<T>, vector: FlexRef, from: u32, to: u32) -> bool
 }
 
 /// The elements from the index `from` to the one before `to`. It makes at most three nodes for each height of the vector and
-/// two more, so at most 23, and gives up again what it made on the way. The slice is no higher than the vector. Where it is
-/// the whole vector it gives the vector itself, which takes no memory. Refused with `Range` unless `from` is at most `to`
-/// and `to` at most the length, and with `Memory` where memory runs out. A refusal changes nothing but the heap's spares.
+/// two more, so at most 23, and gives up again what it made on the way. The slice is no higher than the vector. At each
+/// height it has at most two rows, and two only where they have more than 32 links together, then a part of the vector's
+/// rows, then at most one more. Where it is the whole vector it gives the vector itself, which takes no memory. Refused
+/// with `Range` unless `from` is at most `to` and `to` at most the length, and with `Memory` where memory runs out. A
+/// refusal changes nothing but the heap's spares.
 pub fn slice<T: Drop>(
     heap: &mut Heap<T>,
     vector: FlexRef,
@@ -82,6 +87,7 @@ pub fn slice<T: Drop>(
     ensures items { IfOk result (λ v. elements heap.new v ≡ drop from (take to (elements heap.old vector))) }
     ensures good { IfOk result (λ v. IsGoodVector heap.new v) }
     ensures low { IfOk result (λ v. height_at heap.new v ≤ height_at heap.old vector) }
+    ensures seam { IfOk result (λ v. SlicesRows heap.old heap.new vector v) }
     ensures answered { IfOk result (λ v. Answered heap.old heap.new [] v 0 (3 * height_at heap.old vector + 2)) }
     ensures made { IfOk result (λ v. heap.new.made ≤ heap.old.made + (3 * height_at heap.old vector + 2)) }
     ensures whole { from ≡ 0 → to ≡ length (elements heap.old vector) → GivesItself heap.old heap.new result vector }
@@ -106,9 +112,11 @@ pub fn slice<T: Drop>(
 /// The vector without the elements from the index `from` to the one before `to`. It makes at most five nodes for each
 /// height of the vector and five more, so at most 40, and gives up again what it made on the way. The vector grows one
 /// row higher at most, and only where its root needs two rows, which have more than 32 links together: a cut inside a
-/// row of 32 links can leave one row more. Where it erases nothing it gives the vector itself, which takes no memory.
-/// Refused with `Range` unless `from` is at most `to` and `to` at most the length, and with `Memory` where memory runs
-/// out. A refusal changes nothing but the heap's spares.
+/// row of 32 links can leave one row more. At each height it has the first rows of the vector, then at most three, of
+/// which each two neighbours have more than 32 links together, then the last rows of the vector; three may have links
+/// that two could hold. Where it erases nothing it gives the vector itself, which takes no memory. Refused with `Range`
+/// unless `from` is at most `to` and `to` at most the length, and with `Memory` where memory runs out. A refusal changes
+/// nothing but the heap's spares.
 pub fn erase<T: Drop>(
     heap: &mut Heap<T>,
     vector: FlexRef,
@@ -120,6 +128,7 @@ pub fn erase<T: Drop>(
     ensures items { IfOk result (λ v. elements heap.new v ≡ take from (elements heap.old vector) ++ drop to (elements heap.old vector)) }
     ensures good { IfOk result (λ v. IsGoodVector heap.new v) }
     ensures low { IfOk result (λ v. RisesAtNeed heap.new (height_at heap.old vector) v) }
+    ensures seam { IfOk result (λ v. ErasesRows heap.old heap.new vector v) }
     ensures answered { IfOk result (λ v. Answered heap.old heap.new [] v 0 (5 * height_at heap.old vector + 5)) }
     ensures made { IfOk result (λ v. heap.new.made ≤ heap.old.made + (5 * height_at heap.old vector + 5)) }
     ensures none { from ≡ to → to ≤ length (elements heap.old vector) → GivesItself heap.old heap.new result vector }

@@ -8,14 +8,16 @@ ghost use Rattle.rrb_core.specs.Vector.{elements, height_at, IsGoodVector, IsSam
 ghost use Rattle.rrb_core.specs.Build.{IsRowOf, AreRows, Shares};
 ghost use Rattle.rrb_join.specs.Unmade.{items_below, AreThick, CanBeRows};
 ghost use Rattle.rrb_join.specs.Answers.{RisesAtNeed};
-ghost use Rattle.rrb_join.specs.Seam.{rows_below, rows_of, AreAtNeed};
+ghost use Rattle.rrb_core.specs.Levels.{rows_of};
+ghost use Rattle.rrb_join.specs.Seam.{rows_under, AreAtNeed};
+ghost use Rattle.rrb_join.specs.Rest.{AreHalves};
 
 use arrayvec::ArrayVec;
 use node_heap::{Heap, Link};
 use rrb_core::{ROW_LINKS, inner_over, leaf_over};
 
 // One row, or two side by side.
-pub(crate) type Rows = ArrayVec<Link, 2>;
+pub(crate) type OneOrTwo = ArrayVec<Link, 2>;
 
 // The same root, held once more.
 pub(crate) fn held_again<T>(heap: &mut Heap<T>, root: Link) -> Link
@@ -47,7 +49,7 @@ pub(crate) fn row_over<T>(heap: &mut Heap<T>, links: &[Link], height: u8) -> Lin
 
 // One row of this height over the links, or two over half of them each, of which the first is thick. It spends a hold
 // for each place.
-pub(crate) fn rows_over<T>(heap: &mut Heap<T>, links: &[Link], height: u8) -> Rows
+pub(crate) fn rows_over<T>(heap: &mut Heap<T>, links: &[Link], height: u8) -> OneOrTwo
     requires rows { CanBeRows heap.old height links.now }
     requires few { length links.now ≤ 64 }
     requires spare { 2 ≤ heap.old.spare_nodes }
@@ -56,8 +58,8 @@ pub(crate) fn rows_over<T>(heap: &mut Heap<T>, links: &[Link], height: u8) -> Ro
     ensures links { flat_map (links_at heap.new) result.items ≡ links.now }
     ensures some { 1 ≤ length result.items }
     ensures few { length result.items ≤ 2 }
-    ensures one { length links.now ≤ 32 → length result.items ≡ 1 }
     ensures two { 33 ≤ length links.now → length result.items ≡ 2 }
+    ensures halves { AreHalves heap.new result.items }
     ensures thick { 16 ≤ length links.now → AreThick heap.old height links.now → All (IsThick (form_at heap.new) height) result.items }
     ensures builds { Builds heap.old heap.new links.now result.items 0 2 }
 {
@@ -82,8 +84,8 @@ pub(crate) fn root_over<T>(heap: &mut Heap<T>, links: &[Link], height: u8) -> Li
     ensures items { elements heap.new result ≡ items_below heap.old height links.now }
     ensures flat { length links.now ≤ 32 → height_at heap.new result ≡ height }
     ensures low { RisesAtNeed heap.new height result }
-    ensures below { (m : ℕ) → m < height → rows_of heap.new m result ≡ rows_below (links_at heap.old) height m links.now }
-    ensures top { (m : ℕ) → height ≤ m → AreAtNeed heap.new (rows_of heap.new m result) }
+    ensures below { (m : ℕ) → m < height → rows_of heap.new m result ≡ rows_under (links_at heap.old) height m links.now }
+    ensures top { (m : ℕ) → height ≤ m → AreAtNeed heap.new 2 (rows_of heap.new m result) }
     ensures builds { Builds heap.old heap.new links.now (result ∷ []) 0 3 }
 {
     if links.len() <= ROW_LINKS {

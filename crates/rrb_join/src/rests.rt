@@ -10,6 +10,7 @@ ghost use Rattle.node_heap.specs.Calls.{Builds};
 ghost use Rattle.rrb_core.specs.Seq.{seq_at, IsThick, IsWell};
 ghost use Rattle.rrb_core.specs.Vector.{HasSums, elements, height_at, IsGoodVector};
 ghost use Rattle.rrb_core.specs.Build.{AreRows};
+ghost use Rattle.rrb_join.specs.Rest.{LeavesRows, LeavesBelow, PutsBefore, PutsBeside};
 ghost use Rattle.rrb_join.specs.Unmade.{items_below, AreLinks, AreThick, AreUnmade, IsSomeRow};
 ghost use Rattle.rrb_join.specs.declared.joining.TheConstants.{SEAM_NODES};
 
@@ -33,6 +34,7 @@ pub(crate) fn rest_root<T>(heap: &mut Heap<T>, root: Link, count: u32) -> Link
     ensures items { elements heap.new result ≡ drop count (elements heap.old root) }
     ensures good { IsGoodVector heap.new result }
     ensures low { height_at heap.new result ≤ height_at heap.old root }
+    ensures rows { LeavesRows heap.old heap.new root result }
     ensures builds { Builds heap.old heap.new [] (result ∷ []) 0 (2 * height_at heap.new result + 1) }
 {
     if count == 0 {
@@ -62,6 +64,7 @@ fn rest_of<T>(heap: &mut Heap<T>, link: Link, height: u8, count: u32) -> Rest
     ensures few { length result.links.items ≤ 32 }
     ensures two { 1 ≤ result.height → 2 ≤ length result.links.items }
     ensures thick { IsThick (form_at heap.old) height link → AreThick heap.new result.height result.links.items }
+    ensures rows { LeavesBelow heap.old heap.new height link result.height result.links.items }
     ensures builds { Builds heap.old heap.new [] result.links.items 0 (2 * result.height) }
 {
     if height == 0 {
@@ -104,6 +107,7 @@ fn prepend<T>(heap: &mut Heap<T>, links: &[Link], links_height: u8, right: Link,
     ensures links { AreUnmade heap.new result.height result.links.items (items_below heap.old links_height links.now ++ seq_at (form_at heap.old) height right) }
     ensures two { 1 ≤ result.height → 2 ≤ length result.links.items }
     ensures thick { IsThick (form_at heap.old) height right → (result.height ≡ height) × (16 ≤ length result.links.items) × AreThick heap.new result.height result.links.items }
+    ensures rows { PutsBefore heap.old heap.new links_height links.now height right result.height result.links.items }
     ensures builds { Builds heap.old heap.new links.now result.links.items 0 (2 * (result.height - links_height)) }
 {
     if links_height == height {
@@ -143,6 +147,7 @@ fn raised<T>(heap: &mut Heap<T>, rest: Rest, link: Link, from: usize) -> Rest
     ensures more { from < length (links_at heap.old link) → result.height ≡ rest.height + 1 }
     ensures count { from < length (links_at heap.old link) → length (links_at heap.old link) < length result.links.items + from }
     ensures thick { AreThick heap.old rest.height rest.links.items → 16 ≤ length rest.links.items → All (IsThick (form_at heap.old) rest.height) (drop from (links_at heap.old link)) → AreThick heap.new result.height result.links.items }
+    ensures rows { PutsBeside heap.old heap.new rest.height rest.links.items (drop from (links_at heap.old link)) result.height result.links.items }
     ensures builds { Builds heap.old heap.new rest.links.items result.links.items 0 (2 * (result.height - rest.height)) }
 {
     if rest.links.len() <= ROW_LINKS && from == heap.links(link).len() {

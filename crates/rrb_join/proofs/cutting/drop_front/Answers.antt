@@ -2,6 +2,8 @@ use Rattle.std.proofs.Common.{arith, refl, ◌∙◌}
 use Rattle.node_heap.proofs.BuildLemmas.{Builds-Answered}
 use Rattle.rrb_core.proofs.BuildLemmas.{unchanged-good, answered-same}
 use Rattle.rrb_join.proofs.AnswerLemmas.{unchanged-height}
+use Rattle.rrb_core.proofs.LevelLemmas.{rows-of-same}
+use Rattle.rrb_join.proofs.RestRows.{left-drops, drops-itself}
 use Rattle.rrb_join.proofs.cutting.drop_front.Goals as goal
 
 pub returns-in_err-reserve-clause-vectors : goal.returns-in_err-reserve-clause-vectors
@@ -24,3 +26,9 @@ pub returns-clause-low : goal.returns-clause-low
 returns-clause-low g c =
     let low = rw c.root.ensures at c.rest_root.ensures.low in
     rw c.from_root.ensures (omega (arith, unchanged-height c.in_ok-reserve.ensures.rest c.args.vector, low))
+
+pub returns-then-count-eq0-clause-seam : goal.returns-then-count-eq0-clause-seam
+returns-then-count-eq0-clause-seam g c = rw c.share.ensures.same (drops-itself c.args.heap.now c.share.new.heap c.args.vector (λ m. rows-of-same c.args.heap.now c.share.new.heap c.share.ensures.shares.rows m c.args.vector))
+
+pub returns-clause-seam : goal.returns-clause-seam
+returns-clause-seam g c = rw c.from_root.ensures (left-drops c.args.heap.now c.reserve.new.self c.rest_root.new.heap c.args.vector c.rest_root.result c.in_ok-reserve.ensures.rest (rw c.root.ensures at c.rest_root.ensures.rows))

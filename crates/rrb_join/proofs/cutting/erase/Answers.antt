@@ -1,12 +1,17 @@
-use Rattle.std.proofs.Common.{rules, arith, ◌≡◌, ◌+◌, ◌*◌, ◌≤◌, max, refl, ◌∙◌, [], ◌∷◌, length-drop}
+use Rattle.std.proofs.Common.{rules, arith, ◌≡◌, ℕ, ◌+◌, ◌*◌, ◌≤◌, max, refl, ◌∙◌, [], ◌∷◌, length-drop}
 use Rattle.std.proofs.lemmas.List.{length-take-le}
 use Rattle.node_heap.specs.Calls.{Answered}
 use Rattle.node_heap.proofs.Frames.{Unchanged-refl}
 use Rattle.rrb_core.specs.Vector.{height_at, elements, IsVectorOf}
-use Rattle.rrb_core.proofs.Stays.{extended-same}
+use Rattle.rrb_core.proofs.Stays.{well-live, live-stays, extended-same}
 use Rattle.rrb_core.proofs.BuildLemmas.{unchanged-good, answered-same}
 use Rattle.rrb_join.proofs.AnswerLemmas.{unchanged-height, extended-height, rises-more, rises-held}
 use Rattle.rrb_join.proofs.CutLemmas.{Gives, gives-answered, gives-built, gives-more, gives-released, gives-all, gives-first, gives-second, without-second, gives-first-of, gives-third, without-third, good-held}
+use Rattle.rrb_core.specs.Levels.{rows_of, TakesFirstRows}
+use Rattle.rrb_core.proofs.LevelLemmas.{rows-of-same, takes-after}
+use Rattle.rrb_join.specs.Seam.{ErasesRows}
+use Rattle.rrb_join.proofs.JoinLemmas.{rows-of-kept}
+use Rattle.rrb_join.proofs.CutRows.{erases, erases-held, erases-itself}
 use Rattle.rrb_join.proofs.cutting.erase.Given as given
 use Rattle.rrb_join.proofs.cutting.erase.Goals as goal
 
@@ -110,3 +115,24 @@ returns-clause-low g c =
     let once = rises-held c.release.ensures.keeps c.joined_root-root.result (gives-first-of c.joined_root-root.result c.rest_root-back.result c.in_ok-front.front (whole g c)) c.joined_root-root.ensures.low in
     let kept = rises-held c.release-2.ensures.keeps c.joined_root-root.result (gives-first c.joined_root-root.result c.rest_root-back.result (both g c)) once in
     rw c.from_root.ensures (rises-more kept (heights g c))
+
+-- the join of what is before the part and what is behind it
+joined : (g : given.Over) (c : goal.After-from_root g) → ErasesRows c.args.heap.now c.joined_root-root.new.heap c.args.vector c.joined_root-root.result
+joined g c =
+    let first = (unchanged-good c.args.vector c.in_ok-reserve.ensures.rest c.requires.good).0 in
+    let taken : TakesFirstRows c.args.heap.now c.take.new.heap c.args.vector c.in_ok-front.front = takes-after c.args.heap.now c.reserve.new.self c.in_ok-reserve.ensures.rest.rows c.take.new.heap c.args.vector c.in_ok-front.front c.in_ok-front.ensures.rows in
+    let same : (m : ℕ) → rows_of c.take.new.heap m c.args.vector ≡ rows_of c.args.heap.now m c.args.vector = λ m.
+    rows-of-kept (live-stays c.in_ok-reserve.ensures.rest.graph c.in_ok-front.ensures.answered.extends) m c.args.vector (well-live c.reserve.new.self (height_at c.reserve.new.self c.args.vector) c.args.vector first.shape.well) ∙ rows-of-same c.args.heap.now c.reserve.new.self c.in_ok-reserve.ensures.rest.rows m c.args.vector in
+    erases c.args.heap.now c.take.new.heap c.rest_root-back.new.heap c.joined_root-root.new.heap c.args.vector c.in_ok-front.front c.rest_root-back.result c.joined_root-root.result
+    (live-stays c.in_ok-front.ensures.answered.graph c.rest_root-back.ensures.builds.extends) (live-stays c.rest_root-back.ensures.builds.graph c.joined_root-root.ensures.builds.extends)
+    (well-live c.take.new.heap (height_at c.take.new.heap c.in_ok-front.front) c.in_ok-front.front c.in_ok-front.ensures.good.shape.well)
+    (well-live c.rest_root-back.new.heap (height_at c.rest_root-back.new.heap c.rest_root-back.result) c.rest_root-back.result c.rest_root-back.ensures.good.shape.well) c.joined_root-root.ensures.good
+    same taken (rw c.root.ensures at c.rest_root-back.ensures.rows) (rw (c.root-2.ensures, c.view.ensures) at c.joined_root-root.ensures.seam)
+
+pub returns-clause-seam : goal.returns-clause-seam
+returns-clause-seam g c =
+    let once = erases-held c.release.ensures.keeps c.joined_root-root.result (gives-first-of c.joined_root-root.result c.rest_root-back.result c.in_ok-front.front (whole g c)) c.args.heap.now c.args.vector (joined g c) in
+    rw c.from_root.ensures (erases-held c.release-2.ensures.keeps c.joined_root-root.result (gives-first c.joined_root-root.result c.rest_root-back.result (both g c)) c.args.heap.now c.args.vector once)
+
+pub returns-then-from-to-clause-seam : goal.returns-then-from-to-clause-seam
+returns-then-from-to-clause-seam g c = rw c.share.ensures.same (erases-itself c.args.heap.now c.share.new.heap c.args.vector (λ m. rows-of-same c.args.heap.now c.share.new.heap c.share.ensures.shares.rows m c.args.vector))

@@ -5,8 +5,12 @@ use Rattle.rrb_core.specs.Vector.{height_at, elements, IsVectorOf}
 use Rattle.rrb_core.proofs.BuildLemmas.{unchanged-good, answered-same}
 use Rattle.rrb_join.proofs.AnswerLemmas.{unchanged-height, height-held}
 use Rattle.rrb_join.proofs.CutLemmas.{Gives, gives-answered, gives-built, gives-released, gives-all, gives-first, without-second, good-held}
+use Rattle.rrb_core.specs.Levels.{TakesFirstRows}
+use Rattle.rrb_core.proofs.LevelLemmas.{rows-of-same, takes-after}
+use Rattle.rrb_join.proofs.CutRows.{slices, slices-held, slices-itself}
 use Rattle.rrb_join.proofs.cutting.slice.Given as given
 use Rattle.rrb_join.proofs.cutting.slice.Goals as goal
+use Rattle.rrb_join.proofs.cutting.slice.Goals.{else-from-eq0-via-then-from-eq0+else-to-len, else-from-eq0-via-else-from-eq0}
 
 pub returns-then-not-is_part-clause-refused : goal.returns-then-not-is_part-clause-refused
 returns-then-not-is_part-clause-refused g c = Unchanged-refl c.args.heap.now c.is_part.ensures.graph
@@ -52,3 +56,18 @@ returns-clause-low g c =
     let front : height_at c.take.new.heap c.root.result ≤ height_at c.reserve.new.self c.args.vector = rw (c.root.ensures, c.view.ensures) c.in_ok-front.ensures.low in
     let kept = height-held c.release.ensures.keeps c.rest_root-root.result (gives-first c.rest_root-root.result c.in_ok-front.front (made g c)) in
     rw c.from_root.ensures (omega (arith, same, front, kept, c.rest_root-root.ensures.low))
+
+pub returns-clause-seam : goal.returns-clause-seam
+returns-clause-seam g c =
+    let taken : TakesFirstRows c.args.heap.now c.take.new.heap c.args.vector c.in_ok-front.front = takes-after c.args.heap.now c.reserve.new.self c.in_ok-reserve.ensures.rest.rows c.take.new.heap c.args.vector c.in_ok-front.front c.in_ok-front.ensures.rows in
+    let sliced = slices c.args.heap.now c.take.new.heap c.rest_root-root.new.heap c.args.vector c.in_ok-front.front c.rest_root-root.result taken (rw (c.root.ensures, c.view.ensures) at c.rest_root-root.ensures.rows) in
+    rw c.from_root.ensures (slices-held c.release.ensures.keeps c.rest_root-root.result (gives-first c.rest_root-root.result c.in_ok-front.front (made g c)) c.args.heap.now c.args.vector sliced)
+
+pub returns-then-to-len-clause-seam : goal.returns-then-to-len-clause-seam
+returns-then-to-len-clause-seam g c = rw c.share.ensures.same (slices-itself c.args.heap.now c.share.new.heap c.args.vector (λ m. rows-of-same c.args.heap.now c.share.new.heap c.share.ensures.shares.rows m c.args.vector))
+
+pub returns-clause-whole : goal.returns-clause-whole
+returns-clause-whole g c = λ front back. absurd (elim c.else-from-eq0.branch as (λ _. ⊥) [
+  | else-from-eq0-via-then-from-eq0+else-to-len w ↦ omega (arith, back, w.len.ensures.value, w.if-to-len.false)
+  | else-from-eq0-via-else-from-eq0 w ↦ omega (arith, front, w.if-from-eq0.false)
+])

@@ -9,6 +9,7 @@ use Rattle.node_heap.proofs.Frames.{Extends-trans}
 use Rattle.node_heap.proofs.BuildLemmas.{Builds-then, Builds-more}
 use Rattle.rrb_core.proofs.BuildLemmas.{builds-held}
 use Rattle.rrb_join.proofs.UnmadeLemmas.{has-links, leaf-length, unmade-rows}
+use Rattle.rrb_join.proofs.RowsOfHeights.{halves-at-need}
 use Rattle.rrb_join.proofs.SeamLemmas.{over-at, child-of}
 use Rattle.rrb_join.proofs.SeamRows.{puts-up}
 use Rattle.rrb_join.proofs.InsertLemmas.{IsInserted, inserted, leaf-inserted, inserted-length}
@@ -115,5 +116,4 @@ returns-clause-seam g t c =
     let ext : Extends c.args.heap.now c.rows_over-rows.new.heap = Extends-trans c.insert_links-seam.ensures.builds.extends c.rows_over-rows.ensures.builds.extends in
     let place-is = at-place c.links.result.now (links_at c.args.heap.now c.args.link) c.spot_before-spot.result.place c.index-links-spot.result c.index-links-spot.is c.links.ensures.links c.spot_before-spot.ensures.place in
     puts-up up (live-stays c.requires.graph (Extends-trans ext c.gathered-2.ensures.builds.extends)) (live-stays c.insert_links-seam.ensures.builds.graph (Extends-trans c.rows_over-rows.ensures.builds.extends c.gathered-2.ensures.builds.extends)) (live-stays c.rows_over-rows.ensures.builds.graph c.gathered-2.ensures.builds.extends)
-    (over-at c.args.heap.now c.args.height (c.args.height - 1) c.args.link up c.requires.well c.requires.sums) c.spot_before-spot.ensures.place place-is c.insert_links-seam.ensures.links.links c.rows_over-rows.ensures.rows (c.rows_over-rows.ensures.links ∙ c.as_slice.ensures.value) c.rows_over-rows.ensures.few
-    (λ short. c.rows_over-rows.ensures.one (rw c.as_slice.ensures.value short)) c.insert_links-seam.ensures.seam (rw c.as_slice-2.ensures.value at c.gathered-2.ensures.items) (links-stay (live-stays c.requires.graph ext) c.args.link (well-live c.args.heap.now c.args.height c.args.link c.requires.well))
+    (over-at c.args.heap.now c.args.height (c.args.height - 1) c.args.link up c.requires.well c.requires.sums) c.spot_before-spot.ensures.place place-is c.insert_links-seam.ensures.links.links c.rows_over-rows.ensures.rows (c.rows_over-rows.ensures.links ∙ c.as_slice.ensures.value) (halves-at-need c.rows_over-rows.new.heap c.rows_over-rows.result.items c.rows_over-rows.ensures.halves) c.insert_links-seam.ensures.seam (rw c.as_slice-2.ensures.value at c.gathered-2.ensures.items) (links-stay (live-stays c.requires.graph ext) c.args.link (well-live c.args.heap.now c.args.height c.args.link c.requires.well))

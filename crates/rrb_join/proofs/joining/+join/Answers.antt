@@ -7,6 +7,7 @@ use Rattle.rrb_core.proofs.Stays.{well-live, live-stays, links-stay}
 use Rattle.node_heap.proofs.Frames.{Extends-trans}
 use Rattle.node_heap.proofs.BuildLemmas.{Builds-then, Builds-more}
 use Rattle.rrb_join.proofs.UnmadeLemmas.{has-links, leaf-are-thick}
+use Rattle.rrb_join.proofs.RowsOfHeights.{halves-at-need}
 use Rattle.rrb_join.proofs.SeamLemmas.{IsSeam, seam, leaf-seam}
 use Rattle.rrb_join.proofs.SeamRows.{joins-up}
 use Rattle.rrb_join.proofs.joining.+join.Given as given
@@ -77,5 +78,5 @@ returns-clause-seam g t c =
     let up : c.args.height ≡ suc (c.args.height - 1) = omega arith in
     let ext : Extends c.args.heap.now c.rows_over-rows.new.heap = Extends-trans c.join-seam.ensures.builds.extends c.rows_over-rows.ensures.builds.extends in
     joins-up up (live-stays c.requires.graph (Extends-trans ext c.gathered-2.ensures.builds.extends)) (live-stays c.join-seam.ensures.builds.graph (Extends-trans c.rows_over-rows.ensures.builds.extends c.gathered-2.ensures.builds.extends)) (live-stays c.rows_over-rows.ensures.builds.graph c.gathered-2.ensures.builds.extends)
-    c.last_edge-last.ensures c.first_edge-first.ensures c.join-seam.ensures.links.links c.rows_over-rows.ensures.rows (c.rows_over-rows.ensures.links ∙ c.as_slice.ensures.value) c.rows_over-rows.ensures.few (λ short. c.rows_over-rows.ensures.one (rw c.as_slice.ensures.value short)) c.join-seam.ensures.seam (rw c.as_slice-2.ensures.value at c.gathered-2.ensures.items)
+    c.last_edge-last.ensures c.first_edge-first.ensures c.join-seam.ensures.links.links c.rows_over-rows.ensures.rows (c.rows_over-rows.ensures.links ∙ c.as_slice.ensures.value) (halves-at-need c.rows_over-rows.new.heap c.rows_over-rows.result.items c.rows_over-rows.ensures.halves) c.join-seam.ensures.seam (rw c.as_slice-2.ensures.value at c.gathered-2.ensures.items)
     (links-stay (live-stays c.requires.graph ext) c.args.left (well-live c.args.heap.now c.args.left_height c.args.left c.requires.left.well)) (links-stay (live-stays c.requires.graph ext) c.args.right (well-live c.args.heap.now c.args.right_height c.args.right c.requires.right.well))

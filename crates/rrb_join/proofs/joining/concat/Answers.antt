@@ -2,7 +2,8 @@ use Rattle.std.proofs.Common.{arith, refl, sym, ◌∙◌}
 use Rattle.node_heap.proofs.BuildLemmas.{Builds-more, Builds-Answered}
 use Rattle.rrb_core.proofs.BuildLemmas.{unchanged-good, answered-same}
 use Rattle.rrb_join.proofs.AnswerLemmas.{unchanged-height, unchanged-links, rises-more}
-use Rattle.rrb_join.proofs.JoinLemmas.{no-items, rows-of-same, joins-left-none, joins-right-none, joins-after}
+use Rattle.rrb_core.proofs.LevelLemmas.{rows-of-same}
+use Rattle.rrb_join.proofs.JoinLemmas.{no-items, joins-left-none, joins-right-none, joins-after}
 use Rattle.rrb_join.proofs.joining.concat.Goals as goal
 
 pub returns-in_err-reserve-clause-vectors : goal.returns-in_err-reserve-clause-vectors

@@ -9,9 +9,11 @@ use Rattle.rrb_core.proofs.Stays.{live-stays}
 use Rattle.rrb_core.proofs.RowLists.{good-row, rows-live}
 use Rattle.node_heap.proofs.Frames.{Extends-trans}
 use Rattle.node_heap.proofs.BuildLemmas.{Builds-then}
-use Rattle.rrb_join.specs.Seam.{rows_at, rows_below, rows_of, AreAtNeed}
+use Rattle.rrb_core.specs.Levels.{rows_at, rows_of}
+use Rattle.rrb_join.specs.Seam.{rows_under, AreAtNeed}
 use Rattle.rrb_join.proofs.UnmadeLemmas.{rows-above, items-above, two-low, links-live}
-use Rattle.rrb_join.proofs.RowsOfHeights.{rows-inner, rows-few, rows-own-all, below-above, below-rows, below-row, below-kept, one-at-need}
+use Rattle.rrb_core.proofs.LevelLemmas.{rows-inner, rows-few}
+use Rattle.rrb_join.proofs.RowsOfHeights.{rows-own-all, below-above, below-rows, below-row, below-kept, need-kept, one-at-need, halves-at-need}
 use Rattle.rrb_join.proofs.AnswerLemmas.{no-higher, all-links-stay}
 use Rattle.rrb_join.proofs.over.root_over.Given as given
 use Rattle.rrb_join.proofs.over.root_over.Goals as goal
@@ -77,7 +79,7 @@ pub returns-then-links-le-ROW_LINKS-clause-below : goal.returns-then-links-le-RO
 returns-then-links-le-ROW_LINKS-clause-below g c = λ m low.
     let height = height-is (form_at c.row_over.new.heap) c.args.height c.row_over.result c.row_over.ensures.row.well in
     let same = below-kept (live-stays c.requires.rows.graph c.row_over.ensures.builds.extends) c.args.height m c.args.links.now (links-live c.args.heap.now c.args.height c.args.links.now c.requires.rows.links) in
-    rw height (below-row (links_at c.row_over.new.heap) c.args.height m c.row_over.result low ∙ ap (rows_below (links_at c.row_over.new.heap) c.args.height m) c.row_over.ensures.links ∙ same)
+    rw height (below-row (links_at c.row_over.new.heap) c.args.height m c.row_over.result low ∙ ap (rows_under (links_at c.row_over.new.heap) c.args.height m) c.row_over.ensures.links ∙ same)
 
 pub returns-then-links-le-ROW_LINKS-clause-top : goal.returns-then-links-le-ROW_LINKS-clause-top
 returns-then-links-le-ROW_LINKS-clause-top g c = λ m high.
@@ -95,16 +97,17 @@ pub returns-clause-below : goal.returns-clause-below
 returns-clause-below g c = λ m low.
     let p = pair g c in
     let same = below-kept (live-stays c.requires.rows.graph (Extends-trans c.rows_over-rows.ensures.builds.extends c.row_over-2.ensures.builds.extends)) c.args.height m c.args.links.now (links-live c.args.heap.now c.args.height c.args.links.now c.requires.rows.links) in
-    rw p.0 (below-row (links_at c.row_over-2.new.heap) (suc c.args.height) m c.row_over-2.result (omega arith) ∙ ap (rows_below (links_at c.row_over-2.new.heap) (suc c.args.height) m) p.1 ∙ below-above (links_at c.row_over-2.new.heap) c.args.height m c.rows_over-rows.result.items ∙ below-rows (links_at c.row_over-2.new.heap) c.args.height m c.rows_over-rows.result.items low
-    ∙ ap (rows_below (links_at c.row_over-2.new.heap) c.args.height m) p.2 ∙ same)
+    rw p.0 (below-row (links_at c.row_over-2.new.heap) (suc c.args.height) m c.row_over-2.result (omega arith) ∙ ap (rows_under (links_at c.row_over-2.new.heap) (suc c.args.height) m) p.1 ∙ below-above (links_at c.row_over-2.new.heap) c.args.height m c.rows_over-rows.result.items ∙ below-rows (links_at c.row_over-2.new.heap) c.args.height m c.rows_over-rows.result.items low
+    ∙ ap (rows_under (links_at c.row_over-2.new.heap) c.args.height m) p.2 ∙ same)
 
 pub returns-clause-top : goal.returns-clause-top
 returns-clause-top g c = λ m high.
     let p = pair g c in
-    elim (cases_lt c.args.height m) as (λ _. AreAtNeed c.row_over-2.new.heap (rows_of c.row_over-2.new.heap m c.row_over-2.result)) [
+    elim (cases_lt c.args.height m) as (λ _. AreAtNeed c.row_over-2.new.heap 2 (rows_of c.row_over-2.new.heap m c.row_over-2.result)) [
       | inl past ↦ one-at-need c.row_over-2.new.heap (rows_of c.row_over-2.new.heap m c.row_over-2.result) (rw p.0 (rows-few (links_at c.row_over-2.new.heap) (suc c.args.height) m c.row_over-2.result (omega arith)))
       | inr low ↦
           let same : m ≡ c.args.height = omega arith in
           let rows = rows-inner (links_at c.row_over-2.new.heap) c.args.height c.args.height c.row_over-2.result (omega arith) ∙ ap (flat_map (rows_at (links_at c.row_over-2.new.heap) c.args.height c.args.height)) p.1 ∙ rows-own-all (links_at c.row_over-2.new.heap) c.args.height c.rows_over-rows.result.items in
-          rw (p.0, same, rows) (record { most = c.rows_over-rows.ensures.few; need = λ two. rw p.2 (omega arith) })
+          let live = rows-live c.rows_over-rows.new.heap c.args.height c.rows_over-rows.result.items c.rows_over-rows.ensures.rows in
+          rw (p.0, same, rows) (need-kept (live-stays c.rows_over-rows.ensures.builds.graph c.row_over-2.ensures.builds.extends) 2 c.rows_over-rows.result.items live (halves-at-need c.rows_over-rows.new.heap c.rows_over-rows.result.items c.rows_over-rows.ensures.halves))
     ]

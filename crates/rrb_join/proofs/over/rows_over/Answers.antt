@@ -2,6 +2,7 @@ use Rattle.std.proofs.Common.{arith, length, ◌/◌, ◌≡◌, refl, ◌∙◌
 use Rattle.rrb_core.proofs.LinkCounts.{count-split}
 use Rattle.rrb_core.proofs.Stays.{live-stays}
 use Rattle.rrb_join.proofs.UnmadeLemmas.{links-take, links-rest, front-short, rest-short, held-rest, front-long, rest-long, two-pushed, AreOver, one-over, AreTwoOver, two-over, builds-two}
+use Rattle.rrb_join.proofs.RowsOfHeights.{one-half}
 use Rattle.rrb_join.proofs.over.rows_over.Given as given
 use Rattle.rrb_join.proofs.over.rows_over.Goals as goal
 
@@ -16,6 +17,9 @@ returns-then-links-le-ROW_LINKS-clause-thick g c = λ enough full. rw (alone g c
 
 pub returns-then-links-le-ROW_LINKS-clause-links : goal.returns-then-links-le-ROW_LINKS-clause-links
 returns-then-links-le-ROW_LINKS-clause-links g c = rw (alone g c) (one g c).links
+
+pub returns-then-links-le-ROW_LINKS-clause-halves : goal.returns-then-links-le-ROW_LINKS-clause-halves
+returns-then-links-le-ROW_LINKS-clause-halves g c = rw (alone g c) (one-half c.row_over.new.heap (c.row_over.result ∷ []) (omega arith))
 
 pub row_over-requires-2-clause-rows : goal.row_over-requires-2-clause-rows
 row_over-requires-2-clause-rows g c =
@@ -58,6 +62,10 @@ returns-clause-items g c = rw (pushed g c) (two g c).items
 
 pub returns-clause-links : goal.returns-clause-links
 returns-clause-links g c = rw (pushed g c) (two g c).links
+
+pub returns-clause-halves : goal.returns-clause-halves
+returns-clause-halves g c =
+    rw (pushed g c) ((two g c).halves (rw c.row_over-2.ensures.links (front-long 16 _ c.args.links.now (omega arith) (omega arith))) (rw c.row_over-3.ensures.links (rest-long 17 _ c.args.links.now (omega arith))))
 
 pub returns-clause-thick : goal.returns-clause-thick
 returns-clause-thick g c = λ enough full.

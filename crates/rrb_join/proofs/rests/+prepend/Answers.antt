@@ -9,6 +9,7 @@ use Rattle.rrb_core.proofs.RowLists.{over, at-place}
 use Rattle.node_heap.proofs.BuildLemmas.{Builds-then, Builds-more}
 use Rattle.rrb_join.proofs.SeamLemmas.{first-edge}
 use Rattle.rrb_join.proofs.RestLemmas.{IsMerged, merged, AreBeside, beside, joined-items}
+use Rattle.rrb_join.proofs.RestRows.{raised-before}
 use Rattle.rrb_join.proofs.rests.+prepend.Given as given
 use Rattle.rrb_join.proofs.rests.+prepend.Goals as goal
 
@@ -21,6 +22,9 @@ returns-then-links_height-height-clause-links g t c = (same g t c).unmade
 
 pub returns-then-links_height-height-clause-thick : goal.returns-then-links_height-height-clause-thick
 returns-then-links_height-height-clause-thick g t c = λ thick. (c.if-links_height-height.true, ((same g t c).thick thick).0, ((same g t c).thick thick).1)
+
+pub returns-then-links_height-height-clause-rows : goal.returns-then-links_height-height-clause-rows
+returns-then-links_height-height-clause-rows g t c = (same g t c).rows
 
 pub prepend-merged-requires : goal.prepend-merged-requires
 prepend-merged-requires g t c = λ κs sub.
@@ -72,6 +76,12 @@ returns-clause-thick g t c = λ thick.
     let more : 1 < length (links_at c.prepend-merged.new.heap c.args.right) = rw (others g t c.before).same (omega (arith, first.3)) in
     let same = ap length (others g t c.before).same in
     (omega (arith, c.raised.ensures.more more, merged.0), omega (arith, c.raised.ensures.count more, same, first.3), c.raised.ensures.thick merged.2 merged.1 ((others g t c.before).thick first.2))
+
+pub returns-clause-rows : goal.returns-clause-rows
+returns-clause-rows g t c =
+    let first-at = at-place c.links.result.now (links_at c.args.heap.now c.args.right) 0 c.index-links-0.result c.index-links-0.is c.links.ensures.links (omega (arith, c.requires.right.some)) in
+    raised-before (omega arith) (live-stays c.prepend-merged.ensures.builds.graph c.raised.ensures.builds.extends) c.prepend-merged.ensures.links.links c.requires.right.some first-at (begins g t c.before).row.well
+    c.prepend-merged.ensures.above c.prepend-merged.ensures.low c.raised.ensures.low (others g t c.before).levels c.prepend-merged.ensures.rows c.raised.ensures.rows
 
 pub returns-clause-builds : goal.returns-clause-builds
 returns-clause-builds g t c = Builds-more 0 (2 * (c.raised.result.height - c.args.links_height)) (Builds-then c.prepend-merged.ensures.builds c.raised.ensures.builds) (omega arith) (omega (arith, c.prepend-merged.ensures.above, c.raised.ensures.above))

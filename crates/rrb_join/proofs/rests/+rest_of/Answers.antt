@@ -10,6 +10,7 @@ use Rattle.node_heap.proofs.BuildLemmas.{Builds-then, Builds-more}
 use Rattle.rrb_join.proofs.UnmadeLemmas.{leaf-length, leaf-are-thick}
 use Rattle.rrb_join.proofs.SeamLemmas.{over-at, child-of}
 use Rattle.rrb_join.proofs.RestLemmas.{AreBeside, beside, leaf-rest, rest-last, IsNext, is-next}
+use Rattle.rrb_join.proofs.RestRows.{none-above, left-last, left-next}
 use Rattle.rrb_join.proofs.rests.+rest_of.Given as given
 use Rattle.rrb_join.proofs.rests.+rest_of.Goals as goal
 
@@ -36,6 +37,13 @@ returns-then-next-links-clause-thick g t c = λ thick.
     let o = over-at c.args.heap.now c.args.height (c.args.height - 1) c.args.link (omega arith) c.requires.well c.requires.sums in
     let place-is = at-place c.links.result.now (links_at c.args.heap.now c.args.link) c.spot_of-spot.result.place c.index-links-spot.result c.index-links-spot.is c.links.ensures.links c.spot_of-spot.ensures.place in
     c.rest_of-rest.ensures.thick ((child-of c.args.heap.now c.args.height (c.args.height - 1) c.args.link c.spot_of-spot.result.place c.index-links-spot.result (omega arith) o c.spot_of-spot.ensures.place place-is).thick thick)
+
+pub returns-then-next-links-clause-rows : goal.returns-then-next-links-clause-rows
+returns-then-next-links-clause-rows g t c =
+    let live = well-live c.args.heap.now c.args.height c.args.link c.requires.well in
+    let place-is = at-place c.links.result.now (links_at c.args.heap.now c.args.link) c.spot_of-spot.result.place c.index-links-spot.result c.index-links-spot.is c.links.ensures.links c.spot_of-spot.ensures.place in
+    let same : links_at c.rest_of-rest.new.heap c.args.link ≡ links_at c.args.heap.now c.args.link = links-stay (live-stays c.requires.graph c.rest_of-rest.ensures.builds.extends) c.args.link live in
+    left-last c.args.heap.now c.rest_of-rest.new.heap c.args.height (c.args.height - 1) c.args.link c.spot_of-spot.result.place c.index-links-spot.result c.rest_of-rest.result.height c.rest_of-rest.result.links.items (omega arith) c.rest_of-rest.ensures.low (c.if-next-links.true ∙ ap length (c.links-2.ensures.links ∙ same)) place-is c.rest_of-rest.ensures.rows
 
 pub bounds-links-next : goal.bounds-links-next
 bounds-links-next g t c =
@@ -96,6 +104,13 @@ returns-clause-thick g t c = λ thick.
     let merged = c.prepend-merged.ensures.thick n.0 in
     c.raised.ensures.thick merged.2 merged.1 ((others g t c.before).thick n.1)
 
+pub returns-clause-rows : goal.returns-clause-rows
+returns-clause-rows g t c =
+    let n = next g t c.before.before.before in
+    let place-is = at-place c.links.result.now (links_at c.args.heap.now c.args.link) c.spot_of-spot.result.place c.index-links-spot.result c.index-links-spot.is c.links.ensures.links c.spot_of-spot.ensures.place in
+    left-next c.args.heap.now c.args.height (c.args.height - 1) c.args.link c.spot_of-spot.result.place c.index-links-spot.result (omega arith) (live-stays c.rest_of-rest.ensures.builds.graph (Extends-trans c.prepend-merged.ensures.builds.extends c.raised.ensures.builds.extends)) (live-stays c.prepend-merged.ensures.builds.graph c.raised.ensures.builds.extends) c.rest_of-rest.ensures.links.links c.prepend-merged.ensures.links.links
+    n.more place-is n.place c.prepend-merged.ensures.above c.prepend-merged.ensures.low c.raised.ensures.low n.levels (others g t c.before).levels c.rest_of-rest.ensures.rows (rw c.as_slice.ensures.value at c.prepend-merged.ensures.rows) c.raised.ensures.rows
+
 pub returns-clause-builds : goal.returns-clause-builds
 returns-clause-builds g t c =
     Builds-more 0 (2 * c.raised.result.height) (Builds-then (Builds-then c.rest_of-rest.ensures.builds (rw c.as_slice.ensures.value at c.prepend-merged.ensures.builds)) c.raised.ensures.builds) (omega arith) (omega (arith, c.prepend-merged.ensures.above, c.raised.ensures.above))
@@ -114,3 +129,6 @@ returns-then-height-eq0-clause-links g t c = (leaf-rest c.args.heap.now c.gather
 
 pub returns-then-height-eq0-clause-thick : goal.returns-then-height-eq0-clause-thick
 returns-then-height-eq0-clause-thick g t c = λ thick. leaf-are-thick c.gathered.new.heap 0 c.gathered.result.items refl
+
+pub returns-then-height-eq0-clause-rows : goal.returns-then-height-eq0-clause-rows
+returns-then-height-eq0-clause-rows g t c = λ m. none-above c.args.heap.now c.gathered.new.heap c.args.height c.args.link 0 m c.gathered.result.items (omega arith)

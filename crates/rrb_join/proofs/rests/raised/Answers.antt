@@ -1,8 +1,11 @@
-use Rattle.std.proofs.Common.{arith, ◌+◌, ◌-◌, ◌*◌, ◌≤◌, length, ap, add-one}
+use Rattle.std.proofs.Common.{arith, ◌≡◌, ◌+◌, ◌-◌, ◌*◌, ◌≤◌, [], length, drop, ap, ◌∙◌, add-one}
 use Rattle.rrb_core.proofs.Stays.{live-stays, links-stay}
 use Rattle.node_heap.proofs.Frames.{Extends-trans}
 use Rattle.node_heap.proofs.BuildLemmas.{Builds-refl, Builds-then, Builds-more}
 use Rattle.rrb_join.proofs.RestLemmas.{IsRaised, raised}
+use Rattle.std.proofs.lemmas.List.{drop_all}
+use Rattle.node_heap.specs.Heap.{links_at}
+use Rattle.rrb_join.proofs.RestRows.{raised-beside, kept-beside}
 use Rattle.rrb_join.proofs.rests.raised.Given as given
 use Rattle.rrb_join.proofs.rests.raised.Goals as goal
 use Rattle.rrb_join.proofs.rests.raised.Goals.{else-len-le-ROW_LINKS-via-then-len-le-ROW_LINKS+else-from-links, else-len-le-ROW_LINKS-via-else-len-le-ROW_LINKS}
@@ -43,3 +46,14 @@ returns-clause-builds g c =
 
 pub returns-then-from-links-clause-builds : goal.returns-then-from-links-clause-builds
 returns-then-from-links-clause-builds g c = Builds-refl c.args.heap.now c.args.rest.links.items 0 _ c.requires.graph
+
+pub returns-clause-rows : goal.returns-clause-rows
+returns-clause-rows g c =
+    let same = links-stay (live-stays c.requires.graph c.rows_over-rows.ensures.builds.extends) c.args.link c.requires.live in
+    rw add-one (raised-beside (live-stays c.requires.graph (Extends-trans c.rows_over-rows.ensures.builds.extends c.gathered.ensures.builds.extends)) (live-stays c.rows_over-rows.ensures.builds.graph c.gathered.ensures.builds.extends) c.requires.links c.requires.beside c.rows_over-rows.ensures.rows
+    (c.rows_over-rows.ensures.links ∙ c.as_slice.ensures.value) c.rows_over-rows.ensures.halves (rw (c.as_slice-2.ensures.value, same) at c.gathered.ensures.items))
+
+pub returns-then-from-links-clause-rows : goal.returns-then-from-links-clause-rows
+returns-then-from-links-clause-rows g c =
+    let none : drop c.args.from (links_at c.args.heap.now c.args.link) ≡ [] = drop_all c.args.from (links_at c.args.heap.now c.args.link) (omega (arith, ap length c.links.ensures.links, c.if-from-links.true)) in
+    kept-beside c.args.heap.now c.args.rest.height c.args.rest.links.items (drop c.args.from (links_at c.args.heap.now c.args.link)) none

@@ -1,12 +1,14 @@
-use Rattle.std.proofs.Common.{arith, ◌≡◌, length, length-drop, [], drop}
+use Rattle.std.proofs.Common.{arith, ◌≡◌, ◌∙◌, length, length-drop, [], drop}
 use Rattle.std.proofs.lemmas.List.{drop_all}
 use Rattle.node_heap.specs.Heap.{form_at}
 use Rattle.node_heap.proofs.BuildLemmas.{Builds-then, Builds-more}
 use Rattle.rrb_core.specs.Vector.{height_at, elements, IsVectorOf}
 use Rattle.rrb_core.proofs.FillRule.{height-is}
-use Rattle.rrb_core.proofs.Stays.{well-live}
+use Rattle.rrb_core.proofs.Stays.{well-live, live-stays}
 use Rattle.rrb_core.proofs.RowLists.{good-row}
 use Rattle.rrb_join.specs.Unmade.{items_below}
+use Rattle.rrb_join.proofs.JoinLemmas.{rows-of-kept}
+use Rattle.rrb_join.proofs.RestRows.{all-left, left-none, left-root}
 use Rattle.rrb_join.proofs.rests.rest_root.Given as given
 use Rattle.rrb_join.proofs.rests.rest_root.Goals as goal
 
@@ -48,3 +50,16 @@ returns-clause-low g c =
 pub returns-clause-builds : goal.returns-clause-builds
 returns-clause-builds g c =
     Builds-more 0 _ (Builds-then c.rest_of-rest.ensures.builds (rw c.as_slice.ensures.value at c.row_over.ensures.builds)) (omega arith) (omega (arith, height-is (form_at c.row_over.new.heap) c.rest_of-rest.result.height c.row_over.result c.row_over.ensures.row.well))
+
+pub returns-then-count-eq0-clause-rows : goal.returns-then-count-eq0-clause-rows
+returns-then-count-eq0-clause-rows g c =
+    let stays = live-stays c.requires.graph c.held_again.ensures.shares.builds.extends in
+    let live = well-live c.args.heap.now (height_at c.args.heap.now c.args.root) c.args.root c.requires.good.shape.well in
+    rw c.held_again.ensures.same (all-left c.args.heap.now c.held_again.new.heap c.args.root (λ m. rows-of-kept stays m c.args.root live))
+
+pub returns-then-count-len-clause-rows : goal.returns-then-count-len-clause-rows
+returns-then-count-len-clause-rows g c = left-none c.args.heap.now c.leaf_over.new.heap c.args.root c.leaf_over.result c.leaf_over.ensures.row.well
+
+pub returns-clause-rows : goal.returns-clause-rows
+returns-clause-rows g c =
+    left-root c.args.heap.now c.rest_of-rest.new.heap c.row_over.new.heap c.args.root c.height_of-height.result c.rest_of-rest.result.height c.row_over.result c.height_of-height.ensures (live-stays c.rest_of-rest.ensures.builds.graph c.row_over.ensures.builds.extends) c.rest_of-rest.ensures.links.links c.row_over.ensures.row.well (c.row_over.ensures.links ∙ c.as_slice.ensures.value) c.rest_of-rest.ensures.rows
