@@ -97,7 +97,7 @@ fn parts_of(alloc: Global, value: &Value) -> Result<Parts<'_>, Damage>
 
 // The values of a document's keys, but for its format.
 #[derive(Clone, Copy)]
-struct Values<'a> {
+struct DocumentValues<'a> {
     bits: &'a Value,
     roots: &'a Value,
     rows: &'a Value,
@@ -105,7 +105,7 @@ struct Values<'a> {
 }
 
 // The values of an object whose keys are a document's, and whose format is the pool's.
-fn values_of(value: &Value) -> Option<Values<'_>>
+fn values_of(value: &Value) -> Option<DocumentValues<'_>>
     ensures { parts_in (view value.now) ≡ option_and_then (λ v. parts_read (view v.bits.now) (view v.roots.now) (view v.rows.now) (view v.version.now)) result }
 {
     let mut members = value.as_object()?.iter();
@@ -118,7 +118,7 @@ fn values_of(value: &Value) -> Option<Values<'_>>
         return None;
     }
     if is_pool(format.as_str()?) {
-        Some(Values {
+        Some(DocumentValues {
             bits,
             roots,
             rows,
