@@ -89,8 +89,23 @@ module _ (n : ℕ) (F : Forms Bytes) (code : Bytes → ℕ) (kept : List Kept) (
     pub as_first : (q : Entry Bytes → Bool) → ((e : Entry Bytes) → digit_at (code e.key) depth ≡ digit_at (code first.key) depth → code e.key % 2 ^ (5 * depth) ≡ code first.key % 2 ^ (5 * depth) → q e ≡ q first)
         → list_all q (first ∷ rest) ≡ q first
 
+  -- so it is where all of them agree on what says as much
+  agree-as-first : (depth k : ℕ) (m : Entry Bytes → ℕ) → ((x y : Entry Bytes) → m x ≡ m y → (digit_at (code x.key) depth ≡ digit_at (code y.key) depth) × (code x.key % 2 ^ (5 * depth) ≡ code y.key % 2 ^ (5 * depth)))
+      → all_same (map m (Es k)) ≡ true → 2 ≤ length (Es k) → AnswersAsFirst depth k
+  agree-as-first depth k m says agree two = by_entries (Es k) refl agree two
+    where
+      by_entries : (E : List (Entry Bytes)) → Es k ≡ E → all_same (map m E) ≡ true → 2 ≤ length E → AnswersAsFirst depth k
+      by_entries [] is h two = absurd (omega (arith, two))
+      by_entries (x ∷ xs) is h two = record {
+        first = x;
+        rest = xs;
+        is = is;
+        two = two;
+        as_first = λ q follows. all-the-same m q x (λ y same. let both = says y x (sym same) in follows y both.0 both.1) xs h;
+      }
+
   trie-as-first : (depth k e d : ℕ) (ks : List ℕ) → k < length kept → F k ≡ Some (node (trie (depth + 1) e d) ks) → AnswersAsFirst depth k
-  trie-as-first depth k e d ks low is = by_entries (Es k) refl agree two
+  trie-as-first depth k e d ks low is = agree-as-first depth k m (λ x y same. one-deeper depth (code x.key) (code y.key) same) agree two
     where
       m : Entry Bytes → ℕ
       m x = code x.key % 2 ^ (5 * (depth + 1))
@@ -106,21 +121,11 @@ module _ (n : ℕ) (F : Forms Bytes) (code : Bytes → ℕ) (kept : List Kept) (
       two = leb-true 2 (length (Es k)) (or-second (depth + 1 == 0) (nat_le 2 (length (Es k))) (ne_eqb (depth + 1) 0 (λ z. absurd (omega (arith, z))))
           (and-second (are_branches n F code (depth + 1) e d ks && agree_above n F code (depth + 1) k) ((depth + 1 == 0) || nat_le 2 (length (Es k))) h))
 
-      by_entries : (E : List (Entry Bytes)) → Es k ≡ E → all_same (map m E) ≡ true → 2 ≤ length E → AnswersAsFirst depth k
-      by_entries [] is h two = absurd (omega (arith, two))
-      by_entries (x ∷ xs) is h two = record {
-        first = x;
-        rest = xs;
-        is = is;
-        two = two;
-        as_first = λ q follows. all-the-same m q x (λ y same. let deeper = one-deeper depth (code y.key) (code x.key) (sym same) in follows y deeper.0 deeper.1) xs h;
-      }
-
   chain-as-first : (depth k : ℕ) (ks : List ℕ) → k < length kept → F k ≡ Some (node chain ks) → length ks ≡ 2 → AnswersAsFirst depth k
   chain-as-first depth k [] low is two = absurd (omega (arith, two))
   chain-as-first depth k (j ∷ []) low is two = absurd (omega (arith, two))
   chain-as-first depth k (j ∷ i ∷ m ∷ ks) low is two = absurd (omega (arith, two))
-  chain-as-first depth k (j ∷ m ∷ []) low is two = by_entries (Es k) refl same more
+  chain-as-first depth k (j ∷ m ∷ []) low is two = agree-as-first depth k (λ e. code e.key) (λ x y alike. (ap (λ c. digit_at c depth) alike, ap (λ c. c % 2 ^ (5 * depth)) alike)) same more
     where
       h : are_chained n F code k (j ∷ m ∷ []) ≡ true
       h = canonical-as k (Some (node chain (j ∷ m ∷ []))) low is
@@ -150,16 +155,6 @@ module _ (n : ℕ) (F : Forms Bytes) (code : Bytes → ℕ) (kept : List Kept) (
           let all : length (Es k) ≡ length (own F j) + length (Es m) = ap length (two-below k j m (low-in k low) is) ∙ length-append (own F j) (Es m) in
           let one : length (own F j) ≡ 1 = ap length (own-is F j first.first.key first.key) in
           omega (arith, all, one, next row.0 row.1)
-
-      by_entries : (E : List (Entry Bytes)) → Es k ≡ E → all_same (map (λ e. code e.key) E) ≡ true → 2 ≤ length E → AnswersAsFirst depth k
-      by_entries [] is h two = absurd (omega (arith, two))
-      by_entries (x ∷ xs) is h two = record {
-        first = x;
-        rest = xs;
-        is = is;
-        two = two;
-        as_first = λ q follows. all-the-same (λ e. code e.key) q x (λ y same. follows y (ap (λ c. digit_at c depth) (sym same)) (ap (λ c. c % 2 ^ (5 * depth)) (sym same))) xs h;
-      }
 
   pub sub-as-first : (depth k : ℕ) → k < length kept → is_sub_node depth (F k) ≡ true → AnswersAsFirst depth k
   sub-as-first depth k low h = elim (sub-node-is depth (F k) h) as (λ _. AnswersAsFirst depth k) [

@@ -1,6 +1,6 @@
 -- The test of one trie row, made of the codes of one key at each of its links.
 use Rattle.std.proofs.Common.{◌≡◌, ◌≢◌, ℕ, zero, suc, ◌+◌, ◌*◌, ◌%◌, ◌^◌, ◌<◌, ◌≤◌, Bool, true, false, ◌&&◌, ◌||◌, not, cond, Option, Some, None, List, [], ◌∷◌, ◌++◌, map, length, length-append, take, drop, slice_get, min, w32, length-drop, refl, ap, sym, subst, ◌∙◌, arith, inl, inr}
-use Rattle.std.specs.Prelude.{nat_lt, nat_le, ◌==◌, option_map, option_and_then, option_to_list}
+use Rattle.std.specs.Prelude.{count_ones, nat_lt, nat_le, ◌==◌, option_map, option_and_then, option_to_list}
 use Rattle.std.specs.List.{list_all, flat_map, range_with_len}
 use Rattle.std.specs.Int.{bit_at, trailing_zeros}
 use Rattle.std.specs.Int.Bits.{bit_and}
@@ -15,7 +15,7 @@ use Rattle.node_heap.specs.Forms.{Forms, node, trie}
 use Rattle.champ_chain.specs.Entry.{Entry, entry, key_at}
 use Rattle.champ_trie.specs.Bits.{has, rank}
 use Rattle.champ_trie.specs.Walk.{own_entries, rows_below}
-use Rattle.champ_trie.proofs.BitLemmas.{bit-has, has-bit}
+use Rattle.champ_trie.proofs.BitLemmas.{bit-has, has-bit, count-rank}
 use Rattle.pool_text.specs.Rows.{Bytes}
 use Rattle.pool_check.specs.Tries.{entries_below, positions, are_apart, is_sub_node, is_entry_at, is_node_at, agree_above, are_branches, all_same, is_canonical}
 use Rattle.pool_check.specs.Keeping.{code_at, codes_below, codes_by, codes_in, digits_are, codes_stand, kept_node, kept_of, canonical_kept, AreKept}
@@ -123,10 +123,20 @@ own-few F (k ∷ ks) = omega (arith, length-append (own F k) (flat_map (own F) k
     one None = omega arith
     one (Some key) = omega arith
 
-module _ (n : ℕ) (F : Forms Bytes) (code : Bytes → ℕ) (kept : List Kept) (are : AreKept n F code kept) (depth e d l : ℕ) (ks : List ℕ) (low : l < n) (is : F l ≡ Some (node (trie depth e d) ks))
-    (below : list_all (λ k. nat_lt k (length kept)) ks ≡ true) where
+-- a trie row of these sets and links, and what is kept of the rows that it names
+pub record IsTrieRow (n : ℕ) (F : Forms Bytes) (code : Bytes → ℕ) (kept : List Kept) (depth e d l : ℕ) (ks : List ℕ) : Type 0 where
+  pub are : AreKept n F code kept
+  pub low : l < n
+  pub is : F l ≡ Some (node (trie depth e d) ks)
+  pub below : list_all (λ k. nat_lt k (length kept)) ks ≡ true
+  pub small : e < 2 ^ 32
+
+module _ {n : ℕ} {F : Forms Bytes} {code : Bytes → ℕ} {kept : List Kept} {depth e d l : ℕ} {ks : List ℕ} (row : IsTrieRow n F code kept depth e d l ks) where
   abbrev r : ℕ
   r = rank e 32
+
+  own-is : count_ones e ≡ r
+  own-is = count-rank e row.small
 
   abbrev Es : ℕ → List (Entry Bytes)
   Es = entries_below n F
@@ -136,7 +146,7 @@ module _ (n : ℕ) (F : Forms Bytes) (code : Bytes → ℕ) (kept : List Kept) (
 
   refused : verdict ≡ false → None ≡ canonical_kept n F code l
   unfolding canonical_kept
-  refused h = sym (ap (λ b. cond b (Some (kept_of n F code l (F l))) None) (ap (is_canonical n F code l) is ∙ h))
+  refused h = sym (ap (λ b. cond b (Some (kept_of n F code l (F l))) None) (ap (is_canonical n F code l) row.is ∙ h))
 
   branches-refused : are_branches n F code depth e d ks ≡ false → None ≡ canonical_kept n F code l
   branches-refused h = refused (ap (λ b. b && agree_above n F code depth l && ((depth == 0) || nat_le 2 (length (Es l)))) h)
@@ -155,12 +165,12 @@ module _ (n : ℕ) (F : Forms Bytes) (code : Bytes → ℕ) (kept : List Kept) (
   nodes-refused h =
       branches-refused (ap (λ b. are_apart e d && pointwise (is_entry_at n F code depth) (positions e) (take r ks) && b) h ∙ and-false (are_apart e d && pointwise (is_entry_at n F code depth) (positions e) (take r ks)))
 
-  pub shared-refused : e < 2 ^ 32 → bit_and e d ≢ 0 → None ≡ canonical_kept n F code l
+  pub shared-refused : bit_and e d ≢ 0 → None ≡ canonical_kept n F code l
   unfolding are_branches
-  shared-refused small some =
-      branches-refused (ap (λ b. b && pointwise (is_entry_at n F code depth) (positions e) (take r ks) && pointwise (is_node_at n F code depth) (positions d) (drop r ks)) (not-apart e d small some))
+  shared-refused some =
+      branches-refused (ap (λ b. b && pointwise (is_entry_at n F code depth) (positions e) (take r ks) && pointwise (is_node_at n F code depth) (positions d) (drop r ks)) (not-apart e d row.small some))
 
-  pub short-refused : length ks < r → None ≡ canonical_kept n F code l
+  pub short-refused : length ks < count_ones e → None ≡ canonical_kept n F code l
   short-refused short = by_test (pointwise (is_entry_at n F code depth) (positions e) (take r ks)) refl
     where
       by_test : (b : Bool) → pointwise (is_entry_at n F code depth) (positions e) (take r ks) ≡ b → None ≡ canonical_kept n F code l
@@ -168,52 +178,55 @@ module _ (n : ℕ) (F : Forms Bytes) (code : Bytes → ℕ) (kept : List Kept) (
       by_test true h =
           let long = pointwise-length (is_entry_at n F code depth) (positions e) (take r ks) h in
           let most : length (take r ks) ≤ length ks = omega (arith, length-take r ks) in
-          absurd (omega (arith, positions-length e 0 32, rank-zero e, long, most, short))
+          absurd (omega (arith, positions-length e 0 32, rank-zero e, long, most, short, own-is))
 
   low-own : list_all (λ k. nat_lt k (length kept)) (take r ks) ≡ true
-  low-own = (low-parts (λ k. nat_lt k (length kept)) r ks below).0
+  low-own = (low-parts (λ k. nat_lt k (length kept)) r ks row.below).0
 
   low-nodes : list_all (λ k. nat_lt k (length kept)) (drop r ks) ≡ true
-  low-nodes = (low-parts (λ k. nat_lt k (length kept)) r ks below).1
+  low-nodes = (low-parts (λ k. nat_lt k (length kept)) r ks row.below).1
 
-  pub codes-refused : codes_in n F code depth r ks ≡ None → None ≡ canonical_kept n F code l
-  codes-refused none = by_part (lacking (codes_by (code_at n F code Entries depth) (take r ks)) (codes_by (code_at n F code Nodes depth) (drop r ks)) none)
+  pub codes-refused : codes_in n F code depth (count_ones e) ks ≡ None → None ≡ canonical_kept n F code l
+  codes-refused none = by_part (lacking (codes_by (code_at n F code Entries depth) (take r ks)) (codes_by (code_at n F code Nodes depth) (drop r ks)) (ap (λ i. codes_in n F code depth i ks) (sym own-is) ∙ none))
     where
       by_part : Lacks (codes_by (code_at n F code Entries depth) (take r ks)) (codes_by (code_at n F code Nodes depth) (drop r ks)) → None ≡ canonical_kept n F code l
       by_part (lacks_first h) =
-          entries-refused (tests-fail code depth (is_entry_at n F code depth) (own F) (code_at n F code Entries depth) (length kept) (λ k _. entry-says n F code kept are depth k) (take r ks) (positions e) low-own h)
+          entries-refused (tests-fail code depth (is_entry_at n F code depth) (own F) (code_at n F code Entries depth) (length kept) (λ k _. entry-says n F code kept row.are depth k) (take r ks) (positions e) low-own h)
       by_part (lacks_second h) =
-          nodes-refused (tests-fail code depth (is_node_at n F code depth) Es (code_at n F code Nodes depth) (length kept) (λ k below. node-says n F code kept are depth k below) (drop r ks) (positions d) low-nodes h)
+          nodes-refused (tests-fail code depth (is_node_at n F code depth) Es (code_at n F code Nodes depth) (length kept) (λ k below. node-says n F code kept row.are depth k below) (drop r ks) (positions d) low-nodes h)
 
   entries-are : Es l ≡ flat_map (own F) (take r ks) ++ flat_map Es (drop r ks)
-  entries-are = entries-is F are.falls n l low ∙ ap (λ row. flat_map (own F) (own_entries row) ++ flat_map Es (rows_below row)) is
+  entries-are = entries-is F row.are.falls n l row.low ∙ ap (λ x. flat_map (own F) (own_entries x) ++ flat_map Es (rows_below x)) row.is
 
-  module _ (cs : List ℕ) (codes : codes_in n F code depth r ks ≡ Some cs) (enough : r ≤ length ks) where
+  module _ {cs : List ℕ} (codes : codes_in n F code depth (count_ones e) ks ≡ Some cs) (enough : count_ones e ≤ length ks) (disjoint : bit_and e d ≡ 0) where
     parts : (es : List ℕ) × (ds : List ℕ) × (codes_by (code_at n F code Entries depth) (take r ks) ≡ Some es) × (codes_by (code_at n F code Nodes depth) (drop r ks) ≡ Some ds) × (cs ≡ es ++ ds)
-    parts = in-parts (codes_by (code_at n F code Entries depth) (take r ks)) (codes_by (code_at n F code Nodes depth) (drop r ks)) cs codes
+    parts = in-parts (codes_by (code_at n F code Entries depth) (take r ks)) (codes_by (code_at n F code Nodes depth) (drop r ks)) cs (ap (λ i. codes_in n F code depth i ks) (sym own-is) ∙ codes)
+
+    own-enough : r ≤ length ks
+    own-enough = omega (arith, own-is, enough)
 
     stands : Stand code depth (Es l) cs
     stands =
         subst (λ xs. Stand code depth (Es l) xs) (sym parts.4) (subst (λ E. Stand code depth E (parts.0 ++ parts.1)) (sym entries-are) (stand-append code depth (flat_map (own F) (take r ks)) (flat_map Es (drop r ks)) parts.0 parts.1
-        (stand-all code depth (is_entry_at n F code depth) (own F) (code_at n F code Entries depth) (length kept) (λ k _. entry-says n F code kept are depth k) (take r ks) parts.0 low-own parts.2)
-        (stand-all code depth (is_node_at n F code depth) Es (code_at n F code Nodes depth) (length kept) (λ k below. node-says n F code kept are depth k below) (drop r ks) parts.1 low-nodes parts.3)))
+        (stand-all code depth (is_entry_at n F code depth) (own F) (code_at n F code Entries depth) (length kept) (λ k _. entry-says n F code kept row.are depth k) (take r ks) parts.0 low-own parts.2)
+        (stand-all code depth (is_node_at n F code depth) Es (code_at n F code Nodes depth) (length kept) (λ k below. node-says n F code kept row.are depth k below) (drop r ks) parts.1 low-nodes parts.3)))
 
     halves : (take r cs ≡ parts.0) × (drop r cs ≡ parts.1)
     halves =
-        let long : length parts.0 ≡ r = codes-length (code_at n F code Entries depth) (take r ks) parts.0 parts.2 ∙ length-take-le r ks enough in
+        let long : length parts.0 ≡ r = codes-length (code_at n F code Entries depth) (take r ks) parts.0 parts.2 ∙ length-take-le r ks own-enough in
         let front = take-front parts.0 parts.1 r long in
         (ap (take r) parts.4 ∙ front.0, ap (drop r) parts.4 ∙ front.1)
 
     own-tests : pointwise (is_entry_at n F code depth) (positions e) (take r ks) ≡ digits_are depth e (take r cs)
     unfolding digits_are
     own-tests =
-        tests-codes code depth (is_entry_at n F code depth) (own F) (code_at n F code Entries depth) (length kept) (λ k _. entry-says n F code kept are depth k) (take r ks) parts.0 (positions e) low-own parts.2
+        tests-codes code depth (is_entry_at n F code depth) (own F) (code_at n F code Entries depth) (length kept) (λ k _. entry-says n F code kept row.are depth k) (take r ks) parts.0 (positions e) low-own parts.2
         ∙ sym (ap (digits_are depth e) halves.0)
 
     node-tests : pointwise (is_node_at n F code depth) (positions d) (drop r ks) ≡ digits_are depth d (drop r cs)
     unfolding digits_are
     node-tests =
-        tests-codes code depth (is_node_at n F code depth) Es (code_at n F code Nodes depth) (length kept) (λ k below. node-says n F code kept are depth k below) (drop r ks) parts.1 (positions d) low-nodes parts.3
+        tests-codes code depth (is_node_at n F code depth) Es (code_at n F code Nodes depth) (length kept) (λ k below. node-says n F code kept row.are depth k below) (drop r ks) parts.1 (positions d) low-nodes parts.3
         ∙ sym (ap (digits_are depth d) halves.1)
 
     two-there : nat_le 2 (length (Es l)) ≡ (nat_lt r (length ks) || nat_le 2 r)
@@ -221,7 +234,7 @@ module _ (n : ℕ) (F : Forms Bytes) (code : Bytes → ℕ) (kept : List Kept) (
       where
         some-nodes : (k : ℕ) (js : List ℕ) → drop r ks ≡ k ∷ js → k < length kept → is_sub_node depth (F k) ≡ true → nat_le 2 (length (Es l)) ≡ (nat_lt r (length ks) || nat_le 2 r)
         some-nodes k js rest low_k sub =
-            let here = sub-as-first n F code kept are depth k low_k sub in
+            let here = sub-as-first n F code kept row.are depth k low_k sub in
             let most : length (Es l) ≡ length (flat_map (own F) (take r ks)) + length (flat_map Es (drop r ks)) = ap length entries-are ∙ length-append (flat_map (own F) (take r ks)) (flat_map Es (drop r ks)) in
             let first : length (flat_map Es (drop r ks)) ≡ length (Es k) + length (flat_map Es js) = ap (λ xs. length (flat_map Es xs)) rest ∙ length-append (Es k) (flat_map Es js) in
             let two : 2 ≤ length (Es l) = omega (arith, most, first, ap length here.is, here.two) in
@@ -234,39 +247,43 @@ module _ (n : ℕ) (F : Forms Bytes) (code : Bytes → ℕ) (kept : List Kept) (
 
         by_rest : (js : List ℕ) → drop r ks ≡ js → list_all (λ k. nat_lt k (length kept)) js ≡ true → codes_by (code_at n F code Nodes depth) js ≡ Some parts.1 → nat_le 2 (length (Es l)) ≡ (nat_lt r (length ks) || nat_le 2 r)
         by_rest [] rest low_rest h =
-            let none : length ks ≡ r = omega (arith, ap length rest, length-drop r ks, enough) in
+            let none : length ks ≡ r = omega (arith, ap length rest, length-drop r ks, own-enough) in
             let all : length (Es l) ≡ length (flat_map (own F) (take r ks)) = ap length (entries-are ∙ ap (λ xs. flat_map (own F) (take r ks) ++ flat_map Es xs) rest ∙ append-nil (flat_map (own F) (take r ks))) in
             let least : length cs ≤ length (Es l) = stands.long in
             let codes_long : length cs ≡ length parts.0 + length parts.1 = ap length parts.4 ∙ length-append parts.0 parts.1 in
-            let own_long : length parts.0 ≡ r = codes-length (code_at n F code Entries depth) (take r ks) parts.0 parts.2 ∙ length-take-le r ks enough in
-            let few : length (flat_map (own F) (take r ks)) ≤ r = omega (arith, own-few F (take r ks), length-take-le r ks enough) in
+            let own_long : length parts.0 ≡ r = codes-length (code_at n F code Entries depth) (take r ks) parts.0 parts.2 ∙ length-take-le r ks own-enough in
+            let few : length (flat_map (own F) (take r ks)) ≤ r = omega (arith, own-few F (take r ks), length-take-le r ks own-enough) in
             let same : length (Es l) ≡ r = omega (arith, all, least, codes_long, own_long, few) in
             ap (nat_le 2) same ∙ sym (ap (λ b. b || nat_le 2 r) (lt-false r (length ks) (omega (arith, none))))
         by_rest (k ∷ js) rest low_rest h =
             let first = cons-some (code_at n F code Nodes depth k) (codes_by (code_at n F code Nodes depth) js) parts.1 h in
             some-nodes k js rest (ltb-true k (length kept) (and-first (nat_lt k (length kept)) (list_all (λ j. nat_lt j (length kept)) js) low_rest)) (is-sub (is_sub_node depth (F k)) (slice_get (codes_below n F code k) 0) first.0 first.2)
 
-    verdict-is : bit_and e d ≡ 0 → verdict ≡ (codes_stand depth e d cs && ((depth == 0) || (nat_lt r (length ks) || nat_le 2 r)))
+    verdict-is : verdict ≡ (codes_stand depth e d cs && ((depth == 0) || (nat_lt r (length ks) || nat_le 2 r)))
     unfolding codes_stand are_branches
-    verdict-is none =
+    verdict-is =
         let two : Bool = (depth == 0) || nat_le 2 (length (Es l)) in
-        ap (λ b. (b && pointwise (is_entry_at n F code depth) (positions e) (take r ks) && pointwise (is_node_at n F code depth) (positions d) (drop r ks)) && agree_above n F code depth l && two) (apart e d none)
+        ap (λ b. (b && pointwise (is_entry_at n F code depth) (positions e) (take r ks) && pointwise (is_node_at n F code depth) (positions d) (drop r ks)) && agree_above n F code depth l && two) (apart e d disjoint)
         ∙ ap (λ b. (b && pointwise (is_node_at n F code depth) (positions d) (drop r ks)) && agree_above n F code depth l && two) own-tests
         ∙ ap (λ b. (digits_are depth e (take r cs) && b) && agree_above n F code depth l && two) node-tests
         ∙ ap (λ b. (digits_are depth e (take r cs) && digits_are depth d (drop r cs)) && b && two) (stand-agree code depth (Es l) cs stands)
         ∙ ap (λ b. (digits_are depth e (take r cs) && digits_are depth d (drop r cs)) && all_same (map (λ c. c % 2 ^ (5 * depth)) cs) && ((depth == 0) || b)) two-there
 
-    pub stand-refused : bit_and e d ≡ 0 → codes_stand depth e d cs ≡ false → None ≡ canonical_kept n F code l
-    stand-refused none h = refused (verdict-is none ∙ ap (λ b. b && ((depth == 0) || (nat_lt r (length ks) || nat_le 2 r))) h)
+    pub stand-refused : codes_stand depth e d cs ≡ false → None ≡ canonical_kept n F code l
+    stand-refused h = refused (verdict-is ∙ ap (λ b. b && ((depth == 0) || (nat_lt r (length ks) || nat_le 2 r))) h)
 
-    pub few-refused : bit_and e d ≡ 0 → ((depth == 0) || (nat_lt r (length ks) || nat_le 2 r)) ≡ false → None ≡ canonical_kept n F code l
-    few-refused none h = refused (verdict-is none ∙ ap (λ b. codes_stand depth e d cs && b) h ∙ and-false (codes_stand depth e d cs))
+    -- the test of how many entries there are, as it is made
+    enough-is : (b : Bool) → ((depth == 0) || (nat_lt (count_ones e) (length ks) || nat_le 2 (count_ones e))) ≡ b → ((depth == 0) || (nat_lt r (length ks) || nat_le 2 r)) ≡ b
+    enough-is b h = ap (λ i. (depth == 0) || (nat_lt i (length ks) || nat_le 2 i)) (sym own-is) ∙ h
 
-    pub row-kept : bit_and e d ≡ 0 → codes_stand depth e d cs ≡ true → ((depth == 0) || (nat_lt r (length ks) || nat_le 2 r)) ≡ true → Some (kept_node depth cs) ≡ canonical_kept n F code l
+    pub few-refused : ((depth == 0) || (nat_lt (count_ones e) (length ks) || nat_le 2 (count_ones e))) ≡ false → None ≡ canonical_kept n F code l
+    few-refused h = refused (verdict-is ∙ ap (λ b. codes_stand depth e d cs && b) (enough-is false h) ∙ and-false (codes_stand depth e d cs))
+
+    pub row-kept : codes_stand depth e d cs ≡ true → ((depth == 0) || (nat_lt (count_ones e) (length ks) || nat_le 2 (count_ones e))) ≡ true → Some (kept_node depth cs) ≡ canonical_kept n F code l
     unfolding canonical_kept
-    row-kept none stand two =
-        let yes : verdict ≡ true = verdict-is none ∙ ap (λ b. b && ((depth == 0) || (nat_lt r (length ks) || nat_le 2 r))) stand ∙ two in
-        ap Some (same (codes_below n F code l) cs stands.head ∙ sym (ap (kept_of n F code l) is)) ∙ sym (ap (λ b. cond b (Some (kept_of n F code l (F l))) None) (ap (is_canonical n F code l) is ∙ yes))
+    row-kept stand two =
+        let yes : verdict ≡ true = verdict-is ∙ ap (λ b. b && ((depth == 0) || (nat_lt r (length ks) || nat_le 2 r))) stand ∙ enough-is true two in
+        ap Some (same (codes_below n F code l) cs stands.head ∙ sym (ap (kept_of n F code l) row.is)) ∙ sym (ap (λ b. cond b (Some (kept_of n F code l (F l))) None) (ap (is_canonical n F code l) row.is ∙ yes))
       where
         same : (bs cs : List ℕ) → slice_get bs 0 ≡ slice_get cs 0 → kept_node depth cs ≡ kept_node depth bs
         same [] [] h = refl

@@ -42,6 +42,7 @@ pub record WorkedDamages : Type 0 where
   pub is_later_version : document_damage 32 (codes "{\"bits\":32,\"format\":\"ewig-pool\",\"roots\":[2,3,4,5],\"rows\":[],\"version\":9}") ≡ Some Version
   pub is_other_bits : document_damage 31 (text start_pool) ≡ Some Bits
   pub is_tall_row : document_damage 32 (text tall_row) ≡ Some Row
+  pub is_tall_row_by_other_bits : document_damage 31 (text tall_row) ≡ Some Bits
   pub is_forward_link : document_damage 32 (text forward_link) ≡ Some Link
   pub is_broken_text : document_damage 32 (text broken_text) ≡ Some Text
   pub is_empty_leaf_below : document_damage 32 (text empty_leaf_below) ≡ Some Vector

@@ -221,33 +221,43 @@ module _ {T : Type 0} (text : T → Bytes) (h : Heap T) (P : Pool) (v : IsValid 
 
 -- ## The holds that are given up
 
-module _ {T : Type 0} (text : T → Bytes) {old mid new : Heap T} (P : Pool) (v : IsValid P) (links : List ℕ) (many : length links ≡ row_count P) (graph : IsGraph old)
-    (rows : AreMade text old mid P.rows links) (held : Builds mid new [] (map (slice_index links) P.roots) 0 0) (same : SameRows mid new) where
+-- the rows of a valid pool were made, each held once, and those of its roots held once more
+pub record AreHeld {T : Type 0} (text : T → Bytes) (old mid new : Heap T) (P : Pool) (links : List ℕ) : Type 0 where
+  pub valid : IsValid P
+  pub graph : IsGraph old
+  pub rows : AreMade text old mid P.rows links
+  pub many : length links ≡ row_count P
+  pub same : SameRows mid new
+  pub held : Builds mid new [] (map (slice_index links) P.roots) 0 0
+
+module _ {T : Type 0} {text : T → Bytes} {old mid new : Heap T} {P : Pool} {links : List ℕ} (is : AreHeld text old mid new P links) where
+  held-stand : RowsStand text new P links
+  held-stand = loaded-same is.same is.held.graph (loaded-made is.rows is.many)
+
   -- each link is held for itself besides
   pub own-held : (k : ℕ) → count k links ≤ holds_at new k
-  own-held k = omega (arith, rows.holds k, held.holds k)
+  own-held k = omega (arith, is.rows.holds k, is.held.holds k)
 
   old-reached : (l : ℕ) → IsSome (row_at old l) → IsReached (λ k. holds_at new k - count k links) (links_at new) l
   old-reached l live =
-      let up = graph.reached l live in
-      let below_same = SameBelow-links (row_at old) (row_at new) up.0 ((Extends-trans rows.extends held.extends).kept up.0 (graph.held up.0 up.1)) in
-      (up.0, omega (arith, up.1, rows.holds up.0, held.holds up.0), Reaches-same (links_at old) (links_at new) up.0 l up.2 below_same)
+      let up = is.graph.reached l live in
+      let below_same = SameBelow-links (row_at old) (row_at new) up.0 ((Extends-trans is.rows.extends is.held.extends).kept up.0 (is.graph.held up.0 up.1)) in
+      (up.0, omega (arith, up.1, is.rows.holds up.0, is.held.holds up.0), Reaches-same (links_at old) (links_at new) up.0 l up.2 below_same)
 
   new-reached : (l : ℕ) → 0 < count l links → IsReached (λ k. holds_at new k - count k links) (links_at new) l
   new-reached l has =
       let f : ℕ → ℕ = slice_index links in
       let at = place-is links l has in
       let p : ℕ = place_in links l in
-      let from = place-reached P v p (omega (arith, at.0, many)) in
-      let way : Reaches (links_at new) (f from.0) (f p) =
-      ways-down text new P v links (loaded-same same held.graph (loaded-made rows many)) from.0 p from.2 (roots-low P v.lead_back from.0 from.1) in
-      (f from.0, omega (arith, count-map f from.0 P.roots from.1, rows.holds (f from.0), held.holds (f from.0)), subst (Reaches (links_at new) (f from.0)) at.1 way)
+      let from = place-reached P is.valid p (omega (arith, at.0, is.many)) in
+      let way : Reaches (links_at new) (f from.0) (f p) = ways-down text new P is.valid links held-stand from.0 p from.2 (roots-low P is.valid.lead_back from.0 from.1) in
+      (f from.0, omega (arith, count-map f from.0 P.roots from.1, is.rows.holds (f from.0), is.held.holds (f from.0)), subst (Reaches (links_at new) (f from.0)) at.1 way)
 
   pub reached-without : AreReachedWithout new links
   reached-without l live = by_row (row_at old l) refl
     where
       by_row : (r : Option (Row T)) → row_at old l ≡ r → IsReached (λ k. holds_at new k - count k links) (links_at new) l
-      by_row None none = new-reached l (rows.all l (subst IsSome (same l) live) none)
+      by_row None none = new-reached l (is.rows.all l (subst IsSome (is.same l) live) none)
       by_row (Some x) some = old-reached l (rw some refl)
 
 -- ## All of it
@@ -258,27 +268,32 @@ kinds-add-up (cell x ∷ rows) = omega (arith, sum_by-cons (λ row. is_cell (Som
 kinds-add-up (node kind links ∷ rows) =
     omega (arith, sum_by-cons (λ row. is_cell (Some row)) (node kind links) rows, sum_by-cons (λ row. is_node (Some row)) (node kind links) rows, kinds-add-up rows)
 
-pub all-loaded : {T : Type 0} {text : T → Bytes} {first old mid top new : Heap T} {roots : List ℕ} (P : Pool) (links : List ℕ) → Unchanged first old → AreMade text old mid P.rows links → length links ≡ row_count P → Builds mid top [] roots 0 0 → GivesUp top new links
-    → ((r l : ℕ) → 0 < count r roots → Reaches (links_at new) r l → 0 < count l links) → Loads first new roots P
-all-loaded {first = first} {top = top} {new = new} P links room rows many held up among =
-    let cells : cells_of (take (length links) P.rows) ≡ cells_of P.rows = ap (λ (rs : List (Form Bytes)). cells_of rs) (take_all (length links) P.rows (omega (arith, many))) in
-    let nodes : nodes_of (take (length links) P.rows) ≡ nodes_of P.rows = ap (λ (rs : List (Form Bytes)). nodes_of rs) (take_all (length links) P.rows (omega (arith, many))) in
-    let all : cells_of P.rows + nodes_of P.rows ≡ row_count P = kinds-add-up P.rows in
-    let live : live_count new ≡ live_count first + row_count P = omega (arith, room.live, rows.makes.live, cells, nodes, all, held.makes.live, held.few_cells, held.few_nodes, up.live) in
-    record {
-      extends = Extends-trans (Extends-Unchanged room) (Extends-trans rows.extends (Extends-trans held.extends (Extends-rows top new up.rows)));
-      graph = up.graph;
-      fresh = λ r l root down. sym (room.rows l) ∙ rows.fresh l (among r l root down);
-      holds = λ k. omega (arith, room.holds k, rows.holds k, held.holds k, up.holds k);
-      count = omega (arith, room.count, rows.count, held.total, up.count);
-      cells = omega (arith, room.cells, rows.makes.cells, cells, held.makes.cells, held.few_cells, up.cells);
-      nodes = omega (arith, room.nodes, rows.makes.nodes, nodes, held.makes.nodes, held.few_nodes, up.nodes);
-      live = live;
-      made = omega (arith, room.made, rows.makes.made, cells, nodes, all, held.makes.made, held.few_cells, held.few_nodes, up.made);
-      balance = record {
-        spare_cells = omega (arith, room.spare_cells, room.cells, rows.makes.spare_cells, rows.makes.cells, held.makes.spare_cells, held.makes.cells, up.spare_cells, up.cells);
-        spare_nodes = omega (arith, room.spare_nodes, room.nodes, rows.makes.spare_nodes, rows.makes.nodes, held.makes.spare_nodes, held.makes.nodes, up.spare_nodes, up.nodes);
-        no_fewer = omega (arith, room.made, rows.makes.no_fewer, held.makes.no_fewer, up.made);
-        made = omega (arith, live, room.made, rows.makes.made, cells, nodes, all, held.makes.made, held.few_cells, held.few_nodes, up.made);
-      };
-    }
+module _ {T : Type 0} {text : T → Bytes} {old mid top new : Heap T} {P : Pool} {links : List ℕ} (is : AreHeld text old mid top P links) (up : GivesUp top new links) where
+  pub rows-loaded : RowsStand text new P links
+  rows-loaded = loaded-same up.rows up.graph (held-stand is)
+
+  pub all-loaded : {first : Heap T} → Unchanged first old → Loads first new (map (slice_index links) P.roots) P
+  all-loaded {first} room =
+      let cells : cells_of (take (length links) P.rows) ≡ cells_of P.rows = ap (λ (rs : List (Form Bytes)). cells_of rs) (take_all (length links) P.rows (omega (arith, is.many))) in
+      let nodes : nodes_of (take (length links) P.rows) ≡ nodes_of P.rows = ap (λ (rs : List (Form Bytes)). nodes_of rs) (take_all (length links) P.rows (omega (arith, is.many))) in
+      let all : cells_of P.rows + nodes_of P.rows ≡ row_count P = kinds-add-up P.rows in
+      let rows = is.rows in
+      let held = is.held in
+      let live : live_count new ≡ live_count first + row_count P = omega (arith, room.live, rows.makes.live, cells, nodes, all, held.makes.live, held.few_cells, held.few_nodes, up.live) in
+      record {
+        extends = Extends-trans (Extends-Unchanged room) (Extends-trans rows.extends (Extends-trans held.extends (Extends-rows top new up.rows)));
+        graph = up.graph;
+        fresh = λ r l root down. sym (room.rows l) ∙ rows.fresh l (below-roots text new P is.valid links rows-loaded r l root down);
+        holds = λ k. omega (arith, room.holds k, rows.holds k, held.holds k, up.holds k);
+        count = omega (arith, room.count, rows.count, held.total, up.count);
+        cells = omega (arith, room.cells, rows.makes.cells, cells, held.makes.cells, held.few_cells, up.cells);
+        nodes = omega (arith, room.nodes, rows.makes.nodes, nodes, held.makes.nodes, held.few_nodes, up.nodes);
+        live = live;
+        made = omega (arith, room.made, rows.makes.made, cells, nodes, all, held.makes.made, held.few_cells, held.few_nodes, up.made);
+        balance = record {
+          spare_cells = omega (arith, room.spare_cells, room.cells, rows.makes.spare_cells, rows.makes.cells, held.makes.spare_cells, held.makes.cells, up.spare_cells, up.cells);
+          spare_nodes = omega (arith, room.spare_nodes, room.nodes, rows.makes.spare_nodes, rows.makes.nodes, held.makes.spare_nodes, held.makes.nodes, up.spare_nodes, up.nodes);
+          no_fewer = omega (arith, room.made, rows.makes.no_fewer, held.makes.no_fewer, up.made);
+          made = omega (arith, live, room.made, rows.makes.made, cells, nodes, all, held.makes.made, held.few_cells, held.few_nodes, up.made);
+        };
+      }

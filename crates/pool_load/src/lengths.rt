@@ -9,6 +9,7 @@ use arrayvec::ArrayVec;
 use elem_core::NoMemory;
 use node_heap::Sums;
 use pool_text::Row;
+use rrb_core::full_size;
 use std::alloc::Global;
 
 // The lengths of the rows by their places: a leaf has its links, an inner row what its children have, and every other row 0.
@@ -66,15 +67,6 @@ pub fn inner_sums(lengths: &[u32], places: &[u64], below: u8) -> Sums
         return Sums::from_slice(&[]);
     }
     running_sums(lengths, places)
-}
-
-// How many elements so many full children of an inner row of this height have.
-fn full_size(count: usize, height: u8) -> u64
-    requires few { count ≤ 32 }
-    requires low { height ≤ 7 }
-    ensures { result ≡ count * 32 ^ height }
-{
-    (count as u64) << (5 * u32::from(height))
 }
 
 // The running sums of the lengths of the rows at these places.

@@ -24,6 +24,7 @@ returns c = record {
   is_later_version = refl;
   is_other_bits = refl;
   is_tall_row = refl;
+  is_tall_row_by_other_bits = refl;
   is_forward_link = refl;
   is_broken_text = refl;
   is_empty_leaf_below = refl;

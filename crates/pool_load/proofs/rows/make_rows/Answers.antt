@@ -1,4 +1,4 @@
-use Rattle.std.proofs.Common.{◌≡◌, ◌+◌, ℕ, List, [], ◌∷◌, ◌++◌, Some, map, length, slice_get, ap, sym, subst, ◌∙◌, arith, length-append}
+use Rattle.std.proofs.Common.{◌≡◌, ◌+◌, ◌<◌, ℕ, List, [], ◌∷◌, ◌++◌, Some, map, length, slice_get, ap, sym, subst, ◌∙◌, arith, length-append}
 use Rattle.std.proofs.lemmas.List.{length-map}
 use Rattle.std.proofs.lemmas.Iterator.Adapters.{YieldsList-from_vec}
 use Rattle.std.proofs.lemmas.Iterator.Consumers.{YieldsList-turn, YieldsList-end}
@@ -8,7 +8,9 @@ use Rattle.pool_text.specs.Rows.{Bytes, row_form}
 use Rattle.pool_load.specs.Rows.{AreSound, HaveLengths}
 use Rattle.pool_load.specs.Making.{CanMake, MakesPoolRow, AreMade}
 use Rattle.pool_load.proofs.Steps.{get-map, can-make, one-more-made, none-made}
+use Rattle.pool_load.proofs.rows.make_rows.Given.{Over}
 use Rattle.pool_load.proofs.rows.make_rows.Goals as goal
+use Rattle.pool_load.proofs.rows.make_rows.Goals.{In-Some}
 
 pub loop-row-init : goal.loop-row-init
 loop-row-init g c = record {
@@ -17,23 +19,24 @@ loop-row-init g c = record {
   room = c.requires.room;
 }
 
+-- the row of this turn is the one after those that were made
+turn : (g : Over) (c : In-Some g) → (length c.loop-row.yielded < length c.args.rows.items) × (slice_get (map row_form c.args.rows.items) (length c.loop-row.links.items) ≡ Some (row_form c.in-Some.row))
+turn g c =
+    let items = c.args.rows.items in
+    let gives = c.into_iter-row-iterator.ensures.into_iter_gives in
+    let at = YieldsList-turn (YieldsList-from_vec items gives.0 (gives.1 ∙ c.args.rows.ok.0)) c.loop-row.yielded c.loop-row.row-iterator c.loop-row.yielded_by c.next.result c.next.new.self c.in-Some.row c.in-Some.is c.next.ensures.steps in
+    (at.0, ap (slice_get (map row_form items)) c.loop-row.invariant.count ∙ get-map row_form items (length c.loop-row.yielded) c.in-Some.row at.0 at.1)
+
 pub make_row-link-requires : goal.make_row-link-requires
 make_row-link-requires g c =
     let items = c.args.rows.items in
-    let gives = c.into_iter-row-iterator.ensures.into_iter_gives in
-    let turn = YieldsList-turn (YieldsList-from_vec items gives.0 (gives.1 ∙ c.args.rows.ok.0)) c.loop-row.yielded c.loop-row.row-iterator c.loop-row.yielded_by c.next.result c.next.new.self c.in-Some.row c.in-Some.is c.next.ensures.steps in
-    let at : slice_get (map row_form items) (length c.loop-row.links.items) ≡ Some (row_form c.in-Some.row) =
-    ap (slice_get (map row_form items)) c.loop-row.invariant.count ∙ get-map row_form items (length c.loop-row.yielded) c.in-Some.row turn.0 turn.1 in
     let many : length (map row_form items) ≡ length items = length-map items row_form in
     subst (λ (ls : List ℕ). CanMake c.loop-row.heap ls c.args.lengths.now (row_form c.in-Some.row)) (sym {A = List ℕ} c.as_slice.ensures.value)
-    (can-make (map row_form items) c.loop-row.links.items c.args.lengths.now (row_form c.in-Some.row) c.loop-row.invariant.made at c.requires.sound c.requires.lengths (c.requires.known ∙ sym many) c.requires.spares (omega (arith, c.requires.few, many)))
+    (can-make (map row_form items) c.loop-row.links.items c.args.lengths.now (row_form c.in-Some.row) c.loop-row.invariant.made (turn g (goal.at.make_row-link-requires g c).In-Some).1 c.requires.sound c.requires.lengths (c.requires.known ∙ sym many) c.requires.spares (omega (arith, c.requires.few, many)))
 
 pub push_reserved-requires : goal.push_reserved-requires
 push_reserved-requires g c =
-    let items = c.args.rows.items in
-    let gives = c.into_iter-row-iterator.ensures.into_iter_gives in
-    let turn = YieldsList-turn (YieldsList-from_vec items gives.0 (gives.1 ∙ c.args.rows.ok.0)) c.loop-row.yielded c.loop-row.row-iterator c.loop-row.yielded_by c.next.result c.next.new.self c.in-Some.row c.in-Some.is c.next.ensures.steps in
-    omega (arith, c.loop-row.links.ok.0, c.loop-row.invariant.count, c.loop-row.invariant.room, turn.0)
+    omega (arith, c.loop-row.links.ok.0, c.loop-row.invariant.count, c.loop-row.invariant.room, (turn g (goal.at.push_reserved-requires g c).In-Some).0)
 
 one-longer : (xs ys : List ℕ) (x : ℕ) → ys ≡ xs ++ x ∷ [] → length ys ≡ length xs + 1
 one-longer xs ys x e = omega (arith, ap length e, length-append xs (x ∷ []))
@@ -48,10 +51,7 @@ next-made text {old} {mid} {new} rows links seen longer lengths link form made a
 pub loop-row-preserved : goal.loop-row-preserved
 loop-row-preserved g c =
     let items = c.args.rows.items in
-    let gives = c.into_iter-row-iterator.ensures.into_iter_gives in
-    let turn = YieldsList-turn (YieldsList-from_vec items gives.0 (gives.1 ∙ c.args.rows.ok.0)) c.loop-row.yielded c.loop-row.row-iterator c.loop-row.yielded_by c.next.result c.next.new.self c.in-Some.row c.in-Some.is c.next.ensures.steps in
-    let at : slice_get (map row_form items) (length c.loop-row.links.items) ≡ Some (row_form c.in-Some.row) =
-    ap (slice_get (map row_form items)) c.loop-row.invariant.count ∙ get-map row_form items (length c.loop-row.yielded) c.in-Some.row turn.0 turn.1 in
+    let at = (turn g (goal.at.loop-row-preserved g c).In-Some).1 in
     let many : length (map row_form items) ≡ length items = length-map items row_form in
     record {
       made = next-made g.T.Stored.bytes_of (map row_form items) c.loop-row.links.items c.as_slice.result.now c.push_reserved.new.self.items c.args.lengths.now c.make_row-link.result (row_form c.in-Some.row) c.loop-row.invariant.made at c.as_slice.ensures.value c.make_row-link.ensures c.push_reserved.ensures.items c.requires.sound c.requires.lengths (c.requires.known ∙ sym many);
