@@ -96,12 +96,20 @@ module _ {T : Type 0} where
     pub live : IsSome (row_at h other)
     pub spares : HasSpares h 0 1
 
-  -- it is so after the call that made the part, by whichever names the two go then
-  pub ready : {old mid : Heap T} {xs : List ℕ} {w c n l : ℕ} (part other : ℕ) → Answered old mid xs w c n → 0 < holds_at mid w → hold_count old < 2 ^ 59 → HasSpares old c (n + 1) → IsSome (row_at old l) → part ≡ w → other ≡ l
-      → IsReady mid part other
-  ready {mid = mid} {l = l} part other a held few spares live same there = record {
-    few = omega (arith, few, a.count);
-    held = subst (λ (k : ℕ). 0 < holds_at mid k) (sym same) held;
-    live = subst (λ (k : ℕ). IsSome (row_at mid k)) (sym there) (a.extends.live l live);
-    spares = answered-spares 0 1 a (omega (arith, spares.0), spares.1);
-  }
+  -- a call made the part, of spares that leave a node
+  module _ {old mid : Heap T} {xs : List ℕ} {part c n : ℕ} (first : Answered old mid xs part c n) where
+    pub ready : {other l more : ℕ} → HasSpares old c more → n + 1 ≤ more → hold_count old < 2 ^ 59 → 0 < holds_at mid part → IsSome (row_at old l) → other ≡ l → IsReady mid part other
+    ready {l = l} spares enough few held live there = record {
+      few = omega (arith, few, first.count);
+      held = held;
+      live = subst (λ (k : ℕ). IsSome (row_at mid k)) (sym there) (first.extends.live l live);
+      spares = answered-spares 0 1 first (omega (arith, spares.0), omega (arith, spares.1, enough));
+    }
+
+    -- and then the row over both was made
+    module _ {new : Heap T} {result : ℕ} (row : Answered mid new (part ∷ []) result 0 1) where
+      pub answered-row : {more : ℕ} → n + 1 ≤ more → Answered old new xs result c more
+      answered-row {more} enough = answered-more c more (answered-then first row) (omega arith) (omega (arith, enough))
+
+      pub just-row : MakesJust old mid → Makes mid new 0 1 → MakesJust old new
+      just-row made makes = just-then first.extends row.extends made (just-makes makes)

@@ -1,6 +1,12 @@
-//! Laws of pools that stand for a workspace, as the clauses of functions that do nothing.
+//! Laws of what rows stand for, in a heap and in pools, as the clauses of functions that do nothing.
 ghost use Rattle.state_rows.specs.Laws.{OneWorkspace, PoolsStand, RootsStand, ValidPoolsStand};
+ghost use Rattle.state_rows.specs.Stay.{StatesStay};
 ghost use Rattle.state_rows.specs.Worked.{WorkedSpaces};
+
+/// Lines, states, versions and histories stay wherever all that their link reaches is the same.
+pub fn states_stay()
+    ensures { StatesStay }
+{}
 
 /// Roots of a heap that stand for a workspace have a valid pool, which stands for it too.
 pub fn pools_stand()

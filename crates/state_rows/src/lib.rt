@@ -6,7 +6,6 @@
 //! that it wants no memory.
 #![tactic(auto)]
 
-mod frame;
 mod laws;
 mod list;
 mod look_up;
@@ -14,12 +13,11 @@ mod make;
 mod row;
 mod start;
 
-pub use frame::states_stay;
-pub use laws::{one_workspace, pools_stand, roots_stand, valid_pools_stand, worked_spaces};
-pub use list::{marked, sizes, starred};
-pub use look_up::{
-    buffer, buffers_alike, count_states, is_starred, last, stars_alike, version, versions_alike,
+pub use laws::{
+    one_workspace, pools_stand, roots_stand, states_stay, valid_pools_stand, worked_spaces,
 };
+pub use list::{marked, sizes, starred};
+pub use look_up::{buffer, buffers_alike, is_starred, last, stars_alike, version, versions_alike};
 pub use make::{
     emptied, popped, pushed, with_lines, with_star, with_version, without_lines, without_star,
     without_version,

@@ -56,14 +56,6 @@ pub fn last(heap: &Heap<Text>, history: FlexRef) -> Option<Link>
     history.get(heap, count - 1)
 }
 
-/// The number of states of the history.
-pub fn count_states(heap: &Heap<Text>, history: FlexRef) -> u32
-    requires history { (bits : ℕ) × (ss : List State) × IsHistoryIn heap.now bits history ss }
-    ensures { (bits : ℕ) (ss : List State) → IsHistoryIn heap.now bits history ss → result ≡ length ss }
-{
-    history.len(heap)
-}
-
 /// How many of the buffers' names have the masked code of this one, itself included where it is among them.
 pub fn buffers_alike(heap: &Heap<Text>, bits: u32, state: Link, name: Name<'_>) -> usize
     requires bits { bits ≤ CODE_BITS }

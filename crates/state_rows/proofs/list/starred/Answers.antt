@@ -17,7 +17,7 @@ use Rattle.state_rows.proofs.Contents.{set-apart, set-there}
 use Rattle.state_rows.proofs.Histories.{zip-push}
 use Rattle.state_rows.proofs.Listed.{at-turn, names-in-order, names-listed}
 use Rattle.state_rows.proofs.Staying.{map-self}
-use Rattle.state_rows.proofs.Steps.{set-is}
+use Rattle.state_rows.proofs.Steps.{stars-at, set-is}
 use Rattle.state_rows.proofs.list.starred.Goals as goal
 
 pub members-cell-items-requires : goal.members-cell-items-requires
@@ -25,7 +25,7 @@ members-cell-items-requires c =
     let h = c.args.heap.now in
     let s = c.requires.state.0 in
     let is = c.requires.state.1 in
-    (is.stars_are.entries, set-is h c.requires.bits is.stars_are c.stars_of.result (c.stars_of.ensures.root s is) c.stars_of.ensures.bits)
+    (is.stars_are.entries, set-is (stars-at c.requires.bits c.stars_of.ensures.bits c.stars_of.ensures.root s is))
 
 -- each link that the walk gives is a cell
 cells-there : (h : Heap Bytes) (bits l : ℕ) (names : Names) (is : AreNamesIn h bits l names) (ls : List ℕ) → SameSet ls (map (λ e. e.link) is.entries) → All (λ k. (text : Bytes) × IsTextAt h k text) ls
@@ -38,7 +38,7 @@ cell_text-requires c =
     let h = c.args.heap.now in
     let s = c.requires.state.0 in
     let is = c.requires.state.1 in
-    let same = c.members-cell-items.ensures.cells is.stars_are.entries (set-is h c.requires.bits is.stars_are c.stars_of.result (c.stars_of.ensures.root s is) c.stars_of.ensures.bits) in
+    let same = c.members-cell-items.ensures.cells is.stars_are.entries (set-is (stars-at c.requires.bits c.stars_of.ensures.bits c.stars_of.ensures.root s is)) in
     let turn = YieldsList-turn (YieldsList-from_first (λ (x : ℕ). x) (λ (e : List ℕ). e) c.members-cell-items.result c.into_iter-cell-iterator.ensures.into_iter_gives) c.loop-cell.yielded _ c.loop-cell.yielded_by _ _ c.in-Some.cell c.in-Some.is c.next.ensures.steps in
     at-turn (λ k. (text : Bytes) × IsTextAt h k text) c.members-cell-items.result (length c.loop-cell.yielded) c.in-Some.cell (cells-there h c.args.bits is.stars s.stars is.stars_are c.members-cell-items.result same) turn
 
@@ -47,7 +47,7 @@ loop-cell-preserved c =
     let h = c.args.heap.now in
     let s = c.requires.state.0 in
     let is = c.requires.state.1 in
-    let same = c.members-cell-items.ensures.cells is.stars_are.entries (set-is h c.requires.bits is.stars_are c.stars_of.result (c.stars_of.ensures.root s is) c.stars_of.ensures.bits) in
+    let same = c.members-cell-items.ensures.cells is.stars_are.entries (set-is (stars-at c.requires.bits c.stars_of.ensures.bits c.stars_of.ensures.root s is)) in
     let turn = YieldsList-turn (YieldsList-from_first (λ (x : ℕ). x) (λ (e : List ℕ). e) c.members-cell-items.result c.into_iter-cell-iterator.ensures.into_iter_gives) c.loop-cell.yielded _ c.loop-cell.yielded_by _ _ c.in-Some.cell c.in-Some.is c.next.ensures.steps in
     let given : (text : Bytes) × IsTextAt h c.in-Some.cell text = at-turn (λ k. (text : Bytes) × IsTextAt h k text) c.members-cell-items.result (length c.loop-cell.yielded) c.in-Some.cell (cells-there h c.args.bits is.stars s.stars is.stars_are c.members-cell-items.result same) turn in
     let shown : IsTextAt h c.in-Some.cell c.cell_text.result.now = subst (IsTextAt h c.in-Some.cell) (sym (c.cell_text.ensures given.0 given.1)) given.1 in
@@ -59,7 +59,7 @@ returns c = λ s is.
     let h = c.args.heap.now in
     let E = is.stars_are.entries in
     let all = c.members-cell-items.result in
-    let same = c.members-cell-items.ensures.cells E (set-is h c.requires.bits is.stars_are c.stars_of.result (c.stars_of.ensures.root s is) c.stars_of.ensures.bits) in
+    let same = c.members-cell-items.ensures.cells E (set-is (stars-at c.requires.bits c.stars_of.ensures.bits c.stars_of.ensures.root s is)) in
     let done = YieldsList-end (YieldsList-from_first (λ (x : ℕ). x) (λ (e : List ℕ). e) all c.into_iter-cell-iterator.ensures.into_iter_gives) c.loop-cell.yielded _ c.loop-cell.yielded_by _ _ c.in-None.is c.next.ensures.steps in
     let zip = subst (λ (ks : List ℕ). AllZip (λ k name. IsTextAt h k (shown_text name)) ks c.loop-cell.listed.items) (sym (map-self c.loop-cell.yielded) ∙ done.0) c.loop-cell.invariant in
     let names = names-listed (λ k name. IsTextAt h k (shown_text name)) shown_text E all c.loop-cell.listed.items (λ i d low name at. let there = is.stars_are.cells i d low in cc) same zip in

@@ -2,7 +2,7 @@ use Rattle.std.proofs.Common.{[], ◌∷◌, refl, arith}
 use Rattle.node_heap.proofs.Frames.{Makes-trans}
 use Rattle.node_heap.proofs.BuildLemmas.{Builds-hold, Answered-Builds, count-cons, count-one}
 use Rattle.state_rows.proofs.Answering.{answered-over, one-held}
-use Rattle.state_rows.proofs.Staying.{buffers-grown, names-grown}
+use Rattle.state_rows.proofs.Staying.{over-parts}
 use Rattle.state_rows.proofs.row.over_stars.Goals as goal
 
 pub state_row-requires-clause-held : goal.state_row-requires-clause-held
@@ -21,6 +21,4 @@ pub returns-clause-makes : goal.returns-clause-makes
 returns-clause-makes c = Makes-trans c.hold.ensures.makes c.state_row.ensures.makes
 
 pub returns-clause-state : goal.returns-clause-state
-returns-clause-state c = λ bits s buffers stars.
-    let more = c.hold.ensures.extends in
-    c.state_row.ensures.state bits s (buffers-grown c.args.heap.now c.hold.new.self more bits c.args.names s.buffers buffers) (names-grown c.args.heap.now c.hold.new.self more bits c.args.stars s.stars stars)
+returns-clause-state c = over-parts c.hold.ensures.extends c.state_row.ensures.state
