@@ -51,16 +51,17 @@ once-fits (x ∷ xs) ys once inside =
     by_case k some rest (inl same) kept = absurd (omega (arith, subst (λ j. 0 < count j xs) (sym same) some, once x, count-cons x x xs, one_at-same x))
     by_case k some rest (inr differs) kept = omega (arith, kept differs, inside k (omega (arith, some, count-cons k x xs)))
 
-module _ {K : Type 0} (F : Forms K) where
-  -- the steps of a walk over different rows apart
-  pub few-steps : (a b old new spare : ℕ) → Spends F a b old new spare → spare ≡ 0 → (rows : List ℕ) → HasApart F a b rows → new ≤ old + 204 * length rows
-  few-steps a b old new spare spends none rows has =
-      let fits = once-fits spends.rows rows spends.once (λ k some. has k (spends.apart k some)) in
-      omega (arith, spends.few, fits, none)
+no-spare : (result : Bool) (n : ℕ) → n ≡ 0 → cond result 0 n ≡ 0
+no-spare true n none = refl
+no-spare false n none = none
 
-  pub no-spare : (result : Bool) (n : ℕ) → n ≡ 0 → cond result 0 n ≡ 0
-  no-spare true n none = refl
-  no-spare false n none = none
+module _ {K : Type 0} (F : Forms K) where
+  -- the steps of a walk from two roots, over different rows apart
+  pub few-steps : {a b l m old new n : ℕ} (result : Bool) → l ≡ a → m ≡ b → n ≡ 0 → Spends F l m old new (cond result 0 n) → (rows : List ℕ) → HasApart F a b rows → new ≤ old + 204 * length rows
+  few-steps {a} {m = m} {n = n} result left right none spends rows has =
+      let apart = subst (λ k. HasApart F k m rows) (sym left) (subst (λ k. HasApart F a k rows) (sym right) has) in
+      let fits = once-fits spends.rows rows spends.once (λ k some. apart k (spends.apart k some)) in
+      omega (arith, spends.few, fits, no-spare result n none)
 
 module _ {K : Type 0} (cmp : K → K → Ordering) (F : Forms K) where
   -- sets of key cells

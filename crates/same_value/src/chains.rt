@@ -6,7 +6,7 @@ ghost use Rattle.node_heap.specs.Glass.{lent};
 ghost use Rattle.same_value.specs.Congruent.{Congruent, IsChainFrom};
 ghost use Rattle.same_value.specs.Apart.{Spends};
 
-use crate::compare::Compares;
+use crate::compare::{Both, ComparesEntries};
 use elem_core::Element;
 use node_heap::{Glass, Link, Steps};
 use std::sync::ledger::Ledger;
@@ -34,7 +34,7 @@ fn row_of<T, L: Ledger>(glass: &Glass<'_, T>, row: Link, steps: &mut Steps<L>) -
 
 // Whether two chains have the same entries, in turn. A row of the first chain that the second hasn't costs eight steps at
 // most, and so does the first place where the entries differ.
-pub(crate) fn same_chains<T: Element, C: Compares<T>, L: Ledger>(
+pub(crate) fn same_chains<T: Element, C: ComparesEntries<T>, L: Ledger>(
     glass: &Glass<'_, T>,
     left: Link,
     right: Link,
@@ -55,7 +55,11 @@ pub(crate) fn same_chains<T: Element, C: Compares<T>, L: Ledger>(
         }
         let first = row_of(glass, left_row, steps);
         let second = row_of(glass, right_row, steps);
-        if !how.same_entries(glass, first.entry, second.entry, steps) {
+        let both = Both {
+            left: first.entry,
+            right: second.entry,
+        };
+        if !how.are_same(glass, both, steps) {
             return false;
         }
         match (first.next, second.next) {

@@ -1,8 +1,8 @@
 //! Whether two vectors, maps, sets or states of one heap have the same in them.
 //!
-//! Equal links end a walk at once, so what two values share isn't read. Two tries are compared row by row: a set of
-//! entries has one trie, so tries of equal sets have equal rows. Two vectors are compared row by row as long as their
-//! rows are cut in the same places, and else element by element. Nothing here takes memory.
+//! Equal links end a walk at once. Two tries are compared row by row: a set of entries has one trie, so tries of equal
+//! sets have equal rows. Two vectors are compared row by row as long as their rows are cut in the same places; where they
+//! aren't, element by element from the first on, what they share too. Nothing here takes memory.
 #![tactic(auto)]
 
 mod cells;

@@ -9,8 +9,8 @@ ghost use Rattle.same_value.specs.Apart.{HasApart};
 ghost use Rattle.same_value.specs.Cells.{IsCellLink, IsSameCell};
 ghost use Rattle.same_value.specs.Contents.{AreSameMaps, AreSameSets, IsMapWith, IsValueOf, IsSameValue};
 
-use crate::entries::{Keys, OfCells, OfLines};
-use crate::states::{OfStates, same_roots};
+use crate::entries::{EqualCells, EqualLines, EqualPairs};
+use crate::states::{EqualStates, same_roots};
 use crate::tries::same_tries;
 use crate::values::Values;
 use champ_kinds::{MapRef, SetRef};
@@ -33,7 +33,7 @@ pub fn equal_set<T: Element, L: Ledger>(
         (IsTrue result ↔ AreSameSets T.cmp E D) }
     ensures few { (rows : List ℕ) → HasApart (form_at (lent {T = T} glass.entry)) a.root b.root rows → steps.new ≤ steps.old + 204 * length rows }
 {
-    same_tries(&glass, a.root(), b.root(), 0, &Keys, steps)
+    same_tries(&glass, a.root(), b.root(), 0, &EqualCells, steps)
 }
 
 /// Whether two maps by as many bits, whose values are cells, have equal keys with equal values. It takes at most 204 steps
@@ -52,7 +52,8 @@ pub fn equal_cells<T: Element, L: Ledger>(
         (IsTrue result ↔ AreSameMaps T.cmp (IsSameCell T.cmp (form_at (lent {T = T} glass.entry))) M N) }
     ensures few { (rows : List ℕ) → HasApart (form_at (lent {T = T} glass.entry)) a.root b.root rows → steps.new ≤ steps.old + 204 * length rows }
 {
-    same_tries(&glass, a.root(), b.root(), 0, &OfCells, steps)
+    let how = EqualPairs { values: EqualCells };
+    same_tries(&glass, a.root(), b.root(), 0, &how, steps)
 }
 
 /// Whether two maps by as many bits, whose values are of this sort, have equal keys with the same values.
@@ -67,11 +68,15 @@ pub fn equal_map<T: Element>(heap: &Heap<T>, a: MapRef, b: MapRef, values: Value
     let left = a.root();
     let right = b.root();
     match values {
-        Values::Cells => same_roots(heap, left, right, &OfCells),
-        Values::Lines => same_roots(heap, left, right, &OfLines { heap }),
+        Values::Cells => same_roots(heap, left, right, &EqualPairs { values: EqualCells }),
+        Values::Lines => {
+            let values = EqualLines { heap };
+            same_roots(heap, left, right, &EqualPairs { values })
+        }
         Values::States => {
             let bits = a.bits();
-            same_roots(heap, left, right, &OfStates { heap, bits })
+            let values = EqualStates { heap, bits };
+            same_roots(heap, left, right, &EqualPairs { values })
         }
     }
 }

@@ -3,10 +3,9 @@ ghost use Rattle.std.specs.Prelude.{◌≡◌, ℕ, ◌↔◌, ◌<◌, IsTrue};
 ghost use Rattle.node_heap.specs.Heap.{form_at};
 ghost use Rattle.same_value.specs.Congruent.{Congruent, IsFrom};
 ghost use Rattle.same_value.specs.Contents.{IsStateLink, IsSameState};
-ghost use Rattle.same_value.specs.Entries.{IsPairOf, IsSamePair};
 
-use crate::compare::Compares;
-use crate::entries::{Keys, OfLines, values_of};
+use crate::compare::{Both, Compares, ComparesEntries};
+use crate::entries::{EqualCells, EqualLines, EqualPairs};
 use crate::tries::same_tries;
 use elem_core::Element;
 use node_heap::{Glass, Heap, Link, Steps};
@@ -14,7 +13,7 @@ use std::marker::Brand;
 use std::sync::ledger::{Blank, Ledger};
 
 // The same as `same_tries` from two roots on, with steps that are counted on a ledger of its own.
-fn with_steps<T: Element, C: Compares<T>, L: Ledger>(
+fn with_steps<T: Element, C: ComparesEntries<T>, L: Ledger>(
     heap: &Heap<T>,
     left: Link,
     right: Link,
@@ -34,7 +33,7 @@ fn with_steps<T: Element, C: Compares<T>, L: Ledger>(
 }
 
 // Whether two tries have the same entries. Nobody asks for the steps.
-pub(crate) fn same_roots<T: Element, C: Compares<T>>(
+pub(crate) fn same_roots<T: Element, C: ComparesEntries<T>>(
     heap: &Heap<T>,
     left: Link,
     right: Link,
@@ -61,50 +60,35 @@ pub fn equal_state<T: Element>(heap: &Heap<T>, bits: u32, a: Link, b: Link) -> b
     }
     let first = heap.links(a);
     let second = heap.links(b);
-    same_roots(heap, first[0], second[0], &OfLines { heap })
-        && same_roots(heap, first[1], second[1], &Keys)
+    let values = EqualLines { heap };
+    same_roots(heap, first[0], second[0], &EqualPairs { values })
+        && same_roots(heap, first[1], second[1], &EqualCells)
 }
 
-// Compares the entries of maps whose values are states in this heap, by so many bits of the codes.
+// Compares states in this heap, by so many bits of the codes.
 #[derive(Drop)]
-pub(crate) struct OfStates<'h, T> {
+pub(crate) struct EqualStates<'h, T> {
     pub(crate) heap: &'h Heap<T>,
     pub(crate) bits: u32,
 }
 
-impl<T: Element> Compares<T> for OfStates<'_, T> {
+impl<T: Element> Compares<T> for EqualStates<'_, T> {
     ghost use Rattle.std.specs.Prelude.{◌≡◌};
-    ghost use Rattle.same_value.specs.CompareLaws.{state-itself, pair-itself, pair-keyed, pair-keys, pair-outermost};
+    ghost use Rattle.same_value.specs.CompareLaws.{state-itself};
 
     ghost reads = { λ s h. s.heap.now ≡ h };
 
-    ghost good = { λ s h l. IsPairOf (form_at h) (IsStateLink T.cmp T.code_of h s.bits) l };
+    ghost good = { λ s h l. IsStateLink T.cmp T.code_of h s.bits l };
 
-    ghost same = { λ s h l m. IsSamePair (form_at h) T.cmp (IsSameState T.cmp T.code_of h s.bits) l m };
+    ghost same = { λ s h l m. IsSameState T.cmp T.code_of h s.bits l m };
 
     ghost counted = { ⊥ };
 
-    fn same_entries<L: Ledger>(
-        &self,
-        glass: &Glass<'_, T>,
-        left: Link,
-        right: Link,
-        steps: &mut Steps<L>,
-    ) -> bool {
-        if left == right {
-            return true;
-        }
-        match values_of(glass, left, right, steps) {
-            None => false,
-            Some(both) => equal_state(self.heap, self.bits, both.left, both.right),
-        }
+    ghost quick = { ⊥ };
+
+    fn are_same<L: Ledger>(&self, _: &Glass<'_, T>, both: Both, _: &mut Steps<L>) -> bool {
+        equal_state(self.heap, self.bits, both.left, both.right)
     }
 
-    ghost itself = { λ s h l. pair-itself T.cmp T.total (form_at h) (IsStateLink T.cmp T.code_of h s.bits) (IsSameState T.cmp T.code_of h s.bits) (state-itself T.cmp T.total T.code_of h s.bits) l };
-
-    ghost keyed = { λ s h l m. pair-keyed T.cmp (form_at h) (IsSameState T.cmp T.code_of h s.bits) l m };
-
-    ghost equal_keys = { λ s h l m j k. pair-keys T.cmp (form_at h) (IsSameState T.cmp T.code_of h s.bits) l m j k };
-
-    ghost outermost = { λ s h l k m kind ks. pair-outermost T.cmp (form_at h) (IsStateLink T.cmp T.code_of h s.bits) (IsSameState T.cmp T.code_of h s.bits) l k m kind ks };
+    ghost itself = { λ s h l. state-itself T.cmp T.total T.code_of h s.bits l };
 }

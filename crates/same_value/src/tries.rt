@@ -10,7 +10,7 @@ ghost use Rattle.same_value.specs.Congruent.{Congruent, IsFrom};
 ghost use Rattle.same_value.specs.Apart.{Spends};
 
 use crate::chains::same_chains;
-use crate::compare::Compares;
+use crate::compare::{Both, ComparesEntries};
 use elem_core::{DEEPEST, Element};
 use node_heap::{Glass, Head, Link, Steps};
 use std::sync::ledger::Ledger;
@@ -62,7 +62,7 @@ fn entries_of_both<T, L: Ledger>(
 }
 
 // Whether the entries are the same, place by place, of which there are as many on both sides.
-fn same_in_turn<T: Element, C: Compares<T>, L: Ledger>(
+fn same_in_turn<T: Element, C: ComparesEntries<T>, L: Ledger>(
     glass: &Glass<'_, T>,
     links: &[Link],
     others: &[Link],
@@ -77,7 +77,11 @@ fn same_in_turn<T: Element, C: Compares<T>, L: Ledger>(
     ensures few { C.counted → steps.new ≤ steps.old + 6 * length links.now }
 {
     for place in 0..links.len() {
-        if !how.same_entries(glass, links[place], others[place], steps) {
+        let both = Both {
+            left: links[place],
+            right: others[place],
+        };
+        if !how.are_same(glass, both, steps) {
             return false;
         }
     }
@@ -86,7 +90,7 @@ fn same_in_turn<T: Element, C: Compares<T>, L: Ledger>(
 
 // Whether two tries from a depth down have the same entries. It takes 204 steps at most for each row of the first that the
 // second hasn't, and below the deepest row eight more where they differ.
-pub(crate) fn same_tries<T: Element, C: Compares<T>, L: Ledger>(
+pub(crate) fn same_tries<T: Element, C: ComparesEntries<T>, L: Ledger>(
     glass: &Glass<'_, T>,
     left: Link,
     right: Link,

@@ -94,7 +94,7 @@ fn same_elements<T: Element>(heap: &Heap<T>, a: FlexRef, b: FlexRef, count: u32)
 }
 
 /// Whether two vectors of cells have as many elements, and equal ones at each place. Equal links end the walk as long as
-/// the rows are cut in the same places; from where they aren't it goes element by element.
+/// the rows are cut in the same places; where they aren't, it begins again and goes element by element from the first.
 pub fn equal_vec<T: Element>(heap: &Heap<T>, a: FlexRef, b: FlexRef) -> bool
     requires first { IsLines heap.now a }
     requires second { IsLines heap.now b }

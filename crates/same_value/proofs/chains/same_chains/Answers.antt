@@ -20,7 +20,7 @@ uneven : (g : given.Over) (how : g.row.C.Denot) (h : Heap g.row.T.Denot) {l m le
 uneven g how h {l} {m} {left} {right} {x} {y} next next' first second p here row row' other = (
   λ no. absurd cc,
   λ congruent. absurd (other
-      (as-long g.T.Ord.cmp g.met.T.Ord.total (form_at h) (g.C.Compares.same how h) (g.C.Compares.good how h) (g.met.C.Compares.itself how h) (g.met.C.Compares.keyed how h) (g.met.C.Compares.outermost how h) l m first second left right p x y next next' row row' (here.0 congruent))),
+      (as-long g.T.Ord.cmp g.met.T.Ord.total (form_at h) (g.C.Compares.same how h) (g.C.Compares.good how h) (g.met.C.Compares.itself how h) (g.met.C.ComparesEntries.keyed how h) (g.met.C.ComparesEntries.outermost how h) l m first second left right p x y next next' row row' (here.0 congruent))),
 )
 
 pub loop-left_row-init : goal.loop-left_row-init
@@ -35,8 +35,8 @@ returns-then-eq-clause-congruent g c =
     let h = lent c.args.glass.now in
     let now = c.loop-left_row.invariant c.requires.left c.requires.right in
     let same : c.loop-left_row.left_row ≡ c.loop-left_row.right_row = eqb-true _ _ (sym c.if-eq.ensures) in (
-      λ yes. now.1.1 (same-links g.T.Ord.cmp g.met.T.Ord.total (form_at h) (g.C.Compares.same c.args.how.now h) (g.C.Compares.good c.args.how.now h) (g.met.C.Compares.itself c.args.how.now h) (g.met.C.Compares.keyed c.args.how.now h)
-          (g.met.C.Compares.outermost c.args.how.now h) c.args.left c.args.right c.requires.left c.requires.right c.loop-left_row.left_row c.loop-left_row.right_row now.0 same),
+      λ yes. now.1.1 (same-links g.T.Ord.cmp g.met.T.Ord.total (form_at h) (g.C.Compares.same c.args.how.now h) (g.C.Compares.good c.args.how.now h) (g.met.C.Compares.itself c.args.how.now h) (g.met.C.ComparesEntries.keyed c.args.how.now h)
+          (g.met.C.ComparesEntries.outermost c.args.how.now h) c.args.left c.args.right c.requires.left c.requires.right c.loop-left_row.left_row c.loop-left_row.right_row now.0 same),
       λ congruent. refl,
     )
 
@@ -49,43 +49,43 @@ pub row_of-first-requires : goal.row_of-first-requires
 row_of-first-requires g c =
     let h = lent c.args.glass.now in
     let now = c.loop-left_row.invariant c.requires.left c.requires.right in
-    left-row g.T.Ord.cmp g.met.T.Ord.total (form_at h) (g.C.Compares.same c.args.how.now h) (g.C.Compares.good c.args.how.now h) (g.met.C.Compares.itself c.args.how.now h) (g.met.C.Compares.keyed c.args.how.now h)
-    (g.met.C.Compares.outermost c.args.how.now h) c.args.left c.args.right c.requires.left c.requires.right c.loop-left_row.left_row c.loop-left_row.right_row now.0
+    left-row g.T.Ord.cmp g.met.T.Ord.total (form_at h) (g.C.Compares.same c.args.how.now h) (g.C.Compares.good c.args.how.now h) (g.met.C.Compares.itself c.args.how.now h) (g.met.C.ComparesEntries.keyed c.args.how.now h)
+    (g.met.C.ComparesEntries.outermost c.args.how.now h) c.args.left c.args.right c.requires.left c.requires.right c.loop-left_row.left_row c.loop-left_row.right_row now.0
 
 pub row_of-second-requires : goal.row_of-second-requires
 row_of-second-requires g c =
     let h = lent c.args.glass.now in
     let now = c.loop-left_row.invariant c.requires.left c.requires.right in
-    right-row g.T.Ord.cmp g.met.T.Ord.total (form_at h) (g.C.Compares.same c.args.how.now h) (g.C.Compares.good c.args.how.now h) (g.met.C.Compares.itself c.args.how.now h) (g.met.C.Compares.keyed c.args.how.now h)
-    (g.met.C.Compares.outermost c.args.how.now h) c.args.left c.args.right c.requires.left c.requires.right c.loop-left_row.left_row c.loop-left_row.right_row now.0
+    right-row g.T.Ord.cmp g.met.T.Ord.total (form_at h) (g.C.Compares.same c.args.how.now h) (g.C.Compares.good c.args.how.now h) (g.met.C.Compares.itself c.args.how.now h) (g.met.C.ComparesEntries.keyed c.args.how.now h)
+    (g.met.C.ComparesEntries.outermost c.args.how.now h) c.args.left c.args.right c.requires.left c.requires.right c.loop-left_row.left_row c.loop-left_row.right_row now.0
 
-pub same_entries-requires-clause-left : goal.same_entries-requires-clause-left
-same_entries-requires-clause-left g c =
+pub are_same-requires-clause-left : goal.are_same-requires-clause-left
+are_same-requires-clause-left g c =
     let h = lent c.args.glass.now in
     let now = c.loop-left_row.invariant c.requires.left c.requires.right in
-    good-left g.T.Ord.cmp g.met.T.Ord.total (form_at h) (g.C.Compares.same c.args.how.now h) (g.C.Compares.good c.args.how.now h) (g.met.C.Compares.itself c.args.how.now h) (g.met.C.Compares.keyed c.args.how.now h)
-    (g.met.C.Compares.outermost c.args.how.now h) c.args.left c.args.right c.requires.left c.requires.right c.loop-left_row.left_row c.loop-left_row.right_row now.0 c.row_of-first.result.entry c.row_of-second.result.entry c.row_of-first.result.next c.row_of-second.result.next c.row_of-first.ensures.row c.row_of-second.ensures.row
+    good-left g.T.Ord.cmp g.met.T.Ord.total (form_at h) (g.C.Compares.same c.args.how.now h) (g.C.Compares.good c.args.how.now h) (g.met.C.Compares.itself c.args.how.now h) (g.met.C.ComparesEntries.keyed c.args.how.now h)
+    (g.met.C.ComparesEntries.outermost c.args.how.now h) c.args.left c.args.right c.requires.left c.requires.right c.loop-left_row.left_row c.loop-left_row.right_row now.0 c.row_of-first.result.entry c.row_of-second.result.entry c.row_of-first.result.next c.row_of-second.result.next c.row_of-first.ensures.row c.row_of-second.ensures.row
 
-pub same_entries-requires-clause-right : goal.same_entries-requires-clause-right
-same_entries-requires-clause-right g c =
+pub are_same-requires-clause-right : goal.are_same-requires-clause-right
+are_same-requires-clause-right g c =
     let h = lent c.args.glass.now in
     let now = c.loop-left_row.invariant c.requires.left c.requires.right in
-    good-right g.T.Ord.cmp g.met.T.Ord.total (form_at h) (g.C.Compares.same c.args.how.now h) (g.C.Compares.good c.args.how.now h) (g.met.C.Compares.itself c.args.how.now h) (g.met.C.Compares.keyed c.args.how.now h)
-    (g.met.C.Compares.outermost c.args.how.now h) c.args.left c.args.right c.requires.left c.requires.right c.loop-left_row.left_row c.loop-left_row.right_row now.0 c.row_of-first.result.entry c.row_of-second.result.entry c.row_of-first.result.next c.row_of-second.result.next c.row_of-first.ensures.row c.row_of-second.ensures.row
+    good-right g.T.Ord.cmp g.met.T.Ord.total (form_at h) (g.C.Compares.same c.args.how.now h) (g.C.Compares.good c.args.how.now h) (g.met.C.Compares.itself c.args.how.now h) (g.met.C.ComparesEntries.keyed c.args.how.now h)
+    (g.met.C.ComparesEntries.outermost c.args.how.now h) c.args.left c.args.right c.requires.left c.requires.right c.loop-left_row.left_row c.loop-left_row.right_row now.0 c.row_of-first.result.entry c.row_of-second.result.entry c.row_of-first.result.next c.row_of-second.result.next c.row_of-first.ensures.row c.row_of-second.ensures.row
 
-pub returns-then-not-same_entries-clause-congruent : goal.returns-then-not-same_entries-clause-congruent
-returns-then-not-same_entries-clause-congruent g c =
+pub returns-then-not-are_same-clause-congruent : goal.returns-then-not-are_same-clause-congruent
+returns-then-not-are_same-clause-congruent g c =
     let h = lent c.args.glass.now in
     let now = c.loop-left_row.invariant c.requires.left c.requires.right in (
       λ no. absurd cc,
-      λ congruent. c.if-not-same_entries.ensures.same.1 (entries-same g.T.Ord.cmp g.met.T.Ord.total (form_at h) (g.C.Compares.same c.args.how.now h) (g.C.Compares.good c.args.how.now h) (g.met.C.Compares.itself c.args.how.now h) (g.met.C.Compares.keyed c.args.how.now h)
-          (g.met.C.Compares.outermost c.args.how.now h) c.args.left c.args.right c.requires.left c.requires.right c.loop-left_row.left_row c.loop-left_row.right_row now.0 c.row_of-first.result.entry c.row_of-second.result.entry c.row_of-first.result.next c.row_of-second.result.next c.row_of-first.ensures.row c.row_of-second.ensures.row (now.1.0 congruent)),
+      λ congruent. c.if-not-are_same.ensures.same.1 (entries-same g.T.Ord.cmp g.met.T.Ord.total (form_at h) (g.C.Compares.same c.args.how.now h) (g.C.Compares.good c.args.how.now h) (g.met.C.Compares.itself c.args.how.now h) (g.met.C.ComparesEntries.keyed c.args.how.now h)
+          (g.met.C.ComparesEntries.outermost c.args.how.now h) c.args.left c.args.right c.requires.left c.requires.right c.loop-left_row.left_row c.loop-left_row.right_row now.0 c.row_of-first.result.entry c.row_of-second.result.entry c.row_of-first.result.next c.row_of-second.result.next c.row_of-first.ensures.row c.row_of-second.ensures.row (now.1.0 congruent)),
     )
 
-pub returns-then-not-same_entries-clause-few : goal.returns-then-not-same_entries-clause-few
-returns-then-not-same_entries-clause-few g c = λ counted.
+pub returns-then-not-are_same-clause-few : goal.returns-then-not-are_same-clause-few
+returns-then-not-are_same-clause-few g c = λ counted.
     let now = c.loop-left_row.invariant c.requires.left c.requires.right in
-    passed-spends now.0 _ _ _ _ (now.2 counted) (omega (arith, c.row_of-first.ensures.step, c.row_of-second.ensures.step, c.same_entries.ensures.few counted))
+    passed-spends now.0 _ _ _ _ (now.2 counted) (omega (arith, c.row_of-first.ensures.step, c.row_of-second.ensures.step, c.are_same.ensures.few counted))
 
 pub loop-left_row-smaller : goal.loop-left_row-smaller
 loop-left_row-smaller g c =
@@ -99,26 +99,26 @@ loop-left_row-preserved g c = λ first second.
     let h = lent c.args.glass.now in
     let now = c.loop-left_row.invariant first second in
     let other : c.loop-left_row.left_row ≢ c.loop-left_row.right_row = eqb-false _ _ (sym c.if-eq.ensures) in
-    let same : g.C.Compares.same c.args.how.now h c.row_of-first.result.entry c.row_of-second.result.entry = c.if-not-same_entries.ensures.same.0 refl in
+    let same : g.C.Compares.same c.args.how.now h c.row_of-first.result.entry c.row_of-second.result.entry = c.if-not-are_same.ensures.same.0 refl in
     let more = passed-more g.T.Ord.cmp g.met.T.Ord.total (form_at h) c.args.left c.args.right first.entries second.entries first.rows second.rows first.rising second.rising c.loop-left_row.left_row c.loop-left_row.right_row now.0
-    c.row_of-first.result.entry c.row_of-second.result.entry c.row_of-first.result.next c.row_of-second.result.next c.row_of-first.ensures.row c.row_of-second.ensures.row (λ j k. g.met.C.Compares.equal_keys c.args.how.now h c.row_of-first.result.entry c.row_of-second.result.entry j k same) other c.in-Some-Some.next c.in-Some-Some.other c.in-Some-Some.is-0 c.in-Some-Some.is-1 in (
+    c.row_of-first.result.entry c.row_of-second.result.entry c.row_of-first.result.next c.row_of-second.result.next c.row_of-first.ensures.row c.row_of-second.ensures.row (λ j k. g.met.C.ComparesEntries.equal_keys c.args.how.now h c.row_of-first.result.entry c.row_of-second.result.entry j k same) other c.in-Some-Some.next c.in-Some-Some.other c.in-Some-Some.is-0 c.in-Some-Some.is-1 in (
       more.0,
       (
-        λ congruent. rest-congruent g.T.Ord.cmp g.met.T.Ord.total (form_at h) (g.C.Compares.same c.args.how.now h) (g.C.Compares.good c.args.how.now h) (g.met.C.Compares.itself c.args.how.now h) (g.met.C.Compares.keyed c.args.how.now h)
-            (g.met.C.Compares.outermost c.args.how.now h) c.args.left c.args.right first second c.loop-left_row.left_row c.loop-left_row.right_row now.0 c.row_of-first.result.entry c.row_of-second.result.entry c.row_of-first.result.next c.row_of-second.result.next c.row_of-first.ensures.row c.row_of-second.ensures.row c.in-Some-Some.next c.in-Some-Some.other c.in-Some-Some.is-0 c.in-Some-Some.is-1 (now.1.0 congruent),
-        λ congruent. now.1.1 (more-congruent g.T.Ord.cmp g.met.T.Ord.total (form_at h) (g.C.Compares.same c.args.how.now h) (g.C.Compares.good c.args.how.now h) (g.met.C.Compares.itself c.args.how.now h) (g.met.C.Compares.keyed c.args.how.now h)
-            (g.met.C.Compares.outermost c.args.how.now h) c.args.left c.args.right first second c.loop-left_row.left_row c.loop-left_row.right_row now.0 c.row_of-first.result.entry c.row_of-second.result.entry c.row_of-first.result.next c.row_of-second.result.next c.row_of-first.ensures.row c.row_of-second.ensures.row c.in-Some-Some.next c.in-Some-Some.other c.in-Some-Some.is-0 c.in-Some-Some.is-1 same congruent),
+        λ congruent. rest-congruent g.T.Ord.cmp g.met.T.Ord.total (form_at h) (g.C.Compares.same c.args.how.now h) (g.C.Compares.good c.args.how.now h) (g.met.C.Compares.itself c.args.how.now h) (g.met.C.ComparesEntries.keyed c.args.how.now h)
+            (g.met.C.ComparesEntries.outermost c.args.how.now h) c.args.left c.args.right first second c.loop-left_row.left_row c.loop-left_row.right_row now.0 c.row_of-first.result.entry c.row_of-second.result.entry c.row_of-first.result.next c.row_of-second.result.next c.row_of-first.ensures.row c.row_of-second.ensures.row c.in-Some-Some.next c.in-Some-Some.other c.in-Some-Some.is-0 c.in-Some-Some.is-1 (now.1.0 congruent),
+        λ congruent. now.1.1 (more-congruent g.T.Ord.cmp g.met.T.Ord.total (form_at h) (g.C.Compares.same c.args.how.now h) (g.C.Compares.good c.args.how.now h) (g.met.C.Compares.itself c.args.how.now h) (g.met.C.ComparesEntries.keyed c.args.how.now h)
+            (g.met.C.ComparesEntries.outermost c.args.how.now h) c.args.left c.args.right first second c.loop-left_row.left_row c.loop-left_row.right_row now.0 c.row_of-first.result.entry c.row_of-second.result.entry c.row_of-first.result.next c.row_of-second.result.next c.row_of-first.ensures.row c.row_of-second.ensures.row c.in-Some-Some.next c.in-Some-Some.other c.in-Some-Some.is-0 c.in-Some-Some.is-1 same congruent),
       ),
-      λ counted. omega (arith, now.2 counted, ap length more.1, c.row_of-first.ensures.step, c.row_of-second.ensures.step, c.same_entries.ensures.few counted),
+      λ counted. omega (arith, now.2 counted, ap length more.1, c.row_of-first.ensures.step, c.row_of-second.ensures.step, c.are_same.ensures.few counted),
     )
 
 pub returns-in-None-None-clause-congruent : goal.returns-in-None-None-clause-congruent
 returns-in-None-None-clause-congruent g c =
     let h = lent c.args.glass.now in
     let now = c.loop-left_row.invariant c.requires.left c.requires.right in
-    let same : g.C.Compares.same c.args.how.now h c.row_of-first.result.entry c.row_of-second.result.entry = c.if-not-same_entries.ensures.same.0 refl in (
-      λ yes. now.1.1 (last-congruent g.T.Ord.cmp g.met.T.Ord.total (form_at h) (g.C.Compares.same c.args.how.now h) (g.C.Compares.good c.args.how.now h) (g.met.C.Compares.itself c.args.how.now h) (g.met.C.Compares.keyed c.args.how.now h)
-          (g.met.C.Compares.outermost c.args.how.now h) c.args.left c.args.right c.requires.left c.requires.right c.loop-left_row.left_row c.loop-left_row.right_row now.0 c.row_of-first.result.entry c.row_of-second.result.entry c.row_of-first.result.next c.row_of-second.result.next c.row_of-first.ensures.row c.row_of-second.ensures.row c.in-None-None.is-0 c.in-None-None.is-1 same),
+    let same : g.C.Compares.same c.args.how.now h c.row_of-first.result.entry c.row_of-second.result.entry = c.if-not-are_same.ensures.same.0 refl in (
+      λ yes. now.1.1 (last-congruent g.T.Ord.cmp g.met.T.Ord.total (form_at h) (g.C.Compares.same c.args.how.now h) (g.C.Compares.good c.args.how.now h) (g.met.C.Compares.itself c.args.how.now h) (g.met.C.ComparesEntries.keyed c.args.how.now h)
+          (g.met.C.ComparesEntries.outermost c.args.how.now h) c.args.left c.args.right c.requires.left c.requires.right c.loop-left_row.left_row c.loop-left_row.right_row now.0 c.row_of-first.result.entry c.row_of-second.result.entry c.row_of-first.result.next c.row_of-second.result.next c.row_of-first.ensures.row c.row_of-second.ensures.row c.in-None-None.is-0 c.in-None-None.is-1 same),
       λ congruent. refl,
     )
 
@@ -127,14 +127,14 @@ returns-in-None-None-clause-few g c = λ counted.
     let h = lent c.args.glass.now in
     let now = c.loop-left_row.invariant c.requires.left c.requires.right in
     let other : c.loop-left_row.left_row ≢ c.loop-left_row.right_row = eqb-false _ _ (sym c.if-eq.ensures) in
-    let same : g.C.Compares.same c.args.how.now h c.row_of-first.result.entry c.row_of-second.result.entry = c.if-not-same_entries.ensures.same.0 refl in
+    let same : g.C.Compares.same c.args.how.now h c.row_of-first.result.entry c.row_of-second.result.entry = c.if-not-are_same.ensures.same.0 refl in
     record {
       rows = c.loop-left_row.left_row ∷ now.0.rows;
       once = once-more g.T.Ord.cmp g.met.T.Ord.total (form_at h) c.args.left c.args.right c.requires.left.entries c.requires.right.entries c.requires.left.rows c.requires.right.rows c.requires.left.rising c.requires.right.rising c.loop-left_row.left_row
-          c.loop-left_row.right_row now.0 c.row_of-first.result.entry c.row_of-second.result.entry c.row_of-first.result.next c.row_of-second.result.next c.row_of-first.ensures.row c.row_of-second.ensures.row (λ j k. g.met.C.Compares.equal_keys c.args.how.now h c.row_of-first.result.entry c.row_of-second.result.entry j k same) other;
+          c.loop-left_row.right_row now.0 c.row_of-first.result.entry c.row_of-second.result.entry c.row_of-first.result.next c.row_of-second.result.next c.row_of-first.ensures.row c.row_of-second.ensures.row (λ j k. g.met.C.ComparesEntries.equal_keys c.args.how.now h c.row_of-first.result.entry c.row_of-second.result.entry j k same) other;
       apart = apart-more g.T.Ord.cmp g.met.T.Ord.total (form_at h) c.args.left c.args.right c.requires.left.entries c.requires.right.entries c.requires.left.rows c.requires.right.rows c.requires.left.rising c.requires.right.rising c.loop-left_row.left_row
-          c.loop-left_row.right_row now.0 c.row_of-first.result.entry c.row_of-second.result.entry c.row_of-first.result.next c.row_of-second.result.next c.row_of-first.ensures.row c.row_of-second.ensures.row (λ j k. g.met.C.Compares.equal_keys c.args.how.now h c.row_of-first.result.entry c.row_of-second.result.entry j k same) other;
-      few = omega (arith, now.2 counted, c.row_of-first.ensures.step, c.row_of-second.ensures.step, c.same_entries.ensures.few counted);
+          c.loop-left_row.right_row now.0 c.row_of-first.result.entry c.row_of-second.result.entry c.row_of-first.result.next c.row_of-second.result.next c.row_of-first.ensures.row c.row_of-second.ensures.row (λ j k. g.met.C.ComparesEntries.equal_keys c.args.how.now h c.row_of-first.result.entry c.row_of-second.result.entry j k same) other;
+      few = omega (arith, now.2 counted, c.row_of-first.ensures.step, c.row_of-second.ensures.step, c.are_same.ensures.few counted);
     }
 
 pub returns-in_default-clause-congruent : goal.returns-in_default-clause-congruent
@@ -146,7 +146,7 @@ returns-in_default-clause-congruent g c =
 pub returns-in_default-clause-few : goal.returns-in_default-clause-few
 returns-in_default-clause-few g c = λ counted.
     let now = c.loop-left_row.invariant c.requires.left c.requires.right in
-    passed-spends now.0 _ _ _ _ (now.2 counted) (omega (arith, c.row_of-first.ensures.step, c.row_of-second.ensures.step, c.same_entries.ensures.few counted))
+    passed-spends now.0 _ _ _ _ (now.2 counted) (omega (arith, c.row_of-first.ensures.step, c.row_of-second.ensures.step, c.are_same.ensures.few counted))
 
 pub returns-in_default-2-clause-congruent : goal.returns-in_default-2-clause-congruent
 returns-in_default-2-clause-congruent g c =
@@ -157,4 +157,4 @@ returns-in_default-2-clause-congruent g c =
 pub returns-in_default-2-clause-few : goal.returns-in_default-2-clause-few
 returns-in_default-2-clause-few g c = λ counted.
     let now = c.loop-left_row.invariant c.requires.left c.requires.right in
-    passed-spends now.0 _ _ _ _ (now.2 counted) (omega (arith, c.row_of-first.ensures.step, c.row_of-second.ensures.step, c.same_entries.ensures.few counted))
+    passed-spends now.0 _ _ _ _ (now.2 counted) (omega (arith, c.row_of-first.ensures.step, c.row_of-second.ensures.step, c.are_same.ensures.few counted))

@@ -1,10 +1,9 @@
-use Rattle.std.proofs.Common.{refl, sym, subst}
+use Rattle.std.proofs.Common.{refl}
 use Rattle.node_heap.specs.Heap.{form_at}
 use Rattle.node_heap.specs.Glass.{lent}
-use Rattle.same_value.specs.Apart.{HasApart}
 use Rattle.same_value.specs.Cells.{IsCellLink, IsSameCell}
 use Rattle.same_value.specs.CompareLaws.{cell-itself}
-use Rattle.same_value.proofs.MapContents.{few-steps, no-spare}
+use Rattle.same_value.proofs.MapContents.{few-steps}
 use Rattle.same_value.proofs.Roots.{map-tries, map-congruent}
 use Rattle.same_value.proofs.maps.equal_cells.Goals as goal
 
@@ -20,7 +19,4 @@ returns-clause-equal g c = λ M N first second.
     (λ yes. both.0 (c.same_tries.ensures.congruent.0 yes), λ same. c.same_tries.ensures.congruent.1 (both.1 same))
 
 pub returns-clause-few : goal.returns-clause-few
-returns-clause-few g c = λ rows has.
-    let F = form_at (lent c.args.glass) in
-    few-steps F c.root.result c.root-2.result c.args.steps.now c.same_tries.new.steps _ (c.same_tries.ensures.few tt) (no-spare F c.same_tries.result _ refl) rows
-    (subst (λ l. HasApart F l c.root-2.result rows) (sym c.root.ensures) (subst (λ m. HasApart F c.args.a.root m rows) (sym c.root-2.ensures) has))
+returns-clause-few g c = few-steps (form_at (lent c.args.glass)) c.same_tries.result c.root.ensures c.root-2.ensures refl (c.same_tries.ensures.few tt)

@@ -20,8 +20,8 @@ opened g how h depth left right tries low = record {
   first = from-opened g.T.Ord.cmp tries.0 (form_at h) (g.C.Compares.good how h) depth left tries.1 low;
   second = from-opened g.T.Ord.cmp tries.0 (form_at h) (g.C.Compares.good how h) depth right tries.2 low;
   itself = g.met.C.Compares.itself how h;
-  keyed = g.met.C.Compares.keyed how h;
-  outermost = g.met.C.Compares.outermost how h;
+  keyed = g.met.C.ComparesEntries.keyed how h;
+  outermost = g.met.C.ComparesEntries.outermost how h;
 }
 
 -- with entries and nodes at the same positions, and their links
