@@ -6,5 +6,5 @@ pub mod Cost
 pub mod Memory
 pub mod Change
 pub mod Session
-pub mod Rows
+pub mod Worked
 pub mod Laws

@@ -5,7 +5,7 @@
 mod edit;
 pub mod laws;
 mod refusal;
-pub mod rows;
+pub mod worked;
 
 pub use edit::Edit;
 pub use refusal::Refusal;

@@ -1,5 +1,0 @@
-use Rattle.std.proofs.Common.{refl}
-use Rattle.plain_space.proofs.rows.memory.Goals as goal
-
-pub returns : goal.returns
-returns c = record { buffers = refl; names = refl; states = refl; sorting = refl; documents = refl; looking = refl }

@@ -1,0 +1,107 @@
+//! Worked commands with their replies, as facts: each function does nothing, and its contract is the fact.
+ghost use Rattle.plain_space.specs.Worked.{WorkedRanges, WorkedMissing, WorkedPut, WorkedCut, WorkedCutItself, WorkedCopy, WorkedDoubling, WorkedDoubledEqual, WorkedStars, WorkedUndo, WorkedUndoStar, WorkedMarks, WorkedBack, WorkedBatch, WorkedAbort, WorkedInBatch, WorkedEqualLines, WorkedEqualVersions, WorkedElsewhere, WorkedCost, WorkedMemory};
+
+/// Lines that a buffer doesn't have, and a name that is taken.
+pub fn ranges()
+    ensures { WorkedRanges }
+{}
+
+/// The place after the last line, and buffers that aren't there.
+pub fn missing()
+    ensures { WorkedMissing }
+{}
+
+/// Lines put before others, and the place after the last.
+pub fn put()
+    ensures { WorkedPut }
+{}
+
+/// Lines that are cut, joined and deleted.
+pub fn cut()
+    ensures { WorkedCut }
+{}
+
+/// Lines cut from a buffer into itself, and ranges that are none.
+pub fn cut_itself()
+    ensures { WorkedCutItself }
+{}
+
+/// A copy stays when the first is gone, and takes the place of what was there.
+pub fn copy()
+    ensures { WorkedCopy }
+{}
+
+/// A buffer is doubled until it would pass the most lines.
+pub fn doubling()
+    ensures { WorkedDoubling }
+{}
+
+/// A buffer that was doubled is the same as its copy.
+pub fn doubled_equal()
+    ensures { WorkedDoubledEqual }
+{}
+
+/// Stars, and names in byte order.
+pub fn stars()
+    ensures { WorkedStars }
+{}
+
+/// An edit after an undo empties redo.
+pub fn undo()
+    ensures { WorkedUndo }
+{}
+
+/// An undo takes back a star, and a redo sets it again.
+pub fn undo_star()
+    ensures { WorkedUndoStar }
+{}
+
+/// Versions are named, compared, listed and taken away.
+pub fn marks()
+    ensures { WorkedMarks }
+{}
+
+/// A version that is current again can be undone, and stays a version.
+pub fn back()
+    ensures { WorkedBack }
+{}
+
+/// A batch that ends is one step of undo, and empties redo.
+pub fn batch()
+    ensures { WorkedBatch }
+{}
+
+/// A batch that is given up leaves all as it was, undo and redo too.
+pub fn abort()
+    ensures { WorkedAbort }
+{}
+
+/// What a batch refuses, and what is refused where none is open.
+pub fn in_batch()
+    ensures { WorkedInBatch }
+{}
+
+/// Buffers are the same by their lines alone.
+pub fn equal_lines()
+    ensures { WorkedEqualLines }
+{}
+
+/// Versions are the same by their buffers and their stars.
+pub fn equal_versions()
+    ensures { WorkedEqualVersions }
+{}
+
+/// What the pool or the store has to say, and the workspace doesn't refuse.
+pub fn elsewhere()
+    ensures { WorkedElsewhere }
+{}
+
+/// A cost counts the names of the written map whose codes are alike.
+pub fn cost()
+    ensures { WorkedCost }
+{}
+
+/// Which commands may want memory.
+pub fn memory()
+    ensures { WorkedMemory }
+{}
