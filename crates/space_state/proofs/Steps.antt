@@ -3,9 +3,9 @@ use Rattle.std.proofs.Common.{◌≡◌, refl, sym, ◌∙◌, ap, subst, ℕ, �
 use Rattle.std.specs.Prelude.{IsErrAnd, MatchResult, MatchBool}
 use Rattle.std.proofs.lemmas.Bool.{le-leb}
 use Rattle.std.specs.FinMap as map
-use Rattle.node_heap.specs.Heap.{Heap}
-use Rattle.node_heap.specs.Calls.{Answered, Makes, SameRows, Unchanged}
-use Rattle.rrb_core.specs.Vector.{elements}
+use Rattle.node_heap.specs.Heap.{Heap, holds_at, hold_count, one_at, HasSpares, IsGraph}
+use Rattle.node_heap.specs.Calls.{Answered, Extends, Makes, SameRows, Unchanged}
+use Rattle.rrb_core.specs.Vector.{elements, height_at}
 use Rattle.shell_terms.specs.Edit.{Bytes, star, unstar}
 use Rattle.shell_terms.specs.Command.{PlainCommand, edit, mark, unmark, back, undo, redo, begin, «end», abort}
 use Rattle.plain_space.specs.declared.refusal.Refusal.{Refusal}
@@ -21,9 +21,9 @@ use Rattle.space_state.specs.declared.roots.RootedHeap.{RootedHeap}
 use Rattle.space_state.specs.declared.roots.Batch.{Batch as Batches}
 use Rattle.space_state.specs.declared.roots.Batch.TheVariants.{Closed, Open}
 use Rattle.space_state.specs.Roots.{base_of, Keeps}
-use Rattle.space_state.specs.Turns.{IsSame, IsCarriedOut, IsRefused}
+use Rattle.space_state.specs.Turns.{IsSame, TurnsTo, IsCarriedOut, IsRefused}
 use Rattle.state_rows.proofs.Staying.{states-stay}
-use Rattle.space_state.proofs.Keeping.{history-length, history-short, same-heap, keeps-same, keeps-gained, keeps-swapped, first-held, held-stands, unchanged-stands, Rises, rises-answered, rises-nodes, rises-same, rises-then}
+use Rattle.space_state.proofs.Keeping.{history-length, history-short, history-low, same-heap, keeps-same, keeps-gained, keeps-swapped, first-held, second-held, held-stands, answered-one, unchanged-stands, Rises, rises-answered, rises-nodes, rises-more, rises-same, rises-then, turns-by, turns-after}
 
 -- a list with fewer than the most elements has room for one more
 fits-one : (n : ℕ) → n < most → leb (n + 1) most ≡ true
@@ -242,29 +242,59 @@ some-elements (x ∷ xs) i there = omega arith
 
 -- ## A step through the histories
 
--- the state to go to is held besides, and so is the history without it
-pub record Stepped (s : RootedHeap) (new : Heap Bytes) (state shorter : ℕ) (W : Workspace) (x : State) : Type 0 where
+-- the state to go to is held, after room was made
+pub record IsHeld (s : RootedHeap) (new : Heap Bytes) (state : ℕ) (x : State) (W : Workspace) : Type 0 where
+  pub keeps : Keeps (record s { heap = new }) (state ∷ []) W
+  pub is : IsStateIn new s.bits state x
+  pub rises : Rises s.heap new 0
+
+pub is-held : {s : RootedHeap} {roomy new : Heap Bytes} {state : ℕ} {W : Workspace} {x : State} → Keeps s [] W → IsStateIn s.heap s.bits state x → Unchanged s.heap roomy → SameRows roomy new
+    → Extends roomy new → IsGraph new → ((k : ℕ) → holds_at new k ≡ holds_at roomy k + one_at state k) → hold_count new ≡ hold_count roomy + 1 → Makes roomy new 0 0 → IsHeld s new state x W
+is-held {s} {roomy} {new} {state} {x = x} K is room same extends graph holds total makes =
+    let once = answered-one extends graph holds total makes in
+    record {
+      keeps = keeps-gained (keeps-same (same-heap room) K) once;
+      is = (states-stay roomy new s.bits state (λ m down. same m)).state x ((unchanged-stands s.bits room state).state x is);
+      rises = rises-then (rises-same room) (rises-answered once);
+    }
+
+-- it was the last of a history, which is held without it
+pub record Stepped (s : RootedHeap) (new : Heap Bytes) (state shorter : ℕ) (from : List State) (W : Workspace) : Type 0 where
+  pub x : State
+  pub last : slice_get from (length from - 1) ≡ Some x
   pub keeps : Keeps (record s { heap = new }) (state ∷ shorter ∷ []) W
-  pub state_is : IsStateIn new s.bits state x
+  pub is : IsStateIn new s.bits state x
+  pub left : IsHistoryIn new s.bits shorter (take (length from - 1) from)
   pub rises : Rises s.heap new 8
 
--- the state was held, after room was made
-pub held-once : {s : RootedHeap} {roomy new : Heap Bytes} {state : ℕ} {W : Workspace} {x : State} → Keeps s [] W → IsStateIn s.heap s.bits state x → Unchanged s.heap roomy → SameRows roomy new
-    → Answered roomy new [] state 0 0 → Keeps (record s { heap = new }) (state ∷ []) W × IsStateIn new s.bits state x
-held-once {s} {roomy} {new} {state} {x = x} K is room same once = (
-  keeps-gained (keeps-same (same-heap room) K) once,
-  (states-stay roomy new s.bits state (λ m down. same m)).state x ((unchanged-stands s.bits room state).state x is),
-)
+pub stepped : {s : RootedHeap} {mid new : Heap Bytes} {state shorter : ℕ} {from : List State} {W : Workspace} {x : State} → slice_get from (length from - 1) ≡ Some x → IsHeld s mid state x W
+    → Answered mid new [] shorter 0 (height_at new shorter + 1) → IsHistoryIn new s.bits shorter (take (length from - 1) from) → Stepped s new state shorter from W
+stepped {state = state} {x = x} last held popped left = record {
+  x = x;
+  last = last;
+  keeps = keeps-swapped (keeps-gained held.keeps popped);
+  is = (held-stands held.keeps popped.extends state (first-held held.keeps)).state x held.is;
+  left = left;
+  rises = rises-then held.rises (rises-nodes 8 popped (omega (arith, history-low left)));
+}
 
-pub stepped : {s : RootedHeap} {roomy mid new : Heap Bytes} {state shorter n : ℕ} {W : Workspace} {x : State} → Keeps s [] W → IsStateIn s.heap s.bits state x → Unchanged s.heap roomy → SameRows roomy mid
-    → Answered roomy mid [] state 0 0 → Answered mid new [] shorter 0 n → n ≤ 8 → Stepped s new state shorter W x
-stepped {state = state} {x = x} K is room same once popped few =
-    let held = held-once K is room same once in
-    record {
-      keeps = keeps-swapped (keeps-gained held.0 popped);
-      state_is = (held-stands held.0 popped.extends state (first-held held.0)).state x held.1;
-      rises = rises-then (rises-same room) (rises-then (rises-answered once) (rises-nodes 8 popped few));
-    }
+-- it is current, and the other history is held with the state that was current at its end
+pub record Moved (s t : RootedHeap) (longer shorter : ℕ) (from to : List State) (W : Workspace) : Type 0 where
+  pub x : State
+  pub last : slice_get from (length from - 1) ≡ Some x
+  pub turns : TurnsTo s t (longer ∷ shorter ∷ []) 17 (record W { current = x })
+  pub grown : IsHistoryIn t.heap t.bits longer (to ++ W.current ∷ [])
+  pub left : IsHistoryIn t.heap t.bits shorter (take (length from - 1) from)
+
+pub moved : {s t : RootedHeap} {mid : Heap Bytes} {state longer shorter : ℕ} {from to : List State} {W : Workspace} (step : Stepped s mid state shorter from W) → Extends mid t.heap
+    → TurnsTo (record s { heap = mid }) t (longer ∷ shorter ∷ []) 9 (record W { current = step.x }) → IsHistoryIn t.heap t.bits longer (to ++ W.current ∷ []) → Moved s t longer shorter from to W
+moved {shorter = shorter} step extends turns grown = record {
+  x = step.x;
+  last = step.last;
+  turns = turns-after 8 17 step.rises refl turns (omega arith);
+  grown = grown;
+  left = rw turns.bits ((held-stands step.keeps extends shorter (second-held step.keeps)).history _ step.left);
+}
 
 -- ## Room
 
@@ -275,9 +305,21 @@ spares-kept old new c k n m spares makes cells nodes same = (omega (arith, spare
 pub spares-suffice : (h : Heap Bytes) (c k n m : ℕ) → (2 ≤ h.spare_cells) × (128 + n ≤ h.spare_nodes) → c ≤ 2 → k ≤ 128 → m ≡ n → (c ≤ h.spare_cells) × (k + m ≤ h.spare_nodes)
 spares-suffice h c k n m spares cells nodes same = (omega (arith, spares.0, cells), omega (arith, spares.1, nodes, same))
 
-pub spares-left : {old new : Heap Bytes} {spent : List ℕ} {l c : ℕ} (k n m : ℕ) → Answered old new spent l c (k + m) → (2 ≤ old.spare_cells) × (128 + n ≤ old.spare_nodes) → k ≤ 118 → m ≡ n
-    → (0 ≤ new.spare_cells) × (10 ≤ new.spare_nodes)
-spares-left k n m answered spares nodes same = (omega arith, omega (arith, spares.1, answered.balance.spare_nodes, answered.nodes, nodes, same))
+-- a state was made after room was, and it is held besides: all that a turn to it takes
+pub record HasNext (s t : RootedHeap) (next : ℕ) (x : State) (W : Workspace) (n : ℕ) : Type 0 where
+  pub turns : TurnsTo s t (next ∷ []) (54 + n) W
+  pub is : IsStateIn t.heap t.bits next x
+  pub spares : HasSpares t.heap 0 10
+  pub free : is_full W ≡ false
+
+pub has-next : {s t : RootedHeap} {new : Heap Bytes} {next c : ℕ} {x : State} {W : Workspace} (k n m : ℕ) → Keeps s [] W → IsSame s t → (is_full W ≡ false) × HasSpares t.heap 2 (128 + n) → Answered t.heap new [] next c (k + m) → IsStateIn new t.bits next x
+    → c + k ≤ 54 → m ≡ n → HasNext s (record t { heap = new }) next x W n
+has-next k n m K same room answered is few alike = record {
+  turns = turns-by (54 + n) (keeps-gained (keeps-same same K) answered) same.bits (rises-more (54 + n) (rises-then (rises-same same.heap) (rises-answered answered)) (omega (arith, few, alike)));
+  is = is;
+  spares = (omega arith, omega (arith, room.1.1, answered.balance.spare_nodes, answered.nodes, few, alike));
+  free = room.0;
+}
 
 -- room for an edit was refused: undo is full, or memory ran out
 pub room-refused : {W : Workspace} {command : PlainCommand} {old new : RootedHeap} (result : Result (Unit {0}) Refusal) (reason : Refusal) (full : Bool) → IsErrAnd result (λ told. told ≡ reason) → MatchBool full (reason ≡ Limit) (reason ≡ Memory)

@@ -6,7 +6,7 @@ ghost use Rattle.space_state.specs.Roots.{Keeps};
 ghost use Rattle.space_state.specs.Turns.{EndsOnRows};
 
 use crate::roots::{Batch, RootedHeap};
-use crate::turning::{MOST, TURN_NODES};
+use crate::turning::{MOST_ITEMS, TURN_NODES};
 use plain_space::Refusal;
 use rrb_core::FlexRef;
 
@@ -33,7 +33,7 @@ impl RootedHeap {
         let Some(base) = self.roots.batch.base() else {
             return Err(Refusal::Batch);
         };
-        if FlexRef::at(self.roots.undo).len(&self.heap) == MOST {
+        if FlexRef::at(self.roots.undo).len(&self.heap) == MOST_ITEMS {
             return Err(Refusal::Limit);
         }
         self.heap.reserve(0, TURN_NODES)?;

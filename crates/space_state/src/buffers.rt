@@ -16,7 +16,7 @@ ghost use Rattle.space_state.specs.Roots.{Keeps};
 ghost use Rattle.space_state.specs.Turns.{IsSame, EndsOnRows, TurnsTo};
 
 use crate::roots::RootedHeap;
-use crate::turning::{EDIT_NODES, MOST};
+use crate::turning::{EDIT_NODES, MOST_ITEMS};
 use elem_core::{Line, Name, Text, text_of};
 use plain_space::Refusal;
 use rrb_core::{Flex, FlexRef, push, set};
@@ -106,7 +106,7 @@ impl RootedHeap {
         ensures { EndsOnRows (edit (add (name_bytes name.entry) (line_bytes line.entry))) self.old result self.new }
     {
         let lines = self.buffer(name)?;
-        if lines.len(&self.heap) == MOST {
+        if lines.len(&self.heap) == MOST_ITEMS {
             return Err(Refusal::Limit);
         }
         let key = self.prepare(name)?;
@@ -148,7 +148,7 @@ impl RootedHeap {
         if index > count {
             return Err(Refusal::Range);
         }
-        if count == MOST {
+        if count == MOST_ITEMS {
             return Err(Refusal::Limit);
         }
         let key = self.prepare(name)?;
@@ -185,7 +185,7 @@ impl RootedHeap {
     {
         let lines = self.buffer(name)?;
         let more = self.buffer(other)?;
-        if lines.len(&self.heap) > MOST - more.len(&self.heap) {
+        if lines.len(&self.heap) > MOST_ITEMS - more.len(&self.heap) {
             return Err(Refusal::Limit);
         }
         let key = self.prepare(name)?;

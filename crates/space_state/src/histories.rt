@@ -9,7 +9,7 @@ ghost use Rattle.space_state.specs.Roots.{Keeps};
 ghost use Rattle.space_state.specs.Turns.{EndsOnRows, TurnsTo};
 
 use crate::roots::RootedHeap;
-use crate::turning::MOST;
+use crate::turning::MOST_ITEMS;
 use node_heap::Link;
 use plain_space::Refusal;
 use rrb_core::{Flex, FlexRef};
@@ -32,7 +32,7 @@ impl RootedHeap {
         let Some(state) = last(&self.heap, undo) else {
             return Err(Refusal::Empty);
         };
-        if redo.len(&self.heap) == MOST {
+        if redo.len(&self.heap) == MOST_ITEMS {
             return Err(Refusal::Limit);
         }
         self.heap.reserve(0, STEP_NODES)?;
@@ -56,7 +56,7 @@ impl RootedHeap {
         let Some(state) = last(&self.heap, redo) else {
             return Err(Refusal::Empty);
         };
-        if undo.len(&self.heap) == MOST {
+        if undo.len(&self.heap) == MOST_ITEMS {
             return Err(Refusal::Limit);
         }
         self.heap.reserve(0, STEP_NODES)?;

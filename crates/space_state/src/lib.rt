@@ -4,6 +4,7 @@
 mod asking;
 mod batches;
 mod buffers;
+mod edits;
 mod equality;
 mod histories;
 mod lines;

@@ -10,7 +10,8 @@ use node_heap::{Heap, Link};
 use rrb_core::FlexRef;
 use same_value::{equal_state, equal_vec};
 
-// Whether the vectors have the same lines. What they share isn't read.
+// Whether the vectors have the same lines. As long as rows are cut in the same places, those that both have aren't looked
+// below.
 pub fn same_lines(heap: &Heap<Text>, one: FlexRef, other: FlexRef) -> bool
     requires one { (bits : ℕ) × (xs : List Bytes) × AreLinesIn heap.now bits one xs }
     requires other { (bits : ℕ) × (ys : List Bytes) × AreLinesIn heap.now bits other ys }
@@ -19,7 +20,8 @@ pub fn same_lines(heap: &Heap<Text>, one: FlexRef, other: FlexRef) -> bool
     equal_vec(heap, one, other)
 }
 
-// Whether the states have the same buffers and stars. What they share isn't read.
+// Whether the states have the same buffers and stars. As long as rows are cut in the same places, those that both have
+// aren't looked below.
 pub fn same_states(heap: &Heap<Text>, bits: u32, one: Link, other: Link) -> bool
     requires bits { bits ≤ CODE_BITS }
     requires one { (s : State) × IsStateIn heap.now bits one s }

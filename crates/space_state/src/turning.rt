@@ -16,7 +16,7 @@ use rrb_core::FlexRef;
 use state_rows::{buffers_alike, emptied, pushed};
 
 /// The most states that undo or redo may hold, and the most lines of a buffer.
-pub(crate) const MOST: u32 = u32::MAX;
+pub(crate) const MOST_ITEMS: u32 = u32::MAX;
 
 /// The nodes for which room is made before an edit, besides one for each name whose code is alike. No edit makes more.
 pub(crate) const EDIT_NODES: usize = 128;
@@ -40,7 +40,7 @@ impl RootedHeap {
         requires { (W : Workspace) × Keeps self.now [] W }
         ensures { (W : Workspace) → Keeps self.now [] W → result ≡ is_full W }
     {
-        !self.in_batch() && FlexRef::at(self.roots.undo).len(&self.heap) == MOST
+        !self.in_batch() && FlexRef::at(self.roots.undo).len(&self.heap) == MOST_ITEMS
     }
 
     /// Makes room for an edit that writes this buffer. Refused with `Limit` exactly where undo has no room for an edit,

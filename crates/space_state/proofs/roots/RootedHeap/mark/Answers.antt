@@ -1,13 +1,16 @@
-use Rattle.std.proofs.Common.{◌≡◌, ◌+◌, [], false, refl, sym, ◌∙◌, arith}
+use Rattle.std.proofs.Common.{◌≡◌, ◌+◌, [], ◌∷◌, false, refl, sym, ◌∙◌, arith}
 use Rattle.elem_core.specs.Shown.{name_bytes}
 use Rattle.shell_terms.specs.Command.{mark}
 use Rattle.std.specs.FinMap as map
-use Rattle.plain_space.specs.Workspace.{in_batch}
+use Rattle.plain_space.specs.Workspace.{Workspace, in_batch}
 use Rattle.plain_space.specs.Cost.{cost, alike, alike_versions}
 use Rattle.state_rows.specs.InHeap.{IsStateIn, AreVersionsIn}
-use Rattle.space_state.proofs.Keeping.{same-refl, keeps-same, keeps-gained, keeps-turned, current-stands, versions-stand, answered-one, rises-same, rises-answered, rises-then, turns-after}
+use Rattle.space_state.specs.Roots.{Keeps}
+use Rattle.space_state.specs.Turns.{TurnsTo}
+use Rattle.space_state.proofs.Keeping.{same-refl, keeps-same, keeps-gained, keeps-turned, current-stands, versions-stand, answered-one, rises-same, rises-makes, rises-answered, rises-then, rises-more, turns-by, turns-then}
 use Rattle.space_state.proofs.Steps.{mark-refused, mark-taken, mark-done, version-there, may-lack, memory-refused, spares-kept}
 use Rattle.space_state.proofs.roots.RootedHeap.mark.Goals as goal
+use Rattle.space_state.proofs.roots.RootedHeap.mark.Goals.{After-hold, After-versions-versions, After-with_version-map}
 
 pub returns-then-in_batch : goal.returns-then-in_batch
 returns-then-in_batch c = λ W K. record { due = mark-refused W _ (sym (c.in_batch.ensures [] W K) ∙ c.if-in_batch.true); same = same-refl K }
@@ -30,50 +33,53 @@ returns-in_err-key c = λ W K.
     let none = version-there c.args.self.now.heap c.args.self.now.bits _ _ (c.version.ensures W K) (sym c.is_some.ensures ∙ c.if-is_some.false) in
     memory-refused c.from_residual-in_err-key.result c.from_residual-in_err-key.ensures.1 (may-lack (mark _) refl (mark-done W _ outside none)) c.make_version_room.ensures.same
 
+-- the current state is held once more, after room was made
+held : (c : After-hold) (W : Workspace) → Keeps c.args.self.now [] W → Keeps (record c.make_version_room.new.self { heap = c.hold.new.self }) (c.make_version_room.new.self.roots.current ∷ []) W
+held c W K =
+    let did = c.hold.ensures in
+    keeps-gained (keeps-same c.make_version_room.ensures.same K) (answered-one did.extends did.graph did.holds did.count did.makes)
+
+-- as many names are alike, by the bits of then and by the key
+alike-key : (c : After-versions-versions) (W : Workspace) → alike c.versions-versions.result.bits (map.keys W.versions) c.in_ok-key.key ≡ alike_versions c.args.self.now.bits W (name_bytes c.args.name)
+alike-key c W =
+    let key : c.in_ok-key.key ≡ name_bytes c.args.name = c.in_ok-key.ensures ∙ c.as_line.ensures in
+    rw (c.versions-versions.ensures, c.make_version_room.ensures.same.bits, key) refl
+
+-- the versions with the new one
+next : (c : After-with_version-map) (W : Workspace) → Keeps c.args.self.now [] W
+    → TurnsTo c.args.self.now (record c.make_version_room.new.self { heap = c.with_version-map.new.heap }) (c.with_version-map.result.root ∷ []) (64 + alike_versions c.args.self.now.bits W (name_bytes c.args.name)) W × AreVersionsIn c.with_version-map.new.heap c.make_version_room.new.self.bits c.with_version-map.result.root (map.insert W.versions c.in_ok-key.key W.current)
+next c W K =
+    let path = goal.at.After-with_version-map c in
+    let most = 64 + alike_versions c.args.self.now.bits W (name_bytes c.args.name) in
+    let same = c.make_version_room.ensures.same in
+    let held = held path.After-hold W K in
+    let there : AreVersionsIn c.hold.new.self c.versions-versions.result.bits c.versions-versions.result.root W.versions = rw c.versions-versions.ensures (versions-stand held) in
+    let now : IsStateIn c.hold.new.self c.versions-versions.result.bits c.make_version_room.new.self.roots.current W.current = rw c.versions-versions.ensures (current-stands held) in
+    let answered = c.with_version-map.ensures.answered W.versions there in
+    (turns-by most (keeps-turned held answered) same.bits (rises-more most (rises-then (rises-same same.heap) (rises-then (rises-makes c.hold.ensures.makes) (rises-answered answered))) (omega (arith, alike-key path.After-versions-versions W))), rw c.versions-versions.ensures at (c.with_version-map.ensures.versions W.versions W.current there now))
+
 pub with_version-map-requires-clause-versions : goal.with_version-map-requires-clause-versions
 with_version-map-requires-clause-versions c =
     let W = c.requires.0 in
     let K = c.requires.1 in
-    let once = answered-one c.hold.ensures.extends c.hold.ensures.graph c.hold.ensures.holds c.hold.ensures.count c.hold.ensures.makes in
-    let held = keeps-gained (keeps-same c.make_version_room.ensures.same K) once in
-    let key : c.in_ok-key.key ≡ name_bytes c.args.name = c.in_ok-key.ensures ∙ c.as_line.ensures in
-    let same : alike c.versions-versions.result.bits (map.keys W.versions) c.in_ok-key.key ≡ alike_versions c.args.self.now.bits W (name_bytes c.args.name) =
-    rw (c.versions-versions.ensures, c.make_version_room.ensures.same.bits, key) refl in (
-      W.versions,
-      rw c.versions-versions.ensures (versions-stand held),
-      spares-kept _ _ 1 9 _ _ (c.in_ok-make_version_room.ensures.room W K) c.hold.ensures.makes (omega arith) (omega arith) same,
-    )
+    let path = goal.at.with_version-map-requires-clause-versions c in
+    let spares = spares-kept _ _ 1 9 _ _ (c.in_ok-make_version_room.ensures.room W K) c.hold.ensures.makes (omega arith) (omega arith) (alike-key path.After-versions-versions W) in
+    (W.versions, rw c.versions-versions.ensures (versions-stand (held path.After-hold W K)), spares)
 
 pub turn_versions-requires : goal.turn_versions-requires
 turn_versions-requires c =
-    let W = c.requires.0 in
-    let K = c.requires.1 in
-    let once = answered-one c.hold.ensures.extends c.hold.ensures.graph c.hold.ensures.holds c.hold.ensures.count c.hold.ensures.makes in
-    let held = keeps-gained (keeps-same c.make_version_room.ensures.same K) once in
-    let there : AreVersionsIn c.hold.new.self c.versions-versions.result.bits c.versions-versions.result.root W.versions = rw c.versions-versions.ensures (versions-stand held) in
-    let now : IsStateIn c.hold.new.self c.versions-versions.result.bits c.make_version_room.new.self.roots.current W.current = rw c.versions-versions.ensures (current-stands held) in
-    let answered = c.with_version-map.ensures.answered W.versions there in
-    let are = rw c.versions-versions.ensures at (c.with_version-map.ensures.versions W.versions W.current there now) in
-    (W, map.insert W.versions c.in_ok-key.key W.current, keeps-turned held answered, are)
+    let made = next (goal.at.turn_versions-requires c).After-with_version-map c.requires.0 c.requires.1 in
+    (c.requires.0, _, made.0.keeps, made.1)
 
 pub returns : goal.returns
 unfolding cost
 returns c = λ W K.
     let outside : in_batch W ≡ false = sym (c.in_batch.ensures [] W K) ∙ c.if-in_batch.false in
     let none = version-there c.args.self.now.heap c.args.self.now.bits _ _ (c.version.ensures W K) (sym c.is_some.ensures ∙ c.if-is_some.false) in
-    let once = answered-one c.hold.ensures.extends c.hold.ensures.graph c.hold.ensures.holds c.hold.ensures.count c.hold.ensures.makes in
-    let held = keeps-gained (keeps-same c.make_version_room.ensures.same K) once in
-    let there : AreVersionsIn c.hold.new.self c.versions-versions.result.bits c.versions-versions.result.root W.versions = rw c.versions-versions.ensures (versions-stand held) in
-    let now : IsStateIn c.hold.new.self c.versions-versions.result.bits c.make_version_room.new.self.roots.current W.current = rw c.versions-versions.ensures (current-stands held) in
-    let answered = c.with_version-map.ensures.answered W.versions there in
-    let are = rw c.versions-versions.ensures at (c.with_version-map.ensures.versions W.versions W.current there now) in
+    let made = next (goal.at.returns c).After-with_version-map W K in
     let key : c.in_ok-key.key ≡ name_bytes c.args.name = c.in_ok-key.ensures ∙ c.as_line.ensures in
-    let same : alike c.versions-versions.result.bits (map.keys W.versions) c.in_ok-key.key ≡ alike_versions c.args.self.now.bits W (name_bytes c.args.name) =
-    rw (c.versions-versions.ensures, c.make_version_room.ensures.same.bits, key) refl in
-    let turned = c.turn_versions.ensures W (map.insert W.versions c.in_ok-key.key W.current) (keeps-turned held answered) are in
     record {
       after = record W { versions = map.insert W.versions c.in_ok-key.key W.current };
       told = rw key (mark-done W (name_bytes c.args.name) outside none);
-      turns = turns-after _ (64 + alike_versions c.args.self.now.bits W (name_bytes c.args.name)) (rises-then (rises-same c.make_version_room.ensures.same.heap) (rises-then (rises-answered once) (rises-answered answered)))
-          c.make_version_room.ensures.same.bits turned (omega (arith, same));
+      turns = turns-then (64 + alike_versions c.args.self.now.bits W (name_bytes c.args.name)) made.0 (c.turn_versions.ensures W _ made.0.keeps made.1) (omega arith);
     }
