@@ -35,14 +35,14 @@ in_time most input taken rest split read =
 -- without a fault, the bytes decide
 by_bytes : {C : Type 0} (D : store_trait.Ghosts C) (most : ℕ) (run : Run C) (rest : List ℕ) (s : Status) (last : SpaceView) → Says s most D run → run.last ≡ Some last → run.input ≡ run.taken ++ rest → (s ≡ status.ReadFault → ⊥) → (s ≡ status.WriteFault → ⊥) → IsComplete most run.input s
 by_bytes D most run rest status.Done last says left split no_read no_write = record {
-  done = λ _. inl refl;
+  in_time = λ _. inl refl;
   too_long = λ never. absurd (never (in_time most run.input run.taken rest split says.read));
 }
 by_bytes D most run rest status.TooLong last says left split no_read no_write = record {
-  done = λ ends. absurd (elim ends [ inl short ↦ past_most most run.input run.taken rest split says.one_more short | inr quits ↦ says.goes_on quits ]);
+  in_time = λ ends. absurd (elim ends [ inl short ↦ past_most most run.input run.taken rest split says.one_more short | inr quits ↦ says.goes_on quits ]);
   too_long = λ _. inl refl;
 }
-by_bytes D most run rest status.Memory last says left split no_read no_write = record { done = λ _. inr refl; too_long = λ _. inr refl }
+by_bytes D most run rest status.Memory last says left split no_read no_write = record { in_time = λ _. inr refl; too_long = λ _. inr refl }
 by_bytes D most run rest status.Usage last says left split no_read no_write = absurd (let none = says.none_left in cc)
 by_bytes D most run rest status.ReadFault last says left split no_read no_write = absurd (no_read refl)
 by_bytes D most run rest status.WriteFault last says left split no_read no_write = absurd (no_write refl)
@@ -95,7 +95,7 @@ KeepsSure-then before next = record {
 
 -- what a step makes of a store
 pub KeepsSure-step : {C : Type 0} {D : store_trait.Ghosts C} {first last : C} {reply : List ℕ} → CountsStore D first last reply → KeepsSure D first last
-KeepsSure-step counts = record { counted = counts.counted; steady = λ h. (counts.steady h).0; sure = λ h. let kept = counts.sure h in (kept.0, kept.1) }
+KeepsSure-step counts = let calls = counts.calls in record { counted = calls.counts.counted; steady = λ h. (calls.counts.told h).0; sure = λ h. let kept = calls.sure h in (kept.0, kept.1) }
 
 module _ {A B C W : Type 0} {S : source_trait.Ghosts A} {source : A} {K : sink_trait.Ghosts B} {sink : B} {D : store_trait.Ghosts C} {store : C} {most : ℕ} {words : List W} where
   -- a run that ended before its first line
@@ -123,7 +123,7 @@ module _ {A B C W : Type 0} {S : source_trait.Ghosts A} {source : A} {K : sink_t
     });
     complete = λ none no_read no_write. IfSome-from (S.left source) (λ (input : List ℕ). IsComplete most input s) (λ input told.
         let memory = early_memory s (length words) early usage (ap length none) in
-        record { done = λ _. inr memory; too_long = λ _. inr memory });
+        record { in_time = λ _. inr memory; too_long = λ _. inr memory });
   }
 
 module _ {A B C W : Type 0} {S : source_trait.Ghosts A} {source source' : A} {K : sink_trait.Ghosts B} {sink sink' : B} {D : store_trait.Ghosts C} {store store' : C} {most : ℕ} {words : List W} where

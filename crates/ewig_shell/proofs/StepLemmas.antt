@@ -30,6 +30,7 @@ use Rattle.pool_text.specs.Pool.{row_count}
 use Rattle.pool_text.specs.declared.damage.Damage.{Damage}
 use Rattle.pool_check.specs.Damages.{document_damage}
 use Rattle.shell_io.specs.Fault.{Calls}
+use Rattle.shell_io.proofs.FaultLemmas.{Calls-none, Calls-as}
 use Rattle.shell_io.specs.InMemory.{Files}
 use Rattle.shell_io.specs.Storing.{ChangesFiles}
 use Rattle.shell_io.specs.Sending.{Sends}
@@ -325,7 +326,7 @@ Step-long old piece long =
 
 -- a store that isn't called
 pub CountsStore-none : {C : Type 0} {D : store_trait.Ghosts C} {store : C} {reply : List ℕ} → reply ≢ refusal_of (codes "fault") → CountsStore D store store reply
-CountsStore-none other = record { counted = omega arith; steady = λ h. (h, λ _. refl); sure = λ h. (h, refl, other) }
+CountsStore-none {D = D} {store} other = record { calls = Calls-as (Calls-none D.faults D.steady D.faultless store) (λ p. absurd p) other }
 
 -- a piece that is too long calls none
 pub StepsOn-long : {C : Type 0} {D : store_trait.Ghosts C} {space : SpaceView} {store : C} (piece : List ℕ) → MAX_LINE < length piece → StepsOn piece D space store (refusal_of (codes "long")) space store
@@ -364,11 +365,7 @@ Replies-on {D = D} {store = store} {store'} {old = old} {new} {reply} command it
 
 -- what the one call of the store made of its count, where the reply is `! fault` exactly if it failed
 CountsStore-called : {C : Type 0} {D : store_trait.Ghosts C} {store store' : C} {failed : Type 0} {reply : List ℕ} → failed ↔ (reply ≡ refusal_of (codes "fault")) → Calls D.faults D.steady D.faultless store store' failed → CountsStore D store store' reply
-CountsStore-called exactly calls = record {
-  counted = calls.counts.counted;
-  steady = λ h. let told = calls.counts.told h in (told.0, λ other. told.1 (λ fails. other (exactly.0 fails)));
-  sure = λ h. let told = calls.sure h in (told.0, told.1, λ fault. told.2 (exactly.1 fault));
-}
+CountsStore-called exactly calls = record { calls = Calls-as calls exactly.0 exactly.1 }
 
 -- a call that failed, and one that didn't
 pub CountsStore-failed : {C : Type 0} {D : store_trait.Ghosts C} {store store' : C} {failed : Type 0} → failed → Calls D.faults D.steady D.faultless store store' failed → CountsStore D store store' (refusal_of (codes "fault"))

@@ -132,7 +132,7 @@ EndsInTime most input = (length input ≤ most) ⊎ HasQuit (pieces_within most 
 
 -- The bytes alone decide, but that memory may have run out at the start.
 pub record IsComplete (most : ℕ) (input : List ℕ) (status : Status) : Type 0 where
-  pub done : EndsInTime most input → (status ≡ Done) ⊎ (status ≡ Memory)
+  pub in_time : EndsInTime most input → (status ≡ Done) ⊎ (status ≡ Memory)
   pub too_long : ¬ EndsInTime most input → (status ≡ TooLong) ⊎ (status ≡ Memory)
 
 -- Whatever was executed: the store's count of faults hasn't fallen. A steady store stays so. A store that can't fail stays so,

@@ -1,5 +1,5 @@
 -- What one piece of the input makes of a space and a store, and the reply that it gets.
-use Rattle.std.specs.Prelude.{◌≡◌, ◌≢◌, ℕ, ◌+◌, ◌-◌, ◌*◌, ◌^◌, ◌≤◌, min, Bool, true, false, nat_lt, List, [], ◌∷◌, ◌++◌, length, codes, Result, Ok, Err, Option, Some, None, IfSome, MatchBool, MatchOption, if◌then◌else◌, ◌⊎◌}
+use Rattle.std.specs.Prelude.{◌≡◌, ℕ, ◌+◌, ◌-◌, ◌*◌, ◌^◌, ◌≤◌, min, Bool, true, false, nat_lt, List, [], ◌∷◌, ◌++◌, length, codes, Result, Ok, Err, Option, Some, None, IfSome, MatchBool, MatchOption, if◌then◌else◌, ◌⊎◌}
 use Rattle.std.specs.FinMap.{insert, get as get_file}
 use Rattle.std.specs.List.{flat_map}
 use Rattle.elem_core.specs.declared.TheConstants.{MAX_LINE, NEWLINE}
@@ -7,7 +7,7 @@ use Rattle.shell_terms.specs.Command.{PlainCommand, get, len, show, list, stars,
 use Rattle.shell_words.specs.Grammar.{meaning}
 use Rattle.shell_words.specs.declared.BadLine.{BadLine}
 use Rattle.shell_words.specs.declared.BadLine.TheVariants as bad
-use Rattle.shell_io.specs.Fault.{HasCause}
+use Rattle.shell_io.specs.Fault.{HasCause, Calls}
 use Rattle.shell_io.specs.InMemory.{Files}
 use Rattle.shell_io.specs.Storing.{ChangesFiles, OthersStay}
 use Rattle.shell_io.specs.declared.device.Store as store_trait
@@ -258,12 +258,10 @@ Step old piece reply new =
 abbrev pub machine_of : {C : Type 0} → store_trait.Ghosts C → SpaceView → C → Machine
 machine_of D space store = record { space = space; store = shown_store D store }
 
--- What a step with this reply made of the store's count of faults: it hasn't fallen. A steady store stays so, and counts a fault
--- with no reply but `! fault`. A store that can't fail stays so, counts none, and gets no `! fault`.
+-- A step with this reply made of the store's count of faults what one call makes of it that failed exactly where the reply is
+-- `! fault`.
 pub record CountsStore {C : Type 0} (D : store_trait.Ghosts C) (store store' : C) (reply : List ℕ) : Type 0 where
-  pub counted : D.faults store ≤ D.faults store'
-  pub steady : D.steady store → D.steady store' × (reply ≢ refusal_of (codes "fault") → D.faults store' ≡ D.faults store)
-  pub sure : D.faultless store → D.faultless store' × (D.faults store' ≡ D.faults store) × (reply ≢ refusal_of (codes "fault"))
+  pub calls : Calls D.faults D.steady D.faultless store store' (reply ≡ refusal_of (codes "fault"))
 
 -- On a space and a store, the command gets this reply.
 pub record ObeysOn {C : Type 0} (command : PlainCommand) (D : store_trait.Ghosts C) (space : SpaceView) (store : C) (reply : List ℕ)

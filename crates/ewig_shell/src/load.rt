@@ -55,9 +55,10 @@ impl From<FetchFault> for LoadFault {
     }
 }
 
-/// Makes the space the one that the document in the file stands for. `Batch` exactly in a batch; else `Missing` exactly where there
-/// is no such file, and `Large` exactly where it has more than 67,108,864 bytes; `Failed` only where the store failed at this
-/// call; else `Damaged` exactly where the bytes fail a test, with the first of these. After a refusal the space is as it was.
+/// Makes the space the one that the document in the file stands for. `Batch` exactly in a batch. Else, unless the store fails
+/// at this call (`Failed`) or memory runs out (`Memory`), and over a store that tells its files: `Missing` exactly where there
+/// is no such file, `Large` exactly where it has more than 67,108,864 bytes, and `Damaged`, with the first test that the bytes
+/// fail, exactly where they fail one. After a refusal the space is as it was.
 pub fn load<D: Store>(
     alloc: Global,
     space: &mut Space,

@@ -15,7 +15,7 @@ mod save;
 #[cfg(test)]
 mod tests;
 
-use run::{Ended, Status, code_of, run};
+use run::{Ended, Status, exit_code_of, run};
 use shell_io::{DirStore, StdSink, StdSource};
 use std::process::ExitCode;
 use std::{env, io};
@@ -39,7 +39,7 @@ fn main(rt: HostRuntime) -> ExitCode {
     if ended.status == Status::Usage {
         let _ = rt.eprintln(USAGE);
     }
-    ExitCode::from(code_of(ended.status))
+    ExitCode::from(exit_code_of(ended.status))
 }
 
 // The words after the program's name; the host tells which they are, and no clause can. A word that is no text can't be read, and

@@ -15,7 +15,7 @@ use space_state::Space;
 use std::alloc::Global;
 
 /// The most bytes of input that a run of the program takes: 2^40.
-pub const MOST: u64 = 1_099_511_627_776;
+pub const MOST_BYTES: u64 = 1_099_511_627_776;
 
 /// How a run ended.
 #[derive(Clone, Copy, Debug, PartialEq, Eq)]
@@ -35,7 +35,7 @@ pub enum Status {
 }
 
 /// The exit status by which the program tells how a run ended: 0 to 5.
-pub fn code_of(status: Status) -> u8
+pub fn exit_code_of(status: Status) -> u8
     ensures { result ≡ exit_code status }
 {
     match status {
@@ -51,7 +51,9 @@ pub fn code_of(status: Status) -> u8
 /// How a run ended, and the space that it left: None with `Usage` and `Memory`.
 #[derive(Drop)]
 pub struct Ended {
+    /// Why it ended.
     pub status: Status,
+    /// The run's one space as it was at the end.
     pub space: Option<Space>,
 }
 
@@ -65,7 +67,7 @@ pub fn run<S: Source, K: Sink, D: Store>(
 ) -> Ended
     ensures { RunsAs (2 ^ 40) words.now S.Source source.old source.new K.Sink sink.old sink.new D.Store store.old store.new result }
 {
-    run_upto(alloc, words, MOST, source, sink, store)
+    run_upto(alloc, words, MOST_BYTES, source, sink, store)
 }
 
 /// Runs the shell over at most `most` bytes of input.
@@ -86,7 +88,7 @@ pub fn run_upto<S: Source, K: Sink, D: Store>(
             space: None,
         };
     }
-    let Ok((mut reader, mut space)) = made(alloc) else {
+    let Ok((mut reader, mut space)) = begun(alloc) else {
         return Ended {
             status: Status::Memory,
             space: None,
@@ -100,10 +102,10 @@ pub fn run_upto<S: Source, K: Sink, D: Store>(
 }
 
 // What a run works with: all the memory that it takes before the first line.
-fn made(alloc: Global) -> Result<(LineReader, Space), NoMemory>
-    ensures unread { IfOk result (λ made. (made.0.given ≡ 0) × (made.0.most ≡ None)) }
-    ensures start { IfOk result (λ made. (input : List ℕ) → StandsIn input made.0 (Some input)) }
-    ensures empty { IfOk result (λ made. made.1 ≡ start_view CODE_BITS) }
+fn begun(alloc: Global) -> Result<(LineReader, Space), NoMemory>
+    ensures unread { IfOk result (λ begun. (begun.0.given ≡ 0) × (begun.0.most ≡ None)) }
+    ensures start { IfOk result (λ begun. (input : List ℕ) → StandsIn input begun.0 (Some input)) }
+    ensures empty { IfOk result (λ begun. begun.1 ≡ start_view CODE_BITS) }
 {
     let reader = LineReader::new(alloc)?;
     let space = Space::new(alloc, CODE_BITS)?;

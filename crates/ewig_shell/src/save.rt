@@ -48,9 +48,9 @@ impl From<KeepFault> for SaveFault {
     }
 }
 
-/// Stores the document of the space's pool in the file. `Batch` exactly in a batch, else `Large` exactly where the document has more
-/// than 67,108,864 bytes; `Failed` only where the store failed at this call, and then what the file holds is open. How long the
-/// document would be is known before it is made.
+/// Stores the document of the space's pool in the file. `Batch` exactly in a batch; else, unless memory runs out before
+/// (`Memory`), `Large` exactly where the document has more than 67,108,864 bytes, which is known before it is made. `Failed`
+/// only where the store failed at this call, and then what the file holds is open.
 pub fn save<D: Store>(
     alloc: Global,
     space: &Space,

@@ -1,4 +1,4 @@
-//! Worked rows over memory. What no clause can say: that memory is there, and that the clauses mean what they should.
+//! Worked inputs over memory. What no clause can say: that memory is there, and that the clauses mean what they should.
 
 use crate::run::{Status, run, run_upto};
 use shell_io::{MemSink, MemSource, MemStore, Store};
@@ -559,19 +559,40 @@ fn faults_at_each_call_in_turn(rt: HostRuntime) -> Result<(), Fail> {
 #[test]
 fn short_replies_go_out_in_one_write(rt: HostRuntime) -> Result<(), Fail> {
     // The call of the sink that fails, and the replies that went out before it, one a call.
-    let rows: [(u64, &[u8], Status); 5] = [
+    let rows: [(u64, &[u8], Status); 10] = [
         (0, b"", Status::WriteFault),
         (1, b"ok\n", Status::WriteFault),
-        (2, b"ok\n= 0\n", Status::WriteFault),
-        (3, b"ok\n= 0\n= a 0\nok\n", Status::WriteFault),
-        (4, b"ok\n= 0\n= a 0\nok\n! none\n", Status::Done),
+        (2, b"ok\nok\n", Status::WriteFault),
+        (3, b"ok\nok\n= 1\n", Status::WriteFault),
+        (4, b"ok\nok\n= 1\n= a 1\nok\n", Status::WriteFault),
+        (5, b"ok\nok\n= 1\n= a 1\nok\n= x\n", Status::WriteFault),
+        (
+            6,
+            b"ok\nok\n= 1\n= a 1\nok\n= x\n= x\nok\n",
+            Status::WriteFault,
+        ),
+        (
+            7,
+            b"ok\nok\n= 1\n= a 1\nok\n= x\n= x\nok\nok\n",
+            Status::WriteFault,
+        ),
+        (
+            8,
+            b"ok\nok\n= 1\n= a 1\nok\n= x\n= x\nok\nok\n= z\nok\n",
+            Status::WriteFault,
+        ),
+        (
+            9,
+            b"ok\nok\n= 1\n= a 1\nok\n= x\n= x\nok\nok\n= z\nok\n! none\n",
+            Status::Done,
+        ),
     ];
     for (call, written, status) in rows {
         let devices = Devices {
             sink_fails: &[call],
             ..WHOLE
         };
-        let input = b"new a\nlen a\nlist\nget b 0\n";
+        let input = b"new a\nadd a x\nlen a\nlist\nget a 0\nshow a 0 1\nstar z\nstars\nget b 0\n";
         check(&rt, input, 1 << 40, &devices, written, status)?;
     }
     Ok(())
