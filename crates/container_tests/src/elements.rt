@@ -126,6 +126,7 @@ fn texts_keep_their_vector(rt: HostRuntime) -> Result<(), Fail> {
     let kept = Texts::from_vec(lines).into_vec();
     assert_eq!(rt; kept.len(), 3);
     assert_eq!(rt; kept[0].text(), "one");
+    assert_eq!(rt; kept[1].text(), "");
     assert_eq!(rt; kept[2].text(), "two");
     Ok(())
 }

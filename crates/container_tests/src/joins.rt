@@ -41,7 +41,7 @@ fn doubled_often(heap: &mut Heap<Num>, root: Link, times: u32) -> Result<Link, F
 
 // Two vectors, each from one element by doubling, are together longer by one than a vector may be.
 #[test]
-fn joins_up_to_the_greatest_length(rt: HostRuntime) -> Result<(), Fail> {
+fn refuses_a_join_past_the_greatest_length(rt: HostRuntime) -> Result<(), Fail> {
     let mut heap: Heap<Num> = Heap::new(rt.alloc());
     let empty = Flex::empty(&mut heap)?.into_root();
     let three = pushed(&mut heap, empty, 3)?;
@@ -60,7 +60,7 @@ fn joins_up_to_the_greatest_length(rt: HostRuntime) -> Result<(), Fail> {
     Ok(())
 }
 
-// Two vectors of 128 elements have the height 1, and rows along the seam alone are made: five at most.
+// Two vectors of 128 elements have the height 1, and rows along the seam alone are made: two leaves and the root.
 #[test]
 fn joins_along_the_seam_alone(rt: HostRuntime) -> Result<(), Fail> {
     let mut heap: Heap<Num> = Heap::new(rt.alloc());
@@ -70,7 +70,7 @@ fn joins_along_the_seam_alone(rt: HostRuntime) -> Result<(), Fail> {
     assert_eq!(rt; FlexRef::at(root).height(&heap), 1);
     let made = heap.made();
     let _joined = doubled(&mut heap, root)?;
-    assert!(rt; heap.made().wrapping_sub(made) <= 5);
+    assert_eq!(rt; heap.made().wrapping_sub(made), 3);
     Ok(())
 }
 

@@ -67,6 +67,8 @@ fn keeps_the_vector_before_each_push(rt: HostRuntime) -> Result<(), Fail> {
     let one = pushed(&mut heap, none, 7)?;
     let two = pushed(&mut heap, one, 8)?;
     assert_eq!(rt; FlexRef::at(two).len(&heap), 2);
+    assert_eq!(rt; FlexRef::at(one).len(&heap), 1);
+    assert_eq!(rt; FlexRef::at(none).len(&heap), 0);
     assert_eq!(rt; heap.live(), 5);
     Ok(())
 }

@@ -79,8 +79,9 @@ fn is_seven<L: Ledger>(heap: &Heap<Num>, link: Link, blank: Blank) -> bool
     first_value(&Glass::new(heap), link, &mut steps) == Some(&Num(7))
 }
 
+// That two steps are counted is a clause of the function that reads.
 #[test]
-fn counts_each_read(rt: HostRuntime) -> Result<(), Fail> {
+fn reads_through_a_glass(rt: HostRuntime) -> Result<(), Fail> {
     let mut heap: Heap<Num> = Heap::new(rt.alloc());
     heap.reserve(1, 1)?;
     let seven = heap.cell(Num(7));

@@ -21,9 +21,9 @@ fn read<'a>(rt: &impl Abort, line: &'a [u8]) -> Result<Command<'a>, BadLine> {
 }
 
 // A command as its word, its names, its numbers and its text, with an empty one or 0 where it has none.
-type Parts<'a> = (&'static str, &'a str, &'a str, u32, u32, &'a str);
+type CommandParts<'a> = (&'static str, &'a str, &'a str, u32, u32, &'a str);
 
-fn parts<'a>(command: Command<'a>) -> Parts<'a> {
+fn parts<'a>(command: Command<'a>) -> CommandParts<'a> {
     match command {
         Command::New(buffer) => ("new", buffer.as_str(), "", 0, 0, ""),
         Command::Add(buffer, text) => ("add", buffer.as_str(), "", 0, 0, text.as_str()),
@@ -75,7 +75,7 @@ const NEW_LONGEST: &str = "new abcdefghijklmnopqrstuvwxyzABCDEFGHIJKLMNOPQRSTUVW
 const NEW_LONGER: &str = "new abcdefghijklmnopqrstuvwxyzABCDEFGHIJKLMNOPQRSTUVWXYZ0123456789._-";
 
 // Reads the line and compares its parts.
-fn reads(rt: &impl Abort, line: &str, want: Parts<'_>) {
+fn reads(rt: &impl Abort, line: &str, want: CommandParts<'_>) {
     match read(rt, line.as_bytes()) {
         Ok(command) => {
             let (word, name, other, first, second, text) = parts(command);
