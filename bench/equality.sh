@@ -1,7 +1,7 @@
 #!/usr/bin/env bash
 # Compares two versions of 1,000, 10,000 and 100,000 buffers that differ in one, and two that differ in none but were made
-# apart in one, by the built program, and tells the time of one `eqv`. What they share isn't read, so that the time should
-# grow with the way to one name and not with the names.
+# apart in one, by the built program, and tells the time of one `eqv`. Rows that both have in the same places aren't looked
+# below, so that the time should grow with the way to one name and not with the names.
 #   bench/equality.sh
 # COUNT in the environment takes the place of the thousand.
 set -eu
