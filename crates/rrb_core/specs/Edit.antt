@@ -31,34 +31,34 @@ module _ {T : Type 0} where
     pub spare : n + 1 ≤ h.spare_nodes
     pub holds : hold_count h + 64 * (n + 1) ≤ 2 ^ 60
 
-  -- the row m of height n has these elements; it was made of at most n + 1 nodes, and these holds were spent
-  pub record MakesRow (old new : Heap T) (spent : List ℕ) (n m : ℕ) (xs : List ℕ) : Type 0 where
-    pub row : IsRowOf new n m xs
-    pub builds : Builds old new spent (m ∷ []) 0 (n + 1)
+  -- the row k of height n has these elements; it was made of at most n + 1 nodes, and these holds were spent
+  pub record MakesRow (old new : Heap T) (spent : List ℕ) (n k : ℕ) (xs : List ℕ) : Type 0 where
+    pub row : IsRowOf new n k xs
+    pub builds : Builds old new spent (k ∷ []) 0 (n + 1)
 
-  -- the row m is the row l of height n with the element e after its last
-  pub record Pushes (old new : Heap T) (n l e m : ℕ) : Type 0 where
-    pub edits : MakesRow old new (e ∷ []) n m (seq_at (form_at old) n l ++ e ∷ [])
-    pub rule : IsPushed (form_at old) (form_at new) e n l m
+  -- the row k is the row l of height n with the element e after its last
+  pub record Pushes (old new : Heap T) (n l e k : ℕ) : Type 0 where
+    pub edits : MakesRow old new (e ∷ []) n k (seq_at (form_at old) n l ++ e ∷ [])
+    pub rule : IsPushed (form_at old) (form_at new) e n l k
 
-  -- the row m is the row l of height n with the element e at the index i, and as many links
-  pub record SetsAt (old new : Heap T) (n l i e m : ℕ) : Type 0 where
-    pub edits : MakesRow old new (e ∷ []) n m (slice_set (seq_at (form_at old) n l) i e)
-    pub thick : IsThick (form_at old) n l → IsThick (form_at new) n m
-    pub count : length (links_at new m) ≡ length (links_at old l)
+  -- the row k is the row l of height n with the element e at the index i, and as many links
+  pub record SetsAt (old new : Heap T) (n l i e k : ℕ) : Type 0 where
+    pub edits : MakesRow old new (e ∷ []) n k (slice_set (seq_at (form_at old) n l) i e)
+    pub thick : IsThick (form_at old) n l → IsThick (form_at new) n k
+    pub count : length (links_at new k) ≡ length (links_at old l)
 
-  -- the row m has the first `count` elements of the row l of height n, and of the rows below l the first ones and at most one
-  -- more of each height; it has two links or more where the first child has too few
-  pub record Takes (old new : Heap T) (n l count m : ℕ) : Type 0 where
-    pub edits : MakesRow old new [] n m (take count (seq_at (form_at old) n l))
-    pub two : 1 ≤ n → length (seq_at (form_at old) (n - 1) (slice_index (links_at old l) 0)) < count → 2 ≤ length (links_at new m)
-    pub rows : (p : ℕ) → p ≤ n → HasFront (rows_at (links_at old) n p l) (rows_at (links_at new) n p m)
+  -- the row k has the first `count` elements of the row l of height n, and of the rows of each height below l the first ones
+  -- and at most one more; it has two links or more where the first child has too few elements
+  pub record Takes (old new : Heap T) (n l count k : ℕ) : Type 0 where
+    pub edits : MakesRow old new [] n k (take count (seq_at (form_at old) n l))
+    pub two : 1 ≤ n → length (seq_at (form_at old) (n - 1) (slice_index (links_at old l) 0)) < count → 2 ≤ length (links_at new k)
+    pub rows : (m : ℕ) → m ≤ n → HasFront (rows_at (links_at old) n m l) (rows_at (links_at new) n m k)
 
   -- the rows of each height below the row l of height n are the first ones of the vector with this root
   pub record IsAtFront (h : Heap T) (root n l : ℕ) : Type 0 where
-    pub first : (p : ℕ) → p ≤ n → rows_at (links_at h) n p l ≡ take (length (rows_at (links_at h) n p l)) (rows_of h p root)
+    pub first : (m : ℕ) → m ≤ n → rows_at (links_at h) n m l ≡ take (length (rows_at (links_at h) n m l)) (rows_of h m root)
 
-  -- a row over links_with of a row's children, which have the height below, can be made
+  -- a row over `links_with` of a row's children, which are of the height `below`, can be made
   pub record CanPlace (h : Heap T) (below l keep k skip : ℕ) : Type 0 where
     pub graph : IsGraph h
     pub live : IsSome (row_at h l)
