@@ -56,7 +56,7 @@ impl Model for LineReader {
 impl LineReader {
     /// A reader that has taken nothing. It makes its whole buffer here.
     pub fn new(alloc: Global) -> Result<LineReader, NoMemory>
-        ensures fresh { IfOk result (λ reader. (reader.taken ≡ 0) × (reader.given ≡ 0)
+        ensures fresh { IfOk result (λ reader. (reader.line ≡ []) × (reader.taken ≡ 0) × (reader.given ≡ 0)
             × (reader.most ≡ None) × (reader.at_end ≡ false) × (reader.settled ≡ None)) }
         ensures start { IfOk result (λ reader. (input : List ℕ) → StandsIn input reader (Some input)) }
     {
