@@ -5,6 +5,7 @@ pub mod SeamLemmas
 pub mod SeamRows
 pub mod JoinLemmas
 pub mod RestRows
+pub mod FewerRows
 pub mod RestLemmas
 pub mod InsertLemmas
 pub mod CutLemmas

@@ -168,6 +168,7 @@ module _ {T : Type 0} (h : Heap T) (below l : ℕ) (o : IsOver h below l) (i wit
 pub record IsNext {T : Type 0} (h a : Heap T) (height below l i within count child next : ℕ) : Type 0 where
   pub more : i + 1 < length (links_at h l)
   pub place : next ≡ get_or (links_at h l) (i + 1) 0
+  pub well : IsWell (form_at h) below next
   pub levels : (p : ℕ) → rows_at (links_at a) below p next ≡ rows_at (links_at h) below p next
   pub child_thick : IsThick (form_at h) below child
   pub row : IsSomeRow a below next
@@ -187,6 +188,7 @@ is-next h a height below l i within count child next links e s o lt is inside ch
     rw e (record {
       more = more;
       place = next-is;
+      well = there.well;
       levels = λ p. rows-kept s below p next there.live;
       child_thick = rw child-is (child-thick h below l i o more);
       row = row-later s below next there.live (child-row h below l next there);

@@ -1,9 +1,10 @@
 -- What is left of a row without its first elements, by the rows of each height.
-use Rattle.std.specs.Prelude.{◌≡◌, ℕ, ◌<◌, ◌≤◌, List, ◌++◌, length, drop, slice_index}
+use Rattle.std.specs.Prelude.{◌≡◌, ℕ, ◌+◌, ◌<◌, ◌≤◌, List, ◌++◌, length, take, drop, slice_index}
 use Rattle.std.specs.List.{flat_map}
-use Rattle.node_heap.specs.Heap.{Heap, links_at}
+use Rattle.node_heap.specs.Heap.{Heap, form_at, links_at}
+use Rattle.rrb_core.specs.Seq.{seq_at}
 use Rattle.rrb_core.specs.Levels.{rows_at, rows_of}
-use Rattle.rrb_join.specs.Seam.{rows_under}
+use Rattle.rrb_join.specs.Seam.{rows_under, elements_before}
 
 module _ {T : Type 0} where
   -- at most two rows; of two the first has 16 links or more and the second 17, which no row can hold together
@@ -22,9 +23,21 @@ module _ {T : Type 0} where
   abbrev pub LeavesRows : Heap T → Heap T → ℕ → ℕ → Type 0
   LeavesRows old new vector v = (m : ℕ) → (i : ℕ) × HasRest new (drop i (rows_of old m vector)) (rows_of new m v)
 
-  -- the same of the rows below links that a row of the height `height` may hold, where they are what is left of a row of height n
+  -- where no more elements than were dropped stand before an old row of a height, the new rows of that height are no more than
+  -- that row and those behind it
+  abbrev pub LeavesNoMore : Heap T → Heap T → ℕ → ℕ → ℕ → Type 0
+  LeavesNoMore old new vector count v =
+      (m i : ℕ) → i < length (rows_of old m vector) → elements_before old vector m i ≤ count → length (rows_of new m v) + i ≤ length (rows_of old m vector)
+
+  -- what LeavesRows says, of the rows below links that a row of the height `height` may hold, where they are what is left of a row of height n
   abbrev pub LeavesBelow : Heap T → Heap T → ℕ → ℕ → ℕ → List ℕ → Type 0
   LeavesBelow old new n l height ls = (m : ℕ) → (i : ℕ) × HasRest new (drop i (rows_at (links_at old) n m l)) (rows_under (links_at new) height m ls)
+
+  -- and what LeavesNoMore says
+  abbrev pub LeavesNoMoreBelow : Heap T → Heap T → ℕ → ℕ → ℕ → ℕ → List ℕ → Type 0
+  LeavesNoMoreBelow old new n l count height ls =
+      (m i : ℕ) → i < length (rows_at (links_at old) n m l) → length (flat_map (seq_at (form_at old) m) (take i (rows_at (links_at old) n m l))) ≤ count
+      → length (rows_under (links_at new) height m ls) + i ≤ length (rows_at (links_at old) n m l)
 
   -- and where they are made of links that a row of height k may hold, put before a row of height n: lower down are the rows below both, and from
   -- k on at most two halves, then those below the row but its first

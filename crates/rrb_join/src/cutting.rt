@@ -4,7 +4,7 @@ ghost use Rattle.node_heap.specs.Heap.{hold_count, HasSpares, IsGraph};
 ghost use Rattle.node_heap.specs.Calls.{Answered, MakesJust, Unchanged};
 ghost use Rattle.rrb_core.specs.Vector.{elements, height_at, IsGoodVector, IsSameVector};
 ghost use Rattle.rrb_join.specs.Answers.{GivesItself, IsPart, RisesAtNeed};
-ghost use Rattle.rrb_join.specs.Seam.{DropsRows, SlicesRows, ErasesRows};
+ghost use Rattle.rrb_join.specs.Seam.{DropsRows, SlicesRows, HasNoMoreRows, ErasesRows};
 
 use crate::joining::{SEAM_NODES, joined_root};
 use crate::rests::rest_root;
@@ -46,6 +46,7 @@ pub fn drop_front<T>(heap: &mut Heap<T>, vector: FlexRef, count: u32) -> Result<
     ensures good { IfOk result (λ v. IsGoodVector heap.new v) }
     ensures low { IfOk result (λ v. height_at heap.new v ≤ height_at heap.old vector) }
     ensures seam { IfOk result (λ v. DropsRows heap.old heap.new vector v) }
+    ensures no_more { IfOk result (λ v. HasNoMoreRows heap.old heap.new vector count (length (elements heap.old vector)) v) }
     ensures answered { IfOk result (λ v. Answered heap.old heap.new [] v 0 (2 * height_at heap.new v + 1)) }
     ensures made { IfOk result (λ v. MakesJust heap.old heap.new) }
     ensures none { count ≡ 0 → GivesItself heap.old heap.new result vector }
@@ -88,6 +89,7 @@ pub fn slice<T: Drop>(
     ensures good { IfOk result (λ v. IsGoodVector heap.new v) }
     ensures low { IfOk result (λ v. height_at heap.new v ≤ height_at heap.old vector) }
     ensures seam { IfOk result (λ v. SlicesRows heap.old heap.new vector v) }
+    ensures no_more { IfOk result (λ v. HasNoMoreRows heap.old heap.new vector from to v) }
     ensures answered { IfOk result (λ v. Answered heap.old heap.new [] v 0 (3 * height_at heap.old vector + 2)) }
     ensures made { IfOk result (λ v. heap.new.made ≤ heap.old.made + (3 * height_at heap.old vector + 2)) }
     ensures whole { from ≡ 0 → to ≡ length (elements heap.old vector) → GivesItself heap.old heap.new result vector }

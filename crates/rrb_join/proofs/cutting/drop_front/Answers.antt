@@ -4,6 +4,7 @@ use Rattle.rrb_core.proofs.BuildLemmas.{unchanged-good, answered-same}
 use Rattle.rrb_join.proofs.AnswerLemmas.{unchanged-height}
 use Rattle.rrb_core.proofs.LevelLemmas.{rows-of-same}
 use Rattle.rrb_join.proofs.RestRows.{left-drops, drops-itself}
+use Rattle.rrb_join.proofs.FewerRows.{fewer-rest, fewer-whole}
 use Rattle.rrb_join.proofs.cutting.drop_front.Goals as goal
 
 pub returns-in_err-reserve-clause-vectors : goal.returns-in_err-reserve-clause-vectors
@@ -32,3 +33,11 @@ returns-then-count-eq0-clause-seam g c = rw c.share.ensures.same (drops-itself c
 
 pub returns-clause-seam : goal.returns-clause-seam
 returns-clause-seam g c = rw c.from_root.ensures (left-drops c.args.heap.now c.reserve.new.self c.rest_root.new.heap c.args.vector c.rest_root.result c.in_ok-reserve.ensures.rest (rw c.root.ensures at c.rest_root.ensures.rows))
+
+pub returns-then-count-eq0-clause-no_more : goal.returns-then-count-eq0-clause-no_more
+returns-then-count-eq0-clause-no_more g c = rw (c.share.ensures.same, c.if-count-eq0.true) (fewer-whole c.args.heap.now c.share.new.heap c.args.vector c.share.ensures.shares.rows c.share.ensures.shares.builds.graph c.requires.good)
+
+pub returns-clause-no_more : goal.returns-clause-no_more
+returns-clause-no_more g c =
+    rw c.from_root.ensures
+    (fewer-rest c.args.heap.now c.reserve.new.self c.args.vector c.in_ok-reserve.ensures.rest.rows c.in_ok-reserve.ensures.rest.graph c.requires.good c.rest_root.new.heap c.rest_root.result c.args.count (rw c.root.ensures at c.rest_root.ensures.no_more) (rw c.root.ensures at c.rest_root.ensures.low))

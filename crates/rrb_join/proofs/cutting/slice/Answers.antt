@@ -1,4 +1,4 @@
-use Rattle.std.proofs.Common.{arith, ◌+◌, ◌*◌, ◌≤◌, refl, ◌∙◌, [], ◌∷◌}
+use Rattle.std.proofs.Common.{arith, ◌≡◌, ◌+◌, ◌*◌, ◌≤◌, length, length-take, refl, ◌∙◌, [], ◌∷◌}
 use Rattle.node_heap.specs.Calls.{Answered}
 use Rattle.node_heap.proofs.Frames.{Unchanged-refl}
 use Rattle.rrb_core.specs.Vector.{height_at, elements, IsVectorOf}
@@ -8,6 +8,7 @@ use Rattle.rrb_join.proofs.CutLemmas.{Gives, gives-answered, gives-built, gives-
 use Rattle.rrb_core.specs.Levels.{TakesFirstRows}
 use Rattle.rrb_core.proofs.LevelLemmas.{rows-of-same, takes-after}
 use Rattle.rrb_join.proofs.CutRows.{slices, slices-held, slices-itself}
+use Rattle.rrb_join.proofs.FewerRows.{fewer-slice, fewer-held, fewer-whole}
 use Rattle.rrb_join.proofs.cutting.slice.Given as given
 use Rattle.rrb_join.proofs.cutting.slice.Goals as goal
 use Rattle.rrb_join.proofs.cutting.slice.Goals.{else-from-eq0-via-then-from-eq0+else-to-len, else-from-eq0-via-else-from-eq0}
@@ -65,6 +66,19 @@ returns-clause-seam g c =
 
 pub returns-then-to-len-clause-seam : goal.returns-then-to-len-clause-seam
 returns-then-to-len-clause-seam g c = rw c.share.ensures.same (slices-itself c.args.heap.now c.share.new.heap c.args.vector (λ m. rows-of-same c.args.heap.now c.share.new.heap c.share.ensures.shares.rows m c.args.vector))
+
+pub returns-clause-no_more : goal.returns-clause-no_more
+returns-clause-no_more g c =
+    let rest = c.in_ok-reserve.ensures.rest in
+    let front = c.in_ok-front.ensures in
+    let short : length (elements c.take.new.heap c.in_ok-front.front) ≤ c.args.to = rw front.items (omega (arith, length-take c.args.to (elements c.reserve.new.self c.args.vector))) in
+    let part = fewer-slice c.args.heap.now c.reserve.new.self c.args.vector rest.rows rest.graph c.requires.good c.take.new.heap c.rest_root-root.new.heap c.in_ok-front.front c.rest_root-root.result c.args.from c.args.to front.answered.extends front.good short front.rows (rw (c.root.ensures, c.view.ensures) at c.rest_root-root.ensures.no_more) (rw (c.root.ensures, c.view.ensures) at c.rest_root-root.ensures.low) in
+    rw c.from_root.ensures (fewer-held c.release.ensures.keeps c.rest_root-root.result (gives-first c.rest_root-root.result c.in_ok-front.front (made g c)) c.args.heap.now c.args.vector c.args.from c.args.to part)
+
+pub returns-then-to-len-clause-no_more : goal.returns-then-to-len-clause-no_more
+returns-then-to-len-clause-no_more g c =
+    let all : c.args.to ≡ length (elements c.args.heap.now c.args.vector) = c.if-to-len.true ∙ c.len.ensures.value in
+    rw (c.share.ensures.same, c.if-from-eq0.true, all) (fewer-whole c.args.heap.now c.share.new.heap c.args.vector c.share.ensures.shares.rows c.share.ensures.shares.builds.graph c.requires.good)
 
 pub returns-clause-whole : goal.returns-clause-whole
 returns-clause-whole g c = λ front back. absurd (elim c.else-from-eq0.branch as (λ _. ⊥) [

@@ -9,6 +9,7 @@ use Rattle.rrb_core.proofs.RowLists.{good-row}
 use Rattle.rrb_join.specs.Unmade.{items_below}
 use Rattle.rrb_join.proofs.JoinLemmas.{rows-of-kept}
 use Rattle.rrb_join.proofs.RestRows.{all-left, left-none, left-root}
+use Rattle.rrb_join.proofs.FewerRows.{fewer-itself, fewer-none, fewer-root}
 use Rattle.rrb_join.proofs.rests.rest_root.Given as given
 use Rattle.rrb_join.proofs.rests.rest_root.Goals as goal
 
@@ -63,3 +64,16 @@ returns-then-count-len-clause-rows g c = left-none c.args.heap.now c.leaf_over.n
 pub returns-clause-rows : goal.returns-clause-rows
 returns-clause-rows g c =
     left-root c.args.heap.now c.rest_of-rest.new.heap c.row_over.new.heap c.args.root c.height_of-height.result c.rest_of-rest.result.height c.row_over.result c.height_of-height.ensures (live-stays c.rest_of-rest.ensures.builds.graph c.row_over.ensures.builds.extends) c.rest_of-rest.ensures.links.links c.row_over.ensures.row.well (c.row_over.ensures.links ∙ c.as_slice.ensures.value) c.rest_of-rest.ensures.rows
+
+pub returns-then-count-eq0-clause-no_more : goal.returns-then-count-eq0-clause-no_more
+returns-then-count-eq0-clause-no_more g c =
+    let stays = live-stays c.requires.graph c.held_again.ensures.shares.builds.extends in
+    let live = well-live c.args.heap.now (height_at c.args.heap.now c.args.root) c.args.root c.requires.good.shape.well in
+    rw (c.held_again.ensures.same, c.if-count-eq0.true) (fewer-itself c.args.heap.now c.args.root c.requires.good c.held_again.new.heap (λ m. rows-of-kept stays m c.args.root live))
+
+pub returns-then-count-len-clause-no_more : goal.returns-then-count-len-clause-no_more
+returns-then-count-len-clause-no_more g c = fewer-none c.args.heap.now c.leaf_over.new.heap c.args.root c.args.count c.leaf_over.result c.leaf_over.ensures.row.well
+
+pub returns-clause-no_more : goal.returns-clause-no_more
+returns-clause-no_more g c =
+    fewer-root c.args.heap.now c.rest_of-rest.new.heap c.row_over.new.heap c.args.root c.args.count c.height_of-height.result c.rest_of-rest.result.height c.row_over.result c.height_of-height.ensures (live-stays c.rest_of-rest.ensures.builds.graph c.row_over.ensures.builds.extends) c.rest_of-rest.ensures.links.links c.row_over.ensures.row.well (c.row_over.ensures.links ∙ c.as_slice.ensures.value) c.rest_of-rest.ensures.no_more
