@@ -37,8 +37,9 @@ impl From<NoMemory> for SliceFault {
 /// The vector without its first `count` elements, which is the empty one past the end. It makes rows along the cut alone,
 /// at most two for each height of the rest and one more, so at most 15 nodes, and shares all others. The rest is no higher
 /// than the vector, and no row is split in vain: at each height it has at most two rows, and two only where they have more
-/// than 32 links together, then the last rows of the vector. With no element dropped it gives the vector itself, which
-/// takes no memory. Refused only where memory runs out, and then nothing but the heap's spares changes.
+/// than 32 links together, then the last rows of the vector; and no more rows than those in which it lies. With no element
+/// dropped it gives the vector itself, which takes no memory. Refused only where memory runs out, and then nothing but the
+/// heap's spares changes.
 pub fn drop_front<T>(heap: &mut Heap<T>, vector: FlexRef, count: u32) -> Result<Flex, NoMemory>
     requires good { IsGoodVector heap.old vector }
     requires few { hold_count heap.old < 2 ^ 59 }
@@ -74,9 +75,9 @@ fn is_part<T>(heap: &Heap<T>, vector: FlexRef, from: u32, to: u32) -> bool
 /// The elements from the index `from` to the one before `to`. It makes at most three nodes for each height of the vector and
 /// two more, so at most 23, and gives up again what it made on the way. The slice is no higher than the vector. At each
 /// height it has at most two rows, and two only where they have more than 32 links together, then a part of the vector's
-/// rows, then at most one more. Where it is the whole vector it gives the vector itself, which takes no memory. Refused
-/// with `Range` unless `from` is at most `to` and `to` at most the length, and with `Memory` where memory runs out. A
-/// refusal changes nothing but the heap's spares.
+/// rows, then at most one more; and no more rows than those in which it lies, so a part of one row is one row. Where it is
+/// the whole vector it gives the vector itself, which takes no memory. Refused with `Range` unless `from` is at most `to`
+/// and `to` at most the length, and with `Memory` where memory runs out. A refusal changes nothing but the heap's spares.
 pub fn slice<T: Drop>(
     heap: &mut Heap<T>,
     vector: FlexRef,
