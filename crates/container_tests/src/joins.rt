@@ -60,7 +60,8 @@ fn refuses_a_join_past_the_greatest_length(rt: HostRuntime) -> Result<(), Fail> 
     Ok(())
 }
 
-// Two vectors of 128 elements have the height 1, and rows along the seam alone are made: two leaves and the root.
+// Two vectors of 128 elements have the height 1, and the leaves at their seam are full and stand side by side: the root
+// alone is made. The roots of two vectors of 1,024 elements are full too, and the row over both alone is made.
 #[test]
 fn joins_along_the_seam_alone(rt: HostRuntime) -> Result<(), Fail> {
     let mut heap: Heap<Num> = Heap::new(rt.alloc());
@@ -69,8 +70,14 @@ fn joins_along_the_seam_alone(rt: HostRuntime) -> Result<(), Fail> {
     let root = doubled_often(&mut heap, one, 7)?;
     assert_eq!(rt; FlexRef::at(root).height(&heap), 1);
     let made = heap.made();
-    let _joined = doubled(&mut heap, root)?;
-    assert_eq!(rt; heap.made().wrapping_sub(made), 3);
+    let joined = doubled(&mut heap, root)?;
+    assert_eq!(rt; heap.made().wrapping_sub(made), 1);
+    let full = doubled_often(&mut heap, joined, 2)?;
+    assert_eq!(rt; FlexRef::at(full).height(&heap), 1);
+    let made = heap.made();
+    let higher = doubled(&mut heap, full)?;
+    assert_eq!(rt; heap.made().wrapping_sub(made), 1);
+    assert_eq!(rt; FlexRef::at(higher).height(&heap), 2);
     Ok(())
 }
 

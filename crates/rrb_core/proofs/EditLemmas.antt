@@ -2,6 +2,7 @@
 use Rattle.std.proofs.Common.{◌≡◌, ℕ, suc, ◌-◌, ◌+◌, ◌<◌, ◌≤◌, ◌^◌, List, [], ◌∷◌, ◌++◌, length, take, drop, get_or, set, refl, ap, sym, ◌∙◌, arith, length-append, length-drop, length-set, append-nil, append_assoc, IsSome, zero, inl, inr}
 use Rattle.std.specs.List.{All, flat_map}
 use Rattle.std.proofs.lemmas.List.{take_all, length-take-le, get_or-take, drop_all, length_push}
+use Rattle.std.proofs.lemmas.List.Concat.{flat_map-append}
 use Rattle.std.proofs.lemmas.Bool.{cases_lt}
 use Rattle.std.proofs.lemmas.List.Elements.{All-append, All-cons, All-nil, All-take, All-drop}
 use Rattle.node_heap.specs.Links.{count}
@@ -13,13 +14,15 @@ use Rattle.rrb_core.specs.Seq.{seq_at, IsThick, IsWell}
 use Rattle.rrb_core.specs.Push.{last_in, IsPacked, into_leaf, into_last, into_new, IsPushedRoot, into_root, over_root}
 use Rattle.rrb_core.specs.Vector.{KeepsSums, sums_at, height_at, elements, IsGoodVector, IsVectorOf, HasSums}
 use Rattle.rrb_core.specs.Build.{IsRowOf, AreRows}
-use Rattle.rrb_core.specs.Levels.{rows_at, rows_of, HasFront, TakesFirstRows}
+use Rattle.rrb_core.specs.Levels.{rows_at, rows_of, HasFront, elements_before, TakesFirstRows}
 use Rattle.rrb_core.specs.Edit.{links_with, CanEdit, CanEditRoot, CanPlace, MakesRow, Pushes, SetsAt, Takes, IsAtFront}
-use Rattle.rrb_core.proofs.Lists.{items-cut, items-around, items-set, items-front, not-first, leaf-end, set-parts, take-first}
+use Rattle.rrb_core.proofs.Lists.{items-cut, items-around, items-set, items-front, not-first, leaf-end, set-parts, take-first, front-of}
 use Rattle.rrb_core.proofs.LinkCounts.{one-held}
+use Rattle.rrb_core.proofs.ClosedRows.{Stays}
 use Rattle.rrb_core.proofs.Stays.{live-stays, links-form, links-stay, items-stay, seq-stays, thick-stays, all-thick-stay, row-stays, rows-stay, keeps-stay, well-live}
 use Rattle.rrb_core.proofs.BuildLemmas.{gained-held, builds-pair, unchanged-good}
-use Rattle.rrb_core.proofs.LevelLemmas.{rows-inner, rows-few, rows-kept, all-kept, front-few, front-on, first-of, first-rows, front-below}
+use Rattle.rrb_core.proofs.LevelLemmas.{rows-own, rows-inner, rows-few, rows-kept, all-kept, front-few, first-of, first-rows}
+use Rattle.rrb_core.proofs.RowSizes.{items-of-rows, items-before, rows-full, vector-full, full-before, KeepsTo, keeps-all, keeps-none, keeps-behind, keeps-on}
 use Rattle.rrb_core.proofs.PushLemmas.{all-last, packed-thick, pushed-more, pushed-stays}
 use Rattle.rrb_core.proofs.RowLists.{rows-append, rows-take, rows-drop, rows-around, one-row, take-thick, rows-live, IsOver, over, inner-thick, leaf-thick, child-at, good-row, root-row, at-place}
 use Rattle.rrb_core.proofs.FillRule.{height-is, seq-leaf, well-most, thick-links, thick-low, well-pos}
@@ -241,6 +244,19 @@ module _ {T : Type 0} {old mid : Heap T} {n l i within index e child : ℕ} (row
         count = width;
       }
 
+-- a take that gives a row itself, where that has no more elements, keeps of each height, and of the row's own, the rows that end within the count
+takes-kept : {T : Type 0} {old new : Heap T} {n l count m : ℕ} → Takes old new n l count m → (count ≡ length (seq_at (form_at old) n l) → m ≡ l) → count ≤ length (seq_at (form_at old) n l) → (p : ℕ) → p ≤ n → KeepsTo (seq_at (form_at old) p) count (rows_at (links_at old) n p l) (rows_at (links_at new) n p m)
+takes-kept {T} {old} {new} {n} {l} {count} {m} t itself fits p low = elim (cases_lt p n) as (λ _. KeepsTo (seq_at (form_at old) p) count (rows_at (links_at old) n p l) (rows_at (links_at new) n p m)) [
+  | inl lower ↦ t.rows p lower
+  | inr own ↦
+      let same : p ≡ n = omega (arith, own, low) in
+      let here : KeepsTo (seq_at (form_at old) n) count (l ∷ []) (m ∷ []) = elim (cases_lt count (length (seq_at (form_at old) n l))) as (λ _. KeepsTo (seq_at (form_at old) n) count (l ∷ []) (m ∷ [])) [
+        | inl cut ↦ keeps-none (seq_at (form_at old) n) count l (m ∷ []) (omega arith) cut
+        | inr all ↦ rw (itself (omega (arith, all, fits))) (keeps-all (seq_at (form_at old) n) count (l ∷ []))
+      ] in
+      rw (same, rows-own (links_at old) n l, rows-own (links_at new) n m) here
+]
+
 -- the front of a child, after the children before it
 module _ {T : Type 0} {old mid : Heap T} {n l i within count' child : ℕ} (row : CanEdit old (suc n) l) (some : 1 ≤ count') (fits : count' ≤ length (seq_at (form_at old) (suc n) l)) (spot : IsSpot old n l i within (count' - 1)) (sub : Takes old mid n (get_or (links_at old l) i 0) (within + 1) child) where
   pub place-take : IsPlaced old mid n l i (length (links_at old l)) child (take count' (seq_at (form_at old) (suc n) l))
@@ -253,29 +269,37 @@ module _ {T : Type 0} {old mid : Heap T} {n l i within count' child : ℕ} (row 
       place row sub.edits.builds (λ k. omega arith) i (length ks) (take (within + 1) (f (get_or ks i 0))) _ (omega (arith, spot.place)) (omega arith) (omega (arith, o.most, spot.place)) (take-thick old n i ks o.rows spot.place) sub.edits.row (omega (arith, length-take-le (within + 1) (f (get_or ks i 0)) (omega (arith, spot.inside)))) (λ more. absurd (omega arith)) items (omega (arith, length-take-le count' (seq_at (form_at old) (suc n) l) fits, row.short, fits))
 
   -- of each height its rows are those below the links before the child, and then the child's
-  takes-rows : {new : Heap T} {m : ℕ} → Builds mid new (child ∷ []) (m ∷ []) 0 1 → links_at new m ≡ links_with (links_at mid l) i child (length (links_at old l)) → (p : ℕ) → p ≤ suc n → HasFront (rows_at (links_at old) (suc n) p l) (rows_at (links_at new) (suc n) p m)
-  takes-rows {new} {m} more links p le = elim (cases_lt n p) as (λ _. HasFront (rows_at (links_at old) (suc n) p l) (rows_at (links_at new) (suc n) p m)) [
-    | inl top ↦ front-few (rows-few (links_at new) (suc n) p m (omega arith))
-    | inr low ↦
-        let o = over old n l row.well row.sums in
-        let ks : List ℕ = links_at old l in
-        let live = rows-live old n (take i ks) (rows-take old n i ks o.rows (omega (arith, spot.place))) in
-        let kept = all-kept (live-stays row.graph (Builds-then sub.edits.builds more).extends) n p (take i ks) live in
-        let own = rows-kept (live-stays sub.edits.builds.graph more.extends) n p child (well-live mid n child sub.edits.row.well) in
-        let over-links : links_at new m ≡ take i ks ++ child ∷ [] = links ∙ rw (place-take.same, drop_all (length ks) ks (omega arith), append-nil) refl in
-        rw (rows-inner (links_at old) n p l low, rows-inner (links_at new) n p m low, over-links)
-        (front-below (rows_at (links_at old) n p) (rows_at (links_at new) n p) ks i child spot.place kept (rw own (sub.rows p low)))
-  ]
+  takes-rows : {new : Heap T} {m : ℕ} → (within + 1 ≡ length (seq_at (form_at old) n (get_or (links_at old l) i 0)) → child ≡ get_or (links_at old l) i 0) → Builds mid new (child ∷ []) (m ∷ []) 0 1 → links_at new m ≡ links_with (links_at mid l) i child (length (links_at old l)) → (p : ℕ) → p < suc n → KeepsTo (seq_at (form_at old) p) count' (rows_at (links_at old) (suc n) p l) (rows_at (links_at new) (suc n) p m)
+  takes-rows {new} {m} itself more links p less =
+      let low : p ≤ n = omega (arith, less) in
+      let o = over old n l row.well row.sums in
+      let ks : List ℕ = links_at old l in
+      let f : ℕ → List ℕ = rows_at (links_at old) n p in
+      let s : ℕ → List ℕ = seq_at (form_at old) p in
+      let before : List ℕ = flat_map f (take i ks) in
+      let own : List ℕ = f (get_or ks i 0) in
+      let live = rows-live old n (take i ks) (rows-take old n i ks o.rows (omega (arith, spot.place))) in
+      let over-links : links_at new m ≡ take i ks ++ child ∷ [] = links ∙ rw (place-take.same, drop_all (length ks) ks (omega arith), append-nil) refl in
+      let first : flat_map (rows_at (links_at new) n p) (take i ks) ≡ before = all-kept (live-stays row.graph (Builds-then sub.edits.builds more).extends) n p (take i ks) live in
+      let last : rows_at (links_at new) n p child ≡ rows_at (links_at mid) n p child = rows-kept (live-stays sub.edits.builds.graph more.extends) n p child (well-live mid n child sub.edits.row.well) in
+      let all : rows_at (links_at new) (suc n) p m ≡ before ++ rows_at (links_at mid) n p child =
+      rows-inner (links_at new) n p m low ∙ ap (flat_map (rows_at (links_at new) n p)) over-links ∙ flat_map-append (rows_at (links_at new) n p) (take i ks) (child ∷ []) ∙ rw (first, append-nil, last) refl in
+      let rows : rows_at (links_at old) (suc n) p l ≡ (before ++ own) ++ flat_map f (drop (i + 1) ks) = rows-inner (links_at old) n p l low ∙ items-cut f ks i spot.place ∙ sym (append_assoc before own (flat_map f (drop (i + 1) ks))) in
+      let size : length (flat_map s before) + (within + 1) ≡ count' = omega (arith, ap length (items-before old n p (take i ks) low), spot.before, some) in
+      let kept : KeepsTo s count' (before ++ own) (before ++ rows_at (links_at mid) n p child) = rw size at (keeps-behind s before own (rows_at (links_at mid) n p child) (within + 1) (takes-kept sub itself (omega (arith, spot.inside)) p low)) in
+      let enough : count' ≤ length (flat_map s (before ++ own)) = rw (flat_map-append s before own) (omega (arith, length-append (flat_map s before) (flat_map s own), ap length (items-of-rows old n p (get_or ks i 0) low), spot.inside, size)) in
+      let full = rows-full old (suc n) p l row.well o.some (omega (arith, low)) in
+      rw all (keeps-on s count' (before ++ own) (rows_at (links_at old) (suc n) p l) (before ++ rows_at (links_at mid) n p child) (front-of (rows_at (links_at old) (suc n) p l) (before ++ own) (flat_map f (drop (i + 1) ks)) (before ++ own) refl rows) enough full kept)
 
-  pub takes-inner : {new : Heap T} {m : ℕ} → IsRowOf new (suc n) m (flat_map (seq_at (form_at mid) n) (links_with (links_at mid l) i child (length (links_at old l)))) → Builds mid new (child ∷ []) (m ∷ []) 0 1
+  pub takes-inner : {new : Heap T} {m : ℕ} → (within + 1 ≡ length (seq_at (form_at old) n (get_or (links_at old l) i 0)) → child ≡ get_or (links_at old l) i 0) → IsRowOf new (suc n) m (flat_map (seq_at (form_at mid) n) (links_with (links_at mid l) i child (length (links_at old l)))) → Builds mid new (child ∷ []) (m ∷ []) 0 1
       → links_at new m ≡ links_with (links_at mid l) i child (length (links_at old l)) → Takes old new (suc n) l count' m
-  takes-inner {new} {m} made more links =
+  takes-inner {new} {m} itself made more links =
       let p = place-take in
       let down : suc n - 1 ≡ n = omega arith in
       record {
         edits = placed-edits row sub.edits.builds p made more links;
         two = λ _ past. omega (arith, ap length links, p.size, ap length p.same, not-first (seq_at (form_at old) n) (links_at old l) i within count' spot.inside spot.before (rw down at past));
-        rows = takes-rows more links;
+        rows = takes-rows itself more links;
       }
 
 -- the elements of a leaf are its links
@@ -309,7 +333,41 @@ module _ {T : Type 0} {old new : Heap T} {l m : ℕ} where
       record {
         edits = record { row = rw (leaf-items old l) row; builds = builds };
         two = λ some. absurd (omega (arith, some));
-        rows = λ p low. front-few (rows-few (links_at new) 0 p m (omega arith));
+        rows = λ p low. absurd (omega (arith, low));
+      }
+
+-- an inner row whose first child has too few elements has another one
+two-links : {T : Type 0} (h : Heap T) (n l count : ℕ) → 1 ≤ n → IsWell (form_at h) n l → HasSums h n l → count ≡ length (seq_at (form_at h) n l) → length (seq_at (form_at h) (n - 1) (get_or (links_at h l) 0 0)) < count → 2 ≤ length (links_at h l)
+two-links h zero l count some well sums whole past = absurd (omega (arith, some))
+two-links h (suc n) l count some well sums whole past =
+    let down : suc n - 1 ≡ n = omega arith in
+    let o = over h n l well sums in
+    let ks : List ℕ = links_at h l in
+    let f : ℕ → List ℕ = seq_at (form_at h) n in
+    let few : length (f (get_or ks 0 0)) < count = rw down at past in
+    elim (cases_lt 1 (length ks)) as (λ _. 2 ≤ length ks) [
+      | inl lt ↦ omega (arith, lt)
+      | inr one ↦
+          let none : flat_map f (drop 1 ks) ≡ [] = none-behind f ks 1 one in
+          let all : seq_at (form_at h) (suc n) l ≡ f (get_or ks 0 0) = o.items ∙ items-cut f ks 0 (omega (arith, o.some)) ∙ rw (none, append-nil) refl in
+          absurd (omega (arith, few, whole, ap length all))
+    ]
+
+-- a row with all its elements is the row itself, held once more
+module _ {T : Type 0} {old new : Heap T} {n l count : ℕ} (row : CanEdit old n l) (builds : Builds old new [] (l ∷ []) 0 0) (whole : count ≡ length (seq_at (form_at old) n l)) where
+  keeps : Stays (λ x. IsSome (row_at old x)) old new
+  keeps = live-stays row.graph builds.extends
+
+  alive : IsSome (row_at old l)
+  alive = well-live old n l row.well
+
+  pub takes-itself : Takes old new n l count l
+  takes-itself =
+      let all : take count (seq_at (form_at old) n l) ≡ seq_at (form_at old) n l = take_all count (seq_at (form_at old) n l) (omega (arith, whole)) in
+      record {
+        edits = record { row = rw all (row-stays keeps n l (seq_at (form_at old) n l) alive (record { well = row.well; sums = row.sums; items = refl })); builds = Builds-more 0 (n + 1) builds (omega arith) (omega arith) };
+        two = λ some past. rw (links-stay keeps l alive) (two-links old n l count some row.well row.sums whole past);
+        rows = λ p low. rw (rows-kept keeps n p l alive) (keeps-all (seq_at (form_at old) p) count (rows_at (links_at old) n p l));
       }
 
 -- a packed root and a row with one element beside it: what the new root over them wants
@@ -372,13 +430,28 @@ takes-vector {T} {old} {new} {n} {l} {count} {m} t low past fits short =
     good-row new n m (take count (seq_at (form_at old) n l)) t.edits.row low (λ some. t.two some (past some)) (omega (arith, length-take-le count (seq_at (form_at old) n l) fits, short))
 
 -- its rows of each height
-pub takes-front : {T : Type 0} {old new : Heap T} {root n l count m : ℕ} → IsAtFront old root n l → Takes old new n l count m → TakesFirstRows old new root m
-takes-front {T} {old} {new} {root} {n} {l} {count} {m} edge t p =
+pub takes-front : {T : Type 0} {old new : Heap T} {root n l count m : ℕ} → IsGoodVector old root → 1 ≤ length (elements old root) → n ≤ height_at old root → count ≤ length (seq_at (form_at old) n l) → IsAtFront old root n l → Takes old new n l count m → (count ≡ length (seq_at (form_at old) n l) → m ≡ l) → TakesFirstRows old new root count m
+takes-front {T} {old} {new} {root} {n} {l} {count} {m} good some high fits edge t itself p =
     let height : height_at new m ≡ n = height-is (form_at new) n m t.edits.row.well in
-    rw height (elim (cases_lt n p) as (λ _. HasFront (rows_of old p root) (rows_at (links_at new) n p m)) [
-      | inl past ↦ front-few (rows-few (links_at new) n p m (omega arith))
-      | inr low ↦ front-on (rows_at (links_at old) n p l) (rows_of old p root) (edge.first p low) (t.rows p low)
-    ])
+    elim (cases_lt n p) as (λ _. (has : HasFront (rows_of old p root) (rows_of new p m)) × (p ≤ height_at new m → has.place < length (rows_of old p root) → count < elements_before old root p (has.place + 1))) [
+      | inl past ↦ (front-few (rw height (rows-few (links_at new) n p m (omega (arith, past)))), λ low lt. absurd (omega (arith, low, height, past)))
+      | inr low ↦
+          let first : List ℕ = rows_at (links_at old) n p l in
+          let kept = keeps-on (seq_at (form_at old) p) count first (rows_of old p root) (rows_at (links_at new) n p m) (edge.first p low) (omega (arith, fits, ap length (items-of-rows old n p l low))) (vector-full old p root good some (omega (arith, low, high))) (takes-kept t itself fits p low) in
+          let kept' : KeepsTo (seq_at (form_at old) p) count (rows_of old p root) (rows_of new p m) = rw height kept in
+          (kept'.0, λ _ lt. kept'.1 lt)
+    ]
+
+-- the empty vector, as the first elements of one that has some
+pub takes-none : {T : Type 0} {old : Heap T} {root : ℕ} (new : Heap T) (m : ℕ) → IsGoodVector old root → 1 ≤ length (elements old root) → height_at new m ≡ 0 → TakesFirstRows old new root 0 m
+takes-none {T} {old} {root} new m good some flat p =
+    let few : length (rows_of new p m) ≤ 1 = rw flat (rows-few (links_at new) 0 p m (omega arith)) in (
+      record { place = 0; inside = omega arith; cut = rows_of new p m; one = few; front = refl },
+      λ low lt.
+          let full = vector-full old p root good some (omega (arith, low, flat)) in
+          let one = full-before (seq_at (form_at old) p) (take 1 (rows_of old p root)) 0 (All-take (λ k. 1 ≤ length (seq_at (form_at old) p k)) 1 (rows_of old p root) full) (omega (arith, lt, length-take-le 1 (rows_of old p root) (omega (arith, lt)))) in
+          omega (arith, one),
+    )
 
 -- the first child of an inner row, in the words of the code
 pub record IsFirst {T : Type 0} (h : Heap T) (n l child : ℕ) : Type 0 where

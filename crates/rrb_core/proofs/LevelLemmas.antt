@@ -1,10 +1,8 @@
 -- The rows of each height below a row, and fronts of them.
-use Rattle.std.proofs.Common.{◌≡◌, ℕ, suc, zero, ◌+◌, ◌<◌, ◌≤◌, List, [], ◌∷◌, ◌++◌, length, take, get_or, refl, ap, sym, ◌∙◌, arith, append-nil, append_assoc, inl, inr, Bool, true, false}
+use Rattle.std.proofs.Common.{◌≡◌, ℕ, suc, zero, ◌+◌, ◌<◌, ◌≤◌, List, [], ◌∷◌, ◌++◌, length, take, get_or, refl, ap, sym, ◌∙◌, arith, append-nil, inl, inr, Bool, true, false}
 use Rattle.std.specs.Prelude.{◌==◌, if◌then◌else◌}
 use Rattle.std.specs.List.{All, flat_map}
 use Rattle.std.proofs.lemmas.List.{take_all, take-take, length-take}
-use Rattle.std.proofs.lemmas.List.Concat.{flat_map-append}
-use Rattle.std.proofs.lemmas.List.Folds.{length-flat_map-take}
 use Rattle.std.proofs.lemmas.Bool.{cases_lt}
 use Rattle.std.proofs.lemmas.Bool.Decides.{nat_tests}
 use Rattle.node_heap.specs.Links.{Links}
@@ -13,8 +11,8 @@ use Rattle.node_heap.specs.Calls.{SameRows}
 use Rattle.rrb_core.specs.Vector.{height_at}
 use Rattle.rrb_core.specs.Levels.{rows_at, rows_of, HasFront, TakesFirstRows}
 use Rattle.rrb_core.proofs.ClosedRows.{Stays}
-use Rattle.rrb_core.proofs.Lists.{flat_map-same, items-front, take-first}
-use Rattle.rrb_core.proofs.Stays.{links-stay}
+use Rattle.rrb_core.proofs.Lists.{flat_map-same, take-first}
+use Rattle.rrb_core.proofs.Stays.{links-stay, items-stay}
 use Rattle.rrb_core.proofs.BuildLemmas.{same-height}
 
 none-each : (f : ℕ → List ℕ) (ks : List ℕ) → ((k : ℕ) → f k ≡ []) → flat_map f ks ≡ []
@@ -52,24 +50,12 @@ module _ (L : Links) where
   ]
 
 -- all of the rows, or one row and none of them
-pub front-all : (rows : List ℕ) → HasFront rows rows
-front-all rows =
+abbrev pub front-whole : (rows : List ℕ) → HasFront rows rows
+front-whole rows =
     record { place = length rows; inside = omega arith; cut = []; one = omega arith; front = sym (append-nil (take (length rows) rows) ∙ take_all (length rows) rows (omega arith)) }
 
 pub front-few : {rows all : List ℕ} → length all ≤ 1 → HasFront rows all
 front-few {rows} {all} few = record { place = 0; inside = omega arith; cut = all; one = few; front = refl }
-
--- a front of the first rows is one of all rows
-pub front-on : (first rows : List ℕ) {all : List ℕ} → first ≡ take (length first) rows → HasFront first all → HasFront rows all
-front-on first rows is has =
-    let same : take has.place first ≡ take has.place rows = ap (take has.place) is ∙ take-take has.place (length first) rows has.inside in
-    record {
-      place = has.place;
-      inside = omega (arith, has.inside, ap length is, length-take (length first) rows);
-      cut = has.cut;
-      one = has.one;
-      front = has.front ∙ ap (λ (xs : List ℕ). xs ++ has.cut) same;
-    }
 
 -- the first of the first rows are the first of all
 pub first-of : (few first rows : List ℕ) → few ≡ take (length few) first → first ≡ take (length first) rows → few ≡ take (length few) rows
@@ -82,20 +68,6 @@ first-rows L n m l low some =
     let f : ℕ → List ℕ = rows_at L n m in
     let own : List ℕ = f (get_or (L l) 0 0) in
     rw (rows-inner L n m l low) (sym (take-first f (L l) (length own) (omega (arith, some)) (omega arith) ∙ take_all (length own) own (omega arith)))
-
--- the rows below the links before a child, then a front of those below the child
-pub front-below : (f g : ℕ → List ℕ) (ks : List ℕ) (i child : ℕ) → i < length ks → flat_map g (take i ks) ≡ flat_map f (take i ks) → HasFront (f (get_or ks i 0)) (g child) → HasFront (flat_map f ks) (flat_map g (take i ks ++ child ∷ []))
-front-below f g ks i child lt same has =
-    let count : ℕ = length (flat_map f (take i ks)) + has.place in
-    let front : take count (flat_map f ks) ≡ flat_map f (take i ks) ++ take has.place (f (get_or ks i 0)) = items-front f ks i has.place count lt refl has.inside in
-    let parts : flat_map g (take i ks ++ child ∷ []) ≡ flat_map g (take i ks) ++ (g child ++ []) = flat_map-append g (take i ks) (child ∷ []) in
-    record {
-      place = count;
-      inside = omega (arith, has.inside, length-flat_map-take f ks i 0 lt);
-      cut = has.cut;
-      one = has.one;
-      front = parts ∙ rw (append-nil (g child), same, has.front, front) (sym (append_assoc (flat_map f (take i ks)) (take has.place (f (get_or ks i 0))) has.cut));
-    }
 
 module _ {T : Type 0} {P : ℕ → Type 0} {old new : Heap T} (s : Stays P old new) where
   pub rows-kept : (n m l : ℕ) → P l → rows_at (links_at new) n m l ≡ rows_at (links_at old) n m l
@@ -118,9 +90,16 @@ module _ {T : Type 0} (old new : Heap T) (same : SameRows old new) where
   rows-of-same m l = rw (same-height old new l same) (rows-kept all-stay (height_at old l) m l tt)
 
   -- a vector that is taken whole
-  pub takes-whole : (l : ℕ) → TakesFirstRows old new l l
-  takes-whole l m = rw (rows-of-same m l) (front-all (rows_of old m l))
+  pub takes-whole : (l count : ℕ) → TakesFirstRows old new l count l
+  takes-whole l count m = rw (rows-of-same m l) (front-whole (rows_of old m l), λ low lt. absurd (omega (arith, lt)))
 
   -- a take after a step that leaves all rows as they are
-  pub takes-after : (last : Heap T) (l v : ℕ) → TakesFirstRows new last l v → TakesFirstRows old last l v
-  takes-after last l v takes m = let has = takes m in rw (rows-of-same m l) at has
+  pub takes-after : (last : Heap T) (l count v : ℕ) → TakesFirstRows new last l count v → TakesFirstRows old last l count v
+  takes-after last l count v takes m =
+      let has = takes m in
+      let has' = rw (rows-of-same m l) at has in (
+        has'.0,
+        λ low lt.
+            let past = has'.1 low lt in
+            rw (items-stay all-stay m (take (has'.0.place + 1) (rows_of old m l)) (λ k d b. tt)) at past,
+      )

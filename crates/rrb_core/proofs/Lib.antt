@@ -5,6 +5,7 @@ pub mod LinkCounts
 pub mod Stays
 pub mod BuildLemmas
 pub mod LevelLemmas
+pub mod RowSizes
 pub mod RowLists
 pub mod PushLemmas
 pub mod EditLemmas

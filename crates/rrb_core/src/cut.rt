@@ -14,20 +14,20 @@ use crate::search::spot_of;
 use elem_core::NoMemory;
 use node_heap::{Heap, Link};
 
-/// The most nodes that a `take` makes: one for each height.
+/// The most nodes that a `take` makes: one for each height from 0 to 7.
 pub const TAKE_NODES: usize = 8;
 
-/// The vector of the first `count` elements, or all where there are no more. It makes rows along the cut alone, at most as
-/// many as its own height and 1, so 8, and shares the others: its rows of each height are the first ones of the vector, and at
-/// most one more behind them. With all elements it is the vector itself, held once more, and wants no memory. Else refused only
-/// where memory runs out, and then nothing but the heap's spares changes.
+/// The vector of the first `count` elements, or all where there are no more. It makes rows along the cut alone, at most one
+/// more than its own height, so 8, and shares the others: at each height up to its own it has first all rows of the vector that
+/// end within the count, and then at most one more. With all elements it is the vector itself, held once more, and wants no
+/// memory. Else refused only where memory runs out, and then nothing but the heap's spares changes.
 pub fn take<T>(heap: &mut Heap<T>, vector: FlexRef, count: u32) -> Result<Flex, NoMemory>
     requires good { IsGoodVector heap.old vector }
     requires few { hold_count heap.old < 2 ^ 59 }
     ensures items { IfOk result (λ v. elements heap.new v ≡ take count (elements heap.old vector)) }
     ensures good { IfOk result (λ v. IsGoodVector heap.new v) }
     ensures low { IfOk result (λ v. height_at heap.new v ≤ height_at heap.old vector) }
-    ensures rows { IfOk result (λ v. TakesFirstRows heap.old heap.new vector v) }
+    ensures rows { IfOk result (λ v. TakesFirstRows heap.old heap.new vector count v) }
     ensures answered { IfOk result (λ v. Answered heap.old heap.new [] v 0 (height_at heap.new v + 1)) }
     ensures made { IfOk result (λ _. MakesJust heap.old heap.new) }
     ensures whole { length (elements heap.old vector) ≤ count → IsOkAnd result (λ v. (v ≡ vector) × Shares heap.old heap.new v) }
@@ -43,13 +43,14 @@ pub fn take<T>(heap: &mut Heap<T>, vector: FlexRef, count: u32) -> Result<Flex, 
     Ok(Flex::from_root(root))
 }
 
-// The root of the vector of the first `count` elements: the lowest row along the left edge that has them, cut.
+// The root of the vector of the first `count` elements: the lowest row along the left edge that has them, cut where it has
+// more.
 fn front_root<T>(heap: &mut Heap<T>, root: Link, count: u32) -> Link
     requires root { CanEditRoot heap.old root 8 }
-    requires inside { count ≤ length (elements heap.old root) }
+    requires inside { count < length (elements heap.old root) }
     ensures vector { IsVectorOf heap.new result (take count (elements heap.old root)) }
     ensures low { height_at heap.new result ≤ height_at heap.old root }
-    ensures rows { TakesFirstRows heap.old heap.new root result }
+    ensures rows { TakesFirstRows heap.old heap.new root count result }
     ensures builds { Builds heap.old heap.new [] (result ∷ []) 0 (height_at heap.new result + 1) }
 {
     if count == 0 {
@@ -92,14 +93,19 @@ fn lowest_with<T>(heap: &Heap<T>, root: Link, count: u32) -> Placed
     Placed { link, height }
 }
 
-// The row with its first `count` elements.
+// The row with its first `count` elements; where it has no more, the row itself, held once more.
 #[cycle(take)]
 fn take_below<T>(heap: &mut Heap<T>, link: Link, height: u8, count: u32) -> Link
     requires row { CanEdit heap.old height link }
     requires some { 1 ≤ count }
     requires inside { count ≤ length (seq_at (form_at heap.old) height link) }
-    ensures { Takes heap.old heap.new height link count result }
+    ensures cut { Takes heap.old heap.new height link count result }
+    ensures whole { count ≡ length (seq_at (form_at heap.old) height link) → result ≡ link }
 {
+    if count == size(heap, link, height) {
+        heap.hold(link);
+        return link;
+    }
     if height == 0 {
         return take_leaf(heap, link, count as usize);
     }

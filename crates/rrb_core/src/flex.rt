@@ -1,8 +1,8 @@
 //! Vectors by their roots, and their look-ups.
 ghost use Rattle.std.specs.Prelude.{◌≡◌, ℕ, ◌+◌, ◌^◌, ◌<◌, ◌≤◌, [], ◌∷◌, length, IfOk, IsOk, OnErr, IfSome, IsSome};
 ghost use Rattle.std.specs.List.{All, slice_get};
-ghost use Rattle.node_heap.specs.Heap.{row_at, holds_at, hold_count, one_at, IsGraph, HasSpares};
-ghost use Rattle.node_heap.specs.Calls.{Answered, Builds, KeepsHeld, MakesJust, Releases, Unchanged};
+ghost use Rattle.node_heap.specs.Heap.{row_at, holds_at, hold_count, node_count, one_at, IsGraph, HasSpares};
+ghost use Rattle.node_heap.specs.Calls.{Answered, Makes, Builds, KeepsHeld, MakesJust, Releases, Unchanged};
 ghost use Rattle.rrb_core.specs.Vector.{elements, height_at, IsGoodVector, IsSameVector, IsVectorOf};
 ghost use Rattle.rrb_core.specs.Build.{Shares};
 
@@ -42,13 +42,14 @@ impl Model for FlexRef {
 }
 
 impl Flex {
-    /// The empty vector. It makes at most one node. Refused only where memory runs out, and then nothing but the heap's
+    /// The empty vector. It makes one node. Refused only where memory runs out, and then nothing but the heap's
     /// spares changes.
     pub fn empty<T>(heap: &mut Heap<T>) -> Result<Flex, NoMemory>
         requires { hold_count heap.old < 2 ^ 59 }
         ensures items { IfOk result (λ v. elements heap.new v ≡ []) }
         ensures good { IfOk result (λ v. IsGoodVector heap.new v) }
         ensures answered { IfOk result (λ v. Answered heap.old heap.new [] v 0 1) }
+        ensures one { IfOk result (λ _. node_count heap.new ≡ node_count heap.old + 1) }
         ensures made { IfOk result (λ _. MakesJust heap.old heap.new) }
         ensures vectors { (l : ℕ) → IsSameVector heap.old heap.new l }
         ensures refused { OnErr result (Unchanged heap.old heap.new) }
@@ -177,6 +178,7 @@ pub(crate) fn empty_root<T>(heap: &mut Heap<T>) -> Link
     ensures vector { IsVectorOf heap.new result [] }
     ensures flat { height_at heap.new result ≡ 0 }
     ensures builds { Builds heap.old heap.new [] (result ∷ []) 0 1 }
+    ensures makes { Makes heap.old heap.new 0 1 }
 {
     leaf_over(heap, &[])
 }

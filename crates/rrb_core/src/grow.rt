@@ -34,7 +34,7 @@ impl From<NoMemory> for PushFault {
     }
 }
 
-// The most nodes that a push makes: one for each height, and a root.
+// The most nodes that a push makes: one for each height from 0 to 7, and a root.
 const PUSH_NODES: usize = 9;
 
 /// The vector with `element` after its last element. The element goes into the lowest row of the right spine that has

@@ -34,7 +34,7 @@ impl From<NoMemory> for SetFault {
     }
 }
 
-// The most nodes that a set makes: one for each height.
+// The most nodes that a set makes: one for each height from 0 to 7.
 const SET_NODES: usize = 8;
 
 /// The vector with `element` at `index`. It copies the rows from the root to that place, at most as many as the height and

@@ -3,7 +3,7 @@ ghost use Rattle.std.specs.Prelude.{◌≡◌, ℕ, suc, ◌+◌, ◌-◌, ◌*�
 ghost use Rattle.std.specs.List.{flat_map};
 ghost use Rattle.node_heap.specs.Links.{count};
 ghost use Rattle.node_heap.specs.Heap.{row_at, form_at, links_at, holds_at, hold_count, IsGraph};
-ghost use Rattle.node_heap.specs.Calls.{Builds};
+ghost use Rattle.node_heap.specs.Calls.{Makes, Builds};
 ghost use Rattle.rrb_core.specs.Seq.{seq_at, IsWell};
 ghost use Rattle.rrb_core.specs.Vector.{IsRegular, KeepsSums, HasSums, height_at, sums_at};
 ghost use Rattle.rrb_core.specs.Build.{IsRowOf, AreRows};
@@ -130,6 +130,7 @@ pub fn leaf_over<T>(heap: &mut Heap<T>, elements: &[Link]) -> Link
     ensures row { IsRowOf heap.new 0 result elements.now }
     ensures links { links_at heap.new result ≡ elements.now }
     ensures builds { Builds heap.old heap.new elements.now (result ∷ []) 0 1 }
+    ensures makes { Makes heap.old heap.new 0 1 }
 {
     heap.node(Head::Leaf, elements)
 }

@@ -15,9 +15,10 @@ use Rattle.rrb_core.proofs.ClosedRows.{Stays}
 use Rattle.rrb_core.proofs.Lists.{items-cut}
 use Rattle.rrb_core.proofs.Stays.{links-form, below-stays}
 use Rattle.rrb_core.proofs.LevelLemmas.{rows-inner}
+use Rattle.rrb_core.proofs.RowSizes.{each-named}
 use Rattle.rrb_join.specs.Seam.{but_last, AreAtNeed, HasSeam, JoinsRows, SlicesRows, ErasesRows}
 use Rattle.rrb_join.specs.Rest.{AreHalves, HasRest, LeavesRows}
-use Rattle.rrb_join.proofs.RowsOfHeights.{each-named, one-or, rows-some, none-before, but-last-append, rows-named, seam-kept, halves-at-need}
+use Rattle.rrb_join.proofs.RowsOfHeights.{one-or, rows-some, none-before, but-last-append, rows-named, seam-kept, halves-at-need}
 use Rattle.rrb_join.proofs.JoinLemmas.{rows-of-kept}
 use Rattle.rrb_join.proofs.RestRows.{rest-kept}
 
@@ -124,9 +125,9 @@ erased z rows front back all j has left joined wide =
 
 module _ {T : Type 0} where
   -- a part is a front without its first elements
-  pub slices : (old mid new : Heap T) (vector front v : ℕ) → TakesFirstRows old mid vector front → LeavesRows mid new front v → SlicesRows old new vector v
-  slices old mid new vector front v takes leaves m =
-      let has = takes m in
+  pub slices : (old mid new : Heap T) (vector count front v : ℕ) → TakesFirstRows old mid vector count front → LeavesRows mid new front v → SlicesRows old new vector v
+  slices old mid new vector count front v takes leaves m =
+      let has = (takes m).0 in
       let left = leaves m in
       let rows : List ℕ = take has.place (rows_of old m vector) in (
         left.0,
@@ -141,12 +142,12 @@ module _ {T : Type 0} where
       )
 
   -- a vector without a part is its front and what is left of it, joined
-  pub erases : (old mid left new : Heap T) (vector front back v : ℕ) → Stays (λ x. IsSome (row_at mid x)) mid left → Stays (λ x. IsSome (row_at left x)) left new → IsSome (row_at mid front) → IsSome (row_at left back) → IsGoodVector new v
-      → ((m : ℕ) → rows_of mid m vector ≡ rows_of old m vector) → TakesFirstRows old mid vector front → LeavesRows mid left vector back → JoinsRows left new front back v → ErasesRows old new vector v
-  erases old mid left new vector front back v s s' live live' good same takes leaves joins m =
+  pub erases : (old mid left new : Heap T) (vector count front back v : ℕ) → Stays (λ x. IsSome (row_at mid x)) mid left → Stays (λ x. IsSome (row_at left x)) left new → IsSome (row_at mid front) → IsSome (row_at left back) → IsGoodVector new v
+      → ((m : ℕ) → rows_of mid m vector ≡ rows_of old m vector) → TakesFirstRows old mid vector count front → LeavesRows mid left vector back → JoinsRows left new front back v → ErasesRows old new vector v
+  erases old mid left new vector count front back v s s' live live' good same takes leaves joins m =
       let rest = leaves m in
       let rest' : HasRest new (drop rest.0 (rows_of old m vector)) (rows_of left m back) = rw (same m) at (rest-kept s' (drop rest.0 (rows_of mid m vector)) (rows_of left m back) (rows_of left m back) (rows-named s' (height_at left back) m back live') rest.1 refl) in
-      erased new (rows_of old m vector) (rows_of left m front) (rows_of left m back) (rows_of new m v) rest.0 (rw (rows-of-kept s m front live) (takes m)) rest' (joins m) (well-wide new (height_at new v) m v good.shape.well)
+      erased new (rows_of old m vector) (rows_of left m front) (rows_of left m back) (rows_of new m v) rest.0 (rw (rows-of-kept s m front live) (takes m).0) rest' (joins m) (well-wide new (height_at new v) m v good.shape.well)
 
 -- a vector that is still held keeps its rows of each height
 module _ {T : Type 0} {old new : Heap T} {spent : ℕ → ℕ} (keeps : KeepsHeld spent old new) (l : ℕ) (held : spent l < holds_at old l) where

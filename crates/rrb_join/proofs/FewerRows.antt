@@ -1,53 +1,33 @@
 -- What is left of a row, and a part of a vector, has no more rows of a height than those in which it lies.
-use Rattle.std.proofs.Common.{◌≡◌, ◌⊎◌, ℕ, suc, zero, ◌+◌, ◌-◌, ◌<◌, ◌≤◌, min, List, [], ◌∷◌, ◌++◌, length, take, drop, get_or, refl, ap, sym, ◌∙◌, arith, inl, inr, length-append, append-nil, IsSome}
+use Rattle.std.proofs.Common.{◌≡◌, ◌⊎◌, ℕ, suc, ◌+◌, ◌-◌, ◌<◌, ◌≤◌, min, List, ◌++◌, length, take, drop, get_or, refl, ap, sym, ◌∙◌, arith, inl, inr, length-append, IsSome}
 use Rattle.std.specs.List.{All, flat_map}
 use Rattle.std.proofs.lemmas.Bool.{cases_lt}
-use Rattle.std.proofs.lemmas.List.{length-take, length-take-le, length-drop, take-append-le, take-append-drop, take-take, take_all, drop_more}
+use Rattle.std.proofs.lemmas.List.{length-take, length-take-le, length-drop, take-append-le, take-take, take_all, drop_more}
 use Rattle.std.proofs.lemmas.List.Concat.{flat_map-append}
-use Rattle.std.proofs.lemmas.List.Elements.{All-nil, All-cons, All-head, All-tail, All-take, All-drop}
+use Rattle.std.proofs.lemmas.List.Elements.{All-take}
 use Rattle.node_heap.specs.Links.{here}
 use Rattle.node_heap.specs.Heap.{Heap, row_at, form_at, links_at, holds_at, IsGraph}
 use Rattle.node_heap.specs.Calls.{Extends, SameRows, KeepsHeld}
 use Rattle.rrb_core.specs.Seq.{seq_at, IsWell}
 use Rattle.rrb_core.specs.Vector.{elements, height_at, IsGoodVector}
-use Rattle.rrb_core.specs.Levels.{rows_at, rows_of, TakesFirstRows}
+use Rattle.rrb_core.specs.Levels.{rows_at, rows_of, elements_before, TakesFirstRows}
 use Rattle.rrb_core.proofs.ClosedRows.{Stays}
-use Rattle.rrb_core.proofs.FillRule.{height-is, well-pos}
-use Rattle.rrb_core.proofs.Lists.{take-past, take-short}
-use Rattle.rrb_core.proofs.LevelLemmas.{rows-own, rows-inner, rows-past, rows-few, takes-whole, takes-after}
+use Rattle.rrb_core.proofs.FillRule.{height-is}
+use Rattle.rrb_core.proofs.Lists.{take-past}
+use Rattle.rrb_core.proofs.LevelLemmas.{rows-past, rows-few, takes-whole, takes-after}
+use Rattle.rrb_core.proofs.RowSizes.{first-fewer, full-count, full-before, items-of-rows, items-before, rows-full}
 use Rattle.rrb_core.proofs.Stays.{links-form, well-live, items-stay, good-stays, live-stays, live-stays-by, below-stays}
-use Rattle.rrb_join.specs.Seam.{rows_under, elements_before, HasNoMoreRows}
+use Rattle.rrb_join.specs.Seam.{rows_under, HasNoMoreRows}
 use Rattle.rrb_join.specs.Rest.{LeavesNoMore, LeavesNoMoreBelow, PutsBefore, PutsBeside}
 use Rattle.rrb_join.specs.Unmade.{AreLinks}
 use Rattle.rrb_join.proofs.UnmadeLemmas.{links-live}
-use Rattle.rrb_join.proofs.RowsOfHeights.{rows-own-all, rows-some, rows-cut, below-row, below-past, below-kept, each-named, rows-named}
+use Rattle.rrb_join.proofs.RowsOfHeights.{rows-own-all, rows-some, rows-cut, below-row, below-past, below-kept, rows-named}
 use Rattle.rrb_join.proofs.JoinLemmas.{rows-of-kept}
 
 -- lists of elements below rows
 module _ (f : ℕ → List ℕ) where
-  -- below rows are the elements below those that they stand for
-  each-flat : (g s : ℕ → List ℕ) (ks : List ℕ) → ((k : ℕ) → flat_map s (f k) ≡ g k) → flat_map s (flat_map f ks) ≡ flat_map g ks
-  each-flat g s [] each = refl
-  each-flat g s (k ∷ ks) each = flat_map-append s (f k) (flat_map f ks) ∙ ap (λ (xs : List ℕ). xs ++ flat_map s (flat_map f ks)) (each k) ∙ ap (λ (xs : List ℕ). g k ++ xs) (each-flat g s ks each)
-
-  -- fewer first rows have no more elements
-  first-fewer : (ks : List ℕ) (i j : ℕ) → i ≤ j → length (flat_map f (take i ks)) ≤ length (flat_map f (take j ks))
-  first-fewer ks i j le = rw (take-take i j ks le) at (take-short f (take j ks) i)
-
-  -- rows that aren't empty have as many elements as they are, or more
-  full-count : (ks : List ℕ) → All (λ k. 1 ≤ length (f k)) ks → length ks ≤ length (flat_map f ks)
-  full-count [] full = omega arith
-  full-count (k ∷ ks) full =
-      omega (arith, length-append (f k) (flat_map f ks), All-head (λ k. 1 ≤ length (f k)) k ks full, full-count ks (All-tail (λ k. 1 ≤ length (f k)) k ks full))
-
-  -- and all of them have more than the first ones alone
-  full-before : (ks : List ℕ) (j : ℕ) → All (λ k. 1 ≤ length (f k)) ks → j < length ks → length (flat_map f (take j ks)) < length (flat_map f ks)
-  full-before ks j full lt =
-      let parts : length (flat_map f ks) ≡ length (flat_map f (take j ks)) + length (flat_map f (drop j ks)) = ap (λ (xs : List ℕ). length (flat_map f xs)) (sym (take-append-drop j ks)) ∙ ap length (flat_map-append f (take j ks) (drop j ks)) ∙ length-append (flat_map f (take j ks)) (flat_map f (drop j ks)) in
-      omega (arith, parts, full-count (drop j ks) (All-drop (λ k. 1 ≤ length (f k)) j ks full), length-drop j ks, lt)
-
-  -- the place among all rows of one before which no more than `count` elements stand, by its place among the middle ones, where
-  -- the element at the index `count` stands below these
+  -- a place before which no more than `count` elements stand is no further than one among the middle rows before which no more
+  -- than `within` stand, where the element at the index `count` is below these
   place-within : (before middle behind : List ℕ) (i count within : ℕ) → length (flat_map f before) + within ≡ count → within < length (flat_map f middle) → length (flat_map f (take i (before ++ (middle ++ behind)))) ≤ count
       → (q : ℕ) × (q < length middle) × (length (flat_map f (take q middle)) ≤ within) × (i ≤ length before + q)
   place-within before middle behind i count within at inside few =
@@ -66,39 +46,10 @@ module _ (f : ℕ → List ℕ) where
               | inl lt ↦ (q, lt, omega (arith, few, size, at, own q (omega (arith, lt))), omega (arith, place))
               | inr far ↦
                   let all : length (flat_map f (take (length middle) middle)) ≡ length (flat_map f middle) = ap (λ (xs : List ℕ). length (flat_map f xs)) (take_all (length middle) middle (omega arith)) in
-                  absurd (omega (arith, few, size, at, inside, all, own (length middle) (omega arith), first-fewer (middle ++ behind) (length middle) q far))
+                  absurd (omega (arith, few, size, at, inside, all, own (length middle) (omega arith), first-fewer f (middle ++ behind) (length middle) q far))
             ]
         | inr le ↦ (0, some, omega arith, omega (arith, le))
       ]
-
-module _ {T : Type 0} (h : Heap T) where
-  -- below the rows of a height below a row are its own elements
-  items-of-rows : (n m l : ℕ) → m ≤ n → flat_map (seq_at (form_at h) m) (rows_at (links_at h) n m l) ≡ seq_at (form_at h) n l
-  unfolding seq_at
-  items-of-rows zero m l low = let same : m ≡ 0 = omega arith in rw (same, rows-own (links_at h) 0 l) (append-nil (seq_at (form_at h) 0 l))
-  items-of-rows (suc n) m l low = elim (cases_lt n m) as (λ _. flat_map (seq_at (form_at h) m) (rows_at (links_at h) (suc n) m l) ≡ seq_at (form_at h) (suc n) l) [
-    | inl past ↦ let same : m ≡ suc n = omega arith in rw (same, rows-own (links_at h) (suc n) l) (append-nil (seq_at (form_at h) (suc n) l))
-    | inr inner ↦
-        rw (rows-inner (links_at h) n m l inner) (each-flat (rows_at (links_at h) n m) (seq_at (form_at h) n) (seq_at (form_at h) m) (links_at h l) (λ k. items-of-rows n m k inner))
-        ∙ ap (flat_map (seq_at (form_at h) n)) (sym (links-form h l))
-  ]
-
-  -- no row is empty below one that isn't
-  rows-full : (n m l : ℕ) → IsWell (form_at h) n l → 1 ≤ length (links_at h l) → m ≤ n → All (λ k. 1 ≤ length (seq_at (form_at h) m k)) (rows_at (links_at h) n m l)
-  unfolding IsWell
-  rows-full zero m l w some low = let same : m ≡ 0 = omega arith in rw (same, rows-own (links_at h) 0 l) (All-cons (λ k. 1 ≤ length (seq_at (form_at h) 0 k)) l [] (well-pos (form_at h) 0 l w (rw (links-form h l) some)) (All-nil (λ k. 1 ≤ length (seq_at (form_at h) 0 k))))
-  rows-full (suc n) m l w some low = elim (cases_lt n m) as (λ _. All (λ k. 1 ≤ length (seq_at (form_at h) m k)) (rows_at (links_at h) (suc n) m l)) [
-    | inl past ↦
-        let same : m ≡ suc n = omega arith in
-        rw (same, rows-own (links_at h) (suc n) l) (All-cons (λ k. 1 ≤ length (seq_at (form_at h) (suc n) k)) l [] (well-pos (form_at h) (suc n) l w (rw (links-form h l) some)) (All-nil (λ k. 1 ≤ length (seq_at (form_at h) (suc n) k))))
-    | inr inner ↦
-        rw (rows-inner (links_at h) n m l inner)
-        (each-named (λ k. 1 ≤ length (seq_at (form_at h) m k)) (rows_at (links_at h) n m) (links_at h l) (rw (← links-form h l) (λ k d b. rows-full n m _ (w.children k d b) (rw (← links-form h _) (w.not_empty k d b)) inner)))
-  ]
-
--- the first links of a row have the elements of the rows of a height below them
-items-before : {T : Type 0} (h : Heap T) (below m : ℕ) (ks : List ℕ) → m ≤ below → flat_map (seq_at (form_at h) m) (flat_map (rows_at (links_at h) below m) ks) ≡ flat_map (seq_at (form_at h) below) ks
-items-before h below m ks low = each-flat (rows_at (links_at h) below m) (seq_at (form_at h) below) (seq_at (form_at h) m) ks (λ k. items-of-rows h below m k low)
 
 module _ {T : Type 0} (h : Heap T) (n below l place child count within : ℕ) (e : n ≡ suc below) (lt : place < length (links_at h l)) (child-is : child ≡ get_or (links_at h l) place 0)
     (at : length (flat_map (seq_at (form_at h) below) (take place (links_at h l))) + within ≡ count) (inside : within < length (seq_at (form_at h) below child)) where
@@ -193,7 +144,7 @@ module _ {T : Type 0} (h : Heap T) (v : ℕ) (good : IsGoodVector h v) where
     | inr high ↦ inl (rows-few (links_at h) (height_at h v) m v high)
   ]
 
-  -- the rows of a height that have all elements are all rows
+  -- where the first j rows of a height have all elements, there are no more than j
   all-rows : (m j : ℕ) → 0 < j → (m ≤ height_at h v → length (elements h v) ≤ elements_before h v m j) → length (rows_of h m v) ≤ j
   all-rows m j some all = elim (few-or-full m) as (λ _. length (rows_of h m v) ≤ j) [
     | inl few ↦ omega (arith, few, some)
@@ -206,7 +157,7 @@ module _ {T : Type 0} (h : Heap T) (v : ℕ) (good : IsGoodVector h v) where
     ]
   ]
 
-  -- the vector itself has no more rows than those from any place on before which no element stands
+  -- of the vector itself: only its first row has no element before it
   pub fewer-itself : (new : Heap T) → ((m : ℕ) → rows_of new m v ≡ rows_of h m v) → LeavesNoMore h new v 0 v
   fewer-itself new same m i less few = rw (same m) (elim (few-or-full m) as (λ _. length (rows_of h m v) + i ≤ length (rows_of h m v)) [
     | inl one ↦ omega (arith, less, one)
@@ -225,9 +176,9 @@ module _ {T : Type 0} (h : Heap T) (v : ℕ) (good : IsGoodVector h v) where
 
 -- a part of a vector, as what is left of its front
 fewer-part : {T : Type 0} (old mid new : Heap T) (vector front v from to : ℕ) → IsGoodVector mid front → Stays (λ x. IsSome (row_at old x)) old mid → IsSome (row_at old vector) → length (elements mid front) ≤ to
-    → TakesFirstRows old mid vector front → LeavesNoMore mid new front from v → height_at new v ≤ height_at mid front → HasNoMoreRows old new vector from to v
+    → TakesFirstRows old mid vector to front → LeavesNoMore mid new front from v → height_at new v ≤ height_at mid front → HasNoMoreRows old new vector from to v
 fewer-part old mid new vector front v from to good s live short takes leaves low m i j lt few all =
-    let has = takes m in
+    let has = (takes m).0 in
     let f : ℕ → List ℕ = seq_at (form_at mid) m in
     let rows : List ℕ = rows_of old m vector in
     let size : length (rows_of mid m front) ≡ has.place + length has.cut = ap length has.front ∙ length-append (take has.place rows) has.cut ∙ ap (λ (x : ℕ). x + length has.cut) (length-take-le has.place rows has.inside) in
@@ -251,14 +202,14 @@ module _ {T : Type 0} (old mid : Heap T) (vector : ℕ) (same : SameRows old mid
   -- what is left of a vector, where room was made first
   pub fewer-rest : (new : Heap T) (v from : ℕ) → LeavesNoMore mid new vector from v → height_at new v ≤ height_at mid vector → HasNoMoreRows old new vector from (length (elements old vector)) v
   fewer-rest new v from leaves low =
-      fewer-part old mid new vector vector v from (length (elements old vector)) still.0 stays (well-live old (height_at old vector) vector good.shape.well) (omega (arith, ap length still.1)) (takes-whole old mid same vector) leaves low
+      fewer-part old mid new vector vector v from (length (elements old vector)) still.0 stays (well-live old (height_at old vector) vector good.shape.well) (omega (arith, ap length still.1)) (takes-whole old mid same vector (length (elements old vector))) leaves low
 
   -- what is left of a front of it
-  pub fewer-slice : (taken new : Heap T) (front v from to : ℕ) → Extends mid taken → IsGoodVector taken front → length (elements taken front) ≤ to → TakesFirstRows mid taken vector front → LeavesNoMore taken new front from v
+  pub fewer-slice : (taken new : Heap T) (front v from to : ℕ) → Extends mid taken → IsGoodVector taken front → length (elements taken front) ≤ to → TakesFirstRows mid taken vector to front → LeavesNoMore taken new front from v
       → height_at new v ≤ height_at taken front → HasNoMoreRows old new vector from to v
   fewer-slice taken new front v from to more good' short takes leaves low =
       let later : Stays (λ x. IsSome (row_at old x)) old taken = record { closed = stays.closed; kept = λ l live. (live-stays graph more).kept l (rw (same l) live) ∙ same l } in
-      fewer-part old taken new vector front v from to good' later (well-live old (height_at old vector) vector good.shape.well) short (takes-after old mid same taken vector front takes) leaves low
+      fewer-part old taken new vector front v from to good' later (well-live old (height_at old vector) vector good.shape.well) short (takes-after old mid same taken vector to front takes) leaves low
 
   -- the whole vector
   pub fewer-whole : HasNoMoreRows old mid vector 0 (length (elements old vector)) vector

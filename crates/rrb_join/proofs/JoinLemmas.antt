@@ -1,5 +1,5 @@
 -- The rows of each height in the whole of two vectors that were joined, and of one into which an element was put.
-use Rattle.std.proofs.Common.{◌≡◌, ℕ, ◌-◌, ◌+◌, ◌<◌, ◌≤◌, List, [], length, take, drop, refl, ap, sym, ◌∙◌, arith, inl, inr, length-drop, append-nil, take-append-drop, IsSome}
+use Rattle.std.proofs.Common.{◌≡◌, ℕ, suc, ◌-◌, ◌+◌, ◌<◌, ◌≤◌, List, [], ◌∷◌, length, take, drop, get_or, refl, ap, sym, ◌∙◌, arith, inl, inr, length-drop, append-nil, take-append-drop, IsSome}
 use Rattle.std.proofs.lemmas.List.{length-take}
 use Rattle.std.proofs.lemmas.Bool.{cases_lt}
 use Rattle.node_heap.specs.Heap.{Heap, row_at, form_at, links_at}
@@ -9,12 +9,13 @@ use Rattle.rrb_core.proofs.ClosedRows.{Stays}
 use Rattle.rrb_core.proofs.FillRule.{well-pos}
 use Rattle.rrb_core.proofs.Stays.{links-form}
 use Rattle.rrb_core.specs.Levels.{rows_at, rows_of}
-use Rattle.rrb_join.specs.Seam.{rows_under, but_last, AreAtNeed, HasSeam, JoinsRows, JoinsBelow, PutsInRow, PutsBelow}
+use Rattle.rrb_join.specs.Seam.{rows_under, but_last, AllStandBeside, AreAtNeed, HasSeam, JoinsRows, JoinsBelow, KeepsRows, KeepsBeneath, PutsInRow, PutsBelow}
 use Rattle.rrb_join.specs.Unmade.{AreLinks}
-use Rattle.rrb_join.proofs.AnswerLemmas.{height-stays}
+use Rattle.rrb_join.proofs.AnswerLemmas.{height-stays, unchanged-links}
 use Rattle.rrb_join.proofs.UnmadeLemmas.{links-live}
-use Rattle.rrb_core.proofs.LevelLemmas.{rows-kept, rows-of-same}
-use Rattle.rrb_join.proofs.RowsOfHeights.{none-before, none-after, below-named, seam-kept, one-at-need}
+use Rattle.rrb_core.proofs.LevelLemmas.{rows-own, rows-kept, rows-of-same}
+use Rattle.rrb_join.proofs.RowsOfHeights.{none-before, none-after, below-named, seam-kept, one-at-need, links-few}
+use Rattle.rrb_join.proofs.BesideLemmas.{stand-low}
 
 module _ {T : Type 0} where
   -- a root with fewer than two links is a leaf
@@ -71,6 +72,36 @@ module _ {T : Type 0} where
         let none' : drop 1 (rows_at (links_at old) k m right) ≡ [] = none-after (links_at old) k m right (omega arith) in
         record { seam = rows_of new m v; few = top m high; rows = rw (none, none', append-nil) refl }
   ])
+
+  -- so are all rows kept
+  pub keeps-root : (old mid new : Heap T) (left right n k height v : ℕ) (ls : List ℕ) → n ≡ height_at old left → k ≡ height_at old right → n ≤ height → KeepsBeneath old mid n left k right (suc height) ls → ((m : ℕ) → m ≤ height → rows_of new m v ≡ rows_under (links_at mid) (suc height) m ls) → KeepsRows old new left right v
+  keeps-root old mid new left right n k height v ls e e' low keeps below m stand =
+      let stand' : AllStandBeside old n left k right m = rw (e, e') stand in
+      let inside = (stand-low n left k right m stand').0 in
+      let kept = keeps m (omega (arith, inside)) stand' in
+      below m (omega (arith, inside)) ∙ rw (e, e') at kept
+
+  pub keeps-after : (old mid new : Heap T) (left right v : ℕ) → Unchanged old mid → KeepsRows mid new left right v → KeepsRows old new left right v
+  keeps-after old mid new left right v same keeps m stand =
+      let stand' : AllStandBeside mid (height_at mid left) left (height_at mid right) right m = λ q low.
+      let there = stand q low in
+      rw (rows-of-same old mid same.rows q left, rows-of-same old mid same.rows q right) (record { some = there.some; others = there.others; half = rw (unchanged-links same (get_or (rows_of old q left) (length (rows_of old q left) - 1) 0)) there.half; past = rw (unchanged-links same (get_or (rows_of old q left) (length (rows_of old q left) - 1) 0), unchanged-links same (get_or (rows_of old q right) 0 0)) there.past }) in
+      rw (rows-of-same old mid same.rows m left, rows-of-same old mid same.rows m right) at (keeps m stand')
+
+  -- no rows can stand side by side where a side is empty
+  pub keeps-left-none : (old new : Heap T) (left right v : ℕ) → height_at old left ≡ 0 → length (links_at old left) ≡ 0 → KeepsRows old new left right v
+  keeps-left-none old new left right v low none m stand =
+      let alone : rows_of old 0 left ≡ left ∷ [] = rw low (rows-own (links_at old) 0 left) in
+      let half : 16 ≤ length (links_at old left) = rw alone at (stand 0 (omega arith)).half in
+      absurd (omega (arith, half, none))
+
+  pub keeps-right-none : (old new : Heap T) (left right v : ℕ) → IsGoodVector old left → height_at old right ≡ 0 → length (links_at old right) ≡ 0 → KeepsRows old new left right v
+  keeps-right-none old new left right v good low none m stand =
+      let alone : rows_of old 0 right ≡ right ∷ [] = rw low (rows-own (links_at old) 0 right) in
+      let there = stand 0 (omega arith) in
+      let few : length (links_at old (get_or (rows_of old 0 left) (length (rows_of old 0 left) - 1) 0)) ≤ 32 = links-few old (height_at old left) 0 left good.shape.well (length (rows_of old 0 left) - 1) 0 (omega (arith, there.some)) in
+      let past = rw alone at there.past in
+      absurd (omega (arith, past, few, none))
 
   -- the same for an element that was put into a vector
   pub puts-after : (old mid new : Heap T) (l v : ℕ) → Unchanged old mid → PutsInRow mid new l v → PutsInRow old new l v

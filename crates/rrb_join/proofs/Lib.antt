@@ -2,6 +2,7 @@ pub mod AnswerLemmas
 pub mod RowsOfHeights
 pub mod UnmadeLemmas
 pub mod SeamLemmas
+pub mod BesideLemmas
 pub mod SeamRows
 pub mod JoinLemmas
 pub mod RestRows

@@ -5,7 +5,7 @@ use Rattle.std.specs.List.{All, flat_map}
 use Rattle.std.proofs.lemmas.List.{take_at, drop_at}
 use Rattle.std.proofs.lemmas.Bool.{cases_lt}
 use Rattle.std.proofs.lemmas.List.Concat.{flat_map-append}
-use Rattle.std.proofs.lemmas.List.Elements.{All-nil, All-cons, All-append, All-head, All-tail, All-take, All-drop}
+use Rattle.std.proofs.lemmas.List.Elements.{All-nil, All-cons, All-take, All-drop}
 use Rattle.node_heap.specs.Links.{Links}
 use Rattle.node_heap.specs.Heap.{Heap, form_at, links_at}
 use Rattle.rrb_core.specs.Seq.{IsWell}
@@ -14,6 +14,7 @@ use Rattle.rrb_core.proofs.ClosedRows.{Stays}
 use Rattle.rrb_core.proofs.Lists.{take-past, items-cut, child-short}
 use Rattle.rrb_core.proofs.Stays.{links-form, links-stay}
 use Rattle.rrb_core.proofs.LevelLemmas.{rows-own, rows-inner, rows-past, all-kept}
+use Rattle.rrb_core.proofs.RowSizes.{each-named}
 use Rattle.rrb_join.specs.Seam.{rows_under, but_last, AreAtNeed, HasSeam}
 use Rattle.rrb_join.specs.Rest.{AreHalves}
 
@@ -89,14 +90,17 @@ but-last-append xs ys some =
     let size : length (xs ++ ys) - 1 ≡ length xs + (length ys - 1) = omega (arith, length-append xs ys) in
     rw size (take-past xs ys (length ys - 1))
 
--- what holds of all elements of each row holds of all
-pub each-named : (P : ℕ → Type 0) (f : ℕ → List ℕ) (ks : List ℕ) → All (λ k. All P (f k)) ks → All P (flat_map f ks)
-each-named P f [] each = All-nil P
-each-named P f (k ∷ ks) each = All-append P (f k) (flat_map f ks) (All-head (λ k. All P (f k)) k ks each) (each-named P f ks (All-tail (λ k. All P (f k)) k ks each))
-
 pub one-or : (P : ℕ → Type 0) (b : Bool) (l : ℕ) (xs : List ℕ) → P l → All P xs → All P (if b then l ∷ [] else xs)
 one-or P true l xs p all = All-cons P l [] p (All-nil P)
 one-or P false l xs p all = all
+
+-- no row below one that keeps the fill rule has more links than a row can hold
+pub links-few : {T : Type 0} (h : Heap T) (n m l : ℕ) → IsWell (form_at h) n l → All (λ k. length (links_at h k) ≤ 32) (rows_at (links_at h) n m l)
+unfolding rows_at IsWell
+links-few h zero m l w = one-or (λ k. length (links_at h k) ≤ 32) (m == zero) l [] (rw (← links-form h l) w.most) (All-nil (λ k. length (links_at h k) ≤ 32))
+links-few h (suc n) m l w =
+    one-or (λ k. length (links_at h k) ≤ 32) (m == suc n) l (flat_map (rows_at (links_at h) n m) (links_at h l)) (rw (← links-form h l) w.most)
+    (each-named (λ k. length (links_at h k) ≤ 32) (rows_at (links_at h) n m) (links_at h l) (rw (← links-form h l) (λ k d b. links-few h n m _ (w.children k d b))))
 
 -- what holds of three lists holds of the middle one
 pub middle-named : (P : ℕ → Type 0) (xs ys zs : List ℕ) → All P ((xs ++ ys) ++ zs) → All P ys
@@ -132,6 +136,13 @@ module _ {T : Type 0} {P : ℕ → Type 0} {old new : Heap T} (s : Stays P old n
 -- one row is never too many
 pub one-at-need : {T : Type 0} (h : Heap T) (ks : List ℕ) → length ks ≤ 1 → AreAtNeed h 2 ks
 one-at-need h ks one = record { most = omega arith; need = λ i more. absurd (omega arith) }
+
+-- rows at need that have no more links than one row can hold are one at most
+pub one-of-need : {T : Type 0} (h : Heap T) (ks : List ℕ) → AreAtNeed h 2 ks → length (flat_map (links_at h) ks) ≤ 32 → length ks ≤ 1
+one-of-need h [] need few = omega arith
+one-of-need h (k ∷ []) need few = omega arith
+one-of-need h (k ∷ j ∷ ks) need few =
+    absurd (omega (arith, need.need 0 (omega arith), few, length-append (links_at h k) (links_at h j ++ flat_map (links_at h) ks), length-append (links_at h j) (flat_map (links_at h) ks)))
 
 -- two halves have more links than one row can hold
 pub halves-at-need : {T : Type 0} (h : Heap T) (ks : List ℕ) → AreHalves h ks → AreAtNeed h 2 ks

@@ -1,7 +1,7 @@
 -- The seam of two rows: what stands last in the left one and first in the right one, and the links over what that becomes.
-use Rattle.std.proofs.Common.{◌≡◌, ℕ, suc, ◌-◌, ◌+◌, ◌<◌, ◌≤◌, List, [], ◌++◌, length, take, drop, get_or, refl, ap, sym, ◌∙◌, arith, length-append, length-drop, append-nil, append_assoc, IsSome}
+use Rattle.std.proofs.Common.{◌≡◌, ℕ, suc, ◌-◌, ◌+◌, ◌<◌, ◌≤◌, List, [], ◌++◌, length, take, drop, get_or, refl, sym, ◌∙◌, arith, length-append, length-drop, append-nil, append_assoc, IsSome}
 use Rattle.std.specs.List.{All, flat_map}
-use Rattle.std.proofs.lemmas.List.{length-take-le, take_all, drop_all, drop-append-le, get_or-take}
+use Rattle.std.proofs.lemmas.List.{length-take-le, take_all, drop_all, get_or-take}
 use Rattle.std.proofs.lemmas.List.Concat.{flat_map-append}
 use Rattle.std.proofs.lemmas.List.Elements.{All-append, All-drop}
 use Rattle.node_heap.specs.Heap.{Heap, row_at, form_at, links_at}
@@ -14,10 +14,9 @@ use Rattle.rrb_core.proofs.Lists.{items-cut}
 use Rattle.rrb_core.proofs.Stays.{items-stay, all-thick-stay, rows-stay}
 use Rattle.rrb_core.proofs.RowLists.{no-rows, rows-take, rows-drop, take-thick, rows-around, rows-live, IsOver, over, IsChild, child-at}
 use Rattle.rrb_core.specs.Levels.{rows_at}
-use Rattle.rrb_join.specs.Seam.{but_last}
 use Rattle.rrb_join.proofs.UnmadeLemmas.{has-links, rows-above, items-above, thick-above, leaf-items, leaf-are-links}
 use Rattle.rrb_core.proofs.LevelLemmas.{rows-inner}
-use Rattle.rrb_join.proofs.RowsOfHeights.{rows-some, but-last-append}
+use Rattle.rrb_join.proofs.RowsOfHeights.{rows-some}
 
 -- an inner row by its children, in the words of its own height
 pub over-at : {T : Type 0} (h : Heap T) (n below l : ℕ) → n ≡ suc below → IsWell (form_at h) n l → HasSums h n l → IsOver h below l
@@ -49,7 +48,7 @@ module _ {T : Type 0} (h : Heap T) (below n l : ℕ) (row : IsSomeRow h n l) whe
   -- a low row is its own edge
   pub last-low : n ≤ below → EndsIn h below n l 0 n l
   last-low low =
-      record { row = row; low = low; inside = omega arith; rows = no-rows h below; thick = (no-rows h below).thick; items = refl; wide = λ e. absurd (omega arith); before = λ p le. refl; few = omega arith }
+      record { row = row; low = low; inside = omega arith; rows = no-rows h below; thick = (no-rows h below).thick; items = refl; wide = λ e. absurd (omega arith); levels = λ p le. refl; some = λ p le some. some; few = omega arith }
 
   pub first-low : (place : ℕ) → n ≤ below → place ≡ length (links_at h l) → BeginsWith h below n l place n l
   first-low place low end =
@@ -62,7 +61,8 @@ module _ {T : Type 0} (h : Heap T) (below n l : ℕ) (row : IsSomeRow h n l) whe
         close = λ more. absurd (omega arith);
         items = rw none (sym (append-nil (seq_at (form_at h) n l)));
         wide = λ e. absurd (omega arith);
-        after = λ p le. rw none (sym (append-nil (drop 1 (rows_at (links_at h) n p l))));
+        levels = λ p le. rw none (sym (append-nil (rows_at (links_at h) n p l)));
+        some = λ p le some. some;
         thick = λ e. absurd (omega arith);
         few = omega arith;
       }
@@ -82,11 +82,12 @@ module _ {T : Type 0} (h : Heap T) (below l : ℕ) (o : IsOver h below l) where
         thick = take-thick h below place (links_at h l) o.rows (omega arith);
         items = rw e (o.items ∙ rw (none, append-nil) at cut);
         wide = λ _. end;
-        before = λ p le.
+        levels = λ p le.
             let f : ℕ → List ℕ = rows_at (links_at h) below p in
             let last-at : get_or (links_at h l) place 0 ≡ last = sym e in
             let cut' : flat_map f (links_at h l) ≡ flat_map f (take place (links_at h l)) ++ f last = rw (none, append-nil, last-at) at (items-cut f (links_at h l) place (omega arith)) in
-            ap (λ (xs : List ℕ). but_last xs) (rows-inner (links_at h) below p l le ∙ cut') ∙ but-last-append (flat_map f (take place (links_at h l))) (f last) (rows-some h below p last child.well le);
+            rows-inner (links_at h) below p l le ∙ cut';
+        some = λ p le some. rows-some h below p last child.well le;
         few = omega (arith, o.most);
       }
 
@@ -103,11 +104,12 @@ module _ {T : Type 0} (h : Heap T) (below l : ℕ) (o : IsOver h below l) where
         close = λ more. (refl, rw e (child-thick h below l 0 o (omega arith)));
         items = rw e (o.items ∙ cut);
         wide = λ _. refl;
-        after = λ p le.
+        levels = λ p le.
             let f : ℕ → List ℕ = rows_at (links_at h) below p in
             let first-at : get_or (links_at h l) 0 0 ≡ first = sym e in
             let cut' : flat_map f (links_at h l) ≡ f first ++ flat_map f (drop 1 (links_at h l)) = rw first-at at (items-cut f (links_at h l) 0 (omega (arith, o.some))) in
-            ap (λ (xs : List ℕ). drop 1 xs) (rows-inner (links_at h) below p l le ∙ cut') ∙ drop-append-le 1 (f first) (flat_map f (drop 1 (links_at h l))) (rows-some h below p first child.well le);
+            rows-inner (links_at h) below p l le ∙ cut';
+        some = λ p le some. rows-some h below p first child.well le;
         thick = λ _ t. (refl, child.thick t, All-drop (IsThick (form_at h) below) 1 (links_at h l) (o.thick t).1, (o.thick t).0);
         few = omega (arith, o.most);
       }

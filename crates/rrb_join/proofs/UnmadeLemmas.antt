@@ -54,6 +54,10 @@ module _ {T : Type 0} (h : Heap T) where
   unfolding AreThick
   thick-rows n ls t = t
 
+  pub links-rows : (n : ℕ) (ls : List ℕ) → AreLinks h (suc n) ls → AreRows h n ls
+  unfolding AreLinks
+  links-rows n ls a = a
+
   pub leaf-are-links : (n : ℕ) (ls : List ℕ) → n ≡ 0 → AreLinks h n ls
   unfolding AreLinks
   leaf-are-links zero ls e = tt

@@ -1,10 +1,9 @@
 -- What is left of a row without its first elements, by the rows of each height.
-use Rattle.std.specs.Prelude.{◌≡◌, ℕ, ◌+◌, ◌<◌, ◌≤◌, List, ◌++◌, length, take, drop, slice_index}
+use Rattle.std.specs.Prelude.{◌≡◌, ℕ, ◌+◌, ◌<◌, ◌≤◌, List, ◌++◌, length, drop, slice_index}
 use Rattle.std.specs.List.{flat_map}
-use Rattle.node_heap.specs.Heap.{Heap, form_at, links_at}
-use Rattle.rrb_core.specs.Seq.{seq_at}
-use Rattle.rrb_core.specs.Levels.{rows_at, rows_of}
-use Rattle.rrb_join.specs.Seam.{rows_under, elements_before}
+use Rattle.node_heap.specs.Heap.{Heap, links_at}
+use Rattle.rrb_core.specs.Levels.{rows_at, rows_of, elements_until, elements_before}
+use Rattle.rrb_join.specs.Seam.{rows_under}
 
 module _ {T : Type 0} where
   -- at most two rows; of two the first has 16 links or more and the second 17, which no row can hold together
@@ -36,7 +35,7 @@ module _ {T : Type 0} where
   -- and what LeavesNoMore says
   abbrev pub LeavesNoMoreBelow : Heap T → Heap T → ℕ → ℕ → ℕ → ℕ → List ℕ → Type 0
   LeavesNoMoreBelow old new n l count height ls =
-      (m i : ℕ) → i < length (rows_at (links_at old) n m l) → length (flat_map (seq_at (form_at old) m) (take i (rows_at (links_at old) n m l))) ≤ count
+      (m i : ℕ) → i < length (rows_at (links_at old) n m l) → elements_until old n m l i ≤ count
       → length (rows_under (links_at new) height m ls) + i ≤ length (rows_at (links_at old) n m l)
 
   -- and where they are made of links that a row of height k may hold, put before a row of height n: lower down are the rows below both, and from

@@ -7,7 +7,6 @@ use Rattle.rrb_core.specs.Seq.{seq_at, IsThick, IsWell}
 use Rattle.rrb_core.specs.Vector.{HasSums}
 use Rattle.rrb_core.specs.Build.{AreRows}
 use Rattle.rrb_core.specs.Levels.{rows_at}
-use Rattle.rrb_join.specs.Seam.{but_last}
 
 module _ {T : Type 0} where
   -- the elements below links that a row of height n may hold
@@ -48,27 +47,40 @@ module _ {T : Type 0} where
     pub held : (k : ℕ) → count k ls ≤ holds_at h k
     pub holds : hold_count h < 2 ^ 60
 
-  -- the row l of height n is its first `place` links, which are thick rows of the height `below`, and then a row of height m
-  pub record EndsIn (h : Heap T) (below n l place m last : ℕ) : Type 0 where
-    pub row : IsSomeRow h m last
-    pub low : m ≤ below
+  -- the row l of height n and the row r of height k, neither higher than `height`, can be joined to one row of that height or two
+  pub record CanJoin (h : Heap T) (n l k r height : ℕ) : Type 0 where
+    pub graph : IsGraph h
+    pub left : IsSomeRow h n l
+    pub right : IsSomeRow h k r
+    pub left_low : n ≤ height
+    pub right_low : k ≤ height
+    pub low : height ≤ 7
+    pub short : length (seq_at (form_at h) n l) + length (seq_at (form_at h) k r) < 2 ^ 32
+    pub holds : hold_count h + 128 ≤ 2 ^ 60
+
+  -- the row l of height n is its first `place` links, which are thick rows of the height `below`, and then a row of height k
+  pub record EndsIn (h : Heap T) (below n l place k last : ℕ) : Type 0 where
+    pub row : IsSomeRow h k last
+    pub low : k ≤ below
     pub inside : place ≤ length (links_at h l)
     pub rows : AreRows h below (take place (links_at h l))
     pub thick : All (IsThick (form_at h) below) (take place (links_at h l))
-    pub items : seq_at (form_at h) n l ≡ flat_map (seq_at (form_at h) below) (take place (links_at h l)) ++ seq_at (form_at h) m last
+    pub items : seq_at (form_at h) n l ≡ flat_map (seq_at (form_at h) below) (take place (links_at h l)) ++ seq_at (form_at h) k last
     pub wide : n ≡ suc below → place + 1 ≡ length (links_at h l)
-    pub before : (p : ℕ) → p ≤ below → but_last (rows_at (links_at h) n p l) ≡ flat_map (rows_at (links_at h) below p) (take place (links_at h l)) ++ but_last (rows_at (links_at h) m p last)
+    pub levels : (m : ℕ) → m ≤ below → rows_at (links_at h) n m l ≡ flat_map (rows_at (links_at h) below m) (take place (links_at h l)) ++ rows_at (links_at h) k m last
+    pub some : (m : ℕ) → m ≤ below → 1 ≤ length (rows_at (links_at h) n m l) → 1 ≤ length (rows_at (links_at h) k m last)
     pub few : place ≤ 31
 
-  -- the row l of height n is a row of height m, and then its links from `place` on, which are rows of the height `below`
-  pub record BeginsWith (h : Heap T) (below n l place m first : ℕ) : Type 0 where
-    pub row : IsSomeRow h m first
-    pub low : m ≤ below
+  -- the row l of height n is a row of height k, and then its links from `place` on, which are rows of the height `below`
+  pub record BeginsWith (h : Heap T) (below n l place k first : ℕ) : Type 0 where
+    pub row : IsSomeRow h k first
+    pub low : k ≤ below
     pub inside : place ≤ length (links_at h l)
     pub rows : AreRows h below (drop place (links_at h l))
-    pub close : place < length (links_at h l) → (m ≡ below) × IsThick (form_at h) below first
-    pub items : seq_at (form_at h) n l ≡ seq_at (form_at h) m first ++ flat_map (seq_at (form_at h) below) (drop place (links_at h l))
+    pub close : place < length (links_at h l) → (k ≡ below) × IsThick (form_at h) below first
+    pub items : seq_at (form_at h) n l ≡ seq_at (form_at h) k first ++ flat_map (seq_at (form_at h) below) (drop place (links_at h l))
     pub wide : n ≡ suc below → place ≡ 1
-    pub after : (p : ℕ) → p ≤ below → drop 1 (rows_at (links_at h) n p l) ≡ drop 1 (rows_at (links_at h) m p first) ++ flat_map (rows_at (links_at h) below p) (drop place (links_at h l))
-    pub thick : n ≡ suc below → IsThick (form_at h) n l → (m ≡ below) × IsThick (form_at h) below first × All (IsThick (form_at h) below) (drop place (links_at h l)) × (16 ≤ length (links_at h l))
+    pub levels : (m : ℕ) → m ≤ below → rows_at (links_at h) n m l ≡ rows_at (links_at h) k m first ++ flat_map (rows_at (links_at h) below m) (drop place (links_at h l))
+    pub some : (m : ℕ) → m ≤ below → 1 ≤ length (rows_at (links_at h) n m l) → 1 ≤ length (rows_at (links_at h) k m first)
+    pub thick : n ≡ suc below → IsThick (form_at h) n l → (k ≡ below) × IsThick (form_at h) below first × All (IsThick (form_at h) below) (drop place (links_at h l)) × (16 ≤ length (links_at h l))
     pub few : length (links_at h l) ≤ place + 31

@@ -35,10 +35,10 @@ impl From<NoMemory> for SliceFault {
 }
 
 /// The vector without its first `count` elements, which is the empty one past the end. It makes rows along the cut alone,
-/// at most two for each height of the rest and one more, so at most 15 nodes, and shares all others. The rest is no higher
+/// at most twice the height of the rest and one more, so at most 15 nodes, and shares all others. The rest is no higher
 /// than the vector, and no row is split in vain: at each height it has at most two rows, and two only where they have more
-/// than 32 links together, then the last rows of the vector; and no more rows than those in which it lies. With no element
-/// dropped it gives the vector itself, which takes no memory. Refused only where memory runs out, and then nothing but the
+/// than 32 links together, then the last rows of the vector; and no more rows than those in which it lies. With a count
+/// of 0 it gives the vector itself, which takes no memory. Refused only where memory runs out, and then nothing but the
 /// heap's spares changes.
 pub fn drop_front<T>(heap: &mut Heap<T>, vector: FlexRef, count: u32) -> Result<Flex, NoMemory>
     requires good { IsGoodVector heap.old vector }
@@ -47,7 +47,7 @@ pub fn drop_front<T>(heap: &mut Heap<T>, vector: FlexRef, count: u32) -> Result<
     ensures good { IfOk result (λ v. IsGoodVector heap.new v) }
     ensures low { IfOk result (λ v. height_at heap.new v ≤ height_at heap.old vector) }
     ensures seam { IfOk result (λ v. DropsRows heap.old heap.new vector v) }
-    ensures no_more { IfOk result (λ v. HasNoMoreRows heap.old heap.new vector count (length (elements heap.old vector)) v) }
+    ensures within { IfOk result (λ v. HasNoMoreRows heap.old heap.new vector count (length (elements heap.old vector)) v) }
     ensures answered { IfOk result (λ v. Answered heap.old heap.new [] v 0 (2 * height_at heap.new v + 1)) }
     ensures made { IfOk result (λ v. MakesJust heap.old heap.new) }
     ensures none { count ≡ 0 → GivesItself heap.old heap.new result vector }
@@ -72,11 +72,11 @@ fn is_part<T>(heap: &Heap<T>, vector: FlexRef, from: u32, to: u32) -> bool
     from <= to && to <= len
 }
 
-/// The elements from the index `from` to the one before `to`. It makes at most three nodes for each height of the vector and
-/// two more, so at most 23, and gives up again what it made on the way. The slice is no higher than the vector. At each
+/// The elements from the index `from` to the one before `to`. It makes at most three times the height of the vector and two
+/// more nodes, so at most 23, and gives up again what it made on the way. The slice is no higher than the vector. At each
 /// height it has at most two rows, and two only where they have more than 32 links together, then a part of the vector's
-/// rows, then at most one more; and no more rows than those in which it lies, so a part of one row is one row. Where it is
-/// the whole vector it gives the vector itself, which takes no memory. Refused with `Range` unless `from` is at most `to`
+/// rows, then at most one more; and no more rows than those in which it lies, so one at most of a height where all of it
+/// lies in one. Where it is the whole vector it gives the vector itself, which takes no memory. Refused with `Range` unless `from` is at most `to`
 /// and `to` at most the length, and with `Memory` where memory runs out. A refusal changes nothing but the heap's spares.
 pub fn slice<T: Drop>(
     heap: &mut Heap<T>,
@@ -90,7 +90,7 @@ pub fn slice<T: Drop>(
     ensures good { IfOk result (λ v. IsGoodVector heap.new v) }
     ensures low { IfOk result (λ v. height_at heap.new v ≤ height_at heap.old vector) }
     ensures seam { IfOk result (λ v. SlicesRows heap.old heap.new vector v) }
-    ensures no_more { IfOk result (λ v. HasNoMoreRows heap.old heap.new vector from to v) }
+    ensures within { IfOk result (λ v. HasNoMoreRows heap.old heap.new vector from to v) }
     ensures answered { IfOk result (λ v. Answered heap.old heap.new [] v 0 (3 * height_at heap.old vector + 2)) }
     ensures made { IfOk result (λ v. heap.new.made ≤ heap.old.made + (3 * height_at heap.old vector + 2)) }
     ensures whole { from ≡ 0 → to ≡ length (elements heap.old vector) → GivesItself heap.old heap.new result vector }
@@ -112,8 +112,8 @@ pub fn slice<T: Drop>(
     Ok(Flex::from_root(root))
 }
 
-/// The vector without the elements from the index `from` to the one before `to`. It makes at most five nodes for each
-/// height of the vector and five more, so at most 40, and gives up again what it made on the way. The vector grows one
+/// The vector without the elements from the index `from` to the one before `to`. It makes at most five times the
+/// height of the vector and five more nodes, so at most 40, and gives up again what it made on the way. The vector grows one
 /// row higher at most, and only where its root needs two rows, which have more than 32 links together: a cut inside a
 /// row of 32 links can leave one row more. At each height it has the first rows of the vector, then at most three, of
 /// which each two neighbours have more than 32 links together, then the last rows of the vector; three may have links

@@ -42,7 +42,7 @@ impl From<NoMemory> for InsertFault {
 }
 
 /// The vector with `element` before the element at `index`, or after the last. It spends the element's hold on Ok
-/// alone, and makes at most two nodes for each height of the vector and three more, so at most 17. The vector grows one
+/// alone, and makes at most twice the height of the vector and three more nodes, so at most 17. The vector grows one
 /// row higher at most, and only where its root needs two rows, which have more than 32 links together; one whose root
 /// has fewer than 32 links keeps its height. Its rows of each height are those of the old vector, with at most two in
 /// the place of one, and two only where they have more than 32 links together. Refused with `Range` where the index is

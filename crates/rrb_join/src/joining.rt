@@ -1,17 +1,18 @@
 //! Two vectors as one.
-ghost use Rattle.std.specs.Prelude.{◌≡◌, ◌≢◌, ◌↔◌, ℕ, max, ◌+◌, ◌*◌, ◌<◌, ◌≤◌, ◌^◌, [], ◌∷◌, ◌++◌, length, IfOk, OnErr, Err};
+ghost use Rattle.std.specs.Prelude.{◌≡◌, ◌≢◌, ◌↔◌, ℕ, suc, max, ◌+◌, ◌*◌, ◌<◌, ◌≤◌, ◌^◌, [], ◌∷◌, ◌++◌, length, IfOk, OnErr, IsTrue, Err};
+ghost use Rattle.std.specs.List.{flat_map};
 ghost use Rattle.node_heap.specs.Heap.{form_at, links_at, hold_count, IsGraph, HasSpares};
 ghost use Rattle.node_heap.specs.Calls.{Answered, Builds, MakesJust, Unchanged};
 ghost use Rattle.rrb_core.specs.Seq.{seq_at, IsThick};
 ghost use Rattle.rrb_core.specs.Vector.{elements, height_at, IsGoodVector, IsSameVector};
-ghost use Rattle.rrb_join.specs.Unmade.{AreUnmade, AreThick, IsSomeRow, EndsIn, BeginsWith};
+ghost use Rattle.rrb_join.specs.Unmade.{AreUnmade, AreThick, IsSomeRow, CanJoin, EndsIn, BeginsWith};
 ghost use Rattle.rrb_join.specs.Answers.{GivesItself, RisesAtNeed};
-ghost use Rattle.rrb_join.specs.Seam.{JoinsRows, JoinsBelow};
+ghost use Rattle.rrb_join.specs.Seam.{AllStandBeside, AreAtNeed, JoinsRows, JoinsBelow, KeepsRows, KeepsBeneath};
 
-use crate::over::{held_again, root_over, rows_over};
+use crate::over::{OneOrTwo, both_held, held_again, root_of, rows_over};
 use elem_core::NoMemory;
 use node_heap::{Heap, Link};
-use rrb_core::{Flex, FlexRef, Gathered, gathered, height_of};
+use rrb_core::{Flex, FlexRef, Gathered, ROW_LINKS, gathered, height_of};
 use thiserror::Error;
 
 /// Why vectors were not joined.
@@ -35,17 +36,19 @@ impl From<NoMemory> for JoinFault {
     }
 }
 
-/// The most nodes that a join, a cut or an insert makes along its seam: two for each height and a root over two.
+/// The most nodes that a join, a cut or an insert makes along its seam: two for each height from 0 to 7, and a root over
+/// two.
 pub const SEAM_NODES: usize = 17;
 
-/// The elements of `left` and then those of `right`. It makes rows along the seam alone, at most two for each height of
+/// The elements of `left` and then those of `right`. It makes rows along the seam alone, at most twice the height of
 /// the higher vector and three more, so at most 17 nodes, and shares all others. Where one is empty it gives the other
 /// itself, which takes no memory. The result is no higher than the higher vector, or one row higher where its root
 /// needs two rows, which have more than 32 links together; and two vectors of one height, whose roots have at most 32
 /// links together, give a vector of that height. Nor is a row further down split in vain: the rows of each height are
 /// those of `left` but its last, then at most two, and two only where they have more than 32 links together, then those
-/// of `right` but its first. Refused with `Long` where the lengths sum past 2^32 - 1, and with `Memory` where memory
-/// runs out. A refusal changes nothing but the heap's spares.
+/// of `right` but its first. Where, from the leaves up to a height, the last row of `left` has 16 links or more, and more
+/// than 32 together with the first of `right`, the result has all rows of both at each of these heights. Refused with `Long` where the lengths sum past 2^32 - 1, and with `Memory`
+/// where memory runs out. A refusal changes nothing but the heap's spares.
 pub fn concat<T>(heap: &mut Heap<T>, left: FlexRef, right: FlexRef) -> Result<Flex, JoinFault>
     requires left_good { IsGoodVector heap.old left }
     requires right_good { IsGoodVector heap.old right }
@@ -55,6 +58,7 @@ pub fn concat<T>(heap: &mut Heap<T>, left: FlexRef, right: FlexRef) -> Result<Fl
     ensures flat { height_at heap.old left ≡ height_at heap.old right → length (links_at heap.old left) + length (links_at heap.old right) ≤ 32 → IfOk result (λ v. height_at heap.new v ≡ height_at heap.old left) }
     ensures low { IfOk result (λ v. RisesAtNeed heap.new (max (height_at heap.old left) (height_at heap.old right)) v) }
     ensures seam { IfOk result (λ v. JoinsRows heap.old heap.new left right v) }
+    ensures keeps { IfOk result (λ v. KeepsRows heap.old heap.new left right v) }
     ensures answered { IfOk result (λ v. Answered heap.old heap.new [] v 0 (2 * max (height_at heap.old left) (height_at heap.old right) + 3)) }
     ensures made { IfOk result (λ v. MakesJust heap.old heap.new) }
     ensures left_empty { elements heap.old left ≡ [] → GivesItself heap.old heap.new result right }
@@ -92,6 +96,7 @@ pub(crate) fn joined_root<T>(heap: &mut Heap<T>, left: Link, right: Link) -> Lin
     ensures flat { height_at heap.old left ≡ height_at heap.old right → length (links_at heap.old left) + length (links_at heap.old right) ≤ 32 → height_at heap.new result ≡ height_at heap.old left }
     ensures low { RisesAtNeed heap.new (max (height_at heap.old left) (height_at heap.old right)) result }
     ensures seam { JoinsRows heap.old heap.new left right result }
+    ensures keeps { KeepsRows heap.old heap.new left right result }
     ensures builds { Builds heap.old heap.new [] (result ∷ []) 0 (2 * max (height_at heap.old left) (height_at heap.old right) + 3) }
 {
     if heap.links(left).is_empty() {
@@ -103,8 +108,8 @@ pub(crate) fn joined_root<T>(heap: &mut Heap<T>, left: Link, right: Link) -> Lin
     let left_height = height_of(heap, left);
     let right_height = height_of(heap, right);
     let height = left_height.max(right_height);
-    let links = join(heap, left, left_height, right, right_height, height);
-    root_over(heap, links.as_slice(), height)
+    let rows = joined_rows(heap, left, left_height, right, right_height, height);
+    root_of(heap, rows.as_slice(), height)
 }
 
 // A row at the edge of another, and the place up to which the other's links stand beside it, or from which on.
@@ -160,8 +165,77 @@ fn first_edge<T>(heap: &Heap<T>, link: Link, height: u8, below: u8) -> Edge
     }
 }
 
+// Whether the rows along the seam of two rows of this height can stand side by side, at this height and at each below.
+fn stand_beside<T>(heap: &Heap<T>, left: Link, right: Link, height: u8) -> bool
+    requires left { IsSomeRow heap.now height left }
+    requires right { IsSomeRow heap.now height right }
+    ensures { IsTrue result ↔ AllStandBeside heap.now height left height right height }
+{
+    let front = heap.links(left);
+    let back = heap.links(right);
+    if front.len() < ROW_LINKS / 2 || front.len() + back.len() <= ROW_LINKS {
+        return false;
+    }
+    if height == 0 {
+        return true;
+    }
+    stand_beside(heap, front[front.len() - 1], back[0], height - 1)
+}
+
+// Whether two rows that are no higher than this height both have it, and can stand side by side there and at each below.
+fn can_keep<T>(
+    heap: &Heap<T>,
+    left: Link,
+    left_height: u8,
+    right: Link,
+    right_height: u8,
+    height: u8,
+) -> bool
+    requires left { IsSomeRow heap.now left_height left }
+    requires right { IsSomeRow heap.now right_height right }
+    requires left_low { left_height ≤ height }
+    requires right_low { right_height ≤ height }
+    ensures { IsTrue result ↔ AllStandBeside heap.now left_height left right_height right height }
+{
+    if left_height < height || right_height < height {
+        return false;
+    }
+    stand_beside(heap, left, right, height)
+}
+
+// The rows of this height, one or two, with the elements of `left` and then those of `right`. Neither is higher. Two that
+// have it, and can stand side by side there and at each height below, stay as they are.
+#[cycle(join)]
+fn joined_rows<T>(
+    heap: &mut Heap<T>,
+    left: Link,
+    left_height: u8,
+    right: Link,
+    right_height: u8,
+    height: u8,
+) -> OneOrTwo
+    requires rows { CanJoin heap.old left_height left right_height right height }
+    requires spare { 2 * height + 2 ≤ heap.old.spare_nodes }
+    ensures links { AreUnmade heap.new (suc height) result.items (seq_at (form_at heap.old) left_height left ++ seq_at (form_at heap.old) right_height right) }
+    ensures need { AreAtNeed heap.new 2 result.items }
+    ensures thick { right_height ≡ height → IsThick (form_at heap.old) height right → AreThick heap.new (suc height) result.items }
+    ensures left_wide { left_height ≡ height → length (links_at heap.old left) ≤ length (flat_map (links_at heap.new) result.items) }
+    ensures right_wide { right_height ≡ height → length (links_at heap.old right) ≤ length (flat_map (links_at heap.new) result.items) }
+    ensures few { left_height ≡ height → right_height ≡ height → length (flat_map (links_at heap.new) result.items) ≤ length (links_at heap.old left) + length (links_at heap.old right) }
+    ensures seam { JoinsBelow heap.old heap.new left_height left right_height right (suc height) result.items }
+    ensures keeps { KeepsBeneath heap.old heap.new left_height left right_height right (suc height) result.items }
+    ensures builds { Builds heap.old heap.new [] result.items 0 (2 * height + 2) }
+{
+    if can_keep(heap, left, left_height, right, right_height, height) {
+        return both_held(heap, left, right);
+    }
+    let links = join(heap, left, left_height, right, right_height, height);
+    rows_over(heap, links.as_slice(), height)
+}
+
 // The links of one row of this height or of two, with the elements of `left` and then those of `right`. Neither is higher.
 // Above leaves the children at the seam are joined, and the other children stand beside them.
+#[cycle(join)]
 fn join<T>(
     heap: &mut Heap<T>,
     left: Link,
@@ -170,21 +244,15 @@ fn join<T>(
     right_height: u8,
     height: u8,
 ) -> Gathered
-    requires graph { IsGraph heap.old }
-    requires left { IsSomeRow heap.old left_height left }
-    requires right { IsSomeRow heap.old right_height right }
-    requires left_low { left_height ≤ height }
-    requires right_low { right_height ≤ height }
-    requires low { height ≤ 7 }
-    requires short { length (seq_at (form_at heap.old) left_height left) + length (seq_at (form_at heap.old) right_height right) < 2 ^ 32 }
+    requires rows { CanJoin heap.old left_height left right_height right height }
     requires spare { 2 * height ≤ heap.old.spare_nodes }
-    requires holds { hold_count heap.old + 128 ≤ 2 ^ 60 }
     ensures links { AreUnmade heap.new height result.items (seq_at (form_at heap.old) left_height left ++ seq_at (form_at heap.old) right_height right) }
     ensures thick { right_height ≡ height → IsThick (form_at heap.old) height right → (16 ≤ length result.items) × AreThick heap.new height result.items }
     ensures left_wide { left_height ≡ height → length (links_at heap.old left) ≤ length result.items }
     ensures right_wide { right_height ≡ height → length (links_at heap.old right) ≤ length result.items }
     ensures few { left_height ≡ height → right_height ≡ height → length result.items ≤ length (links_at heap.old left) + length (links_at heap.old right) }
     ensures seam { JoinsBelow heap.old heap.new left_height left right_height right height result.items }
+    ensures keeps { KeepsBeneath heap.old heap.new left_height left right_height right height result.items }
     ensures builds { Builds heap.old heap.new [] result.items 0 (2 * height) }
 {
     if height == 0 {
@@ -194,7 +262,7 @@ fn join<T>(
     let below = height - 1;
     let last = last_edge(heap, left, left_height, below);
     let first = first_edge(heap, right, right_height, below);
-    let seam = join(
+    let rows = joined_rows(
         heap,
         last.link,
         last.height,
@@ -202,6 +270,5 @@ fn join<T>(
         first.height,
         below,
     );
-    let rows = rows_over(heap, seam.as_slice(), below);
     gathered(heap, left, last.place, rows.as_slice(), right, first.place)
 }

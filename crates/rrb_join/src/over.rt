@@ -1,14 +1,15 @@
 //! Rows over links that are gathered.
-ghost use Rattle.std.specs.Prelude.{◌≡◌, ℕ, ◌+◌, ◌<◌, ◌≤◌, ◌^◌, [], ◌∷◌, length};
+ghost use Rattle.std.specs.Prelude.{◌≡◌, ℕ, ◌+◌, ◌<◌, ◌≤◌, ◌^◌, [], ◌∷◌, length, IsSome};
 ghost use Rattle.std.specs.List.{All, flat_map};
-ghost use Rattle.node_heap.specs.Heap.{form_at, links_at, hold_count, IsGraph};
+ghost use Rattle.node_heap.specs.Links.{count};
+ghost use Rattle.node_heap.specs.Heap.{row_at, form_at, links_at, holds_at, hold_count, IsGraph};
 ghost use Rattle.node_heap.specs.Calls.{Builds};
 ghost use Rattle.rrb_core.specs.Seq.{seq_at, IsThick};
 ghost use Rattle.rrb_core.specs.Vector.{elements, height_at, IsGoodVector, IsSameVector};
 ghost use Rattle.rrb_core.specs.Build.{IsRowOf, AreRows, Shares};
 ghost use Rattle.rrb_join.specs.Unmade.{items_below, AreThick, CanBeRows};
 ghost use Rattle.rrb_join.specs.Answers.{RisesAtNeed};
-ghost use Rattle.rrb_core.specs.Levels.{rows_of};
+ghost use Rattle.rrb_core.specs.Levels.{rows_at, rows_of};
 ghost use Rattle.rrb_join.specs.Seam.{rows_under, AreAtNeed};
 ghost use Rattle.rrb_join.specs.Rest.{AreHalves};
 
@@ -30,6 +31,23 @@ pub(crate) fn held_again<T>(heap: &mut Heap<T>, root: Link) -> Link
 {
     heap.hold(root);
     root
+}
+
+// Two rows as they are, each held once more.
+pub(crate) fn both_held<T>(heap: &mut Heap<T>, left: Link, right: Link) -> OneOrTwo
+    requires graph { IsGraph heap.old }
+    requires left { IsSome (row_at heap.old left) }
+    requires right { IsSome (row_at heap.old right) }
+    requires holds { hold_count heap.old + 2 ≤ 2 ^ 60 }
+    ensures rows { result.items ≡ left ∷ right ∷ [] }
+    ensures builds { Builds heap.old heap.new [] result.items 0 0 }
+{
+    heap.hold(left);
+    heap.hold(right);
+    let mut both = ArrayVec::new();
+    both.push(left);
+    both.push(right);
+    both
 }
 
 // The row of this height over these links; it spends a hold for each place.
@@ -74,6 +92,32 @@ pub(crate) fn rows_over<T>(heap: &mut Heap<T>, links: &[Link], height: u8) -> On
     rows
 }
 
+// The root of one row of this height or of two: a row alone is the root itself, and two have a row over them. It spends
+// a hold for each of the rows.
+pub(crate) fn root_of<T>(heap: &mut Heap<T>, rows: &[Link], height: u8) -> Link
+    requires graph { IsGraph heap.old }
+    requires rows { AreRows heap.old height rows.now }
+    requires some { 1 ≤ length rows.now }
+    requires need { AreAtNeed heap.old 2 rows.now }
+    requires wide { 1 ≤ height → 2 ≤ length (flat_map (links_at heap.old) rows.now) }
+    requires low { height ≤ 7 }
+    requires short { length (flat_map (seq_at (form_at heap.old) height) rows.now) < 2 ^ 32 }
+    requires held { (k : ℕ) → count k rows.now ≤ holds_at heap.old k }
+    requires spare { 1 ≤ heap.old.spare_nodes }
+    requires holds { hold_count heap.old < 2 ^ 60 }
+    ensures good { IsGoodVector heap.new result }
+    ensures items { elements heap.new result ≡ flat_map (seq_at (form_at heap.old) height) rows.now }
+    ensures flat { length rows.now ≤ 1 → height_at heap.new result ≡ height }
+    ensures low { RisesAtNeed heap.new height result }
+    ensures below { (m : ℕ) → m ≤ height → rows_of heap.new m result ≡ flat_map (rows_at (links_at heap.old) height m) rows.now }
+    ensures builds { Builds heap.old heap.new rows.now (result ∷ []) 0 1 }
+{
+    if rows.len() == 1 {
+        return rows[0];
+    }
+    inner_over(heap, rows, height)
+}
+
 // The root over the links, which one row of this height may hold or two; an inner one needs two links or more.
 pub(crate) fn root_over<T>(heap: &mut Heap<T>, links: &[Link], height: u8) -> Link
     requires rows { CanBeRows heap.old height links.now }
@@ -88,9 +132,6 @@ pub(crate) fn root_over<T>(heap: &mut Heap<T>, links: &[Link], height: u8) -> Li
     ensures top { (m : ℕ) → height ≤ m → AreAtNeed heap.new 2 (rows_of heap.new m result) }
     ensures builds { Builds heap.old heap.new links.now (result ∷ []) 0 3 }
 {
-    if links.len() <= ROW_LINKS {
-        return row_over(heap, links, height);
-    }
     let rows = rows_over(heap, links, height);
-    row_over(heap, rows.as_slice(), height + 1)
+    root_of(heap, rows.as_slice(), height)
 }

@@ -35,7 +35,7 @@ pub(crate) fn rest_root<T>(heap: &mut Heap<T>, root: Link, count: u32) -> Link
     ensures good { IsGoodVector heap.new result }
     ensures low { height_at heap.new result ≤ height_at heap.old root }
     ensures rows { LeavesRows heap.old heap.new root result }
-    ensures no_more { LeavesNoMore heap.old heap.new root count result }
+    ensures within { LeavesNoMore heap.old heap.new root count result }
     ensures builds { Builds heap.old heap.new [] (result ∷ []) 0 (2 * height_at heap.new result + 1) }
 {
     if count == 0 {
@@ -66,7 +66,7 @@ fn rest_of<T>(heap: &mut Heap<T>, link: Link, height: u8, count: u32) -> Rest
     ensures two { 1 ≤ result.height → 2 ≤ length result.links.items }
     ensures thick { IsThick (form_at heap.old) height link → AreThick heap.new result.height result.links.items }
     ensures rows { LeavesBelow heap.old heap.new height link result.height result.links.items }
-    ensures no_more { LeavesNoMoreBelow heap.old heap.new height link count result.height result.links.items }
+    ensures within { LeavesNoMoreBelow heap.old heap.new height link count result.height result.links.items }
     ensures builds { Builds heap.old heap.new [] result.links.items 0 (2 * result.height) }
 {
     if height == 0 {

@@ -18,7 +18,7 @@ pub returns-then-count-len-clause-low : goal.returns-then-count-len-clause-low
 returns-then-count-len-clause-low g c = rw (c.share.ensures.same, same-height c.args.heap.now c.share.new.heap c.args.vector c.share.ensures.shares.rows) (omega arith)
 
 pub returns-then-count-len-clause-rows : goal.returns-then-count-len-clause-rows
-returns-then-count-len-clause-rows g c = rw c.share.ensures.same (takes-whole c.args.heap.now c.share.new.heap c.share.ensures.shares.rows c.args.vector)
+returns-then-count-len-clause-rows g c = rw c.share.ensures.same (takes-whole c.args.heap.now c.share.new.heap c.share.ensures.shares.rows c.args.vector c.args.count)
 
 pub returns-then-count-len-clause-answered : goal.returns-then-count-len-clause-answered
 returns-then-count-len-clause-answered g c = Answered-Builds (Builds-more 0 _ c.share.ensures.shares.builds (omega arith) (omega arith))
@@ -51,7 +51,7 @@ pub returns-clause-low : goal.returns-clause-low
 returns-clause-low g c = rw (c.from_root.ensures, ← same-height c.args.heap.now c.reserve.new.self c.args.vector c.in_ok-reserve.ensures.rest.rows) (rw c.root.ensures at c.front_root-root.ensures.low)
 
 pub returns-clause-rows : goal.returns-clause-rows
-returns-clause-rows g c = rw c.from_root.ensures (takes-after c.args.heap.now c.reserve.new.self c.in_ok-reserve.ensures.rest.rows c.front_root-root.new.heap c.args.vector c.front_root-root.result (rw c.root.ensures at c.front_root-root.ensures.rows))
+returns-clause-rows g c = rw c.from_root.ensures (takes-after c.args.heap.now c.reserve.new.self c.in_ok-reserve.ensures.rest.rows c.front_root-root.new.heap c.args.vector c.args.count c.front_root-root.result (rw c.root.ensures at c.front_root-root.ensures.rows))
 
 pub returns-clause-answered : goal.returns-clause-answered
 returns-clause-answered g c = rw c.from_root.ensures (Builds-Answered c.in_ok-reserve.ensures.rest c.front_root-root.ensures.builds)

@@ -34,10 +34,10 @@ returns-then-count-eq0-clause-seam g c = rw c.share.ensures.same (drops-itself c
 pub returns-clause-seam : goal.returns-clause-seam
 returns-clause-seam g c = rw c.from_root.ensures (left-drops c.args.heap.now c.reserve.new.self c.rest_root.new.heap c.args.vector c.rest_root.result c.in_ok-reserve.ensures.rest (rw c.root.ensures at c.rest_root.ensures.rows))
 
-pub returns-then-count-eq0-clause-no_more : goal.returns-then-count-eq0-clause-no_more
-returns-then-count-eq0-clause-no_more g c = rw (c.share.ensures.same, c.if-count-eq0.true) (fewer-whole c.args.heap.now c.share.new.heap c.args.vector c.share.ensures.shares.rows c.share.ensures.shares.builds.graph c.requires.good)
+pub returns-then-count-eq0-clause-within : goal.returns-then-count-eq0-clause-within
+returns-then-count-eq0-clause-within g c = rw (c.share.ensures.same, c.if-count-eq0.true) (fewer-whole c.args.heap.now c.share.new.heap c.args.vector c.share.ensures.shares.rows c.share.ensures.shares.builds.graph c.requires.good)
 
-pub returns-clause-no_more : goal.returns-clause-no_more
-returns-clause-no_more g c =
+pub returns-clause-within : goal.returns-clause-within
+returns-clause-within g c =
     rw c.from_root.ensures
-    (fewer-rest c.args.heap.now c.reserve.new.self c.args.vector c.in_ok-reserve.ensures.rest.rows c.in_ok-reserve.ensures.rest.graph c.requires.good c.rest_root.new.heap c.rest_root.result c.args.count (rw c.root.ensures at c.rest_root.ensures.no_more) (rw c.root.ensures at c.rest_root.ensures.low))
+    (fewer-rest c.args.heap.now c.reserve.new.self c.args.vector c.in_ok-reserve.ensures.rest.rows c.in_ok-reserve.ensures.rest.graph c.requires.good c.rest_root.new.heap c.rest_root.result c.args.count (rw c.root.ensures at c.rest_root.ensures.within) (rw c.root.ensures at c.rest_root.ensures.low))

@@ -120,10 +120,10 @@ returns-clause-low g c =
 joined : (g : given.Over) (c : goal.After-from_root g) → ErasesRows c.args.heap.now c.joined_root-root.new.heap c.args.vector c.joined_root-root.result
 joined g c =
     let first = (unchanged-good c.args.vector c.in_ok-reserve.ensures.rest c.requires.good).0 in
-    let taken : TakesFirstRows c.args.heap.now c.take.new.heap c.args.vector c.in_ok-front.front = takes-after c.args.heap.now c.reserve.new.self c.in_ok-reserve.ensures.rest.rows c.take.new.heap c.args.vector c.in_ok-front.front c.in_ok-front.ensures.rows in
+    let taken : TakesFirstRows c.args.heap.now c.take.new.heap c.args.vector c.args.from c.in_ok-front.front = takes-after c.args.heap.now c.reserve.new.self c.in_ok-reserve.ensures.rest.rows c.take.new.heap c.args.vector c.args.from c.in_ok-front.front c.in_ok-front.ensures.rows in
     let same : (m : ℕ) → rows_of c.take.new.heap m c.args.vector ≡ rows_of c.args.heap.now m c.args.vector = λ m.
     rows-of-kept (live-stays c.in_ok-reserve.ensures.rest.graph c.in_ok-front.ensures.answered.extends) m c.args.vector (well-live c.reserve.new.self (height_at c.reserve.new.self c.args.vector) c.args.vector first.shape.well) ∙ rows-of-same c.args.heap.now c.reserve.new.self c.in_ok-reserve.ensures.rest.rows m c.args.vector in
-    erases c.args.heap.now c.take.new.heap c.rest_root-back.new.heap c.joined_root-root.new.heap c.args.vector c.in_ok-front.front c.rest_root-back.result c.joined_root-root.result
+    erases c.args.heap.now c.take.new.heap c.rest_root-back.new.heap c.joined_root-root.new.heap c.args.vector c.args.from c.in_ok-front.front c.rest_root-back.result c.joined_root-root.result
     (live-stays c.in_ok-front.ensures.answered.graph c.rest_root-back.ensures.builds.extends) (live-stays c.rest_root-back.ensures.builds.graph c.joined_root-root.ensures.builds.extends)
     (well-live c.take.new.heap (height_at c.take.new.heap c.in_ok-front.front) c.in_ok-front.front c.in_ok-front.ensures.good.shape.well)
     (well-live c.rest_root-back.new.heap (height_at c.rest_root-back.new.heap c.rest_root-back.result) c.rest_root-back.result c.rest_root-back.ensures.good.shape.well) c.joined_root-root.ensures.good

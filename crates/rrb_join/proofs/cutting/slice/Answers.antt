@@ -60,23 +60,23 @@ returns-clause-low g c =
 
 pub returns-clause-seam : goal.returns-clause-seam
 returns-clause-seam g c =
-    let taken : TakesFirstRows c.args.heap.now c.take.new.heap c.args.vector c.in_ok-front.front = takes-after c.args.heap.now c.reserve.new.self c.in_ok-reserve.ensures.rest.rows c.take.new.heap c.args.vector c.in_ok-front.front c.in_ok-front.ensures.rows in
-    let sliced = slices c.args.heap.now c.take.new.heap c.rest_root-root.new.heap c.args.vector c.in_ok-front.front c.rest_root-root.result taken (rw (c.root.ensures, c.view.ensures) at c.rest_root-root.ensures.rows) in
+    let taken : TakesFirstRows c.args.heap.now c.take.new.heap c.args.vector c.args.to c.in_ok-front.front = takes-after c.args.heap.now c.reserve.new.self c.in_ok-reserve.ensures.rest.rows c.take.new.heap c.args.vector c.args.to c.in_ok-front.front c.in_ok-front.ensures.rows in
+    let sliced = slices c.args.heap.now c.take.new.heap c.rest_root-root.new.heap c.args.vector c.args.to c.in_ok-front.front c.rest_root-root.result taken (rw (c.root.ensures, c.view.ensures) at c.rest_root-root.ensures.rows) in
     rw c.from_root.ensures (slices-held c.release.ensures.keeps c.rest_root-root.result (gives-first c.rest_root-root.result c.in_ok-front.front (made g c)) c.args.heap.now c.args.vector sliced)
 
 pub returns-then-to-len-clause-seam : goal.returns-then-to-len-clause-seam
 returns-then-to-len-clause-seam g c = rw c.share.ensures.same (slices-itself c.args.heap.now c.share.new.heap c.args.vector (λ m. rows-of-same c.args.heap.now c.share.new.heap c.share.ensures.shares.rows m c.args.vector))
 
-pub returns-clause-no_more : goal.returns-clause-no_more
-returns-clause-no_more g c =
+pub returns-clause-within : goal.returns-clause-within
+returns-clause-within g c =
     let rest = c.in_ok-reserve.ensures.rest in
     let front = c.in_ok-front.ensures in
     let short : length (elements c.take.new.heap c.in_ok-front.front) ≤ c.args.to = rw front.items (omega (arith, length-take c.args.to (elements c.reserve.new.self c.args.vector))) in
-    let part = fewer-slice c.args.heap.now c.reserve.new.self c.args.vector rest.rows rest.graph c.requires.good c.take.new.heap c.rest_root-root.new.heap c.in_ok-front.front c.rest_root-root.result c.args.from c.args.to front.answered.extends front.good short front.rows (rw (c.root.ensures, c.view.ensures) at c.rest_root-root.ensures.no_more) (rw (c.root.ensures, c.view.ensures) at c.rest_root-root.ensures.low) in
+    let part = fewer-slice c.args.heap.now c.reserve.new.self c.args.vector rest.rows rest.graph c.requires.good c.take.new.heap c.rest_root-root.new.heap c.in_ok-front.front c.rest_root-root.result c.args.from c.args.to front.answered.extends front.good short front.rows (rw (c.root.ensures, c.view.ensures) at c.rest_root-root.ensures.within) (rw (c.root.ensures, c.view.ensures) at c.rest_root-root.ensures.low) in
     rw c.from_root.ensures (fewer-held c.release.ensures.keeps c.rest_root-root.result (gives-first c.rest_root-root.result c.in_ok-front.front (made g c)) c.args.heap.now c.args.vector c.args.from c.args.to part)
 
-pub returns-then-to-len-clause-no_more : goal.returns-then-to-len-clause-no_more
-returns-then-to-len-clause-no_more g c =
+pub returns-then-to-len-clause-within : goal.returns-then-to-len-clause-within
+returns-then-to-len-clause-within g c =
     let all : c.args.to ≡ length (elements c.args.heap.now c.args.vector) = c.if-to-len.true ∙ c.len.ensures.value in
     rw (c.share.ensures.same, c.if-from-eq0.true, all) (fewer-whole c.args.heap.now c.share.new.heap c.args.vector c.share.ensures.shares.rows c.share.ensures.shares.builds.graph c.requires.good)
 

@@ -3,7 +3,9 @@ use Rattle.node_heap.proofs.BuildLemmas.{Builds-more, Builds-Answered}
 use Rattle.rrb_core.proofs.BuildLemmas.{unchanged-good, answered-same}
 use Rattle.rrb_join.proofs.AnswerLemmas.{unchanged-height, unchanged-links, rises-more}
 use Rattle.rrb_core.proofs.LevelLemmas.{rows-of-same}
-use Rattle.rrb_join.proofs.JoinLemmas.{no-items, joins-left-none, joins-right-none, joins-after}
+use Rattle.rrb_join.proofs.JoinLemmas.{no-items, joins-left-none, joins-right-none, joins-after, keeps-left-none, keeps-right-none, keeps-after}
+use Rattle.rrb_join.proofs.UnmadeLemmas.{leaf-length}
+use Rattle.rrb_core.specs.Vector.{height_at}
 use Rattle.rrb_join.proofs.joining.concat.Goals as goal
 
 pub returns-in_err-reserve-clause-vectors : goal.returns-in_err-reserve-clause-vectors
@@ -64,3 +66,18 @@ returns-then-right_len-eq0-clause-seam g c =
 
 pub returns-clause-seam : goal.returns-clause-seam
 returns-clause-seam g c = rw c.from_root.ensures (joins-after c.args.heap.now c.reserve.new.self c.joined_root.new.heap c.args.left c.args.right c.joined_root.result c.in_ok-reserve.ensures.rest (rw (c.root.ensures, c.root-2.ensures) at c.joined_root.ensures.seam))
+
+pub returns-then-left_len-eq0-clause-keeps : goal.returns-then-left_len-eq0-clause-keeps
+returns-then-left_len-eq0-clause-keeps g c =
+    let low = no-items c.args.heap.now c.args.left c.requires.left_good (omega (arith, c.len-left_len.ensures.value)) in
+    let size = leaf-length c.args.heap.now (height_at c.args.heap.now c.args.left) c.args.left low c.requires.left_good.shape.well c.requires.left_good.sums in
+    keeps-left-none c.args.heap.now c.share.new.heap c.args.left c.args.right c.share.result low (omega (arith, size, c.len-left_len.ensures.value))
+
+pub returns-then-right_len-eq0-clause-keeps : goal.returns-then-right_len-eq0-clause-keeps
+returns-then-right_len-eq0-clause-keeps g c =
+    let low = no-items c.args.heap.now c.args.right c.requires.right_good (omega (arith, c.len-right_len.ensures.value)) in
+    let size = leaf-length c.args.heap.now (height_at c.args.heap.now c.args.right) c.args.right low c.requires.right_good.shape.well c.requires.right_good.sums in
+    keeps-right-none c.args.heap.now c.share-then-right_len-eq0.new.heap c.args.left c.args.right c.share-then-right_len-eq0.result c.requires.left_good low (omega (arith, size, c.len-right_len.ensures.value))
+
+pub returns-clause-keeps : goal.returns-clause-keeps
+returns-clause-keeps g c = rw c.from_root.ensures (keeps-after c.args.heap.now c.reserve.new.self c.joined_root.new.heap c.args.left c.args.right c.joined_root.result c.in_ok-reserve.ensures.rest (rw (c.root.ensures, c.root-2.ensures) at c.joined_root.ensures.keeps))

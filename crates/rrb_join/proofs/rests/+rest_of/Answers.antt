@@ -134,17 +134,17 @@ returns-then-height-eq0-clause-thick g t c = λ thick. leaf-are-thick c.gathered
 pub returns-then-height-eq0-clause-rows : goal.returns-then-height-eq0-clause-rows
 returns-then-height-eq0-clause-rows g t c = λ m. none-above c.args.heap.now c.gathered.new.heap c.args.height c.args.link 0 m c.gathered.result.items (omega arith)
 
-pub returns-then-height-eq0-clause-no_more : goal.returns-then-height-eq0-clause-no_more
-returns-then-height-eq0-clause-no_more g t c = fewer-leaf c.args.heap.now c.gathered.new.heap c.args.height c.args.link c.args.count c.gathered.result.items
+pub returns-then-height-eq0-clause-within : goal.returns-then-height-eq0-clause-within
+returns-then-height-eq0-clause-within g t c = fewer-leaf c.args.heap.now c.gathered.new.heap c.args.height c.args.link c.args.count c.gathered.result.items
 
-pub returns-then-next-links-clause-no_more : goal.returns-then-next-links-clause-no_more
-returns-then-next-links-clause-no_more g t c =
+pub returns-then-next-links-clause-within : goal.returns-then-next-links-clause-within
+returns-then-next-links-clause-within g t c =
     let place-is = at-place c.links.result.now (links_at c.args.heap.now c.args.link) c.spot_of-spot.result.place c.index-links-spot.result c.index-links-spot.is c.links.ensures.links c.spot_of-spot.ensures.place in
-    fewer-last c.args.heap.now c.args.height (c.args.height - 1) c.args.link c.spot_of-spot.result.place c.index-links-spot.result c.args.count c.spot_of-spot.result.within (omega arith) c.spot_of-spot.ensures.place place-is c.spot_of-spot.ensures.before (rw place-is c.spot_of-spot.ensures.inside) c.rest_of-rest.new.heap c.rest_of-rest.result.height c.rest_of-rest.result.links.items c.rest_of-rest.ensures.low c.rest_of-rest.ensures.no_more
+    fewer-last c.args.heap.now c.args.height (c.args.height - 1) c.args.link c.spot_of-spot.result.place c.index-links-spot.result c.args.count c.spot_of-spot.result.within (omega arith) c.spot_of-spot.ensures.place place-is c.spot_of-spot.ensures.before (rw place-is c.spot_of-spot.ensures.inside) c.rest_of-rest.new.heap c.rest_of-rest.result.height c.rest_of-rest.result.links.items c.rest_of-rest.ensures.low c.rest_of-rest.ensures.within
 
-pub returns-clause-no_more : goal.returns-clause-no_more
-returns-clause-no_more g t c =
+pub returns-clause-within : goal.returns-clause-within
+returns-clause-within g t c =
     let n = next g t c.before.before.before in
     let place-is = at-place c.links.result.now (links_at c.args.heap.now c.args.link) c.spot_of-spot.result.place c.index-links-spot.result c.index-links-spot.is c.links.ensures.links c.spot_of-spot.ensures.place in
     fewer-next c.args.heap.now c.args.height (c.args.height - 1) c.args.link c.spot_of-spot.result.place c.index-links-spot.result c.args.count c.spot_of-spot.result.within (omega arith) c.spot_of-spot.ensures.place place-is c.spot_of-spot.ensures.before (rw place-is c.spot_of-spot.ensures.inside)
-    n.more n.place n.well c.prepend-merged.ensures.low c.raised.ensures.low n.levels (others g t c.before).levels c.rest_of-rest.ensures.no_more (rw c.as_slice.ensures.value at c.prepend-merged.ensures.rows) c.raised.ensures.rows
+    n.more n.place n.well c.prepend-merged.ensures.low c.raised.ensures.low n.levels (others g t c.before).levels c.rest_of-rest.ensures.within (rw c.as_slice.ensures.value at c.prepend-merged.ensures.rows) c.raised.ensures.rows

@@ -65,15 +65,15 @@ pub returns-clause-rows : goal.returns-clause-rows
 returns-clause-rows g c =
     left-root c.args.heap.now c.rest_of-rest.new.heap c.row_over.new.heap c.args.root c.height_of-height.result c.rest_of-rest.result.height c.row_over.result c.height_of-height.ensures (live-stays c.rest_of-rest.ensures.builds.graph c.row_over.ensures.builds.extends) c.rest_of-rest.ensures.links.links c.row_over.ensures.row.well (c.row_over.ensures.links ∙ c.as_slice.ensures.value) c.rest_of-rest.ensures.rows
 
-pub returns-then-count-eq0-clause-no_more : goal.returns-then-count-eq0-clause-no_more
-returns-then-count-eq0-clause-no_more g c =
+pub returns-then-count-eq0-clause-within : goal.returns-then-count-eq0-clause-within
+returns-then-count-eq0-clause-within g c =
     let stays = live-stays c.requires.graph c.held_again.ensures.shares.builds.extends in
     let live = well-live c.args.heap.now (height_at c.args.heap.now c.args.root) c.args.root c.requires.good.shape.well in
     rw (c.held_again.ensures.same, c.if-count-eq0.true) (fewer-itself c.args.heap.now c.args.root c.requires.good c.held_again.new.heap (λ m. rows-of-kept stays m c.args.root live))
 
-pub returns-then-count-len-clause-no_more : goal.returns-then-count-len-clause-no_more
-returns-then-count-len-clause-no_more g c = fewer-none c.args.heap.now c.leaf_over.new.heap c.args.root c.args.count c.leaf_over.result c.leaf_over.ensures.row.well
+pub returns-then-count-len-clause-within : goal.returns-then-count-len-clause-within
+returns-then-count-len-clause-within g c = fewer-none c.args.heap.now c.leaf_over.new.heap c.args.root c.args.count c.leaf_over.result c.leaf_over.ensures.row.well
 
-pub returns-clause-no_more : goal.returns-clause-no_more
-returns-clause-no_more g c =
-    fewer-root c.args.heap.now c.rest_of-rest.new.heap c.row_over.new.heap c.args.root c.args.count c.height_of-height.result c.rest_of-rest.result.height c.row_over.result c.height_of-height.ensures (live-stays c.rest_of-rest.ensures.builds.graph c.row_over.ensures.builds.extends) c.rest_of-rest.ensures.links.links c.row_over.ensures.row.well (c.row_over.ensures.links ∙ c.as_slice.ensures.value) c.rest_of-rest.ensures.no_more
+pub returns-clause-within : goal.returns-clause-within
+returns-clause-within g c =
+    fewer-root c.args.heap.now c.rest_of-rest.new.heap c.row_over.new.heap c.args.root c.args.count c.height_of-height.result c.rest_of-rest.result.height c.row_over.result c.height_of-height.ensures (live-stays c.rest_of-rest.ensures.builds.graph c.row_over.ensures.builds.extends) c.rest_of-rest.ensures.links.links c.row_over.ensures.row.well (c.row_over.ensures.links ∙ c.as_slice.ensures.value) c.rest_of-rest.ensures.within
