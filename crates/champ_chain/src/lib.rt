@@ -30,7 +30,7 @@ use std::cmp::Ordering;
 pub struct Found {
     /// The key's entry, None exactly where the key is absent.
     pub entry: Option<Link>,
-    /// The number of entries whose keys share the key's code.
+    /// The number of entries whose keys have the key's masked code.
     pub alike: usize,
 }
 

@@ -1,6 +1,6 @@
 //! The roots of maps and of sets: one of them owned, and one named.
-ghost use Rattle.std.specs.Prelude.{◌≡◌, ℕ, ◌<◌, ◌≤◌, ◌^◌, [], ◌∷◌, IsSome, IfOk, IsOk, OnOk, OnErr};
-ghost use Rattle.node_heap.specs.Heap.{row_at, holds_at, hold_count, one_at, HasSpares, IsGraph};
+ghost use Rattle.std.specs.Prelude.{◌≡◌, ℕ, ◌+◌, ◌<◌, ◌≤◌, ◌^◌, [], ◌∷◌, IsSome, IfOk, IsOk, OnOk, OnErr};
+ghost use Rattle.node_heap.specs.Heap.{row_at, holds_at, hold_count, node_count, one_at, HasSpares, IsGraph};
 ghost use Rattle.node_heap.specs.Calls.{Answered, Builds, KeepsHeld, MakesJust, Releases, SameRows, Unchanged};
 ghost use Rattle.champ_kinds.specs.Root.{Root};
 ghost use Rattle.champ_kinds.specs.Kinds.{IsMapOf, IsSetOf};
@@ -45,12 +45,13 @@ impl<K> Model for RootRef<K> {
 }
 
 impl<K> Rooted<K> {
-    /// The empty map or set by so many bits of the codes. It makes at most one node. Err
+    /// The empty map or set by so many bits of the codes. It makes one node. Err
     /// where memory runs out: then nothing but the heap's spares has changed.
     pub fn empty<T: Element>(heap: &mut Heap<T>, bits: u32) -> Result<Rooted<K>, NoMemory>
         requires bits { bits ≤ CODE_BITS }
         requires few { hold_count heap.old < 2 ^ 59 }
         ensures answered { IfOk result (λ made. Answered heap.old heap.new [] made.root 0 1) }
+        ensures one { OnOk result (node_count heap.new ≡ node_count heap.old + 1) }
         ensures made { OnOk result (MakesJust heap.old heap.new) }
         ensures bits { IfOk result (λ made. made.bits ≡ bits) }
         ensures map { IfOk result (λ made. IsMapOf T.cmp T.code_of heap.new made []) }

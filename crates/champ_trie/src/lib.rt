@@ -9,7 +9,7 @@
 
 ghost use Rattle.std.specs.Prelude.{◌≡◌, ◌↔◌, ℕ, ◌+◌, ◌<◌, ◌≤◌, ◌≢◌, ◌^◌, List, [], ◌∷◌, length, map, Some, None, IsSome, IfOk, OnOk, OnErr, IsOk, IfSome, IfNone};
 ghost use Rattle.node_heap.specs.Forms.{Tree, IsTree, AreTrees, trees_of};
-ghost use Rattle.node_heap.specs.Heap.{form_at, holds_at, hold_count, HasSpares, IsGraph};
+ghost use Rattle.node_heap.specs.Heap.{form_at, holds_at, hold_count, node_count, HasSpares, IsGraph};
 ghost use Rattle.node_heap.specs.Calls.{Answered, Unchanged, Builds, MakesJust};
 ghost use Rattle.champ_chain.specs.Entry.{SameSet, Entry, entry as entry_of, key_at, link_with, others, put};
 ghost use Rattle.champ_trie.specs.Trie.{IsTrieOf, KeepsTries, code_by};
@@ -36,11 +36,12 @@ use row::{TrieRow, edited};
 use std::cmp::Ordering;
 pub use walk::Entries;
 
-/// The empty trie: a row without links. It makes at most one node. Err where memory runs out: then nothing but
+/// The empty trie: a row without links. It makes one node. Err where memory runs out: then nothing but
 /// the heap's spares has changed.
 pub fn empty<T: Element>(heap: &mut Heap<T>) -> Result<Link, NoMemory>
     requires few { hold_count heap.old < 2 ^ 59 }
     ensures answered { IfOk result (λ l. Answered heap.old heap.new [] l 0 1) }
+    ensures one { OnOk result (node_count heap.new ≡ node_count heap.old + 1) }
     ensures entries { (bits : ℕ) → IfOk result (λ l. IsTrieOf T.cmp T.code_of bits heap.new l []) }
     ensures made { OnOk result (MakesJust heap.old heap.new) }
     ensures tries { KeepsTries heap.old heap.new }

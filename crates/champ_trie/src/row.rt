@@ -3,7 +3,7 @@ ghost use Rattle.std.specs.Prelude.{◌≡◌, ◌≢◌, ◌⊎◌, ℕ, ◌+�
 ghost use Rattle.node_heap.specs.Links.{count};
 ghost use Rattle.node_heap.specs.Forms.{node, trie};
 ghost use Rattle.node_heap.specs.Heap.{row_at, form_at, holds_at, hold_count, IsGraph};
-ghost use Rattle.node_heap.specs.Calls.{SameRows, Builds};
+ghost use Rattle.node_heap.specs.Calls.{SameRows, Makes, Builds};
 ghost use Rattle.node_heap.specs.declared.row.Head.TheVariants.{Trie};
 ghost use Rattle.champ_trie.specs.Trie.{AreSets, IsRow, place_of, links_at_place};
 ghost use Rattle.champ_trie.specs.Edit.{Closes};
@@ -107,6 +107,7 @@ impl TrieRow {
         requires few { hold_count heap.old < 2 ^ 60 }
         ensures row { IsRow (form_at heap.new) result depth self.now.entries self.now.nodes self.now.links.items }
         ensures builds { Builds heap.old heap.new self.now.links.items (result ∷ []) 0 1 }
+        ensures makes { Makes heap.old heap.new 0 1 }
     {
         let head = Head::Trie {
             depth,
