@@ -2,8 +2,8 @@
 //!
 //! The notes are a map. The history is a vector, and its elements are the roots of the maps that came before. Each edit
 //! makes a new map and a new vector beside the old ones and shares nearly all rows with them.
-ghost use Rattle.std.specs.Prelude.{◌≡◌, ℕ, ◌+◌, ◌-◌, ◌^◌, ◌<◌, ◌≤◌, ◌↔◌, List, [], ◌∷◌, ◌++◌, length, Ok, Err, true, false, IsSome, IfOk, OnErr, OnOk};
-ghost use Rattle.node_heap.specs.Heap.{row_at, holds_at, hold_count, IsGraph};
+ghost use Rattle.std.specs.Prelude.{◌≡◌, ℕ, ◌+◌, ◌-◌, ◌^◌, ◌<◌, ◌≤◌, ◌↔◌, List, [], ◌∷◌, ◌++◌, length, Ok, Err, true, false, IsSome, IfOk, IsOk, OnErr, OnOk};
+ghost use Rattle.node_heap.specs.Heap.{row_at, holds_at, hold_count, IsGraph, HasSpares};
 ghost use Rattle.node_heap.specs.Calls.{Builds, KeepsBelow};
 ghost use Rattle.rrb_core.specs.Vector.{elements};
 ghost use Rattle.champ_kinds.specs.Root.{Root};
@@ -28,13 +28,19 @@ pub struct Store {
 impl Store {
     ghost use Rattle.container_tests.specs.Undo.{IsStore, KeepsOthers, KeepsVersions, HasWritten, held_by};
 
-    /// A store without notes and without a history. Refused only where memory runs out, and then all holds are as they were.
+    /// A store without notes and without a history. Whatever map anyone holds stays. Refused only where memory runs out,
+    /// which it doesn't with two spare nodes, and then all holds are as they were.
     pub fn new<T: Element>(heap: &mut Heap<T>) -> Result<Store, NoMemory>
         requires { hold_count heap.old < 2 ^ 50 }
         ensures store { IfOk result (IsStore T.cmp T.code_of heap.new) }
+        ensures notes { IfOk result (λ s. IsMapOf T.cmp T.code_of heap.new s.notes []) }
         ensures first { IfOk result (λ s. elements heap.new s.earlier ≡ []) }
+        ensures holds { IfOk result (λ s. (k : ℕ) → holds_at heap.new k ≡ holds_at heap.old k + held_by s k) }
         ensures count { IfOk result (λ _. hold_count heap.new ≡ hold_count heap.old + 2) }
-        ensures refused { OnErr result ((k : ℕ) → holds_at heap.new k ≡ holds_at heap.old k) }
+        ensures maps { (r : Root) (M : List (Binding T)) → 0 < holds_at heap.old r.root →
+            IsMapOf T.cmp T.code_of heap.old r M → IsMapOf T.cmp T.code_of heap.new r M }
+        ensures refused { OnErr result (((k : ℕ) → holds_at heap.new k ≡ holds_at heap.old k) × (hold_count heap.new ≡ hold_count heap.old)) }
+        ensures ample { HasSpares heap.old 0 2 → IsOk result }
     {
         let notes = Map::empty(heap, CODE_BITS)?;
         match Flex::empty(heap) {
@@ -82,8 +88,8 @@ impl Store {
         }
     }
 
-    /// Goes back to the version before the last `put`. False where there is none. Refused where memory runs out, and then
-    /// the store is as it was.
+    /// Goes back to the version before the last `put`. False where there is none, and then nothing changes. Refused where
+    /// memory runs out, and then the store is as it was.
     pub fn undo<T: Element>(&mut self, heap: &mut Heap<T>) -> Result<bool, NoMemory>
         requires few { hold_count heap.old < 2 ^ 50 }
         requires store { IsStore T.cmp T.code_of heap.old self.old }
@@ -92,6 +98,7 @@ impl Store {
         ensures back { result ≡ Ok true → elements heap.new self.new.earlier ++ self.new.notes.root ∷ [] ≡ elements heap.old self.old.earlier }
         ensures versions { KeepsVersions T.cmp T.code_of heap.old heap.new self.new }
         ensures first { (result ≡ Ok false) ↔ (elements heap.old self.old.earlier ≡ []) }
+        ensures nothing { result ≡ Ok false → (self.new ≡ self.old) × (heap.new ≡ heap.old) }
         ensures refused { OnErr result (self.new ≡ self.old) }
     {
         let count = self.earlier.view().len(heap);
@@ -118,11 +125,13 @@ impl Store {
         self.notes.share(heap)
     }
 
-    /// Gives both roots up: rows that nobody else keeps are freed.
+    /// Gives both roots up: rows that nobody else keeps are freed, and a map of which anyone else has a hold stays.
     pub fn close<T: Element>(self, heap: &mut Heap<T>)
         requires { IsStore T.cmp T.code_of heap.old self }
         ensures holds { (k : ℕ) → holds_at heap.new k + held_by self k ≡ holds_at heap.old k }
         ensures count { hold_count heap.new + 2 ≡ hold_count heap.old }
+        ensures maps { (r : Root) (M : List (Binding T)) → held_by self r.root < holds_at heap.old r.root →
+            IsMapOf T.cmp T.code_of heap.old r M → IsMapOf T.cmp T.code_of heap.new r M }
     {
         let Store { notes, earlier } = self;
         notes.release(heap);
