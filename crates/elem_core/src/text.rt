@@ -105,7 +105,7 @@ impl Ord for Text {
     }
 }
 
-/// A copy of the line that a cell may own.
+/// A copy of the line that a cell may own. Err where memory runs out.
 pub fn text_of(alloc: Global, line: Line<'_>) -> Result<Text, NoMemory>
     ensures { IfOk result (λ made. made ≡ line_bytes line.entry) }
 {

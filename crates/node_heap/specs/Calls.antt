@@ -116,8 +116,8 @@ module _ {T : Type 0} where
     pub no_fewer : old.made ≤ new.made
     pub made : min (old.made + (live_count new - live_count old)) (2 ^ 64 - 1) ≤ new.made
 
-  -- a pure call has answered: the old rows stay, at most so many cells and nodes came, each of a spare,
-  -- and the result is held once more, for which a hold of each link in the list was spent
+  -- a pure call has answered: the old rows stay, at most so many cells and nodes came, and the spares fell
+  -- by no more; the result is held once more, for which a hold of each link in the list was spent
   pub record Answered (old new : Heap T) (spent : List ℕ) (result c n : ℕ) : Type 0 where
     pub extends : Extends old new
     pub graph : IsGraph new

@@ -75,7 +75,8 @@ impl<T> Heap<T> {
     /// Makes room, so that so many cells and so many nodes can be made without memory: the spares of each kind are then what
     /// was there or what was asked, whichever is more. Refused where there is no memory, and where the rows and the spares
     /// together would reach 2^56, but never where the spares suffice already. The rows, the holds and the number made stay
-    /// either way, and a refused call may leave more spares, though no more than were asked.
+    /// either way, and a refused call may leave more spares, though no more than what was there or was
+    /// asked, whichever is more.
     pub fn reserve(&mut self, cells: usize, nodes: usize) -> Result<(), NoMemory>
         ensures spares { OnOk result (HasSpares self.new cells nodes) }
         ensures greater { OnOk result (HasGreater self.old self.new cells nodes) }
@@ -183,8 +184,9 @@ impl<T> Heap<T> {
         self.table.links(link.place)
     }
 
-    /// A node of the caller's own to write in: a held one with this head and these links and no other owner, for which the
-    /// given hold is spent. It is the node itself where that hold was its one owner, and else a copy, made of a spare.
+    /// A node of the caller's own to write in: a held one with the head and the links of this one and no other owner, for
+    /// which the given hold is spent. It is the node itself where that hold was its one owner, and else a copy, made of a
+    /// spare.
     pub fn own(&mut self, link: Link) -> Link
         requires held { 0 < holds_at self.old link }
         requires node { is_node (row_at self.old link) ≡ 1 }

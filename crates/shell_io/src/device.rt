@@ -144,7 +144,9 @@ pub trait Store {
         ensures same { held self.new ≡ held self.old }
         ensures calls { Calls faults steady faultless self.old self.new (result ≡ Err FetchFault.Failed) };
 
-    /// Makes these bytes the file of this name.
+    /// Makes these bytes the file of this name, and changes no other. Refused with `Failed` where the store
+    /// fails, and then what this file holds is open, and with `Memory` where memory runs out, and then all
+    /// files are as they were.
     fn keep(&mut self, name: &str, bytes: &[u8]) -> Result<(), KeepFault>
         ensures told { ChangesFiles (held self.old) (held self.new)
             (λ old new. KeepsFile old new name.now bytes.now result) }

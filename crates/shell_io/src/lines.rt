@@ -37,7 +37,8 @@ impl<T: Drop> From<AllocFailed<T>> for LinesFault {
 }
 
 /// The lines of a file's bytes, which are split at each newline. An empty rest behind the last newline
-/// is no line.
+/// is no line. Refused with `Long` where a line has more than 65,536 bytes, else with `Utf8` where the
+/// bytes aren't UTF-8, and with `Memory` where memory runs out.
 pub fn lines_of(alloc: Global, bytes: &[u8]) -> Result<Texts, LinesFault>
     ensures { HasLines bytes.now result }
 {

@@ -54,10 +54,11 @@ impl Model for LineReader {
 }
 
 impl LineReader {
-    /// A reader that has taken nothing. It makes its whole buffer here.
+    /// A reader that has taken and given nothing, without a line and without a bound. It stands at the
+    /// front of any input, and makes its whole buffer here. Err where memory runs out.
     pub fn new(alloc: Global) -> Result<LineReader, NoMemory>
-        ensures fresh { IfOk result (λ reader. (reader.line ≡ []) × (reader.taken ≡ 0) × (reader.given ≡ 0)
-            × (reader.most ≡ None) × (reader.at_end ≡ false) × (reader.settled ≡ None)) }
+        ensures fresh { IfOk result (λ reader. (reader.taken ≡ 0) × (reader.given ≡ 0) × (reader.let_go ≡ 0)
+            × (reader.held ≡ []) × (reader.line ≡ []) × (reader.most ≡ None) × (reader.at_end ≡ false) × (reader.settled ≡ None)) }
         ensures start { IfOk result (λ reader. (input : List ℕ) → StandsIn input reader (Some input)) }
     {
         let window = Window::new(alloc)?;
@@ -71,7 +72,7 @@ impl LineReader {
         })
     }
 
-    /// The line that the last `next` gave; empty after another answer.
+    /// The line that the last `next` gave; empty after another answer, and before the first.
     pub fn line(&self) -> &[u8]
         ensures { result.now ≡ self.now.line }
     {
