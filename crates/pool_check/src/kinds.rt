@@ -16,23 +16,23 @@ use std::alloc::Global;
 
 // What is kept of a row: what it is, and what all elements of a vector row or all entries of a trie row or a chain row are.
 #[derive(Clone, Copy)]
-pub struct RowFacts {
-    pub cell: bool,
+pub(crate) struct RowFacts {
+    pub(crate) cell: bool,
     // A cell that is a name.
-    pub name: bool,
+    pub(crate) name: bool,
     // A state of a names map and a stars set.
-    pub state: bool,
+    pub(crate) state: bool,
     // A pair of a name and a vector of cells.
-    pub named_lines: bool,
+    pub(crate) named_lines: bool,
     // A pair of a name and a state.
-    pub named_state: bool,
+    pub(crate) named_state: bool,
     // A row that can be the root of a vector or of a trie.
-    pub root: bool,
-    pub over_cells: bool,
-    pub over_states: bool,
-    pub over_names: bool,
-    pub over_named_lines: bool,
-    pub over_named_states: bool,
+    pub(crate) root: bool,
+    pub(crate) over_cells: bool,
+    pub(crate) over_states: bool,
+    pub(crate) over_names: bool,
+    pub(crate) over_named_lines: bool,
+    pub(crate) over_named_states: bool,
 }
 
 const NOTHING: RowFacts = RowFacts {
@@ -64,7 +64,7 @@ const EVERYTHING: RowFacts = RowFacts {
 };
 
 // Whether the roots are of their kinds.
-pub fn roots_are_of_kind(alloc: Global, pool: &Pool) -> Result<bool, NoMemory>
+pub(crate) fn roots_are_of_kind(alloc: Global, pool: &Pool) -> Result<bool, NoMemory>
     requires rows { rows_in_range pool.now ≡ true }
     requires links { links_lead_back pool.now ≡ true }
     requires texts { texts_are_lines pool.now ≡ true }

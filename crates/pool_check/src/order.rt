@@ -14,7 +14,7 @@ use pool_text::{Pool, Row};
 use std::alloc::Global;
 
 // Whether the rows stand in their order, and nothing else stands there.
-pub fn rows_in_order(alloc: Global, pool: &Pool) -> Result<bool, NoMemory>
+pub(crate) fn rows_in_order(alloc: Global, pool: &Pool) -> Result<bool, NoMemory>
     requires { links_lead_back pool.now ≡ true }
     ensures { IfOk result (λ are. are ≡ all_in_order pool.now) }
 {

@@ -9,7 +9,7 @@ use elem_core::{MAX_LINE, NEWLINE};
 use pool_text::{Pool, Row};
 
 // Whether every link of a row is smaller than the row's place, and every root than the number of rows.
-pub fn links_lead_back(pool: &Pool) -> bool
+pub(crate) fn links_lead_back(pool: &Pool) -> bool
     ensures { result ≡ all_lead_back pool.now }
 {
     let rows = pool.rows.as_slice();
@@ -46,7 +46,7 @@ fn are_below(links: &[u64], bound: u64) -> bool
 }
 
 // Whether every cell's text is a line.
-pub fn texts_are_lines(pool: &Pool) -> bool
+pub(crate) fn texts_are_lines(pool: &Pool) -> bool
     ensures { result ≡ all_are_lines pool.now }
 {
     for row in pool.rows.as_slice() {

@@ -12,7 +12,7 @@ use elem_core::{Code, DEEPEST, digit, masked};
 
 // What is kept of a row for the rows above it.
 #[derive(Clone, Copy)]
-pub enum Kept {
+pub(crate) enum Kept {
     // An entry: the place of its key's cell, and the key's code.
     Entry { cell: u64, code: Code },
     // A trie row over an entry or more: its depth, and the code of the first key below it.
@@ -25,7 +25,7 @@ pub enum Kept {
 
 // The two parts of a trie row's links.
 #[derive(Clone, Copy)]
-pub enum Part {
+pub(crate) enum Part {
     // The entries, which come first.
     Entries,
     // The sub-nodes.
@@ -33,7 +33,13 @@ pub enum Part {
 }
 
 // What is kept of a trie row of these sets and links, if it is canonical.
-pub fn trie_row(kept: &[Kept], depth: u8, entries: u32, nodes: u32, links: &[u64]) -> Option<Kept>
+pub(crate) fn trie_row(
+    kept: &[Kept],
+    depth: u8,
+    entries: u32,
+    nodes: u32,
+    links: &[u64],
+) -> Option<Kept>
     requires depth { depth ≤ DEEPEST }
     requires few { length links.now ≤ 32 }
     requires below { list_all (λ k. nat_lt k (length kept.now)) links.now ≡ true }

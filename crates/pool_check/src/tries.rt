@@ -15,7 +15,7 @@ use pool_text::{Pool, Row};
 use std::alloc::Global;
 
 // Whether every trie row and every chain row is canonical.
-pub fn tries_stand(alloc: Global, pool: &Pool) -> Result<bool, NoMemory>
+pub(crate) fn tries_stand(alloc: Global, pool: &Pool) -> Result<bool, NoMemory>
     requires bits { pool.now.bits ≤ CODE_BITS }
     requires rows { rows_in_range pool.now ≡ true }
     requires links { links_lead_back pool.now ≡ true }

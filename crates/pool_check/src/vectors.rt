@@ -13,11 +13,11 @@ use std::alloc::Global;
 
 // What is kept of a vector row: its height, its length, whether it and all below it are thick, and whether it has no link.
 #[derive(Clone, Copy)]
-pub struct Shape {
-    pub height: u8,
-    pub length: u32,
-    pub thick: bool,
-    pub bare: bool,
+pub(crate) struct Shape {
+    pub(crate) height: u8,
+    pub(crate) length: u32,
+    pub(crate) thick: bool,
+    pub(crate) bare: bool,
 }
 
 // The fewest links of a thick row.
@@ -90,7 +90,7 @@ fn leaf_shape(elements: &[u64]) -> Shape
 }
 
 // Whether every inner row keeps the fill rule.
-pub fn vectors_stand(alloc: Global, pool: &Pool) -> Result<bool, NoMemory>
+pub(crate) fn vectors_stand(alloc: Global, pool: &Pool) -> Result<bool, NoMemory>
     requires rows { rows_in_range pool.now ≡ true }
     requires links { links_lead_back pool.now ≡ true }
     ensures { IfOk result (λ stand. stand ≡ all_stand pool.now) }

@@ -13,7 +13,7 @@ use rrb_core::full_size;
 use std::alloc::Global;
 
 // The lengths of the rows by their places: a leaf has its links, an inner row what its children have, and every other row 0.
-pub fn lengths_of(alloc: Global, rows: &[Row]) -> Result<Vec<u32>, NoMemory>
+pub(crate) fn lengths_of(alloc: Global, rows: &[Row]) -> Result<Vec<u32>, NoMemory>
     requires sound { AreSound (map row_form rows.now) }
     ensures many { IfOk result (λ lengths. length lengths.items ≡ length rows.now) }
     ensures lengths { IfOk result (λ lengths. HaveLengths (map row_form rows.now) lengths.items) }
@@ -53,7 +53,7 @@ fn sum_of(lengths: &[u32], places: &[u64]) -> u32
 }
 
 // The sums that the inner row over the rows at these places keeps, which have the height `below` and these lengths.
-pub fn inner_sums(lengths: &[u32], places: &[u64], below: u8) -> Sums
+pub(crate) fn inner_sums(lengths: &[u32], places: &[u64], below: u8) -> Sums
     requires some { 1 ≤ length places.now }
     requires few { length places.now ≤ 32 }
     requires low { below < 7 }

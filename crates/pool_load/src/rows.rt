@@ -17,7 +17,7 @@ use node_heap::{Head, Heap, Link};
 use pool_text::Row;
 
 // Makes a row for each of these, each held once, and appends its link. There is room for all links.
-pub fn make_rows<T: Stored>(
+pub(crate) fn make_rows<T: Stored>(
     heap: &mut Heap<T>,
     rows: Vec<Row>,
     lengths: &[u32],
@@ -89,7 +89,7 @@ fn make_node<T>(heap: &mut Heap<T>, links: &[Link], head: Head, places: &[u64]) 
 }
 
 // One hold more of the link at each of these places.
-pub fn hold_places<T>(heap: &mut Heap<T>, links: &[Link], places: &[u64])
+pub(crate) fn hold_places<T>(heap: &mut Heap<T>, links: &[Link], places: &[u64])
     requires live { AreLive T heap.old links.now }
     requires places { ArePlacesBelow (length links.now) places.now }
     requires few { hold_count heap.old + length places.now ≤ 2 ^ 60 }

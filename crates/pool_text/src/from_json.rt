@@ -65,11 +65,11 @@ pub fn pool_from_json(alloc: Global, value: &Value, bits: u32) -> Result<Pool, D
 
 // What a document has beside its format.
 #[derive(Drop)]
-pub struct Parts<'a> {
-    pub bits: u64,
-    pub roots: Places,
-    pub rows: &'a [Value],
-    pub version: u64,
+pub(crate) struct Parts<'a> {
+    pub(crate) bits: u64,
+    pub(crate) roots: Places,
+    pub(crate) rows: &'a [Value],
+    pub(crate) version: u64,
 }
 
 // The parts of a document.

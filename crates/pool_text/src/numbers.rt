@@ -11,7 +11,7 @@ use serde_json::Value;
 use std::alloc::Global;
 
 // The elements of an array.
-pub fn elements_of(value: &Value) -> Option<&[Value]>
+pub(crate) fn elements_of(value: &Value) -> Option<&[Value]>
     ensures { option_map (λ s. map view s.now) result ≡ elements_in (view value.now) }
 {
     match value.as_array() {
@@ -21,14 +21,14 @@ pub fn elements_of(value: &Value) -> Option<&[Value]>
 }
 
 // A number of 64 bits without a sign.
-pub fn number_of(value: &Value) -> Option<u64>
+pub(crate) fn number_of(value: &Value) -> Option<u64>
     ensures { result ≡ number_in (view value.now) }
 {
     value.as_u64()
 }
 
 // A number from the least to the most.
-pub fn number_between(value: &Value, least: u64, most: u64) -> Option<u64>
+pub(crate) fn number_between(value: &Value, least: u64, most: u64) -> Option<u64>
     ensures value { result ≡ kept_if (is_between least most) (number_in (view value.now)) }
     ensures most { IfSome result (λ n. n ≤ most) }
 {
@@ -39,7 +39,7 @@ pub fn number_between(value: &Value, least: u64, most: u64) -> Option<u64>
 }
 
 // An array of numbers, of which there are from the least to the most. Another value is this damage.
-pub fn numbers_of(
+pub(crate) fn numbers_of(
     alloc: Global,
     value: &Value,
     least: usize,

@@ -47,7 +47,10 @@ impl Rows {
 /// Rows whose links are places, the places of the roots, and the number of code bits kept.
 #[derive(Drop)]
 pub struct Pool {
+    /// How many low bits of the keys' codes its tries go by.
     pub bits: u32,
+    /// The rows, whose links are places in this list.
     pub rows: Rows,
+    /// The places of the roots.
     pub roots: Places,
 }

@@ -15,7 +15,7 @@ use serde_json::Value;
 use std::alloc::Global;
 
 // The rows of these values.
-pub fn rows_of(alloc: Global, values: &[Value]) -> Result<Rows, Damage>
+pub(crate) fn rows_of(alloc: Global, values: &[Value]) -> Result<Rows, Damage>
     ensures { Reads (λ rows. rows) Damage.Row (all_of row_in (map view values.now)) result }
 {
     let mut rows = Vec::with_capacity(alloc, values.len())?;

@@ -11,7 +11,7 @@ use elem_core::NoMemory;
 use serde_json::{Value, json};
 use std::alloc::{AllocError, Global};
 
-/// The document of a pool.
+/// The document of a pool. Err where memory runs out.
 pub fn to_json(alloc: Global, pool: &Pool) -> Result<Value, NoMemory>
     ensures value { IfOk result (λ v. view v ≡ document pool.now) }
 {
@@ -20,7 +20,7 @@ pub fn to_json(alloc: Global, pool: &Pool) -> Result<Value, NoMemory>
     Ok(document_value(alloc, pool.bits, roots, rows)?)
 }
 
-/// The compact text of that document, which reads as the document.
+/// The compact text of that document, which reads as the document. Err where memory runs out.
 pub fn to_bytes(alloc: Global, pool: &Pool) -> Result<Vec<u8>, NoMemory>
     ensures value { IfOk result (λ b. b.items ≡ text_of_pool pool.now) }
     ensures reads { IfOk result (λ b. value_in b.items ≡ Some (document pool.now)) }

@@ -17,7 +17,7 @@ use crate::BadLine;
 use elem_core::{Line, Name};
 
 // The first piece of the text, and what stands behind the space that ends it.
-pub fn split_piece(text: &str) -> (&str, Option<&str>)
+pub(crate) fn split_piece(text: &str) -> (&str, Option<&str>)
     ensures piece { result.0.now ≡ first_piece text.now }
     ensures rest { option_copied result.1 ≡ after_piece text.now }
     ensures cell { IsCell text.now → ForSome (option_copied result.1) IsCell }
@@ -29,7 +29,7 @@ pub fn split_piece(text: &str) -> (&str, Option<&str>)
 }
 
 // Refuses what stands behind the last piece of a command.
-pub fn nothing(rest: Option<&str>) -> Result<(), BadLine>
+pub(crate) fn nothing(rest: Option<&str>) -> Result<(), BadLine>
     ensures { (c : PlainCommand) → the_end c (option_copied rest.entry)
         ≡ go_on result (λ _. Ok c) }
 {
@@ -40,7 +40,7 @@ pub fn nothing(rest: Option<&str>) -> Result<(), BadLine>
 }
 
 // The one piece of a command `WORD NAME`.
-pub fn name(rest: Option<&str>) -> Result<Name<'_>, BadLine>
+pub(crate) fn name(rest: Option<&str>) -> Result<Name<'_>, BadLine>
     ensures { (f : List ℕ → PlainCommand)
         → a_name (λ b. the_end (f b)) (option_copied rest.entry)
         ≡ go_on result (λ read. Ok (f (name_bytes read))) }
@@ -50,7 +50,7 @@ pub fn name(rest: Option<&str>) -> Result<Name<'_>, BadLine>
 }
 
 // The pieces of a command `WORD NAME NAME`.
-pub fn two_names(rest: Option<&str>) -> Result<(Name<'_>, Name<'_>), BadLine>
+pub(crate) fn two_names(rest: Option<&str>) -> Result<(Name<'_>, Name<'_>), BadLine>
     ensures { (f : List ℕ → List ℕ → PlainCommand)
         → a_name (λ b. a_name (λ c. the_end (f b c))) (option_copied rest.entry)
         ≡ go_on result (λ read. Ok (f (name_bytes read.0) (name_bytes read.1))) }
@@ -61,7 +61,7 @@ pub fn two_names(rest: Option<&str>) -> Result<(Name<'_>, Name<'_>), BadLine>
 }
 
 // The pieces of a command `WORD NAME NUMBER`.
-pub fn name_and_number(rest: Option<&str>) -> Result<(Name<'_>, u32), BadLine>
+pub(crate) fn name_and_number(rest: Option<&str>) -> Result<(Name<'_>, u32), BadLine>
     ensures { (f : List ℕ → ℕ → PlainCommand)
         → a_name (λ b. a_number (λ i. the_end (f b i))) (option_copied rest.entry)
         ≡ go_on result (λ read. Ok (f (name_bytes read.0) read.1)) }
@@ -74,7 +74,7 @@ pub fn name_and_number(rest: Option<&str>) -> Result<(Name<'_>, u32), BadLine>
 }
 
 // The pieces of a command `WORD NAME NUMBER NUMBER`.
-pub fn name_and_range(rest: Option<&str>) -> Result<(Name<'_>, u32, u32), BadLine>
+pub(crate) fn name_and_range(rest: Option<&str>) -> Result<(Name<'_>, u32, u32), BadLine>
     ensures { (f : List ℕ → ℕ → ℕ → PlainCommand)
         → a_name (λ b. a_number (λ i. a_number (λ j. the_end (f b i j)))) (option_copied rest.entry)
         ≡ go_on result (λ read. Ok (f (name_bytes read.0) read.1 read.2)) }
@@ -87,7 +87,9 @@ pub fn name_and_range(rest: Option<&str>) -> Result<(Name<'_>, u32, u32), BadLin
 }
 
 // The pieces of a command `WORD NAME NUMBER NUMBER NAME`.
-pub fn name_range_and_name(rest: Option<&str>) -> Result<(Name<'_>, u32, u32, Name<'_>), BadLine>
+pub(crate) fn name_range_and_name(
+    rest: Option<&str>,
+) -> Result<(Name<'_>, u32, u32, Name<'_>), BadLine>
     ensures { (f : List ℕ → ℕ → ℕ → List ℕ → PlainCommand)
         → a_name (λ b. a_number (λ i. a_number (λ j. a_name (λ c. the_end (f b i j c))))) (option_copied rest.entry)
         ≡ go_on result (λ read. Ok (f (name_bytes read.0) read.1 read.2 (name_bytes read.3))) }
@@ -100,7 +102,7 @@ pub fn name_range_and_name(rest: Option<&str>) -> Result<(Name<'_>, u32, u32, Na
 }
 
 // The pieces of a command `WORD NAME TEXT`.
-pub fn name_and_text(rest: Option<&str>) -> Result<(Name<'_>, Line<'_>), BadLine>
+pub(crate) fn name_and_text(rest: Option<&str>) -> Result<(Name<'_>, Line<'_>), BadLine>
     requires { ForSome (option_copied rest) IsCell }
     ensures { (f : List ℕ → List ℕ → PlainCommand)
         → a_name (λ b. the_text (λ t. f b t)) (option_copied rest.entry)
@@ -113,7 +115,7 @@ pub fn name_and_text(rest: Option<&str>) -> Result<(Name<'_>, Line<'_>), BadLine
 }
 
 // The pieces of a command `WORD NAME NUMBER TEXT`.
-pub fn name_number_and_text(rest: Option<&str>) -> Result<(Name<'_>, u32, Line<'_>), BadLine>
+pub(crate) fn name_number_and_text(rest: Option<&str>) -> Result<(Name<'_>, u32, Line<'_>), BadLine>
     requires { ForSome (option_copied rest) IsCell }
     ensures { (f : List ℕ → ℕ → List ℕ → PlainCommand)
         → a_name (λ b. a_number (λ i. the_text (λ t. f b i t))) (option_copied rest.entry)
