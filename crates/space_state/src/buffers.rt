@@ -57,12 +57,9 @@ impl RootedHeap {
         ensures refused { (W : Workspace) → Keeps self.old [] W →
             IfErr result (λ why. MatchBool (is_full W) (why ≡ Refusal.Limit) (why ≡ Refusal.Memory)) }
     {
-        if self.is_full() {
-            return Err(Refusal::Limit);
-        }
         let alike = buffers_alike(&self.heap, self.bits, self.roots.current, name);
         let other_alike = buffers_alike(&self.heap, self.bits, self.roots.current, other);
-        self.heap.reserve(2, EDIT_NODES + alike + other_alike)?;
+        self.make_room_with(alike + other_alike)?;
         let key = text_of(self.alloc, name.as_line())?;
         let other_key = text_of(self.alloc, other.as_line())?;
         Ok((key, other_key))

@@ -12,7 +12,7 @@ use same_value::{equal_state, equal_vec};
 
 // Whether the vectors have the same lines. As long as rows are cut in the same places, those that both have aren't looked
 // below.
-pub fn same_lines(heap: &Heap<Text>, one: FlexRef, other: FlexRef) -> bool
+pub(crate) fn same_lines(heap: &Heap<Text>, one: FlexRef, other: FlexRef) -> bool
     requires one { (bits : ℕ) × (xs : List Bytes) × AreLinesIn heap.now bits one xs }
     requires other { (bits : ℕ) × (ys : List Bytes) × AreLinesIn heap.now bits other ys }
     ensures { (bits : ℕ) (xs ys : List Bytes) → AreLinesIn heap.now bits one xs → AreLinesIn heap.now bits other ys → (IsTrue result ↔ (xs ≡ ys)) }
@@ -22,7 +22,7 @@ pub fn same_lines(heap: &Heap<Text>, one: FlexRef, other: FlexRef) -> bool
 
 // Whether the states have the same buffers and stars. As long as rows are cut in the same places, those that both have
 // aren't looked below.
-pub fn same_states(heap: &Heap<Text>, bits: u32, one: Link, other: Link) -> bool
+pub(crate) fn same_states(heap: &Heap<Text>, bits: u32, one: Link, other: Link) -> bool
     requires bits { bits ≤ CODE_BITS }
     requires one { (s : State) × IsStateIn heap.now bits one s }
     requires other { (t : State) × IsStateIn heap.now bits other t }

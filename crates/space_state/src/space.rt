@@ -42,7 +42,8 @@ impl Model for Space {
 }
 
 impl Space {
-    /// The space without buffers, stars and versions, by so many bits of the names' codes. It has made six rows.
+    /// The space without buffers, stars and versions, by so many bits of the names' codes. It has made six
+    /// rows. Err where memory runs out.
     pub fn new(alloc: Global, bits: u32) -> Result<Space, NoMemory>
         requires { bits ≤ CODE_BITS }
         ensures start { IfOk result (λ space. space ≡ start_view bits) }
@@ -61,7 +62,7 @@ impl Space {
     }
 
     /// Goes back to the state before the last edit. `Batch` in a batch, else `Empty` where there is none, else `Limit` where
-    /// redo holds 2^32 - 1 states.
+    /// redo holds 2^32 - 1 states, and last `Memory` where memory runs out.
     pub fn undo(&mut self) -> Result<(), Refusal>
         ensures { Ends undo self.old result self.new }
     {
@@ -69,21 +70,23 @@ impl Space {
     }
 
     /// Goes forward to the state that the last undo left. `Batch` in a batch, else `Empty` where there is none, else `Limit`
-    /// where undo holds 2^32 - 1 states.
+    /// where undo holds 2^32 - 1 states, and last `Memory` where memory runs out.
     pub fn redo(&mut self) -> Result<(), Refusal>
         ensures { Ends redo self.old result self.new }
     {
         self.rows.redo()
     }
 
-    /// Keeps the current state as a version. `Batch` in a batch, else `Exists` where there is one of this name.
+    /// Keeps the current state as a version. `Batch` in a batch, else `Exists` where there is one of this name, and last
+    /// `Memory` where memory runs out.
     pub fn mark(&mut self, version: Name<'_>) -> Result<(), Refusal>
         ensures { Ends (mark (name_bytes version.entry)) self.old result self.new }
     {
         self.rows.mark(version)
     }
 
-    /// Lets the version go. `Batch` in a batch, else `Absent` where there is none of this name.
+    /// Lets the version go. `Batch` in a batch, else `Absent` where there is none of this name, and last `Memory` where
+    /// memory runs out.
     pub fn unmark(&mut self, version: Name<'_>) -> Result<(), Refusal>
         ensures { Ends (unmark (name_bytes version.entry)) self.old result self.new }
     {
@@ -91,7 +94,7 @@ impl Space {
     }
 
     /// Makes the version's state the current one, as an edit does. `Batch` in a batch, else `Absent` where there is none of
-    /// this name, else `Limit` where undo holds 2^32 - 1 states.
+    /// this name, else `Limit` where undo holds 2^32 - 1 states, and last `Memory` where memory runs out.
     pub fn back(&mut self, version: Name<'_>) -> Result<(), Refusal>
         ensures { Ends (back (name_bytes version.entry)) self.old result self.new }
     {
@@ -107,7 +110,7 @@ impl Space {
     }
 
     /// Closes the batch, whose edits undo takes back together. `Batch` where none is open, else `Limit` where undo holds
-    /// 2^32 - 1 states.
+    /// 2^32 - 1 states, and last `Memory` where memory runs out.
     pub fn end(&mut self) -> Result<(), Refusal>
         ensures { Ends «end» self.old result self.new }
     {
@@ -187,7 +190,7 @@ impl Space {
     }
 
     /// The pool of the space, which is valid: its rows, each once, with places for links. It takes time and memory for the rows,
-    /// their links and their texts.
+    /// their links and their texts. Err where memory runs out.
     pub fn pool(&self, alloc: Global) -> Result<Pool, NoMemory>
         ensures value { IfOk result (λ pool. pool ≡ self.now.pool) }
         ensures valid { IsValid self.now.pool }
@@ -195,8 +198,8 @@ impl Space {
         self.rows.pool(alloc)
     }
 
-    /// Puts the checked pool in place of the space's; the number made rises by its rows, up to 2^64 - 1. `Batch` in a batch. The
-    /// pool goes by as many bits as the space.
+    /// Puts the checked pool in place of the space's; the number made rises by its rows, up to 2^64 - 1. The pool goes by as
+    /// many bits as the space. `Batch` in a batch, else `Memory` where memory runs out.
     pub fn take_pool(&mut self, checked: Checked<Text>) -> Result<(), Refusal>
         requires bits { checked.bits ≡ self.old.pool.bits }
         ensures { TakesPool checked self.old result self.new }
@@ -220,21 +223,21 @@ impl Space {
         self.rows.heap.made()
     }
 
-    /// The names of the buffers with the numbers of their lines, in byte order.
+    /// The names of the buffers with the numbers of their lines, in byte order. Err where memory runs out.
     pub fn names(&self, alloc: Global) -> Result<Vec<(&Text, u32)>, NoMemory>
         ensures { (W : Workspace) × StandsFor self.now.pool W × IfOk result (λ listed. each (λ size. (size.0.now, size.1)) listed.items ≡ sizes W.current) }
     {
         self.rows.names(alloc)
     }
 
-    /// The starred names, in byte order.
+    /// The starred names, in byte order. Err where memory runs out.
     pub fn stars(&self, alloc: Global) -> Result<Vec<&Text>, NoMemory>
         ensures { (W : Workspace) × StandsFor self.now.pool W × IfOk result (λ listed. each (λ name. name.now) listed.items ≡ map.keys W.current.stars) }
     {
         self.rows.stars(alloc)
     }
 
-    /// The names of the versions, in byte order.
+    /// The names of the versions, in byte order. Err where memory runs out.
     pub fn marks(&self, alloc: Global) -> Result<Vec<&Text>, NoMemory>
         ensures { (W : Workspace) × StandsFor self.now.pool W × IfOk result (λ listed. each (λ name. name.now) listed.items ≡ map.keys W.versions) }
     {

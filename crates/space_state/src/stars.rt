@@ -34,12 +34,8 @@ impl RootedHeap {
         ensures refused { (W : Workspace) → Keeps self.old [] W →
             IfErr result (λ why. MatchBool (is_full W) (why ≡ Refusal.Limit) (why ≡ Refusal.Memory)) }
     {
-        if self.is_full() {
-            return Err(Refusal::Limit);
-        }
         let alike = stars_alike(&self.heap, self.bits, self.roots.current, name);
-        self.heap.reserve(2, EDIT_NODES + alike)?;
-        Ok(())
+        self.make_room_with(alike)
     }
 
     /// Stars the name, which needs no buffer.

@@ -43,6 +43,24 @@ impl RootedHeap {
         !self.in_batch() && FlexRef::at(self.roots.undo).len(&self.heap) == MOST_ITEMS
     }
 
+    /// Makes room for an edit: for two cells, for `EDIT_NODES` nodes, and for one more for each of so many names with the
+    /// masked code of one that it writes. Nothing but the heap's spares changes. Refused with `Limit` exactly where undo is
+    /// full and no batch is open, and else with `Memory` alone.
+    pub(crate) fn make_room_with(&mut self, alike: usize) -> Result<(), Refusal>
+        requires kept { (W : Workspace) × Keeps self.old [] W }
+        requires few { alike < 2 ^ 58 }
+        ensures same { IsSame self.old self.new }
+        ensures room { (W : Workspace) → Keeps self.old [] W → IfOk result (λ _. (is_full W ≡ false) × HasSpares self.new.heap 2 (EDIT_NODES + alike)) }
+        ensures refused { (W : Workspace) → Keeps self.old [] W →
+            IfErr result (λ why. MatchBool (is_full W) (why ≡ Refusal.Limit) (why ≡ Refusal.Memory)) }
+    {
+        if self.is_full() {
+            return Err(Refusal::Limit);
+        }
+        self.heap.reserve(2, EDIT_NODES + alike)?;
+        Ok(())
+    }
+
     /// Makes room for an edit that writes this buffer. Refused with `Limit` exactly where undo has no room for an edit,
     /// and else with `Memory` alone.
     pub(crate) fn make_room(&mut self, name: Name<'_>) -> Result<(), Refusal>
@@ -53,12 +71,8 @@ impl RootedHeap {
         ensures refused { (W : Workspace) → Keeps self.old [] W →
             IfErr result (λ why. MatchBool (is_full W) (why ≡ Refusal.Limit) (why ≡ Refusal.Memory)) }
     {
-        if self.is_full() {
-            return Err(Refusal::Limit);
-        }
         let alike = buffers_alike(&self.heap, self.bits, self.roots.current, name);
-        self.heap.reserve(2, EDIT_NODES + alike)?;
-        Ok(())
+        self.make_room_with(alike)
     }
 
     /// The same, and gives the buffer's name as a text.
