@@ -20,7 +20,7 @@ use Rattle.ewig_shell.specs.declared.execute.Went.TheVariants as went
 use Rattle.ewig_shell.specs.declared.run.Status.{Status}
 use Rattle.ewig_shell.specs.declared.run.Status.TheVariants as status
 use Rattle.ewig_shell.specs.Quits.{HasQuit, is_quit, until_quit}
-use Rattle.ewig_shell.specs.Step.{StepsOn, Steps}
+use Rattle.ewig_shell.specs.Step.{StepsOn, StepsThrough}
 use Rattle.ewig_shell.specs.Sending.{Replies}
 use Rattle.ewig_shell.specs.Run.{Run, Says, Runs}
 use Rattle.ewig_shell.specs.Going.{IsGoing, TakesReplies, status_of}
@@ -28,8 +28,8 @@ use Rattle.ewig_shell.proofs.QuitLemmas.{is_quit-true, is_quit-from, none-append
 use Rattle.ewig_shell.proofs.ReadLemmas.{quit_read}
 
 -- one step more
-Steps-append : {C : Type 0} {D : store_trait.Ghosts C} (W : SpaceView) (V : C) (xs : List (List ℕ)) (output : List ℕ) (W' : SpaceView) (V' : C) (piece reply : List ℕ) (last : SpaceView) (V'' : C) → Steps xs D W V output W' V' → StepsOn piece D W' V' reply last V'' → Steps (xs ++ piece ∷ []) D W V (output ++ reply) last V''
-Steps-append {C = C} {D} W V [] output W' V' piece reply last V'' h step = (
+StepsThrough-append : {C : Type 0} {D : store_trait.Ghosts C} (W : SpaceView) (V : C) (xs : List (List ℕ)) (output : List ℕ) (W' : SpaceView) (V' : C) (piece reply : List ℕ) (last : SpaceView) (V'' : C) → StepsThrough xs D W V output W' V' → StepsOn piece D W' V' reply last V'' → StepsThrough (xs ++ piece ∷ []) D W V (output ++ reply) last V''
+StepsThrough-append {C = C} {D} W V [] output W' V' piece reply last V'' h step = (
   reply,
   last,
   V'',
@@ -38,8 +38,8 @@ Steps-append {C = C} {D} W V [] output W' V' piece reply last V'' h step = (
   (refl, refl, refl),
   ap (λ (w : List ℕ). w ++ reply) h.0 ∙ sym (append-nil reply),
 )
-Steps-append W V (x ∷ xs) output W' V' piece reply last V'' h step =
-    (h.0, h.1, h.2, h.3 ++ reply, h.4, Steps-append h.1 h.2 xs h.3 W' V' piece reply last V'' h.5 step, ap (λ (w : List ℕ). w ++ reply) h.6 ∙ append_assoc h.0 h.3 reply)
+StepsThrough-append W V (x ∷ xs) output W' V' piece reply last V'' h step =
+    (h.0, h.1, h.2, h.3 ++ reply, h.4, StepsThrough-append h.1 h.2 xs h.3 W' V' piece reply last V'' h.5 step, ap (λ (w : List ℕ). w ++ reply) h.6 ∙ append_assoc h.0 h.3 reply)
 
 -- the pieces given after the next one, in the order that they stand
 given_then : {most : ℕ} {input : List ℕ} {old new : Reading} {piece : List ℕ} (next : GivesNext most input old new piece) → pieces_within most input ≡ pieces_given input old ++ piece ∷ next.in_time.0
@@ -119,7 +119,7 @@ module _ {B C : Type 0} {K : sink_trait.Ghosts B} {begin sink' : B} {D : store_t
     goes_on = subst (λ (w : List (List ℕ)). HasQuit w → ⊥) (sym next.next)
         (none-append is_quit (pieces_given input old) piece going.goes_on (λ test. absurd (let never = quits.1 (is_quit-true piece test) in cc)));
     replies = going.replies ++ reply;
-    steps = subst (λ (w : List (List ℕ)). Steps w D (start_view CODE_BITS) first (going.replies ++ reply) W' V') (sym next.next) (Steps-append (start_view CODE_BITS) first _ going.replies W V piece reply W' V' going.steps step);
+    steps = subst (λ (w : List (List ℕ)). StepsThrough w D (start_view CODE_BITS) first (going.replies ++ reply) W' V') (sym next.next) (StepsThrough-append (start_view CODE_BITS) first _ going.replies W V piece reply W' V' going.steps step);
     writes = TakesReplies-append going.replies reply going.writes sends;
   }
   by_result {most = most} {input} {old} {new} {V = V} {V'} {W} {W'} {piece} {reply} (Ok went.Quit) going stands next few step sends quits =
@@ -129,9 +129,9 @@ module _ {B C : Type 0} {K : sink_trait.Ghosts B} {begin sink' : B} {D : store_t
         read = quit_read most input new left next.in_time.0 stands next.in_time.1
             (subst (λ (w : List (List ℕ)). HasQuit w) (sym next.next) (any-here is_quit (pieces_given input old) piece [] test));
         executes = record {
-          steps = subst (λ (w : List (List ℕ)). Steps w D (start_view CODE_BITS) first (going.replies ++ reply) W' V')
+          steps = subst (λ (w : List (List ℕ)). StepsThrough w D (start_view CODE_BITS) first (going.replies ++ reply) W' V')
               (sym (ap until_quit these ∙ up_to-first is_quit (pieces_given input old) piece next.in_time.0 going.goes_on test))
-              (Steps-append (start_view CODE_BITS) first _ going.replies W V piece reply W' V' going.steps step);
+              (StepsThrough-append (start_view CODE_BITS) first _ going.replies W V piece reply W' V' going.steps step);
           written = refl;
         };
       })
@@ -192,7 +192,7 @@ module _ {B C : Type 0} {K : sink_trait.Ghosts B} {begin sink' : B} {D : store_t
       ends_there most input new going.replies status.Done V W stands few going.writes (λ e. cc) (record {
         read = inl (ap (λ (n : ℕ). take n input) all.1.1 ∙ take_all (length input) input (omega arith), all.1.2);
         executes = record {
-          steps = subst (λ (w : List (List ℕ)). Steps w D (start_view CODE_BITS) first going.replies W V)
+          steps = subst (λ (w : List (List ℕ)). StepsThrough w D (start_view CODE_BITS) first going.replies W V)
               (sym (ap until_quit these ∙ up_to-none is_quit (pieces_given input old) going.goes_on)) going.steps;
           written = refl;
         };
@@ -205,7 +205,7 @@ module _ {B C : Type 0} {K : sink_trait.Ghosts B} {begin sink' : B} {D : store_t
       ends_there most input new going.replies status.TooLong V W stands few going.writes (λ e. cc) (record {
         one_more = length-take-le new.taken input stands.within ∙ all.1.1;
         goes_on = subst (λ (w : List (List ℕ)). HasQuit w → ⊥) these going.goes_on;
-        executes = record { steps = subst (λ (w : List (List ℕ)). Steps w D (start_view CODE_BITS) first going.replies W V) these going.steps; written = refl };
+        executes = record { steps = subst (λ (w : List (List ℕ)). StepsThrough w D (start_view CODE_BITS) first going.replies W V) these going.steps; written = refl };
       })
 
   -- the source failed
@@ -215,7 +215,7 @@ module _ {B C : Type 0} {K : sink_trait.Ghosts B} {begin sink' : B} {D : store_t
       ends_there most input new going.replies status.ReadFault V W stands (omega (arith, few)) going.writes (λ e. cc) (record {
         few = omega (arith, length-take-le new.taken input stands.within, few);
         goes_on = subst (λ (w : List (List ℕ)). HasQuit w → ⊥) these going.goes_on;
-        executes = record { steps = subst (λ (w : List (List ℕ)). Steps w D (start_view CODE_BITS) first going.replies W V) these going.steps; written = refl };
+        executes = record { steps = subst (λ (w : List (List ℕ)). StepsThrough w D (start_view CODE_BITS) first going.replies W V) these going.steps; written = refl };
       })
 
 -- no pieces of no bytes
@@ -236,6 +236,6 @@ Going-start {D = D} most {input} {reader} first {W} told stands none empty = rec
   in_time = sym (ap (λ (w : List (List ℕ)). w ++ pieces_within most input) (nothing_given input reader none));
   goes_on = subst (λ (w : List (List ℕ)). HasQuit w → ⊥) (sym (nothing_given input reader none)) no_quit;
   replies = [];
-  steps = subst (λ (w : List (List ℕ)). Steps w D (start_view CODE_BITS) first [] W first) (sym (nothing_given input reader none)) (refl, empty, refl);
+  steps = subst (λ (w : List (List ℕ)). StepsThrough w D (start_view CODE_BITS) first [] W first) (sym (nothing_given input reader none)) (refl, empty, refl);
   writes = TakesReplies-none;
 }

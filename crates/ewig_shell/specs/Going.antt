@@ -17,7 +17,7 @@ use Rattle.ewig_shell.specs.declared.run.Status.{Status}
 use Rattle.ewig_shell.specs.declared.run.Status.TheVariants.{Done, ReadFault, WriteFault}
 use Rattle.ewig_shell.specs.Quits.{HasQuit}
 use Rattle.ewig_shell.specs.Run.{IsEarly, KeepsSure}
-use Rattle.ewig_shell.specs.Step.{Steps}
+use Rattle.ewig_shell.specs.Step.{StepsThrough}
 
 -- A sink has taken these bytes, and without a fault where it had room for them.
 pub record TakesReplies {B : Type 0} (K : sink_trait.Ghosts B) (sink sink' : B) (bytes : List ℕ) : Type 0 where
@@ -34,7 +34,7 @@ pub record IsGoing {B C : Type 0} (most : ℕ) (input : List ℕ) (reader : Read
   pub in_time : pieces_within most input ≡ pieces_given input reader ++ later
   pub goes_on : ¬ HasQuit (pieces_given input reader)
   pub replies : List ℕ
-  pub steps : Steps (pieces_given input reader) D (start_view CODE_BITS) store replies space store'
+  pub steps : StepsThrough (pieces_given input reader) D (start_view CODE_BITS) store replies space store'
   pub writes : TakesReplies K sink sink' replies
 
 -- What the counts of faults say of a run that ended so, or that goes on.

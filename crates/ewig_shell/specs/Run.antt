@@ -14,7 +14,7 @@ use Rattle.ewig_shell.specs.declared.run.Ended.{Ended}
 use Rattle.ewig_shell.specs.declared.run.Status.{Status}
 use Rattle.ewig_shell.specs.declared.run.Status.TheVariants.{Done, Memory, Usage, ReadFault, WriteFault, TooLong}
 use Rattle.ewig_shell.specs.Quits.{HasQuit, until_quit}
-use Rattle.ewig_shell.specs.Step.{StepsOn, Steps}
+use Rattle.ewig_shell.specs.Step.{StepsOn, StepsThrough}
 
 -- The statuses of a run that ended before its first line.
 abbrev pub IsEarly : Status → Type 0
@@ -51,7 +51,7 @@ pub record Run (C : Type 0) : Type 0 where
 
 -- These pieces were executed one after another, on a new space and the store, and their replies written whole.
 pub record Executes {C : Type 0} (pieces : List (List ℕ)) (D : store_trait.Ghosts C) (run : Run C) : Type 0 where
-  pub steps : IsSomeAnd run.last (λ last. Steps pieces D (start_view CODE_BITS) run.store run.replies last run.store')
+  pub steps : IsSomeAnd run.last (λ last. StepsThrough pieces D (start_view CODE_BITS) run.store run.replies last run.store')
   pub written : run.output ≡ run.replies
 
 -- Nothing was taken, executed or written, and the store is as it was.
@@ -91,7 +91,7 @@ pub record HasWriteFault {C : Type 0} (most : ℕ) (D : store_trait.Ghosts C) (r
   pub whole : List ℕ
   pub mid_space : SpaceView
   pub mid_store : C
-  pub steps : Steps before D (start_view CODE_BITS) run.store whole mid_space mid_store
+  pub steps : StepsThrough before D (start_view CODE_BITS) run.store whole mid_space mid_store
   pub reply : List ℕ
   pub step : IsSomeAnd run.last (λ last. StepsOn piece D mid_space mid_store reply last run.store')
   pub replies_are : run.replies ≡ whole ++ reply

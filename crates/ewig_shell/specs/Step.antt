@@ -276,8 +276,8 @@ pub record StepsOn {C : Type 0} (piece : List ℕ) (D : store_trait.Ghosts C) (s
   pub counts : CountsStore D store store' reply
 
 -- On a space and a store, the pieces get these replies, joined, one step after another.
-abbrev pub Steps : {C : Type 0} → List (List ℕ) → store_trait.Ghosts C → SpaceView → C → List ℕ → SpaceView → C → Type 0
-Steps [] D space store replies space' store' = (replies ≡ []) × (space' ≡ space) × (store' ≡ store)
-Steps {C = C} (piece ∷ rest) D space store replies space' store' =
+abbrev pub StepsThrough : {C : Type 0} → List (List ℕ) → store_trait.Ghosts C → SpaceView → C → List ℕ → SpaceView → C → Type 0
+StepsThrough [] D space store replies space' store' = (replies ≡ []) × (space' ≡ space) × (store' ≡ store)
+StepsThrough {C = C} (piece ∷ rest) D space store replies space' store' =
     (reply : List ℕ) × (mid_space : SpaceView) × (mid_store : C) × (more : List ℕ)
-    × StepsOn piece D space store reply mid_space mid_store × Steps rest D mid_space mid_store more space' store' × (replies ≡ reply ++ more)
+    × StepsOn piece D space store reply mid_space mid_store × StepsThrough rest D mid_space mid_store more space' store' × (replies ≡ reply ++ more)

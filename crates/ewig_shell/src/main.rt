@@ -37,6 +37,7 @@ fn main(rt: HostRuntime) -> ExitCode {
         },
     };
     if ended.status == Status::Usage {
+        // Nobody is left to be told of a failure.
         let _ = rt.eprintln(USAGE);
     }
     ExitCode::from(exit_code_of(ended.status))
