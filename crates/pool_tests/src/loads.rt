@@ -3,7 +3,8 @@ use elem_core::Text;
 use node_heap::Heap;
 use pool_check::{Checked, check};
 use pool_load::load;
-use pool_text::{Damage, pool_from_bytes, to_bytes};
+use pool_order::order;
+use pool_text::{Damage, pool_from_bytes, pool_of, to_bytes};
 use std::test::Fail;
 
 // The pool that the bytes stand for, checked for a space of 32 bits, or what is wrong with them.
@@ -39,13 +40,14 @@ const WHOLE: [(&[u8], usize); 5] = [
 #[test]
 fn checks_and_loads_whole_documents(rt: HostRuntime) -> Result<(), Fail> {
     for (bytes, rows) in WHOLE {
-        let checked = checked(&rt, bytes)?;
-        assert_eq!(rt; to_bytes(rt.alloc(), checked.pool())?.as_slice(), bytes);
         let mut heap: Heap<Text> = Heap::new(rt.alloc());
-        let roots = load(rt.alloc(), &mut heap, checked)?;
+        let roots = load(rt.alloc(), &mut heap, checked(&rt, bytes)?)?;
         assert_eq!(rt; roots.len(), 4);
         assert_eq!(rt; heap.live(), rows);
         assert_eq!(rt; heap.made(), rows as u64);
+        let listed = order(rt.alloc(), &heap, &roots)?;
+        let pool = pool_of(rt.alloc(), &heap, &listed, &roots, 32)?;
+        assert_eq!(rt; to_bytes(rt.alloc(), &pool)?.as_slice(), bytes);
     }
     Ok(())
 }

@@ -93,61 +93,62 @@ fn damage_in(rt: &HostRuntime, bytes: &[u8]) -> Option<Damage> {
 }
 
 // Each document but the last fails the test beside it, and those before it in the order of the tests not.
+const DOCUMENTS: [(&[u8], Option<Damage>); 14] = [
+    (b"{\"bits\":32", Some(Damage::Json)),
+    (b"[\"\xff\"]", Some(Damage::Json)),
+    (
+        b"{\"bits\":32,\"format\":\"ewig-pool\",\"roots\":[2,3,4],\"rows\":[],\"version\":1}",
+        Some(Damage::Form),
+    ),
+    (
+        b"{\"bits\":32,\"format\":\"ewig-pool\",\"more\":0,\"roots\":[2,3,4,5],\"rows\":[],\"version\":1}",
+        Some(Damage::Form),
+    ),
+    (
+        b"{\"bits\":32,\"format\":\"ewig-pod\",\"roots\":[2,3,4,5],\"rows\":[],\"version\":1}",
+        Some(Damage::Form),
+    ),
+    (
+        b"{\"bits\":-1,\"format\":\"ewig-pool\",\"roots\":[2,3,4,5],\"rows\":[],\"version\":1}",
+        Some(Damage::Form),
+    ),
+    (
+        b"{\"bits\":31,\"format\":\"ewig-pool\",\"roots\":[2,3,4,5],\"rows\":[[\"q\",[]]],\"version\":9}",
+        Some(Damage::Version),
+    ),
+    (
+        b"{\"bits\":31,\"format\":\"ewig-pool\",\"roots\":[2,3,4,5],\"rows\":[[\"q\",[]]],\"version\":1}",
+        Some(Damage::Bits),
+    ),
+    (
+        b"{\"bits\":32,\"format\":\"ewig-pool\",\"roots\":[2,3,4,5],\"rows\":[[\"l\",[]],[\"q\",[]]],\"version\":1}",
+        Some(Damage::Row),
+    ),
+    (
+        b"{\"bits\":32,\"format\":\"ewig-pool\",\"roots\":[2,3,4,5],\"rows\":[[\"i\",8,[0]]],\"version\":1}",
+        Some(Damage::Row),
+    ),
+    (
+        b"{\"bits\":32,\"format\":\"ewig-pool\",\"roots\":[2,3,4,5],\"rows\":[[\"m\",0,4294967296,0,[0]]],\"version\":1}",
+        Some(Damage::Row),
+    ),
+    (
+        b"{\"bits\":32,\"format\":\"ewig-pool\",\"roots\":[2,3,4,5],\"rows\":[[\"k\",[0,1,2]]],\"version\":1}",
+        Some(Damage::Row),
+    ),
+    (
+        b"{\"bits\":32,\"format\":\"ewig-pool\",\"roots\":[2,3,4,5],\"rows\":[[\"p\",[0]]],\"version\":1}",
+        Some(Damage::Row),
+    ),
+    (
+        b"{\"bits\":32,\"format\":\"ewig-pool\",\"roots\":[0,0,0,0],\"rows\":[[\"l\",[0]]],\"version\":1}",
+        None,
+    ),
+];
+
 #[test]
 fn finds_the_first_damage(rt: HostRuntime) -> Result<(), Fail> {
-    let documents: [(&[u8], Option<Damage>); 14] = [
-        (b"{\"bits\":32", Some(Damage::Json)),
-        (b"[\"\xff\"]", Some(Damage::Json)),
-        (
-            b"{\"bits\":32,\"format\":\"ewig-pool\",\"roots\":[2,3,4],\"rows\":[],\"version\":1}",
-            Some(Damage::Form),
-        ),
-        (
-            b"{\"bits\":32,\"format\":\"ewig-pool\",\"more\":0,\"roots\":[2,3,4,5],\"rows\":[],\"version\":1}",
-            Some(Damage::Form),
-        ),
-        (
-            b"{\"bits\":32,\"format\":\"ewig-pod\",\"roots\":[2,3,4,5],\"rows\":[],\"version\":1}",
-            Some(Damage::Form),
-        ),
-        (
-            b"{\"bits\":-1,\"format\":\"ewig-pool\",\"roots\":[2,3,4,5],\"rows\":[],\"version\":1}",
-            Some(Damage::Form),
-        ),
-        (
-            b"{\"bits\":31,\"format\":\"ewig-pool\",\"roots\":[2,3,4,5],\"rows\":[[\"q\",[]]],\"version\":9}",
-            Some(Damage::Version),
-        ),
-        (
-            b"{\"bits\":31,\"format\":\"ewig-pool\",\"roots\":[2,3,4,5],\"rows\":[[\"q\",[]]],\"version\":1}",
-            Some(Damage::Bits),
-        ),
-        (
-            b"{\"bits\":32,\"format\":\"ewig-pool\",\"roots\":[2,3,4,5],\"rows\":[[\"l\",[]],[\"q\",[]]],\"version\":1}",
-            Some(Damage::Row),
-        ),
-        (
-            b"{\"bits\":32,\"format\":\"ewig-pool\",\"roots\":[2,3,4,5],\"rows\":[[\"i\",8,[0]]],\"version\":1}",
-            Some(Damage::Row),
-        ),
-        (
-            b"{\"bits\":32,\"format\":\"ewig-pool\",\"roots\":[2,3,4,5],\"rows\":[[\"m\",0,4294967296,0,[0]]],\"version\":1}",
-            Some(Damage::Row),
-        ),
-        (
-            b"{\"bits\":32,\"format\":\"ewig-pool\",\"roots\":[2,3,4,5],\"rows\":[[\"k\",[0,1,2]]],\"version\":1}",
-            Some(Damage::Row),
-        ),
-        (
-            b"{\"bits\":32,\"format\":\"ewig-pool\",\"roots\":[2,3,4,5],\"rows\":[[\"p\",[0]]],\"version\":1}",
-            Some(Damage::Row),
-        ),
-        (
-            b"{\"bits\":32,\"format\":\"ewig-pool\",\"roots\":[0,0,0,0],\"rows\":[[\"l\",[0]]],\"version\":1}",
-            None,
-        ),
-    ];
-    for (bytes, damage) in documents {
+    for (bytes, damage) in DOCUMENTS {
         assert_eq!(rt; damage_in(&rt, bytes), damage);
     }
     Ok(())
