@@ -69,9 +69,10 @@ fn parts<'a>(command: Command<'a>) -> CommandParts<'a> {
 // The longest name, of 64 bytes.
 const LONGEST: &str = "abcdefghijklmnopqrstuvwxyzABCDEFGHIJKLMNOPQRSTUVWXYZ0123456789._";
 
-// That name behind `new `, and one byte more.
+// That name behind `new `.
 const NEW_LONGEST: &str = "new abcdefghijklmnopqrstuvwxyzABCDEFGHIJKLMNOPQRSTUVWXYZ0123456789._";
 
+// The same with one byte more.
 const NEW_LONGER: &str = "new abcdefghijklmnopqrstuvwxyzABCDEFGHIJKLMNOPQRSTUVWXYZ0123456789._-";
 
 // Reads the line and compares its parts.
@@ -159,160 +160,167 @@ fn reads_other_commands(rt: HostRuntime) {
     }
 }
 
+// Reads the lines, each of which must be refused as this.
+fn refuses(rt: &impl Abort, lines: [&str; 7], want: BadLine) {
+    for line in lines {
+        match read(rt, line.as_bytes()) {
+            Ok(_) => panic!(rt; "a command at {line}"),
+            Err(bad) => assert_eq!(rt; bad, want, "at {line}"),
+        }
+    }
+}
+
+// What lines must be refused as, and lines of that kind.
+const REFUSED: [(BadLine, [&str; 7]); 15] = [
+    // A word that is none, and a wrong number of pieces.
+    (
+        BadLine::Command,
+        ["", " ", "hello", "New a", " new a", "new\u{a0}a", "sames"],
+    ),
+    (
+        BadLine::Command,
+        ["new", "new a ", "new a b", "new  a", "add", "add a", "len"],
+    ),
+    (
+        BadLine::Command,
+        [
+            "len a ", "list ", "list a", "list\r", "quit ", "quit a", "quit\r",
+        ],
+    ),
+    (
+        BadLine::Command,
+        [
+            "set a 0",
+            "put a",
+            "del a 0",
+            "del a 0 1 ",
+            "cat a",
+            "cat a b c",
+            "cut a 0 2",
+        ],
+    ),
+    (
+        BadLine::Command,
+        [
+            "cut a 0 2 b ",
+            "copy  a b",
+            "drop",
+            "star",
+            "undo ",
+            "end x",
+            "show a 1",
+        ],
+    ),
+    (
+        BadLine::Command,
+        [
+            "same b",
+            "same b c d",
+            "eqv v",
+            "eqv v w ",
+            "stats x",
+            "save",
+            "load s t",
+        ],
+    ),
+    // A number that doesn't read, also behind what is no name.
+    (
+        BadLine::Command,
+        [
+            "get a", "get a ", "get a 01", "get a 00", "get a +1", "get a -1", "get a 1 ",
+        ],
+    ),
+    (
+        BadLine::Command,
+        [
+            "get a  1",
+            "get a 1x",
+            "get a 1\r",
+            "get a 0 x",
+            "get .x 01",
+            "get .x",
+            "get  ",
+        ],
+    ),
+    (
+        BadLine::Command,
+        [
+            "get a 4294967296",
+            "get a 10000000000",
+            "get a 1.0",
+            "get a é",
+            "len .x y",
+            "new .x ",
+            "list .x",
+        ],
+    ),
+    (
+        BadLine::Command,
+        [
+            "cut .x 0 02 b",
+            "cut a 0 -1 .x",
+            "del a 00 1",
+            "show a 0 1x",
+            "set a 01 t",
+            "put .x x t",
+            "set a  t",
+        ],
+    ),
+    // A name that is none.
+    (
+        BadLine::Name,
+        [
+            "new .x", "new -x", "new ", "new a\r", "new é", "new a/b", NEW_LONGER,
+        ],
+    ),
+    (
+        BadLine::Name,
+        [
+            "add .x hello",
+            "add  x",
+            "add a\r x",
+            "get .x 0",
+            "get  0",
+            "len .x",
+            "len a\r",
+        ],
+    ),
+    (
+        BadLine::Name,
+        [
+            "cat a .b",
+            "cat .a b",
+            "copy a ",
+            "cut a 0 2 .b",
+            "cut -a 9 2 b",
+            "mark é",
+            "star ",
+        ],
+    ),
+    (
+        BadLine::Name,
+        [
+            "set .x 0 t",
+            "put  0 t",
+            "del .x 0 1",
+            "show \t 0 1",
+            "back ",
+            "unmark .",
+            "drop -",
+        ],
+    ),
+    (
+        BadLine::Name,
+        [
+            "same b .", "same . b", "eqv v ", "eqv -v w", "save a/b", "load a/b", "load s\r",
+        ],
+    ),
+];
+
 #[test]
 fn refuses_lines(rt: HostRuntime) {
-    let rows = [
-        // A word that is none, and a wrong number of pieces.
-        (
-            BadLine::Command,
-            ["", " ", "hello", "New a", " new a", "new\u{a0}a", "sames"],
-        ),
-        (
-            BadLine::Command,
-            ["new", "new a ", "new a b", "new  a", "add", "add a", "len"],
-        ),
-        (
-            BadLine::Command,
-            [
-                "len a ", "list ", "list a", "list\r", "quit ", "quit a", "quit\r",
-            ],
-        ),
-        (
-            BadLine::Command,
-            [
-                "set a 0",
-                "put a",
-                "del a 0",
-                "del a 0 1 ",
-                "cat a",
-                "cat a b c",
-                "cut a 0 2",
-            ],
-        ),
-        (
-            BadLine::Command,
-            [
-                "cut a 0 2 b ",
-                "copy  a b",
-                "drop",
-                "star",
-                "undo ",
-                "end x",
-                "show a 1",
-            ],
-        ),
-        (
-            BadLine::Command,
-            [
-                "same b",
-                "same b c d",
-                "eqv v",
-                "eqv v w ",
-                "stats x",
-                "save",
-                "load s t",
-            ],
-        ),
-        // A number that doesn't read, also behind what is no name.
-        (
-            BadLine::Command,
-            [
-                "get a", "get a ", "get a 01", "get a 00", "get a +1", "get a -1", "get a 1 ",
-            ],
-        ),
-        (
-            BadLine::Command,
-            [
-                "get a  1",
-                "get a 1x",
-                "get a 1\r",
-                "get a 0 x",
-                "get .x 01",
-                "get .x",
-                "get  ",
-            ],
-        ),
-        (
-            BadLine::Command,
-            [
-                "get a 4294967296",
-                "get a 10000000000",
-                "get a 1.0",
-                "get a é",
-                "len .x y",
-                "new .x ",
-                "list .x",
-            ],
-        ),
-        (
-            BadLine::Command,
-            [
-                "cut .x 0 02 b",
-                "cut a 0 -1 .x",
-                "del a 00 1",
-                "show a 0 1x",
-                "set a 01 t",
-                "put .x x t",
-                "set a  t",
-            ],
-        ),
-        // A name that is none.
-        (
-            BadLine::Name,
-            [
-                "new .x", "new -x", "new ", "new a\r", "new é", "new a/b", NEW_LONGER,
-            ],
-        ),
-        (
-            BadLine::Name,
-            [
-                "add .x hello",
-                "add  x",
-                "add a\r x",
-                "get .x 0",
-                "get  0",
-                "len .x",
-                "len a\r",
-            ],
-        ),
-        (
-            BadLine::Name,
-            [
-                "cat a .b",
-                "cat .a b",
-                "copy a ",
-                "cut a 0 2 .b",
-                "cut -a 9 2 b",
-                "mark é",
-                "star ",
-            ],
-        ),
-        (
-            BadLine::Name,
-            [
-                "set .x 0 t",
-                "put  0 t",
-                "del .x 0 1",
-                "show \t 0 1",
-                "back ",
-                "unmark .",
-                "drop -",
-            ],
-        ),
-        (
-            BadLine::Name,
-            [
-                "same b .", "same . b", "eqv v ", "eqv -v w", "save a/b", "load a/b", "load s\r",
-            ],
-        ),
-    ];
-    for (want, lines) in rows {
-        for line in lines {
-            match read(&rt, line.as_bytes()) {
-                Ok(_) => panic!(rt; "a command at {line}"),
-                Err(bad) => assert_eq!(rt; bad, want, "at {line}"),
-            }
-        }
+    for (want, lines) in REFUSED {
+        refuses(&rt, lines, want);
     }
 }
 

@@ -5,6 +5,7 @@ use shell_io::{DirStore, FetchFault, KeepFault, MemStore, Store};
 use std::fs;
 use std::os::unix::fs::symlink;
 use std::process::Abort;
+use std::rt::Files;
 use std::test::Fail;
 
 // Keeps files of one name and asks for each, with so many bytes allowed.
@@ -85,51 +86,56 @@ fn refuses_what_is_no_plain_file(rt: HostRuntime) -> Result<(), Fail> {
     Ok(())
 }
 
+// Asks for an old file and keeps a new one in its place, while one kind of call of the system fails.
+fn keeps_or_leaves(
+    rt: &(impl Abort + AllocGlobal + Files),
+    fails: Fails,
+    fetches: bool,
+    keeps: bool,
+) -> Result<(), Fail> {
+    let system = Failing { system: rt, fails };
+    let mut store = DirStore::new((system, rt.alloc()));
+    let mut file = Vec::new(rt.alloc());
+    let fetched = store.fetch("old-of-a-test", 100, &mut file);
+    let fetch_fault = if fetches {
+        Ok(())
+    } else {
+        Err(FetchFault::Failed)
+    };
+    assert_eq!(rt; fetched, fetch_fault, "at {fails:?}");
+    let kept = store.keep("old-of-a-test", b"the new file");
+    let keep_fault = if keeps {
+        Ok(())
+    } else {
+        Err(KeepFault::Failed)
+    };
+    assert_eq!(rt; kept, keep_fault, "at {fails:?}");
+    let file = fs::read(rt, "old-of-a-test")?;
+    let want = if keeps {
+        b"the new file".as_slice()
+    } else {
+        b"the old file".as_slice()
+    };
+    assert_eq!(rt; file.as_slice(), want, "at {fails:?}");
+    assert!(rt; !fs::exists(rt, ".old-of-a-test.0")?, "at {fails:?}");
+    Ok(())
+}
+
+// The call of the system that fails, and whether a fetch and a keep succeed then.
+const FAULTS: [(Fails, bool, bool); 6] = [
+    (Fails::Look, false, false),
+    (Fails::Open, false, false),
+    (Fails::Read, false, true),
+    (Fails::Write, true, false),
+    (Fails::Sync, true, false),
+    (Fails::Rename, true, false),
+];
+
 #[test]
 fn leaves_the_old_file_after_a_fault(rt: HostRuntime) -> Result<(), Fail> {
-    fs::write(&rt, "old-of-a-test", b"the old file")?;
-    // The call of the system that fails, and what becomes of a fetch and of a keep then.
-    let table = [
-        (Fails::Look, false, false),
-        (Fails::Open, false, false),
-        (Fails::Read, false, true),
-        (Fails::Write, true, false),
-        (Fails::Sync, true, false),
-        (Fails::Rename, true, false),
-    ];
-    for (fails, fetches, keeps) in table {
-        let system = Failing { system: &rt, fails };
-        let mut store = DirStore::new((system, rt.alloc()));
-        let mut file = Vec::new(rt.alloc());
-        let fetched = store.fetch("old-of-a-test", 100, &mut file);
-        assert_eq!(rt;
-            fetched,
-            if fetches {
-                Ok(())
-            } else {
-                Err(FetchFault::Failed)
-            },
-            "at {fails:?}"
-        );
-        let kept = store.keep("old-of-a-test", b"the new file");
-        assert_eq!(rt;
-            kept,
-            if keeps {
-                Ok(())
-            } else {
-                Err(KeepFault::Failed)
-            },
-            "at {fails:?}"
-        );
-        let file = fs::read(&rt, "old-of-a-test")?;
-        let want = if keeps {
-            b"the new file".as_slice()
-        } else {
-            b"the old file".as_slice()
-        };
-        assert_eq!(rt; file.as_slice(), want, "at {fails:?}");
-        assert!(rt; !fs::exists(&rt, ".old-of-a-test.0")?, "at {fails:?}");
+    for (fails, fetches, keeps) in FAULTS {
         fs::write(&rt, "old-of-a-test", b"the old file")?;
+        keeps_or_leaves(&rt, fails, fetches, keeps)?;
     }
     fs::remove_file(&rt, "old-of-a-test")?;
     Ok(())

@@ -77,9 +77,10 @@ fn tells_an_error_amid_a_stream_as_no_end(rt: HostRuntime) -> Result<(), Fail> {
     let mut source = StdSource::new(Broken { call: 0 });
     let mut buffer = [0u8; 8];
     assert_eq!(rt; source.pull(&mut buffer), Ok(5));
-    assert_eq!(rt; buffer[0], b'o');
+    assert_eq!(rt; &buffer[..5], b"ok\nno".as_slice());
     assert_eq!(rt; source.pull(&mut buffer), Err(Failed));
     assert_eq!(rt; source.pull(&mut buffer), Ok(2));
+    assert_eq!(rt; &buffer[..2], b"w\n".as_slice());
     assert_eq!(rt; source.pull(&mut buffer), Ok(0));
 
     let mut source = StdSource::new(Broken { call: 0 });
