@@ -14,15 +14,15 @@ use Rattle.rrb_core.specs.Seq.{seq_at, IsThick, IsWell}
 use Rattle.rrb_core.specs.Push.{last_in, IsPacked, into_leaf, into_last, into_new, IsPushedRoot, into_root, over_root}
 use Rattle.rrb_core.specs.Vector.{KeepsSums, sums_at, height_at, elements, IsGoodVector, IsVectorOf, HasSums}
 use Rattle.rrb_core.specs.Build.{IsRowOf, AreRows}
-use Rattle.rrb_core.specs.Levels.{rows_at, rows_of, HasFront, elements_before, TakesFirstRows}
+use Rattle.rrb_core.specs.Levels.{rows_at, rows_of, HasFrontTo, TakesFirstRows}
 use Rattle.rrb_core.specs.Edit.{links_with, CanEdit, CanEditRoot, CanPlace, MakesRow, Pushes, SetsAt, Takes, IsAtFront}
 use Rattle.rrb_core.proofs.Lists.{items-cut, items-around, items-set, items-front, not-first, leaf-end, set-parts, take-first, front-of}
 use Rattle.rrb_core.proofs.LinkCounts.{one-held}
 use Rattle.rrb_core.proofs.ClosedRows.{Stays}
 use Rattle.rrb_core.proofs.Stays.{live-stays, links-form, links-stay, items-stay, seq-stays, thick-stays, all-thick-stay, row-stays, rows-stay, keeps-stay, well-live}
 use Rattle.rrb_core.proofs.BuildLemmas.{gained-held, builds-pair, unchanged-good}
-use Rattle.rrb_core.proofs.LevelLemmas.{rows-own, rows-inner, rows-few, rows-kept, all-kept, front-few, first-of, first-rows}
-use Rattle.rrb_core.proofs.RowSizes.{items-of-rows, items-before, rows-full, vector-full, full-before, KeepsTo, keeps-all, keeps-none, keeps-behind, keeps-on}
+use Rattle.rrb_core.proofs.LevelLemmas.{rows-own, rows-inner, rows-few, rows-kept, all-kept, front-few, keeps-all, first-of, first-rows}
+use Rattle.rrb_core.proofs.RowSizes.{items-of-rows, items-before, rows-not-empty, vector-not-empty, not-empty-before, keeps-none, keeps-behind, keeps-on}
 use Rattle.rrb_core.proofs.PushLemmas.{all-last, packed-thick, pushed-more, pushed-stays}
 use Rattle.rrb_core.proofs.RowLists.{rows-append, rows-take, rows-drop, rows-around, one-row, take-thick, rows-live, IsOver, over, inner-thick, leaf-thick, child-at, good-row, root-row, at-place}
 use Rattle.rrb_core.proofs.FillRule.{height-is, seq-leaf, well-most, thick-links, thick-low, well-pos}
@@ -106,32 +106,32 @@ module _ {T : Type 0} {old mid : Heap T} {spent : List ℕ} {n l child : ℕ} (r
       }
 
   -- the row that was made
-  module _ {new : Heap T} {i skip m : ℕ} {zs : List ℕ} (p : IsPlaced old mid n l i skip child zs) (made : IsRowOf new (suc n) m (flat_map (seq_at (form_at mid) n) (links_with (links_at mid l) i child skip))) (more : Builds mid new (child ∷ []) (m ∷ []) 0 1) (links : links_at new m ≡ links_with (links_at mid l) i child skip) where
-    pub placed-edits : MakesRow old new spent (suc n) m zs
-    placed-edits = record { row = rw p.items at made; builds = Builds-more 0 (suc n + 1) (Builds-then b more) (omega arith) (omega arith) }
+  module _ {new : Heap T} {i skip k : ℕ} {zs : List ℕ} (placed : IsPlaced old mid n l i skip child zs) (made : IsRowOf new (suc n) k (flat_map (seq_at (form_at mid) n) (links_with (links_at mid l) i child skip))) (more : Builds mid new (child ∷ []) (k ∷ []) 0 1) (links : links_at new k ≡ links_with (links_at mid l) i child skip) where
+    pub placed-edits : MakesRow old new spent (suc n) k zs
+    placed-edits = record { row = rw placed.items at made; builds = Builds-more 0 (suc n + 1) (Builds-then b more) (omega arith) (omega arith) }
 
     -- its links, over forms, where nothing stands behind the child
-    placed-links : length (links_at old l) ≤ skip → links_in (form_at new) m ≡ take i (links_in (form_at old) l) ++ child ∷ []
-    placed-links past = rw (links-form new m, links-form old l, links, p.same, drop_all skip (links_at old l) past, append-nil) refl
+    placed-links : length (links_at old l) ≤ skip → links_in (form_at new) k ≡ take i (links_in (form_at old) l) ++ child ∷ []
+    placed-links past = rw (links-form new k, links-form old l, links, placed.same, drop_all skip (links_at old l) past, append-nil) refl
 
 -- a child of a row that can be edited
-pub edit-at : {T : Type 0} {h : Heap T} {n l : ℕ} (i k : ℕ) → CanEdit h (suc n) l → i < length (links_at h l) → k ≡ get_or (links_at h l) i 0 → CanEdit h n k × (length (seq_at (form_at h) n k) ≤ length (seq_at (form_at h) (suc n) l))
-edit-at {T} {h} {n} {l} i k row lt is =
-    let child = child-at h n l i k (over h n l row.well row.sums) lt is in (
+pub edit-at : {T : Type 0} {h : Heap T} {n l : ℕ} (i child : ℕ) → CanEdit h (suc n) l → i < length (links_at h l) → child ≡ get_or (links_at h l) i 0 → CanEdit h n child × (length (seq_at (form_at h) n child) ≤ length (seq_at (form_at h) (suc n) l))
+edit-at {T} {h} {n} {l} i child row lt is =
+    let there = child-at h n l i child (over h n l row.well row.sums) lt is in (
       record {
         graph = row.graph;
-        well = child.well;
-        sums = child.sums;
+        well = there.well;
+        sums = there.sums;
         low = omega (arith, row.low);
-        short = omega (arith, child.short, row.short);
+        short = omega (arith, there.short, row.short);
         spare = omega (arith, row.spare);
         holds = omega (arith, row.holds);
       },
-      child.short,
+      there.short,
     )
 
-pub edit-last : {T : Type 0} {h : Heap T} {n l : ℕ} (k : ℕ) → CanEdit h (suc n) l → k ≡ last_in (form_at h) l → CanEdit h n k × (length (seq_at (form_at h) n k) ≤ length (seq_at (form_at h) (suc n) l))
-edit-last {T} {h} {n} {l} k row is = edit-at (length (links_at h l) - 1) k row (omega (arith, (over h n l row.well row.sums).some)) (rw (links-form h l) at is)
+pub edit-last : {T : Type 0} {h : Heap T} {n l : ℕ} (child : ℕ) → CanEdit h (suc n) l → child ≡ last_in (form_at h) l → CanEdit h n child × (length (seq_at (form_at h) n child) ≤ length (seq_at (form_at h) (suc n) l))
+edit-last {T} {h} {n} {l} child row is = edit-at (length (links_at h l) - 1) child row (omega (arith, (over h n l row.well row.sums).some)) (rw (links-form h l) at is)
 
 -- a root after room was made
 pub root-after : {T : Type 0} {old mid : Heap T} {root spares : ℕ} → Unchanged old mid → IsGoodVector old root → HasSpares mid 0 spares → hold_count old < 2 ^ 59 → CanEditRoot mid root spares
@@ -167,13 +167,13 @@ module _ {T : Type 0} {old mid : Heap T} {n l e child : ℕ} (row : CanEdit old 
       rw (none-behind f ks (length ks) (omega arith), append-nil, o.items) (pushed-last f ks (e ∷ []) o.some) in
       place row sub.edits.builds (one-held e 0 (holds_at old) held) (length ks - 1) (length ks) (f (get_or ks (length ks - 1) 0) ++ e ∷ []) _ (omega arith) (omega arith) (omega (arith, o.some, o.most)) (take-thick old n (length ks - 1) ks o.rows (omega (arith, o.some))) made (omega (arith, length-append (f (get_or ks (length ks - 1) 0)) (e ∷ []))) (λ lt. absurd (omega arith)) items (push-short (seq_at (form_at old) (suc n) l) e short)
 
-  pub pushes-last : {new : Heap T} {m : ℕ} → IsRowOf new (suc n) m (flat_map (seq_at (form_at mid) n) (links_with (links_at mid l) (length (links_at old l) - 1) child (length (links_at old l)))) → Builds mid new (child ∷ []) (m ∷ []) 0 1
-      → links_at new m ≡ links_with (links_at mid l) (length (links_at old l) - 1) child (length (links_at old l)) → Pushes old new (suc n) l e m
-  pushes-last {new} {m} made more links =
+  pub pushes-last : {new : Heap T} {k : ℕ} → IsRowOf new (suc n) k (flat_map (seq_at (form_at mid) n) (links_with (links_at mid l) (length (links_at old l) - 1) child (length (links_at old l)))) → Builds mid new (child ∷ []) (k ∷ []) 0 1
+      → links_at new k ≡ links_with (links_at mid l) (length (links_at old l) - 1) child (length (links_at old l)) → Pushes old new (suc n) l e k
+  pushes-last {new} {k} made more links =
       let stays = live-stays sub.edits.builds.graph more.extends in
       record {
         edits = placed-edits row sub.edits.builds place-last made more links;
-        rule = into_last n l m child (pushed-stays stays (well-live mid n child sub.edits.row.well) sub.rule) (rw (ap length (links-form old l)) (placed-links row sub.edits.builds place-last made more links (omega arith)));
+        rule = into_last n l k child (pushed-stays stays (well-live mid n child sub.edits.row.well) sub.rule) (rw (ap length (links-form old l)) (placed-links row sub.edits.builds place-last made more links (omega arith)));
       }
 
 -- a row over one element, beside the children, of which the last is packed
@@ -193,15 +193,15 @@ module _ {T : Type 0} {old mid : Heap T} {n l e child : ℕ} (row : CanEdit old 
       rw (whole, none-behind f ks (length ks) (omega arith), o.items) refl in
       place row sub.builds (one-held e 0 (holds_at old) held) (length ks) (length ks) (e ∷ []) _ (omega arith) (omega arith) (omega (arith, room)) (rw whole thick) sub.row (omega arith) (λ lt. absurd (omega arith)) items (push-short (seq_at (form_at old) (suc n) l) e short)
 
-  pub pushes-beside : {new : Heap T} {m : ℕ} → IsRowOf new (suc n) m (flat_map (seq_at (form_at mid) n) (links_with (links_at mid l) (length (links_at old l)) child (length (links_at old l)))) → Builds mid new (child ∷ []) (m ∷ []) 0 1
-      → links_at new m ≡ links_with (links_at mid l) (length (links_at old l)) child (length (links_at old l)) → Pushes old new (suc n) l e m
-  pushes-beside {new} {m} made more links =
+  pub pushes-beside : {new : Heap T} {k : ℕ} → IsRowOf new (suc n) k (flat_map (seq_at (form_at mid) n) (links_with (links_at mid l) (length (links_at old l)) child (length (links_at old l)))) → Builds mid new (child ∷ []) (k ∷ []) 0 1
+      → links_at new k ≡ links_with (links_at mid l) (length (links_at old l)) child (length (links_at old l)) → Pushes old new (suc n) l e k
+  pushes-beside {new} {k} made more links =
       let stays = live-stays sub.builds.graph more.extends in
       let fewer : length (links_in (form_at old) l) < 32 = rw (links-form old l) room in
       let all : take (length (links_at old l)) (links_in (form_at old) l) ≡ links_in (form_at old) l = take_all (length (links_at old l)) (links_in (form_at old) l) (omega (arith, ap length (links-form old l))) in
       record {
         edits = placed-edits row sub.builds place-beside made more links;
-        rule = into_new n l m child packed (seq-stays stays n child (well-live mid n child sub.row.well) ∙ sub.row.items) (record { room = fewer; links = rw all at (placed-links row sub.builds place-beside made more links (omega arith)) });
+        rule = into_new n l k child packed (seq-stays stays n child (well-live mid n child sub.row.well) ∙ sub.row.items) (record { room = fewer; links = rw all at (placed-links row sub.builds place-beside made more links (omega arith)) });
       }
 
 -- the child with the element at an index, by its place and the index in it
@@ -226,35 +226,35 @@ module _ {T : Type 0} {old mid : Heap T} {n l i within index e child : ℕ} (row
           let at : get_or (take (i + 1) (links_at old l)) i 0 ≡ get_or (links_at old l) i 0 = get_or-take (i + 1) (links_at old l) i 0 (omega arith) in
           rw at at (take-thick old n (i + 1) (links_at old l) o.rows more i 0 (omega (arith, length-take-le (i + 1) (links_at old l) (omega arith))))
 
-  pub sets-inner : {new : Heap T} {m : ℕ} → IsRowOf new (suc n) m (flat_map (seq_at (form_at mid) n) (links_with (links_at mid l) i child (i + 1))) → Builds mid new (child ∷ []) (m ∷ []) 0 1
-      → links_at new m ≡ links_with (links_at mid l) i child (i + 1) → SetsAt old new (suc n) l index e m
-  sets-inner {new} {m} made more links =
+  pub sets-inner : {new : Heap T} {k : ℕ} → IsRowOf new (suc n) k (flat_map (seq_at (form_at mid) n) (links_with (links_at mid l) i child (i + 1))) → Builds mid new (child ∷ []) (k ∷ []) 0 1
+      → links_at new k ≡ links_with (links_at mid l) i child (i + 1) → SetsAt old new (suc n) l index e k
+  sets-inner {new} {k} made more links =
       let o = over old n l row.well row.sums in
-      let p = place-set in
+      let placed = place-set in
       let ks : List ℕ = links_at old l in
       let stays = live-stays row.graph sub.edits.builds.extends in
-      let width : length (links_at new m) ≡ length ks = rw links (omega (arith, p.size, ap length p.same, spot.place)) in
+      let width : length (links_at new k) ≡ length ks = rw links (omega (arith, placed.size, ap length placed.same, spot.place)) in
       let all-thick : IsThick (form_at old) (suc n) l → All (IsThick (form_at mid) n) (links_with (links_at mid l) i child (i + 1)) = λ thick.
       let later : All (IsThick (form_at mid) n) ks = all-thick-stay stays n ks (rows-live old n ks o.rows) (o.thick thick).1 in
       let new' : IsThick (form_at mid) n child = sub.thick ((o.thick thick).1 i 0 spot.place) in
-      rw p.same (All-append (IsThick (form_at mid) n) (take i ks ++ child ∷ []) (drop (i + 1) ks) (All-append (IsThick (form_at mid) n) (take i ks) (child ∷ []) (All-take (IsThick (form_at mid) n) i ks later) (All-cons (IsThick (form_at mid) n) child [] new' (All-nil (IsThick (form_at mid) n)))) (All-drop (IsThick (form_at mid) n) (i + 1) ks later)) in
+      rw placed.same (All-append (IsThick (form_at mid) n) (take i ks ++ child ∷ []) (drop (i + 1) ks) (All-append (IsThick (form_at mid) n) (take i ks) (child ∷ []) (All-take (IsThick (form_at mid) n) i ks later) (All-cons (IsThick (form_at mid) n) child [] new' (All-nil (IsThick (form_at mid) n)))) (All-drop (IsThick (form_at mid) n) (i + 1) ks later)) in
       record {
-        edits = placed-edits row sub.edits.builds p made more links;
-        thick = λ thick. inner-thick new mid n m (links_with (links_at mid l) i child (i + 1)) (live-stays sub.edits.builds.graph more.extends) p.can.rows links (omega (arith, ap length links, width, (o.thick thick).0)) (all-thick thick);
+        edits = placed-edits row sub.edits.builds placed made more links;
+        thick = λ thick. inner-thick new mid n k (links_with (links_at mid l) i child (i + 1)) (live-stays sub.edits.builds.graph more.extends) placed.can.rows links (omega (arith, ap length links, width, (o.thick thick).0)) (all-thick thick);
         count = width;
       }
 
 -- a take that gives a row itself, where that has no more elements, keeps of each height, and of the row's own, the rows that end within the count
-takes-kept : {T : Type 0} {old new : Heap T} {n l count m : ℕ} → Takes old new n l count m → (count ≡ length (seq_at (form_at old) n l) → m ≡ l) → count ≤ length (seq_at (form_at old) n l) → (p : ℕ) → p ≤ n → KeepsTo (seq_at (form_at old) p) count (rows_at (links_at old) n p l) (rows_at (links_at new) n p m)
-takes-kept {T} {old} {new} {n} {l} {count} {m} t itself fits p low = elim (cases_lt p n) as (λ _. KeepsTo (seq_at (form_at old) p) count (rows_at (links_at old) n p l) (rows_at (links_at new) n p m)) [
-  | inl lower ↦ t.rows p lower
+takes-kept : {T : Type 0} {old new : Heap T} {n l count k : ℕ} → Takes old new n l count k → (count ≡ length (seq_at (form_at old) n l) → k ≡ l) → count ≤ length (seq_at (form_at old) n l) → (m : ℕ) → m ≤ n → HasFrontTo (seq_at (form_at old) m) count (rows_at (links_at old) n m l) (rows_at (links_at new) n m k)
+takes-kept {T} {old} {new} {n} {l} {count} {k} t itself fits m low = elim (cases_lt m n) as (λ _. HasFrontTo (seq_at (form_at old) m) count (rows_at (links_at old) n m l) (rows_at (links_at new) n m k)) [
+  | inl lower ↦ t.rows m lower
   | inr own ↦
-      let same : p ≡ n = omega (arith, own, low) in
-      let here : KeepsTo (seq_at (form_at old) n) count (l ∷ []) (m ∷ []) = elim (cases_lt count (length (seq_at (form_at old) n l))) as (λ _. KeepsTo (seq_at (form_at old) n) count (l ∷ []) (m ∷ [])) [
-        | inl cut ↦ keeps-none (seq_at (form_at old) n) count l (m ∷ []) (omega arith) cut
+      let same : m ≡ n = omega (arith, own, low) in
+      let here : HasFrontTo (seq_at (form_at old) n) count (l ∷ []) (k ∷ []) = elim (cases_lt count (length (seq_at (form_at old) n l))) as (λ _. HasFrontTo (seq_at (form_at old) n) count (l ∷ []) (k ∷ [])) [
+        | inl cut ↦ keeps-none (seq_at (form_at old) n) count l (k ∷ []) (omega arith) cut
         | inr all ↦ rw (itself (omega (arith, all, fits))) (keeps-all (seq_at (form_at old) n) count (l ∷ []))
       ] in
-      rw (same, rows-own (links_at old) n l, rows-own (links_at new) n m) here
+      rw (same, rows-own (links_at old) n l, rows-own (links_at new) n k) here
 ]
 
 -- the front of a child, after the children before it
@@ -269,36 +269,36 @@ module _ {T : Type 0} {old mid : Heap T} {n l i within count' child : ℕ} (row 
       place row sub.edits.builds (λ k. omega arith) i (length ks) (take (within + 1) (f (get_or ks i 0))) _ (omega (arith, spot.place)) (omega arith) (omega (arith, o.most, spot.place)) (take-thick old n i ks o.rows spot.place) sub.edits.row (omega (arith, length-take-le (within + 1) (f (get_or ks i 0)) (omega (arith, spot.inside)))) (λ more. absurd (omega arith)) items (omega (arith, length-take-le count' (seq_at (form_at old) (suc n) l) fits, row.short, fits))
 
   -- of each height its rows are those below the links before the child, and then the child's
-  takes-rows : {new : Heap T} {m : ℕ} → (within + 1 ≡ length (seq_at (form_at old) n (get_or (links_at old l) i 0)) → child ≡ get_or (links_at old l) i 0) → Builds mid new (child ∷ []) (m ∷ []) 0 1 → links_at new m ≡ links_with (links_at mid l) i child (length (links_at old l)) → (p : ℕ) → p < suc n → KeepsTo (seq_at (form_at old) p) count' (rows_at (links_at old) (suc n) p l) (rows_at (links_at new) (suc n) p m)
-  takes-rows {new} {m} itself more links p less =
-      let low : p ≤ n = omega (arith, less) in
+  takes-rows : {new : Heap T} {k : ℕ} → (within + 1 ≡ length (seq_at (form_at old) n (get_or (links_at old l) i 0)) → child ≡ get_or (links_at old l) i 0) → Builds mid new (child ∷ []) (k ∷ []) 0 1 → links_at new k ≡ links_with (links_at mid l) i child (length (links_at old l)) → (m : ℕ) → m < suc n → HasFrontTo (seq_at (form_at old) m) count' (rows_at (links_at old) (suc n) m l) (rows_at (links_at new) (suc n) m k)
+  takes-rows {new} {k} itself more links m less =
+      let low : m ≤ n = omega (arith, less) in
       let o = over old n l row.well row.sums in
       let ks : List ℕ = links_at old l in
-      let f : ℕ → List ℕ = rows_at (links_at old) n p in
-      let s : ℕ → List ℕ = seq_at (form_at old) p in
+      let f : ℕ → List ℕ = rows_at (links_at old) n m in
+      let s : ℕ → List ℕ = seq_at (form_at old) m in
       let before : List ℕ = flat_map f (take i ks) in
       let own : List ℕ = f (get_or ks i 0) in
       let live = rows-live old n (take i ks) (rows-take old n i ks o.rows (omega (arith, spot.place))) in
-      let over-links : links_at new m ≡ take i ks ++ child ∷ [] = links ∙ rw (place-take.same, drop_all (length ks) ks (omega arith), append-nil) refl in
-      let first : flat_map (rows_at (links_at new) n p) (take i ks) ≡ before = all-kept (live-stays row.graph (Builds-then sub.edits.builds more).extends) n p (take i ks) live in
-      let last : rows_at (links_at new) n p child ≡ rows_at (links_at mid) n p child = rows-kept (live-stays sub.edits.builds.graph more.extends) n p child (well-live mid n child sub.edits.row.well) in
-      let all : rows_at (links_at new) (suc n) p m ≡ before ++ rows_at (links_at mid) n p child =
-      rows-inner (links_at new) n p m low ∙ ap (flat_map (rows_at (links_at new) n p)) over-links ∙ flat_map-append (rows_at (links_at new) n p) (take i ks) (child ∷ []) ∙ rw (first, append-nil, last) refl in
-      let rows : rows_at (links_at old) (suc n) p l ≡ (before ++ own) ++ flat_map f (drop (i + 1) ks) = rows-inner (links_at old) n p l low ∙ items-cut f ks i spot.place ∙ sym (append_assoc before own (flat_map f (drop (i + 1) ks))) in
-      let size : length (flat_map s before) + (within + 1) ≡ count' = omega (arith, ap length (items-before old n p (take i ks) low), spot.before, some) in
-      let kept : KeepsTo s count' (before ++ own) (before ++ rows_at (links_at mid) n p child) = rw size at (keeps-behind s before own (rows_at (links_at mid) n p child) (within + 1) (takes-kept sub itself (omega (arith, spot.inside)) p low)) in
-      let enough : count' ≤ length (flat_map s (before ++ own)) = rw (flat_map-append s before own) (omega (arith, length-append (flat_map s before) (flat_map s own), ap length (items-of-rows old n p (get_or ks i 0) low), spot.inside, size)) in
-      let full = rows-full old (suc n) p l row.well o.some (omega (arith, low)) in
-      rw all (keeps-on s count' (before ++ own) (rows_at (links_at old) (suc n) p l) (before ++ rows_at (links_at mid) n p child) (front-of (rows_at (links_at old) (suc n) p l) (before ++ own) (flat_map f (drop (i + 1) ks)) (before ++ own) refl rows) enough full kept)
+      let over-links : links_at new k ≡ take i ks ++ child ∷ [] = links ∙ rw (place-take.same, drop_all (length ks) ks (omega arith), append-nil) refl in
+      let first : flat_map (rows_at (links_at new) n m) (take i ks) ≡ before = all-kept (live-stays row.graph (Builds-then sub.edits.builds more).extends) n m (take i ks) live in
+      let last : rows_at (links_at new) n m child ≡ rows_at (links_at mid) n m child = rows-kept (live-stays sub.edits.builds.graph more.extends) n m child (well-live mid n child sub.edits.row.well) in
+      let all : rows_at (links_at new) (suc n) m k ≡ before ++ rows_at (links_at mid) n m child =
+      rows-inner (links_at new) n m k low ∙ ap (flat_map (rows_at (links_at new) n m)) over-links ∙ flat_map-append (rows_at (links_at new) n m) (take i ks) (child ∷ []) ∙ rw (first, append-nil, last) refl in
+      let rows : rows_at (links_at old) (suc n) m l ≡ (before ++ own) ++ flat_map f (drop (i + 1) ks) = rows-inner (links_at old) n m l low ∙ items-cut f ks i spot.place ∙ sym (append_assoc before own (flat_map f (drop (i + 1) ks))) in
+      let size : length (flat_map s before) + (within + 1) ≡ count' = omega (arith, ap length (items-before old n m (take i ks) low), spot.before, some) in
+      let kept : HasFrontTo s count' (before ++ own) (before ++ rows_at (links_at mid) n m child) = rw size at (keeps-behind s before own (rows_at (links_at mid) n m child) (within + 1) (takes-kept sub itself (omega (arith, spot.inside)) m low)) in
+      let enough : count' ≤ length (flat_map s (before ++ own)) = rw (flat_map-append s before own) (omega (arith, length-append (flat_map s before) (flat_map s own), ap length (items-of-rows old n m (get_or ks i 0) low), spot.inside, size)) in
+      let not-empty = rows-not-empty old (suc n) m l row.well o.some (omega (arith, low)) in
+      rw all (keeps-on s count' (before ++ own) (rows_at (links_at old) (suc n) m l) (before ++ rows_at (links_at mid) n m child) (front-of (rows_at (links_at old) (suc n) m l) (before ++ own) (flat_map f (drop (i + 1) ks)) (before ++ own) refl rows) enough not-empty kept)
 
-  pub takes-inner : {new : Heap T} {m : ℕ} → (within + 1 ≡ length (seq_at (form_at old) n (get_or (links_at old l) i 0)) → child ≡ get_or (links_at old l) i 0) → IsRowOf new (suc n) m (flat_map (seq_at (form_at mid) n) (links_with (links_at mid l) i child (length (links_at old l)))) → Builds mid new (child ∷ []) (m ∷ []) 0 1
-      → links_at new m ≡ links_with (links_at mid l) i child (length (links_at old l)) → Takes old new (suc n) l count' m
-  takes-inner {new} {m} itself made more links =
-      let p = place-take in
+  pub takes-inner : {new : Heap T} {k : ℕ} → (within + 1 ≡ length (seq_at (form_at old) n (get_or (links_at old l) i 0)) → child ≡ get_or (links_at old l) i 0) → IsRowOf new (suc n) k (flat_map (seq_at (form_at mid) n) (links_with (links_at mid l) i child (length (links_at old l)))) → Builds mid new (child ∷ []) (k ∷ []) 0 1
+      → links_at new k ≡ links_with (links_at mid l) i child (length (links_at old l)) → Takes old new (suc n) l count' k
+  takes-inner {new} {k} itself made more links =
+      let placed = place-take in
       let down : suc n - 1 ≡ n = omega arith in
       record {
-        edits = placed-edits row sub.edits.builds p made more links;
-        two = λ _ past. omega (arith, ap length links, p.size, ap length p.same, not-first (seq_at (form_at old) n) (links_at old l) i within count' spot.inside spot.before (rw down at past));
+        edits = placed-edits row sub.edits.builds placed made more links;
+        two = λ _ past. omega (arith, ap length links, placed.size, ap length placed.same, not-first (seq_at (form_at old) n) (links_at old l) i within count' spot.inside spot.before (rw down at past));
         rows = takes-rows itself more links;
       }
 
@@ -309,31 +309,31 @@ leaf-items h l = seq-leaf (form_at h) 0 l (omega arith) ∙ links-form h l
 pub leaf-most : {T : Type 0} {h : Heap T} {l : ℕ} → CanEdit h 0 l → length (links_at h l) ≤ 32
 leaf-most {T} {h} {l} row = rw (← links-form h l) (well-most (form_at h) 0 l row.well)
 
-module _ {T : Type 0} {old new : Heap T} {l m : ℕ} where
-  pub pushes-leaf : (e : ℕ) → (length (links_at old l) ≡ 32 → ⊥) → CanEdit old 0 l → MakesRow old new (e ∷ []) 0 m (links_with (links_at old l) (length (links_at old l)) e (length (links_at old l))) → links_at new m ≡ links_with (links_at old l) (length (links_at old l)) e (length (links_at old l)) → Pushes old new 0 l e m
+module _ {T : Type 0} {old new : Heap T} {l k : ℕ} where
+  pub pushes-leaf : (e : ℕ) → (length (links_at old l) ≡ 32 → ⊥) → CanEdit old 0 l → MakesRow old new (e ∷ []) 0 k (links_with (links_at old l) (length (links_at old l)) e (length (links_at old l))) → links_at new k ≡ links_with (links_at old l) (length (links_at old l)) e (length (links_at old l)) → Pushes old new 0 l e k
   pushes-leaf e narrow row edits links =
       let end = leaf-end (links_at old l) e (length (links_at old l)) refl in
       record {
         edits = rw (leaf-items old l) (rw end at edits);
-        rule = into_leaf l m (record { room = rw (links-form old l) (omega (arith, leaf-most row, narrow)); links = rw (links-form old l, links-form new m) (links ∙ end) });
+        rule = into_leaf l k (record { room = rw (links-form old l) (omega (arith, leaf-most row, narrow)); links = rw (links-form old l, links-form new k) (links ∙ end) });
       }
 
-  pub sets-leaf : (i e : ℕ) → i < length (links_at old l) → MakesRow old new (e ∷ []) 0 m (links_with (links_at old l) i e (i + 1)) → links_at new m ≡ links_with (links_at old l) i e (i + 1) → SetsAt old new 0 l i e m
+  pub sets-leaf : (i e : ℕ) → i < length (links_at old l) → MakesRow old new (e ∷ []) 0 k (links_with (links_at old l) i e (i + 1)) → links_at new k ≡ links_with (links_at old l) i e (i + 1) → SetsAt old new 0 l i e k
   sets-leaf i e lt edits links =
       let parts = set-parts (links_at old l) i e lt in
       let width : length (links_with (links_at old l) i e (i + 1)) ≡ length (links_at old l) = rw (← parts) (length-set (links_at old l) i e) in
       record {
         edits = rw (leaf-items old l) (rw (← parts) at edits);
-        thick = λ thick. leaf-thick new m (links_with (links_at old l) i e (i + 1)) links (omega (arith, width, thick-links (form_at old) 0 l thick, ap length (links-form old l)));
+        thick = λ thick. leaf-thick new k (links_with (links_at old l) i e (i + 1)) links (omega (arith, width, thick-links (form_at old) 0 l thick, ap length (links-form old l)));
         count = ap length links ∙ width;
       }
 
-  pub takes-leaf : (count : ℕ) → IsRowOf new 0 m (take count (links_at old l)) → Builds old new [] (m ∷ []) 0 1 → Takes old new 0 l count m
+  pub takes-leaf : (count : ℕ) → IsRowOf new 0 k (take count (links_at old l)) → Builds old new [] (k ∷ []) 0 1 → Takes old new 0 l count k
   takes-leaf count row builds =
       record {
         edits = record { row = rw (leaf-items old l) row; builds = builds };
         two = λ some. absurd (omega (arith, some));
-        rows = λ p low. absurd (omega (arith, low));
+        rows = λ m low. absurd (omega (arith, low));
       }
 
 -- an inner row whose first child has too few elements has another one
@@ -367,7 +367,7 @@ module _ {T : Type 0} {old new : Heap T} {n l count : ℕ} (row : CanEdit old n 
       record {
         edits = record { row = rw all (row-stays keeps n l (seq_at (form_at old) n l) alive (record { well = row.well; sums = row.sums; items = refl })); builds = Builds-more 0 (n + 1) builds (omega arith) (omega arith) };
         two = λ some past. rw (links-stay keeps l alive) (two-links old n l count some row.well row.sums whole past);
-        rows = λ p low. rw (rows-kept keeps n p l alive) (keeps-all (seq_at (form_at old) p) count (rows_at (links_at old) n p l));
+        rows = λ m low. rw (rows-kept keeps n m l alive) (keeps-all (seq_at (form_at old) m) count (rows_at (links_at old) n m l));
       }
 
 -- a packed root and a row with one element beside it: what the new root over them wants
@@ -401,57 +401,55 @@ module _ {T : Type 0} {old mid new : Heap T} {n root child e : ℕ} (graph : IsG
       }
 
   -- the root over them
-  pub pair-vector : {top : Heap T} {m : ℕ} → IsRowOf top (suc n) m (flat_map (seq_at (form_at new) n) (root ∷ child ∷ [])) → links_at top m ≡ root ∷ child ∷ [] → IsVectorOf top m (elements old root ++ e ∷ [])
-  pair-vector {top} {m} made links = good-row top (suc n) m (elements old root ++ e ∷ []) (rw root-pair.items at made) root-pair.low (λ _. rw links (omega arith)) (push-short (elements old root) e short)
+  pub pair-vector : {top : Heap T} {k : ℕ} → IsRowOf top (suc n) k (flat_map (seq_at (form_at new) n) (root ∷ child ∷ [])) → links_at top k ≡ root ∷ child ∷ [] → IsVectorOf top k (elements old root ++ e ∷ [])
+  pair-vector {top} {k} made links = good-row top (suc n) k (elements old root ++ e ∷ []) (rw root-pair.items at made) root-pair.low (λ _. rw links (omega arith)) (push-short (elements old root) e short)
 
-  pub pair-rule : {top : Heap T} {m : ℕ} → IsRowOf top (suc n) m (flat_map (seq_at (form_at new) n) (root ∷ child ∷ [])) → links_at top m ≡ root ∷ child ∷ [] → Extends new top → IsPushedRoot (form_at old) (form_at top) e root m
-  pair-rule {top} {m} made links ext =
+  pub pair-rule : {top : Heap T} {k : ℕ} → IsRowOf top (suc n) k (flat_map (seq_at (form_at new) n) (root ∷ child ∷ [])) → links_at top k ≡ root ∷ child ∷ [] → Extends new top → IsPushedRoot (form_at old) (form_at top) e root k
+  pair-rule {top} {k} made links ext =
       let stays = live-stays held.graph ext in
       let one : seq_at (form_at top) n child ≡ e ∷ [] = seq-stays stays n child root-pair.live ∙ root-pair.beside in
-      let up : height_at top m ≡ suc n = height-is (form_at top) (suc n) m made.well in
-      over_root child (up ∙ ap suc is) (rw is at packed) (rw is at one) (links-form top m ∙ links)
+      let up : height_at top k ≡ suc n = height-is (form_at top) (suc n) k made.well in
+      over_root child (up ∙ ap suc is) (rw is at packed) (rw is at one) (links-form top k ∙ links)
 
 -- a row that was pushed to as a root
-module _ {T : Type 0} {old new : Heap T} {root e m : ℕ} (good : IsGoodVector old root) (short : length (elements old root) + 1 < 2 ^ 32) (p : Pushes old new (height_at old root) root e m) where
-  pub pushed-vector : IsVectorOf new m (elements old root ++ e ∷ [])
-  pushed-vector = good-row new (height_at old root) m (elements old root ++ e ∷ []) p.edits.row good.shape.low (λ some. omega (arith, ap length (links-form new m), pushed-more p.rule, good.shape.two some)) (push-short (elements old root) e short)
+module _ {T : Type 0} {old new : Heap T} {root e k : ℕ} (good : IsGoodVector old root) (short : length (elements old root) + 1 < 2 ^ 32) (pushes : Pushes old new (height_at old root) root e k) where
+  pub pushed-vector : IsVectorOf new k (elements old root ++ e ∷ [])
+  pushed-vector = good-row new (height_at old root) k (elements old root ++ e ∷ []) pushes.edits.row good.shape.low (λ some. omega (arith, ap length (links-form new k), pushed-more pushes.rule, good.shape.two some)) (push-short (elements old root) e short)
 
-  pub pushed-root : IsPushedRoot (form_at old) (form_at new) e root m
-  pushed-root = into_root (height-is (form_at new) (height_at old root) m p.edits.row.well) p.rule
+  pub pushed-root : IsPushedRoot (form_at old) (form_at new) e root k
+  pushed-root = into_root (height-is (form_at new) (height_at old root) k pushes.edits.row.well) pushes.rule
 
 -- a root with one element set
-pub set-vector : {T : Type 0} {old new : Heap T} {root i e m : ℕ} → IsGoodVector old root → SetsAt old new (height_at old root) root i e m → IsVectorOf new m (set (elements old root) i e)
-set-vector {T} {old} {new} {root} {i} {e} {m} good s =
-    good-row new (height_at old root) m (set (elements old root) i e) s.edits.row good.shape.low (λ some. omega (arith, s.count, ap length (links-form old root), good.shape.two some)) (omega (arith, length-set (elements old root) i e, good.shape.short))
+pub set-vector : {T : Type 0} {old new : Heap T} {root i e k : ℕ} → IsGoodVector old root → SetsAt old new (height_at old root) root i e k → IsVectorOf new k (set (elements old root) i e)
+set-vector {T} {old} {new} {root} {i} {e} {k} good s =
+    good-row new (height_at old root) k (set (elements old root) i e) s.edits.row good.shape.low (λ some. omega (arith, s.count, ap length (links-form old root), good.shape.two some)) (omega (arith, length-set (elements old root) i e, good.shape.short))
 
 -- a root with the first elements of a row
-pub takes-vector : {T : Type 0} {old new : Heap T} {n l count m : ℕ} → Takes old new n l count m → n ≤ 7 → (1 ≤ n → length (seq_at (form_at old) (n - 1) (get_or (links_at old l) 0 0)) < count) → count ≤ length (seq_at (form_at old) n l) → length (seq_at (form_at old) n l) < 2 ^ 32 → IsVectorOf new m (take count (seq_at (form_at old) n l))
-takes-vector {T} {old} {new} {n} {l} {count} {m} t low past fits short =
-    good-row new n m (take count (seq_at (form_at old) n l)) t.edits.row low (λ some. t.two some (past some)) (omega (arith, length-take-le count (seq_at (form_at old) n l) fits, short))
+pub takes-vector : {T : Type 0} {old new : Heap T} {n l count k : ℕ} → Takes old new n l count k → n ≤ 7 → (1 ≤ n → length (seq_at (form_at old) (n - 1) (get_or (links_at old l) 0 0)) < count) → count ≤ length (seq_at (form_at old) n l) → length (seq_at (form_at old) n l) < 2 ^ 32 → IsVectorOf new k (take count (seq_at (form_at old) n l))
+takes-vector {T} {old} {new} {n} {l} {count} {k} t low past fits short =
+    good-row new n k (take count (seq_at (form_at old) n l)) t.edits.row low (λ some. t.two some (past some)) (omega (arith, length-take-le count (seq_at (form_at old) n l) fits, short))
 
 -- its rows of each height
-pub takes-front : {T : Type 0} {old new : Heap T} {root n l count m : ℕ} → IsGoodVector old root → 1 ≤ length (elements old root) → n ≤ height_at old root → count ≤ length (seq_at (form_at old) n l) → IsAtFront old root n l → Takes old new n l count m → (count ≡ length (seq_at (form_at old) n l) → m ≡ l) → TakesFirstRows old new root count m
-takes-front {T} {old} {new} {root} {n} {l} {count} {m} good some high fits edge t itself p =
-    let height : height_at new m ≡ n = height-is (form_at new) n m t.edits.row.well in
-    elim (cases_lt n p) as (λ _. (has : HasFront (rows_of old p root) (rows_of new p m)) × (p ≤ height_at new m → has.place < length (rows_of old p root) → count < elements_before old root p (has.place + 1))) [
-      | inl past ↦ (front-few (rw height (rows-few (links_at new) n p m (omega (arith, past)))), λ low lt. absurd (omega (arith, low, height, past)))
-      | inr low ↦
-          let first : List ℕ = rows_at (links_at old) n p l in
-          let kept = keeps-on (seq_at (form_at old) p) count first (rows_of old p root) (rows_at (links_at new) n p m) (edge.first p low) (omega (arith, fits, ap length (items-of-rows old n p l low))) (vector-full old p root good some (omega (arith, low, high))) (takes-kept t itself fits p low) in
-          let kept' : KeepsTo (seq_at (form_at old) p) count (rows_of old p root) (rows_of new p m) = rw height kept in
-          (kept'.0, λ _ lt. kept'.1 lt)
-    ]
+pub takes-front : {T : Type 0} {old new : Heap T} {root n l count k : ℕ} → IsGoodVector old root → 1 ≤ length (elements old root) → n ≤ height_at old root → count ≤ length (seq_at (form_at old) n l) → IsAtFront old root n l → Takes old new n l count k → (count ≡ length (seq_at (form_at old) n l) → k ≡ l) → TakesFirstRows old new root count k
+takes-front {T} {old} {new} {root} {n} {l} {count} {k} good some high fits edge t itself m low =
+    let height : height_at new k ≡ n = height-is (form_at new) n k t.edits.row.well in
+    let inner : m ≤ n = omega (arith, low, height) in
+    let first : List ℕ = rows_at (links_at old) n m l in
+    let kept : HasFrontTo (seq_at (form_at old) m) count (rows_of old m root) (rows_at (links_at new) n m k) =
+    keeps-on (seq_at (form_at old) m) count first (rows_of old m root) (rows_at (links_at new) n m k) (edge.first m inner) (omega (arith, fits, ap length (items-of-rows old n m l inner))) (vector-not-empty old m root good some (omega (arith, inner, high))) (takes-kept t itself fits m inner) in
+    rw height kept
 
 -- the empty vector, as the first elements of one that has some
-pub takes-none : {T : Type 0} {old : Heap T} {root : ℕ} (new : Heap T) (m : ℕ) → IsGoodVector old root → 1 ≤ length (elements old root) → height_at new m ≡ 0 → TakesFirstRows old new root 0 m
-takes-none {T} {old} {root} new m good some flat p =
-    let few : length (rows_of new p m) ≤ 1 = rw flat (rows-few (links_at new) 0 p m (omega arith)) in (
-      record { place = 0; inside = omega arith; cut = rows_of new p m; one = few; front = refl },
-      λ low lt.
-          let full = vector-full old p root good some (omega (arith, low, flat)) in
-          let one = full-before (seq_at (form_at old) p) (take 1 (rows_of old p root)) 0 (All-take (λ k. 1 ≤ length (seq_at (form_at old) p k)) 1 (rows_of old p root) full) (omega (arith, lt, length-take-le 1 (rows_of old p root) (omega (arith, lt)))) in
-          omega (arith, one),
-    )
+pub takes-none : {T : Type 0} {old : Heap T} {root : ℕ} (new : Heap T) (k : ℕ) → IsGoodVector old root → 1 ≤ length (elements old root) → height_at new k ≡ 0 → TakesFirstRows old new root 0 k
+takes-none {T} {old} {root} new k good some flat m low =
+    let few : length (rows_of new m k) ≤ 1 = rw flat (rows-few (links_at new) 0 m k (omega arith)) in
+    record {
+      front = front-few few;
+      past = λ lt.
+          let not-empty = vector-not-empty old m root good some (omega (arith, low, flat)) in
+          let one = not-empty-before (seq_at (form_at old) m) (take 1 (rows_of old m root)) 0 (All-take (λ l. 1 ≤ length (seq_at (form_at old) m l)) 1 (rows_of old m root) not-empty) (omega (arith, lt, length-take-le 1 (rows_of old m root) (omega (arith, lt)))) in
+          omega (arith, one);
+    }
 
 -- the first child of an inner row, in the words of the code
 pub record IsFirst {T : Type 0} (h : Heap T) (n l child : ℕ) : Type 0 where
@@ -474,7 +472,7 @@ first-child h (suc n) l child ls some well sums is links =
     let child-is = at in
     let edge : (root : ℕ) → IsAtFront h root (suc n) l → IsAtFront h root n child = λ root e.
     record {
-      first = λ p le. first-of (rows_at (links_at h) n p child) (rows_at (links_at h) (suc n) p l) (rows_of h p root) (rw child-is (first-rows (links_at h) n p l le o.some)) (e.first p (omega arith));
+      first = λ m le. first-of (rows_at (links_at h) n m child) (rows_at (links_at h) (suc n) m l) (rows_of h m root) (rw child-is (first-rows (links_at h) n m l le o.some)) (e.first m (omega arith));
     } in
     record {
       well = rw down first.well;

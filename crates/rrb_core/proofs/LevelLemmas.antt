@@ -6,10 +6,11 @@ use Rattle.std.proofs.lemmas.List.{take_all, take-take, length-take}
 use Rattle.std.proofs.lemmas.Bool.{cases_lt}
 use Rattle.std.proofs.lemmas.Bool.Decides.{nat_tests}
 use Rattle.node_heap.specs.Links.{Links}
-use Rattle.node_heap.specs.Heap.{Heap, links_at}
+use Rattle.node_heap.specs.Heap.{Heap, form_at, links_at}
 use Rattle.node_heap.specs.Calls.{SameRows}
+use Rattle.rrb_core.specs.Seq.{seq_at}
 use Rattle.rrb_core.specs.Vector.{height_at}
-use Rattle.rrb_core.specs.Levels.{rows_at, rows_of, HasFront, TakesFirstRows}
+use Rattle.rrb_core.specs.Levels.{rows_at, rows_of, HasFront, HasFrontTo, TakesFirstRows}
 use Rattle.rrb_core.proofs.ClosedRows.{Stays}
 use Rattle.rrb_core.proofs.Lists.{flat_map-same, take-first}
 use Rattle.rrb_core.proofs.Stays.{links-stay, items-stay}
@@ -52,10 +53,21 @@ module _ (L : Links) where
 -- all of the rows, or one row and none of them
 abbrev pub front-whole : (rows : List ℕ) → HasFront rows rows
 front-whole rows =
-    record { place = length rows; inside = omega arith; cut = []; one = omega arith; front = sym (append-nil (take (length rows) rows) ∙ take_all (length rows) rows (omega arith)) }
+    record { place = length rows; inside = omega arith; cut = []; one = omega arith; is = sym (append-nil (take (length rows) rows) ∙ take_all (length rows) rows (omega arith)) }
 
-pub front-few : {rows all : List ℕ} → length all ≤ 1 → HasFront rows all
-front-few {rows} {all} few = record { place = 0; inside = omega arith; cut = all; one = few; front = refl }
+abbrev pub front-few : {rows all : List ℕ} → length all ≤ 1 → HasFront rows all
+front-few {rows} {all} few = record { place = 0; inside = omega arith; cut = all; one = few; is = refl }
+
+-- all of the rows, whatever the count
+pub keeps-all : (s : ℕ → List ℕ) (count : ℕ) (rows : List ℕ) → HasFrontTo s count rows rows
+keeps-all s count rows = record { front = front-whole rows; past = λ lt. absurd (omega (arith, lt)) }
+
+-- a take has a front of the vector's rows of every height: above its own height it has none of them, and no other row
+pub front-of-height : {T : Type 0} (old new : Heap T) (vector count v : ℕ) → TakesFirstRows old new vector count v → (m : ℕ) → HasFront (rows_of old m vector) (rows_of new m v)
+front-of-height old new vector count v takes m = elim (cases_lt (height_at new v) m) as (λ _. HasFront (rows_of old m vector) (rows_of new m v)) [
+  | inl past ↦ front-few (rows-few (links_at new) (height_at new v) m v (omega (arith, past)))
+  | inr low ↦ (takes m low).front
+]
 
 -- the first of the first rows are the first of all
 pub first-of : (few first rows : List ℕ) → few ≡ take (length few) first → first ≡ take (length first) rows → few ≡ take (length few) rows
@@ -91,15 +103,13 @@ module _ {T : Type 0} (old new : Heap T) (same : SameRows old new) where
 
   -- a vector that is taken whole
   pub takes-whole : (l count : ℕ) → TakesFirstRows old new l count l
-  takes-whole l count m = rw (rows-of-same m l) (front-whole (rows_of old m l), λ low lt. absurd (omega (arith, lt)))
+  takes-whole l count m low = rw (rows-of-same m l) (keeps-all (seq_at (form_at old) m) count (rows_of old m l))
 
   -- a take after a step that leaves all rows as they are
   pub takes-after : (last : Heap T) (l count v : ℕ) → TakesFirstRows new last l count v → TakesFirstRows old last l count v
-  takes-after last l count v takes m =
-      let has = takes m in
-      let has' = rw (rows-of-same m l) at has in (
-        has'.0,
-        λ low lt.
-            let past = has'.1 low lt in
-            rw (items-stay all-stay m (take (has'.0.place + 1) (rows_of old m l)) (λ k d b. tt)) at past,
-      )
+  takes-after last l count v takes m low =
+      let has : HasFrontTo (seq_at (form_at new) m) count (rows_of old m l) (rows_of last m v) = rw (rows-of-same m l) at (takes m low) in
+      record {
+        front = has.front;
+        past = λ lt. rw (items-stay all-stay m (take (has.front.place + 1) (rows_of old m l)) (λ k d b. tt)) at (has.past lt);
+      }

@@ -1,12 +1,10 @@
 -- Lists of rows by what they hold: `f` gives the elements of a row. Nothing here knows a heap.
 use Rattle.std.proofs.Common.{◌≡◌, ℕ, suc, zero, ◌-◌, ◌+◌, ◌*◌, ◌/◌, ◌%◌, ◌<◌, ◌≤◌, ◌^◌, List, [], ◌∷◌, ◌++◌, length, take, drop, get_or, set, refl, ap, sym, ◌∙◌, arith, length-append, length-drop, append-nil, append_assoc, take-append-drop, ◌⊎◌, inl, inr}
-use Rattle.std.specs.Prelude.{Some}
-use Rattle.std.specs.List.{All, flat_map, sum_by, slice_get}
+use Rattle.std.specs.List.{All, flat_map, sum_by}
 use Rattle.std.proofs.lemmas.List.{take-take, take_all, take_at, take_rest, length-take-le, take-append-le, take_more, drop_more, drop_at, drop-drop, drop-append-le, get_or_past, get_or_append_left, get_or_at, get_or-take, get_or-drop, drop_all}
-use Rattle.std.proofs.lemmas.List.Concat.{length-flat_map, get_or-flat_map, flat_map-append}
+use Rattle.std.proofs.lemmas.List.Concat.{length-flat_map, flat_map-append}
 use Rattle.std.proofs.lemmas.List.Sums.{sum_by-le, sum_by-cons}
 use Rattle.std.proofs.lemmas.List.Elements.{All-nil, All-cons, All-append, All-head, All-tail, All-take}
-use Rattle.std.proofs.lemmas.Option.{slice_get-get_or}
 use Rattle.std.proofs.lemmas.Nat.{pow-add, div-add-mod'}
 use Rattle.std.proofs.Math.Nat.{pow-suc, mul-le-mul_right, mod-lt}
 use Rattle.rrb_core.specs.Vector.{AreSums}
@@ -61,15 +59,6 @@ items-drop f ks i rest count lt is le =
     let cut = items-cut f ks i lt in
     let past : drop n (flat_map f (take i ks) ++ (f (get_or ks i 0) ++ flat_map f (drop (i + 1) ks))) ≡ f (get_or ks i 0) ++ flat_map f (drop (i + 1) ks) = drop_at (flat_map f (take i ks)) (f (get_or ks i 0) ++ flat_map f (drop (i + 1) ks)) n refl in
     rw (cut, ← is, ← drop-drop rest n (flat_map f (take i ks) ++ (f (get_or ks i 0) ++ flat_map f (drop (i + 1) ks))), past, drop-append-le rest (f (get_or ks i 0)) (flat_map f (drop (i + 1) ks)) le) refl
-
--- an element of a child is one of the whole
-pub item-at : (f : ℕ → List ℕ) (ks : List ℕ) (i within index : ℕ) → i < length ks → within < length (f (get_or ks i 0)) → length (flat_map f (take i ks)) + within ≡ index
-    → slice_get (flat_map f ks) index ≡ slice_get (f (get_or ks i 0)) within
-item-at f ks i within index lt small is =
-    let cut = ap length (items-cut f ks i lt) in
-    let inside : index < length (flat_map f ks) = omega (arith, cut, is, length-append (flat_map f (take i ks)) (f (get_or ks i 0) ++ flat_map f (drop (i + 1) ks)), length-append (f (get_or ks i 0)) (flat_map f (drop (i + 1) ks))) in
-    let same : get_or (flat_map f ks) index 0 ≡ get_or (f (get_or ks i 0)) within 0 = rw is at (get_or-flat_map f ks i within 0 0 lt small) in
-    slice_get-get_or (flat_map f ks) index 0 inside ∙ ap Some same ∙ sym (slice_get-get_or (f (get_or ks i 0)) within 0 small)
 
 -- an element set in the middle part
 pub set-middle : (xs ys zs : List ℕ) (i x : ℕ) → i < length ys → set (xs ++ (ys ++ zs)) (length xs + i) x ≡ xs ++ (set ys i x ++ zs)

@@ -7,7 +7,7 @@ use Rattle.rrb_core.specs.Seq.{seq_at, IsThick, IsWell}
 use Rattle.rrb_core.specs.Push.{IsPushed}
 use Rattle.rrb_core.specs.Vector.{KeepsSums, HasSums, sums_at, IsGoodVector}
 use Rattle.rrb_core.specs.Build.{IsRowOf, AreRows}
-use Rattle.rrb_core.specs.Levels.{rows_at, rows_of, elements_until, HasFront}
+use Rattle.rrb_core.specs.Levels.{rows_at, rows_of, HasFrontTo}
 
 -- the first `keep` links, then the link k, then the links from the place `skip` on
 abbrev pub links_with : List ℕ → ℕ → ℕ → ℕ → List ℕ
@@ -52,7 +52,7 @@ module _ {T : Type 0} where
   pub record Takes (old new : Heap T) (n l count k : ℕ) : Type 0 where
     pub edits : MakesRow old new [] n k (take count (seq_at (form_at old) n l))
     pub two : 1 ≤ n → length (seq_at (form_at old) (n - 1) (slice_index (links_at old l) 0)) < count → 2 ≤ length (links_at new k)
-    pub rows : (m : ℕ) → m < n → (has : HasFront (rows_at (links_at old) n m l) (rows_at (links_at new) n m k)) × (has.place < length (rows_at (links_at old) n m l) → count < elements_until old n m l (has.place + 1))
+    pub rows : (m : ℕ) → m < n → HasFrontTo (seq_at (form_at old) m) count (rows_at (links_at old) n m l) (rows_at (links_at new) n m k)
 
   -- the rows of each height below the row l of height n are the first ones of the vector with this root
   pub record IsAtFront (h : Heap T) (root n l : ℕ) : Type 0 where

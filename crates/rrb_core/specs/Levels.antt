@@ -17,22 +17,21 @@ pub record HasFront (rows all : List ℕ) : Type 0 where
   pub inside : place ≤ length rows
   pub cut : List ℕ
   pub one : length cut ≤ 1
-  pub front : all ≡ take place rows ++ cut
+  pub is : all ≡ take place rows ++ cut
+
+-- a front of these rows, among its first ones all that end within the first `count` elements: the row behind these ends past
+-- them; `elements_of` gives the elements of a row
+pub record HasFrontTo (elements_of : ℕ → List ℕ) (count : ℕ) (rows all : List ℕ) : Type 0 where
+  pub front : HasFront rows all
+  pub past : front.place < length rows → count < length (flat_map elements_of (take (front.place + 1) rows))
 
 module _ {T : Type 0} where
   -- the rows of height m of the vector with this root, in order
   abbrev pub rows_of : Heap T → ℕ → ℕ → List ℕ
   rows_of h m l = rows_at (links_at h) (height_at h l) m l
 
-  -- how many elements stand before the row at the place i among the rows of height m below a row of height n, or of a vector
-  abbrev pub elements_until : Heap T → ℕ → ℕ → ℕ → ℕ → ℕ
-  elements_until h n m l i = length (flat_map (seq_at (form_at h) m) (take i (rows_at (links_at h) n m l)))
-
-  abbrev pub elements_before : Heap T → ℕ → ℕ → ℕ → ℕ
-  elements_before h vector m i = elements_until h (height_at h vector) m vector i
-
-  -- the new vector's rows of each height are the first ones of the old vector, then at most one more; up to the new vector's own
-  -- height the first ones are all that end within the old vector's first `count` elements
+  -- up to the new vector's own height, above which it has no rows, its rows of each height are the first ones of the old vector,
+  -- among them all that end within the first `count` elements, then at most one more
   abbrev pub TakesFirstRows : Heap T → Heap T → ℕ → ℕ → ℕ → Type 0
   TakesFirstRows old new vector count v =
-      (m : ℕ) → (has : HasFront (rows_of old m vector) (rows_of new m v)) × (m ≤ height_at new v → has.place < length (rows_of old m vector) → count < elements_before old vector m (has.place + 1))
+      (m : ℕ) → m ≤ height_at new v → HasFrontTo (seq_at (form_at old) m) count (rows_of old m vector) (rows_of new m v)

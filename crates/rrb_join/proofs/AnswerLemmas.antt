@@ -5,7 +5,7 @@ use Rattle.std.specs.List.{All, flat_map}
 use Rattle.node_heap.specs.Forms.{form_of, links_of}
 use Rattle.node_heap.specs.Links.{here}
 use Rattle.node_heap.specs.Heap.{Heap, links_at, holds_at}
-use Rattle.node_heap.specs.Calls.{Unchanged, Extends, KeepsHeld, Builds, MakesJust}
+use Rattle.node_heap.specs.Calls.{Unchanged, Extends, KeepsHeld}
 use Rattle.node_heap.proofs.Frames.{Extends-form}
 use Rattle.rrb_core.specs.Seq.{form_height}
 use Rattle.rrb_core.specs.Vector.{height_at, IsGoodVector}
@@ -23,9 +23,6 @@ module _ {T : Type 0} where
 
   pub extended-height : {old new : Heap T} → Extends old new → (l : ℕ) → IsGoodVector old l → height_at new l ≡ height_at old l
   extended-height {old} ext l good = ap form_height (Extends-form ext l (well-live old (height_at old l) l good.shape.well))
-
-  pub built-just : {old new : Heap T} {spent gained : List ℕ} {c n : ℕ} → Builds old new spent gained c n → MakesJust old new
-  built-just b = omega (arith, b.makes.made, b.makes.live)
 
   -- a vector that is no higher has no need of two rows
   pub no-higher : {h : Heap T} {n l : ℕ} → height_at h l ≤ n → RisesAtNeed h n l

@@ -1,5 +1,5 @@
 -- Rows at a seam that can stand side by side, and what they are together.
-use Rattle.std.proofs.Common.{◌≡◌, ℕ, suc, zero, ◌-◌, ◌+◌, ◌<◌, ◌≤◌, List, [], ◌∷◌, ◌++◌, length, take, drop, get_or, refl, ap, ◌∙◌, arith, inl, inr, length-append, append-nil, append_assoc, IsSome}
+use Rattle.std.proofs.Common.{◌≡◌, ℕ, suc, zero, ◌-◌, ◌+◌, ◌*◌, ◌<◌, ◌≤◌, List, [], ◌∷◌, ◌++◌, length, take, drop, get_or, refl, ap, ◌∙◌, arith, inl, inr, length-append, append-nil, append_assoc, IsSome}
 use Rattle.std.specs.List.{All, flat_map}
 use Rattle.std.proofs.lemmas.Bool.{cases_lt}
 use Rattle.std.proofs.lemmas.List.{take_all, take_more, drop_all, get_or_append_left, get_or-append_right}
@@ -14,6 +14,9 @@ use Rattle.rrb_core.proofs.Stays.{links-form, well-live, links-stay, thick-stays
 use Rattle.rrb_core.proofs.RowLists.{rows-append}
 use Rattle.rrb_core.proofs.LevelLemmas.{rows-own, rows-inner, rows-past, rows-kept}
 use Rattle.rrb_join.specs.Seam.{rows_under, but_last, StandBeside, AllStandBeside, AreAtNeed, JoinsBelow, KeepsBeneath}
+use Rattle.rrb_join.specs.Joining.{JoinsToRows}
+use Rattle.node_heap.specs.Calls.{Builds}
+use Rattle.node_heap.proofs.BuildLemmas.{Builds-more}
 use Rattle.rrb_join.specs.Unmade.{AreThick, IsSomeRow, AreUnmade, EndsIn, BeginsWith}
 use Rattle.rrb_join.proofs.RowsOfHeights.{below-above, rows-some, rows-named}
 use Rattle.rrb_join.proofs.UnmadeLemmas.{rows-above, items-above, thick-above, row-one, thick-one}
@@ -30,35 +33,35 @@ first-append xs ys some = get_or_append_left xs ys 0 0 (omega arith)
 
 module _ {T : Type 0} {h : Heap T} where
   -- the rows at the edges can stand side by side where all can
-  stand-within : (front back a b x y : List ℕ) → front ≡ a ++ x → back ≡ y ++ b → 1 ≤ length x → 1 ≤ length y → StandBeside h front back → StandBeside h x y
-  stand-within front back a b x y e f some some' stand =
-      let last : get_or front (length front - 1) 0 ≡ get_or x (length x - 1) 0 = rw e (last-append a x some) in
-      let first : get_or back 0 0 ≡ get_or y 0 0 = rw f (first-append y b some') in
+  stand-within : (front back a b edge edge' : List ℕ) → front ≡ a ++ edge → back ≡ edge' ++ b → 1 ≤ length edge → 1 ≤ length edge' → StandBeside h front back → StandBeside h edge edge'
+  stand-within front back a b edge edge' e f some some' stand =
+      let last : get_or front (length front - 1) 0 ≡ get_or edge (length edge - 1) 0 = rw e (last-append a edge some) in
+      let first : get_or back 0 0 ≡ get_or edge' 0 0 = rw f (first-append edge' b some') in
       record { some = some; others = some'; half = rw last at stand.half; past = rw (last, first) at stand.past }
 
   -- and all can where those at the edges can
-  stand-around : (front back a b x y : List ℕ) → front ≡ a ++ x → back ≡ y ++ b → StandBeside h x y → StandBeside h front back
-  stand-around front back a b x y e f stand =
-      let last : get_or front (length front - 1) 0 ≡ get_or x (length x - 1) 0 = rw e (last-append a x stand.some) in
-      let first : get_or back 0 0 ≡ get_or y 0 0 = rw f (first-append y b stand.others) in
+  stand-around : (front back a b edge edge' : List ℕ) → front ≡ a ++ edge → back ≡ edge' ++ b → StandBeside h edge edge' → StandBeside h front back
+  stand-around front back a b edge edge' e f stand =
+      let last : get_or front (length front - 1) 0 ≡ get_or edge (length edge - 1) 0 = rw e (last-append a edge stand.some) in
+      let first : get_or back 0 0 ≡ get_or edge' 0 0 = rw f (first-append edge' b stand.others) in
       record {
-        some = rw e (omega (arith, stand.some, length-append a x));
-        others = rw f (omega (arith, stand.others, length-append y b));
+        some = rw e (omega (arith, stand.some, length-append a edge));
+        others = rw f (omega (arith, stand.others, length-append edge' b));
         half = rw last stand.half;
         past = rw (last, first) stand.past;
       }
 
-  module _ {below n l place i last m r from j first : ℕ} (ends : EndsIn h below n l place i last) (begins : BeginsWith h below m r from j first) where
+  module _ {below n l place n' last k r from k' first : ℕ} (ends : EndsIn h below n l place n' last) (begins : BeginsWith h below k r from k' first) where
     -- the same of a row and what it ends in, and of one and what it begins with
-    pub edges-stand : (p : ℕ) → p ≤ below → StandBeside h (rows_at (links_at h) n p l) (rows_at (links_at h) m p r) → StandBeside h (rows_at (links_at h) i p last) (rows_at (links_at h) j p first)
-    edges-stand p low stand =
-        stand-within (rows_at (links_at h) n p l) (rows_at (links_at h) m p r) (flat_map (rows_at (links_at h) below p) (take place (links_at h l))) (flat_map (rows_at (links_at h) below p) (drop from (links_at h r))) (rows_at (links_at h) i p last) (rows_at (links_at h) j p first)
-        (ends.levels p low) (begins.levels p low) (ends.some p low stand.some) (begins.some p low stand.others) stand
+    pub edges-stand : (m : ℕ) → m ≤ below → StandBeside h (rows_at (links_at h) n m l) (rows_at (links_at h) k m r) → StandBeside h (rows_at (links_at h) n' m last) (rows_at (links_at h) k' m first)
+    edges-stand m low stand =
+        stand-within (rows_at (links_at h) n m l) (rows_at (links_at h) k m r) (flat_map (rows_at (links_at h) below m) (take place (links_at h l))) (flat_map (rows_at (links_at h) below m) (drop from (links_at h r))) (rows_at (links_at h) n' m last) (rows_at (links_at h) k' m first)
+        (ends.levels m low) (begins.levels m low) (ends.some m low stand.some) (begins.some m low stand.others) stand
 
-    pub whole-stand : (p : ℕ) → p ≤ below → StandBeside h (rows_at (links_at h) i p last) (rows_at (links_at h) j p first) → StandBeside h (rows_at (links_at h) n p l) (rows_at (links_at h) m p r)
-    whole-stand p low stand =
-        stand-around (rows_at (links_at h) n p l) (rows_at (links_at h) m p r) (flat_map (rows_at (links_at h) below p) (take place (links_at h l))) (flat_map (rows_at (links_at h) below p) (drop from (links_at h r))) (rows_at (links_at h) i p last) (rows_at (links_at h) j p first)
-        (ends.levels p low) (begins.levels p low) stand
+    pub whole-stand : (m : ℕ) → m ≤ below → StandBeside h (rows_at (links_at h) n' m last) (rows_at (links_at h) k' m first) → StandBeside h (rows_at (links_at h) n m l) (rows_at (links_at h) k m r)
+    whole-stand m low stand =
+        stand-around (rows_at (links_at h) n m l) (rows_at (links_at h) k m r) (flat_map (rows_at (links_at h) below m) (take place (links_at h l))) (flat_map (rows_at (links_at h) below m) (drop from (links_at h r))) (rows_at (links_at h) n' m last) (rows_at (links_at h) k' m first)
+        (ends.levels m low) (begins.levels m low) stand
 
   -- two rows of one height
   pub own-stand : (n l r : ℕ) → StandBeside h (rows_at (links_at h) n n l) (rows_at (links_at h) n n r) → (16 ≤ length (links_at h l)) × (32 < length (links_at h l) + length (links_at h r))
@@ -104,8 +107,8 @@ module _ {T : Type 0} {h : Heap T} where
   stand-inner n below l place last r first e ends begins stand m le = edges-stand ends begins m le (stand m (omega arith))
 
   -- two rows of this height, in the words of their own heights
-  pub stand-same : (n i l j r : ℕ) → i ≡ n → j ≡ n → (AllStandBeside h n l n r n → AllStandBeside h i l j r n) × (AllStandBeside h i l j r n → AllStandBeside h n l n r n)
-  stand-same n i l j r e e' = rw (e, e') (λ stand. stand, λ stand. stand)
+  pub stand-same : (height n l k r : ℕ) → n ≡ height → k ≡ height → (AllStandBeside h height l height r height → AllStandBeside h n l k r height) × (AllStandBeside h n l k r height → AllStandBeside h height l height r height)
+  stand-same height n l k r e e' = rw (e, e') (λ stand. stand, λ stand. stand)
 
 -- a row is thick where it keeps the fill rule and, at each height, the last row below it has 16 links or more
 right-thick : {T : Type 0} (h : Heap T) (n l : ℕ) → IsWell (form_at h) n l → ((m : ℕ) → m ≤ n → 16 ≤ length (links_at h (get_or (rows_at (links_at h) n m l) (length (rows_at (links_at h) n m l) - 1) 0))) → IsThick (form_at h) n l
@@ -129,11 +132,11 @@ right-thick h (suc n) l w half =
 -- a list by its last element, and another by its first
 meet : (front back : List ℕ) → 1 ≤ length front → 1 ≤ length back → front ++ back ≡ (but_last front ++ (get_or front (length front - 1) 0 ∷ get_or back 0 0 ∷ [])) ++ drop 1 back
 meet front [] some some' = absurd (omega arith)
-meet front (y ∷ ys) some some' =
+meet front (r ∷ rs) some some' =
     let up : length front - 1 + 1 ≡ length front = omega arith in
     let whole : take (length front) front ≡ front = take_all (length front) front (omega arith) in
     let parts : front ≡ but_last front ++ get_or front (length front - 1) 0 ∷ [] = rw (up, whole) at (take_more front (length front - 1) 0 (omega arith)) in
-    ap (λ (xs : List ℕ). xs ++ y ∷ ys) parts ∙ simp append_assoc
+    ap (λ (xs : List ℕ). xs ++ r ∷ rs) parts ∙ simp append_assoc
 
 -- two rows as they are, which can stand side by side
 module _ {T : Type 0} {h z : Heap T} (s : Stays (λ x. IsSome (row_at h x)) h z) (n l r : ℕ) (left : IsSomeRow h n l) (right : IsSomeRow h n r) (stand : AllStandBeside h n l n r n) where
@@ -183,42 +186,42 @@ module _ {T : Type 0} {h z : Heap T} (s : Stays (λ x. IsSome (row_at h x)) h z)
   pair-keeps m lower low = pair-rows m
 
   pair-seam : JoinsBelow h z n l n r (suc n) (l ∷ r ∷ [])
-  pair-seam p lower =
-      let own = stand p (omega arith) in
-      let front : List ℕ = rows_at (links_at h) n p l in
-      let back : List ℕ = rows_at (links_at h) n p r in
+  pair-seam m lower =
+      let own = stand m (omega arith) in
+      let front : List ℕ = rows_at (links_at h) n m l in
+      let back : List ℕ = rows_at (links_at h) n m r in
       let last : ℕ = get_or front (length front - 1) 0 in
       let first : ℕ = get_or back 0 0 in
-      let last-kept : links_at z last ≡ links_at h last = links-stay s last (rows-named s n p l left-live (length front - 1) 0 (omega (arith, own.some))) in
-      let first-kept : links_at z first ≡ links_at h first = links-stay s first (rows-named s n p r right-live 0 0 (omega (arith, own.others))) in
+      let last-kept : links_at z last ≡ links_at h last = links-stay s last (rows-named s n m l left-live (length front - 1) 0 (omega (arith, own.some))) in
+      let first-kept : links_at z first ≡ links_at h first = links-stay s first (rows-named s n m r right-live 0 0 (omega (arith, own.others))) in
       record {
         seam = last ∷ first ∷ [];
         few = record { most = omega arith; need = λ i more. let same : i ≡ 0 = omega arith in rw (same, last-kept, first-kept) own.past };
-        rows = pair-rows p ∙ meet front back own.some own.others;
+        rows = pair-rows m ∙ meet front back own.some own.others;
       }
 
--- what two rows as they are, of the heights i and j, are together
-pub record AreBoth {T : Type 0} (h z : Heap T) (n i l j r : ℕ) (all : List ℕ) : Type 0 where
-  pub links : AreUnmade z (suc n) all (seq_at (form_at h) i l ++ seq_at (form_at h) j r)
-  pub need : AreAtNeed z 2 all
-  pub thick : IsThick (form_at h) n r → AreThick z (suc n) all
-  pub size : length (flat_map (links_at z) all) ≡ length (links_at h l) + length (links_at h r)
-  pub seam : JoinsBelow h z i l j r (suc n) all
-  pub keeps : KeepsBeneath h z i l j r (suc n) all
-
-pub both : {T : Type 0} {h z : Heap T} (n i l j r : ℕ) (all : List ℕ) → Stays (λ x. IsSome (row_at h x)) h z → i ≤ n → j ≤ n → IsSomeRow h i l → IsSomeRow h j r → AllStandBeside h i l j r n → all ≡ l ∷ r ∷ [] → AreBoth h z n i l j r all
-both {T} {h} {z} n i l j r all s low low' left right stand is =
-    let inside = stand-low i l j r n stand in
-    let e : i ≡ n = omega (arith, low, inside.0) in
-    let e' : j ≡ n = omega (arith, low', inside.1) in
-    let left' : IsSomeRow h n l = rw (← e) left in
-    let right' : IsSomeRow h n r = rw (← e') right in
-    let stand' : AllStandBeside h n l n r n = (stand-same n i l j r e e').1 stand in
-    rw (e, e', is) (record {
-      links = pair-links s n l r left' right' stand';
-      need = pair-need s n l r left' right' stand';
-      thick = λ t. pair-thick s n l r left' right' stand' t;
-      size = pair-all s n l r left' right' stand';
-      seam = pair-seam s n l r left' right' stand';
-      keeps = pair-keeps s n l r left' right' stand';
-    })
+-- what two rows as they are, of the heights n and k, are together
+pub both : {T : Type 0} {h z : Heap T} (height n l k r : ℕ) (all : List ℕ) → Stays (λ x. IsSome (row_at h x)) h z → n ≤ height → k ≤ height → IsSomeRow h n l → IsSomeRow h k r → AllStandBeside h n l k r height → all ≡ l ∷ r ∷ []
+    → Builds h z [] all 0 0 → JoinsToRows h z n l k r height all × AreAtNeed z 2 all
+both {T} {h} {z} height n l k r all s low low' left right stand is builds =
+    let inside = stand-low n l k r height stand in
+    let e : n ≡ height = omega (arith, low, inside.0) in
+    let e' : k ≡ height = omega (arith, low', inside.1) in
+    let left' : IsSomeRow h height l = rw (← e) left in
+    let right' : IsSomeRow h height r = rw (← e') right in
+    let stand' : AllStandBeside h height l height r height = (stand-same height n l k r e e').1 stand in
+    let size = pair-all s height l r left' right' stand' in
+    let builds' : Builds h z [] all 0 (2 * suc height) = Builds-more 0 (2 * suc height) builds (omega arith) (omega arith) in
+    rw (e, e', is) (
+      record {
+        links = pair-links s height l r left' right' stand';
+        thick = λ _ t. pair-thick s height l r left' right' stand' t;
+        left_wide = λ _. omega (arith, size);
+        right_wide = λ _. omega (arith, size);
+        few = λ _ _. omega (arith, size);
+        seam = pair-seam s height l r left' right' stand';
+        keeps = pair-keeps s height l r left' right' stand';
+        builds = rw is at builds';
+      },
+      pair-need s height l r left' right' stand',
+    )

@@ -10,13 +10,6 @@ use Rattle.rrb_core.proofs.LinkCounts.{one-same}
 use Rattle.rrb_core.proofs.Stays.{good-stays, below-stays}
 use Rattle.node_heap.proofs.Frames.{Extends-trans, Extends-kept, Balances-trans, Balances-Makes, Balances-Releases, Answered-Unchanged}
 
--- two or three links without the last
-pub without-second : (x y k : ℕ) → count k (x ∷ y ∷ []) ≡ count k (x ∷ []) + one_at y k
-without-second x y k = omega (arith, count-cons k x (y ∷ []), count-one k x, count-one k y)
-
-pub without-third : (x y z k : ℕ) → count k (x ∷ y ∷ z ∷ []) ≡ count k (x ∷ y ∷ []) + one_at z k
-without-third x y z k = omega (arith, count-cons k x (y ∷ z ∷ []), count-cons k y (z ∷ []), count-cons k x (y ∷ []), count-one k y, count-one k z)
-
 module _ {T : Type 0} where
   -- a vector that is still held stays
   pub good-held : {old new : Heap T} {spent : ℕ → ℕ} → KeepsHeld spent old new → (l : ℕ) → spent l < holds_at old l → IsGoodVector old l → IsGoodVector new l × (elements new l ≡ elements old l)
@@ -63,7 +56,7 @@ module _ {T : Type 0} where
       }
 
   -- one of them was given up
-  pub gives-released : {a b c : Heap T} {given left : List ℕ} {link n : ℕ} → IsGraph a → Gives a b given n → ((k : ℕ) → count k given ≡ count k left + one_at link k) → length given ≡ length left + 1
+  gives-released : {a b c : Heap T} {given left : List ℕ} {link n : ℕ} → IsGraph a → Gives a b given n → ((k : ℕ) → count k given ≡ count k left + one_at link k) → length given ≡ length left + 1
       → Releases b c link → IsGraph c → KeepsHeld (one_at link) b c → Gives a c left n
   gives-released {left = left} {link = link} graph g one size r after keeps =
       record {
@@ -76,6 +69,13 @@ module _ {T : Type 0} where
         balance = Balances-trans g.balance (Balances-Releases r);
         made = omega (arith, g.made, r.made);
       }
+
+  -- the second of two was given up, or the third of three
+  pub without-second : {a b c : Heap T} {x y n : ℕ} → IsGraph a → Gives a b (x ∷ y ∷ []) n → Releases b c y → IsGraph c → KeepsHeld (one_at y) b c → Gives a c (x ∷ []) n
+  without-second {x = x} {y = y} graph g = gives-released {left = x ∷ []} graph g (λ k. omega (arith, count-cons k x (y ∷ []), count-one k x, count-one k y)) refl
+
+  pub without-third : {a b c : Heap T} {x y z n : ℕ} → IsGraph a → Gives a b (x ∷ y ∷ z ∷ []) n → Releases b c z → IsGraph c → KeepsHeld (one_at z) b c → Gives a c (x ∷ y ∷ []) n
+  without-third {x = x} {y = y} {z = z} graph g = gives-released {left = x ∷ y ∷ []} graph g (λ k. omega (arith, count-cons k x (y ∷ z ∷ []), count-cons k y (z ∷ []), count-cons k x (y ∷ []), count-one k y, count-one k z)) refl
 
   -- room was made before, and one is left
   pub gives-all : {a b c : Heap T} {result n m : ℕ} → Unchanged a b → Gives b c (result ∷ []) n → n ≤ m → Answered a c [] result 0 m × (c.made ≤ a.made + m)

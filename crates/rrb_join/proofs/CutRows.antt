@@ -14,7 +14,7 @@ use Rattle.rrb_core.specs.Levels.{rows_at, rows_of, HasFront, TakesFirstRows}
 use Rattle.rrb_core.proofs.ClosedRows.{Stays}
 use Rattle.rrb_core.proofs.Lists.{items-cut}
 use Rattle.rrb_core.proofs.Stays.{links-form, below-stays}
-use Rattle.rrb_core.proofs.LevelLemmas.{rows-inner}
+use Rattle.rrb_core.proofs.LevelLemmas.{rows-inner, front-of-height}
 use Rattle.rrb_core.proofs.RowSizes.{each-named}
 use Rattle.rrb_join.specs.Seam.{but_last, AreAtNeed, HasSeam, JoinsRows, SlicesRows, ErasesRows}
 use Rattle.rrb_join.specs.Rest.{AreHalves, HasRest, LeavesRows}
@@ -109,7 +109,7 @@ erased z rows front back all j has left joined wide =
     let before = front-but-last rows has.place has.cut has.one in
     let after = rest-but-first rows left.made j in
     let late : List ℕ = drop 1 left.made in
-    let front-is : but_last front ≡ take before.0 rows = ap (λ (xs : List ℕ). but_last xs) has.front ∙ before.1 in
+    let front-is : but_last front ≡ take before.0 rows = ap (λ (xs : List ℕ). but_last xs) has.is ∙ before.1 in
     let back-is : drop 1 back ≡ late ++ drop after.0 rows = ap (λ (xs : List ℕ). drop 1 xs) left.rows ∙ after.1 in
     let whole : all ≡ (take before.0 rows ++ joined.seam) ++ (late ++ drop after.0 rows) = outer (but_last front) (drop 1 back) (take before.0 rows) late (drop after.0 rows) joined.seam all front-is back-is joined.rows in (
       before.0,
@@ -127,7 +127,7 @@ module _ {T : Type 0} where
   -- a part is a front without its first elements
   pub slices : (old mid new : Heap T) (vector count front v : ℕ) → TakesFirstRows old mid vector count front → LeavesRows mid new front v → SlicesRows old new vector v
   slices old mid new vector count front v takes leaves m =
-      let has = (takes m).0 in
+      let has = front-of-height old mid vector count front takes m in
       let left = leaves m in
       let rows : List ℕ = take has.place (rows_of old m vector) in (
         left.0,
@@ -137,7 +137,7 @@ module _ {T : Type 0} where
         record {
           seam = left.1.made;
           few = halves-at-need new left.1.made left.1.halves;
-          rows = left.1.rows ∙ ap (λ (xs : List ℕ). left.1.made ++ xs) (ap (λ (xs : List ℕ). drop left.0 xs) has.front ∙ drop-both left.0 rows has.cut);
+          rows = left.1.rows ∙ ap (λ (xs : List ℕ). left.1.made ++ xs) (ap (λ (xs : List ℕ). drop left.0 xs) has.is ∙ drop-both left.0 rows has.cut);
         },
       )
 
@@ -147,7 +147,7 @@ module _ {T : Type 0} where
   erases old mid left new vector count front back v s s' live live' good same takes leaves joins m =
       let rest = leaves m in
       let rest' : HasRest new (drop rest.0 (rows_of old m vector)) (rows_of left m back) = rw (same m) at (rest-kept s' (drop rest.0 (rows_of mid m vector)) (rows_of left m back) (rows_of left m back) (rows-named s' (height_at left back) m back live') rest.1 refl) in
-      erased new (rows_of old m vector) (rows_of left m front) (rows_of left m back) (rows_of new m v) rest.0 (rw (rows-of-kept s m front live) (takes m).0) rest' (joins m) (well-wide new (height_at new v) m v good.shape.well)
+      erased new (rows_of old m vector) (rows_of left m front) (rows_of left m back) (rows_of new m v) rest.0 (rw (rows-of-kept s m front live) (front-of-height old mid vector count front takes m)) rest' (joins m) (well-wide new (height_at new v) m v good.shape.well)
 
 -- a vector that is still held keeps its rows of each height
 module _ {T : Type 0} {old new : Heap T} {spent : ℕ → ℕ} (keeps : KeepsHeld spent old new) (l : ℕ) (held : spent l < holds_at old l) where

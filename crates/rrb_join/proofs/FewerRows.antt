@@ -10,14 +10,14 @@ use Rattle.node_heap.specs.Heap.{Heap, row_at, form_at, links_at, holds_at, IsGr
 use Rattle.node_heap.specs.Calls.{Extends, SameRows, KeepsHeld}
 use Rattle.rrb_core.specs.Seq.{seq_at, IsWell}
 use Rattle.rrb_core.specs.Vector.{elements, height_at, IsGoodVector}
-use Rattle.rrb_core.specs.Levels.{rows_at, rows_of, elements_before, TakesFirstRows}
+use Rattle.rrb_core.specs.Levels.{rows_at, rows_of, TakesFirstRows}
 use Rattle.rrb_core.proofs.ClosedRows.{Stays}
 use Rattle.rrb_core.proofs.FillRule.{height-is}
 use Rattle.rrb_core.proofs.Lists.{take-past}
-use Rattle.rrb_core.proofs.LevelLemmas.{rows-past, rows-few, takes-whole, takes-after}
-use Rattle.rrb_core.proofs.RowSizes.{first-fewer, full-count, full-before, items-of-rows, items-before, rows-full}
+use Rattle.rrb_core.proofs.LevelLemmas.{rows-past, rows-few, front-of-height, takes-whole, takes-after}
+use Rattle.rrb_core.proofs.RowSizes.{first-fewer, not-empty-count, not-empty-before, items-of-rows, items-before, rows-not-empty}
 use Rattle.rrb_core.proofs.Stays.{links-form, well-live, items-stay, good-stays, live-stays, live-stays-by, below-stays}
-use Rattle.rrb_join.specs.Seam.{rows_under, HasNoMoreRows}
+use Rattle.rrb_join.specs.Seam.{rows_under, elements_before, HasNoMoreRows}
 use Rattle.rrb_join.specs.Rest.{LeavesNoMore, LeavesNoMoreBelow, PutsBefore, PutsBeside}
 use Rattle.rrb_join.specs.Unmade.{AreLinks}
 use Rattle.rrb_join.proofs.UnmadeLemmas.{links-live}
@@ -80,40 +80,40 @@ module _ {T : Type 0} (h : Heap T) (n below l place child count within : ℕ) (e
   ]
 
   -- what is left of another child, put before the next one, and the children after that
-  pub fewer-next : {a y z : Heap T} {next k m height : ℕ} {rest mids all : List ℕ} → place + 1 < length (links_at h l) → next ≡ get_or (links_at h l) (place + 1) 0 → IsWell (form_at h) below next → m ≤ below → height ≤ m + 1
-      → ((p : ℕ) → rows_at (links_at a) below p next ≡ rows_at (links_at h) below p next)
-      → ((p : ℕ) → flat_map (rows_at (links_at y) m p) (drop (place + 1 + 1) (links_at y l)) ≡ flat_map (rows_at (links_at h) below p) (drop (place + 1 + 1) (links_at h l)))
-      → LeavesNoMoreBelow h a below child within k rest → PutsBefore a y k rest below next m mids → PutsBeside y z m mids (drop (place + 1 + 1) (links_at y l)) height all → LeavesNoMoreBelow h z n l count height all
-  fewer-next {a} {y} {z} {next} {k} {m} {height} {rest} {mids} {all} more next-is well low up kept same sub before put p i less few = elim (cases_lt p height) as (λ _. length (rows_under (links_at z) height p all) + i ≤ length (rows_at (links_at h) n p l)) [
-    | inr past ↦ rw (below-past (links_at z) height p all past) (omega (arith, less))
+  pub fewer-next : {w y z : Heap T} {next k k' height : ℕ} {rest mids all : List ℕ} → place + 1 < length (links_at h l) → next ≡ get_or (links_at h l) (place + 1) 0 → IsWell (form_at h) below next → k' ≤ below → height ≤ k' + 1
+      → ((m : ℕ) → rows_at (links_at w) below m next ≡ rows_at (links_at h) below m next)
+      → ((m : ℕ) → flat_map (rows_at (links_at y) k' m) (drop (place + 1 + 1) (links_at y l)) ≡ flat_map (rows_at (links_at h) below m) (drop (place + 1 + 1) (links_at h l)))
+      → LeavesNoMoreBelow h w below child within k rest → PutsBefore w y k rest below next k' mids → PutsBeside y z k' mids (drop (place + 1 + 1) (links_at y l)) height all → LeavesNoMoreBelow h z n l count height all
+  fewer-next {w} {y} {z} {next} {k} {k'} {height} {rest} {mids} {all} more next-is well low up kept same sub before put m i less few = elim (cases_lt m height) as (λ _. length (rows_under (links_at z) height m all) + i ≤ length (rows_at (links_at h) n m l)) [
+    | inr past ↦ rw (below-past (links_at z) height m all past) (omega (arith, less))
     | inl under ↦
-        let f : ℕ → List ℕ = rows_at (links_at h) below p in
+        let f : ℕ → List ℕ = rows_at (links_at h) below m in
         let behind : List ℕ = flat_map f (drop (place + 1 + 1) (links_at h l)) in
-        let inner : p ≤ below = omega (arith, under, up, low) in
-        let spot = place-below p i inner few in
+        let inner : m ≤ below = omega (arith, under, up, low) in
+        let spot = place-below m i inner few in
         let rows : flat_map f (drop (place + 1) (links_at h l)) ≡ f next ++ behind = rw next-is (ap (flat_map f) (drop_more (links_at h l) (place + 1) 0 more)) in
-        let size : length (rows_at (links_at h) n p l) ≡ length (flat_map f (take place (links_at h l))) + (length (f child) + (length (f next) + length behind)) =
-        rows-below p inner ∙ ap (λ (x : ℕ). length (flat_map f (take place (links_at h l))) + (length (f child) + x)) (ap length rows ∙ length-append (f next) behind) in
-        let some : 1 ≤ length (f next) = rows-some h below p next well inner in
-        elim (cases_lt p m) as (λ _. length (rows_under (links_at z) height p all) + i ≤ length (rows_at (links_at h) n p l)) [
+        let size : length (rows_at (links_at h) n m l) ≡ length (flat_map f (take place (links_at h l))) + (length (f child) + (length (f next) + length behind)) =
+        rows-below m inner ∙ ap (λ (x : ℕ). length (flat_map f (take place (links_at h l))) + (length (f child) + x)) (ap length rows ∙ length-append (f next) behind) in
+        let some : 1 ≤ length (f next) = rows-some h below m next well inner in
+        elim (cases_lt m k') as (λ _. length (rows_under (links_at z) height m all) + i ≤ length (rows_at (links_at h) n m l)) [
           | inl lower ↦
-              let whole : length (rows_under (links_at z) height p all) ≡ length (rows_under (links_at y) m p mids) + length behind =
-              ap length (put.lower p lower) ∙ length-append (rows_under (links_at y) m p mids) (flat_map (rows_at (links_at y) m p) (drop (place + 1 + 1) (links_at y l))) ∙ ap (λ (xs : List ℕ). length (rows_under (links_at y) m p mids) + length xs) (same p) in
-              elim (cases_lt p k) as (λ _. length (rows_under (links_at z) height p all) + i ≤ length (rows_at (links_at h) n p l)) [
+              let whole : length (rows_under (links_at z) height m all) ≡ length (rows_under (links_at y) k' m mids) + length behind =
+              ap length (put.lower m lower) ∙ length-append (rows_under (links_at y) k' m mids) (flat_map (rows_at (links_at y) k' m) (drop (place + 1 + 1) (links_at y l))) ∙ ap (λ (xs : List ℕ). length (rows_under (links_at y) k' m mids) + length xs) (same m) in
+              elim (cases_lt m k) as (λ _. length (rows_under (links_at z) height m all) + i ≤ length (rows_at (links_at h) n m l)) [
                 | inl lowest ↦
-                    let mid : length (rows_under (links_at y) m p mids) ≡ length (rows_under (links_at a) k p rest) + length (f next) =
-                    ap length (before.lower p lowest) ∙ length-append (rows_under (links_at a) k p rest) (rows_at (links_at a) below p next) ∙ ap (λ (xs : List ℕ). length (rows_under (links_at a) k p rest) + length xs) (kept p) in
-                    omega (arith, size, whole, mid, spot.3, sub p spot.0 spot.1 spot.2)
+                    let mid : length (rows_under (links_at y) k' m mids) ≡ length (rows_under (links_at w) k m rest) + length (f next) =
+                    ap length (before.lower m lowest) ∙ length-append (rows_under (links_at w) k m rest) (rows_at (links_at w) below m next) ∙ ap (λ (xs : List ℕ). length (rows_under (links_at w) k m rest) + length xs) (kept m) in
+                    omega (arith, size, whole, mid, spot.3, sub m spot.0 spot.1 spot.2)
                 | inr amid ↦
-                    let has = before.upper p amid in
-                    let mid : length (rows_under (links_at y) m p mids) ≡ length has.made + (length (f next) - 1) =
-                    ap length has.rows ∙ length-append has.made (drop 1 (rows_at (links_at a) below p next)) ∙ ap (λ (x : ℕ). length has.made + x) (ap (λ (xs : List ℕ). length (drop 1 xs)) (kept p) ∙ length-drop 1 (f next)) in
+                    let has = before.upper m amid in
+                    let mid : length (rows_under (links_at y) k' m mids) ≡ length has.made + (length (f next) - 1) =
+                    ap length has.rows ∙ length-append has.made (drop 1 (rows_at (links_at w) below m next)) ∙ ap (λ (x : ℕ). length has.made + x) (ap (λ (xs : List ℕ). length (drop 1 xs)) (kept m) ∙ length-drop 1 (f next)) in
                     omega (arith, size, whole, mid, has.halves.most, some, spot.1, spot.3)
               ]
           | inr from ↦
-              let top : p ≡ m = omega (arith, from, under, up) in
-              let rows-behind : drop (place + 1 + 1) (links_at y l) ≡ behind = sym (rows-own-all (links_at y) m (drop (place + 1 + 1) (links_at y l))) ∙ ap (λ (x : ℕ). flat_map (rows_at (links_at y) m x) (drop (place + 1 + 1) (links_at y l))) (sym top) ∙ same p in
-              let own : length (rows_under (links_at z) height p all) ≡ length put.own.made + length behind = ap (λ (x : ℕ). length (rows_under (links_at z) height x all)) top ∙ ap length put.own.rows ∙ length-append put.own.made (drop (place + 1 + 1) (links_at y l)) ∙ ap (λ (xs : List ℕ). length put.own.made + length xs) rows-behind in
+              let top : m ≡ k' = omega (arith, from, under, up) in
+              let rows-behind : drop (place + 1 + 1) (links_at y l) ≡ behind = sym (rows-own-all (links_at y) k' (drop (place + 1 + 1) (links_at y l))) ∙ ap (λ (x : ℕ). flat_map (rows_at (links_at y) k' x) (drop (place + 1 + 1) (links_at y l))) (sym top) ∙ same m in
+              let own : length (rows_under (links_at z) height m all) ≡ length put.own.made + length behind = ap (λ (x : ℕ). length (rows_under (links_at z) height x all)) top ∙ ap length put.own.rows ∙ length-append put.own.made (drop (place + 1 + 1) (links_at y l)) ∙ ap (λ (xs : List ℕ). length put.own.made + length xs) rows-behind in
               omega (arith, size, own, put.own.halves.most, some, spot.1, spot.3)
         ]
   ]
@@ -138,37 +138,37 @@ fewer-none old new root count v well m i less few = rw (height-is (form_at new) 
 
 module _ {T : Type 0} (h : Heap T) (v : ℕ) (good : IsGoodVector h v) where
   -- a vector has one row of a height at most, or none that is empty
-  few-or-full : (m : ℕ) → (length (rows_of h m v) ≤ 1) ⊎ All (λ k. 1 ≤ length (seq_at (form_at h) m k)) (rows_of h m v)
-  few-or-full m = elim (cases_lt m (height_at h v)) as (λ _. (length (rows_of h m v) ≤ 1) ⊎ All (λ k. 1 ≤ length (seq_at (form_at h) m k)) (rows_of h m v)) [
-    | inl lower ↦ inr (rows-full h (height_at h v) m v good.shape.well (rw (← links-form h v) (omega (arith, good.shape.two (omega (arith, lower))))) (omega (arith, lower)))
+  few-or-not-empty : (m : ℕ) → (length (rows_of h m v) ≤ 1) ⊎ All (λ k. 1 ≤ length (seq_at (form_at h) m k)) (rows_of h m v)
+  few-or-not-empty m = elim (cases_lt m (height_at h v)) as (λ _. (length (rows_of h m v) ≤ 1) ⊎ All (λ k. 1 ≤ length (seq_at (form_at h) m k)) (rows_of h m v)) [
+    | inl lower ↦ inr (rows-not-empty h (height_at h v) m v good.shape.well (rw (← links-form h v) (omega (arith, good.shape.two (omega (arith, lower))))) (omega (arith, lower)))
     | inr high ↦ inl (rows-few (links_at h) (height_at h v) m v high)
   ]
 
   -- where the first j rows of a height have all elements, there are no more than j
   all-rows : (m j : ℕ) → 0 < j → (m ≤ height_at h v → length (elements h v) ≤ elements_before h v m j) → length (rows_of h m v) ≤ j
-  all-rows m j some all = elim (few-or-full m) as (λ _. length (rows_of h m v) ≤ j) [
+  all-rows m j some all = elim (few-or-not-empty m) as (λ _. length (rows_of h m v) ≤ j) [
     | inl few ↦ omega (arith, few, some)
-    | inr full ↦ elim (cases_lt j (length (rows_of h m v))) as (λ _. length (rows_of h m v) ≤ j) [
+    | inr not-empty ↦ elim (cases_lt j (length (rows_of h m v))) as (λ _. length (rows_of h m v) ≤ j) [
       | inr le ↦ le
       | inl lt ↦ elim (cases_lt (height_at h v) m) as (λ _. length (rows_of h m v) ≤ j) [
         | inl past ↦ rw (rows-past (links_at h) (height_at h v) m v past) (omega arith)
-        | inr low ↦ absurd (omega (arith, full-before (seq_at (form_at h) m) (rows_of h m v) j full lt, all low, ap length (items-of-rows h (height_at h v) m v low)))
+        | inr low ↦ absurd (omega (arith, not-empty-before (seq_at (form_at h) m) (rows_of h m v) j not-empty lt, all low, ap length (items-of-rows h (height_at h v) m v low)))
       ]
     ]
   ]
 
   -- of the vector itself: only its first row has no element before it
   pub fewer-itself : (new : Heap T) → ((m : ℕ) → rows_of new m v ≡ rows_of h m v) → LeavesNoMore h new v 0 v
-  fewer-itself new same m i less few = rw (same m) (elim (few-or-full m) as (λ _. length (rows_of h m v) + i ≤ length (rows_of h m v)) [
+  fewer-itself new same m i less few = rw (same m) (elim (few-or-not-empty m) as (λ _. length (rows_of h m v) + i ≤ length (rows_of h m v)) [
     | inl one ↦ omega (arith, less, one)
-    | inr full ↦ omega (arith, less, few, length-take i (rows_of h m v), full-count (seq_at (form_at h) m) (take i (rows_of h m v)) (All-take (λ k. 1 ≤ length (seq_at (form_at h) m k)) i (rows_of h m v) full))
+    | inr not-empty ↦ omega (arith, less, few, length-take i (rows_of h m v), not-empty-count (seq_at (form_at h) m) (take i (rows_of h m v)) (All-take (λ k. 1 ≤ length (seq_at (form_at h) m k)) i (rows_of h m v) not-empty))
   ])
 
   -- what is left of a front has no more rows than those of the front in which it lies
-  fits : (new : Heap T) (from w : ℕ) → LeavesNoMore h new v from w → height_at new w ≤ height_at h v → (m i j : ℕ) → i < j → elements_before h v m (min i (length (rows_of h m v) - 1)) ≤ from → (m ≤ height_at h v → length (elements h v) ≤ elements_before h v m j)
-      → length (rows_of new m w) ≤ j - i
-  fits new from w leaves low m i j lt few all = elim (cases_lt (height_at h v) m) as (λ _. length (rows_of new m w) ≤ j - i) [
-    | inl past ↦ rw (rows-past (links_at new) (height_at new w) m w (omega (arith, low, past))) (omega arith)
+  fits : (new : Heap T) (from part : ℕ) → LeavesNoMore h new v from part → height_at new part ≤ height_at h v → (m i j : ℕ) → i < j → elements_before h v m (min i (length (rows_of h m v) - 1)) ≤ from → (m ≤ height_at h v → length (elements h v) ≤ elements_before h v m j)
+      → length (rows_of new m part) ≤ j - i
+  fits new from part leaves low m i j lt few all = elim (cases_lt (height_at h v) m) as (λ _. length (rows_of new m part) ≤ j - i) [
+    | inl past ↦ rw (rows-past (links_at new) (height_at new part) m part (omega (arith, low, past))) (omega arith)
     | inr inner ↦
         let some : 1 ≤ length (rows_of h m v) = rows-some h (height_at h v) m v good.shape.well inner in
         omega (arith, lt, some, all-rows m j (omega (arith, lt)) all, leaves m (min i (length (rows_of h m v) - 1)) (omega (arith, some)) few)
@@ -178,15 +178,15 @@ module _ {T : Type 0} (h : Heap T) (v : ℕ) (good : IsGoodVector h v) where
 fewer-part : {T : Type 0} (old mid new : Heap T) (vector front v from to : ℕ) → IsGoodVector mid front → Stays (λ x. IsSome (row_at old x)) old mid → IsSome (row_at old vector) → length (elements mid front) ≤ to
     → TakesFirstRows old mid vector to front → LeavesNoMore mid new front from v → height_at new v ≤ height_at mid front → HasNoMoreRows old new vector from to v
 fewer-part old mid new vector front v from to good s live short takes leaves low m i j lt few all =
-    let has = (takes m).0 in
+    let has = front-of-height old mid vector to front takes m in
     let f : ℕ → List ℕ = seq_at (form_at mid) m in
     let rows : List ℕ = rows_of old m vector in
-    let size : length (rows_of mid m front) ≡ has.place + length has.cut = ap length has.front ∙ length-append (take has.place rows) has.cut ∙ ap (λ (x : ℕ). x + length has.cut) (length-take-le has.place rows has.inside) in
-    let same : (k : ℕ) → k ≤ has.place → elements_before mid front m k ≡ elements_before old vector m k = λ k le.
-    ap (λ (xs : List ℕ). length (flat_map f (take k xs))) has.front ∙ ap (λ (xs : List ℕ). length (flat_map f xs)) (take-append-le k (take has.place rows) has.cut (omega (arith, le, length-take-le has.place rows has.inside)) ∙ take-take k has.place rows le)
-    ∙ ap length (items-stay s m (take k rows) (All-take (λ x. IsSome (row_at old x)) k rows (rows-named s (height_at old vector) m vector live))) in
-    let k : ℕ = min i (length (rows_of mid m front) - 1) in
-    fits mid front good new from v leaves low m i j lt (omega (arith, few, same k (omega (arith, size, has.one)), first-fewer (seq_at (form_at old) m) rows k i (omega arith)))
+    let size : length (rows_of mid m front) ≡ has.place + length has.cut = ap length has.is ∙ length-append (take has.place rows) has.cut ∙ ap (λ (x : ℕ). x + length has.cut) (length-take-le has.place rows has.inside) in
+    let same : (q : ℕ) → q ≤ has.place → elements_before mid front m q ≡ elements_before old vector m q = λ q le.
+    ap (λ (xs : List ℕ). length (flat_map f (take q xs))) has.is ∙ ap (λ (xs : List ℕ). length (flat_map f xs)) (take-append-le q (take has.place rows) has.cut (omega (arith, le, length-take-le has.place rows has.inside)) ∙ take-take q has.place rows le)
+    ∙ ap length (items-stay s m (take q rows) (All-take (λ x. IsSome (row_at old x)) q rows (rows-named s (height_at old vector) m vector live))) in
+    let q : ℕ = min i (length (rows_of mid m front) - 1) in
+    fits mid front good new from v leaves low m i j lt (omega (arith, few, same q (omega (arith, size, has.one)), first-fewer (seq_at (form_at old) m) rows q i (omega arith)))
     (λ inner. elim (cases_lt has.place j) as (λ _. length (elements mid front) ≤ elements_before mid front m j) [
       | inl past ↦ let whole : take j (rows_of mid m front) ≡ rows_of mid m front = take_all j (rows_of mid m front) (omega (arith, size, has.one, past)) in omega (arith, ap (λ (xs : List ℕ). length (flat_map f xs)) whole, ap length (items-of-rows mid (height_at mid front) m front inner))
       | inr le ↦ omega (arith, short, all, same j le)

@@ -77,76 +77,76 @@ module _ {T : Type 0} {P : ℕ → Type 0} {old new : Heap T} (s : Stays P old n
 
 -- what is left of one child and the children after it are left of the row
 left-at : {T : Type 0} (h z : Heap T) (n below m l i j : ℕ) (whole : List ℕ) → n ≡ suc below → m ≤ below → i < length (links_at h l)
-    → HasRest z (drop j (rows_at (links_at h) below m (get_or (links_at h l) i 0)) ++ flat_map (rows_at (links_at h) below m) (drop (i + 1) (links_at h l))) whole → (q : ℕ) × HasRest z (drop q (rows_at (links_at h) n m l)) whole
+    → HasRest z (drop j (rows_at (links_at h) below m (get_or (links_at h l) i 0)) ++ flat_map (rows_at (links_at h) below m) (drop (i + 1) (links_at h l))) whole → (i' : ℕ) × HasRest z (drop i' (rows_at (links_at h) n m l)) whole
 left-at h z n below m l i j whole e low lt has =
     let f : ℕ → List ℕ = rows_at (links_at h) below m in
     let at = drop-within (flat_map f (take i (links_at h l))) (f (get_or (links_at h l) i 0)) (flat_map f (drop (i + 1) (links_at h l))) j in
     (at.0, rw (rows-cut (links_at h) n below m l i e low lt, at.1) has)
 
 -- one row or two over the links, before rows of their height
-pub raised-beside : {T : Type 0} {h k z : Heap T} {m : ℕ} {ls made back all : List ℕ} → Stays (λ x. IsSome (row_at h x)) h z → Stays (λ x. IsSome (row_at k x)) k z → AreLinks h m ls → AreRows h m back → AreRows k m made
-    → flat_map (links_at k) made ≡ ls → AreHalves k made → all ≡ made ++ back → PutsBeside h z m ls back (suc m) all
-raised-beside {T} {h} {k} {z} {m} {ls} {made} {back} {all} s sk named behind rows over-links halves is =
-    let made-live = rows-live k m made rows in
+pub raised-beside : {T : Type 0} {h y z : Heap T} {k : ℕ} {ls made back all : List ℕ} → Stays (λ x. IsSome (row_at h x)) h z → Stays (λ x. IsSome (row_at y x)) y z → AreLinks h k ls → AreRows h k back → AreRows y k made
+    → flat_map (links_at y) made ≡ ls → AreHalves y made → all ≡ made ++ back → PutsBeside h z k ls back (suc k) all
+raised-beside {T} {h} {y} {z} {k} {ls} {made} {back} {all} s sy named behind rows over-links halves is =
+    let made-live = rows-live y k made rows in
     record {
-      lower = λ p low.
-          let f : ℕ → List ℕ = rows_at (links_at z) m p in
-          let links : flat_map (links_at z) made ≡ ls = all-links-stay sk made made-live ∙ over-links in
-          let first : flat_map f made ≡ rows_under (links_at h) m p ls = below-rows (links_at z) m p made low ∙ ap (rows_under (links_at z) m p) links ∙ below-kept s m p ls (links-live h m ls named) in
-          below-above (links_at z) m p all ∙ ap (flat_map f) is ∙ flat_map-append f made back ∙ ap (λ (xs : List ℕ). xs ++ flat_map f back) first ∙ ap (λ (xs : List ℕ). rows_under (links_at h) m p ls ++ xs) (all-kept s m p back (rows-live h m back behind));
-      own = record { made = made; halves = halves-kept sk made made-live halves; rows = below-above (links_at z) m m all ∙ rows-own-all (links_at z) m all ∙ is };
+      lower = λ m low.
+          let f : ℕ → List ℕ = rows_at (links_at z) k m in
+          let links : flat_map (links_at z) made ≡ ls = all-links-stay sy made made-live ∙ over-links in
+          let first : flat_map f made ≡ rows_under (links_at h) k m ls = below-rows (links_at z) k m made low ∙ ap (rows_under (links_at z) k m) links ∙ below-kept s k m ls (links-live h k ls named) in
+          below-above (links_at z) k m all ∙ ap (flat_map f) is ∙ flat_map-append f made back ∙ ap (λ (xs : List ℕ). xs ++ flat_map f back) first ∙ ap (λ (xs : List ℕ). rows_under (links_at h) k m ls ++ xs) (all-kept s k m back (rows-live h k back behind));
+      own = record { made = made; halves = halves-kept sy made made-live halves; rows = below-above (links_at z) k k all ∙ rows-own-all (links_at z) k all ∙ is };
     }
 
 -- links that stay as they are, before no rows
-pub kept-beside : {T : Type 0} (h : Heap T) (m : ℕ) (ls back : List ℕ) → back ≡ [] → PutsBeside h h m ls back m ls
-kept-beside h m ls back none =
+pub kept-beside : {T : Type 0} (h : Heap T) (k : ℕ) (ls back : List ℕ) → back ≡ [] → PutsBeside h h k ls back k ls
+kept-beside h k ls back none =
     record {
-      lower = λ p low. rw none (sym (append-nil (rows_under (links_at h) m p ls)));
-      own = none-made h back (rows_under (links_at h) m m ls) (below-past (links_at h) m m ls (omega arith) ∙ sym none);
+      lower = λ m low. rw none (sym (append-nil (rows_under (links_at h) k m ls)));
+      own = none-made h back (rows_under (links_at h) k k ls) (below-past (links_at h) k k ls (omega arith) ∙ sym none);
     }
 
 -- links before those of a row of their height
-pub merged-before : {T : Type 0} {h z : Heap T} {n m r : ℕ} {ks all : List ℕ} → Stays (λ x. IsSome (row_at h x)) h z → m ≡ n → AreLinks h m (ks ++ links_at h r) → all ≡ ks ++ links_at h r → PutsBefore h z m ks n r m all
-merged-before {T} {h} {z} {n} {m} {r} {ks} {all} s e links is =
+pub merged-before : {T : Type 0} {h z : Heap T} {n k r : ℕ} {ks all : List ℕ} → Stays (λ x. IsSome (row_at h x)) h z → k ≡ n → AreLinks h k (ks ++ links_at h r) → all ≡ ks ++ links_at h r → PutsBefore h z k ks n r k all
+merged-before {T} {h} {z} {n} {k} {r} {ks} {all} s e links is =
     record {
-      lower = λ p low.
-          ap (rows_under (links_at z) m p) is ∙ below-kept s m p (ks ++ links_at h r) (links-live h m (ks ++ links_at h r) links) ∙ below-append (links_at h) m p ks (links_at h r)
-          ∙ ap (λ (xs : List ℕ). rows_under (links_at h) m p ks ++ xs) (sym (below-row (links_at h) m p r low) ∙ ap (λ (j : ℕ). rows_at (links_at h) j p r) e);
-      upper = λ p high. none-made z _ (rows_under (links_at z) m p all) (below-past (links_at z) m p all high ∙ sym (none-after (links_at h) n p r (omega arith)));
+      lower = λ m low.
+          ap (rows_under (links_at z) k m) is ∙ below-kept s k m (ks ++ links_at h r) (links-live h k (ks ++ links_at h r) links) ∙ below-append (links_at h) k m ks (links_at h r)
+          ∙ ap (λ (xs : List ℕ). rows_under (links_at h) k m ks ++ xs) (sym (below-row (links_at h) k m r low) ∙ ap (λ (height : ℕ). rows_at (links_at h) height m r) e);
+      upper = λ m high. none-made z _ (rows_under (links_at z) k m all) (below-past (links_at z) k m all high ∙ sym (none-after (links_at h) n m r (omega arith)));
     }
 
 -- links put before the first child, and what that becomes before the other children
-pub raised-before : {T : Type 0} {h y z : Heap T} {k n below r first m height : ℕ} {ks mids all : List ℕ} → n ≡ suc below → Stays (λ x. IsSome (row_at y x)) y z → AreLinks y m mids
-    → 1 ≤ length (links_at h r) → first ≡ get_or (links_at h r) 0 0 → IsWell (form_at h) below first → k ≤ m → m ≤ below → height ≤ m + 1
-    → ((p : ℕ) → flat_map (rows_at (links_at y) m p) (drop 1 (links_at y r)) ≡ flat_map (rows_at (links_at h) below p) (drop 1 (links_at h r)))
-    → PutsBefore h y k ks below first m mids → PutsBeside y z m mids (drop 1 (links_at y r)) height all → PutsBefore h z k ks n r height all
-raised-before {T} {h} {y} {z} {k} {n} {below} {r} {first} {m} {height} {ks} {mids} {all} e s named some first-is well above low up same sub put =
+pub raised-before : {T : Type 0} {h y z : Heap T} {k n below r first k' height : ℕ} {ks mids all : List ℕ} → n ≡ suc below → Stays (λ x. IsSome (row_at y x)) y z → AreLinks y k' mids
+    → 1 ≤ length (links_at h r) → first ≡ get_or (links_at h r) 0 0 → IsWell (form_at h) below first → k ≤ k' → k' ≤ below → height ≤ k' + 1
+    → ((m : ℕ) → flat_map (rows_at (links_at y) k' m) (drop 1 (links_at y r)) ≡ flat_map (rows_at (links_at h) below m) (drop 1 (links_at h r)))
+    → PutsBefore h y k ks below first k' mids → PutsBeside y z k' mids (drop 1 (links_at y r)) height all → PutsBefore h z k ks n r height all
+raised-before {T} {h} {y} {z} {k} {n} {below} {r} {first} {k'} {height} {ks} {mids} {all} e s named some first-is well above low up same sub put =
     let f : ℕ → ℕ → List ℕ = rows_at (links_at h) below in
-    let back : ℕ → List ℕ = λ p. flat_map (rows_at (links_at y) m p) (drop 1 (links_at y r)) in
+    let back : ℕ → List ℕ = λ m. flat_map (rows_at (links_at y) k' m) (drop 1 (links_at y r)) in
     let first-at : get_or (links_at h r) 0 0 ≡ first = sym first-is in
-    let cut : (p : ℕ) → p ≤ below → rows_at (links_at h) n p r ≡ f p first ++ back p = λ p inner. rw first-at at (rows-cut (links_at h) n below p r 0 e inner some) ∙ ap (λ (xs : List ℕ). f p first ++ xs) (sym (same p)) in
-    let after : (p : ℕ) → p ≤ below → drop 1 (rows_at (links_at h) n p r) ≡ drop 1 (f p first) ++ back p = λ p inner. ap (λ (xs : List ℕ). drop 1 xs) (cut p inner) ∙ drop-append-le 1 (f p first) (back p) (rows-some h below p first well inner) in
-    let alone : (p : ℕ) → m ≤ p → drop 1 (f p first) ≡ [] = λ p high. none-behind (sub.upper p (omega (arith, high))) (below-past (links_at y) m p mids high) in
-    let above-own : (p : ℕ) → m ≤ p → p ≤ below → drop 1 (rows_at (links_at h) n p r) ≡ back p = λ p high inner. after p inner ∙ ap (λ (xs : List ℕ). xs ++ back p) (alone p high) in
-    let past-all : (p : ℕ) → m < p → drop 1 (rows_at (links_at h) n p r) ≡ [] = λ p past. elim (cases_lt below p) as (λ _. drop 1 (rows_at (links_at h) n p r) ≡ []) [
-      | inl higher ↦ none-after (links_at h) n p r (omega arith)
-      | inr inner ↦ above-own p (omega (arith, past)) inner ∙ sym (below-above (links_at y) m p (drop 1 (links_at y r))) ∙ below-past (links_at y) (suc m) p (drop 1 (links_at y r)) (omega (arith, past))
+    let cut : (m : ℕ) → m ≤ below → rows_at (links_at h) n m r ≡ f m first ++ back m = λ m inner. rw first-at at (rows-cut (links_at h) n below m r 0 e inner some) ∙ ap (λ (xs : List ℕ). f m first ++ xs) (sym (same m)) in
+    let after : (m : ℕ) → m ≤ below → drop 1 (rows_at (links_at h) n m r) ≡ drop 1 (f m first) ++ back m = λ m inner. ap (λ (xs : List ℕ). drop 1 xs) (cut m inner) ∙ drop-append-le 1 (f m first) (back m) (rows-some h below m first well inner) in
+    let alone : (m : ℕ) → k' ≤ m → drop 1 (f m first) ≡ [] = λ m high. none-behind (sub.upper m (omega (arith, high))) (below-past (links_at y) k' m mids high) in
+    let above-own : (m : ℕ) → k' ≤ m → m ≤ below → drop 1 (rows_at (links_at h) n m r) ≡ back m = λ m high inner. after m inner ∙ ap (λ (xs : List ℕ). xs ++ back m) (alone m high) in
+    let past-all : (m : ℕ) → k' < m → drop 1 (rows_at (links_at h) n m r) ≡ [] = λ m past. elim (cases_lt below m) as (λ _. drop 1 (rows_at (links_at h) n m r) ≡ []) [
+      | inl higher ↦ none-after (links_at h) n m r (omega arith)
+      | inr inner ↦ above-own m (omega (arith, past)) inner ∙ sym (below-above (links_at y) k' m (drop 1 (links_at y r))) ∙ below-past (links_at y) (suc k') m (drop 1 (links_at y r)) (omega (arith, past))
     ] in
     record {
-      lower = λ p lower.
-          put.lower p (omega arith) ∙ ap (λ (xs : List ℕ). xs ++ back p) (sub.lower p lower) ∙ append_assoc (rows_under (links_at h) k p ks) (f p first) (back p) ∙ ap (λ (xs : List ℕ). rows_under (links_at h) k p ks ++ xs) (sym (cut p (omega arith)));
-      upper = λ p high. elim (cases_lt p m) as (λ _. HasRest z (drop 1 (rows_at (links_at h) n p r)) (rows_under (links_at z) height p all)) [
-        | inl lower ↦ rw (after p (omega arith)) (rest-beside s (drop 1 (f p first)) (back p) (rows_under (links_at y) m p mids) (rows_under (links_at z) height p all) (below-named s m p mids (links-live y m mids named)) (sub.upper p high) (put.lower p lower))
-        | inr from ↦ elim (cases_lt m p) as (λ _. HasRest z (drop 1 (rows_at (links_at h) n p r)) (rows_under (links_at z) height p all)) [
-          | inl past ↦ none-made z _ (rows_under (links_at z) height p all) (below-past (links_at z) height p all (omega arith) ∙ sym (past-all p past))
-          | inr own ↦ let top : p ≡ m = omega arith in rw (top, above-own m (omega arith) low, rows-own-all (links_at y) m (drop 1 (links_at y r))) put.own
+      lower = λ m lower.
+          put.lower m (omega arith) ∙ ap (λ (xs : List ℕ). xs ++ back m) (sub.lower m lower) ∙ append_assoc (rows_under (links_at h) k m ks) (f m first) (back m) ∙ ap (λ (xs : List ℕ). rows_under (links_at h) k m ks ++ xs) (sym (cut m (omega arith)));
+      upper = λ m high. elim (cases_lt m k') as (λ _. HasRest z (drop 1 (rows_at (links_at h) n m r)) (rows_under (links_at z) height m all)) [
+        | inl lower ↦ rw (after m (omega arith)) (rest-beside s (drop 1 (f m first)) (back m) (rows_under (links_at y) k' m mids) (rows_under (links_at z) height m all) (below-named s k' m mids (links-live y k' mids named)) (sub.upper m high) (put.lower m lower))
+        | inr from ↦ elim (cases_lt k' m) as (λ _. HasRest z (drop 1 (rows_at (links_at h) n m r)) (rows_under (links_at z) height m all)) [
+          | inl past ↦ none-made z _ (rows_under (links_at z) height m all) (below-past (links_at z) height m all (omega arith) ∙ sym (past-all m past))
+          | inr own ↦ let top : m ≡ k' = omega arith in rw (top, above-own k' (omega arith) low, rows-own-all (links_at y) k' (drop 1 (links_at y r))) put.own
         ]
       ];
     }
 
 -- what is left of the last child
 pub left-last : {T : Type 0} (h y : Heap T) (n below l i child height : ℕ) (ls : List ℕ) → n ≡ suc below → height ≤ below → i + 1 ≡ length (links_at h l) → child ≡ get_or (links_at h l) i 0 → LeavesBelow h y below child height ls → LeavesBelow h y n l height ls
-left-last h y n below l i child height ls e low end child-is sub m = elim (cases_lt below m) as (λ _. (q : ℕ) × HasRest y (drop q (rows_at (links_at h) n m l)) (rows_under (links_at y) height m ls)) [
+left-last h y n below l i child height ls e low end child-is sub m = elim (cases_lt below m) as (λ _. (j : ℕ) × HasRest y (drop j (rows_at (links_at h) n m l)) (rows_under (links_at y) height m ls)) [
   | inl past ↦ none-above h y n l height m ls (omega arith)
   | inr inner ↦
       let has = sub m in
@@ -155,36 +155,35 @@ left-last h y n below l i child height ls e low end child-is sub m = elim (cases
 ]
 
 -- what is left of another child, put before the next one, and the children after that
-pub left-next : {T : Type 0} (h : Heap T) {a y z : Heap T} (n below l i child : ℕ) {next k m height : ℕ} {rest mids all : List ℕ} → n ≡ suc below → Stays (λ x. IsSome (row_at a x)) a z → Stays (λ x. IsSome (row_at y x)) y z → AreLinks a k rest → AreLinks y m mids
-    → i + 1 < length (links_at h l) → child ≡ get_or (links_at h l) i 0 → next ≡ get_or (links_at h l) (i + 1) 0 → k ≤ m → m ≤ below → height ≤ m + 1
-    → ((p : ℕ) → rows_at (links_at a) below p next ≡ rows_at (links_at h) below p next)
-    → ((p : ℕ) → flat_map (rows_at (links_at y) m p) (drop (i + 1 + 1) (links_at y l)) ≡ flat_map (rows_at (links_at h) below p) (drop (i + 1 + 1) (links_at h l)))
-    → LeavesBelow h a below child k rest → PutsBefore a y k rest below next m mids → PutsBeside y z m mids (drop (i + 1 + 1) (links_at y l)) height all → LeavesBelow h z n l height all
-left-next {T} h {a} {y} {z} n below l i child {next} {k} {m} {height} {rest} {mids} {all} e sa sy named named' more child-is next-is above low up kept same sub before put p =
-    let f : ℕ → List ℕ = rows_at (links_at h) below p in
-    let back : List ℕ = flat_map (rows_at (links_at y) m p) (drop (i + 1 + 1) (links_at y l)) in
-    let all-rows : List ℕ = rows_under (links_at z) height p all in
+pub left-next : {T : Type 0} (h : Heap T) {w y z : Heap T} (n below l i child : ℕ) {next k k' height : ℕ} {rest mids all : List ℕ} → n ≡ suc below → Stays (λ x. IsSome (row_at w x)) w z → Stays (λ x. IsSome (row_at y x)) y z → AreLinks w k rest → AreLinks y k' mids
+    → i + 1 < length (links_at h l) → child ≡ get_or (links_at h l) i 0 → next ≡ get_or (links_at h l) (i + 1) 0 → k ≤ k' → k' ≤ below → height ≤ k' + 1
+    → ((m : ℕ) → rows_at (links_at w) below m next ≡ rows_at (links_at h) below m next)
+    → ((m : ℕ) → flat_map (rows_at (links_at y) k' m) (drop (i + 1 + 1) (links_at y l)) ≡ flat_map (rows_at (links_at h) below m) (drop (i + 1 + 1) (links_at h l)))
+    → LeavesBelow h w below child k rest → PutsBefore w y k rest below next k' mids → PutsBeside y z k' mids (drop (i + 1 + 1) (links_at y l)) height all → LeavesBelow h z n l height all
+left-next {T} h {w} {y} {z} n below l i child {next} {k} {k'} {height} {rest} {mids} {all} e sw sy named named' more child-is next-is above low up kept same sub before put m =
+    let f : ℕ → List ℕ = rows_at (links_at h) below m in
+    let back : List ℕ = flat_map (rows_at (links_at y) k' m) (drop (i + 1 + 1) (links_at y l)) in
     let next-at : get_or (links_at h l) (i + 1) 0 ≡ next = sym next-is in
-    elim (cases_lt p m) as (λ _. (q : ℕ) × HasRest z (drop q (rows_at (links_at h) n p l)) (rows_under (links_at z) height p all)) [
-      | inl lower ↦ elim (cases_lt p k) as (λ _. (q : ℕ) × HasRest z (drop q (rows_at (links_at h) n p l)) (rows_under (links_at z) height p all)) [
+    elim (cases_lt m k') as (λ _. (j : ℕ) × HasRest z (drop j (rows_at (links_at h) n m l)) (rows_under (links_at z) height m all)) [
+      | inl lower ↦ elim (cases_lt m k) as (λ _. (j : ℕ) × HasRest z (drop j (rows_at (links_at h) n m l)) (rows_under (links_at z) height m all)) [
         | inl lowest ↦
-            let has = sub p in
+            let has = sub m in
             let cut : flat_map f (drop (i + 1) (links_at h l)) ≡ f next ++ flat_map f (drop (i + 1 + 1) (links_at h l)) = ap (flat_map f) (drop_more (links_at h l) (i + 1) 0 more) ∙ ap (λ (x : ℕ). f x ++ flat_map f (drop (i + 1 + 1) (links_at h l))) next-at in
-            let whole : rows_under (links_at z) height p all ≡ rows_under (links_at a) k p rest ++ flat_map f (drop (i + 1) (links_at h l)) =
-            put.lower p lower ∙ ap (λ (xs : List ℕ). xs ++ back) (before.lower p lowest) ∙ append_assoc (rows_under (links_at a) k p rest) (rows_at (links_at a) below p next) back ∙ ap (λ (xs : List ℕ). rows_under (links_at a) k p rest ++ xs) (rw (kept p, same p) (sym cut)) in
-            left-at h z n below p l i has.0 (rows_under (links_at z) height p all) e (omega arith) (omega (arith, more))
-            (rw (← child-is) (rest-beside sa (drop has.0 (f child)) (flat_map f (drop (i + 1) (links_at h l))) (rows_under (links_at a) k p rest) (rows_under (links_at z) height p all) (below-named sa k p rest (links-live a k rest named)) has.1 whole))
+            let whole : rows_under (links_at z) height m all ≡ rows_under (links_at w) k m rest ++ flat_map f (drop (i + 1) (links_at h l)) =
+            put.lower m lower ∙ ap (λ (xs : List ℕ). xs ++ back) (before.lower m lowest) ∙ append_assoc (rows_under (links_at w) k m rest) (rows_at (links_at w) below m next) back ∙ ap (λ (xs : List ℕ). rows_under (links_at w) k m rest ++ xs) (rw (kept m, same m) (sym cut)) in
+            left-at h z n below m l i has.0 (rows_under (links_at z) height m all) e (omega arith) (omega (arith, more))
+            (rw (← child-is) (rest-beside sw (drop has.0 (f child)) (flat_map f (drop (i + 1) (links_at h l))) (rows_under (links_at w) k m rest) (rows_under (links_at z) height m all) (below-named sw k m rest (links-live w k rest named)) has.1 whole))
         | inr amid ↦
-            let has : HasRest z (drop 1 (rows_at (links_at a) below p next) ++ back) (rows_under (links_at z) height p all) = rest-beside sy (drop 1 (rows_at (links_at a) below p next)) back (rows_under (links_at y) m p mids) (rows_under (links_at z) height p all) (below-named sy m p mids (links-live y m mids named')) (before.upper p amid) (put.lower p lower) in
-            left-at h z n below p l (i + 1) 1 (rows_under (links_at z) height p all) e (omega arith) more (rw (next-at, ← kept p, ← same p) has)
+            let has : HasRest z (drop 1 (rows_at (links_at w) below m next) ++ back) (rows_under (links_at z) height m all) = rest-beside sy (drop 1 (rows_at (links_at w) below m next)) back (rows_under (links_at y) k' m mids) (rows_under (links_at z) height m all) (below-named sy k' m mids (links-live y k' mids named')) (before.upper m amid) (put.lower m lower) in
+            left-at h z n below m l (i + 1) 1 (rows_under (links_at z) height m all) e (omega arith) more (rw (next-at, ← kept m, ← same m) has)
       ]
-      | inr from ↦ elim (cases_lt m p) as (λ _. (q : ℕ) × HasRest z (drop q (rows_at (links_at h) n p l)) (rows_under (links_at z) height p all)) [
-        | inl past ↦ none-above h z n l height p all (omega arith)
+      | inr from ↦ elim (cases_lt k' m) as (λ _. (j : ℕ) × HasRest z (drop j (rows_at (links_at h) n m l)) (rows_under (links_at z) height m all)) [
+        | inl past ↦ none-above h z n l height m all (omega arith)
         | inr own ↦
-            let top : p ≡ m = omega arith in
+            let top : m ≡ k' = omega arith in
             let none : drop (length (f next)) (f next) ≡ [] = drop_all (length (f next)) (f next) (omega arith) in
-            let has : HasRest z back (rows_under (links_at z) height p all) = rw (top, rows-own-all (links_at y) m (drop (i + 1 + 1) (links_at y l))) put.own in
-            left-at h z n below p l (i + 1) (length (f next)) (rows_under (links_at z) height p all) e (omega arith) more (rw (next-at, none, ← same p) has)
+            let has : HasRest z back (rows_under (links_at z) height m all) = rw (top, rows-own-all (links_at y) k' (drop (i + 1 + 1) (links_at y l))) put.own in
+            left-at h z n below m l (i + 1) (length (f next)) (rows_under (links_at z) height m all) e (omega arith) more (rw (next-at, none, ← same m) has)
       ]
     ]
 

@@ -1,5 +1,5 @@
 -- The seam of two rows: what stands last in the left one and first in the right one, and the links over what that becomes.
-use Rattle.std.proofs.Common.{◌≡◌, ℕ, suc, ◌-◌, ◌+◌, ◌<◌, ◌≤◌, List, [], ◌++◌, length, take, drop, get_or, refl, sym, ◌∙◌, arith, length-append, length-drop, append-nil, append_assoc, IsSome}
+use Rattle.std.proofs.Common.{◌≡◌, ℕ, suc, ◌-◌, ◌+◌, ◌*◌, ◌<◌, ◌≤◌, List, [], ◌++◌, length, take, drop, get_or, refl, sym, ◌∙◌, arith, length-append, length-drop, append-nil, append_assoc, IsSome}
 use Rattle.std.specs.List.{All, flat_map}
 use Rattle.std.proofs.lemmas.List.{length-take-le, take_all, drop_all, get_or-take}
 use Rattle.std.proofs.lemmas.List.Concat.{flat_map-append}
@@ -10,6 +10,9 @@ use Rattle.rrb_core.specs.Vector.{HasSums}
 use Rattle.rrb_core.proofs.ClosedRows.{Stays}
 use Rattle.rrb_core.specs.Build.{AreRows}
 use Rattle.rrb_join.specs.Unmade.{AreThick, IsSomeRow, AreUnmade, EndsIn, BeginsWith}
+use Rattle.rrb_join.specs.Seam.{JoinsBelow, KeepsBeneath}
+use Rattle.rrb_join.specs.Joining.{JoinsToLinks}
+use Rattle.node_heap.specs.Calls.{Builds}
 use Rattle.rrb_core.proofs.Lists.{items-cut}
 use Rattle.rrb_core.proofs.Stays.{items-stay, all-thick-stay, rows-stay}
 use Rattle.rrb_core.proofs.RowLists.{no-rows, rows-take, rows-drop, take-thick, rows-around, rows-live, IsOver, over, IsChild, child-at}
@@ -46,10 +49,6 @@ child-row h n l child c = record { well = c.well; sums = c.sums; some = c.some }
 
 module _ {T : Type 0} (h : Heap T) (below n l : ℕ) (row : IsSomeRow h n l) where
   -- a low row is its own edge
-  pub last-low : n ≤ below → EndsIn h below n l 0 n l
-  last-low low =
-      record { row = row; low = low; inside = omega arith; rows = no-rows h below; thick = (no-rows h below).thick; items = refl; wide = λ e. absurd (omega arith); levels = λ p le. refl; some = λ p le some. some; few = omega arith }
-
   pub first-low : (place : ℕ) → n ≤ below → place ≡ length (links_at h l) → BeginsWith h below n l place n l
   first-low place low end =
       let none : drop place (links_at h l) ≡ [] = drop_all place (links_at h l) (omega arith) in
@@ -125,20 +124,14 @@ first-edge h below n l first row e is = rw e (first-child h below l (over h belo
 pub three : (f g : ℕ → List ℕ) (ks js ls xs ys y z : List ℕ) → flat_map f js ≡ y ++ z → flat_map f ks ≡ flat_map g ks → flat_map f ls ≡ flat_map g ls → xs ≡ flat_map g ks ++ y → ys ≡ z ++ flat_map g ls → flat_map f ((ks ++ js) ++ ls) ≡ xs ++ ys
 three f g ks js ls xs ys y z e front back i j = rw (flat_map-append f (ks ++ js) ls, flat_map-append f ks js, e, front, back, i, j) (simp append_assoc)
 
--- the links over a seam
-pub record IsSeam {T : Type 0} (h z : Heap T) (height n l m r : ℕ) (all : List ℕ) : Type 0 where
-  pub unmade : AreUnmade z height all (seq_at (form_at h) n l ++ seq_at (form_at h) m r)
-  pub thick : m ≡ height → IsThick (form_at h) m r → (16 ≤ length all) × AreThick z height all
-  pub left_wide : n ≡ height → length (links_at h l) ≤ length all
-  pub right_wide : m ≡ height → length (links_at h r) ≤ length all
-  pub few : n ≡ height → m ≡ height → length all ≤ length (links_at h l) + length (links_at h r)
-
 -- the rows of a seam stand between the other children
 pub seam : {T : Type 0} (h k z : Heap T) (height below n l place i last m r from j first : ℕ) (made all : List ℕ) → height ≡ suc below → Stays (λ x. IsSome (row_at h x)) h z → Stays (λ x. IsSome (row_at k x)) k z
     → links_at k l ≡ links_at h l → links_at k r ≡ links_at h r → EndsIn h below n l place i last → BeginsWith h below m r from j first
     → AreRows k below made → flat_map (seq_at (form_at k) below) made ≡ seq_at (form_at h) i last ++ seq_at (form_at h) j first → (j ≡ below → IsThick (form_at h) below first → All (IsThick (form_at k) below) made)
-    → 1 ≤ length made → length made ≤ 2 → all ≡ (take place (links_at k l) ++ made) ++ drop from (links_at k r) → IsSeam h z height n l m r all
-seam h k z height below n l place i last m r from j first made all e s s' left right ends begins rows items close some few gathered =
+    → 1 ≤ length made → length made ≤ 2 → all ≡ (take place (links_at k l) ++ made) ++ drop from (links_at k r)
+    → JoinsBelow h z n l m r height all → KeepsBeneath h z n l m r height all → Builds h z [] all 0 (2 * height)
+    → JoinsToLinks h z n l m r height all × (m ≡ height → IsThick (form_at h) height r → 16 ≤ length all)
+seam h k z height below n l place i last m r from j first made all e s s' left right ends begins rows items close some few gathered joins keeps builds =
     let is : all ≡ (take place (links_at h l) ++ made) ++ drop from (links_at h r) = rw (left, right) at gathered in
     let front = take place (links_at h l) in
     let back = drop from (links_at h r) in
@@ -150,24 +143,32 @@ seam h k z height below n l place i last m r from j first made all e s s' left r
     let size : length all ≡ (place + length made) + (length (links_at h r) - from) =
     rw is (omega (arith, length-append (take place (links_at h l) ++ made) (drop from (links_at h r)), length-append (take place (links_at h l)) made, length-take-le place (links_at h l) ends.inside, length-drop from (links_at h r))) in
     let back-size : length (drop from (links_at h r)) ≡ length (links_at h r) - from = length-drop from (links_at h r) in
-    rw e (record {
-      unmade = record {
-        links = rows-above z below all (rw is (rows-around z below (take place (links_at h l)) made (drop from (links_at h r)) (rows-stay s below (take place (links_at h l)) front-live ends.rows) front-thick
-            (rows-stay s' below made made-live rows) (rows-stay s below (drop from (links_at h r)) back-live begins.rows) (λ more. let c = begins.close (omega arith) in thick c.0 c.1)));
-        items = items-above z below all ∙ rw is (three (seq_at (form_at z) below) (seq_at (form_at h) below) (take place (links_at h l)) made (drop from (links_at h r)) _ _ _ _ (items-stay s' below made made-live ∙ items)
-            (items-stay s below (take place (links_at h l)) front-live) (items-stay s below (drop from (links_at h r)) back-live) ends.items begins.items);
-        some = omega (arith, size, some);
-        most = omega (arith, size, few, ends.few, begins.few);
-      };
-      thick = λ top t.
-          let c = begins.thick top t in (
-            omega (arith, size, some, c.3, begins.wide top),
-            thick-above z below all (rw is (All-append (IsThick (form_at z) below) (take place (links_at h l) ++ made) (drop from (links_at h r)) (All-append (IsThick (form_at z) below) (take place (links_at h l)) made front-thick (thick c.0 c.1)) (all-thick-stay s below (drop from (links_at h r)) back-live c.2))),
-          );
-      left_wide = λ top. omega (arith, size, some, ends.wide top);
-      right_wide = λ top. omega (arith, size, some, begins.wide top, begins.inside);
-      few = λ top top'. omega (arith, size, few, ends.wide top, begins.wide top', begins.inside);
-    })
+    let links : AreUnmade z height all (seq_at (form_at h) n l ++ seq_at (form_at h) m r) = rw e (record {
+      links = rows-above z below all (rw is (rows-around z below (take place (links_at h l)) made (drop from (links_at h r)) (rows-stay s below (take place (links_at h l)) front-live ends.rows) front-thick
+          (rows-stay s' below made made-live rows) (rows-stay s below (drop from (links_at h r)) back-live begins.rows) (λ more. let c = begins.close (omega arith) in thick c.0 c.1)));
+      items = items-above z below all ∙ rw is (three (seq_at (form_at z) below) (seq_at (form_at h) below) (take place (links_at h l)) made (drop from (links_at h r)) _ _ _ _ (items-stay s' below made made-live ∙ items)
+          (items-stay s below (take place (links_at h l)) front-live) (items-stay s below (drop from (links_at h r)) back-live) ends.items begins.items);
+      some = omega (arith, size, some);
+      most = omega (arith, size, few, ends.few, begins.few);
+    }) in
+    -- where the right side is thick
+    let full : m ≡ height → IsThick (form_at h) height r → (16 ≤ length all) × AreThick z height all = rw e (λ top t.
+    let c = begins.thick top (rw top t) in (
+      omega (arith, size, some, c.3, begins.wide top),
+      thick-above z below all (rw is (All-append (IsThick (form_at z) below) (take place (links_at h l) ++ made) (drop from (links_at h r)) (All-append (IsThick (form_at z) below) (take place (links_at h l)) made front-thick (thick c.0 c.1)) (all-thick-stay s below (drop from (links_at h r)) back-live c.2))),
+    )) in (
+      record {
+        links = links;
+        thick = λ top t. (full top t).1;
+        left_wide = λ top. omega (arith, size, some, ends.wide (top ∙ e));
+        right_wide = λ top. omega (arith, size, some, begins.wide (top ∙ e), begins.inside);
+        few = λ top top'. omega (arith, size, few, ends.wide (top ∙ e), begins.wide (top' ∙ e), begins.inside);
+        seam = joins;
+        keeps = keeps;
+        builds = builds;
+      },
+      λ top t. (full top t).0,
+    )
 
 -- two leaves side by side
 pub leaf-seam : {T : Type 0} (h z : Heap T) (height n l m r : ℕ) (all : List ℕ) → height ≡ 0 → n ≤ height → m ≤ height → IsSomeRow h n l → IsSomeRow h m r

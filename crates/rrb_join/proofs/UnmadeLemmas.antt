@@ -12,7 +12,7 @@ use Rattle.rrb_core.specs.Seq.{seq_at, IsThick, IsWell}
 use Rattle.rrb_core.specs.Vector.{HasSums, height_at, elements, IsGoodVector}
 use Rattle.rrb_core.proofs.ClosedRows.{Stays}
 use Rattle.rrb_core.specs.Build.{IsRowOf, AreRows}
-use Rattle.rrb_join.specs.Unmade.{items_below, AreLinks, AreThick, IsSomeRow, AreUnmade, CanBeRows}
+use Rattle.rrb_join.specs.Unmade.{items_below, AreLinks, AreThick, AreUnmade, CanBeRows}
 use Rattle.rrb_join.specs.Rest.{AreHalves}
 use Rattle.rrb_core.proofs.Lists.{child-short}
 use Rattle.rrb_core.proofs.LinkCounts.{count-split}
@@ -282,7 +282,3 @@ no-elements h l good none =
 -- a leaf has as many links as elements
 pub leaf-length : {T : Type 0} (h : Heap T) (n l : ℕ) → n ≡ 0 → IsWell (form_at h) n l → HasSums h n l → length (links_at h l) ≡ length (seq_at (form_at h) n l)
 leaf-length h n l e w s = ap length (sym (leaf-items h n (links_at h l) e) ∙ (has-links h n l w s).items)
-
--- a vector with elements is a row with links
-pub root-is-row : {T : Type 0} (h : Heap T) (l : ℕ) → IsGoodVector h l → 1 ≤ length (links_at h l) → IsSomeRow h (height_at h l) l
-root-is-row h l good some = record { well = good.shape.well; sums = good.sums; some = some }

@@ -2,8 +2,8 @@
 use Rattle.std.specs.Prelude.{◌≡◌, ℕ, ◌+◌, ◌<◌, ◌≤◌, List, ◌++◌, length, drop, slice_index}
 use Rattle.std.specs.List.{flat_map}
 use Rattle.node_heap.specs.Heap.{Heap, links_at}
-use Rattle.rrb_core.specs.Levels.{rows_at, rows_of, elements_until, elements_before}
-use Rattle.rrb_join.specs.Seam.{rows_under}
+use Rattle.rrb_core.specs.Levels.{rows_at, rows_of}
+use Rattle.rrb_join.specs.Seam.{rows_under, elements_until, elements_before}
 
 module _ {T : Type 0} where
   -- at most two rows; of two the first has 16 links or more and the second 17, which no row can hold together
@@ -24,6 +24,8 @@ module _ {T : Type 0} where
 
   -- where no more elements than were dropped stand before an old row of a height, the new rows of that height are no more than
   -- that row and those behind it
+  -- HasNoMoreRows up to the whole length doesn't follow from this alone: for that, besides, no old row may be empty, and the new vector
+  -- be no higher
   abbrev pub LeavesNoMore : Heap T → Heap T → ℕ → ℕ → ℕ → Type 0
   LeavesNoMore old new vector count v =
       (m i : ℕ) → i < length (rows_of old m vector) → elements_before old vector m i ≤ count → length (rows_of new m v) + i ≤ length (rows_of old m vector)

@@ -2,9 +2,10 @@
 use Rattle.std.specs.Prelude.{◌≡◌, ℕ, zero, suc, ◌-◌, ◌+◌, ◌<◌, ◌≤◌, List, [], ◌++◌, length, take, drop, slice_index}
 use Rattle.std.specs.List.{flat_map}
 use Rattle.node_heap.specs.Links.{Links}
-use Rattle.node_heap.specs.Heap.{Heap, links_at}
+use Rattle.node_heap.specs.Heap.{Heap, form_at, links_at}
+use Rattle.rrb_core.specs.Seq.{seq_at}
 use Rattle.rrb_core.specs.Vector.{height_at}
-use Rattle.rrb_core.specs.Levels.{rows_at, rows_of, elements_before}
+use Rattle.rrb_core.specs.Levels.{rows_at, rows_of}
 
 -- the rows of height m below links that a row of height n may hold, in order
 unfoldable pub rows_under : Links → ℕ → ℕ → List ℕ → List ℕ
@@ -61,6 +62,13 @@ module _ {T : Type 0} where
   -- the new vector's rows of each height are at most two at need, then a part of the old vector's, then at most one more
   abbrev pub SlicesRows : Heap T → Heap T → ℕ → ℕ → Type 0
   SlicesRows old new vector v = (m : ℕ) → (i : ℕ) × (j : ℕ) × (cut : List ℕ) × (length cut ≤ 1) × HasSeam new 2 [] (drop i (take j (rows_of old m vector)) ++ cut) (rows_of new m v)
+
+  -- how many elements stand before the row at the place i among the rows of height m below a row of height n, or of a vector
+  abbrev pub elements_until : Heap T → ℕ → ℕ → ℕ → ℕ → ℕ
+  elements_until h n m l i = length (flat_map (seq_at (form_at h) m) (take i (rows_at (links_at h) n m l)))
+
+  abbrev pub elements_before : Heap T → ℕ → ℕ → ℕ → ℕ
+  elements_before h vector m i = elements_until h (height_at h vector) m vector i
 
   -- where the rows of a height of the old vector from the place i on and before the place j have the part between two indices, the
   -- new vector has no more rows of that height than these

@@ -76,8 +76,9 @@ fn is_part<T>(heap: &Heap<T>, vector: FlexRef, from: u32, to: u32) -> bool
 /// more nodes, so at most 23, and gives up again what it made on the way. The slice is no higher than the vector. At each
 /// height it has at most two rows, and two only where they have more than 32 links together, then a part of the vector's
 /// rows, then at most one more; and no more rows than those in which it lies, so one at most of a height where all of it
-/// lies in one. Where it is the whole vector it gives the vector itself, which takes no memory. Refused with `Range` unless `from` is at most `to`
-/// and `to` at most the length, and with `Memory` where memory runs out. A refusal changes nothing but the heap's spares.
+/// lies in one. Where it is the whole vector it gives the vector itself, which takes no memory. Refused with `Range` unless
+/// `from` is at most `to` and `to` at most the length, and with `Memory` where memory runs out. A refusal changes nothing
+/// but the heap's spares.
 pub fn slice<T: Drop>(
     heap: &mut Heap<T>,
     vector: FlexRef,

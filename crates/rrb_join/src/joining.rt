@@ -1,13 +1,13 @@
 //! Two vectors as one.
-ghost use Rattle.std.specs.Prelude.{◌≡◌, ◌≢◌, ◌↔◌, ℕ, suc, max, ◌+◌, ◌*◌, ◌<◌, ◌≤◌, ◌^◌, [], ◌∷◌, ◌++◌, length, IfOk, OnErr, IsTrue, Err};
-ghost use Rattle.std.specs.List.{flat_map};
+ghost use Rattle.std.specs.Prelude.{◌≡◌, ◌≢◌, ◌↔◌, ℕ, max, ◌+◌, ◌*◌, ◌<◌, ◌≤◌, ◌^◌, [], ◌∷◌, ◌++◌, length, IfOk, OnErr, IsTrue, Err};
 ghost use Rattle.node_heap.specs.Heap.{form_at, links_at, hold_count, IsGraph, HasSpares};
 ghost use Rattle.node_heap.specs.Calls.{Answered, Builds, MakesJust, Unchanged};
-ghost use Rattle.rrb_core.specs.Seq.{seq_at, IsThick};
+ghost use Rattle.rrb_core.specs.Seq.{IsThick};
 ghost use Rattle.rrb_core.specs.Vector.{elements, height_at, IsGoodVector, IsSameVector};
-ghost use Rattle.rrb_join.specs.Unmade.{AreUnmade, AreThick, IsSomeRow, CanJoin, EndsIn, BeginsWith};
+ghost use Rattle.rrb_join.specs.Unmade.{IsSomeRow, CanJoin, EndsIn, BeginsWith};
 ghost use Rattle.rrb_join.specs.Answers.{GivesItself, RisesAtNeed};
-ghost use Rattle.rrb_join.specs.Seam.{AllStandBeside, AreAtNeed, JoinsRows, JoinsBelow, KeepsRows, KeepsBeneath};
+ghost use Rattle.rrb_join.specs.Seam.{AllStandBeside, AreAtNeed, JoinsRows, KeepsRows};
+ghost use Rattle.rrb_join.specs.Joining.{JoinsToLinks, JoinsToRows};
 
 use crate::over::{OneOrTwo, both_held, held_again, root_of, rows_over};
 use elem_core::NoMemory;
@@ -47,8 +47,9 @@ pub const SEAM_NODES: usize = 17;
 /// links together, give a vector of that height. Nor is a row further down split in vain: the rows of each height are
 /// those of `left` but its last, then at most two, and two only where they have more than 32 links together, then those
 /// of `right` but its first. Where, from the leaves up to a height, the last row of `left` has 16 links or more, and more
-/// than 32 together with the first of `right`, the result has all rows of both at each of these heights. Refused with `Long` where the lengths sum past 2^32 - 1, and with `Memory`
-/// where memory runs out. A refusal changes nothing but the heap's spares.
+/// than 32 together with the first of `right`, the result has all rows of both at each of these heights. Refused with
+/// `Long` where the lengths sum past 2^32 - 1, and with `Memory` where memory runs out. A refusal changes nothing but
+/// the heap's spares.
 pub fn concat<T>(heap: &mut Heap<T>, left: FlexRef, right: FlexRef) -> Result<Flex, JoinFault>
     requires left_good { IsGoodVector heap.old left }
     requires right_good { IsGoodVector heap.old right }
@@ -216,15 +217,8 @@ fn joined_rows<T>(
 ) -> OneOrTwo
     requires rows { CanJoin heap.old left_height left right_height right height }
     requires spare { 2 * height + 2 ≤ heap.old.spare_nodes }
-    ensures links { AreUnmade heap.new (suc height) result.items (seq_at (form_at heap.old) left_height left ++ seq_at (form_at heap.old) right_height right) }
+    ensures joins { JoinsToRows heap.old heap.new left_height left right_height right height result.items }
     ensures need { AreAtNeed heap.new 2 result.items }
-    ensures thick { right_height ≡ height → IsThick (form_at heap.old) height right → AreThick heap.new (suc height) result.items }
-    ensures left_wide { left_height ≡ height → length (links_at heap.old left) ≤ length (flat_map (links_at heap.new) result.items) }
-    ensures right_wide { right_height ≡ height → length (links_at heap.old right) ≤ length (flat_map (links_at heap.new) result.items) }
-    ensures few { left_height ≡ height → right_height ≡ height → length (flat_map (links_at heap.new) result.items) ≤ length (links_at heap.old left) + length (links_at heap.old right) }
-    ensures seam { JoinsBelow heap.old heap.new left_height left right_height right (suc height) result.items }
-    ensures keeps { KeepsBeneath heap.old heap.new left_height left right_height right (suc height) result.items }
-    ensures builds { Builds heap.old heap.new [] result.items 0 (2 * height + 2) }
 {
     if can_keep(heap, left, left_height, right, right_height, height) {
         return both_held(heap, left, right);
@@ -246,14 +240,8 @@ fn join<T>(
 ) -> Gathered
     requires rows { CanJoin heap.old left_height left right_height right height }
     requires spare { 2 * height ≤ heap.old.spare_nodes }
-    ensures links { AreUnmade heap.new height result.items (seq_at (form_at heap.old) left_height left ++ seq_at (form_at heap.old) right_height right) }
-    ensures thick { right_height ≡ height → IsThick (form_at heap.old) height right → (16 ≤ length result.items) × AreThick heap.new height result.items }
-    ensures left_wide { left_height ≡ height → length (links_at heap.old left) ≤ length result.items }
-    ensures right_wide { right_height ≡ height → length (links_at heap.old right) ≤ length result.items }
-    ensures few { left_height ≡ height → right_height ≡ height → length result.items ≤ length (links_at heap.old left) + length (links_at heap.old right) }
-    ensures seam { JoinsBelow heap.old heap.new left_height left right_height right height result.items }
-    ensures keeps { KeepsBeneath heap.old heap.new left_height left right_height right height result.items }
-    ensures builds { Builds heap.old heap.new [] result.items 0 (2 * height) }
+    ensures joins { JoinsToLinks heap.old heap.new left_height left right_height right height result.items }
+    ensures half { right_height ≡ height → IsThick (form_at heap.old) height right → 16 ≤ length result.items }
 {
     if height == 0 {
         let end = heap.links(left).len();

@@ -1,12 +1,11 @@
 use Rattle.std.proofs.Common.{rules, arith, ◌≡◌, ℕ, ◌+◌, ◌*◌, ◌≤◌, max, refl, ◌∙◌, [], ◌∷◌, length-drop}
 use Rattle.std.proofs.lemmas.List.{length-take-le}
 use Rattle.node_heap.specs.Calls.{Answered}
-use Rattle.node_heap.proofs.Frames.{Unchanged-refl}
 use Rattle.rrb_core.specs.Vector.{height_at, elements, IsVectorOf}
 use Rattle.rrb_core.proofs.Stays.{well-live, live-stays, extended-same}
 use Rattle.rrb_core.proofs.BuildLemmas.{unchanged-good, answered-same}
 use Rattle.rrb_join.proofs.AnswerLemmas.{unchanged-height, extended-height, rises-more, rises-held}
-use Rattle.rrb_join.proofs.CutLemmas.{Gives, gives-answered, gives-built, gives-more, gives-released, gives-all, gives-first, gives-second, without-second, gives-first-of, gives-third, without-third, good-held}
+use Rattle.rrb_join.proofs.CutLemmas.{Gives, gives-answered, gives-built, gives-more, gives-all, gives-first, gives-second, without-second, gives-first-of, gives-third, without-third, good-held}
 use Rattle.rrb_core.specs.Levels.{rows_of, TakesFirstRows}
 use Rattle.rrb_core.proofs.LevelLemmas.{rows-of-same, takes-after}
 use Rattle.rrb_join.specs.Seam.{ErasesRows}
@@ -14,9 +13,6 @@ use Rattle.rrb_join.proofs.JoinLemmas.{rows-of-kept}
 use Rattle.rrb_join.proofs.CutRows.{erases, erases-held, erases-itself}
 use Rattle.rrb_join.proofs.cutting.erase.Given as given
 use Rattle.rrb_join.proofs.cutting.erase.Goals as goal
-
-pub returns-then-not-is_part-clause-refused : goal.returns-then-not-is_part-clause-refused
-returns-then-not-is_part-clause-refused g c = Unchanged-refl c.args.heap.now c.is_part.ensures.graph
 
 pub returns-in_err-reserve-clause-vectors : goal.returns-in_err-reserve-clause-vectors
 returns-in_err-reserve-clause-vectors g c = λ l. unchanged-good l c.in_err-reserve.ensures.rest
@@ -56,7 +52,7 @@ release-requires g c =
 
 pub release-requires-2 : goal.release-requires-2
 release-requires-2 g c =
-    gives-second c.joined_root-root.result c.rest_root-back.result (gives-released {left = c.joined_root-root.result ∷ c.rest_root-back.result ∷ []} c.in_ok-reserve.ensures.rest.graph (gives-built (gives-built (gives-answered c.in_ok-front.ensures.answered c.in_ok-front.ensures.made) c.rest_root-back.ensures.builds) c.joined_root-root.ensures.builds) (without-third c.joined_root-root.result c.rest_root-back.result c.in_ok-front.front) refl c.release.ensures.releases c.release.ensures.graph c.release.ensures.keeps)
+    gives-second c.joined_root-root.result c.rest_root-back.result (without-third c.in_ok-reserve.ensures.rest.graph (gives-built (gives-built (gives-answered c.in_ok-front.ensures.answered c.in_ok-front.ensures.made) c.rest_root-back.ensures.builds) c.joined_root-root.ensures.builds) c.release.ensures.releases c.release.ensures.graph c.release.ensures.keeps)
 
 -- the vector is as high where its front was taken
 later : (g : given.Over) (c : goal.After-from_root g) → height_at c.take.new.heap c.root.result ≡ height_at c.args.heap.now c.args.vector
@@ -76,7 +72,7 @@ whole g c =
     (omega (arith, unchanged-height c.in_ok-reserve.ensures.rest c.args.vector, later g c, heights g c, c.in_ok-front.ensures.low, c.rest_root-back.ensures.low))
 
 both : (g : given.Over) (c : goal.After-from_root g) → Gives c.reserve.new.self c.release.new.heap (c.joined_root-root.result ∷ c.rest_root-back.result ∷ []) (5 * height_at c.args.heap.now c.args.vector + 5)
-both g c = gives-released {left = c.joined_root-root.result ∷ c.rest_root-back.result ∷ []} c.in_ok-reserve.ensures.rest.graph (whole g c) (without-third c.joined_root-root.result c.rest_root-back.result c.in_ok-front.front) refl c.release.ensures.releases c.release.ensures.graph c.release.ensures.keeps
+both g c = without-third c.in_ok-reserve.ensures.rest.graph (whole g c) c.release.ensures.releases c.release.ensures.graph c.release.ensures.keeps
 
 kept : (g : given.Over) (c : goal.After-from_root g) → IsVectorOf c.release-2.new.self c.joined_root-root.result (elements c.joined_root-root.new.heap c.joined_root-root.result)
 kept g c =
@@ -86,7 +82,7 @@ kept g c =
 
 -- what is left is the join alone
 left : (g : given.Over) (c : goal.After-from_root g) → Answered c.args.heap.now c.release-2.new.self [] c.joined_root-root.result 0 (5 * height_at c.args.heap.now c.args.vector + 5) × (c.release-2.new.self.made ≤ c.args.heap.now.made + (5 * height_at c.args.heap.now c.args.vector + 5))
-left g c = gives-all c.in_ok-reserve.ensures.rest (gives-released {left = c.joined_root-root.result ∷ []} c.in_ok-reserve.ensures.rest.graph (both g c) (without-second c.joined_root-root.result c.rest_root-back.result) refl c.release-2.ensures.releases c.release-2.ensures.graph c.release-2.ensures.keeps) (omega arith)
+left g c = gives-all c.in_ok-reserve.ensures.rest (without-second c.in_ok-reserve.ensures.rest.graph (both g c) c.release-2.ensures.releases c.release-2.ensures.graph c.release-2.ensures.keeps) (omega arith)
 
 pub returns-clause-items : goal.returns-clause-items
 returns-clause-items g c =

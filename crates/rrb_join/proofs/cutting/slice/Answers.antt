@@ -1,10 +1,9 @@
 use Rattle.std.proofs.Common.{arith, ◌≡◌, ◌+◌, ◌*◌, ◌≤◌, length, length-take, refl, ◌∙◌, [], ◌∷◌}
 use Rattle.node_heap.specs.Calls.{Answered}
-use Rattle.node_heap.proofs.Frames.{Unchanged-refl}
 use Rattle.rrb_core.specs.Vector.{height_at, elements, IsVectorOf}
 use Rattle.rrb_core.proofs.BuildLemmas.{unchanged-good, answered-same}
 use Rattle.rrb_join.proofs.AnswerLemmas.{unchanged-height, height-held}
-use Rattle.rrb_join.proofs.CutLemmas.{Gives, gives-answered, gives-built, gives-released, gives-all, gives-first, without-second, good-held}
+use Rattle.rrb_join.proofs.CutLemmas.{Gives, gives-answered, gives-built, gives-all, gives-first, without-second, good-held}
 use Rattle.rrb_core.specs.Levels.{TakesFirstRows}
 use Rattle.rrb_core.proofs.LevelLemmas.{rows-of-same, takes-after}
 use Rattle.rrb_join.proofs.CutRows.{slices, slices-held, slices-itself}
@@ -12,9 +11,6 @@ use Rattle.rrb_join.proofs.FewerRows.{fewer-slice, fewer-held, fewer-whole}
 use Rattle.rrb_join.proofs.cutting.slice.Given as given
 use Rattle.rrb_join.proofs.cutting.slice.Goals as goal
 use Rattle.rrb_join.proofs.cutting.slice.Goals.{else-from-eq0-via-then-from-eq0+else-to-len, else-from-eq0-via-else-from-eq0}
-
-pub returns-then-not-is_part-clause-refused : goal.returns-then-not-is_part-clause-refused
-returns-then-not-is_part-clause-refused g c = Unchanged-refl c.args.heap.now c.is_part.ensures.graph
 
 pub returns-in_err-reserve-clause-vectors : goal.returns-in_err-reserve-clause-vectors
 returns-in_err-reserve-clause-vectors g c = λ l. unchanged-good l c.in_err-reserve.ensures.rest
@@ -33,7 +29,7 @@ left : (g : given.Over) (c : goal.After-from_root g) → Answered c.args.heap.no
 left g c =
     let same = unchanged-height c.in_ok-reserve.ensures.rest c.args.vector in
     let low : height_at c.take.new.heap c.root.result ≤ height_at c.reserve.new.self c.args.vector = rw (c.root.ensures, c.view.ensures) c.in_ok-front.ensures.low in
-    gives-all c.in_ok-reserve.ensures.rest (gives-released {left = c.rest_root-root.result ∷ []} c.in_ok-reserve.ensures.rest.graph (made g c) (without-second c.rest_root-root.result c.in_ok-front.front) refl c.release.ensures.releases c.release.ensures.graph c.release.ensures.keeps) (omega (arith, same, low, c.in_ok-front.ensures.low, c.rest_root-root.ensures.low))
+    gives-all c.in_ok-reserve.ensures.rest (without-second c.in_ok-reserve.ensures.rest.graph (made g c) c.release.ensures.releases c.release.ensures.graph c.release.ensures.keeps) (omega (arith, same, low, c.in_ok-front.ensures.low, c.rest_root-root.ensures.low))
 
 pub returns-clause-items : goal.returns-clause-items
 returns-clause-items g c =

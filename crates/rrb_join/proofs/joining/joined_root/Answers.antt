@@ -37,11 +37,11 @@ returns-then-is_empty-2-clause-items g c =
     rw (c.held_again-then-is_empty-2.ensures.same, empty, append-nil) (c.held_again-then-is_empty-2.ensures.vectors c.args.left c.requires.left_good).1
 
 rows : (g : given.Over) (c : goal.After-as_slice g) → AreRows c.joined_rows-rows.new.heap c.max-height.result c.as_slice.result.now
-rows g c = rw c.as_slice.ensures.value (links-rows c.joined_rows-rows.new.heap c.max-height.result c.joined_rows-rows.result.items c.joined_rows-rows.ensures.links.links)
+rows g c = rw c.as_slice.ensures.value (links-rows c.joined_rows-rows.new.heap c.max-height.result c.joined_rows-rows.result.items c.joined_rows-rows.ensures.joins.links.links)
 
 items : (g : given.Over) (c : goal.After-as_slice g) → flat_map (seq_at (form_at c.joined_rows-rows.new.heap) c.max-height.result) c.as_slice.result.now ≡ elements c.args.heap.now c.args.left ++ elements c.args.heap.now c.args.right
 items g c =
-    rw c.as_slice.ensures.value (sym (items-above c.joined_rows-rows.new.heap c.max-height.result c.joined_rows-rows.result.items) ∙ c.joined_rows-rows.ensures.links.items ∙ rw (c.height_of-left_height.ensures, c.height_of-right_height.ensures) refl)
+    rw c.as_slice.ensures.value (sym (items-above c.joined_rows-rows.new.heap c.max-height.result c.joined_rows-rows.result.items) ∙ c.joined_rows-rows.ensures.joins.links.items ∙ rw (c.height_of-left_height.ensures, c.height_of-right_height.ensures) refl)
 
 pub root_of-requires-clause-rows : goal.root_of-requires-clause-rows
 root_of-requires-clause-rows g c = rows g c
@@ -54,25 +54,25 @@ root_of-requires-clause-wide g c = λ some. rw c.as_slice.ensures.value (elim (c
   | inl less ↦
       let top : c.height_of-right_height.result ≡ c.max-height.result = omega (arith, c.max-height.ensures, less) in
       let two = c.requires.right_good.shape.two (omega (arith, c.height_of-right_height.ensures, top, some)) in
-      omega (arith, two, ap length (links-form c.args.heap.now c.args.right), c.joined_rows-rows.ensures.right_wide top)
+      omega (arith, two, ap length (links-form c.args.heap.now c.args.right), c.joined_rows-rows.ensures.joins.right_wide top)
   | inr more ↦
       let top : c.height_of-left_height.result ≡ c.max-height.result = omega (arith, c.max-height.ensures, more) in
       let two = c.requires.left_good.shape.two (omega (arith, c.height_of-left_height.ensures, top, some)) in
-      omega (arith, two, ap length (links-form c.args.heap.now c.args.left), c.joined_rows-rows.ensures.left_wide top)
+      omega (arith, two, ap length (links-form c.args.heap.now c.args.left), c.joined_rows-rows.ensures.joins.left_wide top)
 ])
 
 pub root_of-requires-clause-short : goal.root_of-requires-clause-short
 root_of-requires-clause-short g c = rw (items g c) (omega (arith, c.requires.short, length-append (elements c.args.heap.now c.args.left) (elements c.args.heap.now c.args.right)))
 
 pub root_of-requires-clause-held : goal.root_of-requires-clause-held
-root_of-requires-clause-held g c = λ k. rw c.as_slice.ensures.value (Builds-held c.joined_rows-rows.ensures.builds k)
+root_of-requires-clause-held g c = λ k. rw c.as_slice.ensures.value (Builds-held c.joined_rows-rows.ensures.joins.builds k)
 
 pub returns-clause-items : goal.returns-clause-items
 returns-clause-items g c = c.root_of.ensures.items ∙ items g c.before
 
 pub returns-clause-builds : goal.returns-clause-builds
 returns-clause-builds g c =
-    Builds-more 0 _ (Builds-then c.joined_rows-rows.ensures.builds (rw c.as_slice.ensures.value at c.root_of.ensures.builds)) (omega arith) (omega (arith, c.max-height.ensures, c.height_of-left_height.ensures, c.height_of-right_height.ensures))
+    Builds-more 0 _ (Builds-then c.joined_rows-rows.ensures.joins.builds (rw c.as_slice.ensures.value at c.root_of.ensures.builds)) (omega arith) (omega (arith, c.max-height.ensures, c.height_of-left_height.ensures, c.height_of-right_height.ensures))
 
 pub returns-then-is_empty-clause-flat : goal.returns-then-is_empty-clause-flat
 returns-then-is_empty-clause-flat g c = λ same few. rw c.held_again.ensures.same (extended-height c.held_again.ensures.shares.builds.extends c.args.right c.requires.right_good ∙ sym same)
@@ -84,7 +84,7 @@ pub returns-clause-flat : goal.returns-clause-flat
 returns-clause-flat g c = λ same few.
     let left : c.height_of-left_height.result ≡ c.max-height.result = omega (arith, c.max-height.ensures, c.height_of-left_height.ensures, c.height_of-right_height.ensures, same) in
     let right : c.height_of-right_height.result ≡ c.max-height.result = omega (arith, c.max-height.ensures, c.height_of-left_height.ensures, c.height_of-right_height.ensures, same) in
-    let one = one-of-need c.joined_rows-rows.new.heap c.joined_rows-rows.result.items c.joined_rows-rows.ensures.need (omega (arith, c.joined_rows-rows.ensures.few left right, few)) in
+    let one = one-of-need c.joined_rows-rows.new.heap c.joined_rows-rows.result.items c.joined_rows-rows.ensures.need (omega (arith, c.joined_rows-rows.ensures.joins.few left right, few)) in
     c.root_of.ensures.flat (rw c.as_slice.ensures.value one) ∙ (sym left ∙ c.height_of-left_height.ensures)
 
 pub returns-then-is_empty-clause-low : goal.returns-then-is_empty-clause-low
@@ -129,9 +129,9 @@ below g c m low = rw c.as_slice.ensures.value at (c.root_of.ensures.below m low)
 pub returns-clause-seam : goal.returns-clause-seam
 returns-clause-seam g c =
     joins-root c.args.heap.now c.joined_rows-rows.new.heap c.root_of.new.heap c.args.left c.args.right c.height_of-left_height.result c.height_of-right_height.result (suc c.max-height.result) c.root_of.result c.joined_rows-rows.result.items c.height_of-left_height.ensures c.height_of-right_height.ensures (omega (arith, c.max-height.ensures)) (omega (arith, c.max-height.ensures))
-    (live-stays c.joined_rows-rows.ensures.builds.graph c.root_of.ensures.builds.extends) c.joined_rows-rows.ensures.links.links c.joined_rows-rows.ensures.seam (λ m low. below g c m (omega arith))
+    (live-stays c.joined_rows-rows.ensures.joins.builds.graph c.root_of.ensures.builds.extends) c.joined_rows-rows.ensures.joins.links.links c.joined_rows-rows.ensures.joins.seam (λ m low. below g c m (omega arith))
     (λ m high. one-at-need c.root_of.new.heap (rows_of c.root_of.new.heap m c.root_of.result) (rows-few (links_at c.root_of.new.heap) (height_at c.root_of.new.heap c.root_of.result) m c.root_of.result (omega (arith, high, c.root_of.ensures.low.most))))
 
 pub returns-clause-keeps : goal.returns-clause-keeps
 returns-clause-keeps g c =
-    keeps-root c.args.heap.now c.joined_rows-rows.new.heap c.root_of.new.heap c.args.left c.args.right c.height_of-left_height.result c.height_of-right_height.result c.max-height.result c.root_of.result c.joined_rows-rows.result.items c.height_of-left_height.ensures c.height_of-right_height.ensures (omega (arith, c.max-height.ensures)) c.joined_rows-rows.ensures.keeps (below g c)
+    keeps-root c.args.heap.now c.joined_rows-rows.new.heap c.root_of.new.heap c.args.left c.args.right c.height_of-left_height.result c.height_of-right_height.result c.max-height.result c.root_of.result c.joined_rows-rows.result.items c.height_of-left_height.ensures c.height_of-right_height.ensures (omega (arith, c.max-height.ensures)) c.joined_rows-rows.ensures.joins.keeps (below g c)
