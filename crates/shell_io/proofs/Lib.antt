@@ -1,5 +1,6 @@
 pub mod FaultLemmas
 pub mod FilesLemmas
+pub mod KnownLemmas
 pub mod LinesLemmas
 pub mod NewlineLemmas
 pub mod PiecesLemmas

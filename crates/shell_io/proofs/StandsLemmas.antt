@@ -343,14 +343,6 @@ used_up-unbroken input r left most s taken going_on in_time clean =
     used_up input r left most s taken going_on in_time
     (IsUnbroken-take (most - r.given) (s.front ++ r.held) (IsUnbroken-append s.front r.held s.unbroken clean))
 
--- the source has ended, and nothing waits
-pub at_end-all : (input : List ℕ) (r : Reading) (left : Option (List ℕ)) (most : ℕ) → StandsIn input r left →
-    r.at_end ≡ true → r.taken ≤ most → length r.held ≡ 0 → r.let_go ≡ 0 → HasGivenAll most input r End
-at_end-all input r left most s over in_time none let_go =
-    let count : r.taken ≡ r.given + (r.let_go + length r.held) = taken_count input r left s in
-    let whole : r.taken ≡ length input = s.end_is over in
-    (ap pieces (take_all r.given input (omega arith)), whole, omega arith)
-
 -- a source that failed: each line that ended among the bytes taken was given
 pub failed-ended : (input : List ℕ) (r : Reading) (left : Option (List ℕ)) → StandsIn input r left →
     r.at_end ≡ false → IsUnbroken r.held → pieces_given input r ≡ ended (take r.taken input)

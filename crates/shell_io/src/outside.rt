@@ -1,6 +1,7 @@
 //! The devices of the system: standard input and output, and the files of the current directory.
 //!
-//! They tell nothing of what they hold. Each error raises their count.
+//! A source and a sink tell what their reader has left and what their writer holds, where that is known, as it is over
+//! memory; of the system's own streams it isn't. The folder tells nothing. Each call that fails raises their count.
 
 ghost use Rattle.std.specs.Prelude.{◌≡◌, ◌≤◌, length, None, Err, OnOk, ⊤};
 ghost use Rattle.elem_core.specs.Naming.{IsName};
@@ -15,7 +16,7 @@ use std::os::unix::fs::MetadataExt;
 use std::rt::Files;
 use std::{format, fs, io};
 
-/// A source over a reader, as the runtime's standard input.
+/// A source over a reader, as the runtime's standard input. Where the reader's bytes are known, it gives just these.
 #[derive(Drop)]
 pub struct StdSource<R> {
     input: R,
@@ -25,14 +26,15 @@ pub struct StdSource<R> {
 impl<R: Read> StdSource<R> {
     /// A source over this reader, which has failed at no call.
     pub fn new(input: R) -> StdSource<R>
-        ensures { result.faults ≡ 0 }
+        ensures input { result.input ≡ input }
+        ensures faults { result.faults ≡ 0 }
     {
         StdSource { input, faults: 0 }
     }
 }
 
 impl<R: Read> Source for StdSource<R> {
-    ghost left = { λ _. None };
+    ghost left = { λ s. R.remaining s.input };
 
     ghost faults = { λ s. s.faults };
 
@@ -58,7 +60,7 @@ impl<R: Read> Source for StdSource<R> {
     }
 }
 
-/// A sink over a writer, as the runtime's standard output.
+/// A sink over a writer, as the runtime's standard output. Where the writer's bytes are known, it adds just what it tells.
 #[derive(Drop)]
 pub struct StdSink<W> {
     output: W,
@@ -68,14 +70,15 @@ pub struct StdSink<W> {
 impl<W: Write> StdSink<W> {
     /// A sink over this writer, which has failed at no call.
     pub fn new(output: W) -> StdSink<W>
-        ensures { result.faults ≡ 0 }
+        ensures output { result.output ≡ output }
+        ensures faults { result.faults ≡ 0 }
     {
         StdSink { output, faults: 0 }
     }
 }
 
 impl<W: Write> Sink for StdSink<W> {
-    ghost written = { λ _. None };
+    ghost written = { λ s. W.contents s.output };
 
     ghost faults = { λ s. s.faults };
 

@@ -107,6 +107,24 @@ fn tells_an_error_amid_writing_as_not_written(rt: HostRuntime) -> Result<(), Fai
     Ok(())
 }
 
+// A reader and a writer over memory, whose bytes are known.
+#[test]
+fn reads_and_writes_known_bytes(rt: HostRuntime) -> Result<(), Fail> {
+    let mut source = StdSource::new(b"one\ntwo".as_slice());
+    let mut reader = LineReader::new(rt.alloc())?;
+    assert_eq!(rt; reader.next(&mut source, 100), Next::Line);
+    assert_eq!(rt; reader.line(), b"one".as_slice());
+    assert_eq!(rt; reader.next(&mut source, 100), Next::Line);
+    assert_eq!(rt; reader.line(), b"two".as_slice());
+    assert_eq!(rt; reader.next(&mut source, 100), Next::End);
+
+    let mut bytes = Vec::new(rt.alloc());
+    let mut sink = StdSink::new(&mut bytes);
+    assert_eq!(rt; write_all(&mut sink, b"ok\n"), Ok(()));
+    assert_eq!(rt; bytes.as_slice(), b"ok\n".as_slice());
+    Ok(())
+}
+
 #[test]
 fn writes_a_stream(rt: HostRuntime) -> Result<(), Fail> {
     let mut sink = StdSink::new(rt.stdout());
