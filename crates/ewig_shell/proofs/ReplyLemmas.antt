@@ -11,7 +11,7 @@ use Rattle.plain_space.specs.declared.refusal.Refusal.TheVariants as why
 use Rattle.plain_space.specs.Workspace.{State, Workspace, most, lines_of, version_of, sizes, same_texts, same_state, in_batch, is_full}
 use Rattle.plain_space.specs.Refusing.{needs, unless, given, outside_batch}
 use Rattle.plain_space.specs.Edited.{edited}
-use Rattle.plain_space.specs.Answer.{Answer, Told, tells, elsewhere, answer, asked, becomes, ok_line, text_line, size_line, equal_line}
+use Rattle.plain_space.specs.Answer.{Answer, Told, tells, elsewhere, answer, asked, becomes, history_step, steps_to, ok_line, text_line, size_line, equal_line}
 use Rattle.plain_space.specs.Session.{reason_of}
 use Rattle.ewig_shell.specs.Step.{Machine, SaysElsewhere, Gives, Obeys, uses_store, line_reason, reply_of, refusal_of}
 
@@ -89,14 +89,18 @@ module _ (W : Workspace) where
   asking (Ok lines) h = h
   asking (Err reason) h = tt
 
+  stepping : (after : State → List State → List State → Workspace) (step : Result (State × List State × List State) Refusal) → IfOk (steps_to after step) TellsOther
+  stepping after (Ok made) = refl
+  stepping after (Err reason) = tt
+
   answer-other : (command : PlainCommand) → IfOk (answer W command) TellsOther
   unfolding answer
   answer-other (edit change) = becoming (edited W.current change)
   answer-other (mark version) = outside _ (by_unless TellsOther (is_some (version_of W version)) why.Exists _ refl)
   answer-other (unmark version) = outside _ (by_given TellsOther (version_of W version) why.Absent _ (λ state. refl))
   answer-other (back version) = outside _ (by_given TellsOther (version_of W version) why.Absent _ (λ state. becoming (Ok state)))
-  answer-other undo = outside _ (by_given TellsOther (slice_get W.undo (length W.undo - 1)) why.Empty _ (λ last. by_needs TellsOther (nat_le (length W.redo + 1) most) why.Limit _ refl))
-  answer-other redo = outside _ (by_given TellsOther (slice_get W.redo (length W.redo - 1)) why.Empty _ (λ last. by_needs TellsOther (nat_le (length W.undo + 1) most) why.Limit _ refl))
+  answer-other undo = stepping _ (history_step W W.undo W.redo)
+  answer-other redo = stepping _ (history_step W W.redo W.undo)
   answer-other begin = outside _ refl
   answer-other «end» = by_given TellsOther W.base why.Batch _ (λ base. by_needs TellsOther (nat_le (length W.undo + 1) most) why.Limit _ refl)
   answer-other abort = by_given TellsOther W.base why.Batch _ (λ base. refl)

@@ -56,6 +56,18 @@ abbrev pub becomes : Workspace → Result State Refusal → Answer
 becomes work (Ok next) = unless (is_full work) Limit (done (with_current work next))
 becomes work (Err reason) = Err reason
 
+-- A step through the histories: the last state of the one, that history without it, and the other with the current state at its
+-- end. Refused in a batch, where the one is empty, and where the other has no room.
+abbrev pub history_step : Workspace → List State → List State → Result (State × List State × List State) Refusal
+history_step work from to = outside_batch work (
+    on_last from (λ last before.
+    room (length to + 1) (Ok (last, before, to ++ work.current ∷ []))))
+
+-- The answer to such a step: the workspace that its state and its two histories make.
+abbrev pub steps_to : (State → List State → List State → Workspace) → Result (State × List State × List State) Refusal → Answer
+steps_to after (Ok made) = done (after made.0 made.1 made.2)
+steps_to after (Err reason) = Err reason
+
 -- The answer of each command: the first refusal that holds, else its reply and the workspace afterwards.
 unfoldable pub answer : Workspace → PlainCommand → Answer
 answer work (edit change) = becomes work (edited work.current change)
@@ -67,14 +79,10 @@ answer work (unmark version) = outside_batch work (
     done (record work { versions = map.remove work.versions version })))
 answer work (back version) = outside_batch work (
     given (version_of work version) Absent (λ state. becomes work (Ok state)))
-answer work undo = outside_batch work (
-    on_last work.undo (λ last before.
-    room (length work.redo + 1) (
-    done (record work { current = last; undo = before; redo = work.redo ++ work.current ∷ [] }))))
-answer work redo = outside_batch work (
-    on_last work.redo (λ last before.
-    room (length work.undo + 1) (
-    done (record work { current = last; undo = work.undo ++ work.current ∷ []; redo = before }))))
+answer work undo = steps_to (λ state before longer. record work { current = state; undo = before; redo = longer })
+    (history_step work work.undo work.redo)
+answer work redo = steps_to (λ state before longer. record work { current = state; undo = longer; redo = before })
+    (history_step work work.redo work.undo)
 answer work begin = outside_batch work (done (record work { base = Some work.current }))
 answer work end = on_base work (λ base.
     room (length work.undo + 1) (

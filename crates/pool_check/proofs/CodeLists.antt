@@ -80,9 +80,6 @@ module _ (code : Bytes → ℕ) (depth : ℕ) where
   abbrev pub high : ℕ → ℕ
   high c = c % 2 ^ (5 * depth)
 
-  abbrev pub code_of_key : Entry Bytes → ℕ
-  code_of_key e = code e.key
-
   -- these codes can stand for the codes of these entries' keys
   pub record Stand (E : List (Entry Bytes)) (cs : List ℕ) : Type 0 where
     pub head : slice_get (map (λ e. code e.key) E) 0 ≡ slice_get cs 0

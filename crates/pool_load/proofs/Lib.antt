@@ -8,3 +8,4 @@ pub mod VectorTexts
 pub mod TrieTexts
 pub mod EntryKinds
 pub mod LoadedRoots
+pub mod Fits

@@ -42,13 +42,6 @@ take-item [] i x low is = absurd (omega arith)
 take-item (y ∷ ys) zero x low is = ap (λ z. z ∷ []) (sym is)
 take-item (y ∷ ys) (suc i) x low is = rw add-one (ap (λ zs. y ∷ zs) (rw add-one at (take-item ys i x (omega arith) is)))
 
--- one more item of a sum
-pub sum-next : {X : Type 0} (g : X → ℕ) (xs : List X) (i : ℕ) (x : X) → i < length xs → x ≡ get_or xs i x → sum_by g (take (i + 1) xs) ≡ sum_by g (take i xs) + g x
-sum-next g xs i x low is = ap (sum_by g) (take-item xs i x low is) ∙ sum_by-append g (take i xs) (x ∷ []) ∙ ap (λ n. sum_by g (take i xs) + n) (sum_by-cons g x [] ∙ zero-more (g x))
-  where
-    zero-more : (n : ℕ) → n + 0 ≡ n
-    zero-more n = omega arith
-
 -- what an item adds to the length of an array
 abbrev pub item_length : Data → ℕ
 item_length d = length (compact_text d) + 1

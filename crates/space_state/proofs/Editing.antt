@@ -30,11 +30,11 @@ use Rattle.rrb_join.specs.declared.cutting.SliceFault.{SliceFault}
 use Rattle.rrb_join.specs.declared.cutting.SliceFault.TheVariants.{Range as slice_range_fault, Memory as slice_memory}
 use Rattle.rrb_join.specs.declared.joining.JoinFault.{JoinFault}
 use Rattle.rrb_join.specs.declared.joining.JoinFault.TheVariants.{Long as join_long, Memory as join_memory}
-use Rattle.shell_terms.specs.Edit.{Bytes, PlainEdit, new, add, set as set_line, put, del, cat, cut, copy, drop as drop_buffer}
+use Rattle.shell_terms.specs.Edit.{Bytes, PlainEdit, new, add, set as set_line, put, del, cat, cut, copy, drop as drop_buffer, star, unstar}
 use Rattle.shell_terms.specs.Command.{PlainCommand, edit}
 use Rattle.plain_space.specs.declared.refusal.Refusal.{Refusal}
 use Rattle.plain_space.specs.declared.refusal.Refusal.TheVariants.{Absent, Exists, Range, Limit, Memory}
-use Rattle.plain_space.specs.Workspace.{State, Workspace, most, lines_of, with_lines, without_lines, is_full, with_current}
+use Rattle.plain_space.specs.Workspace.{State, Workspace, most, lines_of, with_lines, without_lines, is_starred, with_star, without_star, is_full, with_current}
 use Rattle.plain_space.specs.Refusing.{needs, unless, given, on_lines, on_range, room}
 use Rattle.plain_space.specs.Edited.{edited}
 use Rattle.plain_space.specs.Answer.{answer, done, becomes}
@@ -45,8 +45,9 @@ use Rattle.state_rows.specs.InHeap.{AreLinesIn, IsStateIn}
 use Rattle.state_rows.proofs.Staying.{states-stay}
 use Rattle.state_rows.proofs.Keys.{by_bytes}
 use Rattle.space_state.specs.declared.roots.RootedHeap.{RootedHeap}
+use Rattle.space_state.specs.declared.turning.TheConstants.{EDIT_NODES}
 use Rattle.space_state.specs.Roots.{Keeps}
-use Rattle.space_state.specs.Turns.{IsDue, IsSame, TurnsTo, IsCarriedOut, IsRefused}
+use Rattle.space_state.specs.Turns.{IsDue, IsSame, RoomIsMade, RoomIsRefused, TurnsTo, IsCarriedOut, IsRefused}
 use Rattle.space_state.proofs.Keeping.{Rises, rises-answered, rises-then, rises-same, rises-more, keeps-extended, keeps-gained, keeps-same, answered-cell, keeps-turned, keeps-swapped, keeps-released, released-stands, first-held, first-counts, unchanged-stands, turns-after}
 
 -- ## Lists that go together
@@ -281,6 +282,14 @@ module _ (now : State) (name : Bytes) where
   unfolding edited
   drop-made xs is = ap (λ o. given o Absent (λ lines. Ok (without_lines now name))) is
 
+  pub star-made : is_starred now name ≡ false → edited now (star name) ≡ Ok (with_star now name)
+  unfolding edited
+  star-made none = rw none refl
+
+  pub unstar-made : is_starred now name ≡ true → edited now (unstar name) ≡ Ok (without_star now name)
+  unfolding edited
+  unstar-made there = rw there refl
+
 -- ## What a command that is an edit comes to
 
 module _ (W : Workspace) (change : PlainEdit) where
@@ -303,12 +312,16 @@ module _ (W : Workspace) (change : PlainEdit) where
     may-lack free = record { wants = refl; granted = subst IsOk (sym (does free)) refl }
 
     -- what refuses the room for it is due
-    pub room-due : (why : Refusal) → MatchBool (is_full W) (why ≡ Limit) (why ≡ Memory) → IsDue W (edit change) why
+    room-due : (why : Refusal) → MatchBool (is_full W) (why ≡ Limit) (why ≡ Memory) → IsDue W (edit change) why
     room-due why is_why = at (is_full W) refl is_why
       where
         at : (t : Bool) → is_full W ≡ t → MatchBool t (why ≡ Limit) (why ≡ Memory) → IsDue W (edit change) why
         at true full by = subst (λ r. IsDue W (edit change) r) (sym by) (stuffed full)
         at false free by = subst (λ r. IsDue W (edit change) r) (sym by) (may-lack free)
+
+    -- and so it refuses the edit
+    pub no-room : {s t : RootedHeap} {why : Refusal} → RoomIsRefused s t W why → IsRefused (edit change) s t W why
+    no-room {why = why} refused = record { due = room-due why refused.due; same = refused.same }
 
 -- ## Texts and lines
 
@@ -340,15 +353,9 @@ lines-same {s} {t} {l} {xs} same are =
 
 -- ## What is known once room was made
 
--- nothing but spares has changed, undo has room, and there are spares for an edit of the buffer, whose name is the key
-pub record MadeRoom (s t : RootedHeap) (key name : Bytes) (W : Workspace) : Type 0 where
-  pub same : IsSame s t
-  pub named : key ≡ name
-  pub free : is_full W ≡ false
-  pub spares : HasSpares t.heap 2 (128 + alike_buffers s.bits W.current name)
-
-pub made-room : {s t : RootedHeap} {key name : Bytes} (W : Workspace) → IsSame s t → key ≡ name → (is_full W ≡ false) × HasSpares t.heap 2 (128 + alike_buffers s.bits W.current name) → MadeRoom s t key name W
-made-room W same named room = record { same = same; named = named; free = room.0; spares = room.1 }
+-- there is room for an edit of the buffer
+abbrev pub HasBufferRoom : RootedHeap → RootedHeap → Bytes → Workspace → Type 0
+HasBufferRoom s t name W = RoomIsMade s t W (EDIT_NODES + alike_buffers s.bits W.current name)
 
 -- the lines that a buffer was found to have are there still
 pub record HasLines (s t : RootedHeap) (l : ℕ) (name : Bytes) (W : Workspace) : Type 0 where
@@ -364,21 +371,23 @@ has-lines {s} {t} {l} {name} {W} same is =
 
 -- a line's text is in a new cell, which is held, and the buffer's lines are there still
 pub record HasText (s t : RootedHeap) (mid : Heap Bytes) (k l : ℕ) (key name text : Bytes) (W : Workspace) : Type 0 where
-  pub room : MadeRoom s t key name W
+  pub named : key ≡ name
+  pub room : HasBufferRoom s t name W
   pub lines : HasLines s (record t { heap = mid }) l name W
   pub keeps : Keeps t [] W
   pub answered : Answered t.heap mid [] k 1 0
   pub held : 0 < holds_at mid k
-  pub nodes : 128 ≤ mid.spare_nodes
+  pub nodes : EDIT_NODES ≤ mid.spare_nodes
   pub adds : Adds t.heap mid k (cell text)
   pub is : IsCell text
 
-pub has-text : {s t : RootedHeap} {mid : Heap Bytes} {k l : ℕ} {key name made text : Bytes} {W : Workspace} → Keeps s [] W → MadeRoom s t key name W → IsSomeAnd (lines_of W.current name) (AreLinesIn s.heap s.bits l)
+pub has-text : {s t : RootedHeap} {mid : Heap Bytes} {k l : ℕ} {key name made text : Bytes} {W : Workspace} → Keeps s [] W → key ≡ name → HasBufferRoom s t name W → IsSomeAnd (lines_of W.current name) (AreLinesIn s.heap s.bits l)
     → IsCell text → made ≡ text → Adds t.heap mid k (cell made) → Makes t.heap mid 1 0 → hold_count mid ≡ hold_count t.heap + 1 → IsGraph mid → Extends t.heap mid → HasText s t mid k l key name text W
-has-text {s} {t} {mid} {k} {l} {key} {name} {made} {text} {W} K room is cell_is same_text adds makes total graph extends =
+has-text {s} {t} {mid} {k} {l} {key} {name} {made} {text} {W} K named room is cell_is same_text adds makes total graph extends =
     let lines = found-lines s l W.current name is in
     let answered = answered-cell extends graph adds total makes in
     record {
+      named = named;
       room = room;
       lines = record { xs = lines.0; found = lines.1; before = lines.2; now = lines-stay extends (lines-same room.same lines.2) };
       keeps = keeps-same room.same K;
@@ -540,20 +549,20 @@ pub alike-same : {s t : RootedHeap} → IsSame s t → (now : State) (name : Byt
 alike-same same now name = λ i. alike_buffers (same.bits i) now name
 
 -- room was made and so were the lines: all that it takes to put them into their buffer
-pub can-put : {s t : RootedHeap} {new : Heap Bytes} {l c n : ℕ} {xs : List Bytes} {W : Workspace} {key name : Bytes} → MadeRoom s t key name W → IsMade t new [] l xs W c n → c ≤ 1 → n ≤ 100
+pub can-put : {s t : RootedHeap} {new : Heap Bytes} {l c n : ℕ} {xs : List Bytes} {W : Workspace} {key name : Bytes} → key ≡ name → HasBufferRoom s t name W → IsMade t new [] l xs W c n → c ≤ 1 → n ≤ 100
     → (V : Workspace) × (ys : List Bytes) × Keeps (record t { heap = new }) (l ∷ []) V × AreLinesIn new t.bits l ys × (is_full V ≡ false) × HasSpares new 1 (20 + alike_buffers t.bits V.current key)
-can-put {s} {t} {xs = xs} {W = W} {key = key} {name = name} room m few_cells few_nodes =
-    let alike : alike_buffers t.bits W.current key ≡ alike_buffers s.bits W.current name = (λ i. alike_buffers (room.same.bits i) W.current (room.named i)) in
+can-put {s} {t} {xs = xs} {W = W} {key = key} {name = name} named room m few_cells few_nodes =
+    let alike : alike_buffers t.bits W.current key ≡ alike_buffers s.bits W.current name = (λ i. alike_buffers (room.same.bits i) W.current (named i)) in
     (W, xs, m.keeps, m.lines, room.free, (omega (arith, m.cells, room.spares.0, few_cells), omega (arith, m.nodes, room.spares.1, few_nodes, alike)))
 
 -- room was made, the lines were made, and the state turned to the one that has them
-pub edit-done : {s t u : RootedHeap} {new : Heap Bytes} {l c n : ℕ} {xs : List Bytes} {W : Workspace} {key name : Bytes} (change : PlainEdit) → MadeRoom s t key name W → IsMade t new [] l xs W c n
+pub edit-done : {s t u : RootedHeap} {new : Heap Bytes} {l c n : ℕ} {xs : List Bytes} {W : Workspace} {key name : Bytes} (change : PlainEdit) → key ≡ name → HasBufferRoom s t name W → IsMade t new [] l xs W c n
     → edited W.current change ≡ Ok (with_lines W.current name xs) → TurnsTo (record t { heap = new }) u [] (21 + alike_buffers t.bits W.current key) (with_current W (with_lines W.current key xs))
     → c + n + (21 + alike_buffers s.bits W.current name) ≤ edit_cost s.bits change W.current → IsCarriedOut (edit change) s u W
-edit-done {s} {t} {u} {new} {l} {c} {n} {xs} {W} {key} {name} change room m made turn less =
+edit-done {s} {t} {u} {new} {l} {c} {n} {xs} {W} {key} {name} change is room m made turn less =
     let same : IsSame s t = room.same in
     let named : TurnsTo (record t { heap = new }) u [] (21 + alike_buffers t.bits W.current name) (with_current W (with_lines W.current name xs)) =
-    subst (λ (k : Bytes). TurnsTo (record t { heap = new }) u [] (21 + alike_buffers t.bits W.current k) (with_current W (with_lines W.current k xs))) room.named turn in
+    subst (λ (k : Bytes). TurnsTo (record t { heap = new }) u [] (21 + alike_buffers t.bits W.current k) (with_current W (with_lines W.current k xs))) is turn in
     let turned : TurnsTo (record t { heap = new }) u [] (21 + alike_buffers s.bits W.current name) (with_current W (with_lines W.current name xs)) =
     subst (λ (k : ℕ). TurnsTo (record t { heap = new }) u [] (21 + alike_buffers k W.current name) (with_current W (with_lines W.current name xs))) same.bits named in
     record {
@@ -599,7 +608,7 @@ has-parts {t} {mid} {new} {v} {k} {l} {n} {m} {xs} {W} from to K are a good item
 
 -- spares are left to put both into their buffers
 pub both-spares-left : {s t : RootedHeap} {new : Heap Bytes} {k l n : ℕ} {xs ys : List Bytes} {W : Workspace} {key name other_key other : Bytes} → IsSame s t → key ≡ name → other_key ≡ other → HasParts t new k l xs ys W n
-    → HasSpares t.heap 2 (128 + alike_buffers s.bits W.current name + alike_buffers s.bits W.current other) → n ≤ 90 → HasSpares new 2 (31 + alike_buffers t.bits W.current key + alike_buffers t.bits W.current other_key)
+    → HasSpares t.heap 2 (EDIT_NODES + alike_buffers s.bits W.current name + alike_buffers s.bits W.current other) → n ≤ 90 → HasSpares new 2 (31 + alike_buffers t.bits W.current key + alike_buffers t.bits W.current other_key)
 both-spares-left {s} {t} {W = W} {key = key} {name = name} {other_key = other_key} {other = other} same is also p spares few =
     let one : alike_buffers t.bits W.current key ≡ alike_buffers s.bits W.current name = (λ i. alike_buffers (same.bits i) W.current (is i)) in
     let two : alike_buffers t.bits W.current other_key ≡ alike_buffers s.bits W.current other = (λ i. alike_buffers (same.bits i) W.current (also i)) in

@@ -1,6 +1,6 @@
 -- How what a rooted heap keeps follows from one call to the next: what calls answer, what is released, which root is another, and how
 -- far the rows rise.
-use Rattle.std.proofs.Common.{◌≡◌, ℕ, ◌+◌, ◌^◌, ◌<◌, ◌≤◌, List, [], ◌∷◌, length, true, false, eqb, Option, Some, None, IsSome, refl, sym, ap, subst, ◌∙◌, arith, length-append}
+use Rattle.std.proofs.Common.{◌≡◌, ℕ, ◌+◌, ◌^◌, ◌<◌, ◌≤◌, List, [], ◌∷◌, length, false, eqb, Option, Some, None, IsSome, refl, sym, ap, subst, ◌∙◌, arith, length-append}
 use Rattle.std.proofs.lemmas.Bool.Decides.{nat_tests}
 use Rattle.elem_core.specs.declared.codes.TheConstants.{CODE_BITS}
 use Rattle.node_heap.specs.Links.{count}
@@ -8,10 +8,11 @@ use Rattle.node_heap.specs.Forms.{cell}
 use Rattle.node_heap.specs.Heap.{Heap, row_at, holds_at, hold_count, live_count, one_at, form_at, IsGraph}
 use Rattle.node_heap.specs.Calls.{Extends, Makes, Releases, Unchanged, Adds, Answered}
 use Rattle.node_heap.proofs.Counts.{test_same}
-use Rattle.node_heap.proofs.Frames.{KeepsHeld-Releases, Balances-Makes, Unchanged-refl, Unchanged-trans}
+use Rattle.node_heap.proofs.Frames.{KeepsHeld-Releases, Balances-Makes, Unchanged-refl}
 use Rattle.node_heap.proofs.GraphLemmas.{IsGraph-kinds}
 use Rattle.node_heap.proofs.BuildLemmas.{count-cons, count-append}
 use Rattle.rrb_core.specs.Vector.{IsGoodVector, elements, height_at}
+use Rattle.rrb_core.proofs.Stays.{well-live}
 use Rattle.champ_kinds.proofs.ZipLemmas.{zip-length}
 use Rattle.shell_terms.specs.Edit.{Bytes}
 use Rattle.plain_space.specs.Workspace.{Named, State, Workspace, most, in_batch, is_full}
@@ -35,10 +36,6 @@ first-counts l ls = omega (arith, count-cons l l ls, test_same l l refl)
 
 pub second-counts : (l k : ℕ) (ls : List ℕ) → 0 < count k (l ∷ k ∷ ls)
 second-counts l k ls = omega (arith, count-cons k l (k ∷ ls), first-counts k ls)
-
--- a link that is counted among more is counted among all
-pub later-counts : (l k : ℕ) (ls : List ℕ) → 0 < count k ls → 0 < count k (l ∷ ls)
-later-counts l k ls some = omega (arith, count-cons k l ls, some)
 
 -- how often a link is a root
 pub roots-count : (roots : Roots) (k : ℕ) → count k (root_list roots) ≡ one_at roots.current k + one_at roots.versions k + one_at roots.undo k + one_at roots.redo k + count k (base_of roots.batch)
@@ -103,9 +100,6 @@ root-held K k some = omega (arith, keeps-holds K k, some)
 
 pub current-held : {s : RootedHeap} {b : List ℕ} {W : Workspace} → Keeps s b W → 0 < holds_at s.heap s.roots.current
 current-held {s} K = omega (arith, keeps-holds K s.roots.current, roots-count s.roots s.roots.current, test_same s.roots.current s.roots.current refl)
-
-pub versions-held : {s : RootedHeap} {b : List ℕ} {W : Workspace} → Keeps s b W → 0 < holds_at s.heap s.roots.versions
-versions-held {s} K = omega (arith, keeps-holds K s.roots.versions, roots-count s.roots s.roots.versions, test_same s.roots.versions s.roots.versions refl)
 
 pub undo-held : {s : RootedHeap} {b : List ℕ} {W : Workspace} → Keeps s b W → 0 < holds_at s.heap s.roots.undo
 undo-held {s} K = omega (arith, keeps-holds K s.roots.undo, roots-count s.roots s.roots.undo, test_same s.roots.undo s.roots.undo refl)
@@ -204,9 +198,6 @@ keeps-same {s} {s'} {b} {W} same K =
 
 pub same-refl : {s : RootedHeap} {b : List ℕ} {W : Workspace} → Keeps s b W → IsSame s s
 same-refl {s} K = record { roots = refl; bits = refl; heap = Unchanged-refl s.heap K.graph }
-
-pub same-then : {a b c : RootedHeap} → IsSame a b → IsSame b c → IsSame a c
-same-then first second = record { roots = second.roots ∙ first.roots; bits = second.bits ∙ first.bits; heap = Unchanged-trans first.heap second.heap }
 
 -- room is made
 pub same-heap : {s : RootedHeap} {new : Heap Bytes} → Unchanged s.heap new → IsSame s (record s { heap = new })
@@ -320,8 +311,10 @@ has-room W is outside room =
     let apart = full-outside W (length W.undo) outside refl ∙ room in
     grind (arith, nat_tests, history-short is)
 
-pub full-inside : (W : Workspace) → in_batch W ≡ true → is_full W ≡ false
-full-inside W inside = rw inside refl
+-- a history stands where every row stays
+pub history-stays : {old new : Heap Bytes} {bits l : ℕ} {ss : List State} → Extends old new → IsHistoryIn old bits l ss → IsHistoryIn new bits l ss
+history-stays {old} {new} {bits} {l} {ss} extends is =
+    (states-stay old new bits l (extends.kept l (well-live old (height_at old l) l is.vector.shape.well))).history ss is
 
 -- the root of a history is low
 pub history-low : {h : Heap Bytes} {bits l : ℕ} {ss : List State} → IsHistoryIn h bits l ss → height_at h l ≤ 7
@@ -390,11 +383,3 @@ turns-after m' m r bits t more =
 -- one turn, and then another
 pub turns-then : {a b c : RootedHeap} {x y : List ℕ} {m' n : ℕ} {V W : Workspace} (m : ℕ) → TurnsTo a b x m' V → TurnsTo b c y n W → m' + n ≤ m → TurnsTo a c y m W
 turns-then {m' = m'} m first second more = turns-after m' m (turns-of first) first.bits second more
-
--- nothing changes but spares, and then a turn
-pub turns-same : {a b c : RootedHeap} {besides : List ℕ} {m : ℕ} {W : Workspace} → IsSame a b → TurnsTo b c besides m W → TurnsTo a c besides m W
-turns-same {m = m} same t = turns-after 0 m (rises-same same.heap) same.bits t (omega arith)
-
--- the same with more room
-pub turns-more : {a b : RootedHeap} {besides : List ℕ} {m : ℕ} {W : Workspace} (m' : ℕ) → TurnsTo a b besides m W → m ≤ m' → TurnsTo a b besides m' W
-turns-more m' t more = turns-by m' t.keeps t.bits (rises-more m' (turns-of t) more)

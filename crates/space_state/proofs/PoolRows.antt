@@ -1,9 +1,7 @@
 -- The rows that the roots of a space reach fit a pool.
-use Rattle.std.proofs.Common.{◌≡◌, ℕ, ◌<◌, true, Option, Some, None, IsSome, option_map, [], length, refl, ap, sym, subst, ◌∙◌}
-use Rattle.std.specs.Prelude.{◌==◌}
-use Rattle.std.proofs.lemmas.List.{length-map}
+use Rattle.std.proofs.Common.{◌≡◌, ℕ, ◌<◌, true, Option, Some, None, IsSome, option_map, [], length, refl, subst}
 use Rattle.node_heap.specs.Links.{count, Reaches, here}
-use Rattle.node_heap.specs.Forms.{Form, cell, node, leaf, inner, trie, chain, pair, state, links_in}
+use Rattle.node_heap.specs.Forms.{Form, cell, node, links_in}
 use Rattle.node_heap.specs.Heap.{row_at, form_at, links_at}
 use Rattle.node_heap.proofs.Reach.{Reaches-by}
 use Rattle.node_heap.proofs.Trees.{links_of-form}
@@ -16,6 +14,7 @@ use Rattle.pool_text.proofs.Held.{rooted-forms, texts-are-forms}
 use Rattle.pool_text.proofs.PoolRows.{pool-renamed}
 use Rattle.pool_check.specs.Rows.{rows_in_range}
 use Rattle.pool_check.proofs.TestLemmas.{all-at}
+use Rattle.pool_load.proofs.Fits.{node-fits}
 use Rattle.shell_terms.specs.Edit.{Bytes}
 use Rattle.plain_space.specs.Workspace.{Workspace}
 use Rattle.space_state.specs.declared.roots.RootedHeap.{RootedHeap}
@@ -26,12 +25,7 @@ use Rattle.space_state.proofs.Front.{pool-valid}
 -- a row that is in range under other links fits a pool
 range-fits : (f : ℕ → ℕ) (row : Form Bytes) → is_in_range (relink f row) ≡ true → fits_pool (Some row) ≡ true
 range-fits f (cell text) in_range = refl
-range-fits f (node leaf links) in_range = refl
-range-fits f (node (inner height) links) in_range = refl
-range-fits f (node (trie depth entries nodes) links) in_range = refl
-range-fits f (node chain links) in_range = refl
-range-fits f (node pair links) in_range = sym (ap (λ n. n == 2) (length-map links f)) ∙ in_range
-range-fits f (node state links) in_range = sym (ap (λ n. n == 2) (length-map links f)) ∙ in_range
+range-fits f (node kind links) in_range = node-fits Bytes Bytes f kind links in_range
 
 rows-pass : (P : Pool) (place : ℕ) (row : Form Bytes) → rows_in_range P ≡ true → forms_in P place ≡ Some row → is_in_range row ≡ true
 unfolding rows_in_range

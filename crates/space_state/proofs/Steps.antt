@@ -1,6 +1,6 @@
 -- What the plain answer is to steps through histories, to batches, versions and stars, and how refusals end.
 use Rattle.std.proofs.Common.{◌≡◌, refl, sym, ◌∙◌, ap, subst, ℕ, ◌+◌, ◌-◌, ◌<◌, ◌≤◌, List, [], ◌∷◌, ◌++◌, length, take, arith, Bool, true, false, Option, Some, None, is_some, IsSome, Result, Ok, Err, slice_get, leb, IsTrue, IsOk, MatchOption}
-use Rattle.std.specs.Prelude.{IsErrAnd, MatchResult, MatchBool}
+use Rattle.std.specs.Prelude.{IsErrAnd, MatchResult}
 use Rattle.std.proofs.lemmas.Bool.{le-leb}
 use Rattle.std.specs.FinMap as map
 use Rattle.node_heap.specs.Heap.{Heap, holds_at, hold_count, one_at, HasSpares, IsGraph}
@@ -9,21 +9,24 @@ use Rattle.rrb_core.specs.Vector.{elements, height_at}
 use Rattle.shell_terms.specs.Edit.{Bytes, star, unstar}
 use Rattle.shell_terms.specs.Command.{PlainCommand, edit, mark, unmark, back, undo, redo, begin, «end», abort}
 use Rattle.plain_space.specs.declared.refusal.Refusal.{Refusal}
-use Rattle.plain_space.specs.declared.refusal.Refusal.TheVariants.{Absent, Exists, Limit, Batch, Empty, Memory}
-use Rattle.plain_space.specs.Workspace.{State, Workspace, most, in_batch, is_full, is_starred, version_of, with_current, with_star, without_star}
+use Rattle.plain_space.specs.declared.refusal.Refusal.TheVariants.{Absent, Exists, Range, Limit, Batch, Empty, Memory}
+use Rattle.plain_space.specs.Workspace.{State, Workspace, most, in_batch, is_full, is_starred, version_of, with_current}
 use Rattle.plain_space.specs.Edited.{edited}
-use Rattle.plain_space.specs.Answer.{answer, done}
+use Rattle.plain_space.specs.Answer.{answer, done, history_step, steps_to}
 use Rattle.plain_space.specs.Memory.{wants_memory, MayLackMemory}
 use Rattle.state_rows.specs.Reading.{StandsIfThere}
 use Rattle.state_rows.specs.InHeap.{IsStateIn, IsHistoryIn}
 use Rattle.state_rows.specs.Standing.{IsBase}
+use Rattle.space_state.specs.declared.histories.TheConstants.{STEP_NODES}
 use Rattle.space_state.specs.declared.roots.RootedHeap.{RootedHeap}
 use Rattle.space_state.specs.declared.roots.Batch.{Batch as Batches}
 use Rattle.space_state.specs.declared.roots.Batch.TheVariants.{Closed, Open}
+use Rattle.space_state.specs.declared.turning.TheConstants.{EDIT_NODES}
 use Rattle.space_state.specs.Roots.{base_of, Keeps}
-use Rattle.space_state.specs.Turns.{IsSame, TurnsTo, IsCarriedOut, IsRefused}
+use Rattle.space_state.specs.Turns.{IsDueBy, IsDue, IsSame, RoomIsMade, TurnsTo, IsCarriedOut, IsRefused}
+use Rattle.space_state.specs.Stepping.{IsStepped, IsStepRefused}
 use Rattle.state_rows.proofs.Staying.{states-stay}
-use Rattle.space_state.proofs.Keeping.{history-length, history-short, history-low, same-heap, keeps-same, keeps-gained, keeps-swapped, first-held, second-held, held-stands, answered-one, unchanged-stands, Rises, rises-answered, rises-nodes, rises-more, rises-same, rises-then, turns-by, turns-after}
+use Rattle.space_state.proofs.Keeping.{history-length, history-short, history-low, history-stays, same-heap, keeps-same, keeps-gained, keeps-swapped, first-held, second-held, held-stands, answered-one, unchanged-stands, Rises, rises-answered, rises-nodes, rises-more, rises-same, rises-then, turns-by, turns-after}
 
 -- a list with fewer than the most elements has room for one more
 fits-one : (n : ℕ) → n < most → leb (n + 1) most ≡ true
@@ -67,40 +70,6 @@ module _ (W : Workspace) where
   pub end-done : (base : State) → W.base ≡ Some base → length W.undo < most → answer W «end» ≡ done (record W { undo = W.undo ++ base ∷ []; redo = []; base = None })
   unfolding answer
   end-done base opened room = rw (opened, fits-one (length W.undo) room) refl
-
-  pub undo-refused : in_batch W ≡ true → answer W undo ≡ Err Batch
-  unfolding answer
-  undo-refused opened = rw opened refl
-
-  pub undo-empty : in_batch W ≡ false → slice_get W.undo (length W.undo - 1) ≡ None → answer W undo ≡ Err Empty
-  unfolding answer
-  undo-empty outside none = rw (outside, none) refl
-
-  pub undo-limited : in_batch W ≡ false → (last : State) → slice_get W.undo (length W.undo - 1) ≡ Some last → length W.redo ≡ most → answer W undo ≡ Err Limit
-  unfolding answer
-  undo-limited outside last there full = rw (outside, there, full) refl
-
-  pub undo-done : in_batch W ≡ false → (last : State) → slice_get W.undo (length W.undo - 1) ≡ Some last → length W.redo < most
-      → answer W undo ≡ done (record W { current = last; undo = take (length W.undo - 1) W.undo; redo = W.redo ++ W.current ∷ [] })
-  unfolding answer
-  undo-done outside last there room = rw (outside, there, fits-one (length W.redo) room) refl
-
-  pub redo-refused : in_batch W ≡ true → answer W redo ≡ Err Batch
-  unfolding answer
-  redo-refused opened = rw opened refl
-
-  pub redo-empty : in_batch W ≡ false → slice_get W.redo (length W.redo - 1) ≡ None → answer W redo ≡ Err Empty
-  unfolding answer
-  redo-empty outside none = rw (outside, none) refl
-
-  pub redo-limited : in_batch W ≡ false → (last : State) → slice_get W.redo (length W.redo - 1) ≡ Some last → length W.undo ≡ most → answer W redo ≡ Err Limit
-  unfolding answer
-  redo-limited outside last there full = rw (outside, there, full) refl
-
-  pub redo-done : in_batch W ≡ false → (last : State) → slice_get W.redo (length W.redo - 1) ≡ Some last → length W.undo < most
-      → answer W redo ≡ done (record W { current = last; undo = W.undo ++ W.current ∷ []; redo = take (length W.redo - 1) W.redo })
-  unfolding answer
-  redo-done outside last there room = rw (outside, there, fits-one (length W.undo) room) refl
 
   module _ (name : Bytes) where
     pub mark-refused : in_batch W ≡ true → answer W (mark name) ≡ Err Batch
@@ -147,25 +116,68 @@ module _ (W : Workspace) where
     unfolding answer edited
     star-taken there = rw there refl
 
-    pub star-limited : is_starred W.current name ≡ false → is_full W ≡ true → answer W (edit (star name)) ≡ Err Limit
-    unfolding answer edited
-    star-limited none full = rw (none, full) refl
-
-    pub star-done : is_starred W.current name ≡ false → is_full W ≡ false → answer W (edit (star name)) ≡ done (with_current W (with_star W.current name))
-    unfolding answer edited
-    star-done none room = rw (none, room) refl
-
     pub unstar-absent : is_starred W.current name ≡ false → answer W (edit (unstar name)) ≡ Err Absent
     unfolding answer edited
     unstar-absent none = rw none refl
 
-    pub unstar-limited : is_starred W.current name ≡ true → is_full W ≡ true → answer W (edit (unstar name)) ≡ Err Limit
-    unfolding answer edited
-    unstar-limited there full = rw (there, full) refl
+-- ## A step through the histories, and the answers to undo and redo
 
-    pub unstar-done : is_starred W.current name ≡ true → is_full W ≡ false → answer W (edit (unstar name)) ≡ done (with_current W (without_star W.current name))
-    unfolding answer edited
-    unstar-done there room = rw (there, room) refl
+module _ (W : Workspace) (from to : List State) where
+  pub step-refused : in_batch W ≡ true → history_step W from to ≡ Err Batch
+  step-refused opened = rw opened refl
+
+  pub step-empty : in_batch W ≡ false → slice_get from (length from - 1) ≡ None → history_step W from to ≡ Err Empty
+  step-empty outside none = rw (outside, none) refl
+
+  pub step-limited : in_batch W ≡ false → (last : State) → slice_get from (length from - 1) ≡ Some last → length to ≡ most → history_step W from to ≡ Err Limit
+  step-limited outside last there full = rw (outside, there, full) refl
+
+  pub step-done : in_batch W ≡ false → (last : State) → slice_get from (length from - 1) ≡ Some last → length to < most
+      → history_step W from to ≡ Ok (last, take (length from - 1) from, to ++ W.current ∷ [])
+  step-done outside last there room = rw (outside, there, fits-one (length to) room) refl
+
+  module _ (after : State → List State → List State → Workspace) where
+    steps-ok : (plain : Result (State × List State × List State) Refusal) → IsOk plain → IsOk (steps_to after plain)
+    steps-ok (Ok made) ok = refl
+    steps-ok (Err why) ok = absurd (let h = ok in cc)
+
+    -- what refuses the step is due to the command
+    step-due : (command : PlainCommand) → IsTrue (wants_memory command) → answer W command ≡ steps_to after (history_step W from to) → (why : Refusal)
+        → IsDueBy (history_step W from to) (IsOk (history_step W from to)) why → IsDue W command why
+    step-due command wants is Memory may = record { wants = wants; granted = subst IsOk (sym is) (steps-ok (history_step W from to) may) }
+    step-due command wants is Absent due = is ∙ ap (steps_to after) due
+    step-due command wants is Exists due = is ∙ ap (steps_to after) due
+    step-due command wants is Range due = is ∙ ap (steps_to after) due
+    step-due command wants is Limit due = is ∙ ap (steps_to after) due
+    step-due command wants is Batch due = is ∙ ap (steps_to after) due
+    step-due command wants is Empty due = is ∙ ap (steps_to after) due
+
+module _ (W : Workspace) where
+  abbrev after_undo : State → List State → List State → Workspace
+  after_undo state before longer = record W { current = state; undo = before; redo = longer }
+
+  abbrev after_redo : State → List State → List State → Workspace
+  after_redo state before longer = record W { current = state; undo = longer; redo = before }
+
+  undo-steps : answer W undo ≡ steps_to after_undo (history_step W W.undo W.redo)
+  unfolding answer
+  undo-steps = refl
+
+  redo-steps : answer W redo ≡ steps_to after_redo (history_step W W.redo W.undo)
+  unfolding answer
+  redo-steps = refl
+
+  pub undo-done : (state : State) (before longer : List State) → history_step W W.undo W.redo ≡ Ok (state, before, longer) → answer W undo ≡ done (record W { current = state; undo = before; redo = longer })
+  undo-done state before longer told = undo-steps ∙ ap (steps_to after_undo) told
+
+  pub redo-done : (state : State) (before longer : List State) → history_step W W.redo W.undo ≡ Ok (state, before, longer) → answer W redo ≡ done (record W { current = state; undo = longer; redo = before })
+  redo-done state before longer told = redo-steps ∙ ap (steps_to after_redo) told
+
+  pub undo-due : (why : Refusal) → IsDueBy (history_step W W.undo W.redo) (IsOk (history_step W W.undo W.redo)) why → IsDue W undo why
+  undo-due why due = step-due W W.undo W.redo after_undo undo refl undo-steps why due
+
+  pub redo-due : (why : Refusal) → IsDueBy (history_step W W.redo W.undo) (IsOk (history_step W W.redo W.undo)) why → IsDue W redo why
+  redo-due why due = step-due W W.redo W.undo after_redo redo refl redo-steps why due
 
 -- ## Want of memory
 
@@ -177,6 +189,12 @@ pub memory-refused : {W : Workspace} {command : PlainCommand} {old new : RootedH
     → MatchResult result (λ _. IsCarriedOut command old new W) (IsRefused command old new W)
 memory-refused {W} {command} {old} {new} (Err why) is lack same = subst (λ why. IsRefused command old new W why) (sym is) (record { due = lack; same = same })
 memory-refused (Ok x) is lack same = absurd is
+
+-- so may a step through the histories where it would be made
+pub step-lacks-memory : (W : Workspace) (from to : List State) {s t : RootedHeap} {made : State × List State × List State} (result : Result (ℕ × ℕ) Refusal) → IsErrAnd result (λ why. why ≡ Memory) → history_step W from to ≡ Ok made
+    → IsSame s t → MatchResult result (λ made. IsStepped from to s t W made.0 made.1) (IsStepRefused from to s t W)
+step-lacks-memory W from to {s} {t} (Err why) is told same = subst (λ why. IsStepRefused from to s t W why) (sym is) (record { due = subst IsOk (sym told) refl; same = same })
+step-lacks-memory W from to (Ok made) is told same = absurd is
 
 -- ## The batch
 
@@ -240,12 +258,13 @@ pub some-elements : {X : Type 0} (xs : List X) (i : ℕ) {x : X} → slice_get x
 some-elements [] i there = absurd (let h = there in cc)
 some-elements (x ∷ xs) i there = omega arith
 
--- ## A step through the histories
+-- ## The rows of a step through the histories
 
 -- the state to go to is held, after room was made
 pub record IsHeld (s : RootedHeap) (new : Heap Bytes) (state : ℕ) (x : State) (W : Workspace) : Type 0 where
   pub keeps : Keeps (record s { heap = new }) (state ∷ []) W
   pub is : IsStateIn new s.bits state x
+  pub histories : (l : ℕ) (ss : List State) → IsHistoryIn s.heap s.bits l ss → IsHistoryIn new s.bits l ss
   pub rises : Rises s.heap new 0
 
 pub is-held : {s : RootedHeap} {roomy new : Heap Bytes} {state : ℕ} {W : Workspace} {x : State} → Keeps s [] W → IsStateIn s.heap s.bits state x → Unchanged s.heap roomy → SameRows roomy new
@@ -255,6 +274,7 @@ is-held {s} {roomy} {new} {state} {x = x} K is room same extends graph holds tot
     record {
       keeps = keeps-gained (keeps-same (same-heap room) K) once;
       is = (states-stay roomy new s.bits state (λ m down. same m)).state x ((unchanged-stands s.bits room state).state x is);
+      histories = λ l ss are. (states-stay roomy new s.bits l (λ m down. same m)).history ss ((unchanged-stands s.bits room l).history ss are);
       rises = rises-then (rises-same room) (rises-answered once);
     }
 
@@ -265,44 +285,41 @@ pub record Stepped (s : RootedHeap) (new : Heap Bytes) (state shorter : ℕ) (fr
   pub keeps : Keeps (record s { heap = new }) (state ∷ shorter ∷ []) W
   pub is : IsStateIn new s.bits state x
   pub left : IsHistoryIn new s.bits shorter (take (length from - 1) from)
+  pub histories : (l : ℕ) (ss : List State) → IsHistoryIn s.heap s.bits l ss → IsHistoryIn new s.bits l ss
   pub rises : Rises s.heap new 8
 
 pub stepped : {s : RootedHeap} {mid new : Heap Bytes} {state shorter : ℕ} {from : List State} {W : Workspace} {x : State} → slice_get from (length from - 1) ≡ Some x → IsHeld s mid state x W
     → Answered mid new [] shorter 0 (height_at new shorter + 1) → IsHistoryIn new s.bits shorter (take (length from - 1) from) → Stepped s new state shorter from W
-stepped {state = state} {x = x} last held popped left = record {
+stepped {s} {mid} {new} {state = state} {x = x} last held popped left = record {
   x = x;
   last = last;
   keeps = keeps-swapped (keeps-gained held.keeps popped);
   is = (held-stands held.keeps popped.extends state (first-held held.keeps)).state x held.is;
   left = left;
+  histories = λ l ss are. history-stays popped.extends (held.histories l ss are);
   rises = rises-then held.rises (rises-nodes 8 popped (omega (arith, history-low left)));
 }
 
 -- it is current, and the other history is held with the state that was current at its end
-pub record Moved (s t : RootedHeap) (longer shorter : ℕ) (from to : List State) (W : Workspace) : Type 0 where
-  pub x : State
-  pub last : slice_get from (length from - 1) ≡ Some x
-  pub turns : TurnsTo s t (longer ∷ shorter ∷ []) 17 (record W { current = x })
-  pub grown : IsHistoryIn t.heap t.bits longer (to ++ W.current ∷ [])
-  pub left : IsHistoryIn t.heap t.bits shorter (take (length from - 1) from)
-
-pub moved : {s t : RootedHeap} {mid : Heap Bytes} {state longer shorter : ℕ} {from to : List State} {W : Workspace} (step : Stepped s mid state shorter from W) → Extends mid t.heap
-    → TurnsTo (record s { heap = mid }) t (longer ∷ shorter ∷ []) 9 (record W { current = step.x }) → IsHistoryIn t.heap t.bits longer (to ++ W.current ∷ []) → Moved s t longer shorter from to W
-moved {shorter = shorter} step extends turns grown = record {
-  x = step.x;
-  last = step.last;
-  turns = turns-after 8 17 step.rises refl turns (omega arith);
-  grown = grown;
+pub moved : {s t : RootedHeap} {mid : Heap Bytes} {state longer shorter : ℕ} {from to : List State} {W : Workspace} (step : Stepped s mid state shorter from W) → in_batch W ≡ false → length to < most → Extends mid t.heap
+    → TurnsTo (record s { heap = mid }) t (longer ∷ shorter ∷ []) 9 (record W { current = step.x }) → IsHistoryIn t.heap t.bits longer (to ++ W.current ∷ []) → IsStepped from to s t W shorter longer
+moved {shorter = shorter} {from = from} {to = to} {W = W} step outside room extends turns grown = record {
+  state = step.x;
+  before = take (length from - 1) from;
+  after = to ++ W.current ∷ [];
+  told = step-done W from to outside step.x step.last room;
+  turns = turns-after 8 STEP_NODES step.rises refl turns (omega arith);
   left = rw turns.bits ((held-stands step.keeps extends shorter (second-held step.keeps)).history _ step.left);
+  grown = grown;
 }
 
 -- ## Room
 
 -- the spares that were asked for suffice for another map of versions, or for another state, and then for a turn to it
-pub spares-kept : (old new : Heap Bytes) (c k n m : ℕ) → (2 ≤ old.spare_cells) × (128 + n ≤ old.spare_nodes) → Makes old new 0 0 → c ≤ 2 → k ≤ 128 → m ≡ n → (c ≤ new.spare_cells) × (k + m ≤ new.spare_nodes)
+pub spares-kept : (old new : Heap Bytes) (c k n m : ℕ) → (2 ≤ old.spare_cells) × (EDIT_NODES + n ≤ old.spare_nodes) → Makes old new 0 0 → c ≤ 2 → k ≤ EDIT_NODES → m ≡ n → (c ≤ new.spare_cells) × (k + m ≤ new.spare_nodes)
 spares-kept old new c k n m spares makes cells nodes same = (omega (arith, spares.0, makes.spare_cells, cells), omega (arith, spares.1, makes.spare_nodes, nodes, same))
 
-pub spares-suffice : (h : Heap Bytes) (c k n m : ℕ) → (2 ≤ h.spare_cells) × (128 + n ≤ h.spare_nodes) → c ≤ 2 → k ≤ 128 → m ≡ n → (c ≤ h.spare_cells) × (k + m ≤ h.spare_nodes)
+pub spares-suffice : (h : Heap Bytes) (c k n m : ℕ) → (2 ≤ h.spare_cells) × (EDIT_NODES + n ≤ h.spare_nodes) → c ≤ 2 → k ≤ EDIT_NODES → m ≡ n → (c ≤ h.spare_cells) × (k + m ≤ h.spare_nodes)
 spares-suffice h c k n m spares cells nodes same = (omega (arith, spares.0, cells), omega (arith, spares.1, nodes, same))
 
 -- a state was made after room was, and it is held besides: all that a turn to it takes
@@ -312,18 +329,11 @@ pub record HasNext (s t : RootedHeap) (next : ℕ) (x : State) (W : Workspace) (
   pub spares : HasSpares t.heap 0 10
   pub free : is_full W ≡ false
 
-pub has-next : {s t : RootedHeap} {new : Heap Bytes} {next c : ℕ} {x : State} {W : Workspace} (k n m : ℕ) → Keeps s [] W → IsSame s t → (is_full W ≡ false) × HasSpares t.heap 2 (128 + n) → Answered t.heap new [] next c (k + m) → IsStateIn new t.bits next x
+pub has-next : {s t : RootedHeap} {new : Heap Bytes} {next c : ℕ} {x : State} {W : Workspace} (k n m : ℕ) → Keeps s [] W → RoomIsMade s t W (EDIT_NODES + n) → Answered t.heap new [] next c (k + m) → IsStateIn new t.bits next x
     → c + k ≤ 54 → m ≡ n → HasNext s (record t { heap = new }) next x W n
-has-next k n m K same room answered is few alike = record {
-  turns = turns-by (54 + n) (keeps-gained (keeps-same same K) answered) same.bits (rises-more (54 + n) (rises-then (rises-same same.heap) (rises-answered answered)) (omega (arith, few, alike)));
+has-next k n m K room answered is few alike = record {
+  turns = turns-by (54 + n) (keeps-gained (keeps-same room.same K) answered) room.same.bits (rises-more (54 + n) (rises-then (rises-same room.same.heap) (rises-answered answered)) (omega (arith, few, alike)));
   is = is;
-  spares = (omega arith, omega (arith, room.1.1, answered.balance.spare_nodes, answered.nodes, few, alike));
-  free = room.0;
+  spares = (omega arith, omega (arith, room.spares.1, answered.balance.spare_nodes, answered.nodes, few, alike));
+  free = room.free;
 }
-
--- room for an edit was refused: undo is full, or memory ran out
-pub room-refused : {W : Workspace} {command : PlainCommand} {old new : RootedHeap} (result : Result (Unit {0}) Refusal) (reason : Refusal) (full : Bool) → IsErrAnd result (λ told. told ≡ reason) → MatchBool full (reason ≡ Limit) (reason ≡ Memory)
-    → (full ≡ true → answer W command ≡ Err Limit) → (full ≡ false → MayLackMemory W command) → IsSame old new → MatchResult result (λ _. IsCarriedOut command old new W) (IsRefused command old new W)
-room-refused {W} {command} {old} {new} (Err told) reason true is why limited lack same = subst (λ why. IsRefused command old new W why) (sym (is ∙ why)) (record { due = limited refl; same = same })
-room-refused {W} {command} {old} {new} (Err told) reason false is why limited lack same = subst (λ why. IsRefused command old new W why) (sym (is ∙ why)) (record { due = lack refl; same = same })
-room-refused (Ok x) reason full is why limited lack same = absurd is

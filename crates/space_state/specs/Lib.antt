@@ -1,5 +1,6 @@
 pub mod Roots
 pub mod Turns
+pub mod Stepping
 pub mod View
 pub mod Asked
 pub mod Texts

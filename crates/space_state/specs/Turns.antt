@@ -1,26 +1,32 @@
 -- How a call on rooted rows ends.
-use Rattle.std.specs.Prelude.{◌≡◌, ℕ, ◌+◌, ◌-◌, ◌^◌, ◌≤◌, List, [], min, Result, Err, MatchResult}
-use Rattle.node_heap.specs.Heap.{Heap, live_count}
+use Rattle.std.specs.Prelude.{◌≡◌, ℕ, ◌+◌, ◌-◌, ◌^◌, ◌≤◌, List, [], false, min, Result, Err, MatchBool, MatchResult}
+use Rattle.node_heap.specs.Heap.{Heap, live_count, HasSpares}
 use Rattle.node_heap.specs.Calls.{Unchanged}
+use Rattle.shell_terms.specs.Edit.{PlainEdit, drop, unstar}
 use Rattle.shell_terms.specs.Command.{PlainCommand}
 use Rattle.plain_space.specs.declared.refusal.Refusal.{Refusal}
 use Rattle.plain_space.specs.declared.refusal.Refusal.TheVariants.{Absent, Exists, Range, Limit, Batch, Empty, Memory}
-use Rattle.plain_space.specs.Workspace.{Workspace}
+use Rattle.plain_space.specs.Workspace.{Workspace, is_full}
 use Rattle.plain_space.specs.Answer.{answer, done}
-use Rattle.plain_space.specs.Cost.{cost}
+use Rattle.plain_space.specs.Cost.{alike_buffers, alike_stars, cost}
 use Rattle.plain_space.specs.Memory.{MayLackMemory}
+use Rattle.space_state.specs.declared.turning.TheConstants.{EDIT_NODES}
 use Rattle.space_state.specs.declared.roots.RootedHeap.{RootedHeap}
 use Rattle.space_state.specs.Roots.{Keeps}
 
+-- the refusal is due by this plain result: it is that, or memory was refused where that may be
+abbrev pub IsDueBy : {X : Type 0} → Result X Refusal → Type 0 → Refusal → Type 0
+IsDueBy plain MayLack Memory = MayLack
+IsDueBy plain MayLack Absent = plain ≡ Err Absent
+IsDueBy plain MayLack Exists = plain ≡ Err Exists
+IsDueBy plain MayLack Range = plain ≡ Err Range
+IsDueBy plain MayLack Limit = plain ≡ Err Limit
+IsDueBy plain MayLack Batch = plain ≡ Err Batch
+IsDueBy plain MayLack Empty = plain ≡ Err Empty
+
 -- the refusal is due: it is the plain answer, or memory was refused where nothing else refuses the command
 abbrev pub IsDue : Workspace → PlainCommand → Refusal → Type 0
-IsDue W command Memory = MayLackMemory W command
-IsDue W command Absent = answer W command ≡ Err Absent
-IsDue W command Exists = answer W command ≡ Err Exists
-IsDue W command Range = answer W command ≡ Err Range
-IsDue W command Limit = answer W command ≡ Err Limit
-IsDue W command Batch = answer W command ≡ Err Batch
-IsDue W command Empty = answer W command ≡ Err Empty
+IsDue W command why = IsDueBy (answer W command) (MayLackMemory W command) why
 
 -- the number made doesn't fall, and it rises at least by what the rows gain, up to its greatest value
 abbrev pub MadeRises : ℕ → ℕ → ℕ → ℕ → Type 0
@@ -34,6 +40,31 @@ pub record IsSame (old new : RootedHeap) : Type 0 where
   pub roots : new.roots ≡ old.roots
   pub bits : new.bits ≡ old.bits
   pub heap : Unchanged old.heap new.heap
+
+-- room was made for an edit: there are spares for two cells and so many nodes, undo can take a state or a batch is open, and
+-- nothing else has changed
+pub record RoomIsMade (old new : RootedHeap) (W : Workspace) (nodes : ℕ) : Type 0 where
+  pub same : IsSame old new
+  pub free : is_full W ≡ false
+  pub spares : HasSpares new.heap 2 nodes
+
+-- room for an edit was refused, and nothing has changed but the heap's spares: with Limit exactly where undo is full and no batch
+-- is open, and else with Memory alone
+pub record RoomIsRefused (old new : RootedHeap) (W : Workspace) (why : Refusal) : Type 0 where
+  pub same : IsSame old new
+  pub due : MatchBool (is_full W) (why ≡ Limit) (why ≡ Memory)
+
+-- how a call ends that makes room for an edit, which makes so many nodes at most
+abbrev pub MakesRoom : {X : Type 0} → (Workspace → ℕ) → RootedHeap → Result X Refusal → RootedHeap → Type 0
+MakesRoom nodes old result new =
+    (W : Workspace) → Keeps old [] W → MatchResult result (λ _. RoomIsMade old new W (nodes W)) (RoomIsRefused old new W)
+
+-- the heap has the spares that an edit asks for which copies no text, and to which memory isn't refused then; an edit that copies a
+-- text never has enough
+abbrev pub HasEditSpares : RootedHeap → Workspace → PlainEdit → Type 0
+HasEditSpares s W (drop name) = HasSpares s.heap 2 (EDIT_NODES + alike_buffers s.bits W.current name)
+HasEditSpares s W (unstar name) = HasSpares s.heap 2 (EDIT_NODES + alike_stars s.bits W.current name)
+HasEditSpares s W _ = ⊥
 
 -- the roots stand for this workspace now, with these links held besides, and so many rows more at most
 pub record TurnsTo (old new : RootedHeap) (besides : List ℕ) (most : ℕ) (after : Workspace) : Type 0 where

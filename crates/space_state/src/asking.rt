@@ -1,8 +1,7 @@
 //! What a space answers to questions.
-ghost use Rattle.std.specs.Prelude.{◌≡◌, ℕ, ◌≤◌, List, [], ◌∷◌, length, map as each, IfOk, IsSomeAnd, None, Some, MatchResult, slice_get, slice_range, true, false};
-ghost use Rattle.std.specs.FinMap as map;
+ghost use Rattle.std.specs.Prelude.{◌≡◌, ◌≤◌, [], length, Some, slice_get, slice_range};
 ghost use Rattle.elem_core.specs.Shown.{name_bytes};
-ghost use Rattle.plain_space.specs.Workspace.{Workspace, lines_of};
+ghost use Rattle.plain_space.specs.Workspace.{Workspace};
 ghost use Rattle.space_state.specs.Roots.{Keeps};
 ghost use Rattle.space_state.specs.Asked.{OnLines};
 

@@ -1,5 +1,6 @@
 //! Batches: edits that undo takes back together.
-ghost use Rattle.std.specs.Prelude.{◌≡◌, []};
+ghost use Rattle.std.specs.Prelude.{◌≡◌, ◌≢◌, [], Err};
+ghost use Rattle.node_heap.specs.Heap.{HasSpares};
 ghost use Rattle.shell_terms.specs.Command.{begin, «end», abort};
 ghost use Rattle.plain_space.specs.Workspace.{Workspace};
 ghost use Rattle.space_state.specs.Roots.{Keeps};
@@ -28,7 +29,8 @@ impl RootedHeap {
     /// Closes the batch. Its base goes to the end of undo, and redo is emptied.
     pub(crate) fn end(&mut self) -> Result<(), Refusal>
         requires { (W : Workspace) × Keeps self.old [] W }
-        ensures { EndsOnRows «end» self.old result self.new }
+        ensures ends { EndsOnRows «end» self.old result self.new }
+        ensures ample { HasSpares self.old.heap 0 TURN_NODES → result ≢ Err Refusal.Memory }
     {
         let Some(base) = self.roots.batch.base() else {
             return Err(Refusal::Batch);

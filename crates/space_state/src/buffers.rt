@@ -1,19 +1,17 @@
 //! The edits of buffers. Each looks for what refuses it, makes room for all that it will make, makes the new lines beside
 //! the old ones, and turns to a state that has them.
-ghost use Rattle.std.specs.Prelude.{◌≡◌, ◌≢◌, ℕ, ◌+◌, ◌*◌, ◌<◌, ◌≤◌, List, [], ◌∷◌, ◌++◌, length, IfOk, IfErr, IsSomeAnd, Some, None, MatchBool, MatchResult, false};
+ghost use Rattle.std.specs.Prelude.{◌≡◌, ◌≢◌, ◌+◌, ◌*◌, ◌<◌, List, [], ◌∷◌, IfOk, Err, IsSomeAnd, None, MatchResult, false};
 ghost use Rattle.elem_core.specs.declared.codes.TheConstants.{DEEPEST};
-ghost use Rattle.elem_core.specs.Cell.{IsCell};
 ghost use Rattle.elem_core.specs.Naming.{IsName};
 ghost use Rattle.elem_core.specs.Shown.{name_bytes, line_bytes};
 ghost use Rattle.node_heap.specs.Heap.{HasSpares};
 ghost use Rattle.shell_terms.specs.Edit.{Bytes, new, add, set, put, del, cat, cut, copy, drop};
 ghost use Rattle.shell_terms.specs.Command.{edit};
-ghost use Rattle.plain_space.specs.Workspace.{State, Workspace, lines_of, with_lines as state_with_lines, is_full, with_current};
+ghost use Rattle.plain_space.specs.Workspace.{Workspace, lines_of, with_lines as state_with_lines, is_full, with_current};
 ghost use Rattle.plain_space.specs.Cost.{alike_buffers};
-ghost use Rattle.state_rows.specs.Reading.{StandsIfThere};
 ghost use Rattle.state_rows.specs.InHeap.{AreLinesIn};
 ghost use Rattle.space_state.specs.Roots.{Keeps};
-ghost use Rattle.space_state.specs.Turns.{IsSame, EndsOnRows, TurnsTo};
+ghost use Rattle.space_state.specs.Turns.{MakesRoom, HasEditSpares, EndsOnRows, TurnsTo};
 
 use crate::roots::RootedHeap;
 use crate::turning::{EDIT_NODES, MOST_ITEMS};
@@ -46,16 +44,11 @@ impl RootedHeap {
         self.turn_to(next);
     }
 
-    // Makes room for an edit that writes two buffers, and gives their names as texts. Refused with `Limit` exactly where
-    // undo has no room for an edit, and else with `Memory` alone.
+    // Makes room for an edit that writes two buffers, and gives their names as texts. Refused as `prepare` is.
     fn prepare_both(&mut self, name: Name<'_>, other: Name<'_>) -> Result<(Text, Text), Refusal>
         requires { (W : Workspace) × Keeps self.old [] W }
-        ensures same { IsSame self.old self.new }
+        ensures room { MakesRoom (λ W. EDIT_NODES + alike_buffers self.old.bits W.current (name_bytes name.entry) + alike_buffers self.old.bits W.current (name_bytes other.entry)) self.old result self.new }
         ensures keys { IfOk result (λ keys. (keys.0 ≡ name_bytes name.entry) × (keys.1 ≡ name_bytes other.entry)) }
-        ensures room { (W : Workspace) → Keeps self.old [] W →
-            IfOk result (λ _. (is_full W ≡ false) × HasSpares self.new.heap 2 (EDIT_NODES + alike_buffers self.old.bits W.current (name_bytes name.entry) + alike_buffers self.old.bits W.current (name_bytes other.entry))) }
-        ensures refused { (W : Workspace) → Keeps self.old [] W →
-            IfErr result (λ why. MatchBool (is_full W) (why ≡ Refusal.Limit) (why ≡ Refusal.Memory)) }
     {
         let alike = buffers_alike(&self.heap, self.bits, self.roots.current, name);
         let other_alike = buffers_alike(&self.heap, self.bits, self.roots.current, other);
@@ -234,7 +227,8 @@ impl RootedHeap {
     /// Takes the buffer away.
     pub(crate) fn drop_buffer(&mut self, name: Name<'_>) -> Result<(), Refusal>
         requires { (W : Workspace) × Keeps self.old [] W }
-        ensures { EndsOnRows (edit (drop (name_bytes name.entry))) self.old result self.new }
+        ensures ends { EndsOnRows (edit (drop (name_bytes name.entry))) self.old result self.new }
+        ensures ample { (W : Workspace) → Keeps self.old [] W → HasEditSpares self.old W (drop (name_bytes name.entry)) → result ≢ Err Refusal.Memory }
     {
         self.buffer(name)?;
         self.make_room(name)?;

@@ -1,9 +1,9 @@
 //! The edits by their names.
-ghost use Rattle.std.specs.Prelude.{[]};
+ghost use Rattle.std.specs.Prelude.{◌≢◌, [], Err};
 ghost use Rattle.plain_space.specs.Workspace.{Workspace};
-ghost use Rattle.plain_space.specs.Change.{edit_command};
+ghost use Rattle.plain_space.specs.Change.{plain_edit, edit_command};
 ghost use Rattle.space_state.specs.Roots.{Keeps};
-ghost use Rattle.space_state.specs.Turns.{EndsOnRows};
+ghost use Rattle.space_state.specs.Turns.{HasEditSpares, EndsOnRows};
 
 use crate::roots::RootedHeap;
 use plain_space::{Edit, Refusal};
@@ -12,7 +12,8 @@ impl RootedHeap {
     /// Carries out the edit.
     pub(crate) fn edit(&mut self, change: Edit<'_>) -> Result<(), Refusal>
         requires { (W : Workspace) × Keeps self.old [] W }
-        ensures { EndsOnRows (edit_command change.entry) self.old result self.new }
+        ensures ends { EndsOnRows (edit_command change.entry) self.old result self.new }
+        ensures ample { (W : Workspace) → Keeps self.old [] W → HasEditSpares self.old W (plain_edit change.entry) → result ≢ Err Refusal.Memory }
     {
         match change {
             Edit::New(name) => self.make(name),

@@ -1,4 +1,4 @@
-//! Whether two buffers have the same lines, and two versions the same in them.
+//! Whether two buffers, found by their names, have the same lines, and two versions the same buffers and stars.
 ghost use Rattle.std.specs.Prelude.{[]};
 ghost use Rattle.elem_core.specs.Shown.{name_bytes};
 ghost use Rattle.plain_space.specs.Workspace.{Workspace, lines_of, version_of};

@@ -1,4 +1,4 @@
-//! Whether two buffers have the same lines, and two states the same in them. None of it takes memory.
+//! Whether two vectors on the rows have the same lines, and two states the same buffers and stars. None of it takes memory.
 ghost use Rattle.std.specs.Prelude.{◌≡◌, ℕ, ◌≤◌, ◌↔◌, List, IsTrue};
 ghost use Rattle.elem_core.specs.declared.codes.TheConstants.{CODE_BITS};
 ghost use Rattle.shell_terms.specs.Edit.{Bytes};
@@ -10,8 +10,8 @@ use node_heap::{Heap, Link};
 use rrb_core::FlexRef;
 use same_value::{equal_state, equal_vec};
 
-// Whether the vectors have the same lines. As long as rows are cut in the same places, those that both have aren't looked
-// below.
+/// Whether the vectors have the same lines. As long as rows are cut in the same places, those that both have aren't looked
+/// below.
 pub(crate) fn same_lines(heap: &Heap<Text>, one: FlexRef, other: FlexRef) -> bool
     requires one { (bits : ℕ) × (xs : List Bytes) × AreLinesIn heap.now bits one xs }
     requires other { (bits : ℕ) × (ys : List Bytes) × AreLinesIn heap.now bits other ys }
@@ -20,8 +20,8 @@ pub(crate) fn same_lines(heap: &Heap<Text>, one: FlexRef, other: FlexRef) -> boo
     equal_vec(heap, one, other)
 }
 
-// Whether the states have the same buffers and stars. As long as rows are cut in the same places, those that both have
-// aren't looked below.
+/// Whether the states have the same buffers and stars. As long as rows are cut in the same places, those that both have
+/// aren't looked below.
 pub(crate) fn same_states(heap: &Heap<Text>, bits: u32, one: Link, other: Link) -> bool
     requires bits { bits ≤ CODE_BITS }
     requires one { (s : State) × IsStateIn heap.now bits one s }

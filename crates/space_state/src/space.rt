@@ -1,5 +1,5 @@
 //! The space and its calls.
-ghost use Rattle.std.specs.Prelude.{◌≡◌, ℕ, ◌≤◌, List, [], length, map as each, IfOk, Some, slice_get, slice_range, true, false};
+ghost use Rattle.std.specs.Prelude.{◌≡◌, ◌≤◌, [], length, map as each, IfOk, Some, slice_get, slice_range};
 ghost use Rattle.std.specs.FinMap as map;
 ghost use Rattle.elem_core.specs.Shown.{name_bytes};
 ghost use Rattle.pool_text.specs.Pool.{row_count};

@@ -1,13 +1,13 @@
 //! The edits of stars.
-ghost use Rattle.std.specs.Prelude.{◌≡◌, ◌+◌, [], IfOk, IfErr, MatchBool, false};
+ghost use Rattle.std.specs.Prelude.{◌≡◌, ◌≢◌, ◌+◌, [], Err};
 ghost use Rattle.elem_core.specs.Shown.{name_bytes};
 ghost use Rattle.node_heap.specs.Heap.{HasSpares};
 ghost use Rattle.shell_terms.specs.Edit.{star, unstar};
 ghost use Rattle.shell_terms.specs.Command.{edit};
-ghost use Rattle.plain_space.specs.Workspace.{Workspace, is_starred as starred_in, is_full};
+ghost use Rattle.plain_space.specs.Workspace.{Workspace, is_starred as starred_in};
 ghost use Rattle.plain_space.specs.Cost.{alike_stars};
 ghost use Rattle.space_state.specs.Roots.{Keeps};
-ghost use Rattle.space_state.specs.Turns.{IsSame, EndsOnRows};
+ghost use Rattle.space_state.specs.Turns.{MakesRoom, HasEditSpares, EndsOnRows};
 
 use crate::roots::RootedHeap;
 use crate::turning::EDIT_NODES;
@@ -24,15 +24,12 @@ impl RootedHeap {
         is_starred(&self.heap, self.bits, self.roots.current, name)
     }
 
-    // Makes room for an edit of the star. Refused with `Limit` exactly where undo has no room for an edit, and else with
-    // `Memory` alone.
+    // Makes room for an edit of the star. Refused as `make_room_with` is.
     fn make_star_room(&mut self, name: Name<'_>) -> Result<(), Refusal>
         requires { (W : Workspace) × Keeps self.old [] W }
-        ensures same { IsSame self.old self.new }
-        ensures room { (W : Workspace) → Keeps self.old [] W →
-            IfOk result (λ _. (is_full W ≡ false) × HasSpares self.new.heap 2 (EDIT_NODES + alike_stars self.old.bits W.current (name_bytes name.entry))) }
-        ensures refused { (W : Workspace) → Keeps self.old [] W →
-            IfErr result (λ why. MatchBool (is_full W) (why ≡ Refusal.Limit) (why ≡ Refusal.Memory)) }
+        ensures room { MakesRoom (λ W. EDIT_NODES + alike_stars self.old.bits W.current (name_bytes name.entry)) self.old result self.new }
+        ensures ample { (W : Workspace) → Keeps self.old [] W →
+            HasSpares self.old.heap 2 (EDIT_NODES + alike_stars self.old.bits W.current (name_bytes name.entry)) → result ≢ Err Refusal.Memory }
     {
         let alike = stars_alike(&self.heap, self.bits, self.roots.current, name);
         self.make_room_with(alike)
@@ -56,7 +53,8 @@ impl RootedHeap {
     /// Takes the star of the name away.
     pub(crate) fn unstar(&mut self, name: Name<'_>) -> Result<(), Refusal>
         requires { (W : Workspace) × Keeps self.old [] W }
-        ensures { EndsOnRows (edit (unstar (name_bytes name.entry))) self.old result self.new }
+        ensures ends { EndsOnRows (edit (unstar (name_bytes name.entry))) self.old result self.new }
+        ensures ample { (W : Workspace) → Keeps self.old [] W → HasEditSpares self.old W (unstar (name_bytes name.entry)) → result ≢ Err Refusal.Memory }
     {
         if !self.is_starred(name) {
             return Err(Refusal::Absent);

@@ -2,7 +2,7 @@
 ghost use Rattle.std.specs.Prelude.{◌≡◌, ◌≤◌, [], IfOk};
 ghost use Rattle.elem_core.specs.declared.codes.TheConstants.{CODE_BITS};
 ghost use Rattle.node_heap.specs.Heap.{live_count};
-ghost use Rattle.plain_space.specs.Workspace.{Workspace, start};
+ghost use Rattle.plain_space.specs.Workspace.{start};
 ghost use Rattle.space_state.specs.Roots.{Keeps};
 
 use crate::roots::{Batch, RootedHeap, Roots};

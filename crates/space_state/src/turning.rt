@@ -1,12 +1,12 @@
 //! What all edits share: room for an edit, the turn to another current state, and what is given up.
-ghost use Rattle.std.specs.Prelude.{◌≡◌, ◌≢◌, ℕ, ◌+◌, ◌<◌, ◌≤◌, List, [], ◌∷◌, ◌++◌, ◌^◌, length, IfOk, IfErr, MatchBool, true, false};
+ghost use Rattle.std.specs.Prelude.{◌≡◌, ◌≢◌, ℕ, ◌+◌, ◌<◌, List, [], ◌∷◌, ◌++◌, ◌^◌, length, IfOk, Err, true, false};
 ghost use Rattle.elem_core.specs.Shown.{name_bytes};
-ghost use Rattle.node_heap.specs.Heap.{hold_count, HasSpares};
+ghost use Rattle.node_heap.specs.Heap.{HasSpares};
 ghost use Rattle.plain_space.specs.Workspace.{State, Workspace, most, in_batch, is_full, with_current};
 ghost use Rattle.plain_space.specs.Cost.{alike_buffers};
 ghost use Rattle.state_rows.specs.InHeap.{IsStateIn, IsHistoryIn};
 ghost use Rattle.space_state.specs.Roots.{Keeps};
-ghost use Rattle.space_state.specs.Turns.{IsSame, TurnsTo};
+ghost use Rattle.space_state.specs.Turns.{MakesRoom, TurnsTo};
 
 use crate::roots::{Batch, RootedHeap};
 use elem_core::{Name, Text, text_of};
@@ -45,14 +45,12 @@ impl RootedHeap {
 
     /// Makes room for an edit: for two cells, for `EDIT_NODES` nodes, and for one more for each of so many names with the
     /// masked code of one that it writes. Nothing but the heap's spares changes. Refused with `Limit` exactly where undo is
-    /// full and no batch is open, and else with `Memory` alone.
+    /// full and no batch is open, and else with `Memory` alone, and not where the spares are there already.
     pub(crate) fn make_room_with(&mut self, alike: usize) -> Result<(), Refusal>
         requires kept { (W : Workspace) × Keeps self.old [] W }
         requires few { alike < 2 ^ 58 }
-        ensures same { IsSame self.old self.new }
-        ensures room { (W : Workspace) → Keeps self.old [] W → IfOk result (λ _. (is_full W ≡ false) × HasSpares self.new.heap 2 (EDIT_NODES + alike)) }
-        ensures refused { (W : Workspace) → Keeps self.old [] W →
-            IfErr result (λ why. MatchBool (is_full W) (why ≡ Refusal.Limit) (why ≡ Refusal.Memory)) }
+        ensures room { MakesRoom (λ _. EDIT_NODES + alike) self.old result self.new }
+        ensures ample { HasSpares self.old.heap 2 (EDIT_NODES + alike) → result ≢ Err Refusal.Memory }
     {
         if self.is_full() {
             return Err(Refusal::Limit);
@@ -61,29 +59,22 @@ impl RootedHeap {
         Ok(())
     }
 
-    /// Makes room for an edit that writes this buffer. Refused with `Limit` exactly where undo has no room for an edit,
-    /// and else with `Memory` alone.
+    /// Makes room for an edit that writes this buffer. Refused as `make_room_with` is.
     pub(crate) fn make_room(&mut self, name: Name<'_>) -> Result<(), Refusal>
         requires { (W : Workspace) × Keeps self.old [] W }
-        ensures same { IsSame self.old self.new }
-        ensures room { (W : Workspace) → Keeps self.old [] W →
-            IfOk result (λ _. (is_full W ≡ false) × HasSpares self.new.heap 2 (EDIT_NODES + alike_buffers self.old.bits W.current (name_bytes name.entry))) }
-        ensures refused { (W : Workspace) → Keeps self.old [] W →
-            IfErr result (λ why. MatchBool (is_full W) (why ≡ Refusal.Limit) (why ≡ Refusal.Memory)) }
+        ensures room { MakesRoom (λ W. EDIT_NODES + alike_buffers self.old.bits W.current (name_bytes name.entry)) self.old result self.new }
+        ensures ample { (W : Workspace) → Keeps self.old [] W →
+            HasSpares self.old.heap 2 (EDIT_NODES + alike_buffers self.old.bits W.current (name_bytes name.entry)) → result ≢ Err Refusal.Memory }
     {
         let alike = buffers_alike(&self.heap, self.bits, self.roots.current, name);
         self.make_room_with(alike)
     }
 
-    /// The same, and gives the buffer's name as a text.
+    /// The same, and gives the buffer's name as a text, for which memory may be refused however many spares there are.
     pub(crate) fn prepare(&mut self, name: Name<'_>) -> Result<Text, Refusal>
         requires { (W : Workspace) × Keeps self.old [] W }
-        ensures same { IsSame self.old self.new }
+        ensures room { MakesRoom (λ W. EDIT_NODES + alike_buffers self.old.bits W.current (name_bytes name.entry)) self.old result self.new }
         ensures key { IfOk result (λ key. key ≡ name_bytes name.entry) }
-        ensures room { (W : Workspace) → Keeps self.old [] W →
-            IfOk result (λ _. (is_full W ≡ false) × HasSpares self.new.heap 2 (EDIT_NODES + alike_buffers self.old.bits W.current (name_bytes name.entry))) }
-        ensures refused { (W : Workspace) → Keeps self.old [] W →
-            IfErr result (λ why. MatchBool (is_full W) (why ≡ Refusal.Limit) (why ≡ Refusal.Memory)) }
     {
         self.make_room(name)?;
         let key = text_of(self.alloc, name.as_line())?;
@@ -117,7 +108,7 @@ impl RootedHeap {
         self.heap.release(link);
     }
 
-    // Puts the state at the end of undo, which spends a hold of it, and empties redo.
+    /// Puts the state at the end of undo, which spends a hold of it, and empties redo.
     pub(crate) fn record(&mut self, before: Link)
         requires spares { HasSpares self.old.heap 0 TURN_NODES }
         requires kept { (W : Workspace) × (s : State) × Keeps self.old (before ∷ []) W × IsStateIn self.old.heap self.old.bits before s × (length W.undo < most) }

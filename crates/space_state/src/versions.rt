@@ -1,5 +1,5 @@
 //! Versions: states that are kept by their names.
-ghost use Rattle.std.specs.Prelude.{◌≡◌, ◌+◌, [], ◌∷◌, IfOk};
+ghost use Rattle.std.specs.Prelude.{◌≡◌, ◌≢◌, ◌+◌, [], ◌∷◌, IfOk, IsOk, Err};
 ghost use Rattle.elem_core.specs.Shown.{name_bytes};
 ghost use Rattle.node_heap.specs.Heap.{HasSpares};
 ghost use Rattle.shell_terms.specs.Command.{mark, unmark, back};
@@ -35,12 +35,15 @@ impl RootedHeap {
         version(&self.heap, self.versions(), name)
     }
 
-    // Makes room for an edit of the version.
+    // Makes room for another map of versions. Nothing but the heap's spares changes. Refused where memory runs out, and not
+    // where the spares are there already.
     fn make_version_room(&mut self, name: Name<'_>) -> Result<(), NoMemory>
         requires { (W : Workspace) × Keeps self.old [] W }
         ensures same { IsSame self.old self.new }
         ensures room { (W : Workspace) → Keeps self.old [] W →
             IfOk result (λ _. HasSpares self.new.heap 2 (EDIT_NODES + alike_versions self.old.bits W (name_bytes name.entry))) }
+        ensures ample { (W : Workspace) → Keeps self.old [] W →
+            HasSpares self.old.heap 2 (EDIT_NODES + alike_versions self.old.bits W (name_bytes name.entry)) → IsOk result }
     {
         let alike = versions_alike(&self.heap, self.versions(), name);
         self.heap.reserve(2, EDIT_NODES + alike)
@@ -80,7 +83,9 @@ impl RootedHeap {
     /// Lets the version go.
     pub(crate) fn unmark(&mut self, name: Name<'_>) -> Result<(), Refusal>
         requires { (W : Workspace) × Keeps self.old [] W }
-        ensures { EndsOnRows (unmark (name_bytes name.entry)) self.old result self.new }
+        ensures ends { EndsOnRows (unmark (name_bytes name.entry)) self.old result self.new }
+        ensures ample { (W : Workspace) → Keeps self.old [] W →
+            HasSpares self.old.heap 2 (EDIT_NODES + alike_versions self.old.bits W (name_bytes name.entry)) → result ≢ Err Refusal.Memory }
     {
         if self.in_batch() {
             return Err(Refusal::Batch);
@@ -98,7 +103,8 @@ impl RootedHeap {
     /// Makes the version's state the current one, as an edit does.
     pub(crate) fn back(&mut self, name: Name<'_>) -> Result<(), Refusal>
         requires { (W : Workspace) × Keeps self.old [] W }
-        ensures { EndsOnRows (back (name_bytes name.entry)) self.old result self.new }
+        ensures ends { EndsOnRows (back (name_bytes name.entry)) self.old result self.new }
+        ensures ample { HasSpares self.old.heap 0 TURN_NODES → result ≢ Err Refusal.Memory }
     {
         if self.in_batch() {
             return Err(Refusal::Batch);

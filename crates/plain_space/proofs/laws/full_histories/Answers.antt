@@ -1,9 +1,10 @@
-use Rattle.std.proofs.Common.{◌≡◌, ℕ, leb, ◌≤◌, ◌<◌, ◌+◌, ◌-◌, Bool, true, false, not, List, Option, None, Some, is_some, length, refl, arith, ap, Result, slice_get}
+use Rattle.std.proofs.Common.{◌≡◌, ℕ, leb, ◌≤◌, ◌<◌, ◌+◌, ◌-◌, Bool, true, false, not, List, Option, None, Some, is_some, length, refl, arith, ap, Result, Err, slice_get}
 use Rattle.std.proofs.lemmas.Bool.{lt-leb, false≢true, and_parts, eqb-true, eq-eqb}
 use Rattle.std.proofs.lemmas.Option.{slice_get-get_or}
 use Rattle.plain_space.specs.Workspace.{State, Workspace, blank, most, in_batch, is_full}
-use Rattle.plain_space.specs.Answer.{answer}
+use Rattle.plain_space.specs.Answer.{answer, history_step, steps_to}
 use Rattle.plain_space.specs.declared.refusal.Refusal.{Refusal}
+use Rattle.plain_space.specs.declared.refusal.Refusal.TheVariants.{Limit}
 use Rattle.plain_space.specs.Refusing.{given}
 use Rattle.plain_space.proofs.laws.full_histories.Goals as goal
 
@@ -31,6 +32,12 @@ last_there states some =
 no_more : (n : ℕ) → n ≡ most → leb (n + 1) most ≡ false
 no_more n full = lt-leb (n + 1) most (omega arith)
 
+-- a step through the histories is refused where the other one is full
+no_step : (work : Workspace) (from to : List State) → in_batch work ≡ false → length to ≡ most → 1 ≤ length from → history_step work from to ≡ Err Limit
+no_step work from to out full some =
+    let no = no_more (length to) full in
+    rw out (whatever _ _ _ _ (last_there from some) (λ last. rw no refl))
+
 pub returns : goal.returns
 unfolding answer
 returns c = λ work. record {
@@ -38,13 +45,8 @@ returns c = λ work. record {
       let out = unbatched work full in
       let at = eq-eqb (length work.undo) most (long work full) in
       rw out (whatever _ _ _ _ there (λ state. rw at refl));
-  no_redo = λ full some.
-      let out = unbatched work full in
-      let no = no_more (length work.undo) (long work full) in
-      rw out (whatever _ _ _ _ (last_there work.redo some) (λ last. rw no refl));
-  no_undo = λ out full some.
-      let no = no_more (length work.redo) full in
-      rw out (whatever _ _ _ _ (last_there work.undo some) (λ last. rw no refl));
+  no_redo = λ full some. ap (steps_to _) (no_step work work.redo work.undo (unbatched work full) (long work full) some);
+  no_undo = λ out full some. ap (steps_to _) (no_step work work.undo work.redo (ap is_some out) full some);
   no_end = λ batch full.
       let no = no_more (length work.undo) full in
       whatever _ _ _ _ batch (λ base. rw no refl);

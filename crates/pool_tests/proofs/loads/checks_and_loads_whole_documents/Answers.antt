@@ -14,6 +14,7 @@ use Rattle.pool_check.specs.Rows.{rows_in_range}
 use Rattle.pool_check.proofs.TestLemmas.{all-at}
 use Rattle.pool_load.specs.Loads.{AreLoaded}
 use Rattle.pool_load.specs.Laws.{place_at}
+use Rattle.pool_load.proofs.Fits.{node-fits}
 use Rattle.pool_load.proofs.LoadedRoots.{rows-listed}
 use Rattle.pool_tests.proofs.loads.checks_and_loads_whole_documents.Goals as goal
 
@@ -21,15 +22,7 @@ module _ {T : Type 0} (text : T → Bytes) (f : ℕ → ℕ) where
   -- a row whose row in a pool is in range fits
   range-fits : (row : Row T) → is_in_range (relink f (text_form text row)) ≡ true → fits_pool (Some (form_of row)) ≡ true
   range-fits (cell x) in_range = refl
-  range-fits (node head links) in_range = by_kind (kind_of head) in_range
-    where
-      by_kind : (kind : Kind) → is_in_range {K = Bytes} (node kind (map f links)) ≡ true → fits_pool {K = T} (Some (node kind links)) ≡ true
-      by_kind leaf in_range = refl
-      by_kind (inner n) in_range = refl
-      by_kind (trie d e n) in_range = refl
-      by_kind chain in_range = refl
-      by_kind pair in_range = sym (ap (λ n. n == 2) (length-map links f)) ∙ in_range
-      by_kind state in_range = sym (ap (λ n. n == 2) (length-map links f)) ∙ in_range
+  range-fits (node head links) in_range = node-fits Bytes T f (kind_of head) links in_range
 
   listed-fits : (P : Pool) (place : ℕ) (row : Option (Row T)) → rows_in_range P ≡ true → IsSome (option_map (text_form text) row) → forms_in P place ≡ option_map (relink f) (option_map (text_form text) row) → fits_pool (option_map form_of row) ≡ true
   unfolding rows_in_range

@@ -8,23 +8,23 @@ use Rattle.space_state.proofs.Steps.{back-refused, back-absent, back-limited, ba
 use Rattle.space_state.proofs.roots.RootedHeap.back.Goals as goal
 use Rattle.space_state.proofs.roots.RootedHeap.back.Goals.{After-hold}
 
-pub returns-then-in_batch : goal.returns-then-in_batch
-returns-then-in_batch c = λ W K. record { due = back-refused W _ (sym (c.in_batch.ensures [] W K) ∙ c.if-in_batch.true); same = same-refl K }
+pub returns-then-in_batch-clause-ends : goal.returns-then-in_batch-clause-ends
+returns-then-in_batch-clause-ends c = λ W K. record { due = back-refused W _ (sym (c.in_batch.ensures [] W K) ∙ c.if-in_batch.true); same = same-refl K }
 
-pub returns-in_default : goal.returns-in_default
-returns-in_default c = λ W K.
+pub returns-in_default-clause-ends : goal.returns-in_default-clause-ends
+returns-in_default-clause-ends c = λ W K.
     let outside : in_batch W ≡ false = sym (c.in_batch.ensures [] W K) ∙ c.if-in_batch.false in
     record { due = back-absent W _ outside (none-there c.args.self.now.heap c.args.self.now.bits (c.version.ensures W K) c.in_default.is); same = same-refl K }
 
-pub returns-then-is_full : goal.returns-then-is_full
-returns-then-is_full c = λ W K.
+pub returns-then-is_full-clause-ends : goal.returns-then-is_full-clause-ends
+returns-then-is_full-clause-ends c = λ W K.
     let outside : in_batch W ≡ false = sym (c.in_batch.ensures [] W K) ∙ c.if-in_batch.false in
     let full : is_full W ≡ true = sym (c.is_full.ensures W K) ∙ c.if-is_full.true in
     let there = some-there c.args.self.now.heap c.args.self.now.bits (c.version.ensures W K) c.in-Some.is in
     record { due = back-limited W _ outside there.0 there.1 full; same = same-refl K }
 
-pub returns-in_err-reserve : goal.returns-in_err-reserve
-returns-in_err-reserve c = λ W K.
+pub returns-in_err-reserve-clause-ends : goal.returns-in_err-reserve-clause-ends
+returns-in_err-reserve-clause-ends c = λ W K.
     let outside : in_batch W ≡ false = sym (c.in_batch.ensures [] W K) ∙ c.if-in_batch.false in
     let room : is_full W ≡ false = sym (c.is_full.ensures W K) ∙ c.if-is_full.false in
     let there = some-there c.args.self.now.heap c.args.self.now.bits (c.version.ensures W K) c.in-Some.is in
@@ -43,11 +43,11 @@ turn_to-requires-clause-kept c =
     let held = held (goal.at.turn_to-requires-clause-kept c).After-hold W K in
     (W, _, held.keeps, held.is, sym (c.is_full.ensures W K) ∙ c.if-is_full.false)
 
-pub returns : goal.returns
+pub returns-clause-ends : goal.returns-clause-ends
 unfolding cost
-returns c = λ W K.
+returns-clause-ends c = λ W K.
     let outside : in_batch W ≡ false = sym (c.in_batch.ensures [] W K) ∙ c.if-in_batch.false in
     let room : is_full W ≡ false = sym (c.is_full.ensures W K) ∙ c.if-is_full.false in
     let there = some-there c.args.self.now.heap c.args.self.now.bits (c.version.ensures W K) c.in-Some.is in
-    let held = held (goal.at.returns c).After-hold W K in
+    let held = held (goal.at.returns-clause-ends c).After-hold W K in
     record { after = _; told = back-done W _ outside there.0 there.1 room; turns = turns-after 0 64 held.rises refl (c.turn_to.ensures W there.0 held.keeps held.is room) (omega arith) }

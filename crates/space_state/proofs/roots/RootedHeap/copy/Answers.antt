@@ -5,7 +5,7 @@ use Rattle.shell_terms.specs.Edit.{copy}
 use Rattle.plain_space.specs.Workspace.{Workspace}
 use Rattle.space_state.specs.Roots.{Keeps}
 use Rattle.space_state.proofs.Keeping.{same-refl, keeps-same}
-use Rattle.space_state.proofs.Editing.{found-lines, copy-absent, copy-made, room-due, due-absent, made-room, HasLines, has-lines, made-again, can-put, edit-done, edit-refused, fails}
+use Rattle.space_state.proofs.Editing.{found-lines, copy-absent, copy-made, no-room, due-absent, HasLines, has-lines, made-again, can-put, edit-done, edit-refused, fails}
 use Rattle.space_state.proofs.roots.RootedHeap.copy.Goals as goal
 use Rattle.space_state.proofs.roots.RootedHeap.copy.Goals.{In_ok-key}
 
@@ -23,11 +23,11 @@ returns-in_err-key c = λ W K.
     let found = found-lines c.args.self.now c.in_ok-lines.lines W.current name (c.in_ok-lines.ensures W K) in
     let done = copy-made W.current name other found.0 found.1 in
     fails c.in_err-key.field-0.0 c.from_residual-in_err-key.result c.from_residual-in_err-key.ensures.1
-    (edit-refused c.prepare.ensures.same (room-due W (copy name other) _ done c.in_err-key.field-0.0 (c.in_err-key.ensures.refused W K)))
+    (no-room W (copy name other) _ done (c.in_err-key.ensures.room W K))
 
 -- the buffer's lines, once room was made
 there : (c : In_ok-key) (W : Workspace) → Keeps c.args.self.now [] W → HasLines c.args.self.now c.prepare.new.self c.in_ok-lines.lines (name_bytes c.args.name) W
-there c W K = has-lines c.prepare.ensures.same (c.in_ok-lines.ensures W K)
+there c W K = has-lines (c.in_ok-key.ensures.room W K).same (c.in_ok-lines.ensures W K)
 
 pub share-lines-requires-clause-good : goal.share-lines-requires-clause-good
 share-lines-requires-clause-good c = (there (goal.at.share-lines-requires-clause-good c).In_ok-key c.requires.0 c.requires.1).now.vector
@@ -37,15 +37,15 @@ put_lines-requires-clause-kept c =
     let W = c.requires.0 in
     let K = c.requires.1 in
     let lines = there (goal.at.put_lines-requires-clause-kept c).In_ok-key W K in
-    let m = made-again (keeps-same c.prepare.ensures.same K) (Answered-Builds c.share-lines.ensures.shares.builds) c.share-lines.ensures.same lines.now in
-    can-put (made-room W c.prepare.ensures.same c.in_ok-key.ensures.key (c.in_ok-key.ensures.room W K)) m (omega arith) (omega arith)
+    let m = made-again (keeps-same (c.in_ok-key.ensures.room W K).same K) (Answered-Builds c.share-lines.ensures.shares.builds) c.share-lines.ensures.same lines.now in
+    can-put c.in_ok-key.ensures.key (c.in_ok-key.ensures.room W K) m (omega arith) (omega arith)
 
 pub returns : goal.returns
 returns c = λ W K.
     let name = name_bytes c.args.name in
     let other = name_bytes c.args.other in
     let lines = there (goal.at.returns c).In_ok-key W K in
-    let m = made-again (keeps-same c.prepare.ensures.same K) (Answered-Builds c.share-lines.ensures.shares.builds) c.share-lines.ensures.same lines.now in
-    let room = made-room W c.prepare.ensures.same c.in_ok-key.ensures.key (c.in_ok-key.ensures.room W K) in
+    let m = made-again (keeps-same (c.in_ok-key.ensures.room W K).same K) (Answered-Builds c.share-lines.ensures.shares.builds) c.share-lines.ensures.same lines.now in
+    let room = c.in_ok-key.ensures.room W K in
     let done = copy-made W.current name other lines.xs lines.found in
-    edit-done (copy name other) room m done (c.put_lines.ensures W _ m.keeps m.lines room.free) (omega arith)
+    edit-done (copy name other) c.in_ok-key.ensures.key room m done (c.put_lines.ensures W _ m.keeps m.lines room.free) (omega arith)

@@ -5,17 +5,17 @@ use Rattle.space_state.proofs.Keeping.{same-refl, same-heap, keeps-same, keeps-c
 use Rattle.space_state.proofs.Steps.{end-refused, end-limited, end-done, base-told, base-none, length-told, length-below, may-lack, memory-refused}
 use Rattle.space_state.proofs.roots.RootedHeap.end.Goals as goal
 
-pub returns-in_default : goal.returns-in_default
-returns-in_default c = λ W K. record { due = end-refused W (batch-closed (base-none c.base.ensures c.in_default.is) K); same = same-refl K }
+pub returns-in_default-clause-ends : goal.returns-in_default-clause-ends
+returns-in_default-clause-ends c = λ W K. record { due = end-refused W (batch-closed (base-none c.base.ensures c.in_default.is) K); same = same-refl K }
 
-pub returns-then-len : goal.returns-then-len
-returns-then-len c = λ W K.
+pub returns-then-len-clause-ends : goal.returns-then-len-clause-ends
+returns-then-len-clause-ends c = λ W K.
     let base = batch-open c.in-Some.base (base-told c.base.ensures c.in-Some.is) K in
     let full = length-told (undo-stands K) c.at.ensures c.len.ensures.value in
     record { due = end-limited W base.0 base.1 (sym full ∙ c.if-len.true); same = same-refl K }
 
-pub returns-in_err-reserve : goal.returns-in_err-reserve
-returns-in_err-reserve c = λ W K.
+pub returns-in_err-reserve-clause-ends : goal.returns-in_err-reserve-clause-ends
+returns-in_err-reserve-clause-ends c = λ W K.
     let base = batch-open c.in-Some.base (base-told c.base.ensures c.in-Some.is) K in
     let room = length-below (undo-stands K) (length-told (undo-stands K) c.at.ensures c.len.ensures.value) c.if-len.false in
     memory-refused c.from_residual.result c.from_residual.ensures.1 (may-lack «end» refl (end-done W base.0 base.1 room)) (same-heap c.reserve.ensures.rest)
@@ -30,9 +30,9 @@ record-requires-clause-kept c =
     let room = length-below (undo-stands K) (length-told (undo-stands K) c.at.ensures c.len.ensures.value) c.if-len.false in
     (_, base.0, keeps-closed c.in-Some.base opened now, base.2, room)
 
-pub returns : goal.returns
+pub returns-clause-ends : goal.returns-clause-ends
 unfolding cost
-returns c = λ W K.
+returns-clause-ends c = λ W K.
     let opened = base-told c.base.ensures c.in-Some.is in
     let now = keeps-same (same-heap c.reserve.ensures.rest) K in
     let base = batch-open c.in-Some.base opened now in

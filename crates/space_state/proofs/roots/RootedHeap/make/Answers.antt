@@ -3,7 +3,7 @@ use Rattle.elem_core.specs.Shown.{name_bytes}
 use Rattle.shell_terms.specs.Edit.{new}
 use Rattle.plain_space.specs.declared.refusal.Refusal.TheVariants.{Exists}
 use Rattle.space_state.proofs.Keeping.{same-refl, keeps-same}
-use Rattle.space_state.proofs.Editing.{refuses, room-due, found-taken, found-free, made-room, emptied, can-put, edit-done, edit-refused, fails}
+use Rattle.space_state.proofs.Editing.{refuses, no-room, found-taken, found-free, emptied, can-put, edit-done, edit-refused, fails}
 use Rattle.space_state.proofs.roots.RootedHeap.make.Goals as goal
 
 pub returns-then-is_ok : goal.returns-then-is_ok
@@ -16,19 +16,19 @@ returns-in_err-key c = λ W K.
     let name = name_bytes c.args.name in
     let done = found-free c.args.self.now W.current name c.buffer.result (sym c.is_ok.ensures.value ∙ c.if-is_ok.false) (c.buffer.ensures W K) in
     fails c.in_err-key.field-0.0 c.from_residual.result c.from_residual.ensures.1
-    (edit-refused c.prepare.ensures.same (room-due W (new name) _ done c.in_err-key.field-0.0 (c.in_err-key.ensures.refused W K)))
+    (no-room W (new name) _ done (c.in_err-key.ensures.room W K))
 
 pub put_lines-requires-clause-kept : goal.put_lines-requires-clause-kept
 put_lines-requires-clause-kept c =
     let W = c.requires.0 in
     let K = c.requires.1 in
-    let m = emptied (keeps-same c.prepare.ensures.same K) c.in-Ok.ensures.answered c.in-Ok.ensures.good c.in-Ok.ensures.items in
-    can-put (made-room W c.prepare.ensures.same c.in_ok-key.ensures.key (c.in_ok-key.ensures.room W K)) m (omega arith) (omega arith)
+    let m = emptied (keeps-same (c.in_ok-key.ensures.room W K).same K) c.in-Ok.ensures.answered c.in-Ok.ensures.good c.in-Ok.ensures.items in
+    can-put c.in_ok-key.ensures.key (c.in_ok-key.ensures.room W K) m (omega arith) (omega arith)
 
 pub returns : goal.returns
 returns c = λ W K.
     let name = name_bytes c.args.name in
-    let m = emptied (keeps-same c.prepare.ensures.same K) c.in-Ok.ensures.answered c.in-Ok.ensures.good c.in-Ok.ensures.items in
-    let room = made-room W c.prepare.ensures.same c.in_ok-key.ensures.key (c.in_ok-key.ensures.room W K) in
+    let m = emptied (keeps-same (c.in_ok-key.ensures.room W K).same K) c.in-Ok.ensures.answered c.in-Ok.ensures.good c.in-Ok.ensures.items in
+    let room = c.in_ok-key.ensures.room W K in
     let done = found-free c.args.self.now W.current name c.buffer.result (sym c.is_ok.ensures.value ∙ c.if-is_ok.false) (c.buffer.ensures W K) in
-    edit-done (new name) room m done (c.put_lines.ensures W [] m.keeps m.lines room.free) (omega arith)
+    edit-done (new name) c.in_ok-key.ensures.key room m done (c.put_lines.ensures W [] m.keeps m.lines room.free) (omega arith)

@@ -1,4 +1,4 @@
-use Rattle.std.proofs.Common.{ℕ, ◌+◌, subst}
+use Rattle.std.proofs.Common.{ℕ, ◌+◌, ◌≤◌, sym, subst}
 use Rattle.std.specs.Prelude.{IfOk}
 use Rattle.node_heap.specs.Heap.{HasSpares}
 use Rattle.space_state.specs.declared.turning.TheConstants.{EDIT_NODES}
@@ -12,3 +12,8 @@ pub returns-clause-room : goal.returns-clause-room
 returns-clause-room c = λ W K.
     let alike = c.versions_alike-alike.ensures.number W.versions (rw c.versions.ensures (versions-stand K)) in
     subst (λ (n : ℕ). IfOk c.reserve.result (λ _. HasSpares c.reserve.new.self 2 (EDIT_NODES + n))) (rw c.versions.ensures at alike) c.reserve.ensures.spares
+
+pub returns-clause-ample : goal.returns-clause-ample
+returns-clause-ample c = λ W K spares.
+    let alike = c.versions_alike-alike.ensures.number W.versions (rw c.versions.ensures (versions-stand K)) in
+    c.reserve.ensures.ample spares.0 (subst (λ (n : ℕ). EDIT_NODES + n ≤ c.args.self.now.heap.spare_nodes) (sym (rw c.versions.ensures at alike)) spares.1)

@@ -5,7 +5,7 @@ use Rattle.plain_space.specs.Workspace.{Workspace}
 use Rattle.plain_space.specs.declared.refusal.Refusal.TheVariants.{Range, Limit, Memory}
 use Rattle.space_state.specs.Roots.{Keeps}
 use Rattle.space_state.proofs.Keeping.{same-refl, lines-length, lines-short}
-use Rattle.space_state.proofs.Editing.{found-lines, put-absent, put-past, put-full, put-made, inserts, refuses, room-due, due-absent, may-lack, made-room, HasText, has-text, inserted, can-put, edit-done, edit-refused, fails}
+use Rattle.space_state.proofs.Editing.{found-lines, put-absent, put-past, put-full, put-made, inserts, refuses, no-room, due-absent, may-lack, HasText, has-text, inserted, can-put, edit-done, edit-refused, fails}
 use Rattle.space_state.proofs.roots.RootedHeap.put.Goals as goal
 use Rattle.space_state.proofs.roots.RootedHeap.put.Goals.{After-cell-line}
 
@@ -37,7 +37,7 @@ returns-in_err-key c = λ W K.
     let found = found-lines c.args.self.now c.in_ok-lines.lines W.current name (c.in_ok-lines.ensures W K) in
     let done = put-made W.current name text c.args.index found.0 found.1 (omega (arith, c.if-index-count.false, c.len-count.ensures.value, lines-length found.2)) (grind (arith, c.if-count.false, c.len-count.ensures.value, lines-length found.2, lines-short found.2)) in
     fails c.in_err-key.field-0.0 c.from_residual-in_err-key.result c.from_residual-in_err-key.ensures.1
-    (edit-refused c.prepare.ensures.same (room-due W (put name c.args.index text) _ done c.in_err-key.field-0.0 (c.in_err-key.ensures.refused W K)))
+    (no-room W (put name c.args.index text) _ done (c.in_err-key.ensures.room W K))
 
 pub returns-in_err-text : goal.returns-in_err-text
 returns-in_err-text c = λ W K.
@@ -46,14 +46,14 @@ returns-in_err-text c = λ W K.
     let found = found-lines c.args.self.now c.in_ok-lines.lines W.current name (c.in_ok-lines.ensures W K) in
     let done = put-made W.current name text c.args.index found.0 found.1 (omega (arith, c.if-index-count.false, c.len-count.ensures.value, lines-length found.2)) (grind (arith, c.if-count.false, c.len-count.ensures.value, lines-length found.2, lines-short found.2)) in
     fails Memory c.from_residual-in_err-text.result c.from_residual-in_err-text.ensures.1
-    (edit-refused c.prepare.ensures.same (may-lack W (put name c.args.index text) _ done (c.in_ok-key.ensures.room W K).0))
+    (edit-refused (c.in_ok-key.ensures.room W K).same (may-lack W (put name c.args.index text) _ done (c.in_ok-key.ensures.room W K).free))
 
 -- what is known once the text's cell is there
 there : (c : After-cell-line) (W : Workspace) → Keeps c.args.self.now [] W
     → HasText c.args.self.now c.prepare.new.self c.cell-line.new.self c.cell-line.result c.in_ok-lines.lines c.in_ok-key.key (name_bytes c.args.name) (line_bytes c.args.line) W
 there c W K =
     let e = c.cell-line.ensures in
-    has-text K (made-room W c.prepare.ensures.same c.in_ok-key.ensures.key (c.in_ok-key.ensures.room W K)) (c.in_ok-lines.ensures W K) c.args.line.cell c.in_ok-text.ensures e.adds e.makes e.count e.graph e.extends
+    has-text K c.in_ok-key.ensures.key (c.in_ok-key.ensures.room W K) (c.in_ok-lines.ensures W K) c.args.line.cell c.in_ok-text.ensures e.adds e.makes e.count e.graph e.extends
 
 pub insert-requires-clause-good : goal.insert-requires-clause-good
 insert-requires-clause-good c = (there (goal.at.insert-requires-clause-good c).After-cell-line c.requires.0 c.requires.1).lines.now.vector
@@ -71,7 +71,7 @@ unreachable-requires c =
 pub put_lines-requires-clause-kept : goal.put_lines-requires-clause-kept
 put_lines-requires-clause-kept c =
     let has = there (goal.at.put_lines-requires-clause-kept c).After-cell-line c.requires.0 c.requires.1 in
-    can-put has.room (inserted has c.in-Ok.ensures.answered c.in-Ok.ensures.good c.args.index c.in-Ok.ensures.items) (omega arith) (omega (arith, has.lines.now.vector.shape.low))
+    can-put has.named has.room (inserted has c.in-Ok.ensures.answered c.in-Ok.ensures.good c.args.index c.in-Ok.ensures.items) (omega arith) (omega (arith, has.lines.now.vector.shape.low))
 
 pub returns : goal.returns
 returns c = λ W K.
@@ -80,4 +80,4 @@ returns c = λ W K.
     let has = there (goal.at.returns c).After-cell-line W K in
     let m = inserted has c.in-Ok.ensures.answered c.in-Ok.ensures.good c.args.index c.in-Ok.ensures.items in
     let done = put-made W.current name text c.args.index has.lines.xs has.lines.found (omega (arith, c.if-index-count.false, c.len-count.ensures.value, lines-length has.lines.before)) (grind (arith, c.if-count.false, c.len-count.ensures.value, lines-length has.lines.before, lines-short has.lines.before)) in
-    edit-done (put name c.args.index text) has.room m done (c.put_lines.ensures W _ m.keeps m.lines has.room.free) (omega (arith, has.lines.now.vector.shape.low))
+    edit-done (put name c.args.index text) has.named has.room m done (c.put_lines.ensures W _ m.keeps m.lines has.room.free) (omega (arith, has.lines.now.vector.shape.low))

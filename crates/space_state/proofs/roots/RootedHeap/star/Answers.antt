@@ -1,12 +1,12 @@
-use Rattle.std.proofs.Common.{◌≡◌, ◌+◌, [], ◌∷◌, false, refl, sym, ◌∙◌, arith}
+use Rattle.std.proofs.Common.{◌≡◌, ◌+◌, [], false, refl, sym, ◌∙◌, arith}
 use Rattle.elem_core.specs.Shown.{name_bytes}
 use Rattle.shell_terms.specs.Edit.{star}
-use Rattle.shell_terms.specs.Command.{edit}
-use Rattle.plain_space.specs.Workspace.{Workspace, is_full, is_starred, with_current, with_star}
+use Rattle.plain_space.specs.Workspace.{Workspace, is_starred, with_current, with_star}
 use Rattle.plain_space.specs.Cost.{cost, alike_stars}
 use Rattle.space_state.specs.Roots.{Keeps}
 use Rattle.space_state.proofs.Keeping.{same-refl, keeps-same, current-stands, turns-then}
-use Rattle.space_state.proofs.Steps.{star-taken, star-limited, star-done, may-lack, memory-refused, room-refused, spares-suffice, HasNext, has-next}
+use Rattle.space_state.proofs.Editing.{star-made, does, may-lack, no-room, fails}
+use Rattle.space_state.proofs.Steps.{star-taken, memory-refused, spares-suffice, HasNext, has-next}
 use Rattle.space_state.proofs.roots.RootedHeap.star.Goals as goal
 use Rattle.space_state.proofs.roots.RootedHeap.star.Goals.{In_ok-key, After-with_star-next}
 
@@ -16,35 +16,34 @@ returns-then-is_starred c = λ W K. record { due = star-taken W _ (sym (c.is_sta
 pub returns-in_err-make_star_room : goal.returns-in_err-make_star_room
 returns-in_err-make_star_room c = λ W K.
     let none : is_starred W.current (name_bytes c.args.name) ≡ false = sym (c.is_starred.ensures W K) ∙ c.if-is_starred.false in
-    room-refused c.from_residual.result _ (is_full W) c.from_residual.ensures.1 (c.in_err-make_star_room.ensures.refused W K) (λ full. star-limited W _ none full)
-    (λ room. may-lack (edit (star _)) refl (star-done W _ none room)) c.make_star_room.ensures.same
+    fails c.in_err-make_star_room.field-0.0 c.from_residual.result c.from_residual.ensures.1 (no-room W (star _) _ (star-made W.current _ none) (c.in_err-make_star_room.ensures.room W K))
 
 pub returns-in_err-key : goal.returns-in_err-key
 returns-in_err-key c = λ W K.
     let none : is_starred W.current (name_bytes c.args.name) ≡ false = sym (c.is_starred.ensures W K) ∙ c.if-is_starred.false in
     let room = c.in_ok-make_star_room.ensures.room W K in
-    memory-refused c.from_residual-in_err-key.result c.from_residual-in_err-key.ensures.1 (may-lack (edit (star _)) refl (star-done W _ none room.0)) c.make_star_room.ensures.same
+    memory-refused c.from_residual-in_err-key.result c.from_residual-in_err-key.ensures.1 (may-lack W (star _) _ (star-made W.current _ none) room.free) room.same
 
 -- as many names are alike, by the bits after room was made and by the key
-alike : (c : In_ok-key) (W : Workspace) → alike_stars c.make_star_room.new.self.bits W.current c.in_ok-key.key ≡ alike_stars c.args.self.now.bits W.current (name_bytes c.args.name)
-alike c W =
+alike : (c : In_ok-key) (W : Workspace) → Keeps c.args.self.now [] W → alike_stars c.make_star_room.new.self.bits W.current c.in_ok-key.key ≡ alike_stars c.args.self.now.bits W.current (name_bytes c.args.name)
+alike c W K =
     let key : c.in_ok-key.key ≡ name_bytes c.args.name = c.in_ok-key.ensures ∙ c.as_line.ensures in
-    rw (c.make_star_room.ensures.same.bits, key) refl
+    rw ((c.in_ok-make_star_room.ensures.room W K).same.bits, key) refl
 
 -- the state with the star
 next : (c : After-with_star-next) (W : Workspace) → Keeps c.args.self.now [] W
     → HasNext c.args.self.now (record c.make_star_room.new.self { heap = c.with_star-next.new.heap }) c.with_star-next.result (with_star W.current c.in_ok-key.key) W (alike_stars c.args.self.now.bits W.current (name_bytes c.args.name))
 next c W K =
-    let same = c.make_star_room.ensures.same in
-    let now = current-stands (keeps-same same K) in
-    has-next 9 _ _ K same (c.in_ok-make_star_room.ensures.room W K) (c.with_star-next.ensures.answered W.current now) (c.with_star-next.ensures.state W.current now) (omega arith) (alike (goal.at.After-with_star-next c).In_ok-key W)
+    let room = c.in_ok-make_star_room.ensures.room W K in
+    let now = current-stands (keeps-same room.same K) in
+    has-next 9 _ _ K room (c.with_star-next.ensures.answered W.current now) (c.with_star-next.ensures.state W.current now) (omega arith) (alike (goal.at.After-with_star-next c).In_ok-key W K)
 
 pub with_star-next-requires-clause-state : goal.with_star-next-requires-clause-state
 with_star-next-requires-clause-state c =
     let W = c.requires.0 in
     let K = c.requires.1 in
     let room = c.in_ok-make_star_room.ensures.room W K in
-    (W.current, current-stands (keeps-same c.make_star_room.ensures.same K), spares-suffice c.make_star_room.new.self.heap 1 9 _ _ room.1 (omega arith) (omega arith) (alike (goal.at.with_star-next-requires-clause-state c).In_ok-key W))
+    (W.current, current-stands (keeps-same (c.in_ok-make_star_room.ensures.room W K).same K), spares-suffice c.make_star_room.new.self.heap 1 9 _ _ room.spares (omega arith) (omega arith) (alike (goal.at.with_star-next-requires-clause-state c).In_ok-key W K))
 
 pub turn_to-requires-clause-spares : goal.turn_to-requires-clause-spares
 turn_to-requires-clause-spares c = (next (goal.at.turn_to-requires-clause-spares c).After-with_star-next c.requires.0 c.requires.1).spares
@@ -62,6 +61,6 @@ returns c = λ W K.
     let key : c.in_ok-key.key ≡ name_bytes c.args.name = c.in_ok-key.ensures ∙ c.as_line.ensures in
     record {
       after = with_current W (with_star W.current c.in_ok-key.key);
-      told = rw key (star-done W (name_bytes c.args.name) none made.free);
+      told = rw key (does W (star (name_bytes c.args.name)) _ (star-made W.current (name_bytes c.args.name) none) made.free);
       turns = turns-then (64 + alike_stars c.args.self.now.bits W.current (name_bytes c.args.name)) made.turns (c.turn_to.ensures W _ made.turns.keeps made.is made.free) (omega arith);
     }

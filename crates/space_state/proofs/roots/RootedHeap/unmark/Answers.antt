@@ -9,17 +9,17 @@ use Rattle.space_state.proofs.Keeping.{same-refl, keeps-same, keeps-gained, vers
 use Rattle.space_state.proofs.Steps.{unmark-refused, unmark-absent, unmark-done, version-there, may-lack, memory-refused, spares-suffice}
 use Rattle.space_state.proofs.roots.RootedHeap.unmark.Goals as goal
 
-pub returns-then-in_batch : goal.returns-then-in_batch
-returns-then-in_batch c = λ W K. record { due = unmark-refused W _ (sym (c.in_batch.ensures [] W K) ∙ c.if-in_batch.true); same = same-refl K }
+pub returns-then-in_batch-clause-ends : goal.returns-then-in_batch-clause-ends
+returns-then-in_batch-clause-ends c = λ W K. record { due = unmark-refused W _ (sym (c.in_batch.ensures [] W K) ∙ c.if-in_batch.true); same = same-refl K }
 
-pub returns-then-is_none : goal.returns-then-is_none
-returns-then-is_none c = λ W K.
+pub returns-then-is_none-clause-ends : goal.returns-then-is_none-clause-ends
+returns-then-is_none-clause-ends c = λ W K.
     let outside : in_batch W ≡ false = sym (c.in_batch.ensures [] W K) ∙ c.if-in_batch.false in
     let none = version-there c.args.self.now.heap c.args.self.now.bits _ _ (c.version.ensures W K) (c.is_none.ensures ∙ ap not c.if-is_none.true) in
     record { due = unmark-absent W _ outside none; same = same-refl K }
 
-pub returns-in_err-make_version_room : goal.returns-in_err-make_version_room
-returns-in_err-make_version_room c = λ W K.
+pub returns-in_err-make_version_room-clause-ends : goal.returns-in_err-make_version_room-clause-ends
+returns-in_err-make_version_room-clause-ends c = λ W K.
     let outside : in_batch W ≡ false = sym (c.in_batch.ensures [] W K) ∙ c.if-in_batch.false in
     let there = version-there c.args.self.now.heap c.args.self.now.bits _ _ (c.version.ensures W K) (c.is_none.ensures ∙ ap not c.if-is_none.false) in
     memory-refused c.from_residual.result c.from_residual.ensures.1 (may-lack (unmark _) refl (unmark-done W _ outside there)) c.make_version_room.ensures.same
@@ -47,9 +47,9 @@ turn_versions-requires c =
     let are = rw c.versions-versions.ensures at (c.without_version-map.ensures.versions W.versions those) in
     (W, map.remove W.versions (name_bytes c.args.name), keeps-gained held answered, are)
 
-pub returns : goal.returns
+pub returns-clause-ends : goal.returns-clause-ends
 unfolding cost
-returns c = λ W K.
+returns-clause-ends c = λ W K.
     let outside : in_batch W ≡ false = sym (c.in_batch.ensures [] W K) ∙ c.if-in_batch.false in
     let there = version-there c.args.self.now.heap c.args.self.now.bits _ _ (c.version.ensures W K) (c.is_none.ensures ∙ ap not c.if-is_none.false) in
     let held = keeps-same c.make_version_room.ensures.same K in

@@ -1,43 +1,42 @@
-use Rattle.std.proofs.Common.{◌≡◌, ◌+◌, [], ◌∷◌, true, refl, sym, ◌∙◌, arith}
+use Rattle.std.proofs.Common.{◌≡◌, ◌+◌, [], true, refl, sym, ◌∙◌, arith}
 use Rattle.elem_core.specs.Shown.{name_bytes}
 use Rattle.shell_terms.specs.Edit.{unstar}
-use Rattle.shell_terms.specs.Command.{edit}
-use Rattle.plain_space.specs.Workspace.{Workspace, is_full, is_starred, with_current, without_star}
+use Rattle.plain_space.specs.Workspace.{Workspace, is_starred, with_current, without_star}
 use Rattle.plain_space.specs.Cost.{cost, alike_stars}
 use Rattle.space_state.specs.Roots.{Keeps}
 use Rattle.space_state.proofs.Keeping.{same-refl, keeps-same, current-stands, turns-then}
-use Rattle.space_state.proofs.Steps.{unstar-absent, unstar-limited, unstar-done, may-lack, room-refused, spares-suffice, HasNext, has-next}
+use Rattle.space_state.proofs.Editing.{unstar-made, does, no-room, fails}
+use Rattle.space_state.proofs.Steps.{unstar-absent, spares-suffice, HasNext, has-next}
 use Rattle.space_state.proofs.roots.RootedHeap.unstar.Goals as goal
-use Rattle.space_state.proofs.roots.RootedHeap.unstar.Goals.{After-make_star_room, After-without_star-next}
+use Rattle.space_state.proofs.roots.RootedHeap.unstar.Goals.{In_ok-make_star_room, After-without_star-next}
 
-pub returns-then-not-is_starred : goal.returns-then-not-is_starred
-returns-then-not-is_starred c = λ W K. record { due = unstar-absent W _ (sym (c.is_starred.ensures W K) ∙ c.if-not-is_starred.true); same = same-refl K }
+pub returns-then-not-is_starred-clause-ends : goal.returns-then-not-is_starred-clause-ends
+returns-then-not-is_starred-clause-ends c = λ W K. record { due = unstar-absent W _ (sym (c.is_starred.ensures W K) ∙ c.if-not-is_starred.true); same = same-refl K }
 
-pub returns-in_err-make_star_room : goal.returns-in_err-make_star_room
-returns-in_err-make_star_room c = λ W K.
+pub returns-in_err-make_star_room-clause-ends : goal.returns-in_err-make_star_room-clause-ends
+returns-in_err-make_star_room-clause-ends c = λ W K.
     let there : is_starred W.current (name_bytes c.args.name) ≡ true = sym (c.is_starred.ensures W K) ∙ c.if-not-is_starred.false in
-    room-refused c.from_residual.result _ (is_full W) c.from_residual.ensures.1 (c.in_err-make_star_room.ensures.refused W K) (λ full. unstar-limited W _ there full)
-    (λ room. may-lack (edit (unstar _)) refl (unstar-done W _ there room)) c.make_star_room.ensures.same
+    fails c.in_err-make_star_room.field-0.0 c.from_residual.result c.from_residual.ensures.1 (no-room W (unstar _) _ (unstar-made W.current _ there) (c.in_err-make_star_room.ensures.room W K))
 
 -- as many names are alike, by the bits after room was made
-alike : (c : After-make_star_room) (W : Workspace) → alike_stars c.make_star_room.new.self.bits W.current (name_bytes c.args.name) ≡ alike_stars c.args.self.now.bits W.current (name_bytes c.args.name)
-alike c W = rw c.make_star_room.ensures.same.bits refl
+alike : (c : In_ok-make_star_room) (W : Workspace) → Keeps c.args.self.now [] W → alike_stars c.make_star_room.new.self.bits W.current (name_bytes c.args.name) ≡ alike_stars c.args.self.now.bits W.current (name_bytes c.args.name)
+alike c W K = rw (c.in_ok-make_star_room.ensures.room W K).same.bits refl
 
 -- the state without the star
 next : (c : After-without_star-next) (W : Workspace) → Keeps c.args.self.now [] W
     → HasNext c.args.self.now (record c.make_star_room.new.self { heap = c.without_star-next.new.heap }) c.without_star-next.result (without_star W.current (name_bytes c.args.name)) W (alike_stars c.args.self.now.bits W.current (name_bytes c.args.name))
 next c W K =
-    let same = c.make_star_room.ensures.same in
-    let now = current-stands (keeps-same same K) in
-    has-next 8 _ _ K same (c.in_ok-make_star_room.ensures.room W K) (c.without_star-next.ensures.answered W.current now) (c.without_star-next.ensures.state W.current now) (omega arith) (alike (goal.at.After-without_star-next c).After-make_star_room W)
+    let room = c.in_ok-make_star_room.ensures.room W K in
+    let now = current-stands (keeps-same room.same K) in
+    has-next 8 _ _ K room (c.without_star-next.ensures.answered W.current now) (c.without_star-next.ensures.state W.current now) (omega arith) (alike (goal.at.After-without_star-next c).In_ok-make_star_room W K)
 
 pub without_star-next-requires-clause-state : goal.without_star-next-requires-clause-state
 without_star-next-requires-clause-state c =
     let W = c.requires.0 in
     let K = c.requires.1 in
     let there : is_starred W.current (name_bytes c.args.name) ≡ true = sym (c.is_starred.ensures W K) ∙ c.if-not-is_starred.false in
-    let as_many = alike (goal.at.without_star-next-requires-clause-state c).After-make_star_room W in
-    (W.current, current-stands (keeps-same c.make_star_room.ensures.same K), there, spares-suffice c.make_star_room.new.self.heap 0 8 _ _ (c.in_ok-make_star_room.ensures.room W K).1 (omega arith) (omega arith) as_many)
+    let as_many = alike (goal.at.without_star-next-requires-clause-state c).In_ok-make_star_room W K in
+    (W.current, current-stands (keeps-same (c.in_ok-make_star_room.ensures.room W K).same K), there, spares-suffice c.make_star_room.new.self.heap 0 8 _ _ (c.in_ok-make_star_room.ensures.room W K).spares (omega arith) (omega arith) as_many)
 
 pub turn_to-requires-clause-spares : goal.turn_to-requires-clause-spares
 turn_to-requires-clause-spares c = (next (goal.at.turn_to-requires-clause-spares c).After-without_star-next c.requires.0 c.requires.1).spares
@@ -47,13 +46,13 @@ turn_to-requires-clause-kept c =
     let made = next (goal.at.turn_to-requires-clause-kept c).After-without_star-next c.requires.0 c.requires.1 in
     (c.requires.0, _, made.turns.keeps, made.is, made.free)
 
-pub returns : goal.returns
+pub returns-clause-ends : goal.returns-clause-ends
 unfolding cost
-returns c = λ W K.
+returns-clause-ends c = λ W K.
     let there : is_starred W.current (name_bytes c.args.name) ≡ true = sym (c.is_starred.ensures W K) ∙ c.if-not-is_starred.false in
-    let made = next (goal.at.returns c).After-without_star-next W K in
+    let made = next (goal.at.returns-clause-ends c).After-without_star-next W K in
     record {
       after = with_current W (without_star W.current (name_bytes c.args.name));
-      told = unstar-done W (name_bytes c.args.name) there made.free;
+      told = does W (unstar (name_bytes c.args.name)) _ (unstar-made W.current (name_bytes c.args.name) there) made.free;
       turns = turns-then (64 + alike_stars c.args.self.now.bits W.current (name_bytes c.args.name)) made.turns (c.turn_to.ensures W _ made.turns.keeps made.is made.free) (omega arith);
     }

@@ -5,9 +5,9 @@ use Rattle.space_state.proofs.Front.{ends-seen, kept-on}
 use Rattle.space_state.proofs.space.Space.redo.Goals as goal
 
 pub invariant_of-self : goal.invariant_of-self
-invariant_of-self c = kept-on command.redo c.self.inside.rows c.redo.result c.redo.new.self c.self.invariant c.redo.ensures
+invariant_of-self c = kept-on command.redo c.self.inside.rows c.redo.result c.redo.new.self c.self.invariant c.redo.ensures.ends
 
 pub returns : goal.returns
 returns c =
     subst (λ (v : SpaceView). Ends command.redo v c.redo.result (shown c.redo.new.self)) c.self.view_is
-    (ends-seen command.redo c.self.inside.rows c.redo.result c.redo.new.self c.self.invariant.0 c.self.invariant.1 c.redo.ensures)
+    (ends-seen command.redo c.self.inside.rows c.redo.result c.redo.new.self c.self.invariant.0 c.self.invariant.1 c.redo.ensures.ends)

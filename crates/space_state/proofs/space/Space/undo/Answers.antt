@@ -5,9 +5,9 @@ use Rattle.space_state.proofs.Front.{ends-seen, kept-on}
 use Rattle.space_state.proofs.space.Space.undo.Goals as goal
 
 pub invariant_of-self : goal.invariant_of-self
-invariant_of-self c = kept-on command.undo c.self.inside.rows c.undo.result c.undo.new.self c.self.invariant c.undo.ensures
+invariant_of-self c = kept-on command.undo c.self.inside.rows c.undo.result c.undo.new.self c.self.invariant c.undo.ensures.ends
 
 pub returns : goal.returns
 returns c =
     subst (λ (v : SpaceView). Ends command.undo v c.undo.result (shown c.undo.new.self)) c.self.view_is
-    (ends-seen command.undo c.self.inside.rows c.undo.result c.undo.new.self c.self.invariant.0 c.self.invariant.1 c.undo.ensures)
+    (ends-seen command.undo c.self.inside.rows c.undo.result c.undo.new.self c.self.invariant.0 c.self.invariant.1 c.undo.ensures.ends)

@@ -6,9 +6,9 @@ use Rattle.space_state.proofs.Front.{ends-seen, kept-on}
 use Rattle.space_state.proofs.space.Space.unmark.Goals as goal
 
 pub invariant_of-self : goal.invariant_of-self
-invariant_of-self c = kept-on (command.unmark (name_bytes c.args.version)) c.self.inside.rows c.unmark.result c.unmark.new.self c.self.invariant c.unmark.ensures
+invariant_of-self c = kept-on (command.unmark (name_bytes c.args.version)) c.self.inside.rows c.unmark.result c.unmark.new.self c.self.invariant c.unmark.ensures.ends
 
 pub returns : goal.returns
 returns c =
     subst (λ (v : SpaceView). Ends (command.unmark (name_bytes c.args.version)) v c.unmark.result (shown c.unmark.new.self)) c.self.view_is
-    (ends-seen (command.unmark (name_bytes c.args.version)) c.self.inside.rows c.unmark.result c.unmark.new.self c.self.invariant.0 c.self.invariant.1 c.unmark.ensures)
+    (ends-seen (command.unmark (name_bytes c.args.version)) c.self.inside.rows c.unmark.result c.unmark.new.self c.self.invariant.0 c.self.invariant.1 c.unmark.ensures.ends)
