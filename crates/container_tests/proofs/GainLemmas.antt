@@ -1,10 +1,11 @@
 -- Holds that a run of calls has gained, while every row stays.
-use Rattle.std.proofs.Common.{◌≡◌, ◌+◌, ℕ, [], ◌∷◌, ap, arith}
+use Rattle.std.proofs.Common.{◌≡◌, ◌+◌, ◌≤◌, ℕ, List, [], ◌∷◌, ap, arith}
 use Rattle.node_heap.specs.Forms.{cell}
 use Rattle.node_heap.specs.Heap.{Heap, holds_at, hold_count, one_at, IsGraph}
-use Rattle.node_heap.specs.Calls.{Adds, Builds, Extends, Releases, Unchanged, Answered}
+use Rattle.node_heap.specs.Calls.{Adds, Builds, Extends, MakesJust, Releases, Unchanged, Answered}
 use Rattle.node_heap.proofs.Frames.{KeepsHeld-Releases, Extends-Unchanged, Extends-trans, Extends-kept}
 use Rattle.node_heap.proofs.BuildLemmas.{count-one}
+use Rattle.node_heap.proofs.GraphLemmas.{IsGraph-kinds}
 
 module _ {T : Type 0} where
   -- every row stays, and so many holds were gained
@@ -20,6 +21,18 @@ module _ {T : Type 0} where
     count = omega (arith, same.count, gained.count);
   }
 
+  -- so many rows were made at most as a call may add of each kind
+  pub made-within : {a b : Heap T} {spent : List ℕ} {result cells nodes : ℕ} → MakesJust a b → Answered a b spent result cells nodes → b.made ≤ a.made + (cells + nodes)
+  made-within {a} {b} just answered = omega (arith, just, answered.cells, answered.nodes, IsGraph-kinds a, IsGraph-kinds b)
+
+  -- the spares fall by no more
+  pub spares-within : {a b : Heap T} {spent : List ℕ} {result cells nodes : ℕ} → Answered a b spent result cells nodes → (a.spare_cells ≤ b.spare_cells + cells) × (a.spare_nodes ≤ b.spare_nodes + nodes)
+  spares-within answered = (omega (arith, answered.cells, answered.balance.spare_cells), omega (arith, answered.nodes, answered.balance.spare_nodes))
+
+  -- rows that are freed are spares
+  pub spares-released : {a b : Heap T} {link : ℕ} → Releases a b link → (a.spare_cells ≤ b.spare_cells) × (a.spare_nodes ≤ b.spare_nodes)
+  spares-released released = (omega (arith, released.cells, released.fewer_cells), omega (arith, released.nodes, released.fewer_nodes))
+
   -- a new cell
   pub cell-gained : {a b : Heap T} {link : ℕ} {value : T} → Adds a b link (cell value) → Extends a b → hold_count b ≡ hold_count a + 1 → Gained a b (one_at link) 1
   cell-gained {a} {b} {link} adds extends count = record {
@@ -28,6 +41,16 @@ module _ {T : Type 0} where
         let here : holds_at b k + 0 ≡ holds_at a k + one_at link k = adds.holds k in
         omega (arith, here);
     count = count;
+  }
+
+  -- a call that spends nothing
+  pub made-gained : {a b : Heap T} {result cells nodes : ℕ} → Answered a b [] result cells nodes → Gained a b (one_at result) 1
+  made-gained {a} {b} {result} answered = record {
+    extends = answered.extends;
+    holds = λ k.
+        let here : holds_at b k + 0 ≡ holds_at a k + one_at result k = answered.holds k in
+        omega (arith, here);
+    count = omega (arith, answered.count);
   }
 
   -- a call that spends one of them for what it gives

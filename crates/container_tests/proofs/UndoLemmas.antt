@@ -1,6 +1,6 @@
 -- What a store keeps while rows come and holds are given up.
-use Rattle.std.proofs.Common.{◌≡◌, ◌+◌, ◌-◌, ◌<◌, ◌≤◌, ℕ, List, [], ◌∷◌, ◌++◌, ◌∙◌, length, Some, refl, ap, sym, subst, arith}
-use Rattle.std.specs.Prelude.{IsSome, take, slice_get}
+use Rattle.std.proofs.Common.{◌≡◌, ◌+◌, ◌-◌, ◌<◌, ◌≤◌, ℕ, List, [], ◌∷◌, ◌++◌, ◌∙◌, length, Some, Result, Ok, Err, refl, ap, sym, subst, arith}
+use Rattle.std.specs.Prelude.{IsSome, OnErr, take, slice_get, option_map}
 use Rattle.std.specs.List.{All}
 use Rattle.std.proofs.Math.ListN.{get_or}
 use Rattle.std.proofs.lemmas.List.{take_all, take_more}
@@ -9,10 +9,11 @@ use Rattle.std.proofs.lemmas.Option.{slice_get_within, get_or_from_slice_get}
 use Rattle.std.specs.declared.cmp.Ordering.{Ordering}
 use Rattle.elem_core.specs.declared.codes.TheConstants.{CODE_BITS}
 use Rattle.node_heap.specs.Links.{Reaches}
-use Rattle.node_heap.specs.Forms.{cell}
+use Rattle.node_heap.specs.Forms.{cell, form_of}
 use Rattle.node_heap.specs.Heap.{Heap, row_at, links_at, holds_at, hold_count, one_at, IsGraph}
-use Rattle.node_heap.specs.Calls.{Builds, Extends, KeepsBelow, Releases, Unchanged}
-use Rattle.node_heap.proofs.Frames.{KeepsBelow-Releases, Extends-Unchanged, Extends-row}
+use Rattle.node_heap.specs.Calls.{Builds, Extends, KeepsBelow, KeepsHeld, Releases, Unchanged}
+use Rattle.node_heap.proofs.Frames.{KeepsBelow-Releases, KeepsBelow-Extends, KeepsBelow-trans, KeepsHeld-then, Extends-Unchanged, Extends-row}
+use Rattle.rrb_core.specs.Seq.{form_height}
 use Rattle.rrb_core.specs.Vector.{elements, height_at, IsGoodVector}
 use Rattle.rrb_core.proofs.LinkCounts.{one-same}
 use Rattle.rrb_core.proofs.Stays.{well-live, seq-live, vector-stays}
@@ -24,6 +25,69 @@ use Rattle.container_tests.specs.Stands.{IsSomeMap}
 use Rattle.container_tests.specs.Undo.{IsStore, KeepsOthers, KeepsVersions, HasWritten, held_by, version_at}
 use Rattle.container_tests.specs.declared.store.Store.{Store}
 use Rattle.container_tests.proofs.GainLemmas.{Gained, shared-holds}
+
+module _ {T : Type 0} where
+  -- what is held was there before a call that changed no row
+  pub held-before : {a b : Heap T} → Unchanged a b → (l : ℕ) → 0 < holds_at a l → IsSome (row_at a l)
+  held-before same l some = rw (← same.rows l) (same.graph.held l (omega (arith, some, same.holds l)))
+
+  -- where every row stays, a vector has the height that it had
+  pub height-kept : {a b : Heap T} (l : ℕ) → Extends a b → IsGoodVector a l → height_at b l ≡ height_at a l
+  height-kept {a} l extends good = ap (λ r. form_height (option_map form_of r)) (Extends-row extends l (well-live a (height_at a l) l good.shape.well))
+
+  -- where every row stays, so does all that is held
+  pub keeps-extended : {a b : Heap T} (spent : ℕ → ℕ) → ((l : ℕ) → 0 < holds_at a l → IsSome (row_at a l)) → Extends a b → ((l : ℕ) → holds_at a l ≤ holds_at b l + spent l) → KeepsHeld spent a b
+  keeps-extended spent live extends left = record {
+    live = λ l some. extends.live l (live l (omega (arith, some)));
+    kept = λ l some. extends.kept l (live l (omega (arith, some)));
+    left = left;
+  }
+
+  -- the two roots of a store are given up in turn
+  pub roots-released : {a b c : Heap T} {l m : ℕ} (s : Store) → KeepsHeld (one_at l) a b → KeepsHeld (one_at m) b c → l ≡ s.notes.root → m ≡ s.earlier → KeepsHeld (held_by s) a c
+  roots-released {l = l} {m = m} s first second same same' =
+      let notes : (k : ℕ) → one_at l k ≡ one_at s.notes.root k = λ k. ap (λ x. one_at x k) same in
+      let earlier : (k : ℕ) → one_at m k ≡ one_at s.earlier k = λ k. ap (λ x. one_at x k) same' in
+      KeepsHeld-then (held_by s) first second (λ k some. omega (arith, some, notes k)) (λ k some. omega (arith, some, notes k, earlier k, first.left k)) (λ k. omega (arith, first.left k, second.left k, notes k, earlier k))
+
+  -- nothing has changed hands
+  pub others-kept : {a b : Heap T} (s : Store) → ((l : ℕ) → 0 < holds_at a l → IsSome (row_at a l)) → Extends a b → ((k : ℕ) → holds_at b k ≡ holds_at a k) → hold_count b ≡ hold_count a → KeepsOthers a b s s
+  others-kept s live extends same count = record {
+    holds = λ k. omega (arith, same k);
+    count = count;
+    keeps = keeps-extended (held_by s) live extends (λ l. omega (arith, same l));
+  }
+
+  pub others-refused : {a b : Heap T} (s : Store) → Unchanged a b → KeepsOthers a b s s
+  others-refused s same = others-kept s (held-before same) (Extends-Unchanged same) same.holds same.count
+
+  pub others-back : {a b : Heap T} (s : Store) → ((l : ℕ) → 0 < holds_at a l → IsSome (row_at a l)) → Gained a b (λ _. 0) 0 → KeepsOthers a b s s
+  others-back s live gained = others-kept s live gained.extends (λ k. omega (arith, gained.holds k)) (omega (arith, gained.count))
+
+  -- new roots were made and are held, and then the store turned to them
+  pub others-turned : {a b c : Heap T} (s s' : Store) → ((l : ℕ) → 0 < holds_at a l → IsSome (row_at a l)) → Extends a b → ((k : ℕ) → holds_at b k ≡ holds_at a k + held_by s' k) → hold_count b ≡ hold_count a + 2
+      → ((k : ℕ) → holds_at c k + held_by s k ≡ holds_at b k) → hold_count c + 2 ≡ hold_count b → KeepsHeld (held_by s) b c → KeepsOthers a c s s'
+  others-turned s s' live extends gained more spent fewer keeps = record {
+    holds = λ k. omega (arith, gained k, spent k);
+    count = omega (arith, more, fewer);
+    keeps = record {
+      live = λ l some. keeps.live l (omega (arith, some, gained l));
+      kept = λ l some. KeepsBelow-Extends extends keeps l (live l (omega (arith, some))) (omega (arith, some, gained l));
+      left = λ l. omega (arith, gained l, keeps.left l);
+    };
+  }
+
+  -- one change of a store after another
+  pub others-then : {a b c : Heap T} {s s' s'' : Store} → KeepsOthers a b s s' → KeepsOthers b c s' s'' → KeepsOthers a c s s''
+  others-then {s = s} first second = record {
+    holds = λ k. omega (arith, first.holds k, second.holds k);
+    count = omega (arith, first.count, second.count);
+    keeps = KeepsHeld-then (held_by s) first.keeps second.keeps (λ l some. some) (λ l some. omega (arith, some, first.holds l)) (λ l. omega (arith, first.holds l, second.holds l));
+  }
+
+  -- the versions of a store where every row stays
+  pub versions-kept : {a b : Heap T} (s : Store) → Extends a b → KeepsVersions a b s
+  versions-kept s extends = λ k d inside there. extends.kept _ there
 
 module _ {T : Type 0} (cmp : T → T → Ordering) (code : T → ℕ) where
   -- a map whose root is there after a release, and one that is held once more than is given up
@@ -69,14 +133,6 @@ module _ {T : Type 0} (cmp : T → T → Ordering) (code : T → ℕ) where
         vector.1,
       )
 
-  -- nothing has changed hands
-  pub others-kept : {a b : Heap T} (s : Store) → Extends a b → ((k : ℕ) → holds_at b k ≡ holds_at a k) → hold_count b ≡ hold_count a → KeepsOthers cmp code a b s s
-  others-kept {a} {b} s extends same count = record {
-    holds = λ k. omega (arith, same k);
-    count = count;
-    maps = λ r M held is. (containers-extended a b extends r).map cmp code M is;
-  }
-
   -- a store whose new roots are held beside the old ones, which are then given up in turn
   pub turned : {a b c : Heap T} {l m : ℕ} (s s' : Store) → Releases a b l → IsGraph b → Releases b c m → IsGraph c → l ≡ s.notes.root → m ≡ s.earlier → ((k : ℕ) → held_by s k + held_by s' k ≤ holds_at a k) → IsStore cmp code a s' → IsStore cmp code c s' × (elements c s'.earlier ≡ elements a s'.earlier)
   turned {l = l} {m = m} s s' once graph twice graph' same same' enough store =
@@ -87,21 +143,8 @@ module _ {T : Type 0} (cmp : T → T → Ordering) (code : T → ℕ) where
       (second.0, second.1 ∙ first.1)
 
   -- after a refusal
-  pub store-refused : {a b : Heap T} (s : Store) → Unchanged a b → IsStore cmp code a s → IsStore cmp code b s
-  store-refused s same store = (store-kept s (Extends-Unchanged same) (λ k. omega (arith, same.holds k)) store).0
-
-  pub others-refused : {a b : Heap T} (s : Store) → Unchanged a b → KeepsOthers cmp code a b s s
-  others-refused s same = others-kept s (Extends-Unchanged same) same.holds same.count
-
-  -- new roots were made and are held, and then the store turned to them
-  pub others-turned : {a b c : Heap T} (s s' : Store) → Extends a b → ((k : ℕ) → holds_at b k ≡ holds_at a k + held_by s' k) → hold_count b ≡ hold_count a + 2
-      → ((k : ℕ) → holds_at c k + held_by s k ≡ holds_at b k) → hold_count c + 2 ≡ hold_count b → ((r : Root) (M : List (Binding T)) → held_by s r.root < holds_at b r.root → IsMapOf cmp code b r M → IsMapOf cmp code c r M)
-      → KeepsOthers cmp code a c s s'
-  others-turned {a} {b} s s' extends gained more spent fewer stay = record {
-    holds = λ k. omega (arith, gained k, spent k);
-    count = omega (arith, more, fewer);
-    maps = λ r M held is. stay r M (omega (arith, held, gained r.root)) ((containers-extended a b extends r).map cmp code M is);
-  }
+  pub store-refused : {a b : Heap T} (s : Store) → Unchanged a b → IsStore cmp code a s → IsStore cmp code b s × (elements b s.earlier ≡ elements a s.earlier)
+  store-refused s same store = store-kept s (Extends-Unchanged same) (λ k. omega (arith, same.holds k)) store
 
   -- a map by the parts of its root
   pub version-is : (h : Heap T) (r : Root) (l : ℕ) → r.root ≡ l → r.bits ≡ CODE_BITS → IsSomeMap cmp code h (version_at l) → IsSomeMap cmp code h r
@@ -124,11 +167,8 @@ module _ {T : Type 0} (cmp : T → T → Ordering) (code : T → ℕ) where
       }
 
   -- nothing is left of what was gained
-  pub store-back : {a b : Heap T} (s : Store) → Gained a b (λ _. 0) 0 → IsStore cmp code a s → IsStore cmp code b s
-  store-back s gained store = (store-kept s gained.extends (λ k. omega (arith, gained.holds k)) store).0
-
-  pub others-back : {a b : Heap T} (s : Store) → Gained a b (λ _. 0) 0 → KeepsOthers cmp code a b s s
-  others-back s gained = others-kept s gained.extends (λ k. omega (arith, gained.holds k)) (omega (arith, gained.count))
+  pub store-back : {a b : Heap T} (s : Store) → Gained a b (λ _. 0) 0 → IsStore cmp code a s → IsStore cmp code b s × (elements b s.earlier ≡ elements a s.earlier)
+  store-back s gained store = store-kept s gained.extends (λ k. omega (arith, gained.holds k)) store
 
   -- a store whose notes have gone into the history
   pub put-store : {a b : Heap T} (s : Store) (r : Root) (new : ℕ) → IsStore cmp code a s → Extends a b → IsSomeMap cmp code b r → r.bits ≡ CODE_BITS → IsGoodVector b new → elements b new ≡ elements a s.earlier ++ s.notes.root ∷ []
@@ -145,27 +185,15 @@ module _ {T : Type 0} (cmp : T → T → Ordering) (code : T → ℕ) where
         held = held;
       }
 
-  -- one change of a store after another
-  pub others-then : {a b c : Heap T} {s s' s'' : Store} → KeepsOthers cmp code a b s s' → KeepsOthers cmp code b c s' s'' → KeepsOthers cmp code a c s s''
-  others-then first second = record {
-    holds = λ k. omega (arith, first.holds k, second.holds k);
-    count = omega (arith, first.count, second.count);
-    maps = λ r M held is. second.maps r M (omega (arith, held, first.holds r.root)) (first.maps r M held is);
-  }
-
-  -- the versions of a store where every row stays
-  pub versions-kept : {a b : Heap T} (s : Store) → Extends a b → KeepsVersions cmp code a b s
-  versions-kept {a} {b} s extends = λ k d inside M is. (containers-extended a b extends _).map cmp code M is
-
-  -- and where rows were added, and then no row but what is gone has changed
-  pub versions-turned : {a b c : Heap T} (s : Store) → Extends a b → ((l : ℕ) → IsSome (row_at c l) → KeepsBelow b c l) → IsGraph c → IsStore cmp code c s → KeepsVersions cmp code a c s
+  -- the versions of a store where rows were added, and then no row but what is gone has changed
+  pub versions-turned : {a b c : Heap T} (s : Store) → Extends a b → ((l : ℕ) → IsSome (row_at c l) → KeepsBelow b c l) → IsGraph c → IsStore cmp code c s → KeepsVersions a c s
   versions-turned {a} {b} {c} s extends below graph store =
       let first : ℕ = s.notes.root in
       let second : ℕ = s.earlier in
       let Live = λ (l : ℕ). IsSome (row_at c l) in
       let last : IsSome (row_at c first) = map-live c s.notes first refl store.notes.1 in
       let live : All Live (elements c second ++ first ∷ []) = All-append Live (elements c second) (first ∷ []) (seq-live c graph (height_at c second) second) (All-cons Live first [] last (All-nil Live)) in
-      λ k d inside M is. (container-stays b c _ (below _ (live k d inside))).map cmp code M ((containers-extended a b extends _).map cmp code M is)
+      λ k d inside there. KeepsBelow-trans a b c _ (extends.kept _ there) (below _ (live k d inside))
 
   -- a note that was put reads as it was made
   pub written : {b c d : Heap T} (r : Root) (M : List (Binding T)) (name note : T) (l : ℕ) → row_at b l ≡ Some (cell note) → Extends b c → IsMapOf cmp code c r (bind cmp M name l)
@@ -184,9 +212,9 @@ module _ {T : Type 0} (cmp : T → T → Ordering) (code : T → ℕ) where
     pub map : IsSomeMap cmp code h r
     pub held : held_by s r.root < holds_at h r.root
 
-  pub beside-stays : {a b : Heap T} {s s' : Store} {r : Root} → KeepsOthers cmp code a b s s' → IsBeside a s r → IsBeside b s' r
-  beside-stays {r = r} others beside = record {
-    map = (beside.map.0, others.maps r beside.map.0 beside.held beside.map.1);
+  pub beside-stays : {a b : Heap T} {s s' : Store} {r : Root} → KeepsOthers a b s s' → IsBeside a s r → IsBeside b s' r
+  beside-stays {a} {b} {r = r} others beside = record {
+    map = (beside.map.0, (container-stays a b r (others.keeps.kept r.root beside.held)).map cmp code beside.map.0 beside.map.1);
     held = omega (arith, beside.held, others.holds r.root);
   }
 
@@ -202,6 +230,11 @@ module _ {T : Type 0} (cmp : T → T → Ordering) (code : T → ℕ) where
     map = subst (IsSomeMap cmp code b) (sym same) after.notes;
     held = omega (arith, before.held r.root, shared-holds shared r.root, one-same r.root r.root refl);
   }
+
+-- what holds anyway holds after a refusal
+pub after-refusal : {A E P : Type 0} (r : Result A E) → P → OnErr r P
+after-refusal (Ok x) always = tt
+after-refusal (Err e) always = always
 
 -- the front of a list and its last element are the list
 pub front-last : (xs : List ℕ) (n x : ℕ) → n ≡ length xs → slice_get xs (n - 1) ≡ Some x → take (n - 1) xs ++ x ∷ [] ≡ xs

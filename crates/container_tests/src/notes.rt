@@ -51,7 +51,7 @@ fn undo_two<T: Element>(rt: &impl Abort, heap: &mut Heap<T>, store: &mut Store)
     requires few { hold_count heap.old < 2 ^ 50 }
     requires store { IsStore T.cmp T.code_of heap.old store.old }
     ensures store { IsStore T.cmp T.code_of heap.new store.new }
-    ensures others { KeepsOthers T.cmp T.code_of heap.old heap.new store.old store.new }
+    ensures others { KeepsOthers heap.old heap.new store.old store.new }
 {
     assert!(rt; store.undo(heap) == Ok(true));
     assert!(rt; store.undo(heap) == Ok(true));
@@ -62,7 +62,7 @@ fn undo_last<T: Element>(rt: &impl Abort, heap: &mut Heap<T>, store: &mut Store)
     requires few { hold_count heap.old < 2 ^ 50 }
     requires store { IsStore T.cmp T.code_of heap.old store.old }
     ensures store { IsStore T.cmp T.code_of heap.new store.new }
-    ensures others { KeepsOthers T.cmp T.code_of heap.old heap.new store.old store.new }
+    ensures others { KeepsOthers heap.old heap.new store.old store.new }
 {
     assert!(rt; store.undo(heap) == Ok(true));
     assert_eq!(rt; store.notes.view().len(heap), 0);

@@ -2,4 +2,4 @@ use Rattle.container_tests.proofs.UndoLemmas.{others-then}
 use Rattle.container_tests.proofs.notes.undo_two.Goals as goal
 
 pub returns-clause-others : goal.returns-clause-others
-returns-clause-others g c = others-then g.T.Ord.cmp g.T.Element.code_of c.undo.ensures.others c.undo-2.ensures.others
+returns-clause-others g c = others-then c.undo.ensures.others c.undo-2.ensures.others

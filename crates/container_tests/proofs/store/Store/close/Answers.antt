@@ -1,8 +1,6 @@
-use Rattle.std.proofs.Common.{arith}
-use Rattle.container_tests.proofs.UndoLemmas.{map-released}
+use Rattle.std.proofs.Common.{refl}
+use Rattle.container_tests.proofs.UndoLemmas.{roots-released}
 use Rattle.container_tests.proofs.store.Store.close.Goals as goal
 
-pub returns-clause-maps : goal.returns-clause-maps
-returns-clause-maps g c = λ r M held is.
-    map-released g.T.Ord.cmp g.T.Element.code_of c.release-2.ensures.releases c.release-2.ensures.graph r M (omega (arith, held, c.release.ensures.releases.holds r.root))
-    (map-released g.T.Ord.cmp g.T.Element.code_of c.release.ensures.releases c.release.ensures.graph r M (omega (arith, held)) is)
+pub returns-clause-keeps : goal.returns-clause-keeps
+returns-clause-keeps g c = roots-released c.args.self c.release.ensures.keeps c.release-2.ensures.keeps refl refl

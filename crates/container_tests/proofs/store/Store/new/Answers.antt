@@ -1,48 +1,50 @@
-use Rattle.std.proofs.Common.{◌≡◌, ◌+◌, [], arith}
-use Rattle.node_heap.specs.Heap.{holds_at, one_at}
-use Rattle.node_heap.proofs.Frames.{Extends-Unchanged}
+use Rattle.std.proofs.Common.{[], refl, arith}
+use Rattle.node_heap.proofs.Frames.{Extends-trans, Extends-Unchanged}
 use Rattle.champ_kinds.proofs.StayLemmas.{containers-extended}
-use Rattle.container_tests.proofs.UndoLemmas.{map-released}
+use Rattle.container_tests.proofs.GainLemmas.{made-gained, refused-gained, lost-gained, gained-after}
+use Rattle.container_tests.proofs.UndoLemmas.{held-before, keeps-extended}
 use Rattle.container_tests.proofs.store.Store.new.Goals as goal
 
 pub returns-in-Ok-clause-store : goal.returns-in-Ok-clause-store
 returns-in-Ok-clause-store g c =
     let notes = c.in_ok-notes.ensures in
     let earlier = c.in-Ok.ensures in
+    let first = made-gained {b = c.empty.new.heap} notes.answered in
+    let second = made-gained {b = c.empty-2.new.heap} earlier.answered in
     record {
       notes = ([], (containers-extended c.empty.new.heap c.empty-2.new.heap earlier.answered.extends c.in_ok-notes.notes).map g.T.Ord.cmp g.T.Element.code_of [] notes.map);
       bits = notes.bits;
       earlier = earlier.good;
       versions = rw earlier.items (λ k d inside. absurd (omega (arith, inside)));
-      held = λ k.
-          let first : holds_at c.empty.new.heap k + 0 ≡ holds_at c.args.heap.now k + one_at c.in_ok-notes.notes.root k = notes.answered.holds k in
-          let second : holds_at c.empty-2.new.heap k + 0 ≡ holds_at c.empty.new.heap k + one_at c.in-Ok.earlier k = earlier.answered.holds k in
-          omega (arith, first, second);
+      held = λ k. omega (arith, first.holds k, second.holds k);
     }
 
 pub returns-in-Ok-clause-count : goal.returns-in-Ok-clause-count
-returns-in-Ok-clause-count g c = omega (arith, c.in_ok-notes.ensures.answered.count, c.in-Ok.ensures.answered.count)
+returns-in-Ok-clause-count g c = omega (arith, c.in_ok-reserve.ensures.rest.count, c.in_ok-notes.ensures.answered.count, c.in-Ok.ensures.answered.count)
 
 pub returns-in-Ok-clause-notes : goal.returns-in-Ok-clause-notes
 returns-in-Ok-clause-notes g c = (containers-extended c.empty.new.heap c.empty-2.new.heap c.in-Ok.ensures.answered.extends c.in_ok-notes.notes).map g.T.Ord.cmp g.T.Element.code_of [] c.in_ok-notes.ensures.map
 
 pub returns-in-Ok-clause-holds : goal.returns-in-Ok-clause-holds
 returns-in-Ok-clause-holds g c = λ k.
-    let first : holds_at c.empty.new.heap k + 0 ≡ holds_at c.args.heap.now k + one_at c.in_ok-notes.notes.root k = c.in_ok-notes.ensures.answered.holds k in
-    let second : holds_at c.empty-2.new.heap k + 0 ≡ holds_at c.empty.new.heap k + one_at c.in-Ok.earlier k = c.in-Ok.ensures.answered.holds k in
-    omega (arith, first, second)
+    omega (arith, c.in_ok-reserve.ensures.rest.holds k, (made-gained {b = c.empty.new.heap} c.in_ok-notes.ensures.answered).holds k, (made-gained {b = c.empty-2.new.heap} c.in-Ok.ensures.answered).holds k)
 
-pub returns-in_err-notes-clause-maps : goal.returns-in_err-notes-clause-maps
-returns-in_err-notes-clause-maps g c = λ r M held is. (c.in_err-notes.ensures.containers r).map g.T.Ord.cmp g.T.Element.code_of M is
+pub returns-in_err-notes-clause-keeps : goal.returns-in_err-notes-clause-keeps
+returns-in_err-notes-clause-keeps g c =
+    let room = c.in_ok-reserve.ensures.rest in
+    let still = c.in_err-notes.ensures.refused in
+    keeps-extended (λ _. 0) (held-before room) (Extends-trans (Extends-Unchanged room) (Extends-Unchanged still)) (λ k. omega (arith, room.holds k, still.holds k))
 
-pub returns-in-Ok-clause-maps : goal.returns-in-Ok-clause-maps
-returns-in-Ok-clause-maps g c = λ r M held is.
-    (containers-extended c.empty.new.heap c.empty-2.new.heap c.in-Ok.ensures.answered.extends r).map g.T.Ord.cmp g.T.Element.code_of M
-    ((c.in_ok-notes.ensures.containers r).map g.T.Ord.cmp g.T.Element.code_of M is)
+pub returns-in-Ok-clause-keeps : goal.returns-in-Ok-clause-keeps
+returns-in-Ok-clause-keeps g c =
+    let room = c.in_ok-reserve.ensures.rest in
+    let first = made-gained {b = c.empty.new.heap} c.in_ok-notes.ensures.answered in
+    let second = made-gained {b = c.empty-2.new.heap} c.in-Ok.ensures.answered in
+    keeps-extended (λ _. 0) (held-before room) (Extends-trans (Extends-Unchanged room) (Extends-trans first.extends second.extends)) (λ k. omega (arith, room.holds k, first.holds k, second.holds k))
 
-pub returns-in-Err-clause-maps : goal.returns-in-Err-clause-maps
-returns-in-Err-clause-maps g c = λ r M held is.
-    let gained : holds_at c.empty.new.heap r.root + 0 ≡ holds_at c.args.heap.now r.root + one_at c.in_ok-notes.notes.root r.root = c.in_ok-notes.ensures.answered.holds r.root in
-    let still = c.in-Err.ensures.refused in
-    map-released g.T.Ord.cmp g.T.Element.code_of c.release.ensures.releases c.release.ensures.graph r M (omega (arith, held, gained, still.holds r.root))
-    ((containers-extended c.empty.new.heap c.empty-2.new.heap (Extends-Unchanged still) r).map g.T.Ord.cmp g.T.Element.code_of M ((c.in_ok-notes.ensures.containers r).map g.T.Ord.cmp g.T.Element.code_of M is))
+pub returns-in-Err-clause-keeps : goal.returns-in-Err-clause-keeps
+returns-in-Err-clause-keeps g c =
+    let room = c.in_ok-reserve.ensures.rest in
+    let made = refused-gained (made-gained {b = c.empty.new.heap} c.in_ok-notes.ensures.answered) c.in-Err.ensures.refused in
+    let none = gained-after room (lost-gained {rest = λ _. 0} {m = 0} room.graph made c.release.ensures.releases c.release.ensures.graph (λ k. omega arith) refl) in
+    keeps-extended (λ _. 0) (held-before room) none.extends (λ k. omega (arith, none.holds k))

@@ -1,26 +1,33 @@
-use Rattle.std.proofs.Common.{◌≡◌, ◌∙◌, refl, arith}
+use Rattle.std.proofs.Common.{◌≡◌, ◌∙◌, refl, ap, arith}
+use Rattle.std.proofs.lemmas.Bool.{false≢true}
 use Rattle.node_heap.specs.Heap.{one_at}
 use Rattle.node_heap.proofs.Frames.{Extends-trans}
-use Rattle.rrb_core.specs.Vector.{elements}
+use Rattle.rrb_core.specs.Vector.{elements, height_at}
 use Rattle.rrb_core.proofs.LinkCounts.{one-same}
 use Rattle.rrb_core.proofs.Stays.{extended-good}
+use Rattle.champ_chain.proofs.WithLemmas.{not-ok}
+use Rattle.champ_kinds.specs.Root.{Root}
+use Rattle.champ_kinds.specs.Binding.{alike_keys}
 use Rattle.champ_kinds.specs.Kinds.{IsMapOf}
 use Rattle.champ_kinds.proofs.StayLemmas.{containers-extended}
 use Rattle.container_tests.specs.Stands.{IsSomeMap}
 use Rattle.container_tests.specs.Undo.{IsStore}
 use Rattle.container_tests.proofs.StandLemmas.{maps-stay, map-live}
-use Rattle.container_tests.proofs.GainLemmas.{cell-gained, spent-gained, shared-gained, refused-gained, lost-gained, gained-after}
-use Rattle.container_tests.proofs.UndoLemmas.{store-refused, others-refused, others-turned, store-kept, store-back, others-back, put-store, written, versions-kept, versions-turned}
+use Rattle.container_tests.proofs.GainLemmas.{made-within, spares-within, spares-released, cell-gained, spent-gained, shared-gained, refused-gained, lost-gained, gained-after}
+use Rattle.container_tests.proofs.UndoLemmas.{held-before, height-kept, store-refused, others-refused, others-turned, store-kept, store-back, others-back, put-store, after-refusal, written, versions-kept, versions-turned}
 use Rattle.container_tests.proofs.store.Store.put.Goals as goal
 
 pub returns-in_err-reserve-clause-store : goal.returns-in_err-reserve-clause-store
-returns-in_err-reserve-clause-store g c = store-refused g.T.Ord.cmp g.T.Element.code_of c.args.self.now c.reserve.ensures.rest c.requires.store
+returns-in_err-reserve-clause-store g c = (store-refused g.T.Ord.cmp g.T.Element.code_of c.args.self.now c.reserve.ensures.rest c.requires.store).0
+
+pub returns-in_err-reserve-clause-refused : goal.returns-in_err-reserve-clause-refused
+returns-in_err-reserve-clause-refused g c = after-refusal c.from_residual.result (refl, (store-refused g.T.Ord.cmp g.T.Element.code_of c.args.self.now c.reserve.ensures.rest c.requires.store).1)
 
 pub returns-in_err-reserve-clause-others : goal.returns-in_err-reserve-clause-others
-returns-in_err-reserve-clause-others g c = others-refused g.T.Ord.cmp g.T.Element.code_of c.args.self.now c.reserve.ensures.rest
+returns-in_err-reserve-clause-others g c = others-refused c.args.self.now c.reserve.ensures.rest
 
 pub returns-in_err-reserve-clause-versions : goal.returns-in_err-reserve-clause-versions
-returns-in_err-reserve-clause-versions g c = versions-kept g.T.Ord.cmp g.T.Element.code_of c.args.self.now c.reserve.ensures.extends
+returns-in_err-reserve-clause-versions g c = versions-kept c.args.self.now c.reserve.ensures.extends
 
 pub map_insert-requires-clause-contents : goal.map_insert-requires-clause-contents
 map_insert-requires-clause-contents g c =
@@ -34,17 +41,22 @@ release-requires g c =
 pub returns-in-Err-clause-store : goal.returns-in-Err-clause-store
 returns-in-Err-clause-store g c =
     let none = gained-after c.in_ok-reserve.ensures.rest (lost-gained {rest = λ _. 0} {m = 0} c.in_ok-reserve.ensures.rest.graph (refused-gained (cell-gained {b = c.cell-note.new.self} c.cell-note.ensures.adds c.cell-note.ensures.extends c.cell-note.ensures.count) c.in-Err.ensures.handed_back.1) c.release.ensures.releases c.release.ensures.graph (λ k. omega arith) refl) in
-    store-back g.T.Ord.cmp g.T.Element.code_of c.args.self.now none c.requires.store
+    (store-back g.T.Ord.cmp g.T.Element.code_of c.args.self.now none c.requires.store).0
+
+pub returns-in-Err-clause-refused : goal.returns-in-Err-clause-refused
+returns-in-Err-clause-refused g c =
+    let none = gained-after c.in_ok-reserve.ensures.rest (lost-gained {rest = λ _. 0} {m = 0} c.in_ok-reserve.ensures.rest.graph (refused-gained (cell-gained {b = c.cell-note.new.self} c.cell-note.ensures.adds c.cell-note.ensures.extends c.cell-note.ensures.count) c.in-Err.ensures.handed_back.1) c.release.ensures.releases c.release.ensures.graph (λ k. omega arith) refl) in
+    (refl {a = c.args.self.now}, (store-back g.T.Ord.cmp g.T.Element.code_of c.args.self.now none c.requires.store).1)
 
 pub returns-in-Err-clause-others : goal.returns-in-Err-clause-others
 returns-in-Err-clause-others g c =
     let none = gained-after c.in_ok-reserve.ensures.rest (lost-gained {rest = λ _. 0} {m = 0} c.in_ok-reserve.ensures.rest.graph (refused-gained (cell-gained {b = c.cell-note.new.self} c.cell-note.ensures.adds c.cell-note.ensures.extends c.cell-note.ensures.count) c.in-Err.ensures.handed_back.1) c.release.ensures.releases c.release.ensures.graph (λ k. omega arith) refl) in
-    others-back g.T.Ord.cmp g.T.Element.code_of c.args.self.now none
+    others-back c.args.self.now (held-before c.in_ok-reserve.ensures.rest) none
 
 pub returns-in-Err-clause-versions : goal.returns-in-Err-clause-versions
 returns-in-Err-clause-versions g c =
     let none = gained-after c.in_ok-reserve.ensures.rest (lost-gained {rest = λ _. 0} {m = 0} c.in_ok-reserve.ensures.rest.graph (refused-gained (cell-gained {b = c.cell-note.new.self} c.cell-note.ensures.adds c.cell-note.ensures.extends c.cell-note.ensures.count) c.in-Err.ensures.handed_back.1) c.release.ensures.releases c.release.ensures.graph (λ k. omega arith) refl) in
-    versions-kept g.T.Ord.cmp g.T.Element.code_of c.args.self.now none.extends
+    versions-kept c.args.self.now none.extends
 
 pub share-requires-clause-live : goal.share-requires-clause-live
 share-requires-clause-live g c =
@@ -118,7 +130,7 @@ returns-in-Ok-push-clause-others g c =
     let shared = shared-gained {b = c.cell-note.new.self} {c = c.map_insert.new.heap} (cell-gained {b = c.cell-note.new.self} c.cell-note.ensures.adds c.cell-note.ensures.extends c.cell-note.ensures.count) (c.in-Ok.ensures.answered M.0 M.1) c.share.ensures.builds c.into_root-before.ensures in
     let all = gained-after c.in_ok-reserve.ensures.rest (spent-gained (one_at c.in-Ok.notes.root) shared c.in-Ok-push.ensures.answered (λ k. omega arith)) in
     rw c.turn_to.ensures.after
-    (others-turned g.T.Ord.cmp g.T.Element.code_of {c = c.turn_to.new.heap} c.args.self.now (record { notes = c.in-Ok.notes; earlier = c.in-Ok-push.earlier }) all.extends all.holds all.count c.turn_to.ensures.holds c.turn_to.ensures.count c.turn_to.ensures.maps)
+    (others-turned {c = c.turn_to.new.heap} c.args.self.now (record { notes = c.in-Ok.notes; earlier = c.in-Ok-push.earlier }) (held-before c.in_ok-reserve.ensures.rest) all.extends all.holds all.count c.turn_to.ensures.holds c.turn_to.ensures.count c.turn_to.ensures.keeps)
 
 pub returns-in-Ok-push-clause-kept : goal.returns-in-Ok-push-clause-kept
 returns-in-Ok-push-clause-kept g c =
@@ -157,7 +169,16 @@ returns-in-Err-push-clause-store g c =
     let shared = shared-gained {b = c.cell-note.new.self} {c = c.map_insert.new.heap} (cell-gained {b = c.cell-note.new.self} c.cell-note.ensures.adds c.cell-note.ensures.extends c.cell-note.ensures.count) (c.in-Ok.ensures.answered M.0 M.1) c.share.ensures.builds c.into_root-before.ensures in
     let first = lost-gained {rest = one_at c.in-Ok.notes.root} {m = 1} c.in_ok-reserve.ensures.rest.graph (refused-gained shared c.in-Err-push.ensures.refused) c.release-in-Err-push.ensures.releases c.release-in-Err-push.ensures.graph (λ k. omega arith) refl in
     let none = gained-after c.in_ok-reserve.ensures.rest (lost-gained {rest = λ _. 0} {m = 0} c.in_ok-reserve.ensures.rest.graph first c.release-in-Err-push-2.ensures.releases c.release-in-Err-push-2.ensures.graph (λ k. omega arith) refl) in
-    store-back g.T.Ord.cmp g.T.Element.code_of c.args.self.now none c.requires.store
+    (store-back g.T.Ord.cmp g.T.Element.code_of c.args.self.now none c.requires.store).0
+
+pub returns-in-Err-push-clause-refused : goal.returns-in-Err-push-clause-refused
+returns-in-Err-push-clause-refused g c =
+    let before = Extends-trans {new = c.cell-note.new.self} c.in_ok-reserve.ensures.extends c.cell-note.ensures.extends in
+    let M : IsSomeMap g.T.Ord.cmp g.T.Element.code_of c.cell-note.new.self c.view.result = rw c.view.ensures (maps-stay g.T.Ord.cmp g.T.Element.code_of before c.args.self.now.notes c.requires.store.notes) in
+    let shared = shared-gained {b = c.cell-note.new.self} {c = c.map_insert.new.heap} (cell-gained {b = c.cell-note.new.self} c.cell-note.ensures.adds c.cell-note.ensures.extends c.cell-note.ensures.count) (c.in-Ok.ensures.answered M.0 M.1) c.share.ensures.builds c.into_root-before.ensures in
+    let first = lost-gained {rest = one_at c.in-Ok.notes.root} {m = 1} c.in_ok-reserve.ensures.rest.graph (refused-gained shared c.in-Err-push.ensures.refused) c.release-in-Err-push.ensures.releases c.release-in-Err-push.ensures.graph (λ k. omega arith) refl in
+    let none = gained-after c.in_ok-reserve.ensures.rest (lost-gained {rest = λ _. 0} {m = 0} c.in_ok-reserve.ensures.rest.graph first c.release-in-Err-push-2.ensures.releases c.release-in-Err-push-2.ensures.graph (λ k. omega arith) refl) in
+    (refl {a = c.args.self.now}, (store-back g.T.Ord.cmp g.T.Element.code_of c.args.self.now none c.requires.store).1)
 
 pub returns-in-Err-push-clause-others : goal.returns-in-Err-push-clause-others
 returns-in-Err-push-clause-others g c =
@@ -166,7 +187,7 @@ returns-in-Err-push-clause-others g c =
     let shared = shared-gained {b = c.cell-note.new.self} {c = c.map_insert.new.heap} (cell-gained {b = c.cell-note.new.self} c.cell-note.ensures.adds c.cell-note.ensures.extends c.cell-note.ensures.count) (c.in-Ok.ensures.answered M.0 M.1) c.share.ensures.builds c.into_root-before.ensures in
     let first = lost-gained {rest = one_at c.in-Ok.notes.root} {m = 1} c.in_ok-reserve.ensures.rest.graph (refused-gained shared c.in-Err-push.ensures.refused) c.release-in-Err-push.ensures.releases c.release-in-Err-push.ensures.graph (λ k. omega arith) refl in
     let none = gained-after c.in_ok-reserve.ensures.rest (lost-gained {rest = λ _. 0} {m = 0} c.in_ok-reserve.ensures.rest.graph first c.release-in-Err-push-2.ensures.releases c.release-in-Err-push-2.ensures.graph (λ k. omega arith) refl) in
-    others-back g.T.Ord.cmp g.T.Element.code_of c.args.self.now none
+    others-back c.args.self.now (held-before c.in_ok-reserve.ensures.rest) none
 
 pub returns-in-Err-push-clause-versions : goal.returns-in-Err-push-clause-versions
 returns-in-Err-push-clause-versions g c =
@@ -175,7 +196,7 @@ returns-in-Err-push-clause-versions g c =
     let shared = shared-gained {b = c.cell-note.new.self} {c = c.map_insert.new.heap} (cell-gained {b = c.cell-note.new.self} c.cell-note.ensures.adds c.cell-note.ensures.extends c.cell-note.ensures.count) (c.in-Ok.ensures.answered M.0 M.1) c.share.ensures.builds c.into_root-before.ensures in
     let first = lost-gained {rest = one_at c.in-Ok.notes.root} {m = 1} c.in_ok-reserve.ensures.rest.graph (refused-gained shared c.in-Err-push.ensures.refused) c.release-in-Err-push.ensures.releases c.release-in-Err-push.ensures.graph (λ k. omega arith) refl in
     let none = gained-after c.in_ok-reserve.ensures.rest (lost-gained {rest = λ _. 0} {m = 0} c.in_ok-reserve.ensures.rest.graph first c.release-in-Err-push-2.ensures.releases c.release-in-Err-push-2.ensures.graph (λ k. omega arith) refl) in
-    versions-kept g.T.Ord.cmp g.T.Element.code_of c.args.self.now none.extends
+    versions-kept c.args.self.now none.extends
 
 pub returns-in-Err-push-clause-long : goal.returns-in-Err-push-clause-long
 returns-in-Err-push-clause-long g c = λ long.
@@ -185,3 +206,107 @@ returns-in-Err-push-clause-long g c = λ long.
     let mid = gained-after c.in_ok-reserve.ensures.rest shared in
     let kept : elements c.share.new.heap c.args.self.now.earlier ≡ elements c.args.heap.now c.args.self.now.earlier = (store-kept g.T.Ord.cmp g.T.Element.code_of c.args.self.now mid.extends (λ k. omega (arith, mid.holds k)) c.requires.store).1 in
     rw (c.view-2.ensures, kept) at (c.in-Err-push.ensures.long.0 (cc))
+
+pub returns-in_err-reserve-clause-ample : goal.returns-in_err-reserve-clause-ample
+returns-in_err-reserve-clause-ample g c = λ M is spares. absurd (not-ok c.reserve.result _ c.in_err-reserve.was (c.reserve.ensures.ample (omega (arith, spares.0)) (omega arith)))
+
+pub returns-in-Err-clause-ample : goal.returns-in-Err-clause-ample
+returns-in-Err-clause-ample g c = λ M is spares.
+    let cmp = g.T.Ord.cmp in
+    let code = g.T.Element.code_of in
+    let before = Extends-trans {new = c.cell-note.new.self} c.in_ok-reserve.ensures.extends c.cell-note.ensures.extends in
+    let there : IsMapOf cmp code c.cell-note.new.self c.view.result M = rw c.view.ensures ((containers-extended c.args.heap.now c.cell-note.new.self before c.args.self.now.notes).map cmp code M is) in
+    let made = c.cell-note.ensures.makes in
+    let rest = c.in_ok-reserve.ensures.rest in
+    let alike = ap (λ (r : Root). alike_keys code r.bits c.args.name M) c.view.ensures in
+    absurd (false≢true (c.in-Err.ensures.ample M there (omega (arith, spares.0, made.spare_cells, rest.spare_cells), omega (arith, spares.1, made.spare_nodes, rest.spare_nodes, alike))))
+
+pub returns-in-Err-push-clause-ample : goal.returns-in-Err-push-clause-ample
+returns-in-Err-push-clause-ample g c = λ M is spares memory.
+    let cmp = g.T.Ord.cmp in
+    let code = g.T.Element.code_of in
+    let before = Extends-trans {new = c.cell-note.new.self} c.in_ok-reserve.ensures.extends c.cell-note.ensures.extends in
+    let there : IsMapOf cmp code c.cell-note.new.self c.view.result M = rw c.view.ensures ((containers-extended c.args.heap.now c.cell-note.new.self before c.args.self.now.notes).map cmp code M is) in
+    let made = c.cell-note.ensures.makes in
+    let rest = c.in_ok-reserve.ensures.rest in
+    let alike = ap (λ (r : Root). alike_keys code r.bits c.args.name M) c.view.ensures in
+    let put = c.in-Ok.ensures.answered M there in
+    let shared = c.share.ensures.builds in
+    c.in-Err-push.ensures.ample (omega arith, omega (arith, spares.1, made.spare_nodes, rest.spare_nodes, alike, put.nodes, put.balance.spare_nodes, shared.few_nodes, shared.makes.spare_nodes)) (cc)
+
+pub returns-in_err-reserve-clause-made : goal.returns-in_err-reserve-clause-made
+returns-in_err-reserve-clause-made g c = λ M is. omega (arith, c.reserve.ensures.rest.made)
+
+pub returns-in-Err-clause-made : goal.returns-in-Err-clause-made
+returns-in-Err-clause-made g c = λ M is. omega (arith, c.in_ok-reserve.ensures.rest.made, c.cell-note.ensures.makes.made, c.in-Err.ensures.handed_back.1.made, c.release.ensures.releases.made)
+
+pub returns-in-Ok-push-clause-made : goal.returns-in-Ok-push-clause-made
+returns-in-Ok-push-clause-made g c = λ M is.
+    let cmp = g.T.Ord.cmp in
+    let code = g.T.Element.code_of in
+    let before = Extends-trans {new = c.cell-note.new.self} c.in_ok-reserve.ensures.extends c.cell-note.ensures.extends in
+    let there : IsMapOf cmp code c.cell-note.new.self c.view.result M = rw c.view.ensures ((containers-extended c.args.heap.now c.cell-note.new.self before c.args.self.now.notes).map cmp code M is) in
+    let alike = ap (λ (r : Root). alike_keys code r.bits c.args.name M) c.view.ensures in
+    let put = made-within {b = c.map_insert.new.heap} c.in-Ok.ensures.made (c.in-Ok.ensures.answered M there) in
+    let shared = c.share.ensures.builds in
+    let more = Extends-trans {new = c.share.new.heap} before (Extends-trans {new = c.share.new.heap} (c.in-Ok.ensures.answered M there).extends shared.extends) in
+    let height : height_at c.share.new.heap c.view-2.result ≡ height_at c.args.heap.now c.args.self.now.earlier = rw c.view-2.ensures (height-kept c.args.self.now.earlier more c.requires.store.earlier) in
+    let pushed = made-within {b = c.push.new.heap} c.in-Ok-push.ensures.made c.in-Ok-push.ensures.answered in
+    omega (arith, c.in_ok-reserve.ensures.rest.made, c.cell-note.ensures.makes.made, put, alike, shared.makes.made, shared.few_cells, shared.few_nodes, pushed, height, c.turn_to.ensures.made)
+
+pub returns-in-Err-push-clause-made : goal.returns-in-Err-push-clause-made
+returns-in-Err-push-clause-made g c = λ M is.
+    let cmp = g.T.Ord.cmp in
+    let code = g.T.Element.code_of in
+    let before = Extends-trans {new = c.cell-note.new.self} c.in_ok-reserve.ensures.extends c.cell-note.ensures.extends in
+    let there : IsMapOf cmp code c.cell-note.new.self c.view.result M = rw c.view.ensures ((containers-extended c.args.heap.now c.cell-note.new.self before c.args.self.now.notes).map cmp code M is) in
+    let alike = ap (λ (r : Root). alike_keys code r.bits c.args.name M) c.view.ensures in
+    let put = made-within {b = c.map_insert.new.heap} c.in-Ok.ensures.made (c.in-Ok.ensures.answered M there) in
+    let shared = c.share.ensures.builds in
+    omega (arith, c.in_ok-reserve.ensures.rest.made, c.cell-note.ensures.makes.made, put, alike, shared.makes.made, shared.few_cells, shared.few_nodes, c.in-Err-push.ensures.refused.made, c.release-in-Err-push.ensures.releases.made, c.release-in-Err-push-2.ensures.releases.made)
+
+pub returns-in_err-reserve-clause-spares : goal.returns-in_err-reserve-clause-spares
+returns-in_err-reserve-clause-spares g c = λ M is.
+    let rest = c.reserve.ensures.rest in
+    (omega (arith, rest.spare_cells), omega (arith, rest.spare_nodes))
+
+pub returns-in-Err-clause-spares : goal.returns-in-Err-clause-spares
+returns-in-Err-clause-spares g c = λ M is.
+    let rest = c.in_ok-reserve.ensures.rest in
+    let made = c.cell-note.ensures.makes in
+    let back = c.in-Err.ensures.handed_back.1 in
+    let freed = spares-released c.release.ensures.releases in
+    (omega (arith, rest.spare_cells, made.spare_cells, back.spare_cells, freed.0), omega (arith, rest.spare_nodes, made.spare_nodes, back.spare_nodes, freed.1))
+
+pub returns-in-Ok-push-clause-spares : goal.returns-in-Ok-push-clause-spares
+returns-in-Ok-push-clause-spares g c = λ M is.
+    let cmp = g.T.Ord.cmp in
+    let code = g.T.Element.code_of in
+    let before = Extends-trans {new = c.cell-note.new.self} c.in_ok-reserve.ensures.extends c.cell-note.ensures.extends in
+    let there : IsMapOf cmp code c.cell-note.new.self c.view.result M = rw c.view.ensures ((containers-extended c.args.heap.now c.cell-note.new.self before c.args.self.now.notes).map cmp code M is) in
+    let alike = ap (λ (r : Root). alike_keys code r.bits c.args.name M) c.view.ensures in
+    let rest = c.in_ok-reserve.ensures.rest in
+    let made = c.cell-note.ensures.makes in
+    let put = spares-within {b = c.map_insert.new.heap} (c.in-Ok.ensures.answered M there) in
+    let shared = c.share.ensures.builds in
+    let more = Extends-trans {new = c.share.new.heap} before (Extends-trans {new = c.share.new.heap} (c.in-Ok.ensures.answered M there).extends shared.extends) in
+    let height : height_at c.share.new.heap c.view-2.result ≡ height_at c.args.heap.now c.args.self.now.earlier = rw c.view-2.ensures (height-kept c.args.self.now.earlier more c.requires.store.earlier) in
+    let pushed = spares-within {b = c.push.new.heap} c.in-Ok-push.ensures.answered in
+    let turned = c.turn_to.ensures.spares in
+    (omega (arith, rest.spare_cells, made.spare_cells, put.0, shared.makes.spare_cells, shared.few_cells, pushed.0, turned.0), omega (arith, rest.spare_nodes, made.spare_nodes, put.1, alike, shared.makes.spare_nodes, shared.few_nodes, pushed.1, height, turned.1))
+
+pub returns-in-Err-push-clause-spares : goal.returns-in-Err-push-clause-spares
+returns-in-Err-push-clause-spares g c = λ M is.
+    let cmp = g.T.Ord.cmp in
+    let code = g.T.Element.code_of in
+    let before = Extends-trans {new = c.cell-note.new.self} c.in_ok-reserve.ensures.extends c.cell-note.ensures.extends in
+    let there : IsMapOf cmp code c.cell-note.new.self c.view.result M = rw c.view.ensures ((containers-extended c.args.heap.now c.cell-note.new.self before c.args.self.now.notes).map cmp code M is) in
+    let alike = ap (λ (r : Root). alike_keys code r.bits c.args.name M) c.view.ensures in
+    let rest = c.in_ok-reserve.ensures.rest in
+    let made = c.cell-note.ensures.makes in
+    let put = spares-within {b = c.map_insert.new.heap} (c.in-Ok.ensures.answered M there) in
+    let shared = c.share.ensures.builds in
+    let still = c.in-Err-push.ensures.refused in
+    let first = spares-released c.release-in-Err-push.ensures.releases in
+    let second = spares-released c.release-in-Err-push-2.ensures.releases in
+    (omega (arith, rest.spare_cells, made.spare_cells, put.0, shared.makes.spare_cells, shared.few_cells, still.spare_cells, first.0, second.0), omega (arith, rest.spare_nodes, made.spare_nodes, put.1, alike, shared.makes.spare_nodes, shared.few_nodes, still.spare_nodes, first.1, second.1))

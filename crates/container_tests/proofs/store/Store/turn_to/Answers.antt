@@ -1,8 +1,8 @@
-use Rattle.std.proofs.Common.{ap, arith}
+use Rattle.std.proofs.Common.{◌∙◌, ap, arith}
 use Rattle.node_heap.proofs.Frames.{KeepsBelow-Releases, KeepsBelow-trans}
-use Rattle.node_heap.specs.Heap.{one_at}
 use Rattle.champ_kinds.specs.Root.{Root}
-use Rattle.container_tests.proofs.UndoLemmas.{turned, map-released}
+use Rattle.container_tests.proofs.GainLemmas.{spares-released}
+use Rattle.container_tests.proofs.UndoLemmas.{turned, roots-released}
 use Rattle.container_tests.proofs.store.Store.turn_to.Goals as goal
 
 pub returns-clause-store : goal.returns-clause-store
@@ -20,9 +20,14 @@ returns-clause-below g c = λ l live.
     KeepsBelow-trans c.args.heap.now c.release.new.heap c.release-2.new.heap l (KeepsBelow-Releases c.args.heap.now c.release.new.heap _ c.release.ensures.releases c.release.ensures.graph l (rw (← same) live))
     (KeepsBelow-Releases c.release.new.heap c.release-2.new.heap _ c.release-2.ensures.releases c.release-2.ensures.graph l live)
 
-pub returns-clause-maps : goal.returns-clause-maps
-returns-clause-maps g c = λ r M held is.
-    let first = ap (λ (r' : Root). one_at r'.root r.root) c.replace.ensures.value in
-    map-released g.T.Ord.cmp g.T.Element.code_of c.release-2.ensures.releases c.release-2.ensures.graph r M
-    (omega (arith, held, first, ap (λ l. one_at l r.root) c.replace-2.ensures.value, c.release.ensures.releases.holds r.root))
-    (map-released g.T.Ord.cmp g.T.Element.code_of c.release.ensures.releases c.release.ensures.graph r M (omega (arith, held, first)) is)
+pub returns-clause-keeps : goal.returns-clause-keeps
+returns-clause-keeps g c = roots-released c.args.self.now c.release.ensures.keeps c.release-2.ensures.keeps (ap (λ (r : Root). r.root) c.replace.ensures.value) c.replace-2.ensures.value
+
+pub returns-clause-made : goal.returns-clause-made
+returns-clause-made g c = c.release-2.ensures.releases.made ∙ c.release.ensures.releases.made
+
+pub returns-clause-spares : goal.returns-clause-spares
+returns-clause-spares g c =
+    let first = spares-released c.release.ensures.releases in
+    let second = spares-released c.release-2.ensures.releases in
+    (omega (arith, first.0, second.0), omega (arith, first.1, second.1))

@@ -1,21 +1,26 @@
-use Rattle.std.proofs.Common.{◌≡◌, ◌+◌, ◌-◌, ◌∙◌, ℕ, ap, sym, arith}
+use Rattle.std.proofs.Common.{◌≡◌, ◌+◌, ◌-◌, ◌≤◌, ◌∙◌, ℕ, refl, ap, sym, arith}
 use Rattle.std.specs.Prelude.{take}
 use Rattle.node_heap.specs.Heap.{holds_at, hold_count, one_at}
 use Rattle.node_heap.proofs.Frames.{Extends-trans, Extends-Unchanged}
 use Rattle.rrb_core.specs.Vector.{elements, height_at}
 use Rattle.rrb_core.proofs.Stays.{well-live, vector-stays}
+use Rattle.champ_chain.proofs.WithLemmas.{not-ok}
 use Rattle.champ_kinds.specs.Root.{Root}
-use Rattle.container_tests.proofs.UndoLemmas.{store-refused, others-refused, others-turned, undone, front-last, versions-kept, versions-turned}
+use Rattle.container_tests.proofs.GainLemmas.{made-within, spares-within}
+use Rattle.container_tests.proofs.UndoLemmas.{after-refusal, store-refused, others-refused, others-turned, undone, front-last, versions-kept, versions-turned}
 use Rattle.container_tests.proofs.store.Store.undo.Goals as goal
 
 pub returns-in_err-earlier-clause-store : goal.returns-in_err-earlier-clause-store
-returns-in_err-earlier-clause-store g c = store-refused g.T.Ord.cmp g.T.Element.code_of c.args.self.now c.in_err-earlier.ensures.refused c.requires.store
+returns-in_err-earlier-clause-store g c = (store-refused g.T.Ord.cmp g.T.Element.code_of c.args.self.now c.in_err-earlier.ensures.refused c.requires.store).0
+
+pub returns-in_err-earlier-clause-refused : goal.returns-in_err-earlier-clause-refused
+returns-in_err-earlier-clause-refused g c = after-refusal c.from_residual.result (refl, (store-refused g.T.Ord.cmp g.T.Element.code_of c.args.self.now c.in_err-earlier.ensures.refused c.requires.store).1)
 
 pub returns-in_err-earlier-clause-others : goal.returns-in_err-earlier-clause-others
-returns-in_err-earlier-clause-others g c = others-refused g.T.Ord.cmp g.T.Element.code_of c.args.self.now c.in_err-earlier.ensures.refused
+returns-in_err-earlier-clause-others g c = others-refused c.args.self.now c.in_err-earlier.ensures.refused
 
 pub returns-in_err-earlier-clause-versions : goal.returns-in_err-earlier-clause-versions
-returns-in_err-earlier-clause-versions g c = versions-kept g.T.Ord.cmp g.T.Element.code_of c.args.self.now (Extends-Unchanged c.in_err-earlier.ensures.refused)
+returns-in_err-earlier-clause-versions g c = versions-kept c.args.self.now (Extends-Unchanged c.in_err-earlier.ensures.refused)
 
 pub returns-clause-versions : goal.returns-clause-versions
 returns-clause-versions g c =
@@ -44,11 +49,11 @@ returns-clause-others g c =
     let taken = c.in_ok-earlier.ensures.answered in
     let total : hold_count c.take.new.heap + 0 ≡ hold_count c.args.heap.now + 1 = taken.count in
     rw c.turn_to.ensures.after
-    (others-turned g.T.Ord.cmp g.T.Element.code_of {c = c.turn_to.new.heap} c.args.self.now (record { notes = c.from_root.result; earlier = c.in_ok-earlier.earlier }) (Extends-trans taken.extends c.hold.ensures.extends)
+    (others-turned {c = c.turn_to.new.heap} c.args.self.now (record { notes = c.from_root.result; earlier = c.in_ok-earlier.earlier }) c.len-count.ensures.graph.held (Extends-trans taken.extends c.hold.ensures.extends)
     (λ k.
     let gained : holds_at c.take.new.heap k + 0 ≡ holds_at c.args.heap.now k + one_at c.in_ok-earlier.earlier k = taken.holds k in
     omega (arith, gained, c.hold.ensures.holds k, ap (λ (r : Root). one_at r.root k) c.from_root.ensures))
-    (omega (arith, total, c.hold.ensures.count)) c.turn_to.ensures.holds c.turn_to.ensures.count c.turn_to.ensures.maps)
+    (omega (arith, total, c.hold.ensures.count)) c.turn_to.ensures.holds c.turn_to.ensures.count c.turn_to.ensures.keeps)
 
 pub returns-clause-back : goal.returns-clause-back
 returns-clause-back g c = λ done.
@@ -60,3 +65,27 @@ returns-clause-back g c = λ done.
     let items : elements c.turn_to.new.heap new ≡ take (c.len-count.result - 1) xs = c.turn_to.ensures.items ∙ (there.1 ∙ (rw c.view-3.ensures at taken.items)) in
     rw (c.turn_to.ensures.after, items, c.from_root.ensures)
     (front-last xs c.len-count.result c.in-Some.root (rw c.view.ensures at c.len-count.ensures.value) (sym (rw c.view-2.ensures at c.in-Some.ensures.value)))
+
+pub returns-in_err-earlier-clause-ample : goal.returns-in_err-earlier-clause-ample
+returns-in_err-earlier-clause-ample g c = λ spares. absurd (not-ok c.take.result _ c.in_err-earlier.was (c.take.ensures.ample spares))
+
+pub returns-in_err-earlier-clause-made : goal.returns-in_err-earlier-clause-made
+returns-in_err-earlier-clause-made g c = omega (arith, c.in_err-earlier.ensures.refused.made)
+
+pub returns-clause-made : goal.returns-clause-made
+returns-clause-made g c =
+    let taken = c.in_ok-earlier.ensures in
+    let low : height_at c.take.new.heap c.in_ok-earlier.earlier ≤ height_at c.args.heap.now c.args.self.now.earlier = rw c.view-3.ensures at taken.low in
+    omega (arith, made-within {b = c.take.new.heap} taken.made taken.answered, low, c.hold.ensures.makes.made, c.turn_to.ensures.made)
+
+pub returns-in_err-earlier-clause-spares : goal.returns-in_err-earlier-clause-spares
+returns-in_err-earlier-clause-spares g c = (c.in_err-earlier.ensures.refused.spare_cells, omega (arith, c.in_err-earlier.ensures.refused.spare_nodes))
+
+pub returns-clause-spares : goal.returns-clause-spares
+returns-clause-spares g c =
+    let taken = c.in_ok-earlier.ensures in
+    let low : height_at c.take.new.heap c.in_ok-earlier.earlier ≤ height_at c.args.heap.now c.args.self.now.earlier = rw c.view-3.ensures at taken.low in
+    let spares = spares-within {b = c.take.new.heap} taken.answered in
+    let held = c.hold.ensures.makes in
+    let turned = c.turn_to.ensures.spares in
+    (omega (arith, spares.0, held.spare_cells, turned.0), omega (arith, spares.1, low, held.spare_nodes, turned.1))
