@@ -3,17 +3,13 @@ use Rattle.std.proofs.Common.{◌≡◌, ℕ, IsSome}
 use Rattle.std.specs.declared.cmp.Ordering.{Ordering}
 use Rattle.node_heap.specs.Heap.{Heap, row_at}
 use Rattle.node_heap.specs.Calls.{Extends}
-use Rattle.rrb_core.proofs.Stays.{extended-good}
 use Rattle.champ_trie.proofs.LeftLemmas.{KeepsTries-Extends}
 use Rattle.champ_kinds.proofs.StayLemmas.{containers-extended, map-live as live}
 use Rattle.champ_kinds.specs.Root.{Root}
 use Rattle.champ_kinds.specs.Laws.{KeepsContainers}
-use Rattle.container_tests.specs.Stands.{KeepsVectors, IsSomeTrie, IsSomeMap, KeepsMaps, KeepsSets}
+use Rattle.container_tests.specs.Stands.{IsSomeTrie, IsSomeMap, KeepsMaps, KeepsSets}
 
 module _ {T : Type 0} {old new : Heap T} where
-  pub vectors-stay : Extends old new → KeepsVectors old new
-  vectors-stay extends l good = extended-good l extends good
-
   module _ (cmp : T → T → Ordering) (code : T → ℕ) where
     pub trie-stays : Extends old new → (bits l : ℕ) → IsSomeTrie cmp code bits old l → IsSomeTrie cmp code bits new l
     trie-stays extends bits l is = (is.0, KeepsTries-Extends old new extends cmp _ l is.0 is.1)

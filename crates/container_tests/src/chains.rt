@@ -13,16 +13,16 @@ use std::cmp::Ordering;
 use std::test::Fail;
 
 // A chain of three values, of which the first two have different keys.
-fn chain_of<T: Element>(heap: &mut Heap<T>, a: T, b: T, c: T) -> Result<Link, NoMemory>
+fn chain_of<T: Element>(heap: &mut Heap<T>, first: T, second: T, third: T) -> Result<Link, NoMemory>
     requires few { hold_count heap.old < 2 ^ 50 }
-    requires apart { T.cmp a b ≢ Equal }
+    requires apart { T.cmp first second ≢ Equal }
     ensures chain { IfOk result (λ l. (E : List (Entry T)) × IsChain T.cmp (form_at heap.new) l E) }
     ensures few { IfOk result (λ l. hold_count heap.new < 2 ^ 51) }
 {
     heap.reserve(3, 0)?;
-    let first = heap.cell(a);
-    let second = heap.cell(b);
-    let third = heap.cell(c);
+    let first = heap.cell(first);
+    let second = heap.cell(second);
+    let third = heap.cell(third);
     let two = join(heap, first, second)?;
     with(heap, two, third)
 }
@@ -30,35 +30,35 @@ fn chain_of<T: Element>(heap: &mut Heap<T>, a: T, b: T, c: T) -> Result<Link, No
 // How long the chain of three values is, whether it has the key, and whether the key can be taken out of it.
 fn looked<T: Element, P: Probe<T>>(
     heap: &mut Heap<T>,
-    a: T,
-    b: T,
-    c: T,
+    first: T,
+    second: T,
+    third: T,
     key: &P,
 ) -> Result<(usize, bool, bool), NoMemory>
     requires few { hold_count heap.old < 2 ^ 50 }
-    requires apart { T.cmp a b ≢ Equal }
+    requires apart { T.cmp first second ≢ Equal }
 {
-    let chain = chain_of(heap, a, b, c)?;
+    let chain = chain_of(heap, first, second, third)?;
     let len = length(heap, chain);
     let found = find(heap, chain, key).is_some();
     let left = without(heap, chain, key)?;
     Ok((len, found, left.is_some()))
 }
 
-// The same, at a number of its own where the first two keys are the same.
+// The same, or (0, false, false) where the first two keys are the same, which `join` doesn't take.
 fn seen<T: Element, P: Probe<T>>(
     heap: &mut Heap<T>,
-    a: T,
-    b: T,
-    c: T,
+    first: T,
+    second: T,
+    third: T,
     key: &P,
 ) -> Result<(usize, bool, bool), NoMemory>
     requires { hold_count heap.old < 2 ^ 50 }
 {
-    match a.cmp(&b) {
-        Ordering::Less => looked(heap, a, b, c, key),
+    match first.cmp(&second) {
+        Ordering::Less => looked(heap, first, second, third, key),
         Ordering::Equal => Ok((0, false, false)),
-        Ordering::Greater => looked(heap, a, b, c, key),
+        Ordering::Greater => looked(heap, first, second, third, key),
     }
 }
 

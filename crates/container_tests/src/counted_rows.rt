@@ -5,22 +5,22 @@ ghost use Rattle.node_heap.specs.Heap.{form_at, hold_count};
 ghost use Rattle.node_heap.specs.Calls.{Answered, Unchanged};
 
 use elem_core::{NoMemory, Num};
-use node_heap::{Head, Heap, Link, Sums, rows_are_owned, unfolds_to_one_tree};
+use node_heap::{Head, Heap, Link, Sums};
 use std::test::Fail;
 
 // A leaf of two cells, which stands for a while in a pair with a third.
-fn leaf_again<T: Drop>(heap: &mut Heap<T>, a: T, b: T, c: T) -> Result<Link, NoMemory>
+fn leaf_again<T: Drop>(heap: &mut Heap<T>, first: T, second: T, third: T) -> Result<Link, NoMemory>
     requires { hold_count heap.old < 2 ^ 59 }
     ensures answered { IfOk result (λ link. Answered heap.old heap.new [] link 3 2) }
-    ensures tree { IfOk result (λ link. IsTree (form_at heap.new) link (tree_node leaf (trees_of (tree_cell a ∷ tree_cell b ∷ [])))) }
+    ensures tree { IfOk result (λ link. IsTree (form_at heap.new) link (tree_node leaf (trees_of (tree_cell first ∷ tree_cell second ∷ [])))) }
     ensures refused { OnErr result (Unchanged heap.old heap.new) }
     ensures ample { 3 ≤ heap.old.spare_cells → 2 ≤ heap.old.spare_nodes → IsOk result }
 {
     heap.reserve(3, 2)?;
-    let first = heap.cell(a);
-    let second = heap.cell(b);
+    let first = heap.cell(first);
+    let second = heap.cell(second);
     let both = heap.node(Head::Leaf, &[first, second]);
-    let third = heap.cell(c);
+    let third = heap.cell(third);
     heap.hold(both);
     let pair = heap.node(Head::Pair, &[both, third]);
     heap.release(pair);
@@ -79,35 +79,5 @@ fn keeps_a_leaf(rt: HostRuntime) -> Result<(), Fail> {
     assert_eq!(rt; heap.live(), 3);
     assert_eq!(rt; heap.made(), 5);
     assert_eq!(rt; heap.owners(leaf), 1);
-    Ok(())
-}
-
-#[test]
-fn inserts_and_removes_links(rt: HostRuntime) -> Result<(), Fail> {
-    let mut heap: Heap<Num> = Heap::new(rt.alloc());
-    heap.reserve(2, 1)?;
-    let first = heap.cell(Num(7));
-    let second = heap.cell(Num(8));
-    let row = heap.node(Head::Leaf, &[first]);
-    heap.insert_link(row, 0, second);
-    assert_eq!(rt; heap.links(row), [second, first].as_slice());
-    assert!(rt; heap.remove_link(row, 1) == first);
-    assert_eq!(rt; heap.links(row), [second].as_slice());
-    unfolds_to_one_tree(&heap, row);
-    rows_are_owned(&heap);
-    assert_eq!(rt; heap.made(), 3);
-    Ok(())
-}
-
-#[test]
-fn puts_a_head_in_place_of_another(rt: HostRuntime) -> Result<(), Fail> {
-    let mut heap: Heap<Num> = Heap::new(rt.alloc());
-    heap.reserve(1, 1)?;
-    let cell = heap.cell(Num(7));
-    let row = heap.node(Head::Leaf, &[cell]);
-    heap.set_head(row, Head::Chain);
-    assert!(rt; matches!(heap.head(row), Some(Head::Chain)));
-    assert_eq!(rt; heap.links(row), [cell].as_slice());
-    assert_eq!(rt; heap.made(), 2);
     Ok(())
 }

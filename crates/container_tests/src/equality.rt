@@ -121,7 +121,7 @@ fn no_cells<T: Element>(heap: &mut Heap<T>, bits: u32) -> Result<MapRef, NoMemor
     requires bits { bits ≤ CODE_BITS }
     ensures good { IfOk result (IsCellMap T.cmp T.code_of heap.new) }
     ensures bits { IfOk result (λ made. made.bits ≡ bits) }
-    ensures few { IfOk result (λ _. hold_count heap.new ≡ hold_count heap.old + 1) }
+    ensures count { IfOk result (λ _. hold_count heap.new ≡ hold_count heap.old + 1) }
 {
     let made = Map::empty(heap, bits)?;
     Ok(kept(made))
@@ -134,7 +134,7 @@ fn bound<T: Element>(heap: &mut Heap<T>, map: MapRef, key: T, value: T) -> Resul
     ensures good { IfOk result (IsCellMap T.cmp T.code_of heap.new) }
     ensures bits { IfOk result (λ made. made.bits ≡ map.bits) }
     ensures others { IfOk result (λ _. KeepsCellMaps T.cmp T.code_of heap.old heap.new) }
-    ensures few { IfOk result (λ _. hold_count heap.new ≡ hold_count heap.old + 1) }
+    ensures count { IfOk result (λ _. hold_count heap.new ≡ hold_count heap.old + 1) }
 {
     heap.reserve(1, 0)?;
     let value = heap.cell(value);
@@ -153,7 +153,7 @@ fn bound_all<T: Element + Copy>(
     ensures good { IfOk result (IsCellMap T.cmp T.code_of heap.new) }
     ensures bits { IfOk result (λ made. made.bits ≡ map.bits) }
     ensures others { IfOk result (λ _. KeepsCellMaps T.cmp T.code_of heap.old heap.new) }
-    ensures few { IfOk result (λ _. hold_count heap.new ≡ hold_count heap.old + length keys.now) }
+    ensures count { IfOk result (λ _. hold_count heap.new ≡ hold_count heap.old + length keys.now) }
 {
     let mut map = map;
     for key in keys {
@@ -163,16 +163,22 @@ fn bound_all<T: Element + Copy>(
 }
 
 // Whether two maps of cells are equal, with steps on a ledger of its own.
-fn are_same<T: Element, L: Ledger>(heap: &Heap<T>, a: MapRef, b: MapRef, blank: Blank) -> bool
-    requires first { IsCellMap T.cmp T.code_of heap.now a }
-    requires second { IsCellMap T.cmp T.code_of heap.now b }
-    requires bits { a.bits ≡ b.bits }
+fn are_same<T: Element, L: Ledger>(
+    heap: &Heap<T>,
+    first: MapRef,
+    second: MapRef,
+    blank: Blank,
+) -> bool
+    requires first { IsCellMap T.cmp T.code_of heap.now first }
+    requires second { IsCellMap T.cmp T.code_of heap.now second }
+    requires bits { first.bits ≡ second.bits }
     requires name { blank.name ≡ L.name }
     requires parts { blank.parts ≡ L.parts }
     requires some { 0 < L.parts }
 {
     let mut steps = Steps::<L>::new(blank);
-    equal_cells(Glass::new(heap), a, b, &mut steps) && equal_map(heap, a, b, Values::Cells)
+    equal_cells(Glass::new(heap), first, second, &mut steps)
+        && equal_map(heap, first, second, Values::Cells)
 }
 
 // A new cell of the same value leaves a map the same, and one of another value doesn't.
@@ -201,23 +207,28 @@ fn no_keys<T: Element>(heap: &mut Heap<T>, bits: u32) -> Result<SetRef, NoMemory
     requires bits { bits ≤ CODE_BITS }
     ensures good { IfOk result (IsSomeSet T.cmp T.code_of heap.new) }
     ensures bits { IfOk result (λ made. made.bits ≡ bits) }
-    ensures few { IfOk result (λ _. hold_count heap.new ≡ hold_count heap.old + 1) }
+    ensures count { IfOk result (λ _. hold_count heap.new ≡ hold_count heap.old + 1) }
 {
     let made = Set::empty(heap, bits)?;
     Ok(kept_set(made))
 }
 
 // Whether two sets are equal, with steps on a ledger of its own.
-fn are_same_sets<T: Element, L: Ledger>(heap: &Heap<T>, a: SetRef, b: SetRef, blank: Blank) -> bool
-    requires first { IsSomeSet T.cmp T.code_of heap.now a }
-    requires second { IsSomeSet T.cmp T.code_of heap.now b }
-    requires bits { a.bits ≡ b.bits }
+fn are_same_sets<T: Element, L: Ledger>(
+    heap: &Heap<T>,
+    first: SetRef,
+    second: SetRef,
+    blank: Blank,
+) -> bool
+    requires first { IsSomeSet T.cmp T.code_of heap.now first }
+    requires second { IsSomeSet T.cmp T.code_of heap.now second }
+    requires bits { first.bits ≡ second.bits }
     requires name { blank.name ≡ L.name }
     requires parts { blank.parts ≡ L.parts }
     requires some { 0 < L.parts }
 {
     let mut steps = Steps::<L>::new(blank);
-    equal_set(Glass::new(heap), a, b, &mut steps)
+    equal_set(Glass::new(heap), first, second, &mut steps)
 }
 
 // Chains are compared to their ends, and the order of insertion doesn't matter.

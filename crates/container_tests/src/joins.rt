@@ -1,10 +1,10 @@
 //! Joins and cuts of vectors of numbers, beside those of lists.
-ghost use Rattle.std.specs.Prelude.{◌≡◌, ◌+◌, ◌^◌, ◌<◌, ◌≤◌, length, vec_len, IfOk, OnOk, IsSome};
-ghost use Rattle.node_heap.specs.Heap.{row_at, holds_at, hold_count};
+ghost use Rattle.std.specs.Prelude.{◌≡◌, ◌+◌, ◌^◌, ◌<◌, ◌≤◌, length, vec_len, IfOk, OnOk};
+ghost use Rattle.node_heap.specs.Heap.{holds_at, hold_count};
 ghost use Rattle.rrb_core.specs.Vector.{IsGoodVector};
 ghost use Rattle.container_tests.specs.Stands.{KeepsVectors, GivesBack};
 
-use crate::samples::{pushed, pushed_all};
+use crate::samples::{number_in, pushed, pushed_all};
 use elem_core::Num;
 use node_heap::{Heap, Link};
 use rrb_core::{Flex, FlexRef};
@@ -114,13 +114,6 @@ fn refuses_a_part_that_ends_before_it_begins(rt: HostRuntime) -> Result<(), Fail
         Err(fault) => assert_eq!(rt; fault, SliceFault::Range),
     }
     Ok(())
-}
-
-// The number in the cell of an element.
-fn number_in(heap: &Heap<Num>, element: Link) -> Option<u32>
-    requires { IsSome (row_at heap.now element) }
-{
-    heap.value(element).map(|number| number.0)
 }
 
 // That the vector holds these numbers, in order and no more.

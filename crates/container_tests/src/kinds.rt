@@ -38,7 +38,7 @@ fn bound<T: Element>(heap: &mut Heap<T>, map: MapRef, key: T, value: T) -> Resul
     requires good { IsSomeMap T.cmp T.code_of heap.old map }
     ensures good { IfOk result (IsSomeMap T.cmp T.code_of heap.new) }
     ensures others { IfOk result (λ _. KeepsMaps T.cmp T.code_of heap.old heap.new) }
-    ensures few { IfOk result (λ _. hold_count heap.new ≡ hold_count heap.old + 1) }
+    ensures count { IfOk result (λ _. hold_count heap.new ≡ hold_count heap.old + 1) }
 {
     heap.reserve(1, 0)?;
     let value = heap.cell(value);
@@ -56,7 +56,7 @@ fn unbound<T: Element, P: Probe<T>>(
     requires good { IsSomeMap T.cmp T.code_of heap.old map }
     ensures good { IfOk result (IsSomeMap T.cmp T.code_of heap.new) }
     ensures others { IfOk result (λ _. KeepsMaps T.cmp T.code_of heap.old heap.new) }
-    ensures few { IfOk result (λ _. hold_count heap.new ≡ hold_count heap.old + 1) }
+    ensures count { IfOk result (λ _. hold_count heap.new ≡ hold_count heap.old + 1) }
 {
     match map_remove(heap, map, key)? {
         Some(left) => Ok(kept(left)),
@@ -71,7 +71,7 @@ pub fn gained<T: Element>(heap: &mut Heap<T>, set: SetRef, key: T) -> Result<Set
     ensures good { IfOk result (IsSomeSet T.cmp T.code_of heap.new) }
     ensures bits { IfOk result (λ made. made.bits ≡ set.bits) }
     ensures others { IfOk result (λ _. KeepsSets T.cmp T.code_of heap.old heap.new) }
-    ensures few { IfOk result (λ _. hold_count heap.new ≡ hold_count heap.old + 1) }
+    ensures count { IfOk result (λ _. hold_count heap.new ≡ hold_count heap.old + 1) }
 {
     let made = set_insert(heap, set, key)?;
     Ok(kept_set(made))
@@ -83,7 +83,7 @@ fn lost<T: Element, P: Probe<T>>(heap: &mut Heap<T>, set: SetRef, key: &P) -> Re
     requires good { IsSomeSet T.cmp T.code_of heap.old set }
     ensures good { IfOk result (IsSomeSet T.cmp T.code_of heap.new) }
     ensures others { IfOk result (λ _. KeepsSets T.cmp T.code_of heap.old heap.new) }
-    ensures few { IfOk result (λ _. hold_count heap.new ≡ hold_count heap.old + 1) }
+    ensures count { IfOk result (λ _. hold_count heap.new ≡ hold_count heap.old + 1) }
 {
     match set_remove(heap, set, key)? {
         Some(left) => Ok(kept_set(left)),
@@ -183,7 +183,7 @@ fn bound_all<T: Element + Copy>(
     requires good { IsSomeMap T.cmp T.code_of heap.old map }
     ensures good { IfOk result (IsSomeMap T.cmp T.code_of heap.new) }
     ensures others { IfOk result (λ _. KeepsMaps T.cmp T.code_of heap.old heap.new) }
-    ensures few { IfOk result (λ _. hold_count heap.new ≡ hold_count heap.old + length keys.now) }
+    ensures count { IfOk result (λ _. hold_count heap.new ≡ hold_count heap.old + length keys.now) }
 {
     let mut map = map;
     for key in keys {
@@ -210,7 +210,7 @@ fn comes_back_to_one_entry(rt: HostRuntime) -> Result<(), Fail> {
     Ok(())
 }
 
-// A map of one key is its root alone.
+// A map of one key has one trie row, its root.
 #[test]
 fn keeps_one_entry_in_the_root(rt: HostRuntime) -> Result<(), Fail> {
     let mut heap: Heap<Num> = Heap::new(rt.alloc());
@@ -247,15 +247,20 @@ fn two_orders_give_one_tree(rt: HostRuntime) -> Result<(), Fail> {
 }
 
 // A set of two keys.
-fn set_of<T: Element>(heap: &mut Heap<T>, bits: u32, a: T, b: T) -> Result<SetRef, NoMemory>
+fn set_of<T: Element>(
+    heap: &mut Heap<T>,
+    bits: u32,
+    first: T,
+    second: T,
+) -> Result<SetRef, NoMemory>
     requires bits { bits ≤ CODE_BITS }
     requires few { hold_count heap.old < 2 ^ 40 }
     ensures good { IfOk result (IsSomeSet T.cmp T.code_of heap.new) }
-    ensures few { IfOk result (λ _. hold_count heap.new ≡ hold_count heap.old + 3) }
+    ensures count { IfOk result (λ _. hold_count heap.new ≡ hold_count heap.old + 3) }
 {
     let none = kept_set(Set::empty(heap, bits)?);
-    let one = gained(heap, none, a)?;
-    gained(heap, one, b)
+    let one = gained(heap, none, first)?;
+    gained(heap, one, second)
 }
 
 // Two numbers with one masked code are two keys of a set.
@@ -291,6 +296,8 @@ fn keeps_names(rt: HostRuntime) -> Result<(), Fail> {
     let name = Name::new("z").ok_or("name")?;
     assert_eq!(rt; same.len(&heap), 2);
     assert!(rt; same.has(&heap, &name));
+    let other = Name::new("b").ok_or("name")?;
+    assert!(rt; same.has(&heap, &other));
     assert_eq!(rt; same.alike(&heap, &name), 1);
     assert_eq!(rt; same.members(&heap).count(), 2);
     Ok(())

@@ -1,5 +1,5 @@
 //! Calls that leave all elements as they are give the vector itself: its root is held once more, and no row is made.
-ghost use Rattle.std.specs.Prelude.{◌^◌, ◌<◌};
+ghost use Rattle.std.specs.Prelude.{◌^◌, ◌<◌, IfOk};
 ghost use Rattle.node_heap.specs.Heap.{hold_count};
 ghost use Rattle.rrb_core.specs.Vector.{IsGoodVector};
 
@@ -22,23 +22,23 @@ enum Call {
 }
 
 // What the call gives of a vector of a hundred elements, beside one without any.
-fn root_after(heap: &mut Heap<Num>, call: Call, all: Link, none: Link) -> Result<Link, Fail>
+fn vector_after(heap: &mut Heap<Num>, call: Call, all: Link, none: Link) -> Result<Flex, Fail>
     requires good { IsGoodVector heap.old all }
     requires empty { IsGoodVector heap.old none }
     requires few { hold_count heap.old < 2 ^ 58 }
+    ensures good { IfOk result (λ v. IsGoodVector heap.new v) }
 {
     let all = FlexRef::at(all);
     let none = FlexRef::at(none);
-    let vector = match call {
-        Call::TakeAll => take(heap, all, 100)?,
-        Call::TakeMore => take(heap, all, 5_000)?,
-        Call::DropNone => drop_front(heap, all, 0)?,
-        Call::SliceAll => slice(heap, all, 0, 100)?,
-        Call::EraseNone => erase(heap, all, 40, 40)?,
-        Call::JoinNothingBehind => concat(heap, all, none)?,
-        Call::JoinNothingBefore => concat(heap, none, all)?,
-    };
-    Ok(vector.into_root())
+    match call {
+        Call::TakeAll => Ok(take(heap, all, 100)?),
+        Call::TakeMore => Ok(take(heap, all, 5_000)?),
+        Call::DropNone => Ok(drop_front(heap, all, 0)?),
+        Call::SliceAll => Ok(slice(heap, all, 0, 100)?),
+        Call::EraseNone => Ok(erase(heap, all, 40, 40)?),
+        Call::JoinNothingBehind => Ok(concat(heap, all, none)?),
+        Call::JoinNothingBefore => Ok(concat(heap, none, all)?),
+    }
 }
 
 #[test]
@@ -58,8 +58,10 @@ fn gives_the_vector_itself(rt: HostRuntime) -> Result<(), Fail> {
         let all = pushed_all(&mut heap, none, 0, 100)?;
         let live = heap.live();
         let made = heap.made();
-        let root = root_after(&mut heap, call, all, none)?;
+        let owners = heap.owners(all);
+        let root = vector_after(&mut heap, call, all, none)?.into_root();
         assert!(rt; root == all, "{call:?}");
+        assert_eq!(rt; heap.owners(root).wrapping_sub(owners), 1, "{call:?}");
         assert_eq!(rt; heap.live(), live, "{call:?}");
         assert_eq!(rt; heap.made(), made, "{call:?}");
     }

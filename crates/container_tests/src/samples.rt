@@ -1,6 +1,6 @@
 //! What the tests put into containers: texts, and vectors of numbers.
-ghost use Rattle.std.specs.Prelude.{◌≤◌, ◌-◌, ◌≡◌, ◌+◌, ◌^◌, ◌<◌, IfOk};
-ghost use Rattle.node_heap.specs.Heap.{holds_at, hold_count};
+ghost use Rattle.std.specs.Prelude.{◌≤◌, ◌-◌, ◌≡◌, ◌+◌, ◌^◌, ◌<◌, IsSome, IfOk};
+ghost use Rattle.node_heap.specs.Heap.{row_at, holds_at, hold_count};
 ghost use Rattle.rrb_core.specs.Vector.{IsGoodVector};
 ghost use Rattle.container_tests.specs.Stands.{KeepsVectors};
 
@@ -45,11 +45,18 @@ pub fn pushed_all(heap: &mut Heap<Num>, root: Link, from: u32, to: u32) -> Resul
 }
 
 /// The number in the cell of an element.
+pub fn number_in(heap: &Heap<Num>, element: Link) -> Option<u32>
+    requires { IsSome (row_at heap.now element) }
+{
+    heap.value(element).map(|number| number.0)
+}
+
+/// The number in the cell of the element at the index.
 pub fn number_at(heap: &Heap<Num>, root: Link, index: u32) -> Option<u32>
     requires { IsGoodVector heap.now root }
 {
     let element = FlexRef::at(root).get(heap, index)?;
-    heap.value(element).map(|number| number.0)
+    number_in(heap, element)
 }
 
 /// Whether the vector has the numbers from 0 to below this one, in order and no more.

@@ -17,7 +17,7 @@ fn gained<T: Element>(heap: &mut Heap<T>, root: Link, value: T, bits: u32) -> Re
     requires few { hold_count heap.old < 2 ^ 50 }
     requires good { IsSomeTrie T.cmp T.code_of bits heap.old root }
     ensures good { IfOk result (IsSomeTrie T.cmp T.code_of bits heap.new) }
-    ensures few { IfOk result (λ l. hold_count heap.new ≡ hold_count heap.old + 1) }
+    ensures count { IfOk result (λ l. hold_count heap.new ≡ hold_count heap.old + 1) }
 {
     heap.reserve(1, 0)?;
     let entry = heap.cell(value);
@@ -35,15 +35,15 @@ fn lost<T: Element, P: Probe<T>>(
     requires few { hold_count heap.old < 2 ^ 50 }
     requires good { IsSomeTrie T.cmp T.code_of bits heap.old root }
     ensures good { IfOk result (IsSomeTrie T.cmp T.code_of bits heap.new) }
-    ensures few { IfOk result (λ l. hold_count heap.new ≡ hold_count heap.old + 1) }
+    ensures count { IfOk result (λ l. hold_count heap.new ≡ hold_count heap.old + 1) }
 {
     let left = without(heap, root, key, bits)?.ok_or("absent")?;
     Ok(left)
 }
 
-// Three numbers with one code by five bits stand in a chain, and of the last one its own cell is left.
+// Three numbers with one code by five bits, of which two are taken out: the entry that is left is the cell that it was.
 #[test]
-fn compacts_a_chain(rt: HostRuntime) -> Result<(), Fail> {
+fn leaves_the_last_entry_its_own_cell(rt: HostRuntime) -> Result<(), Fail> {
     let mut heap: Heap<Num> = Heap::new(rt.alloc());
     let none = empty(&mut heap)?;
     let one = gained(&mut heap, none, Num(1), 5)?;
@@ -66,17 +66,22 @@ fn compacts_a_chain(rt: HostRuntime) -> Result<(), Fail> {
 fn looks_up_as_find_and_alike(rt: HostRuntime) -> Result<(), Fail> {
     let mut heap: Heap<Num> = Heap::new(rt.alloc());
     let none = empty(&mut heap)?;
-    assert_eq!(rt; look_up(&heap, none, &Num(1), 5).alike, 0);
+    let nowhere = look_up(&heap, none, &Num(1), 5);
+    assert!(rt; nowhere.entry == find(&heap, none, &Num(1), 5));
+    assert_eq!(rt; nowhere.alike, alike(&heap, none, &Num(1), 5));
     let one = gained(&mut heap, none, Num(1), 5)?;
     let two = gained(&mut heap, one, Num(33), 5)?;
     let three = gained(&mut heap, two, Num(65), 5)?;
     let there = look_up(&heap, three, &Num(33), 5);
     assert!(rt; there.entry.is_some() && there.entry == find(&heap, three, &Num(33), 5));
+    assert_eq!(rt; there.alike, alike(&heap, three, &Num(33), 5));
     assert_eq!(rt; there.alike, 3);
     let absent = look_up(&heap, three, &Num(97), 5);
-    assert!(rt; absent.entry.is_none());
-    assert_eq!(rt; absent.alike, 3);
-    assert_eq!(rt; look_up(&heap, three, &Num(2), 5).alike, 0);
+    assert!(rt; absent.entry == find(&heap, three, &Num(97), 5));
+    assert_eq!(rt; absent.alike, alike(&heap, three, &Num(97), 5));
+    let apart = look_up(&heap, three, &Num(2), 5);
+    assert!(rt; apart.entry == find(&heap, three, &Num(2), 5));
+    assert_eq!(rt; apart.alike, alike(&heap, three, &Num(2), 5));
     Ok(())
 }
 
@@ -111,7 +116,7 @@ fn gained_all<T: Scattered>(heap: &mut Heap<T>, root: Link, bits: u32) -> Result
     requires few { hold_count heap.old < 2 ^ 40 }
     requires good { IsSomeTrie T.cmp T.code_of bits heap.old root }
     ensures good { IfOk result (IsSomeTrie T.cmp T.code_of bits heap.new) }
-    ensures few { IfOk result (λ l. hold_count heap.new ≡ hold_count heap.old + 300) }
+    ensures count { IfOk result (λ l. hold_count heap.new ≡ hold_count heap.old + 300) }
 {
     let mut root = root;
     for turn in 0..300u32 {

@@ -5,7 +5,7 @@ ghost use Rattle.rrb_core.specs.Vector.{IsGoodVector};
 ghost use Rattle.container_tests.specs.Stands.{KeepsVectors};
 
 use crate::samples::{counts_to, number_at, pushed, pushed_all};
-use elem_core::{NoMemory, Num};
+use elem_core::Num;
 use node_heap::{Heap, Link};
 use rrb_core::{Flex, FlexRef, SetFault, set, take, vectors_stay};
 use std::test::Fail;
@@ -67,7 +67,10 @@ fn keeps_the_vector_before_each_push(rt: HostRuntime) -> Result<(), Fail> {
     let one = pushed(&mut heap, none, 7)?;
     let two = pushed(&mut heap, one, 8)?;
     assert_eq!(rt; FlexRef::at(two).len(&heap), 2);
+    assert_eq!(rt; number_at(&heap, two, 0), Some(7));
+    assert_eq!(rt; number_at(&heap, two, 1), Some(8));
     assert_eq!(rt; FlexRef::at(one).len(&heap), 1);
+    assert_eq!(rt; number_at(&heap, one, 0), Some(7));
     assert_eq!(rt; FlexRef::at(none).len(&heap), 0);
     assert_eq!(rt; heap.live(), 5);
     Ok(())
@@ -91,8 +94,8 @@ fn makes_the_rows_on_the_way_alone(rt: HostRuntime) -> Result<(), Fail> {
     Ok(())
 }
 
-// The length and the height of the vector of the first elements, and how many its iterator gives.
-fn front_of(heap: &mut Heap<Num>, root: Link, count: u32) -> Result<(u32, u8, usize), NoMemory>
+// The length and the height of the vector of the first elements, which must count from 0, and how many its iterator gives.
+fn front_of(heap: &mut Heap<Num>, root: Link, count: u32) -> Result<(u32, u8, usize), Fail>
     requires good { IsGoodVector heap.old root }
     requires few { hold_count heap.old < 2 ^ 58 }
     ensures good { IfOk result (λ _. IsGoodVector heap.new root) }
@@ -101,6 +104,9 @@ fn front_of(heap: &mut Heap<Num>, root: Link, count: u32) -> Result<(u32, u8, us
     let vector = take(heap, FlexRef::at(root), count)?;
     let front = FlexRef::at(vector.into_root());
     let len = front.len(heap);
+    if !counts_to(heap, front.root(), len) {
+        return Err(Fail::new("the numbers differ"));
+    }
     let lines = front.lines(heap, 0, len).count();
     Ok((len, front.height(heap), lines))
 }

@@ -1,5 +1,5 @@
 //! Writes in place and counted reads.
-ghost use Rattle.std.specs.Prelude.{◌≡◌, ℕ, ◌+◌, ◌^◌, ◌<◌, ◌≤◌, Some, length, option_copied};
+ghost use Rattle.std.specs.Prelude.{◌≡◌, ℕ, IsSome, ◌+◌, ◌^◌, ◌<◌, ◌≤◌, Some, length, option_copied};
 ghost use Rattle.node_heap.specs.Forms.{value_of, IsTree, Tree};
 ghost use Rattle.node_heap.specs.Heap.{row_at, form_at, links_at, holds_at, hold_count, one_at, HasSpares};
 ghost use Rattle.node_heap.specs.Calls.{KeepsHeld};
@@ -7,7 +7,7 @@ ghost use Rattle.node_heap.specs.InPlace.{child_at};
 ghost use Rattle.node_heap.specs.Glass.{lent};
 
 use elem_core::Num;
-use node_heap::{Glass, Head, Heap, Link, Steps};
+use node_heap::{Glass, Head, Heap, Link, Steps, rows_are_owned, unfolds_to_one_tree};
 use std::marker::Brand;
 use std::sync::ledger::{Blank, Ledger};
 use std::test::Fail;
@@ -39,6 +39,17 @@ fn write_third<T>(heap: &mut Heap<T>, root: Link, value: T) -> (Link, Link)
     (top, old)
 }
 
+// The value of the row so many links down, by the first link of each row.
+fn value_below<T>(heap: &Heap<T>, link: Link, levels: u32) -> Option<&T>
+    requires { IsSome (row_at heap.now link) }
+{
+    if levels == 0 {
+        return heap.value(link);
+    }
+    let first = heap.links(link).first()?;
+    value_below(heap, *first, levels - 1)
+}
+
 #[test]
 fn writes_below_a_kept_version(rt: HostRuntime) -> Result<(), Fail> {
     let mut heap: Heap<Num> = Heap::new(rt.alloc());
@@ -51,7 +62,40 @@ fn writes_below_a_kept_version(rt: HostRuntime) -> Result<(), Fail> {
     let (top, old) = write_third(&mut heap, root, Num(8));
     assert!(rt; top != root);
     assert!(rt; old == seven);
+    assert_eq!(rt; heap.live(), 8);
+    assert_eq!(rt; value_below(&heap, root, 3), Some(&Num(7)));
+    assert_eq!(rt; value_below(&heap, top, 3), Some(&Num(8)));
     assert_eq!(rt; heap.made(), 8);
+    Ok(())
+}
+
+#[test]
+fn inserts_and_removes_links(rt: HostRuntime) -> Result<(), Fail> {
+    let mut heap: Heap<Num> = Heap::new(rt.alloc());
+    heap.reserve(2, 1)?;
+    let first = heap.cell(Num(7));
+    let second = heap.cell(Num(8));
+    let row = heap.node(Head::Leaf, &[first]);
+    heap.insert_link(row, 0, second);
+    assert_eq!(rt; heap.links(row), [second, first].as_slice());
+    assert!(rt; heap.remove_link(row, 1) == first);
+    assert_eq!(rt; heap.links(row), [second].as_slice());
+    unfolds_to_one_tree(&heap, row);
+    rows_are_owned(&heap);
+    assert_eq!(rt; heap.made(), 3);
+    Ok(())
+}
+
+#[test]
+fn puts_a_head_in_place_of_another(rt: HostRuntime) -> Result<(), Fail> {
+    let mut heap: Heap<Num> = Heap::new(rt.alloc());
+    heap.reserve(1, 1)?;
+    let cell = heap.cell(Num(7));
+    let row = heap.node(Head::Leaf, &[cell]);
+    heap.set_head(row, Head::Chain);
+    assert!(rt; matches!(heap.head(row), Some(Head::Chain)));
+    assert_eq!(rt; heap.links(row), [cell].as_slice());
+    assert_eq!(rt; heap.made(), 2);
     Ok(())
 }
 

@@ -36,8 +36,8 @@ returns-clause-others g c =
     let M = cell-maps-stay before g.T.Ord.cmp g.T.Element.code_of c.args.map c.requires.good in
     λ r is. cell-maps-stay (c.in_ok-made.ensures.answered M.0 M.1.map).extends g.T.Ord.cmp g.T.Element.code_of r (cell-maps-stay before g.T.Ord.cmp g.T.Element.code_of r is)
 
-pub returns-clause-few : goal.returns-clause-few
-returns-clause-few g c =
+pub returns-clause-count : goal.returns-clause-count
+returns-clause-count g c =
     let before = Extends-trans {new = c.cell-value.new.self} c.in_ok-reserve.ensures.extends c.cell-value.ensures.extends in
     let M = cell-maps-stay before g.T.Ord.cmp g.T.Element.code_of c.args.map c.requires.good in
     omega (arith, (c.in_ok-made.ensures.answered M.0 M.1.map).count, c.cell-value.ensures.count, c.in_ok-reserve.ensures.rest.count)

@@ -21,8 +21,8 @@ returns-clause-others g c =
     let before = Extends-trans {new = c.cell-value.new.self} c.in_ok-reserve.ensures.extends c.cell-value.ensures.extends in
     λ r is. maps-kept g.T.Ord.cmp g.T.Element.code_of c.in_ok-made.ensures.containers r (maps-stay g.T.Ord.cmp g.T.Element.code_of before r is)
 
-pub returns-clause-few : goal.returns-clause-few
-returns-clause-few g c =
+pub returns-clause-count : goal.returns-clause-count
+returns-clause-count g c =
     let before = Extends-trans {new = c.cell-value.new.self} c.in_ok-reserve.ensures.extends c.cell-value.ensures.extends in
     let M = maps-stay g.T.Ord.cmp g.T.Element.code_of before c.args.map c.requires.good in
     omega (arith, (c.in_ok-made.ensures.answered M.0 M.1).count, c.cell-value.ensures.count, c.in_ok-reserve.ensures.rest.count)

@@ -15,8 +15,8 @@ returns-clause-good g c =
     let E = trie-stays g.T.Ord.cmp g.T.Element.code_of (Extends-trans c.in_ok-reserve.ensures.extends c.cell-entry.ensures.extends) c.args.bits c.args.root c.requires.good in
     IfOk-weaker c.with.result _ _ (λ l is. (put g.T.Ord.cmp E.0 (entry c.args.value c.cell-entry.result), is)) (c.with.ensures.entries E.0 c.args.value E.1 key)
 
-pub returns-clause-few : goal.returns-clause-few
-returns-clause-few g c =
+pub returns-clause-count : goal.returns-clause-count
+returns-clause-count g c =
     let key = cell-key c.cell-entry.new.self c.cell-entry.result c.args.value c.cell-entry.ensures.adds.here in
     let E = trie-stays g.T.Ord.cmp g.T.Element.code_of (Extends-trans c.in_ok-reserve.ensures.extends c.cell-entry.ensures.extends) c.args.bits c.args.root c.requires.good in
     IfOk-weaker c.with.result _ _ (λ l is. let total = is.count in omega (arith, total, c.cell-entry.ensures.count, c.in_ok-reserve.ensures.rest.count)) (c.with.ensures.answered E.0 c.args.value E.1 key)

@@ -7,5 +7,5 @@ abbrev pub invariant-loop-turn : goal.invariant-loop-turn
 invariant-loop-turn g l =
     record {
       good : IsSomeTrie g.T.Ord.cmp g.T.Element.code_of l.bits l.heap l.root;
-      few : hold_count l.heap ≡ hold_count l.initial.heap + l.turn;
+      count : hold_count l.heap ≡ hold_count l.initial.heap + l.turn;
     }

@@ -1,7 +1,10 @@
-use Rattle.std.proofs.Common.{◌≡◌, ap, ◌∙◌, refl, arith}
+use Rattle.std.proofs.Common.{◌≡◌, ◌+◌, ◌<◌, ℕ, ap, ◌∙◌, refl, sym, subst, arith, inl, inr}
 use Rattle.std.specs.Prelude.{slice_index}
+use Rattle.std.proofs.lemmas.Bool.{cases_eq}
 use Rattle.node_heap.specs.Forms.{links_of}
+use Rattle.node_heap.specs.Heap.{Heap, holds_at, one_at}
 use Rattle.node_heap.specs.InPlace.{child_at}
+use Rattle.node_heap.proofs.Counts.{test_same, test_other}
 use Rattle.node_heap.proofs.Frames.{Extends-row}
 use Rattle.container_tests.proofs.writes.writes_below_a_kept_version.Goals as goal
 
@@ -24,3 +27,21 @@ write_third-top-requires-clause-last g c =
     let leaf_in_pair = Extends-row c.node-pair.ensures.extends leaf (rw c.node-leaf.ensures.adds.here refl) ∙ c.node-leaf.ensures.adds.here in
     let leaf_row = c.hold.ensures.rows leaf ∙ Extends-row c.node-root.ensures.extends leaf (rw leaf_in_pair refl) ∙ leaf_in_pair in
     rw (at_pair, at_leaf, leaf_row) (omega arith)
+
+-- the new root is held, also where it is the old one
+new-held : {T : Type 0} (old new : Heap T) (root top other : ℕ) → ((k : ℕ) → holds_at new k + one_at root k ≡ holds_at old k + (one_at top k + one_at other k)) → 0 < holds_at new root → 0 < holds_at new top
+new-held old new root top other holds held = elim (cases_eq top root) as (λ _. 0 < holds_at new top) [
+  | inl same ↦ subst (λ l. 0 < holds_at new l) (sym same) held
+  | inr unlike ↦ omega (arith, holds top, test_other top root unlike, test_same top top refl)
+]
+
+pub value_below-requires : goal.value_below-requires
+value_below-requires g c =
+    let root = c.node-root.result in
+    c.live.ensures.graph.held root (omega (arith, c.write_third-top.ensures.holds root, c.hold.ensures.holds root, c.node-root.ensures.adds.holds root, c.node-root.ensures.adds.apart, test_same root root refl))
+
+pub value_below-requires-2 : goal.value_below-requires-2
+value_below-requires-2 g c =
+    let root = c.node-root.result in
+    let held : 0 < holds_at c.write_third-top.new.heap root = omega (arith, c.write_third-top.ensures.holds root, c.hold.ensures.holds root, c.node-root.ensures.adds.holds root, c.node-root.ensures.adds.apart, test_same root root refl) in
+    c.live.ensures.graph.held c.write_third-top.result.0 (new-held c.hold.new.self c.write_third-top.new.heap root c.write_third-top.result.0 c.write_third-top.result.1 c.write_third-top.ensures.holds held)

@@ -4,7 +4,7 @@ use Rattle.node_heap.specs.Links.{count, Reaches, here, below}
 use Rattle.node_heap.specs.Forms.{cell, links_of}
 use Rattle.node_heap.specs.Heap.{Heap, row_at, links_at}
 use Rattle.node_heap.proofs.Frames.{Extends-row}
-use Rattle.container_tests.proofs.counted_rows.inserts_and_removes_links.Goals as goal
+use Rattle.container_tests.proofs.writes.inserts_and_removes_links.Goals as goal
 
 -- a cell reaches itself alone
 cell-reaches : {T : Type 0} (h : Heap T) (x : T) (l k : ℕ) → row_at h l ≡ Some (cell x) → Reaches (links_at h) l k → l ≡ k
