@@ -86,10 +86,11 @@ module _ {T : Type 0} where
     pub spare_cells : new.spare_cells ≡ max old.spare_cells cells
     pub spare_nodes : new.spare_nodes ≡ max old.spare_nodes nodes
 
-  -- there are no more spares of either kind than that
-  pub record HasNoMore (old new : Heap T) (cells nodes : ℕ) : Type 0 where
-    pub spare_cells : new.spare_cells ≤ max old.spare_cells cells
-    pub spare_nodes : new.spare_nodes ≤ max old.spare_nodes nodes
+  -- no room was hoarded: the rows and the spares of each kind are together no more than the old rows and the old spares, or what
+  -- was needed, whichever is more
+  pub record KeepsToNeed (old new : Heap T) (cells nodes : ℕ) : Type 0 where
+    pub few_cells : new.spare_cells + cell_count new ≤ max old.spare_cells cells + cell_count old
+    pub few_nodes : new.spare_nodes + node_count new ≤ max old.spare_nodes nodes + node_count old
 
   -- the number made rises by just what the rows gain, up to its greatest value
   abbrev pub MakesJust : Heap T → Heap T → Type 0

@@ -3,7 +3,7 @@ ghost use Rattle.std.specs.Prelude.{◌≡◌, ◌≢◌, ℕ, ◌+◌, ◌*◌,
 ghost use Rattle.node_heap.specs.Links.{count, Reaches};
 ghost use Rattle.node_heap.specs.Forms.{cell, node, links_of, value_of, head_of, is_cell, is_node};
 ghost use Rattle.node_heap.specs.Heap.{row_at, links_at, holds_at, owners_at, live_count, hold_count, one_at, HasSpares, IsGraph};
-ghost use Rattle.node_heap.specs.Calls.{KeepsBelow, SameRows, Adds, AddsOwner, KeepsOwners, Makes, Releases, Extends, KeepsHeld, KeepsTrees, Unchanged, HasGreater, HasNoMore, Builds};
+ghost use Rattle.node_heap.specs.Calls.{KeepsBelow, SameRows, Adds, AddsOwner, KeepsOwners, Makes, Releases, Extends, KeepsHeld, KeepsTrees, Unchanged, HasGreater, Builds};
 ghost use Rattle.node_heap.specs.InPlace.{child_at, other_at, Writes, Edits};
 ghost use Rattle.node_heap.specs.Layout.{graph_of, slot_at, owners_in, filled_count, Copies, rows_of_slots, IsCounted, IsDying, IsLow, KeepsRoom, Thins, cells_in, nodes_in};
 
@@ -75,12 +75,11 @@ impl<T> Heap<T> {
     /// Makes room, so that so many cells and so many nodes can be made without memory: the spares of each kind are then what
     /// was there or what was asked, whichever is more. Refused where there is no memory, and where the rows and the spares
     /// together would reach 2^56, but never where the spares suffice already. The rows, the holds and the number made stay
-    /// either way, and a refused call may leave more spares, though no more than what was there or was
-    /// asked, whichever is more.
+    /// either way, and a refused call leaves the heap as it was.
     pub fn reserve(&mut self, cells: usize, nodes: usize) -> Result<(), NoMemory>
         ensures spares { OnOk result (HasSpares self.new cells nodes) }
         ensures greater { OnOk result (HasGreater self.old self.new cells nodes) }
-        ensures no_more { OnErr result (HasNoMore self.old self.new cells nodes) }
+        ensures refused { OnErr result (self.new ≡ self.old) }
         ensures rest { Unchanged self.old self.new }
         ensures keeps { KeepsHeld (λ _. 0) self.old self.new }
         ensures extends { Extends self.old self.new }

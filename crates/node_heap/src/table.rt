@@ -1,6 +1,6 @@
 //! Where the rows of a heap lie: cells in one list of slots, nodes in another. Place 2i is slot i of the cells, and place
 //! 2i + 1 slot i of the nodes.
-ghost use Rattle.std.specs.Prelude.{vec_len, vec_capacity, ◌≡◌, ◌≢◌, ℕ, ◌+◌, ◌-◌, ◌^◌, ◌<◌, ◌≤◌, [], length, Some, None, IsSome, OnOk, IsOk, option_copied, slice_index, slice_index_or, slice_set, insert, remove};
+ghost use Rattle.std.specs.Prelude.{vec_len, vec_capacity, ◌≡◌, ◌≢◌, ℕ, ◌+◌, ◌-◌, ◌^◌, ◌<◌, ◌≤◌, [], length, Some, None, IsSome, OnOk, OnErr, IsOk, option_copied, slice_index, slice_index_or, slice_set, insert, remove};
 ghost use Rattle.std.specs.Borrow.{sem};
 ghost use Rattle.node_heap.specs.LendsSlot.{LendsSlot};
 ghost use Rattle.node_heap.specs.Forms.{cell, node, links_of, value_of, head_of, is_node};
@@ -95,7 +95,7 @@ impl<T> Table<T> {
         self.spare_nodes
     }
 
-    // Makes just so many spares of each kind, no fewer than there are.
+    // Makes just so many spares of each kind, no fewer than there are. Refused, it leaves the table as it was.
     pub(crate) fn reserve(&mut self, cells: usize, nodes: usize) -> Result<(), AllocError>
         requires more_cells { self.old.spare_cells ≤ cells }
         requires more_nodes { self.old.spare_nodes ≤ nodes }
@@ -103,15 +103,12 @@ impl<T> Table<T> {
         ensures slots { self.new.slots ≡ self.old.slots }
         ensures cells { OnOk result (self.new.spare_cells ≡ cells) }
         ensures nodes { OnOk result (self.new.spare_nodes ≡ nodes) }
-        ensures more_cells { self.old.spare_cells ≤ self.new.spare_cells }
-        ensures more_nodes { self.old.spare_nodes ≤ self.new.spare_nodes }
-        ensures few_cells { self.new.spare_cells ≤ cells }
-        ensures few_nodes { self.new.spare_nodes ≤ nodes }
+        ensures refused { OnErr result (self.new ≡ self.old) }
         ensures ample { self.old.spare_cells ≡ cells → self.old.spare_nodes ≡ nodes → IsOk result }
     {
         make_room(&mut self.cells, &mut self.free_cells, cells)?;
-        self.spare_cells = cells;
         make_room(&mut self.nodes, &mut self.free_nodes, nodes)?;
+        self.spare_cells = cells;
         self.spare_nodes = nodes;
         Ok(())
     }

@@ -23,15 +23,11 @@ pub returns-then-len-spare_cells-ge-ROWS-clause-keeps : goal.returns-then-len-sp
 returns-then-len-spare_cells-ge-ROWS-clause-keeps g c = KeepsHeld-Unchanged _ _ (rw (← c.self.view_is) (IsGraph-stored _ _ _ _ c.self.invariant)) (returns-then-len-spare_cells-ge-ROWS-clause-rest g c)
 
 pub invariant_of-self : goal.invariant_of-self
-invariant_of-self g c =
-    let done = c.reserve.ensures in
-    IsHeap-reserved c.self.inside.table.slots _ _ _ _ _ _ done.slots c.self.invariant
-    (omega (arith, c.len.ensures, c.if-len-spare_cells-ge-ROWS.false, done.few_cells, done.few_nodes))
+invariant_of-self g c = rw c.in_err-reserve.ensures.refused c.self.invariant
 
 pub returns-in_err-reserve-clause-rest : goal.returns-in_err-reserve-clause-rest
 returns-in_err-reserve-clause-rest g c =
-    let done = c.reserve.ensures in
-    rw (← c.self.view_is) (Unchanged-stored c.self.inside.table.slots _ _ _ _ _ _ done.slots (invariant_of-self g c) done.more_cells done.more_nodes)
+    rw (← c.self.view_is, c.in_err-reserve.ensures.refused) (Unchanged-refl _ (IsGraph-stored _ _ _ _ c.self.invariant))
 
 pub returns-in_err-reserve-clause-owners : goal.returns-in_err-reserve-clause-owners
 returns-in_err-reserve-clause-owners g c = KeepsOwners-Unchanged _ _ (returns-in_err-reserve-clause-rest g c)
@@ -44,14 +40,15 @@ returns-in_err-reserve-clause-trees g c = KeepsTrees-Unchanged _ _ (returns-in_e
 
 pub invariant_of-self-2 : goal.invariant_of-self-2
 invariant_of-self-2 g c =
-    let done = c.reserve.ensures in
-    IsHeap-reserved c.self.inside.table.slots _ _ _ _ _ _ done.slots c.self.invariant
-    (omega (arith, c.len.ensures, c.if-len-spare_cells-ge-ROWS.false, done.few_cells, done.few_nodes))
+    let done = c.in_ok-reserve.ensures in
+    IsHeap-reserved c.self.inside.table.slots _ _ _ _ _ _ c.reserve.ensures.slots c.self.invariant
+    (omega (arith, c.len.ensures, c.if-len-spare_cells-ge-ROWS.false, done.cells, done.nodes))
 
 pub returns-clause-rest : goal.returns-clause-rest
 returns-clause-rest g c =
-    let done = c.reserve.ensures in
-    rw (← c.self.view_is) (Unchanged-stored c.self.inside.table.slots _ _ _ _ _ _ done.slots (invariant_of-self-2 g c) done.more_cells done.more_nodes)
+    let done = c.in_ok-reserve.ensures in
+    rw (← c.self.view_is) (Unchanged-stored c.self.inside.table.slots _ _ _ _ _ _ c.reserve.ensures.slots (invariant_of-self-2 g c)
+    (omega (arith, done.cells, c.spare_cells.ensures, c.max-spare_cells.ensures)) (omega (arith, done.nodes, c.spare_nodes.ensures, c.max-spare_nodes.ensures)))
 
 pub returns-clause-owners : goal.returns-clause-owners
 returns-clause-owners g c = KeepsOwners-Unchanged _ _ (returns-clause-rest g c)
