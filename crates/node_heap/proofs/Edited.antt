@@ -7,11 +7,11 @@ use Rattle.std.proofs.lemmas.List.{length-set, get_or-set_same}
 use Rattle.node_heap.specs.Links.{Links, count, HasLink, Reaches, here, below}
 use Rattle.node_heap.specs.Forms.{Row, Tree, IsTree, links_of}
 use Rattle.node_heap.specs.Heap.{Heap, row_at, form_at, links_at, holds_at, owners_at, hold_count, one_at, IsGraph}
-use Rattle.node_heap.specs.Calls.{KeepsBelow, KeepsHeld, KeepsOwners, Extends, Makes}
-use Rattle.node_heap.specs.InPlace.{other_at, ReachesAround, IsSolePath, path_start, path_then, OwnsDown, KeepsApart, KeepsPaths, Edits, by_link}
+use Rattle.node_heap.specs.Calls.{KeepsBelow, KeepsHeld, KeepsOwners, Extends, Makes, Unchanged, Builds, Trades}
+use Rattle.node_heap.specs.InPlace.{other_at, ReachesAround, IsSolePath, path_start, path_then, OwnsDown, KeepsApart, KeepsPaths, Changes, by_link}
 use Rattle.node_heap.proofs.Counts.{le-sum_by, count-cons, one_at-flip, test_same, test_other}
 use Rattle.node_heap.proofs.Reach.{HasLink-same, Reaches-trans}
-use Rattle.node_heap.proofs.Frames.{IsTree-KeepsBelow, Makes-trans}
+use Rattle.node_heap.proofs.Frames.{IsTree-KeepsBelow, Balances-trans, Balances-Makes, Balances-Unchanged}
 use Rattle.node_heap.proofs.BuildLemmas.{count-append}
 use Rattle.node_heap.proofs.GraphLemmas.{linked-places, IsGraph-acyclic}
 use Rattle.node_heap.proofs.Ways.{IsOwners, ReachesAround-end, ReachesAround-Reaches, Reaches-around, ReachesAround-same, ReachesAround-path, ReachesAround-trans, Reaches-avoids, Reaches-last, IsSolePath-Reaches}
@@ -60,7 +60,7 @@ module _ {T : Type 0} where
   linked_live None k some = absurd (omega (arith, some))
   linked_live (Some x) k some = refl
 
-  above_live : (h : Heap T) (x y : ℕ) → Reaches (links_at h) x y → IsSome (row_at h y) → IsSome (row_at h x)
+  pub above_live : (h : Heap T) (x y : ℕ) → Reaches (links_at h) x y → IsSome (row_at h y) → IsSome (row_at h x)
   above_live h x y (here l) some = some
   above_live h x y (below l k m has rest) some = linked_live (row_at h l) k has
 
@@ -87,110 +87,140 @@ module _ {T : Type 0} where
 
   -- calls that write nothing in place
   pub KeepsApart-KeepsHeld : {spent : ℕ → ℕ} {old new : Heap T} (first : ℕ) → KeepsHeld spent old new → KeepsApart first spent old new
-  KeepsApart-KeepsHeld {spent} {old} {new} first keeps = record {
-    live = keeps.live;
-    kept = λ l m some way. keeps.kept l some m (ReachesAround-Reaches (links_at old) first l m way);
-    left = keeps.left;
-  }
+  KeepsApart-KeepsHeld {spent} {old} {new} first keeps = record { kept = λ l m some way. keeps.kept l some m (ReachesAround-Reaches (links_at old) first l m way) }
 
   -- with any bound on what is spent, so that a hold that was taken before it was spent costs nothing
-  pub KeepsApart-then : {first : ℕ} {spent spent' : ℕ → ℕ} {old mid new : Heap T} (both : ℕ → ℕ) → KeepsApart first spent old mid → KeepsApart first spent' mid new → ((l : ℕ) → both l < holds_at old l → spent l < holds_at old l) → ((l : ℕ) → both l < holds_at old l → spent' l < holds_at mid l) → ((l : ℕ) → holds_at old l ≤ holds_at new l + both l) → KeepsApart first both old new
-  KeepsApart-then {first} {spent} {spent'} {old} {mid} {new} both one two at_one at_two left = record {
-    live = λ l some. two.live l (at_two l some);
+  pub KeepsApart-then : {first : ℕ} {spent spent' : ℕ → ℕ} {old mid new : Heap T} (both : ℕ → ℕ) → KeepsApart first spent old mid → KeepsApart first spent' mid new → ((l : ℕ) → both l < holds_at old l → spent l < holds_at old l) → ((l : ℕ) → both l < holds_at old l → spent' l < holds_at mid l) → KeepsApart first both old new
+  KeepsApart-then {first} {spent} {spent'} {old} {mid} {new} both one two at_one at_two = record {
     kept = λ l m some way.
         let rows : (x : ℕ) → ReachesAround (links_at old) first l x → row_at mid x ≡ row_at old x = λ x on. one.kept l x (at_one l some) on in
         two.kept l m (at_two l some) (ReachesAround-same (links_at old) (links_at mid) first l m way (λ x on. ap links_of (rows x on))) ∙ rows m way;
-    left = left;
   }
 
-  -- a write below a path of rows with one owner leaves what goes around the path's first row
+  -- a change below a path of rows with one owner leaves what goes around the path's first row
   pub KeepsApart-path : {first last : ℕ} {spent : ℕ → ℕ} {old new : Heap T} → OwnsDown old first last → KeepsApart last spent old new → KeepsApart first spent old new
   KeepsApart-path {first} {last} {spent} {old} {new} path keeps = record {
-    live = keeps.live;
     kept = λ l m some way. keeps.kept l m some (ReachesAround-path (holds_at old) (owners_at old) (links_at old) (IsOwners-heap old) first last path l m (omega (arith, some)) way);
-    left = keeps.left;
   }
+
+  pub KeepsPaths-ways : {first : ℕ} {old new : Heap T} → KeepsPaths first old new → (x y : ℕ) → Reaches (links_at old) y first → Reaches (links_at old) x y → Reaches (links_at new) x y
+  KeepsPaths-ways {first} {old} {new} keeps = ways-kept (links_at old) (links_at new) first keeps.links
+
+  pub KeepsPaths-owned : {first : ℕ} {old new : Heap T} → KeepsPaths first old new → (x y : ℕ) → Reaches (links_at old) y first → OwnsDown old x y → OwnsDown new x y
+  KeepsPaths-owned {first} {old} {new} keeps = path-kept (owners_at old) (owners_at new) (links_at old) (links_at new) first keeps.links (λ l k has up. keeps.soles k up)
 
   pub KeepsPaths-trans : {first : ℕ} {old mid new : Heap T} → KeepsPaths first old mid → KeepsPaths first mid new → KeepsPaths first old new
-  KeepsPaths-trans {first} one two = record {
-    ways = λ x y up way. two.ways x y (one.ways y first (here first) up) (one.ways x y up way);
-    owned = λ x y up path. two.owned x y (one.ways y first (here first) up) (one.owned x y up path);
+  KeepsPaths-trans {first} {old} {mid} one two = record {
+    live = λ k up live. two.live k (on k up) (one.live k up live);
+    links = λ l k has up. two.links l k (one.links l k has up) (on k up);
+    soles = λ k up sole. two.soles k (on k up) (one.soles k up sole);
   }
+    where
+      on : (k : ℕ) → Reaches (links_at old) k first → Reaches (links_at mid) k first
+      on k up = KeepsPaths-ways one k first (here first) up
 
   pub KeepsPaths-path : {first last : ℕ} {old new : Heap T} → OwnsDown old first last → KeepsPaths last old new → KeepsPaths first old new
-  KeepsPaths-path {first} {last} {old} path keeps =
-      let down = IsSolePath-Reaches (owners_at old) (links_at old) first last path in
-      record {
-        ways = λ x y up way. keeps.ways x y (Reaches-trans (links_at old) y first last up down) way;
-        owned = λ x y up way. keeps.owned x y (Reaches-trans (links_at old) y first last up down) way;
-      }
-
-  -- the links of the rows above stay, and those of these rows that have one owner have one still
-  pub KeepsPaths-soles : (first : ℕ) (old new : Heap T) → ((l k : ℕ) → HasLink (links_at old) l k → Reaches (links_at old) k first → HasLink (links_at new) l k) → ((l k : ℕ) → HasLink (links_at old) l k → Reaches (links_at old) k first → owners_at old k ≡ 1 → owners_at new k ≡ 1) → KeepsPaths first old new
-  KeepsPaths-soles first old new same sole = record {
-    ways = ways-kept (links_at old) (links_at new) first same;
-    owned = path-kept (owners_at old) (owners_at new) (links_at old) (links_at new) first same sole;
+  KeepsPaths-path {first} {last} {old} path keeps = record {
+    live = λ k up. keeps.live k (on k up);
+    links = λ l k has up. keeps.links l k has (on k up);
+    soles = λ k up. keeps.soles k (on k up);
   }
+    where
+      on : (k : ℕ) → Reaches (links_at old) k first → Reaches (links_at old) k last
+      on k up = Reaches-trans (links_at old) k first last up (IsSolePath-Reaches (owners_at old) (links_at old) first last path)
 
-  -- the links of the rows above stay, and so do the owners of these rows
-  pub KeepsPaths-rows : (first : ℕ) (old new : Heap T) → ((l k : ℕ) → HasLink (links_at old) l k → Reaches (links_at old) k first → HasLink (links_at new) l k) → ((k : ℕ) → Reaches (links_at old) k first → owners_at new k ≡ owners_at old k) → KeepsPaths first old new
-  KeepsPaths-rows first old new same owners = KeepsPaths-soles first old new same (λ l k has up one. owners k up ∙ one)
-
-  -- rows came, and those that were there keep their owners
-  pub KeepsPaths-Extends : {old new : Heap T} (first : ℕ) → Extends old new → ((k : ℕ) → IsSome (row_at old k) → owners_at new k ≡ owners_at old k) → IsSome (row_at old first) → KeepsPaths first old new
-  KeepsPaths-Extends {old} {new} first more owners live =
-      KeepsPaths-rows first old new
-      (λ l k has up. HasLink-same (links_at old) (links_at new) l k (ap links_of (more.kept l (linked_live (row_at old l) k has) l (here l))) has)
-      (λ k up. owners k (above_live old k first up live))
+  -- rows came, and of those above the row that was there each that had one owner has one still
+  pub KeepsPaths-Extends : {old new : Heap T} (first : ℕ) → Extends old new → ((k : ℕ) → Reaches (links_at old) k first → owners_at old k ≡ 1 → owners_at new k ≡ 1) → KeepsPaths first old new
+  KeepsPaths-Extends {old} {new} first more soles = record {
+    live = λ k up live. more.live k live;
+    links = λ l k has up. HasLink-same (links_at old) (links_at new) l k (ap links_of (more.kept l (linked_live (row_at old l) k has) l (here l))) has;
+    soles = soles;
+  }
 
   -- a path goes on to a child that has one owner
   pub OwnsDown-child : (h : Heap T) (first parent child index : ℕ) (ks : List ℕ) → OwnsDown h first parent → links_at h parent ≡ set ks index child → index < length ks → owners_at h child ≡ 1 → OwnsDown h first child
   OwnsDown-child h first parent child index ks path links inside one =
       path_then parent child path (rw links (count-at (set ks index child) index child (omega (arith, inside, length-set ks index child)) (get_or-set_same ks index child 0 inside))) one
 
-  -- two edits, of which the first may gain what the second spends
-  pub Edits-both : {first : ℕ} {old mid new : Heap T} {xs us ys vs : List ℕ} {c n c' n' : ℕ} (spent gained : List ℕ) → Edits first old mid xs us c n → Edits first mid new ys vs c' n'
+  -- what rows of spares cost, with what was spent and gained
+  pub Trades-Makes : {old new : Heap T} {spent gained : List ℕ} {cells nodes : ℕ} (c n : ℕ) → IsGraph new → ((k : ℕ) → holds_at new k + count k spent ≡ holds_at old k + count k gained) → hold_count new + length spent ≡ hold_count old + length gained
+      → Makes old new cells nodes → cells ≤ c → nodes ≤ n → Trades old new spent gained c n
+  Trades-Makes c n graph holds total makes few_cells few_nodes = record {
+    graph = graph;
+    holds = holds;
+    total = total;
+    cells = omega (arith, makes.cells, few_cells);
+    nodes = omega (arith, makes.nodes, few_nodes);
+    balance = Balances-Makes makes;
+    made = omega (arith, makes.made, few_cells, few_nodes);
+  }
+
+  pub Trades-Builds : {old new : Heap T} {spent gained : List ℕ} {c n : ℕ} → Builds old new spent gained c n → Trades old new spent gained c n
+  Trades-Builds {c = c} {n = n} builds = Trades-Makes c n builds.graph builds.holds builds.total builds.makes builds.few_cells builds.few_nodes
+
+  -- nothing but spares has changed
+  pub Trades-Unchanged : {old new : Heap T} → Unchanged old new → Trades old new [] [] 0 0
+  Trades-Unchanged same = record {
+    graph = same.graph;
+    holds = λ k. omega (arith, same.holds k);
+    total = omega (arith, same.count);
+    cells = omega (arith, same.cells);
+    nodes = omega (arith, same.nodes);
+    balance = Balances-Unchanged same;
+    made = omega (arith, same.made);
+  }
+
+  pub Trades-both : {old mid new : Heap T} {xs us ys vs : List ℕ} {c n c' n' : ℕ} (spent gained : List ℕ) → Trades old mid xs us c n → Trades mid new ys vs c' n'
       → ((k : ℕ) → count k xs + count k ys + count k gained ≡ count k us + count k vs + count k spent)
-      → ((k : ℕ) → count k xs ≤ count k spent) → ((k : ℕ) → count k ys + count k xs ≤ count k us + count k spent)
-      → length xs + length ys + length gained ≡ length us + length vs + length spent → Edits first old new spent gained (c + c') (n + n')
-  Edits-both spent gained one two each at_one at_two whole = record {
-    apart = KeepsApart-then (λ l. count l spent) one.apart two.apart (λ l some. omega (arith, some, at_one l)) (λ l some. omega (arith, some, at_two l, one.holds l)) (λ l. omega (arith, one.holds l, two.holds l, each l));
-    paths = KeepsPaths-trans one.paths two.paths;
-    stays = λ l live. two.stays l (one.stays l live);
+      → length xs + length ys + length gained ≡ length us + length vs + length spent → Trades old new spent gained (c + c') (n + n')
+  Trades-both spent gained one two each whole = record {
     graph = two.graph;
     holds = λ k. omega (arith, one.holds k, two.holds k, each k);
     total = omega (arith, one.total, two.total, whole);
-    cells = one.cells + two.cells;
-    nodes = one.nodes + two.nodes;
-    few_cells = omega (arith, one.few_cells, two.few_cells);
-    few_nodes = omega (arith, one.few_nodes, two.few_nodes);
-    makes = Makes-trans one.makes two.makes;
+    cells = omega (arith, one.cells, two.cells);
+    nodes = omega (arith, one.nodes, two.nodes);
+    balance = Balances-trans one.balance two.balance;
+    made = omega (arith, one.made, two.made);
+  }
+
+  pub Trades-more : {old new : Heap T} {spent gained : List ℕ} {c n : ℕ} (c' n' : ℕ) → Trades old new spent gained c n → c ≤ c' → n ≤ n' → Trades old new spent gained c' n'
+  Trades-more c' n' trades more_cells more_nodes = record {
+    graph = trades.graph;
+    holds = trades.holds;
+    total = trades.total;
+    cells = omega (arith, trades.cells, more_cells);
+    nodes = omega (arith, trades.nodes, more_nodes);
+    balance = trades.balance;
+    made = omega (arith, trades.made, more_cells, more_nodes);
+  }
+
+  -- two changes, of which the first may gain what the second spends
+  pub Changes-both : {first : ℕ} {old mid new : Heap T} {xs us ys vs : List ℕ} {c n c' n' : ℕ} (spent gained : List ℕ) → Changes first old mid xs us c n → Changes first mid new ys vs c' n'
+      → ((k : ℕ) → count k xs + count k ys + count k gained ≡ count k us + count k vs + count k spent)
+      → ((k : ℕ) → count k xs ≤ count k spent) → ((k : ℕ) → count k ys + count k xs ≤ count k us + count k spent)
+      → length xs + length ys + length gained ≡ length us + length vs + length spent → Changes first old new spent gained (c + c') (n + n')
+  Changes-both spent gained one two each at_one at_two whole = record {
+    apart = KeepsApart-then (λ l. count l spent) one.apart two.apart (λ l some. omega (arith, some, at_one l)) (λ l some. omega (arith, some, at_two l, one.trades.holds l));
+    paths = KeepsPaths-trans one.paths two.paths;
+    trades = Trades-both spent gained one.trades two.trades each whole;
   }
 
   -- what the first gains, the second spends
-  pub Edits-then : {first : ℕ} {old mid new : Heap T} {xs ys zs : List ℕ} {c n c' n' : ℕ} → Edits first old mid xs ys c n → Edits first mid new ys zs c' n' → Edits first old new xs zs (c + c') (n + n')
-  Edits-then {xs = xs} {zs = zs} one two = Edits-both xs zs one two (λ k. omega arith) (λ k. omega arith) (λ k. omega arith) (omega arith)
+  pub Changes-then : {first : ℕ} {old mid new : Heap T} {xs ys zs : List ℕ} {c n c' n' : ℕ} → Changes first old mid xs ys c n → Changes first mid new ys zs c' n' → Changes first old new xs zs (c + c') (n + n')
+  Changes-then {xs = xs} {zs = zs} one two = Changes-both xs zs one two (λ k. omega arith) (λ k. omega arith) (λ k. omega arith) (omega arith)
 
-  -- each spends and gains on its own
-  pub Edits-beside : {first : ℕ} {old mid new : Heap T} {xs us ys vs : List ℕ} {c n c' n' : ℕ} → Edits first old mid xs us c n → Edits first mid new ys vs c' n' → Edits first old new (xs ++ ys) (us ++ vs) (c + c') (n + n')
-  Edits-beside {xs = xs} {us = us} {ys = ys} {vs = vs} one two =
-      Edits-both (xs ++ ys) (us ++ vs) one two (λ k. omega (arith, count-append k xs ys, count-append k us vs)) (λ k. omega (arith, count-append k xs ys)) (λ k. omega (arith, count-append k xs ys)) (omega (arith, length-append xs ys, length-append us vs))
+  -- the second spends some of what the first gains
+  pub Changes-follow : {first : ℕ} {old mid new : Heap T} {c n c' n' : ℕ} (between xs us ys vs : List ℕ) → Changes first old mid xs (between ++ us) c n → Changes first mid new (between ++ ys) vs c' n' → Changes first old new (xs ++ ys) (us ++ vs) (c + c') (n + n')
+  Changes-follow between xs us ys vs one two =
+      Changes-both (xs ++ ys) (us ++ vs) one two (λ k. omega (arith, count-append k xs ys, count-append k us vs, count-append k between us, count-append k between ys)) (λ k. omega (arith, count-append k xs ys))
+      (λ k. omega (arith, count-append k xs ys, count-append k between us, count-append k between ys)) (omega (arith, length-append xs ys, length-append us vs, length-append between us, length-append between ys))
 
-  -- an edit below a path of rows with one owner is an edit at the path's first row
-  pub Edits-path : {first last : ℕ} {old new : Heap T} {xs us : List ℕ} {c n : ℕ} → OwnsDown old first last → Edits last old new xs us c n → Edits first old new xs us c n
-  Edits-path path edit = record {
-    apart = KeepsApart-path path edit.apart;
-    paths = KeepsPaths-path path edit.paths;
-    stays = edit.stays;
-    graph = edit.graph;
-    holds = edit.holds;
-    total = edit.total;
-    cells = edit.cells;
-    nodes = edit.nodes;
-    few_cells = edit.few_cells;
-    few_nodes = edit.few_nodes;
-    makes = edit.makes;
-  }
+  pub Changes-more : {first : ℕ} {old new : Heap T} {xs us : List ℕ} {c n : ℕ} (c' n' : ℕ) → Changes first old new xs us c n → c ≤ c' → n ≤ n' → Changes first old new xs us c' n'
+  Changes-more c' n' change more_cells more_nodes = record { apart = change.apart; paths = change.paths; trades = Trades-more c' n' change.trades more_cells more_nodes }
+
+  -- a change below a path of rows with one owner is a change at the path's first row
+  pub Changes-path : {first last : ℕ} {old new : Heap T} {xs us : List ℕ} {c n : ℕ} → OwnsDown old first last → Changes last old new xs us c n → Changes first old new xs us c n
+  Changes-path path change = record { apart = KeepsApart-path path change.apart; paths = KeepsPaths-path path change.paths; trades = change.trades }
 
   -- the links of the rows above a written row stay
   pub links-above : (old new : Heap T) (parent : ℕ) → IsGraph old → ((k : ℕ) → IsSome (row_at old k) → k ≢ parent → row_at new k ≡ row_at old k) → (l k : ℕ) → HasLink (links_at old) l k → Reaches (links_at old) k parent → HasLink (links_at new) l k
@@ -198,24 +228,16 @@ module _ {T : Type 0} where
       HasLink-same (links_at old) (links_at new) l k (ap links_of (others l (linked_live (row_at old l) k has) (λ same. IsGraph-acyclic old graph l k has (subst (Reaches (links_at old) k) (sym same) down)))) has
 
   -- a row that is written
-  pub Edits-Writes : (old new : Heap T) (parent : ℕ) (spent gained : List ℕ) → IsGraph old → IsGraph new → IsSome (row_at new parent) → ((k : ℕ) → k ≢ parent → row_at new k ≡ row_at old k) → KeepsOwners old new
-      → ((k : ℕ) → holds_at new k + count k spent ≡ holds_at old k + count k gained) → hold_count new + length spent ≡ hold_count old + length gained → Makes old new 0 0 → Edits parent old new spent gained 0 0
-  Edits-Writes old new parent spent gained graph graph' live others owners holds total makes = record {
-    apart = record {
-      live = λ l some. stays l (graph.held l (omega (arith, some)));
-      kept = λ l m some way. others m (ReachesAround-end (links_at old) parent l m way);
-      left = λ l. omega (arith, holds l);
+  pub Changes-Writes : (old new : Heap T) (parent : ℕ) (spent gained : List ℕ) → IsGraph old → IsGraph new → IsSome (row_at new parent) → ((k : ℕ) → k ≢ parent → row_at new k ≡ row_at old k) → KeepsOwners old new
+      → ((k : ℕ) → holds_at new k + count k spent ≡ holds_at old k + count k gained) → hold_count new + length spent ≡ hold_count old + length gained → Makes old new 0 0 → Changes parent old new spent gained 0 0
+  Changes-Writes old new parent spent gained graph graph' live others owners holds total makes = record {
+    apart = record { kept = λ l m some way. others m (ReachesAround-end (links_at old) parent l m way) };
+    paths = record {
+      live = λ k up. stays k;
+      links = links-above old new parent graph (λ k is other. others k other);
+      soles = λ k up one. owners k ∙ one;
     };
-    paths = KeepsPaths-rows parent old new (links-above old new parent graph (λ k is other. others k other)) (λ k up. owners k);
-    stays = stays;
-    graph = graph';
-    holds = holds;
-    total = total;
-    cells = 0;
-    nodes = 0;
-    few_cells = omega arith;
-    few_nodes = omega arith;
-    makes = makes;
+    trades = Trades-Makes 0 0 graph' holds total makes (omega arith) (omega arith);
   }
     where
       stays : (l : ℕ) → IsSome (row_at old l) → IsSome (row_at new l)
@@ -225,37 +247,26 @@ module _ {T : Type 0} where
       ]
 
   -- a child that is copied in its place
-  pub Edits-own_child : (old new : Heap T) (parent child copy : ℕ) → IsGraph old → IsGraph new → IsSome (row_at new parent) → HasLink (links_at old) parent child → row_at old copy ≡ None → ((k : ℕ) → k ≢ parent → k ≢ copy → row_at new k ≡ row_at old k)
+  pub Changes-own_child : (old new : Heap T) (parent child copy : ℕ) → IsGraph old → IsGraph new → IsSome (row_at new parent) → HasLink (links_at old) parent child → row_at old copy ≡ None → ((k : ℕ) → k ≢ parent → IsSome (row_at old k) → row_at new k ≡ row_at old k)
       → ((k : ℕ) → owners_at new k + one_at child k ≡ owners_at old k + (one_at copy k + other_at child copy * count k (links_at old child)))
-      → ((k : ℕ) → holds_at new k ≡ holds_at old k) → hold_count new ≡ hold_count old → Makes old new 0 1 → Edits parent old new [] [] 0 1
-  Edits-own_child old new parent child copy graph graph' live linked fresh others owners holds total makes = record {
-    apart = record {
-      live = λ l some. stays l (graph.held l (omega (arith, some)));
-      kept = λ l m some way. same m (Reaches-live old graph l m (ReachesAround-Reaches (links_at old) parent l m way) (graph.held l (omega (arith, some)))) (ReachesAround-end (links_at old) parent l m way);
-      left = λ l. omega (arith, holds l);
+      → ((k : ℕ) → holds_at new k ≡ holds_at old k) → hold_count new ≡ hold_count old → Makes old new 0 1 → Changes parent old new [] [] 0 1
+  Changes-own_child old new parent child copy graph graph' live linked fresh same owners holds total makes = record {
+    apart = record { kept = λ l m some way. same m (ReachesAround-end (links_at old) parent l m way) (Reaches-live old graph l m (ReachesAround-Reaches (links_at old) parent l m way) (graph.held l (omega (arith, some)))) };
+    paths = record {
+      live = λ k up. stays k;
+      links = links-above old new parent graph (λ k some other. same k other some);
+      soles = λ k up one. owners_above k up ∙ one;
     };
-    paths = KeepsPaths-rows parent old new (links-above old new parent graph same) owners_above;
-    stays = stays;
-    graph = graph';
-    holds = λ k. omega (arith, holds k);
-    total = omega (arith, total);
-    cells = 0;
-    nodes = 1;
-    few_cells = omega arith;
-    few_nodes = omega arith;
-    makes = makes;
+    trades = Trades-Makes 0 1 graph' (λ k. omega (arith, holds k)) (omega (arith, total)) makes (omega arith) (omega arith);
   }
     where
       off_copy : (k : ℕ) → IsSome (row_at old k) → k ≢ copy
       off_copy k some at_copy = absurd (let there = ap (row_at old) at_copy ∙ fresh in cc)
 
-      same : (k : ℕ) → IsSome (row_at old k) → k ≢ parent → row_at new k ≡ row_at old k
-      same k some other = others k other (off_copy k some)
-
       stays : (l : ℕ) → IsSome (row_at old l) → IsSome (row_at new l)
       stays l some = elim (cases_eq l parent) as (λ _. IsSome (row_at new l)) [
         | inl is_parent ↦ subst (λ j. IsSome (row_at new j)) (sym is_parent) live
-        | inr other ↦ rw (same l some other) some
+        | inr other ↦ rw (same l other some) some
       ]
 
       owners_above : (k : ℕ) → Reaches (links_at old) k parent → owners_at new k ≡ owners_at old k
@@ -269,7 +280,7 @@ module _ {T : Type 0} where
           unlinked zero e = e
           unlinked (suc n) e = absurd (IsGraph-acyclic old graph parent child linked (below child k parent (omega (arith, e)) up))
 
-  -- what an edit at a child with one owner leaves of the other children of its parent, which a link with a hold left reaches
+  -- what a change at a child with one owner leaves of the other children of its parent, which a link with a hold left reaches
   pub KeepsBelow-sibling : {spent : ℕ → ℕ} {old new : Heap T} (parent child other u : ℕ) → IsGraph old → owners_at old child ≡ 1 → HasLink (links_at old) parent child → HasLink (links_at old) parent other → other ≢ child → spent u < holds_at old u → Reaches (links_at old) u parent → KeepsApart child spent old new → KeepsBelow old new other
   KeepsBelow-sibling {old = old} parent child other u graph one to_child to_other apart some down keeps m way =
       keeps.kept u m some (ReachesAround-trans (links_at old) child u parent m around_parent (by_link parent other m not_child to_other (Reaches-around (links_at old) child other m way off)))

@@ -17,6 +17,8 @@ pub mod BuildLemmas
 pub mod Ways
 pub mod Edited
 pub mod EditLaws
+pub mod AloneLemmas
+pub mod OwnerLemmas
 pub mod Rewritten
 pub mod Copied
 pub mod Owned

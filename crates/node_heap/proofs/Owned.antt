@@ -6,13 +6,13 @@ use Rattle.node_heap.specs.Links.{count, HasLink, Reaches, here, below}
 use Rattle.node_heap.specs.Forms.{links_of, head_of, links_in, is_cell, is_node}
 use Rattle.node_heap.specs.Heap.{Heap, row_at, links_at, holds_at, owners_at, one_at, IsGraph}
 use Rattle.node_heap.specs.Calls.{Extends, Makes}
-use Rattle.node_heap.specs.InPlace.{other_at, Edits}
+use Rattle.node_heap.specs.InPlace.{other_at, Changes}
 use Rattle.node_heap.specs.Layout.{Slot, row_of_slot, owners_in, rows_of_slots, holds_in, slot_at, places_at, graph_of, cells_in, nodes_in, IsCounted, SetsOwners, Rewrites, Copies, IsHeap, seen}
 use Rattle.node_heap.proofs.Counts.{count-cons, one_at-flip, test_same, test_other, sum-exchanged, le-sum}
 use Rattle.node_heap.proofs.Reach.{Reaches-by, reach-falls}
 use Rattle.node_heap.proofs.Slots.{row_at-slots, holds_at-slots, owners_at-slots, placed, live-owned, holds-less, places_at-le, IsCounted-owners}
 use Rattle.node_heap.proofs.Stored.{IsGraph-stored, Makes-stored, live_row, live_slot, row-seen, owners-seen}
-use Rattle.node_heap.proofs.Edited.{Extends-live, Edits-own_child, count-at}
+use Rattle.node_heap.proofs.Edited.{Extends-live, Changes-own_child, count-at}
 use Rattle.node_heap.proofs.Rewritten.{Moves, Moves-replace, counted-moved, holds-moved, owners-moved, places-moved, nodes-moved, cells-moved}
 use Rattle.node_heap.proofs.Copied.{other_at-other, places-copied, fresh-unlinked, self-unlinked, holds-copied, copy-apart}
 
@@ -242,9 +242,10 @@ module _ {T : Type 0} where
     pub fresh : row_at old key ≡ None
     pub parent_head : head_of (row_at new parent) ≡ head_of (row_at old parent)
     pub parent_links : links_at new parent ≡ set (links_at old parent) index key
+    pub stays : (k : ℕ) → k ≢ parent → IsSome (row_at old k) → row_at new k ≡ row_at old k
     pub others : (k : ℕ) → k ≢ parent → k ≢ key → row_at new k ≡ row_at old k
     pub owners : (k : ℕ) → owners_at new k + one_at child k ≡ owners_at old k + (one_at key k + other_at child key * count k (links_at old child))
-    pub edits : Edits parent old new [] [] 0 1
+    pub changes : Changes parent old new [] [] 0 1
     pub makes : Makes old new 0 (other_at child key)
 
   pub OwnsCopy-child : {old mid wrote new : List (Option (Slot T))} {place index child key n a b m a' b' m' parent : ℕ} {heap : Heap T} → IsHeap old a b m → seen old a b m ≡ heap → place ≡ parent → IsHeap new a' b' m' → OwnsChild old mid wrote new place index child key n
@@ -257,10 +258,11 @@ module _ {T : Type 0} where
         fresh = fresh;
         parent_head = ap head_of at_parent ∙ o.rewrites.new_head ∙ ap head_of was_parent;
         parent_links = ap links_of at_parent ∙ o.rewrites.new_links ∙ ap (λ r. set (links_of r) index key) was_parent;
+        stays = stays;
         others = others;
         owners = owners;
-        edits = Edits-own_child (seen old a b m) (seen new a' b' m') place child key (IsGraph-stored _ _ _ _ stored) (IsGraph-stored _ _ _ _ stored') (rw at_parent (live_row (slot_at wrote place) o.rewrites.live))
-            (omega (arith, child-linked counted o, ap (λ r. count child (links_of r)) (row_at-slots old place))) fresh others owners (holds-child counted o) (total-child counted o) makes;
+        changes = Changes-own_child (seen old a b m) (seen new a' b' m') place child key (IsGraph-stored _ _ _ _ stored) (IsGraph-stored _ _ _ _ stored') (rw at_parent (live_row (slot_at wrote place) o.rewrites.live))
+            (omega (arith, child-linked counted o, ap (λ r. count child (links_of r)) (row_at-slots old place))) fresh stays owners (holds-child counted o) (total-child counted o) makes;
         makes = rw (other_at-other child key apart) makes;
       })
     where
@@ -284,6 +286,9 @@ module _ {T : Type 0} where
 
       others : (k : ℕ) → k ≢ place → k ≢ key → row_at (seen new a' b' m') k ≡ row_at (seen old a b m) k
       others k off_parent off_copy = row_at-slots new k ∙ graph-new counted o k ∙ ap row_of_slot (o.rewrites.others k off_parent) ∙ o.copies.others k off_copy ∙ sym (row_at-slots old k)
+
+      stays : (k : ℕ) → k ≢ place → IsSome (row_at (seen old a b m) k) → row_at (seen new a' b' m') k ≡ row_at (seen old a b m) k
+      stays k off live = others k off (λ same. absurd (let gone = ap (row_at (seen old a b m)) same ∙ fresh in cc))
 
       owners : (k : ℕ) → owners_at (seen new a' b' m') k + one_at child k ≡ owners_at (seen old a b m) k + (one_at key k + other_at child key * count k (links_at (seen old a b m) child))
       owners = owners-step old mid wrote new child key n a b m a' b' m' counted stored'.counted o.copies (wrote-owners counted o) o.sets o.fewer apart

@@ -9,8 +9,8 @@ use Rattle.std.proofs.lemmas.List.Sums.{sum_by-cons, sum_by-append, sum_by-set}
 use Rattle.node_heap.specs.Links.{count, HasLink, Reaches}
 use Rattle.node_heap.specs.Forms.{Row, links_of, head_of, links_in, is_cell, is_node}
 use Rattle.node_heap.specs.Heap.{Heap, row_at, links_at, holds_at, owners_at, one_at}
-use Rattle.node_heap.specs.Calls.{KeepsOwners}
-use Rattle.node_heap.specs.InPlace.{Writes, Edits}
+use Rattle.node_heap.specs.Calls.{KeepsOwners, Makes}
+use Rattle.node_heap.specs.InPlace.{Writes, Changes}
 use Rattle.node_heap.specs.Layout.{row_of_slot, owners_in, rows_of_slots, holds_in, slot_at, places_at, graph_of, nodes_in, cells_in, ApartAt, IsCounted, Rewrites, KeepsRoom, IsHeap, Table, seen}
 use Rattle.node_heap.specs.declared.row.Head.{Head}
 use Rattle.node_heap.specs.Layout.{Slot}
@@ -19,7 +19,7 @@ use Rattle.node_heap.proofs.Reach.{acyclic-ranked, Reaches-by}
 use Rattle.node_heap.proofs.Ways.{LeadsDown-lifted}
 use Rattle.node_heap.proofs.Slots.{row_at-slots, holds_at-slots, owners_at-slots, places_at-apart, live-owned}
 use Rattle.node_heap.proofs.Stored.{IsGraph-stored, Makes-stored, live_row, kinds-row, row-seen, owners-seen}
-use Rattle.node_heap.proofs.Edited.{Edits-Writes}
+use Rattle.node_heap.proofs.Edited.{Changes-Writes}
 
 -- how often links stand in a list after an edit of it
 pub count-set : (k : ℕ) (xs : List ℕ) (i x : ℕ) → i < length xs → count k (set xs i x) + one_at (get_or xs i 0) k ≡ count k xs + one_at x k
@@ -56,7 +56,8 @@ module _ {T : Type 0} where
   pub record WritesNode (old new : Heap T) (parent : ℕ) (head : Option Head) (links spent gained : List ℕ) : Type 0 where
     pub writes : Writes old new parent head links
     pub owners : KeepsOwners old new
-    pub edits : Edits parent old new spent gained 0 0
+    pub changes : Changes parent old new spent gained 0 0
+    pub makes : Makes old new 0 0
 
   -- a count of rows, where the row keeps its kind
   sum-kept : (f : Option (Row T) → ℕ) → f None ≡ 0 → (old new : List (Option (Slot T))) (place : ℕ) → ApartAt old new place → f (graph_of new place) ≡ f (graph_of old place) → sum_by f (rows_of_slots new) ≡ sum_by f (rows_of_slots old)
@@ -147,12 +148,13 @@ module _ {T : Type 0} where
       let counted = stored.counted in
       let writes = writes-moved m a b n a' b' n in
       let owners = KeepsOwners-moved m counted a b n a' b' n in
+      let makes = Makes-stored t.slots t'.slots a b n a' b' n 0 0 (omega (arith, cells-moved m)) (omega (arith, nodes-moved m)) (omega (arith, room.spare_cells)) (omega (arith, room.spare_nodes)) stored.fits (omega (arith, stored.fits)) in
       rw (← heap_is, ← parent_is) (record {
         writes = writes;
         owners = owners;
-        edits = Edits-Writes (seen t.slots a b n) (seen t'.slots a' b' n) place spent gained (IsGraph-stored _ _ _ _ stored) (IsGraph-stored _ _ _ _ stored') (rw (row_at-slots t'.slots place) (live_row (slot_at t'.slots place) m.rewrites.live)) writes.others owners
-            (holds-moved m counted) (total-moved m counted)
-            (Makes-stored t.slots t'.slots a b n a' b' n 0 0 (omega (arith, cells-moved m)) (omega (arith, nodes-moved m)) (omega (arith, room.spare_cells)) (omega (arith, room.spare_nodes)) stored.fits (omega (arith, stored.fits)));
+        changes = Changes-Writes (seen t.slots a b n) (seen t'.slots a' b' n) place spent gained (IsGraph-stored _ _ _ _ stored) (IsGraph-stored _ _ _ _ stored') (rw (row_at-slots t'.slots place) (live_row (slot_at t'.slots place) m.rewrites.live)) writes.others owners
+            (holds-moved m counted) (total-moved m counted) makes;
+        makes = makes;
       })
 
   -- one link of which a hold is spent

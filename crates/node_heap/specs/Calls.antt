@@ -127,3 +127,13 @@ module _ {T : Type 0} where
     pub cells : cell_count new ≤ cell_count old + c
     pub nodes : node_count new ≤ node_count old + n
     pub balance : Balances old new
+
+  -- a hold of each link of the first list was spent, and one of each of the second gained; at most c cells and n nodes came
+  pub record Trades (old new : Heap T) (spent gained : List ℕ) (c n : ℕ) : Type 0 where
+    pub graph : IsGraph new
+    pub holds : (k : ℕ) → holds_at new k + count k spent ≡ holds_at old k + count k gained
+    pub total : hold_count new + length spent ≡ hold_count old + length gained
+    pub cells : cell_count new ≤ cell_count old + c
+    pub nodes : node_count new ≤ node_count old + n
+    pub balance : Balances old new
+    pub made : new.made ≤ old.made + (c + n)

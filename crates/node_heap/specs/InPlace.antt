@@ -1,9 +1,9 @@
 -- What writes in place do: which rows they change, and which stay.
-use Rattle.std.specs.Prelude.{◌≡◌, ◌≢◌, ℕ, ◌+◌, ◌<◌, ◌≤◌, List, ◌∷◌, ◌++◌, length, Option, IsSome, slice_index, ◌==◌, if◌then◌else◌}
+use Rattle.std.specs.Prelude.{◌≡◌, ◌≢◌, ℕ, ◌+◌, ◌<◌, ◌≤◌, List, [], ◌∷◌, ◌++◌, Option, None, IsSome, slice_index, ◌==◌, if◌then◌else◌}
 use Rattle.node_heap.specs.Links.{Links, count, HasLink, Reaches}
 use Rattle.node_heap.specs.Forms.{head_of, Tree, IsTree}
-use Rattle.node_heap.specs.Heap.{Heap, row_at, form_at, links_at, holds_at, owners_at, hold_count, one_at, IsGraph}
-use Rattle.node_heap.specs.Calls.{KeepsBelow, KeepsHeld, Makes, Builds, Releases}
+use Rattle.node_heap.specs.Heap.{Heap, row_at, form_at, links_at, holds_at, owners_at, live_count, one_at, IsGraph}
+use Rattle.node_heap.specs.Calls.{AddsOwner, KeepsBelow, KeepsHeld, Unchanged, Builds, Releases, Trades}
 use Rattle.node_heap.specs.declared.row.Head.{Head}
 
 -- 0 at the link itself, and else 1
@@ -35,75 +35,100 @@ module _ {T : Type 0} where
     pub new_links : links_at new parent ≡ links
     pub others : (k : ℕ) → k ≢ parent → row_at new k ≡ row_at old k
 
-  -- a link of which a hold is left unspent stays, with each row that it reaches around the first row, and no more holds
-  -- than these are spent
+  -- each row that a link with a hold left unspent reaches around the first row is the same
   pub record KeepsApart (first : ℕ) (spent : ℕ → ℕ) (old new : Heap T) : Type 0 where
-    pub live : (l : ℕ) → spent l < holds_at old l → IsSome (row_at new l)
     pub kept : (l m : ℕ) → spent l < holds_at old l → ReachesAround (links_at old) first l m → row_at new m ≡ row_at old m
-    pub left : (l : ℕ) → holds_at old l ≤ holds_at new l + spent l
 
-  -- the ways down to rows above the first stay, and those with one owner a row are still such
+  -- the first row and the rows above it stay, with the links that lead to them, and those with one owner have one still
   pub record KeepsPaths (first : ℕ) (old new : Heap T) : Type 0 where
-    pub ways : (x y : ℕ) → Reaches (links_at old) y first → Reaches (links_at old) x y → Reaches (links_at new) x y
-    pub owned : (x y : ℕ) → Reaches (links_at old) y first → OwnsDown old x y → OwnsDown new x y
+    pub live : (k : ℕ) → Reaches (links_at old) k first → IsSome (row_at old k) → IsSome (row_at new k)
+    pub links : (l k : ℕ) → HasLink (links_at old) l k → Reaches (links_at old) k first → HasLink (links_at new) l k
+    pub soles : (k : ℕ) → Reaches (links_at old) k first → owners_at old k ≡ 1 → owners_at new k ≡ 1
 
-  -- rows were written in place at the first row or below it, and none was freed: at most c cells and n nodes came, each of a
-  -- spare; a hold of each link of the first list was spent, and one of each of the second gained
-  pub record Edits (first : ℕ) (old new : Heap T) (spent gained : List ℕ) (c n : ℕ) : Type 0 where
+  -- rows at the first row or below it were written or freed, and others came, with what was spent and gained for it
+  pub record Changes (first : ℕ) (old new : Heap T) (spent gained : List ℕ) (c n : ℕ) : Type 0 where
     pub apart : KeepsApart first (λ l. count l spent) old new
     pub paths : KeepsPaths first old new
-    pub stays : (l : ℕ) → IsSome (row_at old l) → IsSome (row_at new l)
-    pub graph : IsGraph new
-    pub holds : (k : ℕ) → holds_at new k + count k spent ≡ holds_at old k + count k gained
-    pub total : hold_count new + length spent ≡ hold_count old + length gained
-    pub cells : ℕ
-    pub nodes : ℕ
-    pub few_cells : cells ≤ c
-    pub few_nodes : nodes ≤ n
-    pub makes : Makes old new cells nodes
+    pub trades : Trades old new spent gained c n
 
--- an edit below a path of rows with one owner each is an edit at the path's first row
-abbrev pub EditsGoUp : Type 0 → Type 0
-EditsGoUp T = (old new : Heap T) (first last : ℕ) (spent gained : List ℕ) (c n : ℕ)
-    → OwnsDown old first last → Edits last old new spent gained c n → Edits first old new spent gained c n
+-- a held link that doesn't reach the first row of a path of rows with one owner each doesn't reach its last
+abbrev pub PathsKeepOff : Type 0 → Type 0
+PathsKeepOff T = (h : Heap T) (first last l : ℕ) → OwnsDown h first last → 0 < holds_at h l → ¬ Reaches (links_at h) l first → ¬ Reaches (links_at h) l last
 
--- two edits at one row, of which the second spends what the first gained, are one edit
-abbrev pub EditsFollow : Type 0 → Type 0
-EditsFollow T = (old mid new : Heap T) (first : ℕ) (spent between gained : List ℕ) (c n c' n' : ℕ)
-    → Edits first old mid spent between c n → Edits first mid new between gained c' n' → Edits first old new spent gained (c + c') (n + n')
+-- no other hold reaches a row whose one owner is a hold
+abbrev pub OwnRootsKeepOff : Type 0 → Type 0
+OwnRootsKeepOff T = (h : Heap T) (first l : ℕ) → 0 < holds_at h first → owners_at h first ≡ 1 → one_at first l < holds_at h l → ¬ Reaches (links_at h) l first
 
--- two edits at one row, each with what it spends and gains, are one edit with both
-abbrev pub EditsJoin : Type 0 → Type 0
-EditsJoin T = (old mid new : Heap T) (first : ℕ) (spent gained spent' gained' : List ℕ) (c n c' n' : ℕ)
-    → Edits first old mid spent gained c n → Edits first mid new spent' gained' c' n' → Edits first old new (spent ++ spent') (gained ++ gained') (c + c') (n + n')
+-- a change below a path of rows with one owner each is a change at the path's first row
+abbrev pub ChangesGoUp : Type 0 → Type 0
+ChangesGoUp T = (old new : Heap T) (first last : ℕ) (spent gained : List ℕ) (c n : ℕ)
+    → OwnsDown old first last → Changes last old new spent gained c n → Changes first old new spent gained c n
 
--- what is built is an edit at any row that is there, where the rows that were there keep their owners
-abbrev pub BuildsAreEdits : Type 0 → Type 0
-BuildsAreEdits T = (old new : Heap T) (first : ℕ) (spent gained : List ℕ) (c n : ℕ) → IsGraph old → IsSome (row_at old first)
-    → ((k : ℕ) → IsSome (row_at old k) → owners_at new k ≡ owners_at old k) → Builds old new spent gained c n → Edits first old new spent gained c n
+-- two changes at one row, of which the second spends some of what the first gained, are one change
+abbrev pub ChangesFollow : Type 0 → Type 0
+ChangesFollow T = (old mid new : Heap T) (first : ℕ) (between spent gained spent' gained' : List ℕ) (c n c' n' : ℕ)
+    → Changes first old mid spent (between ++ gained) c n → Changes first mid new (between ++ spent') gained' c' n'
+    → Changes first old new (spent ++ spent') (gained ++ gained') (c + c') (n + n')
 
--- a link of which a hold is left unspent keeps all below it through an edit at a row that it doesn't reach
-abbrev pub EditsKeepRows : Type 0 → Type 0
-EditsKeepRows T = (old new : Heap T) (first l : ℕ) (spent gained : List ℕ) (c n : ℕ)
-    → Edits first old new spent gained c n → count l spent < holds_at old l → ¬ Reaches (links_at old) l first → KeepsBelow old new l
+-- what is built is a change at any row, where this row and those above it that have one owner have one still
+abbrev pub BuildsAreChanges : Type 0 → Type 0
+BuildsAreChanges T = (old new : Heap T) (first : ℕ) (spent gained : List ℕ) (c n : ℕ) → IsGraph old
+    → ((k : ℕ) → Reaches (links_at old) k first → owners_at old k ≡ 1 → owners_at new k ≡ 1) → Builds old new spent gained c n → Changes first old new spent gained c n
+
+-- and so is a hold more of a link that doesn't reach the row
+abbrev pub HoldsAreChanges : Type 0 → Type 0
+HoldsAreChanges T = (old new : Heap T) (first link : ℕ) → IsGraph old → AddsOwner old new link → Builds old new [] (link ∷ []) 0 0
+    → ¬ Reaches (links_at old) link first → Changes first old new [] (link ∷ []) 0 0
+
+-- and so is room that is made, or refused
+abbrev pub RoomIsAChange : Type 0 → Type 0
+RoomIsAChange T = (old new : Heap T) (first : ℕ) → IsGraph old → Unchanged old new → Changes first old new [] [] 0 0
+
+-- a release of a link that doesn't reach a row is a change there
+abbrev pub ReleasesAreChanges : Type 0 → Type 0
+ReleasesAreChanges T = (old new : Heap T) (first link : ℕ) → IsGraph old → IsGraph new → IsSome (row_at old first) → Releases old new link
+    → ¬ Reaches (links_at old) link first → Changes first old new (link ∷ []) [] 0 0
+
+-- a way down to the row of a change, or to a row above it, stays
+abbrev pub ChangesKeepWays : Type 0 → Type 0
+ChangesKeepWays T = (old new : Heap T) (first x y : ℕ) (spent gained : List ℕ) (c n : ℕ)
+    → Changes first old new spent gained c n → Reaches (links_at old) y first → Reaches (links_at old) x y → Reaches (links_at new) x y
+
+-- and so does a path there of rows with one owner each
+abbrev pub ChangesKeepPaths : Type 0 → Type 0
+ChangesKeepPaths T = (old new : Heap T) (first x y : ℕ) (spent gained : List ℕ) (c n : ℕ)
+    → Changes first old new spent gained c n → Reaches (links_at old) y first → OwnsDown old x y → OwnsDown new x y
+
+-- a link of which a hold is left unspent keeps all below it through a change at a row that it doesn't reach
+abbrev pub ChangesKeepRows : Type 0 → Type 0
+ChangesKeepRows T = (old new : Heap T) (first l : ℕ) (spent gained : List ℕ) (c n : ℕ)
+    → Changes first old new spent gained c n → count l spent < holds_at old l → ¬ Reaches (links_at old) l first → KeepsBelow old new l
 
 -- and so it unfolds to the tree that it unfolded to
-abbrev pub EditsKeepTrees : Type 0 → Type 0
-EditsKeepTrees T = (old new : Heap T) (first l : ℕ) (t : Tree T) (spent gained : List ℕ) (c n : ℕ)
-    → Edits first old new spent gained c n → count l spent < holds_at old l → ¬ Reaches (links_at old) l first → IsTree (form_at old) l t → IsTree (form_at new) l t
+abbrev pub ChangesKeepTrees : Type 0 → Type 0
+ChangesKeepTrees T = (old new : Heap T) (first l : ℕ) (t : Tree T) (spent gained : List ℕ) (c n : ℕ)
+    → Changes first old new spent gained c n → count l spent < holds_at old l → ¬ Reaches (links_at old) l first → IsTree (form_at old) l t → IsTree (form_at new) l t
 
--- an edit at a child with one owner keeps all below another child of its parent, which a link with a hold left reaches
-abbrev pub EditsKeepSiblings : Type 0 → Type 0
-EditsKeepSiblings T = (old new : Heap T) (parent child other l : ℕ) (spent gained : List ℕ) (c n : ℕ) → IsGraph old
+-- a change at a child with one owner keeps all below another child of its parent, which a link with a hold left reaches
+abbrev pub ChangesKeepSiblings : Type 0 → Type 0
+ChangesKeepSiblings T = (old new : Heap T) (parent child other l : ℕ) (spent gained : List ℕ) (c n : ℕ) → IsGraph old
     → owners_at old child ≡ 1 → HasLink (links_at old) parent child → HasLink (links_at old) parent other → other ≢ child
-    → Edits child old new spent gained c n → count l spent < holds_at old l → Reaches (links_at old) l parent → KeepsBelow old new other
+    → Changes child old new spent gained c n → count l spent < holds_at old l → Reaches (links_at old) l parent → KeepsBelow old new other
 
--- an edit at a row whose one owner is a hold keeps all that is held beside it
-abbrev pub OwnEditsKeepHeld : Type 0 → Type 0
-OwnEditsKeepHeld T = (old new : Heap T) (first : ℕ) (spent gained : List ℕ) (c n : ℕ) → 0 < holds_at old first → owners_at old first ≡ 1
-    → Edits first old new spent gained c n → KeepsHeld (λ l. count l (first ∷ spent)) old new
+-- a change at a row whose one owner is a hold keeps all that is held beside it
+abbrev pub OwnChangesKeepHeld : Type 0 → Type 0
+OwnChangesKeepHeld T = (old new : Heap T) (first : ℕ) (spent gained : List ℕ) (c n : ℕ) → 0 < holds_at old first → owners_at old first ≡ 1
+    → Changes first old new spent gained c n → KeepsHeld (λ l. count l (first ∷ spent)) old new
 
--- a release of a link that doesn't reach a row keeps the ways above this row with their sole owners, and what is apart
-abbrev pub ReleasesKeepPaths : Type 0 → Type 0
-ReleasesKeepPaths T = (old new : Heap T) (first link : ℕ) → IsGraph old → IsGraph new → Releases old new link
-    → ¬ Reaches (links_at old) link first → KeepsApart first (one_at link) old new × KeepsPaths first old new
+-- where the rows that were there keep their owners, a new row leads to such of them alone as lie below what was spent
+abbrev pub NewRowsReachSpent : Type 0 → Type 0
+NewRowsReachSpent T = (old new : Heap T) (spent gained : List ℕ) (c n l m : ℕ) → ((k : ℕ) → IsSome (row_at old k) → owners_at new k ≡ owners_at old k) → Builds old new spent gained c n
+    → row_at old l ≡ None → IsSome (row_at old m) → Reaches (links_at new) l m → (s : ℕ) × (0 < count s spent) × Reaches (links_at old) s m
+
+-- a release of a link without links frees no other row
+abbrev pub LeafReleasesKeepOthers : Type 0 → Type 0
+LeafReleasesKeepOthers T = (old new : Heap T) (link : ℕ) → IsGraph old → links_at old link ≡ [] → Releases old new link → (k : ℕ) → k ≢ link → row_at new k ≡ row_at old k
+
+-- and so it frees one row at most
+abbrev pub LeafReleasesFreeOne : Type 0 → Type 0
+LeafReleasesFreeOne T = (old new : Heap T) (link : ℕ) → IsGraph old → links_at old link ≡ [] → Releases old new link → live_count old ≤ live_count new + 1

@@ -5,6 +5,7 @@ pub mod Calls
 pub mod Layout
 pub mod Inside
 pub mod InPlace
+pub mod Owner
 pub mod Glass
 pub mod LendsSlot
 pub mod Lending

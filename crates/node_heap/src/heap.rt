@@ -4,7 +4,7 @@ ghost use Rattle.node_heap.specs.Links.{count, Reaches};
 ghost use Rattle.node_heap.specs.Forms.{cell, node, links_of, value_of, head_of, is_cell, is_node};
 ghost use Rattle.node_heap.specs.Heap.{row_at, links_at, holds_at, owners_at, live_count, hold_count, one_at, HasSpares, IsGraph};
 ghost use Rattle.node_heap.specs.Calls.{KeepsBelow, SameRows, Adds, AddsOwner, KeepsOwners, Makes, Releases, Extends, KeepsHeld, KeepsTrees, Unchanged, HasGreater, Builds};
-ghost use Rattle.node_heap.specs.InPlace.{child_at, other_at, Writes, Edits};
+ghost use Rattle.node_heap.specs.InPlace.{child_at, other_at, Writes, Changes};
 ghost use Rattle.node_heap.specs.Layout.{graph_of, slot_at, owners_in, filled_count, Copies, rows_of_slots, IsCounted, IsDying, IsLow, KeepsRoom, Thins, cells_in, nodes_in};
 
 use crate::entry::kept;
@@ -220,10 +220,11 @@ impl<T> Heap<T> {
         ensures fresh { result ≢ child_at self.old parent index → row_at self.old result ≡ None }
         ensures parent_head { head_of (row_at self.new parent) ≡ head_of (row_at self.old parent) }
         ensures parent_links { links_at self.new parent ≡ slice_set (links_at self.old parent) index result }
+        ensures stays { (k : ℕ) → k ≢ parent → IsSome (row_at self.old k) → row_at self.new k ≡ row_at self.old k }
         ensures others { (k : ℕ) → k ≢ parent → k ≢ result → row_at self.new k ≡ row_at self.old k }
         ensures owners { (k : ℕ) → owners_at self.new k + one_at (child_at self.old parent index) k
             ≡ owners_at self.old k + (one_at result k + other_at (child_at self.old parent index) result * count k (links_at self.old (child_at self.old parent index))) }
-        ensures edits { Edits parent self.old self.new [] [] 0 1 }
+        ensures changes { Changes parent self.old self.new [] [] 0 1 }
         ensures makes { Makes self.old self.new 0 (other_at (child_at self.old parent index) result) }
     {
         let child = self.table.links(parent.place)[index];
@@ -250,7 +251,8 @@ impl<T> Heap<T> {
         ensures old { result ≡ child_at self.old parent index }
         ensures writes { Writes self.old self.new parent (head_of (row_at self.old parent)) (slice_set (links_at self.old parent) index new) }
         ensures owners { KeepsOwners self.old self.new }
-        ensures edits { Edits parent self.old self.new (new ∷ []) (result ∷ []) 0 0 }
+        ensures changes { Changes parent self.old self.new (new ∷ []) (result ∷ []) 0 0 }
+        ensures makes { Makes self.old self.new 0 0 }
     {
         self.table.replace_link(parent.place, index, new)
     }
@@ -266,7 +268,8 @@ impl<T> Heap<T> {
         requires apart { ¬ Reaches (links_at self.old) new parent }
         ensures writes { Writes self.old self.new parent (head_of (row_at self.old parent)) (insert (links_at self.old parent) index new) }
         ensures owners { KeepsOwners self.old self.new }
-        ensures edits { Edits parent self.old self.new (new ∷ []) [] 0 0 }
+        ensures changes { Changes parent self.old self.new (new ∷ []) [] 0 0 }
+        ensures makes { Makes self.old self.new 0 0 }
     {
         self.table.insert_link(parent.place, index, new);
     }
@@ -280,7 +283,8 @@ impl<T> Heap<T> {
         ensures old { result ≡ child_at self.old parent index }
         ensures writes { Writes self.old self.new parent (head_of (row_at self.old parent)) (remove (links_at self.old parent) index) }
         ensures owners { KeepsOwners self.old self.new }
-        ensures edits { Edits parent self.old self.new [] (result ∷ []) 0 0 }
+        ensures changes { Changes parent self.old self.new [] (result ∷ []) 0 0 }
+        ensures makes { Makes self.old self.new 0 0 }
     {
         self.table.remove_link(parent.place, index)
     }
@@ -291,7 +295,8 @@ impl<T> Heap<T> {
         requires node { is_node (row_at self.old parent) ≡ 1 }
         ensures writes { Writes self.old self.new parent (Some head) (links_at self.old parent) }
         ensures owners { KeepsOwners self.old self.new }
-        ensures edits { Edits parent self.old self.new [] [] 0 0 }
+        ensures changes { Changes parent self.old self.new [] [] 0 0 }
+        ensures makes { Makes self.old self.new 0 0 }
     {
         self.table.set_head(parent.place, head);
     }

@@ -3,7 +3,8 @@ ghost use Rattle.std.specs.Prelude.{◌≡◌, ℕ, ◌+◌, ◌<◌, IsSome};
 ghost use Rattle.node_heap.specs.Links.{IsAcyclic};
 ghost use Rattle.node_heap.specs.Forms.{HasOneTree, TreesFollowReached};
 ghost use Rattle.node_heap.specs.Heap.{row_at, form_at, links_at, owners_at, live_count, cell_count, node_count};
-ghost use Rattle.node_heap.specs.InPlace.{EditsGoUp, EditsFollow, EditsJoin, BuildsAreEdits, EditsKeepRows, EditsKeepTrees, EditsKeepSiblings, OwnEditsKeepHeld, ReleasesKeepPaths};
+ghost use Rattle.node_heap.specs.InPlace.{PathsKeepOff, OwnRootsKeepOff, ChangesGoUp, ChangesFollow, BuildsAreChanges, HoldsAreChanges, RoomIsAChange, ReleasesAreChanges, ChangesKeepWays, ChangesKeepPaths, ChangesKeepRows, ChangesKeepTrees, ChangesKeepSiblings, OwnChangesKeepHeld, NewRowsReachSpent, LeafReleasesKeepOthers, LeafReleasesFreeOne};
+ghost use Rattle.node_heap.specs.Owner.{OwnThenChanges, OwnChildThenChanges, RoomThenEdits, HoldEditsKeepHeld, PlaceEditsKeepApart, AloneStays, SharedGoes};
 
 use crate::heap::Heap;
 use crate::row::Link;
@@ -30,15 +31,54 @@ pub fn rows_are_owned<T>(heap: &Heap<T>)
     let _ = heap.live();
 }
 
-/// Edits in place below rows with one owner add up to one edit at the first of them, which keeps what is held apart.
-pub fn edits_add_up<T>()
-    ensures up { EditsGoUp T }
-    ensures follow { EditsFollow T }
-    ensures join { EditsJoin T }
-    ensures builds { BuildsAreEdits T }
-    ensures rows { EditsKeepRows T }
-    ensures trees { EditsKeepTrees T }
-    ensures siblings { EditsKeepSiblings T }
-    ensures held { OwnEditsKeepHeld T }
-    ensures releases { ReleasesKeepPaths T }
+/// What a held link doesn't reach: the last row of a path of rows with one owner each, where it doesn't reach the first; and
+/// a row whose one owner is another hold.
+pub fn owned_rows_keep_off<T>()
+    ensures paths { PathsKeepOff T }
+    ensures roots { OwnRootsKeepOff T }
+{}
+
+/// Changes below rows with one owner add up to one change at the first of them. What is built, a hold, room that is
+/// made and a release are changes too.
+pub fn changes_add_up<T>()
+    ensures up { ChangesGoUp T }
+    ensures follow { ChangesFollow T }
+    ensures builds { BuildsAreChanges T }
+    ensures holds { HoldsAreChanges T }
+    ensures room { RoomIsAChange T }
+    ensures releases { ReleasesAreChanges T }
+{}
+
+/// A change at a row keeps the ways and the paths to rows above it, and what is held apart.
+pub fn changes_keep_the_rest<T>()
+    ensures ways { ChangesKeepWays T }
+    ensures paths { ChangesKeepPaths T }
+    ensures rows { ChangesKeepRows T }
+    ensures trees { ChangesKeepTrees T }
+    ensures siblings { ChangesKeepSiblings T }
+    ensures held { OwnChangesKeepHeld T }
+{}
+
+/// A held node that is made one's own, and a child that is made its parent's own, is edited by its owner then, which keeps what
+/// is beside that owner.
+pub fn edits_by_an_owner<T>()
+    ensures hold { OwnThenChanges T }
+    ensures place { OwnChildThenChanges T }
+    ensures room { RoomThenEdits T }
+    ensures held { HoldEditsKeepHeld T }
+    ensures apart { PlaceEditsKeepApart T }
+{}
+
+/// Where a path keeps its rows that are alone, its first row is the same if it has one owner, and another if it has more.
+pub fn alone_rows_stay<T>()
+    ensures alone { AloneStays T }
+    ensures shared { SharedGoes T }
+{}
+
+/// A new row leads to no old row that isn't below what was spent for it, and a release of a link without links frees no
+/// other row.
+pub fn rows_come_and_go<T>()
+    ensures spent { NewRowsReachSpent T }
+    ensures others { LeafReleasesKeepOthers T }
+    ensures one { LeafReleasesFreeOne T }
 {}

@@ -1,8 +1,8 @@
 use Rattle.std.proofs.Common.{◌≡◌, ◌-◌, [], refl, sym, ◌∙◌, arith}
 use Rattle.node_heap.specs.InPlace.{child_at}
-use Rattle.node_heap.proofs.Stored.{IsGraph-stored, owners-seen, live-seen}
+use Rattle.node_heap.proofs.Stored.{IsGraph-stored, owners-seen}
 use Rattle.node_heap.proofs.BuildLemmas.{Builds-refl}
-use Rattle.node_heap.proofs.EditLaws.{Edits-Builds}
+use Rattle.node_heap.proofs.EditLaws.{Changes-Builds}
 use Rattle.node_heap.proofs.Rewritten.{child-read}
 use Rattle.node_heap.proofs.Owned.{OwnsChild, OwnsChild-seen, OwnsCopy-child, owners-room, inside-copied, counted-child, total-child}
 use Rattle.node_heap.proofs.heap.Heap.own_child.Given.{Over}
@@ -21,11 +21,10 @@ returns-then-owners-eq1-clause-same g c =
 pub returns-then-owners-eq1-clause-sole : goal.returns-then-owners-eq1-clause-sole
 returns-then-owners-eq1-clause-sole g c = sym (owners-seen c.self.invariant.counted c.self.view_is c.child.view_is) ∙ sym c.owners-owners.ensures ∙ c.if-owners-eq1.true
 
-pub returns-then-owners-eq1-clause-edits : goal.returns-then-owners-eq1-clause-edits
-returns-then-owners-eq1-clause-edits g c =
+pub returns-then-owners-eq1-clause-changes : goal.returns-then-owners-eq1-clause-changes
+returns-then-owners-eq1-clause-changes g c =
     let graph = rw c.self.view_is at (IsGraph-stored _ _ _ _ c.self.invariant) in
-    let live = live-seen c.self.invariant.counted c.self.view_is c.parent.view_is (omega (arith, c.requires.sole)) in
-    Edits-Builds c.args.parent graph live (λ k some. refl) (Builds-refl c.args.self.now [] 0 1 graph)
+    Changes-Builds c.args.parent graph (λ k up one. one) (Builds-refl c.args.self.now [] 0 1 graph)
 
 pub copied-place-requires-clause-room : goal.copied-place-requires-clause-room
 copied-place-requires-clause-room g c = owners-room c.self.invariant

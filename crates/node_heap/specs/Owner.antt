@@ -1,0 +1,102 @@
+-- The owner of a root that is edited in place, what stays beside it, and which rows of a path are alone.
+use Rattle.std.specs.Prelude.{◌≡◌, ◌≢◌, ◌↔◌, ℕ, ◌+◌, ◌-◌, ◌<◌, List, [], ◌∷◌, ◌++◌, length, take, remove, slice_set, slice_index, Option, Some, None, ◌==◌, if◌then◌else◌}
+use Rattle.node_heap.specs.Links.{Links, count, Reaches}
+use Rattle.node_heap.specs.Forms.{Row, cell, node, head_of}
+use Rattle.node_heap.specs.Heap.{Heap, row_at, links_at, holds_at, owners_at, one_at, IsGraph}
+use Rattle.node_heap.specs.Calls.{KeepsBelow, KeepsHeld, Unchanged, Builds, Trades}
+use Rattle.node_heap.specs.InPlace.{child_at, Changes}
+
+-- a hold of the root, or the place at an index of a parent
+pub data Owner : Type 0 where
+  by_hold : ℕ → Owner
+  by_place : ℕ → ℕ → Owner
+
+-- the holds that an owner has of its root: one, or none where it is a place
+abbrev pub held_by : Owner → ℕ → List ℕ
+held_by (by_hold _) root = root ∷ []
+held_by (by_place _ _) root = []
+
+module _ {T : Type 0} where
+  -- the root that is owned so
+  abbrev pub owned : Heap T → Owner → ℕ
+  owned h (by_hold root) = root
+  owned h (by_place parent index) = child_at h parent index
+
+  -- the holds without that owner
+  abbrev pub holds_beside : Heap T → Owner → ℕ → ℕ
+  holds_beside h (by_hold root) l = holds_at h l - one_at root l
+  holds_beside h (by_place _ _) l = holds_at h l
+
+  -- the links without that owner
+  abbrev pub links_beside : Heap T → Owner → Links
+  links_beside h (by_hold _) l = links_at h l
+  links_beside h (by_place parent index) l = if l == parent then remove (links_at h l) index else links_at h l
+
+  -- a node with another link at the index
+  abbrev pub relinked : ℕ → ℕ → Option (Row T) → Option (Row T)
+  relinked index link None = None
+  relinked index link (Some (cell x)) = Some (cell x)
+  relinked index link (Some (node head links)) = Some (node head (slice_set links index link))
+
+  -- the row of a link, with the new root at the owner's place if that is in it
+  abbrev pub with_root : Owner → ℕ → ℕ → Option (Row T) → Option (Row T)
+  with_root (by_hold _) root l row = row
+  with_root (by_place parent index) root l row = if l == parent then relinked index root row else row
+
+  -- each row that a hold left unspent reaches on a way beside the owner is the same, but for the new root at the owner's place
+  abbrev pub KeepsBeside : Owner → ℕ → (ℕ → ℕ) → Heap T → Heap T → Type 0
+  KeepsBeside owner root spent old new = (l m : ℕ) → spent l < holds_beside old owner l → Reaches (links_beside old owner) l m → row_at new m ≡ with_root owner root m (row_at old m)
+
+  -- what the owner owns was edited in place, and it owns the new root now; the lists are without the owner's own hold
+  pub record EditsBy (owner : Owner) (old new : Heap T) (root : ℕ) (spent gained : List ℕ) (c n : ℕ) : Type 0 where
+    pub beside : KeepsBeside owner root (λ l. count l spent) old new
+    pub trades : Trades old new (held_by owner (owned old owner) ++ spent) (held_by owner root ++ gained) c n
+
+  -- how many rows of a path are alone: its first ones, as long as each has one owner
+  abbrev pub alone : Heap T → List ℕ → ℕ
+  alone h [] = 0
+  alone h (l ∷ path) = if owners_at h l == 1 then 1 + alone h path else 0
+
+  -- those rows
+  abbrev pub written : Heap T → List ℕ → List ℕ
+  written h path = take (alone h path) path
+
+  -- at each place of the path the row is the old one exactly where that was alone
+  pub record KeepsAlone (old : Heap T) (path path' : List ℕ) : Type 0 where
+    pub places : length path' ≡ length path
+    pub same : (j : ℕ) → j < length path → (slice_index path' j ≡ slice_index path j) ↔ (j < alone old path)
+
+-- a held node is made one's own and changed then: that is an edit by the hold
+abbrev pub OwnThenChanges : Type 0 → Type 0
+OwnThenChanges T = (old mid new : Heap T) (root root' : ℕ) (spent gained : List ℕ) (c n : ℕ) → IsGraph old → 0 < holds_at old root → owners_at mid root' ≡ 1
+    → Builds old mid (root ∷ []) (root' ∷ []) 0 1 → Changes root' mid new spent gained c n → EditsBy (by_hold root) old new root' spent gained c (1 + n)
+
+-- a child is made its parent's own and changed then: that is an edit by the place
+abbrev pub OwnChildThenChanges : Type 0 → Type 0
+OwnChildThenChanges T = (old mid new : Heap T) (parent index root' : ℕ) (spent gained : List ℕ) (c n : ℕ) → index < length (links_at old parent) → owners_at mid root' ≡ 1
+    → head_of (row_at mid parent) ≡ head_of (row_at old parent) → links_at mid parent ≡ slice_set (links_at old parent) index root'
+    → ((k : ℕ) → k ≢ parent → k ≢ root' → row_at mid k ≡ row_at old k) → Changes parent old mid [] [] 0 1
+    → Changes root' mid new spent gained c n → EditsBy (by_place parent index) old new root' spent gained c (1 + n)
+
+-- where room was made first, all is one edit
+abbrev pub RoomThenEdits : Type 0 → Type 0
+RoomThenEdits T = (owner : Owner) (old mid new : Heap T) (root : ℕ) (spent gained : List ℕ) (c n : ℕ)
+    → Unchanged old mid → EditsBy owner mid new root spent gained c n → EditsBy owner old new root spent gained c n
+
+-- an edit by a hold keeps all that is held beside it
+abbrev pub HoldEditsKeepHeld : Type 0 → Type 0
+HoldEditsKeepHeld T = (old new : Heap T) (root root' : ℕ) (spent gained : List ℕ) (c n : ℕ)
+    → EditsBy (by_hold root) old new root' spent gained c n → KeepsHeld (λ l. count l (root ∷ spent)) old new
+
+-- an edit by a place keeps all below a link of which a hold is left and which doesn't reach the parent
+abbrev pub PlaceEditsKeepApart : Type 0 → Type 0
+PlaceEditsKeepApart T = (old new : Heap T) (parent index root' l : ℕ) (spent gained : List ℕ) (c n : ℕ) → EditsBy (by_place parent index) old new root' spent gained c n
+    → count l spent < holds_at old l → ¬ Reaches (links_at old) l parent → KeepsBelow old new l
+
+-- a first row of a path that has one owner is the same row then
+abbrev pub AloneStays : Type 0 → Type 0
+AloneStays T = (h : Heap T) (x : ℕ) (path path' : List ℕ) → owners_at h x ≡ 1 → KeepsAlone h (x ∷ path) path' → slice_index path' 0 ≡ x
+
+-- and one with more owners isn't
+abbrev pub SharedGoes : Type 0 → Type 0
+SharedGoes T = (h : Heap T) (x : ℕ) (path path' : List ℕ) → owners_at h x ≢ 1 → KeepsAlone h (x ∷ path) path' → slice_index path' 0 ≢ x
