@@ -1,15 +1,16 @@
 -- Which rows of a path are alone, and which are written.
-use Rattle.std.proofs.Common.{◌≡◌, ◌≢◌, ℕ, suc, zero, ◌+◌, ◌*◌, ◌<◌, ◌≤◌, List, [], ◌∷◌, length, take, get_or, refl, ap, sym, ◌∙◌, arith, Bool, true, false, inl, inr}
+use Rattle.std.proofs.Common.{◌≡◌, ◌≢◌, ℕ, suc, zero, ◌+◌, ◌*◌, ◌<◌, ◌≤◌, List, [], ◌∷◌, length, take, get_or, refl, ap, sym, subst, ◌∙◌, arith, Bool, true, false, inl, inr}
 use Rattle.std.specs.Prelude.{◌↔◌, ◌==◌, slice_index, if◌then◌else◌}
 use Rattle.std.proofs.lemmas.Bool.{cases_eq}
 use Rattle.std.proofs.lemmas.Bool.Decides.{nat_tests}
-use Rattle.node_heap.specs.Links.{count, HasLink}
-use Rattle.node_heap.specs.Heap.{Heap, links_at, owners_at, one_at}
+use Rattle.node_heap.specs.Links.{count, HasLink, Reaches, here}
+use Rattle.node_heap.specs.Heap.{Heap, links_at, owners_at, one_at, IsGraph}
 use Rattle.node_heap.specs.Calls.{KeepsOwners}
 use Rattle.node_heap.specs.InPlace.{other_at}
 use Rattle.node_heap.specs.Owner.{alone, written, KeepsAlone}
 use Rattle.node_heap.proofs.BuildLemmas.{count-one}
 use Rattle.node_heap.proofs.Counts.{test_other}
+use Rattle.node_heap.proofs.GraphLemmas.{IsGraph-acyclic, IsGraph-owned}
 
 module _ {T : Type 0} where
   pub alone-yes : (h : Heap T) (x : ℕ) (xs : List ℕ) → owners_at h x ≡ 1 → alone h (x ∷ xs) ≡ 1 + alone h xs
@@ -58,7 +59,7 @@ module _ {T : Type 0} where
   -- the first row of a path is made one's own, and the next one, if any, is a link of it
   module _ (old mid : Heap T) (x c : ℕ) (rest : List ℕ) (same : (c ≡ x) ↔ (owners_at old x ≡ 1)) (sole : owners_at mid c ≡ 1)
       (owners : (k : ℕ) → owners_at mid k + one_at x k ≡ owners_at old k + (one_at c k + other_at x c * count k (links_at old x)))
-      (next : 1 ≤ length rest → HasLink (links_at old) x (get_or rest 0 0) × (1 ≤ owners_at old (get_or rest 0 0)) × (get_or rest 0 0 ≢ x)) where
+      (graph : IsGraph old) (next : 1 ≤ length rest → HasLink (links_at old) x (get_or rest 0 0)) where
     -- the row itself keeps all owners
     all-same : c ≡ x → (k : ℕ) → owners_at mid k ≡ owners_at old k
     all-same is k =
@@ -69,14 +70,16 @@ module _ {T : Type 0} where
     none-alone : c ≢ x → alone mid rest ≡ 0
     none-alone off = lone rest next
       where
-        lone : (xs : List ℕ) → (1 ≤ length xs → HasLink (links_at old) x (get_or xs 0 0) × (1 ≤ owners_at old (get_or xs 0 0)) × (get_or xs 0 0 ≢ x)) → alone mid xs ≡ 0
+        lone : (xs : List ℕ) → (1 ≤ length xs → HasLink (links_at old) x (get_or xs 0 0)) → alone mid xs ≡ 0
         lone [] next = refl
         lone (k ∷ ks) next =
-            let n = next (omega arith) in
+            let has = next (omega arith) in
+            let owned = IsGraph-owned old graph k (graph.closed x k has) in
+            let below : k ≢ x = λ same. IsGraph-acyclic old graph x k has (subst (Reaches (links_at old) k) same (here k)) in
             let whole : other_at x c ≡ 1 = grind (arith, nat_tests, off) in
             let more = owners k in
-            let apart : one_at x k ≡ 0 = test_other k x n.2 in
-            alone-no mid k ks (λ one. omega (arith, one, more, apart, ap (λ (m : ℕ). m * count k (links_at old x)) whole, n.0, n.1))
+            let apart : one_at x k ≡ 0 = test_other k x below in
+            alone-no mid k ks (λ one. omega (arith, one, more, apart, ap (λ (m : ℕ). m * count k (links_at old x)) whole, has, owned))
 
     pub KeepsAlone-own : (path' : List ℕ) → KeepsAlone mid (c ∷ rest) path' → KeepsAlone old (x ∷ rest) path'
     KeepsAlone-own path' keep = elim (cases_eq (owners_at old x) 1) as (λ _. KeepsAlone old (x ∷ rest) path') [

@@ -1,10 +1,10 @@
 -- The owner of a root that is edited in place, what stays beside it, and which rows of a path are alone.
-use Rattle.std.specs.Prelude.{◌≡◌, ◌≢◌, ◌↔◌, ℕ, ◌+◌, ◌-◌, ◌<◌, List, [], ◌∷◌, ◌++◌, length, take, remove, slice_set, slice_index, Option, Some, None, ◌==◌, if◌then◌else◌}
-use Rattle.node_heap.specs.Links.{Links, count, Reaches}
+use Rattle.std.specs.Prelude.{◌≡◌, ◌≢◌, ◌↔◌, ℕ, ◌+◌, ◌*◌, ◌-◌, ◌<◌, List, [], ◌∷◌, ◌++◌, length, take, remove, slice_set, slice_index, Option, Some, None, ◌==◌, if◌then◌else◌}
+use Rattle.node_heap.specs.Links.{Links, count, HasLink, Reaches}
 use Rattle.node_heap.specs.Forms.{Row, cell, node, head_of}
 use Rattle.node_heap.specs.Heap.{Heap, row_at, links_at, holds_at, owners_at, one_at, IsGraph}
 use Rattle.node_heap.specs.Calls.{KeepsBelow, KeepsHeld, Unchanged, Builds, Trades}
-use Rattle.node_heap.specs.InPlace.{child_at, Changes}
+use Rattle.node_heap.specs.InPlace.{child_at, other_at, Changes}
 
 -- a hold of the root, or the place at an index of a parent
 pub data Owner : Type 0 where
@@ -92,6 +92,16 @@ HoldEditsKeepHeld T = (old new : Heap T) (root root' : ℕ) (spent gained : List
 abbrev pub PlaceEditsKeepApart : Type 0 → Type 0
 PlaceEditsKeepApart T = (old new : Heap T) (parent index root' l : ℕ) (spent gained : List ℕ) (c n : ℕ) → EditsBy (by_place parent index) old new root' spent gained c n
     → count l spent < holds_at old l → ¬ Reaches (links_at old) l parent → KeepsBelow old new l
+
+-- what keeps a path keeps the path with a row before it that has one owner
+abbrev pub AlonePathsGoUp : Type 0 → Type 0
+AlonePathsGoUp T = (h : Heap T) (x : ℕ) (path path' : List ℕ) → owners_at h x ≡ 1 → KeepsAlone h path path' → KeepsAlone h (x ∷ path) (x ∷ path')
+
+-- what keeps a path once its first row is made one's own keeps the path as it was
+abbrev pub OwnedPathsKeepAlone : Type 0 → Type 0
+OwnedPathsKeepAlone T = (old mid : Heap T) (x own : ℕ) (rest path' : List ℕ) → IsGraph old → (own ≡ x) ↔ (owners_at old x ≡ 1) → owners_at mid own ≡ 1
+    → ((k : ℕ) → owners_at mid k + one_at x k ≡ owners_at old k + (one_at own k + other_at x own * count k (links_at old x)))
+    → (0 < length rest → HasLink (links_at old) x (slice_index rest 0)) → KeepsAlone mid (own ∷ rest) path' → KeepsAlone old (x ∷ rest) path'
 
 -- a first row of a path that has one owner is the same row then
 abbrev pub AloneStays : Type 0 → Type 0

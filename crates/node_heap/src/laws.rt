@@ -4,7 +4,7 @@ ghost use Rattle.node_heap.specs.Links.{IsAcyclic};
 ghost use Rattle.node_heap.specs.Forms.{HasOneTree, TreesFollowReached};
 ghost use Rattle.node_heap.specs.Heap.{row_at, form_at, links_at, owners_at, live_count, cell_count, node_count};
 ghost use Rattle.node_heap.specs.InPlace.{PathsKeepOff, OwnRootsKeepOff, ChangesGoUp, ChangesFollow, BuildsAreChanges, HoldsAreChanges, RoomIsAChange, ReleasesAreChanges, ChangesKeepWays, ChangesKeepPaths, ChangesKeepRows, ChangesKeepTrees, ChangesKeepSiblings, OwnChangesKeepHeld, NewRowsReachSpent, LeafReleasesKeepOthers, LeafReleasesFreeOne};
-ghost use Rattle.node_heap.specs.Owner.{OwnThenChanges, OwnChildThenChanges, RoomThenEdits, HoldEditsKeepHeld, PlaceEditsKeepApart, AloneStays, SharedGoes};
+ghost use Rattle.node_heap.specs.Owner.{OwnThenChanges, OwnChildThenChanges, RoomThenEdits, HoldEditsKeepHeld, PlaceEditsKeepApart, AlonePathsGoUp, OwnedPathsKeepAlone, AloneStays, SharedGoes};
 
 use crate::heap::Heap;
 use crate::row::Link;
@@ -69,8 +69,11 @@ pub fn edits_by_an_owner<T>()
     ensures apart { PlaceEditsKeepApart T }
 {}
 
-/// Where a path keeps its rows that are alone, its first row is the same if it has one owner, and another if it has more.
+/// What keeps the rows of a path that are alone, row by row: its first row is the same if it has one owner, and another if it
+/// has more.
 pub fn alone_rows_stay<T>()
+    ensures up { AlonePathsGoUp T }
+    ensures own { OwnedPathsKeepAlone T }
     ensures alone { AloneStays T }
     ensures shared { SharedGoes T }
 {}
