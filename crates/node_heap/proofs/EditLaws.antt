@@ -1,6 +1,7 @@
 -- What else goes into changes at a row: what is built, what is held beside, and releases.
 use Rattle.std.proofs.Common.{◌≡◌, ◌≢◌, ◌⊎◌, ℕ, suc, zero, ◌+◌, ◌<◌, ◌≤◌, List, [], ◌∷◌, get_or, refl, sym, ap, subst, ◌∙◌, arith, Option, Some, None, IsSome, inl, inr}
 use Rattle.std.specs.Prelude.{sum_by}
+use Rattle.std.proofs.lemmas.Bool.{cases_lt}
 use Rattle.std.proofs.lemmas.List.Sums.{sum_by-cons}
 use Rattle.node_heap.specs.Links.{count, HasLink, Reaches, here, below}
 use Rattle.node_heap.specs.Forms.{Row, cell, node, links_of, is_cell, is_node}
@@ -13,7 +14,7 @@ use Rattle.node_heap.proofs.Frames.{KeepsHeld-Extends, KeepsHeld-Releases, Keeps
 use Rattle.node_heap.proofs.BuildLemmas.{count-one}
 use Rattle.node_heap.proofs.GraphLemmas.{linked-places, IsGraph-owned, IsGraph-kinds}
 use Rattle.node_heap.proofs.Ways.{Reaches-last, Reaches-around, around-path}
-use Rattle.node_heap.proofs.Edited.{IsOwners-heap, linked_live, above_live, Reaches-back, KeepsBelow-apart, KeepsApart-KeepsHeld, KeepsPaths-Extends, Trades-Builds, Trades-Unchanged}
+use Rattle.node_heap.proofs.Edited.{IsOwners-heap, linked_live, Reaches-back, KeepsBelow-apart, KeepsApart-KeepsHeld, KeepsPaths-Extends, Trades-Builds, Trades-Unchanged}
 use Rattle.node_heap.proofs.Owners.{KeepsOwners-Unchanged}
 
 -- where no term falls, and one was nothing, the sum rises by that one
@@ -71,6 +72,21 @@ module _ {T : Type 0} where
       left : (l : ℕ) → count l (first ∷ spent) < holds_at old l → count l spent < holds_at old l
       left l some = omega (arith, some, count-cons l first spent)
 
+  -- what stands in rows stands in one of them
+  placed-at : (rows : List (Option (Row T))) (k : ℕ) → 0 < places_in rows k → (l : ℕ) × (0 < count k (links_of (get_or rows l None)))
+  placed-at [] k some = absurd (omega (arith, some))
+  placed-at (r ∷ rows) k some = elim (cases_lt 0 (count k (links_of r))) as (λ _. (l : ℕ) × (0 < count k (links_of (get_or (r ∷ rows) l None)))) [
+    | inl has ↦ (0, has)
+    | inr none ↦ let rest = placed-at rows k (omega (arith, some, none, sum_by-cons (λ (o : Option (Row T)). count k (links_of o)) r rows)) in (suc rest.0, rest.1)
+  ]
+
+  -- what has an owner is a row
+  pub owned-live : (h : Heap T) → IsGraph h → (k : ℕ) → 0 < owners_at h k → IsSome (row_at h k)
+  owned-live h graph k some = elim (cases_lt 0 (holds_at h k)) as (λ _. IsSome (row_at h k)) [
+    | inl held ↦ graph.held k held
+    | inr none ↦ let place = placed-at h.rows k (omega (arith, some, none)) in graph.closed place.0 k place.1
+  ]
+
   -- a row that is gone or the same has no more places of a link
   thin_row : (r s : Option (Row T)) (k : ℕ) → (IsSome r → r ≡ s) → count k (links_of r) ≤ count k (links_of s)
   thin_row None s k same = omega arith
@@ -88,13 +104,13 @@ module _ {T : Type 0} where
       fewer : (k : ℕ) → places_in new.rows k ≤ places_in old.rows k
       fewer k = sum_by-fewer (λ r. count k (links_of r)) None refl old.rows new.rows (λ l. thin_row (row_at new l) (row_at old l) k (rel.same l))
 
-      pub Changes-Releases : IsGraph new → IsSome (row_at old first) → Changes first old new (link ∷ []) [] 0 0
-      Changes-Releases graph' live = record {
+      pub Changes-Releases : IsGraph new → Changes first old new (link ∷ []) [] 0 0
+      Changes-Releases graph' = record {
         apart = record { kept = λ l m some. (KeepsApart-KeepsHeld first (KeepsHeld-Releases old new link rel graph')).kept l m (omega (arith, some, count-one l link)) };
         paths = record {
           live = above;
           links = λ l k has up. HasLink-same (links_at old) (links_at new) l k (ap links_of (rel.same l (above l (below l k first has up) (linked_live (row_at old l) k has)))) has;
-          soles = λ k up one. omega (arith, one, rel.holds k, fewer k, IsGraph-owned new graph' k (above k up (above_live old k first up live)));
+          soles = λ k up one. omega (arith, one, rel.holds k, fewer k, IsGraph-owned new graph' k (above k up (owned-live old graph k (omega (arith, one)))));
         };
         trades = record {
           graph = graph';

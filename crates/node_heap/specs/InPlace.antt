@@ -80,13 +80,13 @@ abbrev pub HoldsAreChanges : Type 0 → Type 0
 HoldsAreChanges T = (old new : Heap T) (first link : ℕ) → IsGraph old → AddsOwner old new link → Builds old new [] (link ∷ []) 0 0
     → ¬ Reaches (links_at old) link first → Changes first old new [] (link ∷ []) 0 0
 
--- and so is room that is made, or refused
+-- and so is room that is made
 abbrev pub RoomIsAChange : Type 0 → Type 0
 RoomIsAChange T = (old new : Heap T) (first : ℕ) → IsGraph old → Unchanged old new → Changes first old new [] [] 0 0
 
 -- a release of a link that doesn't reach a row is a change there
 abbrev pub ReleasesAreChanges : Type 0 → Type 0
-ReleasesAreChanges T = (old new : Heap T) (first link : ℕ) → IsGraph old → IsGraph new → IsSome (row_at old first) → Releases old new link
+ReleasesAreChanges T = (old new : Heap T) (first link : ℕ) → IsGraph old → IsGraph new → Releases old new link
     → ¬ Reaches (links_at old) link first → Changes first old new (link ∷ []) [] 0 0
 
 -- a way down to the row of a change, or to a row above it, stays

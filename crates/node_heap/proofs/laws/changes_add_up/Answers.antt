@@ -15,7 +15,7 @@ pub returns-clause-holds : goal.returns-clause-holds
 returns-clause-holds g c old new first link graph owners builds off = Changes-hold first link graph owners builds off
 
 pub returns-clause-releases : goal.returns-clause-releases
-returns-clause-releases g c old new first link graph graph' live rel off = Changes-Releases old new link graph rel first off graph' live
+returns-clause-releases g c old new first link graph graph' rel off = Changes-Releases old new link graph rel first off graph'
 
 pub returns-clause-room : goal.returns-clause-room
 returns-clause-room g c old new first graph same = Changes-Unchanged first graph same
