@@ -5,14 +5,14 @@ use Rattle.node_heap.specs.Links.{count, HasLink, Reaches, here, below}
 use Rattle.node_heap.specs.Forms.{Row, cell, node, links_of, is_node}
 use Rattle.node_heap.specs.Heap.{Heap, row_at, links_at, holds_at, owners_at, one_at, IsGraph}
 use Rattle.node_heap.specs.Calls.{KeepsHeld, AddsOwner, Extends, Adds, Builds}
-use Rattle.node_heap.specs.InPlace.{path_start, child_at, KeepsApart, Edits}
+use Rattle.node_heap.specs.InPlace.{path_start, child_at, KeepsApart, Changes}
 use Rattle.node_heap.proofs.Counts.{count-cons, test_same, test_other}
 use Rattle.node_heap.proofs.Frames.{Extends-row, KeepsHeld-Extends, KeepsHeld-then, IsTree-KeepsHeld}
 use Rattle.node_heap.proofs.BuildLemmas.{count-one, Builds-cell, Builds-spare_cells, Builds-spare_nodes}
 use Rattle.node_heap.proofs.GraphLemmas.{IsGraph-acyclic}
 use Rattle.node_heap.proofs.Ways.{Reaches-around}
-use Rattle.node_heap.proofs.Edited.{count-at, Reaches-back, Edits-then, Edits-path, OwnsDown-child}
-use Rattle.node_heap.proofs.EditLaws.{Edits-Builds, KeepsHeld-own}
+use Rattle.node_heap.proofs.Edited.{count-at, above_live, Reaches-back, KeepsPaths-ways, KeepsPaths-owned, Changes-then, Changes-path, OwnsDown-child}
+use Rattle.node_heap.proofs.EditLaws.{Changes-Builds, KeepsHeld-own}
 use Rattle.container_tests.proofs.writes.write_third.Goals as goal
 
 module _ {T : Type 0} where
@@ -99,24 +99,24 @@ module _ {T : Type 0} where
   added-owners : (h h' : Heap T) (new : ℕ) → AddsOwner h h' new → row_at h new ≡ None → (k : ℕ) → IsSome (row_at h k) → owners_at h' k ≡ owners_at h k
   added-owners h h' new owners fresh k live = omega (arith, owners k, test_other k new (unlike h k new live fresh))
 
-  -- the calls below the new root are one edit there
+  -- the calls below the new root are one change there
   third-edit : {h1 h2 h3 h4 h5 : Heap T} {top middle last new old : ℕ} {x : T} → 0 < length (links_at h1 top) → 0 < length (links_at h2 middle) → IsSome (row_at h3 last)
-      → links_at h2 top ≡ set (links_at h1 top) 0 middle → owners_at h2 middle ≡ 1 → Edits top h1 h2 [] [] 0 1
-      → links_at h3 middle ≡ set (links_at h2 middle) 0 last → owners_at h3 last ≡ 1 → Edits middle h2 h3 [] [] 0 1
-      → Adds h3 h4 new (cell x) → AddsOwner h3 h4 new → Builds h3 h4 [] (new ∷ []) 1 0 → Edits last h4 h5 (new ∷ []) (old ∷ []) 0 0 → Edits top h1 h5 [] (old ∷ []) 1 2
+      → links_at h2 top ≡ set (links_at h1 top) 0 middle → owners_at h2 middle ≡ 1 → Changes top h1 h2 [] [] 0 1
+      → links_at h3 middle ≡ set (links_at h2 middle) 0 last → owners_at h3 last ≡ 1 → Changes middle h2 h3 [] [] 0 1
+      → Adds h3 h4 new (cell x) → AddsOwner h3 h4 new → Builds h3 h4 [] (new ∷ []) 1 0 → Changes last h4 h5 (new ∷ []) (old ∷ []) 0 0 → Changes top h1 h5 [] (old ∷ []) 1 2
   third-edit {h1} {h2} {h3} {h4} {h5} {top} {middle} {last} {new} some1 some2 live links2 sole2 edit2 links3 sole3 edit3 adds owners builds edit5 =
       let down2 = OwnsDown-child h2 top top middle 0 (links_at h1 top) path_start links2 some1 sole2 in
-      let down3 = OwnsDown-child h3 top middle last 0 (links_at h2 middle) (edit3.paths.owned top middle (here middle) down2) links3 some2 sole3 in
-      let edit4 = Edits-Builds last edit3.graph live (added-owners h3 h4 new owners adds.fresh) builds in
-      let down4 = edit4.paths.owned top last (here last) down3 in
-      Edits-then (Edits-then (Edits-then edit2 (Edits-path down2 edit3)) (Edits-path down3 edit4)) (Edits-path down4 edit5)
+      let down3 = OwnsDown-child h3 top middle last 0 (links_at h2 middle) (KeepsPaths-owned edit3.paths top middle (here middle) down2) links3 some2 sole3 in
+      let edit4 = Changes-Builds last edit3.trades.graph (λ k up one. added-owners h3 h4 new owners adds.fresh k (above_live h3 k last up live) ∙ one) builds in
+      let down4 = KeepsPaths-owned edit4.paths top last (here last) down3 in
+      Changes-then (Changes-then (Changes-then edit2 (Changes-path down2 edit3)) (Changes-path down3 edit4)) (Changes-path down4 edit5)
 
   -- what is kept of the old heap where the copy of a root is edited
-  keeps-all : (h0 h1 h5 : Heap T) (root top old : ℕ) → IsGraph h0 → top ≢ root → Builds h0 h1 (root ∷ []) (top ∷ []) 0 1 → owners_at h1 top ≡ 1 → Edits top h1 h5 [] (old ∷ []) 1 2 → KeepsHeld (one_at root) h0 h5
+  keeps-all : (h0 h1 h5 : Heap T) (root top old : ℕ) → IsGraph h0 → top ≢ root → Builds h0 h1 (root ∷ []) (top ∷ []) 0 1 → owners_at h1 top ≡ 1 → Changes top h1 h5 [] (old ∷ []) 1 2 → KeepsHeld (one_at root) h0 h5
   keeps-all h0 h1 h5 root top old graph other builds sole edit =
       KeepsHeld-then (one_at root) (KeepsHeld-Extends (one_at root) h0 h1 graph builds.extends (λ l. omega (arith, builds.holds l, count-one l root)))
       (KeepsHeld-own top (omega (arith, builds.holds top, count-one top root, count-one top top, test_same top top refl, test_other top root other)) sole edit)
-      (λ l some. some) (λ l some. omega (arith, some, builds.holds l, count-one l root)) (λ l. omega (arith, builds.holds l, count-one l root, edit.holds l))
+      (λ l some. some) (λ l some. omega (arith, some, builds.holds l, count-one l root)) (λ l. omega (arith, builds.holds l, count-one l root, edit.trades.holds l))
 
 pub own_child-middle-requires-clause-node : goal.own_child-middle-requires-clause-node
 own_child-middle-requires-clause-node g c =
@@ -130,24 +130,24 @@ own_child-middle-requires-clause-node g c =
 
 pub own_child-last-requires-clause-index : goal.own_child-last-requires-clause-index
 own_child-last-requires-clause-index g c =
-    let two = second c.args.heap.now c.own-top.new.self c.own_child-middle.new.self c.args.root c.own-top.result c.own_child-middle.result c.requires.version c.requires.top c.requires.middle c.requires.last c.own-top.ensures.same.0 c.own-top.ensures.row c.own-top.ensures.fresh c.own-top.ensures.builds c.own_child-middle.ensures.row c.own_child-middle.ensures.edits.apart in
+    let two = second c.args.heap.now c.own-top.new.self c.own_child-middle.new.self c.args.root c.own-top.result c.own_child-middle.result c.requires.version c.requires.top c.requires.middle c.requires.last c.own-top.ensures.same.0 c.own-top.ensures.row c.own-top.ensures.fresh c.own-top.ensures.builds c.own_child-middle.ensures.row c.own_child-middle.ensures.changes.apart in
     rw two.middle_row c.requires.middle
 
 pub own_child-last-requires-clause-node : goal.own_child-last-requires-clause-node
 own_child-last-requires-clause-node g c =
-    let two = second c.args.heap.now c.own-top.new.self c.own_child-middle.new.self c.args.root c.own-top.result c.own_child-middle.result c.requires.version c.requires.top c.requires.middle c.requires.last c.own-top.ensures.same.0 c.own-top.ensures.row c.own-top.ensures.fresh c.own-top.ensures.builds c.own_child-middle.ensures.row c.own_child-middle.ensures.edits.apart in
+    let two = second c.args.heap.now c.own-top.new.self c.own_child-middle.new.self c.args.root c.own-top.result c.own_child-middle.result c.requires.version c.requires.top c.requires.middle c.requires.last c.own-top.ensures.same.0 c.own-top.ensures.row c.own-top.ensures.fresh c.own-top.ensures.builds c.own_child-middle.ensures.row c.own_child-middle.ensures.changes.apart in
     rw (two.at_third, two.third_row) (row-node (row_at c.args.heap.now (child_at c.args.heap.now (child_at c.args.heap.now c.args.root 0) 0)) c.requires.last)
 
 pub replace-old-requires-clause-sole : goal.replace-old-requires-clause-sole
 replace-old-requires-clause-sole g c =
-    let two = second c.args.heap.now c.own-top.new.self c.own_child-middle.new.self c.args.root c.own-top.result c.own_child-middle.result c.requires.version c.requires.top c.requires.middle c.requires.last c.own-top.ensures.same.0 c.own-top.ensures.row c.own-top.ensures.fresh c.own-top.ensures.builds c.own_child-middle.ensures.row c.own_child-middle.ensures.edits.apart in
+    let two = second c.args.heap.now c.own-top.new.self c.own_child-middle.new.self c.args.root c.own-top.result c.own_child-middle.result c.requires.version c.requires.top c.requires.middle c.requires.last c.own-top.ensures.same.0 c.own-top.ensures.row c.own-top.ensures.fresh c.own-top.ensures.builds c.own_child-middle.ensures.row c.own_child-middle.ensures.changes.apart in
     let three = last-kept c.args.heap.now c.own-top.new.self c.own_child-middle.new.self c.own_child-last.new.self c.cell-cell.new.self c.args.root c.own-top.result c.own_child-middle.result c.own_child-last.result c.cell-cell.result two c.requires.last c.own_child-last.ensures.row c.cell-cell.ensures.adds in
     let last = c.own_child-last.result in
     omega (arith, c.cell-cell.ensures.owners last, c.own_child-last.ensures.sole, test_other last c.cell-cell.result three.last_old)
 
 pub replace-old-requires-clause-index : goal.replace-old-requires-clause-index
 replace-old-requires-clause-index g c =
-    let two = second c.args.heap.now c.own-top.new.self c.own_child-middle.new.self c.args.root c.own-top.result c.own_child-middle.result c.requires.version c.requires.top c.requires.middle c.requires.last c.own-top.ensures.same.0 c.own-top.ensures.row c.own-top.ensures.fresh c.own-top.ensures.builds c.own_child-middle.ensures.row c.own_child-middle.ensures.edits.apart in
+    let two = second c.args.heap.now c.own-top.new.self c.own_child-middle.new.self c.args.root c.own-top.result c.own_child-middle.result c.requires.version c.requires.top c.requires.middle c.requires.last c.own-top.ensures.same.0 c.own-top.ensures.row c.own-top.ensures.fresh c.own-top.ensures.builds c.own_child-middle.ensures.row c.own_child-middle.ensures.changes.apart in
     let three = last-kept c.args.heap.now c.own-top.new.self c.own_child-middle.new.self c.own_child-last.new.self c.cell-cell.new.self c.args.root c.own-top.result c.own_child-middle.result c.own_child-last.result c.cell-cell.result two c.requires.last c.own_child-last.ensures.row c.cell-cell.ensures.adds in
     let last = c.own_child-last.result in
     rw (c.cell-cell.ensures.adds.others last three.last_old, three.last_row) c.requires.last
@@ -159,14 +159,14 @@ replace-old-requires-clause-held g c =
 
 pub replace-old-requires-clause-apart : goal.replace-old-requires-clause-apart
 replace-old-requires-clause-apart g c way =
-    let two = second c.args.heap.now c.own-top.new.self c.own_child-middle.new.self c.args.root c.own-top.result c.own_child-middle.result c.requires.version c.requires.top c.requires.middle c.requires.last c.own-top.ensures.same.0 c.own-top.ensures.row c.own-top.ensures.fresh c.own-top.ensures.builds c.own_child-middle.ensures.row c.own_child-middle.ensures.edits.apart in
+    let two = second c.args.heap.now c.own-top.new.self c.own_child-middle.new.self c.args.root c.own-top.result c.own_child-middle.result c.requires.version c.requires.top c.requires.middle c.requires.last c.own-top.ensures.same.0 c.own-top.ensures.row c.own-top.ensures.fresh c.own-top.ensures.builds c.own_child-middle.ensures.row c.own_child-middle.ensures.changes.apart in
     let three = last-kept c.args.heap.now c.own-top.new.self c.own_child-middle.new.self c.own_child-last.new.self c.cell-cell.new.self c.args.root c.own-top.result c.own_child-middle.result c.own_child-last.result c.cell-cell.result two c.requires.last c.own_child-last.ensures.row c.cell-cell.ensures.adds in
     let last = c.own_child-last.result in
     three.last_old (sym (cell-reaches _ (links_at c.cell-cell.new.self) _ c.cell-cell.result last refl c.cell-cell.ensures.adds.here way))
 
 pub returns : goal.returns
 returns g c =
-    let two = second c.args.heap.now c.own-top.new.self c.own_child-middle.new.self c.args.root c.own-top.result c.own_child-middle.result c.requires.version c.requires.top c.requires.middle c.requires.last c.own-top.ensures.same.0 c.own-top.ensures.row c.own-top.ensures.fresh c.own-top.ensures.builds c.own_child-middle.ensures.row c.own_child-middle.ensures.edits.apart in
+    let two = second c.args.heap.now c.own-top.new.self c.own_child-middle.new.self c.args.root c.own-top.result c.own_child-middle.result c.requires.version c.requires.top c.requires.middle c.requires.last c.own-top.ensures.same.0 c.own-top.ensures.row c.own-top.ensures.fresh c.own-top.ensures.builds c.own_child-middle.ensures.row c.own_child-middle.ensures.changes.apart in
     let three = last-kept c.args.heap.now c.own-top.new.self c.own_child-middle.new.self c.own_child-last.new.self c.cell-cell.new.self c.args.root c.own-top.result c.own_child-middle.result c.own_child-last.result c.cell-cell.result two c.requires.last c.own_child-last.ensures.row c.cell-cell.ensures.adds in
     let last = c.own_child-last.result in
     let top = c.own-top.result in
@@ -178,8 +178,8 @@ returns g c =
     let wrote = c.replace-old.ensures.writes in
     let top_links : 0 < length (links_at h1 top) = rw c.own-top.ensures.row c.requires.top in
     let middle_links : 0 < length (links_at h2 middle) = rw two.middle_row c.requires.middle in
-    let edit = third-edit top_links middle_links three.last_live c.own_child-middle.ensures.parent_links c.own_child-middle.ensures.sole c.own_child-middle.ensures.edits
-    c.own_child-last.ensures.parent_links c.own_child-last.ensures.sole c.own_child-last.ensures.edits made.adds made.owners (Builds-cell made.adds made.makes made.count made.graph made.extends) c.replace-old.ensures.edits in
+    let edit = third-edit top_links middle_links three.last_live c.own_child-middle.ensures.parent_links c.own_child-middle.ensures.sole c.own_child-middle.ensures.changes
+    c.own_child-last.ensures.parent_links c.own_child-last.ensures.sole c.own_child-last.ensures.changes made.adds made.owners (Builds-cell made.adds made.makes made.count made.graph made.extends) c.replace-old.ensures.changes in
     let builds = c.own-top.ensures.builds in
     let keeps = keeps-all c.args.heap.now h1 _ c.args.root top _ c.live.ensures.graph two.other builds c.own-top.ensures.sole edit in
     let root = c.args.root in
@@ -187,12 +187,12 @@ returns g c =
     let last_links : 0 < length (links_at c.cell-cell.new.self last) = rw (made.adds.others last three.last_old, three.last_row) c.requires.last in
     let top_link = link-set h2 top middle (links_at h1 top) c.own_child-middle.ensures.parent_links top_links in
     let middle_link = link-set c.own_child-last.new.self middle last (links_at h2 middle) c.own_child-last.ensures.parent_links middle_links in
-    let way = c.own_child-last.ensures.edits.paths.ways top middle (here middle) (below top middle middle top_link (here middle)) in
-    let top_middle : top ≢ middle = λ e. IsGraph-acyclic h2 c.own_child-middle.ensures.edits.graph top middle top_link (subst (Reaches (links_at h2) middle) (sym e) (here middle)) in
-    let middle_last : middle ≢ last = λ e. IsGraph-acyclic c.own_child-last.new.self c.own_child-last.ensures.edits.graph middle last middle_link (subst (Reaches (links_at c.own_child-last.new.self) last) (sym e) (here last)) in
-    let top_last : top ≢ last = λ e. IsGraph-acyclic c.own_child-last.new.self c.own_child-last.ensures.edits.graph middle last middle_link (subst (λ j. Reaches (links_at c.own_child-last.new.self) j middle) e way) in
-    let top_live = c.own_child-last.ensures.edits.stays top (c.own_child-middle.ensures.edits.stays top (row-live (row_at h1 top) top_links)) in
-    let middle_live = c.own_child-last.ensures.edits.stays middle (row-live (row_at h2 middle) middle_links) in
+    let way = KeepsPaths-ways c.own_child-last.ensures.changes.paths top middle (here middle) (below top middle middle top_link (here middle)) in
+    let top_middle : top ≢ middle = λ e. IsGraph-acyclic h2 c.own_child-middle.ensures.changes.trades.graph top middle top_link (subst (Reaches (links_at h2) middle) (sym e) (here middle)) in
+    let middle_last : middle ≢ last = λ e. IsGraph-acyclic c.own_child-last.new.self c.own_child-last.ensures.changes.trades.graph middle last middle_link (subst (Reaches (links_at c.own_child-last.new.self) last) (sym e) (here last)) in
+    let top_last : top ≢ last = λ e. IsGraph-acyclic c.own_child-last.new.self c.own_child-last.ensures.changes.trades.graph middle last middle_link (subst (λ j. Reaches (links_at c.own_child-last.new.self) j middle) e way) in
+    let top_live = c.own_child-last.ensures.changes.paths.live top (below top middle middle top_link (here middle)) (c.own_child-middle.ensures.changes.paths.live top (here top) (row-live (row_at h1 top) top_links)) in
+    let middle_live = c.own_child-last.ensures.changes.paths.live middle (here middle) (row-live (row_at h2 middle) middle_links) in
     let at_top = wrote.others top top_last ∙ made.adds.others top (unlike c.own_child-last.new.self top cell top_live made.adds.fresh) ∙ c.own_child-last.ensures.others top top_middle top_last in
     let at_middle = wrote.others middle middle_last ∙ made.adds.others middle (unlike c.own_child-last.new.self middle cell middle_live made.adds.fresh) in
     let first : child_at c.replace-old.new.self top 0 ≡ middle = ap (λ ks. get_or ks 0 0) (ap links_of at_top ∙ c.own_child-middle.ensures.parent_links) ∙ get_or-set_same (links_at h1 top) 0 middle 0 top_links in
@@ -203,7 +203,7 @@ returns g c =
       stays = λ t tree. IsTree-KeepsHeld keeps (omega (arith, c.requires.version, test_same root root refl)) tree;
       written = rw (first, second, third_is, wrote.others cell (λ e. three.last_old (sym e)), made.adds.here) refl;
       old = c.replace-old.ensures.old ∙ ap (λ r. slice_index (links_of r) 0) (made.adds.others last three.last_old ∙ three.last_row);
-      holds = λ k. omega (arith, builds.holds k, edit.holds k, count-one k root, count-one k top, count-one k old);
-      few_cells = omega (arith, Builds-spare_cells builds, edit.makes.spare_cells, edit.few_cells);
-      few_nodes = omega (arith, Builds-spare_nodes builds, edit.makes.spare_nodes, edit.few_nodes);
+      holds = λ k. omega (arith, builds.holds k, edit.trades.holds k, count-one k root, count-one k top, count-one k old);
+      few_cells = omega (arith, Builds-spare_cells builds, edit.trades.balance.spare_cells, edit.trades.cells);
+      few_nodes = omega (arith, Builds-spare_nodes builds, edit.trades.balance.spare_nodes, edit.trades.nodes);
     }
