@@ -1,16 +1,16 @@
 -- What else goes into changes at a row: what is built, what is held beside, and releases.
 use Rattle.std.proofs.Common.{◌≡◌, ◌≢◌, ◌⊎◌, ℕ, suc, zero, ◌+◌, ◌<◌, ◌≤◌, List, [], ◌∷◌, get_or, refl, sym, ap, subst, ◌∙◌, arith, Option, Some, None, IsSome, inl, inr}
 use Rattle.std.specs.Prelude.{sum_by}
-use Rattle.std.proofs.lemmas.Bool.{cases_lt}
+use Rattle.std.proofs.lemmas.Bool.{cases_eq, cases_lt}
 use Rattle.std.proofs.lemmas.List.Sums.{sum_by-cons}
 use Rattle.node_heap.specs.Links.{count, HasLink, Reaches, here, below}
 use Rattle.node_heap.specs.Forms.{Row, cell, node, links_of, is_cell, is_node}
 use Rattle.node_heap.specs.Heap.{Heap, row_at, links_at, holds_at, owners_at, live_count, places_in, one_at, IsGraph}
-use Rattle.node_heap.specs.Calls.{AddsOwner, KeepsHeld, Unchanged, Builds, Releases}
+use Rattle.node_heap.specs.Calls.{AddsOwner, KeepsHeld, Unchanged, Makes, MakesJust, Builds, Releases, Gains}
 use Rattle.node_heap.specs.InPlace.{OwnsDown, Changes}
 use Rattle.node_heap.proofs.Counts.{count-cons, one_at-flip, test_same, test_other, le-sum_by, sum_by-fewer, sum_by-apart}
 use Rattle.node_heap.proofs.Reach.{HasLink-same, Reaches-trans}
-use Rattle.node_heap.proofs.Frames.{KeepsHeld-Extends, KeepsHeld-Releases, KeepsHeld-Unchanged, Extends-Unchanged, Balances-Releases}
+use Rattle.node_heap.proofs.Frames.{KeepsHeld-Extends, KeepsHeld-Releases, KeepsHeld-Unchanged, Extends-Unchanged, Makes-trans, Balances-Releases}
 use Rattle.node_heap.proofs.BuildLemmas.{count-one}
 use Rattle.node_heap.proofs.GraphLemmas.{linked-places, IsGraph-owned, IsGraph-kinds}
 use Rattle.node_heap.proofs.Ways.{Reaches-last, Reaches-around, around-path}
@@ -28,6 +28,30 @@ module _ {T : Type 0} where
   row_or : (r : Option (Row T)) → (IsSome r) ⊎ (r ≡ None)
   row_or None = inr refl
   row_or (Some x) = inl refl
+
+  -- no row was freed, and each that came was made of a spare
+  pub Gains-trans : {old mid new : Heap T} → Gains old mid → Gains mid new → Gains old new
+  Gains-trans one two = record {
+    stays = λ l live. two.stays l (one.stays l live);
+    cells = one.cells + two.cells;
+    nodes = one.nodes + two.nodes;
+    makes = Makes-trans one.makes two.makes;
+  }
+
+  pub Gains-Builds : {old new : Heap T} {spent gained : List ℕ} {c n : ℕ} → Builds old new spent gained c n → Gains old new
+  Gains-Builds builds = record { stays = builds.extends.live; cells = builds.cells; nodes = builds.nodes; makes = builds.makes }
+
+  pub Gains-Changes : {first : ℕ} {old new : Heap T} {spent gained : List ℕ} {c n cells nodes : ℕ} → Changes first old new spent gained c n → ((k : ℕ) → k ≢ first → IsSome (row_at old k) → row_at new k ≡ row_at old k) → Makes old new cells nodes → Gains old new
+  Gains-Changes {first} {old} {new} {cells = cells} {nodes = nodes} change others makes = record { stays = stays; cells = cells; nodes = nodes; makes = makes }
+    where
+      stays : (l : ℕ) → IsSome (row_at old l) → IsSome (row_at new l)
+      stays l live = elim (cases_eq l first) as (λ _. IsSome (row_at new l)) [
+        | inl same ↦ change.paths.live l (subst (Reaches (links_at old) l) same (here l)) live
+        | inr other ↦ rw (others l other live) live
+      ]
+
+  pub MakesJust-Gains : {old new : Heap T} → Gains old new → MakesJust old new
+  MakesJust-Gains gains = omega (arith, gains.makes.made, gains.makes.live)
 
   -- a held link that doesn't reach a path's first row doesn't reach its last
   pub paths-off : (h : Heap T) (first last l : ℕ) → OwnsDown h first last → 0 < holds_at h l → ¬ Reaches (links_at h) l first → ¬ Reaches (links_at h) l last

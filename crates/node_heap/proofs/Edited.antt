@@ -215,6 +215,10 @@ module _ {T : Type 0} where
       Changes-both (xs ++ ys) (us ++ vs) one two (λ k. omega (arith, count-append k xs ys, count-append k us vs, count-append k between us, count-append k between ys)) (λ k. omega (arith, count-append k xs ys))
       (λ k. omega (arith, count-append k xs ys, count-append k between us, count-append k between ys)) (omega (arith, length-append xs ys, length-append us vs, length-append between us, length-append between ys))
 
+  -- each spends and gains on its own
+  pub Changes-beside : {first : ℕ} {old mid new : Heap T} {xs us ys vs : List ℕ} {c n c' n' : ℕ} → Changes first old mid xs us c n → Changes first mid new ys vs c' n' → Changes first old new (xs ++ ys) (us ++ vs) (c + c') (n + n')
+  Changes-beside {xs = xs} {us = us} {ys = ys} {vs = vs} one two = Changes-follow [] xs us ys vs one two
+
   pub Changes-more : {first : ℕ} {old new : Heap T} {xs us : List ℕ} {c n : ℕ} (c' n' : ℕ) → Changes first old new xs us c n → c ≤ c' → n ≤ n' → Changes first old new xs us c' n'
   Changes-more c' n' change more_cells more_nodes = record { apart = change.apart; paths = change.paths; trades = Trades-more c' n' change.trades more_cells more_nodes }
 

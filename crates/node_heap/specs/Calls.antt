@@ -128,6 +128,13 @@ module _ {T : Type 0} where
     pub nodes : node_count new ≤ node_count old + n
     pub balance : Balances old new
 
+  -- no row was freed, and each that came was made of a spare
+  pub record Gains (old new : Heap T) : Type 0 where
+    pub stays : (l : ℕ) → IsSome (row_at old l) → IsSome (row_at new l)
+    pub cells : ℕ
+    pub nodes : ℕ
+    pub makes : Makes old new cells nodes
+
   -- a hold of each link of the first list was spent, and one of each of the second gained; at most c cells and n nodes came
   pub record Trades (old new : Heap T) (spent gained : List ℕ) (c n : ℕ) : Type 0 where
     pub graph : IsGraph new

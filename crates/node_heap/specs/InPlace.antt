@@ -3,7 +3,7 @@ use Rattle.std.specs.Prelude.{◌≡◌, ◌≢◌, ℕ, ◌+◌, ◌<◌, ◌�
 use Rattle.node_heap.specs.Links.{Links, count, HasLink, Reaches}
 use Rattle.node_heap.specs.Forms.{head_of, Tree, IsTree}
 use Rattle.node_heap.specs.Heap.{Heap, row_at, form_at, links_at, holds_at, owners_at, live_count, one_at, IsGraph}
-use Rattle.node_heap.specs.Calls.{AddsOwner, KeepsBelow, KeepsHeld, Unchanged, Builds, Releases, Trades}
+use Rattle.node_heap.specs.Calls.{AddsOwner, KeepsBelow, KeepsHeld, Unchanged, Makes, MakesJust, Builds, Releases, Gains, Trades}
 use Rattle.node_heap.specs.declared.row.Head.{Head}
 
 -- 0 at the link itself, and else 1
@@ -132,3 +132,20 @@ LeafReleasesKeepOthers T = (old new : Heap T) (link : ℕ) → IsGraph old → l
 -- and so it frees one row at most
 abbrev pub LeafReleasesFreeOne : Type 0 → Type 0
 LeafReleasesFreeOne T = (old new : Heap T) (link : ℕ) → IsGraph old → links_at old link ≡ [] → Releases old new link → live_count old ≤ live_count new + 1
+
+-- steps that free no row, and make each of a spare, are one such step
+abbrev pub GainsFollow : Type 0 → Type 0
+GainsFollow T = (old mid new : Heap T) → Gains old mid → Gains mid new → Gains old new
+
+-- what is built is such a step
+abbrev pub BuildsGain : Type 0 → Type 0
+BuildsGain T = (old new : Heap T) (spent gained : List ℕ) (c n : ℕ) → Builds old new spent gained c n → Gains old new
+
+-- and so is a change that leaves every other row and makes just these rows
+abbrev pub WritesGain : Type 0 → Type 0
+WritesGain T = (old new : Heap T) (first : ℕ) (spent gained : List ℕ) (c n cells nodes : ℕ) → Changes first old new spent gained c n
+    → ((k : ℕ) → k ≢ first → IsSome (row_at old k) → row_at new k ≡ row_at old k) → Makes old new cells nodes → Gains old new
+
+-- then the number made rises by just what the rows gain
+abbrev pub GainsMakeJust : Type 0 → Type 0
+GainsMakeJust T = (old new : Heap T) → Gains old new → MakesJust old new

@@ -3,7 +3,7 @@ ghost use Rattle.std.specs.Prelude.{◌≡◌, ℕ, ◌+◌, ◌<◌, IsSome};
 ghost use Rattle.node_heap.specs.Links.{IsAcyclic};
 ghost use Rattle.node_heap.specs.Forms.{HasOneTree, TreesFollowReached};
 ghost use Rattle.node_heap.specs.Heap.{row_at, form_at, links_at, owners_at, live_count, cell_count, node_count};
-ghost use Rattle.node_heap.specs.InPlace.{PathsKeepOff, OwnRootsKeepOff, ChangesGoUp, ChangesFollow, BuildsAreChanges, HoldsAreChanges, RoomIsAChange, ReleasesAreChanges, ChangesKeepWays, ChangesKeepPaths, ChangesKeepRows, ChangesKeepTrees, ChangesKeepSiblings, OwnChangesKeepHeld, NewRowsReachSpent, LeafReleasesKeepOthers, LeafReleasesFreeOne};
+ghost use Rattle.node_heap.specs.InPlace.{PathsKeepOff, OwnRootsKeepOff, ChangesGoUp, ChangesFollow, BuildsAreChanges, HoldsAreChanges, RoomIsAChange, ReleasesAreChanges, ChangesKeepWays, ChangesKeepPaths, ChangesKeepRows, ChangesKeepTrees, ChangesKeepSiblings, OwnChangesKeepHeld, NewRowsReachSpent, LeafReleasesKeepOthers, LeafReleasesFreeOne, GainsFollow, BuildsGain, WritesGain, GainsMakeJust};
 ghost use Rattle.node_heap.specs.Owner.{OwnThenChanges, OwnChildThenChanges, RoomThenEdits, HoldEditsKeepHeld, PlaceEditsKeepApart, AlonePathsGoUp, OwnedPathsKeepAlone, AloneStays, SharedGoes};
 
 use crate::heap::Heap;
@@ -76,6 +76,14 @@ pub fn alone_rows_stay<T>()
     ensures own { OwnedPathsKeepAlone T }
     ensures alone { AloneStays T }
     ensures shared { SharedGoes T }
+{}
+
+/// Steps that free no row, and make each of a spare, add up to one such step, and the number made rises by just the rows then.
+pub fn gains_add_up<T>()
+    ensures follow { GainsFollow T }
+    ensures builds { BuildsGain T }
+    ensures writes { WritesGain T }
+    ensures just { GainsMakeJust T }
 {}
 
 /// A new row leads to no old row that isn't below what was spent for it, and a release of a link without links frees no

@@ -15,7 +15,7 @@ mod table;
 pub use glass::{Glass, Steps};
 pub use heap::Heap;
 pub use laws::{
-    alone_rows_stay, changes_add_up, changes_keep_the_rest, edits_by_an_owner, owned_rows_keep_off,
-    rows_are_owned, rows_come_and_go, unfolds_to_one_tree,
+    alone_rows_stay, changes_add_up, changes_keep_the_rest, edits_by_an_owner, gains_add_up,
+    owned_rows_keep_off, rows_are_owned, rows_come_and_go, unfolds_to_one_tree,
 };
 pub use row::{Head, Link, Sums};
