@@ -7,13 +7,13 @@ use Rattle.node_heap.specs.Links.{count, HasLink, Reaches, here, below}
 use Rattle.node_heap.specs.Forms.{Row, cell, node, links_of, is_cell, is_node}
 use Rattle.node_heap.specs.Heap.{Heap, row_at, links_at, holds_at, owners_at, live_count, places_in, one_at, IsGraph}
 use Rattle.node_heap.specs.Calls.{AddsOwner, KeepsHeld, Unchanged, Makes, MakesJust, Builds, Releases, Gains}
-use Rattle.node_heap.specs.InPlace.{OwnsDown, Changes}
+use Rattle.node_heap.specs.InPlace.{OwnsDown, KeepsApart, Changes}
 use Rattle.node_heap.proofs.Counts.{count-cons, one_at-flip, test_same, test_other, le-sum_by, sum_by-fewer, sum_by-apart}
 use Rattle.node_heap.proofs.Reach.{HasLink-same, Reaches-trans}
 use Rattle.node_heap.proofs.Frames.{KeepsHeld-Extends, KeepsHeld-Releases, KeepsHeld-Unchanged, Extends-Unchanged, Makes-trans, Balances-Releases}
 use Rattle.node_heap.proofs.BuildLemmas.{count-one}
-use Rattle.node_heap.proofs.GraphLemmas.{linked-places, IsGraph-owned, IsGraph-kinds}
-use Rattle.node_heap.proofs.Ways.{Reaches-last, Reaches-around, around-path}
+use Rattle.node_heap.proofs.GraphLemmas.{linked-places, IsGraph-acyclic, IsGraph-owned, IsGraph-kinds}
+use Rattle.node_heap.proofs.Ways.{Reaches-last, Reaches-around, Reaches-avoids, around-path}
 use Rattle.node_heap.proofs.Edited.{IsOwners-heap, linked_live, Reaches-back, KeepsBelow-apart, KeepsApart-KeepsHeld, KeepsPaths-Extends, Trades-Builds, Trades-Unchanged}
 use Rattle.node_heap.proofs.Owners.{KeepsOwners-Unchanged}
 
@@ -84,6 +84,14 @@ module _ {T : Type 0} where
     paths = KeepsPaths-Extends first (Extends-Unchanged same) (λ k up one. KeepsOwners-Unchanged old new same k ∙ one);
     trades = Trades-Unchanged same;
   }
+
+  -- a row above the first is reached around it
+  above-off : (h : Heap T) → IsGraph h → (m first : ℕ) → Reaches (links_at h) m first → m ≢ first → ¬ Reaches (links_at h) first m
+  above-off h graph a b (here l) other back = other refl
+  above-off h graph a b (below l k m has rest) other back = IsGraph-acyclic h graph l k has (Reaches-trans (links_at h) k m l rest back)
+
+  pub rows-above : {first : ℕ} {spent : ℕ → ℕ} {old new : Heap T} → IsGraph old → KeepsApart first spent old new → (l m : ℕ) → spent l < holds_at old l → Reaches (links_at old) l m → Reaches (links_at old) m first → m ≢ first → row_at new m ≡ row_at old m
+  rows-above {first} {spent} {old} graph keeps l m some down up other = keeps.kept l m some (Reaches-avoids (links_at old) first l m down (above-off old graph m first up other))
 
   -- at a row whose one owner is a hold: no other held link reaches it
   pub KeepsHeld-own : {old new : Heap T} {spent gained : List ℕ} {c n : ℕ} (first : ℕ) → 0 < holds_at old first → owners_at old first ≡ 1 → Changes first old new spent gained c n → KeepsHeld (λ l. count l (first ∷ spent)) old new

@@ -109,6 +109,11 @@ abbrev pub ChangesKeepTrees : Type 0 → Type 0
 ChangesKeepTrees T = (old new : Heap T) (first l : ℕ) (t : Tree T) (spent gained : List ℕ) (c n : ℕ)
     → Changes first old new spent gained c n → count l spent < holds_at old l → ¬ Reaches (links_at old) l first → IsTree (form_at old) l t → IsTree (form_at new) l t
 
+-- a change keeps each row above its own that a link with a hold left reaches
+abbrev pub ChangesKeepAbove : Type 0 → Type 0
+ChangesKeepAbove T = (old new : Heap T) (first l m : ℕ) (spent gained : List ℕ) (c n : ℕ) → IsGraph old → Changes first old new spent gained c n
+    → count l spent < holds_at old l → Reaches (links_at old) l m → Reaches (links_at old) m first → m ≢ first → row_at new m ≡ row_at old m
+
 -- a change at a child with one owner keeps all below another child of its parent, which a link with a hold left reaches
 abbrev pub ChangesKeepSiblings : Type 0 → Type 0
 ChangesKeepSiblings T = (old new : Heap T) (parent child other l : ℕ) (spent gained : List ℕ) (c n : ℕ) → IsGraph old

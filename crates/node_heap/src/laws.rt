@@ -3,7 +3,7 @@ ghost use Rattle.std.specs.Prelude.{◌≡◌, ℕ, ◌+◌, ◌<◌, IsSome};
 ghost use Rattle.node_heap.specs.Links.{IsAcyclic};
 ghost use Rattle.node_heap.specs.Forms.{HasOneTree, TreesFollowReached};
 ghost use Rattle.node_heap.specs.Heap.{row_at, form_at, links_at, owners_at, live_count, cell_count, node_count};
-ghost use Rattle.node_heap.specs.InPlace.{PathsKeepOff, OwnRootsKeepOff, ChangesGoUp, ChangesFollow, BuildsAreChanges, HoldsAreChanges, RoomIsAChange, ReleasesAreChanges, ChangesKeepWays, ChangesKeepPaths, ChangesKeepRows, ChangesKeepTrees, ChangesKeepSiblings, OwnChangesKeepHeld, NewRowsReachSpent, LeafReleasesKeepOthers, LeafReleasesFreeOne, GainsFollow, BuildsGain, WritesGain, GainsMakeJust};
+ghost use Rattle.node_heap.specs.InPlace.{PathsKeepOff, OwnRootsKeepOff, ChangesGoUp, ChangesFollow, BuildsAreChanges, HoldsAreChanges, RoomIsAChange, ReleasesAreChanges, ChangesKeepWays, ChangesKeepPaths, ChangesKeepRows, ChangesKeepTrees, ChangesKeepAbove, ChangesKeepSiblings, OwnChangesKeepHeld, NewRowsReachSpent, LeafReleasesKeepOthers, LeafReleasesFreeOne, GainsFollow, BuildsGain, WritesGain, GainsMakeJust};
 ghost use Rattle.node_heap.specs.Owner.{OwnThenChanges, OwnChildThenChanges, RoomThenEdits, HoldEditsKeepHeld, PlaceEditsKeepApart, AlonePathsGoUp, OwnedPathsKeepAlone, AloneStays, SharedGoes};
 
 use crate::heap::Heap;
@@ -55,6 +55,7 @@ pub fn changes_keep_the_rest<T>()
     ensures paths { ChangesKeepPaths T }
     ensures rows { ChangesKeepRows T }
     ensures trees { ChangesKeepTrees T }
+    ensures above { ChangesKeepAbove T }
     ensures siblings { ChangesKeepSiblings T }
     ensures held { OwnChangesKeepHeld T }
 {}

@@ -1,5 +1,5 @@
 use Rattle.node_heap.proofs.Edited.{KeepsPaths-ways, KeepsPaths-owned, KeepsBelow-apart, KeepsBelow-sibling, IsTree-apart}
-use Rattle.node_heap.proofs.EditLaws.{KeepsHeld-own}
+use Rattle.node_heap.proofs.EditLaws.{KeepsHeld-own, rows-above}
 use Rattle.node_heap.proofs.laws.changes_keep_the_rest.Goals as goal
 
 pub returns-clause-ways : goal.returns-clause-ways
@@ -19,3 +19,6 @@ returns-clause-siblings g c old new parent child other l spent gained cells node
 
 pub returns-clause-held : goal.returns-clause-held
 returns-clause-held g c old new first spent gained cells nodes held one change = KeepsHeld-own first held one change
+
+pub returns-clause-above : goal.returns-clause-above
+returns-clause-above g c old new first l m spent gained cells nodes graph change some down up other = rows-above graph change.apart l m some down up other
