@@ -47,7 +47,7 @@ module _ {T : Type 0} where
   abbrev pub KeepsBeside : Owner → ℕ → (ℕ → ℕ) → Heap T → Heap T → Type 0
   KeepsBeside owner root spent old new = (l m : ℕ) → spent l < holds_beside old owner l → Reaches (links_beside old owner) l m → row_at new m ≡ with_root owner root m (row_at old m)
 
-  -- what the owner owns was edited in place, and it owns the new root now; the lists are without the owner's own hold
+  -- what the owner owns was edited in place, and is this root then; the lists are without the owner's own hold
   pub record EditsBy (owner : Owner) (old new : Heap T) (root : ℕ) (spent gained : List ℕ) (c n : ℕ) : Type 0 where
     pub beside : KeepsBeside owner root (λ l. count l spent) old new
     pub trades : Trades old new (held_by owner (owned old owner) ++ spent) (held_by owner root ++ gained) c n
