@@ -1,6 +1,6 @@
 -- What the slots say of a node that is copied.
-use Rattle.std.proofs.Common.{◌≡◌, ◌≢◌, ℕ, zero, suc, ◌+◌, ◌<◌, List, length, get_or, refl, sym, ap, subst, ◌∙◌, arith, Option, Some, None, IsSome, inl, inr}
-use Rattle.std.specs.Prelude.{sum_by}
+use Rattle.std.proofs.Common.{◌≡◌, ◌≢◌, ℕ, zero, suc, ◌+◌, ◌<◌, List, [], length, get_or, refl, sym, ap, subst, ◌∙◌, arith, Option, Some, None, IsSome, inl, inr}
+use Rattle.std.specs.Prelude.{sum_by, sum}
 use Rattle.std.proofs.lemmas.Bool.{cases_eq}
 use Rattle.std.proofs.lemmas.Bool.Decides.{nat_tests}
 use Rattle.node_heap.specs.Links.{count}
@@ -9,7 +9,7 @@ use Rattle.node_heap.specs.Heap.{places_in, one_at}
 use Rattle.node_heap.specs.InPlace.{other_at}
 use Rattle.node_heap.specs.Layout.{row_of_slot, owners_in, rows_of_slots, holds_in, slot_at, places_at, graph_of, cells_in, nodes_in, IsCounted, PutsIn, Copies}
 use Rattle.node_heap.specs.Layout.{Slot}
-use Rattle.node_heap.proofs.Counts.{test_same, test_other, sum_by-apart}
+use Rattle.node_heap.proofs.Counts.{test_same, test_other, sum_by-apart, sum-exchanged}
 use Rattle.node_heap.proofs.Slots.{row_at-slots, holds_at-slots, placed, live-owned}
 use Rattle.node_heap.proofs.Stored.{live_row, live_slot, kinds}
 use Rattle.node_heap.proofs.Dying.{sum-add}
@@ -39,6 +39,13 @@ module _ {T : Type 0} where
         rank = counted.rank;
         falls = λ l k has. counted.falls l k (omega (arith, ap (λ r. count k (links_of r)) (graph l), has));
       }
+
+  -- each of the links is held once more for each of its places
+  pub holds-added : (old new : List (Option (Slot T))) (links : List ℕ) → AddsOwners old new links → IsCounted old → (k : ℕ) → get_or (holds_in new) k 0 ≡ get_or (holds_in old) k 0 + count k links
+  holds-added old new links adds counted k = omega (arith, holds_at-slots old k, holds_at-slots new k, ap (λ xs. places_in xs k) adds.rows, counted.places k, adds.owners k)
+
+  pub total-added : (old new : List (Option (Slot T))) (links : List ℕ) → AddsOwners old new links → IsCounted old → sum (holds_in new) ≡ sum (holds_in old) + length links
+  total-added old new links adds counted = omega (arith, sum-exchanged [] links (holds_in old) (holds_in new) (λ k. omega (arith, holds-added old new links adds counted k)))
 
   -- the links of a row are owned
   pub live-linked : (slots : List (Option (Slot T))) → IsCounted slots → (place l : ℕ) → 0 < count l (links_of (graph_of slots place)) → IsSome (slot_at slots l)

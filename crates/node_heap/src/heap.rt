@@ -158,6 +158,23 @@ impl<T> Heap<T> {
         *self.table.owners_mut(link.place) += 1;
     }
 
+    /// One hold more of each of these live links for each place that it takes there. All holds together are at most 2^60 then.
+    pub fn hold_all(&mut self, links: &[Link])
+        requires live { (l : ℕ) → 0 < count l links.now → IsSome (row_at self.old l) }
+        requires few { hold_count self.old + length links.now ≤ 2 ^ 60 }
+        ensures rows { SameRows self.old self.new }
+        ensures holds { (k : ℕ) → holds_at self.new k ≡ holds_at self.old k + count k links.now }
+        ensures owners { (k : ℕ) → owners_at self.new k ≡ owners_at self.old k + count k links.now }
+        ensures makes { Makes self.old self.new 0 0 }
+        ensures count { hold_count self.new ≡ hold_count self.old + length links.now }
+        ensures graph { IsGraph self.new }
+        ensures extends { Extends self.old self.new }
+        ensures keeps { KeepsHeld (λ _. 0) self.old self.new }
+        ensures trees { KeepsTrees self.old self.new }
+    {
+        add_owners(&mut self.table, links);
+    }
+
     /// The value of a live link's cell, and none for a node.
     pub fn value(&self, link: Link) -> Option<&T>
         requires { IsSome (row_at self.now link) }
