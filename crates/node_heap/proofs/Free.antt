@@ -66,6 +66,11 @@ module _ {X : Type 0} where
   pub no_value : {x : X} → Some x ≡ None → ⊥
   no_value e = absurd cc
 
+  -- what there is where there is something
+  pub value_in : (o : Option X) → IsSome o → (x : X) × (o ≡ Some x)
+  value_in None some = absurd cc
+  value_in (Some x) some = (x, refl)
+
   -- a read within the list is the same whatever the default
   pub get_or_default : (xs : List (Option X)) (k : ℕ) (d : Option X) → k < length xs → get_or xs k d ≡ get_or xs k None
   get_or_default [] k d h = absurd (omega (arith, h))

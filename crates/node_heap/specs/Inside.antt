@@ -1,6 +1,5 @@
 -- How a table lies in two lists of slots: place 2i is slot i of the cells, and place 2i + 1 slot i of the nodes.
 use Rattle.std.specs.Prelude.{◌≡◌, ◌≢◌, ℕ, ◌+◌, ◌^◌, ◌<◌, ◌≤◌, List, [], ◌∷◌, length, map, Option, Some, None, is_some, count_by, slice_index_or}
-use Rattle.arrayvec.specs.ArrayVec.{ArrayVec}
 use Rattle.node_heap.specs.Links.{count}
 use Rattle.node_heap.specs.Forms.{cell, node}
 use Rattle.node_heap.specs.Layout.{Slot, Table}
@@ -35,11 +34,6 @@ pub record HasRoom {X : Type 0} (slots : List (Option X)) (free : List ℕ) (cap
   pub some : length free ≤ spares
   pub room : length slots + spares ≤ capacity + length free
   pub free_room : length slots + spares ≤ free_capacity + length free
-
--- the links of a row that is taken out: a cell has none
-abbrev pub links_taken : Option (ArrayVec ℕ) → List ℕ
-links_taken None = []
-links_taken (Some links) = links.items
 
 module _ {T : Type 0} where
   abbrev pub cell_slot : Option (CellSlot T) → Option (Slot T)

@@ -7,9 +7,9 @@ ghost use Rattle.node_heap.specs.Calls.{KeepsBelow, SameRows, Adds, AddsOwner, K
 ghost use Rattle.node_heap.specs.InPlace.{child_at, other_at, Writes, Changes};
 ghost use Rattle.node_heap.specs.Layout.{graph_of, slot_at, owners_in, filled_count, Copies, rows_of_slots, IsCounted, IsDying, IsLow, KeepsRoom, Thins, cells_in, nodes_in};
 
-use crate::entry::kept;
 use crate::row::{Head, Link};
 use crate::table::Table;
+use arrayvec::ArrayVec;
 use elem_core::NoMemory;
 use std::alloc::Global;
 use std::marker::Model;
@@ -137,7 +137,7 @@ impl<T> Heap<T> {
         ensures trees { KeepsTrees self.old self.new }
     {
         self.made = self.made.saturating_add(1);
-        let place = self.table.put_node(head, kept(links));
+        let place = self.table.put_node(head, links);
         Link { place }
     }
 
@@ -354,10 +354,11 @@ fn free_waiting<T: Drop>(table: &mut Table<T>, first: usize)
     ensures len { filled_count table.new.slots + (table.new.spare_cells + table.new.spare_nodes) ≡ filled_count table.old.slots + (table.old.spare_cells + table.old.spare_nodes) }
     ensures low { IsLow table.new.slots }
 {
+    let mut links = ArrayVec::new();
     let mut next = first;
     while next != END {
-        let row = table.take(next);
-        next = drop_places(table, row.links(), row.owners);
+        let owners = table.take(next, &mut links);
+        next = drop_places(table, links.as_slice(), owners);
     }
 }
 
@@ -397,8 +398,9 @@ fn copied<T>(table: &mut Table<T>, place: usize) -> usize
     ensures spare_cells { table.new.spare_cells ≡ table.old.spare_cells }
     ensures spare_nodes { table.new.spare_nodes + 1 ≡ table.old.spare_nodes }
 {
-    let (head, links) = table.copy_node(place);
-    add_owners(table, links.as_slice());
+    let (head, copies) = table.copy_node(place);
+    let links = copies.as_slice();
+    add_owners(table, links);
     table.put_node(head, links)
 }
 

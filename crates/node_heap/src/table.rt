@@ -2,12 +2,12 @@
 //! 2i + 1 slot i of the nodes.
 ghost use Rattle.std.specs.Prelude.{vec_len, vec_capacity, ◌≡◌, ◌≢◌, ℕ, ◌+◌, ◌-◌, ◌^◌, ◌<◌, ◌≤◌, [], length, Some, None, IsSome, OnOk, OnErr, IsOk, option_copied, slice_index, slice_index_or, slice_set, insert, remove};
 ghost use Rattle.std.specs.Borrow.{sem};
-ghost use Rattle.node_heap.specs.LendsSlot.{LendsSlot};
+ghost use Rattle.node_heap.specs.LendsSlot.{LendsSlot, LendsNodeIn};
 ghost use Rattle.node_heap.specs.Forms.{cell, node, links_of, value_of, head_of, is_node};
-ghost use Rattle.node_heap.specs.Inside.{IsFree, SameBut, node_slot, links_taken};
+ghost use Rattle.node_heap.specs.Inside.{IsFree, SameBut, node_slot};
 ghost use Rattle.node_heap.specs.Layout.{graph_of, slot_at, owners_in, rows_of_slots, filled_count, SetsOwners, Rewrites, PutsIn, TakesOut, KeepsRoom};
 
-use crate::entry::{CellSlot, NodeSlot, kept};
+use crate::entry::{CellSlot, NodeRoom, NodeSlot, kept, rewrite};
 use crate::row::{Head, Link};
 use arrayvec::ArrayVec;
 use std::alloc::{AllocError, Global};
@@ -21,7 +21,7 @@ pub(crate) struct Table<T> {
     // The slots of the cells that no row is in, each once.
     free_cells: Vec<usize>,
     spare_cells: usize,
-    nodes: Vec<Option<NodeSlot>>,
+    nodes: Vec<NodeRoom>,
     free_nodes: Vec<usize>,
     spare_nodes: usize,
 }
@@ -37,24 +37,6 @@ impl<T> Model for Table<T> {
     ghost view = { λ t. table_of t.cells.items t.nodes.items t.spare_cells t.spare_nodes };
 
     ghost invariant = { λ t. IsTable t.cells.items t.free_cells.items (vec_capacity t.cells) (vec_capacity t.free_cells) t.spare_cells t.nodes.items t.free_nodes.items (vec_capacity t.nodes) (vec_capacity t.free_nodes) t.spare_nodes };
-}
-
-// A row that was taken out: its owners and the links of a node.
-#[derive(Drop)]
-pub(crate) struct Taken {
-    pub(crate) owners: usize,
-    links: Option<ArrayVec<Link, 32>>,
-}
-
-impl Taken {
-    pub(crate) fn links(&self) -> &[Link]
-        ensures { result.now ≡ links_taken self.now.links }
-    {
-        match &self.links {
-            Some(links) => links.as_slice(),
-            None => &[],
-        }
-    }
 }
 
 impl<T> Table<T> {
@@ -128,20 +110,16 @@ impl<T> Table<T> {
         )
     }
 
-    // Makes a node of a spare, with one owner. Answers its place.
-    pub(crate) fn put_node(&mut self, head: Head, links: ArrayVec<Link, 32>) -> usize
-        requires { 0 < self.old.spare_nodes }
-        ensures puts { PutsIn self.old.slots self.new.slots result (node head links.items) }
+    // Makes a node of a spare, with one owner and these links, at most 32. Answers its place.
+    pub(crate) fn put_node(&mut self, head: Head, links: &[Link]) -> usize
+        requires spare { 0 < self.old.spare_nodes }
+        requires short { length links.now ≤ 32 }
+        ensures puts { PutsIn self.old.slots self.new.slots result (node head links.now) }
         ensures spare_cells { self.new.spare_cells ≡ self.old.spare_cells }
         ensures spare_nodes { self.new.spare_nodes + 1 ≡ self.old.spare_nodes }
     {
         self.spare_nodes -= 1;
-        let slot = NodeSlot {
-            owners: 1,
-            head,
-            links,
-        };
-        2 * put(&mut self.nodes, &mut self.free_nodes, slot) + 1
+        2 * fill(&mut self.nodes, &mut self.free_nodes, head, links) + 1
     }
 
     // The owners of the row at the place.
@@ -152,7 +130,7 @@ impl<T> Table<T> {
         if place % 2 == 0 {
             slot(&self.cells, place / 2).owners
         } else {
-            slot(&self.nodes, place / 2).owners
+            node_in(&self.nodes, place / 2).owners
         }
     }
 
@@ -166,8 +144,8 @@ impl<T> Table<T> {
             let slot = slot_mut(&mut self.cells, place / 2);
             &mut slot.owners
         } else {
-            let slot = slot_mut(&mut self.nodes, place / 2);
-            &mut slot.owners
+            let node = node_in_mut(&mut self.nodes, place / 2);
+            &mut node.owners
         }
     }
 
@@ -192,7 +170,7 @@ impl<T> Table<T> {
         if place % 2 == 0 {
             return None;
         }
-        Some(&slot(nodes, place / 2).head)
+        Some(&node_in(nodes, place / 2).head)
     }
 
     // The links of the row at the place. A cell has none.
@@ -204,7 +182,7 @@ impl<T> Table<T> {
         if place % 2 == 0 {
             return &[];
         }
-        slot(nodes, place / 2).links.as_slice()
+        node_in(nodes, place / 2).links.as_slice()
     }
 
     // The head and the links of the node at the place.
@@ -212,8 +190,8 @@ impl<T> Table<T> {
         requires { is_node (graph_of self.now.slots place) ≡ 1 }
         ensures { graph_of self.now.slots place ≡ Some (node result.0 result.1.items) }
     {
-        let slot = slot(&self.nodes, place / 2);
-        (slot.head.copy(), kept(slot.links.as_slice()))
+        let node = node_in(&self.nodes, place / 2);
+        (node.head.copy(), kept(node.links.as_slice()))
     }
 
     #[tactic(auto, using(crate::proofs::Slots::reown_rows))]
@@ -232,7 +210,7 @@ impl<T> Table<T> {
         ensures* writes_back { sem 𝓛 (LendsNode T.row self.entry place result) }
         ensures value { slot_at self.old.slots place ≡ node_slot (Some result.now) }
     {
-        slot_mut(&mut self.nodes, place / 2)
+        node_in_mut(&mut self.nodes, place / 2)
     }
 
     // Puts the link in place of the one at the index, which it answers.
@@ -277,27 +255,25 @@ impl<T> Table<T> {
 }
 
 impl<T: Drop> Table<T> {
-    // Takes the row at the place out. It is a spare of its kind then.
-    pub(crate) fn take(&mut self, place: usize) -> Taken
+    // Takes the row at the place out, which is a spare of its kind then. Answers its owners, and puts its links in the list.
+    pub(crate) fn take(&mut self, place: usize, links: &mut ArrayVec<Link, 32>) -> usize
         requires { IsSome (slot_at self.old.slots place) }
-        ensures owners { result.owners ≡ owners_in (slot_at self.old.slots place) }
-        ensures links { links_taken result.links ≡ links_of (graph_of self.old.slots place) }
+        ensures owners { result ≡ owners_in (slot_at self.old.slots place) }
+        ensures links { links.new.items ≡ links_of (graph_of self.old.slots place) }
         ensures takes { TakesOut self.old self.new place }
     {
         if place % 2 == 0 {
+            links.clear();
             let slot = take_out(&mut self.cells, &mut self.free_cells, place / 2);
             self.spare_cells += 1;
-            return Taken {
-                owners: slot.owners,
-                links: None,
-            };
+            return slot.owners;
         }
-        let slot = take_out(&mut self.nodes, &mut self.free_nodes, place / 2);
+        let node = node_in(&self.nodes, place / 2);
+        let owners = node.owners;
+        rewrite(links, node.links.as_slice());
+        empty(&mut self.nodes, &mut self.free_nodes, place / 2);
         self.spare_nodes += 1;
-        Taken {
-            owners: slot.owners,
-            links: Some(slot.links),
-        }
+        owners
     }
 }
 
@@ -324,12 +300,25 @@ fn slot_mut<X>(slots: &mut Vec<Option<X>>, place: usize) -> &mut X
     }
 }
 
+// The node in the room.
+fn node_in(rooms: &Vec<NodeRoom>, place: usize) -> &NodeSlot
+    requires { IsSome (slice_index_or rooms.now.items place None) }
+    ensures { slice_index_or rooms.now.items place None ≡ Some result.now }
+{
+    rooms[place].node()
+}
+
+// The node in the room, for writing.
+fn node_in_mut(rooms: &mut Vec<NodeRoom>, place: usize) -> &mut NodeSlot
+    requires { IsSome (slice_index_or rooms.old.items place None) }
+    ensures* writes_back { sem 𝓛 (LendsNodeIn rooms.entry place result) }
+    ensures value { slice_index_or rooms.old.items place None ≡ Some result.now }
+{
+    &mut rooms[place].node
+}
+
 // Makes room for so many spares, of which the free slots are some.
-fn make_room<X>(
-    slots: &mut Vec<Option<X>>,
-    free: &mut Vec<usize>,
-    spares: usize,
-) -> Result<(), AllocError>
+fn make_room<X>(slots: &mut Vec<X>, free: &mut Vec<usize>, spares: usize) -> Result<(), AllocError>
     requires few { vec_len slots.old + spares < 2 ^ 57 }
     requires more { vec_len free.old ≤ spares }
     requires inside { vec_len free.old ≤ vec_len slots.old }
@@ -392,4 +381,47 @@ fn take_out<X>(slots: &mut Vec<Option<X>>, free: &mut Vec<usize>, place: usize) 
         }
         None => unreachable!(),
     }
+}
+
+// Writes a node with one owner and these links in a free room, or in a new one where none is free. Answers which.
+fn fill(rooms: &mut Vec<NodeRoom>, free: &mut Vec<usize>, head: Head, links: &[Link]) -> usize
+    requires free { IsFree rooms.old.items free.old.items }
+    requires room { vec_len rooms.old < vec_capacity rooms.old + vec_len free.old }
+    requires short { length links.now ≤ 32 }
+    ensures was { slice_index_or rooms.old.items result None ≡ None }
+    ensures now { slice_index_or rooms.new.items result None ≡ Some (record { owners = 1; head = head; links = record { items = links.now } }) }
+    ensures others { SameBut rooms.old.items rooms.new.items result }
+    ensures free { IsFree rooms.new.items free.new.items }
+    ensures one { vec_len rooms.new + vec_len free.old ≡ vec_len rooms.old + vec_len free.new + 1 }
+    ensures inside { result < vec_len rooms.new }
+    ensures fewer { vec_len free.new ≡ vec_len free.old - 1 }
+    ensures capacity { vec_capacity rooms.new ≡ vec_capacity rooms.old }
+    ensures free_capacity { vec_capacity free.new ≡ vec_capacity free.old }
+{
+    match free.pop() {
+        Some(place) => {
+            rooms[place].fill(head, links);
+            place
+        }
+        None => {
+            let place = rooms.len();
+            rooms.push_reserved(NodeRoom::with_node(head, links));
+            place
+        }
+    }
+}
+
+// Gives up the node in the room, which is free then.
+fn empty(rooms: &mut Vec<NodeRoom>, free: &mut Vec<usize>, place: usize)
+    requires some { IsSome (slice_index_or rooms.old.items place None) }
+    requires free { IsFree rooms.old.items free.old.items }
+    requires room { vec_len free.old < vec_capacity free.old }
+    ensures slots { rooms.new.items ≡ slice_set rooms.old.items place None }
+    ensures free { IsFree rooms.new.items free.new.items }
+    ensures one { vec_len free.new ≡ vec_len free.old + 1 }
+    ensures capacity { vec_capacity rooms.new ≡ vec_capacity rooms.old }
+    ensures free_capacity { vec_capacity free.new ≡ vec_capacity free.old }
+{
+    rooms[place].empty();
+    free.push_reserved(place);
 }

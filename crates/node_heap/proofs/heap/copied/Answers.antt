@@ -8,15 +8,15 @@ use Rattle.node_heap.proofs.heap.copied.Goals as goal
 
 pub add_owners-requires-clause-live : goal.add_owners-requires-clause-live
 add_owners-requires-clause-live g c l has =
-    live-linked c.args.table.now.slots c.requires.counted c.args.place l (omega (arith, has, ap (λ r. count l (links_of r)) c.copy_node-head.ensures, ap (count l) c.as_slice.ensures.value))
+    live-linked c.args.table.now.slots c.requires.counted c.args.place l (omega (arith, has, ap (λ r. count l (links_of r)) c.copy_node-head.ensures, ap (count l) c.as_slice-links.ensures.value))
 
 pub returns : goal.returns
 returns g c =
     let slots = c.args.table.now.slots in
     let put = c.put_node.ensures in
-    let same : Some (node c.copy_node-head.result.0 c.copy_node-head.result.1.items) ≡ graph_of slots c.args.place = sym c.copy_node-head.ensures in
+    let same : Some (node c.copy_node-head.result.0 c.as_slice-links.result.now) ≡ graph_of slots c.args.place = rw c.as_slice-links.ensures.value (sym c.copy_node-head.ensures) in
     let adds : AddsOwners slots c.add_owners.new.table.slots (links_of (graph_of slots c.args.place)) =
-    record { owners = rw (← ap links_of same, ← c.as_slice.ensures.value) c.add_owners.ensures.owners; rows = c.add_owners.ensures.rows } in
+    record { owners = rw (← ap links_of same) c.add_owners.ensures.owners; rows = c.add_owners.ensures.rows } in
     let joins = joins-copied slots _ _ c.args.place _ _ c.requires.counted adds put.puts same in
     record {
       copies = copies-joined slots _ _ _ _ _ adds put.puts same;

@@ -6,22 +6,22 @@ use Rattle.node_heap.proofs.Dying.{IsDying-taken, first_live, sum-remove, Thins-
 use Rattle.node_heap.proofs.Stored.{kinds-row}
 use Rattle.node_heap.proofs.heap.free_waiting.Goals as goal
 
-pub take-row-requires : goal.take-row-requires
-take-row-requires g c =
+pub take-owners-requires : goal.take-owners-requires
+take-owners-requires g c =
     let H = c.requires.dying.0 in
     first_live H c.loop-next.table.slots c.loop-next.next c.loop-next-test.true (c.loop-next.invariant.dying H c.requires.dying.1)
 
 pub drop_places-next-requires-clause-dying : goal.drop_places-next-requires-clause-dying
 drop_places-next-requires-clause-dying g c =
     let H = c.requires.dying.0 in
-    let taken = c.take-row.ensures in
-    (H, IsDying-taken H c.loop-next.table.slots _ c.loop-next.next _ _ c.loop-next-test.true taken.takes.gone taken.takes.others taken.owners (c.links.ensures ∙ taken.links) (c.loop-next.invariant.dying H c.requires.dying.1))
+    let taken = c.take-owners.ensures in
+    (H, IsDying-taken H c.loop-next.table.slots _ c.loop-next.next _ _ c.loop-next-test.true taken.takes.gone taken.takes.others taken.owners (c.as_slice.ensures.value ∙ taken.links) (c.loop-next.invariant.dying H c.requires.dying.1))
 
 pub loop-next-preserved : goal.loop-next-preserved
 loop-next-preserved g c =
     let slots = c.loop-next.table.slots in
     let first = c.loop-next.next in
-    let taken = c.take-row.ensures in
+    let taken = c.take-owners.ensures in
     let takes = taken.takes in
     let kept = c.loop-next.invariant in
     let dropped = c.drop_places-next.ensures in
@@ -29,7 +29,7 @@ loop-next-preserved g c =
     let cells = sum-remove is_cell refl slots _ first takes.gone takes.others in
     let nodes = sum-remove is_node refl slots _ first takes.gone takes.others in
     record {
-      dying = λ H d. dropped.dropped H (IsDying-taken H slots _ first _ _ c.loop-next-test.true takes.gone takes.others taken.owners (c.links.ensures ∙ taken.links) (kept.dying H d));
+      dying = λ H d. dropped.dropped H (IsDying-taken H slots _ first _ _ c.loop-next-test.true takes.gone takes.others taken.owners (c.as_slice.ensures.value ∙ taken.links) (kept.dying H d));
       low = dropped.low;
       rows = Thins-rows c.args.table.now.slots _ _ dropped.rows (Thins-remove c.args.table.now.slots slots _ first takes.gone takes.others kept.rows);
       cells = omega (arith, kept.cells, cells, takes.spare_cells, dropped.room.spare_cells, ap (λ xs. sum_by is_cell xs) dropped.rows);

@@ -6,7 +6,7 @@ use Rattle.node_heap.proofs.heap.Heap.node.Goals as goal
 
 -- the node stands at a place of its own, and the links that it takes were held
 joins : (g : Over) (c : goal.After-put_node-place g) → Joins c.self.inside.table.slots c.put_node-place.new.self.slots c.put_node-place.result (node c.args.head c.args.links.now)
-joins g c = Joins-held c.self.invariant c.self.view_is (rw c.kept.ensures at c.put_node-place.ensures.puts) c.requires.short c.requires.held
+joins g c = Joins-held c.self.invariant c.self.view_is c.put_node-place.ensures.puts c.requires.short c.requires.held
 
 pub invariant_of-self : goal.invariant_of-self
 invariant_of-self g c =

@@ -7,8 +7,8 @@ use Rattle.node_heap.proofs.table.Table.head.Goals as goal
 pub returns-then-place-eq0 : goal.returns-then-place-eq0
 returns-then-place-eq0 g c = cell-head _ _ c.self.view_is c.args.place c.if-place-eq0.true
 
-pub slot-requires : goal.slot-requires
-slot-requires g c = live-node _ _ c.self.view_is c.args.place c.if-place-eq0.false c.requires
+pub node_in-requires : goal.node_in-requires
+node_in-requires g c = live-node _ _ c.self.view_is c.args.place c.if-place-eq0.false c.requires
 
 pub returns : goal.returns
-returns g c = sym (ap (λ o. head_of (row_of_slot o)) (read-node _ _ c.self.view_is c.args.place _ c.if-place-eq0.false c.slot.ensures))
+returns g c = sym (ap (λ o. head_of (row_of_slot o)) (read-node _ _ c.self.view_is c.args.place _ c.if-place-eq0.false c.node_in.ensures))

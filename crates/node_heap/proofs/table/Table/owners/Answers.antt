@@ -6,11 +6,11 @@ use Rattle.node_heap.proofs.table.Table.owners.Goals as goal
 pub slot-requires : goal.slot-requires
 slot-requires g c = live-cell _ _ c.self.view_is c.args.place c.if-place-eq0.true c.requires
 
-pub slot-requires-else-place-eq0 : goal.slot-requires-else-place-eq0
-slot-requires-else-place-eq0 g c = live-node _ _ c.self.view_is c.args.place c.if-place-eq0.false c.requires
+pub node_in-requires : goal.node_in-requires
+node_in-requires g c = live-node _ _ c.self.view_is c.args.place c.if-place-eq0.false c.requires
 
 pub returns-then-place-eq0 : goal.returns-then-place-eq0
 returns-then-place-eq0 g c = sym (ap owners_in (read-cell _ _ c.self.view_is c.args.place _ c.if-place-eq0.true c.slot.ensures))
 
 pub returns-else-place-eq0 : goal.returns-else-place-eq0
-returns-else-place-eq0 g c = sym (ap owners_in (read-node _ _ c.self.view_is c.args.place _ c.if-place-eq0.false c.slot-else-place-eq0.ensures))
+returns-else-place-eq0 g c = sym (ap owners_in (read-node _ _ c.self.view_is c.args.place _ c.if-place-eq0.false c.node_in.ensures))

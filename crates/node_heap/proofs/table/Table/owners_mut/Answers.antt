@@ -17,16 +17,16 @@ returns-then-place-eq0 g c =
       record { writes_back = tt; value = sym (ap owners_in (read-cell _ _ c.self.view_is c.args.place _ c.if-place-eq0.true is)) },
     )
 
-pub slot_mut-slot-requires-else-place-eq0 : goal.slot_mut-slot-requires-else-place-eq0
-slot_mut-slot-requires-else-place-eq0 g c = live-node _ _ c.self.view_is c.args.place c.if-place-eq0.false c.requires
+pub node_in_mut-node-requires : goal.node_in_mut-node-requires
+node_in_mut-node-requires g c = live-node _ _ c.self.view_is c.args.place c.if-place-eq0.false c.requires
 
 pub invariant_of-self-lent-else-place-eq0 : goal.invariant_of-self-lent-else-place-eq0
 invariant_of-self-lent-else-place-eq0 g c w =
-    IsTable-node c.self.inside.cells.items _ _ _ _ c.self.inside.nodes.items _ _ _ _ (c.args.place / 2) _ _ c.slot_mut-slot-else-place-eq0.ensures.value c.self.invariant
+    IsTable-node c.self.inside.cells.items _ _ _ _ c.self.inside.nodes.items _ _ _ _ (c.args.place / 2) _ _ c.node_in_mut-node.ensures.value c.self.invariant
 
 pub returns-else-place-eq0 : goal.returns-else-place-eq0
 returns-else-place-eq0 g c =
-    let is = c.slot_mut-slot-else-place-eq0.ensures.value in (
+    let is = c.node_in_mut-node.ensures.value in (
       (refl, λ w. node-owners _ _ c.self.view_is c.args.place w _ c.if-place-eq0.false is),
       record { writes_back = tt; value = sym (ap owners_in (read-node _ _ c.self.view_is c.args.place _ c.if-place-eq0.false is)) },
     )
