@@ -2,8 +2,9 @@
 """The shell over plain lists and dictionaries: a second reading of docs/SHELL.md.
 
 It shares nothing with the program but the manual, so that tests/fuzz.py can compare the two. It copies whole
-dictionaries at each edit, and is meant for scripts with small buffers. It has no rows and no files, and so it doesn't
-know `stats`, `save` and `load`. Run alone, it answers its standard input.
+dictionaries at each edit, and is meant for scripts with small buffers. It has no rows and no documents, and so it doesn't
+know `stats`, `save` and `load`; files of lines it reads and writes in a dictionary. Run alone, it answers its standard
+input, with its own words for the program's and no files.
 """
 
 import re
@@ -11,11 +12,14 @@ import sys
 
 LONGEST_LINE = 65_536
 MOST = 2**32 - 1
+LARGEST_FILE = 67_108_864
+
+USAGE = "usage: ewig [--bits W] [--open F] [--work SEED --count N]"
 
 # What follows each word: N a name, I a number, T the text, which is all the rest.
 SHAPES = {
     "new": "N", "add": "NT", "set": "NIT", "put": "NIT", "del": "NII", "cat": "NN", "cut": "NIIN", "copy": "NN",
-    "drop": "N", "star": "N", "unstar": "N",
+    "drop": "N", "star": "N", "unstar": "N", "read": "NN", "write": "NN",
     "mark": "N", "unmark": "N", "back": "N", "undo": "", "redo": "", "begin": "", "end": "", "abort": "",
     "get": "NI", "len": "N", "show": "NII", "list": "", "stars": "", "marks": "", "same": "NN", "eqv": "NN",
     "quit": "",
@@ -23,7 +27,7 @@ SHAPES = {
 EDITS = {"new", "add", "set", "put", "del", "cat", "cut", "copy", "drop", "star", "unstar"}
 
 NAME = re.compile(r"[A-Za-z0-9_][A-Za-z0-9._-]{0,63}\Z", re.ASCII)
-NUMBER = re.compile(r"(0|[1-9][0-9]{0,9})\Z", re.ASCII)
+NUMBER = re.compile(r"(0|[1-9][0-9]*)\Z", re.ASCII)
 
 
 class Refused(Exception):
@@ -34,6 +38,11 @@ def needs(test, reason):
     """Refuses where the test fails."""
     if not test:
         raise Refused(reason)
+
+
+def read_number(text, most):
+    """The number that a text is in decimal, with no leading zeros, or None where it is none or passes the most."""
+    return int(text) if NUMBER.match(text) and int(text) <= most else None
 
 
 def read_line(line):
@@ -51,8 +60,8 @@ def read_line(line):
     arguments = []
     for kind, piece in zip(shape, pieces[1:]):
         if kind == "I":
-            needs(NUMBER.match(piece) and int(piece) <= MOST, "command")
-            piece = int(piece)
+            piece = read_number(piece, MOST)
+            needs(piece is not None, "command")
         arguments.append(piece)
     for kind, piece in zip(shape, arguments):
         needs(kind != "N" or NAME.match(piece), "name")
@@ -124,9 +133,10 @@ def edited(state, word, arguments):
 
 
 class Shell:
-    """A current state, versions, states to undo and to redo, and in a batch the state at its begin."""
+    """A current state, versions, states to undo and to redo, and in a batch the state at its begin; and the files."""
 
-    def __init__(self):
+    def __init__(self, files=None):
+        self.files = {} if files is None else files
         self.current = State()
         self.versions = {}
         self.undo = []
@@ -147,11 +157,15 @@ class Shell:
 
     def become(self, state):
         """Makes the state current, as an edit does."""
+        self.has_room()
         if self.base is None:
-            needs(len(self.undo) < MOST, "limit")
             self.undo.append(self.current)
             self.redo = []
         self.current = state
+
+    def has_room(self):
+        """Refuses where an edit would put a state into a full undo."""
+        needs(self.base is not None or len(self.undo) < MOST, "limit")
 
     def outside_batch(self):
         needs(self.base is None, "batch")
@@ -201,6 +215,24 @@ class Shell:
         self.current = self.base
         self.base = None
 
+    def do_read(self, name, file):
+        self.has_room()
+        needs(file in self.files, "missing")
+        data = self.files[file]
+        needs(len(data) <= LARGEST_FILE, "large")
+        lines = pieces(data)
+        needs(all(len(line) <= LONGEST_LINE for line in lines), "long")
+        try:
+            data.decode("utf-8")
+        except UnicodeDecodeError:
+            raise Refused("utf8") from None
+        self.become(self.current.having(name, [line.decode("utf-8") for line in lines]))
+
+    def do_write(self, name, file):
+        data = "".join(line + "\n" for line in self.current.lines(name)).encode("utf-8")
+        needs(len(data) <= LARGEST_FILE, "large")
+        self.files[file] = data
+
     def do_get(self, name, index):
         lines = self.current.lines(name)
         needs(index < len(lines), "range")
@@ -241,16 +273,89 @@ def pieces(data):
     return parts if parts[-1] else parts[:-1]
 
 
-def output(data):
-    """What the shell writes for this input."""
+def read_words(words):
+    """The options of the program's words, or None where they don't read."""
+    options = {}
+    rest = list(words)
+    while rest:
+        word = rest.pop(0)
+        if not word.startswith("--"):
+            return None
+        key, equals, value = word[2:].partition("=")
+        if not equals:
+            if not rest or rest[0].startswith("-"):
+                return None
+            value = rest.pop(0)
+        if key in options or key not in ("bits", "open", "work", "count"):
+            return None
+        most = {"bits": 32, "open": None, "work": 2**64 - 1, "count": 100_000}[key]
+        options[key] = value if most is None else read_number(value, most)
+        if options[key] is None or (most is None and not NAME.match(value)):
+            return None
+    works = "work" in options
+    if works != ("count" in options) or (works and "open" in options):
+        return None
+    return options
+
+
+def work_line(x):
+    """The line that the generator makes from a number of 64 bits."""
+    kind, one, other, n = x >> 60, (x >> 57) & 7, (x >> 54) & 7, (x >> 32) & 4_194_303
+    if kind <= 6:
+        return f"add w{one} t{n}"
+    if kind <= 8:
+        return f"set w{one} {n % 256} t{n}"
+    first = n % 16
+    return {
+        9: f"put w{one} {n % 256} t{n}", 10: f"del w{one} {first} {first + n // 16 % 16}", 11: f"copy w{one} w{other}",
+        12: "undo", 13: "redo", 14: f"cat w{one} w{other}", 15: f"mark v{n}",
+    }[kind]
+
+
+def work(seed, count):
+    """The summary of so many generated lines behind eight that make the buffers."""
     shell = Shell()
-    written = []
-    for piece in pieces(data):
-        written += shell.answer(piece)
-        if shell.over:
-            break
-    return "".join(line + "\n" for line in written).encode("utf-8")
+    lines = [f"new w{i}" for i in range(8)]
+    x = seed
+    for _ in range(count):
+        x = (x * 6364136223846793005 + 1442695040888963407) % 2**64
+        lines.append(work_line(x))
+    replies = [shell.answer(line.encode("ascii")) for line in lines]
+    refused = sum(reply[-1].startswith("!") for reply in replies)
+    buffers = shell.current.buffers
+    return [
+        f"= commands {len(lines)}", f"= ok {len(lines) - refused}", f"= refused {refused}", f"= names {len(buffers)}",
+        f"= lines {sum(map(len, buffers.values()))}", "ok",
+    ]
+
+
+def output(data, words=(), files=None):
+    """What the shell writes for this input, and its status. The files are changed as the shell changes them."""
+    options = read_words(words)
+    if options is None:
+        return b"", 2
+    if "work" in options:
+        written = work(options["work"], options["count"])
+    else:
+        shell = Shell(files)
+        written = []
+        # No file of these scripts is a document.
+        if "open" in options:
+            written.append("! damaged json" if options["open"] in shell.files else "! missing")
+        for piece in pieces(data):
+            written += shell.answer(piece)
+            if shell.over:
+                break
+    return "".join(line + "\n" for line in written).encode("utf-8"), 0
+
+
+def main():
+    written, status = output(sys.stdin.buffer.read(), sys.argv[1:])
+    if status:
+        print(USAGE, file=sys.stderr)
+    sys.stdout.buffer.write(written)
+    return status
 
 
 if __name__ == "__main__":
-    sys.stdout.buffer.write(output(sys.stdin.buffer.read()))
+    sys.exit(main())
