@@ -3,20 +3,23 @@
 
     tests/fuzz.py PROGRAM [--scripts N] [--seed S]
 
-Each script is a run of the program of its own. A script is drawn with the plain shell at hand, so that most commands
-hit names and lines that are there, and some miss them. The first difference is printed with its script, and ends the
-run with status 1. It isn't part of the gate.
+Each script is a run of the program of its own, in a folder of its own with some text files, and now and then with words.
+A script is drawn with the plain shell at hand, so that most commands hit names and lines that are there, and some miss
+them. Output, status and the files that are left are compared. The first difference is printed with its script, and ends
+the run with status 1. It isn't part of the gate.
 """
 
 import argparse
+import os
 import random
 import subprocess
 import sys
+import tempfile
 
 # The folder of tests stays as it is in the repository.
 sys.dont_write_bytecode = True
 
-from plain_shell import SHAPES, Shell, output
+from plain_shell import SHAPES, USAGE, Shell, output
 
 # A buffer longer than this is dropped and not joined or copied, so that scripts stay quick.
 LONG_ENOUGH = 3_000
@@ -25,10 +28,22 @@ NAMES = ["a", "b", "c", "A", "b1", "n.x", "_", "Z-9", "x" * 64]
 NO_NAMES = [".x", "-x", "", "é", "a/b", "x" * 65, "a\r"]
 TEXTS = ["", "x", "y", "two words", " spaced  out ", "é ü 漢", "\r", "ok", "= x", "a" * 300]
 NO_NUMBERS = ["01", "+1", "-1", "4294967296", "1x", ""]
+# No one of them is a document.
+FILES = {
+    "one": b"", "two": b"x\n", "three": b"first\nsecond\n\nlast", "four": b"\n\n", "five": "é ü 漢\r\n".encode("utf-8"),
+    "bad": b"x\n\xff\n", "long": b"x\n" + 65_537 * b"y" + b"\n", "both": 65_537 * b"\xff", "edge": 65_536 * b"z" + b"\n" + b"q" * 65_536,
+}
+WORDS = [
+    ["--bits", "0"], ["--bits=5"], ["--bits", "32"], ["--bits", "33"], ["--bits="], ["--bits", "05"], ["--bits", "-1"], ["--bit", "5"],
+    ["-b", "5"], ["--"], ["--help"], ["--version"], ["--open", "two"], ["--open=nothere"], ["--open=.x"], ["--open"],
+    ["--work", "7", "--count", "40"], ["--count=3", "--work=18446744073709551615"], ["--work", "18446744073709551616", "--count", "1"],
+    ["--work", "1"], ["--count", "1"], ["--work", "1", "--count", "100001"], ["--work", "1", "--count", "1", "--open", "two"],
+    ["--bits", "3", "--bits", "3"], [""], ["x"], ["--bits=7", "x"],
+]
 NO_LINES = [b"", b" ", b"New a", b"list ", b"\xff", b"add a \xc3", b"undo x", b"new  a", b"get a", b"save", b"stats x"]
 WEIGHTS = {
     "add": 6, "undo": 4, "redo": 3, "new": 3, "put": 3, "begin": 2, "end": 3, "mark": 2, "same": 2, "eqv": 2,
-    "quit": 0.05, "drop": 0.5,
+    "quit": 0.05, "drop": 0.5, "read": 1.5,
 }
 
 
@@ -60,6 +75,7 @@ def drawn_line(draw, shell):
         present = shell.versions
     elif word in ("star", "unstar"):
         present = shell.current.stars
+    files = shell.files
     name = drawn_name(draw, present)
     length = len(shell.current.buffers.get(name, []))
     if word in ("cat", "copy") and length > LONG_ENOUGH:
@@ -72,7 +88,7 @@ def drawn_line(draw, shell):
         if kind == "I":
             arguments.append(numbers.pop(0))
         elif kind == "N":
-            arguments.append(drawn_name(draw, present))
+            arguments.append(drawn_name(draw, files if word in ("read", "write") else present))
         else:
             arguments.append(draw.choice(TEXTS))
     words = [word] + arguments if SHAPES[word] else [word]
@@ -81,7 +97,7 @@ def drawn_line(draw, shell):
 
 def drawn_script(draw):
     """A script of a few lines to a few hundred."""
-    shell = Shell()
+    shell = Shell(dict(FILES))
     lines = []
     for _ in range(draw.choice([3, 10, 30, 100, 300])):
         line = drawn_line(draw, shell)
@@ -93,19 +109,44 @@ def drawn_script(draw):
     return b"\n".join(lines) + ending
 
 
+def drawn_words(draw):
+    """The words of a run: mostly none."""
+    return draw.choice(WORDS) + (draw.choice(WORDS) if draw.random() < 0.2 else []) if draw.random() < 0.2 else []
+
+
+def run(program, words, script):
+    """What the program writes, its status, what it says on standard error, and the files that it leaves."""
+    with tempfile.TemporaryDirectory() as folder:
+        for name, data in FILES.items():
+            with open(f"{folder}/{name}", "wb") as file:
+                file.write(data)
+        ran = subprocess.run([program, *words], input=script, capture_output=True, check=False, cwd=folder)
+        left = {}
+        for name in os.listdir(folder):
+            with open(f"{folder}/{name}", "rb") as file:
+                left[name] = file.read()
+    return ran.stdout, ran.returncode, ran.stderr, left
+
+
 def main():
     words = argparse.ArgumentParser(description="Compares the program with the plain shell on random scripts.")
     words.add_argument("program")
     words.add_argument("--scripts", type=int, default=10_000)
     words.add_argument("--seed", type=int, default=1)
     chosen = words.parse_args()
+    program = os.path.abspath(chosen.program)
     for number in range(chosen.scripts):
-        script = drawn_script(random.Random(f"{chosen.seed}/{number}"))
-        ran = subprocess.run([chosen.program], input=script, capture_output=True, check=False)
-        wanted = output(script)
-        if ran.returncode != 0 or ran.stdout != wanted:
-            print(f"script {number} of seed {chosen.seed} differs, status {ran.returncode}:")
-            sys.stdout.buffer.write(script + b"\n-- the program:\n" + ran.stdout + b"-- the plain shell:\n" + wanted)
+        draw = random.Random(f"{chosen.seed}/{number}")
+        script, options = drawn_script(draw), drawn_words(draw)
+        files = dict(FILES)
+        written, status = output(script, options, files)
+        wanted = (written, status, f"{USAGE}\n".encode("ascii") if status else b"", files)
+        got = run(program, options, script)
+        if got != wanted:
+            print(f"script {number} of seed {chosen.seed}, words {options}, differs, status {got[1]} and not {status}:")
+            sys.stdout.buffer.write(script + b"\n-- the program:\n" + got[0] + b"-- the plain shell:\n" + written)
+            changed = sorted(name for name in {*got[3], *files} if got[3].get(name) != files.get(name))
+            print(f"-- files that differ: {changed}")
             return 1
     print(f"{chosen.scripts} scripts of seed {chosen.seed}: no difference")
     return 0
