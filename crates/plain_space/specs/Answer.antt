@@ -6,7 +6,7 @@ use Rattle.std.specs.FinMap as map
 use Rattle.plain_space.specs.declared.refusal.Refusal.{Refusal}
 use Rattle.plain_space.specs.declared.refusal.Refusal.TheVariants.{Absent, Exists, Range, Limit}
 use Rattle.shell_terms.specs.Edit.{Bytes}
-use Rattle.shell_terms.specs.Command.{PlainCommand, edit, mark, unmark, back, undo, redo, begin, «end», abort, get, len, show, list, stars, marks, same, eqv, stats, save, load, quit}
+use Rattle.shell_terms.specs.Command.{PlainCommand, edit, mark, unmark, back, undo, redo, begin, «end», abort, get, len, show, list, stars, marks, same, eqv, stats, read, write, save, load, quit}
 use Rattle.plain_space.specs.Workspace.{State, Workspace, sizes, same_texts, same_state, is_full, version_of, with_current}
 use Rattle.plain_space.specs.Refusing.{unless, given, on_lines, on_range, room, on_last, outside_batch, on_base}
 use Rattle.plain_space.specs.Edited.{edited}
@@ -106,6 +106,8 @@ answer work (eqv version other) = asked work (
     given (version_of work version) Absent (λ state.
     given (version_of work other) Absent (λ others. Ok (equal_line (same_state state others) ∷ []))))
 answer work stats = Ok elsewhere
+answer work (read name file) = unless (is_full work) Limit (Ok elsewhere)
+answer work (write name file) = on_lines work.current name (λ lines. Ok elsewhere)
 answer work (save file) = outside_batch work (Ok elsewhere)
 answer work (load file) = outside_batch work (Ok elsewhere)
 answer work quit = done work

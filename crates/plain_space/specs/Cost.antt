@@ -1,9 +1,9 @@
 -- How many rows a command may add to the pool.
-use Rattle.std.specs.Prelude.{ℕ, ◌+◌, ◌==◌, List}
+use Rattle.std.specs.Prelude.{ℕ, ◌+◌, ◌*◌, ◌==◌, List, length}
 use Rattle.std.specs.List.{count_by}
 use Rattle.std.specs.FinMap as map
 use Rattle.elem_core.specs.Codes.{text_code, masked_code}
-use Rattle.shell_terms.specs.Edit.{Bytes, PlainEdit, new, add, set, put, del, cat, cut, copy, drop, star, unstar}
+use Rattle.shell_terms.specs.Edit.{Bytes, PlainEdit, new, add, set, put, del, cat, cut, copy, drop, star, unstar, fill}
 use Rattle.shell_terms.specs.Command.{PlainCommand, edit, mark, unmark, back, undo, redo, «end»}
 use Rattle.plain_space.specs.Workspace.{State, Workspace}
 
@@ -23,7 +23,8 @@ alike_stars bits now name = alike bits (map.keys now.stars) name
 abbrev pub alike_versions : ℕ → Workspace → Bytes → ℕ
 alike_versions bits work version = alike bits (map.keys work.versions) version
 
--- The most rows that an edit adds: a number for its kind, and one for each name that is alike in what is written.
+-- The most rows that an edit adds: a number for its kind, one for each name that is alike in what is written, and two for each
+-- line that comes from outside.
 abbrev pub edit_cost : ℕ → PlainEdit → State → ℕ
 edit_cost bits (new name) now = 64 + alike_buffers bits now name
 edit_cost bits (add name text) now = 64 + alike_buffers bits now name
@@ -36,8 +37,10 @@ edit_cost bits (copy name other) now = 64 + alike_buffers bits now other
 edit_cost bits (drop name) now = 64 + alike_buffers bits now name
 edit_cost bits (star name) now = 64 + alike_stars bits now name
 edit_cost bits (unstar name) now = 64 + alike_stars bits now name
+edit_cost bits (fill name lines) now = 64 + 2 * length lines + alike_buffers bits now name
 
--- The same of every command. What only asks, begins or aborts adds none.
+-- The same of every command. What only asks, begins or aborts adds none. Of the line
+-- `read` the edit that it comes to is counted.
 unfoldable pub cost : ℕ → PlainCommand → Workspace → ℕ
 cost bits (edit change) work = edit_cost bits change work.current
 cost bits (mark version) work = 64 + alike_versions bits work version

@@ -3,7 +3,7 @@ use Rattle.std.specs.Prelude.{◌+◌, [], ◌∷◌, ◌++◌, nat_lt, nat_le, 
 use Rattle.std.specs.List.{insert, remove_range}
 use Rattle.plain_space.specs.declared.refusal.Refusal.{Refusal}
 use Rattle.plain_space.specs.declared.refusal.Refusal.TheVariants.{Absent, Exists, Range}
-use Rattle.shell_terms.specs.Edit.{PlainEdit, new, add, set, put, del, cat, cut, copy, drop, star, unstar}
+use Rattle.shell_terms.specs.Edit.{PlainEdit, new, add, set, put, del, cat, cut, copy, drop, star, unstar, fill}
 use Rattle.plain_space.specs.Workspace.{State, lines_of, with_lines, without_lines, is_starred, with_star, without_star}
 use Rattle.plain_space.specs.Refusing.{needs, unless, on_lines, on_range, room}
 
@@ -41,3 +41,4 @@ edited now (star name) =
     unless (is_starred now name) Exists (Ok (with_star now name))
 edited now (unstar name) =
     needs (is_starred now name) Absent (Ok (without_star now name))
+edited now (fill name lines) = Ok (with_lines now name lines)

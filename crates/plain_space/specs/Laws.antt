@@ -3,7 +3,7 @@ use Rattle.std.specs.Prelude.{◌≡◌, ℕ, ◌<◌, ◌≤◌, List, [], ◌�
 use Rattle.std.specs.Bool.{Decides}
 use Rattle.plain_space.specs.declared.refusal.Refusal.TheVariants.{Range, Limit}
 use Rattle.shell_terms.specs.Edit.{Bytes, PlainEdit, add, put}
-use Rattle.shell_terms.specs.Command.{edit, back, undo, redo, «end»}
+use Rattle.shell_terms.specs.Command.{edit, back, undo, redo, «end», read}
 use Rattle.plain_space.specs.Workspace.{State, Workspace, most, lines_of, same_texts, same_state, in_batch, is_full, version_of, with_current}
 use Rattle.plain_space.specs.Edited.{edited}
 use Rattle.plain_space.specs.Answer.{answer, done}
@@ -40,6 +40,7 @@ pub record FullHistory (work : Workspace) : Type 0 where
       (version : Bytes) → IsTrue (is_full work) → IsTrue (is_some (version_of work version)) → answer work (back version) ≡ Err Limit
   pub no_redo : IsTrue (is_full work) → 1 ≤ length work.redo → answer work redo ≡ Err Limit
   pub no_undo : work.base ≡ None → length work.redo ≡ most → 1 ≤ length work.undo → answer work undo ≡ Err Limit
+  pub no_read : (name file : Bytes) → IsTrue (is_full work) → answer work (read name file) ≡ Err Limit
   pub no_end : IsTrue (in_batch work) → length work.undo ≡ most → answer work end ≡ Err Limit
 
 -- The same of every workspace.

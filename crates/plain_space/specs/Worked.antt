@@ -2,9 +2,9 @@
 use Rattle.std.specs.Prelude.{◌≡◌, ℕ, Bool, true, false, List, [], ◌∷◌, ◌++◌, map, replicate, Ok, Err}
 use Prim.Native.String.{String}
 use lib.Chars.{codes}
-use Rattle.shell_terms.specs.Edit.{Bytes, new, add, set, put, del, cat, cut, copy, drop, star, unstar}
-use Rattle.shell_terms.specs.Command.{PlainCommand, edit, mark, unmark, back, undo, redo, begin, «end», abort, get, len, show, list, stars, marks, same, eqv, stats, save, load, quit}
-use Rattle.plain_space.specs.declared.refusal.Refusal.TheVariants.{Batch}
+use Rattle.shell_terms.specs.Edit.{Bytes, new, add, set, put, del, cat, cut, copy, drop, star, unstar, fill}
+use Rattle.shell_terms.specs.Command.{PlainCommand, edit, mark, unmark, back, undo, redo, begin, «end», abort, get, len, show, list, stars, marks, same, eqv, stats, read, write, save, load, quit}
+use Rattle.plain_space.specs.declared.refusal.Refusal.TheVariants.{Absent, Batch}
 use Rattle.plain_space.specs.Workspace.{start}
 use Rattle.plain_space.specs.Answer.{answer, elsewhere}
 use Rattle.plain_space.specs.Cost.{cost}
@@ -89,6 +89,12 @@ WorkedCopy = GetReplies
     (edit (new a) ∷ edit (add a x) ∷ edit (copy a b) ∷ edit (drop a) ∷ len a ∷ list ∷ undo ∷ edit (add a y) ∷ edit (copy a b) ∷ show b 0 2 ∷ [])
     (lines ("ok" ∷ "ok" ∷ "ok" ∷ "ok" ∷ "! none" ∷ "= b 1" ∷ "ok" ∷ "ok" ∷ "ok" ∷ "ok" ∷ "= x" ∷ "= y" ∷ "ok" ∷ []))
 
+-- A buffer is made of lines, and has its lines replaced, each time in one step of undo.
+abbrev pub WorkedFill : Type 0
+WorkedFill = GetReplies
+    (edit (fill a (x ∷ y ∷ [])) ∷ show a 0 2 ∷ edit (fill a (z ∷ [])) ∷ show a 0 1 ∷ len a ∷ undo ∷ len a ∷ edit (fill b []) ∷ list ∷ redo ∷ [])
+    (lines ("ok" ∷ "= x" ∷ "= y" ∷ "ok" ∷ "ok" ∷ "= z" ∷ "ok" ∷ "= 1" ∷ "ok" ∷ "= 2" ∷ "ok" ∷ "= a 2" ∷ "= b 0" ∷ "ok" ∷ "! empty" ∷ []))
+
 -- A buffer is doubled until it would pass the most lines.
 abbrev pub WorkedDoubling : Type 0
 WorkedDoubling = GetReplies
@@ -161,12 +167,16 @@ WorkedEqualVersions = GetReplies
     (edit (new a) ∷ edit (add a x) ∷ mark v ∷ edit (set a 0 y) ∷ mark p ∷ eqv v p ∷ edit (set a 0 x) ∷ mark w ∷ eqv v w ∷ edit (star z) ∷ mark z ∷ eqv v z ∷ edit (unstar z) ∷ edit (copy a b) ∷ edit (drop a) ∷ mark q ∷ eqv v q ∷ eqv v y ∷ eqv y v ∷ eqv v v ∷ [])
     (lines ("ok" ∷ "ok" ∷ "ok" ∷ "ok" ∷ "ok" ∷ "= no" ∷ "ok" ∷ "ok" ∷ "= yes" ∷ "ok" ∷ "ok" ∷ "= no" ∷ "ok" ∷ "ok" ∷ "ok" ∷ "ok" ∷ "= no" ∷ "! none" ∷ "! none" ∷ "= yes" ∷ []))
 
--- Nothing in the workspace refuses to count rows, or outside a batch to save and to load: what these reply isn't said here.
-abbrev pub WorkedElsewhere : Type 0
-WorkedElsewhere =
-    from start (begin ∷ [])
-    (λ work. answer start stats ∷ answer start (save p) ∷ answer start (load p) ∷ answer work stats ∷ answer work (save p) ∷ answer work (load p) ∷ [])
-    ≡ Ok elsewhere ∷ Ok elsewhere ∷ Ok elsewhere ∷ Ok elsewhere ∷ Err Batch ∷ Err Batch ∷ []
+-- What the pool or the store has to say something to.
+abbrev pub on_devices : List PlainCommand
+on_devices = stats ∷ read a p ∷ write a p ∷ save p ∷ load p ∷ []
+
+-- What the workspace refuses of these in a new space, and in a batch with one buffer. What the others reply isn't said here.
+pub record WorkedElsewhere : Type 0 where
+  pub outside : map (answer start) on_devices ≡ Ok elsewhere ∷ Ok elsewhere ∷ Err Absent ∷ Ok elsewhere ∷ Ok elsewhere ∷ []
+  pub in_batch :
+      from start (edit (new a) ∷ begin ∷ []) (λ work. map (answer work) on_devices)
+      ≡ Ok elsewhere ∷ Ok elsewhere ∷ Ok elsewhere ∷ Err Batch ∷ Err Batch ∷ []
 
 -- The costs of commands by so many bits, in a workspace with two buffers, a star and a version.
 abbrev pub costs : ℕ → List PlainCommand → List ℕ
@@ -178,7 +188,7 @@ costs bits commands =
 abbrev pub on_buffers : List PlainCommand
 on_buffers =
     edit (new c) ∷ edit (add a x) ∷ edit (set a 0 x) ∷ edit (put a 0 x) ∷ edit (del a 0 0) ∷ edit (cat a b) ∷ edit (cut a 0 0 b)
-    ∷ edit (cut a 0 0 c) ∷ edit (copy a b) ∷ edit (copy a c) ∷ edit (drop a) ∷ []
+    ∷ edit (cut a 0 0 c) ∷ edit (copy a b) ∷ edit (copy a c) ∷ edit (drop a) ∷ edit (fill a (x ∷ y ∷ [])) ∷ edit (fill c []) ∷ []
 
 -- Commands that write the stars or the versions.
 abbrev pub on_names : List PlainCommand
@@ -191,27 +201,27 @@ on_states = back v ∷ undo ∷ redo ∷ end ∷ []
 -- Commands that write nothing.
 abbrev pub on_nothing : List PlainCommand
 on_nothing =
-    begin ∷ abort ∷ get a 0 ∷ len a ∷ show a 0 0 ∷ list ∷ stars ∷ marks ∷ same a b ∷ eqv v v ∷ stats ∷ save p ∷ quit ∷ []
+    begin ∷ abort ∷ get a 0 ∷ len a ∷ show a 0 0 ∷ list ∷ stars ∷ marks ∷ same a b ∷ eqv v v ∷ stats ∷ write a p ∷ save p ∷ quit ∷ []
 
 -- A cost counts the names of the written map whose codes are alike: all by no bits, and by all bits the name itself.
 pub record WorkedCost : Type 0 where
-  pub buffers_alike : costs 0 on_buffers ≡ 66 ∷ 66 ∷ 66 ∷ 514 ∷ 514 ∷ 130 ∷ 516 ∷ 516 ∷ 66 ∷ 66 ∷ 66 ∷ []
-  pub buffers_apart : costs 32 on_buffers ≡ 64 ∷ 65 ∷ 65 ∷ 513 ∷ 513 ∷ 129 ∷ 514 ∷ 513 ∷ 65 ∷ 64 ∷ 65 ∷ []
+  pub buffers_alike : costs 0 on_buffers ≡ 66 ∷ 66 ∷ 66 ∷ 514 ∷ 514 ∷ 130 ∷ 516 ∷ 516 ∷ 66 ∷ 66 ∷ 66 ∷ 70 ∷ 66 ∷ []
+  pub buffers_apart : costs 32 on_buffers ≡ 64 ∷ 65 ∷ 65 ∷ 513 ∷ 513 ∷ 129 ∷ 514 ∷ 513 ∷ 65 ∷ 64 ∷ 65 ∷ 69 ∷ 64 ∷ []
   pub names_alike : costs 0 on_names ≡ 65 ∷ 65 ∷ 65 ∷ 65 ∷ []
   pub names_apart : costs 32 on_names ≡ 64 ∷ 65 ∷ 64 ∷ 65 ∷ []
   pub states : costs 0 on_states ≡ 64 ∷ 64 ∷ 64 ∷ 64 ∷ []
-  pub nothing : costs 0 on_nothing ≡ replicate 13 0
+  pub nothing : costs 0 on_nothing ≡ replicate 14 0
 
 -- Whether each of the commands may want memory.
 abbrev pub wants : List PlainCommand → List Bool
 wants = map wants_memory
 
--- Memory is wanted where rows are made, names are sorted, or a document is written or read; and not where a command only looks,
+-- Memory is wanted where rows are made, names are sorted, or a file is written or read; and not where a command only looks,
 -- begins or gives up a batch, or quits.
 pub record WorkedMemory : Type 0 where
-  pub buffers : wants on_buffers ≡ replicate 11 true
+  pub buffers : wants on_buffers ≡ replicate 13 true
   pub names : wants on_names ≡ replicate 4 true
   pub states : wants on_states ≡ replicate 4 true
   pub sorting : wants (list ∷ stars ∷ marks ∷ []) ≡ replicate 3 true
-  pub documents : wants (save p ∷ load p ∷ []) ≡ replicate 2 true
+  pub files : wants (read a p ∷ write a p ∷ save p ∷ load p ∷ []) ≡ replicate 4 true
   pub looking : wants (begin ∷ abort ∷ get a 0 ∷ len a ∷ show a 0 0 ∷ same a b ∷ eqv v v ∷ stats ∷ quit ∷ []) ≡ replicate 9 false

@@ -1,10 +1,10 @@
 //! What changes a state.
 
-use elem_core::{Line, Name};
+use elem_core::{Line, Name, Texts};
 
 /// An edit of the current state, with its names, numbers and texts in the order of the command's words.
 /// Lines are counted from 0, and a range ends before its second number.
-#[derive(Clone, Copy, Debug, PartialEq, Eq)]
+#[derive(Debug, Drop)]
 pub enum Edit<'a> {
     /// Makes the buffer, without lines.
     New(Name<'a>),
@@ -28,4 +28,6 @@ pub enum Edit<'a> {
     Star(Name<'a>),
     /// Takes the star of the name away.
     Unstar(Name<'a>),
+    /// Gives the buffer these lines, made or replaced. There are at most 4,294,967,295.
+    Read(Name<'a>, Texts),
 }

@@ -1,5 +1,5 @@
 //! Worked commands with their replies, as facts: each function does nothing, and its contract is the fact.
-ghost use Rattle.plain_space.specs.Worked.{WorkedRanges, WorkedMissing, WorkedPut, WorkedCut, WorkedCutItself, WorkedCopy, WorkedDoubling, WorkedDoubledEqual, WorkedStars, WorkedUndo, WorkedUndoStar, WorkedMarks, WorkedBack, WorkedBatch, WorkedAbort, WorkedInBatch, WorkedEqualLines, WorkedEqualVersions, WorkedElsewhere, WorkedCost, WorkedMemory};
+ghost use Rattle.plain_space.specs.Worked.{WorkedRanges, WorkedMissing, WorkedPut, WorkedCut, WorkedCutItself, WorkedCopy, WorkedFill, WorkedDoubling, WorkedDoubledEqual, WorkedStars, WorkedUndo, WorkedUndoStar, WorkedMarks, WorkedBack, WorkedBatch, WorkedAbort, WorkedInBatch, WorkedEqualLines, WorkedEqualVersions, WorkedElsewhere, WorkedCost, WorkedMemory};
 
 /// Lines that a buffer doesn't have, and a name that is taken.
 pub fn ranges()
@@ -29,6 +29,11 @@ pub fn cut_itself()
 /// A copy stays when the first is gone, and takes the place of what was there.
 pub fn copy()
     ensures { WorkedCopy }
+{}
+
+/// A buffer is made of lines, and has its lines replaced, each time in one step of undo.
+pub fn fill()
+    ensures { WorkedFill }
 {}
 
 /// A buffer is doubled until it would pass the most lines.

@@ -5,7 +5,8 @@ use Rattle.std.specs.Prelude.{ℕ, List}
 abbrev pub Bytes : Type 0
 Bytes = List ℕ
 
--- What changes the buffers or the stars: an edit with its names, numbers and texts, in the order of the line.
+-- What changes the buffers or the stars: an edit with its names, numbers and texts, in the order of the line. To read a
+-- file is to fill a buffer: the file's lines stand in place of its name.
 pub data PlainEdit : Type 0 where
   new : (name : Bytes) → PlainEdit
   add : (name text : Bytes) → PlainEdit
@@ -18,3 +19,4 @@ pub data PlainEdit : Type 0 where
   drop : (name : Bytes) → PlainEdit
   star : (name : Bytes) → PlainEdit
   unstar : (name : Bytes) → PlainEdit
+  fill : (name : Bytes) (lines : List Bytes) → PlainEdit

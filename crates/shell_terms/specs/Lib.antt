@@ -1,2 +1,3 @@
 pub mod Edit
 pub mod Command
+pub mod Changing

@@ -89,6 +89,10 @@ pub enum Command<'a> {
     Eqv(Name<'a>, Name<'a>),
     /// `stats`: the number of rows that the space has.
     Stats,
+    /// `read B F`: B with the lines of the file F, made or replaced.
+    Read(Name<'a>, Name<'a>),
+    /// `write B F`: the lines of B in the file F.
+    Write(Name<'a>, Name<'a>),
     /// `save F`: the space as a document in the file F.
     Save(Name<'a>),
     /// `load F`: the space that the document in the file F stands for.
@@ -149,6 +153,8 @@ fn read_text(text: &str) -> Result<Command<'_>, BadLine>
         "same" => two_names(rest).map(|(buffer, other)| Command::Same(buffer, other)),
         "eqv" => two_names(rest).map(|(version, other)| Command::Eqv(version, other)),
         "stats" => nothing(rest).map(|()| Command::Stats),
+        "read" => two_names(rest).map(|(buffer, file)| Command::Read(buffer, file)),
+        "write" => two_names(rest).map(|(buffer, file)| Command::Write(buffer, file)),
         "save" => name(rest).map(Command::Save),
         "load" => name(rest).map(Command::Load),
         "quit" => nothing(rest).map(|()| Command::Quit),

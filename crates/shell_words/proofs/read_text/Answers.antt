@@ -1,7 +1,7 @@
 use Rattle.std.proofs.Common.{◌≡◌, ◌∙◌, sym, refl, ap, None, bytes_eq, rules}
 use Rattle.std.specs.Map.{lookup}
 use Rattle.shell_terms.specs.Edit.{new, add, set, put, del, cat, cut, copy, drop, star, unstar}
-use Rattle.shell_terms.specs.Command.{edit, mark, unmark, back, undo, redo, begin, «end», abort, get, len, show, list, stars, marks, same, eqv, stats, save, load, quit}
+use Rattle.shell_terms.specs.Command.{edit, mark, unmark, back, undo, redo, begin, «end», abort, get, len, show, list, stars, marks, same, eqv, stats, read, write, save, load, quit}
 use Rattle.elem_core.specs.Shown.{name_bytes, line_bytes}
 use Rattle.shell_words.specs.Grammar.{commands}
 use Rattle.shell_words.specs.Shown.{plain_command}
@@ -204,6 +204,20 @@ returns-in-stats c =
     c.utf8.text (sym c.split_piece.ensures.piece ∙ c.in-stats.is) refl c.split_piece.ensures.rest (c.nothing-in-stats.ensures stats)
     c.map-in-stats.ensures.cases (λ x command is. search rules)
 
+pub returns-in-read : goal.returns-in-read
+unfolding commands
+returns-in-read c =
+    answers_word c.args.text.now _ _ _ c.two_names-in-read.result c.map-in-read.result _ (λ x. read (name_bytes x.0) (name_bytes x.1))
+    c.utf8.text (sym c.split_piece.ensures.piece ∙ c.in-read.is) refl c.split_piece.ensures.rest (c.two_names-in-read.ensures read)
+    c.map-in-read.ensures.cases (λ x command is. search rules)
+
+pub returns-in-write : goal.returns-in-write
+unfolding commands
+returns-in-write c =
+    answers_word c.args.text.now _ _ _ c.two_names-in-write.result c.map-in-write.result _ (λ x. write (name_bytes x.0) (name_bytes x.1))
+    c.utf8.text (sym c.split_piece.ensures.piece ∙ c.in-write.is) refl c.split_piece.ensures.rest (c.two_names-in-write.ensures write)
+    c.map-in-write.ensures.cases (λ x command is. search rules)
+
 pub returns-in-save : goal.returns-in-save
 unfolding commands
 returns-in-save c =
@@ -256,8 +270,10 @@ returns-in_default c =
     let no_same = other_word _ _ c.in_default.not-same in
     let no_eqv = other_word _ _ c.in_default.not-eqv in
     let no_stats = other_word _ _ c.in_default.not-stats in
+    let no_read = other_word _ _ c.in_default.not-read in
+    let no_write = other_word _ _ c.in_default.not-write in
     let no_save = other_word _ _ c.in_default.not-save in
     let no_load = other_word _ _ c.in_default.not-load in
     let no_quit = other_word _ _ c.in_default.not-quit in
-    let none : lookup (bytes_eq c.split_piece.result.0.now) commands ≡ None = rw (no_new, no_add, no_set, no_put, no_del, no_cat, no_cut, no_copy, no_drop, no_star, no_unstar, no_mark, no_unmark, no_back, no_undo, no_redo, no_begin, no_end, no_abort, no_get, no_len, no_show, no_list, no_stars, no_marks, no_same, no_eqv, no_stats, no_save, no_load, no_quit) refl in
+    let none : lookup (bytes_eq c.split_piece.result.0.now) commands ≡ None = rw (no_new, no_add, no_set, no_put, no_del, no_cat, no_cut, no_copy, no_drop, no_star, no_unstar, no_mark, no_unmark, no_back, no_undo, no_redo, no_begin, no_end, no_abort, no_get, no_len, no_show, no_list, no_stars, no_marks, no_same, no_eqv, no_stats, no_read, no_write, no_save, no_load, no_quit) refl in
     sym (meaning-unknown c.args.text.now _ c.utf8.text (sym c.split_piece.ensures.piece) none)

@@ -46,6 +46,7 @@ returns c = λ work. record {
       let at = eq-eqb (length work.undo) most (long work full) in
       rw out (whatever _ _ _ _ there (λ state. rw at refl));
   no_redo = λ full some. ap (steps_to _) (no_step work work.redo work.undo (unbatched work full) (long work full) some);
+  no_read = λ name file full. rw full refl;
   no_undo = λ out full some. ap (steps_to _) (no_step work work.undo work.redo (ap is_some out) full some);
   no_end = λ batch full.
       let no = no_more (length work.undo) full in
