@@ -9,8 +9,10 @@ ghost use Rattle.shell_words.specs.Shown.{plain_answer};
 use elem_core::{Line, Name};
 use thiserror::Error;
 
+mod numbers;
 mod pieces;
 
+pub use numbers::read_number;
 use pieces::{
     name, name_and_number, name_and_range, name_and_text, name_number_and_text,
     name_range_and_name, nothing, split_piece, two_names,

@@ -10,10 +10,11 @@ ghost use Rattle.shell_terms.specs.Command.{PlainCommand};
 ghost use Rattle.elem_core.specs.Shown.{name_bytes, line_bytes};
 ghost use Rattle.shell_words.specs.Grammar.{RestMeaning, first_piece, after_piece, if_named};
 ghost use Rattle.shell_words.specs.Grammar.{the_end, a_name, a_number, the_text};
-ghost use Rattle.shell_words.specs.Number.{leading_zero, number_of};
+ghost use Rattle.shell_words.specs.Number.{number_of};
 ghost use Rattle.shell_words.specs.Shown.{go_on};
 
 use crate::BadLine;
+use crate::numbers::read_number;
 use elem_core::{Line, Name};
 
 // The first piece of the text, and what stands behind the space that ends it.
@@ -213,21 +214,12 @@ fn both_named<'a>(piece: &'a str, other: &'a str) -> Result<(Name<'a>, Name<'a>)
     Ok((name, other))
 }
 
-// The number that the piece writes in decimal without leading zeros, if it fits 32 bits.
+// The number that the piece writes, if it fits 32 bits.
 fn decimal(piece: &str) -> Option<u32>
     ensures { result ≡ number_of piece.now }
 {
-    // Rust's own reading would take a plus and leading zeros.
-    if piece.starts_with('+') || has_leading_zero(piece) {
-        None
-    } else {
-        piece.parse().ok()
+    match read_number(piece, u64::from(u32::MAX)) {
+        Some(number) => Some(number as u32),
+        None => None,
     }
-}
-
-// Whether a zero stands first and more follows.
-fn has_leading_zero(piece: &str) -> bool
-    ensures { result ≡ leading_zero piece.now }
-{
-    piece.starts_with('0') && piece.len() > 1
 }
