@@ -5,3 +5,4 @@ pub mod SpotLemmas
 pub mod CopyLemmas
 pub mod PartsLemmas
 pub mod WithLemmas
+pub mod RoomLemmas

@@ -11,7 +11,7 @@ ghost use Rattle.std.specs.Prelude.{◌≡◌, ◌↔◌, ℕ, ◌+◌, ◌<◌,
 ghost use Rattle.std.specs.declared.cmp.Ordering.TheVariants.{Equal};
 ghost use Rattle.node_heap.specs.Links.{count};
 ghost use Rattle.node_heap.specs.Heap.{form_at, holds_at, hold_count, HasSpares, IsGraph};
-ghost use Rattle.node_heap.specs.Calls.{Answered, Unchanged, Builds, MakesJust};
+ghost use Rattle.node_heap.specs.Calls.{Answered, Builds, KeepsToNeed, MakesJust};
 ghost use Rattle.champ_chain.specs.Entry.{Entry, entry as entry_of, key_at, link_with, others, put};
 ghost use Rattle.champ_chain.specs.Chain.{IsChain, IsEntryOrChain, KeepsChains};
 
@@ -71,7 +71,7 @@ pub fn look_up<T: Element, P: Probe<T>>(heap: &Heap<T>, chain: Link, key: &P) ->
 }
 
 /// A chain of two entries with different keys. A hold of each is spent on Ok. It makes at most two nodes. Err where
-/// memory runs out: then nothing but the heap's spares has changed.
+/// memory runs out: it leaves the heap as it was.
 pub fn join<T: Element>(heap: &mut Heap<T>, first: Link, second: Link) -> Result<Link, NoMemory>
     requires few { hold_count heap.old < 2 ^ 60 }
     requires held { (l : ℕ) → count l (first ∷ second ∷ []) ≤ holds_at heap.old l }
@@ -81,7 +81,8 @@ pub fn join<T: Element>(heap: &mut Heap<T>, first: Link, second: Link) -> Result
         IfOk result (λ l. IsChain T.cmp (form_at heap.new) l (entry_of j first ∷ entry_of k second ∷ [])) }
     ensures made { OnOk result (MakesJust heap.old heap.new) }
     ensures chains { KeepsChains heap.old heap.new }
-    ensures refused { OnErr result (Unchanged heap.old heap.new) }
+    ensures refused { OnErr result (heap.new ≡ heap.old) }
+    ensures spares { OnOk result (KeepsToNeed heap.old heap.new 0 2) }
     ensures ample { HasSpares heap.old 0 2 → IsOk result }
 {
     heap.reserve(0, 2)?;
@@ -107,8 +108,8 @@ pub fn joined<T: Element>(heap: &mut Heap<T>, first: Link, second: Link) -> Link
 }
 
 /// The chain with the entry added, or in the place of the one with its key. The entry's hold is spent on Ok, and the
-/// given chain stays. It makes at most one node more than the chain has entries. Err where memory runs out: then nothing
-/// but the heap's spares has changed.
+/// given chain stays. It makes at most one node more than the chain has entries. Err where memory runs out: it leaves the
+/// heap as it was.
 pub fn with<T: Element>(heap: &mut Heap<T>, chain: Link, entry: Link) -> Result<Link, NoMemory>
     requires few { hold_count heap.old ≤ 2 ^ 59 }
     requires held { 0 < holds_at heap.old entry }
@@ -120,7 +121,8 @@ pub fn with<T: Element>(heap: &mut Heap<T>, chain: Link, entry: Link) -> Result<
         IfOk result (λ l. IsChain T.cmp (form_at heap.new) l (put T.cmp E (entry_of k entry))) }
     ensures made { OnOk result (MakesJust heap.old heap.new) }
     ensures chains { KeepsChains heap.old heap.new }
-    ensures refused { OnErr result (Unchanged heap.old heap.new) }
+    ensures refused { OnErr result (heap.new ≡ heap.old) }
+    ensures spares { (E : List (Entry T)) → IsChain T.cmp (form_at heap.old) chain E → OnOk result (KeepsToNeed heap.old heap.new 0 (length E + 1)) }
     ensures ample { (E : List (Entry T)) → IsChain T.cmp (form_at heap.old) chain E → HasSpares heap.old 0 (length E + 1) → IsOk result }
 {
     let number = length(heap, chain);
@@ -149,7 +151,7 @@ pub fn added<T: Element>(heap: &mut Heap<T>, chain: Link, entry: Link) -> Link
 
 /// The chain without the entry with this key: None exactly where the key is absent, and then nothing has changed. Where
 /// one entry is left it is that entry itself. The given chain stays. It makes at most as many nodes as the chain has
-/// entries. Err where memory runs out: then nothing but the heap's spares has changed.
+/// entries. Err where memory runs out: it leaves the heap as it was.
 pub fn without<T: Element, P: Probe<T>>(
     heap: &mut Heap<T>,
     chain: Link,
@@ -166,7 +168,8 @@ pub fn without<T: Element, P: Probe<T>>(
         IfOk result (λ left. IfSome left (λ l. IsEntryOrChain T.cmp (form_at heap.new) l (others T.cmp (P.stands_for key.now) E))) }
     ensures made { OnOk result (MakesJust heap.old heap.new) }
     ensures chains { KeepsChains heap.old heap.new }
-    ensures refused { OnErr result (Unchanged heap.old heap.new) }
+    ensures refused { OnErr result (heap.new ≡ heap.old) }
+    ensures spares { (E : List (Entry T)) → IsChain T.cmp (form_at heap.old) chain E → OnOk result (KeepsToNeed heap.old heap.new 0 (length E)) }
     ensures ample { (E : List (Entry T)) → IsChain T.cmp (form_at heap.old) chain E → HasSpares heap.old 0 (length E) → IsOk result }
 {
     let found = look_up(heap, chain, key);

@@ -1,6 +1,7 @@
 use Rattle.node_heap.specs.Heap.{form_at}
 use Rattle.champ_chain.proofs.FrameLemmas.{key-kept, forms-same, KeepsChains-same}
 use Rattle.node_heap.proofs.BuildLemmas.{Builds-Answered, Builds-MakesJust}
+use Rattle.champ_chain.proofs.RoomLemmas.{Builds-KeepsToNeed}
 use Rattle.champ_chain.proofs.join.Goals as goal
 
 pub joined-requires-clause-apart : goal.joined-requires-clause-apart
@@ -27,3 +28,6 @@ returns-clause-chains g c = λ cmp l E is. c.joined.ensures.chains cmp l E (Keep
 
 pub returns-in_err-reserve-clause-chains : goal.returns-in_err-reserve-clause-chains
 returns-in_err-reserve-clause-chains g c = KeepsChains-same c.args.heap.now c.reserve.new.self c.reserve.ensures.rest.rows
+
+pub returns-clause-spares : goal.returns-clause-spares
+returns-clause-spares g c = Builds-KeepsToNeed c.in_ok-reserve.ensures.greater c.in_ok-reserve.ensures.rest c.joined.ensures.builds

@@ -2,6 +2,7 @@ use Rattle.std.proofs.Common.{arith}
 use Rattle.node_heap.specs.Heap.{form_at}
 use Rattle.node_heap.proofs.BuildLemmas.{Builds-Answered, Builds-MakesJust}
 use Rattle.champ_chain.proofs.FrameLemmas.{key-kept, forms-same, keyed-same, KeepsChains-same}
+use Rattle.champ_chain.proofs.RoomLemmas.{KeepsToNeed-more, Builds-KeepsToNeed}
 use Rattle.champ_chain.proofs.with.Goals as goal
 
 pub added-requires-clause-keyed : goal.added-requires-clause-keyed
@@ -32,3 +33,8 @@ returns-clause-chains g c = λ cmp l E is. c.added.ensures.chains cmp l E (Keeps
 
 pub returns-in_err-reserve-clause-chains : goal.returns-in_err-reserve-clause-chains
 returns-in_err-reserve-clause-chains g c = KeepsChains-same c.args.heap.now c.reserve.new.self c.reserve.ensures.rest.rows
+
+pub returns-clause-spares : goal.returns-clause-spares
+returns-clause-spares g c = λ E chain.
+    KeepsToNeed-more 0 _ (omega arith) (omega (arith, c.length-number.ensures.number E chain))
+    (Builds-KeepsToNeed c.in_ok-reserve.ensures.greater c.in_ok-reserve.ensures.rest (c.added.ensures.builds E (KeepsChains-same c.args.heap.now c.reserve.new.self c.in_ok-reserve.ensures.rest.rows g.T.Ord.cmp c.args.chain E chain)))

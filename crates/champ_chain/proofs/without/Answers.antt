@@ -1,5 +1,7 @@
 use Rattle.node_heap.proofs.BuildLemmas.{Builds-Answered, Builds-MakesJust}
 use Rattle.champ_chain.proofs.FrameLemmas.{KeepsChains-same}
+use Rattle.std.proofs.Common.{arith}
+use Rattle.champ_chain.proofs.RoomLemmas.{KeepsToNeed-refl, KeepsToNeed-more, Builds-KeepsToNeed}
 use Rattle.champ_chain.proofs.without.Goals as goal
 
 pub returns-clause-answered : goal.returns-clause-answered
@@ -19,3 +21,11 @@ returns-clause-chains g c = λ cmp l E is. c.removed.ensures.chains cmp l E (Kee
 
 pub returns-in_err-reserve-clause-chains : goal.returns-in_err-reserve-clause-chains
 returns-in_err-reserve-clause-chains g c = KeepsChains-same c.args.heap.now c.reserve.new.self c.reserve.ensures.rest.rows
+
+pub returns-then-is_none-clause-spares : goal.returns-then-is_none-clause-spares
+returns-then-is_none-clause-spares g c = λ E chain. KeepsToNeed-refl c.args.heap.now 0 _
+
+pub returns-clause-spares : goal.returns-clause-spares
+returns-clause-spares g c = λ E chain.
+    KeepsToNeed-more 0 _ (omega arith) (omega (arith, c.look_up-found.ensures.alike E chain))
+    (Builds-KeepsToNeed c.in_ok-reserve.ensures.greater c.in_ok-reserve.ensures.rest (c.removed.ensures.builds E (KeepsChains-same c.args.heap.now c.reserve.new.self c.in_ok-reserve.ensures.rest.rows g.T.Ord.cmp c.args.chain E chain)))
