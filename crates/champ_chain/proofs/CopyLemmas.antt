@@ -24,7 +24,7 @@ one_at-le x l = by_test (x == l)
 pub one_at-same : (x : ℕ) → one_at x x ≡ 1
 one_at-same x = let one : Bool → ℕ = λ b. cond b 1 0 in ap one (eq-eqb x x refl)
 
-one_at-other : (x l : ℕ) → x ≢ l → one_at x l ≡ 0
+pub one_at-other : (x l : ℕ) → x ≢ l → one_at x l ≡ 0
 one_at-other x l other = let one : Bool → ℕ = λ b. cond b 1 0 in ap one (ne_eqb x l other)
 
 module _ {X : Type 0} where

@@ -6,3 +6,5 @@ pub mod CopyLemmas
 pub mod PartsLemmas
 pub mod WithLemmas
 pub mod RoomLemmas
+pub mod RowLemmas
+pub mod OldLemmas

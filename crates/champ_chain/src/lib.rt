@@ -14,15 +14,18 @@ ghost use Rattle.node_heap.specs.Heap.{form_at, holds_at, hold_count, HasSpares,
 ghost use Rattle.node_heap.specs.Calls.{Answered, Builds, KeepsToNeed, MakesJust};
 ghost use Rattle.champ_chain.specs.Entry.{Entry, entry as entry_of, key_at, link_with, others, put};
 ghost use Rattle.champ_chain.specs.Chain.{IsChain, IsEntryOrChain, KeepsChains};
+ghost use Rattle.champ_chain.specs.Old.{KeepsOldOwners, ReachesOldBy};
 
+mod laws;
 mod rows;
 mod spot;
 
 use elem_core::{Element, NoMemory, Probe};
+pub use laws::chains_are_read_one_way;
 use node_heap::{Heap, Link};
-pub use rows::key_of;
-use rows::{closed, copied_over, hold_tail, in_order, row_over, rows_from};
-use spot::key_spot_of;
+pub use rows::{ChainRow, key_of, row_of, row_over};
+use rows::{closed, copied_over, hold_tail, in_order, rows_from};
+pub use spot::{KeySpot, key_spot_of};
 use std::cmp::Ordering;
 
 /// What a look-up finds at a key's place.
@@ -98,6 +101,8 @@ pub fn joined<T: Element>(heap: &mut Heap<T>, first: Link, second: Link) -> Link
     ensures builds { Builds heap.old heap.new (first ∷ second ∷ []) (result ∷ []) 0 2 }
     ensures joined { (j k : T) → key_at (form_at heap.old) first ≡ Some j → key_at (form_at heap.old) second ≡ Some k →
         IsChain T.cmp (form_at heap.new) result (entry_of j first ∷ entry_of k second ∷ []) }
+    ensures owners { KeepsOldOwners heap.old heap.new }
+    ensures below { ReachesOldBy heap.old heap.new first second result }
     ensures chains { KeepsChains heap.old heap.new }
 {
     match key_of(heap, first).cmp(key_of(heap, second)) {

@@ -1,22 +1,23 @@
 //! The rows of a chain: how they are read and made.
-ghost use Rattle.std.specs.Prelude.{◌≡◌, ℕ, ◌+◌, ◌<◌, ◌≤◌, ◌^◌, List, [], ◌∷◌, ◌++◌, length, take, drop, Option, Some, IsSome, option_to_list};
+ghost use Rattle.std.specs.Prelude.{◌≡◌, ℕ, ◌+◌, ◌<◌, ◌≤◌, ◌^◌, List, [], ◌∷◌, ◌++◌, length, take, drop, Option, Some, None, IsSome, option_to_list};
 ghost use Rattle.node_heap.specs.Links.{count};
 ghost use Rattle.node_heap.specs.Forms.{node, chain as chain_kind};
 ghost use Rattle.node_heap.specs.Heap.{row_at, form_at, holds_at, hold_count, IsGraph};
-ghost use Rattle.node_heap.specs.Calls.{SameRows, Builds};
+ghost use Rattle.node_heap.specs.Calls.{AddsOwner, SameRows, Builds};
 ghost use Rattle.node_heap.specs.declared.row.Head.TheVariants.{Chain};
 ghost use Rattle.champ_chain.specs.Entry.{Entry, entry as entry_of, key_at};
 ghost use Rattle.champ_chain.specs.Chain.{AreChainRows, IsEntryOrRows};
+ghost use Rattle.champ_chain.specs.Old.{KeepsOldOwners, ReachesOldBy};
 
 use node_heap::{Head, Heap, Link};
 
-// What a chain row has: its entry, and the row after it.
+/// What a chain row has: its entry, and the row after it.
 #[derive(Clone, Copy)]
-pub(crate) struct ChainRow {
-    // The entry.
-    pub(crate) entry: Link,
-    // The next row, None in the last.
-    pub(crate) next: Option<Link>,
+pub struct ChainRow {
+    /// The entry.
+    pub entry: Link,
+    /// The next row, None in the last.
+    pub next: Option<Link>,
 }
 
 /// The key of an entry: a cell's value, or that of a pair's first link.
@@ -36,8 +37,8 @@ pub fn key_of<T>(heap: &Heap<T>, entry: Link) -> &T
     }
 }
 
-// What the chain row at a link has.
-pub(crate) fn row_of<T>(heap: &Heap<T>, row: Link) -> ChainRow
+/// What the chain row at a link has.
+pub fn row_of<T>(heap: &Heap<T>, row: Link) -> ChainRow
     requires { (entry : ℕ) × (next : Option ℕ) × (form_at heap.now row ≡ Some (node chain_kind (entry ∷ option_to_list next))) }
     ensures { form_at heap.now row ≡ Some (node chain_kind (result.entry ∷ option_to_list result.next)) }
 {
@@ -80,12 +81,15 @@ pub(crate) fn hold_tail<T>(heap: &mut Heap<T>, tail: Option<Link>)
     }
 }
 
-// A chain row of the entry over the tail. It spends a hold of each.
-pub(crate) fn row_over<T>(heap: &mut Heap<T>, entry: Link, tail: Option<Link>) -> Link
+/// A new chain row of the entry over the tail, made of a spare. It spends a hold of each. All holds together are below 2^60
+/// before.
+pub fn row_over<T>(heap: &mut Heap<T>, entry: Link, tail: Option<Link>) -> Link
     requires spare { 0 < heap.old.spare_nodes }
     requires held { (l : ℕ) → count l (entry ∷ option_to_list tail) ≤ holds_at heap.old l }
     requires few { hold_count heap.old < 2 ^ 60 }
     ensures row { row_at heap.new result ≡ Some (node Chain (entry ∷ option_to_list tail)) }
+    ensures fresh { row_at heap.old result ≡ None }
+    ensures owners { AddsOwner heap.old heap.new result }
     ensures builds { Builds heap.old heap.new (entry ∷ option_to_list tail) (result ∷ []) 0 1 }
 {
     match tail {
@@ -102,6 +106,9 @@ pub(crate) fn in_order<T>(heap: &mut Heap<T>, first: Link, second: Link) -> Link
     ensures builds { Builds heap.old heap.new (first ∷ second ∷ []) (result ∷ []) 0 2 }
     ensures rows { (j k : T) → key_at (form_at heap.old) first ≡ Some j → key_at (form_at heap.old) second ≡ Some k →
         AreChainRows (form_at heap.new) (Some result) (entry_of j first ∷ entry_of k second ∷ []) }
+    ensures owners { KeepsOldOwners heap.old heap.new }
+    ensures below { (j k : T) → key_at (form_at heap.old) first ≡ Some j → key_at (form_at heap.old) second ≡ Some k →
+        ReachesOldBy heap.old heap.new first second result }
 {
     let last = row_over(heap, second, None);
     row_over(heap, first, Some(last))

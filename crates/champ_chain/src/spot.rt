@@ -10,16 +10,19 @@ use elem_core::{Element, Probe};
 use node_heap::{Heap, Link};
 use std::cmp::Ordering;
 
-// The place of a key: how many entries come before it, its own entry if there is one, and the first row after it.
+/// The place of a key in a chain.
 #[derive(Clone, Copy)]
-pub(crate) struct KeySpot {
-    pub(crate) before: usize,
-    pub(crate) found: Option<Link>,
-    pub(crate) rest: Option<Link>,
+pub struct KeySpot {
+    /// How many entries come before it.
+    pub before: usize,
+    /// The key's own entry, None where the key is absent.
+    pub found: Option<Link>,
+    /// The first row after it, None where its place is the last.
+    pub rest: Option<Link>,
 }
 
-// Where the key belongs in the chain.
-pub(crate) fn key_spot_of<T: Element, P: Probe<T>>(heap: &Heap<T>, chain: Link, key: &P) -> KeySpot
+/// Where the key belongs in the chain.
+pub fn key_spot_of<T: Element, P: Probe<T>>(heap: &Heap<T>, chain: Link, key: &P) -> KeySpot
     requires { (es : List (Entry T)) × AreChainRows (form_at heap.now) (Some chain) es × IsRising T.cmp es }
     ensures graph { IsGraph heap.now }
     ensures spot { (es : List (Entry T)) → AreChainRows (form_at heap.now) (Some chain) es → IsRising T.cmp es →

@@ -6,6 +6,7 @@ use Rattle.champ_chain.proofs.RisingLemmas.{less_flip}
 use Rattle.champ_chain.proofs.SpotLemmas.{same-order}
 use Rattle.champ_chain.proofs.PartsLemmas.{chain-of_two, chain-of_turned}
 use Rattle.champ_chain.proofs.WithLemmas.{Builds-turned, key-some}
+use Rattle.std.proofs.Common.{◌⊎◌, inl, inr}
 use Rattle.champ_chain.proofs.joined.Goals as goal
 
 pub key_of-requires : goal.key_of-requires
@@ -40,3 +41,13 @@ returns-in-Less-clause-chains g c = KeepsChains-Extends c.args.heap.now c.in_ord
 
 pub returns-in-Greater-clause-chains : goal.returns-in-Greater-clause-chains
 returns-in-Greater-clause-chains g c = KeepsChains-Extends c.args.heap.now c.in_order-in-Greater.new.heap c.in_order-in-Greater.ensures.builds.extends
+
+pub returns-in-Less-clause-below : goal.returns-in-Less-clause-below
+returns-in-Less-clause-below g c = let a = c.requires.apart in c.in_order.ensures.below a.0 a.1 a.2 a.3
+
+turned : {A B : Type 0} → A ⊎ B → B ⊎ A
+turned (inl a) = inr a
+turned (inr b) = inl b
+
+pub returns-in-Greater-clause-below : goal.returns-in-Greater-clause-below
+returns-in-Greater-clause-below g c = λ m live down. let a = c.requires.apart in turned (c.in_order-in-Greater.ensures.below a.1 a.0 a.3 a.2 m live down)
