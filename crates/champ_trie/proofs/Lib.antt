@@ -13,3 +13,5 @@ pub mod TreeLemmas
 pub mod SimilarLemmas
 pub mod ShareLemmas
 pub mod BesideLemmas
+pub mod RowLemmas
+pub mod FillLemmas

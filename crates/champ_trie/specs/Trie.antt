@@ -1,5 +1,5 @@
 -- The canonical trie of a set of entries.
-use Rattle.std.specs.Prelude.{◌≡◌, ℕ, zero, suc, ◌+◌, ◌<◌, ◌≤◌, ◌^◌, true, false, nat_eq, List, [], ◌∷◌, Some, length, slice_index, if◌then◌else◌}
+use Rattle.std.specs.Prelude.{◌≡◌, ℕ, zero, suc, ◌+◌, ◌<◌, ◌≤◌, ◌^◌, true, false, nat_eq, List, [], ◌∷◌, Some, length, slice_index, slice_index_or, if◌then◌else◌}
 use Rattle.std.specs.List.{filter}
 use Rattle.std.specs.declared.cmp.Ordering.{Ordering}
 use Rattle.elem_core.specs.Codes.{digit_at, masked_code}
@@ -34,6 +34,14 @@ links_at_place (Node l) = l ∷ []
 pub record IsRow {K : Type 0} (F : Forms K) (l depth entries nodes : ℕ) (links : List ℕ) : Type 0 where
   pub row : F l ≡ Some (node (trie depth entries nodes) links)
   pub sets : AreSets entries nodes links
+
+-- a trie row at a depth at whose positions stand these places in turn
+pub record IsRowOfPlaces {K : Type 0} (F : Forms K) (l depth : ℕ) (places : List Place) : Type 0 where
+  pub entries : ℕ
+  pub nodes : ℕ
+  pub links : List ℕ
+  pub row : IsRow F l depth entries nodes links
+  pub at : (p : ℕ) → p < 32 → place_of entries nodes links p ≡ slice_index_or places p Empty
 
 module _ {K : Type 0} where
   -- what stands for these entries: nothing for none, the entry itself for one, and for more the node that IsNode says

@@ -7,6 +7,7 @@ ghost use Rattle.node_heap.specs.Heap.{form_at, holds_at, hold_count, IsGraph};
 ghost use Rattle.node_heap.specs.Calls.{Builds};
 ghost use Rattle.champ_chain.specs.Entry.{Entry, entry as entry_of, key_at, link_with, others, put};
 ghost use Rattle.champ_chain.specs.Chain.{IsChain};
+ghost use Rattle.champ_chain.specs.Old.{KeepsOldOwners, ReachesOldBy};
 ghost use Rattle.champ_trie.specs.Trie.{AreSets, IsRow, IsTrie, IsPlace, place_of, links_at_place, part, code_by};
 ghost use Rattle.champ_trie.specs.declared.place.Place.TheVariants.{Empty, Node};
 ghost use Rattle.champ_trie.specs.Reach.{alike_in};
@@ -86,9 +87,10 @@ fn beside<T: Element>(
     Place::Node(node_of_two(heap, depth + 1, entry, code, old, old_code))
 }
 
-// The node of two entries with different keys, whose codes have the same digits above a depth, from that depth on. Their
-// holds are spent.
-fn node_of_two<T: Element>(
+/// The node of two entries with different keys, whose codes have the same digits above a depth, from that depth on: trie rows,
+/// and below the deepest one a chain. A hold of each is spent. The spares suffice for a row of each depth left, and two for
+/// the chain where the codes are the same. All holds together are below 2^60 before.
+pub fn node_of_two<T: Element>(
     heap: &mut Heap<T>,
     depth: u8,
     first: Link,
@@ -106,6 +108,8 @@ fn node_of_two<T: Element>(
     ensures trie { (code : T → ℕ) (j k : T) → key_at (form_at heap.old) first ≡ Some j → key_at (form_at heap.old) second ≡ Some k →
         first_code ≡ code j → second_code ≡ code k → (left : ℕ) → depth + left ≡ DEEPEST + 1 →
         IsTrie T.cmp code (form_at heap.new) left depth result (entry_of j first ∷ entry_of k second ∷ []) }
+    ensures owners { KeepsOldOwners heap.old heap.new }
+    ensures below { ReachesOldBy heap.old heap.new first second result }
 {
     if depth > DEEPEST {
         return joined(heap, first, second);

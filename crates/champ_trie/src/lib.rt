@@ -10,7 +10,7 @@
 ghost use Rattle.std.specs.Prelude.{◌≡◌, ◌↔◌, ℕ, ◌+◌, ◌<◌, ◌≤◌, ◌≢◌, ◌^◌, List, [], ◌∷◌, length, map, Some, None, IsSome, IfOk, OnOk, OnErr, IsOk, IfSome, IfNone};
 ghost use Rattle.node_heap.specs.Forms.{Tree, IsTree, AreTrees, trees_of};
 ghost use Rattle.node_heap.specs.Heap.{form_at, holds_at, hold_count, node_count, HasSpares, IsGraph};
-ghost use Rattle.node_heap.specs.Calls.{Answered, Unchanged, Builds, MakesJust};
+ghost use Rattle.node_heap.specs.Calls.{Answered, Builds, KeepsToNeed, MakesJust};
 ghost use Rattle.champ_chain.specs.Entry.{SameSet, Entry, entry as entry_of, key_at, link_with, others, put};
 ghost use Rattle.champ_trie.specs.Trie.{IsTrieOf, KeepsTries, code_by};
 ghost use Rattle.champ_trie.specs.Edit.{SharesBeside};
@@ -26,18 +26,19 @@ mod walk;
 
 pub use champ_chain::Found;
 use champ_chain::{find as find_in_chain, key_of, look_up as look_up_in_chain};
+pub use edit::node_of_two;
 use edit::{place_without, with_at};
 use elem_core::{CODE_BITS, DEEPEST, Element, NoMemory, Probe, digit, masked};
-pub use laws::{depends_on_entries, tries_stay};
+pub use laws::{depends_on_entries, rows_are_told_by_places, tries_stay};
 use node_heap::{Heap, Link};
-use place::Place;
+pub use place::{Place, cleared, contains, rank_of, with_position};
 use reach::reached;
+pub use row::{row_of_places, sets_of};
 use row::{TrieRow, edited};
 use std::cmp::Ordering;
 pub use walk::Entries;
 
-/// The empty trie: a row without links. It makes one node. Err where memory runs out: then nothing but
-/// the heap's spares has changed.
+/// The empty trie: a row without links. It makes one node. Err where memory runs out: it leaves the heap as it was.
 pub fn empty<T: Element>(heap: &mut Heap<T>) -> Result<Link, NoMemory>
     requires few { hold_count heap.old < 2 ^ 59 }
     ensures answered { IfOk result (λ l. Answered heap.old heap.new [] l 0 1) }
@@ -45,7 +46,8 @@ pub fn empty<T: Element>(heap: &mut Heap<T>) -> Result<Link, NoMemory>
     ensures entries { (bits : ℕ) → IfOk result (λ l. IsTrieOf T.cmp T.code_of bits heap.new l []) }
     ensures made { OnOk result (MakesJust heap.old heap.new) }
     ensures tries { KeepsTries heap.old heap.new }
-    ensures refused { OnErr result (Unchanged heap.old heap.new) }
+    ensures refused { OnErr result (heap.new ≡ heap.old) }
+    ensures spares { OnOk result (KeepsToNeed heap.old heap.new 0 1) }
     ensures ample { HasSpares heap.old 0 1 → IsOk result }
 {
     heap.reserve(0, 1)?;
@@ -140,7 +142,7 @@ pub fn alike<T: Element, P: Probe<T>>(heap: &Heap<T>, root: Link, key: &P, bits:
 
 /// The trie with the entry added, or in the place of the one with its key. The entry's hold is spent on Ok, and the
 /// given root stays. It makes at most `DEEPEST + 2` nodes, and one more for each key with the same masked code. Err
-/// where memory runs out: then nothing but the heap's spares has changed.
+/// where memory runs out: it leaves the heap as it was.
 pub fn with<T: Element>(
     heap: &mut Heap<T>,
     root: Link,
@@ -161,7 +163,9 @@ pub fn with<T: Element>(
         IfOk result (λ l. SharesBeside (form_at heap.old) (form_at heap.new) (code_by T.code_of bits k) (DEEPEST + 1) 0 root l) }
     ensures made { OnOk result (MakesJust heap.old heap.new) }
     ensures tries { KeepsTries heap.old heap.new }
-    ensures refused { OnErr result (Unchanged heap.old heap.new) }
+    ensures refused { OnErr result (heap.new ≡ heap.old) }
+    ensures spares { (E : List (Entry T)) (k : T) → IsTrieOf T.cmp T.code_of bits heap.old root E → key_at (form_at heap.old) entry ≡ Some k →
+        OnOk result (KeepsToNeed heap.old heap.new 0 (DEEPEST + 2 + alike_to T.code_of bits k E)) }
     ensures ample { (E : List (Entry T)) (k : T) → IsTrieOf T.cmp T.code_of bits heap.old root E → key_at (form_at heap.old) entry ≡ Some k →
         HasSpares heap.old 0 (DEEPEST + 2 + alike_to T.code_of bits k E) → IsOk result }
 {
@@ -193,7 +197,7 @@ pub fn added<T: Element>(heap: &mut Heap<T>, root: Link, entry: Link, bits: u32)
 
 /// The trie without the entry with this key: None exactly where the key is absent, and then nothing has changed. The
 /// given root stays. It makes at most `DEEPEST + 1` nodes, and one more for each key with the same masked code. Err
-/// where memory runs out: then nothing but the heap's spares has changed.
+/// where memory runs out: it leaves the heap as it was.
 pub fn without<T: Element, P: Probe<T>>(
     heap: &mut Heap<T>,
     root: Link,
@@ -214,7 +218,9 @@ pub fn without<T: Element, P: Probe<T>>(
         IfOk result (λ left. IfSome left (λ l. SharesBeside (form_at heap.old) (form_at heap.new) (code_by T.code_of bits (P.stands_for key.now)) (DEEPEST + 1) 0 root l)) }
     ensures made { OnOk result (MakesJust heap.old heap.new) }
     ensures tries { KeepsTries heap.old heap.new }
-    ensures refused { OnErr result (Unchanged heap.old heap.new) }
+    ensures refused { OnErr result (heap.new ≡ heap.old) }
+    ensures spares { (E : List (Entry T)) → IsTrieOf T.cmp T.code_of bits heap.old root E →
+        OnOk result (KeepsToNeed heap.old heap.new 0 (DEEPEST + 1 + alike_to T.code_of bits (P.stands_for key.now) E)) }
     ensures ample { (E : List (Entry T)) → IsTrieOf T.cmp T.code_of bits heap.old root E →
         HasSpares heap.old 0 (DEEPEST + 1 + alike_to T.code_of bits (P.stands_for key.now) E) → IsOk result }
 {

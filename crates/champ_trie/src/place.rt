@@ -5,35 +5,35 @@ ghost use Rattle.champ_trie.specs.Trie.{AreSets, place_of};
 
 use node_heap::Link;
 
-// What stands at a position of a trie row.
+/// What stands at a position of a trie row.
 #[derive(Clone, Copy)]
-pub(crate) enum Place {
-    // Nothing.
+pub enum Place {
+    /// Nothing.
     Empty,
-    // The only entry with the position's digit.
+    /// The only entry with the position's digit.
     Entry(Link),
-    // The row of the next depth, or the chain, of two entries or more.
+    /// The row of the next depth, or the chain, of two entries or more.
     Node(Link),
 }
 
-// Whether the position is in the set, a number whose bits are its positions.
-pub(crate) fn contains(set: u32, position: u32) -> bool
+/// Whether the position, below 32, is in the set, a number whose bits are its positions.
+pub fn contains(set: u32, position: u32) -> bool
     requires { position < 32 }
     ensures { result ≡ has set position }
 {
     (set >> position) & 1 == 1
 }
 
-// How many positions of the set are below this one.
-pub(crate) fn rank_of(set: u32, position: u32) -> u32
+/// How many positions of the set are below this one, which is below 32.
+pub fn rank_of(set: u32, position: u32) -> u32
     requires { position < 32 }
     ensures { result ≡ rank set position }
 {
     (set & ((1 << position) - 1)).count_ones()
 }
 
-// The set with the position, which it hasn't.
-pub(crate) fn with_position(set: u32, position: u32) -> u32
+/// The set with the position, below 32, which it hasn't.
+pub fn with_position(set: u32, position: u32) -> u32
     requires position { position < 32 }
     requires free { has set position ≡ false }
     ensures { Gains set result position }
@@ -41,8 +41,8 @@ pub(crate) fn with_position(set: u32, position: u32) -> u32
     set | (1 << position)
 }
 
-// The set without the position, which it has.
-pub(crate) fn cleared(set: u32, position: u32) -> u32
+/// The set without the position, below 32, which it has.
+pub fn cleared(set: u32, position: u32) -> u32
     requires position { position < 32 }
     requires there { has set position ≡ true }
     ensures { Gains result set position }

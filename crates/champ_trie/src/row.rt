@@ -1,11 +1,12 @@
 //! Trie rows apart from the heap, and how they are made.
-ghost use Rattle.std.specs.Prelude.{◌≡◌, ◌≢◌, ◌⊎◌, ℕ, ◌+◌, ◌<◌, ◌≤◌, ◌^◌, List, [], ◌∷◌, length, Some, IsSome, slice_index};
+ghost use Rattle.std.specs.Prelude.{◌≡◌, ◌≢◌, ◌⊎◌, ℕ, ◌+◌, ◌<◌, ◌≤◌, ◌^◌, List, [], ◌∷◌, length, Some, None, IsSome, slice_index, slice_index_or};
+ghost use Rattle.std.specs.List.{flat_map};
 ghost use Rattle.node_heap.specs.Links.{count};
 ghost use Rattle.node_heap.specs.Forms.{node, trie};
 ghost use Rattle.node_heap.specs.Heap.{row_at, form_at, holds_at, hold_count, IsGraph};
-ghost use Rattle.node_heap.specs.Calls.{SameRows, Makes, Builds};
+ghost use Rattle.node_heap.specs.Calls.{AddsOwner, SameRows, Makes, Builds};
 ghost use Rattle.node_heap.specs.declared.row.Head.TheVariants.{Trie};
-ghost use Rattle.champ_trie.specs.Trie.{AreSets, IsRow, place_of, links_at_place};
+ghost use Rattle.champ_trie.specs.Trie.{AreSets, IsRow, IsRowOfPlaces, place_of, links_at_place};
 ghost use Rattle.champ_trie.specs.Edit.{Closes};
 ghost use Rattle.champ_trie.specs.declared.place.Place.TheVariants.{Empty, Entry as At, Node};
 
@@ -106,6 +107,8 @@ impl TrieRow {
         requires held { (k : ℕ) → count k self.now.links.items ≤ holds_at heap.old k }
         requires few { hold_count heap.old < 2 ^ 60 }
         ensures row { IsRow (form_at heap.new) result depth self.now.entries self.now.nodes self.now.links.items }
+        ensures fresh { row_at heap.old result ≡ None }
+        ensures owners { AddsOwner heap.old heap.new result }
         ensures builds { Builds heap.old heap.new self.now.links.items (result ∷ []) 0 1 }
         ensures makes { Makes heap.old heap.new 0 1 }
     {
@@ -136,8 +139,38 @@ impl TrieRow {
     }
 }
 
-// The sets of the trie row at a link.
-pub(crate) fn sets_of<T>(heap: &Heap<T>, link: Link) -> (u32, u32)
+// The row at whose positions stand these places in turn.
+fn filled(places: &[Place]) -> TrieRow
+    requires { length places.now ≡ 32 }
+    ensures sets { AreSets result.entries result.nodes result.links.items }
+    ensures places { (p : ℕ) → p < 32 → place_of result.entries result.nodes result.links.items p ≡ slice_index_or places.now p Empty }
+    ensures links { (k : ℕ) → count k result.links.items ≡ count k (flat_map links_at_place places.now) }
+    ensures number { length result.links.items ≡ length (flat_map links_at_place places.now) }
+{
+    let mut row = TrieRow::empty();
+    for position in 0..32 {
+        row.put(position, places[position as usize]);
+    }
+    row
+}
+
+/// A new trie row at a depth, made of a spare, at whose 32 positions stand these places in turn. It spends a hold of the link
+/// of each. All holds together are below 2^60 before.
+pub fn row_of_places<T>(heap: &mut Heap<T>, depth: u8, places: &[Place]) -> Link
+    requires all { length places.now ≡ 32 }
+    requires spare { 0 < heap.old.spare_nodes }
+    requires held { (k : ℕ) → count k (flat_map links_at_place places.now) ≤ holds_at heap.old k }
+    requires few { hold_count heap.old < 2 ^ 60 }
+    ensures row { IsRowOfPlaces (form_at heap.new) result depth places.now }
+    ensures fresh { row_at heap.old result ≡ None }
+    ensures owners { AddsOwner heap.old heap.new result }
+    ensures builds { Builds heap.old heap.new (flat_map links_at_place places.now) (result ∷ []) 0 1 }
+{
+    filled(places).make(heap, depth)
+}
+
+/// The sets of the trie row at a link: the positions of its entries, and those of its nodes.
+pub fn sets_of<T>(heap: &Heap<T>, link: Link) -> (u32, u32)
     requires { (depth entries nodes : ℕ) × (links : List ℕ) × (form_at heap.now link ≡ Some (node (trie depth entries nodes) links)) }
     ensures { (depth entries nodes : ℕ) (links : List ℕ) → form_at heap.now link ≡ Some (node (trie depth entries nodes) links) →
         (result.0 ≡ entries) × (result.1 ≡ nodes) }

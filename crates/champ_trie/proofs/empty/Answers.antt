@@ -6,6 +6,7 @@ use Rattle.node_heap.proofs.BuildLemmas.{Builds-Answered}
 use Rattle.champ_trie.specs.Trie.{code_by}
 use Rattle.champ_trie.proofs.ReachLemmas.{canon-empty}
 use Rattle.champ_trie.proofs.LeftLemmas.{KeepsTries-Extends}
+use Rattle.champ_chain.proofs.RoomLemmas.{Builds-KeepsToNeed}
 use Rattle.champ_trie.proofs.empty.Goals as goal
 
 pub returns-clause-answered : goal.returns-clause-answered
@@ -18,3 +19,6 @@ returns-clause-entries g c = λ bits.
 
 pub returns-clause-tries : goal.returns-clause-tries
 returns-clause-tries g c = KeepsTries-Extends c.args.heap.now c.make.new.heap (Extends-trans (Extends-Unchanged c.in_ok-reserve.ensures.rest) c.make.ensures.builds.extends)
+
+pub returns-clause-spares : goal.returns-clause-spares
+returns-clause-spares g c = Builds-KeepsToNeed c.in_ok-reserve.ensures.greater c.in_ok-reserve.ensures.rest c.make.ensures.builds

@@ -9,6 +9,7 @@ use Rattle.champ_trie.specs.Reach.{alike_to}
 use Rattle.elem_core.specs.declared.codes.TheConstants.{DEEPEST}
 use Rattle.champ_trie.proofs.ShareLemmas.{shares-kept}
 use Rattle.champ_trie.proofs.LeftLemmas.{KeepsTries-same}
+use Rattle.champ_chain.proofs.RoomLemmas.{KeepsToNeed-more, Builds-KeepsToNeed}
 use Rattle.champ_trie.proofs.with.Goals as goal
 
 pub returns-in_err-reserve-clause-ample : goal.returns-in_err-reserve-clause-ample
@@ -56,3 +57,12 @@ returns-clause-shares g c = λ E k canon keyed.
     let back = forms-same c.reserve.new.self c.args.heap.now (λ j. sym (same j)) in
     shares-kept (form_at c.reserve.new.self) (form_at c.args.heap.now) (form_at c.added.new.heap) (form_at c.added.new.heap) back (record { kept = λ l f is. is }) (code_by g.T.Element.code_of c.args.bits k) (DEEPEST + 1) 0 c.args.root c.added.result
     (c.added.ensures.shares E k (KeepsTries-same c.args.heap.now c.reserve.new.self c.in_ok-reserve.ensures.rest.rows g.T.Ord.cmp (code_by g.T.Element.code_of c.args.bits) c.args.root E canon) (key-kept (form_at c.args.heap.now) (form_at c.reserve.new.self) (forms-same c.args.heap.now c.reserve.new.self same) c.args.entry k keyed))
+
+pub returns-clause-spares : goal.returns-clause-spares
+returns-clause-spares g c = λ E k canon keyed.
+    let same = c.in_ok-reserve.ensures.rest.rows in
+    let key = same-key (form_at c.args.heap.now) c.args.entry c.args.entry c.key_of.result.now k refl c.key_of.ensures keyed in
+    let alike = ap (λ j. alike_to g.T.Element.code_of c.args.bits j E) key in
+    KeepsToNeed-more 0 _ (omega arith) (omega (arith, c.from.ensures, c.look_up-found.ensures.alike E canon, alike))
+    (Builds-KeepsToNeed c.in_ok-reserve.ensures.greater c.in_ok-reserve.ensures.rest
+    (c.added.ensures.builds E k (KeepsTries-same c.args.heap.now c.reserve.new.self c.in_ok-reserve.ensures.rest.rows g.T.Ord.cmp (code_by g.T.Element.code_of c.args.bits) c.args.root E canon) (key-kept (form_at c.args.heap.now) (form_at c.reserve.new.self) (forms-same c.args.heap.now c.reserve.new.self same) c.args.entry k keyed)))

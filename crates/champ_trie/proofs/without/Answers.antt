@@ -9,6 +9,7 @@ use Rattle.elem_core.specs.declared.codes.TheConstants.{DEEPEST}
 use Rattle.champ_chain.proofs.FrameLemmas.{forms-same}
 use Rattle.champ_trie.proofs.ShareLemmas.{shares-kept}
 use Rattle.champ_trie.proofs.LeftLemmas.{KeepsTries-same}
+use Rattle.champ_chain.proofs.RoomLemmas.{KeepsToNeed-refl, KeepsToNeed-more, Builds-KeepsToNeed}
 use Rattle.champ_trie.proofs.without.Goals as goal
 
 pub returns-in_err-reserve-clause-ample : goal.returns-in_err-reserve-clause-ample
@@ -44,3 +45,11 @@ returns-clause-shares g c = λ E canon.
     let back = forms-same c.reserve.new.self c.args.heap.now (λ j. sym (c.in_ok-reserve.ensures.rest.rows j)) in
     shares-kept (form_at c.reserve.new.self) (form_at c.args.heap.now) (form_at c.removed.new.heap) (form_at c.removed.new.heap) back (record { kept = λ l f is. is }) (code_by g.T.Element.code_of c.args.bits (g.P.Probe.stands_for c.args.key.now))
     (DEEPEST + 1) 0 c.args.root c.removed.result (c.removed.ensures.shares E (KeepsTries-same c.args.heap.now c.reserve.new.self c.in_ok-reserve.ensures.rest.rows g.T.Ord.cmp (code_by g.T.Element.code_of c.args.bits) c.args.root E canon))
+
+pub returns-then-is_none-clause-spares : goal.returns-then-is_none-clause-spares
+returns-then-is_none-clause-spares g c = λ E canon. KeepsToNeed-refl c.args.heap.now 0 _
+
+pub returns-clause-spares : goal.returns-clause-spares
+returns-clause-spares g c = λ E canon.
+    KeepsToNeed-more 0 _ (omega arith) (omega (arith, c.from.ensures, c.look_up-found.ensures.alike E canon))
+    (Builds-KeepsToNeed c.in_ok-reserve.ensures.greater c.in_ok-reserve.ensures.rest (c.removed.ensures.builds E (KeepsTries-same c.args.heap.now c.reserve.new.self c.in_ok-reserve.ensures.rest.rows g.T.Ord.cmp (code_by g.T.Element.code_of c.args.bits) c.args.root E canon)))

@@ -1,4 +1,4 @@
-use Rattle.std.proofs.Common.{arith, ◌≡◌, suc, ◌+◌, ◌-◌, ◌<◌, ◌^◌, ◌∷◌, [], ◌∙◌, sym, ap, subst}
+use Rattle.std.proofs.Common.{arith, ◌≡◌, IsSome, suc, ◌+◌, ◌-◌, ◌<◌, ◌^◌, ◌∷◌, [], ◌∙◌, sym, ap, subst}
 use Rattle.elem_core.specs.Codes.{digit_at}
 use Rattle.node_heap.specs.Heap.{form_at}
 use Rattle.node_heap.proofs.BuildLemmas.{count-cons, count-one, Builds-as, Builds-then}
@@ -8,6 +8,14 @@ use Rattle.champ_chain.proofs.FrameLemmas.{forms-kept, key-kept}
 use Rattle.champ_trie.specs.Trie.{IsTrie}
 use Rattle.champ_trie.proofs.PartLemmas.{trie-kept}
 use Rattle.champ_trie.proofs.WithLemmas.{same-more, chain_nodes-all, chain-trie, two-below, two-apart}
+use Rattle.std.proofs.Common.{◌⊎◌, ℕ, inl, inr}
+use Rattle.node_heap.specs.Links.{count, Reaches}
+use Rattle.node_heap.specs.Forms.{links_of}
+use Rattle.node_heap.specs.Heap.{row_at, links_at}
+use Rattle.node_heap.proofs.Frames.{Extends-refl}
+use Rattle.champ_chain.proofs.FrameLemmas.{links-form}
+use Rattle.champ_chain.proofs.CopyLemmas.{key-live}
+use Rattle.champ_chain.proofs.OldLemmas.{in-one, in-two, gained-live, old-owners, row-reaches}
 use Rattle.champ_trie.proofs.edit.+node_of_two.Goals as goal
 
 pub joined-requires-clause-spare : goal.joined-requires-clause-spare
@@ -89,3 +97,41 @@ returns-else-position-other-clause-trie g t c = λ code j k is_j is_k code_j cod
     (two-apart g.T.Ord.cmp code G rest c.args.depth c.make-else-position-other.result row.entries row.nodes row.links.items (entry j c.args.first) (entry k c.args.second) c.make-else-position-other.ensures.row c.digit-position.result
     c.digit-other.result first_digit second_digit c.if-position-other.false (c.put.ensures.others c.digit-position.result c.digit-position.ensures.small c.if-position-other.false ∙ c.lone_row-row.ensures.here) c.put.ensures.here
     (λ q low not_first not_second. c.put.ensures.others q low not_second ∙ c.lone_row-row.ensures.others q low not_first) (key-kept F G keeps c.args.first j is_j) (key-kept F G keeps c.args.second k is_k))
+
+pub returns-then-position-other-clause-owners : goal.returns-then-position-other-clause-owners
+returns-then-position-other-clause-owners g t c = λ k live.
+    old-owners c.node_of_two-node.new.heap c.make.new.heap c.make.result c.make.ensures.owners c.make.ensures.fresh k (c.node_of_two-node.ensures.builds.2.extends.live k live) ∙ c.node_of_two-node.ensures.owners k live
+
+pub returns-then-position-other-clause-below : goal.returns-then-position-other-clause-below
+returns-then-position-other-clause-below g t c =
+    let old = c.args.heap.now in
+    let mid = c.node_of_two-node.new.heap in
+    let new = c.make.new.heap in
+    let built = c.node_of_two-node.ensures.builds.2 in
+    let links = c.lone_row.result.links.items in
+    let lone : (k : ℕ) → 0 < count k links → k ≡ c.node_of_two-node.result = λ k some. in-one k c.node_of_two-node.result (omega (arith, some, c.lone_row.ensures.links k)) in
+    row-reaches old mid new (λ m. Reaches (links_at old) c.args.first m ⊎ Reaches (links_at old) c.args.second m) c.make.result links built.extends c.make.ensures.builds.extends c.make.ensures.fresh
+    (sym (links-form new c.make.result) ∙ ap links_of c.make.ensures.row.row)
+    (λ k some. gained-live built c.requires.held k (omega (arith, some, c.lone_row.ensures.links k)))
+    (λ k m some live down. c.node_of_two-node.ensures.below m live (subst (λ j. Reaches (links_at mid) j m) (lone k some) down))
+
+pub returns-else-position-other-clause-owners : goal.returns-else-position-other-clause-owners
+returns-else-position-other-clause-owners g t c = old-owners c.args.heap.now c.make-else-position-other.new.heap c.make-else-position-other.result c.make-else-position-other.ensures.owners c.make-else-position-other.ensures.fresh
+
+pub returns-else-position-other-clause-below : goal.returns-else-position-other-clause-below
+returns-else-position-other-clause-below g t c =
+    let old = c.args.heap.now in
+    let new = c.make-else-position-other.new.heap in
+    let links = c.put.new.self.links.items in
+    let both : (k : ℕ) → 0 < count k links → (k ≡ c.args.first) ⊎ (k ≡ c.args.second) = λ k some.
+    in-two k c.args.first c.args.second (omega (arith, some, c.put.ensures.links k, c.lone_row-row.ensures.links k, count-cons k c.args.first (c.args.second ∷ []), count-one k c.args.first)) in
+    let there : (k : ℕ) → (k ≡ c.args.first) ⊎ (k ≡ c.args.second) → IsSome (row_at old k) = λ k is. elim is as (λ _. IsSome (row_at old k)) [
+      | inl at ↦ subst (λ j. IsSome (row_at old j)) (sym at) (key-live old c.args.first c.requires.keys.0 c.requires.keys.2)
+      | inr at ↦ subst (λ j. IsSome (row_at old j)) (sym at) (key-live old c.args.second c.requires.keys.1 c.requires.keys.3)
+    ] in
+    row-reaches old old new (λ m. Reaches (links_at old) c.args.first m ⊎ Reaches (links_at old) c.args.second m) c.make-else-position-other.result links (Extends-refl old) c.make-else-position-other.ensures.builds.extends
+    c.make-else-position-other.ensures.fresh (sym (links-form new c.make-else-position-other.result) ∙ ap links_of c.make-else-position-other.ensures.row.row) (λ k some. there k (both k some))
+    (λ k m some live down. elim (both k some) as (λ _. Reaches (links_at old) c.args.first m ⊎ Reaches (links_at old) c.args.second m) [
+      | inl at ↦ inl (subst (λ j. Reaches (links_at old) j m) at down)
+      | inr at ↦ inr (subst (λ j. Reaches (links_at old) j m) at down)
+    ])
