@@ -1,5 +1,5 @@
 -- Laws of canonical tries and of their rows.
-use Rattle.std.specs.Prelude.{◌≡◌, ◌≢◌, ℕ, suc, ◌+◌, ◌<◌, List, [], ◌∷◌, Some}
+use Rattle.std.specs.Prelude.{◌≡◌, ◌≢◌, ℕ, suc, ◌+◌, ◌<◌, List, [], ◌∷◌, Some, slice_index_or}
 use Rattle.std.specs.List.{All}
 use Rattle.std.specs.declared.cmp.Ordering.{Ordering}
 use Rattle.elem_core.specs.Codes.{digit_at}
@@ -7,8 +7,10 @@ use Rattle.node_heap.specs.Links.{HasLink, Reaches, SameBelow}
 use Rattle.node_heap.specs.InPlace.{ReachesAround}
 use Rattle.node_heap.specs.Forms.{Forms, pair, head_of, links_in}
 use Rattle.champ_chain.specs.Entry.{Entry, key_at, others, put}
-use Rattle.champ_trie.specs.Trie.{IsCanon, IsTrie, IsPlace, IsRow, part, place_of, links_at_place}
+use Rattle.champ_trie.specs.Trie.{IsCanon, IsTrie, IsPlace, IsRowOfPlaces, part, place_of, links_at_place}
 use Rattle.champ_trie.specs.Edit.{DifferAt}
+use Rattle.champ_trie.specs.declared.place.Place.{Place}
+use Rattle.champ_trie.specs.declared.place.Place.TheVariants.{Empty}
 
 -- a trie stays wherever all that its root reaches is the same
 abbrev pub TriesStay : Type 0 → Type 0
@@ -45,8 +47,8 @@ module _ {K : Type 0} (cmp : K → K → Ordering) (code : K → ℕ) where
   -- a row is the trie of some entries where at each position stands what stands for those with this digit
   abbrev pub RowOfPlacesIsTrie : Type 0
   RowOfPlacesIsTrie =
-      (F : Forms K) (left depth l entries nodes : ℕ) (links : List ℕ) (E : List (Entry K)) → IsRow F l depth entries nodes links
-      → ((p : ℕ) → p < 32 → IsPlace F (λ k P. IsTrie cmp code F left (depth + 1) k P) (place_of entries nodes links p) (part cmp code depth p E)) → IsTrie cmp code F (suc left) depth l E
+      (F : Forms K) (left depth l : ℕ) (places : List Place) (E : List (Entry K)) → IsRowOfPlaces F l depth places
+      → ((p : ℕ) → p < 32 → IsPlace F (λ k P. IsTrie cmp code F left (depth + 1) k P) (slice_index_or places p Empty) (part cmp code depth p E)) → IsTrie cmp code F (suc left) depth l E
 
   -- a trie's row with another thing at one position, which stands for the entries there and one entry more, is the trie with it
   abbrev pub RowTakesEntry : Type 0
