@@ -1,6 +1,6 @@
 -- What an edit makes of a map's entries.
 use Rattle.std.proofs.Common.{◌≡◌, ℕ, ◌+◌, ◌≤◌, List, [], ◌∷◌, true, false, not, refl, ap, sym, subst, ◌∙◌, arith, Option, Some, None, Result, Ok, Err}
-use Rattle.std.specs.Prelude.{IsOk, OnOk, is_err, IfSome, MatchOption, option_map, unwrap_or}
+use Rattle.std.specs.Prelude.{IsOk, OnOk, OnErr, is_err, IfSome, MatchOption, option_map, unwrap_or}
 use Rattle.std.specs.List.{All, AllZip}
 use Rattle.std.proofs.lemmas.List.Elements.{All-cons, All-filter}
 use Rattle.std.specs.Cmp.{IsTotalOrder, tied_itself}
@@ -24,6 +24,10 @@ use Rattle.champ_kinds.proofs.PairLemmas.{found-pairs, absent-pairs, others-pair
 pub at-ok : {X E : Type 0} (r : Result X E) {P : Type 0} → is_err r ≡ false → OnOk r P → P
 at-ok (Ok x) fine p = p
 at-ok (Err e) fine p = absurd (cc)
+
+pub at-err : {X E : Type 0} (r : Result X E) {P : Type 0} → is_err r ≡ true → OnErr r P → P
+at-err (Ok x) failed p = absurd (cc)
+at-err (Err e) failed p = p
 
 pub not-err : {X E : Type 0} (r : Result X E) → is_err r ≡ true → IsOk r → ⊥
 not-err (Ok x) failed ok = cc

@@ -18,6 +18,7 @@ use Rattle.champ_trie.proofs.StayLemmas.{has-first, canon-stays, canon-reach, ca
 use Rattle.champ_kinds.specs.Root.{Root}
 use Rattle.champ_kinds.specs.Binding.{Binding}
 use Rattle.champ_kinds.specs.Kinds.{IsPair, HasEntries, IsMapOf, IsSetOf}
+use Rattle.champ_kinds.specs.Stands.{KeepsMaps, KeepsSets}
 use Rattle.champ_kinds.specs.Laws.{KeepsContainer, KeepsContainers}
 use Rattle.champ_kinds.proofs.ZipLemmas.{zip-as, zip-all}
 
@@ -98,6 +99,19 @@ module _ {T : Type 0} where
     map = λ cmp code M is. (container-stays old new r (more.kept r.root (map-live old r r.root refl is))).map cmp code M is;
     set = λ cmp code E is. (container-stays old new r (more.kept r.root (set-live old r r.root refl is))).set cmp code E is;
   }
+
+  -- what was a map is one, and what was a set
+  pub maps-kept : {old new : Heap T} (cmp : T → T → Ordering) (code : T → ℕ) → KeepsContainers old new → KeepsMaps cmp code old new
+  maps-kept cmp code keeps r is = (is.0, (keeps r).map cmp code is.0 is.1)
+
+  pub sets-kept : {old new : Heap T} (cmp : T → T → Ordering) (code : T → ℕ) → KeepsContainers old new → KeepsSets cmp code old new
+  sets-kept cmp code keeps r is = (is.0, (keeps r).set cmp code is.0 is.1)
+
+  pub maps-stay : {old new : Heap T} (cmp : T → T → Ordering) (code : T → ℕ) → Extends old new → KeepsMaps cmp code old new
+  maps-stay {old = old} {new = new} cmp code more = maps-kept cmp code (containers-extended old new more)
+
+  pub sets-stay : {old new : Heap T} (cmp : T → T → Ordering) (code : T → ℕ) → Extends old new → KeepsSets cmp code old new
+  sets-stay {old = old} {new = new} cmp code more = sets-kept cmp code (containers-extended old new more)
 
   pub containers-unchanged : (old new : Heap T) → Unchanged old new → KeepsContainers old new
   containers-unchanged old new same = containers-extended old new (Extends-Unchanged same)

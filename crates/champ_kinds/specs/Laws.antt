@@ -6,12 +6,13 @@ use Rattle.std.specs.declared.cmp.Ordering.TheVariants.{Equal}
 use Rattle.node_heap.specs.Links.{Reaches}
 use Rattle.node_heap.specs.Forms.{Tree, IsTree}
 use Rattle.node_heap.specs.Heap.{Heap, form_at, links_at}
-use Rattle.node_heap.specs.Calls.{KeepsBelow}
+use Rattle.node_heap.specs.Calls.{Extends, KeepsBelow}
 use Rattle.champ_chain.specs.Entry.{Entry, SameSet}
 use Rattle.champ_trie.specs.Canon.{SimilarByOrder}
 use Rattle.champ_kinds.specs.Root.{Root}
 use Rattle.champ_kinds.specs.Binding.{Binding, TreeBinding, Unfolds, IsSimilarBinding}
 use Rattle.champ_kinds.specs.Kinds.{IsMapOf, IsSetOf}
+use Rattle.champ_kinds.specs.Stands.{KeepsMaps, KeepsSets}
 
 module _ {T : Type 0} where
   -- what is a map or a set in the old heap is the same map or set in the new one
@@ -26,6 +27,13 @@ module _ {T : Type 0} where
 -- a map or a set stays wherever all that its root reaches is the same
 abbrev pub ContainersStay : Type 0 → Type 0
 ContainersStay T = (old new : Heap T) (r : Root) → KeepsBelow old new r.root → KeepsContainer old new r
+
+-- where every row stays, what was a map is one, and what was a set
+abbrev pub MapsStay : Type 0 → Type 0
+MapsStay T = (cmp : T → T → Ordering) (code : T → ℕ) (old new : Heap T) → Extends old new → KeepsMaps cmp code old new
+
+abbrev pub SetsStay : Type 0 → Type 0
+SetsStay T = (cmp : T → T → Ordering) (code : T → ℕ) (old new : Heap T) → Extends old new → KeepsSets cmp code old new
 
 -- a map's root reaches the value of each binding
 abbrev pub MapsReach : Type 0 → Type 0

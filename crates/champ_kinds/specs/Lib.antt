@@ -1,5 +1,6 @@
 pub mod Root
 pub mod Binding
 pub mod Kinds
+pub mod Stands
 pub mod Edit
 pub mod Laws

@@ -1,13 +1,15 @@
 //! Laws of maps and sets, as the clauses of functions that do nothing.
-ghost use Rattle.champ_kinds.specs.Laws.{ContainersStay, MapsReach, SetsReach, RootHasOneMap, MapTakesAnyOrder, EqualMapsHaveEqualTrees, EqualTreesAreOfOneMap, SimilarMapsHaveSimilarTrees, RootHasOneSet, SetTakesAnyOrder, EqualSetsHaveEqualTrees, EqualTreesAreOfOneSet, SimilarSetsHaveSimilarTrees};
+ghost use Rattle.champ_kinds.specs.Laws.{ContainersStay, MapsStay, SetsStay, MapsReach, SetsReach, RootHasOneMap, MapTakesAnyOrder, EqualMapsHaveEqualTrees, EqualTreesAreOfOneMap, SimilarMapsHaveSimilarTrees, RootHasOneSet, SetTakesAnyOrder, EqualSetsHaveEqualTrees, EqualTreesAreOfOneSet, SimilarSetsHaveSimilarTrees};
 
 use elem_core::Element;
 use node_heap::Heap;
 
-/// A map or a set stays wherever all that its root reaches is the same. A map's root reaches the value of each key, and a
-/// set's the cell of each key.
+/// A map or a set stays wherever all that its root reaches is the same, and so where every row stays. A map's root reaches
+/// the value of each key, and a set's the cell of each key.
 pub fn containers_stay<T>(heap: &Heap<T>)
     ensures stay { ContainersStay T }
+    ensures maps { MapsStay T }
+    ensures sets { SetsStay T }
     ensures maps_reach { MapsReach T }
     ensures sets_reach { SetsReach T }
 {

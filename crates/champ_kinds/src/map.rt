@@ -2,7 +2,7 @@
 ghost use Rattle.std.specs.Prelude.{◌≡◌, ◌↔◌, ℕ, ◌+◌, ◌<◌, ◌≤◌, ◌^◌, List, [], ◌∷◌, length, Some, None, IsSome, IfOk, IfErr, OnOk, OnErr, IsOk, MatchOption, IfSome, IfNone};
 ghost use Rattle.node_heap.specs.Forms.{cell};
 ghost use Rattle.node_heap.specs.Heap.{row_at, form_at, holds_at, hold_count, HasSpares, IsGraph};
-ghost use Rattle.node_heap.specs.Calls.{Answered, Builds, MakesJust, Unchanged};
+ghost use Rattle.node_heap.specs.Calls.{Answered, Builds, KeepsToNeed, MakesJust};
 ghost use Rattle.champ_chain.specs.Entry.{Entry, entry as entry_of, others};
 ghost use Rattle.champ_trie.specs.Trie.{code_by};
 ghost use Rattle.champ_trie.specs.Edit.{SharesBeside};
@@ -72,7 +72,7 @@ impl RootRef<Maps> {
 /// The map with this value at the key. Where the key is there, its old cell stays and the value is replaced. The value's
 /// hold is spent on Ok. It makes at most one cell and `DEEPEST + 3` nodes, and one node more for each key with the same
 /// masked code. The entries of other keys stay in their places, and beside the way of the key's code the tries share their
-/// rows. Err gives the key back where memory runs out: then nothing but the heap's spares has changed.
+/// rows. Err gives the key back where memory runs out: it leaves the heap as it was.
 pub fn map_insert<T: Element>(
     heap: &mut Heap<T>,
     map: MapRef,
@@ -92,7 +92,9 @@ pub fn map_insert<T: Element>(
         IfOk result (λ made. PutsPair T.cmp T.code_of heap.old heap.new made E key value) }
     ensures shares { IfOk result (λ made. SharesBeside (form_at heap.old) (form_at heap.new) (code_by T.code_of map.bits key) (DEEPEST + 1) 0 map.root made.root) }
     ensures containers { KeepsContainers heap.old heap.new }
-    ensures handed_back { IfErr result (λ fault. (fault.key ≡ key) × Unchanged heap.old heap.new) }
+    ensures handed_back { IfErr result (λ fault. (fault.key ≡ key) × (heap.new ≡ heap.old)) }
+    ensures spares { (M : List (Binding T)) → IsMapOf T.cmp T.code_of heap.old map M →
+        OnOk result (KeepsToNeed heap.old heap.new 1 (DEEPEST + 3 + alike_keys T.code_of map.bits key M)) }
     ensures ample { (M : List (Binding T)) → IsMapOf T.cmp T.code_of heap.old map M →
         HasSpares heap.old 1 (DEEPEST + 3 + alike_keys T.code_of map.bits key M) → IsOk result }
 {
@@ -130,7 +132,7 @@ fn key_cell<T: Element>(heap: &mut Heap<T>, found: Option<Link>, key: T) -> Link
 
 /// The map without the key, None exactly where the key is absent. It makes at most `DEEPEST + 1` nodes, and one more for
 /// each key with the same masked code. The entries of other keys stay in their places, and beside the way of the key's code
-/// the tries share their rows. Err where memory runs out: then nothing but the heap's spares has changed.
+/// the tries share their rows. Err where memory runs out: it leaves the heap as it was.
 pub fn map_remove<T: Element, P: Probe<T>>(
     heap: &mut Heap<T>,
     map: MapRef,
@@ -151,7 +153,9 @@ pub fn map_remove<T: Element, P: Probe<T>>(
     ensures shares { IfOk result (λ left. IfSome left (λ made.
         SharesBeside (form_at heap.old) (form_at heap.new) (code_by T.code_of map.bits (P.stands_for key.now)) (DEEPEST + 1) 0 map.root made.root)) }
     ensures containers { KeepsContainers heap.old heap.new }
-    ensures refused { OnErr result (Unchanged heap.old heap.new) }
+    ensures refused { OnErr result (heap.new ≡ heap.old) }
+    ensures spares { (M : List (Binding T)) → IsMapOf T.cmp T.code_of heap.old map M →
+        OnOk result (KeepsToNeed heap.old heap.new 0 (DEEPEST + 1 + alike_keys T.code_of map.bits (P.stands_for key.now) M)) }
     ensures ample { (M : List (Binding T)) → IsMapOf T.cmp T.code_of heap.old map M →
         HasSpares heap.old 0 (DEEPEST + 1 + alike_keys T.code_of map.bits (P.stands_for key.now) M) → IsOk result }
 {

@@ -1,7 +1,7 @@
 //! The roots of maps and of sets: one of them owned, and one named.
 ghost use Rattle.std.specs.Prelude.{◌≡◌, ℕ, ◌+◌, ◌<◌, ◌≤◌, ◌^◌, [], ◌∷◌, IsSome, IfOk, IsOk, OnOk, OnErr};
 ghost use Rattle.node_heap.specs.Heap.{row_at, holds_at, hold_count, node_count, one_at, HasSpares, IsGraph};
-ghost use Rattle.node_heap.specs.Calls.{Answered, Builds, KeepsHeld, MakesJust, Releases, SameRows, Unchanged};
+ghost use Rattle.node_heap.specs.Calls.{Answered, Builds, KeepsHeld, KeepsToNeed, MakesJust, Releases, SameRows};
 ghost use Rattle.champ_kinds.specs.Root.{Root};
 ghost use Rattle.champ_kinds.specs.Kinds.{IsMapOf, IsSetOf};
 ghost use Rattle.champ_kinds.specs.Laws.{KeepsContainer, KeepsContainers};
@@ -45,8 +45,8 @@ impl<K> Model for RootRef<K> {
 }
 
 impl<K> Rooted<K> {
-    /// The empty map or set by so many bits of the codes. It makes one node. Err
-    /// where memory runs out: then nothing but the heap's spares has changed.
+    /// The empty map or set by so many bits of the codes. It makes one node. Err where memory runs out: it leaves the
+    /// heap as it was.
     pub fn empty<T: Element>(heap: &mut Heap<T>, bits: u32) -> Result<Rooted<K>, NoMemory>
         requires bits { bits ≤ CODE_BITS }
         requires few { hold_count heap.old < 2 ^ 59 }
@@ -57,7 +57,8 @@ impl<K> Rooted<K> {
         ensures map { IfOk result (λ made. IsMapOf T.cmp T.code_of heap.new made []) }
         ensures set { IfOk result (λ made. IsSetOf T.cmp T.code_of heap.new made []) }
         ensures containers { KeepsContainers heap.old heap.new }
-        ensures refused { OnErr result (Unchanged heap.old heap.new) }
+        ensures refused { OnErr result (heap.new ≡ heap.old) }
+        ensures spares { OnOk result (KeepsToNeed heap.old heap.new 0 1) }
         ensures ample { HasSpares heap.old 0 1 → IsOk result }
     {
         let root = empty(heap)?;

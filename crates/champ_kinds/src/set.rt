@@ -1,7 +1,7 @@
 //! Sets.
 ghost use Rattle.std.specs.Prelude.{◌≡◌, ◌↔◌, ◌≢◌, ℕ, ◌+◌, ◌<◌, ◌≤◌, ◌^◌, List, [], ◌∷◌, length, map, Some, None, IsSome, IfOk, IfErr, OnOk, OnErr, IsOk, IfSome, IfNone, is_some};
 ghost use Rattle.node_heap.specs.Heap.{form_at, holds_at, hold_count, HasSpares};
-ghost use Rattle.node_heap.specs.Calls.{Answered, Builds, MakesJust, SameRows, Unchanged};
+ghost use Rattle.node_heap.specs.Calls.{Answered, Builds, KeepsToNeed, MakesJust, SameRows};
 ghost use Rattle.champ_chain.specs.Entry.{SameSet, Entry, entry as entry_of, link_with, others};
 ghost use Rattle.champ_trie.specs.Reach.{alike_to};
 ghost use Rattle.champ_trie.specs.Trie.{code_by};
@@ -66,8 +66,8 @@ impl RootRef<Sets> {
 
 /// The set with the key. Where the key is there, the set is the same, and this takes no memory. It makes at most one cell
 /// and `DEEPEST + 2` nodes, and one node more for each key with the same masked code. The cells of other keys stay, and
-/// beside the way of the key's code the tries share their rows. Err gives the key back where memory runs out: then nothing
-/// but the heap's spares has changed.
+/// beside the way of the key's code the tries share their rows. Err gives the key back where memory runs out: it leaves the
+/// heap as it was.
 pub fn set_insert<T: Element>(heap: &mut Heap<T>, set: SetRef, key: T) -> Result<Set, MapFault<T>>
     requires few { hold_count heap.old < 2 ^ 59 }
     requires contents { (E : List (Entry T)) × IsSetOf T.cmp T.code_of heap.old set E }
@@ -81,7 +81,9 @@ pub fn set_insert<T: Element>(heap: &mut Heap<T>, set: SetRef, key: T) -> Result
         IfOk result (λ made. (x : ℕ) × IsSetOf T.cmp T.code_of heap.new made (entry_of key x ∷ E)) }
     ensures shares { IfOk result (λ made. SharesBeside (form_at heap.old) (form_at heap.new) (code_by T.code_of set.bits key) (DEEPEST + 1) 0 set.root made.root) }
     ensures containers { KeepsContainers heap.old heap.new }
-    ensures handed_back { IfErr result (λ fault. (fault.key ≡ key) × Unchanged heap.old heap.new) }
+    ensures handed_back { IfErr result (λ fault. (fault.key ≡ key) × (heap.new ≡ heap.old)) }
+    ensures spares { (E : List (Entry T)) → IsSetOf T.cmp T.code_of heap.old set E →
+        OnOk result (KeepsToNeed heap.old heap.new 1 (DEEPEST + 2 + alike_to T.code_of set.bits key E)) }
     ensures ample { (E : List (Entry T)) → IsSetOf T.cmp T.code_of heap.old set E →
         HasSpares heap.old 1 (DEEPEST + 2 + alike_to T.code_of set.bits key E) → IsOk result }
 {
@@ -103,7 +105,7 @@ pub fn set_insert<T: Element>(heap: &mut Heap<T>, set: SetRef, key: T) -> Result
 
 /// The set without the key, None exactly where the key is absent. It makes at most `DEEPEST + 1` nodes, and one more for
 /// each key with the same masked code. The cells of other keys stay, and beside the way of the key's code the tries share
-/// their rows. Err where memory runs out: then nothing but the heap's spares has changed.
+/// their rows. Err where memory runs out: it leaves the heap as it was.
 pub fn set_remove<T: Element, P: Probe<T>>(
     heap: &mut Heap<T>,
     set: SetRef,
@@ -122,7 +124,9 @@ pub fn set_remove<T: Element, P: Probe<T>>(
     ensures shares { IfOk result (λ left. IfSome left (λ made.
         SharesBeside (form_at heap.old) (form_at heap.new) (code_by T.code_of set.bits (P.stands_for key.now)) (DEEPEST + 1) 0 set.root made.root)) }
     ensures containers { KeepsContainers heap.old heap.new }
-    ensures refused { OnErr result (Unchanged heap.old heap.new) }
+    ensures refused { OnErr result (heap.new ≡ heap.old) }
+    ensures spares { (E : List (Entry T)) → IsSetOf T.cmp T.code_of heap.old set E →
+        OnOk result (KeepsToNeed heap.old heap.new 0 (DEEPEST + 1 + alike_to T.code_of set.bits (P.stands_for key.now) E)) }
     ensures ample { (E : List (Entry T)) → IsSetOf T.cmp T.code_of heap.old set E →
         HasSpares heap.old 0 (DEEPEST + 1 + alike_to T.code_of set.bits (P.stands_for key.now) E) → IsOk result }
 {

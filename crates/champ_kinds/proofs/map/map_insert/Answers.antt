@@ -23,6 +23,8 @@ use Rattle.champ_kinds.proofs.StayLemmas.{map-seen, entries-seen, containers-ext
 use Rattle.champ_kinds.proofs.EditLemmas.{at-ok, not-err, pairs-kept, pair-found, HasCell, cell-got, MakesPair, made-builds, made-extends, made-key, all-built, map-with, puts-pair}
 use Rattle.champ_trie.proofs.BesideLemmas.{shares-before}
 use Rattle.champ_kinds.proofs.map.map_insert.Given.{Over}
+use Rattle.champ_chain.proofs.RoomLemmas.{KeepsToNeed-more, Builds-KeepsToNeed}
+use Rattle.champ_kinds.proofs.EditLemmas.{at-err}
 use Rattle.champ_kinds.proofs.map.map_insert.Goals as goal
 
 pub returns-then-is_err-clause-containers : goal.returns-then-is_err-clause-containers
@@ -137,3 +139,15 @@ returns-clause-shares g c =
     subst (λ (r : Root). SharesBeside F G (code_by code c.args.map.bits c.args.key) (DEEPEST + 1) 0 c.args.map.root r.root) (sym c.from_root.ensures)
     (subst (λ (r : Root). SharesBeside F G (code_by code r.bits c.args.key) (DEEPEST + 1) 0 r.root c.added-root.result) c.map.view_is
     (subst (λ n. SharesBeside F G (masked_code n c.map.inside.bits) (DEEPEST + 1) 0 c.map.inside.root c.added-root.result) (sym (g.met.T.Element.equal_codes _ _ (got g c c.requires.contents.0 is).same)) before))
+
+pub returns-then-is_err-clause-handed_back : goal.returns-then-is_err-clause-handed_back
+returns-then-is_err-clause-handed_back g c = (refl, at-err c.reserve.result (sym c.is_err.ensures.value ∙ c.if-is_err.true) c.reserve.ensures.refused)
+
+pub returns-clause-spares : goal.returns-clause-spares
+returns-clause-spares g c = λ M here.
+    let is = map-seen c.map.view_is here in
+    let bits = ap (λ (r : Root). alike_keys g.T.Element.code_of r.bits c.args.key M) c.map.view_is in
+    let alike = alike-pairs (form_at c.args.heap.now) g.T.Element.code_of c.map.inside.bits c.args.key is.entries M is.pairs in
+    let counted = c.look_up-found.ensures.alike is.entries is.rooted.trie in
+    KeepsToNeed-more 1 _ (omega arith) (omega (arith, counted, alike, bits, c.from.ensures))
+    (Builds-KeepsToNeed (at-ok c.reserve.result (sym c.is_err.ensures.value ∙ c.if-is_err.false) c.reserve.ensures.greater) c.reserve.ensures.rest (all-rows g c M is))

@@ -13,6 +13,7 @@ use Rattle.champ_kinds.specs.Binding.{alike_keys}
 use Rattle.champ_kinds.proofs.PairLemmas.{alike-pairs, absent-map, absent-trie}
 use Rattle.champ_kinds.proofs.StayLemmas.{map-seen, containers-extended}
 use Rattle.champ_kinds.proofs.EditLemmas.{if-some, map-left}
+use Rattle.champ_chain.proofs.RoomLemmas.{KeepsToNeed-more}
 use Rattle.champ_kinds.proofs.map.map_remove.Goals as goal
 
 pub returns-in_err-without-clause-absent : goal.returns-in_err-without-clause-absent
@@ -85,3 +86,19 @@ returns-in-Some-clause-shares g c =
     (c.in_ok-without.ensures.shares is.entries is.rooted.trie) in
     subst (λ (r : Root). SharesBeside F G (code c.args.map.bits) (DEEPEST + 1) 0 c.args.map.root r.root) (sym c.from_root.ensures)
     (subst (λ (r : Root). SharesBeside F G (code r.bits) (DEEPEST + 1) 0 r.root c.in-Some.root) c.map.view_is beside)
+
+pub returns-in-None-clause-spares : goal.returns-in-None-clause-spares
+returns-in-None-clause-spares g c = λ M here.
+    let is = map-seen c.map.view_is here in
+    let key = g.P.Probe.stands_for c.args.key.now in
+    let bits = ap (λ (r : Root). alike_keys g.T.Element.code_of r.bits key M) c.map.view_is in
+    let alike = alike-pairs (form_at c.args.heap.now) g.T.Element.code_of c.map.inside.bits key is.entries M is.pairs in
+    KeepsToNeed-more 0 _ (omega arith) (omega (arith, bits, alike)) (c.in_ok-without.ensures.spares is.entries is.rooted.trie)
+
+pub returns-in-Some-clause-spares : goal.returns-in-Some-clause-spares
+returns-in-Some-clause-spares g c = λ M here.
+    let is = map-seen c.map.view_is here in
+    let key = g.P.Probe.stands_for c.args.key.now in
+    let bits = ap (λ (r : Root). alike_keys g.T.Element.code_of r.bits key M) c.map.view_is in
+    let alike = alike-pairs (form_at c.args.heap.now) g.T.Element.code_of c.map.inside.bits key is.entries M is.pairs in
+    KeepsToNeed-more 0 _ (omega arith) (omega (arith, bits, alike)) (c.in_ok-without.ensures.spares is.entries is.rooted.trie)

@@ -18,6 +18,8 @@ use Rattle.champ_kinds.proofs.StayLemmas.{set-seen, set-live, containers-extende
 use Rattle.champ_kinds.proofs.EditLemmas.{at-ok, not-err, set-with}
 use Rattle.champ_trie.proofs.BesideLemmas.{shares-before, shares-itself}
 use Rattle.champ_kinds.proofs.set.set_insert.Given.{Over}
+use Rattle.champ_chain.proofs.RoomLemmas.{KeepsToNeed-more, KeepsToNeed-Builds, Builds-KeepsToNeed}
+use Rattle.champ_kinds.proofs.EditLemmas.{at-err}
 use Rattle.champ_kinds.proofs.set.set_insert.Goals as goal
 
 pub hold-requires-clause-live : goal.hold-requires-clause-live
@@ -119,3 +121,17 @@ returns-clause-shares g c =
     let before = shares-before g.T.Ord.cmp (code_by code c.set.inside.bits) (form_at c.cell-cell.new.self) F G (forms-kept c.args.heap.now c.cell-cell.new.self more) (code_by code c.set.inside.bits c.args.key) (DEEPEST + 1) 0 c.set.inside.root c.added-root.result E is.rooted.trie.trie there in
     subst (λ (r : Root). SharesBeside F G (code_by code c.args.set.bits c.args.key) (DEEPEST + 1) 0 c.args.set.root r.root) (sym c.from_root-2.ensures)
     (subst (λ (r : Root). SharesBeside F G (code_by code r.bits c.args.key) (DEEPEST + 1) 0 r.root c.added-root.result) c.set.view_is before)
+
+pub returns-then-is_err-clause-handed_back : goal.returns-then-is_err-clause-handed_back
+returns-then-is_err-clause-handed_back g c = (refl, at-err c.reserve.result (sym c.is_err.ensures.value ∙ c.if-is_err.true) c.reserve.ensures.refused)
+
+pub returns-then-is_some-clause-spares : goal.returns-then-is_some-clause-spares
+returns-then-is_some-clause-spares g c = λ E here. KeepsToNeed-Builds 1 _ (Builds-hold c.hold.ensures.holds c.hold.ensures.makes c.hold.ensures.count c.hold.ensures.graph c.hold.ensures.extends)
+
+pub returns-clause-spares : goal.returns-clause-spares
+returns-clause-spares g c = λ E here.
+    let is = set-seen c.set.view_is here in
+    let bits = ap (λ (r : Root). alike_to g.T.Element.code_of r.bits c.args.key E) c.set.view_is in
+    let counted = c.look_up-found.ensures.alike E is.rooted.trie in
+    KeepsToNeed-more 1 _ (omega arith) (omega (arith, counted, bits, c.from.ensures))
+    (Builds-KeepsToNeed (at-ok c.reserve.result (sym c.is_err.ensures.value ∙ c.if-is_err.false) c.reserve.ensures.greater) c.reserve.ensures.rest (all-rows g c E is))

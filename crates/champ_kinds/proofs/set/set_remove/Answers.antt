@@ -10,6 +10,7 @@ use Rattle.champ_trie.specs.Reach.{alike_to}
 use Rattle.champ_kinds.specs.Root.{Root}
 use Rattle.champ_kinds.proofs.StayLemmas.{set-seen, containers-extended}
 use Rattle.champ_kinds.proofs.EditLemmas.{if-some, set-left}
+use Rattle.champ_chain.proofs.RoomLemmas.{KeepsToNeed-more}
 use Rattle.champ_kinds.proofs.set.set_remove.Goals as goal
 
 pub returns-in_err-without-clause-ample : goal.returns-in_err-without-clause-ample
@@ -46,3 +47,15 @@ returns-in-Some-clause-shares g c =
     (c.in_ok-without.ensures.shares c.requires.contents.0 is.rooted.trie) in
     subst (λ (r : Root). SharesBeside F G (code c.args.set.bits) (DEEPEST + 1) 0 c.args.set.root r.root) (sym c.from_root.ensures)
     (subst (λ (r : Root). SharesBeside F G (code r.bits) (DEEPEST + 1) 0 r.root c.in-Some.root) c.set.view_is beside)
+
+pub returns-in-None-clause-spares : goal.returns-in-None-clause-spares
+returns-in-None-clause-spares g c = λ E here.
+    let is = set-seen c.set.view_is here in
+    let bits = ap (λ (r : Root). alike_to g.T.Element.code_of r.bits (g.P.Probe.stands_for c.args.key.now) E) c.set.view_is in
+    KeepsToNeed-more 0 _ (omega arith) (omega (arith, bits)) (c.in_ok-without.ensures.spares E is.rooted.trie)
+
+pub returns-in-Some-clause-spares : goal.returns-in-Some-clause-spares
+returns-in-Some-clause-spares g c = λ E here.
+    let is = set-seen c.set.view_is here in
+    let bits = ap (λ (r : Root). alike_to g.T.Element.code_of r.bits (g.P.Probe.stands_for c.args.key.now) E) c.set.view_is in
+    KeepsToNeed-more 0 _ (omega arith) (omega (arith, bits)) (c.in_ok-without.ensures.spares E is.rooted.trie)
