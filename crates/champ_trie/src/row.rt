@@ -1,5 +1,5 @@
 //! Trie rows apart from the heap, and how they are made.
-ghost use Rattle.std.specs.Prelude.{◌≡◌, ◌≢◌, ◌⊎◌, ℕ, ◌+◌, ◌<◌, ◌≤◌, ◌^◌, List, [], ◌∷◌, length, Some, None, IsSome, slice_index, slice_index_or};
+ghost use Rattle.std.specs.Prelude.{◌≡◌, ◌≢◌, ◌⊎◌, ℕ, ◌+◌, ◌<◌, ◌≤◌, ◌^◌, List, [], ◌∷◌, length, Some, None, slice_index, slice_index_or};
 ghost use Rattle.std.specs.List.{flat_map};
 ghost use Rattle.node_heap.specs.Links.{count};
 ghost use Rattle.node_heap.specs.Forms.{node, trie};
@@ -193,19 +193,6 @@ pub(crate) fn place_at<T>(heap: &Heap<T>, link: Link, position: u32) -> Place
     place_among(entries, nodes, heap.links(link), position)
 }
 
-// One hold more of each link.
-fn hold_all<T>(heap: &mut Heap<T>, links: &[Link])
-    requires live { (k : ℕ) → 0 < count k links.now → IsSome (row_at heap.old k) }
-    requires graph { IsGraph heap.old }
-    requires few { hold_count heap.old + length links.now ≤ 2 ^ 60 }
-    ensures rows { SameRows heap.old heap.new }
-    ensures builds { Builds heap.old heap.new [] links.now 0 0 }
-{
-    for link in links {
-        heap.hold(*link);
-    }
-}
-
 // The row at a link with another place at the position. A hold of each other link is gained.
 pub(crate) fn edited<T>(heap: &mut Heap<T>, link: Link, position: u32, place: Place) -> TrieRow
     requires row { (depth entries nodes : ℕ) × (links : List ℕ) × IsRow (form_at heap.old) link depth entries nodes links }
@@ -221,7 +208,7 @@ pub(crate) fn edited<T>(heap: &mut Heap<T>, link: Link, position: u32, place: Pl
 {
     let mut row = TrieRow::read(heap, link);
     row.clear(position);
-    hold_all(heap, row.links.as_slice());
+    heap.hold_all(row.links.as_slice());
     row.put(position, place);
     row
 }

@@ -1,6 +1,6 @@
-use Rattle.std.proofs.Common.{arith, ◌∙◌, ap, length}
+use Rattle.std.proofs.Common.{arith, ◌∙◌, ap, length, []}
 use Rattle.node_heap.specs.Links.{count}
-use Rattle.node_heap.proofs.BuildLemmas.{Builds-as}
+use Rattle.node_heap.proofs.BuildLemmas.{Builds-made, Builds-as}
 use Rattle.champ_trie.specs.Trie.{links_at_place}
 use Rattle.champ_trie.proofs.HoldLemmas.{links-live, sets-same, place-same}
 use Rattle.champ_trie.proofs.row.edited.Goals as goal
@@ -19,7 +19,8 @@ hold_all-requires-clause-live g c = λ k some.
 
 pub returns-clause-builds : goal.returns-clause-builds
 returns-clause-builds g c =
-    Builds-as (links_at_place c.args.place) c.put.new.self.links.items 0 0 c.hold_all.ensures.builds (omega arith) (omega arith)
+    let held = Builds-made {spent = []} {gained = c.as_slice.result.now} c.hold_all.ensures.extends c.hold_all.ensures.graph (λ k. omega (arith, c.hold_all.ensures.holds k)) (omega (arith, c.hold_all.ensures.count)) c.hold_all.ensures.makes in
+    Builds-as (links_at_place c.args.place) c.put.new.self.links.items 0 0 held (omega arith) (omega arith)
     (λ k. omega (arith, c.put.ensures.links k, ap (count k) c.as_slice.ensures.value)) (omega (arith, c.put.ensures.number, ap length c.as_slice.ensures.value))
 
 pub returns-clause-others : goal.returns-clause-others
