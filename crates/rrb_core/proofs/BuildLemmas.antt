@@ -1,15 +1,15 @@
 -- Steps that add rows, in the words of an edit, and the vectors that stay.
-use Rattle.std.proofs.Common.{◌≡◌, ℕ, ◌≤◌, List, [], ◌∷◌, ◌++◌, refl, ap, arith, length-append}
+use Rattle.std.proofs.Common.{◌≡◌, ℕ, ◌≤◌, List, [], ◌∷◌, ◌++◌, refl, ap, ◌∙◌, arith, length-append, Option, Some, None, IsSome}
 use Rattle.std.specs.Prelude.{Result, Ok, Err, IsOk, OnOk, option_map}
 use Rattle.node_heap.specs.Links.{count}
-use Rattle.node_heap.specs.Forms.{form_of}
-use Rattle.node_heap.specs.Heap.{Heap, form_at, holds_at, IsGraph}
-use Rattle.node_heap.specs.Calls.{SameRows, Unchanged, Answered, Builds, MakesJust}
+use Rattle.node_heap.specs.Forms.{Row, form_of}
+use Rattle.node_heap.specs.Heap.{Heap, row_at, form_at, holds_at, IsGraph}
+use Rattle.node_heap.specs.Calls.{SameRows, Adds, AddsOwner, Extends, Unchanged, Answered, Builds, MakesJust}
 use Rattle.node_heap.proofs.BuildLemmas.{count-cons, count-one, count-append, Builds-as, Builds-beside, Builds-MakesJust}
 use Rattle.rrb_core.specs.Seq.{form_height}
 use Rattle.rrb_core.specs.Vector.{height_at, IsSameVector}
-use Rattle.rrb_core.specs.Build.{Shares}
-use Rattle.rrb_core.proofs.LinkCounts.{one-held, one-same}
+use Rattle.rrb_core.specs.Build.{Shares, RowsKeepOwners}
+use Rattle.rrb_core.proofs.LinkCounts.{one-held, one-same, one-other}
 use Rattle.rrb_core.proofs.Stays.{live-stays-by, good-stays, well-live, extended-same}
 
 pub on-ok : {A E : Type 0} {P : Type 0} (r : Result A E) → IsOk r → OnOk r P → P
@@ -63,3 +63,15 @@ module _ {T : Type 0} where
   -- a vector that is held once more makes nothing
   pub shares-just : {old new : Heap T} {l : ℕ} → IsGraph old → Shares old new l → MakesJust old new
   shares-just {old} graph s = Builds-MakesJust (unchanged-refl old graph) s.builds
+
+  -- a new row leaves the owners of those that were there
+  pub added-keeps-owners : {old new : Heap T} {link : ℕ} {r : Row T} → Adds old new link r → AddsOwner old new link → RowsKeepOwners old new
+  added-keeps-owners {old} {link = link} a o = λ k live. omega (arith, o k, one-other k link (λ same. let gone : row_at old k ≡ None = ap (row_at old) same ∙ a.fresh in absurd cc))
+
+  -- a row that is new later wasn't there before
+  pub fresh-before : {old mid : Heap T} (l : ℕ) → Extends old mid → row_at mid l ≡ None → row_at old l ≡ None
+  fresh-before {old} {mid} l ext none = not-there (row_at old l) (λ live. let later = ext.live l live in absurd cc)
+    where
+      not-there : (r : Option (Row T)) → (IsSome r → ⊥) → r ≡ None
+      not-there None refused = refl
+      not-there (Some x) refused = absurd (refused refl)

@@ -1,5 +1,5 @@
 -- Laws of the fill rule: how many elements a row of a height has.
-use Rattle.std.proofs.Common.{◌≡◌, ℕ, suc, zero, ◌-◌, ◌*◌, ◌<◌, ◌≤◌, ◌^◌, List, [], ◌∷◌, ◌++◌, length, take, get_or, refl, ap, arith, length-append}
+use Rattle.std.proofs.Common.{◌≡◌, ℕ, suc, zero, ◌-◌, ◌*◌, ◌<◌, ◌≤◌, ◌^◌, List, [], ◌∷◌, ◌++◌, length, take, get_or, refl, ap, ◌∙◌, arith, length-append, append-nil}
 use Rattle.std.specs.List.{All, flat_map, sum_by}
 use Rattle.std.proofs.lemmas.List.{length-take-le, get_or-take}
 use Rattle.std.proofs.lemmas.List.Concat.{length-flat_map}
@@ -8,7 +8,7 @@ use Rattle.std.proofs.lemmas.List.Elements.{All-weaker, All-get_or}
 use Rattle.std.proofs.Math.Nat.{pow-suc, mul-le-mul_right}
 use Rattle.node_heap.specs.Forms.{Forms, links_in}
 use Rattle.rrb_core.specs.Seq.{form_height, height_in, seq_at, seq, IsThick, IsWell, IsWellShaped}
-use Rattle.rrb_core.proofs.Lists.{sum_by-ge}
+use Rattle.rrb_core.proofs.Lists.{sum_by-ge, empty-list}
 
 module _ {K : Type 0} (F : Forms K) where
   -- a row of height n holds at most 32 ^ (n + 1) elements
@@ -48,6 +48,19 @@ module _ {K : Type 0} (F : Forms K) where
   unfolding IsWell seq_at
   links-some zero l w some = some
   links-some (suc n) l w some = w.some
+
+  -- of an inner row with one element the first child has it
+  pub one-below : (n l : ℕ) → IsWell F (suc n) l → length (seq_at F (suc n) l) ≡ 1 → IsWell F n (get_or (links_in F l) 0 0) × (seq_at F (suc n) l ≡ seq_at F n (get_or (links_in F l) 0 0))
+  unfolding IsWell seq_at
+  one-below n l w one =
+      let child = w.children 0 0 (omega (arith, w.some)) in
+      (child, first-list (links_in F l) w.some one (well-pos n (get_or (links_in F l) 0 0) child (w.not_empty 0 0 (omega (arith, w.some)))))
+    where
+      first-list : (xs : List ℕ) → 1 ≤ length xs → length (flat_map (seq_at F n) xs) ≡ 1 → 1 ≤ length (seq_at F n (get_or xs 0 0)) → flat_map (seq_at F n) xs ≡ seq_at F n (get_or xs 0 0)
+      first-list [] some one a = absurd (omega arith)
+      first-list (x ∷ xs) some one a =
+          let none : flat_map (seq_at F n) xs ≡ [] = empty-list (flat_map (seq_at F n) xs) (omega (arith, length-append (seq_at F n x) (flat_map (seq_at F n) xs), one, a)) in
+          ap (λ (ys : List ℕ). seq_at F n x ++ ys) none ∙ append-nil (seq_at F n x)
 
   fill-list : (f : ℕ → List ℕ) (xs : List ℕ) (m : ℕ) → 2 ≤ length xs → m ≤ length (f (get_or xs 0 0)) → 1 ≤ length (f (get_or xs 1 0)) → m < length (flat_map f xs)
   fill-list f [] m n a b = absurd (omega arith)

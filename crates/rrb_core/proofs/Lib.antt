@@ -3,7 +3,9 @@ pub mod Lists
 pub mod FillRule
 pub mod LinkCounts
 pub mod Stays
+pub mod SameRows
 pub mod BuildLemmas
+pub mod RoomLemmas
 pub mod LevelLemmas
 pub mod RowSizes
 pub mod RowLists

@@ -233,6 +233,12 @@ pub empty-list : {X : Type 0} (xs : List X) → length xs ≡ 0 → xs ≡ []
 empty-list [] none = refl
 empty-list (x ∷ xs) none = absurd (omega (arith, none))
 
+-- a list of one, by its first, in the words of the code
+pub one-list : (xs : List ℕ) (x : ℕ) → length xs ≡ 1 → x ≡ get_or xs 0 x → xs ≡ x ∷ []
+one-list [] x one is = absurd (omega (arith, one))
+one-list (y ∷ []) x one is = rw is refl
+one-list (y ∷ z ∷ zs) x one is = absurd (omega (arith, one))
+
 -- one more link of a part of a list
 pub part-push : (L xs all : List ℕ) (from p child : ℕ) → from ≤ p → p < length L → child ≡ get_or L p 0 → all ≡ xs ++ take (p - from) (drop from L) → all ++ child ∷ [] ≡ xs ++ take (p + 1 - from) (drop from L)
 part-push L xs all from p child le lt e is =

@@ -1,7 +1,7 @@
 -- Rows on the way to a vector, and a vector that is shared.
-use Rattle.std.specs.Prelude.{◌≡◌, ℕ, ◌-◌, ◌≤◌, List, [], ◌∷◌, length, take}
+use Rattle.std.specs.Prelude.{◌≡◌, ℕ, ◌-◌, ◌≤◌, List, [], ◌∷◌, length, take, IsSome}
 use Rattle.std.specs.List.{All}
-use Rattle.node_heap.specs.Heap.{Heap, form_at, links_at}
+use Rattle.node_heap.specs.Heap.{Heap, row_at, form_at, links_at, owners_at}
 use Rattle.node_heap.specs.Calls.{Builds, SameRows}
 use Rattle.rrb_core.specs.Seq.{seq_at, IsThick, IsWell}
 use Rattle.rrb_core.specs.Vector.{HasSums}
@@ -20,7 +20,19 @@ module _ {T : Type 0} where
     pub not_empty : All (λ k. 1 ≤ length (links_at h k)) ks
     pub sums : All (HasSums h n) ks
 
+  -- each row that was there has as many owners as before
+  abbrev pub RowsKeepOwners : Heap T → Heap T → Type 0
+  RowsKeepOwners old new = (k : ℕ) → IsSome (row_at old k) → owners_at new k ≡ owners_at old k
+
   -- one hold more of the root, and nothing else has changed
   pub record Shares (old new : Heap T) (l : ℕ) : Type 0 where
     pub rows : SameRows old new
     pub builds : Builds old new [] (l ∷ []) 0 0
+
+-- where two links name the same row, one is the root of a row with these elements if the other is
+abbrev pub SameRowIsAsGood : Type 0 → Type 0
+SameRowIsAsGood T = (h : Heap T) (n l k : ℕ) (xs : List ℕ) → row_at h k ≡ row_at h l → IsRowOf h n l xs → IsRowOf h n k xs
+
+-- and is as thick
+abbrev pub SameRowIsAsThick : Type 0 → Type 0
+SameRowIsAsThick T = (h : Heap T) (n l k : ℕ) → row_at h k ≡ row_at h l → IsThick (form_at h) n l → IsThick (form_at h) n k

@@ -1,7 +1,7 @@
 //! The first elements of a vector.
 ghost use Rattle.std.specs.Prelude.{◌≡◌, ℕ, suc, ◌+◌, ◌-◌, ◌^◌, ◌<◌, ◌≤◌, [], ◌∷◌, length, take, slice_index, IfOk, OnErr, IsOk, IsOkAnd};
 ghost use Rattle.node_heap.specs.Heap.{form_at, links_at, hold_count, IsGraph, HasSpares};
-ghost use Rattle.node_heap.specs.Calls.{Answered, Builds, MakesJust, Unchanged};
+ghost use Rattle.node_heap.specs.Calls.{Answered, Builds, MakesJust, KeepsToNeed};
 ghost use Rattle.rrb_core.specs.Seq.{seq_at, IsWell};
 ghost use Rattle.rrb_core.specs.Vector.{HasSums, elements, height_at, IsGoodVector, IsSameVector, IsVectorOf};
 ghost use Rattle.rrb_core.specs.Levels.{TakesFirstRows};
@@ -20,7 +20,7 @@ pub const TAKE_NODES: usize = 8;
 /// The vector of the first `count` elements, or all where there are no more. It makes rows along the cut alone, at most one
 /// more than its own height, so 8, and shares the others: at each height up to its own it has first all rows of the vector that
 /// end within the count, and then at most one more. With all elements it is the vector itself, held once more, and wants no
-/// memory. Else refused only where memory runs out, and then nothing but the heap's spares changes.
+/// memory. Else refused only where memory runs out. A refusal leaves the heap as it was.
 pub fn take<T>(heap: &mut Heap<T>, vector: FlexRef, count: u32) -> Result<Flex, NoMemory>
     requires good { IsGoodVector heap.old vector }
     requires few { hold_count heap.old < 2 ^ 59 }
@@ -30,9 +30,10 @@ pub fn take<T>(heap: &mut Heap<T>, vector: FlexRef, count: u32) -> Result<Flex, 
     ensures rows { IfOk result (λ v. TakesFirstRows heap.old heap.new vector count v) }
     ensures answered { IfOk result (λ v. Answered heap.old heap.new [] v 0 (height_at heap.new v + 1)) }
     ensures made { IfOk result (λ _. MakesJust heap.old heap.new) }
+    ensures spares { IfOk result (λ _. KeepsToNeed heap.old heap.new 0 8) }
     ensures whole { length (elements heap.old vector) ≤ count → IsOkAnd result (λ v. (v ≡ vector) × Shares heap.old heap.new v) }
     ensures vectors { (l : ℕ) → IsSameVector heap.old heap.new l }
-    ensures refused { OnErr result (Unchanged heap.old heap.new) }
+    ensures refused { OnErr result (heap.new ≡ heap.old) }
     ensures ample { HasSpares heap.old 0 8 → IsOk result }
 {
     if count >= vector.len(heap) {

@@ -2,7 +2,7 @@
 ghost use Rattle.std.specs.Prelude.{◌≡◌, ℕ, ◌+◌, ◌^◌, ◌<◌, ◌≤◌, [], ◌∷◌, length, IfOk, IsOk, OnErr, IfSome, IsSome};
 ghost use Rattle.std.specs.List.{All, slice_get};
 ghost use Rattle.node_heap.specs.Heap.{row_at, holds_at, hold_count, node_count, one_at, IsGraph, HasSpares};
-ghost use Rattle.node_heap.specs.Calls.{Answered, Makes, Builds, KeepsHeld, MakesJust, Releases, Unchanged};
+ghost use Rattle.node_heap.specs.Calls.{Answered, Makes, Builds, KeepsHeld, MakesJust, Releases, KeepsToNeed};
 ghost use Rattle.rrb_core.specs.Vector.{elements, height_at, IsGoodVector, IsSameVector, IsVectorOf};
 ghost use Rattle.rrb_core.specs.Build.{Shares};
 
@@ -42,8 +42,7 @@ impl Model for FlexRef {
 }
 
 impl Flex {
-    /// The empty vector. It makes one node. Refused only where memory runs out, and then nothing but the heap's
-    /// spares changes.
+    /// The empty vector. It makes one node. Refused only where memory runs out. A refusal leaves the heap as it was.
     pub fn empty<T>(heap: &mut Heap<T>) -> Result<Flex, NoMemory>
         requires { hold_count heap.old < 2 ^ 59 }
         ensures items { IfOk result (λ v. elements heap.new v ≡ []) }
@@ -51,8 +50,9 @@ impl Flex {
         ensures answered { IfOk result (λ v. Answered heap.old heap.new [] v 0 1) }
         ensures one { IfOk result (λ _. node_count heap.new ≡ node_count heap.old + 1) }
         ensures made { IfOk result (λ _. MakesJust heap.old heap.new) }
+        ensures spares { IfOk result (λ _. KeepsToNeed heap.old heap.new 0 1) }
         ensures vectors { (l : ℕ) → IsSameVector heap.old heap.new l }
-        ensures refused { OnErr result (Unchanged heap.old heap.new) }
+        ensures refused { OnErr result (heap.new ≡ heap.old) }
         ensures ample { HasSpares heap.old 0 1 → IsOk result }
     {
         heap.reserve(0, 1)?;

@@ -1,10 +1,11 @@
 //! A vector with one more element.
-ghost use Rattle.std.specs.Prelude.{◌≡◌, ℕ, suc, ◌+◌, ◌-◌, ◌^◌, ◌<◌, ◌≤◌, ◌↔◌, ◌≢◌, [], ◌∷◌, ◌++◌, length, slice_index, IfOk, OnErr, IfSome, IfNone, Err};
-ghost use Rattle.node_heap.specs.Heap.{form_at, links_at, holds_at, hold_count, IsGraph, HasSpares};
-ghost use Rattle.node_heap.specs.Calls.{Answered, Builds, MakesJust, Unchanged};
+ghost use Rattle.std.specs.Prelude.{◌≡◌, ℕ, suc, ◌+◌, ◌-◌, ◌^◌, ◌<◌, ◌≤◌, ◌↔◌, ◌≢◌, [], ◌∷◌, ◌++◌, length, slice_index, IfOk, OnErr, None, IfSome, IfNone, Err};
+ghost use Rattle.node_heap.specs.Heap.{row_at, form_at, links_at, holds_at, hold_count, IsGraph, HasSpares};
+ghost use Rattle.node_heap.specs.Calls.{Answered, Builds, MakesJust, KeepsToNeed};
 ghost use Rattle.rrb_core.specs.Seq.{seq_at, IsWell};
 ghost use Rattle.rrb_core.specs.Push.{last_in, IsPacked, IsPushedRoot};
 ghost use Rattle.rrb_core.specs.Vector.{HasSums, elements, height_at, IsGoodVector, IsSameVector, IsVectorOf};
+ghost use Rattle.rrb_core.specs.Build.{RowsKeepOwners};
 ghost use Rattle.rrb_core.specs.Edit.{CanEdit, CanEditRoot, MakesRow, Pushes};
 
 use crate::flex::{Flex, FlexRef};
@@ -40,7 +41,7 @@ const PUSH_NODES: usize = 9;
 /// The vector with `element` after its last element. The element goes into the lowest row of the right spine that has
 /// fewer than 32 links; only where each of them has 32 comes a new root. It spends the element's hold on Ok alone, and
 /// makes at most as many nodes as the height and 2, so 9. Refused with `Long` where the vector has 2^32 - 1 elements, and
-/// with `Memory` where memory runs out. A refusal changes nothing but the heap's spares.
+/// with `Memory` where memory runs out. A refusal leaves the heap as it was.
 pub fn push<T>(heap: &mut Heap<T>, vector: FlexRef, element: Link) -> Result<Flex, PushFault>
     requires good { IsGoodVector heap.old vector }
     requires held { 1 ≤ holds_at heap.old element }
@@ -51,8 +52,9 @@ pub fn push<T>(heap: &mut Heap<T>, vector: FlexRef, element: Link) -> Result<Fle
     ensures taller { IfOk result (λ v. (height_at heap.new v ≡ suc (height_at heap.old vector)) ↔ IsPacked (form_at heap.old) (height_at heap.old vector) vector) }
     ensures answered { IfOk result (λ v. Answered heap.old heap.new (element ∷ []) v 0 (height_at heap.old vector + 2)) }
     ensures made { IfOk result (λ _. MakesJust heap.old heap.new) }
+    ensures spares { IfOk result (λ _. KeepsToNeed heap.old heap.new 0 9) }
     ensures vectors { (l : ℕ) → IsSameVector heap.old heap.new l }
-    ensures refused { OnErr result (Unchanged heap.old heap.new) }
+    ensures refused { OnErr result (heap.new ≡ heap.old) }
     ensures long { (result ≡ Err PushFault.Long) ↔ (length (elements heap.old vector) ≡ 2 ^ 32 - 1) }
     ensures ample { HasSpares heap.old 0 9 → result ≢ Err PushFault.Memory }
 {
@@ -171,14 +173,17 @@ fn push_leaf<T>(heap: &mut Heap<T>, link: Link, element: Link) -> Option<Link>
     Some(row)
 }
 
-// A row of this height over one element, by rows of one link.
-pub(crate) fn spine<T>(heap: &mut Heap<T>, height: u8, element: Link) -> Link
+/// A row of this height over one element, by rows of one link, all of them new. It spends the element's hold, and makes one
+/// node for each height from 0 on.
+pub fn spine<T>(heap: &mut Heap<T>, height: u8, element: Link) -> Link
     requires graph { IsGraph heap.old }
     requires held { 1 ≤ holds_at heap.old element }
     requires low { height ≤ 7 }
     requires spare { height + 1 ≤ heap.old.spare_nodes }
     requires holds { hold_count heap.old < 2 ^ 60 }
-    ensures { MakesRow heap.old heap.new (element ∷ []) height result (element ∷ []) }
+    ensures made { MakesRow heap.old heap.new (element ∷ []) height result (element ∷ []) }
+    ensures fresh { row_at heap.old result ≡ None }
+    ensures owners { RowsKeepOwners heap.old heap.new }
 {
     if height == 0 {
         return leaf_over(heap, &[element]);

@@ -1,5 +1,6 @@
-//! The law of vectors, on a call that does nothing.
+//! The laws of vectors, on calls that do nothing.
 ghost use Rattle.rrb_core.specs.Vector.{VectorsStay};
+ghost use Rattle.rrb_core.specs.Build.{SameRowIsAsGood, SameRowIsAsThick};
 
 use node_heap::Heap;
 
@@ -10,3 +11,10 @@ pub fn vectors_stay<T>(heap: &Heap<T>)
     // The law is about definitions alone; the heap only names the type.
     let _ = heap;
 }
+
+/// Where two links name the same row, it is as well formed under the one as under the other, as thick, and has the same sums
+/// and elements.
+pub fn same_row_is_as_good<T>()
+    ensures good { SameRowIsAsGood T }
+    ensures thick { SameRowIsAsThick T }
+{}

@@ -18,9 +18,12 @@ mod search;
 
 pub use cut::{TAKE_NODES, take};
 pub use flex::{Flex, FlexRef};
-pub use grow::{PushFault, push};
-pub use laws::vectors_stay;
+pub use grow::{PushFault, push, spine};
+pub use laws::{same_row_is_as_good, vectors_stay};
 pub use lines::Lines;
 pub use replace::{SetFault, set};
-pub use rows::{Gathered, ROW_LINKS, full_size, gathered, height_of, inner_over, leaf_over};
-pub use search::{Spot, spot_of};
+pub use rows::{
+    Gathered, ROW_LINKS, full_size, gathered, height_of, inner_over, leaf_over, size, sums_of,
+    sums_over,
+};
+pub use search::{Spot, only_element, spot_of};

@@ -1,7 +1,7 @@
 //! A vector with another element in one place.
 ghost use Rattle.std.specs.Prelude.{◌≡◌, ℕ, suc, ◌+◌, ◌^◌, ◌<◌, ◌≤◌, ◌↔◌, ◌≢◌, [], ◌∷◌, length, slice_set, IfOk, OnErr, Err};
 ghost use Rattle.node_heap.specs.Heap.{form_at, holds_at, hold_count, IsGraph, HasSpares};
-ghost use Rattle.node_heap.specs.Calls.{Answered, Builds, MakesJust, Unchanged};
+ghost use Rattle.node_heap.specs.Calls.{Answered, Builds, MakesJust, KeepsToNeed};
 ghost use Rattle.rrb_core.specs.Seq.{seq_at};
 ghost use Rattle.rrb_core.specs.Vector.{elements, height_at, IsGoodVector, IsSameVector, IsVectorOf};
 ghost use Rattle.rrb_core.specs.Edit.{CanEdit, CanEditRoot, SetsAt};
@@ -39,7 +39,7 @@ const SET_NODES: usize = 8;
 
 /// The vector with `element` at `index`. It copies the rows from the root to that place, at most as many as the height and
 /// 1, so 8, and shares all others. It spends the element's hold on Ok alone. Refused with `Range` where the index is the
-/// length or past it, and with `Memory` where memory runs out. A refusal changes nothing but the heap's spares.
+/// length or past it, and with `Memory` where memory runs out. A refusal leaves the heap as it was.
 pub fn set<T>(
     heap: &mut Heap<T>,
     vector: FlexRef,
@@ -53,8 +53,9 @@ pub fn set<T>(
     ensures good { IfOk result (λ v. IsGoodVector heap.new v) }
     ensures answered { IfOk result (λ v. Answered heap.old heap.new (element ∷ []) v 0 (height_at heap.old vector + 1)) }
     ensures made { IfOk result (λ _. MakesJust heap.old heap.new) }
+    ensures spares { IfOk result (λ _. KeepsToNeed heap.old heap.new 0 8) }
     ensures vectors { (l : ℕ) → IsSameVector heap.old heap.new l }
-    ensures refused { OnErr result (Unchanged heap.old heap.new) }
+    ensures refused { OnErr result (heap.new ≡ heap.old) }
     ensures range { (result ≡ Err SetFault.Range) ↔ (length (elements heap.old vector) ≤ index) }
     ensures ample { HasSpares heap.old 0 8 → result ≢ Err SetFault.Memory }
 {

@@ -1,12 +1,12 @@
 //! Rows of a vector: what they state, and how they are made.
-ghost use Rattle.std.specs.Prelude.{◌≡◌, ℕ, suc, ◌+◌, ◌-◌, ◌*◌, ◌^◌, ◌<◌, ◌≤◌, ◌≢◌, ◌↔◌, [], ◌∷◌, ◌++◌, length, take, drop, slice_index, IsSome, IfSome, IsTrue};
+ghost use Rattle.std.specs.Prelude.{◌≡◌, ℕ, suc, ◌+◌, ◌-◌, ◌*◌, ◌^◌, ◌<◌, ◌≤◌, ◌≢◌, ◌↔◌, [], ◌∷◌, ◌++◌, length, take, drop, slice_index, None, IsSome, IfSome, IsTrue};
 ghost use Rattle.std.specs.List.{flat_map};
 ghost use Rattle.node_heap.specs.Links.{count};
 ghost use Rattle.node_heap.specs.Heap.{row_at, form_at, links_at, holds_at, hold_count, IsGraph};
 ghost use Rattle.node_heap.specs.Calls.{Makes, Builds};
 ghost use Rattle.rrb_core.specs.Seq.{seq_at, IsWell};
 ghost use Rattle.rrb_core.specs.Vector.{IsRegular, KeepsSums, HasSums, height_at, sums_at};
-ghost use Rattle.rrb_core.specs.Build.{IsRowOf, AreRows};
+ghost use Rattle.rrb_core.specs.Build.{IsRowOf, AreRows, RowsKeepOwners};
 ghost use Rattle.rrb_core.specs.Edit.{CanEdit, CanPlace, MakesRow, links_with};
 
 use crate::search::sum_before;
@@ -30,8 +30,8 @@ pub fn height_of<T>(heap: &Heap<T>, link: Link) -> u8
     }
 }
 
-// The sums that an inner row keeps, and none for every other row.
-pub(crate) fn sums_of<T>(heap: &Heap<T>, link: Link) -> &[u32]
+/// The running sums of its children's lengths that an inner row keeps; none where it keeps none, and for every other row.
+pub fn sums_of<T>(heap: &Heap<T>, link: Link) -> &[u32]
     requires { IsSome (row_at heap.now link) }
     ensures { result.now ≡ sums_at heap.now link }
 {
@@ -50,9 +50,9 @@ pub fn full_size(count: usize, height: u8) -> u64
     (count as u64) << (5 * u32::from(height))
 }
 
-// The number of elements below a row of this height: the last of its sums or, where it keeps none, what its full children
-// have and the last one.
-pub(crate) fn size<T>(heap: &Heap<T>, link: Link, height: u8) -> u32
+/// The number of elements below a row of this height: the last of its sums or, where it keeps none, what its full children
+/// have and the last one.
+pub fn size<T>(heap: &Heap<T>, link: Link, height: u8) -> u32
     requires well { IsWell (form_at heap.now) height link }
     requires sums { HasSums heap.now height link }
     requires low { height ≤ 7 }
@@ -120,7 +120,7 @@ pub fn gathered<T>(
     all
 }
 
-/// The leaf over these elements; it spends a hold for each place.
+/// The leaf over these elements, a new row; it spends a hold for each place.
 pub fn leaf_over<T>(heap: &mut Heap<T>, elements: &[Link]) -> Link
     requires graph { IsGraph heap.old }
     requires few { length elements.now ≤ 32 }
@@ -129,14 +129,16 @@ pub fn leaf_over<T>(heap: &mut Heap<T>, elements: &[Link]) -> Link
     requires holds { hold_count heap.old < 2 ^ 60 }
     ensures row { IsRowOf heap.new 0 result elements.now }
     ensures links { links_at heap.new result ≡ elements.now }
+    ensures fresh { row_at heap.old result ≡ None }
+    ensures owners { RowsKeepOwners heap.old heap.new }
     ensures builds { Builds heap.old heap.new elements.now (result ∷ []) 0 1 }
     ensures makes { Makes heap.old heap.new 0 1 }
 {
     heap.node(Head::Leaf, elements)
 }
 
-/// The inner row over these children of the height `below`; it works out the sums that it keeps and spends a hold for each
-/// place.
+/// The inner row over these children of the height `below`, a new row; it works out the sums that it keeps and spends a hold
+/// for each place.
 pub fn inner_over<T>(heap: &mut Heap<T>, children: &[Link], below: u8) -> Link
     requires graph { IsGraph heap.old }
     requires rows { AreRows heap.old below children.now }
@@ -149,6 +151,8 @@ pub fn inner_over<T>(heap: &mut Heap<T>, children: &[Link], below: u8) -> Link
     requires holds { hold_count heap.old < 2 ^ 60 }
     ensures row { IsRowOf heap.new (suc below) result (flat_map (seq_at (form_at heap.old) below) children.now) }
     ensures links { links_at heap.new result ≡ children.now }
+    ensures fresh { row_at heap.old result ≡ None }
+    ensures owners { RowsKeepOwners heap.old heap.new }
     ensures builds { Builds heap.old heap.new children.now (result ∷ []) 0 1 }
 {
     let sums = sums_over(heap, children, below);
@@ -168,14 +172,17 @@ fn inner_of<T>(heap: &mut Heap<T>, children: &[Link], below: u8, sums: Sums) -> 
     requires holds { hold_count heap.old < 2 ^ 60 }
     ensures row { IsRowOf heap.new (suc below) result (flat_map (seq_at (form_at heap.old) below) children.now) }
     ensures links { links_at heap.new result ≡ children.now }
+    ensures fresh { row_at heap.old result ≡ None }
+    ensures owners { RowsKeepOwners heap.old heap.new }
     ensures builds { Builds heap.old heap.new children.now (result ∷ []) 0 1 }
 {
     let height = below + 1;
     heap.node(Head::Inner { height, sums }, children)
 }
 
-// The sums that the row over these rows of the height `below` keeps.
-fn sums_over<T>(heap: &Heap<T>, children: &[Link], below: u8) -> Sums
+/// The sums that the row over these 1 to 32 rows of the height `below` keeps: their running lengths, and none where all but
+/// the last are full.
+pub fn sums_over<T>(heap: &Heap<T>, children: &[Link], below: u8) -> Sums
     requires rows { AreRows heap.now below children.now }
     requires some { 1 ≤ length children.now }
     requires few { length children.now ≤ 32 }

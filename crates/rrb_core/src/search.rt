@@ -1,5 +1,5 @@
 //! The search for an element in inner rows, by their running sums or, in rows without sums, by the index alone.
-ghost use Rattle.std.specs.Prelude.{◌≡◌, ℕ, suc, ◌+◌, ◌-◌, ◌<◌, ◌≤◌, length, take, drop, slice_index};
+ghost use Rattle.std.specs.Prelude.{◌≡◌, ℕ, suc, ◌+◌, ◌-◌, ◌<◌, ◌≤◌, [], ◌∷◌, length, take, drop, slice_index};
 ghost use Rattle.std.specs.List.{flat_map};
 ghost use Rattle.node_heap.specs.Heap.{form_at, links_at};
 ghost use Rattle.rrb_core.specs.Seq.{seq_at, IsWell};
@@ -66,6 +66,19 @@ pub fn spot_of<T>(heap: &Heap<T>, link: Link, below: u8, index: u32) -> Spot
     let place = place_of(sums, index, from);
     let within = index - sum_before(sums, place);
     Spot { place, within }
+}
+
+/// The one element below a row of this height that has no other.
+pub fn only_element<T>(heap: &Heap<T>, link: Link, height: u8) -> Link
+    requires well { IsWell (form_at heap.now) height link }
+    requires one { length (seq_at (form_at heap.now) height link) ≡ 1 }
+    ensures { seq_at (form_at heap.now) height link ≡ result ∷ [] }
+{
+    let first = heap.links(link)[0];
+    if height == 0 {
+        return first;
+    }
+    only_element(heap, first, height - 1)
 }
 
 // The elements from `index` on, as far as they stand in one leaf.

@@ -2,6 +2,7 @@ use Rattle.std.proofs.Common.{arith, refl, ◌∙◌, sym}
 use Rattle.std.proofs.lemmas.List.{take_all}
 use Rattle.node_heap.proofs.BuildLemmas.{Answered-Builds, Builds-Answered, Builds-MakesJust, Builds-more}
 use Rattle.rrb_core.specs.Vector.{elements}
+use Rattle.rrb_core.proofs.RoomLemmas.{KeepsToNeed-Builds, Builds-KeepsToNeed}
 use Rattle.rrb_core.proofs.BuildLemmas.{answered-same, unchanged-good, same-height, shares-just}
 use Rattle.rrb_core.proofs.LevelLemmas.{takes-whole, takes-after}
 use Rattle.rrb_core.proofs.EditLemmas.{root-after}
@@ -64,3 +65,9 @@ returns-clause-whole g c = λ past. absurd (omega (arith, c.if-count-len.false, 
 
 pub returns-clause-vectors : goal.returns-clause-vectors
 returns-clause-vectors g c = answered-same (Builds-Answered c.in_ok-reserve.ensures.rest c.front_root-root.ensures.builds)
+
+pub returns-clause-spares : goal.returns-clause-spares
+returns-clause-spares g c = Builds-KeepsToNeed c.in_ok-reserve.ensures.greater c.in_ok-reserve.ensures.rest c.front_root-root.ensures.builds
+
+pub returns-then-count-len-clause-spares : goal.returns-then-count-len-clause-spares
+returns-then-count-len-clause-spares g c = KeepsToNeed-Builds 0 8 c.share.ensures.shares.builds

@@ -1,15 +1,13 @@
 use Rattle.std.proofs.Common.{arith, refl, sym, ◌∙◌}
 use Rattle.node_heap.proofs.BuildLemmas.{Builds-Answered, Builds-MakesJust}
-use Rattle.rrb_core.proofs.BuildLemmas.{answered-same, unchanged-good, unchanged-refl, same-forms, same-height}
+use Rattle.rrb_core.proofs.RoomLemmas.{Builds-KeepsToNeed}
+use Rattle.rrb_core.proofs.BuildLemmas.{answered-same, unchanged-good, same-forms, same-height}
 use Rattle.rrb_core.proofs.PushLemmas.{pushed-root-same, rises}
 use Rattle.rrb_core.proofs.EditLemmas.{root-after}
 use Rattle.rrb_core.proofs.grow.push.Goals as goal
 
-pub returns-then-len-clause-refused : goal.returns-then-len-clause-refused
-returns-then-len-clause-refused g c = unchanged-refl c.args.heap.now c.len.ensures.graph
-
 pub returns-then-len-clause-vectors : goal.returns-then-len-clause-vectors
-returns-then-len-clause-vectors g c = λ l. unchanged-good l (unchanged-refl c.args.heap.now c.len.ensures.graph)
+returns-then-len-clause-vectors g c = λ l good. (good, refl)
 
 pub returns-in_err-reserve-clause-vectors : goal.returns-in_err-reserve-clause-vectors
 returns-in_err-reserve-clause-vectors g c = λ l. unchanged-good l c.in_err-reserve.ensures.rest
@@ -40,3 +38,6 @@ returns-clause-made g c = Builds-MakesJust c.in_ok-reserve.ensures.rest c.push_r
 
 pub returns-clause-vectors : goal.returns-clause-vectors
 returns-clause-vectors g c = answered-same (Builds-Answered c.in_ok-reserve.ensures.rest c.push_root-root.ensures.builds)
+
+pub returns-clause-spares : goal.returns-clause-spares
+returns-clause-spares g c = Builds-KeepsToNeed c.in_ok-reserve.ensures.greater c.in_ok-reserve.ensures.rest c.push_root-root.ensures.builds

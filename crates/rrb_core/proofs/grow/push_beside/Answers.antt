@@ -15,9 +15,9 @@ returns-then-count-eq-ROW_LINKS-clause-packed g c =
 pub inner_with-row-requires : goal.inner_with-row-requires
 inner_with-row-requires g c =
     let e = c.links-count.ensures.links in
-    rw e (place-beside c.requires.row c.requires.short c.requires.held c.requires.packed (rw e at c.if-count-eq-ROW_LINKS.false) c.spine-child.ensures).can
+    rw e (place-beside c.requires.row c.requires.short c.requires.held c.requires.packed (rw e at c.if-count-eq-ROW_LINKS.false) c.spine-child.ensures.made).can
 
 pub returns-clause-pushes : goal.returns-clause-pushes
 returns-clause-pushes g c =
     let e = c.links-count.ensures.links in
-    pushes-beside c.requires.row c.requires.short c.requires.held c.requires.packed (rw e at c.if-count-eq-ROW_LINKS.false) c.spine-child.ensures (rw e at c.inner_with-row.ensures.row) c.inner_with-row.ensures.builds (rw e at c.inner_with-row.ensures.links)
+    pushes-beside c.requires.row c.requires.short c.requires.held c.requires.packed (rw e at c.if-count-eq-ROW_LINKS.false) c.spine-child.ensures.made (rw e at c.inner_with-row.ensures.row) c.inner_with-row.ensures.builds (rw e at c.inner_with-row.ensures.links)

@@ -1,4 +1,5 @@
 use Rattle.node_heap.proofs.BuildLemmas.{Builds-Answered, Builds-MakesJust}
+use Rattle.rrb_core.proofs.RoomLemmas.{Builds-KeepsToNeed}
 use Rattle.rrb_core.proofs.BuildLemmas.{answered-same, unchanged-good}
 use Rattle.rrb_core.proofs.flex.Flex.empty.Goals as goal
 
@@ -19,3 +20,6 @@ returns-clause-vectors g c = answered-same (Builds-Answered c.in_ok-reserve.ensu
 
 pub returns-in_err-reserve-clause-vectors : goal.returns-in_err-reserve-clause-vectors
 returns-in_err-reserve-clause-vectors g c = λ l. unchanged-good l c.in_err-reserve.ensures.rest
+
+pub returns-clause-spares : goal.returns-clause-spares
+returns-clause-spares g c = Builds-KeepsToNeed c.in_ok-reserve.ensures.greater c.in_ok-reserve.ensures.rest c.empty_root-root.ensures.builds
