@@ -1,7 +1,7 @@
 //! Parts of a vector.
 ghost use Rattle.std.specs.Prelude.{◌≡◌, ◌≢◌, ◌↔◌, ℕ, ◌+◌, ◌*◌, ◌<◌, ◌≤◌, ◌^◌, [], ◌++◌, length, take, drop, IfOk, OnErr, IsOk, IsTrue, Err};
 ghost use Rattle.node_heap.specs.Heap.{hold_count, HasSpares, IsGraph};
-ghost use Rattle.node_heap.specs.Calls.{Answered, MakesJust, Unchanged};
+ghost use Rattle.node_heap.specs.Calls.{Answered, MakesJust, KeepsToNeed};
 ghost use Rattle.rrb_core.specs.Vector.{elements, height_at, IsGoodVector, IsSameVector};
 ghost use Rattle.rrb_join.specs.Answers.{GivesItself, IsPart, RisesAtNeed};
 ghost use Rattle.rrb_join.specs.Seam.{DropsRows, SlicesRows, HasNoMoreRows, ErasesRows};
@@ -38,8 +38,8 @@ impl From<NoMemory> for SliceFault {
 /// at most twice the height of the rest and one more, so at most 15 nodes, and shares all others. The rest is no higher
 /// than the vector, and no row is split in vain: at each height it has at most two rows, and two only where they have more
 /// than 32 links together, then the last rows of the vector; and no more rows than those in which it lies. With a count
-/// of 0 it gives the vector itself, which takes no memory. Refused only where memory runs out, and then nothing but the
-/// heap's spares changes.
+/// of 0 it gives the vector itself, which takes no memory. Refused only where memory runs out. A refusal leaves the heap
+/// as it was.
 pub fn drop_front<T>(heap: &mut Heap<T>, vector: FlexRef, count: u32) -> Result<Flex, NoMemory>
     requires good { IsGoodVector heap.old vector }
     requires few { hold_count heap.old < 2 ^ 59 }
@@ -50,9 +50,10 @@ pub fn drop_front<T>(heap: &mut Heap<T>, vector: FlexRef, count: u32) -> Result<
     ensures within { IfOk result (λ v. HasNoMoreRows heap.old heap.new vector count (length (elements heap.old vector)) v) }
     ensures answered { IfOk result (λ v. Answered heap.old heap.new [] v 0 (2 * height_at heap.new v + 1)) }
     ensures made { IfOk result (λ v. MakesJust heap.old heap.new) }
+    ensures spares { IfOk result (λ _. KeepsToNeed heap.old heap.new 0 17) }
     ensures none { count ≡ 0 → GivesItself heap.old heap.new result vector }
     ensures vectors { (l : ℕ) → IsSameVector heap.old heap.new l }
-    ensures refused { OnErr result (Unchanged heap.old heap.new) }
+    ensures refused { OnErr result (heap.new ≡ heap.old) }
     ensures ample { HasSpares heap.old 0 17 → IsOk result }
 {
     if count == 0 {
@@ -77,8 +78,8 @@ fn is_part<T>(heap: &Heap<T>, vector: FlexRef, from: u32, to: u32) -> bool
 /// height it has at most two rows, and two only where they have more than 32 links together, then a part of the vector's
 /// rows, then at most one more; and no more rows than those in which it lies, so one at most of a height where all of it
 /// lies in one. Where it is the whole vector it gives the vector itself, which takes no memory. Refused with `Range` unless
-/// `from` is at most `to` and `to` at most the length, and with `Memory` where memory runs out. A refusal changes nothing
-/// but the heap's spares.
+/// `from` is at most `to` and `to` at most the length, and with `Memory` where memory runs out. A refusal leaves the
+/// heap as it was.
 pub fn slice<T: Drop>(
     heap: &mut Heap<T>,
     vector: FlexRef,
@@ -94,9 +95,10 @@ pub fn slice<T: Drop>(
     ensures within { IfOk result (λ v. HasNoMoreRows heap.old heap.new vector from to v) }
     ensures answered { IfOk result (λ v. Answered heap.old heap.new [] v 0 (3 * height_at heap.old vector + 2)) }
     ensures made { IfOk result (λ v. heap.new.made ≤ heap.old.made + (3 * height_at heap.old vector + 2)) }
+    ensures spares { IfOk result (λ _. KeepsToNeed heap.old heap.new 0 25) }
     ensures whole { from ≡ 0 → to ≡ length (elements heap.old vector) → GivesItself heap.old heap.new result vector }
     ensures vectors { (l : ℕ) → IsSameVector heap.old heap.new l }
-    ensures refused { OnErr result (Unchanged heap.old heap.new) }
+    ensures refused { OnErr result (heap.new ≡ heap.old) }
     ensures range { (result ≡ Err SliceFault.Range) ↔ (¬ IsPart from to (elements heap.old vector)) }
     ensures ample { HasSpares heap.old 0 25 → result ≢ Err SliceFault.Memory }
 {
@@ -119,8 +121,8 @@ pub fn slice<T: Drop>(
 /// row of 32 links can leave one row more. At each height it has the first rows of the vector, then at most three, of
 /// which each two neighbours have more than 32 links together, then the last rows of the vector; three may have links
 /// that two could hold. Where it erases nothing it gives the vector itself, which takes no memory. Refused with `Range`
-/// unless `from` is at most `to` and `to` at most the length, and with `Memory` where memory runs out. A refusal changes
-/// nothing but the heap's spares.
+/// unless `from` is at most `to` and `to` at most the length, and with `Memory` where memory runs out. A refusal leaves
+/// the heap as it was.
 pub fn erase<T: Drop>(
     heap: &mut Heap<T>,
     vector: FlexRef,
@@ -135,9 +137,10 @@ pub fn erase<T: Drop>(
     ensures seam { IfOk result (λ v. ErasesRows heap.old heap.new vector v) }
     ensures answered { IfOk result (λ v. Answered heap.old heap.new [] v 0 (5 * height_at heap.old vector + 5)) }
     ensures made { IfOk result (λ v. heap.new.made ≤ heap.old.made + (5 * height_at heap.old vector + 5)) }
+    ensures spares { IfOk result (λ _. KeepsToNeed heap.old heap.new 0 42) }
     ensures none { from ≡ to → to ≤ length (elements heap.old vector) → GivesItself heap.old heap.new result vector }
     ensures vectors { (l : ℕ) → IsSameVector heap.old heap.new l }
-    ensures refused { OnErr result (Unchanged heap.old heap.new) }
+    ensures refused { OnErr result (heap.new ≡ heap.old) }
     ensures range { (result ≡ Err SliceFault.Range) ↔ (¬ IsPart from to (elements heap.old vector)) }
     ensures ample { HasSpares heap.old 0 42 → result ≢ Err SliceFault.Memory }
 {

@@ -2,7 +2,7 @@
 ghost use Rattle.std.specs.Prelude.{◌≡◌, ◌≢◌, ◌↔◌, ℕ, suc, ◌-◌, ◌+◌, ◌*◌, ◌<◌, ◌≤◌, ◌^◌, [], ◌∷◌, ◌++◌, length, take, drop, slice_index, IfOk, OnErr, Err};
 ghost use Rattle.std.specs.List.{flat_map};
 ghost use Rattle.node_heap.specs.Heap.{form_at, links_at, holds_at, hold_count, IsGraph, HasSpares};
-ghost use Rattle.node_heap.specs.Calls.{Answered, Builds, MakesJust, Unchanged};
+ghost use Rattle.node_heap.specs.Calls.{Answered, Builds, MakesJust, KeepsToNeed};
 ghost use Rattle.rrb_core.specs.Seq.{seq_at, IsThick, IsWell};
 ghost use Rattle.rrb_core.specs.Vector.{HasSums, elements, height_at, IsGoodVector, IsSameVector};
 ghost use Rattle.rrb_join.specs.Unmade.{AreUnmade, AreThick};
@@ -47,7 +47,7 @@ impl From<NoMemory> for InsertFault {
 /// has fewer than 32 links keeps its height. Its rows of each height are those of the old vector, with at most two in
 /// the place of one, and two only where they have more than 32 links together. Refused with `Range` where the index is
 /// past the length, else with `Long` where the vector has 2^32 - 1 elements, and with `Memory` where memory runs out. A
-/// refusal changes nothing but the heap's spares.
+/// refusal leaves the heap as it was.
 pub fn insert<T>(
     heap: &mut Heap<T>,
     vector: FlexRef,
@@ -64,8 +64,9 @@ pub fn insert<T>(
     ensures seam { IfOk result (λ v. PutsInRow heap.old heap.new vector v) }
     ensures answered { IfOk result (λ v. Answered heap.old heap.new (element ∷ []) v 0 (2 * height_at heap.old vector + 3)) }
     ensures made { IfOk result (λ v. MakesJust heap.old heap.new) }
+    ensures spares { IfOk result (λ _. KeepsToNeed heap.old heap.new 0 17) }
     ensures vectors { (l : ℕ) → IsSameVector heap.old heap.new l }
-    ensures refused { OnErr result (Unchanged heap.old heap.new) }
+    ensures refused { OnErr result (heap.new ≡ heap.old) }
     ensures range { (result ≡ Err InsertFault.Range) ↔ (length (elements heap.old vector) < index) }
     ensures long { (result ≡ Err InsertFault.Long) ↔ ((index ≤ length (elements heap.old vector)) × (length (elements heap.old vector) ≡ 2 ^ 32 - 1)) }
     ensures ample { HasSpares heap.old 0 17 → result ≢ Err InsertFault.Memory }

@@ -1,7 +1,7 @@
 //! Two vectors as one.
 ghost use Rattle.std.specs.Prelude.{◌≡◌, ◌≢◌, ◌↔◌, ℕ, max, ◌+◌, ◌*◌, ◌<◌, ◌≤◌, ◌^◌, [], ◌∷◌, ◌++◌, length, IfOk, OnErr, IsTrue, Err};
 ghost use Rattle.node_heap.specs.Heap.{form_at, links_at, hold_count, IsGraph, HasSpares};
-ghost use Rattle.node_heap.specs.Calls.{Answered, Builds, MakesJust, Unchanged};
+ghost use Rattle.node_heap.specs.Calls.{Answered, Builds, MakesJust, KeepsToNeed};
 ghost use Rattle.rrb_core.specs.Seq.{IsThick};
 ghost use Rattle.rrb_core.specs.Vector.{elements, height_at, IsGoodVector, IsSameVector};
 ghost use Rattle.rrb_join.specs.Unmade.{IsSomeRow, CanJoin, EndsIn, BeginsWith};
@@ -48,8 +48,8 @@ pub const SEAM_NODES: usize = 17;
 /// those of `left` but its last, then at most two, and two only where they have more than 32 links together, then those
 /// of `right` but its first. Where, from the leaves up to a height, the last row of `left` has 16 links or more, and more
 /// than 32 together with the first of `right`, the result has all rows of both at each of these heights. Refused with
-/// `Long` where the lengths sum past 2^32 - 1, and with `Memory` where memory runs out. A refusal changes nothing but
-/// the heap's spares.
+/// `Long` where the lengths sum past 2^32 - 1, and with `Memory` where memory runs out. A refusal leaves the heap
+/// as it was.
 pub fn concat<T>(heap: &mut Heap<T>, left: FlexRef, right: FlexRef) -> Result<Flex, JoinFault>
     requires left_good { IsGoodVector heap.old left }
     requires right_good { IsGoodVector heap.old right }
@@ -62,10 +62,11 @@ pub fn concat<T>(heap: &mut Heap<T>, left: FlexRef, right: FlexRef) -> Result<Fl
     ensures keeps { IfOk result (λ v. KeepsRows heap.old heap.new left right v) }
     ensures answered { IfOk result (λ v. Answered heap.old heap.new [] v 0 (2 * max (height_at heap.old left) (height_at heap.old right) + 3)) }
     ensures made { IfOk result (λ v. MakesJust heap.old heap.new) }
+    ensures spares { IfOk result (λ _. KeepsToNeed heap.old heap.new 0 17) }
     ensures left_empty { elements heap.old left ≡ [] → GivesItself heap.old heap.new result right }
     ensures right_empty { elements heap.old left ≢ [] → elements heap.old right ≡ [] → GivesItself heap.old heap.new result left }
     ensures vectors { (l : ℕ) → IsSameVector heap.old heap.new l }
-    ensures refused { OnErr result (Unchanged heap.old heap.new) }
+    ensures refused { OnErr result (heap.new ≡ heap.old) }
     ensures long { (result ≡ Err JoinFault.Long) ↔ (2 ^ 32 ≤ length (elements heap.old left) + length (elements heap.old right)) }
     ensures ample { HasSpares heap.old 0 17 → result ≢ Err JoinFault.Memory }
 {

@@ -1,5 +1,6 @@
 use Rattle.std.proofs.Common.{arith, refl, ◌∙◌}
 use Rattle.node_heap.proofs.BuildLemmas.{Builds-Answered}
+use Rattle.rrb_core.proofs.RoomLemmas.{KeepsToNeed-Builds, Builds-KeepsToNeed}
 use Rattle.rrb_core.proofs.BuildLemmas.{unchanged-good, answered-same}
 use Rattle.rrb_join.proofs.AnswerLemmas.{unchanged-height}
 use Rattle.rrb_core.proofs.LevelLemmas.{rows-of-same}
@@ -41,3 +42,9 @@ pub returns-clause-within : goal.returns-clause-within
 returns-clause-within g c =
     rw c.from_root.ensures
     (fewer-rest c.args.heap.now c.reserve.new.self c.args.vector c.in_ok-reserve.ensures.rest.rows c.in_ok-reserve.ensures.rest.graph c.requires.good c.rest_root.new.heap c.rest_root.result c.args.count (rw c.root.ensures at c.rest_root.ensures.within) (rw c.root.ensures at c.rest_root.ensures.low))
+
+pub returns-then-count-eq0-clause-spares : goal.returns-then-count-eq0-clause-spares
+returns-then-count-eq0-clause-spares g c = KeepsToNeed-Builds 0 17 c.share.ensures.shares.builds
+
+pub returns-clause-spares : goal.returns-clause-spares
+returns-clause-spares g c = Builds-KeepsToNeed c.in_ok-reserve.ensures.greater c.in_ok-reserve.ensures.rest c.rest_root.ensures.builds

@@ -3,6 +3,7 @@ use Rattle.std.proofs.lemmas.List.{length-take-le}
 use Rattle.node_heap.specs.Calls.{Answered}
 use Rattle.rrb_core.specs.Vector.{height_at, elements, IsVectorOf}
 use Rattle.rrb_core.proofs.Stays.{well-live, live-stays, extended-same}
+use Rattle.rrb_core.proofs.RoomLemmas.{KeepsToNeed-Builds, KeepsToNeed-Releases, KeepsToNeed-then, KeepsToNeed-reserved}
 use Rattle.rrb_core.proofs.BuildLemmas.{unchanged-good, answered-same}
 use Rattle.rrb_join.proofs.AnswerLemmas.{unchanged-height, extended-height, rises-more, rises-held}
 use Rattle.rrb_join.proofs.CutLemmas.{Gives, gives-answered, gives-built, gives-more, gives-all, gives-first, gives-second, without-second, gives-first-of, gives-third, without-third, good-held}
@@ -132,3 +133,12 @@ returns-clause-seam g c =
 
 pub returns-then-from-to-clause-seam : goal.returns-then-from-to-clause-seam
 returns-then-from-to-clause-seam g c = rw c.share.ensures.same (erases-itself c.args.heap.now c.share.new.heap c.args.vector (λ m. rows-of-same c.args.heap.now c.share.new.heap c.share.ensures.shares.rows m c.args.vector))
+
+pub returns-then-from-to-clause-spares : goal.returns-then-from-to-clause-spares
+returns-then-from-to-clause-spares g c = KeepsToNeed-Builds 0 42 c.share.ensures.shares.builds
+
+pub returns-clause-spares : goal.returns-clause-spares
+returns-clause-spares g c =
+    let made = KeepsToNeed-then (KeepsToNeed-then c.in_ok-front.ensures.spares (KeepsToNeed-Builds 0 0 c.rest_root-back.ensures.builds)) (KeepsToNeed-Builds 0 0 c.joined_root-root.ensures.builds) in
+    let kept = KeepsToNeed-then (KeepsToNeed-then made (KeepsToNeed-Releases 0 0 c.release.ensures.releases)) (KeepsToNeed-Releases 0 0 c.release-2.ensures.releases) in
+    KeepsToNeed-reserved c.in_ok-reserve.ensures.greater c.in_ok-reserve.ensures.rest (omega arith) (omega arith) kept

@@ -1,6 +1,7 @@
 use Rattle.std.proofs.Common.{arith, ◌≡◌, ◌+◌, ◌*◌, ◌≤◌, length, length-take, refl, ◌∙◌, [], ◌∷◌}
 use Rattle.node_heap.specs.Calls.{Answered}
 use Rattle.rrb_core.specs.Vector.{height_at, elements, IsVectorOf}
+use Rattle.rrb_core.proofs.RoomLemmas.{KeepsToNeed-Builds, KeepsToNeed-Releases, KeepsToNeed-then, KeepsToNeed-reserved}
 use Rattle.rrb_core.proofs.BuildLemmas.{unchanged-good, answered-same}
 use Rattle.rrb_join.proofs.AnswerLemmas.{unchanged-height, height-held}
 use Rattle.rrb_join.proofs.CutLemmas.{Gives, gives-answered, gives-built, gives-all, gives-first, without-second, good-held}
@@ -81,3 +82,9 @@ returns-clause-whole g c = λ front back. absurd (elim c.else-from-eq0.branch as
   | else-from-eq0-via-then-from-eq0+else-to-len w ↦ omega (arith, back, w.len.ensures.value, w.if-to-len.false)
   | else-from-eq0-via-else-from-eq0 w ↦ omega (arith, front, w.if-from-eq0.false)
 ])
+
+pub returns-then-to-len-clause-spares : goal.returns-then-to-len-clause-spares
+returns-then-to-len-clause-spares g c = KeepsToNeed-Builds 0 25 c.share.ensures.shares.builds
+
+pub returns-clause-spares : goal.returns-clause-spares
+returns-clause-spares g c = KeepsToNeed-reserved c.in_ok-reserve.ensures.greater c.in_ok-reserve.ensures.rest (omega arith) (omega arith) (KeepsToNeed-then (KeepsToNeed-then c.in_ok-front.ensures.spares (KeepsToNeed-Builds 0 0 c.rest_root-root.ensures.builds)) (KeepsToNeed-Releases 0 0 c.release.ensures.releases))

@@ -1,5 +1,6 @@
 use Rattle.std.proofs.Common.{arith, refl, ◌∙◌}
 use Rattle.node_heap.proofs.BuildLemmas.{Builds-more, Builds-Answered}
+use Rattle.rrb_core.proofs.RoomLemmas.{Builds-KeepsToNeed}
 use Rattle.rrb_core.proofs.BuildLemmas.{unchanged-good, answered-same}
 use Rattle.rrb_join.proofs.AnswerLemmas.{unchanged-height, unchanged-links, rises-more}
 use Rattle.rrb_join.proofs.JoinLemmas.{puts-after}
@@ -39,3 +40,6 @@ returns-clause-low g c = rw c.from_root.ensures (rises-more c.inserted_root.ensu
 
 pub returns-clause-seam : goal.returns-clause-seam
 returns-clause-seam g c = rw c.from_root.ensures (puts-after c.args.heap.now c.reserve.new.self c.inserted_root.new.heap c.args.vector c.inserted_root.result c.in_ok-reserve.ensures.rest (rw c.root.ensures at c.inserted_root.ensures.seam))
+
+pub returns-clause-spares : goal.returns-clause-spares
+returns-clause-spares g c = Builds-KeepsToNeed c.in_ok-reserve.ensures.greater c.in_ok-reserve.ensures.rest c.inserted_root.ensures.builds

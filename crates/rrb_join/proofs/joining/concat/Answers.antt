@@ -1,5 +1,6 @@
 use Rattle.std.proofs.Common.{arith, refl, sym, ◌∙◌}
 use Rattle.node_heap.proofs.BuildLemmas.{Builds-more, Builds-Answered}
+use Rattle.rrb_core.proofs.RoomLemmas.{KeepsToNeed-Builds, Builds-KeepsToNeed}
 use Rattle.rrb_core.proofs.BuildLemmas.{unchanged-good, answered-same}
 use Rattle.rrb_join.proofs.AnswerLemmas.{unchanged-height, unchanged-links, rises-more}
 use Rattle.rrb_core.proofs.LevelLemmas.{rows-of-same}
@@ -81,3 +82,12 @@ returns-then-right_len-eq0-clause-keeps g c =
 
 pub returns-clause-keeps : goal.returns-clause-keeps
 returns-clause-keeps g c = rw c.from_root.ensures (keeps-after c.args.heap.now c.reserve.new.self c.joined_root.new.heap c.args.left c.args.right c.joined_root.result c.in_ok-reserve.ensures.rest (rw (c.root.ensures, c.root-2.ensures) at c.joined_root.ensures.keeps))
+
+pub returns-then-left_len-eq0-clause-spares : goal.returns-then-left_len-eq0-clause-spares
+returns-then-left_len-eq0-clause-spares g c = KeepsToNeed-Builds 0 17 c.share.ensures.shares.builds
+
+pub returns-then-right_len-eq0-clause-spares : goal.returns-then-right_len-eq0-clause-spares
+returns-then-right_len-eq0-clause-spares g c = KeepsToNeed-Builds 0 17 c.share-then-right_len-eq0.ensures.shares.builds
+
+pub returns-clause-spares : goal.returns-clause-spares
+returns-clause-spares g c = Builds-KeepsToNeed c.in_ok-reserve.ensures.greater c.in_ok-reserve.ensures.rest c.joined_root.ensures.builds

@@ -1,4 +1,4 @@
-use Rattle.std.proofs.Common.{arith, refl, ◌≡◌, ℕ, suc, ◌+◌, ◌<◌, List, [], ◌∷◌, length, get_or, ap, sym, ◌∙◌, append-nil, length-append}
+use Rattle.std.proofs.Common.{arith, ◌≡◌, ℕ, suc, ◌+◌, ◌<◌, List, [], ◌∷◌, length, get_or, ap, sym, ◌∙◌, append-nil, length-append}
 use Rattle.std.specs.List.{flat_map}
 use Rattle.node_heap.specs.Heap.{form_at, links_at}
 use Rattle.node_heap.proofs.BuildLemmas.{Builds-refl}
@@ -6,6 +6,7 @@ use Rattle.rrb_core.specs.Seq.{seq_at}
 use Rattle.rrb_core.specs.Vector.{elements, IsGoodVector}
 use Rattle.rrb_core.specs.Build.{IsRowOf}
 use Rattle.rrb_core.specs.Levels.{rows_at}
+use Rattle.rrb_core.proofs.Lists.{one-list}
 use Rattle.rrb_core.proofs.FillRule.{height-is}
 use Rattle.rrb_core.proofs.Stays.{live-stays}
 use Rattle.rrb_core.proofs.RowLists.{good-row, rows-live}
@@ -14,11 +15,6 @@ use Rattle.rrb_join.proofs.UnmadeLemmas.{two-low}
 use Rattle.rrb_join.proofs.AnswerLemmas.{no-higher, all-links-stay}
 use Rattle.rrb_join.proofs.over.root_of.Given as given
 use Rattle.rrb_join.proofs.over.root_of.Goals as goal
-
-one-list : (xs : List ℕ) (x : ℕ) → length xs ≡ 1 → x ≡ get_or xs 0 x → xs ≡ x ∷ []
-one-list [] x one is = absurd (omega arith)
-one-list (y ∷ []) x one is = rw is refl
-one-list (y ∷ z ∷ zs) x one is = absurd (omega arith)
 
 two-lists : (f : ℕ → List ℕ) (xs : List ℕ) → length xs ≡ 2 → length (flat_map f xs) ≡ length (f (get_or xs 0 0)) + length (f (get_or xs 1 0))
 two-lists f [] two = absurd (omega arith)
