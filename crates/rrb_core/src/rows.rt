@@ -84,11 +84,10 @@ fn hold_links<T>(heap: &mut Heap<T>, all: &mut Gathered, link: Link, from: usize
     ensures items { all.new.items ≡ all.old.items ++ take (to - from) (drop from (links_at heap.old link)) }
     ensures builds { Builds heap.old heap.new all.old.items all.new.items 0 0 }
 {
-    for place in from..to {
-        let child = heap.links(link)[place];
-        heap.hold(child);
-        all.push(child);
-    }
+    let before = all.len();
+    // There is room for 64, so that this refuses nothing.
+    let _ = all.try_extend_from_slice(&heap.links(link)[from..to]);
+    heap.hold_all(&all.as_slice()[before..]);
 }
 
 /// The first `keep` links of `left`, then `middle`, then the links of `right` from the place `skip` on. Each link of

@@ -1,39 +1,38 @@
-use Rattle.std.proofs.Common.{arith, ◌≡◌, ◌-◌, ◌<◌, ℕ, length, ◌∙◌, refl, append-nil}
-use Rattle.std.proofs.lemmas.List.{length_push}
+use Rattle.std.proofs.Common.{arith, ◌≡◌, ℕ, ◌-◌, ◌≤◌, List, ◌++◌, length, take, drop, ap, ◌∙◌, length-append}
+use Rattle.std.proofs.lemmas.List.{length-take, take_rest}
+use Rattle.std.proofs.Math.Seq.{drop-append_seam}
+use Rattle.node_heap.specs.Links.{count}
 use Rattle.node_heap.specs.Heap.{links_at}
-use Rattle.rrb_core.proofs.LinkCounts.{counted-place}
-use Rattle.rrb_core.proofs.Lists.{part-push}
-use Rattle.rrb_core.proofs.Stays.{live-stays, links-stay}
-use Rattle.node_heap.proofs.BuildLemmas.{Builds-refl, Builds-hold, Builds-then}
-use Rattle.rrb_core.proofs.BuildLemmas.{builds-push}
-use Rattle.rrb_core.proofs.RowLists.{at-place}
+use Rattle.node_heap.proofs.BuildLemmas.{count-append, Builds-made}
+use Rattle.rrb_core.proofs.BuildLemmas.{on-ok}
+use Rattle.rrb_core.proofs.LinkCounts.{count-split}
+use Rattle.rrb_core.proofs.rows.hold_links.Given.{Over}
 use Rattle.rrb_core.proofs.rows.hold_links.Goals as goal
 
-pub loop-place-init : goal.loop-place-init
-loop-place-init g c =
-    let none : c.args.from - c.args.from ≡ 0 = omega arith in
-    record { builds = Builds-refl c.args.heap.now c.args.all.now.items 0 0 c.requires.graph; items = rw (none, append-nil) refl; count = omega arith }
+-- what was appended, as the part behind the old length
+behind : (items old part ls : List ℕ) (start : ℕ) → ls ≡ items → items ≡ old ++ part → start ≡ length old → take (length ls - start) (drop start ls) ≡ part
+behind items old part ls start same all at = take_rest ls start ∙ rw (same, all, at) (drop-append_seam old part)
 
-pub bounds-links-place : goal.bounds-links-place
-bounds-links-place g c =
-    let same : c.links.result.now ≡ links_at c.args.heap.now c.args.link = c.links.ensures.links ∙ links-stay (live-stays c.requires.graph c.loop-place.invariant.builds.extends) c.args.link c.requires.live in
-    rw same (omega arith)
+-- a part has no more of a link than the whole
+count-part : (k i n : ℕ) (xs : List ℕ) → count k (take n (drop i xs)) ≤ count k xs
+count-part k i n xs = omega (arith, count-split k i xs, count-split k n (drop i xs))
 
-pub hold-requires-clause-live : goal.hold-requires-clause-live
-hold-requires-clause-live g c =
-    let same : c.links.result.now ≡ links_at c.args.heap.now c.args.link = c.links.ensures.links ∙ links-stay (live-stays c.requires.graph c.loop-place.invariant.builds.extends) c.args.link c.requires.live in
-    let inside : c.loop-place.place < length (links_at c.loop-place.heap c.args.link) = rw (← c.links.ensures.links, same) (omega arith) in
-    let counted = counted-place c.links.result.now (links_at c.loop-place.heap c.args.link) c.loop-place.place c.index-links-place.result c.index-links-place.is c.links.ensures.links inside in
-    c.loop-place.invariant.builds.graph.closed c.args.link c.index-links-place.result counted
+appended : (g : Over) (c : goal.After-hold_all-arg-2-1 g) → c.try_extend_from_slice.new.self.items ≡ c.args.all.now.items ++ take (c.args.to - c.args.from) (drop c.args.from (links_at c.args.heap.now c.args.link))
+appended g c =
+    rw (← c.links.ensures.links) (on-ok c.try_extend_from_slice.result (c.try_extend_from_slice.ensures.variant.1 (omega (arith, c.requires.room, length-take (c.args.to - c.args.from) (drop c.args.from c.links.result.now)))) c.try_extend_from_slice.ensures.ok)
 
-pub loop-place-preserved : goal.loop-place-preserved
-loop-place-preserved g c =
-    let same : c.links.result.now ≡ links_at c.args.heap.now c.args.link = c.links.ensures.links ∙ links-stay (live-stays c.requires.graph c.loop-place.invariant.builds.extends) c.args.link c.requires.live in
-    let child : ℕ = c.index-links-place.result in
-    let held = Builds-hold c.hold.ensures.holds c.hold.ensures.makes c.hold.ensures.count c.hold.ensures.graph c.hold.ensures.extends in
-    let at = at-place c.links.result.now (links_at c.args.heap.now c.args.link) c.loop-place.place c.index-links-place.result c.index-links-place.is same (omega arith) in
-    record {
-      builds = rw c.push.ensures.items (Builds-then c.loop-place.invariant.builds (builds-push {b = c.hold.new.self} c.loop-place.all.items held));
-      items = c.push.ensures.items ∙ part-push (links_at c.args.heap.now c.args.link) c.args.all.now.items c.loop-place.all.items c.args.from c.loop-place.place c.index-links-place.result (omega arith) (omega arith) at c.loop-place.invariant.items;
-      count = rw c.push.ensures.items (omega (arith, length_push c.loop-place.all.items child, c.loop-place.invariant.count));
-    }
+held : (g : Over) (c : goal.After-hold_all-arg-2-1 g) → take (length c.as_slice.result.now - c.len-before.result) (drop c.len-before.result c.as_slice.result.now) ≡ take (c.args.to - c.args.from) (drop c.args.from (links_at c.args.heap.now c.args.link))
+held g c =
+    behind c.try_extend_from_slice.new.self.items c.args.all.now.items (take (c.args.to - c.args.from) (drop c.args.from (links_at c.args.heap.now c.args.link))) c.as_slice.result.now c.len-before.result c.as_slice.ensures.value (appended g c) c.len-before.ensures.value
+
+pub hold_all-requires-clause-live : goal.hold_all-requires-clause-live
+hold_all-requires-clause-live g c = λ l some.
+    c.requires.graph.closed c.args.link l (omega (arith, some, ap (count l) (held g c), count-part l c.args.from (c.args.to - c.args.from) (links_at c.args.heap.now c.args.link)))
+
+pub returns-clause-builds : goal.returns-clause-builds
+returns-clause-builds g c =
+    let part : List ℕ = take (c.args.to - c.args.from) (drop c.args.from (links_at c.args.heap.now c.args.link)) in
+    let all = appended g c.before in
+    let same = held g c.before in
+    Builds-made c.hold_all.ensures.extends c.hold_all.ensures.graph (λ k. omega (arith, c.hold_all.ensures.holds k, ap (count k) same, ap (count k) all, count-append k c.args.all.now.items part))
+    (omega (arith, c.hold_all.ensures.count, ap length same, ap length all, length-append c.args.all.now.items part)) c.hold_all.ensures.makes
