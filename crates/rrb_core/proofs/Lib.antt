@@ -11,3 +11,4 @@ pub mod RowSizes
 pub mod RowLists
 pub mod PushLemmas
 pub mod EditLemmas
+pub mod FilledLemmas

@@ -4,3 +4,4 @@ pub mod Vector
 pub mod Levels
 pub mod Build
 pub mod Edit
+pub mod Filled

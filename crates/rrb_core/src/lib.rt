@@ -7,6 +7,7 @@
 //! its children's lengths.
 #![tactic(auto)]
 
+mod build;
 mod cut;
 mod flex;
 mod grow;
@@ -16,6 +17,7 @@ mod replace;
 mod rows;
 mod search;
 
+pub use build::{vector_nodes, vector_of, vector_of_spares};
 pub use cut::{TAKE_NODES, take};
 pub use flex::{Flex, FlexRef};
 pub use grow::{PushFault, push, spine};
