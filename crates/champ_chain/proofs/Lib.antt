@@ -5,6 +5,5 @@ pub mod SpotLemmas
 pub mod CopyLemmas
 pub mod PartsLemmas
 pub mod WithLemmas
-pub mod RoomLemmas
 pub mod RowLemmas
 pub mod OldLemmas

@@ -14,6 +14,7 @@ pub mod Added
 pub mod Owners
 pub mod GraphLemmas
 pub mod BuildLemmas
+pub mod RoomLemmas
 pub mod Ways
 pub mod Edited
 pub mod EditLaws

@@ -30,10 +30,6 @@ module _ {T : Type 0} where
   builds-pair {m = m} {l = l} {n = n} x first second =
       Builds-as (x ∷ []) (l ∷ m ∷ []) 0 n (Builds-beside first second) (omega arith) (omega arith) (λ k. omega (arith, count-cons k l (m ∷ []), count-cons k m (l ∷ []), count-one k m, count-one k l)) (omega arith)
 
-  -- one hold more, for a link that is appended to a list
-  pub builds-push : {a b : Heap T} {link : ℕ} (all : List ℕ) → Builds a b [] (link ∷ []) 0 0 → Builds a b all (all ++ link ∷ []) 0 0
-  builds-push {link = link} all b = Builds-as all (all ++ link ∷ []) 0 0 b (omega arith) (omega arith) (λ k. omega (arith, count-append k all (link ∷ []))) (omega (arith, length-append all (link ∷ [])))
-
   -- what is gained, before links that stay as they are
   pub builds-before : {a b : Heap T} {gained : List ℕ} (middle : List ℕ) → Builds a b [] gained 0 0 → Builds a b middle (gained ++ middle) 0 0
   builds-before {gained = gained} middle b = Builds-as middle (gained ++ middle) 0 0 b (omega arith) (omega arith) (λ k. omega (arith, count-append k gained middle)) (omega (arith, length-append gained middle))

@@ -5,7 +5,6 @@ pub mod LinkCounts
 pub mod Stays
 pub mod SameRows
 pub mod BuildLemmas
-pub mod RoomLemmas
 pub mod LevelLemmas
 pub mod RowSizes
 pub mod RowLists

@@ -32,9 +32,3 @@ one-held x n holds some k = elim (cases_eq k x) as (λ _. count k (x ∷ []) ≤
   | inl same ↦ omega (arith, count-one k x, one-same k x same, ap holds same)
   | inr other ↦ omega (arith, count-one k x, one-other k x other)
 ]
-
--- the link at a place of a list is counted, in the words of the code
-pub counted-place : (ls links : List ℕ) (i child : ℕ) → child ≡ get_or ls i child → ls ≡ links → i < length links → 0 < count child links
-counted-place ls links i child is e lt =
-    let at : child ≡ get_or links i child = is ∙ ap (λ xs. get_or xs i child) e in
-    rw (← at) at (count-at links i child lt)

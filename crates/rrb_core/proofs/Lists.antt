@@ -239,15 +239,6 @@ one-list [] x one is = absurd (omega (arith, one))
 one-list (y ∷ []) x one is = rw is refl
 one-list (y ∷ z ∷ zs) x one is = absurd (omega (arith, one))
 
--- one more link of a part of a list
-pub part-push : (L xs all : List ℕ) (from p child : ℕ) → from ≤ p → p < length L → child ≡ get_or L p 0 → all ≡ xs ++ take (p - from) (drop from L) → all ++ child ∷ [] ≡ xs ++ take (p + 1 - from) (drop from L)
-part-push L xs all from p child le lt e is =
-    let up : p + 1 - from ≡ p - from + 1 = omega arith in
-    let more : take (p - from + 1) (drop from L) ≡ take (p - from) (drop from L) ++ get_or (drop from L) (p - from) 0 ∷ [] = take_more (drop from L) (p - from) 0 (omega (arith, length-drop from L)) in
-    let back : from + (p - from) ≡ p = omega arith in
-    let at : get_or (drop from L) (p - from) 0 ≡ child = get_or-drop from L (p - from) 0 ∙ ap (λ (j : ℕ). get_or L j 0) back ∙ sym e in
-    rw (is, up, more, at) (simp append_assoc)
-
 -- the front of one list, a middle, and the back of another, in the words of the code
 pub gathered-items : (left right right' a0 a1 a2 a3 middle : List ℕ) (keep skip stop : ℕ) → a0 ≡ [] → a1 ≡ a0 ++ take (keep - 0) (drop 0 left) → a2 ≡ a1 ++ middle → a3 ≡ a2 ++ take (stop - skip) (drop skip right') → right' ≡ right → stop ≡ length right
     → a3 ≡ (take keep left ++ middle) ++ drop skip right

@@ -1,7 +1,7 @@
 use Rattle.node_heap.specs.Heap.{form_at}
 use Rattle.champ_chain.proofs.FrameLemmas.{key-kept, forms-same, KeepsChains-same}
 use Rattle.node_heap.proofs.BuildLemmas.{Builds-Answered, Builds-MakesJust}
-use Rattle.champ_chain.proofs.RoomLemmas.{Builds-KeepsToNeed}
+use Rattle.node_heap.proofs.RoomLemmas.{Builds-KeepsToNeed}
 use Rattle.champ_chain.proofs.join.Goals as goal
 
 pub joined-requires-clause-apart : goal.joined-requires-clause-apart

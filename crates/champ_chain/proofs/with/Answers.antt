@@ -2,7 +2,7 @@ use Rattle.std.proofs.Common.{arith}
 use Rattle.node_heap.specs.Heap.{form_at}
 use Rattle.node_heap.proofs.BuildLemmas.{Builds-Answered, Builds-MakesJust}
 use Rattle.champ_chain.proofs.FrameLemmas.{key-kept, forms-same, keyed-same, KeepsChains-same}
-use Rattle.champ_chain.proofs.RoomLemmas.{KeepsToNeed-more, Builds-KeepsToNeed}
+use Rattle.node_heap.proofs.RoomLemmas.{KeepsToNeed-more, Builds-KeepsToNeed}
 use Rattle.champ_chain.proofs.with.Goals as goal
 
 pub added-requires-clause-keyed : goal.added-requires-clause-keyed

@@ -1,7 +1,7 @@
 use Rattle.node_heap.proofs.BuildLemmas.{Builds-Answered, Builds-MakesJust}
 use Rattle.champ_chain.proofs.FrameLemmas.{KeepsChains-same}
 use Rattle.std.proofs.Common.{arith}
-use Rattle.champ_chain.proofs.RoomLemmas.{KeepsToNeed-refl, KeepsToNeed-more, Builds-KeepsToNeed}
+use Rattle.node_heap.proofs.RoomLemmas.{KeepsToNeed-refl, KeepsToNeed-more, Builds-KeepsToNeed}
 use Rattle.champ_chain.proofs.without.Goals as goal
 
 pub returns-clause-answered : goal.returns-clause-answered

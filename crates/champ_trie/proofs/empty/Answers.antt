@@ -6,7 +6,7 @@ use Rattle.node_heap.proofs.BuildLemmas.{Builds-Answered}
 use Rattle.champ_trie.specs.Trie.{code_by}
 use Rattle.champ_trie.proofs.ReachLemmas.{canon-empty}
 use Rattle.champ_trie.proofs.LeftLemmas.{KeepsTries-Extends}
-use Rattle.champ_chain.proofs.RoomLemmas.{Builds-KeepsToNeed}
+use Rattle.node_heap.proofs.RoomLemmas.{Builds-KeepsToNeed}
 use Rattle.champ_trie.proofs.empty.Goals as goal
 
 pub returns-clause-answered : goal.returns-clause-answered

@@ -9,7 +9,7 @@ use Rattle.champ_trie.specs.Reach.{alike_to}
 use Rattle.elem_core.specs.declared.codes.TheConstants.{DEEPEST}
 use Rattle.champ_trie.proofs.ShareLemmas.{shares-kept}
 use Rattle.champ_trie.proofs.LeftLemmas.{KeepsTries-same}
-use Rattle.champ_chain.proofs.RoomLemmas.{KeepsToNeed-more, Builds-KeepsToNeed}
+use Rattle.node_heap.proofs.RoomLemmas.{KeepsToNeed-more, Builds-KeepsToNeed}
 use Rattle.champ_trie.proofs.with.Goals as goal
 
 pub returns-in_err-reserve-clause-ample : goal.returns-in_err-reserve-clause-ample

@@ -9,7 +9,7 @@ use Rattle.elem_core.specs.declared.codes.TheConstants.{DEEPEST}
 use Rattle.champ_chain.proofs.FrameLemmas.{forms-same}
 use Rattle.champ_trie.proofs.ShareLemmas.{shares-kept}
 use Rattle.champ_trie.proofs.LeftLemmas.{KeepsTries-same}
-use Rattle.champ_chain.proofs.RoomLemmas.{KeepsToNeed-refl, KeepsToNeed-more, Builds-KeepsToNeed}
+use Rattle.node_heap.proofs.RoomLemmas.{KeepsToNeed-refl, KeepsToNeed-more, Builds-KeepsToNeed}
 use Rattle.champ_trie.proofs.without.Goals as goal
 
 pub returns-in_err-reserve-clause-ample : goal.returns-in_err-reserve-clause-ample

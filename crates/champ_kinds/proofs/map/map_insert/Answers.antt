@@ -23,7 +23,7 @@ use Rattle.champ_kinds.proofs.StayLemmas.{map-seen, entries-seen, containers-ext
 use Rattle.champ_kinds.proofs.EditLemmas.{at-ok, not-err, pairs-kept, pair-found, HasCell, cell-got, MakesPair, made-builds, made-extends, made-key, all-built, map-with, puts-pair}
 use Rattle.champ_trie.proofs.BesideLemmas.{shares-before}
 use Rattle.champ_kinds.proofs.map.map_insert.Given.{Over}
-use Rattle.champ_chain.proofs.RoomLemmas.{KeepsToNeed-more, Builds-KeepsToNeed}
+use Rattle.node_heap.proofs.RoomLemmas.{KeepsToNeed-more, Builds-KeepsToNeed}
 use Rattle.champ_kinds.proofs.EditLemmas.{at-err}
 use Rattle.champ_kinds.proofs.map.map_insert.Goals as goal
 

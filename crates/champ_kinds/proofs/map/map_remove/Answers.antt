@@ -13,7 +13,7 @@ use Rattle.champ_kinds.specs.Binding.{alike_keys}
 use Rattle.champ_kinds.proofs.PairLemmas.{alike-pairs, absent-map, absent-trie}
 use Rattle.champ_kinds.proofs.StayLemmas.{map-seen, containers-extended}
 use Rattle.champ_kinds.proofs.EditLemmas.{if-some, map-left}
-use Rattle.champ_chain.proofs.RoomLemmas.{KeepsToNeed-more}
+use Rattle.node_heap.proofs.RoomLemmas.{KeepsToNeed-more}
 use Rattle.champ_kinds.proofs.map.map_remove.Goals as goal
 
 pub returns-in_err-without-clause-absent : goal.returns-in_err-without-clause-absent

@@ -18,7 +18,7 @@ use Rattle.champ_kinds.proofs.StayLemmas.{set-seen, set-live, containers-extende
 use Rattle.champ_kinds.proofs.EditLemmas.{at-ok, not-err, set-with}
 use Rattle.champ_trie.proofs.BesideLemmas.{shares-before, shares-itself}
 use Rattle.champ_kinds.proofs.set.set_insert.Given.{Over}
-use Rattle.champ_chain.proofs.RoomLemmas.{KeepsToNeed-more, KeepsToNeed-Builds, Builds-KeepsToNeed}
+use Rattle.node_heap.proofs.RoomLemmas.{KeepsToNeed-more, KeepsToNeed-Builds, Builds-KeepsToNeed}
 use Rattle.champ_kinds.proofs.EditLemmas.{at-err}
 use Rattle.champ_kinds.proofs.set.set_insert.Goals as goal
 

@@ -10,7 +10,7 @@ use Rattle.champ_trie.specs.Reach.{alike_to}
 use Rattle.champ_kinds.specs.Root.{Root}
 use Rattle.champ_kinds.proofs.StayLemmas.{set-seen, containers-extended}
 use Rattle.champ_kinds.proofs.EditLemmas.{if-some, set-left}
-use Rattle.champ_chain.proofs.RoomLemmas.{KeepsToNeed-more}
+use Rattle.node_heap.proofs.RoomLemmas.{KeepsToNeed-more}
 use Rattle.champ_kinds.proofs.set.set_remove.Goals as goal
 
 pub returns-in_err-without-clause-ample : goal.returns-in_err-without-clause-ample

@@ -2,7 +2,7 @@ use Rattle.std.proofs.Common.{arith, refl, ◌∙◌, sym}
 use Rattle.std.proofs.lemmas.List.{take_all}
 use Rattle.node_heap.proofs.BuildLemmas.{Answered-Builds, Builds-Answered, Builds-MakesJust, Builds-more}
 use Rattle.rrb_core.specs.Vector.{elements}
-use Rattle.rrb_core.proofs.RoomLemmas.{KeepsToNeed-Builds, Builds-KeepsToNeed}
+use Rattle.node_heap.proofs.RoomLemmas.{KeepsToNeed-Builds, Builds-KeepsToNeed}
 use Rattle.rrb_core.proofs.BuildLemmas.{answered-same, unchanged-good, same-height, shares-just}
 use Rattle.rrb_core.proofs.LevelLemmas.{takes-whole, takes-after}
 use Rattle.rrb_core.proofs.EditLemmas.{root-after}

@@ -1,6 +1,6 @@
 use Rattle.std.proofs.Common.{arith, refl, sym, ◌∙◌}
 use Rattle.node_heap.proofs.BuildLemmas.{Builds-Answered, Builds-MakesJust}
-use Rattle.rrb_core.proofs.RoomLemmas.{Builds-KeepsToNeed}
+use Rattle.node_heap.proofs.RoomLemmas.{Builds-KeepsToNeed}
 use Rattle.rrb_core.proofs.BuildLemmas.{answered-same, unchanged-good, same-forms, same-height}
 use Rattle.rrb_core.proofs.PushLemmas.{pushed-root-same, rises}
 use Rattle.rrb_core.proofs.EditLemmas.{root-after}

@@ -1,6 +1,6 @@
 use Rattle.std.proofs.Common.{arith, refl, ◌∙◌}
 use Rattle.node_heap.proofs.BuildLemmas.{Builds-Answered, Builds-MakesJust}
-use Rattle.rrb_core.proofs.RoomLemmas.{Builds-KeepsToNeed}
+use Rattle.node_heap.proofs.RoomLemmas.{Builds-KeepsToNeed}
 use Rattle.rrb_core.proofs.BuildLemmas.{answered-same, unchanged-good, same-height}
 use Rattle.rrb_core.proofs.EditLemmas.{root-after}
 use Rattle.rrb_core.proofs.replace.set.Goals as goal

@@ -1,6 +1,6 @@
 use Rattle.std.proofs.Common.{arith, refl, ◌∙◌}
 use Rattle.node_heap.proofs.BuildLemmas.{Builds-Answered}
-use Rattle.rrb_core.proofs.RoomLemmas.{KeepsToNeed-Builds, Builds-KeepsToNeed}
+use Rattle.node_heap.proofs.RoomLemmas.{KeepsToNeed-Builds, Builds-KeepsToNeed}
 use Rattle.rrb_core.proofs.BuildLemmas.{unchanged-good, answered-same}
 use Rattle.rrb_join.proofs.AnswerLemmas.{unchanged-height}
 use Rattle.rrb_core.proofs.LevelLemmas.{rows-of-same}

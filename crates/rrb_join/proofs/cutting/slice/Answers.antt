@@ -1,7 +1,7 @@
 use Rattle.std.proofs.Common.{arith, ◌≡◌, ◌+◌, ◌*◌, ◌≤◌, length, length-take, refl, ◌∙◌, [], ◌∷◌}
 use Rattle.node_heap.specs.Calls.{Answered}
 use Rattle.rrb_core.specs.Vector.{height_at, elements, IsVectorOf}
-use Rattle.rrb_core.proofs.RoomLemmas.{KeepsToNeed-Builds, KeepsToNeed-Releases, KeepsToNeed-then, KeepsToNeed-reserved}
+use Rattle.node_heap.proofs.RoomLemmas.{KeepsToNeed-Builds, KeepsToNeed-Releases, KeepsToNeed-then, KeepsToNeed-reserved}
 use Rattle.rrb_core.proofs.BuildLemmas.{unchanged-good, answered-same}
 use Rattle.rrb_join.proofs.AnswerLemmas.{unchanged-height, height-held}
 use Rattle.rrb_join.proofs.CutLemmas.{Gives, gives-answered, gives-built, gives-all, gives-first, without-second, good-held}

@@ -1,6 +1,6 @@
 use Rattle.std.proofs.Common.{arith, refl, ◌∙◌}
 use Rattle.node_heap.proofs.BuildLemmas.{Builds-more, Builds-Answered}
-use Rattle.rrb_core.proofs.RoomLemmas.{Builds-KeepsToNeed}
+use Rattle.node_heap.proofs.RoomLemmas.{Builds-KeepsToNeed}
 use Rattle.rrb_core.proofs.BuildLemmas.{unchanged-good, answered-same}
 use Rattle.rrb_join.proofs.AnswerLemmas.{unchanged-height, unchanged-links, rises-more}
 use Rattle.rrb_join.proofs.JoinLemmas.{puts-after}

@@ -1,5 +1,5 @@
 use Rattle.node_heap.proofs.BuildLemmas.{Builds-Answered, Builds-MakesJust}
-use Rattle.rrb_core.proofs.RoomLemmas.{Builds-KeepsToNeed}
+use Rattle.node_heap.proofs.RoomLemmas.{Builds-KeepsToNeed}
 use Rattle.rrb_core.proofs.BuildLemmas.{answered-same, unchanged-good}
 use Rattle.rrb_core.proofs.flex.Flex.empty.Goals as goal
 
