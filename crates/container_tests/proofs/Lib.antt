@@ -3,3 +3,4 @@ pub mod GivenUpLemmas
 pub mod StandLemmas
 pub mod EqualityLemmas
 pub mod UndoLemmas
+pub mod VectorsLemmas

@@ -1,5 +1,6 @@
 -- What stands at a root, whatever it holds: what one call of a test hands to the next.
-use Rattle.std.specs.Prelude.{◌≡◌, ◌<◌, ℕ, List}
+use Rattle.std.specs.Prelude.{◌≡◌, ◌<◌, ◌≤◌, ℕ, List, length}
+use Rattle.std.specs.List.{All}
 use Rattle.std.specs.declared.cmp.Ordering.{Ordering}
 use Rattle.node_heap.specs.Heap.{Heap, form_at, holds_at, hold_count}
 use Rattle.rrb_core.specs.Vector.{IsGoodVector}
@@ -19,6 +20,11 @@ module _ {T : Type 0} where
   -- what was a vector of cells is one
   abbrev pub KeepsLines : Heap T → Heap T → Type 0
   KeepsLines old new = (l : ℕ) → IsLines old l → IsLines new l
+
+  -- the links are roots of vectors of cells, and the heap has no more holds than these
+  pub record HasVectors (h : Heap T) (roots : List ℕ) : Type 0 where
+    pub lines : All (IsLines h) roots
+    pub few : hold_count h ≤ length roots
 
   -- what was made is given up again: each link is held as often as before, and each vector that is held is one still
   pub record GivesBack (old new : Heap T) : Type 0 where

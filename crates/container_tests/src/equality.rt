@@ -1,118 +1,46 @@
 //! Equality: of values that share their rows, and of values that were built apart.
-ghost use Rattle.std.specs.Prelude.{◌≡◌, ◌+◌, ◌-◌, ◌<◌, ◌≤◌, ◌^◌, length, IfOk};
+ghost use Rattle.std.specs.Prelude.{◌≡◌, ◌+◌, ◌<◌, ◌≤◌, ◌^◌, length, IfOk};
 ghost use Rattle.node_heap.specs.Heap.{hold_count};
-ghost use Rattle.same_value.specs.Cells.{IsLines};
-ghost use Rattle.container_tests.specs.Stands.{KeepsLines, IsCellMap, KeepsCellMaps, IsSomeSet};
+ghost use Rattle.container_tests.specs.Stands.{IsCellMap, KeepsCellMaps, IsSomeSet};
 
 use crate::kinds::{gained, kept, kept_set};
+use crate::versions::Versions;
 use champ_kinds::{Map, MapRef, Set, SetRef, map_insert};
 use elem_core::{CODE_BITS, Element, NoMemory, Num};
-use node_heap::{Glass, Heap, Link, Steps};
-use rrb_core::{Flex, FlexRef, push};
-use rrb_join::concat;
-use same_value::{Values, equal_cells, equal_map, equal_set, equal_vec};
+use node_heap::{Glass, Heap, Steps};
+use same_value::{Values, equal_cells, equal_map, equal_set};
 use std::marker::Brand;
 use std::sync::ledger::{Blank, Ledger};
 use std::test::Fail;
 
-// The root of the vector without elements.
-fn no_lines(heap: &mut Heap<Num>) -> Result<Link, Fail>
-    requires few { hold_count heap.old < 2 ^ 50 }
-    ensures lines { IfOk result (λ l. IsLines heap.new l) }
-    ensures count { IfOk result (λ _. hold_count heap.new ≡ hold_count heap.old + 1) }
-{
-    Ok(Flex::empty(heap)?.into_root())
-}
-
-// The root of the vector with a new cell of this number after its last.
-fn pushed(heap: &mut Heap<Num>, root: Link, number: u32) -> Result<Link, Fail>
-    requires lines { IsLines heap.old root }
-    requires few { hold_count heap.old < 2 ^ 50 }
-    ensures lines { IfOk result (λ l. IsLines heap.new l) }
-    ensures others { IfOk result (λ _. KeepsLines heap.old heap.new) }
-    ensures count { IfOk result (λ _. hold_count heap.new ≡ hold_count heap.old + 1) }
-{
-    heap.reserve(1, 0)?;
-    let cell = heap.cell(Num(number));
-    Ok(push(heap, FlexRef::at(root), cell)?.into_root())
-}
-
-// The root of the vector with the numbers from `from` to below `to` after its last.
-fn pushed_all(heap: &mut Heap<Num>, root: Link, from: u32, to: u32) -> Result<Link, Fail>
-    requires lines { IsLines heap.old root }
-    requires order { from ≤ to }
-    requires few { hold_count heap.old + (to - from) < 2 ^ 50 }
-    ensures lines { IfOk result (λ l. IsLines heap.new l) }
-    ensures others { IfOk result (λ _. KeepsLines heap.old heap.new) }
-    ensures count { IfOk result (λ _. hold_count heap.new ≡ hold_count heap.old + (to - from)) }
-{
-    let mut root = root;
-    for number in from..to {
-        root = pushed(heap, root, number)?;
-    }
-    Ok(root)
-}
-
-// The root of the two vectors one after the other.
-fn joined(heap: &mut Heap<Num>, left: Link, right: Link) -> Result<Link, Fail>
-    requires left { IsLines heap.old left }
-    requires right { IsLines heap.old right }
-    requires few { hold_count heap.old < 2 ^ 50 }
-    ensures lines { IfOk result (λ l. IsLines heap.new l) }
-    ensures others { IfOk result (λ _. KeepsLines heap.old heap.new) }
-    ensures count { IfOk result (λ _. hold_count heap.new ≡ hold_count heap.old + 1) }
-{
-    Ok(concat(heap, FlexRef::at(left), FlexRef::at(right))?.into_root())
-}
-
-// The root of the vector joined to itself so many times in turn.
-fn doubled(heap: &mut Heap<Num>, root: Link, times: u32) -> Result<Link, Fail>
-    requires lines { IsLines heap.old root }
-    requires few { hold_count heap.old + times < 2 ^ 50 }
-    ensures lines { IfOk result (λ l. IsLines heap.new l) }
-    ensures others { IfOk result (λ _. KeepsLines heap.old heap.new) }
-    ensures count { IfOk result (λ _. hold_count heap.new ≡ hold_count heap.old + times) }
-{
-    let mut root = root;
-    for _time in 0..times {
-        root = joined(heap, root, root)?;
-    }
-    Ok(root)
-}
-
 // Vectors of the same elements are equal, however their rows are cut.
 #[test]
-fn vectors_follow_their_elements(rt: HostRuntime) -> Result<(), Fail> {
-    let mut heap: Heap<Num> = Heap::new(rt.alloc());
-    let none = no_lines(&mut heap)?;
-    let all = pushed_all(&mut heap, none, 0, 100)?;
-    let again = pushed_all(&mut heap, none, 0, 100)?;
-    let front = pushed_all(&mut heap, none, 0, 40)?;
-    let back = pushed_all(&mut heap, none, 40, 100)?;
-    let cut = joined(&mut heap, front, back)?;
-    let other = pushed_all(&mut heap, none, 1, 101)?;
-    let all = FlexRef::at(all);
-    assert!(rt; equal_vec(&heap, all, FlexRef::at(again)));
-    assert!(rt; equal_vec(&heap, all, FlexRef::at(cut)));
-    assert!(rt; !equal_vec(&heap, all, FlexRef::at(other)));
-    assert!(rt; !equal_vec(&heap, all, FlexRef::at(front)));
-    Ok(())
+fn vectors_follow_their_elements(rt: HostRuntime) {
+    let mut versions = Versions::start(&rt, rt.alloc());
+    let all = versions.push_all(&rt, 0, 0, 100);
+    let again = versions.push_all(&rt, 0, 0, 100);
+    let front = versions.push_all(&rt, 0, 0, 40);
+    let back = versions.push_all(&rt, 0, 40, 100);
+    let cut = versions.join(&rt, front, back);
+    let other = versions.push_all(&rt, 0, 1, 101);
+    assert!(rt; versions.are_equal(&rt, all, again));
+    assert!(rt; versions.are_equal(&rt, all, cut));
+    assert!(rt; !versions.are_equal(&rt, all, other));
+    assert!(rt; !versions.are_equal(&rt, all, front));
 }
 
 // Two vectors of 2^31 elements that share all rows but their roots are compared at once.
 #[test]
-fn shared_rows_end_the_walk(rt: HostRuntime) -> Result<(), Fail> {
-    let mut heap: Heap<Num> = Heap::new(rt.alloc());
-    let none = no_lines(&mut heap)?;
-    let one = pushed(&mut heap, none, 7)?;
-    let half = doubled(&mut heap, one, 30)?;
-    let first = joined(&mut heap, half, half)?;
-    let second = joined(&mut heap, half, half)?;
-    assert!(rt; first != second);
-    assert_eq!(rt; FlexRef::at(first).len(&heap), 1 << 31);
-    assert!(rt; equal_vec(&heap, FlexRef::at(first), FlexRef::at(first)));
-    assert!(rt; equal_vec(&heap, FlexRef::at(first), FlexRef::at(second)));
-    Ok(())
+fn shared_rows_end_the_walk(rt: HostRuntime) {
+    let mut versions = Versions::start(&rt, rt.alloc());
+    let one = versions.push(&rt, 0, 7);
+    let half = versions.double(&rt, one, 30);
+    let first = versions.join(&rt, half, half);
+    let second = versions.join(&rt, half, half);
+    assert!(rt; !versions.are_one(&rt, first, second));
+    assert_eq!(rt; versions.len(&rt, first), 1 << 31);
+    assert!(rt; versions.are_equal(&rt, first, first));
+    assert!(rt; versions.are_equal(&rt, first, second));
 }
 
 // The map without keys.

@@ -2,9 +2,10 @@
 ghost use Rattle.std.specs.Prelude.{◌≡◌, ◌+◌, ◌^◌, ◌<◌, ◌≤◌, length, vec_len, IfOk, OnOk};
 ghost use Rattle.node_heap.specs.Heap.{holds_at, hold_count};
 ghost use Rattle.rrb_core.specs.Vector.{IsGoodVector};
-ghost use Rattle.container_tests.specs.Stands.{KeepsVectors, GivesBack};
+ghost use Rattle.container_tests.specs.Stands.{GivesBack};
 
 use crate::samples::{number_in, pushed, pushed_all};
+use crate::versions::Versions;
 use elem_core::Num;
 use node_heap::{Heap, Link};
 use rrb_core::{Flex, FlexRef};
@@ -12,73 +13,39 @@ use rrb_join::{JoinFault, SliceFault, concat, drop_front, erase, insert, slice};
 use std::alloc::Global;
 use std::test::Fail;
 
-// The vector, and the same elements once more.
-fn doubled(heap: &mut Heap<Num>, root: Link) -> Result<Link, Fail>
-    requires good { IsGoodVector heap.old root }
-    requires few { hold_count heap.old < 2 ^ 59 }
-    ensures good { IfOk result (λ l. IsGoodVector heap.new l) }
-    ensures others { IfOk result (λ _. KeepsVectors heap.old heap.new) }
-    ensures count { IfOk result (λ l. hold_count heap.new ≡ hold_count heap.old + 1) }
-{
-    let vector = concat(heap, FlexRef::at(root), FlexRef::at(root))?;
-    Ok(vector.into_root())
-}
-
-// The elements of the vector, doubled so many times.
-fn doubled_often(heap: &mut Heap<Num>, root: Link, times: u32) -> Result<Link, Fail>
-    requires good { IsGoodVector heap.old root }
-    requires few { hold_count heap.old + times < 2 ^ 58 }
-    ensures good { IfOk result (λ l. IsGoodVector heap.new l) }
-    ensures others { IfOk result (λ _. KeepsVectors heap.old heap.new) }
-    ensures count { IfOk result (λ _. hold_count heap.new ≡ hold_count heap.old + times) }
-{
-    let mut root = root;
-    for step in 0..times {
-        root = doubled(heap, root)?;
-    }
-    Ok(root)
-}
-
 // Two vectors, each from one element by doubling, are together longer by one than a vector may be.
 #[test]
-fn refuses_a_join_past_the_greatest_length(rt: HostRuntime) -> Result<(), Fail> {
-    let mut heap: Heap<Num> = Heap::new(rt.alloc());
-    let empty = Flex::empty(&mut heap)?.into_root();
-    let three = pushed(&mut heap, empty, 3)?;
-    let four = pushed(&mut heap, empty, 4)?;
-    let left = FlexRef::at(doubled_often(&mut heap, three, 31)?);
-    let right = FlexRef::at(doubled_often(&mut heap, four, 31)?);
-    assert_eq!(rt; left.len(&heap), 1 << 31);
-    assert_eq!(rt; right.len(&heap), 1 << 31);
-    match concat(&mut heap, left, right) {
-        Ok(longer) => {
-            let _root = longer.into_root();
-            assert!(rt; false);
-        }
-        Err(fault) => assert_eq!(rt; fault, JoinFault::Long),
-    }
-    Ok(())
+fn refuses_a_join_past_the_greatest_length(rt: HostRuntime) {
+    let mut versions = Versions::start(&rt, rt.alloc());
+    let three = versions.push(&rt, 0, 3);
+    let four = versions.push(&rt, 0, 4);
+    let left = versions.double(&rt, three, 31);
+    let right = versions.double(&rt, four, 31);
+    assert_eq!(rt; versions.len(&rt, left), 1 << 31);
+    assert_eq!(rt; versions.len(&rt, right), 1 << 31);
+    assert_eq!(rt;
+        versions.join_fault(&rt, left, right),
+        Some(JoinFault::Long)
+    );
 }
 
 // Two vectors of 128 elements have the height 1, and the leaves at their seam are full and stand side by side: the root
 // alone is made. The roots of two vectors of 1,024 elements are full too, and the row over both alone is made.
 #[test]
-fn joins_along_the_seam_alone(rt: HostRuntime) -> Result<(), Fail> {
-    let mut heap: Heap<Num> = Heap::new(rt.alloc());
-    let empty = Flex::empty(&mut heap)?.into_root();
-    let one = pushed(&mut heap, empty, 1)?;
-    let root = doubled_often(&mut heap, one, 7)?;
-    assert_eq!(rt; FlexRef::at(root).height(&heap), 1);
-    let made = heap.made();
-    let joined = doubled(&mut heap, root)?;
-    assert_eq!(rt; heap.made().wrapping_sub(made), 1);
-    let full = doubled_often(&mut heap, joined, 2)?;
-    assert_eq!(rt; FlexRef::at(full).height(&heap), 1);
-    let made = heap.made();
-    let higher = doubled(&mut heap, full)?;
-    assert_eq!(rt; heap.made().wrapping_sub(made), 1);
-    assert_eq!(rt; FlexRef::at(higher).height(&heap), 2);
-    Ok(())
+fn joins_along_the_seam_alone(rt: HostRuntime) {
+    let mut versions = Versions::start(&rt, rt.alloc());
+    let one = versions.push(&rt, 0, 1);
+    let root = versions.double(&rt, one, 7);
+    assert_eq!(rt; versions.height(&rt, root), 1);
+    let made = versions.made();
+    let joined = versions.join(&rt, root, root);
+    assert_eq!(rt; versions.made().wrapping_sub(made), 1);
+    let full = versions.double(&rt, joined, 2);
+    assert_eq!(rt; versions.height(&rt, full), 1);
+    let made = versions.made();
+    let higher = versions.join(&rt, full, full);
+    assert_eq!(rt; versions.made().wrapping_sub(made), 1);
+    assert_eq!(rt; versions.height(&rt, higher), 2);
 }
 
 // Each call once, on a few elements.
@@ -104,8 +71,7 @@ fn inserts_joins_and_cuts(rt: HostRuntime) -> Result<(), Fail> {
 fn refuses_a_part_that_ends_before_it_begins(rt: HostRuntime) -> Result<(), Fail> {
     let mut heap: Heap<Num> = Heap::new(rt.alloc());
     let empty = Flex::empty(&mut heap)?.into_root();
-    let one = pushed(&mut heap, empty, 1)?;
-    let four = doubled_often(&mut heap, one, 2)?;
+    let four = pushed_all(&mut heap, empty, 0, 4)?;
     match slice(&mut heap, FlexRef::at(four), 3, 2) {
         Ok(part) => {
             let _root = part.into_root();

@@ -28,4 +28,6 @@ mod tries;
 #[cfg(test)]
 mod vectors;
 #[cfg(test)]
+mod versions;
+#[cfg(test)]
 mod writes;

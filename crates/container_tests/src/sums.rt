@@ -2,15 +2,12 @@
 ghost use Rattle.std.specs.Prelude.{IsSome};
 ghost use Rattle.node_heap.specs.Heap.{row_at};
 
-use crate::samples::{counts_to, pushed_all};
+use crate::versions::Versions;
 use elem_core::Num;
 use node_heap::{Head, Heap, Link};
-use rrb_core::{Flex, FlexRef};
-use rrb_join::concat;
-use std::test::Fail;
 
-// Whether this row keeps sums.
-fn has_sums(heap: &Heap<Num>, link: Link) -> bool
+/// Whether this row keeps sums.
+pub fn has_sums(heap: &Heap<Num>, link: Link) -> bool
     requires { IsSome (row_at heap.now link) }
 {
     match heap.head(link) {
@@ -19,8 +16,8 @@ fn has_sums(heap: &Heap<Num>, link: Link) -> bool
     }
 }
 
-// Whether this row, or one at most so many links below it, keeps sums.
-fn has_sums_within(heap: &Heap<Num>, link: Link, levels: u32) -> bool
+/// Whether this row, or one at most so many links below it, keeps sums.
+pub fn has_sums_within(heap: &Heap<Num>, link: Link, levels: u32) -> bool
     requires { IsSome (row_at heap.now link) }
 {
     if has_sums(heap, link) {
@@ -40,24 +37,20 @@ fn has_sums_within(heap: &Heap<Num>, link: Link, levels: u32) -> bool
 
 // 2,000 elements stand in a root, two inner rows below it and leaves, and all children but the last are full.
 #[test]
-fn pushes_keep_no_sums(rt: HostRuntime) -> Result<(), Fail> {
-    let mut heap: Heap<Num> = Heap::new(rt.alloc());
-    let empty = Flex::empty(&mut heap)?.into_root();
-    let all = pushed_all(&mut heap, empty, 0, 2_000)?;
-    assert_eq!(rt; FlexRef::at(all).height(&heap), 2);
-    assert!(rt; !has_sums_within(&heap, all, 3));
-    Ok(())
+fn pushes_keep_no_sums(rt: HostRuntime) {
+    let mut versions = Versions::start(&rt, rt.alloc());
+    let all = versions.push_all(&rt, 0, 0, 2_000);
+    assert_eq!(rt; versions.height(&rt, all), 2);
+    assert!(rt; !versions.has_sums_within(&rt, all, 3));
 }
 
 // The leaf of the first 20 elements is neither full nor the last.
 #[test]
-fn a_join_keeps_sums(rt: HostRuntime) -> Result<(), Fail> {
-    let mut heap: Heap<Num> = Heap::new(rt.alloc());
-    let empty = Flex::empty(&mut heap)?.into_root();
-    let few = pushed_all(&mut heap, empty, 0, 20)?;
-    let many = pushed_all(&mut heap, empty, 20, 1_044)?;
-    let all = concat(&mut heap, FlexRef::at(few), FlexRef::at(many))?.into_root();
-    assert!(rt; has_sums(&heap, all));
-    assert!(rt; counts_to(&heap, all, 1_044));
-    Ok(())
+fn a_join_keeps_sums(rt: HostRuntime) {
+    let mut versions = Versions::start(&rt, rt.alloc());
+    let few = versions.push_all(&rt, 0, 0, 20);
+    let many = versions.push_all(&rt, 0, 20, 1_044);
+    let all = versions.join(&rt, few, many);
+    assert!(rt; versions.has_sums(&rt, all));
+    assert!(rt; versions.counts_to(&rt, all, 1_044));
 }

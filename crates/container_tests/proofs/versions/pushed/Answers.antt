@@ -6,7 +6,7 @@ use Rattle.node_heap.proofs.Frames.{Extends-trans}
 use Rattle.rrb_core.specs.Vector.{elements, IsGoodVector}
 use Rattle.same_value.specs.Cells.{IsCellLink, IsLines}
 use Rattle.container_tests.proofs.EqualityLemmas.{lines-stay, cell-stays, lines-more, row-cell}
-use Rattle.container_tests.proofs.equality.pushed.Goals as goal
+use Rattle.container_tests.proofs.versions.pushed.Goals as goal
 
 pub push-requires-clause-good : goal.push-requires-clause-good
 push-requires-clause-good c =

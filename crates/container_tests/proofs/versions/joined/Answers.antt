@@ -5,7 +5,7 @@ use Rattle.node_heap.specs.Heap.{form_at}
 use Rattle.rrb_core.specs.Vector.{elements, IsGoodVector}
 use Rattle.same_value.specs.Cells.{IsCellLink, IsLines}
 use Rattle.container_tests.proofs.EqualityLemmas.{lines-stay, cell-stays, lines-both}
-use Rattle.container_tests.proofs.equality.joined.Goals as goal
+use Rattle.container_tests.proofs.versions.joined.Goals as goal
 
 pub concat-requires-clause-left_good : goal.concat-requires-clause-left_good
 concat-requires-clause-left_good c = subst (IsGoodVector c.args.heap.now) (sym c.at.ensures) c.requires.left.good
