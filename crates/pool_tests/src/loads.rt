@@ -53,7 +53,7 @@ fn checks_and_loads_whole_documents(rt: HostRuntime) -> Result<(), Fail> {
 }
 
 // Each document fails the test beside it, and those before it in the order of the tests not.
-const DAMAGED: [(&[u8], Damage); 8] = [
+const DAMAGED: [(&[u8], Damage); 16] = [
     (
         b"{\"bits\":32,\"format\":\"ewig-pool\",\"roots\":[0,0,0,0],\"rows\":[[\"l\",[0]]],\"version\":1}",
         Damage::Link,
@@ -86,6 +86,41 @@ const DAMAGED: [(&[u8], Damage); 8] = [
         b"{\"bits\":32,\"format\":\"ewig-pool\",\"roots\":[2,3,4,5],\"rows\":[[\"m\",0,0,0,[]],[\"m\",0,0,0,[]],[\"s\",[0,1]],[\"m\",0,0,0,[]],[\"l\",[]],[\"q\",[]]],\"version\":1}",
         Damage::Row,
     ),
+    // A row of 15 links before the last one of its parent, and a row of height 2 over leaves.
+    (
+        b"{\"bits\":32,\"format\":\"ewig-pool\",\"roots\":[2,3,6,7],\"rows\":[[\"m\",0,0,0,[]],[\"m\",0,0,0,[]],[\"s\",[0,1]],[\"m\",0,0,0,[]],[\"l\",[2,2,2,2,2,2,2,2,2,2,2,2,2,2,2]],[\"l\",[2]],[\"i\",1,[4,5]],[\"l\",[]]],\"version\":1}",
+        Damage::Vector,
+    ),
+    (
+        b"{\"bits\":32,\"format\":\"ewig-pool\",\"roots\":[2,3,6,7],\"rows\":[[\"m\",0,0,0,[]],[\"m\",0,0,0,[]],[\"s\",[0,1]],[\"m\",0,0,0,[]],[\"l\",[2,2,2,2,2,2,2,2,2,2,2,2,2,2,2,2]],[\"l\",[2]],[\"i\",2,[4,5]],[\"l\",[]]],\"version\":1}",
+        Damage::Vector,
+    ),
+    // A pair whose key is a leaf, and tries with a link more than they have positions, and with one fewer.
+    (
+        b"{\"bits\":32,\"format\":\"ewig-pool\",\"roots\":[2,2,2,2],\"rows\":[[\"l\",[]],[\"p\",[0,0]],[\"m\",0,4096,0,[1]]],\"version\":1}",
+        Damage::Trie,
+    ),
+    (
+        b"{\"bits\":32,\"format\":\"ewig-pool\",\"roots\":[1,1,1,1],\"rows\":[[\"c\",\"a\"],[\"m\",0,4096,0,[0,0]]],\"version\":1}",
+        Damage::Trie,
+    ),
+    (
+        b"{\"bits\":32,\"format\":\"ewig-pool\",\"roots\":[1,1,1,1],\"rows\":[[\"c\",\"a\"],[\"m\",0,4128,0,[0]]],\"version\":1}",
+        Damage::Trie,
+    ),
+    // A name with a space, a pair among lines, and an undo whose root has one child.
+    (
+        b"{\"bits\":32,\"format\":\"ewig-pool\",\"roots\":[5,6,7,8],\"rows\":[[\"c\",\"a b\"],[\"l\",[]],[\"p\",[0,1]],[\"m\",0,262144,0,[2]],[\"m\",0,0,0,[]],[\"s\",[3,4]],[\"m\",0,0,0,[]],[\"l\",[]],[\"l\",[]]],\"version\":1}",
+        Damage::Kind,
+    ),
+    (
+        b"{\"bits\":32,\"format\":\"ewig-pool\",\"roots\":[7,8,9,10],\"rows\":[[\"c\",\"a\"],[\"l\",[]],[\"p\",[0,1]],[\"l\",[2]],[\"p\",[0,3]],[\"m\",0,4096,0,[4]],[\"m\",0,0,0,[]],[\"s\",[5,6]],[\"m\",0,0,0,[]],[\"l\",[]],[\"l\",[]]],\"version\":1}",
+        Damage::Kind,
+    ),
+    (
+        b"{\"bits\":32,\"format\":\"ewig-pool\",\"roots\":[2,3,5,6],\"rows\":[[\"m\",0,0,0,[]],[\"m\",0,0,0,[]],[\"s\",[0,1]],[\"m\",0,0,0,[]],[\"l\",[2]],[\"i\",1,[4]],[\"l\",[]]],\"version\":1}",
+        Damage::Kind,
+    ),
 ];
 
 #[test]
@@ -93,6 +128,17 @@ fn tells_the_damage_of_others(rt: HostRuntime) -> Result<(), Fail> {
     for (bytes, damage) in DAMAGED {
         assert_eq!(rt; checked(&rt, bytes).err(), Some(damage));
     }
+    Ok(())
+}
+
+// By five bits `A` and `a` have one code, and `A` is the smaller. So what fails is that the chain goes on in a trie row.
+#[test]
+fn tells_the_damage_of_a_chain_over_a_trie_row(rt: HostRuntime) -> Result<(), Fail> {
+    let bytes =
+        b"{\"bits\":5,\"format\":\"ewig-pool\",\"roots\":[3,3,3,3],\"rows\":[[\"c\",\"A\"],[\"c\",\"a\"],[\"m\",0,4096,0,[1]],[\"k\",[0,2]]],\"version\":1}";
+    let pool = pool_from_bytes(rt.alloc(), bytes.as_slice(), 5)?;
+    let answer: Result<Checked<Text>, Damage> = check(rt.alloc(), pool);
+    assert_eq!(rt; answer.err(), Some(Damage::Trie));
     Ok(())
 }
 
