@@ -6,13 +6,13 @@ use std::io;
 use std::io::{Error, ErrorKind, Read, Seek, SeekFrom, Write};
 use std::rt::Files;
 
-/// The kind of call that fails. A file is read and written two bytes a call, and fails at the second.
+/// The kind of call that fails. A file is read and written two bytes a call, and fails behind so many of its calls.
 #[derive(Clone, Copy, Debug, PartialEq, Eq)]
 pub enum Fails {
     Look,
     Open,
-    Read,
-    Write,
+    Read(u32),
+    Write(u32),
     Sync,
     Rename,
 }
@@ -23,9 +23,10 @@ pub struct Failing<R> {
     pub fails: Fails,
 }
 
-impl<R> Failing<R> {
-    fn unless(&self, fails: Fails) -> io::Result<()> {
-        if self.fails == fails {
+impl Fails {
+    // Fails where this call is of that kind.
+    fn at(self, call: Fails) -> io::Result<()> {
+        if self == call {
             Err(Error::from(ErrorKind::Other))
         } else {
             Ok(())
@@ -39,12 +40,12 @@ impl<R: Files> Files for Failing<R> {
     type Dir = R::Dir;
 
     fn open_file(&self, how: &OpenOptions, path: &str) -> io::Result<FailingFile<R::File>> {
-        self.unless(Fails::Open)?;
+        self.fails.at(Fails::Open)?;
         let file = self.system.open_file(how, path)?;
         Ok(FailingFile {
             file,
             fails: self.fails,
-            used: false,
+            calls: 0,
         })
     }
 
@@ -57,7 +58,7 @@ impl<R: Files> Files for Failing<R> {
     }
 
     fn symlink_metadata(&self, path: &str) -> io::Result<Metadata> {
-        self.unless(Fails::Look)?;
+        self.fails.at(Fails::Look)?;
         self.system.symlink_metadata(path)
     }
 
@@ -66,7 +67,7 @@ impl<R: Files> Files for Failing<R> {
     }
 
     fn rename(&self, from: &str, to: &str) -> io::Result<()> {
-        self.unless(Fails::Rename)?;
+        self.fails.at(Fails::Rename)?;
         self.system.rename(from, to)
     }
 
@@ -91,24 +92,22 @@ impl<R: Files> Files for Failing<R> {
 pub struct FailingFile<F> {
     file: F,
     fails: Fails,
-    used: bool,
+    calls: u32,
 }
 
 impl<F> FailingFile<F> {
-    fn next(&mut self, fails: Fails) -> io::Result<()> {
-        let again = self.used;
-        self.used = true;
-        if again && self.fails == fails {
-            Err(Error::from(ErrorKind::Other))
-        } else {
-            Ok(())
-        }
+    // How many calls came before this one.
+    fn next(&mut self) -> u32 {
+        let before = self.calls;
+        self.calls = before.saturating_add(1);
+        before
     }
 }
 
 impl<F: Read> Read for FailingFile<F> {
     fn read(&mut self, buf: &mut [u8]) -> io::Result<usize> {
-        self.next(Fails::Read)?;
+        let before = self.next();
+        self.fails.at(Fails::Read(before))?;
         let most = buf.len().min(2);
         self.file.read(&mut buf[..most])
     }
@@ -116,7 +115,8 @@ impl<F: Read> Read for FailingFile<F> {
 
 impl<F: Write> Write for FailingFile<F> {
     fn write(&mut self, buf: &[u8]) -> io::Result<usize> {
-        self.next(Fails::Write)?;
+        let before = self.next();
+        self.fails.at(Fails::Write(before))?;
         let most = buf.len().min(2);
         self.file.write(&buf[..most])
     }
@@ -142,9 +142,7 @@ impl<F: OpenFile> OpenFile for FailingFile<F> {
     }
 
     fn sync_all(&self) -> io::Result<()> {
-        if self.fails == Fails::Sync {
-            return Err(Error::from(ErrorKind::Other));
-        }
+        self.fails.at(Fails::Sync)?;
         self.file.sync_all()
     }
 

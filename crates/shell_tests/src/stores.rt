@@ -125,8 +125,8 @@ fn keeps_or_leaves(
 const FAULTS: [(Fails, bool, bool); 6] = [
     (Fails::Look, false, false),
     (Fails::Open, false, false),
-    (Fails::Read, false, true),
-    (Fails::Write, true, false),
+    (Fails::Read(1), false, true),
+    (Fails::Write(1), true, false),
     (Fails::Sync, true, false),
     (Fails::Rename, true, false),
 ];
@@ -138,5 +138,24 @@ fn leaves_the_old_file_after_a_fault(rt: HostRuntime) -> Result<(), Fail> {
         keeps_or_leaves(&rt, fails, fetches, keeps)?;
     }
     fs::remove_file(&rt, "old-of-a-test")?;
+    Ok(())
+}
+
+// The third read fails, and two take the four bytes that tell that the file has more than three.
+#[test]
+fn reads_one_byte_past_the_limit_at_most(rt: HostRuntime) -> Result<(), Fail> {
+    fs::write(&rt, "long-file-of-a-test", b"the long file")?;
+    let system = Failing {
+        system: &rt,
+        fails: Fails::Read(2),
+    };
+    let mut store = DirStore::new((system, rt.alloc()));
+    let mut file = Vec::new(rt.alloc());
+    let fetched = store.fetch("long-file-of-a-test", 3, &mut file);
+    assert_eq!(rt; fetched, Err(FetchFault::Large));
+    file.clear();
+    let fetched = store.fetch("long-file-of-a-test", 4, &mut file);
+    assert_eq!(rt; fetched, Err(FetchFault::Failed));
+    fs::remove_file(&rt, "long-file-of-a-test")?;
     Ok(())
 }
