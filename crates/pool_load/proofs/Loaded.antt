@@ -9,7 +9,7 @@ use Rattle.std.proofs.lemmas.List.Sums.{sum_by-cons}
 use Rattle.node_heap.specs.Links.{Links, count, Reaches, here, below, IsReached}
 use Rattle.node_heap.specs.Forms.{Form, Forms, Row, cell, node, leaf, inner, trie, chain, pair, state, form_of, links_of, links_in, is_cell, is_node}
 use Rattle.node_heap.specs.Heap.{Heap, row_at, links_at, holds_at, live_count, IsGraph}
-use Rattle.node_heap.specs.Calls.{SameRows, Unchanged, Builds}
+use Rattle.node_heap.specs.Calls.{SameRows, Unchanged, HasGreater, KeepsToNeed, Builds}
 use Rattle.node_heap.proofs.Frames.{Extends-trans, Extends-rows, Extends-Unchanged}
 use Rattle.node_heap.proofs.Reach.{Reaches-same}
 use Rattle.node_heap.proofs.Trees.{SameBelow-links}
@@ -296,4 +296,14 @@ module _ {T : Type 0} {text : T → Bytes} {old mid top new : Heap T} {P : Pool}
           no_fewer = omega (arith, room.made, rows.makes.no_fewer, held.makes.no_fewer, up.made);
           made = omega (arith, live, room.made, rows.makes.made, cells, nodes, all, held.makes.made, held.few_cells, held.few_nodes, up.made);
         };
+      }
+
+  -- room was made for just the rows of the pool, and each of them was made of a spare
+  pub need-kept : {first : Heap T} {cells nodes : ℕ} → HasGreater first old cells nodes → Unchanged first old → cells ≡ cells_of P.rows → nodes ≡ nodes_of P.rows → KeepsToNeed first new (cells_of P.rows) (nodes_of P.rows)
+  need-kept greater room cells nodes =
+      let rows = is.rows in
+      let held = is.held in
+      record {
+        few_cells = omega (arith, greater.spare_cells, cells, room.cells, rows.makes.spare_cells, rows.makes.cells, held.makes.spare_cells, held.makes.cells, up.spare_cells, up.cells);
+        few_nodes = omega (arith, greater.spare_nodes, nodes, room.nodes, rows.makes.spare_nodes, rows.makes.nodes, held.makes.spare_nodes, held.makes.nodes, up.spare_nodes, up.nodes);
       }

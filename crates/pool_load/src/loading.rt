@@ -1,11 +1,11 @@
 //! A checked pool, loaded into a heap.
-ghost use Rattle.std.specs.Prelude.{◌≡◌, ℕ, ◌^◌, ◌<◌, ◌≤◌, [], length, map, slice_index, IfOk, OnErr};
+ghost use Rattle.std.specs.Prelude.{◌≡◌, ℕ, ◌^◌, ◌<◌, ◌≤◌, [], length, map, slice_index, IfOk, OnOk, OnErr};
 ghost use Rattle.std.specs.Prelude.{vec_capacity};
 ghost use Rattle.node_heap.specs.Links.{count};
 ghost use Rattle.node_heap.specs.Heap.{holds_at, hold_count, IsGraph};
-ghost use Rattle.node_heap.specs.Calls.{Unchanged};
+ghost use Rattle.node_heap.specs.Calls.{KeepsToNeed};
 ghost use Rattle.pool_text.specs.Rows.{row_form};
-ghost use Rattle.pool_load.specs.Loads.{Loads, AreLoaded, cells_of};
+ghost use Rattle.pool_load.specs.Loads.{Loads, AreLoaded, cells_of, nodes_of};
 ghost use Rattle.pool_load.specs.Making.{ArePlacesBelow, AreReachedWithout, GivesUp};
 
 use crate::lengths::lengths_of;
@@ -17,8 +17,8 @@ use pool_text::{Pool, Row};
 use std::alloc::Global;
 
 /// Makes new rows that stand for the pool, one for each of its rows, and gives the links of its roots, each held once for each
-/// of its places there. All memory is taken before the first row is made, so that a refused call changes nothing but spares.
-/// All holds together are below 2^59 before.
+/// of its places there. All memory is taken before the first row is made, so that a refused call changes nothing, and no more
+/// room than the pool needs. All holds together are below 2^59 before.
 pub fn load<T: Stored>(
     alloc: Global,
     heap: &mut Heap<T>,
@@ -28,7 +28,8 @@ pub fn load<T: Stored>(
     ensures loads { IfOk result (λ roots. Loads heap.old heap.new roots.items checked) }
     ensures loaded { IfOk result (λ roots. AreLoaded T.bytes_of heap.new roots.items checked) }
     ensures roots { IfOk result (λ roots. length roots.items ≡ 4) }
-    ensures refused { OnErr result (Unchanged heap.old heap.new) }
+    ensures spares { OnOk result (KeepsToNeed heap.old heap.new (cells_of checked.rows) (nodes_of checked.rows)) }
+    ensures refused { OnErr result (heap.new ≡ heap.old) }
 {
     // The call tells the proof that this is the graph of a heap.
     let _ = heap.live();

@@ -30,7 +30,7 @@ use Rattle.rrb_join.specs.declared.cutting.SliceFault.{SliceFault}
 use Rattle.rrb_join.specs.declared.cutting.SliceFault.TheVariants.{Range as slice_range_fault, Memory as slice_memory}
 use Rattle.rrb_join.specs.declared.joining.JoinFault.{JoinFault}
 use Rattle.rrb_join.specs.declared.joining.JoinFault.TheVariants.{Long as join_long, Memory as join_memory}
-use Rattle.shell_terms.specs.Edit.{Bytes, PlainEdit, new, add, set as set_line, put, del, cat, cut, copy, drop as drop_buffer, star, unstar}
+use Rattle.shell_terms.specs.Edit.{Bytes, PlainEdit, new, add, set as set_line, put, del, cat, cut, copy, drop as drop_buffer, fill, star, unstar}
 use Rattle.shell_terms.specs.Command.{PlainCommand, edit}
 use Rattle.plain_space.specs.declared.refusal.Refusal.{Refusal}
 use Rattle.plain_space.specs.declared.refusal.Refusal.TheVariants.{Absent, Exists, Range, Limit, Memory}
@@ -282,6 +282,10 @@ module _ (now : State) (name : Bytes) where
   unfolding edited
   drop-made xs is = ap (λ o. given o Absent (λ lines. Ok (without_lines now name))) is
 
+  pub fill-made : (xs : List Bytes) → edited now (fill name xs) ≡ Ok (with_lines now name xs)
+  unfolding edited
+  fill-made xs = refl
+
   pub star-made : is_starred now name ≡ false → edited now (star name) ≡ Ok (with_star now name)
   unfolding edited
   star-made none = rw none refl
@@ -306,6 +310,10 @@ module _ (W : Workspace) (change : PlainEdit) where
     pub stuffed : is_full W ≡ true → answer W (edit change) ≡ Err Limit
     unfolding answer
     stuffed full = ap (becomes W) is ∙ ap (λ t. unless t Limit (done (with_current W next))) full
+
+    -- where undo is full, nothing is done
+    pub limited : {s : RootedHeap} → is_full W ≡ true → IsRefused (edit change) s s W Limit
+    limited full = record { due = stuffed full; same = refl }
 
     -- memory may be refused to an edit that nothing else refuses
     pub may-lack : is_full W ≡ false → MayLackMemory W (edit change)
@@ -555,21 +563,26 @@ can-put {s} {t} {xs = xs} {W = W} {key = key} {name = name} named room m few_cel
     let alike : alike_buffers t.bits W.current key ≡ alike_buffers s.bits W.current name = (λ i. alike_buffers (room.same.bits i) W.current (named i)) in
     (W, xs, m.keeps, m.lines, room.free, (omega (arith, m.cells, room.spares.0, few_cells), omega (arith, m.nodes, room.spares.1, few_nodes, alike)))
 
--- room was made, the lines were made, and the state turned to the one that has them
-pub edit-done : {s t u : RootedHeap} {new : Heap Bytes} {l c n : ℕ} {xs : List Bytes} {W : Workspace} {key name : Bytes} (change : PlainEdit) → key ≡ name → HasBufferRoom s t name W → IsMade t new [] l xs W c n
+-- the lines were made where there was room for them, and the state turned to the one that has them
+pub lines-put : {s t u : RootedHeap} {new : Heap Bytes} {l c n : ℕ} {xs : List Bytes} {W : Workspace} {key name : Bytes} (change : PlainEdit) → key ≡ name → IsSame s t → is_full W ≡ false → IsMade t new [] l xs W c n
     → edited W.current change ≡ Ok (with_lines W.current name xs) → TurnsTo (record t { heap = new }) u [] (21 + alike_buffers t.bits W.current key) (with_current W (with_lines W.current key xs))
     → c + n + (21 + alike_buffers s.bits W.current name) ≤ edit_cost s.bits change W.current → IsCarriedOut (edit change) s u W
-edit-done {s} {t} {u} {new} {l} {c} {n} {xs} {W} {key} {name} change is room m made turn less =
-    let same : IsSame s t = room.same in
+lines-put {s} {t} {u} {new} {l} {c} {n} {xs} {W} {key} {name} change is same free m made turn less =
     let named : TurnsTo (record t { heap = new }) u [] (21 + alike_buffers t.bits W.current name) (with_current W (with_lines W.current name xs)) =
     subst (λ (k : Bytes). TurnsTo (record t { heap = new }) u [] (21 + alike_buffers t.bits W.current k) (with_current W (with_lines W.current k xs))) is turn in
     let turned : TurnsTo (record t { heap = new }) u [] (21 + alike_buffers s.bits W.current name) (with_current W (with_lines W.current name xs)) =
     subst (λ (k : ℕ). TurnsTo (record t { heap = new }) u [] (21 + alike_buffers k W.current name) (with_current W (with_lines W.current name xs))) same.bits named in
     record {
       after = with_current W (with_lines W.current name xs);
-      told = does W change (with_lines W.current name xs) made room.free;
+      told = does W change (with_lines W.current name xs) made free;
       turns = turns-after (0 + (c + n)) (cost s.bits (edit change) W) (rises-then (rises-same same.heap) m.rises) same.bits turned (omega (arith, less, cost-edit s.bits change W));
     }
+
+-- the same after room was made for an edit
+pub edit-done : {s t u : RootedHeap} {new : Heap Bytes} {l c n : ℕ} {xs : List Bytes} {W : Workspace} {key name : Bytes} (change : PlainEdit) → key ≡ name → HasBufferRoom s t name W → IsMade t new [] l xs W c n
+    → edited W.current change ≡ Ok (with_lines W.current name xs) → TurnsTo (record t { heap = new }) u [] (21 + alike_buffers t.bits W.current key) (with_current W (with_lines W.current key xs))
+    → c + n + (21 + alike_buffers s.bits W.current name) ≤ edit_cost s.bits change W.current → IsCarriedOut (edit change) s u W
+edit-done change is room m made turn less = lines-put change is room.same room.free m made turn less
 
 -- room was made, and the state turned to the one in which the buffer is gone
 pub drop-done : {s t u : RootedHeap} {new : Heap Bytes} {spent : List ℕ} {l : ℕ} {W : Workspace} {name : Bytes} (xs : List Bytes) → IsSame s t → Answered t.heap new spent l 0 (8 + alike_buffers t.bits W.current name)
@@ -633,7 +646,7 @@ cut-done {s} {t} {u} {new} {n = n} {xs = xs} {ys = ys} {W = W} {key = key} {name
     }
 
 -- nothing was done, for a reason that is due
-pub edit-refused : {s t : RootedHeap} {W : Workspace} {change : PlainEdit} {why : Refusal} → IsSame s t → IsDue W (edit change) why → IsRefused (edit change) s t W why
+pub edit-refused : {s t : RootedHeap} {W : Workspace} {change : PlainEdit} {why : Refusal} → t ≡ s → IsDue W (edit change) why → IsRefused (edit change) s t W why
 edit-refused same due = record { due = due; same = same }
 
 -- what a look for a buffer says of making it

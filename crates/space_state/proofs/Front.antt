@@ -1,13 +1,12 @@
 -- What a rooted heap keeps, seen as the pool of its rows.
-use Rattle.std.proofs.Common.{◌≡◌, refl, sym, ◌∙◌, ap, subst, ℕ, ◌<◌, List, [], Result, Ok, Err}
+use Rattle.std.proofs.Common.{◌≡◌, refl, sym, ◌∙◌, ap, subst, ℕ, List, [], Result, Ok, Err}
 use Rattle.std.proofs.lemmas.List.{append-nil}
 use Rattle.node_heap.specs.Links.{count}
-use Rattle.node_heap.specs.Heap.{Heap, holds_at, live_count}
-use Rattle.node_heap.specs.Calls.{KeepsBelow}
+use Rattle.node_heap.specs.Heap.{holds_at, live_count}
 use Rattle.pool_text.specs.Pool.{row_count, pool_at}
 use Rattle.pool_text.specs.Pool as pools
 use Rattle.pool_text.specs.declared.pool.Pool.{Pool}
-use Rattle.pool_text.proofs.Held.{nothing-leaks, pools-stay}
+use Rattle.pool_text.proofs.Held.{nothing-leaks}
 use Rattle.pool_check.specs.Damages.{IsValid}
 use Rattle.shell_terms.specs.Command.{PlainCommand}
 use Rattle.plain_space.specs.declared.refusal.Refusal.{Refusal}
@@ -16,9 +15,8 @@ use Rattle.state_rows.specs.Standing.{StandsFor}
 use Rattle.state_rows.proofs.HeapPools.{pool-stands}
 use Rattle.space_state.specs.declared.roots.RootedHeap.{RootedHeap}
 use Rattle.space_state.specs.Roots.{root_list, Keeps}
-use Rattle.space_state.specs.Turns.{IsSame, IsCarriedOut, IsRefused, EndsOnRows}
-use Rattle.space_state.specs.View.{SpaceView, shown, CarriesOut, RefusesCommand, Ends}
-use Rattle.space_state.proofs.Keeping.{keeps-same}
+use Rattle.space_state.specs.Turns.{IsCarriedOut, IsRefused, EndsOnRows}
+use Rattle.space_state.specs.View.{shown, CarriesOut, RefusesCommand, Ends}
 
 -- the pool's bits are those of the space
 pub bits-are : (s : RootedHeap) → (shown s).pool.bits ≡ s.bits
@@ -54,22 +52,9 @@ carried command old new W K done =
       made = rw (rows, rows') done.turns.made;
     }
 
--- where nothing but spares has changed, the same is kept
-pub same-kept : (old new : RootedHeap) (W : Workspace) → IsSame old new → Keeps old [] W → shown new ≡ shown old
-same-kept old new W same K =
-    let P : List ℕ → ℕ → Heap (List ℕ) → Pool = λ roots bits h. pool_at (λ text. text) h roots bits in
-    let roots : root_list new.roots ≡ root_list old.roots = ap root_list same.roots in
-    let keeps : (r : ℕ) → KeepsBelow old.heap new.heap r = λ r m way. same.heap.rows m in
-    let live : (r : ℕ) → 0 < count r (root_list old.roots) → _ = λ r here. K.graph.held r (subst (λ n. 0 < n) (sym (roots-held old W K r)) here) in
-    let pools : pool_at (λ text. text) new.heap (root_list old.roots) old.bits ≡ pool_at (λ text. text) old.heap (root_list old.roots) old.bits =
-    pools-stay (λ text. text) old.heap new.heap (root_list old.roots) old.bits K.graph same.heap.graph live (λ r here. keeps r) in
-    let pool : (shown new).pool ≡ (shown old).pool = ap (λ rs. P rs new.bits new.heap) roots ∙ ap (λ b. P (root_list old.roots) b new.heap) same.bits ∙ pools in
-    let view : Pool → ℕ → ℕ → SpaceView = λ p l m. record { pool = p; live = l; made = m } in
-    ap (λ p. view p (live_count new.heap) new.heap.made) pool ∙ ap (λ l. view (shown old).pool l new.heap.made) same.heap.live ∙ ap (λ m. view (shown old).pool (live_count old.heap) m) same.heap.made
-
 -- a refusal leaves what a space shows
 pub refused : (command : PlainCommand) (old new : RootedHeap) (W : Workspace) (why : Refusal) → Keeps old [] W → IsRefused command old new W why → RefusesCommand command (shown old) (shown new) W why
-refused command old new W why K refusal = record { due = refusal.due; same = same-kept old new W refusal.same K }
+refused command old new W why K refusal = record { due = refusal.due; same = ap shown refusal.same }
 
 -- how a call on the rows ends, seen by the pool
 pub ends-seen : (command : PlainCommand) (old : RootedHeap) (result : Result (Unit {0}) Refusal) (new : RootedHeap) (W : Workspace) →
@@ -80,4 +65,4 @@ ends-seen command old (Err why) new W K obeys = record { work = W; stands = pool
 -- after a call that carries out a command, or refuses it, the roots stand for a workspace still
 pub kept-on : (command : PlainCommand) (old : RootedHeap) (result : Result (Unit {0}) Refusal) (new : RootedHeap) → (W : Workspace) × Keeps old [] W → EndsOnRows command old result new → (W : Workspace) × Keeps new [] W
 kept-on command old (Ok done) new (W, K) obeys = let is : IsCarriedOut command old new W = obeys W K in (is.after, is.turns.keeps)
-kept-on command old (Err why) new (W, K) obeys = let is : IsRefused command old new W why = obeys W K in (W, keeps-same is.same K)
+kept-on command old (Err why) new (W, K) obeys = let is : IsRefused command old new W why = obeys W K in (W, subst (λ (s : RootedHeap). Keeps s [] W) (sym is.same) K)

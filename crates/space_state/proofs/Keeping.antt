@@ -1,14 +1,15 @@
 -- How what a rooted heap keeps follows from one call to the next: what calls answer, what is released, which root is another, and how
 -- far the rows rise.
-use Rattle.std.proofs.Common.{◌≡◌, ℕ, ◌+◌, ◌^◌, ◌<◌, ◌≤◌, List, [], ◌∷◌, length, false, eqb, Option, Some, None, IsSome, refl, sym, ap, subst, ◌∙◌, arith, length-append}
+use Rattle.std.proofs.Common.{◌≡◌, ℕ, ◌+◌, ◌^◌, ◌<◌, ◌≤◌, List, [], ◌∷◌, length, false, eqb, Option, Some, None, IsSome, Result, Ok, Err, refl, sym, ap, subst, ◌∙◌, arith, length-append}
+use Rattle.std.specs.Prelude.{sum_by, OnErr}
 use Rattle.std.proofs.lemmas.Bool.Decides.{nat_tests}
 use Rattle.elem_core.specs.declared.codes.TheConstants.{CODE_BITS}
 use Rattle.node_heap.specs.Links.{count}
-use Rattle.node_heap.specs.Forms.{cell}
-use Rattle.node_heap.specs.Heap.{Heap, row_at, holds_at, hold_count, live_count, one_at, form_at, IsGraph}
-use Rattle.node_heap.specs.Calls.{Extends, Makes, Releases, Unchanged, Adds, Answered}
+use Rattle.node_heap.specs.Forms.{cell, is_cell, is_node}
+use Rattle.node_heap.specs.Heap.{Heap, row_at, holds_at, hold_count, live_count, cell_count, node_count, one_at, form_at, IsGraph}
+use Rattle.node_heap.specs.Calls.{Extends, Makes, Releases, Unchanged, HasGreater, Adds, Answered}
 use Rattle.node_heap.proofs.Counts.{test_same}
-use Rattle.node_heap.proofs.Frames.{KeepsHeld-Releases, Balances-Makes, Unchanged-refl}
+use Rattle.node_heap.proofs.Frames.{KeepsHeld-Releases, Balances-Makes}
 use Rattle.node_heap.proofs.GraphLemmas.{IsGraph-kinds}
 use Rattle.node_heap.proofs.BuildLemmas.{count-cons, count-append}
 use Rattle.rrb_core.specs.Vector.{IsGoodVector, elements, height_at}
@@ -27,6 +28,7 @@ use Rattle.space_state.specs.declared.roots.Roots.{Roots}
 use Rattle.space_state.specs.declared.roots.RootedHeap.{RootedHeap}
 use Rattle.space_state.specs.Roots.{base_of, root_list, Keeps}
 use Rattle.space_state.specs.Turns.{RowsRise, IsSame, TurnsTo}
+use Rattle.space_state.specs.View.{room_of}
 
 -- ## Counts
 
@@ -92,8 +94,11 @@ base-length Closed = omega arith
 base-length (Open l) = omega arith
 
 -- there are few holds
+pub holds-few : {s : RootedHeap} {b : List ℕ} {W : Workspace} → Keeps s b W → hold_count s.heap ≤ 5 + length b
+holds-few {s} {b} K = omega (arith, keeps-total K, base-length s.roots.batch)
+
 pub few-holds : {s : RootedHeap} {b : List ℕ} {W : Workspace} → Keeps s b W → length b ≤ 100 → hold_count s.heap < 2 ^ 59
-few-holds {s} {b} K short = omega (arith, keeps-total K, base-length s.roots.batch, short)
+few-holds K short = omega (arith, holds-few K, short)
 
 pub root-held : {s : RootedHeap} {b : List ℕ} {W : Workspace} → Keeps s b W → (k : ℕ) → 0 < count k (root_list s.roots) → 0 < holds_at s.heap k
 root-held K k some = omega (arith, keeps-holds K k, some)
@@ -196,12 +201,36 @@ keeps-same {s} {s'} {b} {W} same K =
     (λ k. omega (arith, same.heap.holds k, keeps-holds K k, ap (λ (r : Roots). count k (root_list r)) same.roots))
     (omega (arith, same.heap.count, keeps-total K, ap (λ (r : Roots). length (base_of r.batch)) same.roots))
 
-pub same-refl : {s : RootedHeap} {b : List ℕ} {W : Workspace} → Keeps s b W → IsSame s s
-same-refl {s} K = record { roots = refl; bits = refl; heap = Unchanged-refl s.heap K.graph }
-
 -- room is made
 pub same-heap : {s : RootedHeap} {new : Heap Bytes} → Unchanged s.heap new → IsSame s (record s { heap = new })
 same-heap same = record { roots = refl; bits = refl; heap = same }
+
+-- where room was refused, all is as it was
+pub heap-is : {s : RootedHeap} {new : Heap Bytes} → new ≡ s.heap → record s { heap = new } ≡ s
+heap-is {s} same = ap (λ (h : Heap Bytes). record s { heap = h }) same
+
+pub heap-refused : {X Y : Type 0} (s : RootedHeap) (new : Heap Bytes) (result : Result X Y) → OnErr result (new ≡ s.heap) → OnErr result (record s { heap = new } ≡ s)
+heap-refused s new (Ok x) same = tt
+heap-refused s new (Err e) same = heap-is same
+
+-- ## The room of a heap
+
+room-as : (old new : Heap Bytes) → cell_count new + new.spare_cells ≡ cell_count old + old.spare_cells → node_count new + new.spare_nodes ≡ node_count old + old.spare_nodes → room_of new ≡ room_of old
+room-as old new cells nodes = λ i. record { cells = cells i; nodes = nodes i }
+
+-- what was asked for is the room of a heap that was empty
+pub room-begun : {old new : Heap Bytes} (cells nodes : ℕ) → old.rows ≡ [] → old.spare_cells ≡ 0 → old.spare_nodes ≡ 0 → Unchanged old new → HasGreater old new cells nodes → room_of new ≡ record { cells = cells; nodes = nodes }
+room-begun {old} {new} cells nodes empty no_cells no_nodes rest greater =
+    let all_cells : cell_count new + new.spare_cells ≡ cells = omega (arith, rest.cells, ap (sum_by is_cell) empty, no_cells, greater.spare_cells) in
+    let all_nodes : node_count new + new.spare_nodes ≡ nodes = omega (arith, rest.nodes, ap (sum_by is_node) empty, no_nodes, greater.spare_nodes) in
+    λ i. record { cells = all_cells i; nodes = all_nodes i }
+
+-- it stays where rows are made of spares, and where they become spares
+pub room-made : {old new : Heap Bytes} {c n : ℕ} → Makes old new c n → room_of new ≡ room_of old
+room-made {old} {new} makes = room-as old new (omega (arith, makes.cells, makes.spare_cells)) (omega (arith, makes.nodes, makes.spare_nodes))
+
+pub room-released : {old new : Heap Bytes} {l : ℕ} → Releases old new l → room_of new ≡ room_of old
+room-released {old} {new} rel = room-as old new (omega (arith, rel.cells)) (omega (arith, rel.nodes))
 
 -- ## Where a hold is given up
 

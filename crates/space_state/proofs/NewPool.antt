@@ -39,7 +39,7 @@ use Rattle.state_rows.specs.Standing.{IsBase}
 use Rattle.state_rows.proofs.Keys.{own-name}
 use Rattle.space_state.specs.declared.roots.RootedHeap.{RootedHeap}
 use Rattle.space_state.specs.Roots.{base_of, root_list, Keeps}
-use Rattle.space_state.specs.View.{SpaceView, shown, start_view}
+use Rattle.space_state.specs.View.{Room, room_of, SpaceView, shown, start_view}
 use Rattle.space_state.proofs.Keeping.{history-length}
 use Rattle.space_state.proofs.Front.{roots-held, rows-are}
 
@@ -246,9 +246,9 @@ new-pool s K six =
     (omega (arith, six, count_by-le-length is_some s.heap.rows)) full
 
 -- a space that has nothing, and six rows, shows the start space's
-pub new-shown : (s : RootedHeap) (bits : ℕ) → Keeps s [] start → s.bits ≡ bits → live_count s.heap ≡ 6 → s.heap.made ≡ 6 → shown s ≡ start_view bits
-new-shown s bits K same six made =
-    let view : Pool → ℕ → ℕ → SpaceView = λ p l m. record { pool = p; live = l; made = m } in
+pub new-shown : (s : RootedHeap) (bits : ℕ) → Keeps s [] start → s.bits ≡ bits → live_count s.heap ≡ 6 → s.heap.made ≡ 6 → room_of s.heap ≡ record { cells = 0; nodes = 6 } → shown s ≡ start_view bits
+new-shown s bits K same six made room =
+    let view : Pool → ℕ → ℕ → SpaceView = λ p l m. record { pool = p; live = l; made = m; room = room_of s.heap } in
     let begun : ℕ → Pool = λ b. record start_pool { bits = b } in
     ap (λ p. view p (live_count s.heap) s.heap.made) (new-pool s K six) ∙ ap (λ b. view (begun b) (live_count s.heap) s.heap.made) same
-    ∙ ap (λ l. view (begun bits) l s.heap.made) six ∙ ap (λ m. view (begun bits) 6 m) made
+    ∙ ap (λ l. view (begun bits) l s.heap.made) six ∙ ap (λ m. view (begun bits) 6 m) made ∙ ap (λ (r : Room). record { pool = begun bits; live = 6; made = 6; room = r }) room

@@ -1,6 +1,6 @@
 -- What the plain answer is to steps through histories, to batches, versions and stars, and how refusals end.
 use Rattle.std.proofs.Common.{◌≡◌, refl, sym, ◌∙◌, ap, subst, ℕ, ◌+◌, ◌-◌, ◌<◌, ◌≤◌, List, [], ◌∷◌, ◌++◌, length, take, arith, Bool, true, false, Option, Some, None, is_some, IsSome, Result, Ok, Err, slice_get, leb, IsTrue, IsOk, MatchOption}
-use Rattle.std.specs.Prelude.{IsErrAnd, MatchResult}
+use Rattle.std.specs.Prelude.{IsErrAnd, MatchBool, MatchResult}
 use Rattle.std.proofs.lemmas.Bool.{le-leb}
 use Rattle.std.specs.FinMap as map
 use Rattle.node_heap.specs.Heap.{Heap, holds_at, hold_count, one_at, HasSpares, IsGraph}
@@ -23,7 +23,7 @@ use Rattle.space_state.specs.declared.roots.Batch.{Batch as Batches}
 use Rattle.space_state.specs.declared.roots.Batch.TheVariants.{Closed, Open}
 use Rattle.space_state.specs.declared.turning.TheConstants.{EDIT_NODES}
 use Rattle.space_state.specs.Roots.{base_of, Keeps}
-use Rattle.space_state.specs.Turns.{IsDueBy, IsDue, IsSame, RoomIsMade, TurnsTo, IsCarriedOut, IsRefused}
+use Rattle.space_state.specs.Turns.{IsDueBy, IsDue, RoomIsMade, RoomIsRefused, TurnsTo, IsCarriedOut, IsRefused}
 use Rattle.space_state.specs.Stepping.{IsStepped, IsStepRefused}
 use Rattle.state_rows.proofs.Staying.{states-stay}
 use Rattle.space_state.proofs.Keeping.{history-length, history-short, history-low, history-stays, same-heap, keeps-same, keeps-gained, keeps-swapped, first-held, second-held, held-stands, answered-one, unchanged-stands, Rises, rises-answered, rises-nodes, rises-more, rises-same, rises-then, turns-by, turns-after}
@@ -185,14 +185,20 @@ module _ (W : Workspace) where
 pub may-lack : {W : Workspace} {after : Workspace} (command : PlainCommand) → IsTrue (wants_memory command) → answer W command ≡ done after → MayLackMemory W command
 may-lack command wants told = record { wants = wants; granted = subst IsOk (sym told) refl }
 
-pub memory-refused : {W : Workspace} {command : PlainCommand} {old new : RootedHeap} (result : Result (Unit {0}) Refusal) → IsErrAnd result (λ why. why ≡ Memory) → MayLackMemory W command → IsSame old new
+pub memory-refused : {W : Workspace} {command : PlainCommand} {old new : RootedHeap} (result : Result (Unit {0}) Refusal) → IsErrAnd result (λ why. why ≡ Memory) → MayLackMemory W command → new ≡ old
     → MatchResult result (λ _. IsCarriedOut command old new W) (IsRefused command old new W)
 memory-refused {W} {command} {old} {new} (Err why) is lack same = subst (λ why. IsRefused command old new W why) (sym is) (record { due = lack; same = same })
 memory-refused (Ok x) is lack same = absurd is
 
+-- so may room for an edit, where undo is not full
+pub room-lacks-memory : (W : Workspace) {old new : RootedHeap} (nodes : ℕ) (result : Result (Unit {0}) Refusal) → IsErrAnd result (λ why. why ≡ Memory) → is_full W ≡ false → new ≡ old
+    → MatchResult result (λ _. RoomIsMade old new W nodes) (RoomIsRefused old new W)
+room-lacks-memory W nodes (Err why) is free same = record { same = same; due = subst (λ t. MatchBool t (why ≡ Limit) (why ≡ Memory)) (sym free) is }
+room-lacks-memory W nodes (Ok x) is free same = absurd is
+
 -- so may a step through the histories where it would be made
 pub step-lacks-memory : (W : Workspace) (from to : List State) {s t : RootedHeap} {made : State × List State × List State} (result : Result (ℕ × ℕ) Refusal) → IsErrAnd result (λ why. why ≡ Memory) → history_step W from to ≡ Ok made
-    → IsSame s t → MatchResult result (λ made. IsStepped from to s t W made.0 made.1) (IsStepRefused from to s t W)
+    → t ≡ s → MatchResult result (λ made. IsStepped from to s t W made.0 made.1) (IsStepRefused from to s t W)
 step-lacks-memory W from to {s} {t} (Err why) is told same = subst (λ why. IsStepRefused from to s t W why) (sym is) (record { due = subst IsOk (sym told) refl; same = same })
 step-lacks-memory W from to (Ok made) is told same = absurd is
 

@@ -21,9 +21,8 @@ use Rattle.space_state.specs.declared.roots.Roots.{Roots}
 use Rattle.space_state.specs.declared.roots.RootedHeap.{RootedHeap}
 use Rattle.space_state.specs.Roots.{root_list, Keeps}
 use Rattle.space_state.specs.View.{shown, TakesRows, IsTaken, EndsTaking, TakesPool}
-use Rattle.space_state.specs.Turns.{IsSame}
-use Rattle.space_state.proofs.Keeping.{keeps-holds, root-held, held-live, keeps-same}
-use Rattle.space_state.proofs.Front.{pool-is, same-kept}
+use Rattle.space_state.proofs.Keeping.{keeps-holds, root-held, held-live}
+use Rattle.space_state.proofs.Front.{pool-is}
 
 -- a list of four is its elements
 pub four : (ks : List ℕ) (a b c d : ℕ) → length ks ≡ 4 → a ≡ get_or ks 0 a → b ≡ get_or ks 1 b → c ≡ get_or ks 2 c → d ≡ get_or ks 3 d → ks ≡ a ∷ b ∷ c ∷ d ∷ []
@@ -87,23 +86,23 @@ module _ (s : RootedHeap) (W : Workspace) (K : Keeps s [] W) (h : Heap Bytes) (P
 
 -- how a call on the rows that takes a pool ends, seen by the pool
 pub taken-seen : (P : Pool) (old : RootedHeap) (result : Result (Unit {0}) Refusal) (new : RootedHeap) (W : Workspace) → Keeps old [] W
-    → EndsTaking W result (TakesRows P old new) (IsSame old new) → TakesPool P (shown old) result (shown new)
+    → EndsTaking W result (TakesRows P old new) (new ≡ old) → TakesPool P (shown old) result (shown new)
 taken-seen P old result new W K ends = record { work = W; stands = pool-is old W K; ends = by_batch (in_batch W) result ends }
   where
     by_batch : (b : Bool) (r : Result (Unit {0}) Refusal)
-        → MatchBool b ((r ≡ Err InBatch) × IsSame old new) (MatchResult r (λ _. TakesRows P old new) (λ why. (why ≡ Memory) × IsSame old new))
+        → MatchBool b ((r ≡ Err InBatch) × (new ≡ old)) (MatchResult r (λ _. TakesRows P old new) (λ why. (why ≡ Memory) × (new ≡ old)))
         → MatchBool b ((r ≡ Err InBatch) × (shown new ≡ shown old)) (MatchResult r (λ _. IsTaken P (shown old) (shown new)) (λ why. (why ≡ Memory) × (shown new ≡ shown old)))
-    by_batch true r told = (told.0, same-kept old new W told.1 K)
+    by_batch true r told = (told.0, ap shown told.1)
     by_batch false (Ok done) told = record { pool = told.pool; made = told.made }
-    by_batch false (Err why) told = (told.0, same-kept old new W told.1 K)
+    by_batch false (Err why) told = (told.0, ap shown told.1)
 
 -- after such a call the roots stand for a workspace still
 pub taken-kept : (P : Pool) (old : RootedHeap) (result : Result (Unit {0}) Refusal) (new : RootedHeap) → (W : Workspace) × Keeps old [] W
-    → ((W : Workspace) → Keeps old [] W → EndsTaking W result (TakesRows P old new) (IsSame old new)) → (W : Workspace) × Keeps new [] W
+    → ((W : Workspace) → Keeps old [] W → EndsTaking W result (TakesRows P old new) (new ≡ old)) → (W : Workspace) × Keeps new [] W
 taken-kept P old result new (W, K) ends = by_batch (in_batch W) result (ends W K)
   where
     by_batch : (b : Bool) (r : Result (Unit {0}) Refusal)
-        → MatchBool b ((r ≡ Err InBatch) × IsSame old new) (MatchResult r (λ _. TakesRows P old new) (λ why. (why ≡ Memory) × IsSame old new)) → (V : Workspace) × Keeps new [] V
-    by_batch true r told = (W, keeps-same told.1 K)
+        → MatchBool b ((r ≡ Err InBatch) × (new ≡ old)) (MatchResult r (λ _. TakesRows P old new) (λ why. (why ≡ Memory) × (new ≡ old))) → (V : Workspace) × Keeps new [] V
+    by_batch true r told = (W, subst (λ (s : RootedHeap). Keeps s [] W) (sym told.1) K)
     by_batch false (Ok done) told = (told.after, told.keeps)
-    by_batch false (Err why) told = (W, keeps-same told.1 K)
+    by_batch false (Err why) told = (W, subst (λ (s : RootedHeap). Keeps s [] W) (sym told.1) K)

@@ -6,7 +6,7 @@ use Rattle.plain_space.specs.Answer.{history_step}
 use Rattle.state_rows.specs.InHeap.{IsHistoryIn}
 use Rattle.space_state.specs.declared.histories.TheConstants.{STEP_NODES}
 use Rattle.space_state.specs.declared.roots.RootedHeap.{RootedHeap}
-use Rattle.space_state.specs.Turns.{IsDueBy, IsSame, TurnsTo}
+use Rattle.space_state.specs.Turns.{IsDueBy, TurnsTo}
 
 -- the step was made: its state is current, and these vectors are held besides, which are to be the two histories
 pub record IsStepped (from to : List State) (old new : RootedHeap) (W : Workspace) (shorter longer : ℕ) : Type 0 where
@@ -21,4 +21,4 @@ pub record IsStepped (from to : List State) (old new : RootedHeap) (W : Workspac
 -- the step was refused for a reason that is due, and nothing has changed
 pub record IsStepRefused (from to : List State) (old new : RootedHeap) (W : Workspace) (why : Refusal) : Type 0 where
   pub due : IsDueBy (history_step W from to) (IsOk (history_step W from to)) why
-  pub same : IsSame old new
+  pub same : new ≡ old

@@ -1,12 +1,12 @@
 -- How a call on rooted rows ends.
-use Rattle.std.specs.Prelude.{◌≡◌, ℕ, ◌+◌, ◌-◌, ◌^◌, ◌≤◌, List, [], false, min, Result, Err, MatchBool, MatchResult}
+use Rattle.std.specs.Prelude.{◌≡◌, ℕ, ◌+◌, ◌-◌, ◌^◌, ◌≤◌, List, [], length, false, min, Result, Err, MatchBool, MatchResult}
 use Rattle.node_heap.specs.Heap.{Heap, live_count, HasSpares}
 use Rattle.node_heap.specs.Calls.{Unchanged}
-use Rattle.shell_terms.specs.Edit.{PlainEdit, drop, unstar}
+use Rattle.shell_terms.specs.Edit.{PlainEdit, drop, unstar, fill}
 use Rattle.shell_terms.specs.Command.{PlainCommand}
 use Rattle.plain_space.specs.declared.refusal.Refusal.{Refusal}
 use Rattle.plain_space.specs.declared.refusal.Refusal.TheVariants.{Absent, Exists, Range, Limit, Batch, Empty, Memory}
-use Rattle.plain_space.specs.Workspace.{Workspace, is_full}
+use Rattle.plain_space.specs.Workspace.{Workspace, most, is_full}
 use Rattle.plain_space.specs.Answer.{answer, done}
 use Rattle.plain_space.specs.Cost.{alike_buffers, alike_stars, cost}
 use Rattle.plain_space.specs.Memory.{MayLackMemory}
@@ -48,10 +48,10 @@ pub record RoomIsMade (old new : RootedHeap) (W : Workspace) (nodes : ℕ) : Typ
   pub free : is_full W ≡ false
   pub spares : HasSpares new.heap 2 nodes
 
--- room for an edit was refused, and nothing has changed but the heap's spares: with Limit exactly where undo is full and no batch
--- is open, and else with Memory alone
+-- room for an edit was refused, and nothing has changed: with Limit exactly where undo is full and no batch is open, and else with
+-- Memory alone
 pub record RoomIsRefused (old new : RootedHeap) (W : Workspace) (why : Refusal) : Type 0 where
-  pub same : IsSame old new
+  pub same : new ≡ old
   pub due : MatchBool (is_full W) (why ≡ Limit) (why ≡ Memory)
 
 -- how a call ends that makes room for an edit, which makes so many nodes at most
@@ -65,6 +65,11 @@ abbrev pub HasEditSpares : RootedHeap → Workspace → PlainEdit → Type 0
 HasEditSpares s W (drop name) = HasSpares s.heap 2 (EDIT_NODES + alike_buffers s.bits W.current name)
 HasEditSpares s W (unstar name) = HasSpares s.heap 2 (EDIT_NODES + alike_stars s.bits W.current name)
 HasEditSpares s W _ = ⊥
+
+-- an edit that fills a buffer has no more lines than a buffer can have
+abbrev pub HasFewLines : PlainEdit → Type 0
+HasFewLines (fill name lines) = length lines ≤ most
+HasFewLines _ = Unit {0}
 
 -- the roots stand for this workspace now, with these links held besides, and so many rows more at most
 pub record TurnsTo (old new : RootedHeap) (besides : List ℕ) (most : ℕ) (after : Workspace) : Type 0 where
@@ -82,7 +87,7 @@ pub record IsCarriedOut (command : PlainCommand) (old new : RootedHeap) (W : Wor
 -- the command was not carried out, and nothing has changed
 pub record IsRefused (command : PlainCommand) (old new : RootedHeap) (W : Workspace) (why : Refusal) : Type 0 where
   pub due : IsDue W command why
-  pub same : IsSame old new
+  pub same : new ≡ old
 
 -- how a call ends that carries out a command: done, or refused for a reason that is due
 abbrev pub EndsOnRows : PlainCommand → RootedHeap → Result (Unit {0}) Refusal → RootedHeap → Type 0

@@ -1,10 +1,11 @@
 -- What contracts see of a space.
 use Rattle.std.specs.Prelude.{◌≡◌, ℕ, ◌+◌, ◌-◌, ◌^◌, ◌≤◌, [], min, Result, Err, MatchBool, MatchResult}
-use Rattle.node_heap.specs.Heap.{live_count}
+use Rattle.node_heap.specs.Heap.{Heap, live_count, cell_count, node_count}
 use Rattle.pool_text.specs.Pool.{row_count, pool_at}
 use Rattle.pool_text.specs.declared.pool.Pool.{Pool}
 use Rattle.pool_text.specs.Documents.{start_pool}
 use Rattle.pool_check.specs.Damages.{IsValid}
+use Rattle.shell_terms.specs.Edit.{Bytes}
 use Rattle.shell_terms.specs.Command.{PlainCommand}
 use Rattle.plain_space.specs.declared.refusal.Refusal.{Refusal}
 use Rattle.plain_space.specs.declared.refusal.Refusal.TheVariants.{Batch, Memory}
@@ -16,20 +17,30 @@ use Rattle.space_state.specs.declared.roots.RootedHeap.{RootedHeap}
 use Rattle.space_state.specs.Roots.{root_list, Keeps}
 use Rattle.space_state.specs.Turns.{IsDue, MadeRises}
 
--- A space: the pool of its rows, the number of rows that its heap has, and the number that it ever made.
+-- The room of a heap: how many cells and how many nodes it can have without more memory, those that it has among them.
+pub record Room : Type 0 where
+  pub cells : ℕ
+  pub nodes : ℕ
+
+-- The rows of each kind and its spares together.
+abbrev pub room_of : Heap Bytes → Room
+room_of h = record { cells = cell_count h + h.spare_cells; nodes = node_count h + h.spare_nodes }
+
+-- A space: the pool of its rows, the number of rows that its heap has, the number that it ever made, and the heap's room.
 pub record SpaceView : Type 0 where
   pub pool : Pool
   pub live : ℕ
   pub made : ℕ
+  pub room : Room
 
 -- What a rooted heap shows.
 abbrev pub shown : RootedHeap → SpaceView
-shown s = record { pool = pool_at (λ text. text) s.heap (root_list s.roots) s.bits; live = live_count s.heap; made = s.heap.made }
+shown s = record { pool = pool_at (λ text. text) s.heap (root_list s.roots) s.bits; live = live_count s.heap; made = s.heap.made; room = room_of s.heap }
 
 -- A new space by so many bits: an empty map of names, an empty set of stars, the state of both, an empty map of versions, and
--- two empty histories.
+-- two empty histories. It has room for just these six nodes.
 abbrev pub start_view : ℕ → SpaceView
-start_view bits = record { pool = record start_pool { bits = bits }; live = 6; made = 6 }
+start_view bits = record { pool = record start_pool { bits = bits }; live = 6; made = 6; room = record { cells = 0; nodes = 6 } }
 
 -- The command was carried out: the pool stands for the workspace afterwards, valid, with its bits and within the cost.
 pub record CarriesOut (command : PlainCommand) (old new : SpaceView) (W : Workspace) : Type 0 where
@@ -41,7 +52,7 @@ pub record CarriesOut (command : PlainCommand) (old new : SpaceView) (W : Worksp
   pub few : row_count new.pool ≤ row_count old.pool + cost old.pool.bits command W
   pub made : MadeRises (row_count old.pool) old.made (row_count new.pool) new.made
 
--- The command was refused for a reason that is due, and the space is as it was.
+-- The command was refused for a reason that is due, and the space is as it was, with no more room.
 pub record RefusesCommand (command : PlainCommand) (old new : SpaceView) (W : Workspace) (why : Refusal) : Type 0 where
   pub due : IsDue W command why
   pub same : new ≡ old

@@ -5,6 +5,7 @@ ghost use Rattle.shell_terms.specs.Command.{begin, «end», abort};
 ghost use Rattle.plain_space.specs.Workspace.{Workspace};
 ghost use Rattle.space_state.specs.Roots.{Keeps};
 ghost use Rattle.space_state.specs.Turns.{EndsOnRows};
+ghost use Rattle.space_state.specs.View.{room_of};
 
 use crate::roots::{Batch, RootedHeap};
 use crate::turning::{MOST_ITEMS, TURN_NODES};
@@ -17,6 +18,7 @@ impl RootedHeap {
         requires { (W : Workspace) × Keeps self.old [] W }
         ensures obeys { EndsOnRows begin self.old result self.new }
         ensures made { self.new.heap.made ≡ self.old.heap.made }
+        ensures room { room_of self.new.heap ≡ room_of self.old.heap }
     {
         if self.in_batch() {
             return Err(Refusal::Batch);
@@ -49,6 +51,7 @@ impl RootedHeap {
         requires { (W : Workspace) × Keeps self.old [] W }
         ensures obeys { EndsOnRows abort self.old result self.new }
         ensures made { self.new.heap.made ≡ self.old.heap.made }
+        ensures room { room_of self.new.heap ≡ room_of self.old.heap }
     {
         let Some(base) = self.roots.batch.base() else {
             return Err(Refusal::Batch);

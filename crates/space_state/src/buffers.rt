@@ -32,8 +32,8 @@ impl RootedHeap {
         buffer(&self.heap, self.bits, self.roots.current, name).ok_or(Refusal::Absent)
     }
 
-    // Gives the buffer these lines, of which the caller's hold is spent, and turns to that state.
-    fn put_lines(&mut self, key: Text, lines: Flex)
+    /// Gives the buffer these lines, of which the caller's hold is spent, and turns to that state.
+    pub(crate) fn put_lines(&mut self, key: Text, lines: Flex)
         requires name { IsName key }
         requires kept { (W : Workspace) × (xs : List Bytes) × Keeps self.old (lines ∷ []) W × AreLinesIn self.old.heap self.old.bits lines xs × (is_full W ≡ false)
             × HasSpares self.old.heap 1 (DEEPEST + 14 + alike_buffers self.old.bits W.current key) }
@@ -50,11 +50,14 @@ impl RootedHeap {
         ensures room { MakesRoom (λ W. EDIT_NODES + alike_buffers self.old.bits W.current (name_bytes name.entry) + alike_buffers self.old.bits W.current (name_bytes other.entry)) self.old result self.new }
         ensures keys { IfOk result (λ keys. (keys.0 ≡ name_bytes name.entry) × (keys.1 ≡ name_bytes other.entry)) }
     {
+        if self.is_full() {
+            return Err(Refusal::Limit);
+        }
+        let key = text_of(self.alloc, name.as_line())?;
+        let other_key = text_of(self.alloc, other.as_line())?;
         let alike = buffers_alike(&self.heap, self.bits, self.roots.current, name);
         let other_alike = buffers_alike(&self.heap, self.bits, self.roots.current, other);
         self.make_room_with(alike + other_alike)?;
-        let key = text_of(self.alloc, name.as_line())?;
-        let other_key = text_of(self.alloc, other.as_line())?;
         Ok((key, other_key))
     }
 
@@ -99,8 +102,7 @@ impl RootedHeap {
         if lines.len(&self.heap) == MOST_ITEMS {
             return Err(Refusal::Limit);
         }
-        let key = self.prepare(name)?;
-        let text = text_of(self.alloc, line)?;
+        let (key, text) = self.prepare_line(name, line)?;
         let line = self.heap.cell(text);
         let Ok(longer) = push(&mut self.heap, lines, line) else {
             unreachable!()
@@ -118,8 +120,7 @@ impl RootedHeap {
         if index >= lines.len(&self.heap) {
             return Err(Refusal::Range);
         }
-        let key = self.prepare(name)?;
-        let text = text_of(self.alloc, line)?;
+        let (key, text) = self.prepare_line(name, line)?;
         let line = self.heap.cell(text);
         let Ok(changed) = set(&mut self.heap, lines, index, line) else {
             unreachable!()
@@ -141,8 +142,7 @@ impl RootedHeap {
         if count == MOST_ITEMS {
             return Err(Refusal::Limit);
         }
-        let key = self.prepare(name)?;
-        let text = text_of(self.alloc, line)?;
+        let (key, text) = self.prepare_line(name, line)?;
         let line = self.heap.cell(text);
         let Ok(longer) = insert(&mut self.heap, lines, index, line) else {
             unreachable!()

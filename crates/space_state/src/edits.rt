@@ -3,7 +3,7 @@ ghost use Rattle.std.specs.Prelude.{◌≢◌, [], Err};
 ghost use Rattle.plain_space.specs.Workspace.{Workspace};
 ghost use Rattle.plain_space.specs.Change.{plain_edit, edit_command};
 ghost use Rattle.space_state.specs.Roots.{Keeps};
-ghost use Rattle.space_state.specs.Turns.{HasEditSpares, EndsOnRows};
+ghost use Rattle.space_state.specs.Turns.{HasEditSpares, HasFewLines, EndsOnRows};
 
 use crate::roots::RootedHeap;
 use plain_space::{Edit, Refusal};
@@ -11,7 +11,8 @@ use plain_space::{Edit, Refusal};
 impl RootedHeap {
     /// Carries out the edit.
     pub(crate) fn edit(&mut self, change: Edit<'_>) -> Result<(), Refusal>
-        requires { (W : Workspace) × Keeps self.old [] W }
+        requires kept { (W : Workspace) × Keeps self.old [] W }
+        requires lines { HasFewLines (plain_edit change) }
         ensures ends { EndsOnRows (edit_command change.entry) self.old result self.new }
         ensures ample { (W : Workspace) → Keeps self.old [] W → HasEditSpares self.old W (plain_edit change.entry) → result ≢ Err Refusal.Memory }
     {
@@ -27,6 +28,7 @@ impl RootedHeap {
             Edit::Drop(name) => self.drop_buffer(name),
             Edit::Star(name) => self.star(name),
             Edit::Unstar(name) => self.unstar(name),
+            Edit::Read(name, lines) => self.fill(name, lines),
         }
     }
 }

@@ -6,6 +6,7 @@ mod batches;
 mod buffers;
 mod edits;
 mod equality;
+mod filling;
 mod histories;
 mod lines;
 mod names;

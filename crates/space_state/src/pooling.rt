@@ -4,7 +4,6 @@ ghost use Rattle.pool_text.specs.Pool.{pool_at};
 ghost use Rattle.plain_space.specs.Workspace.{Workspace};
 ghost use Rattle.space_state.specs.declared.roots.Batch.TheVariants.{Closed};
 ghost use Rattle.space_state.specs.Roots.{Keeps, root_list};
-ghost use Rattle.space_state.specs.Turns.{IsSame};
 ghost use Rattle.space_state.specs.View.{TakesRows, EndsTaking};
 
 use crate::roots::{Batch, RootedHeap, Roots};
@@ -60,7 +59,7 @@ impl RootedHeap {
     pub(crate) fn take_pool(&mut self, checked: Checked<Text>) -> Result<(), Refusal>
         requires keeps { (W : Workspace) × Keeps self.old [] W }
         requires bits { checked.bits ≡ self.old.bits }
-        ensures { (W : Workspace) → Keeps self.old [] W → EndsTaking W result (TakesRows checked self.old self.new) (IsSame self.old self.new) }
+        ensures { (W : Workspace) → Keeps self.old [] W → EndsTaking W result (TakesRows checked self.old self.new) (self.new ≡ self.old) }
     {
         if self.in_batch() {
             return Err(Refusal::Batch);

@@ -6,9 +6,10 @@ ghost use Rattle.pool_text.specs.Pool.{row_count};
 ghost use Rattle.pool_check.specs.Damages.{IsValid};
 ghost use Rattle.shell_terms.specs.Command.{mark, unmark, back, undo, redo, begin, «end», abort};
 ghost use Rattle.plain_space.specs.Workspace.{Workspace, start, sizes, in_batch, is_full, lines_of, version_of};
-ghost use Rattle.plain_space.specs.Change.{edit_command};
+ghost use Rattle.plain_space.specs.Change.{plain_edit, edit_command};
 ghost use Rattle.state_rows.specs.Standing.{StandsFor};
 ghost use Rattle.space_state.specs.Asked.{OnLines, AreEqual};
+ghost use Rattle.space_state.specs.Turns.{HasFewLines};
 ghost use Rattle.space_state.specs.View.{Ends, TakesPool, start_view};
 
 use crate::lines::SpaceLines;
@@ -21,8 +22,8 @@ use std::alloc::Global;
 use std::marker::Model;
 
 /// A space: buffers of lines and starred names, versions, undo and redo and, in a batch, the state that it began with, over
-/// one heap of shared rows. Contracts see the pool of its rows, the number of rows
-/// that its heap has, and the number that it ever made.
+/// one heap of shared rows. Contracts see the pool of its rows, the number of rows that its heap has, the number that it ever
+/// made, and the heap's room: the rows and the spares of each kind together.
 #[derive(Drop)]
 pub struct Space {
     rows: RootedHeap,
@@ -54,8 +55,10 @@ impl Space {
         Ok(Space { rows })
     }
 
-    /// Carries out the edit, refused exactly as the row of its command says, want of memory last.
+    /// Carries out the edit, refused exactly as the row of its command says, want of memory last. A buffer is filled with at
+    /// most 4,294,967,295 lines.
     pub fn edit(&mut self, change: Edit<'_>) -> Result<(), Refusal>
+        requires { HasFewLines (plain_edit change) }
         ensures { Ends (edit_command change.entry) self.old result self.new }
     {
         self.rows.edit(change)
@@ -101,10 +104,12 @@ impl Space {
         self.rows.back(version)
     }
 
-    /// Opens a batch. `Batch` where one is open. It takes no memory.
+    /// Opens a batch. `Batch` where one is open. It takes no memory, and leaves the
+    /// heap the room that it had.
     pub fn begin(&mut self) -> Result<(), Refusal>
         ensures ends { Ends begin self.old result self.new }
         ensures made { self.new.made ≡ self.old.made }
+        ensures room { self.new.room ≡ self.old.room }
     {
         self.rows.begin()
     }
@@ -117,10 +122,12 @@ impl Space {
         self.rows.end()
     }
 
-    /// Closes the batch and goes back to the state that it began with. `Batch` where none is open. It takes no memory.
+    /// Closes the batch and goes back to the state that it began with. `Batch` where none is open. It takes no
+    /// memory, and leaves the heap the room that it had.
     pub fn abort(&mut self) -> Result<(), Refusal>
         ensures ends { Ends abort self.old result self.new }
         ensures made { self.new.made ≡ self.old.made }
+        ensures room { self.new.room ≡ self.old.room }
     {
         self.rows.abort()
     }

@@ -43,8 +43,11 @@ impl RootedHeap {
         if self.is_starred(name) {
             return Err(Refusal::Exists);
         }
-        self.make_star_room(name)?;
+        if self.is_full() {
+            return Err(Refusal::Limit);
+        }
         let key = text_of(self.alloc, name.as_line())?;
+        self.make_star_room(name)?;
         let next = with_star(&mut self.heap, self.bits, self.roots.current, key);
         self.turn_to(next);
         Ok(())

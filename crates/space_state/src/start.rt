@@ -4,6 +4,7 @@ ghost use Rattle.elem_core.specs.declared.codes.TheConstants.{CODE_BITS};
 ghost use Rattle.node_heap.specs.Heap.{live_count};
 ghost use Rattle.plain_space.specs.Workspace.{start};
 ghost use Rattle.space_state.specs.Roots.{Keeps};
+ghost use Rattle.space_state.specs.View.{room_of};
 
 use crate::roots::{Batch, RootedHeap, Roots};
 use elem_core::NoMemory;
@@ -22,6 +23,7 @@ impl RootedHeap {
         ensures bits { IfOk result (λ s. s.bits ≡ bits) }
         ensures rows { IfOk result (λ s. live_count s.heap ≡ 6) }
         ensures made { IfOk result (λ s. s.heap.made ≡ 6) }
+        ensures room { IfOk result (λ s. room_of s.heap ≡ record { cells = 0; nodes = 6 }) }
     {
         let mut heap = Heap::new(alloc);
         heap.reserve(0, START_NODES)?;

@@ -1,15 +1,16 @@
 //! What all edits share: room for an edit, the turn to another current state, and what is given up.
 ghost use Rattle.std.specs.Prelude.{◌≡◌, ◌≢◌, ℕ, ◌+◌, ◌<◌, List, [], ◌∷◌, ◌++◌, ◌^◌, length, IfOk, Err, true, false};
-ghost use Rattle.elem_core.specs.Shown.{name_bytes};
+ghost use Rattle.elem_core.specs.Shown.{name_bytes, line_bytes};
 ghost use Rattle.node_heap.specs.Heap.{HasSpares};
 ghost use Rattle.plain_space.specs.Workspace.{State, Workspace, most, in_batch, is_full, with_current};
 ghost use Rattle.plain_space.specs.Cost.{alike_buffers};
 ghost use Rattle.state_rows.specs.InHeap.{IsStateIn, IsHistoryIn};
 ghost use Rattle.space_state.specs.Roots.{Keeps};
 ghost use Rattle.space_state.specs.Turns.{MakesRoom, TurnsTo};
+ghost use Rattle.space_state.specs.View.{room_of};
 
 use crate::roots::{Batch, RootedHeap};
-use elem_core::{Name, Text, text_of};
+use elem_core::{Line, Name, Text, text_of};
 use node_heap::Link;
 use plain_space::Refusal;
 use rrb_core::FlexRef;
@@ -44,8 +45,9 @@ impl RootedHeap {
     }
 
     /// Makes room for an edit: for two cells, for `EDIT_NODES` nodes, and for one more for each of so many names with the
-    /// masked code of one that it writes. Nothing but the heap's spares changes. Refused with `Limit` exactly where undo is
-    /// full and no batch is open, and else with `Memory` alone, and not where the spares are there already.
+    /// masked code of one that it writes. Nothing but the heap's spares changes, and where it is refused nothing at all: with
+    /// `Limit` exactly where undo is full and no batch is open, and else with `Memory` alone, and not where the spares are
+    /// there already.
     pub(crate) fn make_room_with(&mut self, alike: usize) -> Result<(), Refusal>
         requires kept { (W : Workspace) × Keeps self.old [] W }
         requires few { alike < 2 ^ 58 }
@@ -70,15 +72,38 @@ impl RootedHeap {
         self.make_room_with(alike)
     }
 
-    /// The same, and gives the buffer's name as a text, for which memory may be refused however many spares there are.
+    /// The same, and gives the buffer's name as a text, for which memory may be refused however many spares there are. The text
+    /// comes first, so that an edit that wants memory for it leaves the heap the room that it had.
     pub(crate) fn prepare(&mut self, name: Name<'_>) -> Result<Text, Refusal>
         requires { (W : Workspace) × Keeps self.old [] W }
         ensures room { MakesRoom (λ W. EDIT_NODES + alike_buffers self.old.bits W.current (name_bytes name.entry)) self.old result self.new }
         ensures key { IfOk result (λ key. key ≡ name_bytes name.entry) }
     {
-        self.make_room(name)?;
+        if self.is_full() {
+            return Err(Refusal::Limit);
+        }
         let key = text_of(self.alloc, name.as_line())?;
+        self.make_room(name)?;
         Ok(key)
+    }
+
+    /// The same, and gives the line as a text too, after the name.
+    pub(crate) fn prepare_line(
+        &mut self,
+        name: Name<'_>,
+        line: Line<'_>,
+    ) -> Result<(Text, Text), Refusal>
+        requires { (W : Workspace) × Keeps self.old [] W }
+        ensures room { MakesRoom (λ W. EDIT_NODES + alike_buffers self.old.bits W.current (name_bytes name.entry)) self.old result self.new }
+        ensures key { IfOk result (λ texts. texts.0 ≡ name_bytes name.entry) }
+        ensures text { IfOk result (λ texts. texts.1 ≡ line_bytes line.entry) }
+    {
+        if self.is_full() {
+            return Err(Refusal::Limit);
+        }
+        let text = text_of(self.alloc, line)?;
+        let key = self.prepare(name)?;
+        Ok((key, text))
     }
 
     /// Turns to the state, of which the caller's hold is spent. Outside a batch the old state goes to the end of undo, and
@@ -104,6 +129,7 @@ impl RootedHeap {
         ensures turns { (W : Workspace) → Keeps self.old (link ∷ []) W → TurnsTo self.old self.new [] 0 W }
         ensures roots { self.new.roots ≡ self.old.roots }
         ensures made { self.new.heap.made ≡ self.old.heap.made }
+        ensures room { room_of self.new.heap ≡ room_of self.old.heap }
     {
         self.heap.release(link);
     }

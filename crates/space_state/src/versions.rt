@@ -1,5 +1,5 @@
 //! Versions: states that are kept by their names.
-ghost use Rattle.std.specs.Prelude.{◌≡◌, ◌≢◌, ◌+◌, [], ◌∷◌, IfOk, IsOk, Err};
+ghost use Rattle.std.specs.Prelude.{◌≡◌, ◌≢◌, ◌+◌, [], ◌∷◌, IfOk, OnErr, IsOk, Err};
 ghost use Rattle.elem_core.specs.Shown.{name_bytes};
 ghost use Rattle.node_heap.specs.Heap.{HasSpares};
 ghost use Rattle.shell_terms.specs.Command.{mark, unmark, back};
@@ -35,11 +35,12 @@ impl RootedHeap {
         version(&self.heap, self.versions(), name)
     }
 
-    // Makes room for another map of versions. Nothing but the heap's spares changes. Refused where memory runs out, and not
-    // where the spares are there already.
+    // Makes room for another map of versions. Nothing but the heap's spares changes. Refused where memory runs out, which leaves
+    // all as it was, and not where the spares are there already.
     fn make_version_room(&mut self, name: Name<'_>) -> Result<(), NoMemory>
         requires { (W : Workspace) × Keeps self.old [] W }
         ensures same { IsSame self.old self.new }
+        ensures refused { OnErr result (self.new ≡ self.old) }
         ensures room { (W : Workspace) → Keeps self.old [] W →
             IfOk result (λ _. HasSpares self.new.heap 2 (EDIT_NODES + alike_versions self.old.bits W (name_bytes name.entry))) }
         ensures ample { (W : Workspace) → Keeps self.old [] W →
@@ -71,8 +72,8 @@ impl RootedHeap {
         if self.version(name).is_some() {
             return Err(Refusal::Exists);
         }
-        self.make_version_room(name)?;
         let key = text_of(self.alloc, name.as_line())?;
+        self.make_version_room(name)?;
         self.heap.hold(self.roots.current);
         let versions = self.versions();
         let map = with_version(&mut self.heap, versions, key, self.roots.current);

@@ -20,3 +20,4 @@ pub mod OneSpace
 pub mod ValidSpace
 pub mod WorkedSpaces
 pub mod Listed
+pub mod Filling

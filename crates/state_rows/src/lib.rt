@@ -6,6 +6,7 @@
 //! that it wants no memory.
 #![tactic(auto)]
 
+mod fill;
 mod laws;
 mod list;
 mod look_up;
@@ -13,6 +14,7 @@ mod make;
 mod row;
 mod start;
 
+pub use fill::filled;
 pub use laws::{
     one_workspace, pools_stand, roots_stand, states_stay, valid_pools_stand, worked_spaces,
 };

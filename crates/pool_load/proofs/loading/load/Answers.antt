@@ -11,7 +11,7 @@ use Rattle.pool_check.specs.Damages.{IsValid}
 use Rattle.pool_load.specs.Loads.{Loads, AreLoaded, cells_of, nodes_of}
 use Rattle.pool_load.specs.Rows.{AreSound, HaveLengths}
 use Rattle.pool_load.specs.Making.{AreMade, GivesUp, AreReachedWithout}
-use Rattle.pool_load.proofs.Loaded.{sound-rows, roots-below, kinds-add-up, AreHeld, own-held, reached-without, are-loaded, all-loaded, rows-loaded}
+use Rattle.pool_load.proofs.Loaded.{sound-rows, roots-below, kinds-add-up, AreHeld, own-held, reached-without, are-loaded, all-loaded, rows-loaded, need-kept}
 use Rattle.pool_load.proofs.loading.load.Given.{Over}
 use Rattle.pool_load.proofs.loading.load.Goals as goal
 use Rattle.pool_load.proofs.loading.load.Goals.{After-hold_places}
@@ -128,6 +128,7 @@ release_all-requires g c =
 pub returns : goal.returns
 returns g c =
     let P : Pool = c.args.checked in
+    let was = rows-of c.as_slice-rows.result.now c.pool-pool.ensures.same c.pool-pool.ensures.valid c.as_slice-rows.ensures in
     let new = c.release_all.new.heap in
     let is = held g (goal.at.returns g c).After-hold_places in
     let links : List ℕ = c.make_rows.new.links.items in
@@ -143,5 +144,8 @@ returns g c =
           (are-loaded g.T.Stored.bytes_of new P is.valid links (rows-loaded is up)
           (record { bits = omega (arith, c.pool-pool.ensures.bits, ap (λ (Q : Pool). Q.bits) c.pool-pool.ensures.same); roots = four; valid = is.valid }));
       roots = ap length chosen ∙ length-map P.roots (slice_index links) ∙ four;
+      spares =
+          need-kept is up c.in_ok-reserve.ensures.greater c.reserve.ensures.rest (c.count_cells-cells.ensures ∙ was.cells)
+          (omega (arith, c.count_cells-cells.ensures, was.cells, was.many, was.kinds));
       refused = tt;
     }

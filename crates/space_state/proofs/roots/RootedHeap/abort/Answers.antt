@@ -1,11 +1,11 @@
 use Rattle.std.proofs.Common.{refl, arith}
 use Rattle.plain_space.specs.Cost.{cost}
-use Rattle.space_state.proofs.Keeping.{same-refl, keeps-closed, keeps-current, batch-open, batch-closed, rises-refl, turns-after}
+use Rattle.space_state.proofs.Keeping.{keeps-closed, keeps-current, batch-open, batch-closed, rises-refl, turns-after}
 use Rattle.space_state.proofs.Steps.{abort-refused, abort-done, base-told, base-none}
 use Rattle.space_state.proofs.roots.RootedHeap.abort.Goals as goal
 
 pub returns-in_default-clause-obeys : goal.returns-in_default-clause-obeys
-returns-in_default-clause-obeys c = λ W K. record { due = abort-refused W (batch-closed (base-none c.base.ensures c.in_default.is) K); same = same-refl K }
+returns-in_default-clause-obeys c = λ W K. record { due = abort-refused W (batch-closed (base-none c.base.ensures c.in_default.is) K); same = refl }
 
 pub give_up-requires : goal.give_up-requires
 give_up-requires c =

@@ -1,11 +1,11 @@
-use Rattle.std.proofs.Common.{[], arith}
+use Rattle.std.proofs.Common.{refl, [], arith}
 use Rattle.elem_core.specs.Shown.{name_bytes, line_bytes}
 use Rattle.shell_terms.specs.Edit.{add}
 use Rattle.plain_space.specs.Workspace.{Workspace}
-use Rattle.plain_space.specs.declared.refusal.Refusal.TheVariants.{Limit, Memory}
+use Rattle.plain_space.specs.declared.refusal.Refusal.TheVariants.{Limit}
 use Rattle.space_state.specs.Roots.{Keeps}
-use Rattle.space_state.proofs.Keeping.{same-refl, lines-length, lines-short}
-use Rattle.space_state.proofs.Editing.{found-lines, add-absent, add-full, add-made, pushes, refuses, no-room, due-absent, may-lack, HasText, has-text, longer, can-put, edit-done, edit-refused, fails}
+use Rattle.space_state.proofs.Keeping.{lines-length, lines-short}
+use Rattle.space_state.proofs.Editing.{found-lines, add-absent, add-full, add-made, pushes, refuses, no-room, due-absent, HasText, has-text, longer, can-put, edit-done, edit-refused, fails}
 use Rattle.space_state.proofs.roots.RootedHeap.add.Goals as goal
 use Rattle.space_state.proofs.roots.RootedHeap.add.Goals.{After-cell-line}
 
@@ -14,14 +14,14 @@ returns-in_err-lines c = λ W K.
     let name = name_bytes c.args.name in
     let text = line_bytes c.args.line in
     let found = c.in_err-lines.ensures W K in
-    fails c.in_err-lines.field-0.0 c.from_residual.result c.from_residual.ensures.1 (edit-refused (same-refl K) (due-absent W (add name text) found.1 (add-absent W.current name text found.0)))
+    fails c.in_err-lines.field-0.0 c.from_residual.result c.from_residual.ensures.1 (edit-refused refl (due-absent W (add name text) found.1 (add-absent W.current name text found.0)))
 
 pub returns-then-len : goal.returns-then-len
 returns-then-len c = λ W K.
     let name = name_bytes c.args.name in
     let text = line_bytes c.args.line in
     let found = found-lines c.args.self.now c.in_ok-lines.lines W.current name (c.in_ok-lines.ensures W K) in
-    edit-refused (same-refl K) (refuses W (add name text) Limit (add-full W.current name text found.0 found.1 (omega (arith, c.if-len.true, c.len.ensures.value, lines-length found.2))))
+    edit-refused refl (refuses W (add name text) Limit (add-full W.current name text found.0 found.1 (omega (arith, c.if-len.true, c.len.ensures.value, lines-length found.2))))
 
 pub returns-in_err-key : goal.returns-in_err-key
 returns-in_err-key c = λ W K.
@@ -32,21 +32,12 @@ returns-in_err-key c = λ W K.
     fails c.in_err-key.field-0.0 c.from_residual-in_err-key.result c.from_residual-in_err-key.ensures.1
     (no-room W (add name text) _ done (c.in_err-key.ensures.room W K))
 
-pub returns-in_err-text : goal.returns-in_err-text
-returns-in_err-text c = λ W K.
-    let name = name_bytes c.args.name in
-    let text = line_bytes c.args.line in
-    let found = found-lines c.args.self.now c.in_ok-lines.lines W.current name (c.in_ok-lines.ensures W K) in
-    let done = add-made W.current name text found.0 found.1 (grind (arith, c.if-len.false, c.len.ensures.value, lines-length found.2, lines-short found.2)) in
-    fails Memory c.from_residual-in_err-text.result c.from_residual-in_err-text.ensures.1
-    (edit-refused (c.in_ok-key.ensures.room W K).same (may-lack W (add name text) _ done (c.in_ok-key.ensures.room W K).free))
-
 -- what is known once the text's cell is there
 there : (c : After-cell-line) (W : Workspace) → Keeps c.args.self.now [] W
-    → HasText c.args.self.now c.prepare.new.self c.cell-line.new.self c.cell-line.result c.in_ok-lines.lines c.in_ok-key.key (name_bytes c.args.name) (line_bytes c.args.line) W
+    → HasText c.args.self.now c.prepare_line.new.self c.cell-line.new.self c.cell-line.result c.in_ok-lines.lines c.in_ok-key.key (name_bytes c.args.name) (line_bytes c.args.line) W
 there c W K =
     let e = c.cell-line.ensures in
-    has-text K c.in_ok-key.ensures.key (c.in_ok-key.ensures.room W K) (c.in_ok-lines.ensures W K) c.args.line.cell c.in_ok-text.ensures e.adds e.makes e.count e.graph e.extends
+    has-text K c.in_ok-key.ensures.key (c.in_ok-key.ensures.room W K) (c.in_ok-lines.ensures W K) c.args.line.cell c.in_ok-key.ensures.text e.adds e.makes e.count e.graph e.extends
 
 pub push-requires-clause-good : goal.push-requires-clause-good
 push-requires-clause-good c = (there (goal.at.push-requires-clause-good c).After-cell-line c.requires.0 c.requires.1).lines.now.vector

@@ -3,32 +3,32 @@ use Rattle.shell_terms.specs.Command.{back}
 use Rattle.plain_space.specs.Workspace.{Workspace, in_batch, is_full}
 use Rattle.plain_space.specs.Cost.{cost}
 use Rattle.space_state.specs.Roots.{Keeps}
-use Rattle.space_state.proofs.Keeping.{same-refl, same-heap, turns-after}
+use Rattle.space_state.proofs.Keeping.{heap-is, turns-after}
 use Rattle.space_state.proofs.Steps.{back-refused, back-absent, back-limited, back-done, none-there, some-there, IsHeld, is-held, may-lack, memory-refused}
 use Rattle.space_state.proofs.roots.RootedHeap.back.Goals as goal
 use Rattle.space_state.proofs.roots.RootedHeap.back.Goals.{After-hold}
 
 pub returns-then-in_batch-clause-ends : goal.returns-then-in_batch-clause-ends
-returns-then-in_batch-clause-ends c = λ W K. record { due = back-refused W _ (sym (c.in_batch.ensures [] W K) ∙ c.if-in_batch.true); same = same-refl K }
+returns-then-in_batch-clause-ends c = λ W K. record { due = back-refused W _ (sym (c.in_batch.ensures [] W K) ∙ c.if-in_batch.true); same = refl }
 
 pub returns-in_default-clause-ends : goal.returns-in_default-clause-ends
 returns-in_default-clause-ends c = λ W K.
     let outside : in_batch W ≡ false = sym (c.in_batch.ensures [] W K) ∙ c.if-in_batch.false in
-    record { due = back-absent W _ outside (none-there c.args.self.now.heap c.args.self.now.bits (c.version.ensures W K) c.in_default.is); same = same-refl K }
+    record { due = back-absent W _ outside (none-there c.args.self.now.heap c.args.self.now.bits (c.version.ensures W K) c.in_default.is); same = refl }
 
 pub returns-then-is_full-clause-ends : goal.returns-then-is_full-clause-ends
 returns-then-is_full-clause-ends c = λ W K.
     let outside : in_batch W ≡ false = sym (c.in_batch.ensures [] W K) ∙ c.if-in_batch.false in
     let full : is_full W ≡ true = sym (c.is_full.ensures W K) ∙ c.if-is_full.true in
     let there = some-there c.args.self.now.heap c.args.self.now.bits (c.version.ensures W K) c.in-Some.is in
-    record { due = back-limited W _ outside there.0 there.1 full; same = same-refl K }
+    record { due = back-limited W _ outside there.0 there.1 full; same = refl }
 
 pub returns-in_err-reserve-clause-ends : goal.returns-in_err-reserve-clause-ends
 returns-in_err-reserve-clause-ends c = λ W K.
     let outside : in_batch W ≡ false = sym (c.in_batch.ensures [] W K) ∙ c.if-in_batch.false in
     let room : is_full W ≡ false = sym (c.is_full.ensures W K) ∙ c.if-is_full.false in
     let there = some-there c.args.self.now.heap c.args.self.now.bits (c.version.ensures W K) c.in-Some.is in
-    memory-refused c.from_residual.result c.from_residual.ensures.1 (may-lack (back _) refl (back-done W _ outside there.0 there.1 room)) (same-heap c.reserve.ensures.rest)
+    memory-refused c.from_residual.result c.from_residual.ensures.1 (may-lack (back _) refl (back-done W _ outside there.0 there.1 room)) (heap-is c.in_err-reserve.ensures.refused)
 
 -- the version's state, which is held besides
 held : (c : After-hold) (W : Workspace) (K : Keeps c.args.self.now [] W) → IsHeld c.args.self.now c.hold.new.self c.in-Some.state (some-there _ _ (c.version.ensures W K) c.in-Some.is).0 W

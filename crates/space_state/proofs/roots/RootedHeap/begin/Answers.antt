@@ -1,12 +1,15 @@
 use Rattle.std.proofs.Common.{◌≡◌, [], false, sym, ◌∙◌, refl}
 use Rattle.plain_space.specs.Workspace.{in_batch}
 use Rattle.plain_space.specs.Cost.{cost}
-use Rattle.space_state.proofs.Keeping.{same-refl, keeps-gained, keeps-open, current-stands, answered-one, rises-answered, turns-by}
+use Rattle.space_state.proofs.Keeping.{keeps-gained, keeps-open, current-stands, answered-one, rises-answered, room-made, turns-by}
 use Rattle.space_state.proofs.Steps.{begin-refused, begin-done, closed-batch}
 use Rattle.space_state.proofs.roots.RootedHeap.begin.Goals as goal
 
 pub returns-then-in_batch-clause-obeys : goal.returns-then-in_batch-clause-obeys
-returns-then-in_batch-clause-obeys c = λ W K. record { due = begin-refused W (sym (c.in_batch.ensures [] W K) ∙ c.if-in_batch.true); same = same-refl K }
+returns-then-in_batch-clause-obeys c = λ W K. record { due = begin-refused W (sym (c.in_batch.ensures [] W K) ∙ c.if-in_batch.true); same = refl }
+
+pub returns-clause-room : goal.returns-clause-room
+returns-clause-room c = room-made c.hold.ensures.makes
 
 pub returns-clause-obeys : goal.returns-clause-obeys
 unfolding cost

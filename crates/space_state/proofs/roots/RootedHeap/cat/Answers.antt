@@ -1,10 +1,10 @@
-use Rattle.std.proofs.Common.{[], arith}
+use Rattle.std.proofs.Common.{refl, [], arith}
 use Rattle.elem_core.specs.Shown.{name_bytes}
 use Rattle.shell_terms.specs.Edit.{cat}
 use Rattle.plain_space.specs.Workspace.{Workspace}
 use Rattle.plain_space.specs.declared.refusal.Refusal.TheVariants.{Limit}
 use Rattle.space_state.specs.Roots.{Keeps}
-use Rattle.space_state.proofs.Keeping.{same-refl, keeps-same, lines-length, lines-short}
+use Rattle.space_state.proofs.Keeping.{keeps-same, lines-length, lines-short}
 use Rattle.space_state.proofs.Editing.{found-lines, cat-absent, cat-missing, cat-full, cat-made, refuses, no-room, due-absent, HasLines, has-lines, joined, joins, can-put, edit-done, edit-refused, fails}
 use Rattle.space_state.proofs.roots.RootedHeap.cat.Goals as goal
 use Rattle.space_state.proofs.roots.RootedHeap.cat.Goals.{In_ok-key}
@@ -14,7 +14,7 @@ returns-in_err-lines c = λ W K.
     let name = name_bytes c.args.name in
     let other = name_bytes c.args.other in
     let found = c.in_err-lines.ensures W K in
-    fails c.in_err-lines.field-0.0 c.from_residual.result c.from_residual.ensures.1 (edit-refused (same-refl K) (due-absent W (cat name other) found.1 (cat-absent W.current name other found.0)))
+    fails c.in_err-lines.field-0.0 c.from_residual.result c.from_residual.ensures.1 (edit-refused refl (due-absent W (cat name other) found.1 (cat-absent W.current name other found.0)))
 
 pub returns-in_err-more : goal.returns-in_err-more
 returns-in_err-more c = λ W K.
@@ -23,7 +23,7 @@ returns-in_err-more c = λ W K.
     let found = found-lines c.args.self.now c.in_ok-lines.lines W.current name (c.in_ok-lines.ensures W K) in
     let none = c.in_err-more.ensures W K in
     fails c.in_err-more.field-0.0 c.from_residual-in_err-more.result c.from_residual-in_err-more.ensures.1
-    (edit-refused (same-refl K) (due-absent W (cat name other) none.1 (cat-missing W.current name other found.0 found.1 none.0)))
+    (edit-refused refl (due-absent W (cat name other) none.1 (cat-missing W.current name other found.0 found.1 none.0)))
 
 pub returns-then-len : goal.returns-then-len
 returns-then-len c = λ W K.
@@ -31,7 +31,7 @@ returns-then-len c = λ W K.
     let other = name_bytes c.args.other in
     let found = found-lines c.args.self.now c.in_ok-lines.lines W.current name (c.in_ok-lines.ensures W K) in
     let also = found-lines c.args.self.now c.in_ok-more.more W.current other (c.in_ok-more.ensures W K) in
-    edit-refused (same-refl K) (refuses W (cat name other) Limit (cat-full W.current name other found.0 also.0 found.1 also.1 (omega (arith, c.if-len.true, c.len.ensures.value, c.len-2.ensures.value, lines-length found.2, lines-length also.2))))
+    edit-refused refl (refuses W (cat name other) Limit (cat-full W.current name other found.0 also.0 found.1 also.1 (omega (arith, c.if-len.true, c.len.ensures.value, c.len-2.ensures.value, lines-length found.2, lines-length also.2))))
 
 pub returns-in_err-key : goal.returns-in_err-key
 returns-in_err-key c = λ W K.

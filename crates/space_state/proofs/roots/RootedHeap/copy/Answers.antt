@@ -1,10 +1,10 @@
-use Rattle.std.proofs.Common.{[], arith}
+use Rattle.std.proofs.Common.{refl, [], arith}
 use Rattle.elem_core.specs.Shown.{name_bytes}
 use Rattle.node_heap.proofs.BuildLemmas.{Answered-Builds}
 use Rattle.shell_terms.specs.Edit.{copy}
 use Rattle.plain_space.specs.Workspace.{Workspace}
 use Rattle.space_state.specs.Roots.{Keeps}
-use Rattle.space_state.proofs.Keeping.{same-refl, keeps-same}
+use Rattle.space_state.proofs.Keeping.{keeps-same}
 use Rattle.space_state.proofs.Editing.{found-lines, copy-absent, copy-made, no-room, due-absent, HasLines, has-lines, made-again, can-put, edit-done, edit-refused, fails}
 use Rattle.space_state.proofs.roots.RootedHeap.copy.Goals as goal
 use Rattle.space_state.proofs.roots.RootedHeap.copy.Goals.{In_ok-key}
@@ -14,7 +14,7 @@ returns-in_err-lines c = λ W K.
     let name = name_bytes c.args.name in
     let other = name_bytes c.args.other in
     let found = c.in_err-lines.ensures W K in
-    fails c.in_err-lines.field-0.0 c.from_residual.result c.from_residual.ensures.1 (edit-refused (same-refl K) (due-absent W (copy name other) found.1 (copy-absent W.current name other found.0)))
+    fails c.in_err-lines.field-0.0 c.from_residual.result c.from_residual.ensures.1 (edit-refused refl (due-absent W (copy name other) found.1 (copy-absent W.current name other found.0)))
 
 pub returns-in_err-key : goal.returns-in_err-key
 returns-in_err-key c = λ W K.

@@ -1,11 +1,11 @@
-use Rattle.std.proofs.Common.{[], take, drop, arith}
+use Rattle.std.proofs.Common.{refl, [], take, drop, arith}
 use Rattle.std.specs.List.{remove_range as without_part}
 use Rattle.elem_core.specs.Shown.{name_bytes}
 use Rattle.shell_terms.specs.Edit.{cut}
 use Rattle.plain_space.specs.Workspace.{Workspace}
 use Rattle.plain_space.specs.declared.refusal.Refusal.TheVariants.{Range}
 use Rattle.space_state.specs.Roots.{Keeps}
-use Rattle.space_state.proofs.Keeping.{same-refl, keeps-same, lines-length}
+use Rattle.space_state.proofs.Keeping.{keeps-same, lines-length}
 use Rattle.space_state.proofs.Editing.{found-lines, lines-stay, cut-absent, cut-late, cut-past, cut-made, refuses, no-room, due-absent, HasLines, has-lines, has-parts, slices, both-spares-left, cut-done, edit-refused, fails}
 use Rattle.space_state.proofs.roots.RootedHeap.cut.Goals as goal
 use Rattle.space_state.proofs.roots.RootedHeap.cut.Goals.{In_ok-key, then-from-to-via-then-from-to, then-from-to-via-else-from-to+then-to-len}
@@ -16,14 +16,14 @@ returns-in_err-lines c = λ W K.
     let other = name_bytes c.args.other in
     let found = c.in_err-lines.ensures W K in
     fails c.in_err-lines.field-0.0 c.from_residual.result c.from_residual.ensures.1
-    (edit-refused (same-refl K) (due-absent W (cut name c.args.from c.args.to other) found.1 (cut-absent W.current name c.args.from c.args.to other found.0)))
+    (edit-refused refl (due-absent W (cut name c.args.from c.args.to other) found.1 (cut-absent W.current name c.args.from c.args.to other found.0)))
 
 pub returns-then-from-to : goal.returns-then-from-to
 returns-then-from-to c = λ W K.
     let name = name_bytes c.args.name in
     let other = name_bytes c.args.other in
     let found = found-lines c.args.self.now c.in_ok-lines.lines W.current name (c.in_ok-lines.ensures W K) in
-    edit-refused (same-refl K) (refuses W (cut name c.args.from c.args.to other) Range (elim c.then-from-to.branch [
+    edit-refused refl (refuses W (cut name c.args.from c.args.to other) Range (elim c.then-from-to.branch [
       | then-from-to-via-then-from-to w ↦ cut-late W.current name c.args.from c.args.to other found.0 found.1 w.if-from-to.true
       | then-from-to-via-else-from-to+then-to-len w ↦ cut-past W.current name c.args.from c.args.to other found.0 found.1 w.if-from-to.false (omega (arith, w.if-to-len.true, w.len.ensures.value, lines-length found.2))
     ]))

@@ -1,10 +1,10 @@
-use Rattle.std.proofs.Common.{[], arith}
+use Rattle.std.proofs.Common.{refl, [], arith}
 use Rattle.elem_core.specs.Shown.{name_bytes}
 use Rattle.shell_terms.specs.Edit.{del}
 use Rattle.plain_space.specs.Workspace.{Workspace}
 use Rattle.plain_space.specs.declared.refusal.Refusal.TheVariants.{Range}
 use Rattle.space_state.specs.Roots.{Keeps}
-use Rattle.space_state.proofs.Keeping.{same-refl, keeps-same, lines-length}
+use Rattle.space_state.proofs.Keeping.{keeps-same, lines-length}
 use Rattle.space_state.proofs.Editing.{found-lines, del-absent, del-late, del-past, del-made, refuses, no-room, due-absent, HasLines, has-lines, erased, slices, can-put, edit-done, edit-refused, fails}
 use Rattle.space_state.proofs.roots.RootedHeap.del.Goals as goal
 use Rattle.space_state.proofs.roots.RootedHeap.del.Goals.{In_ok-key, then-from-to-via-then-from-to, then-from-to-via-else-from-to+then-to-len}
@@ -13,13 +13,13 @@ pub returns-in_err-lines : goal.returns-in_err-lines
 returns-in_err-lines c = λ W K.
     let name = name_bytes c.args.name in
     let found = c.in_err-lines.ensures W K in
-    fails c.in_err-lines.field-0.0 c.from_residual.result c.from_residual.ensures.1 (edit-refused (same-refl K) (due-absent W (del name c.args.from c.args.to) found.1 (del-absent W.current name c.args.from c.args.to found.0)))
+    fails c.in_err-lines.field-0.0 c.from_residual.result c.from_residual.ensures.1 (edit-refused refl (due-absent W (del name c.args.from c.args.to) found.1 (del-absent W.current name c.args.from c.args.to found.0)))
 
 pub returns-then-from-to : goal.returns-then-from-to
 returns-then-from-to c = λ W K.
     let name = name_bytes c.args.name in
     let found = found-lines c.args.self.now c.in_ok-lines.lines W.current name (c.in_ok-lines.ensures W K) in
-    edit-refused (same-refl K) (refuses W (del name c.args.from c.args.to) Range (elim c.then-from-to.branch [
+    edit-refused refl (refuses W (del name c.args.from c.args.to) Range (elim c.then-from-to.branch [
       | then-from-to-via-then-from-to w ↦ del-late W.current name c.args.from c.args.to found.0 found.1 w.if-from-to.true
       | then-from-to-via-else-from-to+then-to-len w ↦ del-past W.current name c.args.from c.args.to found.0 found.1 w.if-from-to.false (omega (arith, w.if-to-len.true, w.len.ensures.value, lines-length found.2))
     ]))

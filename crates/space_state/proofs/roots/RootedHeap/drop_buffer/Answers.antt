@@ -2,7 +2,7 @@ use Rattle.std.proofs.Common.{IsSome, refl, sym, subst, arith}
 use Rattle.elem_core.specs.Shown.{name_bytes}
 use Rattle.shell_terms.specs.Edit.{drop}
 use Rattle.plain_space.specs.Workspace.{without_lines}
-use Rattle.space_state.proofs.Keeping.{same-refl, keeps-same, current-stands, keeps-gained}
+use Rattle.space_state.proofs.Keeping.{keeps-same, current-stands, keeps-gained}
 use Rattle.space_state.proofs.Editing.{found-lines, drop-absent, drop-made, no-room, due-absent, alike-same, drop-done, edit-refused, fails}
 use Rattle.space_state.proofs.roots.RootedHeap.drop_buffer.Goals as goal
 
@@ -10,7 +10,7 @@ pub returns-in_err-buffer-clause-ends : goal.returns-in_err-buffer-clause-ends
 returns-in_err-buffer-clause-ends c = λ W K.
     let name = name_bytes c.args.name in
     let found = c.in_err-buffer.ensures W K in
-    fails c.in_err-buffer.field-0.0 c.from_residual.result c.from_residual.ensures.1 (edit-refused (same-refl K) (due-absent W (drop name) found.1 (drop-absent W.current name found.0)))
+    fails c.in_err-buffer.field-0.0 c.from_residual.result c.from_residual.ensures.1 (edit-refused refl (due-absent W (drop name) found.1 (drop-absent W.current name found.0)))
 
 pub returns-in_err-make_room-clause-ends : goal.returns-in_err-make_room-clause-ends
 returns-in_err-make_room-clause-ends c = λ W K.

@@ -1,24 +1,24 @@
 use Rattle.std.proofs.Common.{refl, sym, ◌∙◌, arith}
 use Rattle.shell_terms.specs.Command.{«end»}
 use Rattle.plain_space.specs.Cost.{cost}
-use Rattle.space_state.proofs.Keeping.{same-refl, same-heap, keeps-same, keeps-closed, undo-stands, batch-open, batch-closed, rises-same, turns-after}
+use Rattle.space_state.proofs.Keeping.{heap-is, same-heap, keeps-same, keeps-closed, undo-stands, batch-open, batch-closed, rises-same, turns-after}
 use Rattle.space_state.proofs.Steps.{end-refused, end-limited, end-done, base-told, base-none, length-told, length-below, may-lack, memory-refused}
 use Rattle.space_state.proofs.roots.RootedHeap.end.Goals as goal
 
 pub returns-in_default-clause-ends : goal.returns-in_default-clause-ends
-returns-in_default-clause-ends c = λ W K. record { due = end-refused W (batch-closed (base-none c.base.ensures c.in_default.is) K); same = same-refl K }
+returns-in_default-clause-ends c = λ W K. record { due = end-refused W (batch-closed (base-none c.base.ensures c.in_default.is) K); same = refl }
 
 pub returns-then-len-clause-ends : goal.returns-then-len-clause-ends
 returns-then-len-clause-ends c = λ W K.
     let base = batch-open c.in-Some.base (base-told c.base.ensures c.in-Some.is) K in
     let full = length-told (undo-stands K) c.at.ensures c.len.ensures.value in
-    record { due = end-limited W base.0 base.1 (sym full ∙ c.if-len.true); same = same-refl K }
+    record { due = end-limited W base.0 base.1 (sym full ∙ c.if-len.true); same = refl }
 
 pub returns-in_err-reserve-clause-ends : goal.returns-in_err-reserve-clause-ends
 returns-in_err-reserve-clause-ends c = λ W K.
     let base = batch-open c.in-Some.base (base-told c.base.ensures c.in-Some.is) K in
     let room = length-below (undo-stands K) (length-told (undo-stands K) c.at.ensures c.len.ensures.value) c.if-len.false in
-    memory-refused c.from_residual.result c.from_residual.ensures.1 (may-lack «end» refl (end-done W base.0 base.1 room)) (same-heap c.reserve.ensures.rest)
+    memory-refused c.from_residual.result c.from_residual.ensures.1 (may-lack «end» refl (end-done W base.0 base.1 room)) (heap-is c.in_err-reserve.ensures.refused)
 
 pub record-requires-clause-kept : goal.record-requires-clause-kept
 record-requires-clause-kept c =

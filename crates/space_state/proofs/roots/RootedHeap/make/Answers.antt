@@ -1,15 +1,15 @@
-use Rattle.std.proofs.Common.{[], sym, ◌∙◌, arith}
+use Rattle.std.proofs.Common.{refl, [], sym, ◌∙◌, arith}
 use Rattle.elem_core.specs.Shown.{name_bytes}
 use Rattle.shell_terms.specs.Edit.{new}
 use Rattle.plain_space.specs.declared.refusal.Refusal.TheVariants.{Exists}
-use Rattle.space_state.proofs.Keeping.{same-refl, keeps-same}
+use Rattle.space_state.proofs.Keeping.{keeps-same}
 use Rattle.space_state.proofs.Editing.{refuses, no-room, found-taken, found-free, emptied, can-put, edit-done, edit-refused, fails}
 use Rattle.space_state.proofs.roots.RootedHeap.make.Goals as goal
 
 pub returns-then-is_ok : goal.returns-then-is_ok
 returns-then-is_ok c = λ W K.
     let name = name_bytes c.args.name in
-    edit-refused (same-refl K) (refuses W (new name) Exists (found-taken c.args.self.now W.current name c.buffer.result (sym c.is_ok.ensures.value ∙ c.if-is_ok.true) (c.buffer.ensures W K)))
+    edit-refused refl (refuses W (new name) Exists (found-taken c.args.self.now W.current name c.buffer.result (sym c.is_ok.ensures.value ∙ c.if-is_ok.true) (c.buffer.ensures W K)))
 
 pub returns-in_err-key : goal.returns-in_err-key
 returns-in_err-key c = λ W K.

@@ -2,7 +2,7 @@ use Rattle.std.proofs.Common.{ℕ, ◌+◌, ◌≤◌, sym, subst}
 use Rattle.std.specs.Prelude.{IfOk}
 use Rattle.node_heap.specs.Heap.{HasSpares}
 use Rattle.space_state.specs.declared.turning.TheConstants.{EDIT_NODES}
-use Rattle.space_state.proofs.Keeping.{versions-stand}
+use Rattle.space_state.proofs.Keeping.{heap-refused, versions-stand}
 use Rattle.space_state.proofs.roots.RootedHeap.make_version_room.Goals as goal
 
 pub versions_alike-alike-requires-clause-versions : goal.versions_alike-alike-requires-clause-versions
@@ -17,3 +17,6 @@ pub returns-clause-ample : goal.returns-clause-ample
 returns-clause-ample c = λ W K spares.
     let alike = c.versions_alike-alike.ensures.number W.versions (rw c.versions.ensures (versions-stand K)) in
     c.reserve.ensures.ample spares.0 (subst (λ (n : ℕ). EDIT_NODES + n ≤ c.args.self.now.heap.spare_nodes) (sym (rw c.versions.ensures at alike)) spares.1)
+
+pub returns-clause-refused : goal.returns-clause-refused
+returns-clause-refused c = heap-refused c.args.self.now c.reserve.new.self c.reserve.result c.reserve.ensures.refused

@@ -7,31 +7,31 @@ use Rattle.plain_space.specs.Cost.{cost, alike, alike_versions}
 use Rattle.state_rows.specs.InHeap.{IsStateIn, AreVersionsIn}
 use Rattle.space_state.specs.Roots.{Keeps}
 use Rattle.space_state.specs.Turns.{TurnsTo}
-use Rattle.space_state.proofs.Keeping.{same-refl, keeps-same, keeps-gained, keeps-turned, current-stands, versions-stand, answered-one, rises-same, rises-makes, rises-answered, rises-then, rises-more, turns-by, turns-then}
+use Rattle.space_state.proofs.Keeping.{keeps-same, keeps-gained, keeps-turned, current-stands, versions-stand, answered-one, rises-same, rises-makes, rises-answered, rises-then, rises-more, turns-by, turns-then}
 use Rattle.space_state.proofs.Steps.{mark-refused, mark-taken, mark-done, version-there, may-lack, memory-refused, spares-kept}
 use Rattle.space_state.proofs.roots.RootedHeap.mark.Goals as goal
 use Rattle.space_state.proofs.roots.RootedHeap.mark.Goals.{After-hold, After-versions-versions, After-with_version-map}
 
 pub returns-then-in_batch : goal.returns-then-in_batch
-returns-then-in_batch c = λ W K. record { due = mark-refused W _ (sym (c.in_batch.ensures [] W K) ∙ c.if-in_batch.true); same = same-refl K }
+returns-then-in_batch c = λ W K. record { due = mark-refused W _ (sym (c.in_batch.ensures [] W K) ∙ c.if-in_batch.true); same = refl }
 
 pub returns-then-is_some : goal.returns-then-is_some
 returns-then-is_some c = λ W K.
     let outside : in_batch W ≡ false = sym (c.in_batch.ensures [] W K) ∙ c.if-in_batch.false in
     let there = version-there c.args.self.now.heap c.args.self.now.bits _ _ (c.version.ensures W K) (sym c.is_some.ensures ∙ c.if-is_some.true) in
-    record { due = mark-taken W _ outside there; same = same-refl K }
+    record { due = mark-taken W _ outside there; same = refl }
 
 pub returns-in_err-make_version_room : goal.returns-in_err-make_version_room
 returns-in_err-make_version_room c = λ W K.
     let outside : in_batch W ≡ false = sym (c.in_batch.ensures [] W K) ∙ c.if-in_batch.false in
     let none = version-there c.args.self.now.heap c.args.self.now.bits _ _ (c.version.ensures W K) (sym c.is_some.ensures ∙ c.if-is_some.false) in
-    memory-refused c.from_residual.result c.from_residual.ensures.1 (may-lack (mark _) refl (mark-done W _ outside none)) c.make_version_room.ensures.same
+    memory-refused c.from_residual-in_err-make_version_room.result c.from_residual-in_err-make_version_room.ensures.1 (may-lack (mark _) refl (mark-done W _ outside none)) c.in_err-make_version_room.ensures.refused
 
 pub returns-in_err-key : goal.returns-in_err-key
 returns-in_err-key c = λ W K.
     let outside : in_batch W ≡ false = sym (c.in_batch.ensures [] W K) ∙ c.if-in_batch.false in
     let none = version-there c.args.self.now.heap c.args.self.now.bits _ _ (c.version.ensures W K) (sym c.is_some.ensures ∙ c.if-is_some.false) in
-    memory-refused c.from_residual-in_err-key.result c.from_residual-in_err-key.ensures.1 (may-lack (mark _) refl (mark-done W _ outside none)) c.make_version_room.ensures.same
+    memory-refused c.from_residual.result c.from_residual.ensures.1 (may-lack (mark _) refl (mark-done W _ outside none)) refl
 
 -- the current state is held once more, after room was made
 held : (c : After-hold) (W : Workspace) → Keeps c.args.self.now [] W → Keeps (record c.make_version_room.new.self { heap = c.hold.new.self }) (c.make_version_room.new.self.roots.current ∷ []) W

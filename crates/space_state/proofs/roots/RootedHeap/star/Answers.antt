@@ -4,28 +4,32 @@ use Rattle.shell_terms.specs.Edit.{star}
 use Rattle.plain_space.specs.Workspace.{Workspace, is_starred, with_current, with_star}
 use Rattle.plain_space.specs.Cost.{cost, alike_stars}
 use Rattle.space_state.specs.Roots.{Keeps}
-use Rattle.space_state.proofs.Keeping.{same-refl, keeps-same, current-stands, turns-then}
-use Rattle.space_state.proofs.Editing.{star-made, does, may-lack, no-room, fails}
+use Rattle.space_state.proofs.Keeping.{keeps-same, current-stands, turns-then}
+use Rattle.space_state.proofs.Editing.{star-made, does, may-lack, limited, no-room, fails}
 use Rattle.space_state.proofs.Steps.{star-taken, memory-refused, spares-suffice, HasNext, has-next}
 use Rattle.space_state.proofs.roots.RootedHeap.star.Goals as goal
-use Rattle.space_state.proofs.roots.RootedHeap.star.Goals.{In_ok-key, After-with_star-next}
+use Rattle.space_state.proofs.roots.RootedHeap.star.Goals.{In_ok-make_star_room, After-with_star-next}
 
 pub returns-then-is_starred : goal.returns-then-is_starred
-returns-then-is_starred c = λ W K. record { due = star-taken W _ (sym (c.is_starred.ensures W K) ∙ c.if-is_starred.true); same = same-refl K }
+returns-then-is_starred c = λ W K. record { due = star-taken W _ (sym (c.is_starred.ensures W K) ∙ c.if-is_starred.true); same = refl }
 
-pub returns-in_err-make_star_room : goal.returns-in_err-make_star_room
-returns-in_err-make_star_room c = λ W K.
+pub returns-then-is_full : goal.returns-then-is_full
+returns-then-is_full c = λ W K.
     let none : is_starred W.current (name_bytes c.args.name) ≡ false = sym (c.is_starred.ensures W K) ∙ c.if-is_starred.false in
-    fails c.in_err-make_star_room.field-0.0 c.from_residual.result c.from_residual.ensures.1 (no-room W (star _) _ (star-made W.current _ none) (c.in_err-make_star_room.ensures.room W K))
+    limited W (star _) _ (star-made W.current _ none) (sym (c.is_full.ensures W K) ∙ c.if-is_full.true)
 
 pub returns-in_err-key : goal.returns-in_err-key
 returns-in_err-key c = λ W K.
     let none : is_starred W.current (name_bytes c.args.name) ≡ false = sym (c.is_starred.ensures W K) ∙ c.if-is_starred.false in
-    let room = c.in_ok-make_star_room.ensures.room W K in
-    memory-refused c.from_residual-in_err-key.result c.from_residual-in_err-key.ensures.1 (may-lack W (star _) _ (star-made W.current _ none) room.free) room.same
+    memory-refused c.from_residual.result c.from_residual.ensures.1 (may-lack W (star _) _ (star-made W.current _ none) (sym (c.is_full.ensures W K) ∙ c.if-is_full.false)) refl
+
+pub returns-in_err-make_star_room : goal.returns-in_err-make_star_room
+returns-in_err-make_star_room c = λ W K.
+    let none : is_starred W.current (name_bytes c.args.name) ≡ false = sym (c.is_starred.ensures W K) ∙ c.if-is_starred.false in
+    fails c.in_err-make_star_room.field-0.0 c.from_residual-in_err-make_star_room.result c.from_residual-in_err-make_star_room.ensures.1 (no-room W (star _) _ (star-made W.current _ none) (c.in_err-make_star_room.ensures.room W K))
 
 -- as many names are alike, by the bits after room was made and by the key
-alike : (c : In_ok-key) (W : Workspace) → Keeps c.args.self.now [] W → alike_stars c.make_star_room.new.self.bits W.current c.in_ok-key.key ≡ alike_stars c.args.self.now.bits W.current (name_bytes c.args.name)
+alike : (c : In_ok-make_star_room) (W : Workspace) → Keeps c.args.self.now [] W → alike_stars c.make_star_room.new.self.bits W.current c.in_ok-key.key ≡ alike_stars c.args.self.now.bits W.current (name_bytes c.args.name)
 alike c W K =
     let key : c.in_ok-key.key ≡ name_bytes c.args.name = c.in_ok-key.ensures ∙ c.as_line.ensures in
     rw ((c.in_ok-make_star_room.ensures.room W K).same.bits, key) refl
@@ -36,14 +40,14 @@ next : (c : After-with_star-next) (W : Workspace) → Keeps c.args.self.now [] W
 next c W K =
     let room = c.in_ok-make_star_room.ensures.room W K in
     let now = current-stands (keeps-same room.same K) in
-    has-next 9 _ _ K room (c.with_star-next.ensures.answered W.current now) (c.with_star-next.ensures.state W.current now) (omega arith) (alike (goal.at.After-with_star-next c).In_ok-key W K)
+    has-next 9 _ _ K room (c.with_star-next.ensures.answered W.current now) (c.with_star-next.ensures.state W.current now) (omega arith) (alike (goal.at.After-with_star-next c).In_ok-make_star_room W K)
 
 pub with_star-next-requires-clause-state : goal.with_star-next-requires-clause-state
 with_star-next-requires-clause-state c =
     let W = c.requires.0 in
     let K = c.requires.1 in
     let room = c.in_ok-make_star_room.ensures.room W K in
-    (W.current, current-stands (keeps-same (c.in_ok-make_star_room.ensures.room W K).same K), spares-suffice c.make_star_room.new.self.heap 1 9 _ _ room.spares (omega arith) (omega arith) (alike (goal.at.with_star-next-requires-clause-state c).In_ok-key W K))
+    (W.current, current-stands (keeps-same (c.in_ok-make_star_room.ensures.room W K).same K), spares-suffice c.make_star_room.new.self.heap 1 9 _ _ room.spares (omega arith) (omega arith) (alike (goal.at.with_star-next-requires-clause-state c).In_ok-make_star_room W K))
 
 pub turn_to-requires-clause-spares : goal.turn_to-requires-clause-spares
 turn_to-requires-clause-spares c = (next (goal.at.turn_to-requires-clause-spares c).After-with_star-next c.requires.0 c.requires.1).spares

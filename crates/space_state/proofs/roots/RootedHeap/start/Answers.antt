@@ -1,6 +1,7 @@
 use Rattle.std.proofs.Common.{◌∙◌, ap, refl}
 use Rattle.std.specs.Prelude.{slice_index_or, sum}
 use Rattle.space_state.proofs.Beginning.{starts}
+use Rattle.space_state.proofs.Keeping.{room-made, room-begun}
 use Rattle.space_state.proofs.roots.RootedHeap.start.Goals as goal
 
 pub returns-clause-keeps : goal.returns-clause-keeps
@@ -11,3 +12,9 @@ returns-clause-keeps c =
     (λ k. rest.holds k ∙ ap (λ hs. slice_index_or hs k 0) c.new-heap.ensures.holds) (rest.count ∙ ap sum c.new-heap.ensures.holds)
     c.empty_state-current.ensures.answered c.empty_versions.ensures.answered c.empty_history.ensures.answered c.empty_history-2.ensures.answered
     c.empty_state-current.ensures.state c.empty_versions.ensures.versions (c.empty_history.ensures.history c.args.bits) (c.empty_history-2.ensures.history c.args.bits))
+
+pub returns-clause-room : goal.returns-clause-room
+returns-clause-room c =
+    let new = c.new-heap.ensures in
+    room-made c.empty_history-2.ensures.makes ∙ room-made c.empty_history.ensures.makes ∙ room-made c.empty_versions.ensures.makes ∙ room-made c.empty_state-current.ensures.makes
+    ∙ room-begun 0 6 new.rows new.spare_cells new.spare_nodes c.reserve.ensures.rest c.in_ok-reserve.ensures.greater

@@ -2,7 +2,7 @@ use Rattle.std.proofs.Common.{◌≡◌, ◌-◌, [], List, length, false, slice
 use Rattle.plain_space.specs.Workspace.{State, Workspace, in_batch}
 use Rattle.state_rows.specs.InHeap.{IsStateIn, IsHistoryIn}
 use Rattle.space_state.specs.Roots.{Keeps}
-use Rattle.space_state.proofs.Keeping.{same-refl, same-heap, history-low}
+use Rattle.space_state.proofs.Keeping.{heap-is, history-low}
 use Rattle.space_state.proofs.Steps.{step-refused, step-empty, step-limited, step-done, none-there, some-there, some-elements, length-told, length-below, IsHeld, is-held, Stepped, stepped, moved, step-lacks-memory}
 use Rattle.space_state.proofs.roots.RootedHeap.step.Goals as goal
 use Rattle.space_state.proofs.roots.RootedHeap.step.Goals.{In-Some, After-hold, After-popped-shorter}
@@ -26,27 +26,27 @@ cut c W xs K is =
     stepped (last (goal.at.After-popped-shorter c).In-Some xs is).1 held c.popped-shorter.ensures.answered (c.popped-shorter.ensures.history _ xs (held.histories _ xs is))
 
 pub returns-then-in_batch-clause-ends : goal.returns-then-in_batch-clause-ends
-returns-then-in_batch-clause-ends c = λ W xs ys K from to. record { due = step-refused W xs ys (sym (c.in_batch.ensures [] W K) ∙ c.if-in_batch.true); same = same-refl K }
+returns-then-in_batch-clause-ends c = λ W xs ys K from to. record { due = step-refused W xs ys (sym (c.in_batch.ensures [] W K) ∙ c.if-in_batch.true); same = refl }
 
 pub returns-in_default-clause-ends : goal.returns-in_default-clause-ends
 returns-in_default-clause-ends c = λ W xs ys K from to.
     let outside : in_batch W ≡ false = sym (c.in_batch.ensures [] W K) ∙ c.if-in_batch.false in
     let last = c.last.ensures c.args.self.now.bits xs from in
-    record { due = step-empty W xs ys outside (none-there c.args.self.now.heap c.args.self.now.bits last c.in_default.is); same = same-refl K }
+    record { due = step-empty W xs ys outside (none-there c.args.self.now.heap c.args.self.now.bits last c.in_default.is); same = refl }
 
 pub returns-then-len-clause-ends : goal.returns-then-len-clause-ends
 returns-then-len-clause-ends c = λ W xs ys K from to.
     let outside : in_batch W ≡ false = sym (c.in_batch.ensures [] W K) ∙ c.if-in_batch.false in
     let there = last (goal.at.returns-then-len-clause-ends c).In-Some xs from in
     let full = length-told to refl c.len.ensures.value in
-    record { due = step-limited W xs ys outside there.0 there.1 (sym full ∙ c.if-len.true); same = same-refl K }
+    record { due = step-limited W xs ys outside there.0 there.1 (sym full ∙ c.if-len.true); same = refl }
 
 pub returns-in_err-reserve-clause-ends : goal.returns-in_err-reserve-clause-ends
 returns-in_err-reserve-clause-ends c = λ W xs ys K from to.
     let outside : in_batch W ≡ false = sym (c.in_batch.ensures [] W K) ∙ c.if-in_batch.false in
     let there = last (goal.at.returns-in_err-reserve-clause-ends c).In-Some xs from in
     let room = length-below to (length-told to refl c.len.ensures.value) c.if-len.false in
-    step-lacks-memory W xs ys c.from_residual.result c.from_residual.ensures.1 (step-done W xs ys outside there.0 there.1 room) (same-heap c.reserve.ensures.rest)
+    step-lacks-memory W xs ys c.from_residual.result c.from_residual.ensures.1 (step-done W xs ys outside there.0 there.1 room) (heap-is c.in_err-reserve.ensures.refused)
 
 pub popped-shorter-requires-clause-history : goal.popped-shorter-requires-clause-history
 popped-shorter-requires-clause-history c =

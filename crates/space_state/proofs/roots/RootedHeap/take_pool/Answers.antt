@@ -1,9 +1,8 @@
 use Rattle.std.proofs.Common.{◌≡◌, [], ◌∷◌, refl, sym, ◌∙◌, arith}
 use Rattle.space_state.specs.declared.roots.Batch.TheVariants.{Closed}
 use Rattle.space_state.specs.declared.roots.Roots.{Roots}
-use Rattle.space_state.specs.Turns.{IsSame}
 use Rattle.space_state.specs.View.{TakesRows}
-use Rattle.space_state.proofs.Keeping.{few-holds, same-refl, same-heap}
+use Rattle.space_state.proofs.Keeping.{few-holds, heap-is}
 use Rattle.space_state.proofs.Steps.{closed-batch}
 use Rattle.space_state.proofs.Taking.{four, taking-batch, taking-memory, taking-done, pool-loaded, keeps-loaded}
 use Rattle.space_state.proofs.roots.RootedHeap.take_pool.Goals as goal
@@ -12,12 +11,12 @@ pub load-requires : goal.load-requires
 load-requires c = record { few = few-holds c.requires.keeps.1 (omega arith) }
 
 pub returns-then-in_batch : goal.returns-then-in_batch
-returns-then-in_batch c = λ W K. taking-batch W (TakesRows c.args.checked c.args.self.now c.args.self.now) (IsSame c.args.self.now c.args.self.now) _ (sym (c.in_batch.ensures [] W K) ∙ c.if-in_batch.true) refl (same-refl K)
+returns-then-in_batch c = λ W K. taking-batch W (TakesRows c.args.checked c.args.self.now c.args.self.now) (c.args.self.now ≡ c.args.self.now) _ (sym (c.in_batch.ensures [] W K) ∙ c.if-in_batch.true) refl refl
 
 pub returns-in_err-links : goal.returns-in_err-links
 returns-in_err-links c = λ W K.
     let new = record c.args.self.now { heap = c.load.new.heap } in
-    taking-memory W (TakesRows c.args.checked c.args.self.now new) (IsSame c.args.self.now new) c.from_residual.result (sym (c.in_batch.ensures [] W K) ∙ c.if-in_batch.false) c.from_residual.ensures.1 (same-heap c.in_err-links.ensures.refused)
+    taking-memory W (TakesRows c.args.checked c.args.self.now new) (new ≡ c.args.self.now) c.from_residual.result (sym (c.in_batch.ensures [] W K) ∙ c.if-in_batch.false) c.from_residual.ensures.1 (heap-is c.in_err-links.ensures.refused)
 
 pub turn_roots-requires-clause-closed : goal.turn_roots-requires-clause-closed
 turn_roots-requires-clause-closed c = closed-batch c.requires.keeps.1 (sym (c.in_batch.ensures [] c.requires.keeps.0 c.requires.keeps.1) ∙ c.if-in_batch.false)
@@ -38,7 +37,7 @@ returns c = λ W K.
     four links _ _ _ _ c.in_ok-links.ensures.roots c.index.ensures c.index-2.ensures c.index-3.ensures c.index-4.ensures in
     let loads = c.in_ok-links.ensures.loads in
     let kept = keeps-loaded c.args.self.now W K c.load.new.heap c.args.checked roots links loads same c.requires.bits c.in_ok-links.ensures.loaded in
-    taking-done W (TakesRows c.args.checked c.args.self.now c.turn_roots.new.self) (IsSame c.args.self.now c.turn_roots.new.self) _ (sym (c.in_batch.ensures [] W K) ∙ c.if-in_batch.false) refl (record {
+    taking-done W (TakesRows c.args.checked c.args.self.now c.turn_roots.new.self) (c.turn_roots.new.self ≡ c.args.self.now) _ (sym (c.in_batch.ensures [] W K) ∙ c.if-in_batch.false) refl (record {
       after = kept.0;
       keeps = c.turn_roots.ensures.kept kept.0 kept.1;
       pool = c.turn_roots.ensures.pool ∙ pool-loaded c.args.self.now W K c.load.new.heap c.args.checked roots links loads same c.requires.bits c.in_ok-links.ensures.loaded;

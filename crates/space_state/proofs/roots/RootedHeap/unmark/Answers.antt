@@ -5,24 +5,24 @@ use Rattle.std.specs.FinMap as map
 use Rattle.plain_space.specs.Workspace.{in_batch}
 use Rattle.plain_space.specs.Cost.{cost, alike, alike_versions}
 use Rattle.state_rows.specs.InHeap.{AreVersionsIn}
-use Rattle.space_state.proofs.Keeping.{same-refl, keeps-same, keeps-gained, versions-stand, rises-same, rises-answered, rises-then, turns-after}
+use Rattle.space_state.proofs.Keeping.{keeps-same, keeps-gained, versions-stand, rises-same, rises-answered, rises-then, turns-after}
 use Rattle.space_state.proofs.Steps.{unmark-refused, unmark-absent, unmark-done, version-there, may-lack, memory-refused, spares-suffice}
 use Rattle.space_state.proofs.roots.RootedHeap.unmark.Goals as goal
 
 pub returns-then-in_batch-clause-ends : goal.returns-then-in_batch-clause-ends
-returns-then-in_batch-clause-ends c = λ W K. record { due = unmark-refused W _ (sym (c.in_batch.ensures [] W K) ∙ c.if-in_batch.true); same = same-refl K }
+returns-then-in_batch-clause-ends c = λ W K. record { due = unmark-refused W _ (sym (c.in_batch.ensures [] W K) ∙ c.if-in_batch.true); same = refl }
 
 pub returns-then-is_none-clause-ends : goal.returns-then-is_none-clause-ends
 returns-then-is_none-clause-ends c = λ W K.
     let outside : in_batch W ≡ false = sym (c.in_batch.ensures [] W K) ∙ c.if-in_batch.false in
     let none = version-there c.args.self.now.heap c.args.self.now.bits _ _ (c.version.ensures W K) (c.is_none.ensures ∙ ap not c.if-is_none.true) in
-    record { due = unmark-absent W _ outside none; same = same-refl K }
+    record { due = unmark-absent W _ outside none; same = refl }
 
 pub returns-in_err-make_version_room-clause-ends : goal.returns-in_err-make_version_room-clause-ends
 returns-in_err-make_version_room-clause-ends c = λ W K.
     let outside : in_batch W ≡ false = sym (c.in_batch.ensures [] W K) ∙ c.if-in_batch.false in
     let there = version-there c.args.self.now.heap c.args.self.now.bits _ _ (c.version.ensures W K) (c.is_none.ensures ∙ ap not c.if-is_none.false) in
-    memory-refused c.from_residual.result c.from_residual.ensures.1 (may-lack (unmark _) refl (unmark-done W _ outside there)) c.make_version_room.ensures.same
+    memory-refused c.from_residual.result c.from_residual.ensures.1 (may-lack (unmark _) refl (unmark-done W _ outside there)) c.in_err-make_version_room.ensures.refused
 
 pub without_version-map-requires-clause-versions : goal.without_version-map-requires-clause-versions
 without_version-map-requires-clause-versions c =

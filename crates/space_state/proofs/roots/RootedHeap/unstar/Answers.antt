@@ -4,14 +4,14 @@ use Rattle.shell_terms.specs.Edit.{unstar}
 use Rattle.plain_space.specs.Workspace.{Workspace, is_starred, with_current, without_star}
 use Rattle.plain_space.specs.Cost.{cost, alike_stars}
 use Rattle.space_state.specs.Roots.{Keeps}
-use Rattle.space_state.proofs.Keeping.{same-refl, keeps-same, current-stands, turns-then}
+use Rattle.space_state.proofs.Keeping.{keeps-same, current-stands, turns-then}
 use Rattle.space_state.proofs.Editing.{unstar-made, does, no-room, fails}
 use Rattle.space_state.proofs.Steps.{unstar-absent, spares-suffice, HasNext, has-next}
 use Rattle.space_state.proofs.roots.RootedHeap.unstar.Goals as goal
 use Rattle.space_state.proofs.roots.RootedHeap.unstar.Goals.{In_ok-make_star_room, After-without_star-next}
 
 pub returns-then-not-is_starred-clause-ends : goal.returns-then-not-is_starred-clause-ends
-returns-then-not-is_starred-clause-ends c = λ W K. record { due = unstar-absent W _ (sym (c.is_starred.ensures W K) ∙ c.if-not-is_starred.true); same = same-refl K }
+returns-then-not-is_starred-clause-ends c = λ W K. record { due = unstar-absent W _ (sym (c.is_starred.ensures W K) ∙ c.if-not-is_starred.true); same = refl }
 
 pub returns-in_err-make_star_room-clause-ends : goal.returns-in_err-make_star_room-clause-ends
 returns-in_err-make_star_room-clause-ends c = λ W K.

@@ -14,3 +14,6 @@ returns-clause-ends c =
 
 pub returns-clause-made : goal.returns-clause-made
 returns-clause-made c = c.abort.ensures.made ∙ ap (λ (v : SpaceView). v.made) c.self.view_is
+
+pub returns-clause-room : goal.returns-clause-room
+returns-clause-room c = c.abort.ensures.room ∙ ap (λ (v : SpaceView). v.room) c.self.view_is
