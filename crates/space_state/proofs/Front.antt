@@ -1,11 +1,10 @@
 -- What a rooted heap keeps, seen as the pool of its rows.
-use Rattle.std.proofs.Common.{◌≡◌, refl, sym, ◌∙◌, ap, subst, ℕ, List, [], Result, Ok, Err}
+use Rattle.std.proofs.Common.{◌≡◌, refl, sym, ◌∙◌, ap, subst, ℕ, [], Result, Ok, Err}
 use Rattle.std.proofs.lemmas.List.{append-nil}
 use Rattle.node_heap.specs.Links.{count}
 use Rattle.node_heap.specs.Heap.{holds_at, live_count}
-use Rattle.pool_text.specs.Pool.{row_count, pool_at}
+use Rattle.pool_text.specs.Pool.{row_count}
 use Rattle.pool_text.specs.Pool as pools
-use Rattle.pool_text.specs.declared.pool.Pool.{Pool}
 use Rattle.pool_text.proofs.Held.{nothing-leaks}
 use Rattle.pool_check.specs.Damages.{IsValid}
 use Rattle.shell_terms.specs.Command.{PlainCommand}

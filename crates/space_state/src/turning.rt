@@ -19,7 +19,8 @@ use state_rows::{buffers_alike, emptied, pushed};
 /// The most states that undo or redo may hold, and the most lines of a buffer.
 pub(crate) const MOST_ITEMS: u32 = u32::MAX;
 
-/// The nodes for which room is made before an edit, besides one for each name whose code is alike. No edit makes more.
+/// The nodes for which room is made before an edit, besides one for each name whose code is alike. No edit makes more, but for
+/// the vector of lines that come from outside.
 pub(crate) const EDIT_NODES: usize = 128;
 
 /// The nodes of a turn to another state: a push to undo, and an empty redo.

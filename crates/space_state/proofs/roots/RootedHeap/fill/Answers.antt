@@ -1,4 +1,4 @@
-use Rattle.std.proofs.Common.{◌≡◌, ℕ, ◌+◌, ◌/◌, [], length, Ok, false, refl, sym, ap, ◌∙◌, arith}
+use Rattle.std.proofs.Common.{◌≡◌, ◌+◌, ◌/◌, [], length, Ok, false, refl, sym, ap, ◌∙◌, arith}
 use Rattle.elem_core.specs.Shown.{name_bytes}
 use Rattle.shell_terms.specs.Edit.{fill}
 use Rattle.plain_space.specs.Workspace.{Workspace, with_lines, is_full}
