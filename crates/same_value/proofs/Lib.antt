@@ -1,6 +1,6 @@
 pub mod Zips
-pub mod RowParts
-pub mod VectorRows
+pub mod ReadRows
+pub mod PlaceLemmas
 pub mod CongruentLemmas
 pub mod ChainRows
 pub mod ChainPairs

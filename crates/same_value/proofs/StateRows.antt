@@ -16,7 +16,7 @@ use Rattle.same_value.specs.Entries.{IsPairOf, IsSamePair}
 use Rattle.same_value.specs.declared.values.Values.{Values}
 use Rattle.same_value.specs.declared.values.Values.TheVariants.{Cells, Lines, States}
 use Rattle.same_value.proofs.Roots.{set-tries, set-congruent, map-tries, map-congruent}
-use Rattle.same_value.proofs.VectorRows.{read-row, read-at}
+use Rattle.same_value.proofs.ReadRows.{read-row, read-at}
 
 module _ {T : Type 0} (cmp : T → T → Ordering) (code : T → ℕ) (h : Heap T) (bits a : ℕ) (links : List ℕ) (is : links ≡ links_of (row_at h a)) (st : IsStateLink cmp code h bits a) where
   read : links ≡ st.map_root ∷ st.set_root ∷ []

@@ -9,7 +9,7 @@ use Rattle.champ_trie.specs.Bits.{rank}
 use Rattle.champ_trie.specs.Trie.{IsRow}
 use Rattle.same_value.specs.Congruent.{Congruent, IsFrom}
 use Rattle.same_value.specs.Apart.{Spends}
-use Rattle.same_value.proofs.VectorRows.{read-at}
+use Rattle.same_value.proofs.ReadRows.{read-at}
 use Rattle.same_value.proofs.TriePairs.{Apart, Opened, apart-none, unreached, as-many, own-good, child-from, apart-more, congruent-positions, congruent-entries, congruent-child, row-short, rows-congruent-by}
 
 -- two rows of a depth, opened, and what is known of the way in which their entries are compared

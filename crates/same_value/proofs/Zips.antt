@@ -1,9 +1,8 @@
 -- Lists that go together place by place, and where they don't.
-use Rattle.std.proofs.Common.{◌≡◌, ℕ, zero, suc, ◌+◌, ◌-◌, ◌<◌, List, [], ◌∷◌, ◌++◌, length, take, drop, get_or, refl, ap, sym, subst, ◌∙◌, arith, length-append}
-use Rattle.std.specs.Prelude.{◌↔◌}
+use Rattle.std.proofs.Common.{◌≡◌, ℕ, zero, suc, ◌+◌, ◌<◌, List, [], ◌∷◌, ◌++◌, length, get_or, refl, ap, subst, ◌∙◌, arith, length-append}
 use Rattle.std.specs.List.{AllZip}
 use Rattle.std.proofs.Math.ListN.{get_or-append}
-use Rattle.std.proofs.lemmas.List.{get_or-append-add, take_all}
+use Rattle.std.proofs.lemmas.List.{get_or-append-add}
 use Rattle.same_value.specs.Lines.{DifferSomewhere}
 
 module _ (R : ℕ → ℕ → Type 0) where
@@ -47,15 +46,3 @@ module _ (R : ℕ → ℕ → Type 0) where
             (subst (λ y. R (get_or xs i 0) y) (ap (λ n. get_or (cf ++ (ys ++ vs)) (n + i) 0) same ∙ get_or-append-add cf (ys ++ vs) i 0 ∙ get_or-append ys vs 0 i differ.second)
             (subst (λ x. R x (get_or (cf ++ (ys ++ vs)) (length bf + i) 0)) (get_or-append-add bf (xs ++ us) i 0 ∙ get_or-append xs us 0 i differ.first) is));
       }
-
-module _ (R : ℕ → ℕ → Type 0) (A : Type 0) where
-  -- lists go together exactly where A holds, and so do they without their first elements, which go together
-  pub zip-rest : (xs ys us vs : List ℕ) (x y : ℕ) → xs ≡ x ∷ us → ys ≡ y ∷ vs → R x y → A ↔ AllZip R xs ys → A ↔ AllZip R us vs
-  zip-rest xs ys us vs x y first second here both = (
-    λ a. (subst (AllZip R (x ∷ us)) second (subst (λ zs. AllZip R zs ys) first (both.0 a))).1,
-    λ zip. both.1 (subst (λ zs. AllZip R zs ys) (sym first) (subst (AllZip R (x ∷ us)) (sym second) (here, zip))),
-  )
-
--- all of a list
-pub take-whole : (n : ℕ) (xs : List ℕ) → length xs ≡ n → take (n - 0) (drop 0 xs) ≡ xs
-take-whole n xs same = take_all (n - 0) xs (omega (arith, same))

@@ -5,3 +5,4 @@ pub mod Apart
 pub mod Congruent
 pub mod Lines
 pub mod CompareLaws
+pub mod Places

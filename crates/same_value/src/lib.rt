@@ -1,8 +1,8 @@
 //! Whether two vectors, maps, sets or states of one heap have the same in them.
 //!
 //! Equal links end a walk at once. Two tries are compared row by row: a set of entries has one trie, so tries of equal
-//! sets have equal rows. Two vectors are compared row by row as long as their rows are cut in the same places; where they
-//! aren't, element by element from the first on, what they share too. Nothing here takes memory.
+//! sets have equal rows. Two vectors may be cut otherwise: they are compared from the first element to the last, and a row
+//! that begins at the same place in both is passed over whole. Nothing here takes memory.
 #![tactic(auto)]
 
 mod cells;
@@ -10,6 +10,7 @@ mod chains;
 mod compare;
 mod entries;
 mod maps;
+mod places;
 mod states;
 mod tries;
 mod values;

@@ -7,7 +7,7 @@ use Rattle.node_heap.specs.Glass.{lent}
 use Rattle.champ_chain.proofs.FrameLemmas.{form-live}
 use Rattle.same_value.specs.Congruent.{Congruent, IsFrom}
 use Rattle.same_value.proofs.TriePairs.{from-opened, from-chain, trie-itself}
-use Rattle.same_value.proofs.VectorRows.{read-row}
+use Rattle.same_value.proofs.ReadRows.{read-row}
 use Rattle.same_value.proofs.TwoRows.{TwoRows, TwoRead, AtPlace, opened-row, positions-same, row-apart, row-spends, links-number, entries-taken, others-taken, entries-few, left-good, right-good, entries-same, rows-congruent, at-place, child-left, child-right, children-congruent, congruent-more, apart-below}
 use Rattle.same_value.proofs.tries.+same_tries.Given as given
 use Rattle.same_value.proofs.tries.+same_tries.Goals as goal
