@@ -3,10 +3,12 @@ pub mod QuitLemmas
 pub mod PageLemmas
 pub mod LinesLemmas
 pub mod ReplyLemmas
+pub mod CommandLemmas
 pub mod StepLemmas
 pub mod SaveLemmas
 pub mod LoadLemmas
 pub mod RoundTripLemmas
 pub mod ReadLemmas
+pub mod WorkLemmas
 pub mod RunLemmas
 pub mod EndLemmas

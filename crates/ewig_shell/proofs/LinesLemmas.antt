@@ -7,7 +7,7 @@ use Rattle.plain_space.specs.Answer.{ok_line}
 use Rattle.ewig_shell.specs.Step.{reply_of}
 
 -- the lines of two lists are those of the first, then those of the second
-reply_of-append : (xs ys : List (List ℕ)) → reply_of (xs ++ ys) ≡ reply_of xs ++ reply_of ys
+pub reply_of-append : (xs ys : List (List ℕ)) → reply_of (xs ++ ys) ≡ reply_of xs ++ reply_of ys
 reply_of-append xs ys = flat_map-append (λ (line : List ℕ). line ++ NEWLINE ∷ []) xs ys
 
 -- one map after another is one map

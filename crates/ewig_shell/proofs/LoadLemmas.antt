@@ -1,14 +1,23 @@
 -- What shows that a document was loaded, or why not.
-use Rattle.std.proofs.Common.{◌≡◌, ◌≢◌, ℕ, ◌<◌, ◌≤◌, ◌+◌, ◌-◌, ◌^◌, min, ◌∙◌, length, sym, ap, subst, refl, codes, Bool, true, false, inl, inr, Result, Ok, Err, IsErrAnd, IfSome, MatchBool, MatchOption, List, [], ◌∷◌, ◌++◌, None, Some}
-use Rattle.std.proofs.lemmas.Bool.{le-ltb, lt-ltb}
+use Rattle.std.proofs.Common.{◌≡◌, ◌≢◌, ℕ, ◌<◌, ◌≤◌, ◌+◌, ◌-◌, ◌^◌, min, ◌∙◌, length, sym, ap, subst, refl, arith, ◌==◌, codes, Bool, true, false, inl, inr, Result, Ok, Err, IsTrue, IsErrAnd, ◌⊎◌, IfSome, MatchBool, MatchOption, List, [], ◌∷◌, ◌++◌, None, Some}
+use Rattle.std.proofs.lemmas.Bool.{le-ltb, lt-ltb, cases_Bool}
+use Rattle.elem_core.specs.declared.TheConstants.{NEWLINE}
+use Rattle.shell_io.specs.Pieces.{at_front, pieces}
+use Rattle.space_state.specs.Turns.{HasFewLines}
 use Rattle.std.specs.declared.option.Option.{Option}
 use Rattle.std.specs.FinMap.{get}
-use Rattle.shell_terms.specs.Edit.{Bytes}
-use Rattle.shell_terms.specs.Command.{load}
+use Rattle.shell_terms.specs.Edit.{Bytes, fill}
+use Rattle.shell_terms.specs.Command.{PlainCommand, edit, read, load}
 use Rattle.plain_space.specs.declared.refusal.Refusal.{Refusal}
 use Rattle.plain_space.specs.declared.refusal.Refusal.TheVariants as why
-use Rattle.plain_space.specs.Workspace.{Workspace, in_batch}
-use Rattle.plain_space.specs.Answer.{ok_line}
+use Rattle.plain_space.specs.Workspace.{Workspace, in_batch, is_full}
+use Rattle.plain_space.specs.Refusing.{unless}
+use Rattle.plain_space.specs.Answer.{answer, elsewhere, ok_line}
+use Rattle.plain_space.specs.Memory.{wants_memory}
+use Rattle.state_rows.proofs.OneSpace.{one-space}
+use Rattle.shell_io.specs.Lines.{HasLines}
+use Rattle.shell_io.specs.declared.lines.LinesFault.{LinesFault}
+use Rattle.shell_io.specs.declared.lines.LinesFault.TheVariants as unread
 use Rattle.pool_text.specs.Pool.{row_count}
 use Rattle.pool_text.specs.Document.{pool_in_bytes, bytes_damage}
 use Rattle.pool_text.specs.declared.pool.Pool.{Pool}
@@ -16,7 +25,7 @@ use Rattle.pool_text.specs.declared.damage.Damage.{Damage}
 use Rattle.pool_text.specs.declared.damage.Damage.TheVariants as damage_is
 use Rattle.pool_check.specs.Damages.{damage, document_damage, IsValid}
 use Rattle.state_rows.specs.Standing.{StandsFor}
-use Rattle.space_state.specs.View.{SpaceView, EndsTaking}
+use Rattle.space_state.specs.View.{SpaceView, CarriesOut, Ends, EndsTaking}
 use Rattle.shell_io.specs.Fault.{Calls}
 use Rattle.shell_io.specs.InMemory.{Files}
 use Rattle.shell_io.specs.Storing.{ChangesFiles, FetchesFile}
@@ -25,10 +34,10 @@ use Rattle.shell_io.specs.declared.device.FetchFault.TheVariants as fetch
 use Rattle.shell_io.specs.declared.device.Store as store_trait
 use Rattle.ewig_shell.specs.declared.load.LoadFault.{LoadFault}
 use Rattle.ewig_shell.specs.declared.load.LoadFault.TheVariants as unloaded
-use Rattle.ewig_shell.specs.Step.{KeepsFiles, Refuses, Fetched, fetched, missing, large, given, IsLoaded, LoadsAs, ObeysOn, shown_store, machine_of, most_stored, damage_word, reply_of, refusal_of, loaded_reply}
-use Rattle.ewig_shell.specs.Loading.{TakesIn, fault_of, load_fault}
+use Rattle.ewig_shell.specs.Step.{Machine, KeepsFiles, Refuses, Fetched, fetched, missing, large, given, Makes, Takes, IsLoaded, LoadsBytes, ReadsBytes, SaysElsewhere, ObeysOn, CountsStore, shown_store, machine_of, uses_store, most_stored, damage_word, reply_of, refusal_of, loaded_reply}
+use Rattle.ewig_shell.specs.Loading.{TakesIn, FillsIn, fault_of, load_fault, read_fault}
 use Rattle.ewig_shell.proofs.ReplyLemmas.{other-reply}
-use Rattle.ewig_shell.proofs.StepLemmas.{same_files, CountsStore-failed, CountsStore-succeeded, load-OfTheStore, Obeys-elsewhere, may_lack, fault-is}
+use Rattle.ewig_shell.proofs.StepLemmas.{same_files, CountsStore-failed, CountsStore-succeeded, load-outside, answer-outside, Obeys-elsewhere, ObeysOn-refused, may_lack, fault-is}
 
 -- ## A document
 
@@ -44,7 +53,7 @@ module _ (bits : ℕ) (bytes : Bytes) where
   pool_damage P found none is e = rw none (rw is e)
 
 -- a document is refused with its damage
-damaged_as : (d : Damage) (bytes : Bytes) (old new : SpaceView) → document_damage old.pool.bits bytes ≡ Some d → new ≡ old → LoadsAs (given bytes) old (loaded_reply (Err (unloaded.Damaged d))) new
+damaged_as : (d : Damage) (bytes : Bytes) (old new : SpaceView) → document_damage old.pool.bits bytes ≡ Some d → new ≡ old → LoadsBytes old bytes (loaded_reply (Err (unloaded.Damaged d))) new
 damaged_as d bytes old new is same =
     subst (λ (o : Option Damage). MatchOption o (IsLoaded bytes old (loaded_reply (Err (unloaded.Damaged d))) new) (λ (w : Damage). Refuses old (codes "damaged " ++ damage_word w) (loaded_reply (Err (unloaded.Damaged d))) new)) (sym is)
     (record { reply_is = refl; same = same })
@@ -148,16 +157,6 @@ fetched_by files one name result result' bytes named ends told =
     subst (λ (r : Result (Unit {0}) FetchFault). IfSome files (λ (f : Files). FetchesFile (get f name) most_stored r bytes)) ends
     (subst (λ (n : Bytes). IfSome files (λ (f : Files). FetchesFile (get f n) most_stored result bytes)) named told)
 
--- what a file comes to gets another reply than `! fault`
-document-other : (found : Option Damage) (bytes : Bytes) (old new : SpaceView) (reply : List ℕ) → MatchOption found (IsLoaded bytes old reply new) (λ (d : Damage). Refuses old (codes "damaged " ++ damage_word d) reply new) → reply ≢ refusal_of (codes "fault")
-document-other None bytes old new reply loads = other-reply loads.reply_is refl
-document-other (Some d) bytes old new reply keeps = other-reply keeps.reply_is refl
-
-file-other : (file : Fetched) (old new : SpaceView) (reply : List ℕ) → LoadsAs file old reply new → reply ≢ refusal_of (codes "fault")
-file-other missing old new reply keeps = other-reply keeps.reply_is refl
-file-other large old new reply keeps = other-reply keeps.reply_is refl
-file-other (given bytes) old new reply loads = document-other (document_damage old.pool.bits bytes) bytes old new reply loads
-
 -- a fetch leaves the files
 kept : {C : Type 0} (D : store_trait.Ghosts C) (store store' : C) → D.held store' ≡ D.held store → D.faults store ≤ D.faults store' → KeepsFiles (shown_store D store) (shown_store D store')
 kept D store store' e counted = record {
@@ -165,55 +164,160 @@ kept D store store' e counted = record {
   counted = counted;
 }
 
-module _ (W : Workspace) (name : Bytes) {C : Type 0} {D : store_trait.Ghosts C} {space : SpaceView} {store store' : C} {failed : Type 0}
-    (stands : StandsFor space.pool W) (e : in_batch W ≡ false) (same : D.held store' ≡ D.held store) (calls : Calls D.faults D.steady D.faultless store store' failed) where
+-- what a file makes of a space gets another reply than `! fault`, where what its bytes make of it does
+makes-other : (ByBytes : List ℕ → List ℕ → SpaceView → Type 0) (file : Fetched) (old new : SpaceView) (reply : List ℕ) → ((bytes : Bytes) → ByBytes bytes reply new → reply ≢ refusal_of (codes "fault")) → Makes ByBytes file old reply new → reply ≢ refusal_of (codes "fault")
+makes-other ByBytes missing old new reply by keeps = other-reply keeps.reply_is refl
+makes-other ByBytes large old new reply by keeps = other-reply keeps.reply_is refl
+makes-other ByBytes (given bytes) old new reply by makes = by bytes makes
+
+-- a command that takes a file, where nothing in the workspace refuses it
+pub record TakesFrom (command : PlainCommand) (W : Workspace) (space : SpaceView) (name : Bytes) (ByBytes : List ℕ → List ℕ → SpaceView → Type 0) : Type 0 where
+  pub stands : StandsFor space.pool W
+  pub granted : answer W command ≡ Ok elsewhere
+  pub wants : IsTrue (wants_memory command)
+  pub uses : uses_store command ≡ true
+  pub says : (old new : Machine) (reply : List ℕ) → old.space ≡ space → Takes name old reply new ByBytes → SaysElsewhere command old W reply new
+  pub other : (bytes : Bytes) (reply : List ℕ) (new : SpaceView) → ByBytes bytes reply new → reply ≢ refusal_of (codes "fault")
+
+module _ {command : PlainCommand} {W : Workspace} {name : Bytes} {ByBytes : List ℕ → List ℕ → SpaceView → Type 0} {C : Type 0} {D : store_trait.Ghosts C} {space : SpaceView} {store store' : C} {failed : Type 0}
+    (takes : TakesFrom command W space name ByBytes) (same : D.held store' ≡ D.held store) (calls : Calls D.faults D.steady D.faultless store store' failed) where
   -- memory ran out
-  pub Loads-lacks : {space' : SpaceView} → space' ≡ space → (failed → ⊥) → ObeysOn (load name) D space store (refusal_of (codes "memory")) space' store'
-  Loads-lacks stays succeeds = record {
+  Takes-lacks : {space' : SpaceView} → space' ≡ space → (failed → ⊥) → ObeysOn command D space store (refusal_of (codes "memory")) space' store'
+  Takes-lacks stays succeeds = record {
     obeys = record {
       work = W;
-      stands = stands;
-      gives = inr (record { may = may_lack (load name) (load-OfTheStore name) W refl e; reply_is = refl; space = stays; store = kept D store store' same calls.counts.counted });
+      stands = takes.stands;
+      gives = inr (record {
+        may = may_lack command W takes.wants takes.granted;
+        reply_is = refl;
+        space = stays;
+        store = subst (λ (b : Bool). MatchBool b (KeepsFiles (shown_store D store) (shown_store D store')) (shown_store D store' ≡ shown_store D store)) (sym takes.uses) (kept D store store' same calls.counts.counted);
+      });
     };
     counts = CountsStore-succeeded succeeds (other-reply {due = refusal_of (codes "memory")} refl refl) calls;
   }
 
-  -- the store failed
-  pub Loads-failed : failed → ObeysOn (load name) D space store (refusal_of (codes "fault")) space store'
-  Loads-failed fails = record {
-    obeys = Obeys-elsewhere (load name) (load-OfTheStore name) W (machine_of D space store) (machine_of D space store') (refusal_of (codes "fault")) stands e
-        (inr (record { store = kept D store store' same calls.counts.counted; space = record { reply_is = refl; same = refl }; cause = calls.counts.cause fails }));
-    counts = CountsStore-failed fails calls;
+  -- the store had its say
+  took : {space' : SpaceView} {reply : List ℕ} → Takes name (machine_of D space store) reply (machine_of D space' store') ByBytes → CountsStore D store store' reply → ObeysOn command D space store reply space' store'
+  took {space'} {reply} told counts = record {
+    obeys = Obeys-elsewhere command W (machine_of D space store) (machine_of D space' store') reply takes.stands takes.granted (takes.says (machine_of D space store) (machine_of D space' store') reply refl told);
+    counts = counts;
   }
+
+  -- it failed
+  Takes-failed : failed → ObeysOn command D space store (refusal_of (codes "fault")) space store'
+  Takes-failed fails = took
+      (inr (record { store = kept D store store' same calls.counts.counted; space = record { reply_is = refl; same = refl }; cause = calls.counts.cause fails }))
+      (CountsStore-failed fails calls)
 
   -- the file came to this
-  loaded_as : {space' : SpaceView} {reply : List ℕ} (file : Fetched) → (failed → ⊥) → IfSome (D.held store) (λ (files : Files). file ≡ fetched (get files name)) → LoadsAs file space reply space' → ObeysOn (load name) D space store reply space' store'
-  loaded_as {space'} {reply} file succeeds held loads = record {
-    obeys = Obeys-elsewhere (load name) (load-OfTheStore name) W (machine_of D space store) (machine_of D space' store') reply stands e
-        (inl (record { store = kept D store store' same calls.counts.counted; file = file; held = held; loads = loads }));
-    counts = CountsStore-succeeded succeeds (file-other file space space' reply loads) calls;
-  }
+  taken_as : {space' : SpaceView} {reply : List ℕ} (file : Fetched) → (failed → ⊥) → IfSome (D.held store) (λ (files : Files). file ≡ fetched (get files name)) → Makes ByBytes file space reply space' → ObeysOn command D space store reply space' store'
+  taken_as {space'} {reply} file succeeds held makes = took
+      (inl (record { store = kept D store store' same calls.counts.counted; file = file; held = held; makes = makes }))
+      (CountsStore-succeeded succeeds (makes-other ByBytes file space space' reply (λ bytes by. takes.other bytes reply space' by) makes) calls)
 
   -- the store gave no bytes
-  pub Loads-refused : (fault : FetchFault) (bytes : Bytes) → (fault ≡ fetch.Failed → failed) → (failed → fault ≡ fetch.Failed) → IfSome (D.held store) (λ (files : Files). FetchesFile {A = Unit {0}} (get files name) most_stored (Err fault) bytes) →
-      ObeysOn (load name) D space store (loaded_reply (Err (load_fault fault))) space store'
-  Loads-refused fetch.Missing bytes into back told = loaded_as missing (λ f. let never = back f in cc) (told_of (D.held store) _ _ (λ files h. is_missing (get files name) h) told) (record { reply_is = refl; same = refl })
-  Loads-refused fetch.Large bytes into back told = loaded_as large (λ f. let never = back f in cc) (told_of (D.held store) _ _ (λ files h. is_large_file (get files name) h) told) (record { reply_is = refl; same = refl })
-  Loads-refused fetch.Failed bytes into back told = Loads-failed (into refl)
-  Loads-refused fetch.Memory bytes into back told = Loads-lacks refl (λ f. let never = back f in cc)
+  Takes-refused : (fault : FetchFault) (bytes : Bytes) → (fault ≡ fetch.Failed → failed) → (failed → fault ≡ fetch.Failed) → IfSome (D.held store) (λ (files : Files). FetchesFile {A = Unit {0}} (get files name) most_stored (Err fault) bytes) →
+      ObeysOn command D space store (loaded_reply (Err (load_fault fault))) space store'
+  Takes-refused fetch.Missing bytes into back told = taken_as missing (λ f. let never = back f in cc) (told_of (D.held store) _ _ (λ files h. is_missing (get files name) h) told) (record { reply_is = refl; same = refl })
+  Takes-refused fetch.Large bytes into back told = taken_as large (λ f. let never = back f in cc) (told_of (D.held store) _ _ (λ files h. is_large_file (get files name) h) told) (record { reply_is = refl; same = refl })
+  Takes-refused fetch.Failed bytes into back told = Takes-failed (into refl)
+  Takes-refused fetch.Memory bytes into back told = Takes-lacks refl (λ f. let never = back f in cc)
 
-  -- the store gave the bytes, and the space took in what they stand for
-  pub Loads-took : {space' : SpaceView} (bytes : Bytes) (result : Result (Unit {0}) LoadFault) → (failed → ⊥) → length bytes ≤ most_stored → IfSome (D.held store) (λ (files : Files). get files name ≡ Some bytes) → TakesIn bytes space result space' →
-      ObeysOn (load name) D space store (loaded_reply result) space' store'
-  Loads-took {space'} bytes result succeeds few told takes = elim takes [
-    | inl loads ↦ loaded_as (given bytes) succeeds (told_of (D.held store) _ _ (λ files h. is_given (get files name) bytes h few) told) loads
-    | inr lacks ↦ subst (λ (r : Result (Unit {0}) LoadFault). ObeysOn (load name) D space store (loaded_reply r) space' store') (sym lacks.0) (Loads-lacks lacks.1 succeeds)
+  -- the store gave the bytes, and the space took them in, or memory ran out
+  pub Takes-given : {space' : SpaceView} (bytes : Bytes) (result : Result (Unit {0}) LoadFault) → (failed → ⊥) → length bytes ≤ most_stored → IfSome (D.held store) (λ (files : Files). get files name ≡ Some bytes) →
+      ByBytes bytes (loaded_reply result) space' ⊎ (result ≡ Err unloaded.Memory) × (space' ≡ space) → ObeysOn command D space store (loaded_reply result) space' store'
+  Takes-given {space'} bytes result succeeds few told ends = elim ends [
+    | inl makes ↦ taken_as (given bytes) succeeds (told_of (D.held store) _ _ (λ files h. is_given (get files name) bytes h few) told) makes
+    | inr lacks ↦ subst (λ (r : Result (Unit {0}) LoadFault). ObeysOn command D space store (loaded_reply r) space' store') (sym lacks.0) (Takes-lacks lacks.1 succeeds)
   ]
 
--- how a load ends where the fetch was refused
-pub Loads-fault : {C : Type 0} {D : store_trait.Ghosts C} {space : SpaceView} {store store' : C} (W : Workspace) (name one : Bytes) (result : Result (Unit {0}) FetchFault) (fault : FetchFault) (ended : Result (Unit {0}) LoadFault) (bytes : Bytes) → StandsFor space.pool W → in_batch W ≡ false → D.held store' ≡ D.held store →
-    Calls D.faults D.steady D.faultless store store' (result ≡ Err fetch.Failed) → one ≡ name → IfSome (D.held store) (λ (files : Files). FetchesFile (get files one) most_stored result bytes) → result ≡ Err fault → ended ≡ Err (load_fault fault) → ObeysOn (load name) D space store (loaded_reply ended) space store'
-Loads-fault {D = D} {space} {store} {store'} W name one result fault ended bytes stands e same calls named told is ends =
-    subst (λ (r : Result (Unit {0}) LoadFault). ObeysOn (load name) D space store (loaded_reply r) space store') (sym ends)
-    (Loads-refused W name stands e same calls fault bytes (λ failed. is ∙ ap Err failed) (λ failed. let both : Err fault ≡ Err fetch.Failed = sym is ∙ failed in cc)
+-- how it ends where the fetch was refused
+pub Takes-fault : {command : PlainCommand} {W : Workspace} {ByBytes : List ℕ → List ℕ → SpaceView → Type 0} {C : Type 0} {D : store_trait.Ghosts C} {space : SpaceView} {store store' : C} (name one : Bytes) (result : Result (Unit {0}) FetchFault) (fault : FetchFault) (ended : Result (Unit {0}) LoadFault) (bytes : Bytes) →
+    TakesFrom command W space name ByBytes → D.held store' ≡ D.held store → Calls D.faults D.steady D.faultless store store' (result ≡ Err fetch.Failed) → one ≡ name →
+    IfSome (D.held store) (λ (files : Files). FetchesFile (get files one) most_stored result bytes) → result ≡ Err fault → ended ≡ Err (load_fault fault) → ObeysOn command D space store (loaded_reply ended) space store'
+Takes-fault {command} {D = D} {space} {store} {store'} name one result fault ended bytes takes same calls named told is ends =
+    subst (λ (r : Result (Unit {0}) LoadFault). ObeysOn command D space store (loaded_reply r) space store') (sym ends)
+    (Takes-refused takes same calls fault bytes (λ failed. is ∙ ap Err failed) (λ failed. let both : Err fault ≡ Err fetch.Failed = sym is ∙ failed in cc)
     (fetched_by (D.held store) one name result (Err fault) bytes named is told))
+
+-- ## A load
+
+document-other : (found : Option Damage) (bytes : Bytes) (old new : SpaceView) (reply : List ℕ) → MatchOption found (IsLoaded bytes old reply new) (λ (d : Damage). Refuses old (codes "damaged " ++ damage_word d) reply new) → reply ≢ refusal_of (codes "fault")
+document-other None bytes old new reply loads = other-reply loads.reply_is refl
+document-other (Some d) bytes old new reply keeps = other-reply keeps.reply_is refl
+
+pub load-takes : {space : SpaceView} (W : Workspace) (name : Bytes) → StandsFor space.pool W → in_batch W ≡ false → TakesFrom (load name) W space name (LoadsBytes space)
+load-takes {space} W name stands e = record {
+  stands = stands;
+  granted = answer-outside (load name) (load-outside name) W e;
+  wants = refl;
+  uses = refl;
+  says = λ old new reply same takes. subst (λ (s : SpaceView). Takes name old reply new (LoadsBytes s)) (sym same) takes;
+  other = λ bytes reply new loads. document-other (document_damage space.pool.bits bytes) bytes space new reply loads;
+}
+
+-- ## A read
+
+read-full : (W : Workspace) (name file : Bytes) (full : Bool) → is_full W ≡ full → answer W (read name file) ≡ unless full why.Limit (Ok elsewhere)
+unfolding answer
+read-full W name file full e = ap (λ (b : Bool). unless b why.Limit (Ok elsewhere)) e
+
+-- undo is full
+pub ObeysOn-full : {C : Type 0} {D : store_trait.Ghosts C} {space : SpaceView} {store : C} (W : Workspace) (name file : Bytes) → StandsFor space.pool W → is_full W ≡ true → ObeysOn (read name file) D space store (refusal_of (codes "limit")) space store
+ObeysOn-full W name file stands e = ObeysOn-refused (read name file) W why.Limit stands (read-full W name file true e)
+
+reads-other : (W : Workspace) (name : Bytes) (old : SpaceView) (bytes reply : List ℕ) (new : SpaceView) → ReadsBytes W name old bytes reply new → reply ≢ refusal_of (codes "fault")
+reads-other W name old bytes reply new reads = elim reads [
+  | inl long ↦ other-reply long.1.reply_is refl
+  | inr more ↦ elim more [ inl utf8 ↦ other-reply utf8.1.reply_is refl | inr is ↦ other-reply is.reply_is refl ]
+]
+
+pub read-takes : {space : SpaceView} (W : Workspace) (name file : Bytes) → StandsFor space.pool W → is_full W ≡ false → TakesFrom (read name file) W space file (ReadsBytes W name space)
+read-takes {space} W name file stands e = record {
+  stands = stands;
+  granted = read-full W name file false e;
+  wants = refl;
+  uses = refl;
+  says = λ old new reply same takes. subst (λ (s : SpaceView). Takes file old reply new (ReadsBytes W name s)) (sym same) takes;
+  other = λ bytes reply new reads. reads-other W name space bytes reply new reads;
+}
+
+-- there are no more pieces than bytes
+front-short : (byte : ℕ) (all : List Bytes) (n : ℕ) → length all ≤ n → length (at_front byte all) ≤ n + 1
+front-short byte [] n few = omega arith
+front-short byte (first ∷ others) n few = omega (arith, few)
+
+pieces-short : (bytes : Bytes) → length (pieces bytes) ≤ length bytes
+unfolding pieces
+pieces-short [] = omega arith
+pieces-short (byte ∷ bytes) =
+    let few = pieces-short bytes in
+    elim (cases_Bool (byte == NEWLINE)) [
+      | inl e ↦ rw e (omega (arith, few))
+      | inr e ↦ rw e (omega (arith, front-short byte (pieces bytes) (length bytes) few))
+    ]
+
+-- so a buffer may have the lines of a file
+pub few-lines : (name bytes : Bytes) (lines : List Bytes) → length bytes ≤ most_stored → HasLines bytes (Ok lines) → HasFewLines (fill name lines)
+few-lines name bytes lines small are = omega (arith, ap length are.0, pieces-short bytes, small)
+
+-- the bytes have no lines, or memory ran out
+fills_by : (fault : LinesFault) (name bytes : Bytes) (old : SpaceView) → HasLines bytes (Err fault) → FillsIn name bytes old (Err (read_fault fault)) old
+fills_by unread.Long name bytes old none W stands = inl (inl (none, record { reply_is = refl; same = refl }))
+fills_by unread.Utf8 name bytes old none W stands = inl (inr (inl (none, record { reply_is = refl; same = refl })))
+fills_by unread.Memory name bytes old none W stands = inr (refl, refl)
+
+pub FillsIn-refused : (fault : LinesFault) (name bytes : Bytes) (old : SpaceView) (result : Result (Unit {0}) LoadFault) → HasLines bytes (Err fault) → IsErrAnd result (λ (f : LoadFault). f ≡ read_fault fault) → FillsIn name bytes old result old
+FillsIn-refused fault name bytes old result none is =
+    subst (λ (r : Result (Unit {0}) LoadFault). FillsIn name bytes old r old) (sym (fault-is result (read_fault fault) is)) (fills_by fault name bytes old none)
+
+-- the buffer has the lines
+pub FillsIn-ok : (name bytes : Bytes) (lines : List Bytes) (old new : SpaceView) (x : Unit {0}) → HasLines bytes (Ok lines) → Ends (edit (fill name lines)) old (Ok x) new → FillsIn name bytes old (Ok tt) new
+FillsIn-ok name bytes lines old new x lines_are ends W stands =
+    let one : ends.work ≡ W = one-space _ _ _ _ ends.work W ends.stands stands in
+    inl (inr (inr (record { lines = lines; lines_are = lines_are; reply_is = refl; filled = subst (λ (V : Workspace). CarriesOut (edit (fill name lines)) old new V) one ends.ends })))
+
+-- memory was refused to the edit
+pub FillsIn-lacks : (name bytes : Bytes) (old new : SpaceView) → new ≡ old → FillsIn name bytes old (Err unloaded.Memory) new
+FillsIn-lacks name bytes old new same W stands = inr (refl, same)

@@ -1,9 +1,9 @@
 -- Which replies aren't `! fault`.
-use Rattle.std.proofs.Common.{◌≡◌, ◌≢◌, ℕ, ◌+◌, ◌-◌, Bool, true, false, ◌&&◌, nat_le, List, [], ◌∷◌, ◌++◌, length, map, slice_get, slice_range, is_some, codes, bytes_eq, sym, ◌∙◌, refl, inl, inr, Result, Ok, Err, Option, Some, None, IfOk}
+use Rattle.std.proofs.Common.{◌≡◌, ◌≢◌, ℕ, ◌+◌, Bool, true, false, ◌&&◌, nat_le, List, [], ◌∷◌, ◌++◌, length, map, slice_get, slice_range, is_some, codes, bytes_eq, sym, ap, ◌∙◌, refl, arith, inl, inr, Result, Ok, Err, Option, Some, None, IfOk}
 use Rattle.std.proofs.lemmas.Slice.Eq.{bytes_eq-Decides}
 use Rattle.std.specs.FinMap as map_of
 use Rattle.shell_terms.specs.Edit.{Bytes}
-use Rattle.shell_terms.specs.Command.{PlainCommand, edit, mark, unmark, back, undo, redo, begin, «end», abort, get, len, show, list, stars, marks, same as same_lines, eqv, stats, save, load, quit}
+use Rattle.shell_terms.specs.Command.{PlainCommand, edit, mark, unmark, back, undo, redo, begin, «end», abort, get, len, show, list, stars, marks, same as same_lines, eqv, stats, read, write, save, load, quit}
 use Rattle.shell_words.specs.declared.BadLine.{BadLine}
 use Rattle.shell_words.specs.declared.BadLine.TheVariants as bad
 use Rattle.plain_space.specs.declared.refusal.Refusal.{Refusal}
@@ -25,8 +25,17 @@ other-reply {due = due} is other fault =
     let same : bytes_eq due (refusal_of (codes "fault")) ≡ true = (bytes_eq-Decides due (refusal_of (codes "fault"))).1 (sym is ∙ fault) in
     let never : true ≡ false = sym same ∙ other in cc
 
+-- the byte that comes first
+abbrev pub first_byte : List ℕ → ℕ
+first_byte [] = 0
+first_byte (b ∷ bytes) = b
+
+-- a refusal isn't `ok`
+pub no-refusal : (reason : List ℕ) → reply_of (ok_line ∷ []) ≡ refusal_of reason → ⊥
+no-refusal reason is = let first : ◌≡◌ {A = ℕ} 111 33 = ap first_byte is in omega arith
+
 -- no refusal of the workspace is, and none of a line
-refusal-other : (reason : Refusal) → IsOther (refusal_of (reason_of reason))
+pub refusal-other : (reason : Refusal) → IsOther (refusal_of (reason_of reason))
 refusal-other why.Absent = refl
 refusal-other why.Exists = refl
 refusal-other why.Range = refl
@@ -113,21 +122,25 @@ module _ (W : Workspace) where
   answer-other (same_lines name other) = asking _ (by_given AreOther (lines_of W.current name) why.Absent _ (λ lines. by_given AreOther (lines_of W.current other) why.Absent _ (λ others. equal-other (same_texts lines others))))
   answer-other (eqv version other) = asking _ (by_given AreOther (version_of W version) why.Absent _ (λ state. by_given AreOther (version_of W other) why.Absent _ (λ others. equal-other (same_state state others))))
   answer-other stats = tt
+  answer-other (read name file) = by_unless TellsOther (is_full W) why.Limit _ tt
+  answer-other (write name file) = by_given TellsOther (lines_of W.current name) why.Absent _ (λ lines. tt)
   answer-other (save file) = outside _ tt
   answer-other (load file) = outside _ tt
   answer-other quit = refl
 
 -- ## Commands that use no store
 
-says-other : (command : PlainCommand) (old new : Machine) (reply : List ℕ) → uses_store command ≡ false → SaysElsewhere command old reply new → reply ≢ refusal_of (codes "fault")
-says-other stats old new reply alone says = other-reply says.0 refl
-says-other (save name) old new reply alone says = absurd (let never : true ≡ false = alone in cc)
-says-other (load name) old new reply alone says = absurd (let never : true ≡ false = alone in cc)
-says-other _ old new reply alone says = absurd says
+says-other : (command : PlainCommand) (old new : Machine) (W : Workspace) (reply : List ℕ) → uses_store command ≡ false → SaysElsewhere command old W reply new → reply ≢ refusal_of (codes "fault")
+says-other stats old new W reply alone says = other-reply says.0 refl
+says-other (read name file) old new W reply alone says = absurd (let never : true ≡ false = alone in cc)
+says-other (write name file) old new W reply alone says = absurd (let never : true ≡ false = alone in cc)
+says-other (save file) old new W reply alone says = absurd (let never : true ≡ false = alone in cc)
+says-other (load file) old new W reply alone says = absurd (let never : true ≡ false = alone in cc)
+says-other _ old new W reply alone says = absurd says
 
 gives-other : (a : Answer) (command : PlainCommand) (old new : Machine) (W : Workspace) (reply : List ℕ) → uses_store command ≡ false → IfOk a TellsOther → Gives command old W a reply new → reply ≢ refusal_of (codes "fault")
 gives-other (Ok (tells lines after)) command old new W reply alone other gives = other-reply gives.0 other
-gives-other (Ok elsewhere) command old new W reply alone other gives = says-other command old new reply alone gives
+gives-other (Ok elsewhere) command old new W reply alone other gives = says-other command old new W reply alone gives
 gives-other (Err reason) command old new W reply alone other gives = other-reply gives.reply_is (refusal-other reason)
 
 -- none of them gets `! fault`

@@ -1,5 +1,5 @@
 -- What a save and a load make of each other.
-use Rattle.std.proofs.Common.{◌≡◌, ℕ, List, [], ◌∷◌, ◌++◌, Bool, true, false, Option, None, Some, codes, length, refl, sym, ap, subst, ◌∙◌, inl, inr, ◌⊎◌, arith, cond, MatchBool, MatchOption, IfSome, Ok}
+use Rattle.std.proofs.Common.{◌≡◌, ℕ, List, ◌++◌, Bool, true, false, Option, None, Some, codes, length, refl, sym, ap, subst, ◌∙◌, inl, inr, ◌⊎◌, cond, MatchBool, MatchOption, IfSome, Ok}
 use Rattle.std.proofs.lemmas.Option.{same_Some}
 use Rattle.std.specs.Option.{option_or}
 use Rattle.std.specs.FinMap.{get, insert}
@@ -14,42 +14,35 @@ use Rattle.pool_text.specs.declared.pool.Pool.{Pool}
 use Rattle.pool_text.specs.declared.damage.Damage.{Damage}
 use Rattle.pool_text.proofs.DocumentBack.{compact-stays}
 use Rattle.pool_check.specs.Damages.{document_damage}
+use Rattle.pool_check.specs.Laws.{IsDocumentOf}
 use Rattle.pool_check.proofs.DocumentLaw.{undamaged-stands}
 use Rattle.shell_io.specs.InMemory.{Files}
 use Rattle.shell_io.specs.Storing.{ChangesFiles}
 use Rattle.space_state.specs.View.{SpaceView}
 use Rattle.state_rows.proofs.FourRoots.{outside-batch}
-use Rattle.ewig_shell.specs.Step.{Machine, Refuses, IsStored, FailsToStore, IsLoaded, Fetched, large, given, fetched, LoadsAs, LoadsFile, SaysElsewhere, Gives, Obeys, is_large, damage_word, refusal_of}
+use Rattle.ewig_shell.specs.Step.{Machine, Refuses, IsStored, FailsToStore, IsLoaded, Fetched, large, given, fetched, Makes, TakesFile, LoadsBytes, SaysElsewhere, Gives, Obeys, is_large, damage_word, refusal_of}
 use Rattle.ewig_shell.specs.RoundTrip.{ok_reply, LoadThenSave, SaveThenLoad}
-use Rattle.ewig_shell.proofs.StepLemmas.{IsOfTheStore, save-OfTheStore, load-OfTheStore}
-
--- ## Replies
-
-abbrev first_byte : List ℕ → ℕ
-first_byte [] = 0
-first_byte (b ∷ bytes) = b
-
-no-refusal : (reason : List ℕ) → ok_reply ≡ refusal_of reason → ⊥
-no-refusal reason is = let first : ◌≡◌ {A = ℕ} 111 33 = ap first_byte is in omega arith
+use Rattle.ewig_shell.proofs.ReplyLemmas.{no-refusal}
+use Rattle.ewig_shell.proofs.StepLemmas.{IsOutsideBatch, save-outside, load-outside}
 
 -- how a save and a load end: the store has its say, or a batch is open, or memory ran out
-module _ (command : PlainCommand) (of_store : IsOfTheStore command) where
+module _ (command : PlainCommand) (outside : IsOutsideBatch command) where
   by_batch : (batch : Bool) (old new : Machine) (W : Workspace) (reply : List ℕ) → Gives command old W (unless batch why.Batch (Ok elsewhere)) reply new
-      → Refuses old (codes "batch") reply new ⊎ SaysElsewhere command old reply new
+      → Refuses old (codes "batch") reply new ⊎ SaysElsewhere command old W reply new
   by_batch true old new W reply gives = inl gives
   by_batch false old new W reply gives = inr gives
 
-  ended : (old new : Machine) (reply : List ℕ) → Obeys command old reply new
-      → SaysElsewhere command old reply new ⊎ Refuses old.space (codes "batch") reply new.space ⊎ Refuses old.space (codes "memory") reply new.space
+  ended : (old new : Machine) (reply : List ℕ) (obeys : Obeys command old reply new)
+      → SaysElsewhere command old obeys.work reply new ⊎ Refuses old.space (codes "batch") reply new.space ⊎ Refuses old.space (codes "memory") reply new.space
   ended old new reply obeys = elim obeys.gives [
-    | inl gives ↦ elim (by_batch (in_batch obeys.work) old new obeys.work reply (subst (λ (a : Answer). Gives command old obeys.work a reply new) (of_store obeys.work) gives)) [
+    | inl gives ↦ elim (by_batch (in_batch obeys.work) old new obeys.work reply (subst (λ (a : Answer). Gives command old obeys.work a reply new) (outside obeys.work) gives)) [
       | inl refuses ↦ inr (inl (record { reply_is = refuses.reply_is; same = ap (λ (m : Machine). m.space) refuses.same }))
       | inr says ↦ inl says
     ]
     | inr lacks ↦ inr (inr (record { reply_is = lacks.reply_is; same = lacks.space }))
   ]
 
-  said-ok : (old new : Machine) → Obeys command old ok_reply new → SaysElsewhere command old ok_reply new
+  said-ok : (old new : Machine) (obeys : Obeys command old ok_reply new) → SaysElsewhere command old obeys.work ok_reply new
   said-ok old new obeys = elim (ended old new ok_reply obeys) [
     | inl says ↦ says
     | inr keeps ↦ absurd (elim keeps [
@@ -60,29 +53,33 @@ module _ (command : PlainCommand) (of_store : IsOfTheStore command) where
 
 -- ## A save
 
-stored-if : (too_large : Bool) (name : Bytes) (old new : Machine)
-    → MatchBool too_large (Refuses old (codes "large") ok_reply new) (IsStored name old.space.pool old.store ok_reply new.store ⊎ FailsToStore name old.store ok_reply new.store)
-    → (too_large ≡ false) × IsStored name old.space.pool old.store ok_reply new.store
-stored-if true name old new refuses = absurd (no-refusal (codes "large") refuses.reply_is)
-stored-if false name old new ends = elim ends [
+stored-if : (too_large : Bool) (name bytes : Bytes) (old new : Machine)
+    → MatchBool too_large (Refuses old (codes "large") ok_reply new) (IsStored name bytes old.store ok_reply new.store ⊎ FailsToStore name old.store ok_reply new.store)
+    → (too_large ≡ false) × IsStored name bytes old.store ok_reply new.store
+stored-if true name bytes old new refuses = absurd (no-refusal (codes "large") refuses.reply_is)
+stored-if false name bytes old new ends = elim ends [
   | inl stored ↦ (refl, stored)
   | inr fails ↦ absurd (no-refusal (codes "fault") fails.reply_is)
 ]
 
--- what was stored where the reply is `ok`
-stored-ok : (name : Bytes) (old new : Machine) → Obeys (save name) old ok_reply new → (is_large (text old.space.pool) ≡ false) × IsStored name old.space.pool old.store ok_reply new.store
-stored-ok name old new obeys = stored-if (is_large (text old.space.pool)) name old new (said-ok (save name) (save-OfTheStore name) old new obeys).ends
+-- what was stored where the reply is `ok`, and that a load takes it
+stored-ok : (name : Bytes) (old new : Machine) → Obeys (save name) old ok_reply new →
+    (is_large (text old.space.pool) ≡ false) × IsStored name (text old.space.pool) old.store ok_reply new.store × IsDocumentOf old.space.pool (text old.space.pool)
+stored-ok name old new obeys =
+    let says = said-ok (save name) (save-outside name) old new obeys in
+    let stored = stored-if (is_large (text old.space.pool)) name (text old.space.pool) old new says.stores.ends in
+    (stored.0, stored.1, says.document refl)
 
 -- ## A load
 
 -- a load of a file that is told
-read-file : (name : Bytes) (old new : Machine) (reply : List ℕ) (files : Files) (bytes : Bytes) → old.store.files ≡ Some files → get files name ≡ Some bytes → LoadsFile name old reply new
-    → LoadsAs (fetched (Some bytes)) old.space reply new.space
+read-file : (name : Bytes) (old new : Machine) (reply : List ℕ) (files : Files) (bytes : Bytes) → old.store.files ≡ Some files → get files name ≡ Some bytes → TakesFile name old reply new (LoadsBytes old.space)
+    → Makes (LoadsBytes old.space) (fetched (Some bytes)) old.space reply new.space
 read-file name old new reply files bytes told there loads =
     let held : loads.file ≡ fetched (get files name) = subst (λ (o : Option Files). IfSome o (λ (f : Files). loads.file ≡ fetched (get f name))) told loads.held in
-    subst (λ (file : Fetched). LoadsAs file old.space reply new.space) (held ∙ ap fetched there) loads.loads
+    subst (λ (file : Fetched). Makes (LoadsBytes old.space) file old.space reply new.space) (held ∙ ap fetched there) loads.makes
 
-given-ok : (too_large : Bool) (bytes : Bytes) (old new : SpaceView) → LoadsAs (cond too_large large (given bytes)) old ok_reply new → (too_large ≡ false) × LoadsAs (given bytes) old ok_reply new
+given-ok : (too_large : Bool) (bytes : Bytes) (old new : SpaceView) → Makes (LoadsBytes old) (cond too_large large (given bytes)) old ok_reply new → (too_large ≡ false) × LoadsBytes old bytes ok_reply new
 given-ok true bytes old new keeps = absurd (no-refusal (codes "large") keeps.reply_is)
 given-ok false bytes old new loads = (refl, loads)
 
@@ -94,7 +91,7 @@ undamaged-ok (Some d) bytes old new keeps = absurd (no-refusal (codes "damaged "
 -- what was loaded where the reply is `ok`
 loaded-ok : (name : Bytes) (old new : Machine) (files : Files) (bytes : Bytes) → old.store.files ≡ Some files → get files name ≡ Some bytes → Obeys (load name) old ok_reply new
     → (is_large bytes ≡ false) × (document_damage old.space.pool.bits bytes ≡ None) × IsLoaded bytes old.space ok_reply new.space
-loaded-ok name old new files bytes told there obeys = elim (said-ok (load name) (load-OfTheStore name) old new obeys) [
+loaded-ok name old new files bytes told there obeys = elim (said-ok (load name) (load-outside name) old new obeys) [
   | inl loads ↦
       let small = given-ok (is_large bytes) bytes old.space new.space (read-file name old new ok_reply files bytes told there loads) in
       let whole = undamaged-ok (document_damage old.space.pool.bits bytes) bytes old.space new.space small.1 in
@@ -119,7 +116,7 @@ four-loaded bits bytes P whole read =
     ap (λ (Q : Pool). length Q.roots) (same_Some P stands.0 (sym read ∙ stands.1.read)) ∙ stands.1.roots
 
 saved-if : (too_large : Bool) (name bytes reply : Bytes) (old new : Machine) → too_large ≡ false → text old.space.pool ≡ bytes
-    → MatchBool too_large (Refuses old (codes "large") reply new) (IsStored name old.space.pool old.store reply new.store ⊎ FailsToStore name old.store reply new.store)
+    → MatchBool too_large (Refuses old (codes "large") reply new) (IsStored name (text old.space.pool) old.store reply new.store ⊎ FailsToStore name old.store reply new.store)
     → (reply ≡ ok_reply) × ChangesFiles old.store.files new.store.files (λ before now. now ≡ insert before name bytes)
     ⊎ (reply ≡ refusal_of (codes "fault")) ⊎ (reply ≡ refusal_of (codes "memory"))
 saved-if true name bytes reply old new small same ends = absurd (let never : true ≡ false = small in cc)
@@ -135,10 +132,10 @@ load-then-save first loaded later last files file other bytes reply told there c
     let four : length later.space.pool.roots ≡ 4 = ap (λ (P : Pool). length P.roots) same ∙ four-loaded first.space.pool.bits bytes loaded.space.pool read.1 read.2.pool in
     elim saves.gives [
       | inl gives ↦
-          let said : SaysElsewhere (save other) later reply last =
+          let said : SaysElsewhere (save other) later saves.work reply last =
           subst (λ (b : Bool). Gives (save other) later saves.work (unless b why.Batch (Ok elsewhere)) reply last) (outside-batch later.space.pool saves.work saves.stands four)
-          (subst (λ (a : Answer). Gives (save other) later saves.work a reply last) (save-OfTheStore other saves.work) gives) in
-          saved-if (is_large (text later.space.pool)) other bytes reply later last (ap is_large text_is ∙ read.0) text_is said.ends
+          (subst (λ (a : Answer). Gives (save other) later saves.work a reply last) (save-outside other saves.work) gives) in
+          saved-if (is_large (text later.space.pool)) other bytes reply later last (ap is_large text_is ∙ read.0) text_is said.stores.ends
       | inr lacks ↦ inr (inr lacks.reply_is)
     ]
 
@@ -148,15 +145,15 @@ pub save-then-load : SaveThenLoad
 save-then-load first saved later last files file other reply saves told there bits loads =
     let P : Pool = first.space.pool in
     let stored = stored-ok file first saved saves in
-    let whole : document_damage later.space.pool.bits (text P) ≡ None = ap (λ b. document_damage b (text P)) bits ∙ stored.1.document.undamaged in
-    elim (ended (load other) (load-OfTheStore other) later last reply loads) [
+    let whole : document_damage later.space.pool.bits (text P) ≡ None = ap (λ b. document_damage b (text P)) bits ∙ stored.2.undamaged in
+    elim (ended (load other) (load-outside other) later last reply loads) [
       | inl says ↦ elim says [
         | inl reads ↦
-            let small : LoadsAs (given (text P)) later.space reply last.space =
-            subst (λ (b : Bool). LoadsAs (cond b large (given (text P))) later.space reply last.space) stored.0 (read-file other later last reply files (text P) told there reads) in
+            let small : LoadsBytes later.space (text P) reply last.space =
+            subst (λ (b : Bool). Makes (LoadsBytes later.space) (cond b large (given (text P))) later.space reply last.space) stored.0 (read-file other later last reply files (text P) told there reads) in
             let is : IsLoaded (text P) later.space reply last.space =
             subst (λ (o : Option Damage). MatchOption o (IsLoaded (text P) later.space reply last.space) (λ (d : Damage). Refuses later.space (codes "damaged " ++ damage_word d) reply last.space)) whole small in
-            inl (is.reply_is, same_Some last.space.pool P (sym is.pool ∙ stored.1.document.read))
+            inl (is.reply_is, same_Some last.space.pool P (sym is.pool ∙ stored.2.read))
         | inr fails ↦ inr (inr (inl fails.space))
       ]
       | inr keeps ↦ elim keeps [

@@ -1,11 +1,19 @@
 -- What shows that a space was stored, or why not.
-use Rattle.std.proofs.Common.{◌≡◌, ℕ, ◌<◌, ◌≤◌, length, sym, ap, ◌∙◌, subst, refl, arith, codes, Bool, true, false, inl, inr, Result, Ok, Err, Some, IsErrAnd, MatchBool, List, [], ◌∷◌, ◌⊎◌}
+use Rattle.std.proofs.Common.{◌≡◌, ℕ, ◌+◌, ◌<◌, ◌≤◌, ◌++◌, length, length-append, ◌-◌, drop, slice_range, sym, ap, ◌∙◌, subst, refl, arith, codes, Bool, true, false, inl, inr, Result, Ok, Err, None, Some, IsTrue, IsErrAnd, IsSomeAnd, MatchBool, List, [], ◌∷◌, ◌⊎◌}
 use Rattle.std.proofs.lemmas.Bool.{le-ltb, lt-ltb}
+use Rattle.std.specs.declared.option.Option.{Option}
 use Rattle.std.specs.FinMap.{insert}
 use Rattle.shell_terms.specs.Edit.{Bytes}
-use Rattle.shell_terms.specs.Command.{save}
-use Rattle.plain_space.specs.Workspace.{Workspace, in_batch}
-use Rattle.plain_space.specs.Answer.{ok_line}
+use Rattle.shell_terms.specs.Command.{PlainCommand, write, save}
+use Rattle.plain_space.specs.declared.refusal.Refusal.{Refusal}
+use Rattle.plain_space.specs.declared.refusal.Refusal.TheVariants as why
+use Rattle.space_state.specs.Asked.{OnLines}
+use Rattle.state_rows.proofs.OneSpace.{one-space}
+use Rattle.std.specs.declared.vec.Vec.{Vec}
+use Rattle.plain_space.specs.Workspace.{Workspace, lines_of, in_batch}
+use Rattle.plain_space.specs.Refusing.{given, on_lines}
+use Rattle.plain_space.specs.Answer.{answer, elsewhere, ok_line}
+use Rattle.plain_space.specs.Memory.{wants_memory}
 use Rattle.pool_text.specs.Document.{document, text, value_in}
 use Rattle.pool_text.specs.Length.{capped}
 use Rattle.pool_text.specs.declared.pool.Pool.{Pool}
@@ -23,20 +31,16 @@ use Rattle.shell_io.specs.declared.device.KeepFault.TheVariants as kept
 use Rattle.shell_io.specs.declared.device.Store as store_trait
 use Rattle.ewig_shell.specs.declared.save.SaveFault.{SaveFault}
 use Rattle.ewig_shell.specs.declared.save.SaveFault.TheVariants as unsaved
-use Rattle.ewig_shell.specs.Saving.{save_fault}
-use Rattle.ewig_shell.specs.Step.{Refuses, IsStored, FailsToStore, ObeysOn, CountsStore, shown_store, machine_of, most_stored, is_large, reply_of, refusal_of, saved_reply}
-use Rattle.ewig_shell.proofs.ReplyLemmas.{other-reply}
-use Rattle.ewig_shell.proofs.StepLemmas.{Obeys-lacks, CountsStore-none, CountsStore-failed, CountsStore-succeeded, save-OfTheStore, Obeys-elsewhere, may_lack, fault-is}
-
--- a length that is too large is so as it is counted
-is_large-true : (bytes : List ℕ) (counted : ℕ) → counted ≡ capped (length bytes) → most_stored < counted → is_large bytes ≡ true
-is_large-true bytes counted e large = lt-ltb most_stored (length bytes) (omega (arith, e, large))
-
-is_large-false : (bytes : List ℕ) (counted : ℕ) → counted ≡ capped (length bytes) → counted ≤ most_stored → is_large bytes ≡ false
-is_large-false bytes counted e small = le-ltb most_stored (length bytes) (omega (arith, e, small))
+use Rattle.ewig_shell.specs.Saving.{Collects, save_fault}
+use Rattle.ewig_shell.specs.Step.{Machine, KeepsFiles, Refuses, IsStored, FailsToStore, Stores, SaysElsewhere, ObeysOn, CountsStore, shown_store, machine_of, uses_store, most_stored, ended_lines, reply_of, refusal_of, saved_reply}
+use Rattle.elem_core.specs.declared.TheConstants.{NEWLINE}
+use Rattle.std.proofs.lemmas.List.{append-nil, take_all}
+use Rattle.ewig_shell.proofs.LinesLemmas.{reply_of-append}
+use Rattle.ewig_shell.proofs.ReplyLemmas.{other-reply, no-refusal}
+use Rattle.ewig_shell.proofs.StepLemmas.{some_lines, Obeys-lacks, CountsStore-none, CountsStore-failed, CountsStore-succeeded, save-outside, answer-outside, Obeys-elsewhere, ObeysOn-refused, may_lack, fault-is}
 
 -- the text of a valid pool outside a batch is one that a load takes
-document-is : (W : Workspace) (pool made : Pool) (bytes : Bytes) → StandsFor pool W → in_batch W ≡ false → IsValid pool → made ≡ pool → bytes ≡ text made → value_in bytes ≡ Some (document made) → IsDocumentOf pool (text pool)
+pub document-is : (W : Workspace) (pool made : Pool) (bytes : Bytes) → StandsFor pool W → in_batch W ≡ false → IsValid pool → made ≡ pool → bytes ≡ text made → value_in bytes ≡ Some (document made) → IsDocumentOf pool (text pool)
 document-is W pool made bytes stands e valid same is reads =
     subst (λ (w : Bytes). IsDocumentOf pool w) (is ∙ ap text same)
     (valid-document pool bytes (reads ∙ ap (λ (P : Pool). Some (document P)) same) (four-roots pool W stands e) valid)
@@ -46,80 +50,221 @@ abbrev pub saved_as : Result (Unit {0}) KeepFault → Result (Unit {0}) SaveFaul
 saved_as (Ok done) = Ok done
 saved_as (Err fault) = Err (save_fault fault)
 
-module _ (W : Workspace) (name : Bytes) {C : Type 0} {D : store_trait.Ghosts C} {space : SpaceView} where
-  -- memory ran out before the store was called
-  pub Saves-lacks : {store : C} (result : Result (Unit {0}) SaveFault) → IsErrAnd result (λ (fault : SaveFault). fault ≡ unsaved.Memory) → StandsFor space.pool W → in_batch W ≡ false → ObeysOn (save name) D space store (saved_reply result) space store
-  Saves-lacks {store} result lacks stands e =
-      let is : saved_reply result ≡ refusal_of (codes "memory") = ap saved_reply (fault-is result unsaved.Memory lacks) in
-      record {
-        obeys = Obeys-lacks W stands (may_lack (save name) (save-OfTheStore name) W refl e) is refl (shown_store D store);
-        counts = CountsStore-none (other-reply is refl);
-      }
+-- a store was called for bytes that aren't too many
+called : (name bytes : Bytes) (old new : Machine) {reply : List ℕ} → new.space ≡ old.space → length bytes ≤ most_stored → IsStored name bytes old.store reply new.store ⊎ FailsToStore name old.store reply new.store → Stores name bytes old reply new
+called name bytes old new {reply} same few ends = record {
+  space = same;
+  ends = subst (λ (b : Bool). MatchBool b (Refuses old (codes "large") reply new) (IsStored name bytes old.store reply new.store ⊎ FailsToStore name old.store reply new.store)) (sym (le-ltb most_stored (length bytes) few)) ends;
+}
 
-  -- the document is too large
-  pub Saves-large : {store : C} (counted : ℕ) → StandsFor space.pool W → in_batch W ≡ false → counted ≡ capped (length (text space.pool)) → most_stored < counted → ObeysOn (save name) D space store (refusal_of (codes "large")) space store
-  Saves-large {store} counted stands e is large = record {
-    obeys = Obeys-elsewhere (save name) (save-OfTheStore name) W (machine_of D space store) (machine_of D space store) (refusal_of (codes "large")) stands e (record {
-      space = refl;
-      ends = subst (λ (b : Bool). MatchBool b (Refuses (machine_of D space store) (codes "large") (refusal_of (codes "large")) (machine_of D space store))
-          (IsStored name space.pool (shown_store D store) (refusal_of (codes "large")) (shown_store D store) ⊎ FailsToStore name (shown_store D store) (refusal_of (codes "large")) (shown_store D store)))
-          (sym (is_large-true (text space.pool) counted is large)) (record { reply_is = refl; same = refl });
-    });
-    counts = CountsStore-none (other-reply {due = refusal_of (codes "large")} refl refl);
-  }
+-- a command that stores these bytes, where nothing in the workspace refuses it: so far as it was stored, this holds of them
+pub record StoresAs (command : PlainCommand) (W : Workspace) (space : SpaceView) (name bytes : Bytes) (IsFit : Type 0) : Type 0 where
+  pub stands : StandsFor space.pool W
+  pub granted : answer W command ≡ Ok elsewhere
+  pub wants : IsTrue (wants_memory command)
+  pub uses : uses_store command ≡ true
+  pub says : (old new : Machine) (reply : List ℕ) → old.space ≡ space → Stores name bytes old reply new → (reply ≡ reply_of (ok_line ∷ []) → IsFit) → SaysElsewhere command old W reply new
 
-  module _ {store store' : C} {failed : Type 0} (stands : StandsFor space.pool W) (e : in_batch W ≡ false) (calls : Calls D.faults D.steady D.faultless store store' failed) where
-    -- the store was called
-    called : (counted : ℕ) {reply : List ℕ} → counted ≡ capped (length (text space.pool)) → counted ≤ most_stored →
-        IsStored name space.pool (shown_store D store) reply (shown_store D store') ⊎ FailsToStore name (shown_store D store) reply (shown_store D store') → CountsStore D store store' reply → ObeysOn (save name) D space store reply space store'
-    called counted {reply} is small ends counts = record {
-      obeys = Obeys-elsewhere (save name) (save-OfTheStore name) W (machine_of D space store) (machine_of D space store') reply stands e (record {
-        space = refl;
-        ends = subst (λ (b : Bool). MatchBool b (Refuses (machine_of D space store) (codes "large") reply (machine_of D space store'))
-            (IsStored name space.pool (shown_store D store) reply (shown_store D store') ⊎ FailsToStore name (shown_store D store) reply (shown_store D store')))
-            (sym (is_large-false (text space.pool) counted is small)) ends;
-      });
-      counts = counts;
+-- memory ran out before the store was called
+pub Stores-lacks : {command : PlainCommand} (W : Workspace) {C : Type 0} {D : store_trait.Ghosts C} {space : SpaceView} {store : C} (result : Result (Unit {0}) SaveFault) → IsErrAnd result (λ (fault : SaveFault). fault ≡ unsaved.Memory) →
+    StandsFor space.pool W → answer W command ≡ Ok elsewhere → IsTrue (wants_memory command) → ObeysOn command D space store (saved_reply result) space store
+Stores-lacks {command} W {D = D} {store = store} result lacks stands e wants =
+    let is : saved_reply result ≡ refusal_of (codes "memory") = ap saved_reply (fault-is result unsaved.Memory lacks) in
+    record {
+      obeys = Obeys-lacks W stands (may_lack command W wants e) is refl (shown_store D store);
+      counts = CountsStore-none (other-reply is refl);
     }
 
-    -- and kept the file
-    stored : (counted : ℕ) → counted ≡ capped (length (text space.pool)) → counted ≤ most_stored → IsDocumentOf space.pool (text space.pool) →
-        ChangesFiles (D.held store) (D.held store') (λ (before now : Files). now ≡ insert before name (text space.pool)) → (failed → ⊥) → ObeysOn (save name) D space store (reply_of (ok_line ∷ [])) space store'
-    stored counted is small document told succeeds =
-        called counted is small (inl (record { reply_is = refl; files = told; document = document; counted = calls.counts.counted })) (CountsStore-succeeded succeeds (other-reply {due = reply_of (ok_line ∷ [])} refl refl) calls)
+module _ {command : PlainCommand} {W : Workspace} {name bytes : Bytes} {IsFit : Type 0} {C : Type 0} {D : store_trait.Ghosts C} {space : SpaceView} (stores : StoresAs command W space name bytes IsFit) where
+  -- the store had its say, or wasn't asked
+  kept_as : {store store' : C} {reply : List ℕ} → Stores name bytes (machine_of D space store) reply (machine_of D space store') → (reply ≡ reply_of (ok_line ∷ []) → IsFit) → CountsStore D store store' reply → ObeysOn command D space store reply space store'
+  kept_as {store} {store'} {reply} ends fit counts = record {
+    obeys = Obeys-elsewhere command W (machine_of D space store) (machine_of D space store') reply stores.stands stores.granted (stores.says (machine_of D space store) (machine_of D space store') reply refl ends fit);
+    counts = counts;
+  }
+
+  -- the bytes are too many
+  pub Stores-large : {store : C} → most_stored < length bytes → ObeysOn command D space store (refusal_of (codes "large")) space store
+  Stores-large {store} large = kept_as (record {
+    space = refl;
+    ends = subst (λ (b : Bool). MatchBool b (Refuses (machine_of D space store) (codes "large") (refusal_of (codes "large")) (machine_of D space store))
+        (IsStored name bytes (shown_store D store) (refusal_of (codes "large")) (shown_store D store) ⊎ FailsToStore name (shown_store D store) (refusal_of (codes "large")) (shown_store D store)))
+        (sym (lt-ltb most_stored (length bytes) large)) (record { reply_is = refl; same = refl });
+  }) (λ ok. absurd (no-refusal (codes "large") (sym ok))) (CountsStore-none (other-reply {due = refusal_of (codes "large")} refl refl))
+
+  module _ {store store' : C} {failed : Type 0} (few : length bytes ≤ most_stored) (calls : Calls D.faults D.steady D.faultless store store' failed) where
+    -- it kept the file
+    stored : IsFit → ChangesFiles (D.held store) (D.held store') (λ (before now : Files). now ≡ insert before name bytes) → (failed → ⊥) → ObeysOn command D space store (reply_of (ok_line ∷ [])) space store'
+    stored fit told succeeds = kept_as
+        (called name bytes (machine_of D space store) (machine_of D space store') refl few (inl (record { reply_is = refl; files = told; counted = calls.counts.counted })))
+        (λ _. fit) (CountsStore-succeeded succeeds (other-reply {due = reply_of (ok_line ∷ [])} refl refl) calls)
 
     -- or failed
-    failed_to : (counted : ℕ) → counted ≡ capped (length (text space.pool)) → counted ≤ most_stored →
-        ChangesFiles (D.held store) (D.held store') (λ (before now : Files). OthersStay before now name) → failed → ObeysOn (save name) D space store (refusal_of (codes "fault")) space store'
-    failed_to counted is small told fails =
-        called counted is small
-        (inr (record { reply_is = refl; files = told; counted = calls.counts.counted; cause = calls.counts.cause fails }))
-        (CountsStore-failed fails calls)
+    failed_to : ChangesFiles (D.held store) (D.held store') (λ (before now : Files). OthersStay before now name) → failed → ObeysOn command D space store (refusal_of (codes "fault")) space store'
+    failed_to told fails = kept_as
+        (called name bytes (machine_of D space store) (machine_of D space store') refl few (inr (record { reply_is = refl; files = told; counted = calls.counts.counted; cause = calls.counts.cause fails })))
+        (λ ok. absurd (no-refusal (codes "fault") (sym ok))) (CountsStore-failed fails calls)
 
     -- or had no memory
-    lacked : ChangesFiles (D.held store) (D.held store') (λ (before now : Files). now ≡ before) → (failed → ⊥) → ObeysOn (save name) D space store (refusal_of (codes "memory")) space store'
+    lacked : ChangesFiles (D.held store) (D.held store') (λ (before now : Files). now ≡ before) → (failed → ⊥) → ObeysOn command D space store (refusal_of (codes "memory")) space store'
     lacked told succeeds = record {
       obeys = record {
         work = W;
-        stands = stands;
-        gives = inr (record { may = may_lack (save name) (save-OfTheStore name) W refl e; reply_is = refl; space = refl; store = record { files = told; counted = calls.counts.counted } });
+        stands = stores.stands;
+        gives = inr (record {
+          may = may_lack command W stores.wants stores.granted;
+          reply_is = refl;
+          space = refl;
+          store = subst (λ (b : Bool). MatchBool b (KeepsFiles (shown_store D store) (shown_store D store')) (shown_store D store' ≡ shown_store D store)) (sym stores.uses) (record { files = told; counted = calls.counts.counted });
+        });
       };
       counts = CountsStore-succeeded succeeds (other-reply {due = refusal_of (codes "memory")} refl refl) calls;
     }
 
   -- one of the three
-  by_kept : {store store' : C} (counted : ℕ) (result : Result (Unit {0}) KeepFault) → StandsFor space.pool W → in_batch W ≡ false → counted ≡ capped (length (text space.pool)) → counted ≤ most_stored → IsDocumentOf space.pool (text space.pool) →
-      ChangesFiles (D.held store) (D.held store') (λ (before now : Files). KeepsFile before now name (text space.pool) result) → Calls D.faults D.steady D.faultless store store' (result ≡ Err kept.Failed) → ObeysOn (save name) D space store (saved_reply (saved_as result)) space store'
-  by_kept counted (Ok done) stands e is small document told calls = stored stands e calls counted is small document told (λ q. cc)
-  by_kept counted (Err kept.Failed) stands e is small document told calls = failed_to stands e calls counted is small told refl
-  by_kept counted (Err kept.Memory) stands e is small document told calls = lacked stands e calls told (λ q. cc)
+  by_kept : {store store' : C} (result : Result (Unit {0}) KeepFault) → length bytes ≤ most_stored → IsFit →
+      ChangesFiles (D.held store) (D.held store') (λ (before now : Files). KeepsFile before now name bytes result) → Calls D.faults D.steady D.faultless store store' (result ≡ Err kept.Failed) → ObeysOn command D space store (saved_reply (saved_as result)) space store'
+  by_kept (Ok done) few fit told calls = stored few calls fit told (λ q. cc)
+  by_kept (Err kept.Failed) few fit told calls = failed_to few calls told refl
+  by_kept (Err kept.Memory) few fit told calls = lacked few calls told (λ q. cc)
 
-  -- the text that was made of the pool was handed to the store
-  pub Saves-kept : {store store' : C} (counted : ℕ) (made : Pool) (bytes slice given : Bytes) (result : Result (Unit {0}) KeepFault) (ended : Result (Unit {0}) SaveFault) →
-      StandsFor space.pool W → in_batch W ≡ false → IsValid space.pool → made ≡ space.pool → counted ≡ capped (length (text made)) → counted ≤ most_stored → bytes ≡ text made → value_in bytes ≡ Some (document made) → slice ≡ bytes → given ≡ name →
-      ChangesFiles (D.held store) (D.held store') (λ (before now : Files). KeepsFile before now given slice result) → Calls D.faults D.steady D.faultless store store' (result ≡ Err kept.Failed) → saved_as result ≡ ended → ObeysOn (save name) D space store (saved_reply ended) space store'
-  Saves-kept {store} {store'} counted made bytes slice given result ended stands e valid same is small made_is reads slice_is named told calls ends =
-      subst (λ (r : Result (Unit {0}) SaveFault). ObeysOn (save name) D space store (saved_reply r) space store') ends
-      (by_kept counted result stands e (is ∙ ap (λ (P : Pool). capped (length (text P))) same) small (document-is W space.pool made bytes stands e valid same made_is reads)
-      (subst (λ (n : Bytes). ChangesFiles (D.held store) (D.held store') (λ (before now : Files). KeepsFile before now n (text space.pool) result)) named
-      (subst (λ (w : Bytes). ChangesFiles (D.held store) (D.held store') (λ (before now : Files). KeepsFile before now given w result)) (slice_is ∙ made_is ∙ ap text same) told)) calls)
+  -- the bytes were handed to the store
+  pub Stores-kept : {store store' : C} (slice given : Bytes) (result : Result (Unit {0}) KeepFault) (ended : Result (Unit {0}) SaveFault) → length bytes ≤ most_stored → IsFit → slice ≡ bytes → given ≡ name →
+      ChangesFiles (D.held store) (D.held store') (λ (before now : Files). KeepsFile before now given slice result) → Calls D.faults D.steady D.faultless store store' (result ≡ Err kept.Failed) → saved_as result ≡ ended → ObeysOn command D space store (saved_reply ended) space store'
+  Stores-kept {store} {store'} slice given result ended few fit slice_is named told calls ends =
+      subst (λ (r : Result (Unit {0}) SaveFault). ObeysOn command D space store (saved_reply r) space store') ends
+      (by_kept result few fit
+      (subst (λ (n : Bytes). ChangesFiles (D.held store) (D.held store') (λ (before now : Files). KeepsFile before now n bytes result)) named
+      (subst (λ (w : Bytes). ChangesFiles (D.held store) (D.held store') (λ (before now : Files). KeepsFile before now given w result)) slice_is told)) calls)
+
+-- ## A save
+
+pub save-stores : {space : SpaceView} (W : Workspace) (name : Bytes) → StandsFor space.pool W → in_batch W ≡ false → StoresAs (save name) W space name (text space.pool) (IsDocumentOf space.pool (text space.pool))
+save-stores {space} W name stands e = record {
+  stands = stands;
+  granted = answer-outside (save name) (save-outside name) W e;
+  wants = refl;
+  uses = refl;
+  says = λ old new reply same stores fit. record {
+    stores = subst (λ (s : SpaceView). Stores name (text s.pool) old reply new) (sym same) stores;
+    document = λ ok. subst (λ (s : SpaceView). IsDocumentOf s.pool (text s.pool)) (sym same) (fit ok);
+  };
+}
+
+-- a length that is too large is so as it is counted
+pub counted-large : (bytes : List ℕ) (counted : ℕ) → counted ≡ capped (length bytes) → most_stored < counted → most_stored < length bytes
+counted-large bytes counted e large = omega (arith, e, large)
+
+pub counted-small : (bytes : List ℕ) (counted : ℕ) → counted ≡ capped (length bytes) → counted ≤ most_stored → length bytes ≤ most_stored
+counted-small bytes counted e small = omega (arith, e, small)
+
+-- ## A write
+
+write-answer : (W : Workspace) (name file : Bytes) → answer W (write name file) ≡ on_lines W.current name (λ lines. Ok elsewhere)
+unfolding answer
+write-answer W name file = refl
+
+-- there is no such buffer
+pub ObeysOn-absent : {C : Type 0} {D : store_trait.Ghosts C} {space : SpaceView} {store : C} (W : Workspace) (name file : Bytes) → StandsFor space.pool W → lines_of W.current name ≡ None → ObeysOn (write name file) D space store (refusal_of (codes "none")) space store
+ObeysOn-absent W name file stands none = ObeysOn-refused (write name file) W why.Absent stands (write-answer W name file ∙ ap (λ (o : Option (List Bytes)). given o why.Absent (λ lines. Ok elsewhere)) none)
+
+pub write-granted : (W : Workspace) (name file : Bytes) (lines : List Bytes) → lines_of W.current name ≡ Some lines → answer W (write name file) ≡ Ok elsewhere
+write-granted W name file lines is = write-answer W name file ∙ ap (λ (o : Option (List Bytes)). given o why.Absent (λ lines. Ok elsewhere)) is
+
+pub write-stores : {space : SpaceView} (W : Workspace) (name file : Bytes) (lines : List Bytes) → StandsFor space.pool W → lines_of W.current name ≡ Some lines → StoresAs (write name file) W space file (ended_lines lines) (Unit {0})
+write-stores W name file lines stands is = record {
+  stands = stands;
+  granted = write-granted W name file lines is;
+  wants = refl;
+  uses = refl;
+  says = λ old new reply same stores fit. subst (λ (o : Option (List Bytes)). IsSomeAnd o (λ (ls : List Bytes). Stores file (ended_lines ls) old reply new)) (sym is) stores;
+}
+
+-- there are no lines to count
+count-none : (found : Option (List Bytes)) → IsSomeAnd found (λ (lines : List Bytes). ⊥) → ⊥
+count-none None h = h
+count-none (Some lines) h = h
+
+pub count-absent : (W : Workspace) (name : Bytes) (reason : Refusal) (IsAnswer : List Bytes → ℕ → Type 0) → OnLines {X = ℕ} W name (Err reason) IsAnswer (λ (lines : List Bytes). ⊥) → lines_of W.current name ≡ None
+count-absent W name why.Absent IsAnswer h = h
+count-absent W name why.Range IsAnswer h = absurd (count-none (lines_of W.current name) h)
+count-absent W name why.Exists IsAnswer h = absurd h
+count-absent W name why.Limit IsAnswer h = absurd h
+count-absent W name why.Batch IsAnswer h = absurd h
+count-absent W name why.Empty IsAnswer h = absurd h
+count-absent W name why.Memory IsAnswer h = absurd h
+
+-- a part of lines that are counted
+abbrev IsPart : ℕ → List Bytes → List Bytes → Type 0
+IsPart count lines shown = (0 ≤ count) × (count ≤ length lines) × (shown ≡ slice_range lines 0 count)
+
+abbrev IsNoPart : ℕ → List Bytes → Type 0
+IsNoPart count lines = ((0 ≤ count) × (count ≤ length lines)) → ⊥
+
+-- lines that were counted all have a place
+past-none : {X : Type 0} (W : Workspace) (name : Bytes) (lines : List Bytes) (count : ℕ) (reason : Refusal) (IsAnswer : List Bytes → X → Type 0) → lines_of W.current name ≡ Some lines → count ≡ length lines → OnLines {X = X} W name (Err reason) IsAnswer (IsNoPart count) → ⊥
+past-none W name lines count why.Absent IsAnswer is e h = let both = sym is ∙ h in cc
+past-none W name lines count why.Range IsAnswer is e h = (subst (λ (o : Option (List Bytes)). IsSomeAnd o (IsNoPart count)) is h) (omega arith, omega (arith, e))
+past-none W name lines count why.Exists IsAnswer is e h = absurd h
+past-none W name lines count why.Limit IsAnswer is e h = absurd h
+past-none W name lines count why.Batch IsAnswer is e h = absurd h
+past-none W name lines count why.Empty IsAnswer is e h = absurd h
+past-none W name lines count why.Memory IsAnswer is e h = absurd h
+
+-- all lines
+drop-none : (xs : List Bytes) → drop 0 xs ≡ xs
+drop-none [] = refl
+drop-none (x ∷ xs) = refl
+
+range-all : (xs : List Bytes) (n : ℕ) → n ≡ length xs → slice_range xs 0 n ≡ xs
+range-all xs n e = take_all (n - 0) (drop 0 xs) (omega (arith, ap length (drop-none xs), e)) ∙ drop-none xs
+
+module _ (P : Pool) (V W : Workspace) (name : Bytes) where
+  pub never-past : {X : Type 0} (IsPast : List Bytes → Type 0) (count : ℕ) (reason : Refusal) (IsAnswer : List Bytes → X → Type 0) → StandsFor P V → StandsFor P W → OnLines {X = ℕ} V name (Ok count) (λ (lines : List Bytes) (n : ℕ). n ≡ length lines) IsPast → OnLines {X = X} W name (Err reason) IsAnswer (IsNoPart count) → ⊥
+  never-past {X} IsPast count reason IsAnswer first second counted none =
+      let one : W ≡ V = one-space _ _ _ _ W V second first in
+      let there = some_lines (lines_of V.current name) (λ (lines : List Bytes). count ≡ length lines) counted in
+      past-none V name there.0 count reason IsAnswer there.1 there.2 (subst (λ (U : Workspace). OnLines {X = X} U name (Err reason) IsAnswer (IsNoPart count)) one none)
+
+  -- and are shown whole
+  pub all-shown : (IsPast : List Bytes → Type 0) (count : ℕ) (shown : List Bytes) → StandsFor P V → StandsFor P W → OnLines {X = ℕ} V name (Ok count) (λ (lines : List Bytes) (n : ℕ). n ≡ length lines) IsPast →
+      OnLines {X = List Bytes} W name (Ok shown) (λ (lines part : List Bytes). IsPart count lines part) (IsNoPart count) → (lines : List Bytes) × (lines_of V.current name ≡ Some lines) × (shown ≡ lines)
+  all-shown IsPast count shown first second counted part =
+      let one : W ≡ V = one-space _ _ _ _ W V second first in
+      let there = some_lines (lines_of V.current name) (λ (lines : List Bytes). count ≡ length lines) counted in
+      let is : IsPart count there.0 shown
+      = subst (λ (o : Option (List Bytes)). IsSomeAnd o (λ (lines : List Bytes). IsPart count lines shown)) there.1
+      (subst (λ (U : Workspace). IsSomeAnd (lines_of U.current name) (λ (lines : List Bytes). IsPart count lines shown)) one part) in
+      (there.0, there.1, is.2 ∙ range-all there.0 count there.2)
+
+-- what was collected
+pub collected-are : {A : Type 0} (lines : List Bytes) (result : Result (Vec ℕ A) SaveFault) (bytes : Vec ℕ A) → Collects lines result → result ≡ Ok bytes → (bytes.items ≡ ended_lines lines) × (length (ended_lines lines) ≤ most_stored)
+collected-are {A} lines result bytes collects is = subst (λ (r : Result (Vec ℕ A) SaveFault). Collects lines r) is collects
+
+-- the lines are too many, or memory ran out
+refused_by : {C : Type 0} (A : Type 0) {D : store_trait.Ghosts C} {space : SpaceView} {store : C} (W : Workspace) (name file : Bytes) (lines : List Bytes) (fault : SaveFault) → StandsFor space.pool W → lines_of W.current name ≡ Some lines → Collects {A = A} lines (Err fault) →
+    ObeysOn (write name file) D space store (saved_reply (Err fault)) space store
+refused_by A W name file lines unsaved.Large stands is large = Stores-large (write-stores W name file lines stands is) large
+refused_by A W name file lines unsaved.Memory stands is lacks = Stores-lacks W (Err unsaved.Memory) refl stands (write-granted W name file lines is) refl
+refused_by A W name file lines unsaved.Batch stands is never = absurd never
+refused_by A W name file lines unsaved.Absent stands is never = absurd never
+refused_by A W name file lines unsaved.Failed stands is never = absurd never
+
+pub write-refused : {C A : Type 0} {D : store_trait.Ghosts C} {space : SpaceView} {store : C} (W : Workspace) (name file : Bytes) (lines : List Bytes) {result : Result (Vec ℕ A) SaveFault} (fault : SaveFault) (ended : Result (Unit {0}) SaveFault) → StandsFor space.pool W → lines_of W.current name ≡ Some lines →
+    Collects lines result → result ≡ Err fault → ended ≡ Err fault → ObeysOn (write name file) D space store (saved_reply ended) space store
+write-refused {A = A} {D} {space} {store} W name file lines {result} fault ended stands is collects e same =
+    subst (λ (r : Result (Unit {0}) SaveFault). ObeysOn (write name file) D space store (saved_reply r) space store) (sym same)
+    (refused_by A W name file lines fault stands is (subst (λ (r : Result (Vec ℕ A) SaveFault). Collects lines r) e collects))
+
+-- ## Lines that are collected
+
+-- one line more
+pub ended-more : (so_far : List Bytes) (line : Bytes) → ended_lines (so_far ++ line ∷ []) ≡ ended_lines so_far ++ (line ++ NEWLINE ∷ [])
+ended-more so_far line = reply_of-append so_far (line ∷ []) ∙ ap (λ (w : Bytes). ended_lines so_far ++ w) (append-nil (line ++ NEWLINE ∷ []))
+
+-- a line for which there is no room
+pub ended-long : (so_far rest all : List Bytes) (line : Bytes) (most : ℕ) → so_far ++ (line ∷ rest) ≡ all → most ≤ length (ended_lines so_far) + length line → most < length (ended_lines all)
+ended-long so_far rest all line most is many =
+    let e : length (ended_lines all) ≡ length (ended_lines so_far) + length ((line ++ NEWLINE ∷ []) ++ ended_lines rest)
+    = ap (λ (w : List Bytes). length (ended_lines w)) (sym is) ∙ ap length (reply_of-append so_far (line ∷ rest)) ∙ length-append (ended_lines so_far) ((line ++ NEWLINE ∷ []) ++ ended_lines rest) in
+    omega (arith, e, many, length-append (line ++ NEWLINE ∷ []) (ended_lines rest), length-append line (NEWLINE ∷ []))

@@ -9,7 +9,7 @@ use Rattle.std.specs.declared.option.Option.{Option}
 use Rattle.std.specs.declared.result.Result.{Result}
 use Rattle.elem_core.specs.declared.TheConstants.{MAX_LINE}
 use Rattle.shell_terms.specs.Edit.{Bytes}
-use Rattle.shell_terms.specs.Command.{PlainCommand, edit, mark, unmark, back, undo, redo, begin, «end», abort, get, len, show, list, stars, marks, same as same_lines, eqv, stats, save, load, quit}
+use Rattle.shell_terms.specs.Command.{PlainCommand, edit, mark, unmark, back, undo, redo, begin, «end», abort, get, len, show, list, stars, marks, same as same_lines, eqv, stats, read as read_file, write as write_file, save, load, quit}
 use Rattle.shell_words.specs.Grammar.{meaning}
 use Rattle.shell_words.specs.declared.BadLine.{BadLine}
 use Rattle.plain_space.specs.declared.refusal.Refusal.{Refusal}
@@ -38,8 +38,8 @@ use Rattle.shell_io.specs.declared.device.Failed.{Failed}
 use Rattle.shell_io.specs.declared.device.Sink as sink_trait
 use Rattle.shell_io.specs.declared.device.Store as store_trait
 use Rattle.ewig_shell.specs.Sending.{Replies}
-use Rattle.ewig_shell.specs.Step.{StoreView, Machine, KeepsFiles, Refuses, Fetched, missing, large, given as given_bytes, IsLoaded, LoadsAs, damage_word, Step, Means, SaysElsewhere, Gives, Obeys, ObeysAlone, ObeysOn, StepsOn, CountsStore, shown_store, machine_of, uses_store, only_asks, reply_of, refusal_of, done_reply, equality_reply}
-use Rattle.ewig_shell.proofs.ReplyLemmas.{other-reply, obeys-other}
+use Rattle.ewig_shell.specs.Step.{StoreView, Machine, KeepsFiles, Refuses, Fetched, missing, large, given as given_bytes, IsLoaded, LoadsBytes, ReadsBytes, Makes, Takes, Stores, ended_lines, damage_word, Step, Means, SaysElsewhere, Gives, Obeys, ObeysAlone, ObeysOn, StepsOn, CountsStore, shown_store, machine_of, uses_store, only_asks, reply_of, refusal_of, done_reply, equality_reply}
+use Rattle.ewig_shell.proofs.ReplyLemmas.{other-reply, obeys-other, refusal-other}
 
 -- the files stay where the store does
 pub same_files : (files : Option Files) → ChangesFiles files files (λ (before now : Files). now ≡ before)
@@ -103,7 +103,7 @@ Obeys-ends command {old} {new} (Ok x) asks ends = λ store. record {
 Obeys-ends command (Err reason) asks ends = due ends.work reason ends.stands ends.ends.due ends.ends.same
 
 -- what holds of the lines that are there
-some_lines : (found : Option (List Bytes)) (P : List Bytes → Type 0) → IsSomeAnd found P → (lines : List Bytes) × (found ≡ Some lines) × P lines
+pub some_lines : (found : Option (List Bytes)) (P : List Bytes → Type 0) → IsSomeAnd found P → (lines : List Bytes) × (found ≡ Some lines) × P lines
 some_lines None P h = absurd h
 some_lines (Some lines) P h = (lines, refl, h)
 
@@ -265,44 +265,62 @@ bits_by : (asks : Bool) (command : PlainCommand) (old new : SpaceView) (W : Work
 bits_by true command old new W same = ap (λ (s : SpaceView). s.pool.bits) same
 bits_by false command old new W carries = carries.bits
 
+-- where the space is as it was, its bits are
+bits_same : {old new : SpaceView} → new ≡ old → new.pool.bits ≡ old.pool.bits
+bits_same same = ap (λ (s : SpaceView). s.pool.bits) same
+
 bits_loaded : (found : Option Damage) (bytes : Bytes) (old new : SpaceView) (reply : List ℕ) → MatchOption found (IsLoaded bytes old reply new) (λ (d : Damage). Refuses old (codes "damaged " ++ damage_word d) reply new) → new.pool.bits ≡ old.pool.bits
 bits_loaded None bytes old new reply loads = loads.bits
-bits_loaded (Some d) bytes old new reply keeps = ap (λ (s : SpaceView). s.pool.bits) keeps.same
+bits_loaded (Some d) bytes old new reply keeps = bits_same keeps.same
 
-bits_as : (file : Fetched) (old new : SpaceView) (reply : List ℕ) → LoadsAs file old reply new → new.pool.bits ≡ old.pool.bits
-bits_as missing old new reply keeps = ap (λ (s : SpaceView). s.pool.bits) keeps.same
-bits_as large old new reply keeps = ap (λ (s : SpaceView). s.pool.bits) keeps.same
-bits_as (given_bytes bytes) old new reply loads = bits_loaded (document_damage old.pool.bits bytes) bytes old new reply loads
-
-bits_elsewhere : (command : PlainCommand) (old new : Machine) (reply : List ℕ) → SaysElsewhere command old reply new → new.space.pool.bits ≡ old.space.pool.bits
-bits_elsewhere stats old new reply says = ap (λ (m : Machine). m.space.pool.bits) says.1
-bits_elsewhere (save name) old new reply says = ap (λ (s : SpaceView). s.pool.bits) says.space
-bits_elsewhere (load name) old new reply says = elim says [
-  | inl loads ↦ bits_as loads.file old.space new.space reply loads.loads
-  | inr fails ↦ ap (λ (s : SpaceView). s.pool.bits) fails.space.same
+bits_read : (W : Workspace) (name bytes : Bytes) (old new : SpaceView) (reply : List ℕ) → ReadsBytes W name old bytes reply new → new.pool.bits ≡ old.pool.bits
+bits_read W name bytes old new reply reads = elim reads [
+  | inl long ↦ bits_same long.1.same
+  | inr more ↦ elim more [ inl other ↦ bits_same other.1.same | inr is ↦ is.filled.bits ]
 ]
-bits_elsewhere (edit change) old new reply says = absurd says
-bits_elsewhere (mark version) old new reply says = absurd says
-bits_elsewhere (unmark version) old new reply says = absurd says
-bits_elsewhere (back version) old new reply says = absurd says
-bits_elsewhere undo old new reply says = absurd says
-bits_elsewhere redo old new reply says = absurd says
-bits_elsewhere begin old new reply says = absurd says
-bits_elsewhere «end» old new reply says = absurd says
-bits_elsewhere abort old new reply says = absurd says
-bits_elsewhere (get name index) old new reply says = absurd says
-bits_elsewhere (len name) old new reply says = absurd says
-bits_elsewhere (show name from to) old new reply says = absurd says
-bits_elsewhere list old new reply says = absurd says
-bits_elsewhere stars old new reply says = absurd says
-bits_elsewhere marks old new reply says = absurd says
-bits_elsewhere (same_lines name other) old new reply says = absurd says
-bits_elsewhere (eqv version other) old new reply says = absurd says
-bits_elsewhere quit old new reply says = absurd says
+
+-- and so where each file whose bytes are given keeps them
+bits_made : (ByBytes : List ℕ → List ℕ → SpaceView → Type 0) (file : Fetched) (old new : SpaceView) (reply : List ℕ) → ((bytes : Bytes) → ByBytes bytes reply new → new.pool.bits ≡ old.pool.bits) →
+    Makes ByBytes file old reply new → new.pool.bits ≡ old.pool.bits
+bits_made ByBytes missing old new reply by keeps = bits_same keeps.same
+bits_made ByBytes large old new reply by keeps = bits_same keeps.same
+bits_made ByBytes (given_bytes bytes) old new reply by makes = by bytes makes
+
+bits_taken : (name : Bytes) (ByBytes : List ℕ → List ℕ → SpaceView → Type 0) (old new : Machine) (reply : List ℕ) → ((bytes : Bytes) → ByBytes bytes reply new.space → new.space.pool.bits ≡ old.space.pool.bits) →
+    Takes name old reply new ByBytes → new.space.pool.bits ≡ old.space.pool.bits
+bits_taken name ByBytes old new reply by takes = elim takes [
+  | inl file ↦ bits_made ByBytes file.file old.space new.space reply by file.makes
+  | inr fails ↦ bits_same fails.space.same
+]
+
+bits_elsewhere : (command : PlainCommand) (old new : Machine) (W : Workspace) (reply : List ℕ) → SaysElsewhere command old W reply new → new.space.pool.bits ≡ old.space.pool.bits
+bits_elsewhere stats old new W reply says = ap (λ (m : Machine). m.space.pool.bits) says.1
+bits_elsewhere (read_file name file) old new W reply says = bits_taken file (ReadsBytes W name old.space) old new reply (λ bytes reads. bits_read W name bytes old.space new.space reply reads) says
+bits_elsewhere (write_file name file) old new W reply says = let there = some_lines (lines_of W.current name) (λ (lines : List Bytes). Stores file (ended_lines lines) old reply new) says in bits_same there.2.space
+bits_elsewhere (save file) old new W reply says = bits_same says.stores.space
+bits_elsewhere (load file) old new W reply says = bits_taken file (LoadsBytes old.space) old new reply (λ bytes loads. bits_loaded (document_damage old.space.pool.bits bytes) bytes old.space new.space reply loads) says
+bits_elsewhere (edit change) old new W reply says = absurd says
+bits_elsewhere (mark version) old new W reply says = absurd says
+bits_elsewhere (unmark version) old new W reply says = absurd says
+bits_elsewhere (back version) old new W reply says = absurd says
+bits_elsewhere undo old new W reply says = absurd says
+bits_elsewhere redo old new W reply says = absurd says
+bits_elsewhere begin old new W reply says = absurd says
+bits_elsewhere «end» old new W reply says = absurd says
+bits_elsewhere abort old new W reply says = absurd says
+bits_elsewhere (get name index) old new W reply says = absurd says
+bits_elsewhere (len name) old new W reply says = absurd says
+bits_elsewhere (show name from to) old new W reply says = absurd says
+bits_elsewhere list old new W reply says = absurd says
+bits_elsewhere stars old new W reply says = absurd says
+bits_elsewhere marks old new W reply says = absurd says
+bits_elsewhere (same_lines name other) old new W reply says = absurd says
+bits_elsewhere (eqv version other) old new W reply says = absurd says
+bits_elsewhere quit old new W reply says = absurd says
 
 bits_given : (a : Answer) (command : PlainCommand) (old new : Machine) (W : Workspace) (reply : List ℕ) → Gives command old W a reply new → new.space.pool.bits ≡ old.space.pool.bits
 bits_given (Ok (tells lines after)) command old new W reply gives = bits_by (only_asks command) command old.space new.space W gives.2
-bits_given (Ok elsewhere) command old new W reply gives = bits_elsewhere command old new reply gives
+bits_given (Ok elsewhere) command old new W reply gives = bits_elsewhere command old new W reply gives
 bits_given (Err reason) command old new W reply refuses = ap (λ (m : Machine). m.space.pool.bits) refuses.same
 
 -- each command keeps the bits
@@ -376,39 +394,43 @@ CountsStore-succeeded succeeds other calls = CountsStore-called (λ fails. absur
 
 -- ## Commands of the store
 
+-- the store has its say, where nothing in the workspace answers the command
+pub Obeys-elsewhere : (command : PlainCommand) (W : Workspace) (old new : Machine) (reply : List ℕ) → StandsFor old.space.pool W → answer W command ≡ Ok elsewhere → SaysElsewhere command old W reply new → Obeys command old reply new
+Obeys-elsewhere command W old new reply stands e says = record {
+  work = W;
+  stands = stands;
+  gives = inl (subst (λ (a : Answer). Gives command old W a reply new) (sym e) says);
+}
+
+-- and memory may be refused to it
+pub may_lack : (command : PlainCommand) (W : Workspace) → IsTrue (wants_memory command) → answer W command ≡ Ok elsewhere → MayLackMemory W command
+may_lack command W wants e = record { wants = wants; granted = subst (λ (a : Answer). IsOk a) (sym e) refl }
+
+-- the workspace refuses the command, and no store is called
+pub ObeysOn-refused : {C : Type 0} {D : store_trait.Ghosts C} {space : SpaceView} {store : C} (command : PlainCommand) (W : Workspace) (reason : Refusal) → StandsFor space.pool W → answer W command ≡ Err reason → ObeysOn command D space store (refusal_of (reason_of reason)) space store
+ObeysOn-refused {D = D} {store = store} command W reason stands e = record {
+  obeys = Obeys-refused W reason stands e refl refl (shown_store D store);
+  counts = CountsStore-none (other-reply {due = refusal_of (reason_of reason)} refl (refusal-other reason));
+}
+
 -- nothing in the workspace but an open batch answers the command
-abbrev pub IsOfTheStore : PlainCommand → Type 0
-IsOfTheStore command = (W : Workspace) → answer W command ≡ unless (in_batch W) why.Batch (Ok elsewhere)
+abbrev pub IsOutsideBatch : PlainCommand → Type 0
+IsOutsideBatch command = (W : Workspace) → answer W command ≡ unless (in_batch W) why.Batch (Ok elsewhere)
 
-pub save-OfTheStore : (name : Bytes) → IsOfTheStore (save name)
+pub save-outside : (file : Bytes) → IsOutsideBatch (save file)
 unfolding answer
-save-OfTheStore name W = refl
+save-outside file W = refl
 
-pub load-OfTheStore : (name : Bytes) → IsOfTheStore (load name)
+pub load-outside : (file : Bytes) → IsOutsideBatch (load file)
 unfolding answer
-load-OfTheStore name W = refl
+load-outside file W = refl
 
-module _ (command : PlainCommand) (of_store : IsOfTheStore command) (W : Workspace) where
-  outside : in_batch W ≡ false → answer W command ≡ Ok elsewhere
-  outside e = of_store W ∙ ap (λ (b : Bool). unless b why.Batch (Ok elsewhere)) e
+module _ (command : PlainCommand) (outside : IsOutsideBatch command) (W : Workspace) where
+  pub answer-outside : in_batch W ≡ false → answer W command ≡ Ok elsewhere
+  answer-outside e = outside W ∙ ap (λ (b : Bool). unless b why.Batch (Ok elsewhere)) e
 
-  -- the store has its say
-  pub Obeys-elsewhere : (old new : Machine) (reply : List ℕ) → StandsFor old.space.pool W → in_batch W ≡ false → SaysElsewhere command old reply new → Obeys command old reply new
-  Obeys-elsewhere old new reply stands e says = record {
-    work = W;
-    stands = stands;
-    gives = inl (subst (λ (a : Answer). Gives command old W a reply new) (sym (outside e)) says);
-  }
-
-  pub may_lack : IsTrue (wants_memory command) → in_batch W ≡ false → MayLackMemory W command
-  may_lack wants e = record { wants = wants; granted = subst (λ (a : Answer). IsOk a) (sym (outside e)) refl }
-
-  -- a batch is open
-  pub ObeysOn-batch : {C : Type 0} {D : store_trait.Ghosts C} {space : SpaceView} {store : C} → StandsFor space.pool W → in_batch W ≡ true → ObeysOn command D space store (refusal_of (codes "batch")) space store
-  ObeysOn-batch {D = D} {store = store} stands e = record {
-    obeys = Obeys-refused W why.Batch stands (of_store W ∙ ap (λ (b : Bool). unless b why.Batch (Ok elsewhere)) e) refl refl (shown_store D store);
-    counts = CountsStore-none (other-reply {due = refusal_of (codes "batch")} refl refl);
-  }
+  pub answer-inside : in_batch W ≡ true → answer W command ≡ Err why.Batch
+  answer-inside e = outside W ∙ ap (λ (b : Bool). unless b why.Batch (Ok elsewhere)) e
 
 -- the fault that a call answered
 pub fault-is : {F : Type 0} (result : Result (Unit {0}) F) (fault : F) → IsErrAnd result (λ (f : F). f ≡ fault) → result ≡ Err fault

@@ -1,6 +1,7 @@
 pub mod Quits
 pub mod Step
 pub mod Sending
+pub mod Work
 pub mod Run
 pub mod Going
 pub mod Saving

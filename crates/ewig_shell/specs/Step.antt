@@ -1,24 +1,26 @@
 -- What one piece of the input makes of a space and a store, and the reply that it gets.
-use Rattle.std.specs.Prelude.{◌≡◌, ℕ, ◌+◌, ◌-◌, ◌*◌, ◌^◌, ◌≤◌, min, Bool, true, false, nat_lt, List, [], ◌∷◌, ◌++◌, length, codes, Result, Ok, Err, Option, Some, None, IfSome, MatchBool, MatchOption, if◌then◌else◌, ◌⊎◌}
+use Rattle.std.specs.Prelude.{◌≡◌, ℕ, ◌+◌, ◌-◌, ◌*◌, ◌^◌, ◌≤◌, min, Bool, true, false, nat_lt, List, [], ◌∷◌, ◌++◌, length, codes, Result, Ok, Err, Option, Some, None, IfSome, IsSomeAnd, MatchBool, MatchOption, if◌then◌else◌, ◌⊎◌}
 use Rattle.std.specs.FinMap.{insert, get as get_file}
 use Rattle.std.specs.List.{flat_map}
 use Rattle.elem_core.specs.declared.TheConstants.{MAX_LINE, NEWLINE}
-use Rattle.shell_terms.specs.Command.{PlainCommand, get, len, show, list, stars, marks, same, eqv, stats, save, load, quit}
+use Rattle.shell_terms.specs.Edit.{Bytes, fill}
+use Rattle.shell_terms.specs.Command.{PlainCommand, edit, get, len, show, list, stars, marks, same, eqv, stats, read, write, save, load, quit}
 use Rattle.shell_words.specs.Grammar.{meaning}
 use Rattle.shell_words.specs.declared.BadLine.{BadLine}
 use Rattle.shell_words.specs.declared.BadLine.TheVariants as bad
 use Rattle.shell_io.specs.Fault.{HasCause, Calls}
 use Rattle.shell_io.specs.InMemory.{Files}
+use Rattle.shell_io.specs.Lines.{HasLines}
+use Rattle.shell_io.specs.declared.lines.LinesFault.TheVariants as unread
 use Rattle.shell_io.specs.Storing.{ChangesFiles, OthersStay}
 use Rattle.shell_io.specs.declared.device.Store as store_trait
 use Rattle.plain_space.specs.declared.refusal.Refusal.{Refusal}
-use Rattle.plain_space.specs.Workspace.{Workspace}
+use Rattle.plain_space.specs.Workspace.{Workspace, lines_of}
 use Rattle.plain_space.specs.Answer.{Answer, tells, elsewhere, answer, ok_line, number_line, equal_line}
 use Rattle.plain_space.specs.Memory.{MayLackMemory}
 use Rattle.plain_space.specs.Session.{reason_of}
 use Rattle.pool_text.specs.Pool.{row_count}
 use Rattle.pool_text.specs.Document.{text, pool_in_bytes}
-use Rattle.pool_text.specs.declared.pool.Pool.{Pool}
 use Rattle.pool_text.specs.declared.damage.Damage.{Damage}
 use Rattle.pool_text.specs.declared.damage.Damage.TheVariants as damage
 use Rattle.pool_check.specs.Damages.{document_damage, IsValid}
@@ -44,9 +46,13 @@ pub record Machine : Type 0 where
   pub space : SpaceView
   pub store : StoreView
 
--- Reply lines as the bytes of a reply: a newline ends each.
+-- Lines as bytes: a newline ends each.
+abbrev pub ended_lines : List (List ℕ) → List ℕ
+ended_lines lines = flat_map (λ line. line ++ NEWLINE ∷ []) lines
+
+-- Reply lines as the bytes of a reply.
 abbrev pub reply_of : List (List ℕ) → List ℕ
-reply_of lines = flat_map (λ line. line ++ NEWLINE ∷ []) lines
+reply_of lines = ended_lines lines
 
 -- The reply that refuses, with its reason.
 abbrev pub refusal_of : List ℕ → List ℕ
@@ -62,10 +68,11 @@ abbrev pub equality_reply : Result Bool Refusal → List ℕ
 equality_reply (Ok equal) = reply_of (equal_line equal ∷ [])
 equality_reply (Err reason) = refusal_of (reason_of reason)
 
--- The reply to `save`.
+-- The reply to `save` and to `write`.
 abbrev pub saved_reply : Result (Unit {0}) SaveFault → List ℕ
 saved_reply (Ok done) = reply_of (ok_line ∷ [])
 saved_reply (Err unsaved.Batch) = refusal_of (codes "batch")
+saved_reply (Err unsaved.Absent) = refusal_of (codes "none")
 saved_reply (Err unsaved.Large) = refusal_of (codes "large")
 saved_reply (Err unsaved.Failed) = refusal_of (codes "fault")
 saved_reply (Err unsaved.Memory) = refusal_of (codes "memory")
@@ -85,14 +92,17 @@ damage_word damage.Kind = codes "kind"
 damage_word damage.Order = codes "order"
 damage_word damage.Memory = codes "memory"
 
--- The reply to `load`.
+-- The reply to `load` and to `read`.
 abbrev pub loaded_reply : Result (Unit {0}) LoadFault → List ℕ
 loaded_reply (Ok done) = reply_of (ok_line ∷ [])
 loaded_reply (Err unloaded.Batch) = refusal_of (codes "batch")
+loaded_reply (Err unloaded.Limit) = refusal_of (codes "limit")
 loaded_reply (Err unloaded.Missing) = refusal_of (codes "missing")
 loaded_reply (Err unloaded.Large) = refusal_of (codes "large")
 loaded_reply (Err unloaded.Failed) = refusal_of (codes "fault")
 loaded_reply (Err (unloaded.Damaged d)) = refusal_of (codes "damaged " ++ damage_word d)
+loaded_reply (Err unloaded.Long) = refusal_of (codes "long")
+loaded_reply (Err unloaded.Utf8) = refusal_of (codes "utf8")
 loaded_reply (Err unloaded.Memory) = refusal_of (codes "memory")
 
 -- The reply is this refusal, and what it was sent for stays: a machine, or the space alone.
@@ -134,12 +144,12 @@ pub record KeepsFiles (old new : StoreView) : Type 0 where
   pub files : ChangesFiles old.files new.files (λ before now. now ≡ before)
   pub counted : old.faults ≤ new.faults
 
--- The text of the pool's document is the file of this name now, and no other file has changed. No test fails of that text, and it
--- stands for the pool.
-pub record IsStored (name : List ℕ) (pool : Pool) (old : StoreView) (reply : List ℕ) (new : StoreView) : Type 0 where
+-- ### What is stored
+
+-- The bytes are the file of this name now, and no other file has changed.
+pub record IsStored (name bytes : List ℕ) (old : StoreView) (reply : List ℕ) (new : StoreView) : Type 0 where
   pub reply_is : reply ≡ reply_of (ok_line ∷ [])
-  pub files : ChangesFiles old.files new.files (λ before now. now ≡ insert before name (text pool))
-  pub document : IsDocumentOf pool (text pool)
+  pub files : ChangesFiles old.files new.files (λ before now. now ≡ insert before name bytes)
   pub counted : old.faults ≤ new.faults
 
 -- The store failed in this step, and at most the file of this name has changed.
@@ -149,13 +159,25 @@ pub record FailsToStore (name : List ℕ) (old : StoreView) (reply : List ℕ) (
   pub counted : old.faults ≤ new.faults
   pub cause : HasCause old.faults new.faults
 
--- The space stays. Its document is too large for a file, or is stored, or the store failed.
-pub record Saves (name : List ℕ) (old : Machine) (reply : List ℕ) (new : Machine) : Type 0 where
+-- The space stays. The bytes are too many for a file, or are stored, or the store failed.
+pub record Stores (name bytes : List ℕ) (old : Machine) (reply : List ℕ) (new : Machine) : Type 0 where
   pub space : new.space ≡ old.space
-  pub ends : MatchBool (is_large (text old.space.pool)) (Refuses old (codes "large") reply new)
-      (IsStored name old.space.pool old.store reply new.store ⊎ FailsToStore name old.store reply new.store)
+  pub ends : MatchBool (is_large bytes) (Refuses old (codes "large") reply new)
+      (IsStored name bytes old.store reply new.store ⊎ FailsToStore name old.store reply new.store)
 
--- What a file is to a load: nothing, too many bytes, or the bytes of a document or not.
+-- The text of the pool's document is stored. No test fails of a text that was stored so, and it stands for the pool.
+pub record Saves (name : List ℕ) (old : Machine) (reply : List ℕ) (new : Machine) : Type 0 where
+  pub stores : Stores name (text old.space.pool) old reply new
+  pub document : reply ≡ reply_of (ok_line ∷ []) → IsDocumentOf old.space.pool (text old.space.pool)
+
+-- The lines of the buffer are stored, each with its newline.
+abbrev pub Writes : Workspace → (name file : List ℕ) → Machine → List ℕ → Machine → Type 0
+Writes work name file old reply new =
+    IsSomeAnd (lines_of work.current name) (λ lines. Stores file (ended_lines lines) old reply new)
+
+-- ### What is taken from a file
+
+-- What a file is to a command that takes its bytes: nothing, too many bytes, or these bytes.
 pub data Fetched : Type 0 where
   missing : Fetched
   large : Fetched
@@ -166,6 +188,29 @@ abbrev pub fetched : Option (List ℕ) → Fetched
 fetched None = missing
 fetched (Some bytes) = if is_large bytes then large else given bytes
 
+-- What a file makes of a space, by what its bytes make of it.
+abbrev pub Makes : (ByBytes : List ℕ → List ℕ → SpaceView → Type 0) → Fetched → SpaceView → List ℕ → SpaceView → Type 0
+Makes ByBytes missing old reply new = Refuses old (codes "missing") reply new
+Makes ByBytes large old reply new = Refuses old (codes "large") reply new
+Makes ByBytes (given bytes) old reply new = ByBytes bytes reply new
+
+-- The files stay. The file is the one of this name, where the files are told.
+pub record TakesFile (name : List ℕ) (old : Machine) (reply : List ℕ) (new : Machine) (ByBytes : List ℕ → List ℕ → SpaceView → Type 0) : Type 0 where
+  pub store : KeepsFiles old.store new.store
+  pub file : Fetched
+  pub held : IfSome old.store.files (λ files. file ≡ fetched (get_file files name))
+  pub makes : Makes ByBytes file old.space reply new.space
+
+-- The store failed in this step, and nothing but its count of faults has changed.
+pub record FailsToTake (old : Machine) (reply : List ℕ) (new : Machine) : Type 0 where
+  pub store : KeepsFiles old.store new.store
+  pub space : Refuses old.space (codes "fault") reply new.space
+  pub cause : HasCause old.store.faults new.store.faults
+
+-- The file of this name was taken, or the store failed.
+abbrev pub Takes : (name : List ℕ) → Machine → List ℕ → Machine → (ByBytes : List ℕ → List ℕ → SpaceView → Type 0) → Type 0
+Takes name old reply new ByBytes = TakesFile name old reply new ByBytes ⊎ FailsToTake old reply new
+
 -- The pool that the document stands for is the space's now, and the number made has risen by its rows, up to 2^64 - 1.
 pub record IsLoaded (bytes : List ℕ) (old : SpaceView) (reply : List ℕ) (new : SpaceView) : Type 0 where
   pub reply_is : reply ≡ reply_of (ok_line ∷ [])
@@ -174,35 +219,37 @@ pub record IsLoaded (bytes : List ℕ) (old : SpaceView) (reply : List ℕ) (new
   pub bits : new.pool.bits ≡ old.pool.bits
   pub made : new.made ≡ min (old.made + row_count new.pool) (2 ^ 64 - 1)
 
--- What the file makes of the space. A document is refused with the first test that it fails.
-abbrev pub LoadsAs : Fetched → SpaceView → List ℕ → SpaceView → Type 0
-LoadsAs missing old reply new = Refuses old (codes "missing") reply new
-LoadsAs large old reply new = Refuses old (codes "large") reply new
-LoadsAs (given bytes) old reply new =
+-- What the bytes make of the space by a load. A document is refused with the first test that it fails.
+abbrev pub LoadsBytes : SpaceView → List ℕ → List ℕ → SpaceView → Type 0
+LoadsBytes old bytes reply new =
     MatchOption (document_damage old.pool.bits bytes) (IsLoaded bytes old reply new) (λ d. Refuses old (codes "damaged " ++ damage_word d) reply new)
 
--- The files stay. The file is the one of this name, where the files are told.
-pub record LoadsFile (name : List ℕ) (old : Machine) (reply : List ℕ) (new : Machine) : Type 0 where
-  pub store : KeepsFiles old.store new.store
-  pub file : Fetched
-  pub held : IfSome old.store.files (λ files. file ≡ fetched (get_file files name))
-  pub loads : LoadsAs file old.space reply new.space
+-- The lines of the bytes are the buffer's now, by an edit.
+pub record IsRead (work : Workspace) (name bytes : List ℕ) (old : SpaceView) (reply : List ℕ) (new : SpaceView) : Type 0 where
+  pub lines : List Bytes
+  pub lines_are : HasLines bytes (Ok lines)
+  pub reply_is : reply ≡ reply_of (ok_line ∷ [])
+  pub filled : CarriesOut (edit (fill name lines)) old new work
 
--- The store failed in this step, and nothing but its count of faults has changed.
-pub record FailsToLoad (old : Machine) (reply : List ℕ) (new : Machine) : Type 0 where
-  pub store : KeepsFiles old.store new.store
-  pub space : Refuses old.space (codes "fault") reply new.space
-  pub cause : HasCause old.store.faults new.store.faults
+-- What the bytes make of the space, which stands for the workspace, by a read: they have no lines, for the first reason that holds,
+-- or their lines are the buffer's now.
+abbrev pub ReadsBytes : Workspace → List ℕ → SpaceView → List ℕ → List ℕ → SpaceView → Type 0
+ReadsBytes work name old bytes reply new =
+    HasLines bytes (Err unread.Long) × Refuses old (codes "long") reply new
+    ⊎ HasLines bytes (Err unread.Utf8) × Refuses old (codes "utf8") reply new
+    ⊎ IsRead work name bytes old reply new
 
 -- ## Commands
 
--- What the pool or the store has to say: of `stats` the number of the pool's rows, of `save` what became of the file, and of
--- `load` what the file made of the space.
-abbrev pub SaysElsewhere : PlainCommand → Machine → List ℕ → Machine → Type 0
-SaysElsewhere stats old reply new = (reply ≡ reply_of (number_line (row_count old.space.pool) ∷ [])) × (new ≡ old)
-SaysElsewhere (save name) old reply new = Saves name old reply new
-SaysElsewhere (load name) old reply new = LoadsFile name old reply new ⊎ FailsToLoad old reply new
-SaysElsewhere _ old reply new = ⊥
+-- What the pool or the store has to say: of `stats` the number of the pool's rows, of `write` and `save` what became of the file,
+-- and of `read` and `load` what the file made of the space.
+abbrev pub SaysElsewhere : PlainCommand → Machine → Workspace → List ℕ → Machine → Type 0
+SaysElsewhere stats old work reply new = (reply ≡ reply_of (number_line (row_count old.space.pool) ∷ [])) × (new ≡ old)
+SaysElsewhere (read name file) old work reply new = Takes file old reply new (ReadsBytes work name old.space)
+SaysElsewhere (write name file) old work reply new = Writes work name file old reply new
+SaysElsewhere (save file) old work reply new = Saves file old reply new
+SaysElsewhere (load file) old work reply new = Takes file old reply new (LoadsBytes old.space)
+SaysElsewhere _ old work reply new = ⊥
 
 -- From this machine, whose space stands for the workspace, the plain answer is this reply and leaves this machine. The store
 -- stays; so does the space where the command only asks, and else the command was carried out in it.
@@ -210,13 +257,15 @@ abbrev pub Gives : PlainCommand → Machine → Workspace → Answer → List �
 Gives command old work (Ok (tells lines after)) reply new =
     (reply ≡ reply_of lines) × (new.store ≡ old.store)
     × MatchBool (only_asks command) (new.space ≡ old.space) (CarriesOut command old.space new.space work)
-Gives command old work (Ok elsewhere) reply new = SaysElsewhere command old reply new
+Gives command old work (Ok elsewhere) reply new = SaysElsewhere command old work reply new
 Gives command old work (Err reason) reply new = Refuses old (reason_of reason) reply new
 
 -- Whether the command uses the store.
 abbrev pub uses_store : PlainCommand → Bool
-uses_store (save name) = true
-uses_store (load name) = true
+uses_store (read name file) = true
+uses_store (write name file) = true
+uses_store (save file) = true
+uses_store (load file) = true
 uses_store _ = false
 
 -- Memory was refused, which comes only to a command that may want it, where nothing in the workspace refuses it. The space stays,

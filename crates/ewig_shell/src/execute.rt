@@ -1,21 +1,22 @@
 //! One line of the input: the command is done, and its reply is written.
 
-ghost use Rattle.std.specs.Prelude.{◌≡◌, ◌↔◌, codes, IfOk};
+ghost use Rattle.std.specs.Prelude.{◌≡◌, ◌↔◌, codes, IfOk, IsTrue};
 ghost use Rattle.elem_core.specs.Cell.{IsCell};
 ghost use Rattle.elem_core.specs.Shown.{name_bytes};
 ghost use Rattle.shell_terms.specs.Command.{get as get_command, len as len_command, show as show_command, list as list_command, stars as stars_command, marks as marks_command, same as same_command, eqv as eqv_command, stats as stats_command, quit as quit_command};
+ghost use Rattle.shell_terms.specs.Changing.{only_changes};
 ghost use Rattle.shell_words.specs.Shown.{plain_command};
-ghost use Rattle.plain_space.specs.Change.{edit_command};
 ghost use Rattle.shell_io.specs.Sending.{Sends};
+ghost use Rattle.space_state.specs.View.{Ends};
 ghost use Rattle.ewig_shell.specs.Step.{ObeysAlone, ObeysOn, StepsOn, refusal_of};
 ghost use Rattle.ewig_shell.specs.Sending.{Replies, sent_then};
 
-use crate::load::load;
+use crate::load::{load, read};
 use crate::reply::{
     equality, line_refusal, loaded, refusal, saved, send, send_done, send_lines, send_names,
     send_number, send_sizes, send_text,
 };
-use crate::save::save;
+use crate::save::{save, write};
 use elem_core::Name;
 use shell_io::{Failed, Sink, Store};
 use shell_words::{Command, read_line};
@@ -107,25 +108,6 @@ fn answer<K: Sink, D: Store>(
         (λ reply. ObeysOn (plain_command command.entry) D.Store space.old store.old reply space.new store.new) }
 {
     match command {
-        Command::New(buffer) => change(space, Edit::New(buffer), sink),
-        Command::Add(buffer, text) => change(space, Edit::Add(buffer, text), sink),
-        Command::Set(buffer, index, text) => change(space, Edit::Set(buffer, index, text), sink),
-        Command::Put(buffer, index, text) => change(space, Edit::Put(buffer, index, text), sink),
-        Command::Del(buffer, from, to) => change(space, Edit::Del(buffer, from, to), sink),
-        Command::Cat(buffer, other) => change(space, Edit::Cat(buffer, other), sink),
-        Command::Cut(from, start, end, to) => change(space, Edit::Cut(from, start, end, to), sink),
-        Command::Copy(buffer, other) => change(space, Edit::Copy(buffer, other), sink),
-        Command::Drop(buffer) => change(space, Edit::Drop(buffer), sink),
-        Command::Star(name) => change(space, Edit::Star(name), sink),
-        Command::Unstar(name) => change(space, Edit::Unstar(name), sink),
-        Command::Mark(version) => send_done(space.mark(version), sink),
-        Command::Unmark(version) => send_done(space.unmark(version), sink),
-        Command::Back(version) => send_done(space.back(version), sink),
-        Command::Undo => send_done(space.undo(), sink),
-        Command::Redo => send_done(space.redo(), sink),
-        Command::Begin => send_done(space.begin(), sink),
-        Command::End => send_done(space.end(), sink),
-        Command::Abort => send_done(space.abort(), sink),
         Command::Get(buffer, index) => get(space, buffer, index, sink),
         Command::Len(buffer) => len(space, buffer, sink),
         Command::Show(buffer, from, to) => show(space, buffer, from, to, sink),
@@ -135,18 +117,44 @@ fn answer<K: Sink, D: Store>(
         Command::Same(buffer, other) => same(space, buffer, other, sink),
         Command::Eqv(version, other) => eqv(space, version, other, sink),
         Command::Stats => stats(space, sink),
+        Command::Read(buffer, file) => send(loaded(read(alloc, space, buffer, file, store)), sink),
+        Command::Write(buffer, file) => send(saved(write(alloc, space, buffer, file, store)), sink),
         Command::Save(file) => send(saved(save(alloc, space, file, store)), sink),
         Command::Load(file) => send(loaded(load(alloc, space, file, store)), sink),
         Command::Quit => quit(space, sink),
+        // The others change the space, and use no device.
+        _ => send_done(change(space, command), sink),
     }
 }
 
-// Does an edit, and replies.
-fn change<K: Sink>(space: &mut Space, edit: Edit<'_>, sink: &mut K) -> Result<(), Failed>
-    ensures { Replies K.Sink sink.old sink.new result
-        (λ reply. ObeysAlone (edit_command edit.entry) space.old reply space.new) }
+/// Does a command that changes the space and uses neither the sink nor the store, refused exactly as its row says, want of memory
+/// last.
+pub fn change(space: &mut Space, command: Command<'_>) -> Result<(), Refusal>
+    requires { IsTrue (only_changes (plain_command command)) }
+    ensures { Ends (plain_command command.entry) space.old result space.new }
 {
-    send_done(space.edit(edit), sink)
+    match command {
+        Command::New(buffer) => space.edit(Edit::New(buffer)),
+        Command::Add(buffer, text) => space.edit(Edit::Add(buffer, text)),
+        Command::Set(buffer, index, text) => space.edit(Edit::Set(buffer, index, text)),
+        Command::Put(buffer, index, text) => space.edit(Edit::Put(buffer, index, text)),
+        Command::Del(buffer, from, to) => space.edit(Edit::Del(buffer, from, to)),
+        Command::Cat(buffer, other) => space.edit(Edit::Cat(buffer, other)),
+        Command::Cut(from, start, end, to) => space.edit(Edit::Cut(from, start, end, to)),
+        Command::Copy(buffer, other) => space.edit(Edit::Copy(buffer, other)),
+        Command::Drop(buffer) => space.edit(Edit::Drop(buffer)),
+        Command::Star(name) => space.edit(Edit::Star(name)),
+        Command::Unstar(name) => space.edit(Edit::Unstar(name)),
+        Command::Mark(version) => space.mark(version),
+        Command::Unmark(version) => space.unmark(version),
+        Command::Back(version) => space.back(version),
+        Command::Undo => space.undo(),
+        Command::Redo => space.redo(),
+        Command::Begin => space.begin(),
+        Command::End => space.end(),
+        Command::Abort => space.abort(),
+        _ => unreachable!(),
+    }
 }
 
 fn get<K: Sink>(space: &Space, buffer: Name<'_>, index: u32, sink: &mut K) -> Result<(), Failed>

@@ -1,24 +1,26 @@
-//! What a run loads.
+//! What a run takes from files.
 
-ghost use Rattle.std.specs.Prelude.{◌≡◌, ◌≢◌};
+ghost use Rattle.std.specs.Prelude.{◌≡◌, ◌≢◌, ◌≤◌, length};
 ghost use Rattle.elem_core.specs.Shown.{name_bytes};
-ghost use Rattle.shell_terms.specs.Command.{load as load_command};
-ghost use Rattle.ewig_shell.specs.Step.{ObeysOn, loaded_reply};
-ghost use Rattle.ewig_shell.specs.Loading.{TakesIn, fault_of, load_fault};
+ghost use Rattle.shell_terms.specs.Command.{read as read_command, load as load_command};
+ghost use Rattle.ewig_shell.specs.Step.{ObeysOn, loaded_reply, most_stored};
+ghost use Rattle.ewig_shell.specs.Loading.{TakesIn, FillsIn, fault_of, load_fault, read_fault};
 
 use crate::save::MOST_STORED;
 use elem_core::Name;
 use pool_check::check;
 use pool_text::{Damage, pool_from_bytes};
-use shell_io::{FetchFault, Store};
-use space_state::Space;
+use shell_io::{FetchFault, LinesFault, Store, lines_of};
+use space_state::{Edit, Space};
 use std::alloc::Global;
 
-/// Why a file wasn't loaded.
+/// Why a file wasn't loaded, or read.
 #[derive(Clone, Copy, Debug, PartialEq, Eq)]
 pub enum LoadFault {
-    /// A batch is open.
+    /// A batch is open: of a load alone.
     Batch,
+    /// Undo holds 2^32 - 1 states and no batch is open: of a read alone.
+    Limit,
     /// There is no such file.
     Missing,
     /// The file has more bytes than a file may.
@@ -27,6 +29,10 @@ pub enum LoadFault {
     Failed,
     /// The file is no document of a space of so many bits: the first test that it fails, and never `Damage::Memory`.
     Damaged(Damage),
+    /// A line of the file has more than 65,536 bytes: of a read alone.
+    Long,
+    /// The file isn't UTF-8: of a read alone.
+    Utf8,
     /// Memory ran out.
     Memory,
 }
@@ -51,6 +57,18 @@ impl From<FetchFault> for LoadFault {
             FetchFault::Large => LoadFault::Large,
             FetchFault::Failed => LoadFault::Failed,
             FetchFault::Memory => LoadFault::Memory,
+        }
+    }
+}
+
+impl From<LinesFault> for LoadFault {
+    ghost from_gives = { λ lines fault. fault ≡ read_fault lines };
+
+    fn from(lines: LinesFault) -> LoadFault {
+        match lines {
+            LinesFault::Long => LoadFault::Long,
+            LinesFault::Utf8 => LoadFault::Utf8,
+            LinesFault::Memory => LoadFault::Memory,
         }
     }
 }
@@ -86,6 +104,41 @@ fn take_in(alloc: Global, space: &mut Space, bytes: &[u8]) -> Result<(), LoadFau
     match space.take_pool(checked) {
         Ok(()) => Ok(()),
         // No batch is open where this is called.
+        Err(_) => Err(LoadFault::Memory),
+    }
+}
+
+/// Gives the buffer the lines of the file, made or replaced, as one edit. `Limit` exactly where undo is full and no batch is open,
+/// before the store is asked. Else, unless the store fails at this call (`Failed`) or memory runs out (`Memory`), and over a store
+/// that tells its files: `Missing` exactly where there is no such file, `Large` exactly where it has more than 67,108,864 bytes,
+/// `Long` exactly where a line of it has more than 65,536 bytes, and else `Utf8` exactly where it isn't UTF-8. After a refusal the
+/// space is as it was.
+pub fn read<D: Store>(
+    alloc: Global,
+    space: &mut Space,
+    buffer: Name<'_>,
+    file: Name<'_>,
+    store: &mut D,
+) -> Result<(), LoadFault>
+    ensures { ObeysOn (read_command (name_bytes buffer.entry) (name_bytes file.entry)) D.Store space.old store.old (loaded_reply result) space.new store.new }
+{
+    if space.full() {
+        return Err(LoadFault::Limit);
+    }
+    let mut bytes = Vec::new(alloc);
+    store.fetch(file.as_str(), MOST_STORED as usize, &mut bytes)?;
+    fill(alloc, space, buffer, &bytes)
+}
+
+// Gives the buffer the lines of the bytes.
+fn fill(alloc: Global, space: &mut Space, buffer: Name<'_>, bytes: &[u8]) -> Result<(), LoadFault>
+    requires { length bytes.now ≤ most_stored }
+    ensures { FillsIn (name_bytes buffer.entry) bytes.now space.old result space.new }
+{
+    let lines = lines_of(alloc, bytes)?;
+    match space.edit(Edit::Read(buffer, lines)) {
+        Ok(()) => Ok(()),
+        // Undo has room where this is called.
         Err(_) => Err(LoadFault::Memory),
     }
 }

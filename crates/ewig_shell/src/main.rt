@@ -14,6 +14,7 @@ mod run;
 mod save;
 #[cfg(test)]
 mod tests;
+mod work;
 
 use run::{Ended, Status, exit_code_of, run};
 use shell_io::{DirStore, StdSink, StdSource};

@@ -78,11 +78,23 @@ impl Page {
     pub fn put_size<K: Sink>(&mut self, name: &Text, size: u32, sink: &mut K) -> Result<(), Failed>
         ensures { Puts K.Sink sink.old self.old sink.new self.new result (reply_of (size_line (name.now, size) ∷ [])) }
     {
+        self.put_count(name.text(), u128::from(size), sink)
+    }
+
+    /// The same of a word and a number of any size.
+    pub fn put_count<K: Sink>(
+        &mut self,
+        word: &str,
+        number: u128,
+        sink: &mut K,
+    ) -> Result<(), Failed>
+        ensures { Puts K.Sink sink.old self.old sink.new self.new result (reply_of (size_line (word.now, number) ∷ [])) }
+    {
         let mut digits = Buffer::new();
         self.put(b"= ", sink)?;
-        self.put(name.text().as_bytes(), sink)?;
+        self.put(word.as_bytes(), sink)?;
         self.put(b" ", sink)?;
-        self.put(digits.format(size).as_bytes(), sink)?;
+        self.put(digits.format(number).as_bytes(), sink)?;
         self.put(b"\n", sink)
     }
 }

@@ -4,11 +4,13 @@ ghost use Rattle.std.specs.Prelude.{◌≡◌, [], ◌∷◌, ◌++◌, map as e
 ghost use Rattle.plain_space.specs.Answer.{ok_line, text_line, number_line, size_line};
 ghost use Rattle.plain_space.specs.Session.{reason_of};
 ghost use Rattle.shell_io.specs.Sending.{Sends};
+ghost use Rattle.ewig_shell.specs.Work.{summary};
 ghost use Rattle.ewig_shell.specs.Step.{reply_of, refusal_of, done_reply, equality_reply, saved_reply, loaded_reply, line_reason};
 
 use crate::load::LoadFault;
 use crate::page::Page;
 use crate::save::SaveFault;
+use crate::work::Summary;
 use elem_core::Text;
 use itoa::Buffer;
 use pool_text::Damage;
@@ -60,30 +62,34 @@ pub fn equality(answer: Result<bool, Refusal>) -> &'static [u8]
     }
 }
 
-/// The reply to `save`.
+/// The reply to `save` and to `write`.
 pub fn saved(saved: Result<(), SaveFault>) -> &'static [u8]
     ensures { result.now ≡ saved_reply saved }
 {
     match saved {
         Ok(()) => b"ok\n",
         Err(SaveFault::Batch) => b"! batch\n",
+        Err(SaveFault::Absent) => b"! none\n",
         Err(SaveFault::Large) => b"! large\n",
         Err(SaveFault::Failed) => b"! fault\n",
         Err(SaveFault::Memory) => b"! memory\n",
     }
 }
 
-/// The reply to `load`.
+/// The reply to `load` and to `read`.
 pub fn loaded(loaded: Result<(), LoadFault>) -> &'static [u8]
     ensures { result.now ≡ loaded_reply loaded }
 {
     match loaded {
         Ok(()) => b"ok\n",
         Err(LoadFault::Batch) => b"! batch\n",
+        Err(LoadFault::Limit) => b"! limit\n",
         Err(LoadFault::Missing) => b"! missing\n",
         Err(LoadFault::Large) => b"! large\n",
         Err(LoadFault::Failed) => b"! fault\n",
         Err(LoadFault::Damaged(damage)) => damaged(damage),
+        Err(LoadFault::Long) => b"! long\n",
+        Err(LoadFault::Utf8) => b"! utf8\n",
         Err(LoadFault::Memory) => b"! memory\n",
     }
 }
@@ -148,6 +154,21 @@ pub fn send_sizes<K: Sink>(sizes: &[(&Text, u32)], sink: &mut K) -> Result<(), F
     for (name, size) in sizes {
         page.put_size(name, *size, sink)?;
     }
+    page.put(b"ok\n", sink)?;
+    page.flush(sink)
+}
+
+/// Sends a line for each number of the summary, then `ok`.
+pub fn send_summary<K: Sink>(sums: &Summary, sink: &mut K) -> Result<(), Failed>
+    ensures { Sends K.written K.faults K.steady K.has_room sink.old sink.new result
+        (summary sums.now.commands sums.now.ok sums.now.refused sums.now.names sums.now.lines) }
+{
+    let mut page = Page::new();
+    page.put_count("commands", sums.commands, sink)?;
+    page.put_count("ok", sums.ok, sink)?;
+    page.put_count("refused", sums.refused, sink)?;
+    page.put_count("names", sums.names, sink)?;
+    page.put_count("lines", sums.lines, sink)?;
     page.put(b"ok\n", sink)?;
     page.flush(sink)
 }

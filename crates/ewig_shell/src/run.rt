@@ -1,28 +1,39 @@
 //! A run: from the words and the lines of a source to the replies in a sink, and how it ended.
 
-ghost use Rattle.std.specs.Prelude.{◌≡◌, ℕ, ◌+◌, ◌^◌, ◌<◌, ◌≤◌, List, None, Some, IfNone, IfOk, MatchOption};
+ghost use Rattle.std.specs.Prelude.{◌≡◌, ℕ, ◌+◌, ◌^◌, ◌<◌, ◌≤◌, ◌⊎◌, List, ◌++◌, None, Some, IfNone, IfOk, MatchOption, map, string_bytes, option_copied, codes};
 ghost use Rattle.std.specs.Option.{ForSome};
 ghost use Rattle.elem_core.specs.declared.codes.TheConstants.{CODE_BITS};
+ghost use Rattle.elem_core.specs.Cell.{IsCell};
 ghost use Rattle.shell_io.specs.Reader.{StandsIn};
+ghost use Rattle.shell_options.specs.Options.{PlainOptions};
+ghost use Rattle.shell_options.specs.Shown.{plain_options};
 ghost use Rattle.space_state.specs.View.{start_view};
-ghost use Rattle.ewig_shell.specs.Going.{GoesAs, IsGoing, status_of};
+ghost use Rattle.ewig_shell.specs.Going.{EndsInput, GoesAs, IsGoing, Opens, status_by_words, status_of, unbegun_as};
 ghost use Rattle.ewig_shell.specs.Run.{RunsAs, Runs, exit_code};
+ghost use Rattle.ewig_shell.specs.Work.{StepsAlone, Works, status_by};
 
 use crate::execute::{Went, execute, refuse_long};
+use crate::reply::send_summary;
+use crate::work::work;
+use arrayvec::ArrayVec;
 use elem_core::{CODE_BITS, NoMemory};
 use shell_io::{Failed, LineReader, Next, Sink, Source, Store};
+use shell_options::{FileName, Options, WordsFault, read_words};
 use space_state::Space;
 use std::alloc::Global;
 
 /// The most bytes of input that a run of the program takes: 2^40.
 pub const MOST_BYTES: u64 = 1_099_511_627_776;
 
+/// The most bytes of a line that loads a file: its word, a space and a name.
+const LOAD_LINE: usize = 69;
+
 /// How a run ended.
 #[derive(Clone, Copy, Debug, PartialEq, Eq)]
 pub enum Status {
-    /// The input was read to its end, or a `quit` line was read.
+    /// The input was read to its end, a `quit` line was read, or the lines that the program makes by itself were run.
     Done,
-    /// Memory ran out before a line was read.
+    /// Memory ran out before anything was written.
     Memory,
     /// The words aren't ones that the program reads.
     Usage,
@@ -57,7 +68,7 @@ pub struct Ended {
     pub space: Option<Space>,
 }
 
-/// Runs the shell over at most 2^40 bytes of input.
+/// Runs the shell by the words: over at most 2^40 bytes of input, or over lines of its own.
 pub fn run<S: Source, K: Sink, D: Store>(
     alloc: Global,
     words: &[String],
@@ -65,12 +76,12 @@ pub fn run<S: Source, K: Sink, D: Store>(
     sink: &mut K,
     store: &mut D,
 ) -> Ended
-    ensures { RunsAs (2 ^ 40) words.now S.Source source.old source.new K.Sink sink.old sink.new D.Store store.old store.new result }
+    ensures { RunsAs (2 ^ 40) (map string_bytes words.now) S.Source source.old source.new K.Sink sink.old sink.new D.Store store.old store.new result }
 {
     run_upto(alloc, words, MOST_BYTES, source, sink, store)
 }
 
-/// Runs the shell over at most `most` bytes of input.
+/// Runs the shell by the words, over at most `most` bytes of input.
 pub fn run_upto<S: Source, K: Sink, D: Store>(
     alloc: Global,
     words: &[String],
@@ -80,36 +91,165 @@ pub fn run_upto<S: Source, K: Sink, D: Store>(
     store: &mut D,
 ) -> Ended
     requires { most < 2 ^ 63 }
-    ensures { RunsAs most words.now S.Source source.old source.new K.Sink sink.old sink.new D.Store store.old store.new result }
+    ensures { RunsAs most (map string_bytes words.now) S.Source source.old source.new K.Sink sink.old sink.new D.Store store.old store.new result }
 {
-    if !words.is_empty() {
-        return Ended {
-            status: Status::Usage,
-            space: None,
-        };
-    }
-    let Ok((mut reader, mut space)) = begun(alloc) else {
-        return Ended {
-            status: Status::Memory,
-            space: None,
-        };
+    let options = match read_words(alloc, words) {
+        Ok(options) => options,
+        Err(fault) => return unbegun(status_of_words(fault)),
     };
-    let status = follow(alloc, most, &mut reader, source, &mut space, sink, store);
+    match options.work {
+        Some((seed, count)) => run_own(alloc, options.bits, seed, count, sink),
+        None => run_input(alloc, &options, most, source, sink, store),
+    }
+}
+
+// How a run ends that the words don't begin.
+fn status_of_words(fault: WordsFault) -> Status
+    ensures { result ≡ status_by_words fault }
+{
+    match fault {
+        WordsFault::Usage => Status::Usage,
+        WordsFault::Memory => Status::Memory,
+    }
+}
+
+// The end of a run that did nothing.
+fn unbegun(status: Status) -> Ended
+    ensures { result ≡ unbegun_as status }
+{
+    Ended {
+        status,
+        space: None,
+    }
+}
+
+// Runs the lines that the program makes by itself, and writes what they came to.
+fn run_own<K: Sink>(alloc: Global, bits: u32, seed: u64, count: u32, sink: &mut K) -> Ended
+    requires bits { bits ≤ CODE_BITS }
+    requires few { count ≤ 100000 }
+    ensures { (sink.new ≡ sink.old) × (result ≡ unbegun_as Status.Memory) ⊎ Works bits seed count StepsAlone K.Sink sink.old sink.new result }
+{
+    let Ok(mut space) = Space::new(alloc, bits) else {
+        return unbegun(Status::Memory);
+    };
+    let Ok(summary) = work(alloc, &mut space, seed, count) else {
+        return unbegun(Status::Memory);
+    };
+    let status = status_sent(send_summary(&summary, sink));
     Ended {
         status,
         space: Some(space),
     }
 }
 
-// What a run works with: all the memory that it takes before the first line.
-fn begun(alloc: Global) -> Result<(LineReader, Space), NoMemory>
+// How a run ends whose summary was sent so.
+fn status_sent(sent: Result<(), Failed>) -> Status
+    ensures { result ≡ status_by sent }
+{
+    match sent {
+        Ok(()) => Status::Done,
+        Err(Failed) => Status::WriteFault,
+    }
+}
+
+// Runs the lines of the source, behind the line that loads the document, if there is one.
+fn run_input<S: Source, K: Sink, D: Store>(
+    alloc: Global,
+    options: &Options,
+    most: u64,
+    source: &mut S,
+    sink: &mut K,
+    store: &mut D,
+) -> Ended
+    requires small { most < 2 ^ 63 }
+    requires bits { options.now.bits ≤ CODE_BITS }
+    ensures { EndsInput most (plain_options options.now) S.Source source.old source.new K.Sink sink.old sink.new D.Store store.old store.new result }
+{
+    let Ok((mut reader, mut space)) = begun(alloc, options.bits) else {
+        return unbegun(Status::Memory);
+    };
+    let first = options.first.as_ref();
+    let status = execute_all(
+        alloc,
+        first,
+        most,
+        &mut reader,
+        source,
+        &mut space,
+        sink,
+        store,
+    );
+    Ended {
+        status,
+        space: Some(space),
+    }
+}
+
+// Executes the line that loads the document, if there is one, and then those of the source, until the run ends.
+fn execute_all<S: Source, K: Sink, D: Store>(
+    alloc: Global,
+    first: Option<&FileName>,
+    most: u64,
+    reader: &mut LineReader,
+    source: &mut S,
+    space: &mut Space,
+    sink: &mut K,
+    store: &mut D,
+) -> Status
+    requires small { most < 2 ^ 63 }
+    requires same_most { ForSome reader.old.most (λ kept. kept ≡ most) }
+
+    ensures goes { GoesAs S.Source source.old source.new K.Sink sink.old sink.new D.Store store.old store.new space.old space.new (Some result) }
+    ensures told { (asked : PlainOptions) (input : List ℕ) →
+        asked.first ≡ option_copied first.entry → space.old ≡ start_view asked.bits → S.left source.old ≡ Some input →
+        reader.old.given ≡ 0 → ((all : List ℕ) → StandsIn all reader.old (Some all)) →
+        Runs most asked input (S.left source.new) K.Sink sink.old sink.new D.Store store.old store.new result (Some space.new) }
+{
+    match open(alloc, space, first, sink, store) {
+        Some(status) => status,
+        None => follow(alloc, most, reader, source, space, sink, store),
+    }
+}
+
+// What a run over an input works with: all the memory that it takes before the first line.
+fn begun(alloc: Global, bits: u32) -> Result<(LineReader, Space), NoMemory>
+    requires { bits ≤ CODE_BITS }
     ensures unread { IfOk result (λ begun. (begun.0.given ≡ 0) × (begun.0.most ≡ None)) }
     ensures start { IfOk result (λ begun. (input : List ℕ) → StandsIn input begun.0 (Some input)) }
-    ensures empty { IfOk result (λ begun. begun.1 ≡ start_view CODE_BITS) }
+    ensures empty { IfOk result (λ begun. begun.1 ≡ start_view bits) }
 {
     let reader = LineReader::new(alloc)?;
-    let space = Space::new(alloc, CODE_BITS)?;
+    let space = Space::new(alloc, bits)?;
     Ok((reader, space))
+}
+
+// Executes the line that loads the document, if there is one. The status where the run ends with it.
+fn open<K: Sink, D: Store>(
+    alloc: Global,
+    space: &mut Space,
+    first: Option<&FileName>,
+    sink: &mut K,
+    store: &mut D,
+) -> Option<Status>
+    ensures { Opens (option_copied first.entry) K.Sink sink.old sink.new D.Store store.old store.new space.old space.new result }
+{
+    let Some(file) = first else {
+        return None;
+    };
+    let line = load_line(file);
+    status_after(execute(alloc, space, line.as_slice(), sink, store))
+}
+
+// The line that loads the file.
+fn load_line(file: &FileName) -> ArrayVec<u8, LOAD_LINE>
+    ensures line { result.items ≡ codes "load " ++ file.now }
+    ensures cell { IsCell result.items }
+{
+    let mut line = ArrayVec::new();
+    line.try_extend_from_slice(b"load ").unwrap();
+    line.try_extend_from_slice(file.as_str().as_bytes())
+        .unwrap();
+    line
 }
 
 // Executes the lines, one after another, until the run ends.
@@ -126,9 +266,9 @@ fn follow<S: Source, K: Sink, D: Store>(
     requires same_most { ForSome reader.old.most (λ kept. kept ≡ most) }
 
     ensures goes { GoesAs S.Source source.old source.new K.Sink sink.old sink.new D.Store store.old store.new space.old space.new (Some result) }
-    ensures told { (input : List ℕ) (begin : K) (first : D) →
-        IsGoing most input reader.old (S.left source.old) K.Sink begin sink.old D.Store first store.old space.old →
-        Runs most input (S.left source.new) K.Sink begin sink.new D.Store first store.new result (Some space.new) }
+    ensures told { (asked : PlainOptions) (input : List ℕ) (begin : K) (first : D) →
+        IsGoing most asked input reader.old (S.left source.old) K.Sink begin sink.old D.Store first store.old space.old →
+        Runs most asked input (S.left source.new) K.Sink begin sink.new D.Store first store.new result (Some space.new) }
 {
     // The proof names the loop's invariant by this label.
     'lines: loop {
@@ -156,11 +296,11 @@ fn turn<S: Source, K: Sink, D: Store>(
     ensures progress { IfNone result (reader.old.given < reader.new.given) }
 
     ensures goes { GoesAs S.Source source.old source.new K.Sink sink.old sink.new D.Store store.old store.new space.old space.new result }
-    ensures told { (input : List ℕ) (begin : K) (first : D) →
-        IsGoing most input reader.old (S.left source.old) K.Sink begin sink.old D.Store first store.old space.old →
+    ensures told { (asked : PlainOptions) (input : List ℕ) (begin : K) (first : D) →
+        IsGoing most asked input reader.old (S.left source.old) K.Sink begin sink.old D.Store first store.old space.old →
         MatchOption result
-        (IsGoing most input reader.new (S.left source.new) K.Sink begin sink.new D.Store first store.new space.new)
-        (λ status. Runs most input (S.left source.new) K.Sink begin sink.new D.Store first store.new status (Some space.new)) }
+        (IsGoing most asked input reader.new (S.left source.new) K.Sink begin sink.new D.Store first store.new space.new)
+        (λ status. Runs most asked input (S.left source.new) K.Sink begin sink.new D.Store first store.new status (Some space.new)) }
 {
     match reader.next(source, most) {
         Next::Line => status_after(execute(alloc, space, reader.line(), sink, store)),

@@ -2,26 +2,28 @@
 
 ghost use Rattle.std.specs.Prelude.{◌≡◌};
 ghost use Rattle.elem_core.specs.Shown.{name_bytes};
-ghost use Rattle.shell_terms.specs.Command.{save as save_command};
+ghost use Rattle.shell_terms.specs.Command.{write as write_command, save as save_command};
 ghost use Rattle.ewig_shell.specs.declared.save.SaveFault.TheVariants.{Memory};
-ghost use Rattle.ewig_shell.specs.Saving.{save_fault};
+ghost use Rattle.ewig_shell.specs.Saving.{Collects, save_fault};
 ghost use Rattle.ewig_shell.specs.Step.{ObeysOn, saved_reply};
 
-use elem_core::{Name, NoMemory};
+use elem_core::{NEWLINE, Name, NoMemory};
 use pool_text::{text_length, to_bytes};
 use shell_io::{KeepFault, Store};
-use space_state::Space;
-use std::alloc::Global;
+use space_state::{Space, SpaceLines};
+use std::alloc::{AllocError, AllocFailed, Global};
 
 /// The most bytes that a stored file may have: 64 times 2^20.
 pub const MOST_STORED: u64 = 67_108_864;
 
-/// Why a space wasn't stored.
+/// Why a space, or the lines of a buffer, weren't stored.
 #[derive(Clone, Copy, Debug, PartialEq, Eq)]
 pub enum SaveFault {
-    /// A batch is open.
+    /// A batch is open: of a save alone.
     Batch,
-    /// The document has more bytes than a file may.
+    /// There is no such buffer: of a write alone.
+    Absent,
+    /// There are more bytes than a file may have.
     Large,
     /// The store failed.
     Failed,
@@ -33,6 +35,22 @@ impl From<NoMemory> for SaveFault {
     ghost from_gives = { λ _ fault. fault ≡ Memory };
 
     fn from(_error: NoMemory) -> SaveFault {
+        SaveFault::Memory
+    }
+}
+
+impl From<AllocError> for SaveFault {
+    ghost from_gives = { λ _ fault. fault ≡ Memory };
+
+    fn from(_error: AllocError) -> SaveFault {
+        SaveFault::Memory
+    }
+}
+
+impl<T: Drop> From<AllocFailed<T>> for SaveFault {
+    ghost from_gives = { λ _ fault. fault ≡ Memory };
+
+    fn from(_error: AllocFailed<T>) -> SaveFault {
         SaveFault::Memory
     }
 }
@@ -69,4 +87,43 @@ pub fn save<D: Store>(
     let bytes = to_bytes(alloc, &pool)?;
     store.keep(file.as_str(), &bytes)?;
     Ok(())
+}
+
+/// Stores the lines of the buffer in the file, each with a newline. `Absent` exactly where there is no such buffer; else, unless
+/// memory runs out before (`Memory`), `Large` exactly where they have more than 67,108,864 bytes. `Failed` only where the store
+/// failed at this call, and then what the file holds is open. It takes memory for what the file has.
+pub fn write<D: Store>(
+    alloc: Global,
+    space: &Space,
+    buffer: Name<'_>,
+    file: Name<'_>,
+    store: &mut D,
+) -> Result<(), SaveFault>
+    ensures { ObeysOn (write_command (name_bytes buffer.entry) (name_bytes file.entry)) D.Store space.now store.old (saved_reply result) space.now store.new }
+{
+    let Ok(count) = space.count(buffer) else {
+        return Err(SaveFault::Absent);
+    };
+    let Ok(lines) = space.lines(buffer, 0, count) else {
+        unreachable!()
+    };
+    let bytes = collected(alloc, lines)?;
+    store.keep(file.as_str(), &bytes)?;
+    Ok(())
+}
+
+// The lines, each with a newline, as far as a file has room for them.
+fn collected(alloc: Global, lines: SpaceLines<'_>) -> Result<Vec<u8>, SaveFault>
+    ensures { Collects lines.entry result }
+{
+    let mut bytes = Vec::new(alloc);
+    for line in lines {
+        let text = line.text().as_bytes();
+        if text.len() >= MOST_STORED as usize - bytes.len() {
+            return Err(SaveFault::Large);
+        }
+        bytes.extend_from_slice(text)?;
+        bytes.push(NEWLINE)?;
+    }
+    Ok(bytes)
 }

@@ -31,7 +31,7 @@ const WHOLE: Devices<'static> = Devices {
     held: &[],
 };
 
-// Runs the input, compares what is written and how the run ends, and gives the store that it left.
+// Runs the input without words, compares what is written and how the run ends, and gives the store that it left.
 fn left_by<R: Abort + AllocGlobal>(
     rt: &R,
     input: &[u8],
@@ -40,7 +40,24 @@ fn left_by<R: Abort + AllocGlobal>(
     written: &[u8],
     status: Status,
 ) -> Result<MemStore, Fail> {
+    asked(rt, &[], input, most, devices, written, status)
+}
+
+// The same with words.
+fn asked<R: Abort + AllocGlobal>(
+    rt: &R,
+    words: &[&str],
+    input: &[u8],
+    most: u64,
+    devices: &Devices<'_>,
+    written: &[u8],
+    status: Status,
+) -> Result<MemStore, Fail> {
     let alloc = rt.alloc();
+    let mut owned = Vec::new(alloc);
+    for word in words {
+        owned.push(String::from_str(alloc, word)?)?;
+    }
     let bytes = input.to_vec(alloc)?;
     let mut source = MemSource::new(
         bytes,
@@ -57,7 +74,7 @@ fn left_by<R: Abort + AllocGlobal>(
     }
     let ended = run_upto(
         alloc,
-        &[],
+        &owned,
         most.min(1 << 40),
         &mut source,
         &mut sink,
@@ -599,19 +616,383 @@ fn short_replies_go_out_in_one_write(rt: HostRuntime) -> Result<(), Fail> {
 }
 
 #[test]
-fn any_word_is_usage(rt: HostRuntime) -> Result<(), Fail> {
+fn words_that_do_not_read_are_usage(rt: HostRuntime) -> Result<(), Fail> {
+    let rows: [&[&str]; 5] = [
+        &["--bits", "33"],
+        &["--bits=5", "--bits", "5"],
+        &["--open=.x"],
+        &["--work", "0"],
+        &["a"],
+    ];
     let alloc = rt.alloc();
-    let mut words = Vec::new(alloc);
-    words.push(String::from_str(alloc, "--bits")?)?;
-    words.push(String::from_str(alloc, "33")?)?;
+    for row in rows {
+        let mut words = Vec::new(alloc);
+        for word in row {
+            words.push(String::from_str(alloc, word)?)?;
+        }
+        let input = Vec::from_slice(alloc, b"list\n")?;
+        let mut source = MemSource::new(input, 1, Vec::new(alloc));
+        let mut sink = MemSink::new(alloc, 10, 1, Vec::new(alloc))?;
+        let mut store = MemStore::new(alloc, Vec::new(alloc), Vec::new(alloc));
+        let ended = run(alloc, &words, &mut source, &mut sink, &mut store);
+        assert_eq!(rt; ended.status, Status::Usage);
+        assert!(rt; ended.space.is_none());
+        assert!(rt; sink.bytes().is_empty());
+        assert_eq!(rt; source.rest(), b"list\n".as_slice());
+    }
+    Ok(())
+}
+
+#[test]
+fn equal_versions_whatever_the_bits(rt: HostRuntime) -> Result<(), Fail> {
+    let alloc = rt.alloc();
+    let mut input = Vec::new(alloc);
+    for i in 0..40u32 {
+        input.extend_from_slice(format!(in alloc; "new n{i:02}\n")?.as_bytes())?;
+    }
+    input.extend_from_slice(b"mark v\n")?;
+    for i in 0..20u32 {
+        input.extend_from_slice(format!(in alloc; "drop n{i:02}\n")?.as_bytes())?;
+    }
+    for i in 0..20u32 {
+        let name = 19 - i;
+        input.extend_from_slice(format!(in alloc; "new n{name:02}\n")?.as_bytes())?;
+    }
+    input.extend_from_slice(b"mark w\neqv v w\n")?;
+    let mut written = Vec::new(alloc);
+    for _ in 0..82u32 {
+        written.extend_from_slice(b"ok\n")?;
+    }
+    written.extend_from_slice(b"= yes\n")?;
+    let rows: [&[&str]; 4] = [
+        &["--bits", "0"],
+        &["--bits=1"],
+        &["--bits=5"],
+        &["--bits", "32"],
+    ];
+    for words in rows {
+        asked(&rt, words, &input, 1 << 40, &WHOLE, &written, Status::Done)?;
+    }
+    Ok(())
+}
+
+#[test]
+fn opens_a_document_as_a_first_line(rt: HostRuntime) -> Result<(), Fail> {
+    // The words, the file `d` where there is one, the input, what is written, and the status.
+    let rows: [(&[&str], &str, &[u8], &[u8]); 6] = [
+        (&["--open=nothere"], "", b"quit\nlist\n", b"! missing\nok\n"),
+        (&["--open", "d"], "", b"", b"! missing\n"),
+        (
+            &["--open", "d"],
+            TWO_CELLS,
+            b"stats\nget a 1\n",
+            b"ok\n= 11\n= x\n",
+        ),
+        (
+            &["--open", "d"],
+            "{",
+            b"new a\nstats\n",
+            b"! damaged json\nok\n= 11\n",
+        ),
+        (
+            &["--open", "d", "--bits", "5"],
+            START,
+            b"list\n",
+            b"! damaged bits\nok\n",
+        ),
+        (
+            &["--bits=32", "--open=d"],
+            START,
+            b"new a\nlist",
+            b"ok\nok\n= a 0\nok\n",
+        ),
+    ];
+    for (words, held, input, written) in rows {
+        let devices = Devices {
+            held: held.as_bytes(),
+            ..WHOLE
+        };
+        asked(&rt, words, input, 1 << 40, &devices, written, Status::Done)?;
+        let devices = Devices {
+            held: held.as_bytes(),
+            source_piece: 1,
+            sink_piece: 1,
+            ..WHOLE
+        };
+        asked(&rt, words, input, 1 << 40, &devices, written, Status::Done)?;
+    }
+    // The store or the sink fails at the line that opens it, or the sink at the next.
+    let rows: [(&[u64], &[u64], &[u8], Status); 3] = [
+        (&[0], &[], b"! fault\nok\n", Status::Done),
+        (&[], &[0], b"", Status::WriteFault),
+        (&[], &[1], b"ok\n", Status::WriteFault),
+    ];
+    for (fetch_fails, sink_fails, written, status) in rows {
+        let devices = Devices {
+            held: START.as_bytes(),
+            fetch_fails,
+            sink_fails,
+            ..WHOLE
+        };
+        asked(
+            &rt,
+            &["--open", "d"],
+            b"list\n",
+            1 << 40,
+            &devices,
+            written,
+            status,
+        )?;
+    }
+    Ok(())
+}
+
+#[test]
+fn reads_and_writes_the_lines_of_files(rt: HostRuntime) -> Result<(), Fail> {
+    // The file `d` where there is one, the input, what is written, and the file `o` that is left.
+    let rows: [(&[u8], &[u8], &[u8], Option<&[u8]>); 12] = [
+        (
+            b"one\ntwo\nthree\n",
+            b"read n d\nlen n\nput n 1 new\nwrite n o\n",
+            b"ok\n= 3\nok\nok\n",
+            Some(b"one\nnew\ntwo\nthree\n"),
+        ),
+        (
+            b"one\n\ntwo",
+            b"read n d\nshow n 0 3\nwrite n o\nread m o\nsame n m\n",
+            b"ok\n= one\n= \n= two\nok\nok\nok\n= yes\n",
+            Some(b"one\n\ntwo\n"),
+        ),
+        (
+            b"x\n",
+            b"new n\nwrite n o\nread n d\nundo\nlen n\n",
+            b"ok\nok\nok\nok\n= 0\n",
+            Some(b""),
+        ),
+        (
+            b"x\r\n",
+            b"read n d\nget n 0\nwrite n o\n",
+            b"ok\n= x\r\nok\n",
+            Some(b"x\r\n"),
+        ),
+        (
+            b"",
+            b"read n d\nread n o\nwrite n o\n",
+            b"! missing\n! missing\n! none\n",
+            None,
+        ),
+        (b"\xff\n", b"read n d\nlen n\n", b"! utf8\n! none\n", None),
+        (
+            b"x\n",
+            b"begin\nread n d\nwrite n o\nabort\nlen n\n",
+            b"ok\nok\nok\nok\n! none\n",
+            Some(b"x\n"),
+        ),
+        (
+            b"x\n",
+            b"new n\nadd n y\nread n d\nget n 0\nundo\nget n 0\n",
+            b"ok\nok\nok\n= x\nok\n= y\n",
+            None,
+        ),
+        (
+            b"x\n",
+            b"read n\nwrite n\nread n d e\nwrite .n o\nread n .d\n",
+            b"! command\n! command\n! command\n! name\n! name\n",
+            None,
+        ),
+        (
+            b"\n",
+            b"read n d\nlen n\nget n 0\nwrite n o\n",
+            b"ok\n= 1\n= \nok\n",
+            Some(b"\n"),
+        ),
+        (
+            b"x\n",
+            b"read n d\nread m d\nlist\nsame n m\n",
+            b"ok\nok\n= m 1\n= n 1\nok\n= yes\n",
+            None,
+        ),
+        (
+            b"x\n",
+            b"read n d\nwrite n d\nread n d\nlen n\nwrite n o\n",
+            b"ok\nok\nok\n= 1\nok\n",
+            Some(b"x\n"),
+        ),
+    ];
+    for (held, input, written, file) in rows {
+        let devices = Devices { held, ..WHOLE };
+        let store = left_by(&rt, input, 1 << 40, &devices, written, Status::Done)?;
+        assert_eq!(rt; store.file("o"), file);
+    }
+    Ok(())
+}
+
+#[test]
+fn keeps_space_and_files_where_the_store_fails_at_text(rt: HostRuntime) -> Result<(), Fail> {
+    // The first keep puts the file there.
+    let devices = Devices {
+        fetch_fails: &[0],
+        keep_fails: &[1],
+        held: b"x\n",
+        ..WHOLE
+    };
+    let store = left_by(
+        &rt,
+        b"new n\nadd n y\nread n d\nwrite n d\nget n 0\nread n d\nget n 0\n",
+        1 << 40,
+        &devices,
+        b"ok\nok\n! fault\n! fault\n= y\nok\n= x\n",
+        Status::Done,
+    )?;
+    assert_eq!(rt; store.file("d"), Some(b"x\n".as_slice()));
+    Ok(())
+}
+
+#[test]
+fn refuses_text_that_is_too_long(rt: HostRuntime) -> Result<(), Fail> {
+    let alloc = rt.alloc();
+    // A line of a byte too many, which is found before bytes that aren't UTF-8.
+    let mut held = vec![in alloc; b'x'; 65_537]?;
+    held.extend_from_slice(b"\n\xff")?;
+    let rows: [(&[u8], &[u8]); 3] = [
+        (&held, b"! long\n"),
+        (&held[1..], b"! utf8\n"),
+        (&held[1..65_538], b"ok\n"),
+    ];
+    for (held, written) in rows {
+        let devices = Devices { held, ..WHOLE };
+        check(&rt, b"read n d\n", 1 << 40, &devices, written, Status::Done)?;
+    }
+    let held = vec![in alloc; b' '; 67_108_865]?;
+    let devices = Devices {
+        held: &held,
+        ..WHOLE
+    };
+    check(
+        &rt,
+        b"read n d\n",
+        1 << 40,
+        &devices,
+        b"! large\n",
+        Status::Done,
+    )
+}
+
+#[test]
+fn writes_as_much_as_a_file_may_have(rt: HostRuntime) -> Result<(), Fail> {
+    let alloc = rt.alloc();
+    // A line of 65,535 bytes, 1,024 times: with their newlines 67,108,864 bytes.
+    let line = vec![in alloc; b'x'; 65_535]?;
+    let mut input = Vec::from_slice(alloc, b"new a\nadd a ")?;
+    input.extend_from_slice(&line)?;
+    input.extend_from_slice(b"\n")?;
+    let mut written = Vec::from_slice(alloc, b"ok\nok\n")?;
+    for _ in 0..10u32 {
+        input.extend_from_slice(b"cat a a\n")?;
+        written.extend_from_slice(b"ok\n")?;
+    }
+    input.extend_from_slice(b"write a o\nadd a \nwrite a p\n")?;
+    written.extend_from_slice(b"ok\nok\n! large\n")?;
+    let store = left_by(&rt, &input, 1 << 40, &WHOLE, &written, Status::Done)?;
+    assert_eq!(rt; store.file("o").map(|bytes| bytes.len()), Some(67_108_864));
+    assert_eq!(rt; store.file("p"), None);
+    Ok(())
+}
+
+#[test]
+fn asks_for_room_before_the_store(rt: HostRuntime) -> Result<(), Fail> {
+    let held = full_undo(&rt)?;
+    let devices = Devices {
+        held: held.as_bytes(),
+        fetch_fails: &[1],
+        ..WHOLE
+    };
+    // The fetch of the second read is the second, and fails.
+    check(
+        &rt,
+        b"load d\nread n d\nundo\nread n d\nread n nothere\n",
+        1 << 40,
+        &devices,
+        b"ok\n! limit\nok\n! fault\n! missing\n",
+        Status::Done,
+    )
+}
+
+// Runs with these words, and gives what is written, where the input wasn't read.
+fn worked<R: Abort + AllocGlobal>(
+    rt: &R,
+    words: &[&str],
+    room: usize,
+    status: Status,
+) -> Result<Vec<u8>, Fail> {
+    let alloc = rt.alloc();
+    let mut owned = Vec::new(alloc);
+    for word in words {
+        owned.push(String::from_str(alloc, word)?)?;
+    }
     let input = Vec::from_slice(alloc, b"list\n")?;
     let mut source = MemSource::new(input, 1, Vec::new(alloc));
-    let mut sink = MemSink::new(alloc, 10, 1, Vec::new(alloc))?;
+    let mut sink = MemSink::new(alloc, room, 1_000, Vec::new(alloc))?;
     let mut store = MemStore::new(alloc, Vec::new(alloc), Vec::new(alloc));
-    let ended = run(alloc, &words, &mut source, &mut sink, &mut store);
-    assert_eq!(rt; ended.status, Status::Usage);
-    assert!(rt; ended.space.is_none());
-    assert!(rt; sink.bytes().is_empty());
+    let ended = run(alloc, &owned, &mut source, &mut sink, &mut store);
+    assert_eq!(rt; ended.status, status);
+    assert!(rt; ended.space.is_some());
     assert_eq!(rt; source.rest(), b"list\n".as_slice());
+    let written = sink.bytes().to_vec(alloc)?;
+    Ok(written)
+}
+
+// What two lines behind the eight that make buffers come to.
+const TEN: &[u8] = b"= commands 10\n= ok 10\n= refused 0\n= names 8\n= lines 2\nok\n";
+
+#[test]
+fn works_on_lines_of_its_own(rt: HostRuntime) -> Result<(), Fail> {
+    let ten = worked(&rt, &["--work", "0", "--count", "2"], 1_000, Status::Done)?;
+    assert_eq!(rt; ten.as_slice(), TEN);
+    let none = worked(
+        &rt,
+        &["--work=7", "--count=0", "--bits", "0"],
+        1_000,
+        Status::Done,
+    )?;
+    assert_eq!(rt;
+        none.as_slice(),
+        b"= commands 8\n= ok 8\n= refused 0\n= names 8\n= lines 0\nok\n".as_slice()
+    );
+    for room in 0..TEN.len() {
+        let cut = worked(
+            &rt,
+            &["--work", "0", "--count", "2"],
+            room,
+            Status::WriteFault,
+        )?;
+        assert_eq!(rt; cut.as_slice(), &TEN[..room]);
+    }
+    Ok(())
+}
+
+// The number that the line of this word shows.
+fn shown(written: &[u8], word: &str) -> Option<u32> {
+    let text = str::from_utf8(written).ok()?;
+    for line in text.lines() {
+        let rest = line.strip_prefix("= ")?;
+        if let Some(number) = rest.strip_prefix(word) {
+            return number.trim().parse().ok();
+        }
+    }
+    None
+}
+
+#[test]
+fn works_the_same_each_time(rt: HostRuntime) -> Result<(), Fail> {
+    let words = ["--work", "0", "--count", "10000"];
+    let first = worked(&rt, &words, 1_000, Status::Done)?;
+    let second = worked(&rt, &words, 1_000, Status::Done)?;
+    assert_eq!(rt; first.as_slice(), second.as_slice());
+    assert_eq!(rt; shown(&first, "commands"), Some(10_008));
+    let ok = shown(&first, "ok").unwrap_or(0);
+    let refused = shown(&first, "refused").unwrap_or(0);
+    assert!(rt; ok > 0 && refused > 0);
+    assert_eq!(rt; ok + refused, 10_008);
     Ok(())
 }

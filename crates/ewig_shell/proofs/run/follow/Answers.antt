@@ -1,4 +1,4 @@
 use Rattle.ewig_shell.proofs.run.follow.Goals as goal
 
 pub returns-in-Some-clause-told : goal.returns-in-Some-clause-told
-returns-in-Some-clause-told g c = λ input begin first going. c.in-Some.ensures.told input begin first (c.lines.invariant.told input begin first going)
+returns-in-Some-clause-told g c = λ asked input begin first going. c.in-Some.ensures.told asked input begin first (c.lines.invariant.told asked input begin first going)

@@ -1,18 +1,11 @@
-use Rattle.std.proofs.Common.{refl, rules, ap}
-use Rattle.space_state.specs.View.{SpaceView}
-use Rattle.ewig_shell.specs.declared.run.Status.TheVariants as status
-use Rattle.ewig_shell.proofs.RunLemmas.{Going-start}
-use Rattle.ewig_shell.proofs.EndLemmas.{RunsAs-early, RunsAs-lines}
+use Rattle.ewig_shell.proofs.EndLemmas.{RunsAs-own, RunsAs-input, Words-end}
 use Rattle.ewig_shell.proofs.run.run_upto.Goals as goal
 
-pub returns-then-not-is_empty : goal.returns-then-not-is_empty
-returns-then-not-is_empty g c = RunsAs-early status.Usage tt ((λ _. search rules), λ _. refl)
+pub returns-in-Err : goal.returns-in-Err
+returns-in-Err g c = Words-end c.in-Err.fault _ _ _ c.in-Err.ensures.reads c.status_of_words.ensures c.unbegun.ensures
 
-pub returns-in_default : goal.returns-in_default
-returns-in_default g c = RunsAs-early status.Memory tt ((λ e. absurd (let never = e in cc)), search rules)
+pub returns-in-Some : goal.returns-in-Some
+returns-in-Some g c = RunsAs-own c.run_own.result c.in-Ok.ensures.reads c.in-Some.is c.run_own.ensures
 
 pub returns : goal.returns
-returns g c =
-    let lines = c.follow-status.ensures in
-    RunsAs-lines c.follow-status.result _ c.follow-status.new.space (search rules) (ap (λ (s : SpaceView). s.pool.bits) c.in-Ok.ensures.empty) lines.goes
-    (λ input told. lines.told input _ _ (Going-start _ _ told c.in-Ok.ensures.start c.in-Ok.ensures.unread.0 c.in-Ok.ensures.empty))
+returns g c = RunsAs-input c.run_input.result c.in-Ok.ensures.reads c.in-None.is c.run_input.ensures

@@ -1,34 +1,9 @@
-use Rattle.std.proofs.Common.{◌≡◌, codes, decimal, rules, refl, ◌∙◌}
-use Rattle.ewig_shell.proofs.SendingLemmas.{Puts-as, Puts-then, Puts-cut, Puts-more}
-use Rattle.ewig_shell.proofs.PageLemmas.{size_put}
+use Rattle.std.proofs.Common.{◌≡◌, rules}
+use Rattle.ewig_shell.proofs.SendingLemmas.{Puts-as}
+use Rattle.ewig_shell.proofs.PageLemmas.{size_as}
 use Rattle.ewig_shell.proofs.page.Page.put_size.Goals as goal
-
-pub returns-in_err-put : goal.returns-in_err-put
-returns-in_err-put g c =
-    let h = c.from_residual.ensures.0 in
-    Puts-as (size_put c.args.name.now c.args.size c.args.name.now (decimal c.args.size) refl refl)
-    (Puts-cut (codes "\n") h (Puts-more (decimal c.args.size) (Puts-more (codes " ") (Puts-more c.args.name.now c.in_err-put.ensures))))
-
-pub returns-in_err-put-2 : goal.returns-in_err-put-2
-returns-in_err-put-2 g c =
-    let h = c.from_residual-in_err-put-2.ensures.0 in
-    Puts-as (size_put c.args.name.now c.args.size c.as_bytes.result.now (decimal c.args.size) (c.as_bytes.ensures.value ∙ c.text.ensures.shown) refl)
-    (Puts-cut (codes "\n") h (Puts-more (decimal c.args.size) (Puts-more (codes " ") (Puts-then c.in_ok-put.ensures c.in_err-put-2.ensures))))
-
-pub returns-in_err-put-3 : goal.returns-in_err-put-3
-returns-in_err-put-3 g c =
-    let h = c.from_residual-in_err-put-3.ensures.0 in
-    Puts-as (size_put c.args.name.now c.args.size c.as_bytes.result.now (decimal c.args.size) (c.as_bytes.ensures.value ∙ c.text.ensures.shown) refl)
-    (Puts-cut (codes "\n") h (Puts-more (decimal c.args.size) (Puts-then (Puts-then c.in_ok-put.ensures c.in_ok-put-2.ensures) c.in_err-put-3.ensures)))
-
-pub returns-in_err-put-4 : goal.returns-in_err-put-4
-returns-in_err-put-4 g c =
-    let d : c.as_bytes-2.result.now ≡ decimal c.args.size = search rules in
-    Puts-as (size_put c.args.name.now c.args.size c.as_bytes.result.now c.as_bytes-2.result.now (c.as_bytes.ensures.value ∙ c.text.ensures.shown) d)
-    (Puts-cut (codes "\n") c.from_residual-in_err-put-4.ensures.0 (Puts-then (Puts-then (Puts-then c.in_ok-put.ensures c.in_ok-put-2.ensures) c.in_ok-put-3.ensures) c.in_err-put-4.ensures))
 
 pub returns : goal.returns
 returns g c =
-    let d : c.as_bytes-2.result.now ≡ decimal c.args.size = search rules in
-    Puts-as (size_put c.args.name.now c.args.size c.as_bytes.result.now c.as_bytes-2.result.now (c.as_bytes.ensures.value ∙ c.text.ensures.shown) d)
-    (Puts-then (Puts-then (Puts-then (Puts-then c.in_ok-put.ensures c.in_ok-put-2.ensures) c.in_ok-put-3.ensures) c.in_ok-put-4.ensures) c.put-5.ensures)
+    let e : c.from.result ≡ c.args.size = search rules in
+    Puts-as (size_as c.text.ensures.shown e) c.put_count.ensures

@@ -1,0 +1,222 @@
+-- What lines come to that the program makes by itself.
+use Rattle.std.proofs.Common.{◌≡◌, ℕ, ◌+◌, Bool, false, zero, suc, List, [], ◌∷◌, ◌++◌, length, length-append, sym, ap, ◌∙◌, subst, refl, arith, append_assoc, codes, bytes_eq, count_by, sum_by, map, Result, Ok, Err, IsTrue, cond}
+use Rattle.std.proofs.lemmas.List.{append-nil}
+use Rattle.std.proofs.lemmas.List.Sums.{sum_by-append, sum_by-cons}
+use Rattle.elem_core.specs.declared.TheConstants.{NEWLINE}
+use Rattle.shell_terms.specs.Edit.{Bytes}
+use Rattle.shell_terms.specs.Command.{PlainCommand, edit, mark, unmark, back, undo, redo, begin, «end», abort}
+use Rattle.shell_terms.specs.Changing.{only_changes}
+use Rattle.plain_space.specs.declared.refusal.Refusal.{Refusal}
+use Rattle.plain_space.specs.declared.refusal.Refusal.TheVariants as why
+use Rattle.plain_space.specs.Answer.{ok_line}
+use Rattle.plain_space.specs.Session.{reason_of}
+use Rattle.space_state.specs.View.{SpaceView, Ends, start_view}
+use Rattle.shell_io.specs.Pieces.{pieces, ended, IsWhole, IsUnbroken}
+use Rattle.shell_io.proofs.PiecesLemmas.{pieces-append_line, IsWhole-append_line}
+use Rattle.shell_io.proofs.NewlineLemmas.{none_first}
+use Rattle.shell_io.specs.declared.device.Sink as sink_trait
+use Rattle.shell_io.specs.declared.device.Store as store_trait
+use Rattle.work_lines.specs.Lines.{next_number, lines_from, new_lines, work_lines}
+use Rattle.ewig_shell.specs.declared.run.Ended.{Ended}
+use Rattle.ewig_shell.specs.declared.work.Tally.{Tally}
+use Rattle.plain_space.specs.Workspace.{sizes}
+use Rattle.ewig_shell.specs.declared.work.Summary.{Summary}
+use Rattle.ewig_shell.specs.Work.{SumsUp, summary, is_refusal, ok_count, refused_count, Works, IsSummary, StepsBeside, ChangesBy, StepsAlone, CountsOne, Counts}
+use Rattle.ewig_shell.specs.Step.{StepsOn, only_asks, uses_store, done_reply, shown_store, machine_of}
+use Rattle.ewig_shell.proofs.ReplyLemmas.{obeys-other}
+use Rattle.ewig_shell.proofs.StepLemmas.{Obeys-ends, Step-line, CountsStore-none}
+
+-- ## Beside a store
+
+-- what only changes a space asks nothing, and uses no store
+pub changes-asks : (command : PlainCommand) → IsTrue (only_changes command) → only_asks command ≡ false
+changes-asks (edit change) e = refl
+changes-asks (mark version) e = refl
+changes-asks (unmark version) e = refl
+changes-asks (back version) e = refl
+changes-asks undo e = refl
+changes-asks redo e = refl
+changes-asks begin e = refl
+changes-asks «end» e = refl
+changes-asks abort e = refl
+changes-asks _ e = absurd (let never = e in cc)
+
+pub changes-alone : (command : PlainCommand) → IsTrue (only_changes command) → uses_store command ≡ false
+changes-alone (edit change) e = refl
+changes-alone (mark version) e = refl
+changes-alone (unmark version) e = refl
+changes-alone (back version) e = refl
+changes-alone undo e = refl
+changes-alone redo e = refl
+changes-alone begin e = refl
+changes-alone «end» e = refl
+changes-alone abort e = refl
+changes-alone _ e = absurd (let never = e in cc)
+
+module _ {C : Type 0} (D : store_trait.Ghosts C) (store : C) where
+  -- a line that changes a space leaves the store beside it
+  step-beside : (line : List ℕ) (old : SpaceView) (reply : List ℕ) (new : SpaceView) → ChangesBy line old reply new → StepsOn line D old store reply new store
+  step-beside line old reply new changes =
+      let alone = changes-alone changes.command changes.line_is.changes in
+      let obeys = Obeys-ends changes.command changes.done (changes-asks changes.command changes.line_is.changes) changes.ends (shown_store D store) in
+      subst (λ (w : List ℕ). StepsOn line D old store w new store) (sym changes.reply_is) (record {
+        step = Step-line (machine_of D old store) (machine_of D new store) line (done_reply changes.done) (Ok changes.command) changes.line_is.cell.short (sym changes.line_is.means) obeys;
+        counts = CountsStore-none (obeys-other changes.command (machine_of D old store) (machine_of D new store) (done_reply changes.done) alone obeys);
+      })
+
+  steps-beside : (lines : List (List ℕ)) (old : SpaceView) (replies : List ℕ) (new : SpaceView) → StepsAlone lines old replies new → StepsBeside D store lines old replies new
+  steps-beside [] old replies new h = (h.0, h.1, refl)
+  steps-beside (line ∷ rest) old replies new h = (h.0, h.1, store, h.2, step-beside line old h.0 h.1 h.3, steps-beside rest h.1 h.2 new h.4, h.5)
+
+  pub Works-beside : {B : Type 0} {bits seed count : ℕ} {K : sink_trait.Ghosts B} {sink sink' : B} {ended : Ended} → Works bits seed count StepsAlone K sink sink' ended → Works bits seed count (StepsBeside D store) K sink sink' ended
+  Works-beside works =
+      let due = works.replies.due in
+      record {
+        sent = works.sent;
+        status_is = works.status_is;
+        last = works.last;
+        last_is = works.last_is;
+        replies = record {
+          reply = works.replies.reply;
+          due = record { replies = due.replies; steps = steps-beside _ _ due.replies works.last due.steps; work = due.work; stands = due.stands; bytes_are = due.bytes_are };
+          sends = works.replies.sends;
+        };
+      }
+
+-- ## Bits
+
+bits-ends : {command : PlainCommand} {old new : SpaceView} (done : Result (Unit {0}) Refusal) → Ends command old done new → new.pool.bits ≡ old.pool.bits
+bits-ends (Ok x) ends = ends.ends.bits
+bits-ends (Err reason) ends = ap (λ (s : SpaceView). s.pool.bits) ends.ends.same
+
+pub bits-alone : (lines : List (List ℕ)) (old : SpaceView) (replies : List ℕ) (new : SpaceView) → StepsAlone lines old replies new → new.pool.bits ≡ old.pool.bits
+bits-alone [] old replies new h = ap (λ (s : SpaceView). s.pool.bits) h.1
+bits-alone (line ∷ rest) old replies new h = bits-alone rest h.1 h.2 new h.4 ∙ bits-ends h.3.done h.3.ends
+
+-- ## Counts
+
+-- one line more
+alone-append : (lines : List (List ℕ)) (old : SpaceView) (replies : List ℕ) (mid : SpaceView) (line reply : List ℕ) (new : SpaceView) → StepsAlone lines old replies mid → ChangesBy line mid reply new → StepsAlone (lines ++ line ∷ []) old (replies ++ reply) new
+alone-append [] old replies mid line reply new h changes = (
+  reply,
+  new,
+  [],
+  subst (λ (w : SpaceView). ChangesBy line w reply new) h.1 changes,
+  (refl, refl),
+  ap (λ (w : List ℕ). w ++ reply) h.0 ∙ sym (append-nil reply),
+)
+alone-append (x ∷ xs) old replies mid line reply new h changes =
+    (h.0, h.1, h.2 ++ reply, h.3, alone-append xs h.1 h.2 mid line reply new h.4 changes, ap (λ (w : List ℕ). w ++ reply) h.5 ∙ append_assoc h.0 h.2 reply)
+
+-- the reply line of a command that changes a space
+abbrev done_line : Result (Unit {0}) Refusal → List ℕ
+done_line (Ok done) = ok_line
+done_line (Err reason) = codes "! " ++ reason_of reason
+
+done_is : (done : Result (Unit {0}) Refusal) → done_reply done ≡ done_line done ++ NEWLINE ∷ []
+done_is (Ok done) = append-nil _
+done_is (Err reason) = append-nil _
+
+done-unbroken : (done : Result (Unit {0}) Refusal) → IsUnbroken (done_line done)
+done-unbroken (Ok done) = none_first ok_line refl
+done-unbroken (Err why.Absent) = none_first (codes "! none") refl
+done-unbroken (Err why.Exists) = none_first (codes "! exists") refl
+done-unbroken (Err why.Range) = none_first (codes "! range") refl
+done-unbroken (Err why.Limit) = none_first (codes "! limit") refl
+done-unbroken (Err why.Batch) = none_first (codes "! batch") refl
+done-unbroken (Err why.Empty) = none_first (codes "! empty") refl
+done-unbroken (Err why.Memory) = none_first (codes "! memory") refl
+
+-- what a test counts of one more reply line
+one-counted : (test : List ℕ → Bool) (replies reply line : List ℕ) → IsWhole replies → IsUnbroken line → reply ≡ line ++ NEWLINE ∷ [] → count_by test (pieces (replies ++ reply)) ≡ count_by test (pieces replies) + count_by test (line ∷ [])
+one-counted test replies reply line whole unbroken is =
+    ap (λ (w : List ℕ). count_by test (pieces (replies ++ w))) is
+    ∙ ap (count_by test) (pieces-append_line replies line whole unbroken)
+    ∙ sum_by-append (λ (l : List ℕ). cond (test l) 1 0) (pieces replies) (line ∷ [])
+
+refused_line : (reason : Refusal) → (count_by (λ (l : List ℕ). bytes_eq l ok_line) ((codes "! " ++ reason_of reason) ∷ []) ≡ 0) × (count_by is_refusal ((codes "! " ++ reason_of reason) ∷ []) ≡ 1)
+refused_line why.Absent = (refl, refl)
+refused_line why.Exists = (refl, refl)
+refused_line why.Range = (refl, refl)
+refused_line why.Limit = (refl, refl)
+refused_line why.Batch = (refl, refl)
+refused_line why.Empty = (refl, refl)
+refused_line why.Memory = (refl, refl)
+
+module _ {lines : List (List ℕ)} {line : List ℕ} {old mid new : SpaceView} {tally tally' : Tally} (before : Counts lines old tally mid) where
+  counts-more : (done : Result (Unit {0}) Refusal) (change : ChangesBy line mid (done_reply done) new) →
+      tally'.ok ≡ tally.ok + count_by (λ (l : List ℕ). bytes_eq l ok_line) (done_line done ∷ []) → tally'.refused ≡ tally.refused + count_by is_refusal (done_line done ∷ []) → Counts (lines ++ line ∷ []) old tally' new
+  counts-more done change ok refused = record {
+    replies = before.replies ++ done_reply done;
+    steps = alone-append lines old before.replies mid line (done_reply done) new before.steps change;
+    whole = subst (λ (w : List ℕ). IsWhole (before.replies ++ w)) (sym (done_is done)) (IsWhole-append_line before.replies (done_line done) before.whole (done-unbroken done));
+    ok = ok ∙ ap (λ (n : ℕ). n + count_by (λ (l : List ℕ). bytes_eq l ok_line) (done_line done ∷ [])) before.ok
+        ∙ sym (one-counted (λ (l : List ℕ). bytes_eq l ok_line) before.replies (done_reply done) (done_line done) before.whole (done-unbroken done) (done_is done));
+    refused = refused ∙ ap (λ (n : ℕ). n + count_by is_refusal (done_line done ∷ [])) before.refused
+        ∙ sym (one-counted is_refusal before.replies (done_reply done) (done_line done) before.whole (done-unbroken done) (done_is done));
+  }
+
+  -- one more
+  pub Counts-then : (done : Result (Unit {0}) Refusal) → ChangesBy line mid (done_reply done) new → CountsOne tally done tally' → Counts (lines ++ line ∷ []) old tally' new
+  Counts-then (Ok x) change one = counts-more (Ok x) change one.0 (one.1 ∙ omega arith)
+  Counts-then (Err reason) change one =
+      let counted = refused_line reason in
+      counts-more (Err reason) change (one.0 ∙ omega (arith, counted.0)) (one.1 ∙ ap (λ (n : ℕ). tally.refused + n) (sym counted.1))
+
+-- in all
+pub one-more : (old new : Tally) (done : Result (Unit {0}) Refusal) → CountsOne old done new → new.ok + new.refused ≡ old.ok + old.refused + 1
+one-more old new (Ok x) one = omega (arith, one.0, one.1)
+one-more old new (Err reason) one = omega (arith, one.0, one.1)
+
+-- ## How many lines there are
+
+length-lines_from : (count x : ℕ) → length (lines_from count x) ≡ count
+unfolding lines_from
+length-lines_from zero x = refl
+length-lines_from (suc count) x = ap suc (length-lines_from count (next_number x))
+
+length-new_lines : length (new_lines 8) ≡ 8
+unfolding new_lines
+length-new_lines = refl
+
+pub length-work_lines : (seed count : ℕ) → length (work_lines seed count) ≡ 8 + count
+length-work_lines seed count =
+    length-append (new_lines 8) (lines_from count seed) ∙ ap (λ (n : ℕ). n + length (lines_from count seed)) length-new_lines ∙ ap (λ (n : ℕ). 8 + n) (length-lines_from count seed)
+
+-- no line was executed yet
+pub Counts-none : {space : SpaceView} {tally : Tally} → tally.ok ≡ 0 → tally.refused ≡ 0 → Counts [] space tally space
+unfolding pieces ended
+Counts-none ok refused = record { replies = []; steps = (refl, refl); whole = refl; ok = ok; refused = refused }
+
+-- the next of the lines to come
+pub next_line : (done left new all : List (List ℕ)) (line : List ℕ) → done ++ left ≡ all → left ≡ line ∷ new → (done ++ line ∷ []) ++ new ≡ all
+next_line done left new all line others e = append_assoc done (line ∷ []) new ∙ ap (λ (w : List (List ℕ)). done ++ w) (sym e) ∙ others
+
+-- ## Sizes
+
+module _ {X : Type 0} (name : X → Bytes) (size : X → ℕ) where
+  pub length-sized : (xs : List X) → length {A = Bytes × ℕ} (map (λ (x : X). (name x, size x)) xs) ≡ length xs
+  length-sized [] = refl
+  length-sized (x ∷ xs) = ap suc (length-sized xs)
+
+  pub sum-sized : (xs : List X) → sum_by (λ (s : Bytes × ℕ). s.1) (map (λ (x : X). (name x, size x)) xs) ≡ sum_by size xs
+  sum-sized [] = refl
+  sum-sized (x ∷ xs) =
+      sum_by-cons (λ (s : Bytes × ℕ). s.1) (name x, size x) (map (λ (y : X). (name y, size y)) xs)
+      ∙ ap (λ (n : ℕ). size x + n) (sum-sized xs) ∙ sym (sum_by-cons size x xs)
+
+-- ## The summary
+
+pub SumsUp-due : {bits seed count : ℕ} {old new : SpaceView} {s : Summary} → old ≡ start_view bits → SumsUp seed count old s new → IsSummary bits seed count StepsAlone new (summary s.commands s.ok s.refused s.names s.lines)
+SumsUp-due {seed = seed} {count} {new = new} {s} start sums = record {
+  replies = sums.replies;
+  steps = subst (λ (w : SpaceView). StepsAlone (work_lines seed count) w sums.replies new) start sums.steps;
+  work = sums.work;
+  stands = sums.stands;
+  bytes_are =
+      ap (λ (n : ℕ). summary n s.ok s.refused s.names s.lines) sums.commands
+      ∙ ap (λ (n : ℕ). summary (8 + count) n s.refused s.names s.lines) sums.ok
+      ∙ ap (λ (n : ℕ). summary (8 + count) (ok_count sums.replies) n s.names s.lines) sums.refused
+      ∙ ap (λ (n : ℕ). summary (8 + count) (ok_count sums.replies) (refused_count sums.replies) n s.lines) sums.names
+      ∙ ap (λ (n : ℕ). summary (8 + count) (ok_count sums.replies) (refused_count sums.replies) (length (sizes sums.work.current)) n) sums.lines;
+}

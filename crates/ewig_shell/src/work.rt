@@ -1,0 +1,107 @@
+//! A run of lines that the program makes by itself: what they come to.
+
+ghost use Rattle.std.specs.Prelude.{◌≡◌, ◌+◌, ◌^◌, ◌<◌, ◌≤◌, IfOk, sum_by};
+ghost use Rattle.shell_terms.specs.Command.{PlainCommand};
+ghost use Rattle.space_state.specs.View.{Ends};
+ghost use Rattle.work_lines.specs.Lines.{work_lines};
+ghost use Rattle.work_lines.specs.Commands.{ChangesSpace, IsLineOf};
+ghost use Rattle.ewig_shell.specs.Work.{Counts, CountsOne, SumsUp};
+
+use crate::execute::change;
+use elem_core::{NoMemory, Text};
+use shell_words::read_line;
+use space_state::{Refusal, Space};
+use std::alloc::Global;
+use work_lines::WorkLines;
+
+/// What the lines of a seed came to.
+#[derive(Clone, Copy, Debug, PartialEq, Eq)]
+pub struct Summary {
+    /// How many lines there were.
+    pub commands: u128,
+    /// How many of them were carried out.
+    pub ok: u128,
+    /// How many of them were refused.
+    pub refused: u128,
+    /// How many buffers there are behind them.
+    pub names: u128,
+    /// How many lines these buffers have in all.
+    pub lines: u128,
+}
+
+// How many commands were carried out, and how many were refused.
+#[derive(Clone, Copy, Debug, PartialEq, Eq)]
+struct Tally {
+    ok: u32,
+    refused: u32,
+}
+
+/// Does what the lines of the seed ask for, and says what they came to. Err where memory for the names of the buffers runs out; a
+/// command to which memory is refused counts as refused.
+pub fn work(alloc: Global, space: &mut Space, seed: u64, count: u32) -> Result<Summary, NoMemory>
+    requires { count ≤ 100000 }
+    ensures { IfOk result (λ summary. SumsUp seed count space.old summary space.new) }
+{
+    let tally = counted(space, seed, count);
+    let sizes = space.names(alloc)?;
+    Ok(Summary {
+        commands: u128::from(8 + count),
+        ok: u128::from(tally.ok),
+        refused: u128::from(tally.refused),
+        names: sizes.len() as u128,
+        lines: total(&sizes),
+    })
+}
+
+// Does what the lines of the seed ask for, one after another, and counts.
+fn counted(space: &mut Space, seed: u64, count: u32) -> Tally
+    requires { count ≤ 100000 }
+    ensures { Counts (work_lines seed count) space.old result space.new }
+{
+    let mut tally = Tally { ok: 0, refused: 0 };
+    let mut lines = WorkLines::new(seed, count);
+    while lines.next() {
+        let done = obeyed(space, lines.line());
+        tally = with_one(tally, done);
+    }
+    tally
+}
+
+// The tally with one command more.
+fn with_one(tally: Tally, done: Result<(), Refusal>) -> Tally
+    requires { tally.ok + tally.refused < 2 ^ 31 }
+    ensures { CountsOne tally done result }
+{
+    match done {
+        Ok(()) => Tally {
+            ok: tally.ok + 1,
+            ..tally
+        },
+        Err(_) => Tally {
+            refused: tally.refused + 1,
+            ..tally
+        },
+    }
+}
+
+// Does what the line asks for, which changes the space.
+fn obeyed(space: &mut Space, line: &[u8]) -> Result<(), Refusal>
+    requires { ChangesSpace line.now }
+    ensures { (command : PlainCommand) → IsLineOf line.now command → Ends command space.old result space.new }
+{
+    let Ok(command) = read_line(line) else {
+        unreachable!()
+    };
+    change(space, command)
+}
+
+// The sum of the numbers.
+fn total(sizes: &[(&Text, u32)]) -> u128
+    ensures { result ≡ sum_by (λ size. size.1) sizes.now }
+{
+    let mut lines: u128 = 0;
+    for (_, size) in sizes {
+        lines += u128::from(*size);
+    }
+    lines
+}
