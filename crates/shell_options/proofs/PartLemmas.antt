@@ -1,6 +1,7 @@
 -- From the values of the options to what they ask for together.
 use Rattle.std.proofs.Common.{◌≡◌, ◌∙◌, ℕ, Option, Some, None, Result, Ok, Err, sym, refl, subst}
 use Rattle.std.specs.Prelude.{unwrap_or, is_some, option_map, IsErrAnd}
+use Rattle.elem_core.specs.declared.codes.TheConstants.{CODE_BITS}
 use Rattle.elem_core.specs.declared.words.Name.{Name}
 use Rattle.elem_core.specs.Shown.{name_bytes}
 use Rattle.shell_words.specs.Number.{number_to}
@@ -16,26 +17,26 @@ most64 = 18446744073709551615
 
 -- what is refused of the four values, one after another, and what they give where each reads
 module _ (b o w c : Option Text) where
-  pub bits_refused : if_given (number_to 32) b ≡ None → options_of b o w c ≡ None
+  pub bits_refused : if_given (number_to CODE_BITS) b ≡ None → options_of b o w c ≡ None
   unfolding options_of
   bits_refused e = rw e refl
 
-  pub name_refused : (x : Option ℕ) → if_given (number_to 32) b ≡ Some x → if_given name_in o ≡ None → options_of b o w c ≡ None
+  pub name_refused : (x : Option ℕ) → if_given (number_to CODE_BITS) b ≡ Some x → if_given name_in o ≡ None → options_of b o w c ≡ None
   unfolding options_of
   name_refused x bs e = rw (bs, e) refl
 
-  pub seed_refused : (x : Option ℕ) (f : Option Text) → if_given (number_to 32) b ≡ Some x → if_given name_in o ≡ Some f
+  pub seed_refused : (x : Option ℕ) (f : Option Text) → if_given (number_to CODE_BITS) b ≡ Some x → if_given name_in o ≡ Some f
       → if_given (number_to most64) w ≡ None → options_of b o w c ≡ None
   unfolding options_of
   seed_refused x f bs os e = rw (bs, os, e) refl
 
-  pub count_refused : (x : Option ℕ) (f : Option Text) (s : Option ℕ) → if_given (number_to 32) b ≡ Some x → if_given name_in o ≡ Some f
+  pub count_refused : (x : Option ℕ) (f : Option Text) (s : Option ℕ) → if_given (number_to CODE_BITS) b ≡ Some x → if_given name_in o ≡ Some f
       → if_given (number_to most64) w ≡ Some s → if_given (number_to 100000) c ≡ None → options_of b o w c ≡ None
   unfolding options_of
   count_refused x f s bs os ws e = rw (bs, os, ws, e) refl
 
-  pub all_read : (x : Option ℕ) (f : Option Text) (s n : Option ℕ) → if_given (number_to 32) b ≡ Some x → if_given name_in o ≡ Some f
-      → if_given (number_to most64) w ≡ Some s → if_given (number_to 100000) c ≡ Some n → options_of b o w c ≡ together (unwrap_or x 32) f s n
+  pub all_read : (x : Option ℕ) (f : Option Text) (s n : Option ℕ) → if_given (number_to CODE_BITS) b ≡ Some x → if_given name_in o ≡ Some f
+      → if_given (number_to most64) w ≡ Some s → if_given (number_to 100000) c ≡ Some n → options_of b o w c ≡ together (unwrap_or x CODE_BITS) f s n
   unfolding options_of
   all_read x f s n bs os ws cs = rw (bs, os, ws, cs) refl
 

@@ -3,6 +3,7 @@ use Rattle.std.specs.Prelude.{ℕ, ◌-◌, ◌^◌, Bool, true, false, not, ◌
 use Rattle.std.specs.Prelude.{List, [], ◌∷◌, find}
 use Rattle.std.specs.Prelude.{Option, Some, None, is_some, option_map, option_and_then, unwrap_or, codes, bytes_eq}
 use Rattle.std.specs.List.{list_any, before_first, after_first}
+use Rattle.elem_core.specs.declared.codes.TheConstants.{CODE_BITS}
 use Rattle.elem_core.specs.Naming.{is_name}
 use Rattle.shell_words.specs.Number.{number_to}
 
@@ -117,12 +118,12 @@ together kept first seed count =
     option_map (λ work. record { bits = kept; first = first; work = work }) (pair (is_some first) seed count)
 
 -- The options of the values of `--bits`, `--open`, `--work` and `--count`, each of which may not be given; or None where one
--- doesn't read. Without `--bits` a space keeps 32 bits.
+-- doesn't read. Without `--bits` a space keeps all bits of a code.
 unfoldable pub options_of : Option Text → Option Text → Option Text → Option Text → Option PlainOptions
 options_of b o w c =
     option_and_then (λ bits. option_and_then (λ first. option_and_then (λ seed. option_and_then (λ count.
-    together (unwrap_or bits 32) first seed count)
-    (if_given (number_to 100000) c)) (if_given (number_to (2 ^ 64 - 1)) w)) (if_given name_in o)) (if_given (number_to 32) b)
+    together (unwrap_or bits CODE_BITS) first seed count)
+    (if_given (number_to 100000) c)) (if_given (number_to (2 ^ 64 - 1)) w)) (if_given name_in o)) (if_given (number_to CODE_BITS) b)
 
 -- The same of options in the order of the words, each at most once.
 unfoldable pub options_given : Given → Option PlainOptions

@@ -1,6 +1,7 @@
 -- What the answers of `read_words` and of its parts show.
 use Rattle.std.specs.Prelude.{◌≡◌, ◌≤◌, ⊤, ℕ, Option, Some, None, Result, Ok, Err, option_map}
 use Rattle.std.specs.Option.{ForSome}
+use Rattle.elem_core.specs.declared.codes.TheConstants.{CODE_BITS}
 use Rattle.elem_core.specs.declared.words.Name.{Name}
 use Rattle.elem_core.specs.Shown.{name_bytes}
 use Rattle.clap.specs.declared.error.kind.ErrorKind.{ErrorKind}
@@ -22,7 +23,7 @@ ReadsWords asked (Err Memory) = ⊤
 
 -- A space takes so many bits, and the lines are as many as they may be.
 pub record AreBounded (o : Options) : Type 0 where
-  pub bits : o.bits ≤ 32
+  pub bits : o.bits ≤ CODE_BITS
   pub count : ForSome o.work (λ work. work.1 ≤ 100000)
 
 -- What `ReadsWords` says, of a part of the options, for which no memory is taken, by what the answer shows.

@@ -15,7 +15,7 @@ pub mod worked;
 
 use clap::error::ErrorKind;
 use clap::{Arg, ArgMatches, Command, Error};
-use elem_core::Name;
+use elem_core::{CODE_BITS, Name};
 use shell_words::read_number;
 use std::alloc::Global;
 use std::marker::Model;
@@ -61,7 +61,7 @@ impl FileName {
 /// What the program is asked for.
 #[derive(Debug, Drop)]
 pub struct Options {
-    /// How many bits of a code the space keeps: at most 32.
+    /// How many bits of a code the space keeps: at most `CODE_BITS`.
     pub bits: u32,
     /// The file of the document that the space begins with.
     pub first: Option<FileName>,
@@ -155,7 +155,7 @@ fn make_options(
     ensures reads { ReadsWords (options_of (option_copied bits.entry) (option_copied document.entry) (option_copied work.entry) (option_copied count.entry)) result }
     ensures bounded { IfOk result AreBounded }
 {
-    let bits = given_number(32, bits)?;
+    let bits = given_number(CODE_BITS as u64, bits)?;
     let name = given_name(document)?;
     let seed = given_number(u64::MAX, work)?;
     let count = given_number(100_000, count)?;
@@ -165,7 +165,7 @@ fn make_options(
         None => None,
     };
     Ok(Options {
-        bits: bits.unwrap_or(32) as u32,
+        bits: bits.unwrap_or(CODE_BITS as u64) as u32,
         first,
         work,
     })
