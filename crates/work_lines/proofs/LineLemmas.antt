@@ -1,5 +1,5 @@
 -- Which command each made line is, and which line comes next.
-use Rattle.std.proofs.Common.{◌≡◌, ◌∙◌, ℕ, zero, suc, ◌+◌, ◌-◌, ◌/◌, ◌%◌, ◌<◌, ◌≤◌, ◌^◌, Bool, true, false, List, [], ◌∷◌, ◌++◌, length, Some, refl, sym, ap, subst, arith, lit≤, append_assoc}
+use Rattle.std.proofs.Common.{◌≡◌, ◌∙◌, ℕ, zero, suc, ◌+◌, ◌-◌, ◌/◌, ◌%◌, ◌<◌, ◌≤◌, ◌^◌, Bool, true, false, List, [], ◌∷◌, ◌++◌, length, map, Some, refl, sym, ap, subst, arith, lit≤, append_assoc}
 use Rattle.std.specs.Prelude.{codes, decimal, nat_lt, ◌==◌, if◌then◌else◌, IsTrue, bytes_eq}
 use Rattle.std.specs.List.{list_all}
 use Rattle.std.specs.Map.{lookup}
@@ -9,7 +9,8 @@ use Rattle.shell_terms.specs.Edit.{new, add, set, put, del, cat, copy}
 use Rattle.shell_terms.specs.Command.{PlainCommand, edit, mark, undo, redo}
 use Rattle.shell_terms.specs.Changing.{only_changes}
 use Rattle.shell_words.specs.Grammar.{commands, a_name, a_number, the_end, the_text}
-use Rattle.work_lines.specs.Lines.{next_number, kind_in, buffer_in, other_in, size_in, line_by, line_of, lines_from, new_line, new_lines}
+use Rattle.work_lines.specs.Lines.{next_number, kind_in, buffer_in, other_in, size_in, line_by, line_of, lines_from, new_line}
+use Rattle.work_lines.specs.View.{last_new_lines}
 use Rattle.work_lines.specs.Commands.{IsLineOf, ChangesSpace, buffer, version, line_text, command_by}
 use Rattle.work_lines.proofs.PieceLemmas.{is_line_byte, Unspaced, name-then, name-last, number-then, number-last, lettered, lettered_unspaced, IsPart, part-number, part-letter, part-joined, word-line, word-alone}
 
@@ -148,20 +149,25 @@ made_changes line x is =
       is = regrouped _ _ _ is (means-by (kind_in x) (buffer_in x) (other_in x) (size_in x) (mod-lt (x / 2 ^ 57) (omega arith)) (mod-lt (x / 2 ^ 54) (omega arith)) (mod-lt (x / 2 ^ 32) (omega arith)));
     }
 
-pub new-next : (left : ℕ) (rest : List (List ℕ)) (line : List ℕ) → 0 < left → line ≡ new_line (7 - (left - 1)) → new_lines left ++ rest ≡ line ∷ (new_lines (left - 1) ++ rest)
-unfolding new_lines
+-- before the first line, all eight are left
+pub all-new : last_new_lines 8 ≡ map new_line (0 ∷ 1 ∷ 2 ∷ 3 ∷ 4 ∷ 5 ∷ 6 ∷ 7 ∷ [])
+unfolding last_new_lines
+all-new = refl
+
+pub new-next : (left : ℕ) (rest : List (List ℕ)) (line : List ℕ) → 0 < left → line ≡ new_line (7 - (left - 1)) → last_new_lines left ++ rest ≡ line ∷ (last_new_lines (left - 1) ++ rest)
+unfolding last_new_lines
 new-next zero rest line some is = absurd (omega arith)
 new-next (suc left) rest line some is = let less : suc left - 1 ≡ left = omega arith in rw (is, less) refl
 
 pub made-next : (left count x next : ℕ) (line : List ℕ) → left ≤ 0 → 0 < count → next ≡ next_number x → line ≡ line_of next
-    → new_lines left ++ lines_from count x ≡ line ∷ (new_lines left ++ lines_from (count - 1) next)
-unfolding new_lines lines_from
+    → last_new_lines left ++ lines_from count x ≡ line ∷ (last_new_lines left ++ lines_from (count - 1) next)
+unfolding last_new_lines lines_from
 made-next zero zero x next line none some is made = absurd (omega arith)
 made-next zero (suc count) x next line none some is made = let less : suc count - 1 ≡ count = omega arith in rw (made, less, is) refl
 made-next (suc left) count x next line none some is made = absurd (omega arith)
 
-pub none-next : (left count x : ℕ) → left ≤ 0 → count ≤ 0 → new_lines left ++ lines_from count x ≡ []
-unfolding new_lines lines_from
+pub none-next : (left count x : ℕ) → left ≤ 0 → count ≤ 0 → last_new_lines left ++ lines_from count x ≡ []
+unfolding last_new_lines lines_from
 none-next zero zero x none some = refl
 none-next zero (suc count) x none some = absurd (omega arith)
 none-next (suc left) count x none some = absurd (omega arith)

@@ -1,5 +1,5 @@
 -- The lines that the program makes by itself, from a seed.
-use Rattle.std.specs.Prelude.{ℕ, zero, suc, ◌+◌, ◌-◌, ◌*◌, ◌/◌, ◌%◌, ◌^◌, nat_lt, ◌==◌, if◌then◌else◌, List, [], ◌∷◌, ◌++◌, codes}
+use Rattle.std.specs.Prelude.{ℕ, zero, suc, ◌+◌, ◌*◌, ◌/◌, ◌%◌, ◌^◌, nat_lt, ◌==◌, if◌then◌else◌, List, [], ◌∷◌, ◌++◌, map, codes}
 use Rattle.std.specs.Fmt.{decimal}
 
 -- The number that follows another: Knuth's linear congruential generator for 64 bits.
@@ -45,11 +45,6 @@ lines_from (suc count) x = line_of (next_number x) ∷ lines_from count (next_nu
 abbrev pub new_line : ℕ → List ℕ
 new_line b = codes "new w" ++ decimal b
 
--- The lines that make the last so many of eight buffers.
-unfoldable pub new_lines : ℕ → List (List ℕ)
-new_lines zero = []
-new_lines (suc left) = new_line (7 - left) ∷ new_lines left
-
 -- All lines of a seed and a number of lines: eight buffers are made first.
 abbrev pub work_lines : ℕ → ℕ → List (List ℕ)
-work_lines seed count = new_lines 8 ++ lines_from count seed
+work_lines seed count = map new_line (0 ∷ 1 ∷ 2 ∷ 3 ∷ 4 ∷ 5 ∷ 6 ∷ 7 ∷ []) ++ lines_from count seed

@@ -24,14 +24,14 @@ pub struct WorkLines {
 
 impl Model for WorkLines {
     ghost use Rattle.std.specs.Prelude.{ℕ, ◌≤◌, ◌++◌};
-    ghost use Rattle.work_lines.specs.Lines.{new_lines, lines_from};
-    ghost use Rattle.work_lines.specs.View.{WorkView};
+    ghost use Rattle.work_lines.specs.Lines.{lines_from};
+    ghost use Rattle.work_lines.specs.View.{WorkView, last_new_lines};
 
     ghost Value = { WorkView };
 
     ghost view = { λ it. record {
       line = it.line.bytes.items;
-      left = new_lines it.buffers ++ lines_from it.count it.number;
+      left = last_new_lines it.buffers ++ lines_from it.count it.number;
     } };
 
     ghost invariant = { λ it. it.buffers ≤ 8 };

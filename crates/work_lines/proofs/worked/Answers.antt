@@ -1,8 +1,8 @@
 use Rattle.std.proofs.Common.{refl}
 use Rattle.std.specs.Fmt.{digits}
-use Rattle.work_lines.specs.Lines.{next_number, line_by, lines_from, new_lines}
+use Rattle.work_lines.specs.Lines.{next_number, line_by, lines_from}
 use Rattle.work_lines.proofs.worked.Goals as goal
 
 pub returns : goal.returns
-unfolding next_number line_by lines_from new_lines digits
+unfolding next_number line_by lines_from digits
 returns c = record { first = refl; second = refl; lines = refl; longest = refl; shortest = refl }
