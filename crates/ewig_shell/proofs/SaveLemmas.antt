@@ -35,6 +35,7 @@ use Rattle.ewig_shell.specs.Saving.{Collects, save_fault}
 use Rattle.ewig_shell.specs.Step.{Machine, KeepsFiles, Refuses, IsStored, FailsToStore, Stores, SaysElsewhere, ObeysOn, CountsStore, shown_store, machine_of, uses_store, most_stored, ended_lines, reply_of, refusal_of, saved_reply}
 use Rattle.elem_core.specs.declared.TheConstants.{NEWLINE}
 use Rattle.std.proofs.lemmas.List.{append-nil, take_all}
+use Rattle.std.proofs.lemmas.Option.{same_Some}
 use Rattle.ewig_shell.proofs.LinesLemmas.{reply_of-append}
 use Rattle.ewig_shell.proofs.ReplyLemmas.{other-reply, no-refusal}
 use Rattle.ewig_shell.proofs.StepLemmas.{some_lines, Obeys-lacks, CountsStore-none, CountsStore-failed, CountsStore-succeeded, save-outside, answer-outside, Obeys-elsewhere, ObeysOn-refused, may_lack, fault-is}
@@ -237,24 +238,21 @@ module _ (P : Pool) (V W : Workspace) (name : Bytes) where
       (subst (λ (U : Workspace). IsSomeAnd (lines_of U.current name) (λ (lines : List Bytes). IsPart count lines shown)) one part) in
       (there.0, there.1, is.2 ∙ range-all there.0 count there.2)
 
+-- the same lines are shown again
+pub shown-again : (P : Pool) (V W U : Workspace) (name : Bytes) (IsPast : List Bytes → Type 0) (count : ℕ) (one other : List Bytes) → StandsFor P V → StandsFor P W → StandsFor P U → OnLines {X = ℕ} V name (Ok count) (λ (lines : List Bytes) (n : ℕ). n ≡ length lines) IsPast →
+    OnLines {X = List Bytes} W name (Ok one) (λ (lines part : List Bytes). IsPart count lines part) (IsNoPart count) → OnLines {X = List Bytes} U name (Ok other) (λ (lines part : List Bytes). IsPart count lines part) (IsNoPart count) → one ≡ other
+shown-again P V W U name IsPast count one other first second third counted part again =
+    let a = all-shown P V W name IsPast count one first second counted part in
+    let b = all-shown P V U name IsPast count other first third counted again in
+    a.2 ∙ same_Some a.0 b.0 (sym a.1 ∙ b.1) ∙ sym b.2
+
 -- what was collected
-pub collected-are : {A : Type 0} (lines : List Bytes) (result : Result (Vec ℕ A) SaveFault) (bytes : Vec ℕ A) → Collects lines result → result ≡ Ok bytes → (bytes.items ≡ ended_lines lines) × (length (ended_lines lines) ≤ most_stored)
+pub collected-are : {A : Type 0} (lines : List Bytes) (result : Result (Vec ℕ A) SaveFault) (bytes : Vec ℕ A) → Collects lines result → result ≡ Ok bytes → bytes.items ≡ ended_lines lines
 collected-are {A} lines result bytes collects is = subst (λ (r : Result (Vec ℕ A) SaveFault). Collects lines r) is collects
 
--- the lines are too many, or memory ran out
-refused_by : {C : Type 0} (A : Type 0) {D : store_trait.Ghosts C} {space : SpaceView} {store : C} (W : Workspace) (name file : Bytes) (lines : List Bytes) (fault : SaveFault) → StandsFor space.pool W → lines_of W.current name ≡ Some lines → Collects {A = A} lines (Err fault) →
-    ObeysOn (write name file) D space store (saved_reply (Err fault)) space store
-refused_by A W name file lines unsaved.Large stands is large = Stores-large (write-stores W name file lines stands is) large
-refused_by A W name file lines unsaved.Memory stands is lacks = Stores-lacks W (Err unsaved.Memory) refl stands (write-granted W name file lines is) refl
-refused_by A W name file lines unsaved.Batch stands is never = absurd never
-refused_by A W name file lines unsaved.Absent stands is never = absurd never
-refused_by A W name file lines unsaved.Failed stands is never = absurd never
-
-pub write-refused : {C A : Type 0} {D : store_trait.Ghosts C} {space : SpaceView} {store : C} (W : Workspace) (name file : Bytes) (lines : List Bytes) {result : Result (Vec ℕ A) SaveFault} (fault : SaveFault) (ended : Result (Unit {0}) SaveFault) → StandsFor space.pool W → lines_of W.current name ≡ Some lines →
-    Collects lines result → result ≡ Err fault → ended ≡ Err fault → ObeysOn (write name file) D space store (saved_reply ended) space store
-write-refused {A = A} {D} {space} {store} W name file lines {result} fault ended stands is collects e same =
-    subst (λ (r : Result (Unit {0}) SaveFault). ObeysOn (write name file) D space store (saved_reply r) space store) (sym same)
-    (refused_by A W name file lines fault stands is (subst (λ (r : Result (Vec ℕ A) SaveFault). Collects lines r) e collects))
+-- or memory ran out
+pub collected-lacks : {A : Type 0} (lines : List Bytes) (result : Result (Vec ℕ A) SaveFault) (fault : SaveFault) → Collects lines result → result ≡ Err fault → fault ≡ unsaved.Memory
+collected-lacks {A} lines result fault collects is = subst (λ (r : Result (Vec ℕ A) SaveFault). Collects lines r) is collects
 
 -- ## Lines that are collected
 

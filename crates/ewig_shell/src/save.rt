@@ -1,11 +1,11 @@
 //! What a run stores.
 
-ghost use Rattle.std.specs.Prelude.{◌≡◌};
+ghost use Rattle.std.specs.Prelude.{◌≡◌, ◌<◌, ◌≤◌, length, MatchOption};
 ghost use Rattle.elem_core.specs.Shown.{name_bytes};
 ghost use Rattle.shell_terms.specs.Command.{write as write_command, save as save_command};
 ghost use Rattle.ewig_shell.specs.declared.save.SaveFault.TheVariants.{Memory};
 ghost use Rattle.ewig_shell.specs.Saving.{Collects, save_fault};
-ghost use Rattle.ewig_shell.specs.Step.{ObeysOn, saved_reply};
+ghost use Rattle.ewig_shell.specs.Step.{ObeysOn, ended_lines, most_stored, saved_reply};
 
 use elem_core::{NEWLINE, Name, NoMemory};
 use pool_text::{text_length, to_bytes};
@@ -104,25 +104,44 @@ pub fn write<D: Store>(
     let Ok(count) = space.count(buffer) else {
         return Err(SaveFault::Absent);
     };
+    let Ok(counted) = space.lines(buffer, 0, count) else {
+        unreachable!()
+    };
+    let Some(size) = file_size(counted) else {
+        return Err(SaveFault::Large);
+    };
     let Ok(lines) = space.lines(buffer, 0, count) else {
         unreachable!()
     };
-    let bytes = collected(alloc, lines)?;
+    let bytes = collected(alloc, lines, size)?;
     store.keep(file.as_str(), &bytes)?;
     Ok(())
 }
 
-// The lines, each with a newline, as far as a file has room for them.
-fn collected(alloc: Global, lines: SpaceLines<'_>) -> Result<Vec<u8>, SaveFault>
+// How many bytes the lines have, each with a newline. None where these are more than a file may have, which is known at the first
+// line that passes them.
+fn file_size(lines: SpaceLines<'_>) -> Option<usize>
+    ensures { MatchOption result (most_stored < length (ended_lines lines.entry)) (λ size. (size ≡ length (ended_lines lines.entry)) × (size ≤ most_stored)) }
+{
+    let mut size: usize = 0;
+    for line in lines {
+        let more = line.text().len();
+        if more >= MOST_STORED as usize - size {
+            return None;
+        }
+        size += more + 1;
+    }
+    Some(size)
+}
+
+// The bytes of the lines, each with a newline, in memory for just so many.
+fn collected(alloc: Global, lines: SpaceLines<'_>, size: usize) -> Result<Vec<u8>, SaveFault>
+    requires { size ≡ length (ended_lines lines) }
     ensures { Collects lines.entry result }
 {
-    let mut bytes = Vec::new(alloc);
+    let mut bytes = Vec::with_capacity(alloc, size)?;
     for line in lines {
-        let text = line.text().as_bytes();
-        if text.len() >= MOST_STORED as usize - bytes.len() {
-            return Err(SaveFault::Large);
-        }
-        bytes.extend_from_slice(text)?;
+        bytes.extend_from_slice(line.text().as_bytes())?;
         bytes.push(NEWLINE)?;
     }
     Ok(bytes)

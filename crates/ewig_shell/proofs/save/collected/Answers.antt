@@ -10,8 +10,8 @@ loop-line-preserved c =
     let so_far = c.loop-line.invariant in
     let line = c.in-Some.line.now in
     let e : c.loop-line.line-iterator ≡ line ∷ c.next.new.self = search rules in
-    let text : c.as_bytes-text.result.now ≡ line = c.as_bytes-text.ensures.value ∙ c.text.ensures.shown in
-    let longer : c.extend_from_slice.new.self.items ≡ c.loop-line.bytes.items ++ c.as_bytes-text.result.now = search rules in
+    let text : c.as_bytes.result.now ≡ line = c.as_bytes.ensures.value ∙ c.text.ensures.shown in
+    let longer : c.extend_from_slice.new.self.items ≡ c.loop-line.bytes.items ++ c.as_bytes.result.now = search rules in
     let ends : c.push.new.self.items ≡ c.extend_from_slice.new.self.items ++ NEWLINE ∷ [] = search rules in
     record {
       so_far = so_far.so_far ++ line ∷ [];
@@ -19,5 +19,4 @@ loop-line-preserved c =
       collected =
           ends ∙ ap (λ (w : List ℕ). w ++ NEWLINE ∷ []) (longer ∙ ap (λ (w : List ℕ). c.loop-line.bytes.items ++ w) text ∙ ap (λ (w : List ℕ). w ++ line) so_far.collected)
           ∙ append_assoc (ended_lines so_far.so_far) line (NEWLINE ∷ []) ∙ sym (ended-more so_far.so_far line);
-      few = omega (arith, ap length ends, ap length longer, length-append c.extend_from_slice.new.self.items (NEWLINE ∷ []), length-append c.loop-line.bytes.items c.as_bytes-text.result.now, so_far.few);
     }
