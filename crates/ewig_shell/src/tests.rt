@@ -881,13 +881,13 @@ fn refuses_text_that_is_too_long(rt: HostRuntime) -> Result<(), Fail> {
 #[test]
 fn writes_as_much_as_a_file_may_have(rt: HostRuntime) -> Result<(), Fail> {
     let alloc = rt.alloc();
-    // A line of 65,535 bytes, 1,024 times: with their newlines 67,108,864 bytes.
-    let line = vec![in alloc; b'x'; 65_535]?;
+    // A line of 32,767 bytes, 2,048 times: with their newlines 67,108,864 bytes.
+    let line = vec![in alloc; b'x'; 32_767]?;
     let mut input = Vec::from_slice(alloc, b"new a\nadd a ")?;
     input.extend_from_slice(&line)?;
     input.extend_from_slice(b"\n")?;
     let mut written = Vec::from_slice(alloc, b"ok\nok\n")?;
-    for _ in 0..10u32 {
+    for _ in 0..11u32 {
         input.extend_from_slice(b"cat a a\n")?;
         written.extend_from_slice(b"ok\n")?;
     }
