@@ -1,6 +1,7 @@
-//! The names of buffers, stars and versions, in byte order.
-ghost use Rattle.std.specs.Prelude.{◌≡◌, [], map as each, IfOk};
+//! The names of buffers, stars and versions, in byte order, and the number of buffers and lines.
+ghost use Rattle.std.specs.Prelude.{◌≡◌, [], length, map as each, IfOk};
 ghost use Rattle.std.specs.FinMap as map;
+ghost use Rattle.std.specs.List.{sum_by};
 ghost use Rattle.plain_space.specs.Workspace.{Workspace, sizes};
 ghost use Rattle.space_state.specs.Roots.{Keeps};
 
@@ -15,6 +16,15 @@ impl RootedHeap {
         ensures { (W : Workspace) → Keeps self.now [] W → IfOk result (λ listed. each (λ size. (size.0.now, size.1)) listed.items ≡ sizes W.current) }
     {
         state_rows::sizes(alloc, &self.heap, self.bits, self.roots.current)
+    }
+
+    /// The number of the buffers, and of the lines of all of them.
+    pub(crate) fn totals(&self) -> (usize, u128)
+        requires { (W : Workspace) × Keeps self.now [] W }
+        ensures buffers { (W : Workspace) → Keeps self.now [] W → result.0 ≡ length (sizes W.current) }
+        ensures lines { (W : Workspace) → Keeps self.now [] W → result.1 ≡ sum_by (λ size. size.1) (sizes W.current) }
+    {
+        state_rows::totals(&self.heap, self.bits, self.roots.current)
     }
 
     /// The starred names, in byte order.

@@ -1,6 +1,7 @@
 //! The space and its calls.
 ghost use Rattle.std.specs.Prelude.{◌≡◌, ◌≤◌, [], length, map as each, IfOk, Some, slice_get, slice_range};
 ghost use Rattle.std.specs.FinMap as map;
+ghost use Rattle.std.specs.List.{sum_by};
 ghost use Rattle.elem_core.specs.Shown.{name_bytes};
 ghost use Rattle.pool_text.specs.Pool.{row_count};
 ghost use Rattle.pool_check.specs.Damages.{IsValid};
@@ -235,6 +236,13 @@ impl Space {
         ensures { (W : Workspace) × StandsFor self.now.pool W × IfOk result (λ listed. each (λ size. (size.0.now, size.1)) listed.items ≡ sizes W.current) }
     {
         self.rows.names(alloc)
+    }
+
+    /// The number of the buffers, and of the lines of all of them. It takes no memory.
+    pub fn totals(&self) -> (usize, u128)
+        ensures { (W : Workspace) × StandsFor self.now.pool W × (result.0 ≡ length (sizes W.current)) × (result.1 ≡ sum_by (λ size. size.1) (sizes W.current)) }
+    {
+        self.rows.totals()
     }
 
     /// The starred names, in byte order. Err where memory runs out.
