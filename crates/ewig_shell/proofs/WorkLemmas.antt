@@ -1,5 +1,5 @@
 -- What lines come to that the program makes by itself.
-use Rattle.std.proofs.Common.{◌≡◌, ℕ, ◌+◌, Bool, false, zero, suc, List, [], ◌∷◌, ◌++◌, length, length-append, sym, ap, ◌∙◌, subst, refl, arith, append_assoc, codes, bytes_eq, count_by, sum_by, map, Result, Ok, Err, IsTrue, cond}
+use Rattle.std.proofs.Common.{◌≡◌, ℕ, ◌+◌, Bool, false, zero, suc, List, [], ◌∷◌, ◌++◌, length, sym, ap, ◌∙◌, subst, refl, arith, append_assoc, codes, bytes_eq, count_by, sum_by, map, Result, Ok, Err, IsTrue, cond}
 use Rattle.std.proofs.lemmas.List.{append-nil}
 use Rattle.std.proofs.lemmas.List.Sums.{sum_by-append, sum_by-cons}
 use Rattle.elem_core.specs.declared.TheConstants.{NEWLINE}
@@ -16,7 +16,7 @@ use Rattle.shell_io.proofs.PiecesLemmas.{pieces-append_line, IsWhole-append_line
 use Rattle.shell_io.proofs.NewlineLemmas.{none_first}
 use Rattle.shell_io.specs.declared.device.Sink as sink_trait
 use Rattle.shell_io.specs.declared.device.Store as store_trait
-use Rattle.work_lines.specs.Lines.{next_number, lines_from, new_lines, work_lines}
+use Rattle.work_lines.specs.Lines.{next_number, lines_from, work_lines}
 use Rattle.ewig_shell.specs.declared.run.Ended.{Ended}
 use Rattle.ewig_shell.specs.declared.work.Tally.{Tally}
 use Rattle.plain_space.specs.Workspace.{sizes}
@@ -175,13 +175,9 @@ unfolding lines_from
 length-lines_from zero x = refl
 length-lines_from (suc count) x = ap suc (length-lines_from count (next_number x))
 
-length-new_lines : length (new_lines 8) ≡ 8
-unfolding new_lines
-length-new_lines = refl
-
 pub length-work_lines : (seed count : ℕ) → length (work_lines seed count) ≡ 8 + count
-length-work_lines seed count =
-    length-append (new_lines 8) (lines_from count seed) ∙ ap (λ (n : ℕ). n + length (lines_from count seed)) length-new_lines ∙ ap (λ (n : ℕ). 8 + n) (length-lines_from count seed)
+unfolding work_lines
+length-work_lines seed count = omega (arith, length-lines_from count seed)
 
 -- no line was executed yet
 pub Counts-none : {space : SpaceView} {tally : Tally} → tally.ok ≡ 0 → tally.refused ≡ 0 → Counts [] space tally space

@@ -46,5 +46,5 @@ abbrev pub new_line : ℕ → List ℕ
 new_line b = codes "new w" ++ decimal b
 
 -- All lines of a seed and a number of lines: eight buffers are made first.
-abbrev pub work_lines : ℕ → ℕ → List (List ℕ)
+unfoldable pub work_lines : ℕ → ℕ → List (List ℕ)
 work_lines seed count = map new_line (0 ∷ 1 ∷ 2 ∷ 3 ∷ 4 ∷ 5 ∷ 6 ∷ 7 ∷ []) ++ lines_from count seed
