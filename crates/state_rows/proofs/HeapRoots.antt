@@ -1,5 +1,5 @@
 -- Roots of a heap stand for a workspace where their pool does, and the inner rows below them keep their sums.
-use Rattle.std.proofs.Common.{◌≡◌, ℕ, ◌<◌, List, IsSome, length, map, refl, ap, sym, subst, ◌∙◌, arith}
+use Rattle.std.proofs.Common.{◌≡◌, ℕ, ◌<◌, List, IsSome, length, map, ap, sym, subst, ◌∙◌, arith}
 use Rattle.std.specs.Prelude.{slice_index}
 use Rattle.node_heap.specs.Links.{count, Reaches, here, below}
 use Rattle.node_heap.specs.Forms.{Forms, links_in}

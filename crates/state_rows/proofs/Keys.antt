@@ -149,40 +149,43 @@ put-new {X} k v (e ∷ es) new = at_head (by_bytes k e.0) new (λ later. put-new
     at_head Equal new later = absurd cc
     at_head Greater new later = same_through _ _ _ (same_turned (k, v) e es) (same_first e _ _ (later new))
 
-abbrev gathered : List Bytes → Named (Unit {0})
-gathered ks = finite.from_entries (map unit ks)
+-- the finite map of these entries
+abbrev pub gathered : {X : Type 0} → List (Bytes × X) → Named X
+gathered es = finite.from_entries es
 
-gathered-find : (q : Bytes) (ks : List Bytes) → is_some (sorted.find by_bytes q (finite.entries (gathered ks))) ≡ among q ks
-gathered-find q ks =
-    ap is_some (sym (finite.get-entries (gathered ks) q) ∙ finite.get-from_entries nat_list_cmp_total (map unit ks) q)
-    ∙ sorted.is_some-find by_bytes q (map unit ks) ∙ ap (among q) (names-units ks)
+-- what is gathered is found as in the list
+pub gathered-find : {X : Type 0} (q : Bytes) (es : List (Bytes × X)) → sorted.find by_bytes q (finite.entries (gathered es)) ≡ sorted.find by_bytes q es
+gathered-find q es = sym (finite.get-entries (gathered es) q) ∙ finite.get-from_entries nat_list_cmp_total es q
 
--- different names, sorted, are the same names
-gathered-same : (ks : List Bytes) → AreApart ks → SameSet (map unit ks) (finite.entries (gathered ks))
-gathered-same [] apart = subst (SameSet []) (sym (no-entries (finite.entries (gathered [])) (λ q. gathered-find q []))) same_none
+gathered-among : {X : Type 0} (q : Bytes) (es : List (Bytes × X)) → is_some (sorted.find by_bytes q (finite.entries (gathered es))) ≡ among q (map (λ e. e.0) es)
+gathered-among q es = ap is_some (gathered-find q es) ∙ sorted.is_some-find by_bytes q es
+
+-- entries of different names, sorted, are the same entries
+pub gathered-same : {X : Type 0} (es : List (Bytes × X)) → AreApart (map (λ e. e.0) es) → SameSet es (finite.entries (gathered es))
+gathered-same {X} [] apart = subst (SameSet []) (sym (no-entries (finite.entries (gathered {X = X} [])) (λ q. gathered-among {X = X} q []))) same_none
   where
-    no-entries : (es : List (Bytes × Unit {0})) → ((q : Bytes) → is_some (sorted.find by_bytes q es) ≡ false) → es ≡ []
+    no-entries : (es : List (Bytes × X)) → ((q : Bytes) → is_some (sorted.find by_bytes q es) ≡ false) → es ≡ []
     no-entries [] none = refl
     no-entries (e ∷ es) none = absurd (let found : is_some (cond true (Some e.1) (sorted.find by_bytes e.0 es)) ≡ false = ap (λ t. is_some (cond t (Some e.1) (sorted.find by_bytes e.0 es))) (sym (own-name e.0)) ∙ none e.0 in cc)
-gathered-same (k ∷ ks) apart =
-    let new = put-new k tt (finite.entries (gathered ks)) (gathered-find k ks ∙ apart.0) in
-    subst (SameSet (map unit (k ∷ ks))) (sym (finite.entries-insert nat_list_cmp_total (gathered ks) k tt))
-    (same_through _ _ _ (same_first (k, tt) _ _ (gathered-same ks apart.1)) new)
+gathered-same (e ∷ es) apart =
+    let new = put-new e.0 e.1 (finite.entries (gathered es)) (gathered-among e.0 es ∙ apart.0) in
+    subst (SameSet (e ∷ es)) (sym (finite.entries-insert nat_list_cmp_total (gathered es) e.0 e.1))
+    (same_through _ _ _ (same_first e _ _ (gathered-same es apart.1)) new)
 
 -- different names are the names of a finite map that has these names, in some order
 pub keys-same : {X : Type 0} (ks : List Bytes) (m : Named X) → AreApart ks → ((q : Bytes) → among q ks ≡ finite.contains_key m q) → SameSet ks (finite.keys m)
 keys-same ks m apart has =
     let es = finite.entries m in
     let fs = map (λ (e : Bytes × _). unit e.0) es in
-    let found : (q : Bytes) → sorted.find by_bytes q (finite.entries (gathered ks)) ≡ sorted.find by_bytes q fs =
-    λ q. same-unit _ _ (gathered-find q ks ∙ has q ∙ finite.contains_key-keys m q ∙ ap (among q) (sym (names-of-units es)) ∙ sym (sorted.is_some-find by_bytes q fs)) in
-    let same : finite.entries (gathered ks) ≡ fs =
-    sorted.same_entries by_bytes nat_list_cmp_total (slice_cmp-IsAntisymmetric nat_cmp-IsAntisymmetric) (finite.entries (gathered ks)) fs
-    (finite.entries_sorted (gathered ks)) (subst T (sym (sorted-values (λ _. tt) es)) (finite.entries_sorted m)) found in
+    let found : (q : Bytes) → sorted.find by_bytes q (finite.entries (gathered (map unit ks))) ≡ sorted.find by_bytes q fs =
+    λ q. same-unit _ _ (gathered-among q (map unit ks) ∙ ap (among q) (names-units ks) ∙ has q ∙ finite.contains_key-keys m q ∙ ap (among q) (sym (names-of-units es)) ∙ sym (sorted.is_some-find by_bytes q fs)) in
+    let same : finite.entries (gathered (map unit ks)) ≡ fs =
+    sorted.same_entries by_bytes nat_list_cmp_total (slice_cmp-IsAntisymmetric nat_cmp-IsAntisymmetric) (finite.entries (gathered (map unit ks))) fs
+    (finite.entries_sorted (gathered (map unit ks))) (subst T (sym (sorted-values (λ _. tt) es)) (finite.entries_sorted m)) found in
     subst (λ (js : List Bytes). SameSet js (finite.keys m)) (names-units ks)
     (subst (SameSet (map (λ e. e.0) (map unit ks))) (names-of-units es)
     (subst (λ (gs : List (Bytes × Unit {0})). SameSet (map (λ e. e.0) (map unit ks)) (map (λ e. e.0) gs)) same
-    (same-map (λ (e : Bytes × Unit {0}). e.0) (map unit ks) (finite.entries (gathered ks)) (gathered-same ks apart))))
+    (same-map (λ (e : Bytes × Unit {0}). e.0) (map unit ks) (finite.entries (gathered (map unit ks))) (gathered-same (map unit ks) (subst AreApart (sym (names-units ks)) apart)))))
 
 -- a test counts the names of things
 pub count-names : {X : Type 0} (test : Bytes → Bool) (name : X → Bytes) (xs : List X) → count_by (λ x. test (name x)) xs ≡ count_by test (map name xs)

@@ -21,3 +21,4 @@ pub mod ValidSpace
 pub mod WorkedSpaces
 pub mod Listed
 pub mod Filling
+pub mod Counting

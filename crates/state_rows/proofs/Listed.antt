@@ -26,7 +26,7 @@ use Rattle.state_rows.specs.Reading.{IsText, IsNamed}
 use Rattle.state_rows.specs.InHeap.{AreLinesIn, AreBuffersIn}
 use Rattle.state_rows.specs.Listing.{IsEntryAt, IsSizeAt}
 use Rattle.state_rows.proofs.CoverSpace.{entries-bound}
-use Rattle.state_rows.proofs.Keys.{by_bytes, same-name, own-name, among, AreApart, with_values, sorted-values, find-values}
+use Rattle.state_rows.proofs.Keys.{by_bytes, same-name, own-name, among, AreApart, with_values, sorted-values, find-values, gathered, gathered-find, gathered-same}
 
 module _ {T : Type 0} where
   form-value : (r : Option (Row T)) → value_of (option_map form_of r) ≡ value_of r
@@ -49,7 +49,7 @@ at-turn P ks n x all turn = subst P (sym turn.1) (all n x turn.0)
 -- ## In whatever order
 
 -- the same elements in another order are a permutation
-permuted : {X : Type 0} (xs ys : List X) → SameSet xs ys → IsPermutation xs ys
+pub permuted : {X : Type 0} (xs ys : List X) → SameSet xs ys → IsPermutation xs ys
 permuted _ _ same_none = IsPermutation-refl []
 permuted _ _ (same_first x xs ys s) = IsPermutation-cons x xs ys (permuted xs ys s)
 permuted _ _ (same_turned x y xs) = IsPermutation-swap (x ∷ y ∷ xs) (y ∷ x ∷ xs) 0 1 (omega arith) (omega arith) refl
@@ -149,21 +149,40 @@ module _ {X N : Type 0} (name : X → Bytes) (value : X → N) where
       by_test false other has later = later has
 
   module _ {Y : Type 0} (m : Named Y) (of : Y → N) where
+    -- where a finite map's names are listed, each with its value, the values are found as in the map
+    found-there : (ks : List Bytes) (us : List X) → IsPermutation ks (map name us) → ((q : Bytes) → among q ks ≡ finite.contains_key m q)
+        → All (λ x. option_map of (finite.get m (name x)) ≡ Some (value x)) us → (q : Bytes) → sorted.find by_bytes q (pairs_of us) ≡ sorted.find by_bytes q (with_values of (finite.entries m))
+    found-there ks us turn there all q =
+        let g : Bytes → Option N = λ j. option_map of (finite.get m j) in
+        found-valued g us all q (sym (list_any-IsPermutation (eq_by_cmp by_bytes q) ks (map name us) turn) ∙ there q ∙ sym (kept of (finite.get m q)))
+        ∙ ap (option_map of) (finite.get-entries m q) ∙ sym (find-values of q (finite.entries m))
+      where
+        kept : (f : Y → N) (o : Option Y) → is_some (option_map f o) ≡ is_some o
+        kept f None = refl
+        kept f (Some y) = refl
+
     -- a sorted listing of a finite map's names, each with its value, is the list of the map's entries
     pub listing-same : (ks : List Bytes) (us vs : List X) → SameSet (map name us) ks → AreApart ks → ((q : Bytes) → among q ks ≡ finite.contains_key m q)
         → All (λ x. option_map of (finite.get m (name x)) ≡ Some (value x)) us → IsPermutation us vs → IsSortedBy (λ x y. is_lt (by_bytes (name x) (name y))) vs → pairs_of vs ≡ with_values of (finite.entries m)
     listing-same ks us vs names is_apart there all moved up =
         let turn = IsPermutation-trans ks (map name us) (map name vs) (permuted ks (map name us) (same-sym (map name us) ks names)) (IsPermutation-map name us vs moved) in
-        let g : Bytes → Option N = λ q. option_map of (finite.get m q) in
-        let found : (q : Bytes) → sorted.find by_bytes q (pairs_of vs) ≡ sorted.find by_bytes q (with_values of (finite.entries m)) =
-        λ q. found-valued g vs (All-permutation (λ x. g (name x) ≡ Some (value x)) us vs moved all) q (sym (list_any-IsPermutation (eq_by_cmp by_bytes q) ks (map name vs) turn) ∙ there q ∙ sym (kept of (finite.get m q)))
-        ∙ ap (option_map of) (finite.get-entries m q) ∙ sym (find-values of q (finite.entries m)) in
+        let found = found-there ks vs turn there (All-permutation (λ x. option_map of (finite.get m (name x)) ≡ Some (value x)) us vs moved all) in
         sorted.same_entries by_bytes nat_list_cmp_total (slice_cmp-IsAntisymmetric nat_cmp-IsAntisymmetric) (pairs_of vs) (with_values of (finite.entries m))
         (sorted-rising vs up (apart-permuted ks (map name vs) turn is_apart)) (subst T (sym (sorted-values of (finite.entries m))) (finite.entries_sorted m)) found
-      where
-        kept : (f : Y → N) (o : Option Y) → is_some (option_map f o) ≡ is_some o
-        kept f None = refl
-        kept f (Some y) = refl
+
+    -- and a listing in any order has the same entries
+    pub listing-turned : (ks : List Bytes) (us : List X) → SameSet (map name us) ks → AreApart ks → ((q : Bytes) → among q ks ≡ finite.contains_key m q)
+        → All (λ x. option_map of (finite.get m (name x)) ≡ Some (value x)) us → SameSet (pairs_of us) (with_values of (finite.entries m))
+    listing-turned ks us names is_apart there all =
+        let turn = permuted ks (map name us) (same-sym (map name us) ks names) in
+        let es = pairs_of us in
+        let fs = with_values of (finite.entries m) in
+        let found : (q : Bytes) → sorted.find by_bytes q (finite.entries (gathered es)) ≡ sorted.find by_bytes q fs =
+        λ q. gathered-find q es ∙ found-there ks us turn there all q in
+        let same : finite.entries (gathered es) ≡ fs =
+        sorted.same_entries by_bytes nat_list_cmp_total (slice_cmp-IsAntisymmetric nat_cmp-IsAntisymmetric) (finite.entries (gathered es)) fs
+        (finite.entries_sorted (gathered es)) (subst T (sym (sorted-values of (finite.entries m))) (finite.entries_sorted m)) found in
+        subst (SameSet es) same (gathered-same es (subst AreApart (sym (names-of-pairs us)) (apart-permuted ks (map name us) turn is_apart)))
 
 -- nothing besides that it is there
 unit-of : {Y : Type 0} → Y → Unit {0}

@@ -18,7 +18,7 @@ pub use fill::filled;
 pub use laws::{
     one_workspace, pools_stand, roots_stand, states_stay, valid_pools_stand, worked_spaces,
 };
-pub use list::{marked, sizes, starred};
+pub use list::{marked, sizes, starred, totals};
 pub use look_up::{buffer, buffers_alike, is_starred, last, stars_alike, version, versions_alike};
 pub use make::{
     emptied, popped, pushed, with_lines, with_star, with_version, without_lines, without_star,

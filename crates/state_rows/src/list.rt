@@ -1,5 +1,6 @@
-//! Names in byte order.
-ghost use Rattle.std.specs.Prelude.{◌≡◌, ℕ, ◌≤◌, map as each, IfOk};
+//! Names in byte order, and the number of buffers and lines.
+ghost use Rattle.std.specs.Prelude.{◌≡◌, ℕ, ◌≤◌, length, map as each, IfOk};
+ghost use Rattle.std.specs.List.{sum_by};
 ghost use Rattle.std.specs.FinMap as map;
 ghost use Rattle.elem_core.specs.declared.codes.TheConstants.{CODE_BITS};
 ghost use Rattle.shell_terms.specs.Edit.{Bytes};
@@ -32,6 +33,23 @@ pub fn sizes<'h>(
     }
     listed.sort()?;
     Ok(listed)
+}
+
+/// The number of the state's buffers, and of the lines of all of them. It takes no memory.
+pub fn totals(heap: &Heap<Text>, bits: u32, state: Link) -> (usize, u128)
+    requires bits { bits ≤ CODE_BITS }
+    requires state { (s : State) × IsStateIn heap.now bits state s }
+    ensures buffers { (s : State) → IsStateIn heap.now bits state s → result.0 ≡ length (sizes_of s) }
+    ensures lines { (s : State) → IsStateIn heap.now bits state s → result.1 ≡ sum_by (λ size. size.1) (sizes_of s) }
+{
+    let mut buffers = 0;
+    let mut lines = 0;
+    for entry in entries(heap, names_of(heap, bits, state).root()) {
+        let (_, count) = entry_size(heap, entry);
+        buffers += 1;
+        lines += u128::from(count);
+    }
+    (buffers, lines)
 }
 
 /// The names that the state has starred, in byte order. Err where memory runs out.
