@@ -188,19 +188,6 @@ Counts-none ok refused = record { replies = []; steps = (refl, refl); whole = re
 pub next_line : (done left new all : List (List ℕ)) (line : List ℕ) → done ++ left ≡ all → left ≡ line ∷ new → (done ++ line ∷ []) ++ new ≡ all
 next_line done left new all line others e = append_assoc done (line ∷ []) new ∙ ap (λ (w : List (List ℕ)). done ++ w) (sym e) ∙ others
 
--- ## Sizes
-
-module _ {X : Type 0} (name : X → Bytes) (size : X → ℕ) where
-  pub length-sized : (xs : List X) → length {A = Bytes × ℕ} (map (λ (x : X). (name x, size x)) xs) ≡ length xs
-  length-sized [] = refl
-  length-sized (x ∷ xs) = ap suc (length-sized xs)
-
-  pub sum-sized : (xs : List X) → sum_by (λ (s : Bytes × ℕ). s.1) (map (λ (x : X). (name x, size x)) xs) ≡ sum_by size xs
-  sum-sized [] = refl
-  sum-sized (x ∷ xs) =
-      sum_by-cons (λ (s : Bytes × ℕ). s.1) (name x, size x) (map (λ (y : X). (name y, size y)) xs)
-      ∙ ap (λ (n : ℕ). size x + n) (sum-sized xs) ∙ sym (sum_by-cons size x xs)
-
 -- ## The summary
 
 pub SumsUp-due : {bits seed count : ℕ} {old new : SpaceView} {s : Summary} → old ≡ start_view bits → SumsUp seed count old s new → IsSummary bits seed count StepsAlone new (summary s.commands s.ok s.refused s.names s.lines)

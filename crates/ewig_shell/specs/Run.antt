@@ -17,7 +17,7 @@ use Rattle.ewig_shell.specs.Quits.{HasQuit, until_quit}
 use Rattle.ewig_shell.specs.Step.{StepsOn, StepsThrough}
 use Rattle.ewig_shell.specs.Work.{Works, StepsBeside}
 
--- The statuses of a run that left nothing: no space, and no byte written.
+-- The statuses of a run that ended before its first line.
 abbrev pub IsEarly : Status → Type 0
 IsEarly Usage = Unit {0}
 IsEarly Memory = Unit {0}

@@ -33,7 +33,7 @@ const LOAD_LINE: usize = 69;
 pub enum Status {
     /// The input was read to its end, a `quit` line was read, or the lines that the program makes by itself were run.
     Done,
-    /// Memory ran out before anything was written.
+    /// Memory ran out before a line was executed.
     Memory,
     /// The words aren't ones that the program reads.
     Usage,
@@ -132,9 +132,7 @@ fn run_own<K: Sink>(alloc: Global, bits: u32, seed: u64, count: u32, sink: &mut 
     let Ok(mut space) = Space::new(alloc, bits) else {
         return unbegun(Status::Memory);
     };
-    let Ok(summary) = work(alloc, &mut space, seed, count) else {
-        return unbegun(Status::Memory);
-    };
+    let summary = work(&mut space, seed, count);
     let status = status_sent(send_summary(&summary, sink));
     Ended {
         status,

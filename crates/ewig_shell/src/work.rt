@@ -1,6 +1,6 @@
 //! A run of lines that the program makes by itself: what they come to.
 
-ghost use Rattle.std.specs.Prelude.{◌≡◌, ◌+◌, ◌^◌, ◌<◌, ◌≤◌, IfOk, sum_by};
+ghost use Rattle.std.specs.Prelude.{◌≡◌, ◌+◌, ◌^◌, ◌<◌, ◌≤◌};
 ghost use Rattle.shell_terms.specs.Command.{PlainCommand};
 ghost use Rattle.space_state.specs.View.{Ends};
 ghost use Rattle.work_lines.specs.Lines.{work_lines};
@@ -8,10 +8,8 @@ ghost use Rattle.work_lines.specs.Commands.{ChangesSpace, IsLineOf};
 ghost use Rattle.ewig_shell.specs.Work.{Counts, CountsOne, SumsUp};
 
 use crate::execute::change;
-use elem_core::{NoMemory, Text};
 use shell_words::read_line;
 use space_state::{Refusal, Space};
-use std::alloc::Global;
 use work_lines::WorkLines;
 
 /// What the lines of a seed came to.
@@ -36,21 +34,20 @@ struct Tally {
     refused: u32,
 }
 
-/// Does what the lines of the seed ask for, and says what they came to. Err where memory for the names of the buffers runs out; a
-/// command to which memory is refused counts as refused.
-pub fn work(alloc: Global, space: &mut Space, seed: u64, count: u32) -> Result<Summary, NoMemory>
+/// Does what the lines of the seed ask for, and says what they came to. A command to which memory is refused counts as refused.
+pub fn work(space: &mut Space, seed: u64, count: u32) -> Summary
     requires { count ≤ 100000 }
-    ensures { IfOk result (λ summary. SumsUp seed count space.old summary space.new) }
+    ensures { SumsUp seed count space.old result space.new }
 {
     let tally = counted(space, seed, count);
-    let sizes = space.names(alloc)?;
-    Ok(Summary {
+    let (names, lines) = space.totals();
+    Summary {
         commands: u128::from(8 + count),
         ok: u128::from(tally.ok),
         refused: u128::from(tally.refused),
-        names: sizes.len() as u128,
-        lines: total(&sizes),
-    })
+        names: names as u128,
+        lines,
+    }
 }
 
 // Does what the lines of the seed ask for, one after another, and counts.
@@ -93,15 +90,4 @@ fn obeyed(space: &mut Space, line: &[u8]) -> Result<(), Refusal>
         unreachable!()
     };
     change(space, command)
-}
-
-// The sum of the numbers.
-fn total(sizes: &[(&Text, u32)]) -> u128
-    ensures { result ≡ sum_by (λ size. size.1) sizes.now }
-{
-    let mut lines: u128 = 0;
-    for (_, size) in sizes {
-        lines += u128::from(*size);
-    }
-    lines
 }
