@@ -501,6 +501,11 @@ fn equal_by_shared_rows(rt: HostRuntime) -> Result<(), Fail> {
             written.extend_from_slice(b"= yes\n")?;
         }
     }
+    // The same lines, cut into rows otherwise, and then one of them changed.
+    input.extend_from_slice(b"copy a b\ncut b 0 1000 c\ncat c b\nsame a c\n")?;
+    written.extend_from_slice(b"ok\nok\nok\n= yes\n")?;
+    input.extend_from_slice(b"set c 1500 y\nsame a c\n")?;
+    written.extend_from_slice(b"ok\n= no\n")?;
     check(&rt, &input, 1 << 40, &WHOLE, &written, Status::Done)
 }
 
@@ -849,7 +854,7 @@ fn keeps_space_and_files_where_the_store_fails_at_text(rt: HostRuntime) -> Resul
 }
 
 #[test]
-fn refuses_text_that_is_too_long(rt: HostRuntime) -> Result<(), Fail> {
+fn takes_lines_and_files_up_to_their_limits(rt: HostRuntime) -> Result<(), Fail> {
     let alloc = rt.alloc();
     // A line of a byte too many, which is found before bytes that aren't UTF-8.
     let mut held = vec![in alloc; b'x'; 65_537]?;
@@ -934,7 +939,9 @@ fn worked<R: Abort + AllocGlobal>(
     let mut source = MemSource::new(input, 1, Vec::new(alloc));
     let mut sink = MemSink::new(alloc, room, 1_000, Vec::new(alloc))?;
     let mut store = MemStore::new(alloc, Vec::new(alloc), Vec::new(alloc));
+    assert!(rt; store.keep("d", b"x\n").is_ok());
     let ended = run(alloc, &owned, &mut source, &mut sink, &mut store);
+    assert_eq!(rt; store.file("d"), Some(b"x\n".as_slice()));
     assert_eq!(rt; ended.status, status);
     assert!(rt; ended.space.is_some());
     assert_eq!(rt; source.rest(), b"list\n".as_slice());
