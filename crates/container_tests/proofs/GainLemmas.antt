@@ -1,9 +1,9 @@
 -- Holds that a run of calls has gained, while every row stays.
-use Rattle.std.proofs.Common.{◌≡◌, ◌+◌, ◌≤◌, ℕ, List, [], ◌∷◌, ap, arith}
+use Rattle.std.proofs.Common.{◌≡◌, ◌+◌, ◌≤◌, ℕ, List, [], ◌∷◌, ap, sym, subst, arith}
 use Rattle.node_heap.specs.Forms.{cell}
 use Rattle.node_heap.specs.Heap.{Heap, holds_at, hold_count, one_at, IsGraph}
-use Rattle.node_heap.specs.Calls.{Adds, Builds, Extends, MakesJust, Releases, Unchanged, Answered}
-use Rattle.node_heap.proofs.Frames.{KeepsHeld-Releases, Extends-Unchanged, Extends-trans, Extends-kept}
+use Rattle.node_heap.specs.Calls.{Adds, Builds, Extends, Makes, MakesJust, Releases, Unchanged, Answered}
+use Rattle.node_heap.proofs.Frames.{KeepsHeld-Releases, Extends-Unchanged, Extends-refl, Extends-trans, Extends-kept}
 use Rattle.node_heap.proofs.BuildLemmas.{count-one}
 use Rattle.node_heap.proofs.GraphLemmas.{IsGraph-kinds}
 
@@ -21,17 +21,40 @@ module _ {T : Type 0} where
     count = omega (arith, same.count, gained.count);
   }
 
-  -- so many rows were made at most as a call may add of each kind
-  pub made-within : {a b : Heap T} {spent : List ℕ} {result cells nodes : ℕ} → MakesJust a b → Answered a b spent result cells nodes → b.made ≤ a.made + (cells + nodes)
-  made-within {a} {b} just answered = omega (arith, just, answered.cells, answered.nodes, IsGraph-kinds a, IsGraph-kinds b)
+  -- what a call took of the room: so many rows were made at most, and the spares of each kind fell by no more
+  pub record Takes (old new : Heap T) (cells nodes : ℕ) : Type 0 where
+    pub made : new.made ≤ old.made + (cells + nodes)
+    pub spare_cells : old.spare_cells ≤ new.spare_cells + cells
+    pub spare_nodes : old.spare_nodes ≤ new.spare_nodes + nodes
 
-  -- the spares fall by no more
-  pub spares-within : {a b : Heap T} {spent : List ℕ} {result cells nodes : ℕ} → Answered a b spent result cells nodes → (a.spare_cells ≤ b.spare_cells + cells) × (a.spare_nodes ≤ b.spare_nodes + nodes)
-  spares-within answered = (omega (arith, answered.cells, answered.balance.spare_cells), omega (arith, answered.nodes, answered.balance.spare_nodes))
+  pub answered-takes : {a b : Heap T} {spent : List ℕ} {result cells nodes : ℕ} → MakesJust a b → Answered a b spent result cells nodes → Takes a b cells nodes
+  answered-takes {a} {b} just answered = record {
+    made = omega (arith, just, answered.cells, answered.nodes, IsGraph-kinds a, IsGraph-kinds b);
+    spare_cells = omega (arith, answered.cells, answered.balance.spare_cells);
+    spare_nodes = omega (arith, answered.nodes, answered.balance.spare_nodes);
+  }
 
   -- rows that are freed are spares
-  pub spares-released : {a b : Heap T} {link : ℕ} → Releases a b link → (a.spare_cells ≤ b.spare_cells) × (a.spare_nodes ≤ b.spare_nodes)
-  spares-released released = (omega (arith, released.cells, released.fewer_cells), omega (arith, released.nodes, released.fewer_nodes))
+  pub released-takes : {a b : Heap T} {link : ℕ} → Releases a b link → Takes a b 0 0
+  released-takes released = record {
+    made = omega (arith, released.made);
+    spare_cells = omega (arith, released.cells, released.fewer_cells);
+    spare_nodes = omega (arith, released.nodes, released.fewer_nodes);
+  }
+
+  -- a refused call leaves the heap as it was
+  pub refused-takes : {a b : Heap T} → b ≡ a → Takes a b 0 0
+  refused-takes {a} same = subst (λ (h : Heap T). Takes a h 0 0) (sym same) (record { made = omega arith; spare_cells = omega arith; spare_nodes = omega arith })
+
+  -- room for a cell, the cell, a map of it, and a hold more of another root
+  pub shared-takes : {a b c d e : Heap T} {link root other nodes : ℕ} → Unchanged a b → Makes b c 1 0 → MakesJust c d → Answered c d (link ∷ []) root 1 nodes → Builds d e [] (other ∷ []) 0 0 → Takes a e 2 nodes
+  shared-takes same added just answered shared =
+      let put = answered-takes just answered in
+      record {
+        made = omega (arith, same.made, added.made, put.made, shared.makes.made, shared.few_cells, shared.few_nodes);
+        spare_cells = omega (arith, same.spare_cells, added.spare_cells, put.spare_cells, shared.makes.spare_cells, shared.few_cells);
+        spare_nodes = omega (arith, same.spare_nodes, added.spare_nodes, put.spare_nodes, shared.makes.spare_nodes, shared.few_nodes);
+      }
 
   -- a new cell
   pub cell-gained : {a b : Heap T} {link : ℕ} {value : T} → Adds a b link (cell value) → Extends a b → hold_count b ≡ hold_count a + 1 → Gained a b (one_at link) 1
@@ -72,12 +95,12 @@ module _ {T : Type 0} where
     count = omega (arith, gained.count, shared.total);
   }
 
-  pub refused-gained : {a b c : Heap T} {gain : ℕ → ℕ} {n : ℕ} → Gained a b gain n → Unchanged b c → Gained a c gain n
-  refused-gained gained same = record {
-    extends = Extends-trans gained.extends (Extends-Unchanged same);
-    holds = λ k. omega (arith, gained.holds k, same.holds k);
-    count = omega (arith, gained.count, same.count);
-  }
+  -- a refused call leaves the heap as it was
+  pub refused-gained : {a b c : Heap T} {gain : ℕ → ℕ} {n : ℕ} → Gained a b gain n → c ≡ b → Gained a c gain n
+  refused-gained {a} {gain = gain} {n = n} gained same = subst (λ (h : Heap T). Gained a h gain n) (sym same) gained
+
+  pub none-gained : {a b : Heap T} → b ≡ a → Gained a b (λ _. 0) 0
+  none-gained {a} same = refused-gained (record { extends = Extends-refl a; holds = λ k. omega arith; count = omega arith }) same
 
   -- one of them is given up
   pub lost-gained : {a b c : Heap T} {gain rest : ℕ → ℕ} {link n m : ℕ} → IsGraph a → Gained a b gain n → Releases b c link → IsGraph c → ((k : ℕ) → gain k ≡ one_at link k + rest k) → n ≡ m + 1 → Gained a c rest m

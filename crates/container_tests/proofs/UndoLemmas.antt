@@ -12,7 +12,7 @@ use Rattle.node_heap.specs.Links.{Reaches}
 use Rattle.node_heap.specs.Forms.{cell, form_of}
 use Rattle.node_heap.specs.Heap.{Heap, row_at, links_at, holds_at, hold_count, one_at, IsGraph}
 use Rattle.node_heap.specs.Calls.{Builds, Extends, KeepsBelow, KeepsHeld, Releases, Unchanged}
-use Rattle.node_heap.proofs.Frames.{KeepsBelow-Releases, KeepsBelow-Extends, KeepsBelow-trans, KeepsHeld-then, Extends-Unchanged, Extends-row}
+use Rattle.node_heap.proofs.Frames.{KeepsBelow-Releases, KeepsBelow-Extends, KeepsBelow-trans, KeepsHeld-then, Extends-trans, Extends-row}
 use Rattle.rrb_core.specs.Seq.{form_height}
 use Rattle.rrb_core.specs.Vector.{elements, height_at, IsGoodVector}
 use Rattle.rrb_core.proofs.LinkCounts.{one-same}
@@ -20,8 +20,8 @@ use Rattle.rrb_core.proofs.Stays.{well-live, seq-live, vector-stays}
 use Rattle.champ_kinds.specs.Root.{Root}
 use Rattle.champ_kinds.specs.Binding.{Binding, binding, kept_key, unbind, bind}
 use Rattle.champ_kinds.specs.Kinds.{IsMapOf}
-use Rattle.champ_kinds.proofs.StayLemmas.{container-stays, containers-extended, map-live, map-reaches}
-use Rattle.container_tests.specs.Stands.{IsSomeMap}
+use Rattle.champ_kinds.proofs.StayLemmas.{container-stays, containers-extended, map-live, map-seen, map-reaches}
+use Rattle.champ_kinds.specs.Stands.{IsSomeMap}
 use Rattle.container_tests.specs.Undo.{IsStore, KeepsOthers, KeepsVersions, HasWritten, held_by, version_at}
 use Rattle.container_tests.specs.declared.store.Store.{Store}
 use Rattle.container_tests.proofs.GainLemmas.{Gained, shared-holds}
@@ -57,9 +57,6 @@ module _ {T : Type 0} where
     count = count;
     keeps = keeps-extended (held_by s) live extends (λ l. omega (arith, same l));
   }
-
-  pub others-refused : {a b : Heap T} (s : Store) → Unchanged a b → KeepsOthers a b s s
-  others-refused s same = others-kept s (held-before same) (Extends-Unchanged same) same.holds same.count
 
   pub others-back : {a b : Heap T} (s : Store) → ((l : ℕ) → 0 < holds_at a l → IsSome (row_at a l)) → Gained a b (λ _. 0) 0 → KeepsOthers a b s s
   others-back s live gained = others-kept s live gained.extends (λ k. omega (arith, gained.holds k)) (omega (arith, gained.count))
@@ -142,9 +139,9 @@ module _ {T : Type 0} (cmp : T → T → Ordering) (code : T → ℕ) where
       let second = store-released s' twice graph' (λ k. omega (arith, enough k, notes k, earlier k, once.holds k)) first.0 in
       (second.0, second.1 ∙ first.1)
 
-  -- after a refusal
-  pub store-refused : {a b : Heap T} (s : Store) → Unchanged a b → IsStore cmp code a s → IsStore cmp code b s × (elements b s.earlier ≡ elements a s.earlier)
-  store-refused s same store = store-kept s (Extends-Unchanged same) (λ k. omega (arith, same.holds k)) store
+  -- a map stays where rows come, wherever its root and bits stand
+  pub map-there : {a b c : Heap T} {r s : Root} {M : List (Binding T)} → Extends a b → Extends b c → s ≡ r → IsMapOf cmp code a r M → IsMapOf cmp code c s M
+  map-there {a} {b} {c} {r} {M = M} first second same is = map-seen same ((containers-extended a c (Extends-trans first second) r).map cmp code M is)
 
   -- a map by the parts of its root
   pub version-is : (h : Heap T) (r : Root) (l : ℕ) → r.root ≡ l → r.bits ≡ CODE_BITS → IsSomeMap cmp code h (version_at l) → IsSomeMap cmp code h r

@@ -8,7 +8,6 @@ use Rattle.champ_chain.specs.Entry.{Entry}
 use Rattle.champ_trie.specs.Trie.{IsTrieOf}
 use Rattle.champ_kinds.specs.Root.{Root}
 use Rattle.champ_kinds.specs.Binding.{Binding}
-use Rattle.champ_kinds.specs.Kinds.{IsMapOf, IsSetOf}
 use Rattle.same_value.specs.Cells.{IsCellLink, IsLines}
 use Rattle.same_value.specs.Contents.{IsMapWith}
 
@@ -33,22 +32,9 @@ module _ {T : Type 0} where
     pub vectors : (l : ℕ) → 0 < holds_at old l → IsGoodVector old l → IsGoodVector new l
 
   module _ (cmp : T → T → Ordering) (code : T → ℕ) where
-    -- a trie, by so many bits; a map; a set
+    -- a trie, by so many bits
     abbrev pub IsSomeTrie : ℕ → Heap T → ℕ → Type 0
     IsSomeTrie bits h l = (E : List (Entry T)) × IsTrieOf cmp code bits h l E
-
-    abbrev pub IsSomeMap : Heap T → Root → Type 0
-    IsSomeMap h r = (M : List (Binding T)) × IsMapOf cmp code h r M
-
-    abbrev pub IsSomeSet : Heap T → Root → Type 0
-    IsSomeSet h r = (E : List (Entry T)) × IsSetOf cmp code h r E
-
-    -- what was a map is one; what was a set
-    abbrev pub KeepsMaps : Heap T → Heap T → Type 0
-    KeepsMaps old new = (r : Root) → IsSomeMap old r → IsSomeMap new r
-
-    abbrev pub KeepsSets : Heap T → Heap T → Type 0
-    KeepsSets old new = (r : Root) → IsSomeSet old r → IsSomeSet new r
 
     -- a map whose values are cells
     abbrev pub IsCellMap : Heap T → Root → Type 0

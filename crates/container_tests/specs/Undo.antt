@@ -10,7 +10,7 @@ use Rattle.rrb_core.specs.Vector.{elements, IsGoodVector}
 use Rattle.champ_kinds.specs.Root.{Root}
 use Rattle.champ_kinds.specs.Binding.{Binding, bind}
 use Rattle.champ_kinds.specs.Kinds.{IsMapOf}
-use Rattle.container_tests.specs.Stands.{IsSomeMap}
+use Rattle.champ_kinds.specs.Stands.{IsSomeMap}
 use Rattle.container_tests.specs.declared.store.Store.{Store}
 
 -- how often a store holds a link: once as the root of its notes, once as that of its history

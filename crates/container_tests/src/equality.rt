@@ -1,7 +1,8 @@
 //! Equality: of values that share their rows, and of values that were built apart.
 ghost use Rattle.std.specs.Prelude.{◌≡◌, ◌+◌, ◌<◌, ◌≤◌, ◌^◌, length, IfOk};
 ghost use Rattle.node_heap.specs.Heap.{hold_count};
-ghost use Rattle.container_tests.specs.Stands.{IsCellMap, KeepsCellMaps, IsSomeSet};
+ghost use Rattle.champ_kinds.specs.Stands.{IsSomeSet};
+ghost use Rattle.container_tests.specs.Stands.{IsCellMap, KeepsCellMaps};
 
 use crate::kinds::{gained, kept, kept_set};
 use crate::versions::Versions;

@@ -1,7 +1,7 @@
 //! Maps and sets of numbers and of texts, each in one heap.
 ghost use Rattle.std.specs.Prelude.{◌≡◌, ◌+◌, ◌<◌, ◌≤◌, ◌^◌, length, IsSome, IfOk};
 ghost use Rattle.node_heap.specs.Heap.{row_at, hold_count};
-ghost use Rattle.container_tests.specs.Stands.{IsSomeMap, IsSomeSet, KeepsMaps, KeepsSets};
+ghost use Rattle.champ_kinds.specs.Stands.{IsSomeMap, IsSomeSet, KeepsMaps, KeepsSets};
 
 use crate::samples::text;
 use champ_kinds::{

@@ -1,7 +1,7 @@
 //! A store of notes, with two versions kept beside it.
 ghost use Rattle.std.specs.Prelude.{◌≡◌, ℕ, ◌+◌, ◌^◌, ◌<◌};
 ghost use Rattle.node_heap.specs.Heap.{holds_at, hold_count, one_at};
-ghost use Rattle.container_tests.specs.Stands.{IsSomeMap};
+ghost use Rattle.champ_kinds.specs.Stands.{IsSomeMap};
 ghost use Rattle.container_tests.specs.Undo.{IsStore, KeepsOthers, held_by};
 
 use crate::samples::text;

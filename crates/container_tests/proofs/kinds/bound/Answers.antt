@@ -2,8 +2,8 @@ use Rattle.std.proofs.Common.{sym, subst, arith}
 use Rattle.node_heap.proofs.Frames.{Extends-trans}
 use Rattle.champ_kinds.specs.Root.{Root}
 use Rattle.champ_kinds.specs.Binding.{bind}
-use Rattle.container_tests.specs.Stands.{IsSomeMap}
-use Rattle.container_tests.proofs.StandLemmas.{maps-kept, maps-stay}
+use Rattle.champ_kinds.specs.Stands.{IsSomeMap}
+use Rattle.champ_kinds.proofs.StayLemmas.{maps-kept, maps-stay}
 use Rattle.container_tests.proofs.kinds.bound.Goals as goal
 
 pub map_insert-requires-clause-contents : goal.map_insert-requires-clause-contents

@@ -1,6 +1,6 @@
 use Rattle.std.proofs.Common.{◌≡◌, ◌+◌}
 use Rattle.node_heap.specs.Heap.{hold_count}
-use Rattle.container_tests.specs.Stands.{IsSomeMap, KeepsMaps}
+use Rattle.champ_kinds.specs.Stands.{IsSomeMap, KeepsMaps}
 use Rattle.container_tests.proofs.kinds.bound_all.Given as goal
 
 abbrev pub invariant-loop-key : goal.invariant-loop-key

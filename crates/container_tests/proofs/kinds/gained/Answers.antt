@@ -3,7 +3,7 @@ use Rattle.std.specs.Prelude.{IfOk}
 use Rattle.std.proofs.lemmas.Option.{none-some}
 use Rattle.champ_chain.specs.Entry.{link_with}
 use Rattle.champ_kinds.specs.Root.{Root}
-use Rattle.container_tests.specs.Stands.{IsSomeSet}
+use Rattle.champ_kinds.specs.Stands.{IsSomeSet}
 use Rattle.container_tests.proofs.StandLemmas.{sets-kept}
 use Rattle.container_tests.proofs.kinds.gained.Goals as goal
 

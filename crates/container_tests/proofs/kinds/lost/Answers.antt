@@ -1,7 +1,7 @@
 use Rattle.std.proofs.Common.{sym, subst}
 use Rattle.champ_chain.specs.Entry.{others}
 use Rattle.champ_kinds.specs.Root.{Root}
-use Rattle.container_tests.specs.Stands.{IsSomeSet}
+use Rattle.champ_kinds.specs.Stands.{IsSomeSet}
 use Rattle.container_tests.proofs.StandLemmas.{sets-kept}
 use Rattle.container_tests.proofs.kinds.lost.Goals as goal
 

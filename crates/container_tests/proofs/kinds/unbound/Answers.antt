@@ -1,7 +1,7 @@
 use Rattle.std.proofs.Common.{sym, subst}
 use Rattle.champ_kinds.specs.Root.{Root}
 use Rattle.champ_kinds.specs.Binding.{unbind}
-use Rattle.container_tests.specs.Stands.{IsSomeMap}
+use Rattle.champ_kinds.specs.Stands.{IsSomeMap}
 use Rattle.container_tests.proofs.StandLemmas.{maps-kept}
 use Rattle.container_tests.proofs.kinds.unbound.Goals as goal
 

@@ -1,7 +1,7 @@
 use Rattle.std.proofs.Common.{[], refl, arith}
 use Rattle.node_heap.proofs.Frames.{Extends-trans, Extends-Unchanged}
 use Rattle.champ_kinds.proofs.StayLemmas.{containers-extended}
-use Rattle.container_tests.proofs.GainLemmas.{made-gained, refused-gained, lost-gained, gained-after}
+use Rattle.container_tests.proofs.GainLemmas.{made-gained, none-gained, refused-gained, lost-gained, gained-after}
 use Rattle.container_tests.proofs.UndoLemmas.{held-before, keeps-extended}
 use Rattle.container_tests.proofs.store.Store.new.Goals as goal
 
@@ -32,8 +32,8 @@ returns-in-Ok-clause-holds g c = λ k.
 pub returns-in_err-notes-clause-keeps : goal.returns-in_err-notes-clause-keeps
 returns-in_err-notes-clause-keeps g c =
     let room = c.in_ok-reserve.ensures.rest in
-    let still = c.in_err-notes.ensures.refused in
-    keeps-extended (λ _. 0) (held-before room) (Extends-trans (Extends-Unchanged room) (Extends-Unchanged still)) (λ k. omega (arith, room.holds k, still.holds k))
+    let none = gained-after room (none-gained c.in_err-notes.ensures.refused) in
+    keeps-extended (λ _. 0) (held-before room) none.extends (λ k. omega (arith, none.holds k))
 
 pub returns-in-Ok-clause-keeps : goal.returns-in-Ok-clause-keeps
 returns-in-Ok-clause-keeps g c =
@@ -45,6 +45,6 @@ returns-in-Ok-clause-keeps g c =
 pub returns-in-Err-clause-keeps : goal.returns-in-Err-clause-keeps
 returns-in-Err-clause-keeps g c =
     let room = c.in_ok-reserve.ensures.rest in
-    let made = refused-gained (made-gained {b = c.empty.new.heap} c.in_ok-notes.ensures.answered) c.in-Err.ensures.refused in
+    let made = refused-gained {c = c.empty-2.new.heap} (made-gained {b = c.empty.new.heap} c.in_ok-notes.ensures.answered) c.in-Err.ensures.refused in
     let none = gained-after room (lost-gained {rest = λ _. 0} {m = 0} room.graph made c.release.ensures.releases c.release.ensures.graph (λ k. omega arith) refl) in
     keeps-extended (λ _. 0) (held-before room) none.extends (λ k. omega (arith, none.holds k))

@@ -9,22 +9,21 @@ use Rattle.champ_chain.proofs.WithLemmas.{not-ok}
 use Rattle.champ_kinds.specs.Root.{Root}
 use Rattle.champ_kinds.specs.Binding.{alike_keys}
 use Rattle.champ_kinds.specs.Kinds.{IsMapOf}
-use Rattle.champ_kinds.proofs.StayLemmas.{containers-extended}
-use Rattle.container_tests.specs.Stands.{IsSomeMap}
+use Rattle.champ_kinds.proofs.StayLemmas.{containers-extended, maps-stay, map-live}
+use Rattle.champ_kinds.specs.Stands.{IsSomeMap}
 use Rattle.container_tests.specs.Undo.{IsStore}
-use Rattle.container_tests.proofs.StandLemmas.{maps-stay, map-live}
-use Rattle.container_tests.proofs.GainLemmas.{made-within, spares-within, spares-released, cell-gained, spent-gained, shared-gained, refused-gained, lost-gained, gained-after}
-use Rattle.container_tests.proofs.UndoLemmas.{held-before, height-kept, store-refused, others-refused, others-turned, store-kept, store-back, others-back, put-store, after-refusal, written, versions-kept, versions-turned}
+use Rattle.container_tests.proofs.GainLemmas.{answered-takes, released-takes, refused-takes, shared-takes, cell-gained, spent-gained, shared-gained, none-gained, refused-gained, lost-gained, gained-after}
+use Rattle.container_tests.proofs.UndoLemmas.{held-before, height-kept, map-there, others-turned, store-kept, store-back, others-back, put-store, after-refusal, written, versions-kept, versions-turned}
 use Rattle.container_tests.proofs.store.Store.put.Goals as goal
 
 pub returns-in_err-reserve-clause-store : goal.returns-in_err-reserve-clause-store
-returns-in_err-reserve-clause-store g c = (store-refused g.T.Ord.cmp g.T.Element.code_of c.args.self.now c.reserve.ensures.rest c.requires.store).0
+returns-in_err-reserve-clause-store g c = (store-back g.T.Ord.cmp g.T.Element.code_of c.args.self.now (none-gained c.in_err-reserve.ensures.refused) c.requires.store).0
 
 pub returns-in_err-reserve-clause-refused : goal.returns-in_err-reserve-clause-refused
-returns-in_err-reserve-clause-refused g c = after-refusal c.from_residual.result (refl, (store-refused g.T.Ord.cmp g.T.Element.code_of c.args.self.now c.reserve.ensures.rest c.requires.store).1)
+returns-in_err-reserve-clause-refused g c = after-refusal c.from_residual.result (refl, (store-back g.T.Ord.cmp g.T.Element.code_of c.args.self.now (none-gained c.in_err-reserve.ensures.refused) c.requires.store).1)
 
 pub returns-in_err-reserve-clause-others : goal.returns-in_err-reserve-clause-others
-returns-in_err-reserve-clause-others g c = others-refused c.args.self.now c.reserve.ensures.rest
+returns-in_err-reserve-clause-others g c = others-back c.args.self.now (held-before c.reserve.ensures.rest) (none-gained c.in_err-reserve.ensures.refused)
 
 pub returns-in_err-reserve-clause-versions : goal.returns-in_err-reserve-clause-versions
 returns-in_err-reserve-clause-versions g c = versions-kept c.args.self.now c.reserve.ensures.extends
@@ -36,26 +35,26 @@ map_insert-requires-clause-contents g c =
 pub release-requires : goal.release-requires
 release-requires g c =
     let note = cell-gained {b = c.cell-note.new.self} c.cell-note.ensures.adds c.cell-note.ensures.extends c.cell-note.ensures.count in
-    omega (arith, note.holds c.cell-note.result, c.in-Err.ensures.handed_back.1.holds c.cell-note.result, one-same c.cell-note.result c.cell-note.result refl)
+    omega (arith, (refused-gained {c = c.map_insert.new.heap} note c.in-Err.ensures.handed_back.1).holds c.cell-note.result, one-same c.cell-note.result c.cell-note.result refl)
 
 pub returns-in-Err-clause-store : goal.returns-in-Err-clause-store
 returns-in-Err-clause-store g c =
-    let none = gained-after c.in_ok-reserve.ensures.rest (lost-gained {rest = λ _. 0} {m = 0} c.in_ok-reserve.ensures.rest.graph (refused-gained (cell-gained {b = c.cell-note.new.self} c.cell-note.ensures.adds c.cell-note.ensures.extends c.cell-note.ensures.count) c.in-Err.ensures.handed_back.1) c.release.ensures.releases c.release.ensures.graph (λ k. omega arith) refl) in
+    let none = gained-after c.in_ok-reserve.ensures.rest (lost-gained {rest = λ _. 0} {m = 0} c.in_ok-reserve.ensures.rest.graph (refused-gained {c = c.map_insert.new.heap} (cell-gained {b = c.cell-note.new.self} c.cell-note.ensures.adds c.cell-note.ensures.extends c.cell-note.ensures.count) c.in-Err.ensures.handed_back.1) c.release.ensures.releases c.release.ensures.graph (λ k. omega arith) refl) in
     (store-back g.T.Ord.cmp g.T.Element.code_of c.args.self.now none c.requires.store).0
 
 pub returns-in-Err-clause-refused : goal.returns-in-Err-clause-refused
 returns-in-Err-clause-refused g c =
-    let none = gained-after c.in_ok-reserve.ensures.rest (lost-gained {rest = λ _. 0} {m = 0} c.in_ok-reserve.ensures.rest.graph (refused-gained (cell-gained {b = c.cell-note.new.self} c.cell-note.ensures.adds c.cell-note.ensures.extends c.cell-note.ensures.count) c.in-Err.ensures.handed_back.1) c.release.ensures.releases c.release.ensures.graph (λ k. omega arith) refl) in
+    let none = gained-after c.in_ok-reserve.ensures.rest (lost-gained {rest = λ _. 0} {m = 0} c.in_ok-reserve.ensures.rest.graph (refused-gained {c = c.map_insert.new.heap} (cell-gained {b = c.cell-note.new.self} c.cell-note.ensures.adds c.cell-note.ensures.extends c.cell-note.ensures.count) c.in-Err.ensures.handed_back.1) c.release.ensures.releases c.release.ensures.graph (λ k. omega arith) refl) in
     (refl {a = c.args.self.now}, (store-back g.T.Ord.cmp g.T.Element.code_of c.args.self.now none c.requires.store).1)
 
 pub returns-in-Err-clause-others : goal.returns-in-Err-clause-others
 returns-in-Err-clause-others g c =
-    let none = gained-after c.in_ok-reserve.ensures.rest (lost-gained {rest = λ _. 0} {m = 0} c.in_ok-reserve.ensures.rest.graph (refused-gained (cell-gained {b = c.cell-note.new.self} c.cell-note.ensures.adds c.cell-note.ensures.extends c.cell-note.ensures.count) c.in-Err.ensures.handed_back.1) c.release.ensures.releases c.release.ensures.graph (λ k. omega arith) refl) in
+    let none = gained-after c.in_ok-reserve.ensures.rest (lost-gained {rest = λ _. 0} {m = 0} c.in_ok-reserve.ensures.rest.graph (refused-gained {c = c.map_insert.new.heap} (cell-gained {b = c.cell-note.new.self} c.cell-note.ensures.adds c.cell-note.ensures.extends c.cell-note.ensures.count) c.in-Err.ensures.handed_back.1) c.release.ensures.releases c.release.ensures.graph (λ k. omega arith) refl) in
     others-back c.args.self.now (held-before c.in_ok-reserve.ensures.rest) none
 
 pub returns-in-Err-clause-versions : goal.returns-in-Err-clause-versions
 returns-in-Err-clause-versions g c =
-    let none = gained-after c.in_ok-reserve.ensures.rest (lost-gained {rest = λ _. 0} {m = 0} c.in_ok-reserve.ensures.rest.graph (refused-gained (cell-gained {b = c.cell-note.new.self} c.cell-note.ensures.adds c.cell-note.ensures.extends c.cell-note.ensures.count) c.in-Err.ensures.handed_back.1) c.release.ensures.releases c.release.ensures.graph (λ k. omega arith) refl) in
+    let none = gained-after c.in_ok-reserve.ensures.rest (lost-gained {rest = λ _. 0} {m = 0} c.in_ok-reserve.ensures.rest.graph (refused-gained {c = c.map_insert.new.heap} (cell-gained {b = c.cell-note.new.self} c.cell-note.ensures.adds c.cell-note.ensures.extends c.cell-note.ensures.count) c.in-Err.ensures.handed_back.1) c.release.ensures.releases c.release.ensures.graph (λ k. omega arith) refl) in
     versions-kept c.args.self.now none.extends
 
 pub share-requires-clause-live : goal.share-requires-clause-live
@@ -63,7 +62,7 @@ share-requires-clause-live g c =
     let before = Extends-trans {new = c.cell-note.new.self} c.in_ok-reserve.ensures.extends c.cell-note.ensures.extends in
     let M : IsSomeMap g.T.Ord.cmp g.T.Element.code_of c.cell-note.new.self c.view.result = rw c.view.ensures (maps-stay g.T.Ord.cmp g.T.Element.code_of before c.args.self.now.notes c.requires.store.notes) in
     map-live c.map_insert.new.heap c.args.self.now.notes c.args.self.now.notes.root refl
-    (maps-stay g.T.Ord.cmp g.T.Element.code_of (Extends-trans {new = c.map_insert.new.heap} before (c.in-Ok.ensures.answered M.0 M.1).extends) c.args.self.now.notes c.requires.store.notes)
+    (maps-stay g.T.Ord.cmp g.T.Element.code_of (Extends-trans {new = c.map_insert.new.heap} before (c.in-Ok.ensures.answered M.0 M.1).extends) c.args.self.now.notes c.requires.store.notes).1
 
 pub share-requires-clause-few : goal.share-requires-clause-few
 share-requires-clause-few g c =
@@ -113,7 +112,7 @@ release-requires-in-Err-push g c =
     let M : IsSomeMap g.T.Ord.cmp g.T.Element.code_of c.cell-note.new.self c.view.result = rw c.view.ensures (maps-stay g.T.Ord.cmp g.T.Element.code_of before c.args.self.now.notes c.requires.store.notes) in
     let shared = shared-gained {b = c.cell-note.new.self} {c = c.map_insert.new.heap} (cell-gained {b = c.cell-note.new.self} c.cell-note.ensures.adds c.cell-note.ensures.extends c.cell-note.ensures.count) (c.in-Ok.ensures.answered M.0 M.1) c.share.ensures.builds c.into_root-before.ensures in
     let root = c.into_root-before.result in
-    omega (arith, shared.holds root, c.in-Err-push.ensures.refused.holds root, one-same root root refl)
+    omega (arith, (refused-gained {c = c.push.new.heap} shared c.in-Err-push.ensures.refused).holds root, one-same root root refl)
 
 pub release-requires-in-Err-push-2 : goal.release-requires-in-Err-push-2
 release-requires-in-Err-push-2 g c =
@@ -121,7 +120,7 @@ release-requires-in-Err-push-2 g c =
     let M : IsSomeMap g.T.Ord.cmp g.T.Element.code_of c.cell-note.new.self c.view.result = rw c.view.ensures (maps-stay g.T.Ord.cmp g.T.Element.code_of before c.args.self.now.notes c.requires.store.notes) in
     let shared = shared-gained {b = c.cell-note.new.self} {c = c.map_insert.new.heap} (cell-gained {b = c.cell-note.new.self} c.cell-note.ensures.adds c.cell-note.ensures.extends c.cell-note.ensures.count) (c.in-Ok.ensures.answered M.0 M.1) c.share.ensures.builds c.into_root-before.ensures in
     let root = c.in-Ok.notes.root in
-    omega (arith, shared.holds root, c.in-Err-push.ensures.refused.holds root, c.release-in-Err-push.ensures.releases.holds root, one-same root root refl)
+    omega (arith, (refused-gained {c = c.push.new.heap} shared c.in-Err-push.ensures.refused).holds root, c.release-in-Err-push.ensures.releases.holds root, one-same root root refl)
 
 pub returns-in-Ok-push-clause-others : goal.returns-in-Ok-push-clause-others
 returns-in-Ok-push-clause-others g c =
@@ -152,7 +151,7 @@ returns-in-Ok-push-clause-written g c = λ M is.
     let more = Extends-trans {new = c.push.new.heap} (c.in-Ok.ensures.answered M there).extends after in
     let store : IsStore cmp code c.turn_to.new.heap (record { notes = c.in-Ok.notes; earlier = c.in-Ok-push.earlier }) = rw (← c.turn_to.ensures.after) c.turn_to.ensures.store in
     rw c.turn_to.ensures.after
-    (written cmp code c.in-Ok.notes M c.args.name c.args.note c.cell-note.result c.cell-note.ensures.adds.here more made c.turn_to.ensures.below (map-live c.turn_to.new.heap c.in-Ok.notes c.in-Ok.notes.root refl store.notes))
+    (written cmp code c.in-Ok.notes M c.args.name c.args.note c.cell-note.result c.cell-note.ensures.adds.here more made c.turn_to.ensures.below (map-live c.turn_to.new.heap c.in-Ok.notes c.in-Ok.notes.root refl store.notes.1))
 
 pub returns-in-Ok-push-clause-versions : goal.returns-in-Ok-push-clause-versions
 returns-in-Ok-push-clause-versions g c =
@@ -167,7 +166,7 @@ returns-in-Err-push-clause-store g c =
     let before = Extends-trans {new = c.cell-note.new.self} c.in_ok-reserve.ensures.extends c.cell-note.ensures.extends in
     let M : IsSomeMap g.T.Ord.cmp g.T.Element.code_of c.cell-note.new.self c.view.result = rw c.view.ensures (maps-stay g.T.Ord.cmp g.T.Element.code_of before c.args.self.now.notes c.requires.store.notes) in
     let shared = shared-gained {b = c.cell-note.new.self} {c = c.map_insert.new.heap} (cell-gained {b = c.cell-note.new.self} c.cell-note.ensures.adds c.cell-note.ensures.extends c.cell-note.ensures.count) (c.in-Ok.ensures.answered M.0 M.1) c.share.ensures.builds c.into_root-before.ensures in
-    let first = lost-gained {rest = one_at c.in-Ok.notes.root} {m = 1} c.in_ok-reserve.ensures.rest.graph (refused-gained shared c.in-Err-push.ensures.refused) c.release-in-Err-push.ensures.releases c.release-in-Err-push.ensures.graph (λ k. omega arith) refl in
+    let first = lost-gained {rest = one_at c.in-Ok.notes.root} {m = 1} c.in_ok-reserve.ensures.rest.graph (refused-gained {c = c.push.new.heap} shared c.in-Err-push.ensures.refused) c.release-in-Err-push.ensures.releases c.release-in-Err-push.ensures.graph (λ k. omega arith) refl in
     let none = gained-after c.in_ok-reserve.ensures.rest (lost-gained {rest = λ _. 0} {m = 0} c.in_ok-reserve.ensures.rest.graph first c.release-in-Err-push-2.ensures.releases c.release-in-Err-push-2.ensures.graph (λ k. omega arith) refl) in
     (store-back g.T.Ord.cmp g.T.Element.code_of c.args.self.now none c.requires.store).0
 
@@ -176,7 +175,7 @@ returns-in-Err-push-clause-refused g c =
     let before = Extends-trans {new = c.cell-note.new.self} c.in_ok-reserve.ensures.extends c.cell-note.ensures.extends in
     let M : IsSomeMap g.T.Ord.cmp g.T.Element.code_of c.cell-note.new.self c.view.result = rw c.view.ensures (maps-stay g.T.Ord.cmp g.T.Element.code_of before c.args.self.now.notes c.requires.store.notes) in
     let shared = shared-gained {b = c.cell-note.new.self} {c = c.map_insert.new.heap} (cell-gained {b = c.cell-note.new.self} c.cell-note.ensures.adds c.cell-note.ensures.extends c.cell-note.ensures.count) (c.in-Ok.ensures.answered M.0 M.1) c.share.ensures.builds c.into_root-before.ensures in
-    let first = lost-gained {rest = one_at c.in-Ok.notes.root} {m = 1} c.in_ok-reserve.ensures.rest.graph (refused-gained shared c.in-Err-push.ensures.refused) c.release-in-Err-push.ensures.releases c.release-in-Err-push.ensures.graph (λ k. omega arith) refl in
+    let first = lost-gained {rest = one_at c.in-Ok.notes.root} {m = 1} c.in_ok-reserve.ensures.rest.graph (refused-gained {c = c.push.new.heap} shared c.in-Err-push.ensures.refused) c.release-in-Err-push.ensures.releases c.release-in-Err-push.ensures.graph (λ k. omega arith) refl in
     let none = gained-after c.in_ok-reserve.ensures.rest (lost-gained {rest = λ _. 0} {m = 0} c.in_ok-reserve.ensures.rest.graph first c.release-in-Err-push-2.ensures.releases c.release-in-Err-push-2.ensures.graph (λ k. omega arith) refl) in
     (refl {a = c.args.self.now}, (store-back g.T.Ord.cmp g.T.Element.code_of c.args.self.now none c.requires.store).1)
 
@@ -185,7 +184,7 @@ returns-in-Err-push-clause-others g c =
     let before = Extends-trans {new = c.cell-note.new.self} c.in_ok-reserve.ensures.extends c.cell-note.ensures.extends in
     let M : IsSomeMap g.T.Ord.cmp g.T.Element.code_of c.cell-note.new.self c.view.result = rw c.view.ensures (maps-stay g.T.Ord.cmp g.T.Element.code_of before c.args.self.now.notes c.requires.store.notes) in
     let shared = shared-gained {b = c.cell-note.new.self} {c = c.map_insert.new.heap} (cell-gained {b = c.cell-note.new.self} c.cell-note.ensures.adds c.cell-note.ensures.extends c.cell-note.ensures.count) (c.in-Ok.ensures.answered M.0 M.1) c.share.ensures.builds c.into_root-before.ensures in
-    let first = lost-gained {rest = one_at c.in-Ok.notes.root} {m = 1} c.in_ok-reserve.ensures.rest.graph (refused-gained shared c.in-Err-push.ensures.refused) c.release-in-Err-push.ensures.releases c.release-in-Err-push.ensures.graph (λ k. omega arith) refl in
+    let first = lost-gained {rest = one_at c.in-Ok.notes.root} {m = 1} c.in_ok-reserve.ensures.rest.graph (refused-gained {c = c.push.new.heap} shared c.in-Err-push.ensures.refused) c.release-in-Err-push.ensures.releases c.release-in-Err-push.ensures.graph (λ k. omega arith) refl in
     let none = gained-after c.in_ok-reserve.ensures.rest (lost-gained {rest = λ _. 0} {m = 0} c.in_ok-reserve.ensures.rest.graph first c.release-in-Err-push-2.ensures.releases c.release-in-Err-push-2.ensures.graph (λ k. omega arith) refl) in
     others-back c.args.self.now (held-before c.in_ok-reserve.ensures.rest) none
 
@@ -194,7 +193,7 @@ returns-in-Err-push-clause-versions g c =
     let before = Extends-trans {new = c.cell-note.new.self} c.in_ok-reserve.ensures.extends c.cell-note.ensures.extends in
     let M : IsSomeMap g.T.Ord.cmp g.T.Element.code_of c.cell-note.new.self c.view.result = rw c.view.ensures (maps-stay g.T.Ord.cmp g.T.Element.code_of before c.args.self.now.notes c.requires.store.notes) in
     let shared = shared-gained {b = c.cell-note.new.self} {c = c.map_insert.new.heap} (cell-gained {b = c.cell-note.new.self} c.cell-note.ensures.adds c.cell-note.ensures.extends c.cell-note.ensures.count) (c.in-Ok.ensures.answered M.0 M.1) c.share.ensures.builds c.into_root-before.ensures in
-    let first = lost-gained {rest = one_at c.in-Ok.notes.root} {m = 1} c.in_ok-reserve.ensures.rest.graph (refused-gained shared c.in-Err-push.ensures.refused) c.release-in-Err-push.ensures.releases c.release-in-Err-push.ensures.graph (λ k. omega arith) refl in
+    let first = lost-gained {rest = one_at c.in-Ok.notes.root} {m = 1} c.in_ok-reserve.ensures.rest.graph (refused-gained {c = c.push.new.heap} shared c.in-Err-push.ensures.refused) c.release-in-Err-push.ensures.releases c.release-in-Err-push.ensures.graph (λ k. omega arith) refl in
     let none = gained-after c.in_ok-reserve.ensures.rest (lost-gained {rest = λ _. 0} {m = 0} c.in_ok-reserve.ensures.rest.graph first c.release-in-Err-push-2.ensures.releases c.release-in-Err-push-2.ensures.graph (λ k. omega arith) refl) in
     versions-kept c.args.self.now none.extends
 
@@ -212,24 +211,18 @@ returns-in_err-reserve-clause-ample g c = λ M is spares. absurd (not-ok c.reser
 
 pub returns-in-Err-clause-ample : goal.returns-in-Err-clause-ample
 returns-in-Err-clause-ample g c = λ M is spares.
-    let cmp = g.T.Ord.cmp in
-    let code = g.T.Element.code_of in
-    let before = Extends-trans {new = c.cell-note.new.self} c.in_ok-reserve.ensures.extends c.cell-note.ensures.extends in
-    let there : IsMapOf cmp code c.cell-note.new.self c.view.result M = rw c.view.ensures ((containers-extended c.args.heap.now c.cell-note.new.self before c.args.self.now.notes).map cmp code M is) in
+    let there = map-there g.T.Ord.cmp g.T.Element.code_of {c = c.cell-note.new.self} c.in_ok-reserve.ensures.extends c.cell-note.ensures.extends c.view.ensures is in
     let made = c.cell-note.ensures.makes in
     let rest = c.in_ok-reserve.ensures.rest in
-    let alike = ap (λ (r : Root). alike_keys code r.bits c.args.name M) c.view.ensures in
+    let alike = ap (λ (r : Root). alike_keys g.T.Element.code_of r.bits c.args.name M) c.view.ensures in
     absurd (false≢true (c.in-Err.ensures.ample M there (omega (arith, spares.0, made.spare_cells, rest.spare_cells), omega (arith, spares.1, made.spare_nodes, rest.spare_nodes, alike))))
 
 pub returns-in-Err-push-clause-ample : goal.returns-in-Err-push-clause-ample
 returns-in-Err-push-clause-ample g c = λ M is spares memory.
-    let cmp = g.T.Ord.cmp in
-    let code = g.T.Element.code_of in
-    let before = Extends-trans {new = c.cell-note.new.self} c.in_ok-reserve.ensures.extends c.cell-note.ensures.extends in
-    let there : IsMapOf cmp code c.cell-note.new.self c.view.result M = rw c.view.ensures ((containers-extended c.args.heap.now c.cell-note.new.self before c.args.self.now.notes).map cmp code M is) in
+    let there = map-there g.T.Ord.cmp g.T.Element.code_of {c = c.cell-note.new.self} c.in_ok-reserve.ensures.extends c.cell-note.ensures.extends c.view.ensures is in
     let made = c.cell-note.ensures.makes in
     let rest = c.in_ok-reserve.ensures.rest in
-    let alike = ap (λ (r : Root). alike_keys code r.bits c.args.name M) c.view.ensures in
+    let alike = ap (λ (r : Root). alike_keys g.T.Element.code_of r.bits c.args.name M) c.view.ensures in
     let put = c.in-Ok.ensures.answered M there in
     let shared = c.share.ensures.builds in
     c.in-Err-push.ensures.ample (omega arith, omega (arith, spares.1, made.spare_nodes, rest.spare_nodes, alike, put.nodes, put.balance.spare_nodes, shared.few_nodes, shared.makes.spare_nodes)) (cc)
@@ -238,32 +231,27 @@ pub returns-in_err-reserve-clause-made : goal.returns-in_err-reserve-clause-made
 returns-in_err-reserve-clause-made g c = λ M is. omega (arith, c.reserve.ensures.rest.made)
 
 pub returns-in-Err-clause-made : goal.returns-in-Err-clause-made
-returns-in-Err-clause-made g c = λ M is. omega (arith, c.in_ok-reserve.ensures.rest.made, c.cell-note.ensures.makes.made, c.in-Err.ensures.handed_back.1.made, c.release.ensures.releases.made)
+returns-in-Err-clause-made g c = λ M is. omega (arith, c.in_ok-reserve.ensures.rest.made, c.cell-note.ensures.makes.made, (refused-takes c.in-Err.ensures.handed_back.1).made, c.release.ensures.releases.made)
 
 pub returns-in-Ok-push-clause-made : goal.returns-in-Ok-push-clause-made
 returns-in-Ok-push-clause-made g c = λ M is.
-    let cmp = g.T.Ord.cmp in
-    let code = g.T.Element.code_of in
+    let there = map-there g.T.Ord.cmp g.T.Element.code_of {c = c.cell-note.new.self} c.in_ok-reserve.ensures.extends c.cell-note.ensures.extends c.view.ensures is in
+    let put = c.in-Ok.ensures.answered M there in
+    let alike = ap (λ (r : Root). alike_keys g.T.Element.code_of r.bits c.args.name M) c.view.ensures in
+    let room = shared-takes c.in_ok-reserve.ensures.rest c.cell-note.ensures.makes c.in-Ok.ensures.made put c.share.ensures.builds in
     let before = Extends-trans {new = c.cell-note.new.self} c.in_ok-reserve.ensures.extends c.cell-note.ensures.extends in
-    let there : IsMapOf cmp code c.cell-note.new.self c.view.result M = rw c.view.ensures ((containers-extended c.args.heap.now c.cell-note.new.self before c.args.self.now.notes).map cmp code M is) in
-    let alike = ap (λ (r : Root). alike_keys code r.bits c.args.name M) c.view.ensures in
-    let put = made-within {b = c.map_insert.new.heap} c.in-Ok.ensures.made (c.in-Ok.ensures.answered M there) in
-    let shared = c.share.ensures.builds in
-    let more = Extends-trans {new = c.share.new.heap} before (Extends-trans {new = c.share.new.heap} (c.in-Ok.ensures.answered M there).extends shared.extends) in
+    let more = Extends-trans {new = c.share.new.heap} before (Extends-trans {new = c.share.new.heap} put.extends c.share.ensures.builds.extends) in
     let height : height_at c.share.new.heap c.view-2.result ≡ height_at c.args.heap.now c.args.self.now.earlier = rw c.view-2.ensures (height-kept c.args.self.now.earlier more c.requires.store.earlier) in
-    let pushed = made-within {b = c.push.new.heap} c.in-Ok-push.ensures.made c.in-Ok-push.ensures.answered in
-    omega (arith, c.in_ok-reserve.ensures.rest.made, c.cell-note.ensures.makes.made, put, alike, shared.makes.made, shared.few_cells, shared.few_nodes, pushed, height, c.turn_to.ensures.made)
+    let pushed = answered-takes {b = c.push.new.heap} c.in-Ok-push.ensures.made c.in-Ok-push.ensures.answered in
+    omega (arith, room.made, alike, pushed.made, height, c.turn_to.ensures.made)
 
 pub returns-in-Err-push-clause-made : goal.returns-in-Err-push-clause-made
 returns-in-Err-push-clause-made g c = λ M is.
-    let cmp = g.T.Ord.cmp in
-    let code = g.T.Element.code_of in
-    let before = Extends-trans {new = c.cell-note.new.self} c.in_ok-reserve.ensures.extends c.cell-note.ensures.extends in
-    let there : IsMapOf cmp code c.cell-note.new.self c.view.result M = rw c.view.ensures ((containers-extended c.args.heap.now c.cell-note.new.self before c.args.self.now.notes).map cmp code M is) in
-    let alike = ap (λ (r : Root). alike_keys code r.bits c.args.name M) c.view.ensures in
-    let put = made-within {b = c.map_insert.new.heap} c.in-Ok.ensures.made (c.in-Ok.ensures.answered M there) in
-    let shared = c.share.ensures.builds in
-    omega (arith, c.in_ok-reserve.ensures.rest.made, c.cell-note.ensures.makes.made, put, alike, shared.makes.made, shared.few_cells, shared.few_nodes, c.in-Err-push.ensures.refused.made, c.release-in-Err-push.ensures.releases.made, c.release-in-Err-push-2.ensures.releases.made)
+    let there = map-there g.T.Ord.cmp g.T.Element.code_of {c = c.cell-note.new.self} c.in_ok-reserve.ensures.extends c.cell-note.ensures.extends c.view.ensures is in
+    let put = c.in-Ok.ensures.answered M there in
+    let alike = ap (λ (r : Root). alike_keys g.T.Element.code_of r.bits c.args.name M) c.view.ensures in
+    let room = shared-takes c.in_ok-reserve.ensures.rest c.cell-note.ensures.makes c.in-Ok.ensures.made put c.share.ensures.builds in
+    omega (arith, room.made, alike, (refused-takes c.in-Err-push.ensures.refused).made, c.release-in-Err-push.ensures.releases.made, c.release-in-Err-push-2.ensures.releases.made)
 
 pub returns-in_err-reserve-clause-spares : goal.returns-in_err-reserve-clause-spares
 returns-in_err-reserve-clause-spares g c = λ M is.
@@ -274,39 +262,30 @@ pub returns-in-Err-clause-spares : goal.returns-in-Err-clause-spares
 returns-in-Err-clause-spares g c = λ M is.
     let rest = c.in_ok-reserve.ensures.rest in
     let made = c.cell-note.ensures.makes in
-    let back = c.in-Err.ensures.handed_back.1 in
-    let freed = spares-released c.release.ensures.releases in
-    (omega (arith, rest.spare_cells, made.spare_cells, back.spare_cells, freed.0), omega (arith, rest.spare_nodes, made.spare_nodes, back.spare_nodes, freed.1))
+    let back = refused-takes c.in-Err.ensures.handed_back.1 in
+    let freed = released-takes c.release.ensures.releases in
+    (omega (arith, rest.spare_cells, made.spare_cells, back.spare_cells, freed.spare_cells), omega (arith, rest.spare_nodes, made.spare_nodes, back.spare_nodes, freed.spare_nodes))
 
 pub returns-in-Ok-push-clause-spares : goal.returns-in-Ok-push-clause-spares
 returns-in-Ok-push-clause-spares g c = λ M is.
-    let cmp = g.T.Ord.cmp in
-    let code = g.T.Element.code_of in
+    let there = map-there g.T.Ord.cmp g.T.Element.code_of {c = c.cell-note.new.self} c.in_ok-reserve.ensures.extends c.cell-note.ensures.extends c.view.ensures is in
+    let put = c.in-Ok.ensures.answered M there in
+    let alike = ap (λ (r : Root). alike_keys g.T.Element.code_of r.bits c.args.name M) c.view.ensures in
+    let room = shared-takes c.in_ok-reserve.ensures.rest c.cell-note.ensures.makes c.in-Ok.ensures.made put c.share.ensures.builds in
     let before = Extends-trans {new = c.cell-note.new.self} c.in_ok-reserve.ensures.extends c.cell-note.ensures.extends in
-    let there : IsMapOf cmp code c.cell-note.new.self c.view.result M = rw c.view.ensures ((containers-extended c.args.heap.now c.cell-note.new.self before c.args.self.now.notes).map cmp code M is) in
-    let alike = ap (λ (r : Root). alike_keys code r.bits c.args.name M) c.view.ensures in
-    let rest = c.in_ok-reserve.ensures.rest in
-    let made = c.cell-note.ensures.makes in
-    let put = spares-within {b = c.map_insert.new.heap} (c.in-Ok.ensures.answered M there) in
-    let shared = c.share.ensures.builds in
-    let more = Extends-trans {new = c.share.new.heap} before (Extends-trans {new = c.share.new.heap} (c.in-Ok.ensures.answered M there).extends shared.extends) in
+    let more = Extends-trans {new = c.share.new.heap} before (Extends-trans {new = c.share.new.heap} put.extends c.share.ensures.builds.extends) in
     let height : height_at c.share.new.heap c.view-2.result ≡ height_at c.args.heap.now c.args.self.now.earlier = rw c.view-2.ensures (height-kept c.args.self.now.earlier more c.requires.store.earlier) in
-    let pushed = spares-within {b = c.push.new.heap} c.in-Ok-push.ensures.answered in
+    let pushed = answered-takes {b = c.push.new.heap} c.in-Ok-push.ensures.made c.in-Ok-push.ensures.answered in
     let turned = c.turn_to.ensures.spares in
-    (omega (arith, rest.spare_cells, made.spare_cells, put.0, shared.makes.spare_cells, shared.few_cells, pushed.0, turned.0), omega (arith, rest.spare_nodes, made.spare_nodes, put.1, alike, shared.makes.spare_nodes, shared.few_nodes, pushed.1, height, turned.1))
+    (omega (arith, room.spare_cells, pushed.spare_cells, turned.0), omega (arith, room.spare_nodes, alike, pushed.spare_nodes, height, turned.1))
 
 pub returns-in-Err-push-clause-spares : goal.returns-in-Err-push-clause-spares
 returns-in-Err-push-clause-spares g c = λ M is.
-    let cmp = g.T.Ord.cmp in
-    let code = g.T.Element.code_of in
-    let before = Extends-trans {new = c.cell-note.new.self} c.in_ok-reserve.ensures.extends c.cell-note.ensures.extends in
-    let there : IsMapOf cmp code c.cell-note.new.self c.view.result M = rw c.view.ensures ((containers-extended c.args.heap.now c.cell-note.new.self before c.args.self.now.notes).map cmp code M is) in
-    let alike = ap (λ (r : Root). alike_keys code r.bits c.args.name M) c.view.ensures in
-    let rest = c.in_ok-reserve.ensures.rest in
-    let made = c.cell-note.ensures.makes in
-    let put = spares-within {b = c.map_insert.new.heap} (c.in-Ok.ensures.answered M there) in
-    let shared = c.share.ensures.builds in
-    let still = c.in-Err-push.ensures.refused in
-    let first = spares-released c.release-in-Err-push.ensures.releases in
-    let second = spares-released c.release-in-Err-push-2.ensures.releases in
-    (omega (arith, rest.spare_cells, made.spare_cells, put.0, shared.makes.spare_cells, shared.few_cells, still.spare_cells, first.0, second.0), omega (arith, rest.spare_nodes, made.spare_nodes, put.1, alike, shared.makes.spare_nodes, shared.few_nodes, still.spare_nodes, first.1, second.1))
+    let there = map-there g.T.Ord.cmp g.T.Element.code_of {c = c.cell-note.new.self} c.in_ok-reserve.ensures.extends c.cell-note.ensures.extends c.view.ensures is in
+    let put = c.in-Ok.ensures.answered M there in
+    let alike = ap (λ (r : Root). alike_keys g.T.Element.code_of r.bits c.args.name M) c.view.ensures in
+    let room = shared-takes c.in_ok-reserve.ensures.rest c.cell-note.ensures.makes c.in-Ok.ensures.made put c.share.ensures.builds in
+    let still = refused-takes c.in-Err-push.ensures.refused in
+    let first = released-takes c.release-in-Err-push.ensures.releases in
+    let second = released-takes c.release-in-Err-push-2.ensures.releases in
+    (omega (arith, room.spare_cells, still.spare_cells, first.spare_cells, second.spare_cells), omega (arith, room.spare_nodes, alike, still.spare_nodes, first.spare_nodes, second.spare_nodes))

@@ -1,7 +1,7 @@
 use Rattle.std.proofs.Common.{◌∙◌, ap, arith}
 use Rattle.node_heap.proofs.Frames.{KeepsBelow-Releases, KeepsBelow-trans}
 use Rattle.champ_kinds.specs.Root.{Root}
-use Rattle.container_tests.proofs.GainLemmas.{spares-released}
+use Rattle.container_tests.proofs.GainLemmas.{released-takes}
 use Rattle.container_tests.proofs.UndoLemmas.{turned, roots-released}
 use Rattle.container_tests.proofs.store.Store.turn_to.Goals as goal
 
@@ -28,6 +28,6 @@ returns-clause-made g c = c.release-2.ensures.releases.made ∙ c.release.ensure
 
 pub returns-clause-spares : goal.returns-clause-spares
 returns-clause-spares g c =
-    let first = spares-released c.release.ensures.releases in
-    let second = spares-released c.release-2.ensures.releases in
-    (omega (arith, first.0, second.0), omega (arith, first.1, second.1))
+    let first = released-takes c.release.ensures.releases in
+    let second = released-takes c.release-2.ensures.releases in
+    (omega (arith, first.spare_cells, second.spare_cells), omega (arith, first.spare_nodes, second.spare_nodes))

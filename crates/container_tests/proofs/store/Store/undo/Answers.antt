@@ -1,26 +1,27 @@
 use Rattle.std.proofs.Common.{◌≡◌, ◌+◌, ◌-◌, ◌≤◌, ◌∙◌, ℕ, refl, ap, sym, arith}
 use Rattle.std.specs.Prelude.{take}
 use Rattle.node_heap.specs.Heap.{holds_at, hold_count, one_at}
-use Rattle.node_heap.proofs.Frames.{Extends-trans, Extends-Unchanged}
+use Rattle.node_heap.proofs.Frames.{Extends-trans}
 use Rattle.rrb_core.specs.Vector.{elements, height_at}
 use Rattle.rrb_core.proofs.Stays.{well-live, vector-stays}
 use Rattle.champ_chain.proofs.WithLemmas.{not-ok}
 use Rattle.champ_kinds.specs.Root.{Root}
-use Rattle.container_tests.proofs.GainLemmas.{made-within, spares-within}
-use Rattle.container_tests.proofs.UndoLemmas.{after-refusal, store-refused, others-refused, others-turned, undone, front-last, versions-kept, versions-turned}
+use Rattle.container_tests.proofs.GainLemmas.{none-gained, answered-takes, refused-takes}
+use Rattle.container_tests.proofs.UndoLemmas.{after-refusal, store-back, others-back, others-turned, undone, front-last, versions-kept, versions-turned}
 use Rattle.container_tests.proofs.store.Store.undo.Goals as goal
 
 pub returns-in_err-earlier-clause-store : goal.returns-in_err-earlier-clause-store
-returns-in_err-earlier-clause-store g c = (store-refused g.T.Ord.cmp g.T.Element.code_of c.args.self.now c.in_err-earlier.ensures.refused c.requires.store).0
+returns-in_err-earlier-clause-store g c = (store-back g.T.Ord.cmp g.T.Element.code_of c.args.self.now (none-gained c.in_err-earlier.ensures.refused) c.requires.store).0
 
 pub returns-in_err-earlier-clause-refused : goal.returns-in_err-earlier-clause-refused
-returns-in_err-earlier-clause-refused g c = after-refusal c.from_residual.result (refl, (store-refused g.T.Ord.cmp g.T.Element.code_of c.args.self.now c.in_err-earlier.ensures.refused c.requires.store).1)
+returns-in_err-earlier-clause-refused g c =
+    after-refusal c.from_residual.result (refl, (store-back g.T.Ord.cmp g.T.Element.code_of c.args.self.now (none-gained c.in_err-earlier.ensures.refused) c.requires.store).1)
 
 pub returns-in_err-earlier-clause-others : goal.returns-in_err-earlier-clause-others
-returns-in_err-earlier-clause-others g c = others-refused c.args.self.now c.in_err-earlier.ensures.refused
+returns-in_err-earlier-clause-others g c = others-back c.args.self.now c.len-count.ensures.graph.held (none-gained c.in_err-earlier.ensures.refused)
 
 pub returns-in_err-earlier-clause-versions : goal.returns-in_err-earlier-clause-versions
-returns-in_err-earlier-clause-versions g c = versions-kept c.args.self.now (Extends-Unchanged c.in_err-earlier.ensures.refused)
+returns-in_err-earlier-clause-versions g c = versions-kept c.args.self.now (none-gained c.in_err-earlier.ensures.refused).extends
 
 pub returns-clause-versions : goal.returns-clause-versions
 returns-clause-versions g c =
@@ -70,22 +71,24 @@ pub returns-in_err-earlier-clause-ample : goal.returns-in_err-earlier-clause-amp
 returns-in_err-earlier-clause-ample g c = λ spares. absurd (not-ok c.take.result _ c.in_err-earlier.was (c.take.ensures.ample spares))
 
 pub returns-in_err-earlier-clause-made : goal.returns-in_err-earlier-clause-made
-returns-in_err-earlier-clause-made g c = omega (arith, c.in_err-earlier.ensures.refused.made)
+returns-in_err-earlier-clause-made g c = omega (arith, (refused-takes c.in_err-earlier.ensures.refused).made)
 
 pub returns-clause-made : goal.returns-clause-made
 returns-clause-made g c =
     let taken = c.in_ok-earlier.ensures in
     let low : height_at c.take.new.heap c.in_ok-earlier.earlier ≤ height_at c.args.heap.now c.args.self.now.earlier = rw c.view-3.ensures at taken.low in
-    omega (arith, made-within {b = c.take.new.heap} taken.made taken.answered, low, c.hold.ensures.makes.made, c.turn_to.ensures.made)
+    omega (arith, (answered-takes {b = c.take.new.heap} taken.made taken.answered).made, low, c.hold.ensures.makes.made, c.turn_to.ensures.made)
 
 pub returns-in_err-earlier-clause-spares : goal.returns-in_err-earlier-clause-spares
-returns-in_err-earlier-clause-spares g c = (c.in_err-earlier.ensures.refused.spare_cells, omega (arith, c.in_err-earlier.ensures.refused.spare_nodes))
+returns-in_err-earlier-clause-spares g c =
+    let same = refused-takes c.in_err-earlier.ensures.refused in
+    (omega (arith, same.spare_cells), omega (arith, same.spare_nodes))
 
 pub returns-clause-spares : goal.returns-clause-spares
 returns-clause-spares g c =
     let taken = c.in_ok-earlier.ensures in
     let low : height_at c.take.new.heap c.in_ok-earlier.earlier ≤ height_at c.args.heap.now c.args.self.now.earlier = rw c.view-3.ensures at taken.low in
-    let spares = spares-within {b = c.take.new.heap} taken.answered in
+    let spares = answered-takes {b = c.take.new.heap} taken.made taken.answered in
     let held = c.hold.ensures.makes in
     let turned = c.turn_to.ensures.spares in
-    (omega (arith, spares.0, held.spare_cells, turned.0), omega (arith, spares.1, low, held.spare_nodes, turned.1))
+    (omega (arith, spares.spare_cells, held.spare_cells, turned.0), omega (arith, spares.spare_nodes, low, held.spare_nodes, turned.1))
