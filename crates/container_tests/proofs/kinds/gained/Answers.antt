@@ -4,7 +4,7 @@ use Rattle.std.proofs.lemmas.Option.{none-some}
 use Rattle.champ_chain.specs.Entry.{link_with}
 use Rattle.champ_kinds.specs.Root.{Root}
 use Rattle.champ_kinds.specs.Stands.{IsSomeSet}
-use Rattle.container_tests.proofs.StandLemmas.{sets-kept}
+use Rattle.champ_kinds.proofs.StayLemmas.{sets-kept}
 use Rattle.container_tests.proofs.kinds.gained.Goals as goal
 
 either : {P : Type 0} (found : Option ℕ) → (found ≢ None → P) → (found ≡ None → P) → P

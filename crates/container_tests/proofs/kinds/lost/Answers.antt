@@ -2,7 +2,7 @@ use Rattle.std.proofs.Common.{sym, subst}
 use Rattle.champ_chain.specs.Entry.{others}
 use Rattle.champ_kinds.specs.Root.{Root}
 use Rattle.champ_kinds.specs.Stands.{IsSomeSet}
-use Rattle.container_tests.proofs.StandLemmas.{sets-kept}
+use Rattle.champ_kinds.proofs.StayLemmas.{sets-kept}
 use Rattle.container_tests.proofs.kinds.lost.Goals as goal
 
 pub returns-in-Some-clause-good : goal.returns-in-Some-clause-good

@@ -2,7 +2,7 @@ use Rattle.std.proofs.Common.{sym, subst}
 use Rattle.champ_kinds.specs.Root.{Root}
 use Rattle.champ_kinds.specs.Binding.{unbind}
 use Rattle.champ_kinds.specs.Stands.{IsSomeMap}
-use Rattle.container_tests.proofs.StandLemmas.{maps-kept}
+use Rattle.champ_kinds.proofs.StayLemmas.{maps-kept}
 use Rattle.container_tests.proofs.kinds.unbound.Goals as goal
 
 pub returns-in-Some-clause-good : goal.returns-in-Some-clause-good
