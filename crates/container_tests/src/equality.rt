@@ -44,6 +44,26 @@ fn shared_rows_end_the_walk(rt: HostRuntime) {
     assert!(rt; versions.are_equal(&rt, first, second));
 }
 
+// A vector of 2^31 elements that is cut and joined again has its rows at the same places but at the seam, and those are passed
+// over whole. An equal number in the middle leaves it equal, and another one doesn't.
+#[test]
+fn rows_are_passed_over_behind_a_seam(rt: HostRuntime) {
+    let mut versions = Versions::start(&rt, rt.alloc());
+    let some = versions.push_all(&rt, 0, 0, 32);
+    let all = versions.double(&rt, some, 26);
+    let front = versions.take(&rt, all, 1000);
+    let back = versions.drop_front(&rt, all, 1000);
+    let again = versions.join(&rt, front, back);
+    let equal = versions.set(&rt, again, 1 << 30, 0);
+    let other = versions.set(&rt, again, (1 << 30) + 7, 0);
+    assert_eq!(rt; versions.len(&rt, again), 1 << 31);
+    assert!(rt; versions.are_equal(&rt, all, again));
+    assert!(rt; versions.are_equal(&rt, again, all));
+    assert!(rt; versions.are_equal(&rt, all, equal));
+    assert!(rt; !versions.are_equal(&rt, all, other));
+    assert!(rt; !versions.are_equal(&rt, other, equal));
+}
+
 // The map without keys.
 fn no_cells<T: Element>(heap: &mut Heap<T>, bits: u32) -> Result<MapRef, NoMemory>
     requires few { hold_count heap.old < 2 ^ 50 }

@@ -10,7 +10,7 @@ use crate::sums::{has_sums, has_sums_within};
 use elem_core::{NoMemory, Num};
 use node_heap::{Heap, Link};
 use rrb_core::{Flex, FlexRef, PushFault, SetFault, push, set, take};
-use rrb_join::{JoinFault, concat};
+use rrb_join::{JoinFault, concat, drop_front};
 use same_value::equal_vec;
 use std::alloc::Global;
 use std::marker::Model;
@@ -80,6 +80,17 @@ fn front(heap: &mut Heap<Num>, root: Link, count: u32) -> Result<Link, NoMemory>
     ensures count { IfOk result (λ _. hold_count heap.new ≡ hold_count heap.old + 1) }
 {
     Ok(take(heap, FlexRef::at(root), count)?.into_root())
+}
+
+// The root of the vector of the elements behind the first ones.
+fn back(heap: &mut Heap<Num>, root: Link, count: u32) -> Result<Link, NoMemory>
+    requires lines { IsLines heap.old root }
+    requires few { hold_count heap.old < 2 ^ 50 }
+    ensures lines { IfOk result (λ l. IsLines heap.new l) }
+    ensures others { IfOk result (λ _. KeepsLines heap.old heap.new) }
+    ensures count { IfOk result (λ _. hold_count heap.new ≡ hold_count heap.old + 1) }
+{
+    Ok(drop_front(heap, FlexRef::at(root), count)?.into_root())
 }
 
 // The root of the two vectors one after the other.
@@ -155,6 +166,13 @@ impl Versions {
     pub fn take(&mut self, rt: &impl Abort, turn: usize, count: u32) -> usize {
         let root = root_at(rt, &self.roots, turn);
         let made = front(&mut self.heap, root, count);
+        kept(rt, &mut self.roots, made)
+    }
+
+    /// The elements of the one of this turn behind the first ones.
+    pub fn drop_front(&mut self, rt: &impl Abort, turn: usize, count: u32) -> usize {
+        let root = root_at(rt, &self.roots, turn);
+        let made = back(&mut self.heap, root, count);
         kept(rt, &mut self.roots, made)
     }
 
