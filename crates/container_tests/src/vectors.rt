@@ -94,6 +94,32 @@ fn takes_fronts(rt: HostRuntime) {
     assert_eq!(rt; versions.made(), versions.live() as u64);
 }
 
+// So many elements, and the height of the vector that is made of them at once, and how many rows it has: each is full but the
+// last of a height.
+const FILLED: [(u32, u8, u64); 7] = [
+    (0, 0, 1),
+    (1, 0, 1),
+    (32, 0, 1),
+    (33, 1, 3),
+    (1024, 1, 33),
+    (1025, 2, 36),
+    (2000, 2, 66),
+];
+
+#[test]
+fn fills_rows(rt: HostRuntime) {
+    let mut versions = Versions::start(&rt, rt.alloc());
+    let all = versions.push_all(&rt, 0, 0, 2000);
+    for (count, height, rows) in FILLED {
+        let front = versions.take(&rt, all, count);
+        let before = versions.made();
+        let filled = versions.fill(&rt, rt.alloc(), front);
+        assert_eq!(rt; versions.made().wrapping_sub(before), rows);
+        assert_eq!(rt; versions.height(&rt, filled), height);
+        assert!(rt; versions.counts_to(&rt, filled, count));
+    }
+}
+
 // One of two holds is given up: the vector stays, and its iterator begins where it is told.
 #[test]
 fn shares_and_releases_once(rt: HostRuntime) -> Result<(), Fail> {

@@ -1,15 +1,16 @@
 //! Vectors of numbers in one heap, for tests that look at values alone: their calls ask for nothing and promise nothing, so a
 //! test of them has nothing to prove.
-ghost use Rattle.std.specs.Prelude.{◌≡◌, ◌+◌, ◌<◌, ◌++◌, [], ◌∷◌, ◌^◌, length, Some, IfOk, IsOk, slice_get};
-ghost use Rattle.node_heap.specs.Heap.{hold_count};
-ghost use Rattle.same_value.specs.Cells.{IsLines};
+ghost use Rattle.std.specs.Prelude.{◌≡◌, ◌+◌, ◌<◌, ◌++◌, [], ◌∷◌, ◌^◌, length, Some, IfOk, IfSome, IsOk, slice_get};
+ghost use Rattle.std.specs.List.{All};
+ghost use Rattle.node_heap.specs.Heap.{form_at, hold_count};
+ghost use Rattle.same_value.specs.Cells.{IsCellLink, IsLines};
 ghost use Rattle.container_tests.specs.Stands.{KeepsLines};
 
 use crate::samples::{counts_to, number_at};
 use crate::sums::{has_sums, has_sums_within};
 use elem_core::{NoMemory, Num};
 use node_heap::{Heap, Link};
-use rrb_core::{Flex, FlexRef, PushFault, SetFault, push, set, take};
+use rrb_core::{Flex, FlexRef, PushFault, SetFault, push, set, take, vector_of};
 use rrb_join::{JoinFault, concat, drop_front};
 use same_value::equal_vec;
 use std::alloc::Global;
@@ -105,6 +106,19 @@ fn joined(heap: &mut Heap<Num>, left: Link, right: Link) -> Result<Link, JoinFau
     Ok(concat(heap, FlexRef::at(left), FlexRef::at(right))?.into_root())
 }
 
+// The root of the vector of these cells, made at once.
+fn filled(heap: &mut Heap<Num>, links: &[Link]) -> Result<Link, NoMemory>
+    requires cells { All (IsCellLink (form_at heap.old)) links.now }
+    requires short { length links.now < 2 ^ 32 }
+    requires few { hold_count heap.old < 2 ^ 50 }
+    ensures lines { IfOk result (λ l. IsLines heap.new l) }
+    ensures others { IfOk result (λ _. KeepsLines heap.old heap.new) }
+    ensures count { IfOk result (λ _. hold_count heap.new ≡ hold_count heap.old + 1) }
+{
+    heap.hold_all(links);
+    Ok(vector_of(heap, links)?.into_root())
+}
+
 // The root at this turn. No test makes nearly so many vectors.
 fn root_at(rt: &impl Abort, roots: &[Link], turn: usize) -> Link
     ensures root { slice_get roots.now turn ≡ Some result }
@@ -127,6 +141,30 @@ fn kept<E: Drop>(rt: &impl Abort, roots: &mut Vec<Link>, made: Result<Link, E>) 
         }
         Err(_) => panic!(rt; "a call was refused"),
     }
+}
+
+// The element at the index, which is a cell.
+fn element_at(heap: &Heap<Num>, root: Link, index: u32) -> Option<Link>
+    requires { IsLines heap.now root }
+    ensures { IfSome result (IsCellLink (form_at heap.now)) }
+{
+    FlexRef::at(root).get(heap, index)
+}
+
+// All elements of the vector.
+fn elements_of(rt: &impl Abort, alloc: Global, heap: &Heap<Num>, root: Link) -> Vec<Link>
+    requires { IsLines heap.now root }
+    ensures { All (IsCellLink (form_at heap.now)) result.items }
+{
+    let mut links = Vec::new(alloc);
+    for index in 0..FlexRef::at(root).len(heap) {
+        let Some(link) = element_at(heap, root, index) else {
+            panic!(rt; "an element is missing");
+        };
+        let made: Result<Link, NoMemory> = Ok(link);
+        kept(rt, &mut links, made);
+    }
+    links
 }
 
 impl Versions {
@@ -191,6 +229,15 @@ impl Versions {
             turn = self.join(rt, turn, turn);
         }
         turn
+    }
+
+    /// A vector of the elements of the one of this turn that is made at once.
+    pub fn fill(&mut self, rt: &impl Abort, alloc: Global, turn: usize) -> usize {
+        let root = root_at(rt, &self.roots, turn);
+        let links = elements_of(rt, alloc, &self.heap, root);
+        assert!(rt; links.len() < 1 << 32);
+        let made = filled(&mut self.heap, &links);
+        kept(rt, &mut self.roots, made)
     }
 
     /// Why no number is put at the index, and how many rows were freed till then.
