@@ -111,7 +111,12 @@ def drawn_script(draw):
 
 def drawn_words(draw):
     """The words of a run: mostly none."""
-    return draw.choice(WORDS) + (draw.choice(WORDS) if draw.random() < 0.2 else []) if draw.random() < 0.2 else []
+    words = []
+    if draw.random() < 0.2:
+        words = draw.choice(WORDS)
+        if draw.random() < 0.2:
+            words = words + draw.choice(WORDS)
+    return words
 
 
 def run(program, words, script):
