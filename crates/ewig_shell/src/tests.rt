@@ -1000,6 +1000,6 @@ fn works_the_same_each_time(rt: HostRuntime) -> Result<(), Fail> {
     let ok = shown(&first, "ok").unwrap_or(0);
     let refused = shown(&first, "refused").unwrap_or(0);
     assert!(rt; ok > 0 && refused > 0);
-    assert_eq!(rt; ok + refused, 10_008);
+    assert_eq!(rt; ok.checked_add(refused), Some(10_008));
     Ok(())
 }
