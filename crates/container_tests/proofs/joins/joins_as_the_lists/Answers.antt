@@ -1,6 +1,10 @@
 use Rattle.container_tests.proofs.GivenUpLemmas.{IsBeside, answered-beside, used-beside, beside-held, given-back}
 use Rattle.container_tests.proofs.joins.joins_as_the_lists.Goals as goal
 
+pub inserts_as_the_list-requires-2-clause-good : goal.inserts_as_the_list-requires-2-clause-good
+inserts_as_the_list-requires-2-clause-good c =
+    rw c.into_root-new.ensures (c.in_ok-inserts_as_the_list.ensures.vectors c.in_ok-concat.field-0 (beside-held (answered-beside c.in_ok-concat.ensures.answered)) c.in_ok-concat.ensures.good)
+
 pub erases_as_the_list-requires-clause-good : goal.erases_as_the_list-requires-clause-good
 erases_as_the_list-requires-clause-good c =
     let joined = answered-beside c.in_ok-concat.ensures.answered in
