@@ -8,6 +8,7 @@ use Rattle.node_heap.specs.Heap.{one_at}
 use Rattle.node_heap.specs.Inside.{IsFree}
 use Rattle.node_heap.proofs.Counts.{count-cons, test_same, test_other}
 use Rattle.node_heap.proofs.Stored.{one_if_some}
+use Rattle.node_heap.proofs.Written.{count-written}
 use Rattle.node_heap.proofs.Woven.{slot-inside}
 
 count-last : (k place : ℕ) (rest : List ℕ) → count k (rest ++ place ∷ []) ≡ count k rest + one_at k place
@@ -62,6 +63,15 @@ module _ {X : Type 0} where
       unlisted : (n : ℕ) → count place free ≡ n → count place free ≡ 0
       unlisted zero e = e
       unlisted (suc n) e = let gone : Some x ≡ None = sym is ∙ f.vacant place (omega (arith, e)) in absurd cc
+
+  -- a write in a slot that is in use
+  pub IsFree-set : (xs : List (Option X)) (free : List ℕ) (i : ℕ) (x y : X) → get_or xs i None ≡ Some x → IsFree xs free → IsFree (set xs i (Some y)) free
+  IsFree-set xs free i x y is f = record {
+    vacant = λ k held. get_or-set_other xs i k (Some y) None (λ same. absurd (let gone = sym is ∙ sym (ap (λ j. get_or xs j None) same) ∙ f.vacant k held in cc)) ∙ f.vacant k held;
+    inside = λ k held. omega (arith, length-set xs i (Some y), f.inside k held);
+    once = f.once;
+    whole = omega (arith, f.whole, count-written xs i x (Some y) is, length-set xs i (Some y));
+  }
 
   pub no_value : {x : X} → Some x ≡ None → ⊥
   no_value e = absurd cc

@@ -6,6 +6,9 @@ pub mod Slots
 pub mod Woven
 pub mod Free
 pub mod Written
+pub mod Housed
+pub mod Parting
+pub mod Rooming
 pub mod Placed
 pub mod Dying
 pub mod Reached

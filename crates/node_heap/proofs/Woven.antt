@@ -2,7 +2,8 @@
 use Rattle.std.proofs.Common.{◌≡◌, ◌≢◌, ◌⊎◌, ℕ, zero, suc, ◌+◌, ◌*◌, ◌<◌, ◌/◌, ◌%◌, List, [], ◌∷◌, get_or, set, length, refl, sym, ap, subst, ◌∙◌, arith, Option, None, IsSome, inl, inr}
 use Rattle.std.specs.Prelude.{sum_by}
 use Rattle.std.proofs.lemmas.List.Sums.{sum_by-cons}
-use Rattle.node_heap.specs.Inside.{spread, woven, SameBut}
+use Rattle.node_heap.specs.Inside.{spread, woven}
+use Rattle.node_heap.specs.Nodes.{SameBut}
 
 abbrev pub double : ℕ → ℕ
 double zero = zero

@@ -1,10 +1,10 @@
--- How a table lies in two lists of slots: place 2i is slot i of the cells, and place 2i + 1 slot i of the nodes.
-use Rattle.std.specs.Prelude.{◌≡◌, ◌≢◌, ℕ, ◌+◌, ◌^◌, ◌<◌, ◌≤◌, List, [], ◌∷◌, length, map, Option, Some, None, is_some, count_by, slice_index_or}
+-- How a table lies: place 2i is slot i of the cells, and place 2i + 1 index i of the nodes.
+use Rattle.std.specs.Prelude.{◌≡◌, ℕ, ◌+◌, ◌^◌, ◌<◌, ◌≤◌, List, [], ◌∷◌, length, map, Option, Some, None, is_some, count_by, slice_index_or}
 use Rattle.node_heap.specs.Links.{count}
 use Rattle.node_heap.specs.Forms.{cell, node}
 use Rattle.node_heap.specs.Layout.{Slot, Table}
+use Rattle.node_heap.specs.Nodes.{Node, Nodes}
 use Rattle.node_heap.specs.declared.entry.CellSlot.{CellSlot}
-use Rattle.node_heap.specs.declared.entry.NodeSlot.{NodeSlot}
 
 -- the second list alone, with nothing between
 abbrev pub spread : {X : Type 0} → List (Option X) → List (Option X)
@@ -16,10 +16,6 @@ abbrev pub woven : {X : Type 0} → List (Option X) → List (Option X) → List
 woven [] ys = spread ys
 woven (x ∷ xs) [] = x ∷ None ∷ woven xs []
 woven (x ∷ xs) (y ∷ ys) = x ∷ y ∷ woven xs ys
-
--- the lists are the same but at the place
-abbrev pub SameBut : {X : Type 0} → List (Option X) → List (Option X) → ℕ → Type 0
-SameBut old new place = (k : ℕ) → k ≢ place → slice_index_or new k None ≡ slice_index_or old k None
 
 -- these are the free slots, each once
 pub record IsFree {X : Type 0} (slots : List (Option X)) (free : List ℕ) : Type 0 where
@@ -40,19 +36,18 @@ module _ {T : Type 0} where
   cell_slot None = None
   cell_slot (Some s) = Some (record { owners = s.owners; row = cell s.value })
 
-  abbrev pub node_slot : Option NodeSlot → Option (Slot T)
+  abbrev pub node_slot : Option Node → Option (Slot T)
   node_slot None = None
-  node_slot (Some s) = Some (record { owners = s.owners; row = node s.head s.links.items })
+  node_slot (Some s) = Some (record { owners = s.owners; row = node s.head s.links })
 
-  abbrev pub slots_of : List (Option (CellSlot T)) → List (Option NodeSlot) → List (Option (Slot T))
+  abbrev pub slots_of : List (Option (CellSlot T)) → List (Option Node) → List (Option (Slot T))
   slots_of cells nodes = woven (map cell_slot cells) (map node_slot nodes)
 
   -- what contracts see of the fields
-  abbrev pub table_of : List (Option (CellSlot T)) → List (Option NodeSlot) → ℕ → ℕ → Table T
-  table_of cells nodes spare_cells spare_nodes = record { slots = slots_of cells nodes; spare_cells = spare_cells; spare_nodes = spare_nodes }
+  abbrev pub table_of : List (Option (CellSlot T)) → Nodes → ℕ → Table T
+  table_of cells nodes spare_cells = record { slots = slots_of cells nodes.slots; spare_cells = spare_cells; spare_nodes = nodes.spares }
 
   -- what is true of the fields of each table
-  pub record IsTable (cells : List (Option (CellSlot T))) (free_cells : List ℕ) (cell_capacity free_cell_capacity spare_cells : ℕ) (nodes : List (Option NodeSlot)) (free_nodes : List ℕ) (node_capacity free_node_capacity spare_nodes : ℕ) : Type 0 where
+  pub record IsTable (cells : List (Option (CellSlot T))) (free_cells : List ℕ) (cell_capacity free_cell_capacity spare_cells : ℕ) (nodes : Nodes) : Type 0 where
     pub of_cells : HasRoom cells free_cells cell_capacity free_cell_capacity spare_cells
-    pub of_nodes : HasRoom nodes free_nodes node_capacity free_node_capacity spare_nodes
-    pub few : count_by is_some cells + count_by is_some nodes + (spare_cells + spare_nodes) < 2 ^ 56
+    pub few : count_by is_some cells + count_by is_some nodes.slots + (spare_cells + nodes.spares) < 2 ^ 56

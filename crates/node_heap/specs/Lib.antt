@@ -3,9 +3,13 @@ pub mod Forms
 pub mod Heap
 pub mod Calls
 pub mod Layout
+pub mod Nodes
+pub mod Small
+pub mod Rooms
 pub mod Inside
 pub mod InPlace
 pub mod Owner
 pub mod Glass
 pub mod LendsSlot
+pub mod LendsNode
 pub mod Lending

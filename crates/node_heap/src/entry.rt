@@ -1,6 +1,9 @@
 //! What the slots of the table hold.
 ghost use Rattle.std.specs.Prelude.{◌<◌, length, ◌≡◌, ◌≤◌, slice_set, slice_index, Some, None, IsSome};
+ghost use Rattle.node_heap.specs.Small.{whole_head, room_of};
+ghost use Rattle.node_heap.specs.declared.heads.SmallHead.TheVariants.{Moved};
 
+use crate::heads::SmallHead;
 use crate::row::{Head, Link};
 use arrayvec::ArrayVec;
 use elem_core::Num;
@@ -23,22 +26,6 @@ pub(crate) struct NodeSlot {
     pub(crate) owners: usize,
     pub(crate) head: Head,
     pub(crate) links: ArrayVec<Link, 32>,
-}
-
-impl NodeSlot {
-    // Puts the link in place of the one at the index, which it answers.
-    pub(crate) fn replace(&mut self, index: usize, link: Link) -> Link
-        requires { index < length self.old.links.items }
-        ensures owners { self.new.owners ≡ self.old.owners }
-        ensures head { self.new.head ≡ self.old.head }
-        ensures links { self.new.links.items ≡ slice_set self.old.links.items index link }
-        ensures old { result ≡ slice_index self.old.links.items index }
-    {
-        let links = self.links.as_mut_slice();
-        let old = links[index];
-        links[index] = link;
-        old
-    }
 }
 
 // Room for one node: the node in it, or what is left of one that is gone, over which the next is written.
@@ -100,6 +87,74 @@ impl NodeRoom {
     }
 }
 
+// This head in a small slot, and none where there are too many links for one, or the head says more than its kind.
+pub(crate) fn small_head(head: &Head, links: &[Link]) -> Option<SmallHead>
+    ensures head { (h : SmallHead) → result ≡ Some h → whole_head h ≡ Some head.now }
+    ensures few { (h : SmallHead) → result ≡ Some h → length links.now ≤ 3 }
+{
+    if links.len() > FEW {
+        return None;
+    }
+    match head {
+        Head::Chain => Some(SmallHead::Chain),
+        Head::Pair => Some(SmallHead::Pair),
+        Head::State => Some(SmallHead::State),
+        _ => None,
+    }
+}
+
+// So many links fit in a small slot.
+const FEW: usize = 3;
+
+// A node's owners, and the node itself where it fits.
+#[derive(Drop)]
+pub(crate) struct SmallSlot {
+    pub(crate) owners: usize,
+    pub(crate) head: SmallHead,
+    pub(crate) links: ArrayVec<Link, 3>,
+}
+
+const _: () = prove!(size_of::<Option<SmallSlot>>() <= 64);
+
+impl SmallSlot {
+    // A node with this head and these links, at most three.
+    pub(crate) fn with_links(owners: usize, head: SmallHead, links: &[Link]) -> SmallSlot
+        requires { length links.now ≤ 3 }
+        ensures { result ≡ record { owners = owners; head = head; links = record { items = links.now } } }
+    {
+        let mut few = ArrayVec::new();
+        // They are at most three, so all of them fit.
+        let _ = few.try_extend_from_slice(links);
+        SmallSlot {
+            owners,
+            head,
+            links: few,
+        }
+    }
+
+    // A node whose head and links lie in a room apart.
+    pub(crate) fn moved(owners: usize, room: usize) -> SmallSlot
+        ensures owners { result.owners ≡ owners }
+        ensures head { result.head ≡ Moved room }
+    {
+        SmallSlot {
+            owners,
+            head: SmallHead::Moved { room },
+            links: ArrayVec::new(),
+        }
+    }
+
+    // The room apart, if any.
+    pub(crate) fn room(&self) -> Option<usize>
+        ensures { result ≡ room_of self.now.head }
+    {
+        match self.head {
+            SmallHead::Moved { room } => Some(room),
+            _ => None,
+        }
+    }
+}
+
 // These links, at most 32.
 pub(crate) fn kept(links: &[Link]) -> ArrayVec<Link, 32>
     requires { length links.now ≤ 32 }
@@ -119,4 +174,16 @@ pub(crate) fn rewrite(list: &mut ArrayVec<Link, 32>, links: &[Link])
     list.clear();
     // They are at most 32, so all of them fit.
     let _ = list.try_extend_from_slice(links);
+}
+
+// Puts the link in place of the one at the index, which it answers.
+pub(crate) fn swap(list: &mut ArrayVec<Link, 32>, index: usize, link: Link) -> Link
+    requires { index < length list.old.items }
+    ensures links { list.new.items ≡ slice_set list.old.items index link }
+    ensures old { result ≡ slice_index list.old.items index }
+{
+    let links = list.as_mut_slice();
+    let old = links[index];
+    links[index] = link;
+    old
 }

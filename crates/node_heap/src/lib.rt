@@ -7,8 +7,11 @@
 
 mod entry;
 mod glass;
+mod heads;
 mod heap;
 mod laws;
+mod lists;
+mod nodes;
 mod row;
 mod table;
 

@@ -1,7 +1,7 @@
 use Rattle.std.proofs.Common.{◌/◌, None, refl, sym, ap, ◌∙◌, arith}
-use Rattle.node_heap.specs.Forms.{links_of}
-use Rattle.node_heap.specs.Layout.{row_of_slot, owners_in}
-use Rattle.node_heap.proofs.Placed.{live-cell, live-node, read-cell, read-node, cell-links, set-cell, set-node, HasRoom-free}
+use Rattle.node_heap.specs.Layout.{owners_in}
+use Rattle.node_heap.proofs.Free.{value_in}
+use Rattle.node_heap.proofs.Placed.{live-cell, live-node, read-cell, cell-links, set-cell, node-owned, node-links, takes-node, HasRoom-free}
 use Rattle.node_heap.proofs.Written.{taken}
 use Rattle.node_heap.proofs.table.Table.take.Goals as goal
 
@@ -24,33 +24,26 @@ pub returns-then-place-eq0-clause-takes : goal.returns-then-place-eq0-clause-tak
 returns-then-place-eq0-clause-takes g c =
     let i = c.self.inside in
     let live = live-cell _ _ c.self.view_is c.args.place c.if-place-eq0.true c.requires in
-    rw (← c.self.view_is, c.take_out-slot.ensures.slots, set-cell i.cells.items i.nodes.items c.args.place None c.if-place-eq0.true live)
+    rw (← c.self.view_is, c.take_out-slot.ensures.slots, set-cell i.cells.items i.nodes.slots c.args.place None c.if-place-eq0.true live)
     (taken _ c.args.place _ _ _ _ _ (rw (← c.self.view_is) at (read-cell _ _ c.self.view_is c.args.place _ c.if-place-eq0.true c.take_out-slot.ensures.value)) refl (omega arith))
 
-pub node_in-node-requires : goal.node_in-node-requires
-node_in-node-requires g c = live-node _ _ c.self.view_is c.args.place c.if-place-eq0.false c.requires
+pub owners-owners-requires : goal.owners-owners-requires
+owners-owners-requires g c = live-node _ _ c.self.view_is c.args.place c.if-place-eq0.false c.requires
 
-pub rewrite-requires : goal.rewrite-requires
-rewrite-requires g c = omega (arith, c.as_slice.ensures.fits)
+pub links-requires : goal.links-requires
+links-requires g c = live-node _ _ c.self.view_is c.args.place c.if-place-eq0.false c.requires
 
-pub empty-requires-clause-some : goal.empty-requires-clause-some
-empty-requires-clause-some g c = live-node _ _ c.self.view_is c.args.place c.if-place-eq0.false c.requires
-
-pub empty-requires-clause-room : goal.empty-requires-clause-room
-empty-requires-clause-room g c =
-    let live = live-node _ _ c.self.view_is c.args.place c.if-place-eq0.false c.requires in
-    omega (arith, HasRoom-free _ _ (c.args.place / 2) _ _ _ live c.self.invariant.of_nodes, c.self.inside.free_nodes.ok.0)
+pub free-requires : goal.free-requires
+free-requires g c = live-node _ _ c.self.view_is c.args.place c.if-place-eq0.false c.requires
 
 pub returns-clause-owners : goal.returns-clause-owners
-returns-clause-owners g c = sym (ap owners_in (read-node _ _ c.self.view_is c.args.place _ c.if-place-eq0.false c.node_in-node.ensures))
+returns-clause-owners g c = c.owners-owners.ensures ∙ sym (node-owned _ _ c.self.view_is c.args.place c.if-place-eq0.false)
 
 pub returns-clause-links : goal.returns-clause-links
-returns-clause-links g c =
-    c.rewrite.ensures ∙ c.as_slice.ensures.value ∙ sym (ap (λ o. links_of (row_of_slot o)) (read-node _ _ c.self.view_is c.args.place _ c.if-place-eq0.false c.node_in-node.ensures))
+returns-clause-links g c = c.rewrite.ensures ∙ c.links.ensures.value ∙ sym (node-links _ _ c.self.view_is c.args.place c.if-place-eq0.false)
 
 pub returns-clause-takes : goal.returns-clause-takes
 returns-clause-takes g c =
-    let i = c.self.inside in
-    let live = live-node _ _ c.self.view_is c.args.place c.if-place-eq0.false c.requires in
-    rw (← c.self.view_is, c.empty.ensures.slots, set-node i.cells.items i.nodes.items c.args.place None c.if-place-eq0.false live)
-    (taken _ c.args.place _ _ _ _ _ (rw (← c.self.view_is) at (read-node _ _ c.self.view_is c.args.place _ c.if-place-eq0.false c.node_in-node.ensures)) (omega arith) refl)
+    let value = value_in _ (live-node _ _ c.self.view_is c.args.place c.if-place-eq0.false c.requires) in
+    let freed = c.free.ensures in
+    takes-node _ _ c.self.view_is c.free.new.self c.args.place value.0 c.if-place-eq0.false value.1 freed.gone freed.others freed.len freed.spares

@@ -1,7 +1,7 @@
 use Rattle.std.proofs.Common.{sym, ◌∙◌}
 use Rattle.node_heap.proofs.Woven.{slot-inside}
 use Rattle.node_heap.proofs.Free.{IsFree-take, get_or_default}
-use Rattle.node_heap.proofs.table.take_out.Goals as goal
+use Rattle.node_heap.proofs.lists.take_out.Goals as goal
 
 pub returns-clause-free : goal.returns-clause-free
 returns-clause-free g c =

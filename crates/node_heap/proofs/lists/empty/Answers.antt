@@ -1,5 +1,5 @@
 use Rattle.node_heap.proofs.Free.{IsFree-take, value_in}
-use Rattle.node_heap.proofs.table.empty.Goals as goal
+use Rattle.node_heap.proofs.lists.empty.Goals as goal
 
 pub returns-clause-free : goal.returns-clause-free
 returns-clause-free c =

@@ -1,7 +1,7 @@
 use Rattle.std.proofs.Common.{◌≡◌, Bool, true, false, Option, Some, None, IsSome, cond, refl, sym, ◌∙◌}
 use Rattle.node_heap.specs.declared.entry.NodeSlot.{NodeSlot}
 use Rattle.node_heap.proofs.Free.{found}
-use Rattle.node_heap.proofs.table.node_in_mut.Goals as goal
+use Rattle.node_heap.proofs.lists.node_in_mut.Goals as goal
 
 -- room with a node in it is filled
 filled : (b : Bool) (node : NodeSlot) (o : Option NodeSlot) → cond b (Some node) None ≡ o → IsSome o → b ≡ true

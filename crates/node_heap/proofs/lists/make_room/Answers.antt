@@ -1,5 +1,5 @@
 use Rattle.std.proofs.Common.{arith}
-use Rattle.node_heap.proofs.table.make_room.Goals as goal
+use Rattle.node_heap.proofs.lists.make_room.Goals as goal
 
 pub returns-in_err-reserve-2-clause-ample : goal.returns-in_err-reserve-2-clause-ample
 returns-in_err-reserve-2-clause-ample g c =

@@ -1,7 +1,7 @@
 use Rattle.std.proofs.Common.{Some, refl, ◌∙◌}
 use Rattle.std.specs.Vec.{with_item}
 use Rattle.node_heap.proofs.Free.{found}
-use Rattle.node_heap.proofs.table.slot_mut.Goals as goal
+use Rattle.node_heap.proofs.lists.slot_mut.Goals as goal
 
 pub returns : goal.returns
 returns g c =

@@ -1,7 +1,7 @@
 use Rattle.std.proofs.Common.{◌∙◌, arith, None}
 use Rattle.std.proofs.lemmas.List.{get_or-set_same}
 use Rattle.node_heap.proofs.Free.{last-free, IsFree-pop, no_value, get_or_default}
-use Rattle.node_heap.proofs.table.put.Goals as goal
+use Rattle.node_heap.proofs.lists.put.Goals as goal
 
 pub index_mut-requires : goal.index_mut-requires
 index_mut-requires g c =
