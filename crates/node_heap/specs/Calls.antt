@@ -96,6 +96,16 @@ module _ {T : Type 0} where
   abbrev pub MakesJust : Heap T → Heap T → Type 0
   MakesJust old new = new.made ≡ min (old.made + (live_count new - live_count old)) (2 ^ 64 - 1)
 
+  -- there is a hold for each place of a link in the list
+  abbrev pub HasHolds : Heap T → List ℕ → Type 0
+  HasHolds h links = (k : ℕ) → count k links ≤ holds_at h k
+
+  -- no row went, and as many were made as came
+  pub record MakesWhatCame (old new : Heap T) : Type 0 where
+    pub stays : (l : ℕ) → IsSome (row_at old l) → IsSome (row_at new l)
+    pub live : live_count old ≤ live_count new
+    pub made : MakesJust old new
+
   -- rows were added and none freed: at most c cells and n nodes, each made of a spare; a hold of each link of the first
   -- list was spent, and one of each of the second gained
   pub record Builds (old new : Heap T) (spent gained : List ℕ) (c n : ℕ) : Type 0 where

@@ -1,5 +1,5 @@
 -- The owner of a root that is edited in place, what stays beside it, and which rows of a path are alone.
-use Rattle.std.specs.Prelude.{◌≡◌, ◌≢◌, ◌↔◌, ℕ, ◌+◌, ◌*◌, ◌-◌, ◌<◌, List, [], ◌∷◌, ◌++◌, length, take, remove, slice_set, slice_index, Option, Some, None, ◌==◌, if◌then◌else◌}
+use Rattle.std.specs.Prelude.{◌≡◌, ◌≢◌, ◌↔◌, ℕ, ◌+◌, ◌*◌, ◌-◌, ◌<◌, List, [], ◌∷◌, ◌++◌, length, take, remove, slice_set, slice_index, Option, Some, None, IsSome, ◌==◌, if◌then◌else◌}
 use Rattle.node_heap.specs.Links.{Links, count, HasLink, Reaches}
 use Rattle.node_heap.specs.Forms.{Row, cell, node, head_of}
 use Rattle.node_heap.specs.Heap.{Heap, row_at, links_at, holds_at, owners_at, one_at, IsGraph}
@@ -52,6 +52,11 @@ module _ {T : Type 0} where
     pub beside : KeepsBeside owner root (λ l. count l spent) old new
     pub trades : Trades old new (held_by owner (owned old owner) ++ spent) (held_by owner root ++ gained) c n
 
+  -- there is such an owner: the hold, or the place
+  abbrev pub IsOwner : Heap T → Owner → Type 0
+  IsOwner h (by_hold root) = 0 < holds_at h root
+  IsOwner h (by_place parent index) = index < length (links_at h parent)
+
   -- how many rows of a path are alone: its first ones, as long as each has one owner
   abbrev pub alone : Heap T → List ℕ → ℕ
   alone h [] = 0
@@ -60,6 +65,14 @@ module _ {T : Type 0} where
   -- those rows
   abbrev pub written : Heap T → List ℕ → List ℕ
   written h path = take (alone h path) path
+
+  -- each row that was there is the same, but the rows of the path that are alone, and the owner's place has the new root
+  abbrev pub WritesOnly : Owner → Heap T → Heap T → ℕ → List ℕ → Type 0
+  WritesOnly owner old new root path = (m : ℕ) → IsSome (row_at old m) → count m (written old path) ≡ 0 → row_at new m ≡ with_root owner root m (row_at old m)
+
+  -- the same for each row that was there and is there still
+  abbrev pub WritesOnlyLeft : Owner → Heap T → Heap T → ℕ → List ℕ → Type 0
+  WritesOnlyLeft owner old new root path = (m : ℕ) → IsSome (row_at old m) → IsSome (row_at new m) → count m (written old path) ≡ 0 → row_at new m ≡ with_root owner root m (row_at old m)
 
   -- at each place of the path the row is the old one exactly where that was alone
   pub record KeepsAlone (old : Heap T) (path path' : List ℕ) : Type 0 where
