@@ -1,0 +1,240 @@
+-- A push to a whole vector by its owner.
+use Rattle.std.proofs.Common.{◌≡◌, ◌≢◌, ℕ, zero, suc, ◌-◌, ◌+◌, ◌<◌, ◌≤◌, ◌^◌, List, [], ◌∷◌, ◌++◌, length, take, drop, get_or, refl, ap, sym, ◌∙◌, arith, Bool, true, false, IsSome, inl, inr}
+use Rattle.std.specs.Prelude.{option_map, nat_lt}
+use Rattle.std.proofs.lemmas.Bool.Decides.{nat_tests}
+use Rattle.std.proofs.lemmas.List.{length-take, length_push}
+use Rattle.node_heap.specs.Links.{count, HasLink, here}
+use Rattle.node_heap.specs.Forms.{Forms, form_of, links_of, links_in}
+use Rattle.node_heap.specs.Heap.{Heap, row_at, form_at, links_at, holds_at, hold_count}
+use Rattle.node_heap.specs.Calls.{Unchanged, MakesWhatCame}
+use Rattle.node_heap.specs.InPlace.{child_at, path_start, Changes}
+use Rattle.node_heap.specs.Owner.{Owner, by_place, owned, with_root, written, KeepsAlone, WritesOnly}
+use Rattle.node_heap.proofs.Owners.{KeepsOwners-Unchanged}
+use Rattle.node_heap.proofs.AloneLemmas.{alone-same, KeepsAlone-owners}
+use Rattle.node_heap.proofs.Edited.{Changes-path, Changes-beside, Changes-more}
+use Rattle.node_heap.proofs.EditLaws.{Changes-Unchanged}
+use Rattle.node_heap.proofs.OwnerLemmas.{EditsBy-more, EditsBy-Unchanged}
+use Rattle.rrb_core.specs.Seq.{seq_at, IsWell}
+use Rattle.rrb_core.specs.Push.{last_in, IsPacked}
+use Rattle.rrb_core.specs.Vector.{elements, height_at, IsGoodVector}
+use Rattle.rrb_core.specs.Build.{IsRowOf}
+use Rattle.rrb_core.proofs.FillRule.{height-is}
+use Rattle.rrb_core.proofs.Stays.{links-form, live-stays-by, well-live}
+use Rattle.rrb_core.proofs.BuildLemmas.{unchanged-good, same-height}
+use Rattle.rrb_core.proofs.RowLists.{at-place, good-row}
+use Rattle.edit_vec.specs.Path.{keep_or_stop, up_to_last, spine_at, right_spine, push_path}
+use Rattle.edit_vec.specs.Edit.{PushesElement}
+use Rattle.edit_vec.specs.Walk.{CanPushRoot, HasRoomAt, PushesIn}
+use Rattle.edit_vec.proofs.PathLemmas.{spine_below, spine-below, spine-same, spine-stays}
+use Rattle.edit_vec.proofs.PushLemmas.{spine-linked-take, room-same, room-stays}
+use Rattle.edit_vec.proofs.OwnLemmas.{OwnsChild, down}
+use Rattle.edit_vec.proofs.TopLemmas.{IsOwned, graph-before, owned-same, stays-owned, row-is, row-owned, wide-owned, path-owned, others-owned}
+
+take-none : (k : ℕ) → take {A = ℕ} k [] ≡ []
+take-none zero = refl
+take-none (suc k) = refl
+
+-- the path of a push: the front of the right spine down to the lowest row with room
+module _ {K : Type 0} (F : Forms K) where
+  abbrev pub has-room : ℕ → Bool
+  has-room k = nat_lt (length (links_in F k)) 32
+
+  full-row : (k : ℕ) → length (links_in F k) ≡ 32 → has-room k ≡ false
+  full-row k is = rw is refl
+
+  open-row : (k : ℕ) → length (links_in F k) < 32 → has-room k ≡ true
+  open-row k lt = grind (arith, nat_tests, lt)
+
+  pub path-packed : (n l : ℕ) → IsPacked F n l → up_to_last has-room (spine_at F n l) ≡ []
+  unfolding IsPacked
+  path-packed zero l f = ap (up_to_last has-room) (spine-below F zero l) ∙ ap (λ (b : Bool). keep_or_stop l b []) (full-row l f)
+  path-packed (suc n) l f =
+      ap (up_to_last has-room) (spine-below F (suc n) l)
+      ∙ ap (keep_or_stop l (has-room l)) (path-packed n (last_in F l) f.1)
+      ∙ ap (λ (b : Bool). keep_or_stop l b []) (full-row l f.0)
+
+  pub path-room : (n lowest l : ℕ) → HasRoomAt F n lowest l → up_to_last has-room (spine_at F n l) ≡ l ∷ take (n - lowest) (spine_below F n l)
+  unfolding HasRoomAt
+  path-room zero lowest l r = ap (up_to_last has-room) (spine-below F zero l) ∙ ap (λ (b : Bool). keep_or_stop l b []) (open-row l r.1) ∙ ap (λ (xs : List ℕ). l ∷ xs) (sym (take-none (0 - lowest)))
+  path-room (suc n) lowest l r = elim r as (λ _. up_to_last has-room (spine_at F (suc n) l) ≡ l ∷ take (suc n - lowest) (spine_below F (suc n) l)) [
+    | inl at ↦
+        let zero_is : suc n - lowest ≡ 0 = omega (arith, at.0) in
+        ap (up_to_last has-room) (spine-below F (suc n) l)
+        ∙ ap (keep_or_stop l (has-room l)) (path-packed n (last_in F l) at.2)
+        ∙ ap (λ (b : Bool). keep_or_stop l b []) (open-row l at.1)
+        ∙ ap (λ (k : ℕ). l ∷ take k (spine_below F (suc n) l)) (sym zero_is)
+    | inr lower ↦
+        let down : suc n - lowest ≡ suc (n - lowest) = omega (arith, lower.0) in
+        ap (up_to_last has-room) (spine-below F (suc n) l)
+        ∙ ap (keep_or_stop l (has-room l)) (path-room n lowest (last_in F l) lower.1)
+        ∙ ap (λ (xs : List ℕ). l ∷ xs) (sym (ap (take (suc (n - lowest))) (spine-below F n (last_in F l))))
+        ∙ ap (λ (k : ℕ). l ∷ take k (spine_below F (suc n) l)) (sym down)
+  ]
+
+pub spine-length : {K : Type 0} (F : Forms K) (n l : ℕ) → length (spine_at F n l) ≡ suc n
+spine-length F zero l = ap length (spine-below F zero l)
+spine-length F (suc n) l = ap length (spine-below F (suc n) l) ∙ ap suc (spine-length F n (last_in F l))
+
+-- the room is there once the root is its owner's own
+module _ {T : Type 0} {owner : Owner} {old mid : Heap T} {r n : ℕ} (lowest : ℕ) (o : IsOwned owner old mid r) (good : IsGoodVector old (owned old owner)) (height : n ≡ height_at old (owned old owner)) (room : HasRoomAt (form_at old) n lowest (owned old owner)) where
+  abbrev root : ℕ
+  root = owned old owner
+
+  well-root : IsWell (form_at old) n root
+  well-root = rw height good.shape.well
+
+  pub room-owned : HasRoomAt (form_at mid) n lowest r
+  room-owned = room-same (form_at mid) n lowest r root (ap (option_map form_of) (row-is o good height)) (room-stays (stays-owned o good height) n lowest root (here root) well-root room)
+
+  pub short-owned : length (elements old root) + 1 < 2 ^ 32 → length (seq_at (form_at mid) n r) + 1 < 2 ^ 32
+  short-owned short = rw (row-owned o good height).items short
+
+  -- the element was put into the lowest row with room
+  module _ {new : Heap T} {e : ℕ} (short : length (elements old root) + 1 < 2 ^ 32) (sub : PushesIn mid new n lowest r e) where
+    row-pushed : IsRowOf new n r (elements old root ++ e ∷ [])
+    row-pushed = rw (row-owned o good height).items at sub.row
+
+    abbrev tail : List ℕ
+    tail = take (n - lowest) (spine_below (form_at old) n root)
+
+    next : 1 ≤ length tail → HasLink (links_at old) root (get_or tail 0 0)
+    next more = spine-linked-take old n root (n - lowest) well-root more
+
+    below-moved : spine_below (form_at mid) n r ≡ spine_below (form_at old) n root
+    below-moved =
+        spine-same (form_at mid) n r root (ap (option_map form_of) (row-is o good height))
+        ∙ ap (drop 1) (sym (spine-below (form_at mid) n root) ∙ spine-stays (stays-owned o good height) n root (here root) well-root ∙ spine-below (form_at old) n root)
+
+    first-moved : take (n - lowest + 1) (spine_at (form_at mid) n r) ≡ r ∷ tail
+    first-moved =
+        let up : n - lowest + 1 ≡ suc (n - lowest) = omega arith in
+        rw (up, spine-below (form_at mid) n r, below-moved) refl
+
+    path-is : push_path (form_at old) root ≡ root ∷ tail
+    path-is = rw (← height) (path-room (form_at old) n lowest root room)
+
+    path-pushed : KeepsAlone old (push_path (form_at old) root) (take (length (push_path (form_at old) root)) (right_spine (form_at new) r))
+    path-pushed =
+        let made : height_at new r ≡ n = height-is (form_at new) n r sub.row.well in
+        let size : length (push_path (form_at old) root) ≡ n - lowest + 1 =
+        omega (arith, ap length path-is, length-take (n - lowest) (spine_below (form_at old) n root), ap length (spine-below (form_at old) n root), spine-length (form_at old) n root) in
+        let was : KeepsAlone mid (r ∷ tail) (take (n - lowest + 1) (spine_at (form_at new) n r)) = rw first-moved at sub.path in
+        rw (size, path-is, made) (path-owned o good height tail next (take (n - lowest + 1) (spine_at (form_at new) n r)) was)
+
+    others-pushed : WritesOnly owner old new r (push_path (form_at old) root)
+    others-pushed =
+        let all : WritesOnly owner old new r (root ∷ tail) = others-owned o good height tail next new (λ m live off. sub.others m live (rw first-moved off)) in
+        rw path-is all
+
+    pub pushes-element : MakesWhatCame old new → PushesElement owner old new r e
+    pushes-element makes = record {
+      vector = good-row new n r (elements old root ++ e ∷ []) row-pushed (omega (arith, height, good.shape.low)) (λ some. omega (arith, wide-owned o good height, sub.links, good.shape.two (omega (arith, some, height)))) (omega (arith, length_push (elements old root) e, short));
+      edits = EditsBy-more 0 (height_at old root + 2) (o.edits new (e ∷ []) [] 0 n sub.changes) (omega arith) (omega (arith, height));
+      path = path-pushed;
+      others = others-pushed;
+      makes = makes;
+    }
+
+-- room was made first
+up-same : (fits fits' : ℕ → Bool) → ((k : ℕ) → fits k ≡ fits' k) → (xs : List ℕ) → up_to_last fits xs ≡ up_to_last fits' xs
+up-same fits fits' same [] = refl
+up-same fits fits' same (x ∷ xs) = ap (keep_or_stop x (fits x)) (up-same fits fits' same xs) ∙ ap (λ (b : Bool). keep_or_stop x b (up_to_last fits' xs)) (same x)
+
+module _ {T : Type 0} {first old : Heap T} (u : Unchanged first old) where
+  path-unchanged : (root : ℕ) → IsGoodVector first root → push_path (form_at old) root ≡ push_path (form_at first) root
+  path-unchanged root good =
+      up-same (has-room (form_at old)) (has-room (form_at first)) (λ k. ap (λ r. nat_lt (length (links_of (option_map form_of r))) 32) (u.rows k)) (right_spine (form_at old) root)
+      ∙ ap (up_to_last (has-room (form_at first))) (ap (λ (n : ℕ). spine_at (form_at old) n root) (same-height first old root u.rows)
+      ∙ spine-stays (live-stays-by first old u.rows u.graph) (height_at first root) root (well-live first (height_at first root) root good.shape.well) good.shape.well)
+
+  pub pushes-after : {owner : Owner} {new : Heap T} {r e : ℕ} → IsGoodVector first (owned first owner) → PushesElement owner old new r e → PushesElement owner first new r e
+  pushes-after {owner} {new} {r} {e} good p =
+      let root : ℕ = owned first owner in
+      let same : owned old owner ≡ root = owned-same u owner in
+      let owners = KeepsOwners-Unchanged first old u in
+      let path : push_path (form_at old) (owned old owner) ≡ push_path (form_at first) root = ap (push_path (form_at old)) same ∙ path-unchanged root good in
+      let items : elements old (owned old owner) ≡ elements first root = ap (elements old) same ∙ (unchanged-good root u good).1 in
+      let height : height_at old (owned old owner) ≡ height_at first root = ap (height_at old) same ∙ same-height first old root u.rows in
+      record {
+        vector = (p.vector.0, p.vector.1 ∙ ap (λ (xs : List ℕ). xs ++ e ∷ []) items);
+        edits = EditsBy-more 0 (height_at first root + 2) (EditsBy-Unchanged first old u owner p.edits) (omega arith) (omega (arith, height));
+        path = KeepsAlone-owners owners (rw path at p.path);
+        others = λ m live off.
+            let there : IsSome (row_at old m) = rw (u.rows m) live in
+            let off' : count m (written old (push_path (form_at old) (owned old owner))) ≡ 0 = rw path (ap (λ (k : ℕ). count m (take k (push_path (form_at first) root))) (alone-same old first (push_path (form_at first) root) owners) ∙ off) in
+            p.others m there off' ∙ ap (with_root owner r m) (u.rows m);
+        makes = record {
+          stays = λ l some. p.makes.stays l (rw (u.rows l) some);
+          live = omega (arith, p.makes.live, u.live);
+          made = omega (arith, p.makes.made, p.makes.live, u.made, u.live);
+        };
+      }
+
+  -- a change at a parent, counted by the height of a child
+  pub changes-after : {new : Heap T} {spent gained : List ℕ} (parent child : ℕ) → Changes parent old new spent gained 0 (height_at old (child_at old parent child) + 2) → Changes parent first new spent gained 0 (height_at first (child_at first parent child) + 2)
+  changes-after parent child change =
+      let height : height_at old (child_at old parent child) ≡ height_at first (child_at first parent child) = ap (height_at old) (owned-same u (by_place parent child)) ∙ same-height first old (child_at first parent child) u.rows in
+      Changes-more 0 (height_at first (child_at first parent child) + 2) (Changes-beside (Changes-Unchanged parent (graph-before u) u) change) (omega arith) (omega (arith, height))
+
+  -- what is to be pushed to, once there is room
+  pub can-room : (owner : Owner) (e : ℕ) → IsGoodVector first (owned first owner) → length (elements first (owned first owner)) ≢ 2 ^ 32 - 1 → 1 ≤ holds_at first e → hold_count first < 2 ^ 59 → 9 ≤ old.spare_nodes → CanPushRoot old (owned old owner) e
+  can-room owner e good short held few spare =
+      let root : ℕ = owned first owner in
+      let later = unchanged-good root u good in
+      rw (owned-same u owner) (record {
+        graph = u.graph;
+        good = later.0;
+        short = rw later.1 (omega (arith, good.shape.short, short));
+        held = omega (arith, held, u.holds e);
+        few = omega (arith, few, u.count);
+        spare = spare;
+      })
+
+-- where the lowest row with room is, by the last child
+module _ {K : Type 0} (F : Forms K) where
+  pub room-low : (n lowest l : ℕ) → HasRoomAt F n lowest l → lowest ≤ n
+  unfolding HasRoomAt
+  room-low zero lowest l r = omega (arith, r.0)
+  room-low (suc n) lowest l r = elim r as (λ _. lowest ≤ suc n) [
+    | inl at ↦ omega (arith, at.0)
+    | inr lower ↦ omega (arith, lower.0)
+  ]
+
+  pub room-zero : (n l : ℕ) → n ≡ 0 → length (links_in F l) < 32 → HasRoomAt F n 0 l
+  unfolding HasRoomAt
+  room-zero zero l e lt = (refl, lt)
+  room-zero (suc n) l e lt = absurd (omega (arith, e))
+
+  pub room-up : (n lowest l : ℕ) → n ≢ 0 → HasRoomAt F (n - 1) lowest (last_in F l) → HasRoomAt F n lowest l
+  unfolding HasRoomAt
+  room-up zero lowest l some r = absurd (some refl)
+  room-up (suc n) lowest l some r =
+      let down : suc n - 1 ≡ n = omega arith in
+      let r' : HasRoomAt F n lowest (last_in F l) = rw down at r in
+      inr (room-low n lowest (last_in F l) r', r')
+
+  pub room-at : (n l : ℕ) → n ≢ 0 → length (links_in F l) < 32 → IsPacked F (n - 1) (last_in F l) → HasRoomAt F n n l
+  unfolding HasRoomAt
+  room-at zero l some lt p = absurd (some refl)
+  room-at (suc n) l some lt p = let down : suc n - 1 ≡ n = omega arith in inl (refl, lt, rw down at p)
+
+  pub packed-at : (n l : ℕ) → n ≢ 0 → length (links_in F l) ≡ 32 → IsPacked F (n - 1) (last_in F l) → IsPacked F n l
+  unfolding IsPacked
+  packed-at zero l some e p = absurd (some refl)
+  packed-at (suc n) l some e p = let down : suc n - 1 ≡ n = omega arith in (e, rw down at p)
+
+  pub last-well : (n l : ℕ) → n ≢ 0 → IsWell F n l → (1 ≤ length (links_in F l)) × IsWell F (n - 1) (last_in F l)
+  unfolding IsWell
+  last-well zero l some w = absurd (some refl)
+  last-well (suc n) l some w =
+      let down : suc n - 1 ≡ n = omega arith in
+      (w.some, rw down (w.children (length (links_in F l) - 1) 0 (omega (arith, w.some))))
+
+pub last-is : {T : Type 0} (h : Heap T) (row child : ℕ) (ls ms : List ℕ) → child ≡ get_or ms (length ls - 1) child → ls ≡ links_at h row → ms ≡ links_at h row → 1 ≤ length (links_in (form_at h) row) → child ≡ last_in (form_at h) row
+last-is h row child ls ms is a b some =
+    at-place ms (links_at h row) (length ls - 1) child is b (omega (arith, ap length a, some, ap length (links-form h row))) ∙ rw (a, links-form h row) refl
+
+-- a push below a child that was made its parent's own is a change at the parent
+pub changes-pushed : {T : Type 0} {old mid new : Heap T} {parent child r n : ℕ} {spent gained : List ℕ} (o : OwnsChild old mid parent child r) → n ≡ height_at old (child_at old parent child) → Changes r mid new spent gained 0 n → Changes parent old new spent gained 0 (height_at old (child_at old parent child) + 2)
+changes-pushed {old = old} {parent = parent} {child = child} o height change =
+    Changes-more 0 (height_at old (child_at old parent child) + 2) (Changes-beside o.changes (Changes-path (down o parent path_start) change)) (omega arith) (omega (arith, height))

@@ -1,0 +1,265 @@
+//! An element put after the last.
+ghost use Rattle.std.specs.Prelude.{◌≡◌, ℕ, suc, ◌+◌, ◌-◌, ◌^◌, ◌<◌, ◌≤◌, ◌≢◌, ◌↔◌, [], ◌∷◌, ◌++◌, length, None, IfOk, IfSome, IfNone, OnErr, Err};
+ghost use Rattle.node_heap.specs.Links.{Reaches};
+ghost use Rattle.node_heap.specs.Heap.{row_at, form_at, links_at, holds_at, owners_at, hold_count, HasSpares};
+ghost use Rattle.node_heap.specs.Calls.{KeepsToNeed, Gains, Builds, HasHolds};
+ghost use Rattle.node_heap.specs.InPlace.{child_at, Changes};
+ghost use Rattle.node_heap.specs.Owner.{by_hold, by_place};
+ghost use Rattle.rrb_core.specs.Seq.{seq_at, IsWell};
+ghost use Rattle.rrb_core.specs.Vector.{elements, height_at, IsGoodVector, IsVectorOf};
+ghost use Rattle.rrb_core.specs.Build.{RowsKeepOwners};
+ghost use Rattle.rrb_core.specs.Push.{last_in, IsPacked};
+ghost use Rattle.edit_vec.specs.Edit.{PushesElement};
+ghost use Rattle.edit_vec.specs.Walk.{CanPushRoot, CanWrite, HasRoomAt, PushesChild, PushesIn};
+
+use crate::edit::FlexEdit;
+use crate::sums::{grow_sums, put_sums, sums_beside};
+use node_heap::{Heap, Link};
+use rrb_core::{FlexRef, PushFault, ROW_LINKS, height_of, inner_over, spine};
+
+// The most nodes that a push makes: one for each height from 0 to 7, and a root.
+const PUSH_NODES: usize = 9;
+
+impl FlexEdit {
+    /// Puts `element` after the last. It spends the element's hold on Ok alone. The element goes into the lowest row of the right
+    /// spine that has fewer than 32 links; of the rows from the root to that one each that is alone is written, and each other
+    /// is copied. Only where each has 32 comes a new root over the old one. It makes at most as many nodes as the height
+    /// and 2, so 9. Refused with `Long` where the vector has 2^32 - 1 elements, and with `Memory` where memory runs out. A
+    /// refusal leaves the vector and the heap as they were.
+    pub fn push<T>(&mut self, heap: &mut Heap<T>, element: Link) -> Result<(), PushFault>
+        requires good { IsGoodVector heap.old self.old }
+        requires held { HasHolds heap.old (self.old ∷ element ∷ []) }
+        requires few { hold_count heap.old < 2 ^ 59 }
+        ensures pushes { IfOk result (λ _. PushesElement (by_hold self.old) heap.old heap.new self.new element) }
+        ensures spares { IfOk result (λ _. KeepsToNeed heap.old heap.new 0 9) }
+        ensures refused { OnErr result ((heap.new ≡ heap.old) × (self.new ≡ self.old)) }
+        ensures long { (result ≡ Err PushFault.Long) ↔ (length (elements heap.old self.old) ≡ 2 ^ 32 - 1) }
+        ensures ample { HasSpares heap.old 0 9 → result ≢ Err PushFault.Memory }
+    {
+        if self.view().len(heap) == u32::MAX {
+            return Err(PushFault::Long);
+        }
+        heap.reserve(0, PUSH_NODES)?;
+        self.root = push_root(heap, self.root, element);
+        Ok(())
+    }
+}
+
+/// The same for a vector that is the child at an index of a row with one owner, which stays but for that child. The element
+/// isn't that row and doesn't reach it.
+pub fn push_at<T>(
+    heap: &mut Heap<T>,
+    parent: Link,
+    child: usize,
+    element: Link,
+) -> Result<(), PushFault>
+    requires sole { owners_at heap.old parent ≡ 1 }
+    requires child { child < length (links_at heap.old parent) }
+    requires good { IsGoodVector heap.old (child_at heap.old parent child) }
+    requires held { 1 ≤ holds_at heap.old element }
+    requires apart { ¬ Reaches (links_at heap.old) element parent }
+    requires few { hold_count heap.old < 2 ^ 59 }
+    ensures pushes { IfOk result (λ _. PushesElement (by_place parent child) heap.old heap.new (child_at heap.new parent child) element) }
+    ensures changes { IfOk result (λ _. Changes parent heap.old heap.new (element ∷ []) [] 0 (height_at heap.old (child_at heap.old parent child) + 2)) }
+    ensures spares { IfOk result (λ _. KeepsToNeed heap.old heap.new 0 9) }
+    ensures refused { OnErr result (heap.new ≡ heap.old) }
+    ensures long { (result ≡ Err PushFault.Long) ↔ (length (elements heap.old (child_at heap.old parent child)) ≡ 2 ^ 32 - 1) }
+    ensures ample { HasSpares heap.old 0 9 → result ≢ Err PushFault.Memory }
+{
+    let root = heap.links(parent)[child];
+    if FlexRef::at(root).len(heap) == u32::MAX {
+        return Err(PushFault::Long);
+    }
+    heap.reserve(0, PUSH_NODES)?;
+    push_child(heap, parent, child, element);
+    Ok(())
+}
+
+// Puts the element after the last of a vector whose root's hold is spent, and gives the root, held.
+fn push_root<T>(heap: &mut Heap<T>, root: Link, element: Link) -> Link
+    requires root { CanPushRoot heap.old root element }
+    requires held { HasHolds heap.old (root ∷ element ∷ []) }
+    ensures pushes { PushesElement (by_hold root) heap.old heap.new result element }
+    ensures gains { Gains heap.old heap.new }
+{
+    let height = height_of(heap, root);
+    match lowest_with_room(heap, root, height) {
+        Some(lowest) => push_own(heap, root, height, lowest, element),
+        None => root_beside(heap, root, height, element),
+    }
+}
+
+// The same where the right spine has room at the height `lowest`.
+fn push_own<T>(heap: &mut Heap<T>, root: Link, height: u8, lowest: u8, element: Link) -> Link
+    requires root { CanPushRoot heap.old root element }
+    requires held { HasHolds heap.old (root ∷ element ∷ []) }
+    requires height { height ≡ height_at heap.old root }
+    requires room { HasRoomAt (form_at heap.old) height lowest root }
+    ensures pushes { PushesElement (by_hold root) heap.old heap.new result element }
+    ensures gains { Gains heap.old heap.new }
+{
+    let own = heap.own(root);
+    push_in(heap, own, height, lowest, element);
+    own
+}
+
+// Puts the element after the last of the vector that is the child at an index of a row with one owner.
+fn push_child<T>(heap: &mut Heap<T>, parent: Link, child: usize, element: Link)
+    requires few { hold_count heap.old < 2 ^ 59 }
+    requires sole { owners_at heap.old parent ≡ 1 }
+    requires child { child < length (links_at heap.old parent) }
+    requires root { CanPushRoot heap.old (child_at heap.old parent child) element }
+    requires apart { ¬ Reaches (links_at heap.old) element parent }
+    ensures { PushesChild heap.old heap.new parent child element }
+{
+    let root = heap.links(parent)[child];
+    let height = height_of(heap, root);
+    match lowest_with_room(heap, root, height) {
+        Some(lowest) => push_own_child(heap, parent, child, height, lowest, element),
+        None => push_over_child(heap, parent, child, height, element),
+    }
+}
+
+// The same where the right spine has room at the height `lowest`.
+fn push_own_child<T>(
+    heap: &mut Heap<T>,
+    parent: Link,
+    child: usize,
+    height: u8,
+    lowest: u8,
+    element: Link,
+)
+    requires sole { owners_at heap.old parent ≡ 1 }
+    requires child { child < length (links_at heap.old parent) }
+    requires root { CanPushRoot heap.old (child_at heap.old parent child) element }
+    requires apart { ¬ Reaches (links_at heap.old) element parent }
+    requires height { height ≡ height_at heap.old (child_at heap.old parent child) }
+    requires room { HasRoomAt (form_at heap.old) height lowest (child_at heap.old parent child) }
+    ensures { PushesChild heap.old heap.new parent child element }
+{
+    let own = heap.own_child(parent, child);
+    push_in(heap, own, height, lowest, element);
+}
+
+// The same where the child is packed: a root over it takes its place.
+fn push_over_child<T>(heap: &mut Heap<T>, parent: Link, child: usize, height: u8, element: Link)
+    requires few { hold_count heap.old < 2 ^ 59 }
+    requires sole { owners_at heap.old parent ≡ 1 }
+    requires child { child < length (links_at heap.old parent) }
+    requires root { CanPushRoot heap.old (child_at heap.old parent child) element }
+    requires apart { ¬ Reaches (links_at heap.old) element parent }
+    requires height { height ≡ height_at heap.old (child_at heap.old parent child) }
+    requires packed { IsPacked (form_at heap.old) height (child_at heap.old parent child) }
+    ensures { PushesChild heap.old heap.new parent child element }
+{
+    // The root's place becomes a hold, which the new root spends.
+    let root = heap.remove_link(parent, child);
+    let over = root_beside(heap, root, height, element);
+    heap.insert_link(parent, child, over);
+}
+
+// The height of the lowest row of the right spine with room, or None where the row is packed.
+fn lowest_with_room<T>(heap: &Heap<T>, row: Link, height: u8) -> Option<u8>
+    requires well { IsWell (form_at heap.now) height row }
+    ensures room { IfSome result (λ lowest. HasRoomAt (form_at heap.now) height lowest row) }
+    ensures packed { IfNone result (IsPacked (form_at heap.now) height row) }
+{
+    let count = heap.links(row).len();
+    if height == 0 {
+        return if count == ROW_LINKS { None } else { Some(0) };
+    }
+    let last = heap.links(row)[count - 1];
+    match lowest_with_room(heap, last, height - 1) {
+        Some(lowest) => Some(lowest),
+        None if count == ROW_LINKS => None,
+        None => Some(height),
+    }
+}
+
+// A root over a packed one, whose hold is spent, and a row over the element alone.
+fn root_beside<T>(heap: &mut Heap<T>, root: Link, height: u8, element: Link) -> Link
+    requires root { CanPushRoot heap.old root element }
+    requires held { HasHolds heap.old (root ∷ element ∷ []) }
+    requires height { height ≡ height_at heap.old root }
+    requires packed { IsPacked (form_at heap.old) height root }
+    ensures vector { IsVectorOf heap.new result (elements heap.old root ++ element ∷ []) }
+    ensures fresh { row_at heap.old result ≡ None }
+    ensures owners { RowsKeepOwners heap.old heap.new }
+    ensures builds { Builds heap.old heap.new (root ∷ element ∷ []) (result ∷ []) 0 (height + 2) }
+{
+    let child = spine(heap, height, element);
+    inner_over(heap, &[root, child], height)
+}
+
+// Puts the element after the last of a row with one owner: at the height `lowest` of its spine.
+#[cycle(push)]
+fn push_in<T>(heap: &mut Heap<T>, row: Link, height: u8, lowest: u8, element: Link)
+    requires row { CanWrite heap.old height row element }
+    requires short { length (seq_at (form_at heap.old) height row) + 1 < 2 ^ 32 }
+    requires few { hold_count heap.old < 2 ^ 60 }
+    requires room { HasRoomAt (form_at heap.old) height lowest row }
+    ensures { PushesIn heap.old heap.new height lowest row element }
+{
+    if height == lowest {
+        push_here(heap, row, height, element);
+        return;
+    }
+    push_inner(heap, row, height - 1, lowest, element);
+}
+
+// The same for an inner row above that height, whose children have the height `below`.
+#[cycle(push)]
+fn push_inner<T>(heap: &mut Heap<T>, row: Link, below: u8, lowest: u8, element: Link)
+    requires row { CanWrite heap.old (suc below) row element }
+    requires short { length (seq_at (form_at heap.old) (suc below) row) + 1 < 2 ^ 32 }
+    requires few { hold_count heap.old < 2 ^ 60 }
+    requires room { HasRoomAt (form_at heap.old) (suc below) lowest row }
+    requires lower { lowest ≤ below }
+    ensures { PushesIn heap.old heap.new (suc below) lowest row element }
+{
+    let last = heap.links(row).len() - 1;
+    let child = heap.own_child(row, last);
+    push_in(heap, child, below, lowest, element);
+    grow_sums(heap, row, below + 1);
+}
+
+// The same for a row of that height.
+fn push_here<T>(heap: &mut Heap<T>, row: Link, height: u8, element: Link)
+    requires row { CanWrite heap.old height row element }
+    requires short { length (seq_at (form_at heap.old) height row) + 1 < 2 ^ 32 }
+    requires few { hold_count heap.old < 2 ^ 60 }
+    requires room { HasRoomAt (form_at heap.old) height height row }
+    ensures { PushesIn heap.old heap.new height height row element }
+{
+    if height == 0 {
+        push_leaf(heap, row, element);
+        return;
+    }
+    push_beside(heap, row, height - 1, element);
+}
+
+// The same for a leaf.
+fn push_leaf<T>(heap: &mut Heap<T>, row: Link, element: Link)
+    requires row { CanWrite heap.old 0 row element }
+    requires room { length (links_at heap.old row) < 32 }
+    ensures { PushesIn heap.old heap.new 0 0 row element }
+{
+    let count = heap.links(row).len();
+    heap.insert_link(row, count, element);
+}
+
+// The same for an inner row, whose children have the height `below`: the element comes below a new last child.
+fn push_beside<T>(heap: &mut Heap<T>, row: Link, below: u8, element: Link)
+    requires row { CanWrite heap.old (suc below) row element }
+    requires short { length (seq_at (form_at heap.old) (suc below) row) + 1 < 2 ^ 32 }
+    requires few { hold_count heap.old < 2 ^ 60 }
+    requires room { length (links_at heap.old row) < 32 }
+    requires packed { IsPacked (form_at heap.old) below (last_in (form_at heap.old) row) }
+    ensures { PushesIn heap.old heap.new (suc below) (suc below) row element }
+{
+    let count = heap.links(row).len();
+    let child = spine(heap, below, element);
+    heap.insert_link(row, count, child);
+    let sums = sums_beside(heap, row, below);
+    put_sums(heap, row, below + 1, sums);
+}
