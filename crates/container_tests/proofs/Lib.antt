@@ -1,6 +1,1 @@
-pub mod GainLemmas
-pub mod GivenUpLemmas
-pub mod StandLemmas
-pub mod EqualityLemmas
-pub mod UndoLemmas
-pub mod VectorsLemmas
+pub mod BesideLemmas

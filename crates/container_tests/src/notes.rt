@@ -2,15 +2,19 @@
 ghost use Rattle.std.specs.Prelude.{◌≡◌, ℕ, ◌+◌, ◌^◌, ◌<◌};
 ghost use Rattle.node_heap.specs.Heap.{holds_at, hold_count, one_at};
 ghost use Rattle.champ_kinds.specs.Stands.{IsSomeMap};
-ghost use Rattle.container_tests.specs.Undo.{IsStore, KeepsOthers, held_by};
+ghost use Rattle.note_store.specs.Undo.{IsStore, KeepsOthers, held_by};
 
-use crate::samples::text;
-use crate::store::Store;
 use champ_kinds::{Map, MapRef};
-use elem_core::{Element, Name, Probe, Text};
+use elem_core::{Element, Line, Name, Probe, Text, text_of};
 use node_heap::Heap;
+use note_store::Store;
 use std::process::Abort;
 use std::test::Fail;
+
+// The text of this line.
+fn text(rt: &HostRuntime, line: &str) -> Result<Text, Fail> {
+    Ok(text_of(rt.alloc(), Line::new(line).ok_or("line")?)?)
+}
 
 // Whether the note of this name is this one.
 fn reads<T: Element, P: Probe<T>>(heap: &Heap<T>, notes: MapRef, name: &P, note: &T) -> bool

@@ -1,6 +1,6 @@
 use Rattle.std.proofs.Common.{refl, arith}
 use Rattle.rrb_core.proofs.LinkCounts.{one-same}
-use Rattle.container_tests.proofs.UndoLemmas.{beside-stays}
+use Rattle.container_tests.proofs.BesideLemmas.{beside-stays}
 use Rattle.container_tests.proofs.notes.keeps_two_versions.Goals as goal
 
 pub reads-requires : goal.reads-requires

@@ -1,6 +1,6 @@
 use Rattle.std.proofs.Common.{arith}
-use Rattle.container_tests.proofs.GainLemmas.{shared-holds}
-use Rattle.container_tests.proofs.UndoLemmas.{beside-first, beside-stays, beside-shared}
+use Rattle.note_store.proofs.GainLemmas.{shared-holds}
+use Rattle.container_tests.proofs.BesideLemmas.{beside-first, beside-stays, beside-shared}
 use Rattle.container_tests.proofs.notes.put_three.Goals as goal
 
 pub returns-clause-one : goal.returns-clause-one

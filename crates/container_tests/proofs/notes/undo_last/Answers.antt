@@ -1,4 +1,4 @@
-use Rattle.container_tests.proofs.UndoLemmas.{others-then}
+use Rattle.container_tests.proofs.BesideLemmas.{others-then}
 use Rattle.container_tests.proofs.notes.undo_last.Goals as goal
 
 pub returns-clause-others : goal.returns-clause-others

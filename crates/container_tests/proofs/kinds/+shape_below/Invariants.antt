@@ -1,4 +1,0 @@
-use Rattle.container_tests.proofs.kinds.+shape_below.Given as goal
-
-abbrev pub decreases-shape_below : goal.decreases-shape_below
-decreases-shape_below g l = l.levels

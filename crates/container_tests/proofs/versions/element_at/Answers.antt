@@ -1,5 +1,0 @@
-use Rattle.container_tests.proofs.VectorsLemmas.{element-cell}
-use Rattle.container_tests.proofs.versions.element_at.Goals as goal
-
-pub returns : goal.returns
-returns c = element-cell c.args.heap.now c.args.root c.args.index c.get.result (rw c.at.ensures at c.get.ensures.value) c.requires

@@ -1,0 +1,23 @@
+//! The tests of chains, tries, maps and sets, and of the equality of maps and of sets.
+#![tactic(auto)]
+
+#[cfg(test)]
+mod chains;
+#[cfg(test)]
+mod equality;
+#[cfg(test)]
+mod map_versions;
+#[cfg(test)]
+mod maps;
+#[cfg(test)]
+mod samples;
+#[cfg(test)]
+mod set_versions;
+#[cfg(test)]
+mod sets;
+#[cfg(test)]
+mod shapes;
+#[cfg(test)]
+mod trie_versions;
+#[cfg(test)]
+mod tries;

@@ -1,0 +1,162 @@
+//! Tries of numbers and of texts.
+use crate::samples::{name, text};
+use crate::trie_versions::TrieVersions;
+use champ_trie::{depends_on_entries, tries_stay};
+use elem_core::{CODE_BITS, Num, Text};
+use node_heap::Heap;
+use std::process::Abort;
+
+// The trie with three numbers that have one code by five bits.
+fn three_alike(rt: &impl Abort, tries: &mut TrieVersions<Num>) -> usize {
+    let one = tries.insert(rt, 0, Num(1));
+    let two = tries.insert(rt, one, Num(33));
+    tries.insert(rt, two, Num(65))
+}
+
+// Of the three two are taken out: the entry that is left is the cell that it was.
+#[test]
+fn leaves_the_last_entry_its_own_cell(rt: HostRuntime) {
+    let mut tries: TrieVersions<Num> = TrieVersions::start(&rt, rt.alloc(), 5);
+    let three = three_alike(&rt, &mut tries);
+    let first = tries.find(&rt, three, &Num(1));
+    assert!(rt; tries.count(&rt, three) == 3);
+    assert!(rt; tries.alike(&rt, three, &Num(97)) == 3);
+    let less = tries.remove(&rt, three, &Num(33));
+    assert!(rt; tries.find(&rt, less, &Num(33)).is_none());
+    assert!(rt; tries.alike(&rt, less, &Num(97)) == 2);
+    let last = tries.remove(&rt, less, &Num(65));
+    assert!(rt; tries.count(&rt, last) == 1);
+    assert!(rt; first.is_some() && tries.find(&rt, last, &Num(1)) == first);
+}
+
+// Whether a look-up gives what `find` and `alike` give.
+fn agrees(rt: &impl Abort, tries: &TrieVersions<Num>, turn: usize, key: u32) -> bool {
+    let (entry, alike) = tries.look_up(rt, turn, &Num(key));
+    entry == tries.find(rt, turn, &Num(key)) && alike == tries.alike(rt, turn, &Num(key))
+}
+
+#[test]
+fn looks_up_as_find_and_alike(rt: HostRuntime) {
+    let mut tries: TrieVersions<Num> = TrieVersions::start(&rt, rt.alloc(), 5);
+    let three = three_alike(&rt, &mut tries);
+    assert!(rt; agrees(&rt, &tries, 0, 1));
+    assert!(rt; agrees(&rt, &tries, three, 33));
+    assert!(rt; agrees(&rt, &tries, three, 97));
+    assert!(rt; agrees(&rt, &tries, three, 2));
+    let (entry, alike) = tries.look_up(&rt, three, &Num(33));
+    assert!(rt; entry.is_some() && alike == 3);
+}
+
+// 1 and 33 stand in a row below the root, and 2 in the root. Each edit makes a cell and the rows on its key's way alone.
+#[test]
+fn shares_what_stands_beside(rt: HostRuntime) {
+    let mut tries: TrieVersions<Num> = TrieVersions::start(&rt, rt.alloc(), 32);
+    let one = tries.insert(&rt, 0, Num(1));
+    assert!(rt; tries.made() == 3);
+    let two = tries.insert(&rt, one, Num(33));
+    assert!(rt; tries.made() == 6);
+    let _three = tries.insert(&rt, two, Num(2));
+    assert!(rt; tries.made() == 8);
+}
+
+// A number of each turn of its own.
+fn scattered(turn: u32) -> Num {
+    Num(turn.wrapping_mul(2_654_435_761))
+}
+
+// The trie with 300 such numbers more.
+fn insert_scattered(rt: &impl Abort, tries: &mut TrieVersions<Num>, turn: usize) -> usize {
+    let mut turn = turn;
+    for step in 0..300u32 {
+        turn = tries.insert(rt, turn, scattered(step));
+    }
+    turn
+}
+
+// The trie without the same numbers.
+fn remove_scattered(rt: &impl Abort, tries: &mut TrieVersions<Num>, turn: usize) -> usize {
+    let mut turn = turn;
+    for step in 0..300u32 {
+        turn = tries.remove(rt, turn, &scattered(step));
+    }
+    turn
+}
+
+// Whether all of them are found.
+fn has_scattered(rt: &impl Abort, tries: &TrieVersions<Num>, turn: usize) -> bool {
+    for step in 0..300u32 {
+        if tries.find(rt, turn, &scattered(step)).is_none() {
+            return false;
+        }
+    }
+    true
+}
+
+#[test]
+fn finds_what_is_there(rt: HostRuntime) {
+    for bits in [0, 3, 5, 7, 32] {
+        let mut tries: TrieVersions<Num> = TrieVersions::start(&rt, rt.alloc(), bits);
+        let all = insert_scattered(&rt, &mut tries, 0);
+        assert!(rt; tries.count(&rt, all) == 300, "by {bits}");
+        assert!(rt; has_scattered(&rt, &tries, all), "by {bits}");
+        assert!(rt; tries.find(&rt, all, &Num(7)).is_none(), "by {bits}");
+        let left = remove_scattered(&rt, &mut tries, all);
+        assert!(rt; tries.count(&rt, left) == 0, "by {bits}");
+    }
+}
+
+#[test]
+fn finds_texts_by_names(rt: HostRuntime) {
+    let key = name(&rt, "b");
+    let mut tries: TrieVersions<Text> = TrieVersions::start(&rt, rt.alloc(), CODE_BITS);
+    let one = tries.insert(&rt, 0, text(&rt, rt.alloc(), "a"));
+    let two = tries.insert(&rt, one, text(&rt, rt.alloc(), "b"));
+    assert!(rt; tries.find(&rt, two, &key).is_some());
+    assert!(rt; tries.alike(&rt, two, &key) == 1);
+    let left = tries.remove(&rt, two, &key);
+    assert!(rt; tries.find(&rt, left, &key).is_none());
+    assert!(rt; tries.count(&rt, left) == 1);
+}
+
+// The laws of tries, at heaps without rows.
+#[test]
+fn calls_the_laws(rt: HostRuntime) {
+    let numbers: Heap<Num> = Heap::new(rt.alloc());
+    depends_on_entries(&numbers);
+    tries_stay(&numbers);
+    let texts: Heap<Text> = Heap::new(rt.alloc());
+    depends_on_entries(&texts);
+    tries_stay(&texts);
+}
+
+// Digits of five bits, from the low end on: 33 is 1 and 1, 1025 is 1, 0 and 1.
+#[test]
+fn walks_each_row_before_those_below_it(rt: HostRuntime) {
+    let mut tries: TrieVersions<Num> = TrieVersions::start(&rt, rt.alloc(), 32);
+    assert!(rt; tries.walks_as(&rt, 0, &[]));
+    let one = tries.insert(&rt, 0, Num(33));
+    let two = tries.insert(&rt, one, Num(1));
+    let three = tries.insert(&rt, two, Num(1025));
+    let four = tries.insert(&rt, three, Num(2));
+    assert!(rt; tries.walks_as(&rt, four, &[Num(2), Num(33), Num(1), Num(1025)]));
+}
+
+// Four numbers, of which three have one code by five bits.
+#[test]
+fn walks_a_chain_by_its_keys(rt: HostRuntime) {
+    let mut tries: TrieVersions<Num> = TrieVersions::start(&rt, rt.alloc(), 5);
+    let one = tries.insert(&rt, 0, Num(65));
+    let two = tries.insert(&rt, one, Num(33));
+    let three = tries.insert(&rt, two, Num(2));
+    let four = tries.insert(&rt, three, Num(1));
+    assert!(rt; tries.walks_as(&rt, four, &[Num(2), Num(1), Num(33), Num(65)]));
+}
+
+// Two numbers that differ in the last digit alone.
+#[test]
+fn walks_the_deepest_row(rt: HostRuntime) {
+    let mut tries: TrieVersions<Num> = TrieVersions::start(&rt, rt.alloc(), 32);
+    let one = tries.insert(&rt, 0, Num(1 << 30));
+    let two = tries.insert(&rt, one, Num(0));
+    assert!(rt; tries.walks_as(&rt, two, &[Num(0), Num(1 << 30)]));
+}

@@ -1,0 +1,3 @@
+pub mod GivenUpLemmas
+pub mod LinesLemmas
+pub mod VectorsLemmas
