@@ -40,7 +40,7 @@ WORDS = [
     ["--work", "1"], ["--count", "1"], ["--work", "1", "--count", "100001"], ["--work", "1", "--count", "1", "--open", "two"],
     ["--bits", "3", "--bits", "3"], [""], ["x"], ["--bits=7", "x"],
 ]
-NO_LINES = [b"", b" ", b"New a", b"list ", b"\xff", b"add a \xc3", b"undo x", b"new  a", b"get a", b"save", b"stats x"]
+NO_LINES = [b"", b" ", b"New a", b"list ", b"\xff", b"add a \xc3", b"undo x", b"new  a", b"get a", b"save", b"stats x", b"made x"]
 WEIGHTS = {
     "add": 6, "undo": 4, "redo": 3, "new": 3, "put": 3, "begin": 2, "end": 3, "mark": 2, "same": 2, "eqv": 2,
     "quit": 0.05, "drop": 0.5, "read": 1.5,

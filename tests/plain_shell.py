@@ -3,8 +3,8 @@
 
 It shares nothing with the program but the manual, so that tests/fuzz.py can compare the two. It copies whole
 dictionaries at each edit, and is meant for scripts with small buffers. It has no rows and no documents, and so it doesn't
-know `stats`, `save` and `load`; files of lines it reads and writes in a dictionary. Run alone, it answers its standard
-input, with its own words for the program's and no files.
+know `stats`, `made`, `save` and `load`; files of lines it reads and writes in a dictionary. Run alone, it answers its
+standard input, with its own words for the program's and no files.
 """
 
 import re

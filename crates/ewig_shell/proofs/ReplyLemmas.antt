@@ -3,7 +3,7 @@ use Rattle.std.proofs.Common.{◌≡◌, ◌≢◌, ℕ, ◌+◌, Bool, true, fa
 use Rattle.std.proofs.lemmas.Slice.Eq.{bytes_eq-Decides}
 use Rattle.std.specs.FinMap as map_of
 use Rattle.shell_terms.specs.Edit.{Bytes}
-use Rattle.shell_terms.specs.Command.{PlainCommand, edit, mark, unmark, back, undo, redo, begin, «end», abort, get, len, show, list, stars, marks, same as same_lines, eqv, stats, read, write, save, load, quit}
+use Rattle.shell_terms.specs.Command.{PlainCommand, edit, mark, unmark, back, undo, redo, begin, «end», abort, get, len, show, list, stars, marks, same as same_lines, eqv, stats, made, read, write, save, load, quit}
 use Rattle.shell_words.specs.declared.BadLine.{BadLine}
 use Rattle.shell_words.specs.declared.BadLine.TheVariants as bad
 use Rattle.plain_space.specs.declared.refusal.Refusal.{Refusal}
@@ -99,7 +99,7 @@ module _ (W : Workspace) where
   asking (Err reason) h = tt
 
   stepping : (after : State → List State → List State → Workspace) (step : Result (State × List State × List State) Refusal) → IfOk (steps_to after step) TellsOther
-  stepping after (Ok made) = refl
+  stepping after (Ok stepped) = refl
   stepping after (Err reason) = tt
 
   answer-other : (command : PlainCommand) → IfOk (answer W command) TellsOther
@@ -122,6 +122,7 @@ module _ (W : Workspace) where
   answer-other (same_lines name other) = asking _ (by_given AreOther (lines_of W.current name) why.Absent _ (λ lines. by_given AreOther (lines_of W.current other) why.Absent _ (λ others. equal-other (same_texts lines others))))
   answer-other (eqv version other) = asking _ (by_given AreOther (version_of W version) why.Absent _ (λ state. by_given AreOther (version_of W other) why.Absent _ (λ others. equal-other (same_state state others))))
   answer-other stats = tt
+  answer-other made = tt
   answer-other (read name file) = by_unless TellsOther (is_full W) why.Limit _ tt
   answer-other (write name file) = by_given TellsOther (lines_of W.current name) why.Absent _ (λ lines. tt)
   answer-other (save file) = outside _ tt
@@ -132,6 +133,7 @@ module _ (W : Workspace) where
 
 says-other : (command : PlainCommand) (old new : Machine) (W : Workspace) (reply : List ℕ) → uses_store command ≡ false → SaysElsewhere command old W reply new → reply ≢ refusal_of (codes "fault")
 says-other stats old new W reply alone says = other-reply says.0 refl
+says-other made old new W reply alone says = other-reply says.0 refl
 says-other (read name file) old new W reply alone says = absurd (let never : true ≡ false = alone in cc)
 says-other (write name file) old new W reply alone says = absurd (let never : true ≡ false = alone in cc)
 says-other (save file) old new W reply alone says = absurd (let never : true ≡ false = alone in cc)

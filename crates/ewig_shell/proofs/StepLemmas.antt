@@ -9,7 +9,7 @@ use Rattle.std.specs.declared.option.Option.{Option}
 use Rattle.std.specs.declared.result.Result.{Result}
 use Rattle.elem_core.specs.declared.TheConstants.{MAX_LINE}
 use Rattle.shell_terms.specs.Edit.{Bytes}
-use Rattle.shell_terms.specs.Command.{PlainCommand, edit, mark, unmark, back, undo, redo, begin, «end», abort, get, len, show, list, stars, marks, same as same_lines, eqv, stats, read as read_file, write as write_file, save, load, quit}
+use Rattle.shell_terms.specs.Command.{PlainCommand, edit, mark, unmark, back, undo, redo, begin, «end», abort, get, len, show, list, stars, marks, same as same_lines, eqv, stats, made, read as read_file, write as write_file, save, load, quit}
 use Rattle.shell_words.specs.Grammar.{meaning}
 use Rattle.shell_words.specs.declared.BadLine.{BadLine}
 use Rattle.plain_space.specs.declared.refusal.Refusal.{Refusal}
@@ -252,14 +252,24 @@ module _ {old : SpaceView} where
       subst (λ (w : List ℕ). ObeysAlone (eqv version other) old w old) (sym is)
       (Obeys-equal same_state same_state-Decides W (version_of W version) (version_of W other) result refl stands refl equal)
 
+  -- the reply to a command that asks for a number of the space, of which a workspace knows nothing
+  numbered : (command : PlainCommand) (W : Workspace) {count due : ℕ} → StandsFor old.pool W → count ≡ due → ((store : StoreView) → Gives command (beside old store) W (answer W command) (reply_of (number_line due ∷ [])) (beside old store)) →
+      ObeysAlone command old (reply_of (number_line count ∷ [])) old
+  numbered command W stands e gives = λ store. record {
+    work = W;
+    stands = stands;
+    gives = inl (subst (λ (n : ℕ). Gives command (beside old store) W (answer W command) (reply_of (number_line n ∷ [])) (beside old store)) (sym e) (gives store));
+  }
+
   -- the reply to `stats`
   pub Obeys-stats : (W : Workspace) {count : ℕ} → StandsFor old.pool W → count ≡ row_count old.pool → ObeysAlone stats old (reply_of (number_line count ∷ [])) old
   unfolding answer
-  Obeys-stats W {count} stands e = λ store. record {
-    work = W;
-    stands = stands;
-    gives = inl (ap (λ (n : ℕ). reply_of (number_line n ∷ [])) e, refl);
-  }
+  Obeys-stats W stands e = numbered stats W stands e (λ store. (refl, refl))
+
+  -- the reply to `made`
+  pub Obeys-made : (W : Workspace) {count : ℕ} → StandsFor old.pool W → count ≡ old.made → ObeysAlone made old (reply_of (number_line count ∷ [])) old
+  unfolding answer
+  Obeys-made W stands e = numbered made W stands e (λ store. (refl, refl))
 
 bits_by : (asks : Bool) (command : PlainCommand) (old new : SpaceView) (W : Workspace) → MatchBool asks (new ≡ old) (CarriesOut command old new W) → new.pool.bits ≡ old.pool.bits
 bits_by true command old new W same = ap (λ (s : SpaceView). s.pool.bits) same
@@ -295,6 +305,7 @@ bits_taken name ByBytes old new reply by takes = elim takes [
 
 bits_elsewhere : (command : PlainCommand) (old new : Machine) (W : Workspace) (reply : List ℕ) → SaysElsewhere command old W reply new → new.space.pool.bits ≡ old.space.pool.bits
 bits_elsewhere stats old new W reply says = ap (λ (m : Machine). m.space.pool.bits) says.1
+bits_elsewhere made old new W reply says = ap (λ (m : Machine). m.space.pool.bits) says.1
 bits_elsewhere (read_file name file) old new W reply says = bits_taken file (ReadsBytes W name old.space) old new reply (λ bytes reads. bits_read W name bytes old.space new.space reply reads) says
 bits_elsewhere (write_file name file) old new W reply says = let there = some_lines (lines_of W.current name) (λ (lines : List Bytes). Stores file (ended_lines lines) old reply new) says in bits_same there.2.space
 bits_elsewhere (save file) old new W reply says = bits_same says.stores.space

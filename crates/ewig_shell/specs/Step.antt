@@ -4,7 +4,7 @@ use Rattle.std.specs.FinMap.{insert, get as get_file}
 use Rattle.std.specs.List.{flat_map}
 use Rattle.elem_core.specs.declared.TheConstants.{MAX_LINE, NEWLINE}
 use Rattle.shell_terms.specs.Edit.{Bytes, fill}
-use Rattle.shell_terms.specs.Command.{PlainCommand, edit, get, len, show, list, stars, marks, same, eqv, stats, read, write, save, load, quit}
+use Rattle.shell_terms.specs.Command.{PlainCommand, edit, get, len, show, list, stars, marks, same, eqv, stats, made, read, write, save, load, quit}
 use Rattle.shell_words.specs.Grammar.{meaning}
 use Rattle.shell_words.specs.declared.BadLine.{BadLine}
 use Rattle.shell_words.specs.declared.BadLine.TheVariants as bad
@@ -241,10 +241,11 @@ ReadsBytes work name old bytes reply new =
 
 -- ## Commands
 
--- What the pool or the store has to say: of `stats` the number of the pool's rows, of `write` and `save` what became of the file,
--- and of `read` and `load` what the file made of the space.
+-- What the space or the store has to say: of `stats` the number of the pool's rows, of `made` the number of rows ever made, of
+-- `write` and `save` what became of the file, and of `read` and `load` what the file made of the space.
 abbrev pub SaysElsewhere : PlainCommand → Machine → Workspace → List ℕ → Machine → Type 0
 SaysElsewhere stats old work reply new = (reply ≡ reply_of (number_line (row_count old.space.pool) ∷ [])) × (new ≡ old)
+SaysElsewhere made old work reply new = (reply ≡ reply_of (number_line old.space.made ∷ [])) × (new ≡ old)
 SaysElsewhere (read name file) old work reply new = Takes file old reply new (ReadsBytes work name old.space)
 SaysElsewhere (write name file) old work reply new = Writes work name file old reply new
 SaysElsewhere (save file) old work reply new = Saves file old reply new

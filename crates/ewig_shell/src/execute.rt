@@ -3,7 +3,7 @@
 ghost use Rattle.std.specs.Prelude.{◌≡◌, ◌↔◌, codes, IfOk, IsTrue};
 ghost use Rattle.elem_core.specs.Cell.{IsCell};
 ghost use Rattle.elem_core.specs.Shown.{name_bytes};
-ghost use Rattle.shell_terms.specs.Command.{get as get_command, len as len_command, show as show_command, list as list_command, stars as stars_command, marks as marks_command, same as same_command, eqv as eqv_command, stats as stats_command, quit as quit_command};
+ghost use Rattle.shell_terms.specs.Command.{get as get_command, len as len_command, show as show_command, list as list_command, stars as stars_command, marks as marks_command, same as same_command, eqv as eqv_command, stats as stats_command, made as made_command, quit as quit_command};
 ghost use Rattle.shell_terms.specs.Changing.{only_changes};
 ghost use Rattle.shell_words.specs.Shown.{plain_command};
 ghost use Rattle.shell_io.specs.Sending.{Sends};
@@ -117,6 +117,7 @@ fn answer<K: Sink, D: Store>(
         Command::Same(buffer, other) => same(space, buffer, other, sink),
         Command::Eqv(version, other) => eqv(space, version, other, sink),
         Command::Stats => stats(space, sink),
+        Command::Made => made(space, sink),
         Command::Read(buffer, file) => send(loaded(read(alloc, space, buffer, file, store)), sink),
         Command::Write(buffer, file) => send(saved(write(alloc, space, buffer, file, store)), sink),
         Command::Save(file) => send(saved(save(alloc, space, file, store)), sink),
@@ -254,6 +255,15 @@ fn stats<K: Sink>(space: &Space, sink: &mut K) -> Result<(), Failed>
     // That the space stands for a workspace is known once it has answered.
     let _ = space.in_batch();
     send_number(space.rows() as u64, sink)
+}
+
+fn made<K: Sink>(space: &Space, sink: &mut K) -> Result<(), Failed>
+    ensures { Replies K.Sink sink.old sink.new result
+        (λ reply. ObeysAlone made_command space.now reply space.now) }
+{
+    // That the space stands for a workspace is known once it has answered.
+    let _ = space.in_batch();
+    send_number(space.made(), sink)
 }
 
 fn quit<K: Sink>(space: &Space, sink: &mut K) -> Result<(), Failed>

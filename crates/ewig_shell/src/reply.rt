@@ -164,10 +164,10 @@ pub fn send_summary<K: Sink>(sums: &Summary, sink: &mut K) -> Result<(), Failed>
         (summary sums.now.commands sums.now.ok sums.now.refused sums.now.names sums.now.lines) }
 {
     let mut page = Page::new();
-    page.put_count("commands", sums.commands, sink)?;
-    page.put_count("ok", sums.ok, sink)?;
-    page.put_count("refused", sums.refused, sink)?;
-    page.put_count("names", sums.names, sink)?;
+    page.put_count("commands", sums.commands as u128, sink)?;
+    page.put_count("ok", sums.ok as u128, sink)?;
+    page.put_count("refused", sums.refused as u128, sink)?;
+    page.put_count("names", sums.names as u128, sink)?;
     page.put_count("lines", sums.lines, sink)?;
     page.put(b"ok\n", sink)?;
     page.flush(sink)

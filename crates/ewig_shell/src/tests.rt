@@ -101,7 +101,7 @@ fn check<R: Abort + AllocGlobal>(
 
 #[test]
 fn replies_however_the_input_is_cut(rt: HostRuntime) -> Result<(), Fail> {
-    let rows: [(&[u8], &[u8]); 11] = [
+    let rows: [(&[u8], &[u8]); 12] = [
         (b"", b""),
         (b"new a\nadd a hello\nget a 0\n", b"ok\nok\n= hello\n"),
         (b"new a", b"ok\n"),
@@ -124,6 +124,10 @@ fn replies_however_the_input_is_cut(rt: HostRuntime) -> Result<(), Fail> {
         (
             b"quit \nquit a\nQuit\n",
             b"! command\n! command\n! command\n",
+        ),
+        (
+            b"stats\nmade\nmade \nnew .x\nundo\nbegin\nabort\nmade\n",
+            b"= 6\n= 6\n! command\n! name\n! empty\nok\nok\n= 6\n",
         ),
     ];
     for (input, written) in rows {
@@ -219,10 +223,14 @@ const TWO_CELLS: &str =
 
 #[test]
 fn loads_the_pool_of_a_document(rt: HostRuntime) -> Result<(), Fail> {
-    let rows: [(&[u8], &[u8]); 3] = [
+    let rows: [(&[u8], &[u8]); 4] = [
         (
             b"load d\nsave e\nstats\nsame a b\n",
             b"ok\nok\n= 11\n! none\n",
+        ),
+        (
+            b"made\nload d\nsave e\nstats\nmade\n",
+            b"= 6\nok\nok\n= 11\n= 17\n",
         ),
         (
             b"new b\nload d\nsave e\nlist\nget a 1\nundo\n",
@@ -681,38 +689,39 @@ fn equal_versions_whatever_the_bits(rt: HostRuntime) -> Result<(), Fail> {
     Ok(())
 }
 
+// The words, the file `d` where there is one, the input, and what is written.
+const OPENINGS: [(&[&str], &str, &[u8], &[u8]); 6] = [
+    (&["--open=nothere"], "", b"quit\nlist\n", b"! missing\nok\n"),
+    (&["--open", "d"], "", b"", b"! missing\n"),
+    (
+        &["--open", "d"],
+        TWO_CELLS,
+        b"stats\nget a 1\n",
+        b"ok\n= 11\n= x\n",
+    ),
+    (
+        &["--open", "d"],
+        "{",
+        b"new a\nstats\n",
+        b"! damaged json\nok\n= 11\n",
+    ),
+    (
+        &["--open", "d", "--bits", "5"],
+        START,
+        b"list\n",
+        b"! damaged bits\nok\n",
+    ),
+    (
+        &["--bits=32", "--open=d"],
+        START,
+        b"new a\nlist",
+        b"ok\nok\n= a 0\nok\n",
+    ),
+];
+
 #[test]
 fn opens_a_document_as_a_first_line(rt: HostRuntime) -> Result<(), Fail> {
-    // The words, the file `d` where there is one, the input, what is written, and the status.
-    let rows: [(&[&str], &str, &[u8], &[u8]); 6] = [
-        (&["--open=nothere"], "", b"quit\nlist\n", b"! missing\nok\n"),
-        (&["--open", "d"], "", b"", b"! missing\n"),
-        (
-            &["--open", "d"],
-            TWO_CELLS,
-            b"stats\nget a 1\n",
-            b"ok\n= 11\n= x\n",
-        ),
-        (
-            &["--open", "d"],
-            "{",
-            b"new a\nstats\n",
-            b"! damaged json\nok\n= 11\n",
-        ),
-        (
-            &["--open", "d", "--bits", "5"],
-            START,
-            b"list\n",
-            b"! damaged bits\nok\n",
-        ),
-        (
-            &["--bits=32", "--open=d"],
-            START,
-            b"new a\nlist",
-            b"ok\nok\n= a 0\nok\n",
-        ),
-    ];
-    for (words, held, input, written) in rows {
+    for (words, held, input, written) in OPENINGS {
         let devices = Devices {
             held: held.as_bytes(),
             ..WHOLE
@@ -752,79 +761,80 @@ fn opens_a_document_as_a_first_line(rt: HostRuntime) -> Result<(), Fail> {
     Ok(())
 }
 
+// The file `d` where there is one, the input, what is written, and the file `o` that is left.
+const FILES_OF_LINES: [(&[u8], &[u8], &[u8], Option<&[u8]>); 12] = [
+    (
+        b"one\ntwo\nthree\n",
+        b"read n d\nlen n\nput n 1 new\nwrite n o\n",
+        b"ok\n= 3\nok\nok\n",
+        Some(b"one\nnew\ntwo\nthree\n"),
+    ),
+    (
+        b"one\n\ntwo",
+        b"read n d\nshow n 0 3\nwrite n o\nread m o\nsame n m\n",
+        b"ok\n= one\n= \n= two\nok\nok\nok\n= yes\n",
+        Some(b"one\n\ntwo\n"),
+    ),
+    (
+        b"x\n",
+        b"new n\nwrite n o\nread n d\nundo\nlen n\n",
+        b"ok\nok\nok\nok\n= 0\n",
+        Some(b""),
+    ),
+    (
+        b"x\r\n",
+        b"read n d\nget n 0\nwrite n o\n",
+        b"ok\n= x\r\nok\n",
+        Some(b"x\r\n"),
+    ),
+    (
+        b"",
+        b"read n d\nread n o\nwrite n o\n",
+        b"! missing\n! missing\n! none\n",
+        None,
+    ),
+    (b"\xff\n", b"read n d\nlen n\n", b"! utf8\n! none\n", None),
+    (
+        b"x\n",
+        b"begin\nread n d\nwrite n o\nabort\nlen n\n",
+        b"ok\nok\nok\nok\n! none\n",
+        Some(b"x\n"),
+    ),
+    (
+        b"x\n",
+        b"new n\nadd n y\nread n d\nget n 0\nundo\nget n 0\n",
+        b"ok\nok\nok\n= x\nok\n= y\n",
+        None,
+    ),
+    (
+        b"x\n",
+        b"read n\nwrite n\nread n d e\nwrite .n o\nread n .d\n",
+        b"! command\n! command\n! command\n! name\n! name\n",
+        None,
+    ),
+    (
+        b"\n",
+        b"read n d\nlen n\nget n 0\nwrite n o\n",
+        b"ok\n= 1\n= \nok\n",
+        Some(b"\n"),
+    ),
+    (
+        b"x\n",
+        b"read n d\nread m d\nlist\nsame n m\n",
+        b"ok\nok\n= m 1\n= n 1\nok\n= yes\n",
+        None,
+    ),
+    (
+        b"x\n",
+        b"read n d\nwrite n d\nread n d\nlen n\nwrite n o\n",
+        b"ok\nok\nok\n= 1\nok\n",
+        Some(b"x\n"),
+    ),
+];
+
 #[test]
 fn reads_and_writes_the_lines_of_files(rt: HostRuntime) -> Result<(), Fail> {
-    // The file `d` where there is one, the input, what is written, and the file `o` that is left.
-    let rows: [(&[u8], &[u8], &[u8], Option<&[u8]>); 12] = [
-        (
-            b"one\ntwo\nthree\n",
-            b"read n d\nlen n\nput n 1 new\nwrite n o\n",
-            b"ok\n= 3\nok\nok\n",
-            Some(b"one\nnew\ntwo\nthree\n"),
-        ),
-        (
-            b"one\n\ntwo",
-            b"read n d\nshow n 0 3\nwrite n o\nread m o\nsame n m\n",
-            b"ok\n= one\n= \n= two\nok\nok\nok\n= yes\n",
-            Some(b"one\n\ntwo\n"),
-        ),
-        (
-            b"x\n",
-            b"new n\nwrite n o\nread n d\nundo\nlen n\n",
-            b"ok\nok\nok\nok\n= 0\n",
-            Some(b""),
-        ),
-        (
-            b"x\r\n",
-            b"read n d\nget n 0\nwrite n o\n",
-            b"ok\n= x\r\nok\n",
-            Some(b"x\r\n"),
-        ),
-        (
-            b"",
-            b"read n d\nread n o\nwrite n o\n",
-            b"! missing\n! missing\n! none\n",
-            None,
-        ),
-        (b"\xff\n", b"read n d\nlen n\n", b"! utf8\n! none\n", None),
-        (
-            b"x\n",
-            b"begin\nread n d\nwrite n o\nabort\nlen n\n",
-            b"ok\nok\nok\nok\n! none\n",
-            Some(b"x\n"),
-        ),
-        (
-            b"x\n",
-            b"new n\nadd n y\nread n d\nget n 0\nundo\nget n 0\n",
-            b"ok\nok\nok\n= x\nok\n= y\n",
-            None,
-        ),
-        (
-            b"x\n",
-            b"read n\nwrite n\nread n d e\nwrite .n o\nread n .d\n",
-            b"! command\n! command\n! command\n! name\n! name\n",
-            None,
-        ),
-        (
-            b"\n",
-            b"read n d\nlen n\nget n 0\nwrite n o\n",
-            b"ok\n= 1\n= \nok\n",
-            Some(b"\n"),
-        ),
-        (
-            b"x\n",
-            b"read n d\nread m d\nlist\nsame n m\n",
-            b"ok\nok\n= m 1\n= n 1\nok\n= yes\n",
-            None,
-        ),
-        (
-            b"x\n",
-            b"read n d\nwrite n d\nread n d\nlen n\nwrite n o\n",
-            b"ok\nok\nok\n= 1\nok\n",
-            Some(b"x\n"),
-        ),
-    ];
-    for (held, input, written, file) in rows {
+    for (held, input, written, file) in FILES_OF_LINES {
         let devices = Devices { held, ..WHOLE };
         let store = left_by(&rt, input, 1 << 40, &devices, written, Status::Done)?;
         assert_eq!(rt; store.file("o"), file);

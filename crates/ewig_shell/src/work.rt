@@ -16,13 +16,13 @@ use work_lines::WorkLines;
 #[derive(Clone, Copy, Debug, PartialEq, Eq)]
 pub struct Summary {
     /// How many lines there were.
-    pub commands: u128,
+    pub commands: u32,
     /// How many of them were carried out.
-    pub ok: u128,
+    pub ok: u32,
     /// How many of them were refused.
-    pub refused: u128,
+    pub refused: u32,
     /// How many buffers there are behind them.
-    pub names: u128,
+    pub names: usize,
     /// How many lines these buffers have in all.
     pub lines: u128,
 }
@@ -42,10 +42,10 @@ pub fn work(space: &mut Space, seed: u64, count: u32) -> Summary
     let tally = counted(space, seed, count);
     let (names, lines) = space.totals();
     Summary {
-        commands: u128::from(8 + count),
-        ok: u128::from(tally.ok),
-        refused: u128::from(tally.refused),
-        names: names as u128,
+        commands: 8 + count,
+        ok: tally.ok,
+        refused: tally.refused,
+        names,
         lines,
     }
 }

@@ -6,13 +6,13 @@ use Rattle.std.specs.FinMap as map
 use Rattle.plain_space.specs.declared.refusal.Refusal.{Refusal}
 use Rattle.plain_space.specs.declared.refusal.Refusal.TheVariants.{Absent, Exists, Range, Limit}
 use Rattle.shell_terms.specs.Edit.{Bytes}
-use Rattle.shell_terms.specs.Command.{PlainCommand, edit, mark, unmark, back, undo, redo, begin, «end», abort, get, len, show, list, stars, marks, same, eqv, stats, read, write, save, load, quit}
+use Rattle.shell_terms.specs.Command.{PlainCommand, edit, mark, unmark, back, undo, redo, begin, «end», abort, get, len, show, list, stars, marks, same, eqv, stats, made, read, write, save, load, quit}
 use Rattle.plain_space.specs.Workspace.{State, Workspace, sizes, same_texts, same_state, is_full, version_of, with_current}
 use Rattle.plain_space.specs.Refusing.{unless, given, on_lines, on_range, room, on_last, outside_batch, on_base}
 use Rattle.plain_space.specs.Edited.{edited}
 
 -- What a command comes to that nothing in the workspace refuses: its reply lines, and the workspace afterwards; or what the
--- pool or the store has to say, and not the workspace.
+-- space or the store has to say, and not the workspace.
 pub data Told : Type 0 where
   tells : (reply : List Bytes) (after : Workspace) → Told
   elsewhere : Told
@@ -65,7 +65,7 @@ history_step work from to = outside_batch work (
 
 -- The answer to such a step: the workspace that its state and its two histories make.
 abbrev pub steps_to : (State → List State → List State → Workspace) → Result (State × List State × List State) Refusal → Answer
-steps_to after (Ok made) = done (after made.0 made.1 made.2)
+steps_to after (Ok stepped) = done (after stepped.0 stepped.1 stepped.2)
 steps_to after (Err reason) = Err reason
 
 -- The answer of each command: the first refusal that holds, else its reply and the workspace afterwards.
@@ -106,6 +106,7 @@ answer work (eqv version other) = asked work (
     given (version_of work version) Absent (λ state.
     given (version_of work other) Absent (λ others. Ok (equal_line (same_state state others) ∷ []))))
 answer work stats = Ok elsewhere
+answer work made = Ok elsewhere
 answer work (read name file) = unless (is_full work) Limit (Ok elsewhere)
 answer work (write name file) = on_lines work.current name (λ lines. Ok elsewhere)
 answer work (save file) = outside_batch work (Ok elsewhere)

@@ -1,6 +1,6 @@
 -- Where a command may be refused for want of memory.
 use Rattle.std.specs.Prelude.{Bool, true, false, IsTrue, IsOk}
-use Rattle.shell_terms.specs.Command.{PlainCommand, begin, abort, get, len, show, same, eqv, stats, quit}
+use Rattle.shell_terms.specs.Command.{PlainCommand, begin, abort, get, len, show, same, eqv, stats, made, quit}
 use Rattle.plain_space.specs.Workspace.{Workspace}
 use Rattle.plain_space.specs.Answer.{answer}
 
@@ -14,6 +14,7 @@ wants_memory (show name from to) = false
 wants_memory (same name other) = false
 wants_memory (eqv version other) = false
 wants_memory stats = false
+wants_memory made = false
 wants_memory quit = false
 wants_memory _ = true
 

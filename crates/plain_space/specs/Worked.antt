@@ -3,7 +3,7 @@ use Rattle.std.specs.Prelude.{◌≡◌, ℕ, Bool, true, false, List, [], ◌�
 use Prim.Native.String.{String}
 use lib.Chars.{codes}
 use Rattle.shell_terms.specs.Edit.{Bytes, new, add, set, put, del, cat, cut, copy, drop, star, unstar, fill}
-use Rattle.shell_terms.specs.Command.{PlainCommand, edit, mark, unmark, back, undo, redo, begin, «end», abort, get, len, show, list, stars, marks, same, eqv, stats, read, write, save, load, quit}
+use Rattle.shell_terms.specs.Command.{PlainCommand, edit, mark, unmark, back, undo, redo, begin, «end», abort, get, len, show, list, stars, marks, same, eqv, stats, made, read, write, save, load, quit}
 use Rattle.plain_space.specs.declared.refusal.Refusal.TheVariants.{Absent, Batch}
 use Rattle.plain_space.specs.Workspace.{start}
 use Rattle.plain_space.specs.Answer.{answer, elsewhere}
@@ -167,16 +167,16 @@ WorkedEqualVersions = GetReplies
     (edit (new a) ∷ edit (add a x) ∷ mark v ∷ edit (set a 0 y) ∷ mark p ∷ eqv v p ∷ edit (set a 0 x) ∷ mark w ∷ eqv v w ∷ edit (star z) ∷ mark z ∷ eqv v z ∷ edit (unstar z) ∷ edit (copy a b) ∷ edit (drop a) ∷ mark q ∷ eqv v q ∷ eqv v y ∷ eqv y v ∷ eqv v v ∷ [])
     (lines ("ok" ∷ "ok" ∷ "ok" ∷ "ok" ∷ "ok" ∷ "= no" ∷ "ok" ∷ "ok" ∷ "= yes" ∷ "ok" ∷ "ok" ∷ "= no" ∷ "ok" ∷ "ok" ∷ "ok" ∷ "ok" ∷ "= no" ∷ "! none" ∷ "! none" ∷ "= yes" ∷ []))
 
--- What the pool or the store has to say something to.
+-- What the space or the store has to say something to.
 abbrev pub on_devices : List PlainCommand
-on_devices = stats ∷ read a p ∷ write a p ∷ save p ∷ load p ∷ []
+on_devices = stats ∷ made ∷ read a p ∷ write a p ∷ save p ∷ load p ∷ []
 
 -- What the workspace refuses of these in a new space, and in a batch with one buffer. What the others reply isn't said here.
 pub record WorkedElsewhere : Type 0 where
-  pub outside : map (answer start) on_devices ≡ Ok elsewhere ∷ Ok elsewhere ∷ Err Absent ∷ Ok elsewhere ∷ Ok elsewhere ∷ []
+  pub outside : map (answer start) on_devices ≡ Ok elsewhere ∷ Ok elsewhere ∷ Ok elsewhere ∷ Err Absent ∷ Ok elsewhere ∷ Ok elsewhere ∷ []
   pub in_batch :
       from start (edit (new a) ∷ begin ∷ []) (λ work. map (answer work) on_devices)
-      ≡ Ok elsewhere ∷ Ok elsewhere ∷ Ok elsewhere ∷ Err Batch ∷ Err Batch ∷ []
+      ≡ Ok elsewhere ∷ Ok elsewhere ∷ Ok elsewhere ∷ Ok elsewhere ∷ Err Batch ∷ Err Batch ∷ []
 
 -- The costs of commands by so many bits, in a workspace with two buffers, a star and a version.
 abbrev pub costs : ℕ → List PlainCommand → List ℕ
@@ -201,7 +201,7 @@ on_states = back v ∷ undo ∷ redo ∷ end ∷ []
 -- Commands that write nothing.
 abbrev pub on_nothing : List PlainCommand
 on_nothing =
-    begin ∷ abort ∷ get a 0 ∷ len a ∷ show a 0 0 ∷ list ∷ stars ∷ marks ∷ same a b ∷ eqv v v ∷ stats ∷ write a p ∷ save p ∷ quit ∷ []
+    begin ∷ abort ∷ get a 0 ∷ len a ∷ show a 0 0 ∷ list ∷ stars ∷ marks ∷ same a b ∷ eqv v v ∷ stats ∷ made ∷ write a p ∷ save p ∷ quit ∷ []
 
 -- A cost counts the names of the written map whose codes are alike: all by no bits, and by all bits the name itself.
 pub record WorkedCost : Type 0 where
@@ -210,7 +210,7 @@ pub record WorkedCost : Type 0 where
   pub names_alike : costs 0 on_names ≡ 65 ∷ 65 ∷ 65 ∷ 65 ∷ []
   pub names_apart : costs 32 on_names ≡ 64 ∷ 65 ∷ 64 ∷ 65 ∷ []
   pub states : costs 0 on_states ≡ 64 ∷ 64 ∷ 64 ∷ 64 ∷ []
-  pub nothing : costs 0 on_nothing ≡ replicate 14 0
+  pub nothing : costs 0 on_nothing ≡ replicate 15 0
 
 -- Whether each of the commands may want memory.
 abbrev pub wants : List PlainCommand → List Bool
@@ -224,4 +224,4 @@ pub record WorkedMemory : Type 0 where
   pub states : wants on_states ≡ replicate 4 true
   pub sorting : wants (list ∷ stars ∷ marks ∷ []) ≡ replicate 3 true
   pub files : wants (read a p ∷ write a p ∷ save p ∷ load p ∷ []) ≡ replicate 4 true
-  pub looking : wants (begin ∷ abort ∷ get a 0 ∷ len a ∷ show a 0 0 ∷ same a b ∷ eqv v v ∷ stats ∷ quit ∷ []) ≡ replicate 9 false
+  pub looking : wants (begin ∷ abort ∷ get a 0 ∷ len a ∷ show a 0 0 ∷ same a b ∷ eqv v v ∷ stats ∷ made ∷ quit ∷ []) ≡ replicate 10 false

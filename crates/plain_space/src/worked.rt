@@ -96,7 +96,7 @@ pub fn equal_versions()
     ensures { WorkedEqualVersions }
 {}
 
-/// What the pool or the store has to say, and the workspace doesn't refuse.
+/// What the space or the store has to say, and the workspace doesn't refuse.
 pub fn elsewhere()
     ensures { WorkedElsewhere }
 {}

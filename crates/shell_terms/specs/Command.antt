@@ -22,6 +22,7 @@ pub data PlainCommand : Type 0 where
   same : (name other : Bytes) → PlainCommand
   eqv : (version other : Bytes) → PlainCommand
   stats : PlainCommand
+  made : PlainCommand
   read : (name file : Bytes) → PlainCommand
   write : (name file : Bytes) → PlainCommand
   save : (file : Bytes) → PlainCommand

@@ -60,6 +60,7 @@ fn parts<'a>(command: Command<'a>) -> CommandParts<'a> {
         Command::Same(buffer, other) => ("same", buffer.as_str(), other.as_str(), 0, 0, ""),
         Command::Eqv(version, other) => ("eqv", version.as_str(), other.as_str(), 0, 0, ""),
         Command::Stats => ("stats", "", "", 0, 0, ""),
+        Command::Made => ("made", "", "", 0, 0, ""),
         Command::Read(buffer, file) => ("read", buffer.as_str(), file.as_str(), 0, 0, ""),
         Command::Write(buffer, file) => ("write", buffer.as_str(), file.as_str(), 0, 0, ""),
         Command::Save(file) => ("save", file.as_str(), "", 0, 0, ""),
@@ -153,6 +154,7 @@ fn reads_other_commands(rt: HostRuntime) {
         ("same b b", ("same", "b", "b", 0, 0, "")),
         ("eqv v w", ("eqv", "v", "w", 0, 0, "")),
         ("stats", ("stats", "", "", 0, 0, "")),
+        ("made", ("made", "", "", 0, 0, "")),
         ("read n notes.txt", ("read", "n", "notes.txt", 0, 0, "")),
         ("write n out", ("write", "n", "out", 0, 0, "")),
         ("save s.json", ("save", "s.json", "", 0, 0, "")),
@@ -175,7 +177,7 @@ fn refuses(rt: &impl Abort, lines: [&str; 7], want: BadLine) {
 }
 
 // What lines must be refused as, and lines of that kind.
-const REFUSED: [(BadLine, [&str; 7]); 15] = [
+const REFUSED: [(BadLine, [&str; 7]); 16] = [
     // A word that is none, and a wrong number of pieces.
     (
         BadLine::Command,
@@ -225,6 +227,12 @@ const REFUSED: [(BadLine, [&str; 7]); 15] = [
             "stats x",
             "save",
             "load s t",
+        ],
+    ),
+    (
+        BadLine::Command,
+        [
+            "stats ", "stats\r", "made x", "made ", "made\r", "Made", "mades",
         ],
     ),
     // A number that doesn't read, also behind what is no name.

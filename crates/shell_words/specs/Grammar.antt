@@ -7,7 +7,7 @@ use Rattle.std.specs.Map.{lookup}
 use Rattle.std.specs.Str.{is_utf8}
 use Rattle.elem_core.specs.Naming.{is_name}
 use Rattle.shell_terms.specs.Edit.{new, add, set, put, del, cat, cut, copy, drop, star, unstar}
-use Rattle.shell_terms.specs.Command.{PlainCommand, edit, mark, unmark, back, undo, redo, begin, «end», abort, get, len, show, list, stars, marks, same, eqv, stats, read, write, save, load, quit}
+use Rattle.shell_terms.specs.Command.{PlainCommand, edit, mark, unmark, back, undo, redo, begin, «end», abort, get, len, show, list, stars, marks, same, eqv, stats, made, read, write, save, load, quit}
 use Rattle.shell_words.specs.declared.BadLine.{BadLine}
 use Rattle.shell_words.specs.declared.BadLine.TheVariants as refused
 use Rattle.shell_words.specs.Number.{number_of}
@@ -85,6 +85,7 @@ commands =
     ∷ (codes "same", a_name (λ b. a_name (λ c. the_end (same b c))))
     ∷ (codes "eqv", a_name (λ v. a_name (λ w. the_end (eqv v w))))
     ∷ (codes "stats", the_end stats)
+    ∷ (codes "made", the_end made)
     ∷ (codes "read", a_name (λ b. a_name (λ f. the_end (read b f))))
     ∷ (codes "write", a_name (λ b. a_name (λ f. the_end (write b f))))
     ∷ (codes "save", a_name (λ f. the_end (save f)))

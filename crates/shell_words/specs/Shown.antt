@@ -1,10 +1,10 @@
 -- What the answer of `read_line` shows: the command with its names, numbers and texts as values.
 use Rattle.std.specs.Prelude.{Result, Ok, Err}
 use Rattle.shell_terms.specs.Edit.{new, add, set, put, del, cat, cut, copy, drop, star, unstar}
-use Rattle.shell_terms.specs.Command.{PlainCommand, edit, mark, unmark, back, undo, redo, begin, «end», abort, get, len, show, list, stars, marks, same, eqv, stats, read, write, save, load, quit}
+use Rattle.shell_terms.specs.Command.{PlainCommand, edit, mark, unmark, back, undo, redo, begin, «end», abort, get, len, show, list, stars, marks, same, eqv, stats, made, read, write, save, load, quit}
 use Rattle.elem_core.specs.Shown.{name_bytes, line_bytes}
 use Rattle.shell_words.specs.declared.Command.{Command}
-use Rattle.shell_words.specs.declared.Command.TheVariants.{New, Add, Set, Put, Del, Cat, Cut, Copy, Drop, Star, Unstar, Mark, Unmark, Back, Undo, Redo, Begin, End, Abort, Get, Len, Show, List, Stars, Marks, Same, Eqv, Stats, Read, Write, Save, Load, Quit}
+use Rattle.shell_words.specs.declared.Command.TheVariants.{New, Add, Set, Put, Del, Cat, Cut, Copy, Drop, Star, Unstar, Mark, Unmark, Back, Undo, Redo, Begin, End, Abort, Get, Len, Show, List, Stars, Marks, Same, Eqv, Stats, Made, Read, Write, Save, Load, Quit}
 use Rattle.shell_words.specs.declared.BadLine.{BadLine}
 
 -- The command with its names and texts as their bytes.
@@ -37,6 +37,7 @@ plain_command Marks = marks
 plain_command (Same b c) = same (name_bytes b) (name_bytes c)
 plain_command (Eqv v w) = eqv (name_bytes v) (name_bytes w)
 plain_command Stats = stats
+plain_command Made = made
 plain_command (Read b f) = read (name_bytes b) (name_bytes f)
 plain_command (Write b f) = write (name_bytes b) (name_bytes f)
 plain_command (Save f) = save (name_bytes f)

@@ -91,6 +91,8 @@ pub enum Command<'a> {
     Eqv(Name<'a>, Name<'a>),
     /// `stats`: the number of rows that the space has.
     Stats,
+    /// `made`: the number of rows that the space has ever made.
+    Made,
     /// `read B F`: B with the lines of the file F, made or replaced.
     Read(Name<'a>, Name<'a>),
     /// `write B F`: the lines of B in the file F.
@@ -155,6 +157,7 @@ fn read_text(text: &str) -> Result<Command<'_>, BadLine>
         "same" => two_names(rest).map(|(buffer, other)| Command::Same(buffer, other)),
         "eqv" => two_names(rest).map(|(version, other)| Command::Eqv(version, other)),
         "stats" => nothing(rest).map(|()| Command::Stats),
+        "made" => nothing(rest).map(|()| Command::Made),
         "read" => two_names(rest).map(|(buffer, file)| Command::Read(buffer, file)),
         "write" => two_names(rest).map(|(buffer, file)| Command::Write(buffer, file)),
         "save" => name(rest).map(Command::Save),

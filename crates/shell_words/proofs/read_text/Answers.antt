@@ -1,7 +1,7 @@
 use Rattle.std.proofs.Common.{◌≡◌, ◌∙◌, sym, refl, ap, None, bytes_eq, rules}
 use Rattle.std.specs.Map.{lookup}
 use Rattle.shell_terms.specs.Edit.{new, add, set, put, del, cat, cut, copy, drop, star, unstar}
-use Rattle.shell_terms.specs.Command.{edit, mark, unmark, back, undo, redo, begin, «end», abort, get, len, show, list, stars, marks, same, eqv, stats, read, write, save, load, quit}
+use Rattle.shell_terms.specs.Command.{edit, mark, unmark, back, undo, redo, begin, «end», abort, get, len, show, list, stars, marks, same, eqv, stats, made, read, write, save, load, quit}
 use Rattle.elem_core.specs.Shown.{name_bytes, line_bytes}
 use Rattle.shell_words.specs.Grammar.{commands}
 use Rattle.shell_words.specs.Shown.{plain_command}
@@ -204,6 +204,13 @@ returns-in-stats c =
     c.utf8.text (sym c.split_piece.ensures.piece ∙ c.in-stats.is) refl c.split_piece.ensures.rest (c.nothing-in-stats.ensures stats)
     c.map-in-stats.ensures.cases (λ x command is. search rules)
 
+pub returns-in-made : goal.returns-in-made
+unfolding commands
+returns-in-made c =
+    answers_word c.args.text.now _ _ _ c.nothing-in-made.result c.map-in-made.result _ (λ _. made)
+    c.utf8.text (sym c.split_piece.ensures.piece ∙ c.in-made.is) refl c.split_piece.ensures.rest (c.nothing-in-made.ensures made)
+    c.map-in-made.ensures.cases (λ x command is. search rules)
+
 pub returns-in-read : goal.returns-in-read
 unfolding commands
 returns-in-read c =
@@ -270,10 +277,11 @@ returns-in_default c =
     let no_same = other_word _ _ c.in_default.not-same in
     let no_eqv = other_word _ _ c.in_default.not-eqv in
     let no_stats = other_word _ _ c.in_default.not-stats in
+    let no_made = other_word _ _ c.in_default.not-made in
     let no_read = other_word _ _ c.in_default.not-read in
     let no_write = other_word _ _ c.in_default.not-write in
     let no_save = other_word _ _ c.in_default.not-save in
     let no_load = other_word _ _ c.in_default.not-load in
     let no_quit = other_word _ _ c.in_default.not-quit in
-    let none : lookup (bytes_eq c.split_piece.result.0.now) commands ≡ None = rw (no_new, no_add, no_set, no_put, no_del, no_cat, no_cut, no_copy, no_drop, no_star, no_unstar, no_mark, no_unmark, no_back, no_undo, no_redo, no_begin, no_end, no_abort, no_get, no_len, no_show, no_list, no_stars, no_marks, no_same, no_eqv, no_stats, no_read, no_write, no_save, no_load, no_quit) refl in
+    let none : lookup (bytes_eq c.split_piece.result.0.now) commands ≡ None = rw (no_new, no_add, no_set, no_put, no_del, no_cat, no_cut, no_copy, no_drop, no_star, no_unstar, no_mark, no_unmark, no_back, no_undo, no_redo, no_begin, no_end, no_abort, no_get, no_len, no_show, no_list, no_stars, no_marks, no_same, no_eqv, no_stats, no_made, no_read, no_write, no_save, no_load, no_quit) refl in
     sym (meaning-unknown c.args.text.now _ c.utf8.text (sym c.split_piece.ensures.piece) none)

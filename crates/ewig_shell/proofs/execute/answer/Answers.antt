@@ -7,7 +7,7 @@ use Rattle.ewig_shell.proofs.execute.answer.Goals as goal
 pub returns-in_default : goal.returns-in_default
 returns-in_default g c =
     let d = c.in_default in
-    let changes = others-change c.args.command d.not-Get d.not-Len d.not-Show d.not-List d.not-Stars d.not-Marks d.not-Same d.not-Eqv d.not-Stats d.not-Read d.not-Write d.not-Save d.not-Load d.not-Quit in
+    let changes = others-change c.args.command d.not-Get d.not-Len d.not-Show d.not-List d.not-Stars d.not-Marks d.not-Same d.not-Eqv d.not-Stats d.not-Made d.not-Read d.not-Write d.not-Save d.not-Load d.not-Quit in
     Replies-ends _ _ c.change.result refl (changes-alone _ changes) (changes-asks _ changes) c.change.ensures c.send_done.ensures
 
 pub returns-in-Get : goal.returns-in-Get
@@ -36,6 +36,9 @@ returns-in-Eqv g c = Replies-alone _ _ c.in-Eqv.is refl c.eqv.ensures
 
 pub returns-in-Stats : goal.returns-in-Stats
 returns-in-Stats g c = Replies-alone _ _ c.in-Stats.is refl c.stats.ensures
+
+pub returns-in-Made : goal.returns-in-Made
+returns-in-Made g c = Replies-alone _ _ c.in-Made.is refl c.made.ensures
 
 pub returns-in-Quit : goal.returns-in-Quit
 returns-in-Quit g c = Replies-alone _ _ c.in-Quit.is refl c.quit.ensures
