@@ -159,6 +159,13 @@ fn keeps_values_by_number(rt: HostRuntime) {
     assert!(rt; !maps.has(&rt, two, &Num(65)));
 }
 
+// The map with the text `a`, and that with `A` too.
+fn insert_both(rt: &impl Abort, alloc: Global, maps: &mut MapVersions<Text>) -> (usize, usize) {
+    let small = maps.insert(rt, 0, text(rt, alloc, "a"), text(rt, alloc, "1"));
+    let both = maps.insert(rt, small, text(rt, alloc, "A"), text(rt, alloc, "2"));
+    (small, both)
+}
+
 // The codes of `a` and `A`, 0xE40C292C and 0xC40BF6CC, have the same low 5 bits. So by 5 bits they stand in a chain below seven
 // trie rows.
 #[test]
@@ -166,18 +173,7 @@ fn keeps_texts_in_a_chain(rt: HostRuntime) {
     let lower = name(&rt, "a");
     let upper = name(&rt, "A");
     let mut maps: MapVersions<Text> = MapVersions::start(&rt, rt.alloc(), 5);
-    let small = maps.insert(
-        &rt,
-        0,
-        text(&rt, rt.alloc(), "a"),
-        text(&rt, rt.alloc(), "1"),
-    );
-    let both = maps.insert(
-        &rt,
-        small,
-        text(&rt, rt.alloc(), "A"),
-        text(&rt, rt.alloc(), "2"),
-    );
+    let (_small, both) = insert_both(&rt, rt.alloc(), &mut maps);
     let highest = Shape::Trie {
         depth: 0,
         entries: 0,
@@ -194,18 +190,7 @@ fn keeps_texts_in_a_chain(rt: HostRuntime) {
 fn keeps_the_entry_of_a_text_in_a_chain(rt: HostRuntime) {
     let upper = name(&rt, "A");
     let mut maps: MapVersions<Text> = MapVersions::start(&rt, rt.alloc(), 5);
-    let small = maps.insert(
-        &rt,
-        0,
-        text(&rt, rt.alloc(), "a"),
-        text(&rt, rt.alloc(), "1"),
-    );
-    let both = maps.insert(
-        &rt,
-        small,
-        text(&rt, rt.alloc(), "A"),
-        text(&rt, rt.alloc(), "2"),
-    );
+    let (small, both) = insert_both(&rt, rt.alloc(), &mut maps);
     let there = maps.first(&rt, small);
     assert!(rt; there.is_some() && maps.last(&rt, both) == there);
     let less = maps.remove(&rt, both, &upper);

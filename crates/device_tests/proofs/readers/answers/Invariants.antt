@@ -1,6 +1,6 @@
 use Rattle.std.proofs.Common.{◌≡◌, ℕ, Some, true}
 use Rattle.shell_io.specs.Reader.{may_take}
-use Rattle.shell_tests.proofs.readers.answers.Given as goal
+use Rattle.device_tests.proofs.readers.answers.Given as goal
 
 -- the reader keeps the one bound that it is given, and each offer was ample and none came behind the end
 abbrev pub invariant-loop : goal.invariant-loop
