@@ -510,7 +510,7 @@ has-first K g is are = record { keeps = keeps-swapped (keeps-turned K g); state 
 
 -- the spares that the first leaves
 pub first-spares : {old mid : Heap Bytes} {spent : List ℕ} {l : ℕ} (bits : ℕ) (now : State) (key other : Bytes) (xs : List Bytes) → Answered old mid spent l 1 (10 + alike_buffers bits now key)
-    → HasSpares old 2 (31 + alike_buffers bits now key + alike_buffers bits now other) → HasSpares mid 1 (20 + alike_buffers bits (with_lines now key xs) other)
+    → HasSpares old 2 (32 + alike_buffers bits now key + alike_buffers bits now other) → HasSpares mid 1 (21 + alike_buffers bits (with_lines now key xs) other)
 first-spares bits now key other xs g spares =
     (omega (arith, g.cells, g.balance.spare_cells, spares.0), omega (arith, g.nodes, g.balance.spare_nodes, spares.1, alike-with bits now key xs other))
 
@@ -523,7 +523,7 @@ pub has-second : {s : RootedHeap} {mid new : Heap Bytes} {l m n c d : ℕ} {key 
     → IsStateIn new s.bits n (with_lines (with_lines W.current key xs) other ys) → HasSecond s new n m key other xs ys W
 has-second first g is = record { keeps = keeps-swapped (keeps-turned first.keeps g); state = is }
 
-pub second-spares : {old new : Heap Bytes} {spent : List ℕ} {l : ℕ} (n : ℕ) → Answered old new spent l 1 (10 + n) → HasSpares old 1 (20 + n) → HasSpares new 0 10
+pub second-spares : {old new : Heap Bytes} {spent : List ℕ} {l : ℕ} (n : ℕ) → Answered old new spent l 1 (10 + n) → HasSpares old 1 (21 + n) → HasSpares new 0 11
 second-spares n g spares = (omega arith, omega (arith, g.nodes, g.balance.spare_nodes, spares.1))
 
 pub second-rises : {old mid new : Heap Bytes} {us xs : List ℕ} {v y : ℕ} (bits : ℕ) (now : State) (key other : Bytes) (zs : List Bytes) → Answered old mid us v 1 (10 + alike_buffers bits now key)
@@ -557,21 +557,21 @@ pub alike-same : {s t : RootedHeap} → IsSame s t → (now : State) (name : Byt
 alike-same same now name = λ i. alike_buffers (same.bits i) now name
 
 -- room was made and so were the lines: all that it takes to put them into their buffer
-pub can-put : {s t : RootedHeap} {new : Heap Bytes} {l c n : ℕ} {xs : List Bytes} {W : Workspace} {key name : Bytes} → key ≡ name → HasBufferRoom s t name W → IsMade t new [] l xs W c n → c ≤ 1 → n ≤ 100
-    → (V : Workspace) × (ys : List Bytes) × Keeps (record t { heap = new }) (l ∷ []) V × AreLinesIn new t.bits l ys × (is_full V ≡ false) × HasSpares new 1 (20 + alike_buffers t.bits V.current key)
+pub can-put : {s t : RootedHeap} {new : Heap Bytes} {l c n : ℕ} {xs : List Bytes} {W : Workspace} {key name : Bytes} → key ≡ name → HasBufferRoom s t name W → IsMade t new [] l xs W c n → c ≤ 1 → n ≤ 78
+    → (V : Workspace) × (ys : List Bytes) × Keeps (record t { heap = new }) (l ∷ []) V × AreLinesIn new t.bits l ys × (is_full V ≡ false) × HasSpares new 1 (21 + alike_buffers t.bits V.current key)
 can-put {s} {t} {xs = xs} {W = W} {key = key} {name = name} named room m few_cells few_nodes =
     let alike : alike_buffers t.bits W.current key ≡ alike_buffers s.bits W.current name = (λ i. alike_buffers (room.same.bits i) W.current (named i)) in
     (W, xs, m.keeps, m.lines, room.free, (omega (arith, m.cells, room.spares.0, few_cells), omega (arith, m.nodes, room.spares.1, few_nodes, alike)))
 
 -- the lines were made where there was room for them, and the state turned to the one that has them
 pub lines-put : {s t u : RootedHeap} {new : Heap Bytes} {l c n : ℕ} {xs : List Bytes} {W : Workspace} {key name : Bytes} (change : PlainEdit) → key ≡ name → IsSame s t → is_full W ≡ false → IsMade t new [] l xs W c n
-    → edited W.current change ≡ Ok (with_lines W.current name xs) → TurnsTo (record t { heap = new }) u [] (21 + alike_buffers t.bits W.current key) (with_current W (with_lines W.current key xs))
-    → c + n + (21 + alike_buffers s.bits W.current name) ≤ edit_cost s.bits change W.current → IsCarriedOut (edit change) s u W
+    → edited W.current change ≡ Ok (with_lines W.current name xs) → TurnsTo (record t { heap = new }) u [] (22 + alike_buffers t.bits W.current key) (with_current W (with_lines W.current key xs))
+    → c + n + (22 + alike_buffers s.bits W.current name) ≤ edit_cost s.bits change W.current → IsCarriedOut (edit change) s u W
 lines-put {s} {t} {u} {new} {l} {c} {n} {xs} {W} {key} {name} change is same free m made turn less =
-    let named : TurnsTo (record t { heap = new }) u [] (21 + alike_buffers t.bits W.current name) (with_current W (with_lines W.current name xs)) =
-    subst (λ (k : Bytes). TurnsTo (record t { heap = new }) u [] (21 + alike_buffers t.bits W.current k) (with_current W (with_lines W.current k xs))) is turn in
-    let turned : TurnsTo (record t { heap = new }) u [] (21 + alike_buffers s.bits W.current name) (with_current W (with_lines W.current name xs)) =
-    subst (λ (k : ℕ). TurnsTo (record t { heap = new }) u [] (21 + alike_buffers k W.current name) (with_current W (with_lines W.current name xs))) same.bits named in
+    let named : TurnsTo (record t { heap = new }) u [] (22 + alike_buffers t.bits W.current name) (with_current W (with_lines W.current name xs)) =
+    subst (λ (k : Bytes). TurnsTo (record t { heap = new }) u [] (22 + alike_buffers t.bits W.current k) (with_current W (with_lines W.current k xs))) is turn in
+    let turned : TurnsTo (record t { heap = new }) u [] (22 + alike_buffers s.bits W.current name) (with_current W (with_lines W.current name xs)) =
+    subst (λ (k : ℕ). TurnsTo (record t { heap = new }) u [] (22 + alike_buffers k W.current name) (with_current W (with_lines W.current name xs))) same.bits named in
     record {
       after = with_current W (with_lines W.current name xs);
       told = does W change (with_lines W.current name xs) made free;
@@ -580,13 +580,13 @@ lines-put {s} {t} {u} {new} {l} {c} {n} {xs} {W} {key} {name} change is same fre
 
 -- the same after room was made for an edit
 pub edit-done : {s t u : RootedHeap} {new : Heap Bytes} {l c n : ℕ} {xs : List Bytes} {W : Workspace} {key name : Bytes} (change : PlainEdit) → key ≡ name → HasBufferRoom s t name W → IsMade t new [] l xs W c n
-    → edited W.current change ≡ Ok (with_lines W.current name xs) → TurnsTo (record t { heap = new }) u [] (21 + alike_buffers t.bits W.current key) (with_current W (with_lines W.current key xs))
-    → c + n + (21 + alike_buffers s.bits W.current name) ≤ edit_cost s.bits change W.current → IsCarriedOut (edit change) s u W
+    → edited W.current change ≡ Ok (with_lines W.current name xs) → TurnsTo (record t { heap = new }) u [] (22 + alike_buffers t.bits W.current key) (with_current W (with_lines W.current key xs))
+    → c + n + (22 + alike_buffers s.bits W.current name) ≤ edit_cost s.bits change W.current → IsCarriedOut (edit change) s u W
 edit-done change is room m made turn less = lines-put change is room.same room.free m made turn less
 
 -- room was made, and the state turned to the one in which the buffer is gone
 pub drop-done : {s t u : RootedHeap} {new : Heap Bytes} {spent : List ℕ} {l : ℕ} {W : Workspace} {name : Bytes} (xs : List Bytes) → IsSame s t → Answered t.heap new spent l 0 (8 + alike_buffers t.bits W.current name)
-    → lines_of W.current name ≡ Some xs → is_full W ≡ false → TurnsTo (record t { heap = new }) u [] 10 (with_current W (without_lines W.current name)) → IsCarriedOut (edit (drop_buffer name)) s u W
+    → lines_of W.current name ≡ Some xs → is_full W ≡ false → TurnsTo (record t { heap = new }) u [] 11 (with_current W (without_lines W.current name)) → IsCarriedOut (edit (drop_buffer name)) s u W
 drop-done {s} {t} {u} {new} {W = W} {name = name} xs same g there free turn =
     record {
       after = with_current W (without_lines W.current name);
@@ -621,7 +621,7 @@ has-parts {t} {mid} {new} {v} {k} {l} {n} {m} {xs} {W} from to K are a good item
 
 -- spares are left to put both into their buffers
 pub both-spares-left : {s t : RootedHeap} {new : Heap Bytes} {k l n : ℕ} {xs ys : List Bytes} {W : Workspace} {key name other_key other : Bytes} → IsSame s t → key ≡ name → other_key ≡ other → HasParts t new k l xs ys W n
-    → HasSpares t.heap 2 (EDIT_NODES + alike_buffers s.bits W.current name + alike_buffers s.bits W.current other) → n ≤ 90 → HasSpares new 2 (31 + alike_buffers t.bits W.current key + alike_buffers t.bits W.current other_key)
+    → HasSpares t.heap 2 (EDIT_NODES + alike_buffers s.bits W.current name + alike_buffers s.bits W.current other) → n ≤ 67 → HasSpares new 2 (32 + alike_buffers t.bits W.current key + alike_buffers t.bits W.current other_key)
 both-spares-left {s} {t} {W = W} {key = key} {name = name} {other_key = other_key} {other = other} same is also p spares few =
     let one : alike_buffers t.bits W.current key ≡ alike_buffers s.bits W.current name = (λ i. alike_buffers (same.bits i) W.current (is i)) in
     let two : alike_buffers t.bits W.current other_key ≡ alike_buffers s.bits W.current other = (λ i. alike_buffers (same.bits i) W.current (also i)) in
@@ -630,12 +630,12 @@ both-spares-left {s} {t} {W = W} {key = key} {name = name} {other_key = other_ke
 -- room was made, the parts were made, and the state turned to the one that has them
 pub cut-done : {s t u : RootedHeap} {new : Heap Bytes} {k l n : ℕ} {xs ys : List Bytes} {W : Workspace} {key name other_key other : Bytes} (from to : ℕ) → IsSame s t → key ≡ name → other_key ≡ other → HasParts t new k l xs ys W n
     → is_full W ≡ false → edited W.current (cut name from to other) ≡ Ok (with_lines (with_lines W.current name xs) other ys)
-    → TurnsTo (record t { heap = new }) u [] (33 + (alike_buffers t.bits W.current key + alike_buffers t.bits W.current other_key)) (with_current W (with_lines (with_lines W.current key xs) other_key ys))
-    → n ≤ 90 → IsCarriedOut (edit (cut name from to other)) s u W
+    → TurnsTo (record t { heap = new }) u [] (34 + (alike_buffers t.bits W.current key + alike_buffers t.bits W.current other_key)) (with_current W (with_lines (with_lines W.current key xs) other_key ys))
+    → n ≤ 67 → IsCarriedOut (edit (cut name from to other)) s u W
 cut-done {s} {t} {u} {new} {n = n} {xs = xs} {ys = ys} {W = W} {key = key} {name = name} {other_key = other_key} {other = other} from to same is also p free made turn few =
     let one : alike_buffers t.bits W.current key ≡ alike_buffers s.bits W.current name = (λ i. alike_buffers (same.bits i) W.current (is i)) in
     let two : alike_buffers t.bits W.current other_key ≡ alike_buffers s.bits W.current other = (λ i. alike_buffers (same.bits i) W.current (also i)) in
-    let most_more : ℕ = 33 + (alike_buffers t.bits W.current key + alike_buffers t.bits W.current other_key) in
+    let most_more : ℕ = 34 + (alike_buffers t.bits W.current key + alike_buffers t.bits W.current other_key) in
     let turned : TurnsTo (record t { heap = new }) u [] most_more (with_current W (with_lines (with_lines W.current name xs) other ys)) =
     subst (λ (j : Bytes). TurnsTo (record t { heap = new }) u [] most_more (with_current W (with_lines (with_lines W.current name xs) j ys))) also
     (subst (λ (j : Bytes). TurnsTo (record t { heap = new }) u [] most_more (with_current W (with_lines (with_lines W.current j xs) other_key ys))) is turn) in

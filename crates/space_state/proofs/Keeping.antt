@@ -7,13 +7,12 @@ use Rattle.elem_core.specs.declared.codes.TheConstants.{CODE_BITS}
 use Rattle.node_heap.specs.Links.{count}
 use Rattle.node_heap.specs.Forms.{cell, is_cell, is_node}
 use Rattle.node_heap.specs.Heap.{Heap, row_at, holds_at, hold_count, live_count, cell_count, node_count, one_at, form_at, IsGraph}
-use Rattle.node_heap.specs.Calls.{Extends, Makes, Releases, Unchanged, HasGreater, Adds, Answered}
+use Rattle.node_heap.specs.Calls.{Extends, KeepsHeld, Makes, Releases, Trades, Unchanged, HasGreater, Adds, Answered}
 use Rattle.node_heap.proofs.Counts.{test_same}
 use Rattle.node_heap.proofs.Frames.{KeepsHeld-Releases, Balances-Makes}
 use Rattle.node_heap.proofs.GraphLemmas.{IsGraph-kinds}
 use Rattle.node_heap.proofs.BuildLemmas.{count-cons, count-append}
-use Rattle.rrb_core.specs.Vector.{IsGoodVector, elements, height_at}
-use Rattle.rrb_core.proofs.Stays.{well-live}
+use Rattle.rrb_core.specs.Vector.{IsGoodVector, elements}
 use Rattle.champ_kinds.proofs.ZipLemmas.{zip-length}
 use Rattle.shell_terms.specs.Edit.{Bytes}
 use Rattle.plain_space.specs.Workspace.{Named, State, Workspace, most, in_batch, is_full}
@@ -262,22 +261,48 @@ keeps-versions {s} {b} {W} next m K are =
     keeps-of (record s { roots = roots }) (s.roots.versions ∷ b) (record W { versions = m }) K.graph K.bits (K.stands.0, are, K.stands.2, K.stands.3, K.stands.4)
     (λ k. omega (arith, keeps-holds K k, count-cons k next b, count-cons k s.roots.versions b, roots-count s.roots k, roots-count roots k)) (omega (arith, keeps-total K))
 
--- both histories at once
-pub keeps-histories : {s : RootedHeap} {b : List ℕ} {W : Workspace} (u r : ℕ) (us rs : List State) → Keeps s (u ∷ r ∷ b) W → IsHistoryIn s.heap s.bits u us → IsHistoryIn s.heap s.bits r rs
-    → Keeps (record s { roots = record s.roots { undo = u; redo = r } }) (s.roots.undo ∷ s.roots.redo ∷ b) (record W { undo = us; redo = rs })
-keeps-histories {s} {b} {W} u r us rs K undo redo =
-    let roots : Roots = record s.roots { undo = u; redo = r } in
-    keeps-of (record s { roots = roots }) (s.roots.undo ∷ s.roots.redo ∷ b) (record W { undo = us; redo = rs }) K.graph K.bits (K.stands.0, K.stands.1, undo, redo, K.stands.4)
-    (λ k. omega (
-      arith,
-      keeps-holds K k,
-      count-cons k u (r ∷ b),
-      count-cons k r b,
-      count-cons k s.roots.undo (s.roots.redo ∷ b),
-      count-cons k s.roots.redo b,
-      roots-count s.roots k,
-      roots-count roots k,
-    )) (omega (arith, keeps-total K))
+-- ## Where a history is edited in place
+
+-- undo is this vector, and these links are held besides in place of those
+pub keeps-undo : {s : RootedHeap} {W : Workspace} {new : Heap Bytes} {c n : ℕ} (u : ℕ) (us : List State) (spent gained : List ℕ) → Keeps s spent W → KeepsHeld (λ l. count l (s.roots.undo ∷ spent)) s.heap new
+    → Trades s.heap new (s.roots.undo ∷ spent) (u ∷ gained) c n → IsHistoryIn new s.bits u us → Keeps (record s { heap = new; roots = record s.roots { undo = u } }) gained (record W { undo = us })
+keeps-undo {s} {W} {new} u us spent gained K held trades is =
+    let roots : Roots = record s.roots { undo = u } in
+    let among = roots-count s.roots in
+    let stay : (l : ℕ) → 0 < one_at s.roots.current l + one_at s.roots.versions l + one_at s.roots.redo l + count l (base_of s.roots.batch) → StandsOn s.heap new s.bits l =
+    λ l some. states-stay s.heap new s.bits l (held.kept l (omega (arith, keeps-holds K l, among l, count-cons l s.roots.undo spent, some))) in
+    keeps-of (record s { heap = new; roots = roots }) gained (record W { undo = us }) trades.graph K.bits (
+      (stay s.roots.current (omega (arith, test_same s.roots.current s.roots.current refl))).state W.current K.stands.0,
+      (stay s.roots.versions (omega (arith, test_same s.roots.versions s.roots.versions refl))).versions W.versions K.stands.1,
+      is,
+      (stay s.roots.redo (omega (arith, test_same s.roots.redo s.roots.redo refl))).history W.redo K.stands.3,
+      base-stays s.heap new s.bits s.roots.batch W.base (λ l some. stay l (omega (arith, some))) K.stands.4,
+    )
+    (λ k. omega (arith, keeps-holds K k, trades.holds k, among k, roots-count roots k, count-cons k s.roots.undo spent, count-cons k u gained)) (omega (arith, keeps-total K, trades.total))
+
+-- undo and redo may be told the other way round
+abbrev turned : RootedHeap → RootedHeap
+turned s = record s { roots = record s.roots { undo = s.roots.redo; redo = s.roots.undo } }
+
+abbrev turned-work : Workspace → Workspace
+turned-work W = record W { undo = W.redo; redo = W.undo }
+
+keeps-turned-round : {s : RootedHeap} {b : List ℕ} {W : Workspace} → Keeps s b W → Keeps (turned s) b (turned-work W)
+keeps-turned-round {s} {b} {W} K =
+    keeps-of (turned s) b (turned-work W) K.graph K.bits (K.stands.0, K.stands.1, K.stands.3, K.stands.2, K.stands.4)
+    (λ k. omega (arith, keeps-holds K k, roots-count s.roots k, roots-count (record s.roots { undo = s.roots.redo; redo = s.roots.undo }) k)) (keeps-total K)
+
+-- and so redo is this vector
+pub keeps-redo : {s : RootedHeap} {W : Workspace} {new : Heap Bytes} {c n : ℕ} (r : ℕ) (rs : List State) (spent gained : List ℕ) → Keeps s spent W → KeepsHeld (λ l. count l (s.roots.redo ∷ spent)) s.heap new
+    → Trades s.heap new (s.roots.redo ∷ spent) (r ∷ gained) c n → IsHistoryIn new s.bits r rs → Keeps (record s { heap = new; roots = record s.roots { redo = r } }) gained (record W { redo = rs })
+keeps-redo r rs spent gained K held trades is = keeps-turned-round (keeps-undo r rs spent gained (keeps-turned-round K) held trades is)
+
+-- there is a hold for undo and for what is held besides
+pub undo-holds : {s : RootedHeap} {b : List ℕ} {W : Workspace} → Keeps s b W → (k : ℕ) → count k (s.roots.undo ∷ b) ≤ holds_at s.heap k
+undo-holds {s} {b} K k = omega (arith, keeps-holds K k, roots-count s.roots k, count-cons k s.roots.undo b)
+
+pub redo-holds : {s : RootedHeap} {b : List ℕ} {W : Workspace} → Keeps s b W → (k : ℕ) → count k (s.roots.redo ∷ b) ≤ holds_at s.heap k
+redo-holds {s} {b} K k = omega (arith, keeps-holds K k, roots-count s.roots k, count-cons k s.roots.redo b)
 
 -- ## Batches
 
@@ -340,15 +365,6 @@ has-room W is outside room =
     let apart = full-outside W (length W.undo) outside refl ∙ room in
     grind (arith, nat_tests, history-short is)
 
--- a history stands where every row stays
-pub history-stays : {old new : Heap Bytes} {bits l : ℕ} {ss : List State} → Extends old new → IsHistoryIn old bits l ss → IsHistoryIn new bits l ss
-history-stays {old} {new} {bits} {l} {ss} extends is =
-    (states-stay old new bits l (extends.kept l (well-live old (height_at old l) l is.vector.shape.well))).history ss is
-
--- the root of a history is low
-pub history-low : {h : Heap Bytes} {bits l : ℕ} {ss : List State} → IsHistoryIn h bits l ss → height_at h l ≤ 7
-history-low is = is.vector.shape.low
-
 -- ## How far the rows rise
 
 -- so many rows more at most, and the number made rises by no fewer than came
@@ -365,9 +381,11 @@ rises-answered {old} {new} a = record {
 pub rises-more : {old new : Heap Bytes} {m : ℕ} (m' : ℕ) → Rises old new m → m ≤ m' → Rises old new m'
 rises-more m' r more = record { few = omega (arith, r.few, more); made = r.made }
 
--- the same of a call that makes nodes alone, with more room
-pub rises-nodes : {old new : Heap Bytes} {spent : List ℕ} {l n : ℕ} (m : ℕ) → Answered old new spent l 0 n → n ≤ m → Rises old new m
-rises-nodes m a few = rises-more m (rises-answered a) (omega (arith, few))
+pub rises-trades : {old new : Heap Bytes} {spent gained : List ℕ} {c n : ℕ} → Trades old new spent gained c n → Rises old new (c + n)
+rises-trades {old} {new} trades = record {
+  few = omega (arith, IsGraph-kinds old, IsGraph-kinds new, trades.cells, trades.nodes);
+  made = (trades.balance.no_fewer, trades.balance.made);
+}
 
 pub rises-makes : {old new : Heap Bytes} {c n : ℕ} → Makes old new c n → Rises old new (c + n)
 rises-makes makes = record {

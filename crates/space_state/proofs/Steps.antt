@@ -1,11 +1,12 @@
 -- What the plain answer is to steps through histories, to batches, versions and stars, and how refusals end.
-use Rattle.std.proofs.Common.{◌≡◌, refl, sym, ◌∙◌, ap, subst, ℕ, ◌+◌, ◌-◌, ◌<◌, ◌≤◌, List, [], ◌∷◌, ◌++◌, length, take, arith, Bool, true, false, Option, Some, None, is_some, IsSome, Result, Ok, Err, slice_get, leb, IsTrue, IsOk, MatchOption}
-use Rattle.std.specs.Prelude.{IsErrAnd, MatchBool, MatchResult}
+use Rattle.std.proofs.Common.{◌≡◌, refl, sym, ◌∙◌, ap, subst, ℕ, zero, suc, ◌+◌, ◌-◌, ◌<◌, ◌≤◌, List, [], ◌∷◌, ◌++◌, length, take, arith, Bool, true, false, Option, Some, None, is_some, IsSome, Result, Ok, Err, slice_get, leb, IsTrue, IsOk, MatchOption}
+use Rattle.std.specs.Prelude.{IsErrAnd, IsSomeAnd, MatchBool, MatchResult}
 use Rattle.std.proofs.lemmas.Bool.{le-leb}
 use Rattle.std.specs.FinMap as map
+use Rattle.node_heap.specs.Links.{count}
 use Rattle.node_heap.specs.Heap.{Heap, holds_at, hold_count, one_at, HasSpares, IsGraph}
-use Rattle.node_heap.specs.Calls.{Answered, Extends, Makes, SameRows, Unchanged}
-use Rattle.rrb_core.specs.Vector.{elements, height_at}
+use Rattle.node_heap.specs.Calls.{Answered, Extends, KeepsHeld, Makes, SameRows, Trades, Unchanged}
+use Rattle.rrb_core.specs.Vector.{elements}
 use Rattle.shell_terms.specs.Edit.{Bytes, star, unstar}
 use Rattle.shell_terms.specs.Command.{PlainCommand, edit, mark, unmark, back, undo, redo, begin, «end», abort}
 use Rattle.plain_space.specs.declared.refusal.Refusal.{Refusal}
@@ -17,16 +18,16 @@ use Rattle.plain_space.specs.Memory.{wants_memory, MayLackMemory}
 use Rattle.state_rows.specs.Reading.{StandsIfThere}
 use Rattle.state_rows.specs.InHeap.{IsStateIn, IsHistoryIn}
 use Rattle.state_rows.specs.Standing.{IsBase}
-use Rattle.space_state.specs.declared.histories.TheConstants.{STEP_NODES}
 use Rattle.space_state.specs.declared.roots.RootedHeap.{RootedHeap}
+use Rattle.space_state.specs.declared.roots.Roots.{Roots}
 use Rattle.space_state.specs.declared.roots.Batch.{Batch as Batches}
 use Rattle.space_state.specs.declared.roots.Batch.TheVariants.{Closed, Open}
 use Rattle.space_state.specs.declared.turning.TheConstants.{EDIT_NODES}
 use Rattle.space_state.specs.Roots.{base_of, Keeps}
 use Rattle.space_state.specs.Turns.{IsDueBy, IsDue, RoomIsMade, RoomIsRefused, TurnsTo, IsCarriedOut, IsRefused}
-use Rattle.space_state.specs.Stepping.{IsStepped, IsStepRefused}
+use Rattle.space_state.specs.Stepping.{HasStepRoom, IsStepRefused}
 use Rattle.state_rows.proofs.Staying.{states-stay}
-use Rattle.space_state.proofs.Keeping.{history-length, history-short, history-low, history-stays, same-heap, keeps-same, keeps-gained, keeps-swapped, first-held, second-held, held-stands, answered-one, unchanged-stands, Rises, rises-answered, rises-nodes, rises-more, rises-same, rises-then, turns-by, turns-after}
+use Rattle.space_state.proofs.Keeping.{history-length, history-short, current-stands, same-heap, keeps-same, keeps-gained, keeps-current, keeps-undo, keeps-redo, answered-one, unchanged-stands, Rises, rises-answered, rises-more, rises-same, rises-then, turns-by}
 
 -- a list with fewer than the most elements has room for one more
 fits-one : (n : ℕ) → n < most → leb (n + 1) most ≡ true
@@ -197,8 +198,8 @@ room-lacks-memory W nodes (Err why) is free same = record { same = same; due = s
 room-lacks-memory W nodes (Ok x) is free same = absurd is
 
 -- so may a step through the histories where it would be made
-pub step-lacks-memory : (W : Workspace) (from to : List State) {s t : RootedHeap} {made : State × List State × List State} (result : Result (ℕ × ℕ) Refusal) → IsErrAnd result (λ why. why ≡ Memory) → history_step W from to ≡ Ok made
-    → t ≡ s → MatchResult result (λ made. IsStepped from to s t W made.0 made.1) (IsStepRefused from to s t W)
+pub step-lacks-memory : (W : Workspace) (from to : List State) {s t : RootedHeap} {made : State × List State × List State} (result : Result (Unit {0}) Refusal) → IsErrAnd result (λ why. why ≡ Memory) → history_step W from to ≡ Ok made
+    → t ≡ s → MatchResult result (λ _. HasStepRoom from to s t W) (IsStepRefused from to s t W)
 step-lacks-memory W from to {s} {t} (Err why) is told same = subst (λ why. IsStepRefused from to s t W why) (sym is) (record { due = subst IsOk (sym told) refl; same = same })
 step-lacks-memory W from to (Ok made) is told same = absurd is
 
@@ -259,10 +260,19 @@ module _ (h : Heap Bytes) (bits : ℕ) where
   pub version-there : (told : Option ℕ) (there : Option State) {test : Bool} → StandsIfThere (IsStateIn h bits) told there → is_some told ≡ test → is_some there ≡ test
   version-there told there stands is = sym (told-there told there stands) ∙ is
 
--- a list with an element at some place is not empty
-pub some-elements : {X : Type 0} (xs : List X) (i : ℕ) {x : X} → slice_get xs i ≡ Some x → 0 < length xs
-some-elements [] i there = absurd (let h = there in cc)
-some-elements (x ∷ xs) i there = omega arith
+-- what stands at a place of a list
+pub element-at : {X : Type 0} (xs : List X) (i : ℕ) → i < length xs → (x : X) × (slice_get xs i ≡ Some x)
+element-at [] i inside = absurd (omega (arith, inside))
+element-at (x ∷ xs) zero inside = (x, refl)
+element-at (x ∷ xs) (suc i) inside = element-at xs i (omega (arith, inside))
+
+-- and the last of one that isn't empty
+pub last-at : {X : Type 0} (xs : List X) → 0 < length xs → (x : X) × (slice_get xs (length xs - 1) ≡ Some x)
+last-at xs some = element-at xs (length xs - 1) (omega (arith, some))
+
+last-is : {X : Type 0} {P : X → Type 0} (o : Option X) → IsSomeAnd o P → (x : X) × (o ≡ Some x) × P x
+last-is None is = absurd is
+last-is (Some x) is = (x, refl, is)
 
 -- ## The rows of a step through the histories
 
@@ -284,40 +294,27 @@ is-held {s} {roomy} {new} {state} {x = x} K is room same extends graph holds tot
       rises = rises-then (rises-same room) (rises-answered once);
     }
 
--- it was the last of a history, which is held without it
-pub record Stepped (s : RootedHeap) (new : Heap Bytes) (state shorter : ℕ) (from : List State) (W : Workspace) : Type 0 where
+-- the last state of a history was taken out, and is current; the one that was current is held besides
+pub record IsMoved (s : RootedHeap) (new : Heap Bytes) (roots : Roots) (state : ℕ) (from : List State) (V : Workspace) : Type 0 where
   pub x : State
   pub last : slice_get from (length from - 1) ≡ Some x
-  pub keeps : Keeps (record s { heap = new }) (state ∷ shorter ∷ []) W
-  pub is : IsStateIn new s.bits state x
-  pub left : IsHistoryIn new s.bits shorter (take (length from - 1) from)
-  pub histories : (l : ℕ) (ss : List State) → IsHistoryIn s.heap s.bits l ss → IsHistoryIn new s.bits l ss
-  pub rises : Rises s.heap new 8
+  pub keeps : Keeps (record s { heap = new; roots = record roots { current = state } }) (s.roots.current ∷ []) (record V { current = x })
+  pub before : IsStateIn new s.bits s.roots.current V.current
 
-pub stepped : {s : RootedHeap} {mid new : Heap Bytes} {state shorter : ℕ} {from : List State} {W : Workspace} {x : State} → slice_get from (length from - 1) ≡ Some x → IsHeld s mid state x W
-    → Answered mid new [] shorter 0 (height_at new shorter + 1) → IsHistoryIn new s.bits shorter (take (length from - 1) from) → Stepped s new state shorter from W
-stepped {s} {mid} {new} {state = state} {x = x} last held popped left = record {
-  x = x;
-  last = last;
-  keeps = keeps-swapped (keeps-gained held.keeps popped);
-  is = (held-stands held.keeps popped.extends state (first-held held.keeps)).state x held.is;
-  left = left;
-  histories = λ l ss are. history-stays popped.extends (held.histories l ss are);
-  rises = rises-then held.rises (rises-nodes 8 popped (omega (arith, history-low left)));
-}
+module _ {s : RootedHeap} {new : Heap Bytes} {l state c n : ℕ} {W : Workspace} (K : Keeps s [] W) where
+  pub moved-undo : KeepsHeld (λ k. count k (s.roots.undo ∷ [])) s.heap new → Trades s.heap new (s.roots.undo ∷ []) (l ∷ state ∷ []) c n → IsHistoryIn new s.bits l (take (length W.undo - 1) W.undo)
+      → IsSomeAnd (slice_get W.undo (length W.undo - 1)) (IsStateIn new s.bits state) → IsMoved s new (record s.roots { undo = l }) state W.undo (record W { undo = take (length W.undo - 1) W.undo })
+  moved-undo held trades left last =
+      let there = last-is (slice_get W.undo (length W.undo - 1)) last in
+      let popped = keeps-undo l (take (length W.undo - 1) W.undo) [] (state ∷ []) K held trades left in
+      record { x = there.0; last = there.1; keeps = keeps-current state there.0 popped there.2; before = current-stands popped }
 
--- it is current, and the other history is held with the state that was current at its end
-pub moved : {s t : RootedHeap} {mid : Heap Bytes} {state longer shorter : ℕ} {from to : List State} {W : Workspace} (step : Stepped s mid state shorter from W) → in_batch W ≡ false → length to < most → Extends mid t.heap
-    → TurnsTo (record s { heap = mid }) t (longer ∷ shorter ∷ []) 9 (record W { current = step.x }) → IsHistoryIn t.heap t.bits longer (to ++ W.current ∷ []) → IsStepped from to s t W shorter longer
-moved {shorter = shorter} {from = from} {to = to} {W = W} step outside room extends turns grown = record {
-  state = step.x;
-  before = take (length from - 1) from;
-  after = to ++ W.current ∷ [];
-  told = step-done W from to outside step.x step.last room;
-  turns = turns-after 8 STEP_NODES step.rises refl turns (omega arith);
-  left = rw turns.bits ((held-stands step.keeps extends shorter (second-held step.keeps)).history _ step.left);
-  grown = grown;
-}
+  pub moved-redo : KeepsHeld (λ k. count k (s.roots.redo ∷ [])) s.heap new → Trades s.heap new (s.roots.redo ∷ []) (l ∷ state ∷ []) c n → IsHistoryIn new s.bits l (take (length W.redo - 1) W.redo)
+      → IsSomeAnd (slice_get W.redo (length W.redo - 1)) (IsStateIn new s.bits state) → IsMoved s new (record s.roots { redo = l }) state W.redo (record W { redo = take (length W.redo - 1) W.redo })
+  moved-redo held trades left last =
+      let there = last-is (slice_get W.redo (length W.redo - 1)) last in
+      let popped = keeps-redo l (take (length W.redo - 1) W.redo) [] (state ∷ []) K held trades left in
+      record { x = there.0; last = there.1; keeps = keeps-current state there.0 popped there.2; before = current-stands popped }
 
 -- ## Room
 
@@ -330,15 +327,15 @@ spares-suffice h c k n m spares cells nodes same = (omega (arith, spares.0, cell
 
 -- a state was made after room was, and it is held besides: all that a turn to it takes
 pub record HasNext (s t : RootedHeap) (next : ℕ) (x : State) (W : Workspace) (n : ℕ) : Type 0 where
-  pub turns : TurnsTo s t (next ∷ []) (54 + n) W
+  pub turns : TurnsTo s t (next ∷ []) (53 + n) W
   pub is : IsStateIn t.heap t.bits next x
-  pub spares : HasSpares t.heap 0 10
+  pub spares : HasSpares t.heap 0 11
   pub free : is_full W ≡ false
 
 pub has-next : {s t : RootedHeap} {new : Heap Bytes} {next c : ℕ} {x : State} {W : Workspace} (k n m : ℕ) → Keeps s [] W → RoomIsMade s t W (EDIT_NODES + n) → Answered t.heap new [] next c (k + m) → IsStateIn new t.bits next x
-    → c + k ≤ 54 → m ≡ n → HasNext s (record t { heap = new }) next x W n
+    → c + k ≤ 53 → m ≡ n → HasNext s (record t { heap = new }) next x W n
 has-next k n m K room answered is few alike = record {
-  turns = turns-by (54 + n) (keeps-gained (keeps-same room.same K) answered) room.same.bits (rises-more (54 + n) (rises-then (rises-same room.same.heap) (rises-answered answered)) (omega (arith, few, alike)));
+  turns = turns-by (53 + n) (keeps-gained (keeps-same room.same K) answered) room.same.bits (rises-more (53 + n) (rises-then (rises-same room.same.heap) (rises-answered answered)) (omega (arith, few, alike)));
   is = is;
   spares = (omega arith, omega (arith, room.spares.1, answered.balance.spare_nodes, answered.nodes, few, alike));
   free = room.free;

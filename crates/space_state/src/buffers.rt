@@ -36,9 +36,9 @@ impl RootedHeap {
     pub(crate) fn put_lines(&mut self, key: Text, lines: Flex)
         requires name { IsName key }
         requires kept { (W : Workspace) × (xs : List Bytes) × Keeps self.old (lines ∷ []) W × AreLinesIn self.old.heap self.old.bits lines xs × (is_full W ≡ false)
-            × HasSpares self.old.heap 1 (DEEPEST + 14 + alike_buffers self.old.bits W.current key) }
+            × HasSpares self.old.heap 1 (DEEPEST + 15 + alike_buffers self.old.bits W.current key) }
         ensures { (W : Workspace) (xs : List Bytes) → Keeps self.old (lines ∷ []) W → AreLinesIn self.old.heap self.old.bits lines xs → is_full W ≡ false →
-            TurnsTo self.old self.new [] (DEEPEST + 15 + alike_buffers self.old.bits W.current key) (with_current W (state_with_lines W.current key xs)) }
+            TurnsTo self.old self.new [] (DEEPEST + 16 + alike_buffers self.old.bits W.current key) (with_current W (state_with_lines W.current key xs)) }
     {
         let next = with_lines(&mut self.heap, self.bits, self.roots.current, key, lines);
         self.turn_to(next);
@@ -66,9 +66,9 @@ impl RootedHeap {
     fn put_both(&mut self, key: Text, rest: Flex, other_key: Text, part: Flex)
         requires names { IsName key × IsName other_key }
         requires kept { (W : Workspace) × (xs ys : List Bytes) × Keeps self.old (rest ∷ part ∷ []) W × AreLinesIn self.old.heap self.old.bits rest xs × AreLinesIn self.old.heap self.old.bits part ys × (is_full W ≡ false)
-            × HasSpares self.old.heap 2 (2 * DEEPEST + 19 + alike_buffers self.old.bits W.current key + alike_buffers self.old.bits W.current other_key) }
+            × HasSpares self.old.heap 2 (2 * DEEPEST + 20 + alike_buffers self.old.bits W.current key + alike_buffers self.old.bits W.current other_key) }
         ensures { (W : Workspace) (xs ys : List Bytes) → Keeps self.old (rest ∷ part ∷ []) W → AreLinesIn self.old.heap self.old.bits rest xs → AreLinesIn self.old.heap self.old.bits part ys → is_full W ≡ false →
-            TurnsTo self.old self.new [] (2 * DEEPEST + 21 + (alike_buffers self.old.bits W.current key + alike_buffers self.old.bits W.current other_key))
+            TurnsTo self.old self.new [] (2 * DEEPEST + 22 + (alike_buffers self.old.bits W.current key + alike_buffers self.old.bits W.current other_key))
             (with_current W (state_with_lines (state_with_lines W.current key xs) other_key ys)) }
     {
         let mid = with_lines(&mut self.heap, self.bits, self.roots.current, key, rest);

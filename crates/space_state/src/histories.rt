@@ -1,23 +1,23 @@
-//! Undo and redo.
-ghost use Rattle.std.specs.Prelude.{◌≡◌, ◌≢◌, ℕ, ◌+◌, ◌<◌, List, [], ◌∷◌, ◌++◌, length, Err, MatchResult};
+//! Undo and redo, which are edited in place: what nothing else holds of their rows is written, and only what a loaded document
+//! shares is copied.
+ghost use Rattle.std.specs.Prelude.{◌≡◌, ◌≢◌, ℕ, ◌+◌, ◌<◌, ◌≤◌, List, [], ◌∷◌, ◌++◌, length, Err, MatchResult};
 ghost use Rattle.node_heap.specs.Heap.{HasSpares};
-ghost use Rattle.node_heap.specs.Calls.{Extends};
 ghost use Rattle.shell_terms.specs.Command.{undo, redo};
 ghost use Rattle.plain_space.specs.Workspace.{State, Workspace, most};
 ghost use Rattle.state_rows.specs.InHeap.{IsStateIn, IsHistoryIn};
 ghost use Rattle.space_state.specs.Roots.{Keeps};
 ghost use Rattle.space_state.specs.Turns.{EndsOnRows, TurnsTo};
-ghost use Rattle.space_state.specs.Stepping.{IsStepped, IsStepRefused};
+ghost use Rattle.space_state.specs.Stepping.{HasStepRoom, IsStepRefused};
 
 use crate::roots::RootedHeap;
 use crate::turning::MOST_ITEMS;
 use node_heap::Link;
 use plain_space::Refusal;
 use rrb_core::{Flex, FlexRef};
-use state_rows::{last, popped, pushed};
+use state_rows::{POPPED_NODES, PUSHED_NODES, popped, pushed};
 
-/// The nodes of a step through the histories: a state more in the one, and one less in the other.
-pub(crate) const STEP_NODES: usize = 17;
+/// The nodes of a step through the histories: a state less in the one, and one more in the other.
+pub(crate) const STEP_NODES: usize = POPPED_NODES + PUSHED_NODES;
 
 impl RootedHeap {
     /// Goes back to the state before the last edit.
@@ -28,8 +28,12 @@ impl RootedHeap {
     {
         let undo = FlexRef::at(self.roots.undo);
         let redo = FlexRef::at(self.roots.redo);
-        let (shorter, longer) = self.step(undo, redo)?;
-        self.turn_histories(shorter.into_root(), longer.into_root());
+        self.make_step_room(undo, redo)?;
+        let (undo, state) = popped(&mut self.heap, Flex::from_root(self.roots.undo));
+        self.roots.undo = undo.into_root();
+        let before = self.roots.current;
+        self.roots.current = state;
+        self.push_redo(before);
         Ok(())
     }
 
@@ -41,52 +45,57 @@ impl RootedHeap {
     {
         let undo = FlexRef::at(self.roots.undo);
         let redo = FlexRef::at(self.roots.redo);
-        let (shorter, longer) = self.step(redo, undo)?;
-        self.turn_histories(longer.into_root(), shorter.into_root());
+        self.make_step_room(redo, undo)?;
+        let (redo, state) = popped(&mut self.heap, Flex::from_root(self.roots.redo));
+        self.roots.redo = redo.into_root();
+        let before = self.roots.current;
+        self.roots.current = state;
+        self.push_undo(before);
         Ok(())
     }
 
-    // Makes the last state of the one history the current one, and gives that history without it, and the other with the
-    // state that was current at its end, which the caller has to put in their places. `Batch` in a batch, else `Empty` where
-    // the one is empty, else `Limit` where the other is full, and last `Memory`, but not where the spares are there already.
-    fn step(&mut self, from: FlexRef, to: FlexRef) -> Result<(Flex, Flex), Refusal>
+    // Makes room for a step from the one history to the other. `Batch` in a batch, else `Empty` where the one is empty, else
+    // `Limit` where the other is full, and last `Memory`, but not where the spares are there already. Nothing but the heap's
+    // spares changes, and where it is refused nothing at all.
+    fn make_step_room(&mut self, from: FlexRef, to: FlexRef) -> Result<(), Refusal>
         requires kept { (W : Workspace) × (xs ys : List State) × Keeps self.old [] W × IsHistoryIn self.old.heap self.old.bits from xs × IsHistoryIn self.old.heap self.old.bits to ys }
         ensures ends { (W : Workspace) (xs ys : List State) → Keeps self.old [] W → IsHistoryIn self.old.heap self.old.bits from xs → IsHistoryIn self.old.heap self.old.bits to ys →
-            MatchResult result (λ made. IsStepped xs ys self.old self.new W made.0 made.1) (IsStepRefused xs ys self.old self.new W) }
+            MatchResult result (λ _. HasStepRoom xs ys self.old self.new W) (IsStepRefused xs ys self.old self.new W) }
         ensures ample { HasSpares self.old.heap 0 STEP_NODES → result ≢ Err Refusal.Memory }
     {
         if self.in_batch() {
             return Err(Refusal::Batch);
         }
-        let Some(state) = last(&self.heap, from) else {
+        if from.len(&self.heap) == 0 {
             return Err(Refusal::Empty);
-        };
+        }
         if to.len(&self.heap) == MOST_ITEMS {
             return Err(Refusal::Limit);
         }
         self.heap.reserve(0, STEP_NODES)?;
-        self.heap.hold(state);
-        let shorter = popped(&mut self.heap, from);
-        let longer = self.push_current(to, state);
-        Ok((shorter, longer))
+        Ok(())
     }
 
-    // Makes the state, of which the caller's hold is spent, the current one, and gives the history with the state that was
-    // current at its end. The caller holds another link meanwhile.
-    fn push_current(&mut self, history: FlexRef, state: Link) -> Flex
-        requires spares { HasSpares self.old.heap 0 9 }
-        requires kept { (other : ℕ) × (W : Workspace) × (s : State) × (states : List State) × Keeps self.old (state ∷ other ∷ []) W × IsStateIn self.old.heap self.old.bits state s
-            × IsHistoryIn self.old.heap self.old.bits history states × (length states < most) }
-        ensures turns { (other : ℕ) (W : Workspace) (s : State) → Keeps self.old (state ∷ other ∷ []) W → IsStateIn self.old.heap self.old.bits state s →
-            TurnsTo self.old self.new (result ∷ other ∷ []) 9 (record W { current = s }) }
-        ensures longer { (other : ℕ) (W : Workspace) (states : List State) → Keeps self.old (state ∷ other ∷ []) W → IsHistoryIn self.old.heap self.old.bits history states →
-            IsHistoryIn self.new.heap self.new.bits result (states ++ W.current ∷ []) }
-        ensures roots { self.new.roots ≡ record self.old.roots { current = state } }
-        ensures bits { self.new.bits ≡ self.old.bits }
-        ensures extends { Extends self.old.heap self.new.heap }
+    /// Puts the state at the end of undo, which spends a hold of it.
+    pub(crate) fn push_undo(&mut self, state: Link)
+        requires spares { HasSpares self.old.heap 0 PUSHED_NODES }
+        requires kept { (W : Workspace) × (s : State) × Keeps self.old (state ∷ []) W × IsStateIn self.old.heap self.old.bits state s × (length W.undo < most) }
+        ensures turns { (W : Workspace) (s : State) → Keeps self.old (state ∷ []) W → IsStateIn self.old.heap self.old.bits state s →
+            TurnsTo self.old self.new [] PUSHED_NODES (record W { undo = W.undo ++ s ∷ [] }) }
+        ensures spares { self.old.heap.spare_nodes ≤ self.new.heap.spare_nodes + PUSHED_NODES }
     {
-        let before = self.roots.current;
-        self.roots.current = state;
-        pushed(&mut self.heap, history, before)
+        let undo = pushed(&mut self.heap, Flex::from_root(self.roots.undo), state);
+        self.roots.undo = undo.into_root();
+    }
+
+    // The same at the end of redo.
+    fn push_redo(&mut self, state: Link)
+        requires spares { HasSpares self.old.heap 0 PUSHED_NODES }
+        requires kept { (W : Workspace) × (s : State) × Keeps self.old (state ∷ []) W × IsStateIn self.old.heap self.old.bits state s × (length W.redo < most) }
+        ensures { (W : Workspace) (s : State) → Keeps self.old (state ∷ []) W → IsStateIn self.old.heap self.old.bits state s →
+            TurnsTo self.old self.new [] PUSHED_NODES (record W { redo = W.redo ++ s ∷ [] }) }
+    {
+        let redo = pushed(&mut self.heap, Flex::from_root(self.roots.redo), state);
+        self.roots.redo = redo.into_root();
     }
 }

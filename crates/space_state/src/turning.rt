@@ -4,7 +4,7 @@ ghost use Rattle.elem_core.specs.Shown.{name_bytes, line_bytes};
 ghost use Rattle.node_heap.specs.Heap.{HasSpares};
 ghost use Rattle.plain_space.specs.Workspace.{State, Workspace, most, in_batch, is_full, with_current};
 ghost use Rattle.plain_space.specs.Cost.{alike_buffers};
-ghost use Rattle.state_rows.specs.InHeap.{IsStateIn, IsHistoryIn};
+ghost use Rattle.state_rows.specs.InHeap.{IsStateIn};
 ghost use Rattle.space_state.specs.Roots.{Keeps};
 ghost use Rattle.space_state.specs.Turns.{MakesRoom, TurnsTo};
 ghost use Rattle.space_state.specs.View.{room_of};
@@ -13,18 +13,19 @@ use crate::roots::{Batch, RootedHeap};
 use elem_core::{Line, Name, Text, text_of};
 use node_heap::Link;
 use plain_space::Refusal;
-use rrb_core::FlexRef;
-use state_rows::{buffers_alike, emptied, pushed};
+use rrb_core::{Flex, FlexRef};
+use state_rows::{EMPTIED_NODES, PUSHED_NODES, buffers_alike, emptied};
 
 /// The most states that undo or redo may hold, and the most lines of a buffer.
 pub(crate) const MOST_ITEMS: u32 = u32::MAX;
 
-/// The nodes for which room is made before an edit, besides one for each name whose code is alike. No edit makes more, but for
-/// the vector of lines that come from outside.
-pub(crate) const EDIT_NODES: usize = 128;
-
 /// The nodes of a turn to another state: a push to undo, and an empty redo.
-pub(crate) const TURN_NODES: usize = 10;
+pub(crate) const TURN_NODES: usize = PUSHED_NODES + EMPTIED_NODES;
+
+/// The nodes for which room is made before an edit, besides one for each name whose code is alike: those of the edit that makes
+/// most, which erases lines of a buffer (42), gives them to another as a slice (25), writes both names (10 each, and 1 for
+/// the first among the names of the second), and turns to that state.
+pub(crate) const EDIT_NODES: usize = 42 + 25 + 2 * 10 + 1 + TURN_NODES;
 
 impl RootedHeap {
     /// Whether a batch is open.
@@ -142,22 +143,8 @@ impl RootedHeap {
         ensures { (W : Workspace) (s : State) → Keeps self.old (before ∷ []) W → IsStateIn self.old.heap self.old.bits before s → length W.undo < most →
             TurnsTo self.old self.new [] TURN_NODES (record W { undo = W.undo ++ s ∷ []; redo = [] }) }
     {
-        let undo = pushed(&mut self.heap, FlexRef::at(self.roots.undo), before);
-        let redo = emptied(&mut self.heap, FlexRef::at(self.roots.redo));
-        self.turn_histories(undo.into_root(), redo.into_root());
-    }
-
-    /// Puts these vectors, of each of which the caller's hold is spent, in place of undo and redo.
-    pub(crate) fn turn_histories(&mut self, undo: Link, redo: Link)
-        requires { (W : Workspace) × (us rs : List State) × Keeps self.old (undo ∷ redo ∷ []) W × IsHistoryIn self.old.heap self.old.bits undo us × IsHistoryIn self.old.heap self.old.bits redo rs }
-        ensures { (W : Workspace) (us rs : List State) → Keeps self.old (undo ∷ redo ∷ []) W → IsHistoryIn self.old.heap self.old.bits undo us → IsHistoryIn self.old.heap self.old.bits redo rs →
-            TurnsTo self.old self.new [] 0 (record W { undo = us; redo = rs }) }
-    {
-        let old_undo = self.roots.undo;
-        let old_redo = self.roots.redo;
-        self.roots.undo = undo;
-        self.roots.redo = redo;
-        self.heap.release(old_undo);
-        self.heap.release(old_redo);
+        self.push_undo(before);
+        let redo = emptied(&mut self.heap, Flex::from_root(self.roots.redo));
+        self.roots.redo = redo.into_root();
     }
 }

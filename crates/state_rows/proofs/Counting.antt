@@ -13,7 +13,7 @@ use Rattle.plain_space.specs.Workspace.{Named}
 use Rattle.state_rows.specs.InHeap.{AreLinesIn, AreBuffersIn}
 use Rattle.state_rows.specs.Listing.{IsSizeAt}
 use Rattle.state_rows.proofs.Contents.{keys-apart, keys-there}
-use Rattle.state_rows.proofs.Histories.{zip-push}
+use Rattle.state_rows.proofs.Zips.{zip-push}
 use Rattle.state_rows.proofs.Keys.{with_values}
 use Rattle.state_rows.proofs.Listed.{permuted, names-listed, all-listed, entry-names, size-values, listing-turned}
 

@@ -12,7 +12,7 @@ use Rattle.champ_kinds.proofs.ZipLemmas.{zip-as}
 use Rattle.shell_terms.specs.Edit.{Bytes}
 use Rattle.state_rows.specs.Reading.{IsText}
 use Rattle.state_rows.specs.InHeap.{AreTextsIn}
-use Rattle.state_rows.proofs.Histories.{zip-push}
+use Rattle.state_rows.proofs.Zips.{zip-push}
 
 -- a text stays where every row stays
 text-stays : {old new : Heap Bytes} (bits : ℕ) → Extends old new → (l : ℕ) (text : Bytes) → IsText (form_at old) (IsGoodVector old) bits l text → IsText (form_at new) (IsGoodVector new) bits l text

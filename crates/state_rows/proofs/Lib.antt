@@ -3,7 +3,8 @@ pub mod Staying
 pub mod Answering
 pub mod Keys
 pub mod Contents
-pub mod Histories
+pub mod Zips
+pub mod Edited
 pub mod Empty
 pub mod Steps
 pub mod CoverRows

@@ -43,19 +43,6 @@ pub fn version(heap: &Heap<Text>, versions: MapRef, name: Name<'_>) -> Option<Li
     versions.get(heap, &name)
 }
 
-/// The last state of the history, None exactly where it is empty.
-pub fn last(heap: &Heap<Text>, history: FlexRef) -> Option<Link>
-    requires history { (bits : ℕ) × (ss : List State) × IsHistoryIn heap.now bits history ss }
-    ensures { (bits : ℕ) (ss : List State) → IsHistoryIn heap.now bits history ss →
-        StandsIfThere (IsStateIn heap.now bits) result (slice_get ss (length ss - 1)) }
-{
-    let count = history.len(heap);
-    if count == 0 {
-        return None;
-    }
-    history.get(heap, count - 1)
-}
-
 /// How many of the buffers' names have the masked code of this one, itself included where it is among them.
 pub fn buffers_alike(heap: &Heap<Text>, bits: u32, state: Link, name: Name<'_>) -> usize
     requires bits { bits ≤ CODE_BITS }

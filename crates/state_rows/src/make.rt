@@ -1,25 +1,23 @@
-//! States, versions and histories with one thing more or less. Each call takes the rows that it makes from spares, which
-//! its caller has reserved, and keeps every row that is there.
-ghost use Rattle.std.specs.Prelude.{◌≡◌, ℕ, ◌+◌, ◌-◌, ◌^◌, ◌<◌, ◌≤◌, true, List, [], ◌∷◌, ◌++◌, length, take, IsSome};
+//! States and versions with one thing more or less. Each call takes the rows that it makes from spares, which its caller has
+//! reserved, and keeps every row that is there.
+ghost use Rattle.std.specs.Prelude.{◌≡◌, ℕ, ◌+◌, ◌^◌, ◌<◌, ◌≤◌, true, List, [], ◌∷◌, IsSome};
 ghost use Rattle.std.specs.FinMap as map;
 ghost use Rattle.elem_core.specs.declared.codes.TheConstants.{CODE_BITS, DEEPEST};
 ghost use Rattle.elem_core.specs.Naming.{IsName};
 ghost use Rattle.elem_core.specs.Shown.{name_bytes};
 ghost use Rattle.node_heap.specs.Heap.{holds_at, hold_count, HasSpares};
 ghost use Rattle.node_heap.specs.Calls.{Answered, MakesJust};
-ghost use Rattle.rrb_core.specs.Vector.{height_at};
 ghost use Rattle.shell_terms.specs.Edit.{Bytes};
 ghost use Rattle.plain_space.specs.Workspace.{Named, State, lines_of, is_starred, with_lines as has_lines, without_lines as has_no_lines, with_star as has_star, without_star as has_no_star};
 ghost use Rattle.plain_space.specs.Cost.{alike, alike_buffers, alike_stars};
-ghost use Rattle.state_rows.specs.InHeap.{AreLinesIn, IsStateIn, AreVersionsIn, IsHistoryIn};
+ghost use Rattle.state_rows.specs.InHeap.{AreLinesIn, IsStateIn, AreVersionsIn};
 
 use crate::look_up::{names_of, stars_of};
 use crate::row::{over_names, over_stars};
-use crate::start::empty_history;
 use champ_kinds::{Map, MapRef, map_insert, map_remove, set_insert, set_remove};
 use elem_core::{Name, Text};
 use node_heap::{Heap, Link};
-use rrb_core::{Flex, FlexRef, push, take};
+use rrb_core::Flex;
 
 /// The state in which the buffer has these lines, made or replaced. It spends the lines' hold.
 pub fn with_lines(heap: &mut Heap<Text>, bits: u32, state: Link, key: Text, lines: Flex) -> Link
@@ -135,52 +133,4 @@ pub fn without_version(heap: &mut Heap<Text>, versions: MapRef, name: Name<'_>) 
     };
     let Some(left) = found else { unreachable!() };
     left
-}
-
-/// The history with the state after its last. It spends the state's hold. There is room for one more. It makes at most as
-/// many nodes as the history's height and 2, so 9.
-pub fn pushed(heap: &mut Heap<Text>, history: FlexRef, state: Link) -> Flex
-    requires few { hold_count heap.old < 2 ^ 59 }
-    requires held { 0 < holds_at heap.old state }
-    requires history { (bits : ℕ) × (ss : List State) × IsHistoryIn heap.old bits history ss × (length ss < 2 ^ 32 - 1) }
-    requires spares { HasSpares heap.old 0 9 }
-    ensures answered { Answered heap.old heap.new (state ∷ []) result 0 (height_at heap.old history + 2) }
-    ensures made { MakesJust heap.old heap.new }
-    ensures history { (bits : ℕ) (ss : List State) (s : State) → IsHistoryIn heap.old bits history ss → IsStateIn heap.old bits state s → IsHistoryIn heap.new bits result (ss ++ s ∷ []) }
-{
-    let Ok(longer) = push(heap, history, state) else {
-        unreachable!()
-    };
-    longer
-}
-
-/// The history without its last state. It makes at most as many nodes as its own height and 1, so 8.
-pub fn popped(heap: &mut Heap<Text>, history: FlexRef) -> Flex
-    requires few { hold_count heap.old < 2 ^ 59 }
-    requires history { (bits : ℕ) × (ss : List State) × IsHistoryIn heap.old bits history ss × (0 < length ss) }
-    requires spares { HasSpares heap.old 0 8 }
-    ensures answered { Answered heap.old heap.new [] result 0 (height_at heap.new result + 1) }
-    ensures made { MakesJust heap.old heap.new }
-    ensures history { (bits : ℕ) (ss : List State) → IsHistoryIn heap.old bits history ss → IsHistoryIn heap.new bits result (take (length ss - 1) ss) }
-{
-    let Ok(shorter) = take(heap, history, history.len(heap) - 1) else {
-        unreachable!()
-    };
-    shorter
-}
-
-/// A held history without states: the given one where it is empty, and else a new one.
-pub fn emptied(heap: &mut Heap<Text>, history: FlexRef) -> Flex
-    requires few { hold_count heap.old < 2 ^ 59 }
-    requires history { (bits : ℕ) × (ss : List State) × IsHistoryIn heap.old bits history ss }
-    requires spares { HasSpares heap.old 0 1 }
-    ensures answered { Answered heap.old heap.new [] result 0 1 }
-    ensures made { MakesJust heap.old heap.new }
-    ensures history { (bits : ℕ) → IsHistoryIn heap.new bits result [] }
-    ensures same { (bits : ℕ) → IsHistoryIn heap.old bits history [] → result ≡ history }
-{
-    if history.len(heap) == 0 {
-        return history.share(heap);
-    }
-    empty_history(heap)
 }

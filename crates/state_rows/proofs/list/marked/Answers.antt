@@ -12,7 +12,7 @@ use Rattle.shell_terms.specs.Edit.{Bytes}
 use Rattle.state_rows.specs.InHeap.{IsStateIn}
 use Rattle.state_rows.specs.Listing.{shown_text, IsEntryAt}
 use Rattle.state_rows.proofs.Contents.{keys-apart, keys-there}
-use Rattle.state_rows.proofs.Histories.{zip-push}
+use Rattle.state_rows.proofs.Zips.{zip-push}
 use Rattle.state_rows.proofs.Listed.{at-turn, names-in-order, names-listed, entries-there, entry-names}
 use Rattle.state_rows.proofs.Staying.{map-self}
 use Rattle.state_rows.proofs.list.marked.Goals as goal

@@ -13,7 +13,7 @@ use Rattle.shell_terms.specs.Edit.{Bytes}
 use Rattle.state_rows.specs.InHeap.{AreLinesIn}
 use Rattle.state_rows.specs.Listing.{shown_size, IsSizeAt}
 use Rattle.state_rows.proofs.Contents.{keys-apart, keys-there}
-use Rattle.state_rows.proofs.Histories.{zip-push}
+use Rattle.state_rows.proofs.Zips.{zip-push}
 use Rattle.state_rows.proofs.Listed.{at-turn, listing-same, names-listed, all-listed, entry-names, sizes-there, size-values, name-first}
 use Rattle.state_rows.proofs.Staying.{map-self}
 use Rattle.state_rows.proofs.list.sizes.Goals as goal

@@ -14,7 +14,7 @@ use Rattle.plain_space.specs.Workspace.{Names}
 use Rattle.state_rows.specs.InHeap.{AreNamesIn}
 use Rattle.state_rows.specs.Listing.{shown_text, IsTextAt}
 use Rattle.state_rows.proofs.Contents.{set-apart, set-there}
-use Rattle.state_rows.proofs.Histories.{zip-push}
+use Rattle.state_rows.proofs.Zips.{zip-push}
 use Rattle.state_rows.proofs.Listed.{at-turn, names-in-order, names-listed}
 use Rattle.state_rows.proofs.Staying.{map-self}
 use Rattle.state_rows.proofs.Steps.{stars-at, set-is}

@@ -72,5 +72,5 @@ returns c = λ W xs ys K first_are second_are free.
     let second = has-second first next (c.with_lines-next.ensures.state state ys first.state first.lines) in
     let turned = has-turned second c.release.ensures.releases c.release.ensures.graph in
     let n = alike_buffers c.args.self.now.bits W.current c.args.key + alike_buffers c.args.self.now.bits W.current c.args.other_key in
-    turns-after (23 + n + 0) (2 * DEEPEST + 21 + n) (rises-then (second-rises c.args.self.now.bits W.current c.args.key c.args.other_key xs g next) (rises-released c.release.ensures.releases)) refl
+    turns-after (23 + n + 0) (2 * DEEPEST + 22 + n) (rises-then (second-rises c.args.self.now.bits W.current c.args.key c.args.other_key xs g next) (rises-released c.release.ensures.releases)) refl
     (c.turn_to.ensures W (with_lines state c.args.other_key ys) turned.keeps turned.state free) (omega arith)

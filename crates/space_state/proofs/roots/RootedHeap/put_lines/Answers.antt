@@ -23,5 +23,5 @@ turn_to-requires-clause-kept c =
 pub returns : goal.returns
 returns c = λ W xs K are free.
     let g = c.with_lines-next.ensures.answered W.current (current-stands K) in
-    turns-after (1 + (DEEPEST + 4 + alike_buffers c.args.self.now.bits W.current c.args.key)) (DEEPEST + 15 + alike_buffers c.args.self.now.bits W.current c.args.key) (rises-answered g) refl
+    turns-after (1 + (DEEPEST + 4 + alike_buffers c.args.self.now.bits W.current c.args.key)) (DEEPEST + 16 + alike_buffers c.args.self.now.bits W.current c.args.key) (rises-answered g) refl
     (c.turn_to.ensures W (with_lines W.current c.args.key xs) (keeps-turned K g) (c.with_lines-next.ensures.state W.current xs (current-stands K) are) free) (omega arith)

@@ -1,0 +1,129 @@
+-- How a history is edited in place: what its states stand for, what is held besides, and what is spent and gained.
+use Rattle.std.proofs.Common.{◌≡◌, ℕ, ◌+◌, ◌-◌, ◌<◌, ◌≤◌, List, [], ◌∷◌, ◌++◌, length, take, get_or, Option, Some, None, IsSome, ap, sym, subst, refl, ◌∙◌, arith}
+use Rattle.std.specs.Prelude.{IsSomeAnd, slice_get}
+use Rattle.std.specs.List.{AllZip}
+use Rattle.node_heap.specs.Links.{count}
+use Rattle.node_heap.specs.Heap.{Heap, row_at, holds_at, one_at, IsGraph}
+use Rattle.node_heap.specs.Calls.{Answered, Extends, KeepsBelow, KeepsHeld, Trades, HasHolds}
+use Rattle.node_heap.specs.Owner.{by_hold}
+use Rattle.node_heap.proofs.Counts.{test_same, one_at-flip}
+use Rattle.node_heap.proofs.BuildLemmas.{count-cons}
+use Rattle.node_heap.proofs.Edited.{count-at}
+use Rattle.node_heap.proofs.Frames.{KeepsHeld-Extends, KeepsHeld-then}
+use Rattle.rrb_core.specs.Vector.{elements, height_at, IsVectorOf}
+use Rattle.rrb_core.proofs.LinkCounts.{count-split}
+use Rattle.rrb_core.proofs.Stays.{seq-live}
+use Rattle.pool_check.proofs.VectorReadings.{all-at}
+use Rattle.edit_vec.specs.Edit.{PushesElement, PopsElement}
+use Rattle.edit_vec.specs.Laws.{PushesKeep, PopsKeep}
+use Rattle.champ_kinds.proofs.ZipLemmas.{zip-as, zip-length}
+use Rattle.shell_terms.specs.Edit.{Bytes}
+use Rattle.plain_space.specs.Workspace.{State}
+use Rattle.state_rows.specs.InHeap.{IsStateIn, IsHistoryIn}
+use Rattle.state_rows.proofs.Zips.{zip-at, zip-push, zip-take, zip-among}
+use Rattle.state_rows.proofs.Staying.{states-stay, grown}
+use Rattle.state_rows.proofs.Answering.{one-held}
+
+-- ## What the states stand for
+
+-- as many states as elements
+pub vector-many : {h : Heap Bytes} {bits l : ℕ} {ss : List State} → IsHistoryIn h bits l ss → length (elements h l) ≡ length ss
+vector-many {h} {bits} {l} {ss} is = zip-length (IsStateIn h bits) (elements h l) ss is.values
+
+-- a history whose vector is another of the same elements, where every row stays
+pub opened-history : {old mid : Heap Bytes} {bits h v : ℕ} {ss : List State} → Extends old mid → IsVectorOf mid v (elements old h) → IsHistoryIn old bits h ss → IsHistoryIn mid bits v ss
+opened-history {old} {mid} {bits} {h} {v} {ss} more vector is = record {
+  vector = vector.0;
+  values =
+      subst (λ (ks : List ℕ). AllZip (IsStateIn mid bits) ks ss) (sym vector.1)
+      (zip-as (IsStateIn old bits) (IsStateIn mid bits) (λ k s at. (grown old mid more bits k).state s at) (elements old h) ss is.values);
+}
+
+-- a history with a state after its last
+module _ (keep : PushesKeep Bytes) {old new : Heap Bytes} {v r x : ℕ} (graph : IsGraph old) (held : HasHolds old (v ∷ x ∷ [])) (push : PushesElement (by_hold v) old new r x) where
+  -- how often the pushed state is held beside the vector
+  beside : count x (v ∷ x ∷ []) ≤ holds_at old x → 1 + count x (v ∷ []) ≤ holds_at old x
+  beside enough = omega (arith, enough, count-cons x v (x ∷ []), count-cons x x [], count-cons x v [], test_same x x refl)
+
+  pub pushed-history : {bits : ℕ} {ss : List State} {s : State} → IsHistoryIn old bits v ss → IsStateIn old bits x s → IsHistoryIn new bits r (ss ++ s ∷ [])
+  pushed-history {bits} {ss} {s} is at =
+      let kept = keep (by_hold v) old new r graph (omega (arith, held v, count-cons v v (x ∷ []), test_same v v refl)) is.vector push.others in
+      let itself : KeepsBelow old new x = λ m down. kept.beside x m (omega (arith, beside (held x), count-cons x v [], one_at-flip x v)) down in
+      record {
+        vector = push.vector.0;
+        values =
+            subst (λ (ks : List ℕ). AllZip (IsStateIn new bits) ks (ss ++ s ∷ [])) (sym push.vector.1)
+            (zip-push (IsStateIn new bits) (elements old v) ss x s
+            (zip-among (IsStateIn old bits) (IsStateIn new bits) (elements old v) ss (λ k some s is. (states-stay old new bits k (kept.below k some)).state s is) is.values)
+            ((states-stay old new bits x itself).state s at));
+      }
+
+some-and : {X : Type 0} {P Q : X → Type 0} (o : Option X) → ((x : X) → P x → Q x) → IsSomeAnd o P → IsSomeAnd o Q
+some-and None so is = absurd is
+some-and (Some x) so is = so x is
+
+-- a history without its last state
+module _ (keep : PopsKeep Bytes) {old new : Heap Bytes} {v r x : ℕ} (graph : IsGraph old) (held : 0 < holds_at old v) (pop : PopsElement (by_hold v) old new r x) where
+  -- what an element stands for that is there still
+  stays : {bits : ℕ} {ss : List State} → IsHistoryIn old bits v ss → (k : ℕ) → 0 < count k (elements old v) → IsSome (row_at new k) → (s : State) → IsStateIn old bits k s → IsStateIn new bits k s
+  stays {bits} is k some live s at = (states-stay old new bits k (keep (by_hold v) old new r graph pop.edits.trades.graph held is.vector pop.others k some live)).state s at
+
+  pub popped-history : {bits : ℕ} {ss : List State} → IsHistoryIn old bits v ss → IsHistoryIn new bits r (take (length ss - 1) ss)
+  popped-history {bits} {ss} is =
+      let es = elements old v in
+      let many = zip-length (IsStateIn old bits) es ss is.values in
+      let n = length es - 1 in
+      let there = subst (λ (ks : List ℕ). (k : ℕ) → 0 < count k ks → IsSome (row_at new k)) pop.vector.1 (all-at (λ k. IsSome (row_at new k)) (elements new r) (seq-live new pop.edits.trades.graph (height_at new r) r)) in
+      let left : AllZip (IsStateIn new bits) (take n es) (take n ss) =
+      zip-among (IsStateIn old bits) (IsStateIn new bits) (take n es) (take n ss) (λ k some s at. stays is k (omega (arith, some, count-split k n es)) (there k some) s at)
+      (zip-take (IsStateIn old bits) n es ss is.values) in
+      record {
+        vector = pop.vector.0;
+        values = subst (λ (m : ℕ). AllZip (IsStateIn new bits) (elements new r) (take (m - 1) ss)) many (subst (λ (ks : List ℕ). AllZip (IsStateIn new bits) ks (take n ss)) (sym pop.vector.1) left);
+      }
+
+  pub popped-last : {bits : ℕ} {ss : List State} → 0 < length ss → IsHistoryIn old bits v ss → IsSomeAnd (slice_get ss (length ss - 1)) (IsStateIn new bits x)
+  popped-last {bits} {ss} some is =
+      let es = elements old v in
+      let many = zip-length (IsStateIn old bits) es ss is.values in
+      let at : get_or es (length ss - 1) 0 ≡ x = sym (pop.back ∙ ap (λ n. get_or es (n - 1) 0) many) in
+      let live : IsSome (row_at new x) =
+      pop.edits.trades.graph.held x (omega (arith, pop.edits.trades.holds x, count-cons x r (x ∷ []), count-cons x x [], test_same x x refl, count-cons x v [], one-held old v held x)) in
+      some-and (slice_get ss (length ss - 1)) (λ s was. stays is x (count-at es (length ss - 1) x (omega (arith, many, some)) at) live s (subst (λ (k : ℕ). IsStateIn old bits k s) at was))
+      (zip-at (IsStateIn old bits) es ss (length ss - 1) (omega (arith, some)) is.values)
+
+-- ## What is held besides, what is spent and gained, and what is made
+
+module _ {old mid new : Heap Bytes} {h v : ℕ} where
+  -- a history that is opened, and then edited with these holds spent
+  pub keeps-then : {c n c' n' : ℕ} (spent gained : List ℕ) → KeepsHeld (λ l. count l (h ∷ [])) old mid → Trades old mid (h ∷ []) (v ∷ []) c n → KeepsHeld (λ l. count l (v ∷ spent)) mid new → Trades mid new (v ∷ spent) gained c' n'
+      → KeepsHeld (λ l. count l (h ∷ spent)) old new
+  keeps-then spent gained first one second two =
+      KeepsHeld-then (λ l. count l (h ∷ spent)) first second (λ l some. omega (arith, some, count-cons l h spent, count-cons l h []))
+      (λ l some. omega (arith, some, one.holds l, count-cons l h spent, count-cons l h [], count-cons l v spent, count-cons l v []))
+      (λ l. omega (arith, one.holds l, two.holds l, count-cons l h spent, count-cons l h [], count-cons l v spent, count-cons l v []))
+
+-- the holds that were there are there still, with the opened one in place of the other
+pub opened-holds : {old mid : Heap Bytes} {h v c n : ℕ} (x : ℕ) → Trades old mid (h ∷ []) (v ∷ []) c n → HasHolds old (h ∷ x ∷ []) → HasHolds mid (v ∷ x ∷ [])
+opened-holds {h = h} {v = v} x one held k = omega (arith, one.holds k, held k, count-cons k h (x ∷ []), count-cons k h [], count-cons k v (x ∷ []), count-cons k v [])
+
+-- a pushed state is kept by its hold
+pub state-held : {old mid : Heap Bytes} {bits : ℕ} {s : State} (h x : ℕ) → KeepsHeld (λ l. count l (h ∷ [])) old mid → HasHolds old (h ∷ x ∷ []) → IsStateIn old bits x s → IsStateIn mid bits x s
+state-held {old} {mid} {bits} {s} h x keeps held is =
+    (states-stay old mid bits x (keeps.kept x (omega (arith, held x, count-cons x h (x ∷ []), count-cons x x [], count-cons x h [], test_same x x refl)))).state s is
+
+-- the opened history is held
+pub opened-held : {old mid : Heap Bytes} {h v c n : ℕ} → Trades old mid (h ∷ []) (v ∷ []) c n → 0 < holds_at old h → 0 < holds_at mid v
+opened-held {old} {h = h} {v = v} one held = omega (arith, one.holds v, count-cons v h [], count-cons v v [], test_same v v refl, one-held old h held v)
+
+-- ## A history that is emptied: a new row, and then a hold that is given up
+
+module _ {old mid new : Heap Bytes} (h : ℕ) {r : ℕ} (answered : Answered old mid [] r 0 1) (keeps : KeepsHeld (one_at h) mid new) where
+  pub emptied-keeps : IsGraph old → ((l : ℕ) → holds_at new l + one_at h l ≡ holds_at mid l) → KeepsHeld (λ l. count l (h ∷ [])) old new
+  emptied-keeps graph released =
+      KeepsHeld-then (λ l. count l (h ∷ [])) (KeepsHeld-Extends (λ _. 0) old mid graph answered.extends (λ l. omega (arith, answered.holds l))) keeps
+      (λ l some. omega (arith, some)) (λ l some. omega (arith, some, answered.holds l, count-cons l h [])) (λ l. omega (arith, answered.holds l, released l, count-cons l h []))
+
+  pub emptied-history : (bits : ℕ) → 0 < holds_at old h → IsHistoryIn mid bits r [] → IsHistoryIn new bits r []
+  emptied-history bits held is =
+      (states-stay mid new bits r (keeps.kept r (omega (arith, answered.holds r, one-held old h held r, test_same r r refl)))).history [] is

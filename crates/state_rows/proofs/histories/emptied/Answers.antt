@@ -1,0 +1,13 @@
+use Rattle.std.proofs.Common.{ap, length, ◌∙◌}
+use Rattle.rrb_core.specs.Vector.{elements}
+use Rattle.state_rows.proofs.Edited.{emptied-keeps, emptied-history, vector-many}
+use Rattle.state_rows.proofs.histories.emptied.Goals as goal
+
+pub returns-clause-keeps : goal.returns-clause-keeps
+returns-clause-keeps c = emptied-keeps c.args.history c.empty_history-empty.ensures.answered c.release.ensures.keeps c.len.ensures.graph c.release.ensures.releases.holds
+
+pub returns-clause-history : goal.returns-clause-history
+returns-clause-history c = λ bits. emptied-history c.args.history c.empty_history-empty.ensures.answered c.release.ensures.keeps bits c.requires.held (c.empty_history-empty.ensures.history bits)
+
+pub returns-clause-same : goal.returns-clause-same
+returns-clause-same c = λ bits history. absurd (c.if-len-eq0.false (c.len.ensures.value ∙ ap (λ l. length (elements c.args.heap.now l)) c.view.ensures ∙ vector-many history))

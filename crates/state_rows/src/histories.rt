@@ -1,0 +1,99 @@
+//! Histories with a state more or less, edited in place: of the rows on the way to a history's end each one is written that
+//! has one owner, as long as all rows above it have one owner too, and each other one is copied. Each call takes the
+//! rows that it makes from spares, which its caller has reserved, and keeps what is held besides.
+ghost use Rattle.std.specs.Prelude.{◌≡◌, ℕ, ◌+◌, ◌-◌, ◌^◌, ◌<◌, ◌≤◌, List, [], ◌∷◌, ◌++◌, length, take, slice_get, IsSomeAnd};
+ghost use Rattle.node_heap.specs.Links.{count};
+ghost use Rattle.node_heap.specs.Heap.{holds_at, hold_count, HasSpares};
+ghost use Rattle.node_heap.specs.Calls.{KeepsHeld, MakesJust, Trades, HasHolds, MakesWhatCame};
+ghost use Rattle.plain_space.specs.Workspace.{State};
+ghost use Rattle.state_rows.specs.InHeap.{IsStateIn, IsHistoryIn};
+
+use crate::start::empty_history;
+use edit_vec::FlexEdit;
+use elem_core::Text;
+use node_heap::{Heap, Link};
+use rrb_core::Flex;
+
+/// The nodes of `pushed`: a root of one's own, and a row for each height and a new root.
+pub const PUSHED_NODES: usize = 10;
+
+/// The nodes of `popped`: a root of one's own, and a row for each height.
+pub const POPPED_NODES: usize = 9;
+
+/// The nodes of `emptied`.
+pub const EMPTIED_NODES: usize = 1;
+
+/// The history with the state after its last. It spends the holds of both. There is room for one more state. It makes
+/// at most 10 nodes, and none in vain.
+pub fn pushed(heap: &mut Heap<Text>, history: Flex, state: Link) -> Flex
+    requires few { hold_count heap.old < 2 ^ 59 }
+    requires held { HasHolds heap.old (history ∷ state ∷ []) }
+    requires history { (bits : ℕ) × (ss : List State) × IsHistoryIn heap.old bits history ss × (length ss < 2 ^ 32 - 1) }
+    requires spares { HasSpares heap.old 0 10 }
+    ensures keeps { KeepsHeld (λ l. count l (history ∷ state ∷ [])) heap.old heap.new }
+    ensures trades { Trades heap.old heap.new (history ∷ state ∷ []) (result ∷ []) 0 10 }
+    ensures made { MakesJust heap.old heap.new }
+    ensures history { (bits : ℕ) (ss : List State) (s : State) → IsHistoryIn heap.old bits history ss → IsStateIn heap.old bits state s → IsHistoryIn heap.new bits result (ss ++ s ∷ []) }
+{
+    let mut edit = opened(heap, history);
+    let Ok(()) = edit.push(heap, state) else {
+        unreachable!()
+    };
+    edit.freeze()
+}
+
+/// The history without its last state, and that state with a hold. It spends the history's hold. It makes at most 9
+/// nodes.
+pub fn popped(heap: &mut Heap<Text>, history: Flex) -> (Flex, Link)
+    requires few { hold_count heap.old < 2 ^ 59 }
+    requires held { 0 < holds_at heap.old history }
+    requires history { (bits : ℕ) × (ss : List State) × IsHistoryIn heap.old bits history ss × (0 < length ss) }
+    requires spares { HasSpares heap.old 0 9 }
+    ensures keeps { KeepsHeld (λ l. count l (history ∷ [])) heap.old heap.new }
+    ensures trades { Trades heap.old heap.new (history ∷ []) (result.0 ∷ result.1 ∷ []) 0 9 }
+    ensures history { (bits : ℕ) (ss : List State) → IsHistoryIn heap.old bits history ss → IsHistoryIn heap.new bits result.0 (take (length ss - 1) ss) }
+    ensures last { (bits : ℕ) (ss : List State) → IsHistoryIn heap.old bits history ss → IsSomeAnd (slice_get ss (length ss - 1)) (IsStateIn heap.new bits result.1) }
+{
+    let mut edit = opened(heap, history);
+    let Ok(last) = edit.pop(heap) else {
+        unreachable!()
+    };
+    let Some(state) = last else { unreachable!() };
+    (edit.freeze(), state)
+}
+
+// The history, to be edited in place. It makes one node at most, and frees none.
+fn opened(heap: &mut Heap<Text>, history: Flex) -> FlexEdit
+    requires few { hold_count heap.old < 2 ^ 59 }
+    requires held { 0 < holds_at heap.old history }
+    requires history { (bits : ℕ) × (ss : List State) × IsHistoryIn heap.old bits history ss }
+    requires spares { HasSpares heap.old 0 1 }
+    ensures keeps { KeepsHeld (λ l. count l (history ∷ [])) heap.old heap.new }
+    ensures trades { Trades heap.old heap.new (history ∷ []) (result ∷ []) 0 1 }
+    ensures makes { MakesWhatCame heap.old heap.new }
+    ensures history { (bits : ℕ) (ss : List State) → IsHistoryIn heap.old bits history ss → IsHistoryIn heap.new bits result ss }
+{
+    match FlexEdit::open(history, heap) {
+        Ok(edit) => edit,
+        Err(_fault) => unreachable!(),
+    }
+}
+
+/// A history without states in place of this one, of which it spends the hold: the same where it is empty, and else a new one.
+pub fn emptied(heap: &mut Heap<Text>, history: Flex) -> Flex
+    requires few { hold_count heap.old < 2 ^ 59 }
+    requires held { 0 < holds_at heap.old history }
+    requires history { (bits : ℕ) × (ss : List State) × IsHistoryIn heap.old bits history ss }
+    requires spares { HasSpares heap.old 0 1 }
+    ensures keeps { KeepsHeld (λ l. count l (history ∷ [])) heap.old heap.new }
+    ensures trades { Trades heap.old heap.new (history ∷ []) (result ∷ []) 0 1 }
+    ensures history { (bits : ℕ) → IsHistoryIn heap.new bits result [] }
+    ensures same { (bits : ℕ) → IsHistoryIn heap.old bits history [] → (result ≡ history) × (heap.new ≡ heap.old) }
+{
+    if history.view().len(heap) == 0 {
+        return history;
+    }
+    let empty = empty_history(heap);
+    history.release(heap);
+    empty
+}
