@@ -5,6 +5,7 @@ pub mod StepLemmas
 pub mod StepRows
 pub mod ReachLemmas
 pub mod KeptLemmas
+pub mod LawLemmas
 pub mod OwnerLemmas
 pub mod TopLemmas
 pub mod SetTop
