@@ -4,7 +4,7 @@ use Rattle.std.specs.Prelude.{IsSomeAnd, slice_get}
 use Rattle.std.specs.List.{AllZip}
 use Rattle.node_heap.specs.Links.{count}
 use Rattle.node_heap.specs.Heap.{Heap, row_at, holds_at, one_at, IsGraph}
-use Rattle.node_heap.specs.Calls.{Answered, Extends, KeepsBelow, KeepsHeld, Trades, HasHolds}
+use Rattle.node_heap.specs.Calls.{Answered, Extends, HasHolds, KeepsBelow, KeepsHeld, Trades}
 use Rattle.node_heap.specs.Owner.{by_hold}
 use Rattle.node_heap.proofs.Counts.{test_same, one_at-flip}
 use Rattle.node_heap.proofs.BuildLemmas.{count-cons}

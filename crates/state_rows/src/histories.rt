@@ -4,7 +4,7 @@
 ghost use Rattle.std.specs.Prelude.{◌≡◌, ℕ, ◌+◌, ◌-◌, ◌^◌, ◌<◌, ◌≤◌, List, [], ◌∷◌, ◌++◌, length, take, slice_get, IsSomeAnd};
 ghost use Rattle.node_heap.specs.Links.{count};
 ghost use Rattle.node_heap.specs.Heap.{holds_at, hold_count, HasSpares};
-ghost use Rattle.node_heap.specs.Calls.{KeepsHeld, MakesJust, Trades, HasHolds, MakesWhatCame};
+ghost use Rattle.node_heap.specs.Calls.{HasHolds, KeepsHeld, MakesJust, MakesWhatCame, Trades};
 ghost use Rattle.plain_space.specs.Workspace.{State};
 ghost use Rattle.state_rows.specs.InHeap.{IsStateIn, IsHistoryIn};
 

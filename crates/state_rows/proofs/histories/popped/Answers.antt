@@ -9,7 +9,10 @@ use Rattle.state_rows.proofs.histories.popped.Goals as goal
 use Rattle.state_rows.proofs.histories.popped.Goals.{After-freeze}
 
 pub unreachable-requires : goal.unreachable-requires
-unreachable-requires c = ?
+unreachable-requires c =
+    let trades = c.opened-edit.ensures.trades in
+    let ample = c.in_default.ensures.ample (omega arith, omega (arith, c.requires.spares.1, trades.balance.spare_nodes, trades.nodes)) in
+    cc
 
 -- what the pop did
 pops : (c : After-freeze) → PopsElement (by_hold c.opened-edit.result) c.opened-edit.new.heap c.pop.new.heap c.pop.new.self c.in-Some.state

@@ -1,5 +1,4 @@
-use Rattle.std.proofs.Common.{[], ◌∷◌, ◌++◌, refl, arith}
-use Rattle.plain_space.specs.Workspace.{Workspace}
+use Rattle.std.proofs.Common.{[], arith}
 use Rattle.space_state.specs.declared.turning.TheConstants.{TURN_NODES}
 use Rattle.space_state.proofs.Keeping.{few-holds, redo-held, redo-stands, keeps-redo, rises-trades, rises-then, turns-of, turns-by}
 use Rattle.space_state.proofs.roots.RootedHeap.record.Goals as goal
