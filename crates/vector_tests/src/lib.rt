@@ -1,6 +1,10 @@
-//! The tests of vectors: of pushes, changes and cuts, of joins, of the sums that rows keep, and of equality.
+//! The tests of vectors: of pushes, changes and cuts, of joins, of edits in place, of the sums that rows keep, and of equality.
 #![tactic(auto)]
 
+#[cfg(test)]
+mod editing;
+#[cfg(test)]
+mod edits;
 #[cfg(test)]
 mod equality;
 #[cfg(test)]
