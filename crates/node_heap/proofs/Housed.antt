@@ -1,23 +1,19 @@
 -- How nodes lie in their lists, and what becomes of them where one list is written.
-use Rattle.std.proofs.Common.{◌≡◌, ◌≢◌, ℕ, ◌+◌, ◌/◌, ◌%◌, Bool, List, [], ◌∷◌, map, get_or, set, refl, sym, ap, subst, ◌∙◌, arith, Option, Some, None, IsSome, is_some, count_by}
+use Rattle.std.proofs.Common.{◌≡◌, ◌≢◌, ℕ, ◌+◌, ◌/◌, ◌%◌, List, [], ◌∷◌, map, get_or, set, refl, sym, ap, subst, ◌∙◌, arith, Option, Some, None, IsSome, is_some, count_by}
 use Rattle.std.proofs.lemmas.List.{map-set, length-map}
 use Rattle.std.proofs.lemmas.List.Sums.{sum_by-cons}
 use Rattle.node_heap.specs.Nodes.{SameBut, node_at}
-use Rattle.node_heap.specs.Small.{whole_head, room_of}
+use Rattle.node_heap.specs.Small.{tag_in, room_of}
 use Rattle.node_heap.specs.Inside.{woven}
 use Rattle.node_heap.specs.Rooms.{large_node, small_node, head_in, links_in, room_in, nodes_in}
 use Rattle.node_heap.specs.declared.entry.NodeSlot.{NodeSlot}
-use Rattle.node_heap.specs.declared.heads.SmallHead.{SmallHead}
-use Rattle.node_heap.specs.declared.heads.SmallHead.TheVariants.{Chain, Pair, State, Moved}
+use Rattle.node_heap.specs.declared.entry.SmallHead.{SmallHead}
+use Rattle.node_heap.specs.declared.entry.SmallHead.TheVariants.{Chain, Pair, State, Whole, Moved}
 use Rattle.node_heap.specs.declared.entry.SmallSlot.{SmallSlot}
-use Rattle.node_heap.specs.declared.row.Head.{Head}
+use Rattle.node_heap.specs.declared.tags.Tag.{Tag}
 use Rattle.node_heap.proofs.Counts.{get_or-map_default}
 use Rattle.node_heap.proofs.Stored.{one_if_some}
 use Rattle.node_heap.proofs.Woven.{even, odd, at-even, at-odd, sum-woven, set-even, set-odd, slot-inside}
-
--- a slot that names a room apart
-abbrev pub is_moved : Option SmallSlot → Bool
-is_moved s = is_some (room_in s)
 
 some_small : (moved : List (Option NodeSlot)) (o : Option SmallSlot) → IsSome (small_node moved o) → IsSome o
 some_small moved None live = cc
@@ -79,30 +75,34 @@ module _ (small : List (Option SmallSlot)) (large moved : List (Option NodeSlot)
       ∙ set-odd (map (small_node moved) small) _ (index / 2) (large_node o) (omega (arith, slot-inside large (index / 2) live, length-map large large_node))
       ∙ ap (λ k. set (nodes_in small large moved) k (large_node o)) (sym (odd index e))
 
--- a head that lies in its slot is whole there
-pub lent-whole : (moved : List (Option NodeSlot)) (h : SmallHead) (head : Head) → whole_head h ≡ Some head → head_in moved h ≡ head
+-- a tag that lies in its slot is the tag of the node
+pub lent-whole : (moved : List (Option NodeSlot)) (h : SmallHead) (head : Tag) → tag_in h ≡ Some head → head_in moved h ≡ head
 lent-whole moved Chain head is = cc
 lent-whole moved Pair head is = cc
 lent-whole moved State head is = cc
+lent-whole moved (Whole place) head is = cc
 lent-whole moved (Moved room) head is = absurd cc
 
 -- then the links lie there too
-pub whole-room : (h : SmallHead) (head : Head) → whole_head h ≡ Some head → room_of h ≡ None
+pub whole-room : (h : SmallHead) (head : Tag) → tag_in h ≡ Some head → room_of h ≡ None
 whole-room Chain head is = refl
 whole-room Pair head is = refl
 whole-room State head is = refl
+whole-room (Whole place) head is = refl
 whole-room (Moved room) head is = absurd cc
 
 pub lent-links : (moved : List (Option NodeSlot)) (h : SmallHead) (links : List ℕ) → room_of h ≡ None → links_in moved h links ≡ links
 lent-links moved Chain links is = refl
 lent-links moved Pair links is = refl
 lent-links moved State links is = refl
+lent-links moved (Whole place) links is = refl
 lent-links moved (Moved room) links is = absurd cc
 
-pub whole-in : (moved : List (Option NodeSlot)) (h : SmallHead) → room_of h ≡ None → whole_head h ≡ Some (head_in moved h)
+pub whole-in : (moved : List (Option NodeSlot)) (h : SmallHead) → room_of h ≡ None → tag_in h ≡ Some (head_in moved h)
 whole-in moved Chain is = refl
 whole-in moved Pair is = refl
 whole-in moved State is = refl
+whole-in moved (Whole place) is = refl
 whole-in moved (Moved room) is = absurd cc
 
 -- a node in a room apart
@@ -111,6 +111,7 @@ in-room : (moved : List (Option NodeSlot)) (h : SmallHead) (room : ℕ) (x : Nod
 in-room moved Chain room x links named is = absurd cc
 in-room moved Pair room x links named is = absurd cc
 in-room moved State room x links named is = absurd cc
+in-room moved (Whole place) room x links named is = absurd cc
 in-room moved (Moved k) room x links named is = let same : k ≡ room = cc in (rw (same, is) refl, rw (same, is) refl)
 
 pub moved-node : (moved : List (Option NodeSlot)) (s : SmallSlot) (room : ℕ) (x : NodeSlot) → room_of s.head ≡ Some room → get_or moved room None ≡ Some x
@@ -125,6 +126,7 @@ stays : (moved moved' : List (Option NodeSlot)) (room : ℕ) (h : SmallHead) (li
 stays moved moved' room Chain links same other = (refl, refl)
 stays moved moved' room Pair links same other = (refl, refl)
 stays moved moved' room State links same other = (refl, refl)
+stays moved moved' room (Whole place) links same other = (refl, refl)
 stays moved moved' room (Moved k) links same other = let read = same k (λ is. other (ap Some is)) in (rw read refl, rw read refl)
 
 pub same-node : (moved moved' : List (Option NodeSlot)) (room : ℕ) (o : Option SmallSlot) → SameBut moved moved' room → room_in o ≢ Some room → small_node moved' o ≡ small_node moved o

@@ -9,6 +9,7 @@ pub mod Written
 pub mod Housed
 pub mod Parting
 pub mod Rooming
+pub mod Headed
 pub mod Placed
 pub mod Dying
 pub mod Reached

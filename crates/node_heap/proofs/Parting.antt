@@ -1,10 +1,10 @@
 -- What becomes of rooms apart, and of what is seen, where lists of nodes are written.
-use Rattle.std.proofs.Common.{◌≡◌, ◌≢◌, ℕ, ◌+◌, ◌-◌, ◌^◌, ◌<◌, ◌/◌, ◌%◌, List, map, get_or, set, length, refl, sym, ap, subst, ◌∙◌, arith, Option, Some, None, IsSome, is_some, count_by, cond, inl, inr}
+use Rattle.std.proofs.Common.{◌≡◌, ◌≢◌, ℕ, ◌+◌, ◌-◌, ◌<◌, ◌/◌, ◌%◌, List, map, get_or, set, length, refl, sym, ap, subst, ◌∙◌, arith, Option, Some, None, IsSome, is_some, count_by, inl, inr}
 use Rattle.std.proofs.lemmas.Bool.{cases_eq}
 use Rattle.std.proofs.lemmas.List.{get_or-set_same, get_or-set_other, length-set}
 use Rattle.node_heap.specs.Nodes.{SameBut}
 use Rattle.node_heap.specs.Inside.{IsFree}
-use Rattle.node_heap.specs.Rooms.{large_node, small_node, room_in, nodes_in, Covers, Parted}
+use Rattle.node_heap.specs.Rooms.{large_node, small_node, room_in, nodes_in, Covers, Parts}
 use Rattle.node_heap.specs.declared.entry.NodeSlot.{NodeSlot}
 use Rattle.node_heap.specs.declared.entry.SmallSlot.{SmallSlot}
 use Rattle.node_heap.proofs.Counts.{get_or-map_default, sum_by-apart}
@@ -13,9 +13,6 @@ use Rattle.node_heap.proofs.Stored.{one_if_some}
 use Rattle.node_heap.proofs.Written.{count-written}
 use Rattle.node_heap.proofs.Woven.{even, odd, apart-even, apart-odd, slot-inside}
 use Rattle.node_heap.proofs.Housed.{same-node}
-
-abbrev one_if_moved : Option SmallSlot → ℕ
-one_if_moved s = cond (is_some (room_in s)) 1 0
 
 module _ {X : Type 0} where
   pub set-apart : (xs : List (Option X)) (i : ℕ) (o : Option X) → SameBut xs (set xs i o) i
@@ -64,98 +61,111 @@ module _ {X : Type 0} where
       of_slot None is some = absurd cc
       of_slot (Some x) is some = omega (arith, c.short, c.free_room, c.listed.whole, count-written xs i x None is)
 
--- a small slot is written, which names the same room as before
-module _ (small small' : List (Option SmallSlot)) (i : ℕ) (same : SameBut small small' i) where
-  moved-apart : count_by (λ s. is_some (room_in s)) small' + one_if_moved (get_or small i None) ≡ count_by (λ s. is_some (room_in s)) small + one_if_moved (get_or small' i None)
-  moved-apart = sum_by-apart one_if_moved None refl small small' i same
+-- how many slots name a place, where one is written
+named-apart : {S : Type 0} (place_in : Option S → Option ℕ) → place_in None ≡ None → (slots slots' : List (Option S)) (i : ℕ) → SameBut slots slots' i
+    → count_by (λ s. is_some (place_in s)) slots' + one_if_some (place_in (get_or slots i None)) ≡ count_by (λ s. is_some (place_in s)) slots + one_if_some (place_in (get_or slots' i None))
+named-apart place_in none_in slots slots' i same = sum_by-apart (λ s. one_if_some (place_in s)) None (ap one_if_some none_in) slots slots' i same
 
-  pub Parted-kept : (large large' moved : List (Option NodeSlot)) (n s n' s' : ℕ) → room_in (get_or small' i None) ≡ room_in (get_or small i None) → n' ≡ count_by is_some small' + count_by is_some large' → n' + s' < 2 ^ 56
-      → Parted small large moved n s → Parted small' large' moved n' s'
-  Parted-kept large large' moved n s n' s' room whole few p = record {
-    whole = whole;
-    few = few;
-    rooms = omega (arith, p.rooms, moved-apart, ap one_if_some room);
-    there = λ j r named. p.there j r (sym (rooms j) ∙ named);
-    apart = λ j k r named also. p.apart j k r (sym (rooms j) ∙ named) (sym (rooms k) ∙ also);
+-- slots that name places, of which one is written
+module _ {S X : Type 0} (place_in : Option S → Option ℕ) (none_in : place_in None ≡ None) (slots slots' : List (Option S)) (i : ℕ) (same : SameBut slots slots' i) where
+  -- the slot names the same place as before
+  pub Parts-kept : (places : List (Option X)) → place_in (get_or slots' i None) ≡ place_in (get_or slots i None) → Parts place_in slots places → Parts place_in slots' places
+  Parts-kept places kept p = record {
+    used = omega (arith, p.used, named-apart place_in none_in slots slots' i same, ap one_if_some kept);
+    there = λ j place named. p.there j place (sym (all j) ∙ named);
+    apart = λ j k place named also. p.apart j k place (sym (all j) ∙ named) (sym (all k) ∙ also);
   }
     where
-      rooms : (j : ℕ) → room_in (get_or small' j None) ≡ room_in (get_or small j None)
-      rooms j = elim (cases_eq j i) as (λ _. room_in (get_or small' j None) ≡ room_in (get_or small j None)) [
-        | inl is ↦ subst (λ l. room_in (get_or small' l None) ≡ room_in (get_or small l None)) (sym is) room
-        | inr other ↦ ap room_in (same j other)
+      all : (j : ℕ) → place_in (get_or slots' j None) ≡ place_in (get_or slots j None)
+      all j = elim (cases_eq j i) as (λ _. place_in (get_or slots' j None) ≡ place_in (get_or slots j None)) [
+        | inl is ↦ subst (λ l. place_in (get_or slots' l None) ≡ place_in (get_or slots l None)) (sym is) kept
+        | inr other ↦ ap place_in (same j other)
       ]
 
-  module _ (large moved moved' : List (Option NodeSlot)) (room : ℕ) (same_rooms : SameBut moved moved' room) (n s : ℕ) (p : Parted small large moved n s) where
-    -- no other slot names the room
-    others-name : room_in (get_or small i None) ≡ Some room → (j : ℕ) → j ≢ i → room_in (get_or small j None) ≢ Some room
-    others-name named j other also = other (p.apart j i room also named)
+  module _ (places places' : List (Option X)) (place : ℕ) (same_places : SameBut places places' place) (p : Parts place_in slots places) where
+    -- no other slot names the place
+    pub others-name : place_in (get_or slots i None) ≡ Some place → (j : ℕ) → j ≢ i → place_in (get_or slots j None) ≢ Some place
+    others-name named j other also = other (p.apart j i place also named)
 
-    none-names : get_or moved room None ≡ None → (j : ℕ) → room_in (get_or small j None) ≢ Some room
-    none-names none j named = let there = p.there j room named in absurd cc
+    pub none-names : get_or places place None ≡ None → (j : ℕ) → place_in (get_or slots j None) ≢ Some place
+    none-names none j named = let there = p.there j place named in absurd cc
 
-    -- the node moves to a room that was free
-    pub Parted-moved : room_in (get_or small i None) ≡ None → room_in (get_or small' i None) ≡ Some room → get_or moved room None ≡ None → IsSome (get_or moved' room None)
-        → count_by is_some small' ≡ count_by is_some small → count_by is_some moved' ≡ count_by is_some moved + 1 → Parted small' large moved' n s
-    Parted-moved was now free filled len more = record {
-      whole = omega (arith, p.whole, len);
-      few = p.few;
-      rooms = omega (arith, p.rooms, more, moved-apart, ap one_if_some was, ap one_if_some now);
+    -- the slot names a place that was free
+    pub Parts-named : place_in (get_or slots i None) ≡ None → place_in (get_or slots' i None) ≡ Some place → get_or places place None ≡ None → IsSome (get_or places' place None)
+        → count_by is_some places' ≡ count_by is_some places + 1 → Parts place_in slots' places'
+    Parts-named was now free filled more = record {
+      used = omega (arith, p.used, more, named-apart place_in none_in slots slots' i same, ap one_if_some was, ap one_if_some now);
       there = there;
       apart = apart;
     }
       where
-        there : (j r : ℕ) → room_in (get_or small' j None) ≡ Some r → IsSome (get_or moved' r None)
-        there j r named = elim (cases_eq j i) as (λ _. IsSome (get_or moved' r None)) [
+        there : (j r : ℕ) → place_in (get_or slots' j None) ≡ Some r → IsSome (get_or places' r None)
+        there j r named = elim (cases_eq j i) as (λ _. IsSome (get_or places' r None)) [
           | inl is ↦
-              let here : room_in (get_or small' i None) ≡ Some r = subst (λ l. room_in (get_or small' l None) ≡ Some r) is named in
-              let it : room ≡ r = cc in
-              subst (λ l. IsSome (get_or moved' l None)) it filled
+              let here : place_in (get_or slots' i None) ≡ Some r = subst (λ l. place_in (get_or slots' l None) ≡ Some r) is named in
+              let it : place ≡ r = cc in
+              subst (λ l. IsSome (get_or places' l None)) it filled
           | inr other ↦
-              let before : room_in (get_or small j None) ≡ Some r = ap room_in (sym (same j other)) ∙ named in
-              let apart_room : r ≢ room = λ e. none-names free j (before ∙ ap Some e) in
-              rw (same_rooms r apart_room) (p.there j r before)
+              let before : place_in (get_or slots j None) ≡ Some r = ap place_in (sym (same j other)) ∙ named in
+              let elsewhere : r ≢ place = λ e. none-names free j (before ∙ ap Some e) in
+              rw (same_places r elsewhere) (p.there j r before)
         ]
 
-        apart : (j k r : ℕ) → room_in (get_or small' j None) ≡ Some r → room_in (get_or small' k None) ≡ Some r → j ≡ k
+        apart : (j k r : ℕ) → place_in (get_or slots' j None) ≡ Some r → place_in (get_or slots' k None) ≡ Some r → j ≡ k
         apart j k r named also =
             elim (cases_eq j i) as (λ _. j ≡ k) [
               | inl is ↦
-                  let here : room_in (get_or small' i None) ≡ Some r = subst (λ l. room_in (get_or small' l None) ≡ Some r) is named in
-                  let it : room ≡ r = cc in
+                  let here : place_in (get_or slots' i None) ≡ Some r = subst (λ l. place_in (get_or slots' l None) ≡ Some r) is named in
+                  let it : place ≡ r = cc in
                   elim (cases_eq k i) as (λ _. j ≡ k) [
                     | inl same_k ↦ is ∙ sym same_k
-                    | inr other ↦ absurd (none-names free k (ap room_in (sym (same k other)) ∙ also ∙ ap Some (sym it)))
+                    | inr other ↦ absurd (none-names free k (ap place_in (sym (same k other)) ∙ also ∙ ap Some (sym it)))
                   ]
               | inr other ↦
                   elim (cases_eq k i) as (λ _. j ≡ k) [
                     | inl same_k ↦
-                        let here : room_in (get_or small' i None) ≡ Some r = subst (λ l. room_in (get_or small' l None) ≡ Some r) same_k also in
-                        let it : room ≡ r = cc in
-                        absurd (none-names free j (ap room_in (sym (same j other)) ∙ named ∙ ap Some (sym it)))
-                    | inr apart_k ↦ p.apart j k r (ap room_in (sym (same j other)) ∙ named) (ap room_in (sym (same k apart_k)) ∙ also)
+                        let here : place_in (get_or slots' i None) ≡ Some r = subst (λ l. place_in (get_or slots' l None) ≡ Some r) same_k also in
+                        let it : place ≡ r = cc in
+                        absurd (none-names free j (ap place_in (sym (same j other)) ∙ named ∙ ap Some (sym it)))
+                    | inr apart_k ↦ p.apart j k r (ap place_in (sym (same j other)) ∙ named) (ap place_in (sym (same k apart_k)) ∙ also)
                   ]
             ]
 
-    -- the node leaves, and its room with it
-    pub Parted-left : (n' s' : ℕ) → room_in (get_or small i None) ≡ Some room → get_or small' i None ≡ None → n' ≡ count_by is_some small' + count_by is_some large → n' + s' < 2 ^ 56
-        → count_by is_some moved' + 1 ≡ count_by is_some moved → Parted small' large moved' n' s'
-    Parted-left n' s' was gone whole few fewer = record {
-      whole = whole;
-      few = few;
-      rooms = omega (arith, p.rooms, fewer, moved-apart, ap one_if_some was, ap one_if_moved gone);
+    -- the slot is free, and its place with it
+    pub Parts-left : place_in (get_or slots i None) ≡ Some place → get_or slots' i None ≡ None → count_by is_some places' + 1 ≡ count_by is_some places → Parts place_in slots' places'
+    Parts-left was gone fewer = record {
+      used = omega (arith, p.used, fewer, named-apart place_in none_in slots slots' i same, ap one_if_some was, ap one_if_some (ap place_in gone ∙ none_in));
       there = λ j r named.
           let other = elsewhere j r named in
-          let before : room_in (get_or small j None) ≡ Some r = ap room_in (sym (same j other)) ∙ named in
-          rw (same_rooms r (λ e. others-name was j other (before ∙ ap Some e))) (p.there j r before);
-      apart = λ j k r named also. p.apart j k r (ap room_in (sym (same j (elsewhere j r named))) ∙ named) (ap room_in (sym (same k (elsewhere k r also))) ∙ also);
+          let before : place_in (get_or slots j None) ≡ Some r = ap place_in (sym (same j other)) ∙ named in
+          rw (same_places r (λ e. others-name was j other (before ∙ ap Some e))) (p.there j r before);
+      apart = λ j k r named also. p.apart j k r (ap place_in (sym (same j (elsewhere j r named))) ∙ named) (ap place_in (sym (same k (elsewhere k r also))) ∙ also);
     }
       where
-        elsewhere : (j r : ℕ) → room_in (get_or small' j None) ≡ Some r → j ≢ i
+        elsewhere : (j r : ℕ) → place_in (get_or slots' j None) ≡ Some r → j ≢ i
         elsewhere j r named is =
-            let here : room_in (get_or small' i None) ≡ Some r = subst (λ l. room_in (get_or small' l None) ≡ Some r) is named in
-            let none : room_in (get_or small' i None) ≡ None = ap room_in gone in
+            let here : place_in (get_or slots' i None) ≡ Some r = subst (λ l. place_in (get_or slots' l None) ≡ Some r) is named in
+            let none : place_in (get_or slots' i None) ≡ None = ap place_in gone ∙ none_in in
             absurd cc
 
+-- what the slot's place holds is written
+pub Parts-written : {S X : Type 0} (place_in : Option S → Option ℕ) (slots : List (Option S)) (places : List (Option X)) (place : ℕ) (x y : X) → get_or places place None ≡ Some x → Parts place_in slots places → Parts place_in slots (set places place (Some y))
+Parts-written place_in slots places place x y is p = record {
+  used = omega (arith, p.used, count-apart places (set places place (Some y)) place (set-apart places place (Some y)), ap one_if_some is, ap one_if_some (set-there places place x (Some y) is));
+  there = λ j r named. filled r (p.there j r named);
+  apart = p.apart;
+}
+  where
+    filled : (r : ℕ) → IsSome (get_or places r None) → IsSome (get_or (set places place (Some y)) r None)
+    filled r live =
+        elim (cases_eq r place) as (λ _. IsSome (get_or (set places place (Some y)) r None)) [
+          | inl same ↦ rw (same, set-there places place x (Some y) is) refl
+          | inr other ↦ rw (set-apart places place (Some y) r other) live
+        ]
+
+-- a small slot is written
+module _ (small small' : List (Option SmallSlot)) (i : ℕ) (same : SameBut small small' i) where
+  module _ (large moved moved' : List (Option NodeSlot)) (room : ℕ) (same_rooms : SameBut moved moved' room) (p : Parts room_in small moved) where
     -- other nodes are seen as before
     seen-apart : (index : ℕ) → index % 2 ≡ 0 → i ≡ index / 2 → ((j : ℕ) → j ≢ i → room_in (get_or small j None) ≢ Some room) → SameBut (nodes_in small large moved) (nodes_in small' large moved') index
     seen-apart index e at unnamed k other =
@@ -167,10 +177,10 @@ module _ (small small' : List (Option SmallSlot)) (i : ℕ) (same : SameBut smal
             get_or-map_default (small_node moved') small' j None ∙ ap (small_node moved') (same j apart_i) ∙ same-node moved moved' room (get_or small j None) same_rooms (unnamed j apart_i) ∙ sym (get_or-map_default (small_node moved) small j None)
 
     pub seen-moved : (index : ℕ) → index % 2 ≡ 0 → i ≡ index / 2 → get_or moved room None ≡ None → SameBut (nodes_in small large moved) (nodes_in small' large moved') index
-    seen-moved index e at free = seen-apart index e at (λ j other. none-names free j)
+    seen-moved index e at free = seen-apart index e at (λ j other. none-names room_in refl small small' i same moved moved' room same_rooms p free j)
 
     pub seen-left : (index : ℕ) → index % 2 ≡ 0 → i ≡ index / 2 → room_in (get_or small i None) ≡ Some room → SameBut (nodes_in small large moved) (nodes_in small' large moved') index
-    seen-left index e at was = seen-apart index e at (others-name was)
+    seen-left index e at was = seen-apart index e at (others-name room_in refl small small' i same moved moved' room same_rooms p was)
 
   pub seen-small : (large moved : List (Option NodeSlot)) (index : ℕ) → index % 2 ≡ 0 → i ≡ index / 2 → SameBut (nodes_in small large moved) (nodes_in small' large moved) index
   seen-small large moved index e at k other =

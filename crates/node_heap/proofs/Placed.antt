@@ -40,14 +40,6 @@ module _ {X : Type 0} where
       of_slot None is some = absurd cc
       of_slot (Some x) is some = omega (arith, r.some, r.free_room, r.listed.whole, count-written xs i x None is)
 
--- there are as many nodes, whatever their owners
-pub len-owned : (nodes : List (Option Node)) (i n : ℕ) → IsSome (get_or nodes i None) → count_by is_some (set nodes i (owned_by n (get_or nodes i None))) ≡ count_by is_some nodes
-len-owned nodes i n live = of_slot (get_or nodes i None) refl live
-  where
-    of_slot : (o : Option Node) → get_or nodes i None ≡ o → IsSome o → count_by is_some (set nodes i (owned_by n (get_or nodes i None))) ≡ count_by is_some nodes
-    of_slot None is some = absurd cc
-    of_slot (Some x) is some = rw is (omega (arith, count-written nodes i x (owned_by n (Some x)) is))
-
 -- nodes alone don't tell the type of the cells' values
 module _ (T : Type 0) where
   some_node : (o : Option Node) → IsSome (node_slot {T = T} o) → IsSome o

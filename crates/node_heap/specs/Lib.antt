@@ -6,10 +6,12 @@ pub mod Layout
 pub mod Nodes
 pub mod Small
 pub mod Rooms
+pub mod Tags
 pub mod Inside
 pub mod InPlace
 pub mod Owner
 pub mod Glass
 pub mod LendsSlot
+pub mod LendsRoom
 pub mod LendsNode
 pub mod Lending

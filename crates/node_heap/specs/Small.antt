@@ -1,26 +1,22 @@
--- What the head of a node in a small slot says.
-use Rattle.std.specs.Prelude.{◌≡◌, ℕ, Option, Some, None}
-use Rattle.node_heap.specs.declared.row.Head.{Head}
-use Rattle.node_heap.specs.declared.row.Head.TheVariants as whole
-use Rattle.node_heap.specs.declared.heads.SmallHead.{SmallHead}
-use Rattle.node_heap.specs.declared.heads.SmallHead.TheVariants.{Chain, Pair, State, Moved}
+-- What lies of the head of a node in a small slot.
+use Rattle.std.specs.Prelude.{ℕ, Option, Some, None}
+use Rattle.node_heap.specs.declared.tags.Tag.{Tag}
+use Rattle.node_heap.specs.declared.tags.Tag.TheVariants as tag
+use Rattle.node_heap.specs.declared.entry.SmallHead.{SmallHead}
+use Rattle.node_heap.specs.declared.entry.SmallHead.TheVariants.{Chain, Pair, State, Whole, Moved}
 
--- the head that lies in the slot
-abbrev pub whole_head : SmallHead → Option Head
-whole_head Chain = Some whole.Chain
-whole_head Pair = Some whole.Pair
-whole_head State = Some whole.State
-whole_head (Moved _) = None
+-- the tag that lies in the slot
+abbrev pub tag_in : SmallHead → Option Tag
+tag_in Chain = Some tag.Chain
+tag_in Pair = Some tag.Pair
+tag_in State = Some tag.State
+tag_in (Whole place) = Some (tag.Whole place)
+tag_in (Moved _) = None
 
 -- the room apart in which the node lies
 abbrev pub room_of : SmallHead → Option ℕ
 room_of Chain = None
 room_of Pair = None
 room_of State = None
+room_of (Whole _) = None
 room_of (Moved room) = Some room
-
--- the heads that are lent
-pub record AreHeads (chain pair state : Head) : Type 0 where
-  pub is_chain : chain ≡ whole.Chain
-  pub is_pair : pair ≡ whole.Pair
-  pub is_state : state ≡ whole.State

@@ -1,10 +1,10 @@
 //! What the slots of the table hold.
 ghost use Rattle.std.specs.Prelude.{◌<◌, length, ◌≡◌, ◌≤◌, slice_set, slice_index, Some, None, IsSome};
-ghost use Rattle.node_heap.specs.Small.{whole_head, room_of};
-ghost use Rattle.node_heap.specs.declared.heads.SmallHead.TheVariants.{Moved};
+ghost use Rattle.node_heap.specs.Small.{tag_in, room_of};
+ghost use Rattle.node_heap.specs.declared.entry.SmallHead.TheVariants.{Moved};
 
-use crate::heads::SmallHead;
-use crate::row::{Head, Link};
+use crate::row::Link;
+use crate::tags::Tag;
 use arrayvec::ArrayVec;
 use elem_core::Num;
 use std::marker::Model;
@@ -24,7 +24,7 @@ const _: () = prove!(size_of::<Option<CellSlot<Num>>>() <= 40);
 #[derive(Drop)]
 pub(crate) struct NodeSlot {
     pub(crate) owners: usize,
-    pub(crate) head: Head,
+    pub(crate) head: Tag,
     pub(crate) links: ArrayVec<Link, 32>,
 }
 
@@ -34,6 +34,9 @@ pub(crate) struct NodeRoom {
     is_filled: bool,
     pub(crate) node: NodeSlot,
 }
+
+// A whole head isn't in it.
+const _: () = prove!(size_of::<NodeRoom>() <= 296);
 
 impl Model for NodeRoom {
     ghost use Rattle.std.specs.Prelude.{Option, Some, None, if◌then◌else◌};
@@ -46,7 +49,7 @@ impl Model for NodeRoom {
 
 impl NodeRoom {
     // Room with this node in it, which has one owner.
-    pub(crate) fn with_node(head: Head, links: &[Link]) -> NodeRoom
+    pub(crate) fn with_node(head: Tag, links: &[Link]) -> NodeRoom
         requires { length links.now ≤ 32 }
         ensures { result ≡ Some (record { owners = 1; head = head; links = record { items = links.now } }) }
     {
@@ -61,7 +64,7 @@ impl NodeRoom {
     }
 
     // Writes this node, which has one owner, over what lay here.
-    pub(crate) fn fill(&mut self, head: Head, links: &[Link])
+    pub(crate) fn fill(&mut self, head: Tag, links: &[Link])
         requires { length links.now ≤ 32 }
         ensures { self.new ≡ Some (record { owners = 1; head = head; links = record { items = links.now } }) }
     {
@@ -87,19 +90,32 @@ impl NodeRoom {
     }
 }
 
-// This head in a small slot, and none where there are too many links for one, or the head says more than its kind.
-pub(crate) fn small_head(head: &Head, links: &[Link]) -> Option<SmallHead>
-    ensures head { (h : SmallHead) → result ≡ Some h → whole_head h ≡ Some head.now }
+// What lies of the head of a node in a small slot.
+#[derive(Clone, Copy)]
+pub(crate) enum SmallHead {
+    Chain,
+    Pair,
+    State,
+    Whole { place: usize },
+    // Head and links lie in this room apart.
+    Moved { room: usize },
+}
+
+// This tag in a small slot, and none for a row of a vector, or where there are too many links for one.
+pub(crate) fn small_head(tag: &Tag, links: &[Link]) -> Option<SmallHead>
+    ensures head { (h : SmallHead) → result ≡ Some h → tag_in h ≡ Some tag.now }
     ensures few { (h : SmallHead) → result ≡ Some h → length links.now ≤ 3 }
 {
     if links.len() > FEW {
         return None;
     }
-    match head {
-        Head::Chain => Some(SmallHead::Chain),
-        Head::Pair => Some(SmallHead::Pair),
-        Head::State => Some(SmallHead::State),
-        _ => None,
+    match tag {
+        Tag::Leaf => None,
+        Tag::Inner { height: _ } => None,
+        Tag::Chain => Some(SmallHead::Chain),
+        Tag::Pair => Some(SmallHead::Pair),
+        Tag::State => Some(SmallHead::State),
+        Tag::Whole { place } => Some(SmallHead::Whole { place: *place }),
     }
 }
 
@@ -141,6 +157,20 @@ impl SmallSlot {
             owners,
             head: SmallHead::Moved { room },
             links: ArrayVec::new(),
+        }
+    }
+
+    // The tag, where it lies here.
+    pub(crate) fn tag(&self) -> Tag
+        requires { room_of self.now.head ≡ None }
+        ensures { tag_in self.now.head ≡ Some result }
+    {
+        match self.head {
+            SmallHead::Chain => Tag::Chain,
+            SmallHead::Pair => Tag::Pair,
+            SmallHead::State => Tag::State,
+            SmallHead::Whole { place } => Tag::Whole { place },
+            SmallHead::Moved { room: _ } => unreachable!(),
         }
     }
 

@@ -7,13 +7,14 @@
 
 mod entry;
 mod glass;
-mod heads;
 mod heap;
 mod laws;
 mod lists;
 mod nodes;
+mod rooms;
 mod row;
 mod table;
+mod tags;
 
 pub use glass::{Glass, Steps};
 pub use heap::Heap;

@@ -6,7 +6,8 @@ ghost use Rattle.node_heap.specs.Inside.{IsFree};
 ghost use Rattle.node_heap.specs.Nodes.{SameBut};
 
 use crate::entry::{NodeRoom, NodeSlot};
-use crate::row::{Head, Link};
+use crate::row::Link;
+use crate::tags::Tag;
 use std::alloc::AllocError;
 use std::mem;
 
@@ -145,7 +146,7 @@ pub(crate) fn take_out<X>(slots: &mut Vec<Option<X>>, free: &mut Vec<usize>, pla
 pub(crate) fn fill(
     rooms: &mut Vec<NodeRoom>,
     free: &mut Vec<usize>,
-    head: Head,
+    head: Tag,
     links: &[Link],
 ) -> usize
     requires free { IsFree rooms.old.items free.old.items }
@@ -199,11 +200,26 @@ pub(crate) fn set_slot<X: Drop>(slots: &mut Vec<Option<X>>, place: usize, value:
 }
 
 // Writes a node with one owner over what lies in the room.
-pub(crate) fn write_room(rooms: &mut Vec<NodeRoom>, place: usize, head: Head, links: &[Link])
+pub(crate) fn write_room(rooms: &mut Vec<NodeRoom>, place: usize, head: Tag, links: &[Link])
     requires inside { place < vec_len rooms.old }
     requires short { length links.now ≤ 32 }
     ensures rooms { rooms.new.items ≡ slice_set rooms.old.items place (Some (record { owners = 1; head = head; links = record { items = links.now } })) }
     ensures capacity { vec_capacity rooms.new ≡ vec_capacity rooms.old }
 {
     rooms[place].fill(head, links);
+}
+
+// Gives up what the slot holds, which is free then.
+pub(crate) fn vacate<X: Drop>(slots: &mut Vec<Option<X>>, free: &mut Vec<usize>, place: usize)
+    requires some { IsSome (slice_index_or slots.old.items place None) }
+    requires free { IsFree slots.old.items free.old.items }
+    requires room { vec_len free.old < vec_capacity free.old }
+    ensures slots { slots.new.items ≡ slice_set slots.old.items place None }
+    ensures free { IsFree slots.new.items free.new.items }
+    ensures one { vec_len free.new ≡ vec_len free.old + 1 }
+    ensures capacity { vec_capacity slots.new ≡ vec_capacity slots.old }
+    ensures free_capacity { vec_capacity free.new ≡ vec_capacity free.old }
+{
+    slots[place] = None;
+    free.push_reserved(place);
 }

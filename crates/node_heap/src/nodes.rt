@@ -1,35 +1,25 @@
-//! Where the nodes of a heap lie: index 2i is small slot i, and index 2i + 1 large room i. A node of few links whose head
-//! tells no more than its kind is made in a small slot. What it is later given and doesn't fit there lies in a room apart,
-//! which the small slot names, so that the node keeps its index.
-ghost use Rattle.std.specs.Prelude.{◌≡◌, ◌≢◌, ℕ, ◌+◌, ◌-◌, ◌*◌, ◌%◌, ◌^◌, ◌<◌, ◌≤◌, [], length, Some, None, IsSome, OnOk, OnErr, IsOk, option_map, count_by, is_some, slice_index, slice_index_or, slice_set, insert, remove};
+//! The nodes of a heap: their rooms, and apart from these the heads that say more than a tag does.
+ghost use Rattle.std.specs.Prelude.{◌≡◌, ℕ, ◌+◌, ◌^◌, ◌<◌, ◌≤◌, [], length, Some, None, IsSome, OnOk, OnErr, IsOk, count_by, is_some, slice_index, slice_set, insert, remove};
 ghost use Rattle.std.specs.Borrow.{sem};
 ghost use Rattle.node_heap.specs.Nodes.{SameBut, node_at, node_owners, node_head, node_links, Becomes};
-ghost use Rattle.node_heap.specs.Rooms.{large_node};
 
-use crate::entry::{NodeRoom, NodeSlot, SmallSlot, kept, small_head, swap};
-use crate::heads::Heads;
-use crate::lists::{
-    cover, empty, fill, node_in, node_in_mut, put, set_slot, slot, slot_mut, take_out, write_room,
-};
+use crate::entry::kept;
+use crate::lists::{cover, put, set_slot, slot, vacate};
+use crate::rooms::Rooms;
 use crate::row::{Head, Link};
+use crate::tags::{Heads, Tag, tag_of};
 use arrayvec::ArrayVec;
 use std::alloc::{AllocError, Global};
 use std::marker::Model;
 
-/// A slot or a room for each node, and spares.
+/// A room for each node, and spares.
 #[derive(Drop)]
 pub(crate) struct Nodes {
-    small: Vec<Option<SmallSlot>>,
-    // The small slots that no node is in, each once.
-    free_small: Vec<usize>,
-    large: Vec<NodeRoom>,
-    free_large: Vec<usize>,
-    // What small slots name.
-    moved: Vec<NodeRoom>,
-    free_moved: Vec<usize>,
-    heads: Heads,
-    len: usize,
-    spares: usize,
+    rooms: Rooms,
+    // The whole heads that tags name.
+    heads: Vec<Option<Head>>,
+    free_heads: Vec<usize>,
+    lent: Heads,
 }
 
 impl Model for Nodes {
@@ -38,15 +28,15 @@ impl Model for Nodes {
     ghost Value = { Seen };
 
     ghost use Rattle.std.specs.Vec.{vec_capacity};
-    ghost use Rattle.node_heap.specs.Rooms.{nodes_of, IsNodes};
+    ghost use Rattle.node_heap.specs.Tags.{headed, IsNodes};
 
-    ghost view = { λ n. nodes_of n.small.items n.large.items n.moved.items n.spares };
+    ghost view = { λ n. headed n.rooms n.heads.items };
 
-    ghost invariant = { λ n. IsNodes n.small.items n.free_small.items (vec_capacity n.small) (vec_capacity n.free_small) n.large.items n.free_large.items (vec_capacity n.large) (vec_capacity n.free_large) n.moved.items n.free_moved.items (vec_capacity n.moved) (vec_capacity n.free_moved) n.len n.spares };
+    ghost invariant = { λ n. IsNodes n.rooms n.heads.items n.free_heads.items (vec_capacity n.heads) (vec_capacity n.free_heads) };
 }
 
 impl Nodes {
-    ghost use Rattle.node_heap.specs.LendsNode.{LendsNodeOwners, LendsLarge};
+    ghost use Rattle.node_heap.specs.LendsNode.{LendsNodeOwners};
 
     // No nodes and no spares.
     pub(crate) fn new(alloc: Global) -> Nodes
@@ -54,15 +44,10 @@ impl Nodes {
         ensures spares { result.spares ≡ 0 }
     {
         Nodes {
-            small: Vec::new(alloc),
-            free_small: Vec::new(alloc),
-            large: Vec::new(alloc),
-            free_large: Vec::new(alloc),
-            moved: Vec::new(alloc),
-            free_moved: Vec::new(alloc),
-            heads: Heads::new(),
-            len: 0,
-            spares: 0,
+            rooms: Rooms::new(alloc),
+            heads: Vec::new(alloc),
+            free_heads: Vec::new(alloc),
+            lent: Heads::new(),
         }
     }
 
@@ -70,13 +55,13 @@ impl Nodes {
     pub(crate) fn len(&self) -> usize
         ensures { result ≡ count_by is_some self.now.slots }
     {
-        self.len
+        self.rooms.len()
     }
 
     pub(crate) fn spares(&self) -> usize
         ensures { result ≡ self.now.spares }
     {
-        self.spares
+        self.rooms.spares()
     }
 
     // Makes just so many spares, no fewer than there are. Refused, it leaves the nodes as they were.
@@ -88,12 +73,10 @@ impl Nodes {
         ensures refused { OnErr result (self.new ≡ self.old) }
         ensures ample { self.old.spares ≡ spares → IsOk result }
     {
-        // Any node may be large, and any small one may outgrow its slot, so each list has room for all.
-        let total = self.len + spares;
-        cover(&mut self.small, &mut self.free_small, total)?;
-        cover(&mut self.large, &mut self.free_large, total)?;
-        cover(&mut self.moved, &mut self.free_moved, total)?;
-        self.spares = spares;
+        // Any node may have a whole head.
+        let total = self.rooms.len() + spares;
+        cover(&mut self.heads, &mut self.free_heads, total)?;
+        self.rooms.reserve(spares)?;
         Ok(())
     }
 
@@ -108,14 +91,12 @@ impl Nodes {
         ensures spares { self.new.spares + 1 ≡ self.old.spares }
         ensures low { result < 2 ^ 57 }
     {
-        self.spares -= 1;
-        self.len += 1;
-        match small_head(&head, links) {
-            Some(head) => {
-                let slot = SmallSlot::with_links(1, head, links);
-                2 * put(&mut self.small, &mut self.free_small, slot)
+        match tag_of(&head) {
+            Some(tag) => self.rooms.put(tag, links),
+            None => {
+                let place = put(&mut self.heads, &mut self.free_heads, head);
+                self.rooms.put(Tag::Whole { place }, links)
             }
-            None => 2 * fill(&mut self.large, &mut self.free_large, head, links) + 1,
         }
     }
 
@@ -124,11 +105,7 @@ impl Nodes {
         requires { IsSome (node_at self.now.slots index) }
         ensures { result ≡ node_owners (node_at self.now.slots index) }
     {
-        if index % 2 == 0 {
-            slot(&self.small, index / 2).owners
-        } else {
-            node_in(&self.large, index / 2).owners
-        }
+        self.rooms.owners(index)
     }
 
     // The owners of the node at the index, for writing.
@@ -137,13 +114,7 @@ impl Nodes {
         ensures* writes_back { sem 𝓛 (LendsNodeOwners self.entry index result) }
         ensures value { result.now ≡ node_owners (node_at self.old.slots index) }
     {
-        if index % 2 == 0 {
-            let slot = slot_mut(&mut self.small, index / 2);
-            &mut slot.owners
-        } else {
-            let node = node_in_mut(&mut self.large, index / 2);
-            &mut node.owners
-        }
+        self.rooms.owners_mut(index)
     }
 
     // The head of the node at the index.
@@ -151,13 +122,10 @@ impl Nodes {
         requires { IsSome (node_at self.now.slots index) }
         ensures { node_head (node_at self.now.slots index) ≡ Some result.now }
     {
-        if index % 2 != 0 {
-            return &node_in(&self.large, index / 2).head;
-        }
-        let small = slot(&self.small, index / 2);
-        match small.room() {
-            Some(room) => &node_in(&self.moved, room).head,
-            None => self.heads.lend(&small.head),
+        let tag = self.rooms.tag(index);
+        match tag.place() {
+            Some(place) => slot(&self.heads, place),
+            None => self.lent.lend(&tag),
         }
     }
 
@@ -167,14 +135,7 @@ impl Nodes {
         ensures value { result.now ≡ node_links (node_at self.now.slots index) }
         ensures short { length result.now ≤ 32 }
     {
-        if index % 2 != 0 {
-            return node_in(&self.large, index / 2).links.as_slice();
-        }
-        let small = slot(&self.small, index / 2);
-        match small.room() {
-            Some(room) => node_in(&self.moved, room).links.as_slice(),
-            None => small.links.as_slice(),
-        }
+        self.rooms.links(index)
     }
 
     // The head and the links of the node at the index.
@@ -186,55 +147,13 @@ impl Nodes {
         (self.head(index).copy(), kept(self.links(index)))
     }
 
-    // Gives the node in a small slot this head and these links, at most 32.
-    fn rewrite_small(&mut self, index: usize, head: Head, links: &[Link])
-        requires small { index % 2 ≡ 0 }
-        requires live { IsSome (node_at self.old.slots index) }
-        requires short { length links.now ≤ 32 }
-        ensures { Becomes self.old self.new index (λ n. record { owners = n.owners; head = head; links = links.now }) }
-    {
-        let place = index / 2;
-        let small = slot(&self.small, place);
-        let owners = small.owners;
-        match small.room() {
-            Some(room) => write_room(&mut self.moved, room, head, links),
-            None => match small_head(&head, links) {
-                Some(head) => {
-                    let slot = SmallSlot::with_links(owners, head, links);
-                    set_slot(&mut self.small, place, slot);
-                }
-                None => {
-                    let room = fill(&mut self.moved, &mut self.free_moved, head, links);
-                    let slot = SmallSlot::moved(owners, room);
-                    set_slot(&mut self.small, place, slot);
-                }
-            },
-        }
-    }
-
-    // The node in a large room, for writing.
-    fn large_mut(&mut self, index: usize) -> &mut NodeSlot
-        requires large { index % 2 ≢ 0 }
-        requires live { IsSome (node_at self.old.slots index) }
-        ensures* writes_back { sem 𝓛 (LendsLarge self.entry index result) }
-        ensures value { node_at self.old.slots index ≡ large_node (Some result.now) }
-    {
-        node_in_mut(&mut self.large, index / 2)
-    }
-
     // Puts the link in place of the one at the position, which it answers.
     pub(crate) fn replace_link(&mut self, index: usize, position: usize, link: Link) -> Link
         requires { position < length (node_links (node_at self.old.slots index)) }
         ensures old { result ≡ slice_index (node_links (node_at self.old.slots index)) position }
         ensures becomes { Becomes self.old self.new index (λ n. record { owners = n.owners; head = n.head; links = slice_set n.links position link }) }
     {
-        if index % 2 != 0 {
-            return swap(&mut self.large_mut(index).links, position, link);
-        }
-        let (head, mut links) = self.copy(index);
-        let old = swap(&mut links, position, link);
-        self.rewrite_small(index, head, links.as_slice());
-        old
+        self.rooms.replace_link(index, position, link)
     }
 
     // Puts the link at the position, before those that stand there and after.
@@ -244,13 +163,7 @@ impl Nodes {
         requires room { length (node_links (node_at self.old.slots index)) < 32 }
         ensures { Becomes self.old self.new index (λ n. record { owners = n.owners; head = n.head; links = insert n.links position link }) }
     {
-        if index % 2 != 0 {
-            self.large_mut(index).links.insert(position, link);
-            return;
-        }
-        let (head, mut links) = self.copy(index);
-        links.insert(position, link);
-        self.rewrite_small(index, head, links.as_slice());
+        self.rooms.insert_link(index, position, link);
     }
 
     // Takes the link at the position out.
@@ -259,13 +172,7 @@ impl Nodes {
         ensures old { result ≡ slice_index (node_links (node_at self.old.slots index)) position }
         ensures becomes { Becomes self.old self.new index (λ n. record { owners = n.owners; head = n.head; links = remove n.links position }) }
     {
-        if index % 2 != 0 {
-            return self.large_mut(index).links.remove(position);
-        }
-        let (head, mut links) = self.copy(index);
-        let old = links.remove(position);
-        self.rewrite_small(index, head, links.as_slice());
-        old
+        self.rooms.remove_link(index, position)
     }
 
     // Puts the head in place of the node's.
@@ -273,12 +180,17 @@ impl Nodes {
         requires { IsSome (node_at self.old.slots index) }
         ensures { Becomes self.old self.new index (λ n. record { owners = n.owners; head = head; links = n.links }) }
     {
-        if index % 2 != 0 {
-            self.large_mut(index).head = head;
-            return;
+        let tag = self.rooms.tag(index);
+        match tag.place() {
+            Some(place) => set_slot(&mut self.heads, place, head),
+            None => match tag_of(&head) {
+                Some(tag) => self.rooms.set_tag(index, tag),
+                None => {
+                    let place = put(&mut self.heads, &mut self.free_heads, head);
+                    self.rooms.set_tag(index, Tag::Whole { place });
+                }
+            },
         }
-        let links = kept(self.links(index));
-        self.rewrite_small(index, head, links.as_slice());
     }
 
     // Gives up the node at the index, which is a spare then.
@@ -289,15 +201,10 @@ impl Nodes {
         ensures len { count_by is_some self.new.slots + 1 ≡ count_by is_some self.old.slots }
         ensures spares { self.new.spares ≡ self.old.spares + 1 }
     {
-        self.len -= 1;
-        self.spares += 1;
-        if index % 2 != 0 {
-            empty(&mut self.large, &mut self.free_large, index / 2);
-            return;
-        }
-        let small = take_out(&mut self.small, &mut self.free_small, index / 2);
-        match small.room() {
-            Some(room) => empty(&mut self.moved, &mut self.free_moved, room),
+        let tag = self.rooms.tag(index);
+        self.rooms.free(index);
+        match tag.place() {
+            Some(place) => vacate(&mut self.heads, &mut self.free_heads, place),
             None => {}
         }
     }

@@ -1,8 +1,6 @@
-use Rattle.std.proofs.Common.{arith}
-use Rattle.node_heap.proofs.Housed.{len-nodes}
+use Rattle.std.proofs.Common.{sym, ◌∙◌}
+use Rattle.node_heap.proofs.Headed.{len-headed}
 use Rattle.node_heap.proofs.nodes.Nodes.len.Goals as goal
 
 pub returns : goal.returns
-returns c =
-    let i = c.self.inside in
-    rw (← c.self.view_is) (omega (arith, len-nodes i.small.items i.large.items i.moved.items, c.self.invariant.parted.whole))
+returns c = rw (← c.self.view_is) (c.len.ensures ∙ sym (len-headed c.self.inside.heads.items c.self.inside.rooms.slots))

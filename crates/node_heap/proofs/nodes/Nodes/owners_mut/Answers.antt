@@ -1,37 +1,26 @@
-use Rattle.std.proofs.Common.{◌/◌, refl, sym, ap}
-use Rattle.node_heap.specs.Nodes.{node_owners}
-use Rattle.node_heap.proofs.Housed.{live-small, live-large, read-small, read-large}
-use Rattle.node_heap.proofs.Rooming.{IsNodes-small, IsNodes-large, small-owners, large-owners}
+use Rattle.std.proofs.Common.{◌+◌, refl, sym, ap, ◌∙◌}
+use Rattle.node_heap.specs.Nodes.{node_at, owned_by}
+use Rattle.node_heap.specs.Tags.{place_in}
+use Rattle.node_heap.proofs.Free.{value_in}
+use Rattle.node_heap.proofs.Parting.{set-apart, set-there}
+use Rattle.node_heap.proofs.Headed.{live-room, owners-headed, owned-headed, place-owned, len-owned, IsNodes-kept}
 use Rattle.node_heap.proofs.nodes.Nodes.owners_mut.Goals as goal
 
-pub slot_mut-slot-requires : goal.slot_mut-slot-requires
-slot_mut-slot-requires c =
-    let i = c.self.inside in
-    live-small i.small.items i.large.items i.moved.items c.args.index c.if-index-eq0.true (rw (← c.self.view_is) at c.requires)
+pub owners_mut-requires : goal.owners_mut-requires
+owners_mut-requires c = live-room c.self.inside.heads.items c.self.inside.rooms c.self.view_is c.args.index c.requires
 
 pub invariant_of-self-lent : goal.invariant_of-self-lent
-invariant_of-self-lent c w = IsNodes-small _ _ _ _ _ _ _ _ _ _ _ _ _ _ c.self.invariant (c.args.index / 2) _ _ c.slot_mut-slot.ensures.value refl
+invariant_of-self-lent c w =
+    let rooms = c.self.inside.rooms in
+    let index = c.args.index in
+    let value = value_in _ (live-room c.self.inside.heads.items rooms c.self.view_is index c.requires) in
+    let owned = owned_by w (node_at rooms.slots index) in
+    let there = set-there rooms.slots index value.0 owned value.1 in
+    IsNodes-kept rooms _ _ _ _ c.self.invariant _ index (set-apart rooms.slots index owned) (ap place_in there ∙ place-owned c.self.inside.heads.items w (node_at rooms.slots index))
+    (ap (λ n. n + rooms.spares) (len-owned rooms.slots index w (rw value.1 refl)))
 
-pub returns-then-index-eq0 : goal.returns-then-index-eq0
-returns-then-index-eq0 c =
-    let i = c.self.inside in
-    let is = c.slot_mut-slot.ensures.value in (
-      (refl, λ w. small-owners _ _ _ _ _ _ _ _ _ _ _ _ _ _ c.self.invariant c.self.view_is c.args.index w _ c.if-index-eq0.true is),
-      record { writes_back = tt; value = rw (← c.self.view_is) (sym (ap node_owners (read-small i.small.items i.large.items i.moved.items c.args.index _ c.if-index-eq0.true is))) },
-    )
-
-pub node_in_mut-node-requires : goal.node_in_mut-node-requires
-node_in_mut-node-requires c =
-    let i = c.self.inside in
-    live-large i.small.items i.large.items i.moved.items c.args.index c.if-index-eq0.false (rw (← c.self.view_is) at c.requires)
-
-pub invariant_of-self-lent-else-index-eq0 : goal.invariant_of-self-lent-else-index-eq0
-invariant_of-self-lent-else-index-eq0 c w = IsNodes-large _ _ _ _ _ _ _ _ _ _ _ _ _ _ c.self.invariant (c.args.index / 2) _ _ c.node_in_mut-node.ensures.value
-
-pub returns-else-index-eq0 : goal.returns-else-index-eq0
-returns-else-index-eq0 c =
-    let i = c.self.inside in
-    let is = c.node_in_mut-node.ensures.value in (
-      (refl, λ w. large-owners _ _ _ _ _ _ _ _ _ _ _ _ _ _ c.self.invariant c.self.view_is c.args.index w _ c.if-index-eq0.false is),
-      record { writes_back = tt; value = rw (← c.self.view_is) (sym (ap node_owners (read-large i.small.items i.large.items i.moved.items c.args.index _ c.if-index-eq0.false is))) },
-    )
+pub returns : goal.returns
+returns c = (
+  (refl, λ w. owned-headed c.self.inside.heads.items c.self.inside.rooms c.self.view_is c.args.index w),
+  record { writes_back = tt; value = c.owners_mut.ensures.value ∙ sym (owners-headed c.self.inside.heads.items c.self.inside.rooms c.self.view_is c.args.index) },
+)

@@ -1,53 +1,69 @@
-use Rattle.std.proofs.Common.{◌+◌, ◌*◌, ap, ◌∙◌, arith}
-use Rattle.node_heap.specs.Small.{whole_head}
-use Rattle.node_heap.specs.Rooms.{nodes_in}
-use Rattle.node_heap.proofs.Housed.{whole-room}
-use Rattle.node_heap.proofs.Rooming.{Puts, puts-small, puts-large, IsNodes-put}
+use Rattle.std.proofs.Common.{map, refl, sym, ap, ◌∙◌, arith}
+use Rattle.node_heap.specs.Tags.{place_in, whole_node}
+use Rattle.node_heap.proofs.Rooming.{Puts}
+use Rattle.node_heap.proofs.Headed.{plain-by, plain-place, headed-same, headed-apart, puts-headed, none-named, le-named, IsNodes-kept, IsNodes-named}
 use Rattle.node_heap.proofs.nodes.Nodes.put.Goals as goal
 
-small : (c : goal.After-put) → Puts (nodes_in c.self.inside.small.items c.self.inside.large.items c.self.inside.moved.items) (nodes_in c.put.new.slots.items c.self.inside.large.items c.self.inside.moved.items) (2 * c.put.result) (record { owners = 1; head = c.args.head; links = c.args.links.now })
-small c =
-    let i = c.self.inside in
+plain : (c : goal.After-put) → Puts (map (whole_node c.self.inside.heads.items) c.self.inside.rooms.slots) (map (whole_node c.self.inside.heads.items) c.put.new.self.slots) c.put.result (record { owners = 1; head = c.args.head; links = c.args.links.now })
+plain c =
+    let heads = c.self.inside.heads.items in
+    let rooms = c.self.inside.rooms in
     let put = c.put.ensures in
-    let made = c.with_links-slot.ensures in
-    puts-small i.small.items c.put.new.slots.items i.large.items i.moved.items c.put.result put.others c.with_links-slot.result c.args.head c.args.links.now put.was put.now
-    (ap (λ x. x.owners) made) (ap (λ x. whole_head x.head) made ∙ c.small_head.ensures.head c.in-Some.head c.in-Some.is) (ap (λ x. x.links.items) made)
-
-large : (c : goal.After-fill) → Puts (nodes_in c.self.inside.small.items c.self.inside.large.items c.self.inside.moved.items) (nodes_in c.self.inside.small.items c.fill.new.rooms.items c.self.inside.moved.items) (2 * c.fill.result + 1) (record { owners = 1; head = c.args.head; links = c.args.links.now })
-large c =
-    let i = c.self.inside in
-    let put = c.fill.ensures in
-    puts-large i.small.items i.large.items c.fill.new.rooms.items i.moved.items c.fill.result put.others _ put.was put.now
+    puts-headed heads heads rooms.slots c.put.new.self.slots c.put.result (headed-same heads rooms.slots c.put.new.self.slots c.put.result put.others) _ _ put.was put.now
+    (rw (plain-by heads c.in-Some.tag c.args.head (c.tag_of.ensures c.in-Some.tag c.in-Some.is)) refl) put.len
 
 pub invariant_of-self : goal.invariant_of-self
 invariant_of-self c =
-    let i = c.self.inside in
     let put = c.put.ensures in
-    let spare = rw (← c.self.view_is) at c.requires.spare in
-    let whole = ap (λ x. whole_head x.head) c.with_links-slot.ensures ∙ c.small_head.ensures.head c.in-Some.head c.in-Some.is in
-    IsNodes-put _ _ _ _ _ _ _ _ _ _ _ _ _ _ c.self.invariant c.put.new.slots.items c.put.new.free.items c.put.result _ _ _ put.capacity put.free_capacity spare put.others put.was put.now (whole-room _ _ whole)
-    (omega (arith, put.one, i.small.ok.0, i.free_small.ok.0, c.put.new.slots.ok.0, c.put.new.free.ok.0)) (omega (arith, put.fewer, i.free_small.ok.0, c.put.new.free.ok.0)) put.free
+    let place = plain-place c.in-Some.tag c.args.head (c.tag_of.ensures c.in-Some.tag c.in-Some.is) in
+    IsNodes-kept _ _ _ _ _ c.self.invariant c.put.new.self c.put.result put.others (ap place_in put.now ∙ place ∙ ap place_in (sym put.was)) (omega (arith, put.len, put.spares))
 
 pub returns-in-Some-clause-was : goal.returns-in-Some-clause-was
-returns-in-Some-clause-was c = rw (← c.self.view_is) (small c).was
+returns-in-Some-clause-was c = rw (← c.self.view_is) (plain c).was
 
 pub returns-in-Some-clause-now : goal.returns-in-Some-clause-now
-returns-in-Some-clause-now c = (small c).now
+returns-in-Some-clause-now c = (plain c).now
 
 pub returns-in-Some-clause-others : goal.returns-in-Some-clause-others
-returns-in-Some-clause-others c = rw (← c.self.view_is) (small c).others
+returns-in-Some-clause-others c = rw (← c.self.view_is) (plain c).others
 
-pub returns-in-Some-clause-len : goal.returns-in-Some-clause-len
-returns-in-Some-clause-len c = rw (← c.self.view_is) (small c).len
+pub put-place-requires-clause-room : goal.put-place-requires-clause-room
+put-place-requires-clause-room c =
+    let i = c.self.inside in
+    let inv = c.self.invariant in
+    let spare = rw (← c.self.view_is) at c.requires.spare in
+    omega (arith, spare, le-named i.rooms.slots, inv.parts.used, inv.of_heads.listed.whole, inv.of_heads.room, i.heads.ok.0, i.free_heads.ok.0)
+
+pub invariant_of-self-in-None : goal.invariant_of-self-in-None
+invariant_of-self-in-None c =
+    let i = c.self.inside in
+    let inv = c.self.invariant in
+    let spare = rw (← c.self.view_is) at c.requires.spare in
+    let place = c.put-place.ensures in
+    let put = c.put-in-None.ensures in
+    IsNodes-named i.rooms i.heads.items i.free_heads.items _ _ inv c.put-in-None.new.self c.put-place.new.slots.items c.put-place.new.free.items _ _ c.put-in-None.result c.put-place.result c.args.head place.capacity place.free_capacity put.others
+    (ap place_in put.was) (ap place_in put.now) (omega (arith, put.len, put.spares)) (omega (arith, spare, le-named i.rooms.slots, inv.parts.used)) place.was place.now place.others
+    (omega (arith, place.one, i.heads.ok.0, i.free_heads.ok.0, c.put-place.new.slots.ok.0, c.put-place.new.free.ok.0)) (omega (arith, place.fewer, i.free_heads.ok.0, c.put-place.new.free.ok.0)) place.free
+
+whole : (c : goal.After-put-in-None) → Puts (map (whole_node c.self.inside.heads.items) c.self.inside.rooms.slots) (map (whole_node c.put-place.new.slots.items) c.put-in-None.new.self.slots) c.put-in-None.result (record { owners = 1; head = c.args.head; links = c.args.links.now })
+whole c =
+    let heads = c.self.inside.heads.items in
+    let heads' = c.put-place.new.slots.items in
+    let rooms = c.self.inside.rooms in
+    let place = c.put-place.ensures in
+    let put = c.put-in-None.ensures in
+    puts-headed heads heads' rooms.slots c.put-in-None.new.self.slots c.put-in-None.result
+    (headed-apart heads heads' c.put-place.result rooms.slots c.put-in-None.new.self.slots c.put-in-None.result put.others place.others (λ j other. none-named rooms.slots heads c.put-place.result c.self.invariant.parts place.was j)) _ _ put.was put.now
+    (rw place.now refl) put.len
 
 pub returns-in-None-clause-was : goal.returns-in-None-clause-was
-returns-in-None-clause-was c = rw (← c.self.view_is) (large c).was
+returns-in-None-clause-was c = rw (← c.self.view_is) (whole c).was
 
 pub returns-in-None-clause-now : goal.returns-in-None-clause-now
-returns-in-None-clause-now c = (large c).now
+returns-in-None-clause-now c = (whole c).now
 
 pub returns-in-None-clause-others : goal.returns-in-None-clause-others
-returns-in-None-clause-others c = rw (← c.self.view_is) (large c).others
+returns-in-None-clause-others c = rw (← c.self.view_is) (whole c).others
 
 pub returns-in-None-clause-len : goal.returns-in-None-clause-len
-returns-in-None-clause-len c = rw (← c.self.view_is) (large c).len
+returns-in-None-clause-len c = rw (← c.self.view_is) (whole c).len

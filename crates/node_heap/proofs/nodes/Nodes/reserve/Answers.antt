@@ -1,43 +1,23 @@
-use Rattle.std.proofs.Common.{arith}
-use Rattle.node_heap.proofs.Housed.{len-nodes}
+use Rattle.std.proofs.Common.{ap, arith, count_by, is_some}
+use Rattle.node_heap.proofs.Headed.{len-headed}
 use Rattle.node_heap.proofs.nodes.Nodes.reserve.Goals as goal
-
-pub cover-requires-clause-few : goal.cover-requires-clause-few
-cover-requires-clause-few c =
-    let i = c.self.inside in
-    let few = rw (← c.self.view_is) at c.requires.few in
-    omega (arith, few, len-nodes i.small.items i.large.items i.moved.items, c.self.invariant.parted.whole)
-
-pub cover-requires-2-clause-few : goal.cover-requires-2-clause-few
-cover-requires-2-clause-few c =
-    let i = c.self.inside in
-    let few = rw (← c.self.view_is) at c.requires.few in
-    omega (arith, few, len-nodes i.small.items i.large.items i.moved.items, c.self.invariant.parted.whole)
-
-pub cover-requires-3-clause-few : goal.cover-requires-3-clause-few
-cover-requires-3-clause-few c =
-    let i = c.self.inside in
-    let few = rw (← c.self.view_is) at c.requires.few in
-    omega (arith, few, len-nodes i.small.items i.large.items i.moved.items, c.self.invariant.parted.whole)
 
 pub invariant_of-self-2 : goal.invariant_of-self-2
 invariant_of-self-2 c =
     let i = c.self.inside in
+    let inv = c.self.invariant in
     let few = rw (← c.self.view_is) at c.requires.few in
     let more = rw (← c.self.view_is) at c.requires.more in
-    let inv = c.self.invariant in
-    let first = c.in_ok-cover.ensures in
-    let second = c.in_ok-cover-2.ensures in
-    let third = c.in_ok-cover-3.ensures in
-    rw (c.cover.ensures.slots, c.cover.ensures.free, c.cover-2.ensures.slots, c.cover-2.ensures.free, c.cover-3.ensures.slots, c.cover-3.ensures.free) (record {
-      of_small = record { listed = inv.of_small.listed; short = omega (arith, inv.of_small.short, more); room = first.room; free_room = first.free_room };
-      of_large = record { listed = inv.of_large.listed; short = omega (arith, inv.of_large.short, more); room = second.room; free_room = second.free_room };
-      of_moved = record { listed = inv.of_moved.listed; short = omega (arith, inv.of_moved.short, more); room = third.room; free_room = third.free_room };
-      parted = record {
-        whole = inv.parted.whole;
-        few = omega (arith, few, len-nodes i.small.items i.large.items i.moved.items, inv.parted.whole);
-        rooms = inv.parted.rooms;
-        there = inv.parted.there;
-        apart = inv.parted.apart;
+    let made = c.in_ok-cover.ensures in
+    let count = ap (count_by is_some) c.reserve.ensures.slots in
+    let spares = c.in_ok-reserve.ensures.spares in
+    rw (c.cover.ensures.slots, c.cover.ensures.free) (record {
+      of_heads = record {
+        listed = inv.of_heads.listed;
+        short = omega (arith, inv.of_heads.short, more, count, spares);
+        room = omega (arith, made.room, count, spares, c.len.ensures);
+        free_room = omega (arith, made.free_room, count, spares, c.len.ensures);
       };
+      parts = rw c.reserve.ensures.slots inv.parts;
+      few = omega (arith, few, len-headed i.heads.items i.rooms.slots, count, spares);
     })

@@ -1,7 +1,8 @@
 use Rattle.std.proofs.Common.{◌/◌, refl, sym, ap, ◌∙◌}
 use Rattle.node_heap.specs.Layout.{owners_in}
 use Rattle.node_heap.proofs.Free.{value_in}
-use Rattle.node_heap.proofs.Placed.{live-cell, live-node, read-cell, cell-owners, node-owned, node-owners, IsTable-cell, IsTable-node, len-owned}
+use Rattle.node_heap.proofs.Headed.{len-owned}
+use Rattle.node_heap.proofs.Placed.{live-cell, live-node, read-cell, cell-owners, node-owned, node-owners, IsTable-cell, IsTable-node}
 use Rattle.node_heap.proofs.table.Table.owners_mut.Goals as goal
 
 pub slot_mut-slot-requires : goal.slot_mut-slot-requires
