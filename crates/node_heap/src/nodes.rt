@@ -73,6 +73,10 @@ impl Nodes {
         ensures refused { OnErr result (self.new ≡ self.old) }
         ensures ample { self.old.spares ≡ spares → IsOk result }
     {
+        // Often there are enough.
+        if spares == self.rooms.spares() {
+            return Ok(());
+        }
         // Any node may have a whole head.
         let total = self.rooms.len() + spares;
         cover(&mut self.heads, &mut self.free_heads, total)?;
