@@ -354,6 +354,10 @@ fn free_waiting<T: Drop>(table: &mut Table<T>, first: usize)
     ensures len { filled_count table.new.slots + (table.new.spare_cells + table.new.spare_nodes) ≡ filled_count table.old.slots + (table.old.spare_cells + table.old.spare_nodes) }
     ensures low { IsLow table.new.slots }
 {
+    // Most calls free no row, and need no list.
+    if first == END {
+        return;
+    }
     let mut links = ArrayVec::new();
     let mut next = first;
     while next != END {
