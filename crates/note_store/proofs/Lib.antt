@@ -1,2 +1,3 @@
 pub mod GainLemmas
 pub mod UndoLemmas
+pub mod HistoryLemmas

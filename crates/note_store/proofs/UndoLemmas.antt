@@ -187,15 +187,13 @@ module _ {T : Type 0} (cmp : T → T → Ordering) (code : T → ℕ) where
       shared-gained {b = c} (cell-gained {b = c} adds added count) (answered M.0 (map-there more added seen M.1)) shared same
 
   -- what a put makes where it has both
-  pub put-takes : {a b c d e f : Heap T} {r seen : Root} {link root other l earlier vector : ℕ} {spent : List ℕ} (name : T) (M : List (Binding T)) → IsMapOf cmp code a r M → seen ≡ r → l ≡ earlier → IsGoodVector a earlier → Unchanged a b → Extends a b → Makes b c 1 0 → Extends b c
-      → MakesJust c d → ((N : List (Binding T)) → IsMapOf cmp code c seen N → Answered c d (link ∷ []) root 1 (DEEPEST + 3 + alike_keys code seen.bits name N)) → Builds d e [] (other ∷ []) 0 0 → MakesJust e f → Answered e f spent vector 0 (height_at e l + 2)
-      → Takes a f 2 (DEEPEST + 5 + height_at a earlier + alike_keys code r.bits name M)
-  put-takes {a} {e = e} {f = f} {r} {l = l} {earlier} name M is seen same good room more made added just answered shared just' pushed =
+  pub put-takes : {a b c d e f : Heap T} {r seen : Root} {link root other earlier : ℕ} (name : T) (M : List (Binding T)) → IsMapOf cmp code a r M → seen ≡ r → IsGoodVector a earlier → Unchanged a b → Extends a b → Makes b c 1 0 → Extends b c → MakesJust c d
+      → ((N : List (Binding T)) → IsMapOf cmp code c seen N → Answered c d (link ∷ []) root 1 (DEEPEST + 3 + alike_keys code seen.bits name N)) → Builds d e [] (other ∷ []) 0 0 → Takes e f 0 (height_at e earlier + 2) → Takes a f 2 (DEEPEST + 5 + height_at a earlier + alike_keys code r.bits name M)
+  put-takes {a} {e = e} {f = f} {r} {earlier = earlier} name M is seen good room more made added just answered shared longer =
       let put = answered M (map-there more added seen is) in
       let begun = shared-takes room made just put shared in
       let alike = ap (λ (q : Root). alike_keys code q.bits name M) seen in
-      let height : height_at e l ≡ height_at a earlier = rw same (height-kept earlier (Extends-trans (Extends-trans more added) (Extends-trans put.extends shared.extends)) good) in
-      let longer = answered-takes {b = f} just' pushed in
+      let height : height_at e earlier ≡ height_at a earlier = height-kept earlier (Extends-trans (Extends-trans more added) (Extends-trans put.extends shared.extends)) good in
       record {
         made = omega (arith, begun.made, alike, longer.made, height);
         spare_cells = omega (arith, begun.spare_cells, longer.spare_cells);
@@ -213,10 +211,8 @@ module _ {T : Type 0} (cmp : T → T → Ordering) (code : T → ℕ) where
       λ k d inside there. KeepsBelow-trans a b c _ (extends.kept _ there) (below _ (live k d inside))
 
   -- a note that was put reads as it was made
-  pub written : {b c d : Heap T} (r : Root) (M : List (Binding T)) (name note : T) (l : ℕ) → row_at b l ≡ Some (cell note) → Extends b c → IsMapOf cmp code c r (bind cmp M name l)
-      → ((k : ℕ) → IsSome (row_at d k) → KeepsBelow c d k) → IsSome (row_at d r.root) → HasWritten cmp code d r M name note
-  written {b} {c} {d} r M name note l here extends map below live =
-      let keeps = below r.root live in
+  pub written : {b c d : Heap T} (r : Root) (M : List (Binding T)) (name note : T) (l : ℕ) → row_at b l ≡ Some (cell note) → Extends b c → IsMapOf cmp code c r (bind cmp M name l) → KeepsBelow c d r.root → HasWritten cmp code d r M name note
+  written {b} {c} {d} r M name note l here extends map keeps =
       let down : Reaches (links_at c) r.root l = All-head (λ (x : Binding T). Reaches (links_at c) r.root x.value) (binding (kept_key cmp name M) l) (unbind cmp name M) (map-reaches cmp code c r (bind cmp M name l) map) in
       record {
         link = l;

@@ -1,19 +1,20 @@
 //! Named notes with an undo history: what a program writes on top of the containers.
 //!
 //! The notes are a map. The history is a vector, and its elements are the roots of the maps that came before. Each edit
-//! makes a new map and a new vector beside the old ones, a few rows of which are new and the others theirs.
+//! makes a new map beside the old one, a few rows of which are new and the others its own, and edits the history in place.
 ghost use Rattle.std.specs.Prelude.{◌≡◌, ◌≢◌, ℕ, ◌+◌, ◌-◌, ◌^◌, ◌<◌, ◌≤◌, ◌↔◌, List, [], ◌∷◌, ◌++◌, length, Ok, Err, true, false, IsSome, IfOk, IsOk, OnErr, OnOk};
 ghost use Rattle.elem_core.specs.declared.codes.TheConstants.{DEEPEST};
-ghost use Rattle.node_heap.specs.Heap.{row_at, holds_at, hold_count, IsGraph, HasSpares};
-ghost use Rattle.node_heap.specs.Calls.{Builds, KeepsBelow, KeepsHeld};
-ghost use Rattle.rrb_core.specs.Vector.{elements, height_at};
+ghost use Rattle.node_heap.specs.Heap.{holds_at, hold_count, one_at, IsGraph, HasSpares};
+ghost use Rattle.node_heap.specs.Calls.{Builds, Extends, KeepsHeld};
+ghost use Rattle.rrb_core.specs.Vector.{elements, height_at, IsVectorOf};
 ghost use Rattle.champ_kinds.specs.Binding.{Binding, alike_keys};
 ghost use Rattle.champ_kinds.specs.Kinds.{IsMapOf};
 
 use champ_kinds::{Map, map_insert};
+use edit_vec::{FlexEdit, OpenFault};
 use elem_core::{CODE_BITS, Element, NoMemory};
 use node_heap::Heap;
-use rrb_core::{Flex, PushFault, push, take};
+use rrb_core::{Flex, PushFault};
 use std::mem;
 
 /// Notes by name, and the versions that came before. It owns one hold of each of its two roots, and is given up by
@@ -22,14 +23,14 @@ pub struct Store {
     /// The notes as they stand.
     pub notes: Map,
     /// The roots of the earlier versions, the oldest first.
-    pub earlier: Flex,
+    pub earlier: FlexEdit,
 }
 
 impl Store {
     ghost use Rattle.note_store.specs.Undo.{IsStore, KeepsOthers, KeepsVersions, HasWritten, held_by};
 
     /// A store without notes and without a history. Whatever anyone holds stays. Refused only where memory runs out,
-    /// which it doesn't with two spare nodes, and then all holds are as they were.
+    /// which it doesn't with three spare nodes, and then all holds are as they were.
     pub fn new<T: Element>(heap: &mut Heap<T>) -> Result<Store, NoMemory>
         requires { hold_count heap.old < 2 ^ 50 }
         ensures store { IfOk result (IsStore T.cmp T.code_of heap.new) }
@@ -39,12 +40,13 @@ impl Store {
         ensures count { IfOk result (λ _. hold_count heap.new ≡ hold_count heap.old + 2) }
         ensures keeps { KeepsHeld (λ _. 0) heap.old heap.new }
         ensures refused { OnErr result (((k : ℕ) → holds_at heap.new k ≡ holds_at heap.old k) × (hold_count heap.new ≡ hold_count heap.old)) }
-        ensures ample { HasSpares heap.old 0 2 → IsOk result }
+        ensures ample { HasSpares heap.old 0 3 → IsOk result }
     {
-        // Both roots come of this room. The call also tells that what is held is there, which `keeps` stands on.
-        heap.reserve(0, 2)?;
+        // Both roots come of this room, and to open the history takes a spare. The call also tells that what is held is there,
+        // which `keeps` stands on.
+        heap.reserve(0, 3)?;
         let notes = Map::empty(heap, CODE_BITS)?;
-        match Flex::empty(heap) {
+        match opened(heap) {
             Ok(earlier) => Ok(Store { notes, earlier }),
             Err(fault) => {
                 notes.release(heap);
@@ -86,9 +88,9 @@ impl Store {
             }
         };
         let before = self.notes.share(heap).into_root();
-        match push(heap, self.earlier.view(), before) {
-            Ok(earlier) => {
-                self.turn_to(heap, notes, earlier);
+        match self.earlier.push(heap, before) {
+            Ok(()) => {
+                mem::replace(&mut self.notes, notes).release(heap);
                 Ok(())
             }
             Err(fault) => {
@@ -116,18 +118,14 @@ impl Store {
         ensures refused { OnErr result ((self.new ≡ self.old) × (elements heap.new self.new.earlier ≡ elements heap.old self.old.earlier)) }
         ensures ample { HasSpares heap.old 0 8 → IsOk result }
         ensures made { heap.new.made ≤ heap.old.made + (height_at heap.old self.old.earlier + 1) }
-        ensures spares { (heap.old.spare_cells ≤ heap.new.spare_cells) × (heap.old.spare_nodes ≤ heap.new.spare_nodes + (height_at heap.old self.old.earlier + 1)) }
+        ensures spares { (heap.old.spare_cells ≤ heap.new.spare_cells) × (heap.old.spare_nodes ≤ heap.new.spare_nodes + 8) }
     {
-        let count = self.earlier.view().len(heap);
-        if count == 0 {
+        // The call tells the proof that this is the graph of a heap.
+        let _ = heap.live();
+        let Some(root) = self.earlier.pop(heap)? else {
             return Ok(false);
-        }
-        let Some(root) = self.earlier.view().get(heap, count - 1) else {
-            unreachable!()
         };
-        let earlier = take(heap, self.earlier.view(), count - 1)?;
-        heap.hold(root);
-        self.turn_to(heap, Map::from_root(root, CODE_BITS), earlier);
+        mem::replace(&mut self.notes, Map::from_root(root, CODE_BITS)).release(heap);
         Ok(true)
     }
 
@@ -151,25 +149,28 @@ impl Store {
     {
         let Store { notes, earlier } = self;
         notes.release(heap);
-        earlier.release(heap);
+        earlier.freeze().release(heap);
     }
+}
 
-    // Takes over these roots and gives up those that it had. No row is made, and what is freed is a spare.
-    fn turn_to<T: Element>(&mut self, heap: &mut Heap<T>, notes: Map, earlier: Flex)
-        requires store { IsStore T.cmp T.code_of heap.old (record { notes = notes; earlier = earlier }) }
-        requires held { (k : ℕ) → held_by self.old k + held_by (record { notes = notes; earlier = earlier }) k ≤ holds_at heap.old k }
-        ensures after { self.new ≡ record { notes = notes; earlier = earlier } }
-        ensures store { IsStore T.cmp T.code_of heap.new self.new }
-        ensures items { elements heap.new earlier ≡ elements heap.old earlier }
-        ensures holds { (k : ℕ) → holds_at heap.new k + held_by self.old k ≡ holds_at heap.old k }
-        ensures count { hold_count heap.new + 2 ≡ hold_count heap.old }
-        ensures graph { IsGraph heap.new }
-        ensures below { (l : ℕ) → IsSome (row_at heap.new l) → KeepsBelow heap.old heap.new l }
-        ensures keeps { KeepsHeld (held_by self.old) heap.old heap.new }
-        ensures made { heap.new.made ≡ heap.old.made }
-        ensures spares { (heap.old.spare_cells ≤ heap.new.spare_cells) × (heap.old.spare_nodes ≤ heap.new.spare_nodes) }
-    {
-        mem::replace(&mut self.notes, notes).release(heap);
-        mem::replace(&mut self.earlier, earlier).release(heap);
+// A history without versions.
+fn opened<T: Drop>(heap: &mut Heap<T>) -> Result<FlexEdit, NoMemory>
+    requires { hold_count heap.old < 2 ^ 58 }
+    ensures first { IfOk result (λ v. IsVectorOf heap.new v []) }
+    ensures gained { IfOk result (λ v. (k : ℕ) → holds_at heap.new k ≡ holds_at heap.old k + one_at v k) }
+    ensures count { IfOk result (λ _. hold_count heap.new ≡ hold_count heap.old + 1) }
+    ensures extends { Extends heap.old heap.new }
+    ensures graph { IsGraph heap.new }
+    ensures refused { OnErr result (((k : ℕ) → holds_at heap.new k ≡ holds_at heap.old k) × (hold_count heap.new ≡ hold_count heap.old)) }
+    ensures ample { HasSpares heap.old 0 2 → IsOk result }
+{
+    heap.reserve(0, 2)?;
+    let empty = Flex::empty(heap)?;
+    match FlexEdit::open(empty, heap) {
+        Ok(earlier) => Ok(earlier),
+        Err(OpenFault { vector }) => {
+            vector.release(heap);
+            Err(NoMemory)
+        }
     }
 }

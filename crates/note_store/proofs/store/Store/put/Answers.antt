@@ -1,19 +1,25 @@
-use Rattle.std.proofs.Common.{◌≡◌, ◌∙◌, refl, ap, arith}
+use Rattle.std.proofs.Common.{◌≡◌, ◌+◌, ◌≤◌, ◌∙◌, ℕ, List, [], ◌∷◌, ◌++◌, refl, ap, arith}
 use Rattle.std.proofs.lemmas.Bool.{false≢true}
+use Rattle.elem_core.specs.declared.codes.TheConstants.{DEEPEST}
 use Rattle.node_heap.specs.Heap.{one_at}
+use Rattle.node_heap.proofs.Counts.{one_at-flip}
+use Rattle.node_heap.proofs.BuildLemmas.{count-cons, count-one}
 use Rattle.node_heap.proofs.Frames.{Extends-trans}
-use Rattle.rrb_core.specs.Vector.{elements}
+use Rattle.rrb_core.specs.Vector.{elements, height_at}
 use Rattle.rrb_core.proofs.LinkCounts.{one-same}
 use Rattle.rrb_core.proofs.Stays.{extended-good}
 use Rattle.champ_chain.proofs.WithLemmas.{not-ok}
 use Rattle.champ_kinds.specs.Root.{Root}
-use Rattle.champ_kinds.specs.Binding.{alike_keys}
+use Rattle.champ_kinds.specs.Binding.{Binding, alike_keys}
 use Rattle.champ_kinds.specs.Kinds.{IsMapOf}
 use Rattle.champ_kinds.proofs.StayLemmas.{containers-extended, maps-stay, map-live}
 use Rattle.champ_kinds.specs.Stands.{IsSomeMap}
 use Rattle.note_store.specs.Undo.{IsStore}
-use Rattle.note_store.proofs.GainLemmas.{released-takes, refused-takes, shared-takes, cell-gained, spent-gained, none-gained, refused-gained, lost-gained, gained-after}
-use Rattle.note_store.proofs.UndoLemmas.{held-before, map-there, put-begun, put-undone, put-takes, others-turned, store-kept, store-back, others-back, put-store, after-refusal, written, versions-kept, versions-turned}
+use Rattle.note_store.specs.declared.store.Store.{Store}
+use Rattle.note_store.proofs.HistoryLemmas.{HasPushed, has-pushed, pushed-held, turned-others, turned-versions}
+use Rattle.note_store.proofs.GainLemmas.{Gained, Takes, released-takes, refused-takes, shared-takes, cell-gained, none-gained, refused-gained, lost-gained, gained-after}
+use Rattle.note_store.proofs.UndoLemmas.{held-before, map-there, put-begun, put-undone, put-takes, store-kept, store-back, others-back, after-refusal, written, versions-kept}
+use Rattle.note_store.proofs.store.Store.put.Given.{Over}
 use Rattle.note_store.proofs.store.Store.put.Goals as goal
 
 pub returns-in_err-reserve-clause-store : goal.returns-in_err-reserve-clause-store
@@ -74,105 +80,56 @@ share-requires-clause-few g c =
 pub push-requires-clause-good : goal.push-requires-clause-good
 push-requires-clause-good g c =
     let shared = put-begun g.T.Ord.cmp g.T.Element.code_of {c = c.cell-note.new.self} {d = c.map_insert.new.heap} c.args.name c.args.self.now c.requires.store c.view.ensures c.in_ok-reserve.ensures.extends c.cell-note.ensures.adds c.cell-note.ensures.extends c.cell-note.ensures.count c.in-Ok.ensures.answered c.share.ensures.builds c.into_root-before.ensures in
-    rw c.view-2.ensures (extended-good c.args.self.now.earlier (gained-after c.in_ok-reserve.ensures.rest shared).extends c.requires.store.earlier)
+    (extended-good c.args.self.now.earlier (gained-after c.in_ok-reserve.ensures.rest shared).extends c.requires.store.earlier)
 
 pub push-requires-clause-few : goal.push-requires-clause-few
 push-requires-clause-few g c =
     let shared = put-begun g.T.Ord.cmp g.T.Element.code_of {c = c.cell-note.new.self} {d = c.map_insert.new.heap} c.args.name c.args.self.now c.requires.store c.view.ensures c.in_ok-reserve.ensures.extends c.cell-note.ensures.adds c.cell-note.ensures.extends c.cell-note.ensures.count c.in-Ok.ensures.answered c.share.ensures.builds c.into_root-before.ensures in
     omega (arith, shared.count, c.in_ok-reserve.ensures.rest.count, c.requires.few)
 
-pub turn_to-requires-clause-store : goal.turn_to-requires-clause-store
-turn_to-requires-clause-store g c =
-    let shared = put-begun g.T.Ord.cmp g.T.Element.code_of {c = c.cell-note.new.self} {d = c.map_insert.new.heap} c.args.name c.args.self.now c.requires.store c.view.ensures c.in_ok-reserve.ensures.extends c.cell-note.ensures.adds c.cell-note.ensures.extends c.cell-note.ensures.count c.in-Ok.ensures.answered c.share.ensures.builds c.into_root-before.ensures in
-    let all = gained-after c.in_ok-reserve.ensures.rest (spent-gained (one_at c.in-Ok.notes.root) shared c.in-Ok-push.ensures.answered (λ k. omega arith)) in
-    let mid = gained-after c.in_ok-reserve.ensures.rest shared in
-    let contents = c.in-Ok.ensures.contents c.requires.store.notes.0 (map-there g.T.Ord.cmp g.T.Element.code_of {c = c.cell-note.new.self} c.in_ok-reserve.ensures.extends c.cell-note.ensures.extends c.view.ensures c.requires.store.notes.1) in
-    let notes = maps-stay g.T.Ord.cmp g.T.Element.code_of (Extends-trans {new = c.push.new.heap} c.share.ensures.builds.extends c.in-Ok-push.ensures.answered.extends) c.in-Ok.notes (_, contents) in
-    let kept : elements c.share.new.heap c.args.self.now.earlier ≡ elements c.args.heap.now c.args.self.now.earlier = (store-kept g.T.Ord.cmp g.T.Element.code_of c.args.self.now mid.extends (λ k. omega (arith, mid.holds k)) c.requires.store).1 in
-    put-store g.T.Ord.cmp g.T.Element.code_of c.args.self.now c.in-Ok.notes c.in-Ok-push.earlier c.requires.store all.extends notes (c.in-Ok.ensures.bits ∙ (rw c.view.ensures c.requires.store.bits)) c.in-Ok-push.ensures.good
-    (c.in-Ok-push.ensures.items ∙ (rw (c.view-2.ensures, kept, c.into_root-before.ensures, c.share.ensures.same) refl)) (λ k. omega (arith, all.holds k))
-
-pub turn_to-requires-clause-held : goal.turn_to-requires-clause-held
-turn_to-requires-clause-held g c =
-    let shared = put-begun g.T.Ord.cmp g.T.Element.code_of {c = c.cell-note.new.self} {d = c.map_insert.new.heap} c.args.name c.args.self.now c.requires.store c.view.ensures c.in_ok-reserve.ensures.extends c.cell-note.ensures.adds c.cell-note.ensures.extends c.cell-note.ensures.count c.in-Ok.ensures.answered c.share.ensures.builds c.into_root-before.ensures in
-    let all = gained-after c.in_ok-reserve.ensures.rest (spent-gained (one_at c.in-Ok.notes.root) shared c.in-Ok-push.ensures.answered (λ k. omega arith)) in
-    λ k. omega (arith, all.holds k, c.requires.store.held k)
-
 pub release-requires-in-Err-push : goal.release-requires-in-Err-push
 release-requires-in-Err-push g c =
     let shared = put-begun g.T.Ord.cmp g.T.Element.code_of {c = c.cell-note.new.self} {d = c.map_insert.new.heap} c.args.name c.args.self.now c.requires.store c.view.ensures c.in_ok-reserve.ensures.extends c.cell-note.ensures.adds c.cell-note.ensures.extends c.cell-note.ensures.count c.in-Ok.ensures.answered c.share.ensures.builds c.into_root-before.ensures in
     let root = c.into_root-before.result in
-    omega (arith, (refused-gained {c = c.push.new.heap} shared c.in-Err-push.ensures.refused).holds root, one-same root root refl)
+    omega (arith, (refused-gained {c = c.push.new.heap} shared c.in-Err-push.ensures.refused.0).holds root, one-same root root refl)
 
 pub release-requires-in-Err-push-2 : goal.release-requires-in-Err-push-2
 release-requires-in-Err-push-2 g c =
     let shared = put-begun g.T.Ord.cmp g.T.Element.code_of {c = c.cell-note.new.self} {d = c.map_insert.new.heap} c.args.name c.args.self.now c.requires.store c.view.ensures c.in_ok-reserve.ensures.extends c.cell-note.ensures.adds c.cell-note.ensures.extends c.cell-note.ensures.count c.in-Ok.ensures.answered c.share.ensures.builds c.into_root-before.ensures in
     let root = c.in-Ok.notes.root in
-    omega (arith, (refused-gained {c = c.push.new.heap} shared c.in-Err-push.ensures.refused).holds root, c.release-in-Err-push.ensures.releases.holds root, one-same root root refl)
-
-pub returns-in-Ok-push-clause-others : goal.returns-in-Ok-push-clause-others
-returns-in-Ok-push-clause-others g c =
-    let shared = put-begun g.T.Ord.cmp g.T.Element.code_of {c = c.cell-note.new.self} {d = c.map_insert.new.heap} c.args.name c.args.self.now c.requires.store c.view.ensures c.in_ok-reserve.ensures.extends c.cell-note.ensures.adds c.cell-note.ensures.extends c.cell-note.ensures.count c.in-Ok.ensures.answered c.share.ensures.builds c.into_root-before.ensures in
-    let all = gained-after c.in_ok-reserve.ensures.rest (spent-gained (one_at c.in-Ok.notes.root) shared c.in-Ok-push.ensures.answered (λ k. omega arith)) in
-    rw c.turn_to.ensures.after
-    (others-turned {c = c.turn_to.new.heap} c.args.self.now (record { notes = c.in-Ok.notes; earlier = c.in-Ok-push.earlier }) (held-before c.in_ok-reserve.ensures.rest) all.extends all.holds all.count c.turn_to.ensures.holds c.turn_to.ensures.count c.turn_to.ensures.keeps)
-
-pub returns-in-Ok-push-clause-kept : goal.returns-in-Ok-push-clause-kept
-returns-in-Ok-push-clause-kept g c =
-    let shared = put-begun g.T.Ord.cmp g.T.Element.code_of {c = c.cell-note.new.self} {d = c.map_insert.new.heap} c.args.name c.args.self.now c.requires.store c.view.ensures c.in_ok-reserve.ensures.extends c.cell-note.ensures.adds c.cell-note.ensures.extends c.cell-note.ensures.count c.in-Ok.ensures.answered c.share.ensures.builds c.into_root-before.ensures in
-    let mid = gained-after c.in_ok-reserve.ensures.rest shared in
-    let kept : elements c.share.new.heap c.args.self.now.earlier ≡ elements c.args.heap.now c.args.self.now.earlier = (store-kept g.T.Ord.cmp g.T.Element.code_of c.args.self.now mid.extends (λ k. omega (arith, mid.holds k)) c.requires.store).1 in
-    rw (c.turn_to.ensures.after, c.turn_to.ensures.items) (c.in-Ok-push.ensures.items ∙ (rw (c.view-2.ensures, kept, c.into_root-before.ensures, c.share.ensures.same) refl))
-
-pub returns-in-Ok-push-clause-written : goal.returns-in-Ok-push-clause-written
-returns-in-Ok-push-clause-written g c = λ M is.
-    let cmp = g.T.Ord.cmp in
-    let code = g.T.Element.code_of in
-    let before = Extends-trans {new = c.cell-note.new.self} c.in_ok-reserve.ensures.extends c.cell-note.ensures.extends in
-    let after = Extends-trans {new = c.push.new.heap} c.share.ensures.builds.extends c.in-Ok-push.ensures.answered.extends in
-    let there : IsMapOf cmp code c.cell-note.new.self c.view.result M = rw c.view.ensures ((containers-extended c.args.heap.now c.cell-note.new.self before c.args.self.now.notes).map cmp code M is) in
-    let made = (containers-extended c.map_insert.new.heap c.push.new.heap after c.in-Ok.notes).map cmp code _ (c.in-Ok.ensures.contents M there) in
-    let more = Extends-trans {new = c.push.new.heap} (c.in-Ok.ensures.answered M there).extends after in
-    let store : IsStore cmp code c.turn_to.new.heap (record { notes = c.in-Ok.notes; earlier = c.in-Ok-push.earlier }) = rw (← c.turn_to.ensures.after) c.turn_to.ensures.store in
-    rw c.turn_to.ensures.after
-    (written cmp code c.in-Ok.notes M c.args.name c.args.note c.cell-note.result c.cell-note.ensures.adds.here more made c.turn_to.ensures.below (map-live c.turn_to.new.heap c.in-Ok.notes c.in-Ok.notes.root refl store.notes.1))
-
-pub returns-in-Ok-push-clause-versions : goal.returns-in-Ok-push-clause-versions
-returns-in-Ok-push-clause-versions g c =
-    let shared = put-begun g.T.Ord.cmp g.T.Element.code_of {c = c.cell-note.new.self} {d = c.map_insert.new.heap} c.args.name c.args.self.now c.requires.store c.view.ensures c.in_ok-reserve.ensures.extends c.cell-note.ensures.adds c.cell-note.ensures.extends c.cell-note.ensures.count c.in-Ok.ensures.answered c.share.ensures.builds c.into_root-before.ensures in
-    let all = gained-after c.in_ok-reserve.ensures.rest (spent-gained (one_at c.in-Ok.notes.root) shared c.in-Ok-push.ensures.answered (λ k. omega arith)) in
-    versions-turned g.T.Ord.cmp g.T.Element.code_of _ all.extends c.turn_to.ensures.below c.turn_to.ensures.graph c.turn_to.ensures.store
+    omega (arith, (refused-gained {c = c.push.new.heap} shared c.in-Err-push.ensures.refused.0).holds root, c.release-in-Err-push.ensures.releases.holds root, one-same root root refl)
 
 pub returns-in-Err-push-clause-store : goal.returns-in-Err-push-clause-store
 returns-in-Err-push-clause-store g c =
     let shared = put-begun g.T.Ord.cmp g.T.Element.code_of {c = c.cell-note.new.self} {d = c.map_insert.new.heap} c.args.name c.args.self.now c.requires.store c.view.ensures c.in_ok-reserve.ensures.extends c.cell-note.ensures.adds c.cell-note.ensures.extends c.cell-note.ensures.count c.in-Ok.ensures.answered c.share.ensures.builds c.into_root-before.ensures in
-    let none = put-undone c.in_ok-reserve.ensures.rest (refused-gained {c = c.push.new.heap} shared c.in-Err-push.ensures.refused) c.release-in-Err-push.ensures.releases c.release-in-Err-push.ensures.graph c.release-in-Err-push-2.ensures.releases c.release-in-Err-push-2.ensures.graph in
-    (store-back g.T.Ord.cmp g.T.Element.code_of c.args.self.now none c.requires.store).0
+    let none = put-undone c.in_ok-reserve.ensures.rest (refused-gained {c = c.push.new.heap} shared c.in-Err-push.ensures.refused.0) c.release-in-Err-push.ensures.releases c.release-in-Err-push.ensures.graph c.release-in-Err-push-2.ensures.releases c.release-in-Err-push-2.ensures.graph in
+    rw c.in-Err-push.ensures.refused.1 ((store-back g.T.Ord.cmp g.T.Element.code_of c.args.self.now none c.requires.store).0)
 
 pub returns-in-Err-push-clause-refused : goal.returns-in-Err-push-clause-refused
 returns-in-Err-push-clause-refused g c =
     let shared = put-begun g.T.Ord.cmp g.T.Element.code_of {c = c.cell-note.new.self} {d = c.map_insert.new.heap} c.args.name c.args.self.now c.requires.store c.view.ensures c.in_ok-reserve.ensures.extends c.cell-note.ensures.adds c.cell-note.ensures.extends c.cell-note.ensures.count c.in-Ok.ensures.answered c.share.ensures.builds c.into_root-before.ensures in
-    let none = put-undone c.in_ok-reserve.ensures.rest (refused-gained {c = c.push.new.heap} shared c.in-Err-push.ensures.refused) c.release-in-Err-push.ensures.releases c.release-in-Err-push.ensures.graph c.release-in-Err-push-2.ensures.releases c.release-in-Err-push-2.ensures.graph in
-    (refl {a = c.args.self.now}, (store-back g.T.Ord.cmp g.T.Element.code_of c.args.self.now none c.requires.store).1)
+    let none = put-undone c.in_ok-reserve.ensures.rest (refused-gained {c = c.push.new.heap} shared c.in-Err-push.ensures.refused.0) c.release-in-Err-push.ensures.releases c.release-in-Err-push.ensures.graph c.release-in-Err-push-2.ensures.releases c.release-in-Err-push-2.ensures.graph in
+    let same = c.in-Err-push.ensures.refused.1 in
+    (ap (λ (x : ℕ). record { notes = c.args.self.now.notes; earlier = x }) same, rw same (store-back g.T.Ord.cmp g.T.Element.code_of c.args.self.now none c.requires.store).1)
 
 pub returns-in-Err-push-clause-others : goal.returns-in-Err-push-clause-others
 returns-in-Err-push-clause-others g c =
     let shared = put-begun g.T.Ord.cmp g.T.Element.code_of {c = c.cell-note.new.self} {d = c.map_insert.new.heap} c.args.name c.args.self.now c.requires.store c.view.ensures c.in_ok-reserve.ensures.extends c.cell-note.ensures.adds c.cell-note.ensures.extends c.cell-note.ensures.count c.in-Ok.ensures.answered c.share.ensures.builds c.into_root-before.ensures in
-    let none = put-undone c.in_ok-reserve.ensures.rest (refused-gained {c = c.push.new.heap} shared c.in-Err-push.ensures.refused) c.release-in-Err-push.ensures.releases c.release-in-Err-push.ensures.graph c.release-in-Err-push-2.ensures.releases c.release-in-Err-push-2.ensures.graph in
-    others-back c.args.self.now (held-before c.in_ok-reserve.ensures.rest) none
+    let none = put-undone c.in_ok-reserve.ensures.rest (refused-gained {c = c.push.new.heap} shared c.in-Err-push.ensures.refused.0) c.release-in-Err-push.ensures.releases c.release-in-Err-push.ensures.graph c.release-in-Err-push-2.ensures.releases c.release-in-Err-push-2.ensures.graph in
+    rw c.in-Err-push.ensures.refused.1 (others-back c.args.self.now (held-before c.in_ok-reserve.ensures.rest) none)
 
 pub returns-in-Err-push-clause-versions : goal.returns-in-Err-push-clause-versions
 returns-in-Err-push-clause-versions g c =
     let shared = put-begun g.T.Ord.cmp g.T.Element.code_of {c = c.cell-note.new.self} {d = c.map_insert.new.heap} c.args.name c.args.self.now c.requires.store c.view.ensures c.in_ok-reserve.ensures.extends c.cell-note.ensures.adds c.cell-note.ensures.extends c.cell-note.ensures.count c.in-Ok.ensures.answered c.share.ensures.builds c.into_root-before.ensures in
-    let none = put-undone c.in_ok-reserve.ensures.rest (refused-gained {c = c.push.new.heap} shared c.in-Err-push.ensures.refused) c.release-in-Err-push.ensures.releases c.release-in-Err-push.ensures.graph c.release-in-Err-push-2.ensures.releases c.release-in-Err-push-2.ensures.graph in
-    versions-kept c.args.self.now none.extends
+    let none = put-undone c.in_ok-reserve.ensures.rest (refused-gained {c = c.push.new.heap} shared c.in-Err-push.ensures.refused.0) c.release-in-Err-push.ensures.releases c.release-in-Err-push.ensures.graph c.release-in-Err-push-2.ensures.releases c.release-in-Err-push-2.ensures.graph in
+    rw c.in-Err-push.ensures.refused.1 (versions-kept c.args.self.now none.extends)
 
 pub returns-in-Err-push-clause-long : goal.returns-in-Err-push-clause-long
 returns-in-Err-push-clause-long g c = λ long.
     let shared = put-begun g.T.Ord.cmp g.T.Element.code_of {c = c.cell-note.new.self} {d = c.map_insert.new.heap} c.args.name c.args.self.now c.requires.store c.view.ensures c.in_ok-reserve.ensures.extends c.cell-note.ensures.adds c.cell-note.ensures.extends c.cell-note.ensures.count c.in-Ok.ensures.answered c.share.ensures.builds c.into_root-before.ensures in
     let mid = gained-after c.in_ok-reserve.ensures.rest shared in
     let kept : elements c.share.new.heap c.args.self.now.earlier ≡ elements c.args.heap.now c.args.self.now.earlier = (store-kept g.T.Ord.cmp g.T.Element.code_of c.args.self.now mid.extends (λ k. omega (arith, mid.holds k)) c.requires.store).1 in
-    rw (c.view-2.ensures, kept) at (c.in-Err-push.ensures.long.0 (cc))
+    rw kept at (c.in-Err-push.ensures.long.0 (cc))
 
 pub returns-in_err-reserve-clause-ample : goal.returns-in_err-reserve-clause-ample
 returns-in_err-reserve-clause-ample g c = λ M is spares. absurd (not-ok c.reserve.result _ c.in_err-reserve.was (c.reserve.ensures.ample (omega (arith, spares.0)) (omega arith)))
@@ -201,18 +158,13 @@ returns-in_err-reserve-clause-made g c = λ M is. omega (arith, c.reserve.ensure
 pub returns-in-Err-clause-made : goal.returns-in-Err-clause-made
 returns-in-Err-clause-made g c = λ M is. omega (arith, c.in_ok-reserve.ensures.rest.made, c.cell-note.ensures.makes.made, (refused-takes c.in-Err.ensures.handed_back.1).made, c.release.ensures.releases.made)
 
-pub returns-in-Ok-push-clause-made : goal.returns-in-Ok-push-clause-made
-returns-in-Ok-push-clause-made g c = λ M is.
-    let takes = put-takes g.T.Ord.cmp g.T.Element.code_of {c = c.cell-note.new.self} {d = c.map_insert.new.heap} {f = c.push.new.heap} c.args.name M is c.view.ensures c.view-2.ensures c.requires.store.earlier c.in_ok-reserve.ensures.rest c.in_ok-reserve.ensures.extends c.cell-note.ensures.makes c.cell-note.ensures.extends c.in-Ok.ensures.made c.in-Ok.ensures.answered c.share.ensures.builds c.in-Ok-push.ensures.made c.in-Ok-push.ensures.answered in
-    omega (arith, takes.made, c.turn_to.ensures.made)
-
 pub returns-in-Err-push-clause-made : goal.returns-in-Err-push-clause-made
 returns-in-Err-push-clause-made g c = λ M is.
     let there = map-there g.T.Ord.cmp g.T.Element.code_of {c = c.cell-note.new.self} c.in_ok-reserve.ensures.extends c.cell-note.ensures.extends c.view.ensures is in
     let put = c.in-Ok.ensures.answered M there in
     let alike = ap (λ (r : Root). alike_keys g.T.Element.code_of r.bits c.args.name M) c.view.ensures in
     let room = shared-takes c.in_ok-reserve.ensures.rest c.cell-note.ensures.makes c.in-Ok.ensures.made put c.share.ensures.builds in
-    omega (arith, room.made, alike, (refused-takes c.in-Err-push.ensures.refused).made, c.release-in-Err-push.ensures.releases.made, c.release-in-Err-push-2.ensures.releases.made)
+    omega (arith, room.made, alike, (refused-takes c.in-Err-push.ensures.refused.0).made, c.release-in-Err-push.ensures.releases.made, c.release-in-Err-push-2.ensures.releases.made)
 
 pub returns-in_err-reserve-clause-spares : goal.returns-in_err-reserve-clause-spares
 returns-in_err-reserve-clause-spares g c = λ M is.
@@ -227,19 +179,87 @@ returns-in-Err-clause-spares g c = λ M is.
     let freed = released-takes c.release.ensures.releases in
     (omega (arith, rest.spare_cells, made.spare_cells, back.spare_cells, freed.spare_cells), omega (arith, rest.spare_nodes, made.spare_nodes, back.spare_nodes, freed.spare_nodes))
 
-pub returns-in-Ok-push-clause-spares : goal.returns-in-Ok-push-clause-spares
-returns-in-Ok-push-clause-spares g c = λ M is.
-    let takes = put-takes g.T.Ord.cmp g.T.Element.code_of {c = c.cell-note.new.self} {d = c.map_insert.new.heap} {f = c.push.new.heap} c.args.name M is c.view.ensures c.view-2.ensures c.requires.store.earlier c.in_ok-reserve.ensures.rest c.in_ok-reserve.ensures.extends c.cell-note.ensures.makes c.cell-note.ensures.extends c.in-Ok.ensures.made c.in-Ok.ensures.answered c.share.ensures.builds c.in-Ok-push.ensures.made c.in-Ok-push.ensures.answered in
-    let turned = c.turn_to.ensures.spares in
-    (omega (arith, takes.spare_cells, turned.0), omega (arith, takes.spare_nodes, turned.1))
-
 pub returns-in-Err-push-clause-spares : goal.returns-in-Err-push-clause-spares
 returns-in-Err-push-clause-spares g c = λ M is.
     let there = map-there g.T.Ord.cmp g.T.Element.code_of {c = c.cell-note.new.self} c.in_ok-reserve.ensures.extends c.cell-note.ensures.extends c.view.ensures is in
     let put = c.in-Ok.ensures.answered M there in
     let alike = ap (λ (r : Root). alike_keys g.T.Element.code_of r.bits c.args.name M) c.view.ensures in
     let room = shared-takes c.in_ok-reserve.ensures.rest c.cell-note.ensures.makes c.in-Ok.ensures.made put c.share.ensures.builds in
-    let still = refused-takes c.in-Err-push.ensures.refused in
+    let still = refused-takes c.in-Err-push.ensures.refused.0 in
     let first = released-takes c.release-in-Err-push.ensures.releases in
     let second = released-takes c.release-in-Err-push-2.ensures.releases in
     (omega (arith, room.spare_cells, still.spare_cells, first.spare_cells, second.spare_cells), omega (arith, room.spare_nodes, alike, still.spare_nodes, first.spare_nodes, second.spare_nodes))
+
+pub push-requires-clause-held : goal.push-requires-clause-held
+push-requires-clause-held g c = λ k.
+    let shared = put-begun g.T.Ord.cmp g.T.Element.code_of {c = c.cell-note.new.self} {d = c.map_insert.new.heap} c.args.name c.args.self.now c.requires.store c.view.ensures c.in_ok-reserve.ensures.extends c.cell-note.ensures.adds c.cell-note.ensures.extends c.cell-note.ensures.count c.in-Ok.ensures.answered c.share.ensures.builds c.into_root-before.ensures in
+    let mid = gained-after c.in_ok-reserve.ensures.rest shared in
+    omega (arith, mid.holds k, c.requires.store.held k, count-cons k c.args.self.now.earlier (c.into_root-before.result ∷ []), count-one k c.into_root-before.result, one_at-flip k c.into_root-before.result, one_at-flip k c.args.self.now.earlier)
+
+pub release-requires-in-Ok-push : goal.release-requires-in-Ok-push
+release-requires-in-Ok-push g c =
+    let shared = put-begun g.T.Ord.cmp g.T.Element.code_of {c = c.cell-note.new.self} {d = c.map_insert.new.heap} c.args.name c.args.self.now c.requires.store c.view.ensures c.in_ok-reserve.ensures.extends c.cell-note.ensures.adds c.cell-note.ensures.extends c.cell-note.ensures.count c.in-Ok.ensures.answered c.share.ensures.builds c.into_root-before.ensures in
+    let mid = gained-after c.in_ok-reserve.ensures.rest shared in
+    rw c.replace.ensures.value (pushed-held c.args.self.now c.into_root-before.result c.push.new.self c.in-Ok.notes.root (λ k. omega (arith, mid.holds k, c.requires.store.held k)) c.in-Ok-push.ensures.pushes)
+
+module _ (g : Over) (c : goal.After-release-in-Ok-push g) where
+  abbrev s : Store
+  s = c.args.self.now
+
+  abbrev s' : Store
+  s' = record { notes = c.in-Ok.notes; earlier = c.push.new.self }
+
+  mid : Gained c.args.heap.now c.share.new.heap (λ k. one_at c.in-Ok.notes.root k + one_at c.into_root-before.result k) 2
+  mid = gained-after c.in_ok-reserve.ensures.rest (put-begun g.T.Ord.cmp g.T.Element.code_of {c = c.cell-note.new.self} {d = c.map_insert.new.heap} c.args.name c.args.self.now c.requires.store c.view.ensures c.in_ok-reserve.ensures.extends c.cell-note.ensures.adds c.cell-note.ensures.extends c.cell-note.ensures.count c.in-Ok.ensures.answered c.share.ensures.builds c.into_root-before.ensures)
+
+  kept : IsStore g.T.Ord.cmp g.T.Element.code_of c.share.new.heap s × (elements c.share.new.heap s.earlier ≡ elements c.args.heap.now s.earlier)
+  kept = store-kept g.T.Ord.cmp g.T.Element.code_of s mid.extends (λ k. omega (arith, mid.holds k)) c.requires.store
+
+  was : c.into_root-before.result ≡ s.notes.root
+  was = c.into_root-before.ensures ∙ ap (λ (r : Root). r.root) c.share.ensures.same
+
+  notes : IsSomeMap g.T.Ord.cmp g.T.Element.code_of c.share.new.heap c.in-Ok.notes
+  notes =
+      let there = map-there g.T.Ord.cmp g.T.Element.code_of {c = c.cell-note.new.self} c.in_ok-reserve.ensures.extends c.cell-note.ensures.extends c.view.ensures c.requires.store.notes.1 in
+      maps-stay g.T.Ord.cmp g.T.Element.code_of c.share.ensures.builds.extends c.in-Ok.notes (_, c.in-Ok.ensures.contents c.requires.store.notes.0 there)
+
+  pushed : HasPushed g.T.Ord.cmp g.T.Element.code_of c.share.new.heap c.release-in-Ok-push.new.heap s s' c.into_root-before.result
+  pushed =
+      let releases = rw c.replace.ensures.value at c.release-in-Ok-push.ensures.releases in
+      let keeps = rw c.replace.ensures.value at c.release-in-Ok-push.ensures.keeps in
+      let bits = c.in-Ok.ensures.bits ∙ (rw c.view.ensures c.requires.store.bits) in
+      has-pushed g.T.Ord.cmp g.T.Element.code_of s c.in-Ok.notes c.into_root-before.result c.push.new.self c.share.ensures.builds.graph kept.0 notes bits was (λ k. omega (arith, mid.holds k, c.requires.store.held k)) c.in-Ok-push.ensures.pushes releases c.release-in-Ok-push.ensures.graph keeps
+
+  takes : (M : List (Binding g.row.T.Denot)) → IsMapOf g.T.Ord.cmp g.T.Element.code_of c.args.heap.now s.notes M → Takes c.args.heap.now c.release-in-Ok-push.new.heap 2 (DEEPEST + 5 + height_at c.args.heap.now s.earlier + alike_keys g.T.Element.code_of s.notes.bits c.args.name M)
+  takes M is = put-takes g.T.Ord.cmp g.T.Element.code_of {c = c.cell-note.new.self} {d = c.map_insert.new.heap} c.args.name M is c.view.ensures c.requires.store.earlier c.in_ok-reserve.ensures.rest c.in_ok-reserve.ensures.extends c.cell-note.ensures.makes c.cell-note.ensures.extends c.in-Ok.ensures.made c.in-Ok.ensures.answered c.share.ensures.builds pushed.takes
+
+pub returns-in-Ok-push-clause-store : goal.returns-in-Ok-push-clause-store
+returns-in-Ok-push-clause-store g c = rw c.replace.ensures.after (pushed g c).turned.store
+
+pub returns-in-Ok-push-clause-others : goal.returns-in-Ok-push-clause-others
+returns-in-Ok-push-clause-others g c = rw c.replace.ensures.after (turned-others g.T.Ord.cmp g.T.Element.code_of (mid g c) (pushed g c).turned (held-before c.in_ok-reserve.ensures.rest) (λ k. omega arith) (pushed g c).count)
+
+pub returns-in-Ok-push-clause-versions : goal.returns-in-Ok-push-clause-versions
+returns-in-Ok-push-clause-versions g c = rw c.replace.ensures.after (turned-versions g.T.Ord.cmp g.T.Element.code_of (mid g c) (pushed g c).turned)
+
+pub returns-in-Ok-push-clause-kept : goal.returns-in-Ok-push-clause-kept
+returns-in-Ok-push-clause-kept g c =
+    (pushed g c).items
+    ∙ ap (λ (xs : List ℕ). xs ++ c.into_root-before.result ∷ []) (kept g c).1
+    ∙ ap (λ (x : ℕ). elements c.args.heap.now c.args.self.now.earlier ++ x ∷ []) (was g c)
+
+pub returns-in-Ok-push-clause-written : goal.returns-in-Ok-push-clause-written
+returns-in-Ok-push-clause-written g c = λ M is.
+    let cmp = g.T.Ord.cmp in
+    let code = g.T.Element.code_of in
+    let before = Extends-trans {new = c.cell-note.new.self} c.in_ok-reserve.ensures.extends c.cell-note.ensures.extends in
+    let there : IsMapOf cmp code c.cell-note.new.self c.view.result M = rw c.view.ensures ((containers-extended c.args.heap.now c.cell-note.new.self before c.args.self.now.notes).map cmp code M is) in
+    let made = (containers-extended c.map_insert.new.heap c.share.new.heap c.share.ensures.builds.extends c.in-Ok.notes).map cmp code _ (c.in-Ok.ensures.contents M there) in
+    let more = Extends-trans {new = c.share.new.heap} (c.in-Ok.ensures.answered M there).extends c.share.ensures.builds.extends in
+    rw c.replace.ensures.after (written cmp code c.in-Ok.notes M c.args.name c.args.note c.cell-note.result c.cell-note.ensures.adds.here more made (pushed g c).notes)
+
+pub returns-in-Ok-push-clause-made : goal.returns-in-Ok-push-clause-made
+returns-in-Ok-push-clause-made g c = λ M is. omega (arith, (takes g c M is).made)
+
+pub returns-in-Ok-push-clause-spares : goal.returns-in-Ok-push-clause-spares
+returns-in-Ok-push-clause-spares g c = λ M is. let all = takes g c M is in (all.spare_cells, omega (arith, all.spare_nodes))
