@@ -24,7 +24,7 @@ use Rattle.champ_kinds.proofs.StayLemmas.{container-stays, containers-extended, 
 use Rattle.champ_kinds.specs.Stands.{IsSomeMap}
 use Rattle.note_store.specs.Undo.{IsStore, KeepsOthers, KeepsVersions, HasWritten, held_by, version_at}
 use Rattle.note_store.specs.declared.store.Store.{Store}
-use Rattle.note_store.proofs.GainLemmas.{Gained, Takes, shared-holds, answered-takes, shared-takes, cell-gained, shared-gained, gained-after, lost-gained}
+use Rattle.note_store.proofs.GainLemmas.{Gained, Takes, answered-takes, shared-takes, cell-gained, shared-gained, gained-after, lost-gained}
 
 module _ {T : Type 0} where
   -- what is held was there before a call that changed no row
