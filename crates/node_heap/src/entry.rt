@@ -101,7 +101,7 @@ pub(crate) enum SmallHead {
     Moved { room: usize },
 }
 
-// This tag in a small slot, and none for a row of a vector, or where there are too many links for one.
+// This tag in a small slot, and none for a row of a vector that keeps no sums, or where there are too many links for one.
 pub(crate) fn small_head(tag: &Tag, links: &[Link]) -> Option<SmallHead>
     ensures head { (h : SmallHead) → result ≡ Some h → tag_in h ≡ Some tag.now }
     ensures few { (h : SmallHead) → result ≡ Some h → length links.now ≤ 3 }

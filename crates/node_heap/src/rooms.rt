@@ -1,6 +1,6 @@
-//! Where nodes lie with their links: index 2i is small slot i, and index 2i + 1 large room i. A node of few links that is
-//! no row of a vector is made in a small slot. What it is later given and doesn't fit there lies in a room apart, which the
-//! small slot names, so that the node keeps its index. Of its head a tag lies there.
+//! Where nodes lie with their links: index 2i is small slot i, and index 2i + 1 large room i. A node of few links is made in a
+//! small slot, but for leaves and inner rows without sums, which mostly grow. What it is later given and doesn't fit there lies
+//! in a room apart, which the small slot names, so that the node keeps its index. Of its head a tag lies there.
 ghost use Rattle.std.specs.Prelude.{◌≡◌, ◌≢◌, ℕ, ◌+◌, ◌-◌, ◌*◌, ◌%◌, ◌^◌, ◌<◌, ◌≤◌, [], length, Some, None, IsSome, OnOk, OnErr, IsOk, option_map, count_by, is_some, slice_index, slice_index_or, slice_set, insert, remove};
 ghost use Rattle.std.specs.Borrow.{sem};
 ghost use Rattle.node_heap.specs.Nodes.{SameBut, node_at, node_owners, node_head, node_links, Becomes};
