@@ -104,8 +104,8 @@ impl Store {
     /// Goes back to the version before the last `put`. False where there is none, and then nothing changes. Refused where
     /// memory runs out, which it doesn't with eight spare nodes, and then the notes and the history are as they were.
     /// Whatever anyone else holds stays, and so does all that a version in the history or the notes that come back reach.
-    /// It makes at most one row more than the history's height, up to 2^64 - 1 rows ever made. These are nodes, and the
-    /// spares of each kind fall by no more.
+    /// It makes at most one row more than the history's height, up to 2^64 - 1 rows ever made. The spare nodes fall by eight
+    /// at most, and the spare cells not at all.
     pub fn undo<T: Element>(&mut self, heap: &mut Heap<T>) -> Result<bool, NoMemory>
         requires few { hold_count heap.old < 2 ^ 50 }
         requires store { IsStore T.cmp T.code_of heap.old self.old }
