@@ -3,14 +3,14 @@
 #   bench/heap.sh           it is measured beside nothing else, so it needs no cargo
 #   bench/heap.sh FOLDER    the folder of a cargo set-up, as the other benches take it; it isn't used here
 # COUNT in the environment takes the place of a tenth of these.
-# It writes small programs beside a copy of the crates that they stand on, in a folder of its own that goes when it ends,
+# It writes small programs beside links to the crates that they stand on, in a folder of its own that goes when it ends,
 # since the gate takes no program outside the listed crates.
 set -eu
 . "$(dirname -- "$0")/shared.sh"
 begin "$@"
 rounds=10
 
-copy_crates elem_core node_heap
+take_crates elem_core node_heap
 
 # write_program NAME LINKS: a program whose nodes have these links, of `cell` and `top`.
 write_program() {
@@ -96,7 +96,7 @@ sed -i 's/\\&/\&/g' "$work"/crates/heap_*/src/main.rt
 prove_and_build heap_nodes
 prove_and_build heap_pairs
 
-python3 - "$work" "$count" "$rounds" <<'PYTHON'
+report "$work" "$count" "$rounds" <<'PYTHON'
 import os, sys, time
 work, rows, rounds = sys.argv[1], int(sys.argv[2]), int(sys.argv[3])
 

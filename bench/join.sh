@@ -4,7 +4,7 @@
 #   bench/join.sh           where cargo finds `im_rc` by itself, without a download
 #   bench/join.sh FOLDER    with cargo set up as FOLDER/.cargo/config.toml says
 # COUNT and TURNS in the environment take the places of the million and of the 10,000 changes of each kind.
-# It writes a small program beside a copy of the crates that it stands on, in a folder of its own, since the gate takes no
+# It writes a small program beside links to the crates that it stands on, in a folder of its own, since the gate takes no
 # program outside the listed crates. Without cargo or `im_rc` it says so and runs the rest.
 set -eu
 . "$(dirname -- "$0")/shared.sh"
@@ -14,7 +14,7 @@ shortest=1000
 lengths=6
 
 # The program over this repository's vectors.
-copy_crates elem_core node_heap rrb_core rrb_join
+take_crates elem_core node_heap rrb_core rrb_join
 begin_program join_rows 'rrb_join rrb_core node_heap elem_core anyhow'
 cat > "$crate/src/main.rt" <<PROGRAM
 //! Splits, joins, inserts and erases over one vector, each new vector beside the old, which is then given up.

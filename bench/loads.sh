@@ -4,7 +4,7 @@
 #   bench/loads.sh           where cargo finds `serde_json` by itself, without a download
 #   bench/loads.sh FOLDER    with cargo set up as FOLDER/.cargo/config.toml says
 # COUNT in the environment takes the place of n, which is 5,000.
-# It writes a small program beside a copy of the crates that it stands on, in a folder of its own, since the gate takes no
+# It writes a small program beside links to the crates that it stands on, in a folder of its own, since the gate takes no
 # program outside the listed crates. Without cargo or the Rust crate it says so and runs the rest.
 set -eu
 . "$(dirname -- "$0")/shared.sh"
@@ -13,7 +13,7 @@ turns=5
 begin "$@"
 
 # The program over this repository's pools.
-copy_crates elem_core node_heap rrb_core champ_chain champ_trie champ_kinds pool_order pool_text pool_check pool_load
+take_crates elem_core node_heap rrb_core champ_chain champ_trie champ_kinds pool_order pool_text pool_check pool_load
 begin_program load_parts 'pool_load pool_check pool_text node_heap elem_core serde_json anyhow'
 cat > "$crate/src/main.rt" <<PROGRAM
 //! Reads the document of standard input over and over, and tells the clocks before and after each part of a load.

@@ -4,14 +4,14 @@
 #   bench/maps.sh           where cargo finds `im_rc` by itself, without a download
 #   bench/maps.sh FOLDER    with cargo set up as FOLDER/.cargo/config.toml says
 # COUNT in the environment takes the place of the million.
-# It writes a small program beside a copy of the crates that it stands on, in a folder of its own, since the gate takes no
+# It writes a small program beside links to the crates that it stands on, in a folder of its own, since the gate takes no
 # program outside the listed crates. Without cargo or `im_rc` it says so and runs the rest.
 set -eu
 . "$(dirname -- "$0")/shared.sh"
 begin "$@"
 
 # The program over this repository's maps.
-copy_crates elem_core node_heap champ_chain champ_trie champ_kinds
+take_crates elem_core node_heap champ_chain champ_trie champ_kinds
 begin_program map_rows 'champ_kinds champ_chain node_heap elem_core anyhow'
 # The contract of what makes one map of another, which is then given up.
 one_map='    requires good { IsGood T.cmp T.code_of heap.old map }

@@ -68,6 +68,17 @@ def table(columns, figures, width, digits=2, margin=32):
         row("ratio to " + name, [mine / other for mine, other in zip(ours, theirs)], f"{width}.{digits}f")
 
 
+def tables(columns, figures, width, margin=32):
+    """A table of the programs that leave the old version, and one of those that change one in place; where none of this
+    repository does, one table of all."""
+    places = {name: cells for name, cells in figures.items() if name.endswith(", in place")}
+    if not any(name.startswith("this repository") for name in places):
+        table(columns, figures, width, margin=margin)
+        return
+    table(columns, {name: cells for name, cells in figures.items() if name not in places}, width, margin=margin)
+    table(columns, places, width, margin=margin)
+
+
 def shell_run(program, room, script):
     """What one run of the shell over a script took in this folder: the processor seconds, the peak megabytes, and its replies."""
     with open(room + "/input", "w") as out:

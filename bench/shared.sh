@@ -3,14 +3,20 @@
 top=$(cd "$(dirname -- "${BASH_SOURCE[0]}")/.." && pwd -P)
 count=${COUNT:-1000000}
 
-# begin [FOLDER]: takes the folder of a cargo set-up, and makes a folder to work in, which goes when the bench ends.
+# begin [FOLDER]: takes the folder of a cargo set-up, and makes a folder to work in, which goes when the bench ends. With KEEP in
+# the environment it is one in the folder of that name, and stays, so that the next run finds the programs proved and built.
 begin() {
     setup=${1:-}
     if [ -n "$setup" ]; then
         setup=$(cd "$setup" && pwd -P)
     fi
-    work=$(mktemp -d)
-    trap 'rm -rf -- "$work"' EXIT
+    if [ -n "${KEEP:-}" ]; then
+        mkdir -p "$KEEP/$(basename -- "$0" .sh)"
+        work=$(cd "$KEEP/$(basename -- "$0" .sh)" && pwd -P)
+    else
+        work=$(mktemp -d)
+        trap 'rm -rf -- "$work"' EXIT
+    fi
 }
 
 # begin_shell COUNT: begins a bench of the shell, with so many turns, or as many as COUNT in the environment says. Where the shell
@@ -22,34 +28,34 @@ begin_shell() {
     "$top/ewig" </dev/null >/dev/null
 }
 
-# copy_crates NAME..: copies these crates to where the bench works.
-copy_crates() {
+# take_crates NAME..: has these crates proved where they aren't yet, as `./ewig` has it done, and puts links to them where the
+# bench works. The last stands on all others.
+take_crates() {
     local name
-    mkdir -p "$work/crates"
-    cp "$top/HANDLES" "$work/HANDLES"
+    "$top/tools/prove-program" "${!#}"
+    mkdir -p "$work/crates" "$work/tools"
+    cp "$top/tools/prove-program" "$work/tools"
     : > "$work/crates.txt"
     for name; do
-        rm -rf "$work/crates/$name"
-        mkdir "$work/crates/$name"
-        cp -r "$top/crates/$name/src" "$top/crates/$name/specs" "$top/crates/$name/proofs" "$work/crates/$name"
+        ln -sfn "$top/crates/$name" "$work/crates/$name"
         grep "^$name:" "$top/crates.txt" >> "$work/crates.txt"
     done
 }
 
-# begin_program NAME LIBRARIES: begins the program's crate beside the copied ones.
+# begin_program NAME LIBRARIES: begins the program's crate beside the others.
 begin_program() {
     program=$1
     crate=$work/crates/$program
-    rm -rf "$crate"
+    rm -rf "$crate/src" "$crate/specs" "$crate/proofs"
     mkdir -p "$crate/src" "$crate/specs" "$crate/proofs"
     : > "$crate/specs/Lib.antt"
     : > "$crate/proofs/Lib.antt"
     echo "$program: $2" >> "$work/crates.txt"
 }
 
-# prove_and_build NAME: has the program proved, built and run once, or shows the end of the log.
+# prove_and_build NAME: has the program proved and built, or shows the end of the log.
 prove_and_build() {
-    if ! (cd "$work/crates/$1" && rt run < /dev/null > "$work/$1.log" 2>&1); then
+    if ! "$work/tools/prove-program" "$1" > "$work/$1.log" 2>&1; then
         tail -20 "$work/$1.log"
         exit 1
     fi
@@ -103,29 +109,9 @@ one_vector='    requires good { IsGoodVector heap.old root }
     ensures held { IfOk result (λ l. 0 < holds_at heap.new l) }
     ensures count { OnOk result (hold_count heap.new ≡ 1) }'
 
-# add_vectors: adds pushes and look-ups over one vector to the program, each new vector beside the old, with their proofs.
-add_vectors() {
+# add_gets: adds look-ups in one vector to the program.
+add_gets() {
     cat >> "$crate/src/main.rt" <<PROGRAM
-
-fn first(heap: &mut Heap<u32>) -> Result<Link, NoMemory>
-    requires few { hold_count heap.old ≡ 0 }
-    ensures good { IfOk result (λ l. IsGoodVector heap.new l) }
-    ensures held { IfOk result (λ l. 0 < holds_at heap.new l) }
-    ensures count { OnOk result (hold_count heap.new ≡ 1) }
-{
-    let vector = Flex::empty(heap)?;
-    Ok(vector.into_root())
-}
-
-fn pushes(heap: &mut Heap<u32>, root: Link, count: u32) -> Result<Link>
-$one_vector
-{
-    let mut top = root;
-    'turns: for value in 0..count {
-        top = pushed(heap, top, value)?;
-    }
-    Ok(top)
-}
 
 fn gets(heap: &Heap<u32>, root: Link, seed: u32) -> u32
     requires { IsGoodVector heap.now root }
@@ -151,6 +137,33 @@ fn number_at(heap: &Heap<u32>, root: Link, index: u32) -> u32
     }
 }
 PROGRAM
+}
+
+# add_vectors: adds pushes and look-ups over one vector to the program, each new vector beside the old, with their proofs.
+add_vectors() {
+    cat >> "$crate/src/main.rt" <<PROGRAM
+
+fn first(heap: &mut Heap<u32>) -> Result<Link, NoMemory>
+    requires few { hold_count heap.old ≡ 0 }
+    ensures good { IfOk result (λ l. IsGoodVector heap.new l) }
+    ensures held { IfOk result (λ l. 0 < holds_at heap.new l) }
+    ensures count { OnOk result (hold_count heap.new ≡ 1) }
+{
+    let vector = Flex::empty(heap)?;
+    Ok(vector.into_root())
+}
+
+fn pushes(heap: &mut Heap<u32>, root: Link, count: u32) -> Result<Link>
+$one_vector
+{
+    let mut top = root;
+    'turns: for value in 0..count {
+        top = pushed(heap, top, value)?;
+    }
+    Ok(top)
+}
+PROGRAM
+    add_gets
     echo 'pub mod OldAndNew' >> "$crate/proofs/Lib.antt"
     cat > "$crate/proofs/OldAndNew.antt" <<'PROOF'
 -- A new vector beside the old one, which is then given up: each has a hold of its own.
@@ -393,7 +406,10 @@ add_runs() {
     done
 }
 
-# report ARGUMENT..: runs the Python on its input, which finds shared.py.
+# report ARGUMENT..: runs the Python on its input, which finds shared.py. With BUILD in the environment the bench ends here, and has
+# only built what it runs.
 report() {
-    PYTHONPATH=$top/bench python3 -B - "$@"
+    if [ -z "${BUILD:-}" ]; then
+        PYTHONPATH=$top/bench python3 -B - "$@"
+    fi
 }
