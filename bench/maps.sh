@@ -487,11 +487,11 @@ runs=("this repository|$crate/out/map_rows|")
 # The program over `im_rc::HashMap` and std's.
 begin_rust maps
 cat > "$rust/src/main.rs" <<'RUST'
-//! The same phases over another map: `maps counted`, `coded`, `kept`, `in_place` or `plain`.
+//! The same phases over another map: `maps counted`, `coded`, `kept`, `counted_in_place`, `in_place` or `plain`.
 
 mod measure;
 
-use measure::{COUNT, place, scattered, stay, tell};
+use measure::{COUNT, Element, place, scattered, stay, tell};
 
 fn key(turn: u32) -> u32 {
     let spread = turn.wrapping_mul(2_654_435_761);
@@ -509,7 +509,7 @@ trait Table: Sized {
 
 // One version, changed where it is.
 macro_rules! in_place {
-    ($name:ident, $map:ty) => {
+    ($name:ident, $map:ty, $element:ty) => {
         pub struct $name($map);
 
         impl Table for $name {
@@ -520,10 +520,10 @@ macro_rules! in_place {
                 self.0.len()
             }
             fn at(&self, key: u32) -> u32 {
-                self.0.get(&key).copied().unwrap_or(0)
+                self.0.get(&key).map_or(0, <$element>::number)
             }
             fn with(mut self, key: u32, value: u32) -> Self {
-                self.0.insert(key, value);
+                self.0.insert(key, <$element>::of(value));
                 self
             }
             fn without(mut self, key: u32) -> Self {
@@ -537,7 +537,7 @@ macro_rules! in_place {
     };
 }
 
-in_place!(Plain, std::collections::HashMap<u32, u32>);
+in_place!(Plain, std::collections::HashMap<u32, u32>, u32);
 
 #[cfg(feature = "shared")]
 mod shared {
@@ -589,7 +589,8 @@ mod shared {
         }
     }
 
-    in_place!(InPlace, im_rc::HashMap<u32, u32>);
+    in_place!(InPlace, im_rc::HashMap<u32, u32>, u32);
+    in_place!(CountedInPlace, im_rc::HashMap<u32, std::rc::Rc<u32>>, std::rc::Rc<u32>);
 }
 
 fn inserts<M: Table>(mut all: M, from: u32) -> M {
@@ -646,6 +647,8 @@ fn main() {
         #[cfg(feature = "shared")]
         Some("kept") => phases::<shared::Kept<u32, shared::Hashed>>(),
         #[cfg(feature = "shared")]
+        Some("counted_in_place") => phases::<shared::CountedInPlace>(),
+        #[cfg(feature = "shared")]
         Some("in_place") => phases::<shared::InPlace>(),
         _ => phases::<Plain>(),
     }
@@ -653,11 +656,11 @@ fn main() {
 RUST
 
 add_runs "im_rc of Rc, persistent|counted" "im_rc of Rc, own codes|coded" "im_rc, persistent|kept" \
-    "im_rc, in place|in_place" "std HashMap, in place|plain"
+    "im_rc of Rc, in place|counted_in_place" "im_rc, in place|in_place" "std HashMap, in place|plain"
 
 report "$count" "${runs[@]}" <<'PYTHON'
 import sys
-from shared import best_of_three, programs, table
+from shared import best_of_three, programs, tables
 
 count, runs = int(sys.argv[1]), programs(sys.argv[2:])
 # The phases that count, by their places among the lines that are told after the start.
@@ -669,5 +672,5 @@ if told[1 + phases["get"]] != told[-1]:
 for kind, clock in enumerate(["wall", "processor"]):
     print(f"{count:,} of each over one map, and over a kept copy, best of 3, seconds of {clock}, and peak megabytes:")
     figures = {name: [spans[name][place][kind] for place in phases.values()] + [peaks[name]] for name, _, _ in runs}
-    table([*phases, "peak"], figures, width=13)
+    tables([*phases, "peak"], figures, width=13)
 PYTHON
