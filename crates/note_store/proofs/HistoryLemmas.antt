@@ -1,5 +1,5 @@
 -- A history of roots that is edited in place.
-use Rattle.std.proofs.Common.{◌≡◌, ◌+◌, ◌-◌, ◌<◌, ◌≤◌, ℕ, zero, suc, List, [], ◌∷◌, ◌++◌, ◌∙◌, length, take, get_or, refl, ap, sym, subst, arith, Bool, true, false, IsSome, ◌≢◌}
+use Rattle.std.proofs.Common.{◌≡◌, ◌+◌, ◌-◌, ◌<◌, ◌≤◌, ℕ, zero, suc, List, [], ◌∷◌, ◌++◌, ◌∙◌, length, get_or, refl, ap, sym, subst, arith, Bool, true, false, IsSome}
 use Rattle.std.specs.Prelude.{if◌then◌else◌, ◌==◌, nat_le}
 use Rattle.std.specs.List.{All}
 use Rattle.std.proofs.lemmas.List.{take_all, take_more}
@@ -18,7 +18,7 @@ use Rattle.node_heap.proofs.Frames.{KeepsBelow-Releases, KeepsBelow-trans, Keeps
 use Rattle.node_heap.proofs.OwnerLemmas.{KeepsHeld-EditsBy}
 use Rattle.rrb_core.specs.Seq.{seq}
 use Rattle.rrb_core.specs.Push.{last_in}
-use Rattle.rrb_core.specs.Vector.{elements, height_at, IsGoodVector}
+use Rattle.rrb_core.specs.Vector.{elements, height_at}
 use Rattle.rrb_core.proofs.LinkCounts.{one-same, all-counted}
 use Rattle.rrb_core.proofs.Stays.{seq-live}
 use Rattle.edit_vec.specs.Path.{keep_or_stop, up_to_last, spine_at, right_spine, pop_spine, pop_path, root_goes}

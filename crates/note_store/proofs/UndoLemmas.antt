@@ -1,18 +1,15 @@
 -- What a store keeps while rows come and holds are given up.
-use Rattle.std.proofs.Common.{◌≡◌, ◌+◌, ◌-◌, ◌<◌, ◌≤◌, ℕ, List, [], ◌∷◌, ◌++◌, ◌∙◌, length, Some, Result, Ok, Err, refl, ap, sym, subst, arith}
-use Rattle.std.specs.Prelude.{IsSome, OnErr, take, slice_get, option_map}
+use Rattle.std.proofs.Common.{◌≡◌, ◌+◌, ◌<◌, ◌≤◌, ℕ, List, [], ◌∷◌, ◌∙◌, Some, Result, Ok, Err, refl, ap, sym, subst, arith}
+use Rattle.std.specs.Prelude.{IsSome, OnErr, option_map}
 use Rattle.std.specs.List.{All}
-use Rattle.std.proofs.Math.ListN.{get_or}
-use Rattle.std.proofs.lemmas.List.{take_all, take_more}
-use Rattle.std.proofs.lemmas.List.Elements.{All-append, All-cons, All-nil, All-take, All-head}
-use Rattle.std.proofs.lemmas.Option.{slice_get_within, get_or_from_slice_get}
+use Rattle.std.proofs.lemmas.List.Elements.{All-head}
 use Rattle.std.specs.declared.cmp.Ordering.{Ordering}
 use Rattle.elem_core.specs.declared.codes.TheConstants.{CODE_BITS, DEEPEST}
 use Rattle.node_heap.specs.Links.{Reaches}
 use Rattle.node_heap.specs.Forms.{cell, form_of}
 use Rattle.node_heap.specs.Heap.{Heap, row_at, links_at, holds_at, hold_count, one_at, IsGraph}
 use Rattle.node_heap.specs.Calls.{Adds, Answered, Builds, Extends, KeepsBelow, KeepsHeld, Makes, MakesJust, Releases, Unchanged}
-use Rattle.node_heap.proofs.Frames.{KeepsBelow-Releases, KeepsBelow-Extends, KeepsBelow-trans, KeepsHeld-then, Extends-trans, Extends-row}
+use Rattle.node_heap.proofs.Frames.{KeepsBelow-Releases, KeepsHeld-then, Extends-trans, Extends-row}
 use Rattle.rrb_core.specs.Seq.{form_height}
 use Rattle.rrb_core.specs.Vector.{elements, height_at, IsGoodVector}
 use Rattle.rrb_core.proofs.LinkCounts.{one-same}
@@ -20,11 +17,11 @@ use Rattle.rrb_core.proofs.Stays.{well-live, seq-live, vector-stays}
 use Rattle.champ_kinds.specs.Root.{Root}
 use Rattle.champ_kinds.specs.Binding.{Binding, binding, kept_key, unbind, bind, alike_keys}
 use Rattle.champ_kinds.specs.Kinds.{IsMapOf}
-use Rattle.champ_kinds.proofs.StayLemmas.{container-stays, containers-extended, map-live, map-seen, map-reaches}
+use Rattle.champ_kinds.proofs.StayLemmas.{container-stays, containers-extended, map-seen, map-reaches}
 use Rattle.champ_kinds.specs.Stands.{IsSomeMap}
 use Rattle.note_store.specs.Undo.{IsStore, KeepsOthers, KeepsVersions, HasWritten, held_by, version_at}
 use Rattle.note_store.specs.declared.store.Store.{Store}
-use Rattle.note_store.proofs.GainLemmas.{Gained, Takes, answered-takes, shared-takes, cell-gained, shared-gained, gained-after, lost-gained}
+use Rattle.note_store.proofs.GainLemmas.{Gained, Takes, shared-takes, cell-gained, shared-gained, gained-after, lost-gained}
 
 module _ {T : Type 0} where
   -- what is held was there before a call that changed no row
@@ -60,19 +57,6 @@ module _ {T : Type 0} where
 
   pub others-back : {a b : Heap T} (s : Store) → ((l : ℕ) → 0 < holds_at a l → IsSome (row_at a l)) → Gained a b (λ _. 0) 0 → KeepsOthers a b s s
   others-back s live gained = others-kept s live gained.extends (λ k. omega (arith, gained.holds k)) (omega (arith, gained.count))
-
-  -- new roots were made and are held, and then the store turned to them
-  pub others-turned : {a b c : Heap T} (s s' : Store) → ((l : ℕ) → 0 < holds_at a l → IsSome (row_at a l)) → Extends a b → ((k : ℕ) → holds_at b k ≡ holds_at a k + held_by s' k) → hold_count b ≡ hold_count a + 2
-      → ((k : ℕ) → holds_at c k + held_by s k ≡ holds_at b k) → hold_count c + 2 ≡ hold_count b → KeepsHeld (held_by s) b c → KeepsOthers a c s s'
-  others-turned s s' live extends gained more spent fewer keeps = record {
-    holds = λ k. omega (arith, gained k, spent k);
-    count = omega (arith, more, fewer);
-    keeps = record {
-      live = λ l some. keeps.live l (omega (arith, some, gained l));
-      kept = λ l some. KeepsBelow-Extends extends keeps l (live l (omega (arith, some))) (omega (arith, some, gained l));
-      left = λ l. omega (arith, gained l, keeps.left l);
-    };
-  }
 
   -- the versions of a store where every row stays
   pub versions-kept : {a b : Heap T} (s : Store) → Extends a b → KeepsVersions a b s
@@ -127,15 +111,6 @@ module _ {T : Type 0} (cmp : T → T → Ordering) (code : T → ℕ) where
         vector.1,
       )
 
-  -- a store whose new roots are held beside the old ones, which are then given up in turn
-  pub turned : {a b c : Heap T} {l m : ℕ} (s s' : Store) → Releases a b l → IsGraph b → Releases b c m → IsGraph c → l ≡ s.notes.root → m ≡ s.earlier → ((k : ℕ) → held_by s k + held_by s' k ≤ holds_at a k) → IsStore cmp code a s' → IsStore cmp code c s' × (elements c s'.earlier ≡ elements a s'.earlier)
-  turned {l = l} {m = m} s s' once graph twice graph' same same' enough store =
-      let notes : (k : ℕ) → one_at l k ≡ one_at s.notes.root k = λ k. ap (λ x. one_at x k) same in
-      let earlier : (k : ℕ) → one_at m k ≡ one_at s.earlier k = λ k. ap (λ x. one_at x k) same' in
-      let first = store-released s' once graph (λ k. omega (arith, enough k, notes k)) store in
-      let second = store-released s' twice graph' (λ k. omega (arith, enough k, notes k, earlier k, once.holds k)) first.0 in
-      (second.0, second.1 ∙ first.1)
-
   -- a map stays where rows come, wherever its root and bits stand
   pub map-there : {a b c : Heap T} {r s : Root} {M : List (Binding T)} → Extends a b → Extends b c → s ≡ r → IsMapOf cmp code a r M → IsMapOf cmp code c s M
   map-there {a} {b} {c} {r} {M = M} first second same is = map-seen same ((containers-extended a c (Extends-trans first second) r).map cmp code M is)
@@ -144,40 +119,9 @@ module _ {T : Type 0} (cmp : T → T → Ordering) (code : T → ℕ) where
   pub version-is : (h : Heap T) (r : Root) (l : ℕ) → r.root ≡ l → r.bits ≡ CODE_BITS → IsSomeMap cmp code h (version_at l) → IsSomeMap cmp code h r
   version-is h r l same bits is = subst (λ (x : ℕ). IsSomeMap cmp code h (record { root = x; bits = r.bits })) (sym same) (subst (λ (y : ℕ). IsSomeMap cmp code h (record { root = l; bits = y })) (sym bits) is)
 
-  -- a store that goes back to the last root of its history
-  pub undone : {a b : Heap T} (s : Store) (r : Root) (new root n : ℕ) → IsStore cmp code a s → Extends a b → slice_get (elements a s.earlier) n ≡ Some root → r.root ≡ root → r.bits ≡ CODE_BITS → IsGoodVector b new
-      → elements b new ≡ take n (elements a s.earlier) → ((k : ℕ) → held_by (record { notes = r; earlier = new }) k ≤ holds_at b k) → IsStore cmp code b (record { notes = r; earlier = new })
-  undone {a} {b} s r new root n store extends at same bits good items held =
-      let maps : All (λ l. IsSomeMap cmp code b (version_at l)) (elements a s.earlier) = λ k d inside.
-      let is = store.versions k d inside in
-      (is.0, (containers-extended a b extends _).map cmp code is.0 is.1) in
-      let last : IsSomeMap cmp code b (version_at root) = subst (λ l. IsSomeMap cmp code b (version_at l)) (get_or_from_slice_get (elements a s.earlier) n root 0 at) (maps n 0 (slice_get_within (elements a s.earlier) n root at)) in
-      record {
-        notes = version-is b r root same bits last;
-        bits = bits;
-        earlier = good;
-        versions = rw items (All-take (λ l. IsSomeMap cmp code b (version_at l)) n (elements a s.earlier) maps);
-        held = held;
-      }
-
   -- nothing is left of what was gained
   pub store-back : {a b : Heap T} (s : Store) → Gained a b (λ _. 0) 0 → IsStore cmp code a s → IsStore cmp code b s × (elements b s.earlier ≡ elements a s.earlier)
   store-back s gained store = store-kept s gained.extends (λ k. omega (arith, gained.holds k)) store
-
-  -- a store whose notes have gone into the history
-  pub put-store : {a b : Heap T} (s : Store) (r : Root) (new : ℕ) → IsStore cmp code a s → Extends a b → IsSomeMap cmp code b r → r.bits ≡ CODE_BITS → IsGoodVector b new → elements b new ≡ elements a s.earlier ++ s.notes.root ∷ []
-      → ((k : ℕ) → held_by (record { notes = r; earlier = new }) k ≤ holds_at b k) → IsStore cmp code b (record { notes = r; earlier = new })
-  put-store {a} {b} s r new store extends notes bits good items held =
-      let stays : (x : Root) → IsSomeMap cmp code a x → IsSomeMap cmp code b x = λ x is. (is.0, (containers-extended a b extends x).map cmp code is.0 is.1) in
-      let maps : All (λ l. IsSomeMap cmp code b (version_at l)) (elements a s.earlier) = λ k d inside. stays _ (store.versions k d inside) in
-      let last : IsSomeMap cmp code b (version_at s.notes.root) = subst (λ (y : ℕ). IsSomeMap cmp code b (record { root = s.notes.root; bits = y })) store.bits (stays s.notes store.notes) in
-      record {
-        notes = notes;
-        bits = bits;
-        earlier = good;
-        versions = rw items (All-append (λ l. IsSomeMap cmp code b (version_at l)) (elements a s.earlier) (s.notes.root ∷ []) maps (All-cons (λ l. IsSomeMap cmp code b (version_at l)) s.notes.root [] last (All-nil (λ l. IsSomeMap cmp code b (version_at l)))));
-        held = held;
-      }
 
   -- what a put comes to before it has a new history: a map of a new cell beside the store's own, whose root is held once more
   pub put-begun : {a b c d e : Heap T} {seen : Root} {link root other before : ℕ} {note : T} (name : T) (s : Store) → IsStore cmp code a s → seen ≡ s.notes → Extends a b → Adds b c link (cell note) → Extends b c → hold_count c ≡ hold_count b + 1
@@ -200,16 +144,6 @@ module _ {T : Type 0} (cmp : T → T → Ordering) (code : T → ℕ) where
         spare_nodes = omega (arith, begun.spare_nodes, alike, longer.spare_nodes, height);
       }
 
-  -- the versions of a store where rows were added, and then no row but what is gone has changed
-  pub versions-turned : {a b c : Heap T} (s : Store) → Extends a b → ((l : ℕ) → IsSome (row_at c l) → KeepsBelow b c l) → IsGraph c → IsStore cmp code c s → KeepsVersions a c s
-  versions-turned {a} {b} {c} s extends below graph store =
-      let first : ℕ = s.notes.root in
-      let second : ℕ = s.earlier in
-      let Live = λ (l : ℕ). IsSome (row_at c l) in
-      let last : IsSome (row_at c first) = map-live c s.notes first refl store.notes.1 in
-      let live : All Live (elements c second ++ first ∷ []) = All-append Live (elements c second) (first ∷ []) (seq-live c graph (height_at c second) second) (All-cons Live first [] last (All-nil Live)) in
-      λ k d inside there. KeepsBelow-trans a b c _ (extends.kept _ there) (below _ (live k d inside))
-
   -- a note that was put reads as it was made
   pub written : {b c d : Heap T} (r : Root) (M : List (Binding T)) (name note : T) (l : ℕ) → row_at b l ≡ Some (cell note) → Extends b c → IsMapOf cmp code c r (bind cmp M name l) → KeepsBelow c d r.root → HasWritten cmp code d r M name note
   written {b} {c} {d} r M name note l here extends map keeps =
@@ -224,10 +158,3 @@ module _ {T : Type 0} (cmp : T → T → Ordering) (code : T → ℕ) where
 pub after-refusal : {A E P : Type 0} (r : Result A E) → P → OnErr r P
 after-refusal (Ok x) always = tt
 after-refusal (Err e) always = always
-
--- the front of a list and its last element are the list
-pub front-last : (xs : List ℕ) (n x : ℕ) → n ≡ length xs → slice_get xs (n - 1) ≡ Some x → take (n - 1) xs ++ x ∷ [] ≡ xs
-front-last xs n x is at =
-    let within : n - 1 < length xs = slice_get_within xs (n - 1) x at in
-    let got : get_or xs (n - 1) 0 ≡ x = get_or_from_slice_get xs (n - 1) x 0 at in
-    rw (← got) (sym (take_more xs (n - 1) 0 within) ∙ take_all (n - 1 + 1) xs (omega (arith, is)))

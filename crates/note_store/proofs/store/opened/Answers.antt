@@ -1,4 +1,3 @@
-use Rattle.std.proofs.lemmas.Result.{IfOk-at_ok}
 use Rattle.node_heap.proofs.Frames.{Extends-trans}
 use Rattle.note_store.proofs.store.opened.Goals as goal
 

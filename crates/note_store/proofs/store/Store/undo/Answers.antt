@@ -1,4 +1,4 @@
-use Rattle.std.proofs.Common.{◌≡◌, [], ◌∙◌, refl, ap, arith}
+use Rattle.std.proofs.Common.{◌∙◌, refl, ap, arith}
 use Rattle.rrb_core.specs.Vector.{elements}
 use Rattle.champ_chain.proofs.WithLemmas.{not-ok}
 use Rattle.champ_kinds.specs.Root.{Root}
