@@ -25,6 +25,7 @@ impl RootedHeap {
         requires { (W : Workspace) × Keeps self.old [] W }
         ensures ends { EndsOnRows undo self.old result self.new }
         ensures ample { HasSpares self.old.heap 0 STEP_NODES → result ≢ Err Refusal.Memory }
+        ensures made { self.new.heap.made ≤ self.old.heap.made + STEP_NODES }
     {
         let undo = FlexRef::at(self.roots.undo);
         let redo = FlexRef::at(self.roots.redo);
@@ -42,6 +43,7 @@ impl RootedHeap {
         requires { (W : Workspace) × Keeps self.old [] W }
         ensures ends { EndsOnRows redo self.old result self.new }
         ensures ample { HasSpares self.old.heap 0 STEP_NODES → result ≢ Err Refusal.Memory }
+        ensures made { self.new.heap.made ≤ self.old.heap.made + STEP_NODES }
     {
         let undo = FlexRef::at(self.roots.undo);
         let redo = FlexRef::at(self.roots.redo);
@@ -62,6 +64,7 @@ impl RootedHeap {
         ensures ends { (W : Workspace) (xs ys : List State) → Keeps self.old [] W → IsHistoryIn self.old.heap self.old.bits from xs → IsHistoryIn self.old.heap self.old.bits to ys →
             MatchResult result (λ _. HasStepRoom xs ys self.old self.new W) (IsStepRefused xs ys self.old self.new W) }
         ensures ample { HasSpares self.old.heap 0 STEP_NODES → result ≢ Err Refusal.Memory }
+        ensures made { self.new.heap.made ≡ self.old.heap.made }
     {
         if self.in_batch() {
             return Err(Refusal::Batch);
@@ -83,6 +86,7 @@ impl RootedHeap {
         ensures turns { (W : Workspace) (s : State) → Keeps self.old (state ∷ []) W → IsStateIn self.old.heap self.old.bits state s →
             TurnsTo self.old self.new [] PUSHED_NODES (record W { undo = W.undo ++ s ∷ [] }) }
         ensures spares { self.old.heap.spare_nodes ≤ self.new.heap.spare_nodes + PUSHED_NODES }
+        ensures made { self.new.heap.made ≤ self.old.heap.made + PUSHED_NODES }
     {
         let undo = pushed(&mut self.heap, Flex::from_root(self.roots.undo), state);
         self.roots.undo = undo.into_root();
@@ -92,8 +96,9 @@ impl RootedHeap {
     fn push_redo(&mut self, state: Link)
         requires spares { HasSpares self.old.heap 0 PUSHED_NODES }
         requires kept { (W : Workspace) × (s : State) × Keeps self.old (state ∷ []) W × IsStateIn self.old.heap self.old.bits state s × (length W.redo < most) }
-        ensures { (W : Workspace) (s : State) → Keeps self.old (state ∷ []) W → IsStateIn self.old.heap self.old.bits state s →
+        ensures turns { (W : Workspace) (s : State) → Keeps self.old (state ∷ []) W → IsStateIn self.old.heap self.old.bits state s →
             TurnsTo self.old self.new [] PUSHED_NODES (record W { redo = W.redo ++ s ∷ [] }) }
+        ensures made { self.new.heap.made ≤ self.old.heap.made + PUSHED_NODES }
     {
         let redo = pushed(&mut self.heap, Flex::from_root(self.roots.redo), state);
         self.roots.redo = redo.into_root();

@@ -1,5 +1,5 @@
 //! The space and its calls.
-ghost use Rattle.std.specs.Prelude.{◌≡◌, ◌≤◌, [], length, map as each, IfOk, Some, slice_get, slice_range};
+ghost use Rattle.std.specs.Prelude.{◌≡◌, ◌+◌, ◌≤◌, [], length, map as each, IfOk, Some, slice_get, slice_range};
 ghost use Rattle.std.specs.FinMap as map;
 ghost use Rattle.std.specs.List.{sum_by};
 ghost use Rattle.elem_core.specs.Shown.{name_bytes};
@@ -66,17 +66,19 @@ impl Space {
     }
 
     /// Goes back to the state before the last edit. `Batch` in a batch, else `Empty` where there is none, else `Limit` where
-    /// redo holds 2^32 - 1 states, and last `Memory` where memory runs out.
+    /// redo holds 2^32 - 1 states, and last `Memory` where memory runs out. It makes at most 19 rows.
     pub fn undo(&mut self) -> Result<(), Refusal>
-        ensures { Ends undo self.old result self.new }
+        ensures ends { Ends undo self.old result self.new }
+        ensures made { self.new.made ≤ self.old.made + 19 }
     {
         self.rows.undo()
     }
 
     /// Goes forward to the state that the last undo left. `Batch` in a batch, else `Empty` where there is none, else `Limit`
-    /// where undo holds 2^32 - 1 states, and last `Memory` where memory runs out.
+    /// where undo holds 2^32 - 1 states, and last `Memory` where memory runs out. It makes at most 19 rows.
     pub fn redo(&mut self) -> Result<(), Refusal>
-        ensures { Ends redo self.old result self.new }
+        ensures ends { Ends redo self.old result self.new }
+        ensures made { self.new.made ≤ self.old.made + 19 }
     {
         self.rows.redo()
     }

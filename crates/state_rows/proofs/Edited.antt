@@ -1,11 +1,15 @@
 -- How a history is edited in place: what its states stand for, what is held besides, and what is spent and gained.
 use Rattle.std.proofs.Common.{◌≡◌, ℕ, ◌+◌, ◌-◌, ◌<◌, ◌≤◌, List, [], ◌∷◌, ◌++◌, length, take, get_or, Option, Some, None, IsSome, ap, sym, subst, refl, ◌∙◌, arith}
-use Rattle.std.specs.Prelude.{IsSomeAnd, slice_get}
+use Rattle.std.specs.Prelude.{IsSomeAnd, slice_get, option_map}
 use Rattle.std.specs.List.{AllZip}
-use Rattle.node_heap.specs.Links.{count}
-use Rattle.node_heap.specs.Heap.{Heap, row_at, holds_at, one_at, IsGraph}
-use Rattle.node_heap.specs.Calls.{Answered, Extends, HasHolds, KeepsBelow, KeepsHeld, Trades}
-use Rattle.node_heap.specs.Owner.{by_hold}
+use Rattle.node_heap.specs.Links.{count, here}
+use Rattle.node_heap.specs.Forms.{Row, form_of}
+use Rattle.node_heap.specs.Heap.{Heap, row_at, form_at, holds_at, one_at, IsGraph}
+use Rattle.node_heap.specs.Calls.{Answered, Extends, HasHolds, KeepsBelow, KeepsHeld, KeepsOwners, Trades}
+use Rattle.node_heap.specs.Owner.{by_hold, alone}
+use Rattle.node_heap.proofs.AloneLemmas.{alone-same}
+use Rattle.node_heap.proofs.EditLaws.{owned-live}
+use Rattle.node_heap.proofs.GraphLemmas.{IsGraph-owned}
 use Rattle.node_heap.proofs.Counts.{test_same, one_at-flip}
 use Rattle.node_heap.proofs.BuildLemmas.{count-cons}
 use Rattle.node_heap.proofs.Edited.{count-at}
@@ -15,6 +19,7 @@ use Rattle.rrb_core.proofs.LinkCounts.{count-split}
 use Rattle.rrb_core.proofs.Stays.{seq-live}
 use Rattle.pool_check.proofs.VectorReadings.{all-at}
 use Rattle.edit_vec.specs.Edit.{PushesElement, PopsElement}
+use Rattle.edit_vec.specs.Path.{pop_path}
 use Rattle.edit_vec.specs.Laws.{PushesKeep, PopsKeep}
 use Rattle.champ_kinds.proofs.ZipLemmas.{zip-as, zip-length}
 use Rattle.shell_terms.specs.Edit.{Bytes}
@@ -91,6 +96,30 @@ module _ (keep : PopsKeep Bytes) {old new : Heap Bytes} {v r x : ℕ} (graph : I
       pop.edits.trades.graph.held x (omega (arith, pop.edits.trades.holds x, count-cons x r (x ∷ []), count-cons x x [], test_same x x refl, count-cons x v [], one-held old v held x)) in
       some-and (slice_get ss (length ss - 1)) (λ s was. stays is x (count-at es (length ss - 1) x (omega (arith, many, some)) at) live s (subst (λ (k : ℕ). IsStateIn old bits k s) at was))
       (zip-at (IsStateIn old bits) es ss (length ss - 1) (omega (arith, some)) is.values)
+
+-- ## Where an opened history is the same
+
+-- where every row stays and owners are as they were, no row came
+module _ {old mid : Heap Bytes} (graph : IsGraph old) (graph' : IsGraph mid) (more : Extends old mid) (owners : KeepsOwners old mid) where
+  none-came : (k : ℕ) (r : Option (Row Bytes)) → row_at old k ≡ r → (q : Option (Row Bytes)) → row_at mid k ≡ q → row_at mid k ≡ row_at old k
+  none-came k None was None is = is ∙ sym was
+  none-came k None was (Some y) is =
+      let one = IsGraph-owned mid graph' k (rw is refl) in
+      let live : IsSome (row_at old k) = owned-live old graph k (omega (arith, one, owners k)) in
+      absurd (let h = live in let g = was in cc)
+  none-came k (Some x) was q is = more.kept k (rw was refl) k (here k)
+
+  pub same-rows : (k : ℕ) → row_at mid k ≡ row_at old k
+  same-rows k = none-came k (row_at old k) refl (row_at mid k) refl
+
+-- so a pop writes and copies the same rows of its path
+pub alone-made : (old mid new : Heap Bytes) {h v : ℕ} → v ≡ h → ((k : ℕ) → row_at mid k ≡ row_at old k) → KeepsOwners old mid → mid.made ≡ old.made
+    → new.made ≤ mid.made + (length (pop_path (form_at mid) v) - alone mid (pop_path (form_at mid) v)) → new.made ≤ old.made + (length (pop_path (form_at old) h) - alone old (pop_path (form_at old) h))
+alone-made old mid new {h} {v} same rows owners made few =
+    let forms : (k : ℕ) → form_at mid k ≡ form_at old k = λ k. ap (option_map form_of) (rows k) in
+    let path : pop_path (form_at mid) v ≡ pop_path (form_at old) h = (λ i. pop_path (λ k. forms k i) (same i)) in
+    let count : alone mid (pop_path (form_at mid) v) ≡ alone old (pop_path (form_at old) h) = alone-same mid old (pop_path (form_at mid) v) owners ∙ ap (alone old) path in
+    omega (arith, few, made, count, ap length path)
 
 -- ## What is held besides, what is spent and gained, and what is made
 

@@ -3,8 +3,10 @@
 //! rows that it makes from spares, which its caller has reserved, and keeps what is held besides.
 ghost use Rattle.std.specs.Prelude.{◌≡◌, ℕ, ◌+◌, ◌-◌, ◌^◌, ◌<◌, ◌≤◌, List, [], ◌∷◌, ◌++◌, length, take, slice_get, IsSomeAnd};
 ghost use Rattle.node_heap.specs.Links.{count};
-ghost use Rattle.node_heap.specs.Heap.{holds_at, hold_count, HasSpares};
-ghost use Rattle.node_heap.specs.Calls.{HasHolds, KeepsHeld, MakesJust, MakesWhatCame, Trades};
+ghost use Rattle.node_heap.specs.Heap.{form_at, holds_at, owners_at, hold_count, HasSpares};
+ghost use Rattle.node_heap.specs.Calls.{HasHolds, KeepsHeld, KeepsOwners, MakesJust, MakesWhatCame, SameRows, Trades};
+ghost use Rattle.node_heap.specs.Owner.{alone};
+ghost use Rattle.edit_vec.specs.Path.{pop_path};
 ghost use Rattle.plain_space.specs.Workspace.{State};
 ghost use Rattle.state_rows.specs.InHeap.{IsStateIn, IsHistoryIn};
 
@@ -43,7 +45,8 @@ pub fn pushed(heap: &mut Heap<Text>, history: Flex, state: Link) -> Flex
 }
 
 /// The history without its last state, and that state with a hold. It spends the history's hold. It makes at most 9
-/// nodes.
+/// nodes, and where the history's root has one owner only those that it copies of the rows on the way to the history's end: the
+/// ones with another owner, or below such a one.
 pub fn popped(heap: &mut Heap<Text>, history: Flex) -> (Flex, Link)
     requires few { hold_count heap.old < 2 ^ 59 }
     requires held { 0 < holds_at heap.old history }
@@ -52,6 +55,7 @@ pub fn popped(heap: &mut Heap<Text>, history: Flex) -> (Flex, Link)
     ensures keeps { KeepsHeld (λ l. count l (history ∷ [])) heap.old heap.new }
     ensures trades { Trades heap.old heap.new (history ∷ []) (result.0 ∷ result.1 ∷ []) 0 9 }
     ensures history { (bits : ℕ) (ss : List State) → IsHistoryIn heap.old bits history ss → IsHistoryIn heap.new bits result.0 (take (length ss - 1) ss) }
+    ensures alone { owners_at heap.old history ≡ 1 → heap.new.made ≤ heap.old.made + (length (pop_path (form_at heap.old) history) - alone heap.old (pop_path (form_at heap.old) history)) }
     ensures last { (bits : ℕ) (ss : List State) → IsHistoryIn heap.old bits history ss → IsSomeAnd (slice_get ss (length ss - 1)) (IsStateIn heap.new bits result.1) }
 {
     let mut edit = opened(heap, history);
@@ -71,8 +75,11 @@ fn opened(heap: &mut Heap<Text>, history: Flex) -> FlexEdit
     ensures keeps { KeepsHeld (λ l. count l (history ∷ [])) heap.old heap.new }
     ensures trades { Trades heap.old heap.new (history ∷ []) (result ∷ []) 0 1 }
     ensures makes { MakesWhatCame heap.old heap.new }
+    ensures alone { owners_at heap.old history ≡ 1 → (result ≡ history) × SameRows heap.old heap.new × KeepsOwners heap.old heap.new × (heap.new.made ≡ heap.old.made) }
     ensures history { (bits : ℕ) (ss : List State) → IsHistoryIn heap.old bits history ss → IsHistoryIn heap.new bits result ss }
 {
+    // The call tells the proof that this is the graph of a heap.
+    let _ = heap.live();
     match FlexEdit::open(history, heap) {
         Ok(edit) => edit,
         Err(_fault) => unreachable!(),

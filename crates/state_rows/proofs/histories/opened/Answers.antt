@@ -1,5 +1,5 @@
 use Rattle.node_heap.proofs.OwnerLemmas.{KeepsHeld-EditsBy}
-use Rattle.state_rows.proofs.Edited.{opened-history}
+use Rattle.state_rows.proofs.Edited.{opened-history, same-rows}
 use Rattle.state_rows.proofs.histories.opened.Goals as goal
 
 pub unreachable-requires : goal.unreachable-requires
@@ -10,3 +10,9 @@ returns-clause-keeps c = KeepsHeld-EditsBy c.in-Ok.ensures.edits
 
 pub returns-clause-history : goal.returns-clause-history
 returns-clause-history c = λ bits ss is. opened-history c.in-Ok.ensures.extends c.in-Ok.ensures.items is
+
+pub returns-clause-alone : goal.returns-clause-alone
+returns-clause-alone c = λ one.
+    let said = c.in-Ok.ensures.alone one in
+    let same = c.in-Ok.ensures.same.1 one in
+    (same, same-rows c.live.ensures.graph c.in-Ok.ensures.edits.trades.graph c.in-Ok.ensures.extends said.0, said.0, said.1)

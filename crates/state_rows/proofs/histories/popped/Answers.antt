@@ -4,7 +4,7 @@ use Rattle.node_heap.specs.Owner.{by_hold}
 use Rattle.edit_vec.specs.Edit.{PopsElement}
 use Rattle.edit_vec.proofs.LawLemmas.{pops-keep}
 use Rattle.champ_kinds.proofs.EditLemmas.{if-some}
-use Rattle.state_rows.proofs.Edited.{keeps-then, opened-held, popped-history, popped-last, vector-many}
+use Rattle.state_rows.proofs.Edited.{keeps-then, opened-held, popped-history, popped-last, vector-many, alone-made}
 use Rattle.state_rows.proofs.histories.popped.Goals as goal
 use Rattle.state_rows.proofs.histories.popped.Goals.{After-freeze}
 
@@ -33,3 +33,8 @@ returns-clause-last c = λ bits ss is.
     let opened = c.opened-edit.ensures in
     let history = c.requires.history in
     popped-last (pops-keep _) opened.trades.graph (opened-held opened.trades c.requires.held) (pops c) (omega (arith, vector-many is, vector-many history.2, history.3)) (opened.history bits ss is)
+
+pub returns-clause-alone : goal.returns-clause-alone
+returns-clause-alone c = λ one.
+    let said = c.opened-edit.ensures.alone one in
+    alone-made c.args.heap.now c.opened-edit.new.heap c.pop.new.heap said.0 said.1 said.2 said.3 (pops c).made

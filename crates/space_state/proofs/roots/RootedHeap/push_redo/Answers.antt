@@ -11,7 +11,7 @@ pushed-redo-requires-clause-held c = rw c.from_root.ensures (redo-holds c.requir
 pub pushed-redo-requires-clause-history : goal.pushed-redo-requires-clause-history
 pushed-redo-requires-clause-history c = rw c.from_root.ensures (c.args.self.now.bits, c.requires.kept.0.redo, redo-stands c.requires.kept.2, c.requires.kept.4)
 
-pub returns : goal.returns
-returns c = λ W x K is.
+pub returns-clause-turns : goal.returns-clause-turns
+returns-clause-turns c = λ W x K is.
     let did = rw c.from_root.ensures at c.pushed-redo.ensures in
     rw c.into_root-self.ensures (turns-by 10 (keeps-redo c.pushed-redo.result (W.redo ++ x ∷ []) (c.args.state ∷ []) [] K did.keeps did.trades (did.history c.args.self.now.bits W.redo x (redo-stands K) is)) refl (rises-trades did.trades))

@@ -66,7 +66,7 @@ unfolding cost
 returns-clause-ends c = λ W K.
     let room = room (goal.at.returns-clause-ends c).In_ok-make_step_room W K in
     let moved = moved (goal.at.returns-clause-ends c).After-popped-undo W K in
-    let pushed = (rw c.into_root-self.ensures at c.push_redo.ensures) _ W.current moved.keeps moved.before in
+    let pushed = (rw c.into_root-self.ensures at c.push_redo.ensures.turns) _ W.current moved.keeps moved.before in
     record {
       after = _;
       told = undo-done W moved.x (take (length W.undo - 1) W.undo) (W.redo ++ W.current ∷ []) (step-done W W.undo W.redo room.outside moved.x moved.last room.room);

@@ -1,4 +1,4 @@
-use Rattle.std.proofs.Common.{subst}
+use Rattle.std.proofs.Common.{◌+◌, ◌≤◌, subst}
 use Rattle.shell_terms.specs.Command as command
 use Rattle.space_state.specs.View.{SpaceView, Ends, shown}
 use Rattle.space_state.proofs.Front.{ends-seen, kept-on}
@@ -7,7 +7,10 @@ use Rattle.space_state.proofs.space.Space.redo.Goals as goal
 pub invariant_of-self : goal.invariant_of-self
 invariant_of-self c = kept-on command.redo c.self.inside.rows c.redo.result c.redo.new.self c.self.invariant c.redo.ensures.ends
 
-pub returns : goal.returns
-returns c =
+pub returns-clause-ends : goal.returns-clause-ends
+returns-clause-ends c =
     subst (λ (v : SpaceView). Ends command.redo v c.redo.result (shown c.redo.new.self)) c.self.view_is
     (ends-seen command.redo c.self.inside.rows c.redo.result c.redo.new.self c.self.invariant.0 c.self.invariant.1 c.redo.ensures.ends)
+
+pub returns-clause-made : goal.returns-clause-made
+returns-clause-made c = subst (λ (v : SpaceView). c.redo.new.self.heap.made ≤ v.made + 19) c.self.view_is c.redo.ensures.made
