@@ -1,0 +1,171 @@
+-- Changes at a child of a row with one owner add up.
+use Rattle.std.proofs.Common.{◌≡◌, ◌≢◌, ℕ, ◌+◌, ◌*◌, ◌<◌, List, [], ◌∷◌, length, get_or, set, refl, ap, sym, subst, ◌∙◌, arith, IsSome, None, inl, inr}
+use Rattle.std.specs.Prelude.{◌↔◌}
+use Rattle.std.proofs.lemmas.Bool.{cases_eq}
+use Rattle.std.proofs.lemmas.List.{get_or-set_same, get_or-set_other, length-set}
+use Rattle.node_heap.specs.Links.{Links, count, HasLink, Reaches, here, below}
+use Rattle.node_heap.specs.Forms.{links_of, head_of}
+use Rattle.node_heap.specs.Heap.{Heap, row_at, links_at, holds_at, owners_at, one_at, IsGraph}
+use Rattle.node_heap.specs.Calls.{KeepsBelow, Makes, Gains}
+use Rattle.node_heap.specs.InPlace.{child_at, other_at, IsSolePath, path_start, path_then, OwnsDown, Changes}
+use Rattle.node_heap.proofs.Counts.{count-cons, test_other, le-sum_by}
+use Rattle.node_heap.proofs.GraphLemmas.{IsGraph-acyclic}
+use Rattle.node_heap.proofs.Ways.{Reaches-avoids, Reaches-last}
+use Rattle.node_heap.proofs.Frames.{KeepsBelow-trans}
+use Rattle.node_heap.proofs.Edited.{count-at, linked_live, IsOwners-heap, KeepsBelow-sibling, KeepsBelow-apart, Reaches-back, Changes-path, Changes-beside}
+use Rattle.node_heap.proofs.EditLaws.{Gains-Changes}
+use Rattle.edit_trie.specs.Walk.{EditsChild}
+use Rattle.edit_trie.proofs.SpotLemmas.{count-two}
+
+-- a path with one owner a row, from a row further up
+pub sole-before : (O : ℕ → ℕ) (L : Links) (p k x : ℕ) → HasLink L p k → O k ≡ 1 → IsSolePath O L k x → IsSolePath O L p x
+sole-before O L p k x has one path_start = path_then p k path_start has one
+sole-before O L p k x has one (path_then l m path step sole) = path_then l m (sole-before O L p k l has one path) step sole
+
+-- the only link of a list
+pub only-one : (u l : ℕ) → 0 < count u (l ∷ []) → u ≡ l
+only-one u l some = elim (cases_eq u l) as (λ _. u ≡ l) [
+  | inl same ↦ same
+  | inr other ↦ absurd (omega (arith, some, count-cons u l [], test_other u l other))
+]
+
+module _ {T : Type 0} where
+  -- the child at an index is a link of the row
+  pub child-linked : (h : Heap T) (parent index : ℕ) → index < length (links_at h parent) → HasLink (links_at h) parent (child_at h parent index)
+  child-linked h parent index inside = count-at (links_at h parent) index (child_at h parent index) inside refl
+
+  -- a child with one owner stands at one index
+  pub child-once : (h : Heap T) (parent i j k : ℕ) → owners_at h k ≡ 1 → i < length (links_at h parent) → j < length (links_at h parent) → child_at h parent i ≡ k → child_at h parent j ≡ k → i ≢ j → ⊥
+  child-once h parent i j k one in_i in_j at_i at_j other =
+      omega (arith, one, count-two (links_at h parent) i j k other in_i in_j at_i at_j, le-sum_by (λ r. count k (links_of r)) None refl h.rows parent)
+
+  -- a row and all that it reaches is there
+  pub live-below : (h : Heap T) → IsGraph h → (a b : ℕ) → IsSome (row_at h a) → Reaches (links_at h) a b → IsSome (row_at h b)
+  live-below h graph a b some (here l) = some
+  live-below h graph a b some (below l k m step rest) = live-below h graph k m (graph.closed l k step) rest
+
+  -- a link that is held and doesn't reach a row doesn't reach a child of it that has one owner
+  pub apart-child : (h : Heap T) (row k l : ℕ) → HasLink (links_at h) row k → owners_at h k ≡ 1 → 0 < holds_at h l → ¬ Reaches (links_at h) l row → ¬ Reaches (links_at h) l k
+  apart-child h row k l linked one held off way = elim (Reaches-last (links_at h) l k way) as (λ _. ⊥) [
+    | inl same ↦ absurd (omega (arith, ap (holds_at h) same, (IsOwners-heap h).unheld row k linked one, held))
+    | inr last ↦ off (subst (Reaches (links_at h) l) ((IsOwners-heap h).only row last.0 k linked last.2 one) last.1)
+  ]
+
+  -- where a held link doesn't reach a row, none that reaches the row is that one
+  pub unspent-one : (h : Heap T) (row l : ℕ) → ¬ Reaches (links_at h) l row → (u : ℕ) → Reaches (links_at h) u row → count u (l ∷ []) ≡ 0
+  unspent-one h row l off u up = omega (arith, count-cons u l [], test_other u l (λ same. off (subst (λ x. Reaches (links_at h) x row) same up)))
+
+  -- the child at an index was made the row's own, as `own_child` says
+  pub record OwnsChild (old new : Heap T) (parent index copy : ℕ) : Type 0 where
+    pub inside : index < length (links_at old parent)
+    pub same : (copy ≡ child_at old parent index) ↔ (owners_at old (child_at old parent index) ≡ 1)
+    pub row : row_at new copy ≡ row_at old (child_at old parent index)
+    pub sole : owners_at new copy ≡ 1
+    pub fresh : copy ≢ child_at old parent index → row_at old copy ≡ None
+    pub head : head_of (row_at new parent) ≡ head_of (row_at old parent)
+    pub links : links_at new parent ≡ set (links_at old parent) index copy
+    pub stays : (k : ℕ) → k ≢ parent → IsSome (row_at old k) → row_at new k ≡ row_at old k
+    pub others : (k : ℕ) → k ≢ parent → k ≢ copy → row_at new k ≡ row_at old k
+    pub owners : (k : ℕ) → owners_at new k + one_at (child_at old parent index) k ≡ owners_at old k + (one_at copy k + other_at (child_at old parent index) copy * count k (links_at old (child_at old parent index)))
+    pub changes : Changes parent old new [] [] 0 1
+    pub makes : Makes old new 0 (other_at (child_at old parent index) copy)
+
+  module _ (old new : Heap T) (parent index copy : ℕ) where
+    pub own-there : OwnsChild old new parent index copy → child_at new parent index ≡ copy
+    own-there own = ap (λ ks. get_or ks index 0) own.links ∙ get_or-set_same (links_at old parent) index copy 0 own.inside
+
+    pub own-linked : OwnsChild old new parent index copy → HasLink (links_at new) parent copy
+    own-linked own = subst (HasLink (links_at new) parent) (own-there own) (child-linked new parent index (omega (arith, own.inside, ap length own.links, length-set (links_at old parent) index copy)))
+
+    -- the child itself has one owner
+    pub owned-child : OwnsChild old new parent index copy → OwnsDown new parent copy
+    owned-child own = path_then parent copy path_start (own-linked own) own.sole
+
+    -- no row went
+    pub gains-child : OwnsChild old new parent index copy → Gains old new
+    gains-child own = Gains-Changes own.changes own.stays own.makes
+
+  module _ (old new : Heap T) (parent index copy : ℕ) (graph : IsGraph old) (own : OwnsChild old new parent index copy) where
+    -- each row that was there is the same, but for the parent
+    pub own-row : (k : ℕ) → IsSome (row_at old k) → k ≢ parent → row_at new k ≡ row_at old k
+    own-row k live other = own.stays k other live
+
+    -- what a child reaches is there, and it isn't the parent
+    own-below : (s m : ℕ) → HasLink (links_at old) parent s → Reaches (links_at old) s m → row_at new m ≡ row_at old m
+    own-below s m has way = own-row m (live-below old graph s m (graph.closed parent s has) way) (λ same. IsGraph-acyclic old graph parent s has (subst (Reaches (links_at old) s) same way))
+
+    pub own-beneath : KeepsBelow old new (child_at old parent index)
+    own-beneath m way = own-below (child_at old parent index) m (child-linked old parent index own.inside) way
+
+    pub own-child : EditsChild parent index old new [] [] 0 1
+    own-child = record {
+      changes = own.changes;
+      head = own.head;
+      links = own.links ∙ ap (set (links_at old parent) index) (sym (own-there old new parent index copy own));
+      beside = λ i within other m way. own-below (child_at old parent i) m (child-linked old parent i within) way;
+    }
+
+    -- a held link that doesn't reach the parent doesn't then, and is held still
+    pub own-held : (l : ℕ) → 0 < holds_at old l → 0 < holds_at new l
+    own-held l held = omega (arith, held, own.changes.trades.holds l)
+
+    pub own-apart : (l : ℕ) → 0 < holds_at old l → ¬ Reaches (links_at old) l parent → ¬ Reaches (links_at new) l parent
+    own-apart l held off way = off (Reaches-back old new l parent (KeepsBelow-apart own.changes.apart l (omega (arith, held)) off) way)
+
+  -- a change at a child with one owner leaves the row above it
+  pub parent-same : (mid new : Heap T) (parent k : ℕ) (spent gained : List ℕ) (c n : ℕ) → IsGraph mid → HasLink (links_at mid) parent k → Changes k mid new spent gained c n
+      → ((u : ℕ) → Reaches (links_at mid) u parent → count u spent ≡ 0) → row_at new parent ≡ row_at mid parent
+  parent-same mid new parent k spent gained c n graph linked second unspent =
+      let from = graph.reached parent (linked_live (row_at mid parent) k linked) in
+      second.apart.kept from.0 parent (omega (arith, from.1, unspent from.0 from.2)) (Reaches-avoids (links_at mid) k from.0 parent from.2 (IsGraph-acyclic mid graph parent k linked))
+
+  -- a change at a child, and then one at the child that stands there, which has one owner
+  pub child-then : (old mid new : Heap T) (parent index k : ℕ) (spent gained : List ℕ) (c n c' n' : ℕ) → IsGraph mid → index < length (links_at old parent)
+      → EditsChild parent index old mid [] [] c n → child_at mid parent index ≡ k → owners_at mid k ≡ 1 → Changes k mid new spent gained c' n'
+      → ((u : ℕ) → Reaches (links_at mid) u parent → count u spent ≡ 0) → EditsChild parent index old new spent gained (c + c') (n + n')
+  child-then old mid new parent index k spent gained c n c' n' graph inside first is_child one second unspent = record {
+    changes = Changes-beside first.changes (Changes-path (path_then parent k path_start linked one) second);
+    head = ap head_of same_parent ∙ first.head;
+    links = ap links_of same_parent ∙ first.links ∙ ap (λ ks. set (links_at old parent) index (get_or ks index 0)) (sym (ap links_of same_parent));
+    beside = λ i within other. KeepsBelow-trans old mid new (child_at old parent i) (first.beside i within other) (sibling i within other);
+  }
+    where
+      in_mid : index < length (links_at mid parent)
+      in_mid = omega (arith, inside, ap length first.links, length-set (links_at old parent) index (child_at mid parent index))
+
+      linked : HasLink (links_at mid) parent k
+      linked = subst (HasLink (links_at mid) parent) is_child (child-linked mid parent index in_mid)
+
+      from : (u : ℕ) × (0 < holds_at mid u) × Reaches (links_at mid) u parent
+      from = graph.reached parent (linked_live (row_at mid parent) k linked)
+
+      some : count from.0 spent < holds_at mid from.0
+      some = omega (arith, from.1, unspent from.0 from.2)
+
+      same_parent : row_at new parent ≡ row_at mid parent
+      same_parent = parent-same mid new parent k spent gained c' n' graph linked second unspent
+
+      same_at : (i : ℕ) → i ≢ index → child_at mid parent i ≡ child_at old parent i
+      same_at i other = ap (λ ks. get_or ks i 0) first.links ∙ get_or-set_other (links_at old parent) index i (child_at mid parent index) 0 other
+
+      sibling : (i : ℕ) → i < length (links_at old parent) → i ≢ index → KeepsBelow mid new (child_at old parent i)
+      sibling i within other =
+          let in_i : i < length (links_at mid parent) = omega (arith, within, ap length first.links, length-set (links_at old parent) index (child_at mid parent index)) in
+          let to_other : HasLink (links_at mid) parent (child_at old parent i) = subst (HasLink (links_at mid) parent) (same_at i other) (child-linked mid parent i in_i) in
+          KeepsBelow-sibling parent k (child_at old parent i) from.0 graph one linked to_other (λ same. child-once mid parent i index k one in_i in_mid (same_at i other ∙ same) is_child other) some from.2 second.apart
+
+  -- a change at the child that was made the row's own
+  module _ (old mid new : Heap T) (row i k : ℕ) (graph : IsGraph old) (own : OwnsChild old mid row i k) (spent gained : List ℕ) {a b : ℕ} (second : Changes k mid new spent gained a b)
+      (unspent : (u : ℕ) → Reaches (links_at mid) u row → count u spent ≡ 0) where
+    pub own-then : EditsChild row i old new spent gained (0 + a) (1 + b)
+    own-then = child-then old mid new row i k spent gained 0 1 a b own.changes.trades.graph own.inside (own-child old mid row i k graph own) (own-there old mid row i k own) own.sole second unspent
+
+    same_row : row_at new row ≡ row_at mid row
+    same_row = parent-same mid new row k spent gained a b own.changes.trades.graph (own-linked old mid row i k own) second unspent
+
+    pub own-child-there : child_at new row i ≡ k
+    own-child-there = ap (λ r. get_or (links_of r) i 0) same_row ∙ own-there old mid row i k own
+
+    pub own-down : (r : ℕ) → OwnsDown new k r → OwnsDown new row r
+    own-down r path =
+        sole-before (owners_at new) (links_at new) row k r (omega (arith, own-linked old mid row i k own, ap (λ x. count k (links_of x)) same_row)) (second.paths.soles k (here k) own.sole) path

@@ -1,0 +1,52 @@
+use Rattle.std.proofs.Common.{◌≡◌, ◌<◌, ap, sym, subst, ◌∙◌, arith}
+use Rattle.elem_core.specs.declared.codes.TheConstants.{DEEPEST}
+use Rattle.node_heap.specs.Forms.{is_node}
+use Rattle.node_heap.specs.Heap.{row_at, form_at, holds_at}
+use Rattle.node_heap.specs.Owner.{by_hold}
+use Rattle.champ_trie.specs.Trie.{code_by}
+use Rattle.champ_trie.proofs.ShareLemmas.{row-at}
+use Rattle.champ_kinds.specs.Root.{Root}
+use Rattle.champ_kinds.specs.Kinds.{HasEntries, IsMapOf}
+use Rattle.edit_trie.specs.Edit.{by_bits}
+use Rattle.edit_trie.proofs.RowLemmas.{node-form}
+use Rattle.edit_trie.proofs.RootLemmas.{IsOwned, owns, owned-hold, after-room}
+use Rattle.edit_trie.proofs.OwnTop.{map-top, edits-top}
+use Rattle.edit_trie.proofs.MapLemmas.{entries-owned}
+use Rattle.edit_trie.proofs.edit.TrieEdit.open.Goals as goal
+
+pub own-root-requires-clause-node : goal.own-root-requires-clause-node
+own-root-requires-clause-node g c =
+    let is = c.requires.contents.1 in
+    let at = row-at g.T.Ord.cmp (code_by g.T.Element.code_of c.args.map.bits) (form_at c.args.heap.now) DEEPEST 0 c.args.map.root is.entries is.rooted.trie.trie in
+    ap (λ l. is_node (row_at c.reserve.new.self l)) c.into_root.ensures ∙ ap is_node (c.in-Ok.ensures.rest.rows c.args.map.root) ∙ node-form (row_at c.args.heap.now c.args.map.root) _ at.2 at.3.row
+
+pub returns-clause-contents : goal.returns-clause-contents
+returns-clause-contents g c = λ M is.
+    let did = c.own-root.ensures in
+    let room = c.in-Ok.ensures.rest in
+    let held : 0 < holds_at c.reserve.new.self c.args.map.root = omega (arith, c.requires.held, room.holds c.args.map.root) in
+    let own : IsOwned (by_hold c.args.map.root) c.args.heap.now c.own-root.new.self c.own-root.result =
+    after-room room (owned-hold (owns c.into_root.ensures room.graph held did.same did.row did.sole did.fresh did.owners did.builds)) in
+    let bits : c.bits-bits.result ≡ c.args.map.bits = c.bits-bits.ensures ∙ ap (λ (q : Root). q.bits) c.view.ensures in
+    subst (λ b. IsMapOf g.T.Ord.cmp g.T.Element.code_of c.own-root.new.self (by_bits b c.own-root.result) M) (sym bits)
+    (map-top g.T.Ord.cmp g.T.Element.code_of (by_hold c.args.map.root) c.args.map.bits c.args.heap.now c.own-root.new.self c.own-root.result own M is)
+
+pub returns-clause-entries : goal.returns-clause-entries
+returns-clause-entries g c = λ E is.
+    let did = c.own-root.ensures in
+    let room = c.in-Ok.ensures.rest in
+    let held : 0 < holds_at c.reserve.new.self c.args.map.root = omega (arith, c.requires.held, room.holds c.args.map.root) in
+    let own : IsOwned (by_hold c.args.map.root) c.args.heap.now c.own-root.new.self c.own-root.result =
+    after-room room (owned-hold (owns c.into_root.ensures room.graph held did.same did.row did.sole did.fresh did.owners did.builds)) in
+    let bits : c.bits-bits.result ≡ c.args.map.bits = c.bits-bits.ensures ∙ ap (λ (q : Root). q.bits) c.view.ensures in
+    subst (λ b. HasEntries g.T.Ord.cmp g.T.Element.code_of c.own-root.new.self (by_bits b c.own-root.result) E) (sym bits)
+    (entries-owned g.T.Ord.cmp g.T.Element.code_of (by_hold c.args.map.root) c.args.map.bits c.args.heap.now c.own-root.new.self c.own-root.result own E is)
+
+pub returns-clause-edits : goal.returns-clause-edits
+returns-clause-edits g c =
+    let did = c.own-root.ensures in
+    let room = c.in-Ok.ensures.rest in
+    let held : 0 < holds_at c.reserve.new.self c.args.map.root = omega (arith, c.requires.held, room.holds c.args.map.root) in
+    let own : IsOwned (by_hold c.args.map.root) c.args.heap.now c.own-root.new.self c.own-root.result =
+    after-room room (owned-hold (owns c.into_root.ensures room.graph held did.same did.row did.sole did.fresh did.owners did.builds)) in
+    edits-top g.T.Ord.cmp g.T.Element.code_of (by_hold c.args.map.root) c.args.map.bits c.args.heap.now c.own-root.new.self c.own-root.result own did.builds.graph

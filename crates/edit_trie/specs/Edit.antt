@@ -1,0 +1,55 @@
+-- What each edit in place makes of a map, which goes by an owner of its root.
+use Rattle.std.specs.Prelude.{◌≡◌, ℕ, ◌+◌, List, [], ◌∷◌, Option, Some, option_to_list}
+use Rattle.std.specs.declared.cmp.Ordering.{Ordering}
+use Rattle.elem_core.specs.declared.codes.TheConstants.{DEEPEST}
+use Rattle.node_heap.specs.Heap.{Heap, owners_at}
+use Rattle.node_heap.specs.Calls.{MakesWhatCame}
+use Rattle.node_heap.specs.InPlace.{child_at, OwnsDown}
+use Rattle.node_heap.specs.Owner.{Owner, owned, EditsBy, KeepsAlone, WritesOnly, WritesOnlyLeft}
+use Rattle.champ_chain.specs.Entry.{Entry, link_with}
+use Rattle.champ_kinds.specs.Root.{Root}
+use Rattle.champ_kinds.specs.Binding.{Binding, bind, unbind, value_with, alike_keys}
+use Rattle.champ_kinds.specs.Kinds.{HasEntries, IsMapOf}
+use Rattle.edit_trie.specs.Path.{edit_path, pair_path, KeepsShared}
+
+-- a root, and how many bits of the codes its map goes by
+abbrev pub by_bits : ℕ → ℕ → Root
+by_bits bits root = record { root = root; bits = bits }
+
+module _ {T : Type 0} (cmp : T → T → Ordering) (code : T → ℕ) where
+  -- the link is that of the key's pair in the map of a root
+  pub record IsPairOf (h : Heap T) (r : Root) (key : T) (link : ℕ) : Type 0 where
+    pub entries : List (Entry T)
+    pub rooted : HasEntries cmp code h r entries
+    pub there : link_with cmp key entries ≡ Some link
+
+  module _ (owner : Owner) (bits : ℕ) (old new : Heap T) (root : ℕ) (M : List (Binding T)) (key : T) where
+    -- the map has the value at the key, and the one that stood there came back
+    pub record PutsValue (value : ℕ) (given : Option ℕ) : Type 0 where
+      pub map : IsMapOf cmp code new (by_bits bits root) (bind cmp M key value)
+      pub back : given ≡ value_with cmp key M
+      pub edits : EditsBy owner old new root (value ∷ []) (option_to_list given) 1 (DEEPEST + 3 + alike_keys code bits key M)
+      pub path : KeepsShared old (edit_path cmp code old bits key (owned old owner)) (edit_path cmp code new bits key root)
+      pub others : WritesOnly owner old new root (pair_path cmp code old bits key (owned old owner))
+      pub makes : MakesWhatCame old new
+
+    -- the map is without the key, whose value came back
+    pub record CutsKey (given : ℕ) : Type 0 where
+      pub map : IsMapOf cmp code new (by_bits bits root) (unbind cmp key M)
+      pub back : value_with cmp key M ≡ Some given
+      pub edits : EditsBy owner old new root [] (given ∷ []) 0 (DEEPEST + 1 + alike_keys code bits key M)
+      pub path : KeepsShared old (edit_path cmp code old bits key (owned old owner)) (edit_path cmp code new bits key root)
+      pub others : WritesOnlyLeft owner old new root (edit_path cmp code old bits key (owned old owner))
+
+    -- the map is the same, and each row on the way to the key's pair, and the pair, have one owner
+    pub record OwnsPair (link : ℕ) : Type 0 where
+      pub map : IsMapOf cmp code new (by_bits bits root) M
+      pub pair : IsPairOf new (by_bits bits root) key link
+      pub value : value_with cmp key M ≡ Some (child_at new link 1)
+      pub top : owners_at new root ≡ 1
+      pub sole : owners_at new link ≡ 1
+      pub down : OwnsDown new root link
+      pub edits : EditsBy owner old new root [] [] 0 (DEEPEST + 2 + alike_keys code bits key M)
+      pub path : KeepsAlone old (pair_path cmp code old bits key (owned old owner)) (pair_path cmp code new bits key root)
+      pub others : WritesOnly owner old new root (pair_path cmp code old bits key (owned old owner))
+      pub makes : MakesWhatCame old new
