@@ -184,7 +184,7 @@ pops-child {T} {first} {old} {new} {n} {root} {given} u good tall goes left =
     record {
       vector = rw (← later.1) left.vector;
       back = left.back ∙ ap (λ (xs : List ℕ). slice_index xs (length xs - 1)) later.1;
-      edits = EditsBy-more 0 8 (EditsBy-Unchanged first old u (by_hold root) left.edits) (omega arith) (omega arith);
+      edits = EditsBy-more 0 (height_at first root + 1) (EditsBy-Unchanged first old u (by_hold root) left.edits) (omega arith) (omega arith);
       path = rw none (KeepsAlone-none first);
       others = λ m live live' off. left.same m (subst IsSome (sym (u.rows m)) live) live' ∙ u.rows m;
       made = omega (arith, left.made, u.made);
@@ -262,7 +262,7 @@ module _ {T : Type 0} {first mid : Heap T} {root r n : ℕ} (o : IsOwned (by_hol
         record {
           vector = rw ends.0 (good-row new n r sub.left sub.row (omega (arith, tall, good.shape.low)) (λ up. sub.two up (omega (arith, wide-owned o good tall, good.shape.two (omega (arith, up, tall)))) stays-mid) (omega (arith, good.shape.short, ap length parts, length-append sub.left (given ∷ []))));
           back = ends.1;
-          edits = EditsBy-more 0 8 (o.edits new [] (given ∷ []) 0 n sub.changes) (omega arith) (omega (arith, tall, good.shape.low));
+          edits = EditsBy-more 0 (height_at first root + 1) (o.edits new [] (given ∷ []) 0 n sub.changes) (omega arith) (omega (arith, tall));
           path = rw (rows-root, height) (path-owned o good tall tail next kept was);
           others = λ m live live' off.
               let both = off-owned o good tall tail next m live (rw rows-root at off) in

@@ -28,7 +28,7 @@ module _ {T : Type 0} where
   pub record PopsElement (owner : Owner) (old new : Heap T) (root given : ℕ) : Type 0 where
     pub vector : IsVectorOf new root (take (length (elements old (owned old owner)) - 1) (elements old (owned old owner)))
     pub back : given ≡ slice_index (elements old (owned old owner)) (length (elements old (owned old owner)) - 1)
-    pub edits : EditsBy owner old new root [] (given ∷ []) 0 8
+    pub edits : EditsBy owner old new root [] (given ∷ []) 0 (height_at old (owned old owner) + 1)
     pub path : KeepsAlone old (pop_path (form_at old) (owned old owner)) (take (length (pop_path (form_at old) (owned old owner))) (right_spine (form_at new) root))
     pub others : WritesOnlyLeft owner old new root (pop_path (form_at old) (owned old owner))
     pub made : new.made ≤ old.made + (length (pop_path (form_at old) (owned old owner)) - alone old (pop_path (form_at old) (owned old owner)))

@@ -284,7 +284,7 @@ module _ {T : Type 0} (cmp : T → T → Ordering) (code : T → ℕ) where
     pub made-popped : g.made ≤ a.made + (height_at a s.earlier + 1)
     made-popped = omega (arith, did.made, path-short a s.earlier, rel.made)
 
-    pub spares-popped : (a.spare_cells ≤ g.spare_cells) × (a.spare_nodes ≤ g.spare_nodes + 8)
+    pub spares-popped : (a.spare_cells ≤ g.spare_cells) × (a.spare_nodes ≤ g.spare_nodes + (height_at a s.earlier + 1))
     spares-popped =
         let trades = did.edits.trades in
         let freed = released-takes rel in

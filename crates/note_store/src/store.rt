@@ -104,8 +104,8 @@ impl Store {
     /// Goes back to the version before the last `put`. False where there is none, and then nothing changes. Refused where
     /// memory runs out, which it doesn't with eight spare nodes, and then the notes and the history are as they were.
     /// Whatever anyone else holds stays, and so does all that a version in the history or the notes that come back reach.
-    /// It makes at most one row more than the history's height, up to 2^64 - 1 rows ever made. The spare nodes fall by eight
-    /// at most, and the spare cells not at all.
+    /// It makes at most one row more than the history's height, up to 2^64 - 1 rows ever made. These are nodes, and the
+    /// spares of each kind fall by no more.
     pub fn undo<T: Element>(&mut self, heap: &mut Heap<T>) -> Result<bool, NoMemory>
         requires few { hold_count heap.old < 2 ^ 50 }
         requires store { IsStore T.cmp T.code_of heap.old self.old }
@@ -118,7 +118,7 @@ impl Store {
         ensures refused { OnErr result ((self.new ≡ self.old) × (elements heap.new self.new.earlier ≡ elements heap.old self.old.earlier)) }
         ensures ample { HasSpares heap.old 0 8 → IsOk result }
         ensures made { heap.new.made ≤ heap.old.made + (height_at heap.old self.old.earlier + 1) }
-        ensures spares { (heap.old.spare_cells ≤ heap.new.spare_cells) × (heap.old.spare_nodes ≤ heap.new.spare_nodes + 8) }
+        ensures spares { (heap.old.spare_cells ≤ heap.new.spare_cells) × (heap.old.spare_nodes ≤ heap.new.spare_nodes + (height_at heap.old self.old.earlier + 1)) }
     {
         // The call tells the proof that this is the graph of a heap.
         let _ = heap.live();
