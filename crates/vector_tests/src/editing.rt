@@ -5,7 +5,7 @@ ghost use Rattle.node_heap.specs.Heap.{holds_at, hold_count, one_at};
 ghost use Rattle.rrb_core.specs.Vector.{IsGoodVector};
 ghost use Rattle.vector_tests.specs.Stands.{KeepsVectors};
 
-use crate::samples::{counts_to, number_at, number_in};
+use crate::samples::{counts_from, number_at, number_in};
 use edit_vec::{FlexEdit, OpenFault, push_at, set_at};
 use elem_core::Num;
 use node_heap::{Head, Heap, Link};
@@ -180,9 +180,14 @@ impl Editing {
         number_at(&self.heap, self.vector.view().root(), index)
     }
 
-    /// Whether the kept one has the numbers from 0 to below this one, in order and no more.
-    pub fn kept_counts_to(&self, to: u32) -> bool {
-        counts_to(&self.heap, self.kept.view().root(), to)
+    /// Whether it has so many numbers from this one on, in order and no more.
+    pub fn counts_from(&self, from: u32, len: u32) -> bool {
+        counts_from(&self.heap, self.vector.view().root(), from, len)
+    }
+
+    /// The same of the kept one.
+    pub fn kept_counts_from(&self, from: u32, len: u32) -> bool {
+        counts_from(&self.heap, self.kept.view().root(), from, len)
     }
 
     /// How many rows were ever made.

@@ -58,10 +58,17 @@ pub fn number_at(heap: &Heap<Num>, root: Link, index: u32) -> Option<u32>
 pub fn counts_to(heap: &Heap<Num>, root: Link, to: u32) -> bool
     requires { IsGoodVector heap.now root }
 {
-    for index in 0..to {
-        if number_at(heap, root, index) != Some(index) {
+    counts_from(heap, root, 0, to)
+}
+
+/// Whether it has so many numbers from this one on, in order and no more.
+pub fn counts_from(heap: &Heap<Num>, root: Link, from: u32, len: u32) -> bool
+    requires { IsGoodVector heap.now root }
+{
+    for index in 0..len {
+        if number_at(heap, root, index) != Some(index.wrapping_add(from)) {
             return false;
         }
     }
-    FlexRef::at(root).len(heap) == to && number_at(heap, root, to).is_none()
+    FlexRef::at(root).len(heap) == len && number_at(heap, root, len).is_none()
 }
