@@ -7,16 +7,17 @@ use Rattle.std.proofs.lemmas.List.{take_all, drop_all, get_or_at}
 use Rattle.std.proofs.Math.Seq.{take-append_seam}
 use Rattle.node_heap.specs.Links.{count, Reaches, here, below}
 use Rattle.node_heap.specs.Forms.{node, inner, links_of, links_in, head_of, is_node}
-use Rattle.node_heap.specs.Heap.{Heap, row_at, form_at, links_at, holds_at, owners_at}
+use Rattle.node_heap.specs.Heap.{Heap, row_at, form_at, links_at, holds_at, owners_at, live_count}
 use Rattle.node_heap.specs.declared.row.Head.TheVariants.{Inner}
-use Rattle.node_heap.specs.Calls.{Makes}
+use Rattle.node_heap.specs.Calls.{Makes, Builds}
 use Rattle.node_heap.specs.InPlace.{Writes, Changes}
 use Rattle.node_heap.proofs.Counts.{test_same, test_other}
 use Rattle.node_heap.proofs.BuildLemmas.{count-cons}
 use Rattle.node_heap.proofs.GraphLemmas.{IsGraph-acyclic}
 use Rattle.node_heap.proofs.EditLaws.{Changes-Builds, Gains-trans, Gains-Builds, Gains-Changes}
 use Rattle.node_heap.proofs.Edited.{above_live, Reaches-back, Changes-then, Changes-beside, Changes-more}
-use Rattle.node_heap.proofs.AloneLemmas.{KeepsAlone-none, KeepsAlone-cons, written-cons}
+use Rattle.node_heap.specs.Owner.{alone}
+use Rattle.node_heap.proofs.AloneLemmas.{alone-yes, KeepsAlone-none, KeepsAlone-cons, written-cons}
 use Rattle.rrb_core.specs.Seq.{seq_at, IsThick, IsWell}
 use Rattle.rrb_core.specs.Vector.{KeepsSums, sums_at}
 use Rattle.rrb_core.specs.Push.{last_in, IsPacked}
@@ -165,6 +166,10 @@ module _ {T : Type 0} {old mid : Heap T} {n row e child : ℕ} (can : CanWrite o
           changes = Changes-more 0 (suc n) (Changes-beside (Changes-then built change) change') (omega arith) (omega arith);
           gains = Gains-trans (Gains-Builds made.builds) (Gains-trans (Gains-Changes change (λ k other live. writes.others k other) makes) (Gains-Changes change' (λ k other live. writes'.others k other) makes'));
           path = rw (one, spine-below (form_at old) (suc n) row, spine-below (form_at last) (suc n) row) (KeepsAlone-cons old row [] [] can.sole (KeepsAlone-none old));
+          came =
+              let built : Builds old mid (e ∷ []) (child ∷ []) 0 (n + 1) = made.builds in
+              let single : live_count last + alone old (row ∷ []) ≤ live_count old + (suc n + 1) = omega (arith, makes'.live, makes.live, built.makes.live, built.few_cells, built.few_nodes, alone-yes old row [] can.sole) in
+              rw (one, spine-below (form_at old) (suc n) row) single;
           others = λ m live off.
               let single : count m (row ∷ []) ≡ 0 = rw (one, spine-below (form_at old) (suc n) row, written-cons old row [] can.sole) at off in
               let other : m ≢ row = λ same. absurd (omega (arith, single, count-cons m row [], test_same m row same)) in

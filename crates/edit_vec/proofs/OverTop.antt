@@ -9,10 +9,10 @@ use Rattle.std.proofs.lemmas.List.Edits.{length-remove}
 use Rattle.std.proofs.lemmas.List.Elements.{All-cons, All-nil}
 use Rattle.node_heap.specs.Links.{count, HasLink, Reaches, here, below}
 use Rattle.node_heap.specs.Forms.{Row, cell, node, form_of, head_of, links_of, is_node}
-use Rattle.node_heap.specs.Heap.{Heap, row_at, form_at, links_at, holds_at, owners_at, hold_count}
+use Rattle.node_heap.specs.Heap.{Heap, row_at, form_at, links_at, holds_at, owners_at, hold_count, live_count}
 use Rattle.node_heap.specs.Calls.{KeepsBelow, KeepsOwners, Builds, Makes, Gains, HasHolds, MakesWhatCame}
 use Rattle.node_heap.specs.InPlace.{child_at, Writes, Changes}
-use Rattle.node_heap.specs.Owner.{by_hold, by_place, links_beside, relinked, with_root}
+use Rattle.node_heap.specs.Owner.{by_hold, by_place, alone, links_beside, relinked, with_root}
 use Rattle.node_heap.proofs.Counts.{test_other}
 use Rattle.node_heap.proofs.BuildLemmas.{count-cons, count-one, Builds-both, Builds-more}
 use Rattle.node_heap.proofs.GraphLemmas.{IsGraph-acyclic}
@@ -27,16 +27,16 @@ use Rattle.rrb_core.specs.Build.{IsRowOf, AreRows, RowsKeepOwners}
 use Rattle.rrb_core.specs.Edit.{MakesRow}
 use Rattle.rrb_core.proofs.ClosedRows.{Stays}
 use Rattle.rrb_core.proofs.LinkCounts.{one-held}
-use Rattle.rrb_core.proofs.FillRule.{well-pos, thick-links, thick-low}
+use Rattle.rrb_core.proofs.FillRule.{height-is, well-pos, thick-links, thick-low}
 use Rattle.rrb_core.proofs.PushLemmas.{packed-thick}
 use Rattle.rrb_core.proofs.BuildLemmas.{gained-held}
 use Rattle.rrb_core.proofs.Stays.{live-stays, below-stays, vector-stays, well-live, thick-stays, row-stays}
 use Rattle.rrb_core.proofs.RowLists.{one-row, rows-append, good-row, root-row}
-use Rattle.edit_vec.specs.Path.{push_path}
+use Rattle.edit_vec.specs.Path.{right_spine, push_path}
 use Rattle.edit_vec.specs.Edit.{PushesElement}
 use Rattle.edit_vec.specs.Walk.{CanPushRoot, PushesChild}
 use Rattle.edit_vec.proofs.PushLemmas.{node-headed, packed-stays}
-use Rattle.edit_vec.proofs.PushTop.{path-packed}
+use Rattle.edit_vec.proofs.PushTop.{path-packed, spine-length}
 
 -- what came is what was made
 pub makes-gained : {T : Type 0} {old new : Heap T} → Gains old new → MakesWhatCame old new
@@ -75,6 +75,9 @@ module _ {T : Type 0} {old mid : Heap T} {root child n e : ℕ} (can : CanPushRo
   held-both k = omega (arith, held k, sub.builds.holds k, count-cons k root (e ∷ []), count-cons k root (child ∷ []))
 
   module _ {new : Heap T} {top : ℕ} (made : IsRowOf new (suc n) top (flat_map (seq_at (form_at mid) n) (root ∷ child ∷ []))) (links : links_at new top ≡ root ∷ child ∷ []) (builds : Builds mid new (root ∷ child ∷ []) (top ∷ []) 0 1) where
+    pub tall-over : height_at new top ≡ suc n
+    tall-over = height-is (form_at new) (suc n) top made.well
+
     pub vector-over : IsVectorOf new top (elements old root ++ e ∷ [])
     vector-over = good-row new (suc n) top (elements old root ++ e ∷ []) (rw items-both at made) low-root (λ _. rw links (omega arith)) (omega (arith, length_push (elements old root) e, can.short))
 
@@ -83,8 +86,8 @@ module _ {T : Type 0} {old mid : Heap T} {root child n e : ℕ} (can : CanPushRo
         Builds-more 0 (n + 2) (Builds-both (root ∷ e ∷ []) (top ∷ []) sub.builds builds (λ k. omega (arith, count-cons k root (e ∷ []), count-cons k root (child ∷ []))) (omega arith)) (omega arith) (omega arith)
 
 -- it was made of the root's own hold
-pub pushes-over : {T : Type 0} {old new : Heap T} {root top n e : ℕ} → CanPushRoot old root e → n ≡ height_at old root → IsPacked (form_at old) n root → IsVectorOf new top (elements old root ++ e ∷ []) → Builds old new (root ∷ e ∷ []) (top ∷ []) 0 (n + 2) → PushesElement (by_hold root) old new top e
-pushes-over {T} {old} {new} {root} {top} {n} {e} can height packed vector builds =
+pub pushes-over : {T : Type 0} {old new : Heap T} {root top n e : ℕ} → CanPushRoot old root e → n ≡ height_at old root → IsPacked (form_at old) n root → IsVectorOf new top (elements old root ++ e ∷ []) → height_at new top ≡ suc n → Builds old new (root ∷ e ∷ []) (top ∷ []) 0 (n + 2) → PushesElement (by_hold root) old new top e
+pushes-over {T} {old} {new} {root} {top} {n} {e} can height packed vector tall builds =
     let path : push_path (form_at old) root ≡ [] = rw (← height) (path-packed (form_at old) n root packed) in
     record {
       vector = vector;
@@ -93,6 +96,9 @@ pushes-over {T} {old} {new} {root} {top} {n} {e} can height packed vector builds
         trades = Trades-Builds (Builds-more 0 (height_at old root + 2) builds (omega arith) (omega (arith, height)));
       };
       path = rw path (KeepsAlone-none old);
+      gains =
+          let all : live_count new + 0 ≤ live_count old + length (right_spine (form_at new) top) = omega (arith, builds.makes.live, builds.few_cells, builds.few_nodes, spine-length (form_at new) (height_at new top) top, tall) in
+          rw path all;
       others = λ m live off. builds.extends.kept m live m (here m);
       makes = makes-gained (Gains-Builds builds);
     }
@@ -179,7 +185,7 @@ module _ {T : Type 0} {old mid : Heap T} {parent place root n e : ℕ} (can : Ca
   node-out = node-headed (row_at mid parent) (row_at old parent) writes.new_head (linked-node (row_at old parent) root linked)
 
   -- a root was made over it
-  module _ {made : Heap T} {top : ℕ} (vector : IsVectorOf made top (elements mid root ++ e ∷ [])) (fresh : row_at mid top ≡ None) (kept : RowsKeepOwners mid made) (builds : Builds mid made (root ∷ e ∷ []) (top ∷ []) 0 (n + 2)) where
+  module _ {made : Heap T} {top : ℕ} (vector : IsVectorOf made top (elements mid root ++ e ∷ [])) (tall : height_at made top ≡ suc n) (fresh : row_at mid top ≡ None) (kept : RowsKeepOwners mid made) (builds : Builds mid made (root ∷ e ∷ []) (top ∷ []) 0 (n + 2)) where
     parent-made : row_at made parent ≡ row_at mid parent
     parent-made = builds.extends.kept parent parent-out parent (here parent)
 
@@ -235,6 +241,12 @@ module _ {T : Type 0} {old mid : Heap T} {parent place root n e : ℕ} (can : Ca
           let later : IsVectorOf new top (elements made top) = vector-stays T made new top keeps vector.0 in
           (later.0, later.1 ∙ vector.1 ∙ ap (λ (xs : List ℕ). xs ++ e ∷ []) (vector-out.1 ∙ ap (elements old) is))
 
+      tall-new : height_at new top ≡ suc n
+      tall-new = ap (λ r. form_height (option_map form_of r)) (writes'.others top (λ same. apart-made (subst (Reaches (links_at made) top) same (here top)))) ∙ tall
+
+      count-new : live_count new ≤ live_count old + length (right_spine (form_at new) top)
+      count-new = omega (arith, makes.live, builds.makes.live, builds.few_cells, builds.few_nodes, makes'.live, spine-length (form_at new) (height_at new top) top, tall-new)
+
       -- each row that was there is the same, but the parent's links
       rows-new : (m : ℕ) → IsSome (row_at old m) → row_at new m ≡ with_root (by_place parent place) top m (row_at old m)
       rows-new m live = elim (cases_eq m parent) as (λ _. row_at new m ≡ with_root (by_place parent place) top m (row_at old m)) [
@@ -264,6 +276,9 @@ module _ {T : Type 0} {old mid : Heap T} {parent place root n e : ℕ} (can : Ca
               vector = vector-new;
               edits = record { beside = λ l m some way. rows-new m (live-beside l m way (can.graph.held l (omega (arith, some)))); trades = changes.trades };
               path = rw path (KeepsAlone-none old);
+              gains =
+                  let all : live_count new + 0 ≤ live_count old + length (right_spine (form_at new) top) = omega (arith, count-new) in
+                  rw path all;
               others = λ m live off. rows-new m live;
               makes = makes-gained gains-new;
             });

@@ -2,20 +2,46 @@
 use Rattle.std.proofs.Common.{◌≡◌, ◌≢◌, ℕ, ◌+◌, ◌*◌, ◌<◌, ◌≤◌, List, [], ◌∷◌, length, get_or, set, refl, ap, sym, subst, ◌∙◌, arith, None, IsSome, inl, inr, length-set}
 use Rattle.std.specs.Prelude.{◌↔◌}
 use Rattle.std.proofs.lemmas.Bool.{cases_eq}
+use Rattle.std.proofs.lemmas.Bool.Decides.{nat_tests}
 use Rattle.std.proofs.lemmas.List.{get_or-set_same}
 use Rattle.node_heap.specs.Links.{count, HasLink, Reaches, here, below}
 use Rattle.node_heap.specs.Forms.{head_of, links_of}
 use Rattle.node_heap.specs.Heap.{Heap, row_at, links_at, holds_at, owners_at, one_at, IsGraph}
 use Rattle.node_heap.specs.Calls.{Makes, Gains}
 use Rattle.node_heap.specs.InPlace.{other_at, child_at, OwnsDown, Changes}
+use Rattle.node_heap.specs.Owner.{alone}
 use Rattle.node_heap.proofs.Counts.{count-cons, test_other}
 use Rattle.node_heap.proofs.Reach.{Reaches-then}
 use Rattle.node_heap.proofs.Ways.{Reaches-last, Reaches-avoids}
-use Rattle.node_heap.proofs.GraphLemmas.{IsGraph-acyclic, linked-places}
+use Rattle.node_heap.proofs.GraphLemmas.{IsGraph-acyclic, IsGraph-owned, linked-places}
+use Rattle.node_heap.proofs.AloneLemmas.{alone-yes, alone-no, alone-same}
 use Rattle.node_heap.proofs.EditLaws.{Gains-Changes}
 use Rattle.node_heap.proofs.Edited.{count-at, IsOwners-heap, linked_live, Reaches-back, KeepsBelow-apart, OwnsDown-child}
 use Rattle.rrb_core.proofs.ClosedRows.{Stays}
 use Rattle.rrb_core.proofs.LinkCounts.{all-counted}
+
+-- a path of which the first row is made one's own has one alone row more where that was copied, since none below it was
+pub alone-own : {T : Type 0} (old mid : Heap T) (x c : ℕ) (rest : List ℕ) → (c ≡ x) ↔ (owners_at old x ≡ 1) → owners_at mid c ≡ 1
+    → ((k : ℕ) → owners_at mid k + one_at x k ≡ owners_at old k + (one_at c k + other_at x c * count k (links_at old x))) → IsGraph old
+    → (1 ≤ length rest → HasLink (links_at old) x (get_or rest 0 0)) → alone mid (c ∷ rest) ≡ alone old (x ∷ rest) + other_at x c
+alone-own {T} old mid x c rest same sole owners graph next = elim (cases_eq c x) as (λ _. alone mid (c ∷ rest) ≡ alone old (x ∷ rest) + other_at x c) [
+  | inl is ↦
+      let none : other_at x c ≡ 0 = grind (arith, nat_tests, is) in
+      let all : (k : ℕ) → owners_at mid k ≡ owners_at old k = λ k. omega (arith, owners k, ap (λ (j : ℕ). one_at j k) is, ap (λ (m : ℕ). m * count k (links_at old x)) none) in
+      omega (arith, none, alone-same mid old (c ∷ rest) all ∙ ap (λ (j : ℕ). alone old (j ∷ rest)) is)
+  | inr off ↦
+      let one : other_at x c ≡ 1 = grind (arith, nat_tests, off) in
+      omega (arith, one, alone-yes mid c rest sole, none-below off rest next, alone-no old x rest (λ e. off (same.1 e)))
+]
+  where
+    none-below : c ≢ x → (xs : List ℕ) → (1 ≤ length xs → HasLink (links_at old) x (get_or xs 0 0)) → alone mid xs ≡ 0
+    none-below off [] next = refl
+    none-below off (k ∷ ks) next =
+        let has = next (omega arith) in
+        let owned = IsGraph-owned old graph k (graph.closed x k has) in
+        let below : k ≢ x = λ same. IsGraph-acyclic old graph x k has (subst (Reaches (links_at old) k) same (here k)) in
+        let whole : other_at x c ≡ 1 = grind (arith, nat_tests, off) in
+        alone-no mid k ks (λ one. omega (arith, one, owners k, test_other k x below, ap (λ (m : ℕ). m * count k (links_at old x)) whole, has, owned))
 
 -- the child at a place of a row was made the row's own: it is c now
 pub record OwnsChild {T : Type 0} (old mid : Heap T) (row place c : ℕ) : Type 0 where

@@ -3,7 +3,7 @@ use Rattle.std.proofs.Common.{◌≡◌, ◌≢◌, ℕ, ◌+◌, ◌*◌, ◌<�
 use Rattle.std.specs.Prelude.{◌↔◌}
 use Rattle.node_heap.specs.Links.{count}
 use Rattle.node_heap.specs.Heap.{Heap, row_at, links_at, holds_at, owners_at, one_at, IsGraph}
-use Rattle.node_heap.specs.Calls.{Builds}
+use Rattle.node_heap.specs.Calls.{Makes, Builds}
 use Rattle.node_heap.specs.InPlace.{other_at, Changes}
 use Rattle.node_heap.specs.Owner.{by_hold, by_place, with_root, EditsBy}
 use Rattle.node_heap.proofs.OwnerLemmas.{held-root, EditsBy-hold, EditsBy-place, rows-placed}
@@ -19,12 +19,13 @@ pub record Owns {T : Type 0} (old mid : Heap T) (root r : ℕ) : Type 0 where
   pub fresh : r ≢ root → row_at old r ≡ None
   pub owners : (k : ℕ) → owners_at mid k + one_at root k ≡ owners_at old k + (one_at r k + other_at root r * count k (links_at old root))
   pub builds : Builds old mid (root ∷ []) (r ∷ []) 0 1
+  pub makes : Makes old mid 0 (other_at root r)
 
 -- from the clauses of `own`, whose argument is the edit's own root
 pub owns : {T : Type 0} {old mid : Heap T} {root self r : ℕ} → root ≡ self → IsGraph old → 0 < holds_at old self → (r ≡ root) ↔ (owners_at old root ≡ 1) → row_at mid r ≡ row_at old root → owners_at mid r ≡ 1 → (r ≢ root → row_at old r ≡ None)
-    → ((k : ℕ) → owners_at mid k + one_at root k ≡ owners_at old k + (one_at r k + other_at root r * count k (links_at old root))) → Builds old mid (root ∷ []) (r ∷ []) 0 1 → Owns old mid self r
-owns is graph held same row sole fresh owners builds =
-    record { graph = graph; held = held; same = rw is at same; row_same = rw is at row; sole = sole; fresh = rw is at fresh; owners = rw is at owners; builds = rw is at builds }
+    → ((k : ℕ) → owners_at mid k + one_at root k ≡ owners_at old k + (one_at r k + other_at root r * count k (links_at old root))) → Builds old mid (root ∷ []) (r ∷ []) 0 1 → Makes old mid 0 (other_at root r) → Owns old mid self r
+owns is graph held same row sole fresh owners builds makes =
+    record { graph = graph; held = held; same = rw is at same; row_same = rw is at row; sole = sole; fresh = rw is at fresh; owners = rw is at owners; builds = rw is at builds; makes = rw is at makes }
 
 module _ {T : Type 0} {old mid : Heap T} {root r : ℕ} (o : Owns old mid root r) where
   pub owns-held : 0 < holds_at mid r

@@ -8,9 +8,9 @@ use Rattle.node_heap.proofs.Counts.{test_same}
 use Rattle.node_heap.proofs.BuildLemmas.{count-cons}
 use Rattle.node_heap.specs.Links.{count, HasLink, here as here-link}
 use Rattle.node_heap.specs.Forms.{Row, Forms, cell, node, leaf, inner, form_of, head_of, links_in, is_node}
-use Rattle.node_heap.specs.Heap.{Heap, row_at, form_at, links_at, owners_at}
+use Rattle.node_heap.specs.Heap.{Heap, row_at, form_at, links_at, owners_at, live_count}
 use Rattle.node_heap.specs.declared.row.Head.TheVariants.{Inner}
-use Rattle.node_heap.specs.InPlace.{child_at, path_start, Writes, Changes}
+use Rattle.node_heap.specs.InPlace.{other_at, child_at, path_start, Writes, Changes}
 use Rattle.node_heap.specs.Calls.{Makes}
 use Rattle.node_heap.proofs.Reach.{Reaches-then}
 use Rattle.node_heap.proofs.Edited.{count-at, Changes-path, Changes-beside, Changes-more}
@@ -25,11 +25,11 @@ use Rattle.rrb_core.proofs.Stays.{links-form, forms-stay, seq-stays}
 use Rattle.rrb_core.specs.Push.{last_in, IsPacked}
 use Rattle.rrb_core.proofs.ClosedRows.{Stays}
 use Rattle.edit_vec.specs.Walk.{CanWrite, HasRoomAt, PushesIn, grown}
-use Rattle.edit_vec.proofs.OwnLemmas.{OwnsChild, linked-now, stays-below, child-below, down, soles-above, holder, gains-child}
+use Rattle.edit_vec.proofs.OwnLemmas.{OwnsChild, linked-now, stays-below, child-below, down, soles-above, holder, gains-child, alone-own}
 use Rattle.edit_vec.specs.Path.{spine_at}
-use Rattle.node_heap.specs.Owner.{written, KeepsAlone}
+use Rattle.node_heap.specs.Owner.{alone, written, KeepsAlone}
 use Rattle.edit_vec.proofs.PathLemmas.{spine_below, spine-below, spine-same, spine-stays, spine-linked}
-use Rattle.node_heap.proofs.AloneLemmas.{KeepsAlone-none, KeepsAlone-cons, KeepsAlone-own, written-cons, written-own}
+use Rattle.node_heap.proofs.AloneLemmas.{alone-yes, KeepsAlone-none, KeepsAlone-cons, KeepsAlone-own, written-cons, written-own}
 use Rattle.edit_vec.proofs.StepLemmas.{row-is, row-moved}
 use Rattle.edit_vec.proofs.RowLemmas.{form-rewritten, sums-rewritten}
 use Rattle.edit_vec.proofs.StepRows.{links-new, head-new, whole, items-new, sizes-beside}
@@ -194,6 +194,18 @@ module _ {T : Type 0} {old mid new : Heap T} {n row place c e lowest : ℕ} (o :
         let left : count m (written mid (c ∷ tail)) ≡ 0 = written-own old mid d c tail o.same o.sole o.owners can.graph (next k) m fresh (omega (arith, rows, parts)) in
         writes.others m not_row ∙ sub.others m (rw before live) (rw (deep', spine-below (form_at mid) n c, tail-moved) left) ∙ before
 
+    push-came : lowest ≤ n → live_count last + alone old (take (suc n - lowest + 1) (spine_at (form_at old) (suc n) row)) ≤ live_count old + (suc n + 1)
+    push-came low =
+        let k : ℕ = n - lowest in
+        let d : ℕ = get_or ks place 0 in
+        let tail : List ℕ = take k (spine_below (form_at old) n d) in
+        let deep : suc n - lowest + 1 ≡ suc (suc k) = omega (arith, low) in
+        let deep' : n - lowest + 1 ≡ suc k = omega (arith, low) in
+        let below : live_count new + alone mid (c ∷ tail) ≤ live_count mid + (n + 1) = rw (deep', spine-below (form_at mid) n c, tail-moved) at sub.came in
+        let own : alone mid (c ∷ tail) ≡ alone old (d ∷ tail) + other_at d c = alone-own old mid d c tail o.same o.sole o.owners can.graph (next k) in
+        let all : live_count last + alone old (row ∷ d ∷ tail) ≤ live_count old + (suc n + 1) = omega (arith, makes.live, below, own, o.makes.live, alone-yes old row (d ∷ tail) can.sole) in
+        rw (path-old, deep) all
+
     pub push-step : lowest ≤ n → PushesIn old last (suc n) lowest row e
     push-step low = record {
       row = push-row;
@@ -201,6 +213,7 @@ module _ {T : Type 0} {old mid new : Heap T} {n row place c e lowest : ℕ} (o :
       changes = push-changes;
       gains = Gains-trans (Gains-trans (gains-child o) sub.gains) (Gains-Changes edit (λ k other live. writes.others k other) makes);
       path = push-path low;
+      came = push-came low;
       others = push-others low;
     }
 
@@ -227,6 +240,9 @@ pushes-leaf {T} {old} {new} {row} {e} {place} {lowest} can room is writes change
       changes = changes;
       gains = Gains-Changes changes (λ k other live. writes.others k other) makes;
       path = rw (one, spine-below (form_at old) 0 row, spine-below (form_at new) 0 row) (KeepsAlone-cons old row [] [] can.sole (KeepsAlone-none old));
+      came =
+          let single : live_count new + alone old (row ∷ []) ≤ live_count old + 1 = omega (arith, makes.live, alone-yes old row [] can.sole) in
+          rw (one, spine-below (form_at old) 0 row) single;
       others = λ m live off.
           let single : count m (row ∷ []) ≡ 0 = rw (one, spine-below (form_at old) 0 row, written-cons old row [] can.sole) at off in
           writes.others m (λ e. absurd (omega (arith, single, count-cons m row [], test_same m row e)));

@@ -5,10 +5,10 @@ use Rattle.std.proofs.lemmas.Bool.Decides.{nat_tests}
 use Rattle.std.proofs.lemmas.List.{length-take, length_push}
 use Rattle.node_heap.specs.Links.{count, HasLink, here}
 use Rattle.node_heap.specs.Forms.{Forms, form_of, links_of, links_in}
-use Rattle.node_heap.specs.Heap.{Heap, row_at, form_at, links_at, holds_at, hold_count}
+use Rattle.node_heap.specs.Heap.{Heap, row_at, form_at, links_at, holds_at, hold_count, live_count}
 use Rattle.node_heap.specs.Calls.{Unchanged, MakesWhatCame}
-use Rattle.node_heap.specs.InPlace.{child_at, path_start, Changes}
-use Rattle.node_heap.specs.Owner.{Owner, by_place, owned, with_root, written, KeepsAlone, WritesOnly}
+use Rattle.node_heap.specs.InPlace.{other_at, child_at, path_start, Changes}
+use Rattle.node_heap.specs.Owner.{Owner, by_place, owned, with_root, alone, written, KeepsAlone, WritesOnly}
 use Rattle.node_heap.proofs.Owners.{KeepsOwners-Unchanged}
 use Rattle.node_heap.proofs.AloneLemmas.{alone-same, KeepsAlone-owners}
 use Rattle.node_heap.proofs.Edited.{Changes-path, Changes-beside, Changes-more}
@@ -27,7 +27,7 @@ use Rattle.edit_vec.specs.Edit.{PushesElement}
 use Rattle.edit_vec.specs.Walk.{CanPushRoot, HasRoomAt, PushesIn}
 use Rattle.edit_vec.proofs.PathLemmas.{spine_below, spine-below, spine-same, spine-stays}
 use Rattle.edit_vec.proofs.PushLemmas.{spine-linked-take, room-same, room-stays}
-use Rattle.edit_vec.proofs.OwnLemmas.{OwnsChild, down}
+use Rattle.edit_vec.proofs.OwnLemmas.{OwnsChild, down, alone-own}
 use Rattle.edit_vec.proofs.TopLemmas.{IsOwned, graph-before, owned-same, stays-owned, row-is, row-owned, wide-owned, path-owned, others-owned}
 
 take-none : (k : ℕ) → take {A = ℕ} k [] ≡ []
@@ -126,11 +126,21 @@ module _ {T : Type 0} {owner : Owner} {old mid : Heap T} {r n : ℕ} (lowest : �
         let all : WritesOnly owner old new r (root ∷ tail) = others-owned o good height tail next new (λ m live off. sub.others m live (rw first-moved off)) in
         rw path-is all
 
+    gains-pushed : live_count new + alone old (push_path (form_at old) root) ≤ live_count old + length (right_spine (form_at new) r)
+    gains-pushed =
+        let made : height_at new r ≡ n = height-is (form_at new) n r sub.row.well in
+        let size : length (right_spine (form_at new) r) ≡ n + 1 = omega (arith, spine-length (form_at new) (height_at new r) r, made) in
+        let below : live_count new + alone mid (r ∷ tail) ≤ live_count mid + (n + 1) = rw first-moved at sub.came in
+        let own : alone mid (r ∷ tail) ≡ alone old (root ∷ tail) + other_at root r = alone-own old mid root r tail o.same o.sole o.owners o.graph next in
+        let all : live_count new + alone old (root ∷ tail) ≤ live_count old + (n + 1) = omega (arith, below, own, o.came) in
+        rw (size, path-is) all
+
     pub pushes-element : MakesWhatCame old new → PushesElement owner old new r e
     pushes-element makes = record {
       vector = good-row new n r (elements old root ++ e ∷ []) row-pushed (omega (arith, height, good.shape.low)) (λ some. omega (arith, wide-owned o good height, sub.links, good.shape.two (omega (arith, some, height)))) (omega (arith, length_push (elements old root) e, short));
       edits = EditsBy-more 0 (height_at old root + 2) (o.edits new (e ∷ []) [] 0 n sub.changes) (omega arith) (omega (arith, height));
       path = path-pushed;
+      gains = gains-pushed;
       others = others-pushed;
       makes = makes;
     }
@@ -159,6 +169,9 @@ module _ {T : Type 0} {first old : Heap T} (u : Unchanged first old) where
         vector = (p.vector.0, p.vector.1 ∙ ap (λ (xs : List ℕ). xs ++ e ∷ []) items);
         edits = EditsBy-more 0 (height_at first root + 2) (EditsBy-Unchanged first old u owner p.edits) (omega arith) (omega (arith, height));
         path = KeepsAlone-owners owners (rw path at p.path);
+        gains =
+            let later : live_count new + alone old (push_path (form_at first) root) ≤ live_count old + length (right_spine (form_at new) r) = rw path at p.gains in
+            omega (arith, later, u.live, alone-same old first (push_path (form_at first) root) owners);
         others = λ m live off.
             let there : IsSome (row_at old m) = rw (u.rows m) live in
             let off' : count m (written old (push_path (form_at old) (owned old owner))) ≡ 0 = rw path (ap (λ (k : ℕ). count m (take k (push_path (form_at first) root))) (alone-same old first (push_path (form_at first) root) owners) ∙ off) in

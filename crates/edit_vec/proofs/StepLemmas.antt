@@ -6,7 +6,7 @@ use Rattle.std.proofs.lemmas.Bool.{cases_eq}
 use Rattle.std.proofs.lemmas.List.{length-take-le, get_or-take, get_or-set_same, get_or_append_left, get_or-append-add}
 use Rattle.node_heap.specs.Links.{count, HasLink, Reaches}
 use Rattle.node_heap.specs.Forms.{Row, Kind, cell, node, leaf, inner, form_of, head_of, links_in, is_node}
-use Rattle.node_heap.specs.Heap.{Heap, row_at, form_at, links_at, holds_at}
+use Rattle.node_heap.specs.Heap.{Heap, row_at, form_at, links_at, holds_at, live_count}
 use Rattle.node_heap.specs.Calls.{Makes}
 use Rattle.node_heap.specs.InPlace.{child_at, path_start, Writes, Changes}
 use Rattle.node_heap.proofs.Counts.{count-cons, test_same}
@@ -19,15 +19,16 @@ use Rattle.rrb_core.proofs.Stays.{links-form, thick-stays, row-stays}
 use Rattle.rrb_core.proofs.RowLists.{IsOver, over, IsChild, child-at, take-thick}
 use Rattle.rrb_core.proofs.EditLemmas.{IsSpot}
 use Rattle.edit_vec.specs.Path.{rows_over}
-use Rattle.node_heap.specs.Owner.{written, KeepsAlone}
+use Rattle.node_heap.specs.InPlace.{other_at}
+use Rattle.node_heap.specs.Owner.{alone, written, KeepsAlone}
 use Rattle.edit_vec.specs.Walk.{CanWrite, SetsIn}
 use Rattle.rrb_core.proofs.SameRows.{row-same, thick-same}
 use Rattle.edit_vec.proofs.RowLemmas.{form-rewritten, sums-rewritten, keeps-same, sizes-take}
 use Rattle.edit_vec.proofs.PathLemmas.{rows-over-at, rows_below, rows-below, below-linked, below-same, below-stays}
-use Rattle.node_heap.proofs.AloneLemmas.{written-cons, written-own, KeepsAlone-none, KeepsAlone-cons, KeepsAlone-own}
+use Rattle.node_heap.proofs.AloneLemmas.{alone-yes, written-cons, written-own, KeepsAlone-none, KeepsAlone-cons, KeepsAlone-own}
 use Rattle.node_heap.proofs.EditLaws.{Gains-trans, Gains-Changes}
 use Rattle.edit_vec.proofs.StepRows.{links-new, head-new, whole, all-thick, items-new, sizes-beside}
-use Rattle.edit_vec.proofs.OwnLemmas.{OwnsChild, stays-below, child-below, down, held-now, apart-child, holder, gains-child}
+use Rattle.edit_vec.proofs.OwnLemmas.{OwnsChild, stays-below, child-below, down, held-now, apart-child, holder, gains-child, alone-own}
 
 -- the element at an index of the children of a row
 pub items-get : (f : ℕ → List ℕ) (ks : List ℕ) (i within index : ℕ) → i < length ks → within < length (f (get_or ks i 0)) → length (flat_map f (take i ks)) + within ≡ index → get_or (flat_map f ks) index 0 ≡ get_or (f (get_or ks i 0)) within 0
@@ -68,6 +69,9 @@ sets-leaf {T} {old} {new} {row} {place} {e} {given} can inside back writes chang
       changes = changes;
       gains = Gains-Changes changes (λ k other live. writes.others k other) makes;
       path = rw (rows-below (form_at old) 0 row place, rows-below (form_at new) 0 row place) (KeepsAlone-cons old row [] [] can.sole (KeepsAlone-none old));
+      came =
+          let one : live_count new + alone old (row ∷ []) ≡ live_count old + length (row ∷ []) = omega (arith, makes.live, alone-yes old row [] can.sole) in
+          rw (rows-below (form_at old) 0 row place) one;
       others = λ m live off.
           let one : count m (row ∷ []) ≡ 0 = rw (rows-below (form_at old) 0 row place, written-cons old row [] can.sole) at off in
           writes.others m (λ e. absurd (omega (arith, one, count-cons m row [], test_same row m (sym e))));
@@ -216,6 +220,15 @@ module _ {T : Type 0} {old mid new : Heap T} {n row place within index e c given
       let was : KeepsAlone mid (c ∷ tail) (rows_over (form_at new) n c within) = rw (rows-below (form_at mid) n c within, tail-moved) at sub.path in
       rw (path-old, path-made) (KeepsAlone-cons old row (k ∷ tail) (rows_over (form_at new) n c within) can.sole (KeepsAlone-own old mid k c tail o.same o.sole o.owners can.graph next (rows_over (form_at new) n c within) was))
 
+  came-new : live_count new + alone old (rows_over (form_at old) (suc n) row index) ≡ live_count old + length (rows_over (form_at old) (suc n) row index)
+  came-new =
+      let d : ℕ = get_or ks place 0 in
+      let tail : List ℕ = rows_below (form_at old) n d within in
+      let below : live_count new + alone mid (c ∷ tail) ≡ live_count mid + length (c ∷ tail) = rw (rows-below (form_at mid) n c within, tail-moved) at sub.came in
+      let own : alone mid (c ∷ tail) ≡ alone old (d ∷ tail) + other_at d c = alone-own old mid d c tail o.same o.sole o.owners can.graph next in
+      let all : live_count new + alone old (row ∷ d ∷ tail) ≡ live_count old + length (row ∷ d ∷ tail) = omega (arith, below, own, o.makes.live, alone-yes old row (d ∷ tail) can.sole) in
+      rw path-old all
+
   others-new : (m : ℕ) → IsSome (row_at old m) → count m (written old (rows_over (form_at old) (suc n) row index)) ≡ 0 → row_at new m ≡ row_at old m
   others-new m live off =
       let d : ℕ = get_or ks place 0 in
@@ -243,5 +256,6 @@ module _ {T : Type 0} {old mid new : Heap T} {n row place within index e c given
     changes = Changes-more 0 (suc n) (Changes-beside o.changes (Changes-path (down o row path_start) sub.changes)) (omega arith) (omega arith);
     gains = Gains-trans (gains-child o) sub.gains;
     path = path-new;
+    came = came-new;
     others = others-new;
   }

@@ -4,7 +4,7 @@ use Rattle.std.specs.Prelude.{◌↔◌, slice_index}
 use Rattle.std.proofs.lemmas.Bool.{cases_eq}
 use Rattle.node_heap.specs.Links.{count, HasLink, Reaches, here}
 use Rattle.node_heap.specs.Forms.{links_of, links_in, is_node}
-use Rattle.node_heap.specs.Heap.{Heap, row_at, form_at, links_at, holds_at, owners_at, one_at, IsGraph}
+use Rattle.node_heap.specs.Heap.{Heap, row_at, form_at, links_at, holds_at, owners_at, live_count, one_at, IsGraph}
 use Rattle.node_heap.specs.Calls.{KeepsBelow, Unchanged, HasGreater, KeepsToNeed, Gains, HasHolds, MakesWhatCame}
 use Rattle.node_heap.specs.InPlace.{other_at, child_at, path_start, Changes}
 use Rattle.node_heap.specs.Owner.{Owner, by_hold, by_place, owned, with_root, EditsBy, written, KeepsAlone, WritesOnly}
@@ -48,6 +48,7 @@ pub record IsOwned {T : Type 0} (owner : Owner) (old mid : Heap T) (r : ℕ) : T
   pub sole : owners_at mid r ≡ 1
   pub fresh : r ≢ owned old owner → row_at old r ≡ None
   pub owners : (k : ℕ) → owners_at mid k + one_at (owned old owner) k ≡ owners_at old k + (one_at r k + other_at (owned old owner) r * count k (links_at old (owned old owner)))
+  pub came : live_count mid ≡ live_count old + other_at (owned old owner) r
   pub live : (m : ℕ) → IsSome (row_at old m) → IsSome (row_at mid m)
   pub kept : (m : ℕ) → m ≢ r → IsSome (row_at old m) → row_at mid m ≡ with_root owner r m (row_at old m)
   pub edits : (new : Heap T) (spent gained : List ℕ) (c n : ℕ) → Changes r mid new spent gained c n → EditsBy owner old new r spent gained c (1 + n)
@@ -62,6 +63,7 @@ owned-hold {root = root} o = record {
   sole = o.sole;
   fresh = o.fresh;
   owners = o.owners;
+  came = omega (arith, o.makes.live);
   live = o.builds.extends.live;
   kept = λ m other some. o.builds.extends.kept m some m (here m);
   edits = edits-hold o;
@@ -77,6 +79,7 @@ owned-place {old = old} {parent = parent} {child = child} o = record {
   sole = o.sole;
   fresh = o.fresh;
   owners = o.owners;
+  came = omega (arith, o.makes.live);
   live = (gains-child o).stays;
   kept = λ m other some. placed o m other;
   edits = edits-place o;
@@ -129,6 +132,7 @@ module _ {T : Type 0} {first old : Heap T} (u : Unchanged first old) where
           ap (λ (x : ℕ). other_at x r * count k (links_at old x)) e,
           ap (λ w. other_at now r * count k (links_of w)) (u.rows now),
         );
+        came = omega (arith, o.came, u.live, ap (λ (x : ℕ). other_at x r) e);
         live = λ m some. o.live m (subst IsSome (sym (u.rows m)) some);
         kept = λ m other some. o.kept m other (subst IsSome (sym (u.rows m)) some) ∙ ap (with_root owner r m) (u.rows m);
         edits = λ new spent gained c n change. EditsBy-Unchanged first old u owner (o.edits new spent gained c n change);

@@ -2,7 +2,7 @@
 use Rattle.std.specs.Prelude.{◌≡◌, ◌⊎◌, ℕ, zero, suc, ◌+◌, ◌-◌, ◌++◌, take, ◌^◌, ◌<◌, ◌≤◌, List, [], ◌∷◌, length, nat_le, ◌==◌, if◌then◌else◌, slice_index, slice_set, IsSome}
 use Rattle.node_heap.specs.Links.{count, Reaches}
 use Rattle.node_heap.specs.Forms.{Forms, links_in}
-use Rattle.node_heap.specs.Heap.{Heap, row_at, form_at, links_at, holds_at, owners_at, hold_count, cell_count, node_count, IsGraph}
+use Rattle.node_heap.specs.Heap.{Heap, row_at, form_at, links_at, holds_at, owners_at, hold_count, cell_count, node_count, live_count, IsGraph}
 use Rattle.node_heap.specs.Calls.{Gains}
 use Rattle.node_heap.specs.InPlace.{child_at, Changes}
 use Rattle.node_heap.specs.Owner.{by_hold, by_place, EditsBy, alone, written, KeepsAlone}
@@ -36,7 +36,8 @@ module _ {T : Type 0} where
     pub held : 1 ≤ holds_at h element
     pub apart : ¬ Reaches (links_at h) element l
 
-  -- the row has the element at the index, as many links and as thick, and the one that stood there came back
+  -- the row has the element at the index, as many links and as thick, and the one that stood there came back. As many rows came
+  -- as the path has that aren't alone
   pub record SetsIn (old new : Heap T) (n l index element given : ℕ) : Type 0 where
     pub row : IsRowOf new n l (slice_set (seq_at (form_at old) n l) index element)
     pub thick : IsThick (form_at old) n l → IsThick (form_at new) n l
@@ -45,15 +46,18 @@ module _ {T : Type 0} where
     pub changes : Changes l old new (element ∷ []) (given ∷ []) 0 n
     pub gains : Gains old new
     pub path : KeepsAlone old (rows_over (form_at old) n l index) (rows_over (form_at new) n l index)
+    pub came : live_count new + alone old (rows_over (form_at old) n l index) ≡ live_count old + length (rows_over (form_at old) n l index)
     pub others : (m : ℕ) → IsSome (row_at old m) → count m (written old (rows_over (form_at old) n l index)) ≡ 0 → row_at new m ≡ row_at old m
 
-  -- the row has the element after its last, put at the height `lowest` of its spine, and no fewer links
+  -- the row has the element after its last, put at the height `lowest` of its spine, and no fewer links.
+  -- No more rows came than its spine has now that aren't alone
   pub record PushesIn (old new : Heap T) (n lowest l element : ℕ) : Type 0 where
     pub row : IsRowOf new n l (seq_at (form_at old) n l ++ element ∷ [])
     pub links : length (links_at old l) ≤ length (links_at new l)
     pub changes : Changes l old new (element ∷ []) [] 0 n
     pub gains : Gains old new
     pub path : KeepsAlone old (take (n - lowest + 1) (spine_at (form_at old) n l)) (take (n - lowest + 1) (spine_at (form_at new) n l))
+    pub came : live_count new + alone old (take (n - lowest + 1) (spine_at (form_at old) n l)) ≤ live_count old + (n + 1)
     pub others : (m : ℕ) → IsSome (row_at old m) → count m (written old (take (n - lowest + 1) (spine_at (form_at old) n l))) ≡ 0 → row_at new m ≡ row_at old m
 
   -- a vector that can be pushed to, with a spare for each row that may come

@@ -183,6 +183,7 @@ fn root_beside<T>(heap: &mut Heap<T>, root: Link, height: u8, element: Link) -> 
     requires height { height ≡ height_at heap.old root }
     requires packed { IsPacked (form_at heap.old) height root }
     ensures vector { IsVectorOf heap.new result (elements heap.old root ++ element ∷ []) }
+    ensures tall { height_at heap.new result ≡ suc height }
     ensures fresh { row_at heap.old result ≡ None }
     ensures owners { RowsKeepOwners heap.old heap.new }
     ensures builds { Builds heap.old heap.new (root ∷ element ∷ []) (result ∷ []) 0 (height + 2) }

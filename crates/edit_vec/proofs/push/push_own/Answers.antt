@@ -15,13 +15,13 @@ own-own-requires-clause-node g c = good-node c.requires.root.good
 pub push_in-requires-clause-row : goal.push_in-requires-clause-row
 push_in-requires-clause-row g c =
     let did = c.own-own.ensures in
-    let own = owns refl c.requires.root.graph (holds-root c.args.heap.now c.args.root c.args.element c.requires.held) did.same did.row did.sole did.fresh did.owners did.builds in
+    let own = owns refl c.requires.root.graph (holds-root c.args.heap.now c.args.root c.args.element c.requires.held) did.same did.row did.sole did.fresh did.owners did.builds did.makes in
     write-hold own c.args.element c.requires.held c.requires.root.good c.requires.height (omega (arith, c.requires.root.spare))
 
 pub push_in-requires-clause-short : goal.push_in-requires-clause-short
 push_in-requires-clause-short g c =
     let did = c.own-own.ensures in
-    let own = owns refl c.requires.root.graph (holds-root c.args.heap.now c.args.root c.args.element c.requires.held) did.same did.row did.sole did.fresh did.owners did.builds in
+    let own = owns refl c.requires.root.graph (holds-root c.args.heap.now c.args.root c.args.element c.requires.held) did.same did.row did.sole did.fresh did.owners did.builds did.makes in
     short-owned c.args.lowest (owned-hold own) c.requires.root.good c.requires.height c.requires.room c.requires.root.short
 
 pub push_in-requires-clause-few : goal.push_in-requires-clause-few
@@ -30,13 +30,13 @@ push_in-requires-clause-few g c = omega (arith, c.requires.root.few, c.own-own.e
 pub push_in-requires-clause-room : goal.push_in-requires-clause-room
 push_in-requires-clause-room g c =
     let did = c.own-own.ensures in
-    let own = owns refl c.requires.root.graph (holds-root c.args.heap.now c.args.root c.args.element c.requires.held) did.same did.row did.sole did.fresh did.owners did.builds in
+    let own = owns refl c.requires.root.graph (holds-root c.args.heap.now c.args.root c.args.element c.requires.held) did.same did.row did.sole did.fresh did.owners did.builds did.makes in
     room-owned c.args.lowest (owned-hold own) c.requires.root.good c.requires.height c.requires.room
 
 pub returns-clause-pushes : goal.returns-clause-pushes
 returns-clause-pushes g c =
     let did = c.own-own.ensures in
-    let own = owns refl c.requires.root.graph (holds-root c.args.heap.now c.args.root c.args.element c.requires.held) did.same did.row did.sole did.fresh did.owners did.builds in
+    let own = owns refl c.requires.root.graph (holds-root c.args.heap.now c.args.root c.args.element c.requires.held) did.same did.row did.sole did.fresh did.owners did.builds did.makes in
     pushes-element c.args.lowest (owned-hold own) c.requires.root.good c.requires.height c.requires.room c.requires.root.short c.push_in.ensures (makes-gained (Gains-trans (Gains-Builds did.builds) c.push_in.ensures.gains))
 
 pub returns-clause-gains : goal.returns-clause-gains

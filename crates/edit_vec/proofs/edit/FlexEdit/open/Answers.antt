@@ -13,7 +13,7 @@ owned : (g : Over) (c : goal.After-own-root g) → Owns c.reserve.new.self c.own
 owned g c =
     let did = c.own-root.ensures in
     let room = c.in-Ok.ensures.rest in
-    owns c.into_root.ensures room.graph (omega (arith, c.requires.held, room.holds c.args.vector)) did.same did.row did.sole did.fresh did.owners did.builds
+    owns c.into_root.ensures room.graph (omega (arith, c.requires.held, room.holds c.args.vector)) did.same did.row did.sole did.fresh did.owners did.builds did.makes
 
 pub returns-clause-items : goal.returns-clause-items
 returns-clause-items g c = vector-owned (after-room c.in-Ok.ensures.rest (owned-hold (owned g c))) c.requires.good refl

@@ -39,7 +39,7 @@ pop_in-given-requires-clause-row g c =
     let room = c.in_ok-reserve.ensures in
     let self : ℕ = c.args.self.now in
     let h = c.reserve.new.self in
-    let root = owns c.self.view_is room.rest.graph (omega (arith, c.requires.held, room.rest.holds self)) did.same did.row did.sole did.fresh did.owners did.builds in
+    let root = owns c.self.view_is room.rest.graph (omega (arith, c.requires.held, room.rest.holds self)) did.same did.row did.sole did.fresh did.owners did.builds did.makes in
     let height : c.height_of-height.result ≡ height_at c.args.heap.now self = c.height_of-height.ensures ∙ ap (height_at h) c.self.view_is ∙ same-height c.args.heap.now h self room.rest.rows in
     let some : 1 ≤ length (elements c.args.heap.now self) = omega (arith, c.if-len-eq0.false, c.len.ensures.value, ap (λ l. length (elements c.args.heap.now l)) c.view.ensures) in
     can-pop-root (after-room room.rest (owned-hold root)) c.requires.good height did.builds.graph (omega (arith, c.requires.few, did.builds.total, room.rest.count))
@@ -50,7 +50,7 @@ pop_in-given-requires-clause-some g c =
     let room = c.in_ok-reserve.ensures in
     let self : ℕ = c.args.self.now in
     let h = c.reserve.new.self in
-    let root = owns c.self.view_is room.rest.graph (omega (arith, c.requires.held, room.rest.holds self)) did.same did.row did.sole did.fresh did.owners did.builds in
+    let root = owns c.self.view_is room.rest.graph (omega (arith, c.requires.held, room.rest.holds self)) did.same did.row did.sole did.fresh did.owners did.builds did.makes in
     let height : c.height_of-height.result ≡ height_at c.args.heap.now self = c.height_of-height.ensures ∙ ap (height_at h) c.self.view_is ∙ same-height c.args.heap.now h self room.rest.rows in
     let some : 1 ≤ length (elements c.args.heap.now self) = omega (arith, c.if-len-eq0.false, c.len.ensures.value, ap (λ l. length (elements c.args.heap.now l)) c.view.ensures) in
     enough-mid (after-room room.rest (owned-hold root)) c.requires.good height some
@@ -61,7 +61,7 @@ pop_in-given-requires-clause-more g c =
     let room = c.in_ok-reserve.ensures in
     let self : ℕ = c.args.self.now in
     let h = c.reserve.new.self in
-    let root = owns c.self.view_is room.rest.graph (omega (arith, c.requires.held, room.rest.holds self)) did.same did.row did.sole did.fresh did.owners did.builds in
+    let root = owns c.self.view_is room.rest.graph (omega (arith, c.requires.held, room.rest.holds self)) did.same did.row did.sole did.fresh did.owners did.builds did.makes in
     let height : c.height_of-height.result ≡ height_at c.args.heap.now self = c.height_of-height.ensures ∙ ap (height_at h) c.self.view_is ∙ same-height c.args.heap.now h self room.rest.rows in
     more-mid (after-room room.rest (owned-hold root)) c.requires.good height
 
@@ -71,7 +71,7 @@ returns-clause-pops g c =
     let room = c.in_ok-reserve.ensures in
     let self : ℕ = c.args.self.now in
     let h = c.reserve.new.self in
-    let root = owns c.self.view_is room.rest.graph (omega (arith, c.requires.held, room.rest.holds self)) did.same did.row did.sole did.fresh did.owners did.builds in
+    let root = owns c.self.view_is room.rest.graph (omega (arith, c.requires.held, room.rest.holds self)) did.same did.row did.sole did.fresh did.owners did.builds did.makes in
     let height : c.height_of-height.result ≡ height_at c.args.heap.now self = c.height_of-height.ensures ∙ ap (height_at h) c.self.view_is ∙ same-height c.args.heap.now h self room.rest.rows in
     let some : 1 ≤ length (elements c.args.heap.now self) = omega (arith, c.if-len-eq0.false, c.len.ensures.value, ap (λ l. length (elements c.args.heap.now l)) c.view.ensures) in
     let stays : ¬ LeavesChild (form_at c.args.heap.now) c.height_of-height.result self = λ goes. not-both (c.leaves_child.ensures.1 (rw c.self.view_is ((leaves-same room.rest c.requires.good height).1 goes))) c.if-leaves_child.false in

@@ -15,7 +15,7 @@ set_in-given-requires-clause-row g c =
     let did = c.own-self-inside.ensures in
     let room = c.in_ok-reserve.ensures in
     let self : ℕ = c.args.self.now in
-    let root = owns c.self.view_is room.rest.graph (omega (arith, holds-root c.args.heap.now self c.args.element c.requires.held, room.rest.holds self)) did.same did.row did.sole did.fresh did.owners did.builds in
+    let root = owns c.self.view_is room.rest.graph (omega (arith, holds-root c.args.heap.now self c.args.element c.requires.held, room.rest.holds self)) did.same did.row did.sole did.fresh did.owners did.builds did.makes in
     let height = c.height_of-height.ensures ∙ ap (height_at c.reserve.new.self) c.self.view_is in
     write-hold root c.args.element (λ k. omega (arith, c.requires.held k, room.rest.holds k)) (unchanged-good self room.rest c.requires.good).0 height room.spares.1
 
@@ -24,7 +24,7 @@ set_in-given-requires-clause-inside g c =
     let did = c.own-self-inside.ensures in
     let room = c.in_ok-reserve.ensures in
     let self : ℕ = c.args.self.now in
-    let root = owns c.self.view_is room.rest.graph (omega (arith, holds-root c.args.heap.now self c.args.element c.requires.held, room.rest.holds self)) did.same did.row did.sole did.fresh did.owners did.builds in
+    let root = owns c.self.view_is room.rest.graph (omega (arith, holds-root c.args.heap.now self c.args.element c.requires.held, room.rest.holds self)) did.same did.row did.sole did.fresh did.owners did.builds did.makes in
     let height = c.height_of-height.ensures ∙ ap (height_at c.reserve.new.self) c.self.view_is ∙ same-height c.args.heap.now c.reserve.new.self self room.rest.rows in
     rw (row-owned (after-room room.rest (owned-hold root)) c.requires.good height).items (omega (arith, c.if-index-len.false, c.len.ensures.value, ap (λ l. length (elements c.args.heap.now l)) c.view.ensures))
 
@@ -33,7 +33,7 @@ returns-clause-sets g c =
     let did = c.own-self-inside.ensures in
     let room = c.in_ok-reserve.ensures in
     let self : ℕ = c.args.self.now in
-    let root = owns c.self.view_is room.rest.graph (omega (arith, holds-root c.args.heap.now self c.args.element c.requires.held, room.rest.holds self)) did.same did.row did.sole did.fresh did.owners did.builds in
+    let root = owns c.self.view_is room.rest.graph (omega (arith, holds-root c.args.heap.now self c.args.element c.requires.held, room.rest.holds self)) did.same did.row did.sole did.fresh did.owners did.builds did.makes in
     let height = c.height_of-height.ensures ∙ ap (height_at c.reserve.new.self) c.self.view_is ∙ same-height c.args.heap.now c.reserve.new.self self room.rest.rows in
     let inside : c.args.index < length (elements c.args.heap.now self) = omega (arith, c.if-index-len.false, c.len.ensures.value, ap (λ l. length (elements c.args.heap.now l)) c.view.ensures) in
     sets-element (after-room room.rest (owned-hold root)) c.requires.good height inside c.set_in-given.ensures (makes-came room.rest (Gains-trans (Gains-Builds did.builds) c.set_in-given.ensures.gains))
