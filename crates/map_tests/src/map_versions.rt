@@ -109,8 +109,9 @@ fn first_key<T: Element>(heap: &Heap<T>, map: MapRef) -> Option<Link>
     heap.links(entry).first().copied()
 }
 
-// Whether two maps of cells are equal, with steps on a ledger of its own.
+// Whether two maps of cells are equal, with steps on a ledger of its own. Both calls that compare such maps must say so.
 fn are_same<T: Element, L: Ledger>(
+    rt: &impl Abort,
     heap: &Heap<T>,
     first: MapRef,
     second: MapRef,
@@ -124,8 +125,9 @@ fn are_same<T: Element, L: Ledger>(
     requires some { 0 < L.parts }
 {
     let mut steps = Steps::<L>::new(blank);
-    equal_cells(Glass::new(heap), first, second, &mut steps)
-        && equal_map(heap, first, second, Values::Cells)
+    let same = equal_cells(Glass::new(heap), first, second, &mut steps);
+    assert!(rt; equal_map(heap, first, second, Values::Cells) == same);
+    same
 }
 
 impl<T: Element> MapVersions<T> {
@@ -236,7 +238,7 @@ impl<T: Element> MapVersions<T> {
         let left = map_at(rt, &self.heap, &self.maps, left);
         let right = map_at(rt, &self.heap, &self.maps, right);
         assert!(rt; left.bits() == right.bits());
-        are_same::<T, Brand>(&self.heap, left, right, Blank::new(1))
+        are_same::<T, Brand>(rt, &self.heap, left, right, Blank::new(1))
     }
 
     /// How many rows were ever made.
