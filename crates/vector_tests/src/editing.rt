@@ -6,6 +6,7 @@ ghost use Rattle.rrb_core.specs.Vector.{IsGoodVector};
 ghost use Rattle.vector_tests.specs.Stands.{KeepsVectors};
 
 use crate::samples::{counts_from, number_at, number_in};
+use crate::sums::vector_has_sums;
 use edit_vec::{FlexEdit, OpenFault, push_at, set_at};
 use elem_core::Num;
 use node_heap::{Head, Heap, Link};
@@ -175,6 +176,11 @@ impl Editing {
         self.vector.view().height(&self.heap)
     }
 
+    /// Whether its root keeps sums.
+    pub fn has_sums(&self) -> bool {
+        vector_has_sums(&self.heap, self.vector.view().root())
+    }
+
     /// Its number at the index.
     pub fn number(&self, index: u32) -> Option<u32> {
         number_at(&self.heap, self.vector.view().root(), index)
@@ -240,6 +246,12 @@ impl Placed {
         let number = number_in(&self.heap, given);
         self.heap.release(given);
         number
+    }
+
+    /// The number beside the vector.
+    pub fn first(&self) -> Option<u32> {
+        let first = self.heap.links(self.pair).first()?;
+        number_in(&self.heap, *first)
     }
 
     /// How many elements there are.

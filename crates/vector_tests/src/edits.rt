@@ -58,16 +58,33 @@ fn sets_in_place(rt: HostRuntime) {
     assert_eq!(rt; editing.close(), 0);
 }
 
+// Takes all elements out, from the last down.
+fn pop_all(rt: &impl Abort, editing: &mut Editing, len: u32) {
+    for turn in 0..len {
+        assert_eq!(rt; editing.pop(rt), Some(len - 1 - turn));
+        assert_eq!(rt; editing.len(), len - 1 - turn);
+    }
+    assert_eq!(rt; editing.pop(rt), None);
+    assert_eq!(rt; editing.height(), 0);
+}
+
+#[test]
+fn pops_in_place(rt: HostRuntime) {
+    let mut editing = counted(&rt, rt.alloc(), 1100);
+    let made = editing.made();
+    pop_all(&rt, &mut editing, 1100);
+    assert_eq!(rt; editing.made(), made);
+    assert_eq!(rt; editing.close(), 0);
+}
+
+// The kept vector has a root, two rows below it and 35 leaves: a pop copies each where it is first written.
 #[test]
 fn pops_beside_a_kept_vector(rt: HostRuntime) {
     let mut editing = counted(&rt, rt.alloc(), 1100);
     editing.keep(&rt);
-    for turn in 0..1100 {
-        assert_eq!(rt; editing.pop(&rt), Some(1099 - turn));
-        assert_eq!(rt; editing.len(), 1099 - turn);
-    }
-    assert_eq!(rt; editing.pop(&rt), None);
-    assert_eq!(rt; editing.height(), 0);
+    let made = editing.made();
+    pop_all(&rt, &mut editing, 1100);
+    assert_eq!(rt; editing.made().wrapping_sub(made), 38);
     assert!(rt; editing.kept_counts_from(0, 1100));
     assert_eq!(rt; editing.close(), 0);
 }
@@ -79,6 +96,7 @@ fn edits_rows_that_keep_sums(rt: HostRuntime) {
     for _time in 0..6 {
         editing = editing.doubled(&rt);
     }
+    assert!(rt; editing.has_sums());
     assert!(rt; repeats(&editing, 17, 1088));
     for number in 1088..1290 {
         editing.add_cell(&rt, number % 17);
@@ -105,16 +123,18 @@ fn edits_at_a_place(rt: HostRuntime) {
         placed.push(&rt, number);
     }
     assert_eq!(rt; placed.set(&rt, 700, 5), Some(700));
-    assert_eq!(rt; placed.number(700), Some(5));
-    assert_eq!(rt; placed.number(1099), Some(1099));
+    for index in 0..1100 {
+        let number = if index == 700 { 5 } else { index };
+        assert_eq!(rt; placed.number(index), Some(number));
+    }
     assert_eq!(rt; placed.len(), 1100);
+    assert_eq!(rt; placed.first(), Some(99));
     assert_eq!(rt; placed.close(), 0);
 }
 
 // The laws hold of all heaps: what is called here does nothing.
 #[test]
-fn laws_of_edits(rt: HostRuntime) {
+fn laws_of_edits(_rt: HostRuntime) {
     paths_of_small_vectors();
     edits_keep_elements::<Num>();
-    assert!(rt; true);
 }

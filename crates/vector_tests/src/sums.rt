@@ -1,6 +1,7 @@
 //! An inner row keeps sums exactly where a child that isn't its last isn't full.
 ghost use Rattle.std.specs.Prelude.{IsSome};
 ghost use Rattle.node_heap.specs.Heap.{row_at};
+ghost use Rattle.rrb_core.specs.Vector.{IsGoodVector};
 
 use crate::versions::Versions;
 use elem_core::Num;
@@ -14,6 +15,13 @@ pub fn has_sums(heap: &Heap<Num>, link: Link) -> bool
         Some(Head::Inner { sums, .. }) => !sums.as_slice().is_empty(),
         _ => false,
     }
+}
+
+/// Whether the root of this vector does.
+pub fn vector_has_sums(heap: &Heap<Num>, root: Link) -> bool
+    requires { IsGoodVector heap.now root }
+{
+    has_sums(heap, root)
 }
 
 /// Whether this row, or one at most so many links below it, keeps sums.
