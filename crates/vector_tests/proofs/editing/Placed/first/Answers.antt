@@ -9,4 +9,4 @@ number_in-requires g c =
     let first = c.in_ok-first.first.now in
     let inside : 0 < length c.links.result.now = omega (arith, item.3.0) in
     c.links.ensures.graph.closed c.self.inside.pair first
-        (subst (λ (ls : List ℕ). 0 < count first ls) c.links.ensures.links (count-at c.links.result.now 0 first inside item.1))
+    (subst (λ (ls : List ℕ). 0 < count first ls) c.links.ensures.links (count-at c.links.result.now 0 first inside item.1))
