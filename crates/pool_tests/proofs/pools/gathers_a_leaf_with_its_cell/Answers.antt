@@ -1,30 +1,47 @@
-use Rattle.std.proofs.Common.{◌≡◌, ◌≢◌, ◌⊎◌, ℕ, ◌+◌, ◌<◌, true, Some, None, option_map, [], ◌∷◌, ap, sym, ◌∙◌, arith, inl, inr}
+use Rattle.std.proofs.Common.{◌≡◌, ◌⊎◌, ℕ, ◌<◌, true, List, [], ◌∷◌, Option, Some, None, option_map, refl, ap, sym, subst, ◌∙◌, arith, inl, inr}
 use Rattle.std.proofs.lemmas.Bool.{cases_eq}
-use Rattle.node_heap.specs.Links.{count, Reaches, here, below}
-use Rattle.node_heap.specs.Forms.{cell, node, form_of, links_of}
-use Rattle.node_heap.specs.declared.row.Head.TheVariants.{Leaf}
+use Rattle.node_heap.specs.Links.{count, HasLink, Reaches, here, below}
+use Rattle.node_heap.specs.Forms.{Row, cell, node, links_of, form_of}
 use Rattle.node_heap.specs.Heap.{Heap, row_at, form_at, links_at}
-use Rattle.node_heap.proofs.Counts.{test_other, count-cons}
+use Rattle.node_heap.specs.declared.row.Head.TheVariants.{Leaf}
+use Rattle.node_heap.proofs.Counts.{count-cons, test_other}
 use Rattle.pool_text.specs.Pool.{fits_pool}
 use Rattle.pool_tests.proofs.pools.gathers_a_leaf_with_its_cell.Goals as goal
 
-only : (k c : ℕ) → 0 < count k (c ∷ []) → k ≡ c
-only k c some = elim (cases_eq c k) as (λ _. k ≡ c) [ inl same ↦ sym same | inr other ↦ absurd (omega (arith, some, count-cons k c [], test_other c k other)) ]
+-- a leaf over one cell
+module _ {T : Type 0} (h : Heap T) (top low : ℕ) (x : T) (over : row_at h top ≡ Some (node Leaf (low ∷ []))) (under : row_at h low ≡ Some (cell x)) where
+  linked : (l k : ℕ) → HasLink (links_at h) l k → (l ≡ top) ⊎ (l ≡ low) → (k ≡ top) ⊎ (k ≡ low)
+  linked l k first (inl same) =
+      let has : 0 < count k (low ∷ []) = subst (λ (ls : List ℕ). 0 < count k ls) (ap (links_at h) same ∙ ap links_of over) first in
+      elim (cases_eq k low) as (λ _. (k ≡ top) ⊎ (k ≡ low)) [
+        | inl at ↦ inr at
+        | inr other ↦ absurd (omega (arith, has, count-cons k low [], test_other low k (λ e. other (sym e))))
+      ]
+  linked l k first (inr same) =
+      let has : 0 < count k [] = subst (λ (ls : List ℕ). 0 < count k ls) (ap (links_at h) same ∙ ap links_of under) first in
+      absurd (omega (arith, has))
 
-module _ {T : Type 0} (h : Heap T) (leaf c : ℕ) (x : T) (is : row_at h leaf ≡ Some (node Leaf (c ∷ []))) (it : row_at h c ≡ Some (cell x)) where
-  -- a leaf of one cell reaches itself and the cell
-  fits : (a l : ℕ) → Reaches (links_at h) a l → (a ≡ leaf) ⊎ (a ≡ c) → fits_pool (form_at h l) ≡ true
-  fits a l (here k) (inl e) = ap (λ r. fits_pool (option_map form_of r)) (ap (row_at h) e ∙ is)
-  fits a l (here k) (inr e) = ap (λ r. fits_pool (option_map form_of r)) (ap (row_at h) e ∙ it)
-  fits a l (below b k m has down) (inl e) = fits k m down (inr (only k c (omega (arith, has, ap (λ r. count k (links_of r)) (ap (row_at h) e ∙ is)))))
-  fits a l (below b k m has down) (inr e) = absurd (omega (arith, has, ap (λ r. count k (links_of r)) (ap (row_at h) e ∙ it)))
+  fits : (r l : ℕ) → Reaches (links_at h) r l → (r ≡ top) ⊎ (r ≡ low) → fits_pool (form_at h l) ≡ true
+  fits r l (here k) (inl same) = ap (λ (n : ℕ). fits_pool (form_at h n)) same ∙ ap (λ (row : Option (Row T)). fits_pool (option_map form_of row)) over
+  fits r l (here k) (inr same) = ap (λ (n : ℕ). fits_pool (form_at h n)) same ∙ ap (λ (row : Option (Row T)). fits_pool (option_map form_of row)) under
+  fits r l (below a k m first rest) at = fits k m rest (linked a k first at)
+
+  rooted : (r : ℕ) → 0 < count r (top ∷ top ∷ []) → (r ≡ top) ⊎ (r ≡ low)
+  rooted r some =
+      elim (cases_eq r top) as (λ _. (r ≡ top) ⊎ (r ≡ low)) [
+        | inl same ↦ inl same
+        | inr other ↦ absurd (omega (arith, some, count-cons r top (top ∷ []), count-cons r top [], test_other top r (λ e. other (sym e))))
+      ]
+
+pub node-leaf-requires-clause-held : goal.node-leaf-requires-clause-held
+node-leaf-requires-clause-held g c = λ l. omega (arith, c.cell-cell.ensures.adds.holds l)
 
 pub pool_of-requires-clause-fits : goal.pool_of-requires-clause-fits
 pool_of-requires-clause-fits g c =
-    let leaf : ℕ = c.node-leaf.result in
-    let first : ℕ = c.cell-cell.result in
-    let apart : first ≢ leaf = λ e. (let f = sym c.cell-cell.ensures.adds.here ∙ ap (row_at c.cell-cell.new.self) e ∙ c.node-leaf.ensures.adds.fresh in cc) in
-    λ r l some down. elim (cases_eq leaf r) as (λ _. fits_pool (form_at c.node-leaf.new.self l) ≡ true) [
-      | inl same ↦ fits c.node-leaf.new.self leaf first _ c.node-leaf.ensures.adds.here (c.node-leaf.ensures.adds.others first apart ∙ c.cell-cell.ensures.adds.here) r l down (inl (sym same))
-      | inr other ↦ absurd (omega (arith, some, count-cons r leaf (leaf ∷ []), count-cons r leaf [], test_other leaf r other))
-    ]
+    let old = c.cell-cell.new.self in
+    let new = c.node-leaf.new.self in
+    let low : ℕ = c.cell-cell.result in
+    let top : ℕ = c.node-leaf.result in
+    let apart : low ≡ top → ⊥ = λ e. let gone = c.node-leaf.ensures.adds.fresh in let there = c.cell-cell.ensures.adds.here in let same = ap (row_at old) e in cc in
+    let under = c.node-leaf.ensures.adds.others low apart ∙ c.cell-cell.ensures.adds.here in
+    λ r l some down. fits new top low _ c.node-leaf.ensures.adds.here under r l down (rooted new top low _ c.node-leaf.ensures.adds.here under r some)
