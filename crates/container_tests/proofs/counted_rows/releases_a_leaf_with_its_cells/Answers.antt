@@ -3,6 +3,9 @@ use Rattle.node_heap.proofs.Counts.{test_same}
 use Rattle.node_heap.proofs.GraphLemmas.{IsGraph-kinds}
 use Rattle.container_tests.proofs.counted_rows.releases_a_leaf_with_its_cells.Goals as goal
 
+pub node-leaf-requires-clause-held : goal.node-leaf-requires-clause-held
+node-leaf-requires-clause-held g c = λ l. omega (arith, c.cell-first.ensures.adds.holds l, c.cell-second.ensures.adds.holds l, c.hold.ensures.holds l)
+
 pub owners-requires : goal.owners-requires
 owners-requires g c =
     c.node-leaf.ensures.extends.live c.cell-first.result (c.hold.ensures.extends.live c.cell-first.result (c.cell-second.ensures.extends.live c.cell-first.result (rw c.cell-first.ensures.adds.here refl)))

@@ -14,6 +14,11 @@ still-good {T} {a} {b} {c} {d} {front} {more} answered same shared good released
     let twice : one_at front front < holds_at c front = omega (arith, taken, shared.builds.holds front, count-one front more, one-same front front refl, one-same front more (sym same)) in
     rw same ((released front twice (rw (← same) good)).0)
 
+pub release-requires : goal.release-requires
+release-requires g c =
+    let front = c.in_ok-front.front in
+    omega (arith, c.in_ok-front.ensures.answered.holds front, c.share-more.ensures.shares.builds.holds front, one-same front front refl)
+
 pub len-requires : goal.len-requires
 len-requires g c =
     rw (c.at-2.ensures, c.into_root-kept.ensures) (still-good c.in_ok-front.ensures.answered c.share-more.ensures.same c.share-more.ensures.shares c.share-more.ensures.good c.release.ensures.vectors)

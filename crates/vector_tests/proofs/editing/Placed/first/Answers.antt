@@ -4,7 +4,7 @@ use Rattle.champ_trie.proofs.HoldLemmas.{count-at}
 use Rattle.vector_tests.proofs.editing.Placed.first.Goals as goal
 
 pub number_in-requires : goal.number_in-requires
-number_in-requires g c =
+number_in-requires c =
     let item = c.in_ok-first.ensures.item in
     let first = c.in_ok-first.first.now in
     let inside : 0 < length c.links.result.now = omega (arith, item.3.0) in

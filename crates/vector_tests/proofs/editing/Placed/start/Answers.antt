@@ -5,6 +5,11 @@ use Rattle.node_heap.specs.Heap.{hold_count}
 use Rattle.vector_tests.proofs.PlacedLemmas.{placed-start}
 use Rattle.vector_tests.proofs.editing.Placed.start.Goals as goal
 
+pub node-pair-requires-clause-held : goal.node-pair-requires-clause-held
+node-pair-requires-clause-held g c =
+    let answered = IfOk-at_ok _ c.expect.ensures c.empty.ensures.answered in
+    rw c.into_root-vector.ensures (λ l. omega (arith, answered.holds l, c.reserve.ensures.rest.holds l, c.cell-first.ensures.adds.holds l))
+
 pub invariant_of-result : goal.invariant_of-result
 invariant_of-result g c =
     let good = IfOk-at_ok _ c.expect.ensures c.empty.ensures.good in
