@@ -8,6 +8,17 @@ use Rattle.node_heap.proofs.Counts.{test_same, test_other}
 use Rattle.node_heap.proofs.Frames.{Extends-row}
 use Rattle.container_tests.proofs.writes.writes_below_a_kept_version.Goals as goal
 
+pub node-root-requires-clause-held : goal.node-root-requires-clause-held
+node-root-requires-clause-held g c = λ l. omega (arith, c.cell-seven.ensures.adds.holds l, c.node-leaf.ensures.adds.holds l, c.node-pair.ensures.adds.holds l)
+
+pub write_third-top-requires-clause-version : goal.write_third-top-requires-clause-version
+write_third-top-requires-clause-version g c =
+    let root = c.node-root.result in
+    omega (arith, c.hold.ensures.holds root, c.node-root.ensures.adds.holds root, c.node-root.ensures.adds.apart, test_same root root refl)
+
+pub write_third-top-requires-clause-top : goal.write_third-top-requires-clause-top
+write_third-top-requires-clause-top g c = rw (c.hold.ensures.rows c.node-root.result, c.node-root.ensures.adds.here) (omega arith)
+
 pub write_third-top-requires-clause-middle : goal.write_third-top-requires-clause-middle
 write_third-top-requires-clause-middle g c =
     let root = c.node-root.result in
