@@ -3,7 +3,7 @@ ghost use Rattle.std.specs.Prelude.{◌≡◌, ◌↔◌, ℕ, ◌+◌, ◌^◌,
 ghost use Rattle.elem_core.specs.declared.codes.TheConstants.{CODE_BITS};
 ghost use Rattle.node_heap.specs.Links.{Reaches};
 ghost use Rattle.node_heap.specs.Heap.{links_at, holds_at, owners_at, hold_count, HasSpares};
-ghost use Rattle.node_heap.specs.Calls.{KeepsToNeed, HasHolds, MakesWhatCame};
+ghost use Rattle.node_heap.specs.Calls.{Extends, KeepsToNeed, HasHolds, MakesWhatCame};
 ghost use Rattle.node_heap.specs.Owner.{by_hold, EditsBy};
 ghost use Rattle.champ_chain.specs.Entry.{Entry, others};
 ghost use Rattle.champ_trie.specs.Trie.{code_by};
@@ -55,6 +55,7 @@ impl TrieEdit {
         ensures bits { IfOk result (λ m. m.bits ≡ map.bits) }
         ensures same { IfOk result (λ m. (m.root ≡ map.root) ↔ (owners_at heap.old map.root ≡ 1)) }
         ensures sole { IfOk result (λ m. owners_at heap.new m.root ≡ 1) }
+        ensures extends { IfOk result (λ _. Extends heap.old heap.new) }
         ensures edits { IfOk result (λ m. EditsBy (by_hold map.root) heap.old heap.new m.root [] [] 0 1) }
         ensures makes { IfOk result (λ _. MakesWhatCame heap.old heap.new) }
         ensures spares { IfOk result (λ _. KeepsToNeed heap.old heap.new 0 1) }

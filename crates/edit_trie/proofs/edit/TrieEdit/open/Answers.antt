@@ -3,6 +3,7 @@ use Rattle.elem_core.specs.declared.codes.TheConstants.{DEEPEST}
 use Rattle.node_heap.specs.Forms.{is_node}
 use Rattle.node_heap.specs.Heap.{row_at, form_at, holds_at}
 use Rattle.node_heap.specs.Owner.{by_hold}
+use Rattle.node_heap.proofs.Frames.{Extends-trans}
 use Rattle.champ_trie.specs.Trie.{code_by}
 use Rattle.champ_trie.proofs.ShareLemmas.{row-at}
 use Rattle.champ_kinds.specs.Root.{Root}
@@ -50,3 +51,6 @@ returns-clause-edits g c =
     let own : IsOwned (by_hold c.args.map.root) c.args.heap.now c.own-root.new.self c.own-root.result =
     after-room room (owned-hold (owns c.into_root.ensures room.graph held did.same did.row did.sole did.fresh did.owners did.builds)) in
     edits-top g.T.Ord.cmp g.T.Element.code_of (by_hold c.args.map.root) c.args.map.bits c.args.heap.now c.own-root.new.self c.own-root.result own did.builds.graph
+
+pub returns-clause-extends : goal.returns-clause-extends
+returns-clause-extends g c = Extends-trans c.in-Ok.ensures.extends c.own-root.ensures.builds.extends
