@@ -34,7 +34,7 @@ use Rattle.shell_terms.specs.Edit.{Bytes, PlainEdit, new, add, set as set_line, 
 use Rattle.shell_terms.specs.Command.{PlainCommand, edit}
 use Rattle.plain_space.specs.declared.refusal.Refusal.{Refusal}
 use Rattle.plain_space.specs.declared.refusal.Refusal.TheVariants.{Absent, Exists, Range, Limit, Memory}
-use Rattle.plain_space.specs.Workspace.{State, Workspace, most, lines_of, with_lines, without_lines, is_starred, with_star, without_star, is_full, with_current}
+use Rattle.plain_space.specs.Workspace.{State, Workspace, most, in_batch, lines_of, with_lines, without_lines, is_starred, with_star, without_star, is_full, with_current}
 use Rattle.plain_space.specs.Refusing.{needs, unless, given, on_lines, on_range, room}
 use Rattle.plain_space.specs.Edited.{edited}
 use Rattle.plain_space.specs.Answer.{answer, done, becomes}
@@ -47,6 +47,7 @@ use Rattle.state_rows.proofs.Keys.{by_bytes}
 use Rattle.space_state.specs.declared.roots.RootedHeap.{RootedHeap}
 use Rattle.space_state.specs.declared.turning.TheConstants.{EDIT_NODES}
 use Rattle.space_state.specs.Roots.{Keeps}
+use Rattle.space_state.specs.InPlace.{IsInPlace}
 use Rattle.space_state.specs.Turns.{IsDue, IsSame, RoomIsMade, RoomIsRefused, TurnsTo, IsCarriedOut, IsRefused}
 use Rattle.space_state.proofs.Keeping.{Rises, rises-answered, rises-then, rises-same, rises-more, keeps-extended, keeps-gained, keeps-same, answered-cell, keeps-turned, keeps-swapped, keeps-released, released-stands, first-held, first-counts, unchanged-stands, turns-after}
 
@@ -548,7 +549,7 @@ released-spares rel spares = (omega (arith, rel.cells, rel.fewer_cells, spares.0
 
 -- ## How an edit ends
 
-cost-edit : (bits : ℕ) (change : PlainEdit) (W : Workspace) → cost bits (edit change) W ≡ edit_cost bits change W.current
+pub cost-edit : (bits : ℕ) (change : PlainEdit) (W : Workspace) → cost bits (edit change) W ≡ edit_cost bits change W.current
 unfolding cost
 cost-edit bits change W = refl
 
@@ -566,8 +567,8 @@ can-put {s} {t} {xs = xs} {W = W} {key = key} {name = name} named room m few_cel
 -- the lines were made where there was room for them, and the state turned to the one that has them
 pub lines-put : {s t u : RootedHeap} {new : Heap Bytes} {l c n : ℕ} {xs : List Bytes} {W : Workspace} {key name : Bytes} (change : PlainEdit) → key ≡ name → IsSame s t → is_full W ≡ false → IsMade t new [] l xs W c n
     → edited W.current change ≡ Ok (with_lines W.current name xs) → TurnsTo (record t { heap = new }) u [] (22 + alike_buffers t.bits W.current key) (with_current W (with_lines W.current key xs))
-    → c + n + (22 + alike_buffers s.bits W.current name) ≤ edit_cost s.bits change W.current → IsCarriedOut (edit change) s u W
-lines-put {s} {t} {u} {new} {l} {c} {n} {xs} {W} {key} {name} change is same free m made turn less =
+    → c + n + (22 + alike_buffers s.bits W.current name) ≤ edit_cost s.bits change W.current → (IsInPlace (edit change) → in_batch W ≡ true → ⊥) → IsCarriedOut (edit change) s u W
+lines-put {s} {t} {u} {new} {l} {c} {n} {xs} {W} {key} {name} change is same free m made turn less apart =
     let named : TurnsTo (record t { heap = new }) u [] (22 + alike_buffers t.bits W.current name) (with_current W (with_lines W.current name xs)) =
     subst (λ (k : Bytes). TurnsTo (record t { heap = new }) u [] (22 + alike_buffers t.bits W.current k) (with_current W (with_lines W.current k xs))) is turn in
     let turned : TurnsTo (record t { heap = new }) u [] (22 + alike_buffers s.bits W.current name) (with_current W (with_lines W.current name xs)) =
@@ -576,13 +577,14 @@ lines-put {s} {t} {u} {new} {l} {c} {n} {xs} {W} {key} {name} change is same fre
       after = with_current W (with_lines W.current name xs);
       told = does W change (with_lines W.current name xs) made free;
       turns = turns-after (0 + (c + n)) (cost s.bits (edit change) W) (rises-then (rises-same same.heap) m.rises) same.bits turned (omega (arith, less, cost-edit s.bits change W));
+      few_made = λ placed inside. absurd (apart placed inside);
     }
 
 -- the same after room was made for an edit
 pub edit-done : {s t u : RootedHeap} {new : Heap Bytes} {l c n : ℕ} {xs : List Bytes} {W : Workspace} {key name : Bytes} (change : PlainEdit) → key ≡ name → HasBufferRoom s t name W → IsMade t new [] l xs W c n
     → edited W.current change ≡ Ok (with_lines W.current name xs) → TurnsTo (record t { heap = new }) u [] (22 + alike_buffers t.bits W.current key) (with_current W (with_lines W.current key xs))
-    → c + n + (22 + alike_buffers s.bits W.current name) ≤ edit_cost s.bits change W.current → IsCarriedOut (edit change) s u W
-edit-done change is room m made turn less = lines-put change is room.same room.free m made turn less
+    → c + n + (22 + alike_buffers s.bits W.current name) ≤ edit_cost s.bits change W.current → (IsInPlace (edit change) → in_batch W ≡ true → ⊥) → IsCarriedOut (edit change) s u W
+edit-done change is room m made turn less apart = lines-put change is room.same room.free m made turn less apart
 
 -- room was made, and the state turned to the one in which the buffer is gone
 pub drop-done : {s t u : RootedHeap} {new : Heap Bytes} {spent : List ℕ} {l : ℕ} {W : Workspace} {name : Bytes} (xs : List Bytes) → IsSame s t → Answered t.heap new spent l 0 (8 + alike_buffers t.bits W.current name)
@@ -593,6 +595,7 @@ drop-done {s} {t} {u} {new} {W = W} {name = name} xs same g there free turn =
       told = does W (drop_buffer name) (without_lines W.current name) (drop-made W.current name xs there) free;
       turns = turns-after (0 + (0 + (8 + alike_buffers t.bits W.current name))) (cost s.bits (edit (drop_buffer name)) W) (rises-then (rises-same same.heap) (rises-answered g)) same.bits turn
           (omega (arith, alike-same same W.current name, cost-edit s.bits (drop_buffer name) W));
+      few_made = λ placed inside. absurd placed;
     }
 
 -- what is left of a buffer and its part are both held
@@ -643,11 +646,16 @@ cut-done {s} {t} {u} {new} {n = n} {xs = xs} {ys = ys} {W = W} {key = key} {name
       after = with_current W (with_lines (with_lines W.current name xs) other ys);
       told = does W (cut name from to other) (with_lines (with_lines W.current name xs) other ys) made free;
       turns = turns-after (0 + n) (cost s.bits (edit (cut name from to other)) W) (rises-then (rises-same same.heap) p.rises) same.bits turned (omega (arith, few, one, two, cost-edit s.bits (cut name from to other) W));
+      few_made = λ placed inside. absurd placed;
     }
 
 -- nothing was done, for a reason that is due
 pub edit-refused : {s t : RootedHeap} {W : Workspace} {change : PlainEdit} {why : Refusal} → t ≡ s → IsDue W (edit change) why → IsRefused (edit change) s t W why
 edit-refused same due = record { due = due; same = same }
+
+-- what isn't in a batch is in none
+pub outside-apart : {P : Type 0} (W : Workspace) → in_batch W ≡ false → P → in_batch W ≡ true → ⊥
+outside-apart W outside p inside = let h = sym inside ∙ outside in cc
 
 -- what a look for a buffer says of making it
 pub found-taken : (s : RootedHeap) (now : State) (name : Bytes) (r : Result ℕ Refusal) → is_ok r ≡ true
@@ -656,6 +664,11 @@ found-taken s now name (Ok l) is found =
     let lines = found-lines s l now name found in
     new-taken now name lines.0 lines.1
 found-taken s now name (Err why) is found = absurd cc
+
+pub found-none : (s : RootedHeap) (now : State) (name : Bytes) (r : Result ℕ Refusal) → is_ok r ≡ false
+    → MatchResult r (λ l. IsSomeAnd (lines_of now name) (AreLinesIn s.heap s.bits l)) (λ why. (lines_of now name ≡ None) × (why ≡ Absent)) → lines_of now name ≡ None
+found-none s now name (Ok l) is found = absurd cc
+found-none s now name (Err why) is found = found.0
 
 pub found-free : (s : RootedHeap) (now : State) (name : Bytes) (r : Result ℕ Refusal) → is_ok r ≡ false
     → MatchResult r (λ l. IsSomeAnd (lines_of now name) (AreLinesIn s.heap s.bits l)) (λ why. (lines_of now name ≡ None) × (why ≡ Absent)) → edited now (new name) ≡ Ok (with_lines now name [])

@@ -49,6 +49,7 @@ carried command old new W K done =
       stands = pool-is new done.after K';
       few = rw (rows, rows', bits-are old) done.turns.few;
       made = rw (rows, rows') done.turns.made;
+      few_made = λ placed inside. rw (rows, rows') (done.few_made placed inside);
     }
 
 -- a refusal leaves what a space shows

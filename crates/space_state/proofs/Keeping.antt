@@ -280,6 +280,26 @@ keeps-undo {s} {W} {new} u us spent gained K held trades is =
     )
     (λ k. omega (arith, keeps-holds K k, trades.holds k, among k, roots-count roots k, count-cons k s.roots.undo spent, count-cons k u gained)) (omega (arith, keeps-total K, trades.total))
 
+-- the current state is this one, and these links are held besides in place of those
+pub keeps-placed : {s : RootedHeap} {W : Workspace} {new : Heap Bytes} {c n : ℕ} (k : ℕ) (x : State) (spent gained : List ℕ) → Keeps s spent W → KeepsHeld (λ l. count l (s.roots.current ∷ spent)) s.heap new
+    → Trades s.heap new (s.roots.current ∷ spent) (k ∷ gained) c n → IsStateIn new s.bits k x → Keeps (record s { heap = new; roots = record s.roots { current = k } }) gained (record W { current = x })
+keeps-placed {s} {W} {new} k x spent gained K held trades is =
+    let roots : Roots = record s.roots { current = k } in
+    let among = roots-count s.roots in
+    let stay : (l : ℕ) → 0 < one_at s.roots.versions l + one_at s.roots.undo l + one_at s.roots.redo l + count l (base_of s.roots.batch) → StandsOn s.heap new s.bits l =
+    λ l some. states-stay s.heap new s.bits l (held.kept l (omega (arith, keeps-holds K l, among l, count-cons l s.roots.current spent, some))) in
+    keeps-of (record s { heap = new; roots = roots }) gained (record W { current = x }) trades.graph K.bits (
+      is,
+      (stay s.roots.versions (omega (arith, test_same s.roots.versions s.roots.versions refl))).versions W.versions K.stands.1,
+      (stay s.roots.undo (omega (arith, test_same s.roots.undo s.roots.undo refl))).history W.undo K.stands.2,
+      (stay s.roots.redo (omega (arith, test_same s.roots.redo s.roots.redo refl))).history W.redo K.stands.3,
+      base-stays s.heap new s.bits s.roots.batch W.base (λ l some. stay l (omega (arith, some))) K.stands.4,
+    )
+    (λ k'. omega (arith, keeps-holds K k', trades.holds k', among k', roots-count roots k', count-cons k' s.roots.current spent, count-cons k' k gained)) (omega (arith, keeps-total K, trades.total))
+
+pub current-holds : {s : RootedHeap} {b : List ℕ} {W : Workspace} → Keeps s b W → (k : ℕ) → count k (s.roots.current ∷ b) ≤ holds_at s.heap k
+current-holds {s} {b} K k = omega (arith, keeps-holds K k, roots-count s.roots k, count-cons k s.roots.current b)
+
 -- undo and redo may be told the other way round
 abbrev turned : RootedHeap → RootedHeap
 turned s = record s { roots = record s.roots { undo = s.roots.redo; redo = s.roots.undo } }

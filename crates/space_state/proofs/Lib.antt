@@ -9,3 +9,4 @@ pub mod Texts
 pub mod Beginning
 pub mod NewPool
 pub mod SameContents
+pub mod Placing

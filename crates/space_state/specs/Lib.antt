@@ -1,4 +1,5 @@
 pub mod Roots
+pub mod InPlace
 pub mod Turns
 pub mod Stepping
 pub mod View

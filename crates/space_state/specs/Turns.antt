@@ -1,18 +1,20 @@
 -- How a call on rooted rows ends.
-use Rattle.std.specs.Prelude.{◌≡◌, ℕ, ◌+◌, ◌-◌, ◌^◌, ◌≤◌, List, [], length, false, min, Result, Err, MatchBool, MatchResult}
+use Rattle.std.specs.Prelude.{◌≡◌, ℕ, ◌+◌, ◌-◌, ◌^◌, ◌≤◌, List, [], length, false, min, Result, Err, true, MatchBool, MatchResult}
 use Rattle.node_heap.specs.Heap.{Heap, live_count, HasSpares}
 use Rattle.node_heap.specs.Calls.{Unchanged}
 use Rattle.shell_terms.specs.Edit.{PlainEdit, drop, unstar, fill}
 use Rattle.shell_terms.specs.Command.{PlainCommand}
 use Rattle.plain_space.specs.declared.refusal.Refusal.{Refusal}
 use Rattle.plain_space.specs.declared.refusal.Refusal.TheVariants.{Absent, Exists, Range, Limit, Batch, Empty, Memory}
-use Rattle.plain_space.specs.Workspace.{Workspace, most, is_full}
+use Rattle.plain_space.specs.Workspace.{Workspace, most, in_batch, is_full}
 use Rattle.plain_space.specs.Answer.{answer, done}
 use Rattle.plain_space.specs.Cost.{alike_buffers, alike_stars, cost}
 use Rattle.plain_space.specs.Memory.{MayLackMemory}
+use Rattle.state_rows.specs.InPlace.{MakesFew}
 use Rattle.space_state.specs.declared.turning.TheConstants.{EDIT_NODES}
 use Rattle.space_state.specs.declared.roots.RootedHeap.{RootedHeap}
 use Rattle.space_state.specs.Roots.{Keeps}
+use Rattle.space_state.specs.InPlace.{IsInPlace}
 
 -- the refusal is due by this plain result: it is that, or memory was refused where that may be
 abbrev pub IsDueBy : {X : Type 0} → Result X Refusal → Type 0 → Refusal → Type 0
@@ -78,18 +80,22 @@ pub record TurnsTo (old new : RootedHeap) (besides : List ℕ) (most : ℕ) (aft
   pub few : live_count new.heap ≤ live_count old.heap + most
   pub made : RowsRise old.heap new.heap
 
--- the command was carried out
+-- the command was carried out; in a batch an edit that is made in place makes at most two rows more than the rows gain
 pub record IsCarriedOut (command : PlainCommand) (old new : RootedHeap) (W : Workspace) : Type 0 where
   pub after : Workspace
   pub told : answer W command ≡ done after
   pub turns : TurnsTo old new [] (cost old.bits command W) after
+  pub few_made : IsInPlace command → in_batch W ≡ true → MakesFew old.heap new.heap 2
 
 -- the command was not carried out, and nothing has changed
 pub record IsRefused (command : PlainCommand) (old new : RootedHeap) (W : Workspace) (why : Refusal) : Type 0 where
   pub due : IsDue W command why
   pub same : new ≡ old
 
--- how a call ends that carries out a command: done, or refused for a reason that is due
+-- how a call ends that carries out a command on this workspace: done, or refused for a reason that is due
+abbrev pub EndsFrom : Workspace → PlainCommand → RootedHeap → Result (Unit {0}) Refusal → RootedHeap → Type 0
+EndsFrom W command old result new = MatchResult result (λ _. IsCarriedOut command old new W) (IsRefused command old new W)
+
+-- and on the workspace for which the rows stand
 abbrev pub EndsOnRows : PlainCommand → RootedHeap → Result (Unit {0}) Refusal → RootedHeap → Type 0
-EndsOnRows command old result new =
-    (W : Workspace) → Keeps old [] W → MatchResult result (λ _. IsCarriedOut command old new W) (IsRefused command old new W)
+EndsOnRows command old result new = (W : Workspace) → Keeps old [] W → EndsFrom W command old result new

@@ -1,5 +1,5 @@
 -- What contracts see of a space.
-use Rattle.std.specs.Prelude.{◌≡◌, ℕ, ◌+◌, ◌-◌, ◌^◌, ◌≤◌, [], min, Result, Err, MatchBool, MatchResult}
+use Rattle.std.specs.Prelude.{◌≡◌, ℕ, ◌+◌, ◌-◌, ◌^◌, ◌≤◌, [], true, min, Result, Err, MatchBool, MatchResult}
 use Rattle.node_heap.specs.Heap.{Heap, live_count, cell_count, node_count}
 use Rattle.pool_text.specs.Pool.{row_count, pool_at}
 use Rattle.pool_text.specs.declared.pool.Pool.{Pool}
@@ -15,6 +15,7 @@ use Rattle.plain_space.specs.Cost.{cost}
 use Rattle.state_rows.specs.Standing.{StandsFor}
 use Rattle.space_state.specs.declared.roots.RootedHeap.{RootedHeap}
 use Rattle.space_state.specs.Roots.{root_list, Keeps}
+use Rattle.space_state.specs.InPlace.{IsInPlace}
 use Rattle.space_state.specs.Turns.{IsDue, MadeRises}
 
 -- The room of a heap: how many cells and how many nodes it can have without more memory, those that it has among them.
@@ -42,7 +43,8 @@ shown s = record { pool = pool_at (λ text. text) s.heap (root_list s.roots) s.b
 abbrev pub start_view : ℕ → SpaceView
 start_view bits = record { pool = record start_pool { bits = bits }; live = 6; made = 6; room = record { cells = 0; nodes = 6 } }
 
--- The command was carried out: the pool stands for the workspace afterwards, valid, with its bits and within the cost.
+-- The command was carried out: the pool stands for the workspace afterwards, valid, with its bits and within the cost. In a batch an
+-- edit that is made in place makes at most two rows more than the pool gains.
 pub record CarriesOut (command : PlainCommand) (old new : SpaceView) (W : Workspace) : Type 0 where
   pub after : Workspace
   pub told : answer W command ≡ done after
@@ -51,6 +53,7 @@ pub record CarriesOut (command : PlainCommand) (old new : SpaceView) (W : Worksp
   pub stands : StandsFor new.pool after
   pub few : row_count new.pool ≤ row_count old.pool + cost old.pool.bits command W
   pub made : MadeRises (row_count old.pool) old.made (row_count new.pool) new.made
+  pub few_made : IsInPlace command → in_batch W ≡ true → new.made + row_count old.pool ≤ old.made + row_count new.pool + 2
 
 -- The command was refused for a reason that is due, and the space is as it was, with no more room.
 pub record RefusesCommand (command : PlainCommand) (old new : SpaceView) (W : Workspace) (why : Refusal) : Type 0 where

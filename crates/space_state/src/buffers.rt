@@ -85,6 +85,9 @@ impl RootedHeap {
         if self.buffer(name).is_ok() {
             return Err(Refusal::Exists);
         }
+        if self.in_batch() {
+            return self.make_in_place(name);
+        }
         let key = self.prepare(name)?;
         let Ok(lines) = Flex::empty(&mut self.heap) else {
             unreachable!()
@@ -101,6 +104,9 @@ impl RootedHeap {
         let lines = self.buffer(name)?;
         if lines.len(&self.heap) == MOST_ITEMS {
             return Err(Refusal::Limit);
+        }
+        if self.in_batch() {
+            return self.add_in_place(name, line);
         }
         let (key, text) = self.prepare_line(name, line)?;
         let line = self.heap.cell(text);
@@ -119,6 +125,9 @@ impl RootedHeap {
         let lines = self.buffer(name)?;
         if index >= lines.len(&self.heap) {
             return Err(Refusal::Range);
+        }
+        if self.in_batch() {
+            return self.set_in_place(name, index, line);
         }
         let (key, text) = self.prepare_line(name, line)?;
         let line = self.heap.cell(text);

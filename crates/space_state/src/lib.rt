@@ -8,6 +8,7 @@ mod edits;
 mod equality;
 mod filling;
 mod histories;
+mod in_place;
 mod lines;
 mod names;
 mod pooling;

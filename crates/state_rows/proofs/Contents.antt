@@ -98,21 +98,32 @@ module _ {X : Type 0} (h : Heap Bytes) (V : ℕ → Type 0) (bits : ℕ) (R : �
     reads = reads;
   }
 
--- what a map of a heap says at a name
-module _ {X : Type 0} (old new : Heap Bytes) (V W : ℕ → Type 0) (bits : ℕ) (R S : ℕ → X → Type 0) (so : (k : ℕ) (x : X) → R k x → S k x) (l : ℕ) (m : Named X) (is : IsNamed (form_at old) V bits R l m) where
-  bound : (key name : Bytes) (v : ℕ) (x : X) → S v x → StandsIfThere S (value_with by_bytes name (bind by_bytes is.bindings key v)) (finite.get (finite.insert m key x) name)
-  bound key name v x stands =
-      subst (StandsIfThere S (value_with by_bytes name (bind by_bytes is.bindings key v))) (sym (finite.get-insert nat_list_cmp_total m key x name))
-      (subst (λ n. StandsIfThere S (option_map (λ (b : Binding Bytes). b.value) (cond (is_eq (by_bytes name n)) (Some (binding n v)) (find (binds by_bytes name) (unbind by_bytes key is.bindings)))) (cond (is_eq (by_bytes name key)) (Some x) (finite.get m name)))
-      (sym (kept-self key is.bindings)) (at (is_eq (by_bytes name key)) refl))
+-- what a map says at a name once a key is bound, where it says so at every other name
+module _ {X : Type 0} (S : ℕ → X → Type 0) (m : Named X) (M : List (Binding Bytes)) (key : Bytes)
+    (reads : (name : Bytes) → is_eq (by_bytes name key) ≡ false → StandsIfThere S (value_with by_bytes name M) (finite.get m name)) where
+  bound-beside : (name : Bytes) (v : ℕ) (x : X) → S v x → StandsIfThere S (value_with by_bytes name (bind by_bytes M key v)) (finite.get (finite.insert m key x) name)
+  bound-beside name v x stands =
+      subst (StandsIfThere S (value_with by_bytes name (bind by_bytes M key v))) (sym (finite.get-insert nat_list_cmp_total m key x name))
+      (subst (λ n. StandsIfThere S (option_map (λ (b : Binding Bytes). b.value) (cond (is_eq (by_bytes name n)) (Some (binding n v)) (find (binds by_bytes name) (unbind by_bytes key M)))) (cond (is_eq (by_bytes name key)) (Some x) (finite.get m name)))
+      (sym (kept-self key M)) (at (is_eq (by_bytes name key)) refl))
     where
       at : (t : Bool) → is_eq (by_bytes name key) ≡ t
-          → StandsIfThere S (option_map (λ (b : Binding Bytes). b.value) (cond t (Some (binding key v)) (find (binds by_bytes name) (unbind by_bytes key is.bindings)))) (cond t (Some x) (finite.get m name))
+          → StandsIfThere S (option_map (λ (b : Binding Bytes). b.value) (cond t (Some (binding key v)) (find (binds by_bytes name) (unbind by_bytes key M)))) (cond t (Some x) (finite.get m name))
       at true same = stands
       at false other =
-          subst (λ (o : Option (Binding Bytes)). StandsIfThere S (option_map (λ (b : Binding Bytes). b.value) o) (finite.get m name)) (sym (found-beside (λ (b : Binding Bytes). b.key) name key other is.bindings))
-          (stands-as R S so (value_with by_bytes name is.bindings) (finite.get m name) (is.reads name))
+          subst (λ (o : Option (Binding Bytes)). StandsIfThere S (option_map (λ (b : Binding Bytes). b.value) o) (finite.get m name)) (sym (found-beside (λ (b : Binding Bytes). b.key) name key other M)) (reads name other)
 
+-- a map with this value at the name, where what stands at each other name stands there still
+pub named-placed : {X : Type 0} (old new : Heap Bytes) {V : ℕ → Type 0} {bits l : ℕ} {R : ℕ → X → Type 0} {m : Named X} (W : ℕ → Type 0) (S : ℕ → X → Type 0) (is : IsNamed (form_at old) V bits R l m) (root v : ℕ) (key : Bytes) (x : X) → IsName key → S v x
+    → ((name : Bytes) → is_eq (by_bytes name key) ≡ false → StandsIfThere S (value_with by_bytes name is.bindings) (finite.get m name))
+    → IsMapOf by_bytes text_code new (record { root = root; bits = bits }) (bind by_bytes is.bindings key v) → IsNamed (form_at new) W bits S root (finite.insert m key x)
+named-placed old new {bits = bits} {m = m} W S is root v key x named stands reads made =
+    from-map new W bits S root (finite.insert m key x) (bind by_bytes is.bindings key v) made
+    (All-cons (λ b. IsName b.key) _ _ (subst IsName (sym (kept-self key is.bindings)) named) (All-filter _ (λ b. IsName b.key) is.bindings (keys-named (form_at old) is.entries is.bindings is.pairs is.trie.names)))
+    (λ name. bound-beside S m is.bindings key reads name v x stands)
+
+-- what a map of a heap says at a name
+module _ {X : Type 0} (old new : Heap Bytes) (V W : ℕ → Type 0) (bits : ℕ) (R S : ℕ → X → Type 0) (so : (k : ℕ) (x : X) → R k x → S k x) (l : ℕ) (m : Named X) (is : IsNamed (form_at old) V bits R l m) where
   unbound : (key name : Bytes) → StandsIfThere S (value_with by_bytes name (unbind by_bytes key is.bindings)) (finite.get (finite.remove m key) name)
   unbound key name =
       subst (StandsIfThere S (value_with by_bytes name (unbind by_bytes key is.bindings))) (sym (finite.get-remove nat_list_cmp_total m key name)) (at (is_eq (by_bytes name key)) refl)
@@ -132,9 +143,7 @@ module _ {X : Type 0} (old new : Heap Bytes) (V W : ℕ → Type 0) (bits : ℕ)
   pub named-insert : (root v : ℕ) (key : Bytes) (x : X) → IsName key → S v x
       → IsMapOf by_bytes text_code new (record { root = root; bits = bits }) (bind by_bytes is.bindings key v) → IsNamed (form_at new) W bits S root (finite.insert m key x)
   named-insert root v key x named stands made =
-      from-map new W bits S root (finite.insert m key x) (bind by_bytes is.bindings key v) made
-      (All-cons (λ b. IsName b.key) _ _ (subst IsName (sym (kept-self key is.bindings)) named) (All-filter _ (λ b. IsName b.key) is.bindings names-there))
-      (λ name. bound key name v x stands)
+      named-placed old new W S is root v key x named stands (λ name other. stands-as R S so (value_with by_bytes name is.bindings) (finite.get m name) (is.reads name)) made
 
   -- the map without the name
   pub named-remove : (root : ℕ) (key : Bytes) → IsMapOf by_bytes text_code new (record { root = root; bits = bits }) (unbind by_bytes key is.bindings) → IsNamed (form_at new) W bits S root (finite.remove m key)

@@ -23,3 +23,7 @@ pub mod WorkedSpaces
 pub mod Listed
 pub mod Filling
 pub mod Counting
+pub mod Placed
+pub mod LinesPlaced
+pub mod Buffers
+pub mod OwnedLines

@@ -1,5 +1,5 @@
 -- Lists whose elements stand for values one by one: a place, one more, a front, and another way of standing.
-use Rattle.std.proofs.Common.{ℕ, zero, suc, ◌<◌, List, [], ◌∷◌, ◌++◌, length, take, get_or, refl, arith}
+use Rattle.std.proofs.Common.{ℕ, zero, suc, ◌<◌, List, [], ◌∷◌, ◌++◌, length, take, set, get_or, refl, arith}
 use Rattle.std.specs.Prelude.{IsSomeAnd}
 use Rattle.std.specs.List.{AllZip, slice_get}
 use Rattle.node_heap.specs.Links.{count}
@@ -20,6 +20,13 @@ module _ {X : Type 0} (R : ℕ → X → Type 0) where
   zip-push [] (y ∷ ys) k x zip last = absurd zip
   zip-push (j ∷ ks) [] k x zip last = absurd zip
   zip-push (j ∷ ks) (y ∷ ys) k x zip last = (zip.0, zip-push ks ys k x zip.1 last)
+
+  pub zip-set : (ks : List ℕ) (xs : List X) (i k : ℕ) (x : X) → AllZip R ks xs → R k x → AllZip R (set ks i k) (set xs i x)
+  zip-set [] [] i k x zip one = tt
+  zip-set [] (y ∷ ys) i k x zip one = absurd zip
+  zip-set (j ∷ ks) [] i k x zip one = absurd zip
+  zip-set (j ∷ ks) (y ∷ ys) zero k x zip one = (one, zip.1)
+  zip-set (j ∷ ks) (y ∷ ys) (suc i) k x zip one = (zip.0, zip-set ks ys i k x zip.1 one)
 
   pub zip-take : (n : ℕ) (ks : List ℕ) (xs : List X) → AllZip R ks xs → AllZip R (take n ks) (take n xs)
   zip-take zero [] [] zip = tt

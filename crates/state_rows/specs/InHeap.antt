@@ -8,6 +8,10 @@ use Rattle.plain_space.specs.Workspace.{Named, Names, State}
 use Rattle.state_rows.specs.Reading.{IsText, AreLines, AreNames, IsNamed, IsState, AreVersions, IsHistory}
 
 module _ (h : Heap Bytes) (bits : ℕ) where
+  -- the link is a cell of this text, which is a line
+  abbrev pub IsTextIn : ℕ → Bytes → Type 0
+  IsTextIn = IsText (form_at h) (IsGoodVector h) bits
+
   -- the links are cells of these texts, one by one
   abbrev pub AreTextsIn : List ℕ → List Bytes → Type 0
   AreTextsIn = AllZip (IsText (form_at h) (IsGoodVector h) bits)

@@ -5,3 +5,4 @@ pub mod Stay
 pub mod Listing
 pub mod Laws
 pub mod Worked
+pub mod InPlace

@@ -24,4 +24,5 @@ returns-clause-obeys c = λ W K.
       after = _;
       told = abort-done W base.0 base.1;
       turns = turns-after 0 0 (rises-refl c.args.self.now.heap) refl (c.give_up.ensures.turns _ (keeps-current c.in-Some.base base.0 (keeps-closed c.in-Some.base opened K) base.2)) (omega arith);
+      few_made = λ placed inside. absurd placed;
     }

@@ -1,11 +1,11 @@
-use Rattle.std.proofs.Common.{refl, [], arith}
+use Rattle.std.proofs.Common.{refl, sym, ◌∙◌, [], arith}
 use Rattle.elem_core.specs.Shown.{name_bytes, line_bytes}
 use Rattle.shell_terms.specs.Edit.{add}
 use Rattle.plain_space.specs.Workspace.{Workspace}
 use Rattle.plain_space.specs.declared.refusal.Refusal.TheVariants.{Limit}
 use Rattle.space_state.specs.Roots.{Keeps}
 use Rattle.space_state.proofs.Keeping.{lines-length, lines-short}
-use Rattle.space_state.proofs.Editing.{found-lines, add-absent, add-full, add-made, pushes, refuses, no-room, due-absent, HasText, has-text, longer, can-put, edit-done, edit-refused, fails}
+use Rattle.space_state.proofs.Editing.{outside-apart, found-lines, add-absent, add-full, add-made, pushes, refuses, no-room, due-absent, HasText, has-text, longer, can-put, edit-done, edit-refused, fails}
 use Rattle.space_state.proofs.roots.RootedHeap.add.Goals as goal
 use Rattle.space_state.proofs.roots.RootedHeap.add.Goals.{After-cell-line}
 
@@ -22,6 +22,18 @@ returns-then-len c = λ W K.
     let text = line_bytes c.args.line in
     let found = found-lines c.args.self.now c.in_ok-lines.lines W.current name (c.in_ok-lines.ensures W K) in
     edit-refused refl (refuses W (add name text) Limit (add-full W.current name text found.0 found.1 (omega (arith, c.if-len.true, c.len.ensures.value, lines-length found.2))))
+
+pub add_in_place-requires : goal.add_in_place-requires
+add_in_place-requires c =
+    let W = c.requires.0 in
+    let K = c.requires.1 in
+    let found = found-lines c.args.self.now c.in_ok-lines.lines W.current (name_bytes c.args.name) (c.in_ok-lines.ensures W K) in
+    (W, found.0, K, sym (c.in_batch.ensures [] W K) ∙ c.if-in_batch.true, found.1, grind (arith, c.if-len.false, c.len.ensures.value, lines-length found.2, lines-short found.2))
+
+pub returns-then-in_batch : goal.returns-then-in_batch
+returns-then-in_batch c = λ W K.
+    let found = found-lines c.args.self.now c.in_ok-lines.lines W.current (name_bytes c.args.name) (c.in_ok-lines.ensures W K) in
+    c.add_in_place.ensures W found.0 K (sym (c.in_batch.ensures [] W K) ∙ c.if-in_batch.true) found.1 (grind (arith, c.if-len.false, c.len.ensures.value, lines-length found.2, lines-short found.2))
 
 pub returns-in_err-key : goal.returns-in_err-key
 returns-in_err-key c = λ W K.
@@ -63,4 +75,4 @@ returns c = λ W K.
     let has = there (goal.at.returns c).After-cell-line W K in
     let m = longer has c.in-Ok.ensures.answered c.in-Ok.ensures.good c.in-Ok.ensures.items in
     let done = add-made W.current name text has.lines.xs has.lines.found (grind (arith, c.if-len.false, c.len.ensures.value, lines-length has.lines.before, lines-short has.lines.before)) in
-    edit-done (add name text) has.named has.room m done (c.put_lines.ensures W _ m.keeps m.lines has.room.free) (omega (arith, has.lines.now.vector.shape.low))
+    edit-done (add name text) has.named has.room m done (c.put_lines.ensures W _ m.keeps m.lines has.room.free) (omega (arith, has.lines.now.vector.shape.low)) (outside-apart W (sym (c.in_batch.ensures [] W K) ∙ c.if-in_batch.false))

@@ -50,4 +50,4 @@ returns-clause-ends c = λ W K.
     let room : is_full W ≡ false = sym (c.is_full.ensures W K) ∙ c.if-is_full.false in
     let there = some-there c.args.self.now.heap c.args.self.now.bits (c.version.ensures W K) c.in-Some.is in
     let held = held (goal.at.returns-clause-ends c).After-hold W K in
-    record { after = _; told = back-done W _ outside there.0 there.1 room; turns = turns-after 0 64 held.rises refl (c.turn_to.ensures W there.0 held.keeps held.is room) (omega arith) }
+    record { after = _; told = back-done W _ outside there.0 there.1 room; turns = turns-after 0 64 held.rises refl (c.turn_to.ensures W there.0 held.keeps held.is room) (omega arith); few_made = λ placed inside. absurd placed }

@@ -21,4 +21,5 @@ returns-clause-obeys c = λ W K.
       after = _;
       told = begin-done W outside;
       turns = turns-by 0 (keeps-open c.args.self.now.roots.current W.current (closed-batch K outside) held (current-stands held)) refl (rises-answered once);
+      few_made = λ placed inside. absurd placed;
     }

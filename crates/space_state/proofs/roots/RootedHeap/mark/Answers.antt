@@ -82,4 +82,5 @@ returns c = λ W K.
       after = record W { versions = map.insert W.versions c.in_ok-key.key W.current };
       told = rw key (mark-done W (name_bytes c.args.name) outside none);
       turns = turns-then (64 + alike_versions c.args.self.now.bits W (name_bytes c.args.name)) made.0 (c.turn_versions.ensures W _ made.0.keeps made.1) (omega arith);
+      few_made = λ placed inside. absurd placed;
     }

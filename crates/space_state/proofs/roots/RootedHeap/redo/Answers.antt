@@ -71,4 +71,5 @@ returns-clause-ends c = λ W K.
       after = _;
       told = redo-done W moved.x (take (length W.redo - 1) W.redo) (W.undo ++ W.current ∷ []) (step-done W W.redo W.undo room.outside moved.x moved.last room.room);
       turns = turns-after 9 64 (rises-then (rises-same room.same.heap) (rises-trades c.popped-redo.ensures.trades)) room.same.bits pushed (omega arith);
+      few_made = λ placed inside. absurd placed;
     }

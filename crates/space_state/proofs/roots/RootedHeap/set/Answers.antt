@@ -1,11 +1,11 @@
-use Rattle.std.proofs.Common.{refl, [], arith}
+use Rattle.std.proofs.Common.{refl, sym, ◌∙◌, [], arith}
 use Rattle.elem_core.specs.Shown.{name_bytes, line_bytes}
 use Rattle.shell_terms.specs.Edit.{set}
 use Rattle.plain_space.specs.Workspace.{Workspace}
 use Rattle.plain_space.specs.declared.refusal.Refusal.TheVariants.{Range}
 use Rattle.space_state.specs.Roots.{Keeps}
 use Rattle.space_state.proofs.Keeping.{lines-length}
-use Rattle.space_state.proofs.Editing.{found-lines, set-absent, set-past, set-made, sets, refuses, no-room, due-absent, HasText, has-text, changed, can-put, edit-done, edit-refused, fails}
+use Rattle.space_state.proofs.Editing.{outside-apart, found-lines, set-absent, set-past, set-made, sets, refuses, no-room, due-absent, HasText, has-text, changed, can-put, edit-done, edit-refused, fails}
 use Rattle.space_state.proofs.roots.RootedHeap.set.Goals as goal
 use Rattle.space_state.proofs.roots.RootedHeap.set.Goals.{After-cell-line}
 
@@ -22,6 +22,18 @@ returns-then-index-len c = λ W K.
     let text = line_bytes c.args.line in
     let found = found-lines c.args.self.now c.in_ok-lines.lines W.current name (c.in_ok-lines.ensures W K) in
     edit-refused refl (refuses W (set name c.args.index text) Range (set-past W.current name text c.args.index found.0 found.1 (omega (arith, c.if-index-len.true, c.len.ensures.value, lines-length found.2))))
+
+pub set_in_place-requires : goal.set_in_place-requires
+set_in_place-requires c =
+    let W = c.requires.0 in
+    let K = c.requires.1 in
+    let found = found-lines c.args.self.now c.in_ok-lines.lines W.current (name_bytes c.args.name) (c.in_ok-lines.ensures W K) in
+    (W, found.0, K, sym (c.in_batch.ensures [] W K) ∙ c.if-in_batch.true, found.1, omega (arith, c.if-index-len.false, c.len.ensures.value, lines-length found.2))
+
+pub returns-then-in_batch : goal.returns-then-in_batch
+returns-then-in_batch c = λ W K.
+    let found = found-lines c.args.self.now c.in_ok-lines.lines W.current (name_bytes c.args.name) (c.in_ok-lines.ensures W K) in
+    c.set_in_place.ensures W found.0 K (sym (c.in_batch.ensures [] W K) ∙ c.if-in_batch.true) found.1 (omega (arith, c.if-index-len.false, c.len.ensures.value, lines-length found.2))
 
 pub returns-in_err-key : goal.returns-in_err-key
 returns-in_err-key c = λ W K.
@@ -63,4 +75,4 @@ returns c = λ W K.
     let has = there (goal.at.returns c).After-cell-line W K in
     let m = changed has c.in-Ok.ensures.answered c.in-Ok.ensures.good c.args.index c.in-Ok.ensures.items in
     let done = set-made W.current name text c.args.index has.lines.xs has.lines.found (omega (arith, c.if-index-len.false, c.len.ensures.value, lines-length has.lines.before)) in
-    edit-done (set name c.args.index text) has.named has.room m done (c.put_lines.ensures W _ m.keeps m.lines has.room.free) (omega (arith, has.lines.now.vector.shape.low))
+    edit-done (set name c.args.index text) has.named has.room m done (c.put_lines.ensures W _ m.keeps m.lines has.room.free) (omega (arith, has.lines.now.vector.shape.low)) (outside-apart W (sym (c.in_batch.ensures [] W K) ∙ c.if-in_batch.false))

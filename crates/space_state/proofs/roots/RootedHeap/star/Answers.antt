@@ -67,4 +67,5 @@ returns c = λ W K.
       after = with_current W (with_star W.current c.in_ok-key.key);
       told = rw key (does W (star (name_bytes c.args.name)) _ (star-made W.current (name_bytes c.args.name) none) made.free);
       turns = turns-then (64 + alike_stars c.args.self.now.bits W.current (name_bytes c.args.name)) made.turns (c.turn_to.ensures W _ made.turns.keeps made.is made.free) (omega arith);
+      few_made = λ placed inside. absurd placed;
     }

@@ -71,4 +71,5 @@ returns-clause-ends c = λ W K.
       after = _;
       told = undo-done W moved.x (take (length W.undo - 1) W.undo) (W.redo ++ W.current ∷ []) (step-done W W.undo W.redo room.outside moved.x moved.last room.room);
       turns = turns-after 9 64 (rises-then (rises-same room.same.heap) (rises-trades c.popped-undo.ensures.trades)) room.same.bits pushed (omega arith);
+      few_made = λ placed inside. absurd placed;
     }

@@ -64,4 +64,5 @@ returns-clause-ends c = λ W K.
       told = unmark-done W (name_bytes c.args.name) outside there;
       turns = turns-after _ (64 + alike_versions c.args.self.now.bits W (name_bytes c.args.name)) (rises-then (rises-same c.make_version_room.ensures.same.heap) (rises-answered answered)) c.make_version_room.ensures.same.bits
           turned (omega (arith, same));
+      few_made = λ placed inside. absurd placed;
     }

@@ -55,4 +55,5 @@ returns-clause-ends c = λ W K.
       after = with_current W (without_star W.current (name_bytes c.args.name));
       told = does W (unstar (name_bytes c.args.name)) _ (unstar-made W.current (name_bytes c.args.name) there) made.free;
       turns = turns-then (64 + alike_stars c.args.self.now.bits W.current (name_bytes c.args.name)) made.turns (c.turn_to.ensures W _ made.turns.keeps made.is made.free) (omega arith);
+      few_made = λ placed inside. absurd placed;
     }

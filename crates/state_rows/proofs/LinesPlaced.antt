@@ -1,0 +1,195 @@
+-- How the lines of a buffer are edited below a state row with one owner.
+use Rattle.std.proofs.Common.{◌≡◌, ◌≢◌, ℕ, ◌+◌, ◌<◌, ◌≤◌, List, [], ◌∷◌, ◌++◌, length, remove, Bool, true, false, cond, eqb, Option, Some, None, refl, sym, subst, ap, ◌∙◌, arith}
+use Rattle.std.specs.Prelude.{option_map, IsSomeAnd, slice_get, slice_set}
+use Rattle.std.specs.List.{AllZip}
+use Rattle.std.proofs.lemmas.Bool.Decides.{nat_tests}
+use Rattle.node_heap.specs.Links.{count, HasLink, Reaches, here, below}
+use Rattle.node_heap.specs.Forms.{Row, Kind, cell, node, form_of, links_of, is_node}
+use Rattle.node_heap.specs.Heap.{Heap, row_at, form_at, links_at, holds_at, owners_at, one_at, IsGraph}
+use Rattle.node_heap.specs.Calls.{Extends, Builds, KeepsHeld, Releases, Trades}
+use Rattle.node_heap.specs.InPlace.{child_at, OwnsDown, Changes, path_start, path_then}
+use Rattle.node_heap.specs.Owner.{by_hold, by_place, relinked, with_root, links_beside, EditsBy}
+use Rattle.node_heap.proofs.Counts.{test_same}
+use Rattle.node_heap.proofs.BuildLemmas.{count-cons, count-one}
+use Rattle.node_heap.proofs.EditLaws.{KeepsHeld-own}
+use Rattle.node_heap.proofs.Edited.{Changes-path, Changes-follow, Trades-both}
+use Rattle.node_heap.proofs.OwnerLemmas.{EditsBy-hold, KeepsHeld-EditsBy, held-root}
+use Rattle.node_heap.proofs.Frames.{Balances-Releases, KeepsHeld-Releases, KeepsHeld-then}
+use Rattle.node_heap.proofs.GraphLemmas.{IsGraph-acyclic}
+use Rattle.node_heap.proofs.Reach.{Reaches-trans}
+use Rattle.rrb_core.specs.Vector.{elements}
+use Rattle.edit_vec.specs.Edit.{PushesElement, SetsElement}
+use Rattle.edit_vec.specs.Laws.{KeepsBesideAndElements}
+use Rattle.champ_kinds.proofs.ZipLemmas.{zip-length}
+use Rattle.shell_terms.specs.Edit.{Bytes}
+use Rattle.plain_space.specs.Workspace.{State}
+use Rattle.plain_space.specs.Cost.{alike_buffers}
+use Rattle.elem_core.specs.declared.codes.TheConstants.{DEEPEST}
+use Rattle.state_rows.specs.InHeap.{IsTextIn, AreLinesIn, IsStateIn}
+use Rattle.state_rows.specs.InPlace.{OwnsLines}
+use Rattle.state_rows.proofs.Zips.{zip-at, zip-push, zip-set, zip-among}
+use Rattle.state_rows.proofs.Staying.{buffers-grown, names-grown}
+
+-- a state row that is made one's own
+pub state-owned : {old mid : Heap Bytes} {bits l k : ℕ} {s : State} → Extends old mid → row_at mid k ≡ row_at old l → IsStateIn old bits l s → IsStateIn mid bits k s
+state-owned {old} {mid} {bits} {s = s} more same is = record {
+  names = is.names;
+  stars = is.stars;
+  row = ap (option_map form_of) same ∙ is.row;
+  buffers_are = buffers-grown old mid more bits is.names s.buffers is.buffers_are;
+  stars_are = names-grown old mid more bits is.stars s.stars is.stars_are;
+}
+
+pub same-test : (p : ℕ) → eqb p p ≡ true
+same-test p = grind (arith, nat_tests)
+
+pub other-test : (l p : ℕ) → l ≢ p → eqb l p ≡ false
+other-test l p other = grind (arith, nat_tests)
+
+either-same : {Z : Type 0} (t : Bool) (z : Z) → cond t z z ≡ z
+either-same true z = refl
+either-same false z = refl
+
+module _ {T : Type 0} where
+  -- the owner's row has the new root
+  pub at-owner : (p r index : ℕ) (row : Option (Row T)) → with_root (by_place p index) r p row ≡ relinked index r row
+  at-owner p r index row = ap (λ t. cond t (relinked index r row) row) (same-test p)
+
+  -- a cell has no place for it
+  cell-unlinked : (p r index l : ℕ) (row : Option (Row T)) {x : T} → option_map form_of row ≡ Some (cell x) → with_root (by_place p index) r l row ≡ row
+  cell-unlinked p r index l None is = absurd (let h = is in cc)
+  cell-unlinked p r index l (Some (node head links)) is = absurd (let h = is in cc)
+  cell-unlinked p r index l (Some (cell y)) is = either-same (eqb l p) (Some (cell y))
+
+  -- a way down to a row goes beside the links of that row
+  pub sole-way : (h : Heap T) (p index : ℕ) → IsGraph h → (first x : ℕ) → OwnsDown h first x → Reaches (links_at h) x p → Reaches (links_beside h (by_place p index)) first x
+  sole-way h p index graph first _ path_start down = here first
+  sole-way h p index graph first x (path_then l _ path has one) down =
+      let up : Reaches (links_at h) l p = below l x p has down in
+      let other : l ≢ p = λ e. IsGraph-acyclic h graph l x has (subst (λ j. Reaches (links_at h) x j) (sym e) down) in
+      let link : HasLink (links_beside h (by_place p index)) l x = subst (λ t. 0 < count x (cond t (remove (links_at h l) index) (links_at h l))) (sym (other-test l p other)) has in
+      Reaches-trans (links_beside h (by_place p index)) first l x (sole-way h p index graph first l path up) (below l x x link (here x))
+
+-- a text stays where its cell does
+text-stays : (old new : Heap Bytes) {bits k : ℕ} {x : Bytes} → row_at new k ≡ row_at old k → IsTextIn old bits k x → IsTextIn new bits k x
+text-stays old new same is = record { row = ap (option_map form_of) same ∙ is.row; line = is.line }
+
+module _ {old new : Heap Bytes} {bits row pair v line : ℕ} {xs : List Bytes} {text : Bytes} (graph : IsGraph old) (down : OwnsDown old row pair) (held : 0 < holds_at old row) (kept : KeepsBesideAndElements (by_place pair 1) old new v)
+    (lines : AreLinesIn old bits (child_at old pair 1) xs) (is : IsTextIn old bits line text) (line_held : 0 < holds_at old line) where
+  -- the new line's cell stays, and so does each old one's
+  line-stays : IsTextIn new bits line text
+  line-stays = text-stays old new (kept.beside line line line_held (here line) ∙ cell-unlinked pair v 1 line (row_at old line) is.row) is
+
+  lines-stay : AllZip (IsTextIn new bits) (elements old (child_at old pair 1)) xs
+  lines-stay = zip-among (IsTextIn old bits) (IsTextIn new bits) (elements old (child_at old pair 1)) xs (λ k some x at. text-stays old new (kept.below k some k (here k)) at) lines.values
+
+  pub pushed-lines : PushesElement (by_place pair 1) old new v line → AreLinesIn new bits v (xs ++ text ∷ [])
+  pushed-lines push = record {
+    vector = push.vector.0;
+    values =
+        subst (λ (ks : List ℕ). AllZip (IsTextIn new bits) ks (xs ++ text ∷ [])) (sym push.vector.1)
+        (zip-push (IsTextIn new bits) (elements old (child_at old pair 1)) xs line text lines-stay line-stays);
+  }
+
+-- there is a hold of the state, and one of the line
+pub state-first : {n : ℕ} (state line : ℕ) → count state (state ∷ line ∷ []) ≤ n → 0 < n
+state-first state line enough = omega (arith, enough, count-cons state state (line ∷ []), test_same state state refl)
+
+-- a state's row is a node
+pub state-node : (r : Option (Row Bytes)) {kind : Kind} {links : List ℕ} → option_map form_of r ≡ Some (node kind links) → is_node r ≡ 1
+state-node None is = absurd (let h = is in cc)
+state-node (Some (cell x)) is = absurd (let h = is in cc)
+state-node (Some (node head links)) is = refl
+
+-- a cell leads nowhere
+pub cell-links : (r : Option (Row Bytes)) {x : Bytes} → option_map form_of r ≡ Some (cell x) → links_of r ≡ []
+cell-links None is = refl
+cell-links (Some (cell y)) is = refl
+cell-links (Some (node head links)) is = absurd (let h = is in cc)
+
+cell-ends : (h : Heap Bytes) (line p : ℕ) {x : Bytes} → form_at h line ≡ Some (cell x) → 1 < length (links_at h p) → ¬ Reaches (links_at h) line p
+cell-ends h line _ is two (here _) = absurd (omega (arith, two, ap length (cell-links (row_at h line) is)))
+cell-ends h line p is two (below _ k _ has down) = absurd (omega (arith, has, ap (count k) (cell-links (row_at h line) is)))
+
+some-text : {P : Bytes → Type 0} (o : Option Bytes) → IsSomeAnd o P → (x : Bytes) × P x
+some-text None is = absurd is
+some-text (Some x) is = (x, is)
+
+-- the state's row is made one's own, and then the way to the lines
+module _ (line : ℕ) {h0 h1 h2 : Heap Bytes} {bits state st : ℕ} {s : State} {name : Bytes} {xs : List Bytes} {pair : ℕ} (graph : IsGraph h0) (held : (k : ℕ) → count k (state ∷ line ∷ []) ≤ holds_at h0 k) (sole : owners_at h1 st ≡ 1)
+    (builds : Builds h0 h1 (state ∷ []) (st ∷ []) 0 1) (owns : OwnsLines h1 h2 bits st s name xs pair) where
+  own-held : 0 < holds_at h1 st
+  own-held = held-root graph (state-first state line (held state)) sole builds
+
+  -- holds of the line and of the state's row are left
+  mid-line : one_at st line < holds_at h1 line
+  mid-line = omega (arith, builds.holds line, held line, count-one line state, count-one line st, count-cons line state (line ∷ []), count-cons line line [], test_same line line refl)
+
+  pub line-left : 1 ≤ holds_at h2 line
+  line-left = omega (arith, owns.changes.trades.holds line, mid-line)
+
+  pub row-left : count st (line ∷ []) < holds_at h2 st
+  row-left = omega (arith, owns.changes.trades.holds st, builds.holds st, held st, count-one st state, count-one st st, count-one st line, count-cons st state (line ∷ []), test_same st st refl)
+
+  pub row-held : 0 < holds_at h2 st
+  row-held = omega (arith, row-left)
+
+  -- the line is still a cell of this text
+  pub line-there : {text : Bytes} → IsTextIn h0 bits line text → IsTextIn h2 bits line text
+  line-there is =
+      let keeps = KeepsHeld-own st own-held sole owns.changes in
+      text-stays h1 h2 (keeps.kept line (omega (arith, mid-line, count-cons line st [])) line (here line)) (text-stays h0 h1 (builds.extends.kept line (graph.held line (omega (arith, held line, count-cons line state (line ∷ []), count-cons line line [], test_same line line refl))) line (here line)) is)
+
+  pub line-apart : {text : Bytes} → IsTextIn h0 bits line text → ¬ Reaches (links_at h2) line pair
+  line-apart is = cell-ends h2 line pair (line-there is).row owns.two
+
+  -- what is changed at the pair then is an edit by the state's hold
+  pub edits-state : {h3 : Heap Bytes} {gained : List ℕ} {c n : ℕ} → Changes pair h2 h3 (line ∷ []) gained c n → EditsBy (by_hold state) h0 h3 st (line ∷ []) gained (0 + c) (1 + (DEEPEST + 2 + alike_buffers bits s name + n))
+  edits-state {h3} {gained} {c} {n} change =
+      let all : Changes st h1 h3 (line ∷ []) gained (0 + c) (DEEPEST + 2 + alike_buffers bits s name + n) = Changes-follow [] [] [] (line ∷ []) gained owns.changes (Changes-path owns.down change) in
+      EditsBy-hold graph (state-first state line (held state)) sole builds all
+
+-- as many lines as elements
+pub lines-many : {h : Heap Bytes} {bits l : ℕ} {xs : List Bytes} → AreLinesIn h bits l xs → length (elements h l) ≡ length xs
+lines-many {h} {bits} {l} {xs} are = zip-length (IsTextIn h bits) (elements h l) xs are.values
+
+-- ## A line that was put in another's place, which is given up
+
+-- what a release spends
+trades-released : {old new : Heap Bytes} {l : ℕ} → Releases old new l → IsGraph new → Trades old new (l ∷ []) [] 0 0
+trades-released {l = l} rel graph = record {
+  graph = graph;
+  holds = λ k. omega (arith, rel.holds k, count-one k l);
+  total = omega (arith, rel.count);
+  cells = omega (arith, rel.fewer_cells);
+  nodes = omega (arith, rel.fewer_nodes);
+  balance = Balances-Releases rel;
+  made = omega (arith, rel.made);
+}
+
+module _ {h0 h3 h4 : Heap Bytes} {state st line given c n : ℕ} (edit : EditsBy (by_hold state) h0 h3 st (line ∷ []) (given ∷ []) c n) (rel : Releases h3 h4 given) (graph : IsGraph h4) where
+  pub set-trades : Trades h0 h4 (state ∷ line ∷ []) (st ∷ []) (c + 0) (n + 0)
+  set-trades = Trades-both (state ∷ line ∷ []) (st ∷ []) edit.trades (trades-released rel graph) (λ k. omega (arith, count-cons k st (given ∷ []), count-one k st, count-one k given)) (omega arith)
+
+  pub set-keeps : KeepsHeld (λ l. count l (state ∷ line ∷ [])) h0 h4
+  set-keeps =
+      KeepsHeld-then (λ l. count l (state ∷ line ∷ [])) (KeepsHeld-EditsBy edit) (KeepsHeld-Releases h3 h4 given rel graph) (λ l some. some)
+      (λ l some. omega (arith, some, edit.trades.holds l, count-cons l st (given ∷ []), count-one l given)) (λ l. omega (arith, edit.trades.holds l, rel.holds l, count-cons l st (given ∷ []), count-one l given))
+
+module _ {old new : Heap Bytes} {bits row pair v line index given : ℕ} {xs : List Bytes} {text : Bytes} (graph : IsGraph old) (down : OwnsDown old row pair) (held : 0 < holds_at old row) (kept : KeepsBesideAndElements (by_place pair 1) old new v)
+    (lines : AreLinesIn old bits (child_at old pair 1) xs) (is : IsTextIn old bits line text) (line_held : 0 < holds_at old line) (set : SetsElement (by_place pair 1) old new v index line given) where
+  pub set-lines : AreLinesIn new bits v (slice_set xs index text)
+  set-lines = record {
+    vector = set.vector.0;
+    values =
+        subst (λ (ks : List ℕ). AllZip (IsTextIn new bits) ks (slice_set xs index text)) (sym set.vector.1)
+        (zip-set (IsTextIn new bits) (elements old (child_at old pair 1)) xs index line text (lines-stay graph down held kept lines is line_held) (line-stays graph down held kept lines is line_held));
+  }
+
+  -- what came back is a cell still
+  pub given-text : index < length xs → (x : Bytes) × IsTextIn new bits given x
+  given-text inside =
+      let es = elements old (child_at old pair 1) in
+      let at = zip-at (IsTextIn new bits) es xs index inside (lines-stay graph down held kept lines is line_held) in
+      let there = some-text (slice_get xs index) at in
+      (there.0, subst (λ (k : ℕ). IsTextIn new bits k there.0) (sym set.back) there.1)

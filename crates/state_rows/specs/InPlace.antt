@@ -1,0 +1,28 @@
+-- What an edit in place of a state makes.
+use Rattle.std.specs.Prelude.{◌≡◌, ℕ, ◌+◌, ◌<◌, ◌≤◌, List, [], length}
+use Rattle.elem_core.specs.declared.codes.TheConstants.{DEEPEST}
+use Rattle.node_heap.specs.Links.{count}
+use Rattle.node_heap.specs.Heap.{Heap, links_at, holds_at, owners_at, live_count}
+use Rattle.node_heap.specs.Calls.{MakesWhatCame}
+use Rattle.node_heap.specs.InPlace.{child_at, OwnsDown, Changes}
+use Rattle.node_heap.specs.Owner.{by_place, KeepsBeside}
+use Rattle.shell_terms.specs.Edit.{Bytes}
+use Rattle.plain_space.specs.Workspace.{State, with_lines}
+use Rattle.plain_space.specs.Cost.{alike_buffers}
+use Rattle.state_rows.specs.InHeap.{AreLinesIn, IsStateIn}
+
+-- at most so many rows are made in vain: the number made rises by no more than the rows gain, and so many more
+abbrev pub MakesFew : {T : Type 0} → Heap T → Heap T → ℕ → Type 0
+MakesFew old new more = new.made + live_count old ≤ old.made + live_count new + more
+
+-- Inside: below a state row with one owner the pair of a buffer's name and its lines has one owner too, and so has each row on the way
+-- to it; the state is the same, and any change at the pair that puts another vector there makes the state with these lines
+pub record OwnsLines (old new : Heap Bytes) (bits row : ℕ) (s : State) (name : Bytes) (xs : List Bytes) (pair : ℕ) : Type 0 where
+  pub sole : owners_at new pair ≡ 1
+  pub two : 1 < length (links_at new pair)
+  pub down : OwnsDown new row pair
+  pub lines : AreLinesIn new bits (child_at new pair 1) xs
+  pub changes : Changes row old new [] [] 0 (DEEPEST + 2 + alike_buffers bits s name)
+  pub makes : MakesWhatCame old new
+  pub later : (next : Heap Bytes) (v : ℕ) (ys : List Bytes) (spent gained : List ℕ) (c n : ℕ) → Changes pair new next spent gained c n → count row spent < holds_at new row → KeepsBeside (by_place pair 1) v (λ _. 0) new next
+      → AreLinesIn next bits v ys → IsStateIn next bits row (with_lines s name ys)

@@ -1,0 +1,123 @@
+//! States edited in place, as a batch does: the state row, the rows on the way to the buffer's name and those on the way to its
+//! line are written where each has one owner, and copied where it has more. Each call takes the rows that it makes from
+//! spares, which its caller has reserved, and keeps what is held besides.
+ghost use Rattle.std.specs.Prelude.{◌≡◌, ℕ, ◌+◌, ◌^◌, ◌<◌, ◌≤◌, List, [], ◌∷◌, ◌++◌, length, slice_set, Some, None};
+ghost use Rattle.elem_core.specs.declared.codes.TheConstants.{CODE_BITS, DEEPEST};
+ghost use Rattle.elem_core.specs.Naming.{IsName};
+ghost use Rattle.elem_core.specs.Shown.{name_bytes};
+ghost use Rattle.node_heap.specs.Links.{count};
+ghost use Rattle.node_heap.specs.Heap.{holds_at, owners_at, hold_count, HasSpares};
+ghost use Rattle.node_heap.specs.Calls.{HasHolds, KeepsHeld, Trades};
+ghost use Rattle.shell_terms.specs.Edit.{Bytes};
+ghost use Rattle.plain_space.specs.Workspace.{State, most, lines_of, with_lines as has_lines};
+ghost use Rattle.plain_space.specs.Cost.{alike_buffers};
+ghost use Rattle.state_rows.specs.InHeap.{IsTextIn, AreLinesIn, IsStateIn};
+ghost use Rattle.state_rows.specs.InPlace.{MakesFew, OwnsLines};
+
+use edit_trie::{insert_at, own_value_at};
+use edit_vec::{push_at, set_at};
+use elem_core::{Name, Text};
+use node_heap::{Heap, Link};
+use rrb_core::Flex;
+
+/// The state with the line after the last of the buffer, which is there and has room for one more. It spends the holds of the
+/// state and of the line. No row is made in vain.
+pub fn line_added(heap: &mut Heap<Text>, bits: u32, state: Link, name: Name<'_>, line: Link) -> Link
+    requires few { hold_count heap.old < 2 ^ 58 }
+    requires bits { bits ≤ CODE_BITS }
+    requires held { HasHolds heap.old (state ∷ line ∷ []) }
+    requires line { (text : Bytes) × IsTextIn heap.old bits line text }
+    requires state { (s : State) × (xs : List Bytes) × IsStateIn heap.old bits state s × (lines_of s (name_bytes name) ≡ Some xs) × (length xs < most)
+        × HasSpares heap.old 0 (DEEPEST + 12 + alike_buffers bits s (name_bytes name)) }
+    ensures keeps { KeepsHeld (λ l. count l (state ∷ line ∷ [])) heap.old heap.new }
+    ensures trades { (s : State) (xs : List Bytes) → IsStateIn heap.old bits state s → lines_of s (name_bytes name.entry) ≡ Some xs →
+        Trades heap.old heap.new (state ∷ line ∷ []) (result ∷ []) 0 (DEEPEST + 12 + alike_buffers bits s (name_bytes name.entry)) }
+    ensures made { MakesFew heap.old heap.new 0 }
+    ensures state { (s : State) (xs : List Bytes) (text : Bytes) → IsStateIn heap.old bits state s → lines_of s (name_bytes name.entry) ≡ Some xs → IsTextIn heap.old bits line text →
+        IsStateIn heap.new bits result (has_lines s (name_bytes name.entry) (xs ++ text ∷ [])) }
+{
+    // The call tells the proof that this is the graph of a heap.
+    let _ = heap.live();
+    let state = heap.own(state);
+    let pair = own_lines(heap, bits, state, name);
+    let Ok(()) = push_at(heap, pair, 1, line) else {
+        unreachable!()
+    };
+    state
+}
+
+/// The state with the line at the index of the buffer, which is there and reaches so far. It spends the holds of the state and
+/// of the line. One row at most is made in vain: the line's cell, for which the old one goes.
+pub fn line_set(
+    heap: &mut Heap<Text>,
+    bits: u32,
+    state: Link,
+    name: Name<'_>,
+    index: u32,
+    line: Link,
+) -> Link
+    requires few { hold_count heap.old < 2 ^ 58 }
+    requires bits { bits ≤ CODE_BITS }
+    requires held { HasHolds heap.old (state ∷ line ∷ []) }
+    requires line { (text : Bytes) × IsTextIn heap.old bits line text }
+    requires state { (s : State) × (xs : List Bytes) × IsStateIn heap.old bits state s × (lines_of s (name_bytes name) ≡ Some xs) × (index < length xs)
+        × HasSpares heap.old 0 (DEEPEST + 11 + alike_buffers bits s (name_bytes name)) }
+    ensures keeps { KeepsHeld (λ l. count l (state ∷ line ∷ [])) heap.old heap.new }
+    ensures trades { (s : State) (xs : List Bytes) → IsStateIn heap.old bits state s → lines_of s (name_bytes name.entry) ≡ Some xs →
+        Trades heap.old heap.new (state ∷ line ∷ []) (result ∷ []) 0 (DEEPEST + 11 + alike_buffers bits s (name_bytes name.entry)) }
+    ensures made { MakesFew heap.old heap.new 1 }
+    ensures state { (s : State) (xs : List Bytes) (text : Bytes) → IsStateIn heap.old bits state s → lines_of s (name_bytes name.entry) ≡ Some xs → IsTextIn heap.old bits line text →
+        IsStateIn heap.new bits result (has_lines s (name_bytes name.entry) (slice_set xs index text)) }
+{
+    // The call tells the proof that this is the graph of a heap.
+    let _ = heap.live();
+    let state = heap.own(state);
+    let pair = own_lines(heap, bits, state, name);
+    let Ok(before) = set_at(heap, pair, 1, index, line) else {
+        unreachable!()
+    };
+    heap.release(before);
+    state
+}
+
+/// The state with a buffer of these lines, of which there is none of the name yet. It spends the holds of the state and of
+/// the lines. No row is made in vain.
+pub fn buffer_made(heap: &mut Heap<Text>, bits: u32, state: Link, key: Text, lines: Flex) -> Link
+    requires few { hold_count heap.old < 2 ^ 58 }
+    requires bits { bits ≤ CODE_BITS }
+    requires held { HasHolds heap.old (state ∷ lines ∷ []) }
+    requires name { IsName key }
+    requires lines { (xs : List Bytes) × AreLinesIn heap.old bits lines xs }
+    requires state { (s : State) × IsStateIn heap.old bits state s × (lines_of s key ≡ None) × HasSpares heap.old 1 (DEEPEST + 4 + alike_buffers bits s key) }
+    ensures keeps { KeepsHeld (λ l. count l (state ∷ lines ∷ [])) heap.old heap.new }
+    ensures trades { (s : State) → IsStateIn heap.old bits state s → Trades heap.old heap.new (state ∷ lines ∷ []) (result ∷ []) 1 (DEEPEST + 4 + alike_buffers bits s key) }
+    ensures made { MakesFew heap.old heap.new 0 }
+    ensures state { (s : State) (xs : List Bytes) → IsStateIn heap.old bits state s → AreLinesIn heap.old bits lines xs → IsStateIn heap.new bits result (has_lines s key xs) }
+{
+    // The call tells the proof that this is the graph of a heap.
+    let _ = heap.live();
+    let state = heap.own(state);
+    let Ok(_) = insert_at(heap, state, 0, bits, key, lines.into_root()) else {
+        unreachable!()
+    };
+    state
+}
+
+// The pair of the buffer's name and its lines, below a state row with one owner: a row with one owner too, as is each on the way to it.
+fn own_lines(heap: &mut Heap<Text>, bits: u32, state: Link, name: Name<'_>) -> Link
+    requires few { hold_count heap.old < 2 ^ 58 }
+    requires bits { bits ≤ CODE_BITS }
+    requires held { 0 < holds_at heap.old state }
+    requires sole { owners_at heap.old state ≡ 1 }
+    requires state { (s : State) × (xs : List Bytes) × IsStateIn heap.old bits state s × (lines_of s (name_bytes name) ≡ Some xs)
+        × HasSpares heap.old 0 (DEEPEST + 2 + alike_buffers bits s (name_bytes name)) }
+    ensures { (s : State) (xs : List Bytes) → IsStateIn heap.old bits state s → lines_of s (name_bytes name.entry) ≡ Some xs → OwnsLines heap.old heap.new bits state s (name_bytes name.entry) xs result }
+{
+    // The call tells the proof that this is the graph of a heap.
+    let _ = heap.live();
+    let Ok(found) = own_value_at(heap, state, 0, bits, &name) else {
+        unreachable!()
+    };
+    let Some(pair) = found else { unreachable!() };
+    pair
+}
