@@ -2,7 +2,7 @@
 use Rattle.std.proofs.Common.{◌≡◌, ℕ, zero, suc, ◌+◌, ◌-◌, ◌<◌, ◌≤◌, List, [], ◌∷◌, ◌++◌, length, take, drop, set, map, Bool, true, false, cond, ◌&&◌, leb, ltb, Option, Some, None, is_some, IsSome, option_map, eqb, Result, Ok, Err, refl, sym, ap, subst, ◌∙◌, arith}
 use Rattle.std.proofs.lemmas.Bool.Decides.{nat_tests}
 use Rattle.std.proofs.lemmas.List.{drop-take}
-use Rattle.std.specs.Prelude.{nat_le, nat_lt, IsSomeAnd, IsOk, IsErrAnd, is_ok, MatchBool, MatchResult, count_by, slice_range}
+use Rattle.std.specs.Prelude.{nat_le, nat_lt, IsSomeAnd, IsOk, IsErrAnd, MatchBool, MatchResult, count_by, slice_range}
 use Rattle.std.specs.List.{AllZip, insert, remove_range}
 use Rattle.std.specs.declared.cmp.Ordering.{Ordering}
 use Rattle.std.specs.declared.cmp.Ordering.TheVariants.{Less, Equal, Greater}
@@ -20,10 +20,6 @@ use Rattle.node_heap.proofs.BuildLemmas.{count-cons}
 use Rattle.champ_chain.proofs.SetLemmas.{count-cons as counted}
 use Rattle.rrb_core.specs.Vector.{IsGoodVector, elements, height_at}
 use Rattle.rrb_core.proofs.Stays.{well-live, extended-same}
-use Rattle.rrb_core.specs.declared.grow.PushFault.{PushFault}
-use Rattle.rrb_core.specs.declared.grow.PushFault.TheVariants.{Long as push_long, Memory as push_memory}
-use Rattle.rrb_core.specs.declared.replace.SetFault.{SetFault}
-use Rattle.rrb_core.specs.declared.replace.SetFault.TheVariants.{Range as set_range, Memory as set_memory}
 use Rattle.rrb_join.specs.declared.inserting.InsertFault.{InsertFault}
 use Rattle.rrb_join.specs.declared.inserting.InsertFault.TheVariants.{Range as insert_range, Long as insert_long, Memory as insert_memory}
 use Rattle.rrb_join.specs.declared.cutting.SliceFault.{SliceFault}
@@ -34,7 +30,7 @@ use Rattle.shell_terms.specs.Edit.{Bytes, PlainEdit, new, add, set as set_line, 
 use Rattle.shell_terms.specs.Command.{PlainCommand, edit}
 use Rattle.plain_space.specs.declared.refusal.Refusal.{Refusal}
 use Rattle.plain_space.specs.declared.refusal.Refusal.TheVariants.{Absent, Exists, Range, Limit, Memory}
-use Rattle.plain_space.specs.Workspace.{State, Workspace, most, in_batch, lines_of, with_lines, without_lines, is_starred, with_star, without_star, is_full, with_current}
+use Rattle.plain_space.specs.Workspace.{State, Workspace, most, lines_of, with_lines, without_lines, is_starred, with_star, without_star, is_full, with_current}
 use Rattle.plain_space.specs.Refusing.{needs, unless, given, on_lines, on_range, room}
 use Rattle.plain_space.specs.Edited.{edited}
 use Rattle.plain_space.specs.Answer.{answer, done, becomes}
@@ -73,13 +69,6 @@ module _ {X Y : Type 0} (R : X → Y → Type 0) where
   zip-drop (suc n) [] (x ∷ xs) zip = absurd zip
   zip-drop (suc n) (a ∷ ks) [] zip = absurd zip
   zip-drop (suc n) (a ∷ ks) (x ∷ xs) zip = zip-drop n ks xs zip.1
-
-  pub zip-set : (n : ℕ) (a : X) (x : Y) → R a x → (ks : List X) (xs : List Y) → AllZip R ks xs → AllZip R (set ks n a) (set xs n x)
-  zip-set n a x is [] [] zip = tt
-  zip-set n a x is [] (y ∷ ys) zip = absurd zip
-  zip-set n a x is (b ∷ bs) [] zip = absurd zip
-  zip-set zero a x is (b ∷ bs) (y ∷ ys) zip = (is, zip.1)
-  zip-set (suc n) a x is (b ∷ bs) (y ∷ ys) zip = (zip.0, zip-set n a x is bs ys zip.1)
 
 -- a part of a list is what is left of its first elements without the first of these
 pub part-is : {X : Type 0} (from to : ℕ) (xs : List X) → from ≤ to → slice_range xs from to ≡ drop from (take to xs)
@@ -139,9 +128,9 @@ found-lines s l now name is = some-of (AreLinesIn s.heap s.bits l) (lines_of now
 -- ## What an edit comes to
 
 module _ (now : State) (name : Bytes) where
-  pub new-taken : (xs : List Bytes) → lines_of now name ≡ Some xs → edited now (new name) ≡ Err Exists
+  pub new-taken : is_some (lines_of now name) ≡ true → edited now (new name) ≡ Err Exists
   unfolding edited
-  new-taken xs is = ap (λ o. unless (is_some o) Exists (Ok (with_lines now name []))) is
+  new-taken is = ap (λ t. unless t Exists (Ok (with_lines now name []))) is
 
   pub new-made : lines_of now name ≡ None → edited now (new name) ≡ Ok (with_lines now name [])
   unfolding edited
@@ -459,16 +448,6 @@ module _ {s t : RootedHeap} {mid new : Heap Bytes} {k l v n : ℕ} {key name tex
   alone : IsText (form_at new) (IsGoodVector new) t.bits k text
   alone = text-made has.adds a.extends has.is
 
-  pub longer : elements new v ≡ elements mid l ++ k ∷ [] → IsMade t new [] v (has.lines.xs ++ text ∷ []) W 1 n
-  longer items =
-      let R : ℕ → Bytes → Type 0 = IsText (form_at new) (IsGoodVector new) t.bits in
-      made-of (elements mid l ++ k ∷ []) (has.lines.xs ++ text ∷ []) items (zip-append R (elements mid l) (k ∷ []) has.lines.xs (text ∷ []) kept (alone, tt))
-
-  pub changed : (i : ℕ) → elements new v ≡ set (elements mid l) i k → IsMade t new [] v (set has.lines.xs i text) W 1 n
-  changed i items =
-      let R : ℕ → Bytes → Type 0 = IsText (form_at new) (IsGoodVector new) t.bits in
-      made-of (set (elements mid l) i k) (set has.lines.xs i text) items (zip-set R i k text alone (elements mid l) has.lines.xs kept)
-
   pub inserted : (i : ℕ) → elements new v ≡ take i (elements mid l) ++ k ∷ drop i (elements mid l) → IsMade t new [] v (insert has.lines.xs i text) W 1 n
   inserted i items =
       let R : ℕ → Bytes → Type 0 = IsText (form_at new) (IsGoodVector new) t.bits in
@@ -567,7 +546,7 @@ can-put {s} {t} {xs = xs} {W = W} {key = key} {name = name} named room m few_cel
 -- the lines were made where there was room for them, and the state turned to the one that has them
 pub lines-put : {s t u : RootedHeap} {new : Heap Bytes} {l c n : ℕ} {xs : List Bytes} {W : Workspace} {key name : Bytes} (change : PlainEdit) → key ≡ name → IsSame s t → is_full W ≡ false → IsMade t new [] l xs W c n
     → edited W.current change ≡ Ok (with_lines W.current name xs) → TurnsTo (record t { heap = new }) u [] (22 + alike_buffers t.bits W.current key) (with_current W (with_lines W.current key xs))
-    → c + n + (22 + alike_buffers s.bits W.current name) ≤ edit_cost s.bits change W.current → (IsInPlace (edit change) → in_batch W ≡ true → ⊥) → IsCarriedOut (edit change) s u W
+    → c + n + (22 + alike_buffers s.bits W.current name) ≤ edit_cost s.bits change W.current → (IsInPlace (edit change) → ⊥) → IsCarriedOut (edit change) s u W
 lines-put {s} {t} {u} {new} {l} {c} {n} {xs} {W} {key} {name} change is same free m made turn less apart =
     let named : TurnsTo (record t { heap = new }) u [] (22 + alike_buffers t.bits W.current name) (with_current W (with_lines W.current name xs)) =
     subst (λ (k : Bytes). TurnsTo (record t { heap = new }) u [] (22 + alike_buffers t.bits W.current k) (with_current W (with_lines W.current k xs))) is turn in
@@ -577,13 +556,13 @@ lines-put {s} {t} {u} {new} {l} {c} {n} {xs} {W} {key} {name} change is same fre
       after = with_current W (with_lines W.current name xs);
       told = does W change (with_lines W.current name xs) made free;
       turns = turns-after (0 + (c + n)) (cost s.bits (edit change) W) (rises-then (rises-same same.heap) m.rises) same.bits turned (omega (arith, less, cost-edit s.bits change W));
-      few_made = λ placed inside. absurd (apart placed inside);
+      few_made = λ placed inside. absurd (apart placed);
     }
 
 -- the same after room was made for an edit
 pub edit-done : {s t u : RootedHeap} {new : Heap Bytes} {l c n : ℕ} {xs : List Bytes} {W : Workspace} {key name : Bytes} (change : PlainEdit) → key ≡ name → HasBufferRoom s t name W → IsMade t new [] l xs W c n
     → edited W.current change ≡ Ok (with_lines W.current name xs) → TurnsTo (record t { heap = new }) u [] (22 + alike_buffers t.bits W.current key) (with_current W (with_lines W.current key xs))
-    → c + n + (22 + alike_buffers s.bits W.current name) ≤ edit_cost s.bits change W.current → (IsInPlace (edit change) → in_batch W ≡ true → ⊥) → IsCarriedOut (edit change) s u W
+    → c + n + (22 + alike_buffers s.bits W.current name) ≤ edit_cost s.bits change W.current → (IsInPlace (edit change) → ⊥) → IsCarriedOut (edit change) s u W
 edit-done change is room m made turn less apart = lines-put change is room.same room.free m made turn less apart
 
 -- room was made, and the state turned to the one in which the buffer is gone
@@ -653,28 +632,6 @@ cut-done {s} {t} {u} {new} {n = n} {xs = xs} {ys = ys} {W = W} {key = key} {name
 pub edit-refused : {s t : RootedHeap} {W : Workspace} {change : PlainEdit} {why : Refusal} → t ≡ s → IsDue W (edit change) why → IsRefused (edit change) s t W why
 edit-refused same due = record { due = due; same = same }
 
--- what isn't in a batch is in none
-pub outside-apart : {P : Type 0} (W : Workspace) → in_batch W ≡ false → P → in_batch W ≡ true → ⊥
-outside-apart W outside p inside = let h = sym inside ∙ outside in cc
-
--- what a look for a buffer says of making it
-pub found-taken : (s : RootedHeap) (now : State) (name : Bytes) (r : Result ℕ Refusal) → is_ok r ≡ true
-    → MatchResult r (λ l. IsSomeAnd (lines_of now name) (AreLinesIn s.heap s.bits l)) (λ why. (lines_of now name ≡ None) × (why ≡ Absent)) → edited now (new name) ≡ Err Exists
-found-taken s now name (Ok l) is found =
-    let lines = found-lines s l now name found in
-    new-taken now name lines.0 lines.1
-found-taken s now name (Err why) is found = absurd cc
-
-pub found-none : (s : RootedHeap) (now : State) (name : Bytes) (r : Result ℕ Refusal) → is_ok r ≡ false
-    → MatchResult r (λ l. IsSomeAnd (lines_of now name) (AreLinesIn s.heap s.bits l)) (λ why. (lines_of now name ≡ None) × (why ≡ Absent)) → lines_of now name ≡ None
-found-none s now name (Ok l) is found = absurd cc
-found-none s now name (Err why) is found = found.0
-
-pub found-free : (s : RootedHeap) (now : State) (name : Bytes) (r : Result ℕ Refusal) → is_ok r ≡ false
-    → MatchResult r (λ l. IsSomeAnd (lines_of now name) (AreLinesIn s.heap s.bits l)) (λ why. (lines_of now name ≡ None) × (why ≡ Absent)) → edited now (new name) ≡ Ok (with_lines now name [])
-found-free s now name (Ok l) is found = absurd cc
-found-free s now name (Err why) is found = new-made now name found.0
-
 -- a vector without elements has no lines
 pub emptied : {s : RootedHeap} {fresh : Heap Bytes} {v n : ℕ} {W : Workspace} → Keeps s [] W → Answered s.heap fresh [] v 0 n → IsGoodVector fresh v → elements fresh v ≡ [] → IsMade s fresh [] v [] W 0 n
 emptied K a good items = made-by K a (lines-are [] good items tt)
@@ -691,14 +648,6 @@ fails {command} {s} {t} {W} why (Err e) is refused = subst (λ (w : Refusal). Is
 -- ## Calls that have room and spares are done
 
 module _ {X : Type 0} where
-  pub pushes : (fault : PushFault) → (◌≡◌ {A = Result X PushFault} (Err fault) (Err push_long) → ⊥) → (◌≡◌ {A = Result X PushFault} (Err fault) (Err push_memory) → ⊥) → ⊥
-  pushes push_long long memory = long refl
-  pushes push_memory long memory = memory refl
-
-  pub sets : (fault : SetFault) → (◌≡◌ {A = Result X SetFault} (Err fault) (Err set_range) → ⊥) → (◌≡◌ {A = Result X SetFault} (Err fault) (Err set_memory) → ⊥) → ⊥
-  sets set_range range memory = range refl
-  sets set_memory range memory = memory refl
-
   pub inserts : (fault : InsertFault) → (◌≡◌ {A = Result X InsertFault} (Err fault) (Err insert_range) → ⊥) → (◌≡◌ {A = Result X InsertFault} (Err fault) (Err insert_long) → ⊥)
       → (◌≡◌ {A = Result X InsertFault} (Err fault) (Err insert_memory) → ⊥) → ⊥
   inserts insert_range range long memory = range refl

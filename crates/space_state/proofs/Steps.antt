@@ -33,7 +33,7 @@ use Rattle.space_state.proofs.Keeping.{history-length, history-short, current-st
 fits-one : (n : ℕ) → n < most → leb (n + 1) most ≡ true
 fits-one n room = le-leb (n + 1) most (omega (arith, room))
 
-none-of : {X : Type 0} (o : Option X) → is_some o ≡ false → o ≡ None
+pub none-of : {X : Type 0} (o : Option X) → is_some o ≡ false → o ≡ None
 none-of None none = refl
 none-of (Some x) none = absurd (let h = none in cc)
 
@@ -233,32 +233,33 @@ length-below is same apart = grind (arith, history-short is, same, apart)
 
 -- ## What is there
 
-module _ (h : Heap Bytes) (bits : ℕ) where
-  -- where no link was told, no state is there
-  none-at : (there : Option State) → StandsIfThere (IsStateIn h bits) None there → there ≡ None
+-- what a link that was told stands for
+module _ {X : Type 0} (IsValue : ℕ → X → Type 0) where
+  -- where no link was told, nothing is there
+  none-at : (there : Option X) → StandsIfThere IsValue None there → there ≡ None
   none-at None stands = refl
   none-at (Some x) stands = absurd stands
 
-  pub none-there : {told : Option ℕ} {there : Option State} → StandsIfThere (IsStateIn h bits) told there → told ≡ None → there ≡ None
-  none-there {told} {there} stands is = none-at there (subst (λ (o : Option ℕ). StandsIfThere (IsStateIn h bits) o there) is stands)
+  pub none-there : {told : Option ℕ} {there : Option X} → StandsIfThere IsValue told there → told ≡ None → there ≡ None
+  none-there {told} {there} stands is = none-at there (subst (λ (o : Option ℕ). StandsIfThere IsValue o there) is stands)
 
-  -- and where one was told, it stands for the state that is there
-  some-at : (l : ℕ) (there : Option State) → StandsIfThere (IsStateIn h bits) (Some l) there → (x : State) × (there ≡ Some x) × IsStateIn h bits l x
+  -- and where one was told, it stands for what is there
+  some-at : (l : ℕ) (there : Option X) → StandsIfThere IsValue (Some l) there → (x : X) × (there ≡ Some x) × IsValue l x
   some-at l None stands = absurd stands
   some-at l (Some x) stands = (x, refl, stands)
 
-  pub some-there : {told : Option ℕ} {there : Option State} {l : ℕ} → StandsIfThere (IsStateIn h bits) told there → told ≡ Some l → (x : State) × (there ≡ Some x) × IsStateIn h bits l x
-  some-there {told} {there} {l} stands is = some-at l there (subst (λ (o : Option ℕ). StandsIfThere (IsStateIn h bits) o there) is stands)
+  pub some-there : {told : Option ℕ} {there : Option X} {l : ℕ} → StandsIfThere IsValue told there → told ≡ Some l → (x : X) × (there ≡ Some x) × IsValue l x
+  some-there {told} {there} {l} stands is = some-at l there (subst (λ (o : Option ℕ). StandsIfThere IsValue o there) is stands)
 
-  -- a link was told just where a state is there
-  told-there : (told : Option ℕ) (there : Option State) → StandsIfThere (IsStateIn h bits) told there → is_some told ≡ is_some there
+  -- a link was told just where something is there
+  told-there : (told : Option ℕ) (there : Option X) → StandsIfThere IsValue told there → is_some told ≡ is_some there
   told-there None None stands = refl
   told-there None (Some x) stands = absurd stands
   told-there (Some l) None stands = absurd stands
   told-there (Some l) (Some x) stands = refl
 
-  pub version-there : (told : Option ℕ) (there : Option State) {test : Bool} → StandsIfThere (IsStateIn h bits) told there → is_some told ≡ test → is_some there ≡ test
-  version-there told there stands is = sym (told-there told there stands) ∙ is
+  pub as-told : (told : Option ℕ) (there : Option X) {test : Bool} → StandsIfThere IsValue told there → is_some told ≡ test → is_some there ≡ test
+  as-told told there stands is = sym (told-there told there stands) ∙ is
 
 -- what stands at a place of a list
 pub element-at : {X : Type 0} (xs : List X) (i : ℕ) → i < length xs → (x : X) × (slice_get xs i ≡ Some x)

@@ -1,6 +1,8 @@
--- What a batch makes in place.
+-- What an edit in place makes of a workspace, and which edits a batch makes so.
+use Rattle.std.specs.Prelude.{if◌then◌else◌, [], ◌∷◌, ◌++◌}
 use Rattle.shell_terms.specs.Edit.{new, add, set}
 use Rattle.shell_terms.specs.Command.{PlainCommand, edit}
+use Rattle.plain_space.specs.Workspace.{Workspace, in_batch}
 
 -- the command is an edit that a batch makes in place
 abbrev pub IsInPlace : PlainCommand → Type 0
@@ -8,3 +10,7 @@ IsInPlace (edit (new name)) = Unit {0}
 IsInPlace (edit (add name text)) = Unit {0}
 IsInPlace (edit (set name index text)) = Unit {0}
 IsInPlace _ = ⊥
+
+-- the workspace that an edit in place begins with: outside a batch undo ends with the current state, and redo is empty
+abbrev pub current_kept : Workspace → Workspace
+current_kept W = record W { undo = if in_batch W then W.undo else W.undo ++ W.current ∷ []; redo = if in_batch W then W.redo else [] }

@@ -11,10 +11,10 @@ use Rattle.plain_space.specs.Answer.{answer, done}
 use Rattle.plain_space.specs.Cost.{alike_buffers, alike_stars, cost}
 use Rattle.plain_space.specs.Memory.{MayLackMemory}
 use Rattle.state_rows.specs.InPlace.{MakesFew}
-use Rattle.space_state.specs.declared.turning.TheConstants.{EDIT_NODES}
+use Rattle.space_state.specs.declared.turning.TheConstants.{EDIT_NODES, TURN_NODES}
 use Rattle.space_state.specs.declared.roots.RootedHeap.{RootedHeap}
 use Rattle.space_state.specs.Roots.{Keeps}
-use Rattle.space_state.specs.InPlace.{IsInPlace}
+use Rattle.space_state.specs.InPlace.{IsInPlace, current_kept}
 
 -- the refusal is due by this plain result: it is that, or memory was refused where that may be
 abbrev pub IsDueBy : {X : Type 0} → Result X Refusal → Type 0 → Refusal → Type 0
@@ -80,6 +80,14 @@ pub record TurnsTo (old new : RootedHeap) (besides : List ℕ) (most : ℕ) (aft
   pub few : live_count new.heap ≤ live_count old.heap + most
   pub made : RowsRise old.heap new.heap
 
+-- ready for an edit in place: there are spares for a cell and so many nodes; outside a batch the current state is the last of undo
+-- too, and redo is empty, and in a batch no row was made
+pub record IsReady (old new : RootedHeap) (W : Workspace) (nodes : ℕ) : Type 0 where
+  pub free : is_full W ≡ false
+  pub turns : TurnsTo old new [] TURN_NODES (current_kept W)
+  pub few : in_batch W ≡ true → MakesFew old.heap new.heap 0
+  pub spares : HasSpares new.heap 1 nodes
+
 -- the command was carried out; in a batch an edit that is made in place makes at most two rows more than the rows gain
 pub record IsCarriedOut (command : PlainCommand) (old new : RootedHeap) (W : Workspace) : Type 0 where
   pub after : Workspace
@@ -92,10 +100,7 @@ pub record IsRefused (command : PlainCommand) (old new : RootedHeap) (W : Worksp
   pub due : IsDue W command why
   pub same : new ≡ old
 
--- how a call ends that carries out a command on this workspace: done, or refused for a reason that is due
-abbrev pub EndsFrom : Workspace → PlainCommand → RootedHeap → Result (Unit {0}) Refusal → RootedHeap → Type 0
-EndsFrom W command old result new = MatchResult result (λ _. IsCarriedOut command old new W) (IsRefused command old new W)
-
--- and on the workspace for which the rows stand
+-- how a call ends that carries out a command: done, or refused for a reason that is due
 abbrev pub EndsOnRows : PlainCommand → RootedHeap → Result (Unit {0}) Refusal → RootedHeap → Type 0
-EndsOnRows command old result new = (W : Workspace) → Keeps old [] W → EndsFrom W command old result new
+EndsOnRows command old result new =
+    (W : Workspace) → Keeps old [] W → MatchResult result (λ _. IsCarriedOut command old new W) (IsRefused command old new W)

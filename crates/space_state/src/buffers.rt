@@ -5,7 +5,7 @@ ghost use Rattle.elem_core.specs.declared.codes.TheConstants.{DEEPEST};
 ghost use Rattle.elem_core.specs.Naming.{IsName};
 ghost use Rattle.elem_core.specs.Shown.{name_bytes, line_bytes};
 ghost use Rattle.node_heap.specs.Heap.{HasSpares};
-ghost use Rattle.shell_terms.specs.Edit.{Bytes, new, add, set, put, del, cat, cut, copy, drop};
+ghost use Rattle.shell_terms.specs.Edit.{Bytes, put, del, cat, cut, copy, drop};
 ghost use Rattle.shell_terms.specs.Command.{edit};
 ghost use Rattle.plain_space.specs.Workspace.{Workspace, lines_of, with_lines as state_with_lines, is_full, with_current};
 ghost use Rattle.plain_space.specs.Cost.{alike_buffers};
@@ -17,7 +17,7 @@ use crate::roots::RootedHeap;
 use crate::turning::{EDIT_NODES, MOST_ITEMS};
 use elem_core::{Line, Name, Text, text_of};
 use plain_space::Refusal;
-use rrb_core::{Flex, FlexRef, push, set};
+use rrb_core::{Flex, FlexRef};
 use rrb_join::{concat, erase, insert, slice};
 use state_rows::{buffer, buffers_alike, with_lines, without_lines};
 
@@ -75,67 +75,6 @@ impl RootedHeap {
         let next = with_lines(&mut self.heap, self.bits, mid, other_key, part);
         self.heap.release(mid);
         self.turn_to(next);
-    }
-
-    /// Makes the buffer, without lines.
-    pub(crate) fn make(&mut self, name: Name<'_>) -> Result<(), Refusal>
-        requires { (W : Workspace) × Keeps self.old [] W }
-        ensures { EndsOnRows (edit (new (name_bytes name.entry))) self.old result self.new }
-    {
-        if self.buffer(name).is_ok() {
-            return Err(Refusal::Exists);
-        }
-        if self.in_batch() {
-            return self.make_in_place(name);
-        }
-        let key = self.prepare(name)?;
-        let Ok(lines) = Flex::empty(&mut self.heap) else {
-            unreachable!()
-        };
-        self.put_lines(key, lines);
-        Ok(())
-    }
-
-    /// Adds the line at the end of the buffer.
-    pub(crate) fn add(&mut self, name: Name<'_>, line: Line<'_>) -> Result<(), Refusal>
-        requires { (W : Workspace) × Keeps self.old [] W }
-        ensures { EndsOnRows (edit (add (name_bytes name.entry) (line_bytes line.entry))) self.old result self.new }
-    {
-        let lines = self.buffer(name)?;
-        if lines.len(&self.heap) == MOST_ITEMS {
-            return Err(Refusal::Limit);
-        }
-        if self.in_batch() {
-            return self.add_in_place(name, line);
-        }
-        let (key, text) = self.prepare_line(name, line)?;
-        let line = self.heap.cell(text);
-        let Ok(longer) = push(&mut self.heap, lines, line) else {
-            unreachable!()
-        };
-        self.put_lines(key, longer);
-        Ok(())
-    }
-
-    /// Puts the line in place of the one at the index.
-    pub(crate) fn set(&mut self, name: Name<'_>, index: u32, line: Line<'_>) -> Result<(), Refusal>
-        requires { (W : Workspace) × Keeps self.old [] W }
-        ensures { EndsOnRows (edit (set (name_bytes name.entry) index (line_bytes line.entry))) self.old result self.new }
-    {
-        let lines = self.buffer(name)?;
-        if index >= lines.len(&self.heap) {
-            return Err(Refusal::Range);
-        }
-        if self.in_batch() {
-            return self.set_in_place(name, index, line);
-        }
-        let (key, text) = self.prepare_line(name, line)?;
-        let line = self.heap.cell(text);
-        let Ok(changed) = set(&mut self.heap, lines, index, line) else {
-            unreachable!()
-        };
-        self.put_lines(key, changed);
-        Ok(())
     }
 
     /// Puts the line before the one at the index, or at the end.

@@ -85,6 +85,7 @@ impl RootedHeap {
         requires kept { (W : Workspace) × (s : State) × Keeps self.old (state ∷ []) W × IsStateIn self.old.heap self.old.bits state s × (length W.undo < most) }
         ensures turns { (W : Workspace) (s : State) → Keeps self.old (state ∷ []) W → IsStateIn self.old.heap self.old.bits state s →
             TurnsTo self.old self.new [] PUSHED_NODES (record W { undo = W.undo ++ s ∷ [] }) }
+        ensures cells { self.old.heap.spare_cells ≤ self.new.heap.spare_cells }
         ensures spares { self.old.heap.spare_nodes ≤ self.new.heap.spare_nodes + PUSHED_NODES }
         ensures made { self.new.heap.made ≤ self.old.heap.made + PUSHED_NODES }
     {

@@ -1,35 +1,85 @@
-//! The edits of buffers that a batch makes in place. What refuses them was found before; each makes room for all that it will
-//! make, and then edits the current state, which only the space holds, by its hold. What the base of the batch, a version or
-//! a history shares with it is copied once.
-ghost use Rattle.std.specs.Prelude.{◌≡◌, ◌+◌, ◌<◌, List, [], length, Some, None, true, IfOk, OnErr};
+//! The edits of buffers that are made in place: outside a batch the current state is put at the end of undo first, so that what the
+//! edit changes of it is copied, and in a batch, where only the space holds it, it is written. What the base of the batch, a
+//! version or a history shares with it is copied once. Each looks for what refuses it and makes room for all that it will
+//! make before.
+ghost use Rattle.std.specs.Prelude.{◌≡◌, ◌+◌, ◌<◌, ◌≤◌, ◌^◌, [], IfOk, true, false, MatchResult};
 ghost use Rattle.elem_core.specs.Shown.{name_bytes, line_bytes};
 ghost use Rattle.node_heap.specs.Heap.{HasSpares};
-ghost use Rattle.shell_terms.specs.Edit.{Bytes, new, add, set};
+ghost use Rattle.shell_terms.specs.Edit.{new, add, set};
 ghost use Rattle.shell_terms.specs.Command.{edit};
-ghost use Rattle.plain_space.specs.Workspace.{Workspace, most, in_batch, lines_of};
+ghost use Rattle.plain_space.specs.Workspace.{Workspace, in_batch, lines_of, is_full};
 ghost use Rattle.plain_space.specs.Cost.{alike_buffers};
+ghost use Rattle.state_rows.specs.Reading.{StandsIfThere};
+ghost use Rattle.state_rows.specs.InHeap.{AreLinesIn};
 ghost use Rattle.space_state.specs.Roots.{Keeps};
-ghost use Rattle.space_state.specs.Turns.{IsSame, EndsFrom};
+ghost use Rattle.space_state.specs.InPlace.{current_kept};
+ghost use Rattle.space_state.specs.Turns.{RoomIsRefused, IsReady, EndsOnRows, TurnsTo};
 
 use crate::roots::RootedHeap;
-use elem_core::{Line, Name, NoMemory, text_of};
+use crate::turning::{MOST_ITEMS, TURN_NODES};
+use elem_core::{Line, Name, Text, text_of};
 use plain_space::Refusal;
 use rrb_core::Flex;
-use state_rows::{buffer_made, buffers_alike, line_added, line_set};
+use state_rows::{FoundBuffer, buffer_made, find_buffer, line_added, line_set};
 
 /// The nodes of a line added in place, besides one for each name that is alike: 1 for the state row, 8 for the way to the
 /// buffer, 9 for the push. No other edit in place makes more.
 const PLACE_NODES: usize = 18;
 
 impl RootedHeap {
-    /// Makes the buffer, of which there is none yet, without lines.
-    pub(crate) fn make_in_place(&mut self, name: Name<'_>) -> Result<(), Refusal>
-        requires { (W : Workspace) × Keeps self.old [] W × (in_batch W ≡ true) × (lines_of W.current (name_bytes name) ≡ None) }
-        ensures { (W : Workspace) → Keeps self.old [] W → in_batch W ≡ true → lines_of W.current (name_bytes name.entry) ≡ None →
-            EndsFrom W (edit (new (name_bytes name.entry))) self.old result self.new }
+    // The lines of the buffer, and the number of names that are alike.
+    fn find(&self, name: Name<'_>) -> FoundBuffer
+        requires { (W : Workspace) × Keeps self.now [] W }
+        ensures lines { (W : Workspace) → Keeps self.now [] W → StandsIfThere (AreLinesIn self.now.heap self.now.bits) result.lines (lines_of W.current (name_bytes name.entry)) }
+        ensures alike { (W : Workspace) → Keeps self.now [] W → result.alike ≡ alike_buffers self.now.bits W.current (name_bytes name.entry) }
+        ensures few { result.alike < 2 ^ 56 }
     {
-        let key = text_of(self.alloc, name.as_line())?;
-        self.make_place_room(name)?;
+        find_buffer(&self.heap, self.bits, self.roots.current, name)
+    }
+
+    // Outside a batch puts the current state at the end of undo, and empties redo. It stays current.
+    fn keep_current(&mut self)
+        requires spares { HasSpares self.old.heap 0 TURN_NODES }
+        requires kept { (W : Workspace) × Keeps self.old [] W × (is_full W ≡ false) }
+        ensures turns { (W : Workspace) → Keeps self.old [] W → is_full W ≡ false → TurnsTo self.old self.new [] TURN_NODES (current_kept W) }
+        ensures inside { (W : Workspace) → Keeps self.old [] W → in_batch W ≡ true → self.new ≡ self.old }
+        ensures cells { self.old.heap.spare_cells ≤ self.new.heap.spare_cells }
+        ensures nodes { self.old.heap.spare_nodes ≤ self.new.heap.spare_nodes + TURN_NODES }
+    {
+        if self.in_batch() {
+            return;
+        }
+        self.heap.hold(self.roots.current);
+        self.record(self.roots.current);
+    }
+
+    // Makes ready for an edit in place: gives its text, makes room for a cell, for `PLACE_NODES` nodes and one more for each of so
+    // many names that are alike, and then keeps the current state. Refused as `make_room_with` is, which leaves all as it was.
+    fn ready(&mut self, line: Line<'_>, alike: usize) -> Result<Text, Refusal>
+        requires kept { (W : Workspace) × Keeps self.old [] W }
+        requires few { alike < 2 ^ 56 }
+        ensures ready { (W : Workspace) → Keeps self.old [] W → MatchResult result (λ _. IsReady self.old self.new W (PLACE_NODES + alike)) (RoomIsRefused self.old self.new W) }
+        ensures text { IfOk result (λ text. text ≡ line_bytes line.entry) }
+    {
+        if self.is_full() {
+            return Err(Refusal::Limit);
+        }
+        let text = text_of(self.alloc, line)?;
+        self.heap.reserve(1, PLACE_NODES + TURN_NODES + alike)?;
+        self.keep_current();
+        Ok(text)
+    }
+
+    /// Makes the buffer, without lines.
+    pub(crate) fn make(&mut self, name: Name<'_>) -> Result<(), Refusal>
+        requires { (W : Workspace) × Keeps self.old [] W }
+        ensures { EndsOnRows (edit (new (name_bytes name.entry))) self.old result self.new }
+    {
+        let found = self.find(name);
+        if found.lines.is_some() {
+            return Err(Refusal::Exists);
+        }
+        let key = self.ready(name.as_line(), found.alike)?;
         let Ok(lines) = Flex::empty(&mut self.heap) else {
             unreachable!()
         };
@@ -38,33 +88,38 @@ impl RootedHeap {
         Ok(())
     }
 
-    /// Adds the line at the end of the buffer, which is there and has room for it.
-    pub(crate) fn add_in_place(&mut self, name: Name<'_>, line: Line<'_>) -> Result<(), Refusal>
-        requires { (W : Workspace) × (xs : List Bytes) × Keeps self.old [] W × (in_batch W ≡ true) × (lines_of W.current (name_bytes name) ≡ Some xs) × (length xs < most) }
-        ensures { (W : Workspace) (xs : List Bytes) → Keeps self.old [] W → in_batch W ≡ true → lines_of W.current (name_bytes name.entry) ≡ Some xs → length xs < most →
-            EndsFrom W (edit (add (name_bytes name.entry) (line_bytes line.entry))) self.old result self.new }
+    /// Adds the line at the end of the buffer.
+    pub(crate) fn add(&mut self, name: Name<'_>, line: Line<'_>) -> Result<(), Refusal>
+        requires { (W : Workspace) × Keeps self.old [] W }
+        ensures { EndsOnRows (edit (add (name_bytes name.entry) (line_bytes line.entry))) self.old result self.new }
     {
-        let text = text_of(self.alloc, line)?;
-        self.make_place_room(name)?;
+        let found = self.find(name);
+        let Some(lines) = found.lines else {
+            return Err(Refusal::Absent);
+        };
+        if lines.len(&self.heap) == MOST_ITEMS {
+            return Err(Refusal::Limit);
+        }
+        let text = self.ready(line, found.alike)?;
         let line = self.heap.cell(text);
         let state = line_added(&mut self.heap, self.bits, self.roots.current, name, line);
         self.roots.current = state;
         Ok(())
     }
 
-    /// Puts the line in place of the one at the index, which is there.
-    pub(crate) fn set_in_place(
-        &mut self,
-        name: Name<'_>,
-        index: u32,
-        line: Line<'_>,
-    ) -> Result<(), Refusal>
-        requires { (W : Workspace) × (xs : List Bytes) × Keeps self.old [] W × (in_batch W ≡ true) × (lines_of W.current (name_bytes name) ≡ Some xs) × (index < length xs) }
-        ensures { (W : Workspace) (xs : List Bytes) → Keeps self.old [] W → in_batch W ≡ true → lines_of W.current (name_bytes name.entry) ≡ Some xs → index < length xs →
-            EndsFrom W (edit (set (name_bytes name.entry) index (line_bytes line.entry))) self.old result self.new }
+    /// Puts the line in place of the one at the index.
+    pub(crate) fn set(&mut self, name: Name<'_>, index: u32, line: Line<'_>) -> Result<(), Refusal>
+        requires { (W : Workspace) × Keeps self.old [] W }
+        ensures { EndsOnRows (edit (set (name_bytes name.entry) index (line_bytes line.entry))) self.old result self.new }
     {
-        let text = text_of(self.alloc, line)?;
-        self.make_place_room(name)?;
+        let found = self.find(name);
+        let Some(lines) = found.lines else {
+            return Err(Refusal::Absent);
+        };
+        if index >= lines.len(&self.heap) {
+            return Err(Refusal::Range);
+        }
+        let text = self.ready(line, found.alike)?;
         let line = self.heap.cell(text);
         let state = line_set(
             &mut self.heap,
@@ -76,18 +131,5 @@ impl RootedHeap {
         );
         self.roots.current = state;
         Ok(())
-    }
-
-    // Makes room for an edit in place of this buffer: for a cell, for `PLACE_NODES` nodes, and for one more for each name with
-    // its masked code. Nothing but the heap's spares changes. Refused where memory runs out, which leaves all as it was.
-    fn make_place_room(&mut self, name: Name<'_>) -> Result<(), NoMemory>
-        requires { (W : Workspace) × Keeps self.old [] W }
-        ensures same { IsSame self.old self.new }
-        ensures refused { OnErr result (self.new ≡ self.old) }
-        ensures room { (W : Workspace) → Keeps self.old [] W →
-            IfOk result (λ _. HasSpares self.new.heap 1 (PLACE_NODES + alike_buffers self.old.bits W.current (name_bytes name.entry))) }
-    {
-        let alike = buffers_alike(&self.heap, self.bits, self.roots.current, name);
-        self.heap.reserve(1, PLACE_NODES + alike)
     }
 }

@@ -1,5 +1,5 @@
 //! What all edits share: room for an edit, the turn to another current state, and what is given up.
-ghost use Rattle.std.specs.Prelude.{◌≡◌, ◌≢◌, ℕ, ◌+◌, ◌<◌, List, [], ◌∷◌, ◌++◌, ◌^◌, length, IfOk, Err, true, false};
+ghost use Rattle.std.specs.Prelude.{◌≡◌, ◌≢◌, ℕ, ◌+◌, ◌<◌, ◌≤◌, List, [], ◌∷◌, ◌++◌, ◌^◌, length, IfOk, Err, true, false};
 ghost use Rattle.elem_core.specs.Shown.{name_bytes, line_bytes};
 ghost use Rattle.node_heap.specs.Heap.{HasSpares};
 ghost use Rattle.plain_space.specs.Workspace.{State, Workspace, most, in_batch, is_full, with_current};
@@ -140,8 +140,10 @@ impl RootedHeap {
     pub(crate) fn record(&mut self, before: Link)
         requires spares { HasSpares self.old.heap 0 TURN_NODES }
         requires kept { (W : Workspace) × (s : State) × Keeps self.old (before ∷ []) W × IsStateIn self.old.heap self.old.bits before s × (length W.undo < most) }
-        ensures { (W : Workspace) (s : State) → Keeps self.old (before ∷ []) W → IsStateIn self.old.heap self.old.bits before s → length W.undo < most →
+        ensures turns { (W : Workspace) (s : State) → Keeps self.old (before ∷ []) W → IsStateIn self.old.heap self.old.bits before s → length W.undo < most →
             TurnsTo self.old self.new [] TURN_NODES (record W { undo = W.undo ++ s ∷ []; redo = [] }) }
+        ensures cells { self.old.heap.spare_cells ≤ self.new.heap.spare_cells }
+        ensures nodes { self.old.heap.spare_nodes ≤ self.new.heap.spare_nodes + TURN_NODES }
     {
         self.push_undo(before);
         let redo = emptied(&mut self.heap, Flex::from_root(self.roots.redo));

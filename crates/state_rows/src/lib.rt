@@ -23,6 +23,9 @@ pub use laws::{
     one_workspace, pools_stand, roots_stand, states_stay, valid_pools_stand, worked_spaces,
 };
 pub use list::{marked, sizes, starred, totals};
-pub use look_up::{buffer, buffers_alike, is_starred, stars_alike, version, versions_alike};
+pub use look_up::{
+    FoundBuffer, buffer, buffers_alike, find_buffer, is_starred, stars_alike, version,
+    versions_alike,
+};
 pub use make::{with_lines, with_star, with_version, without_lines, without_star, without_version};
 pub use start::{empty_history, empty_state, empty_versions};

@@ -1,15 +1,19 @@
 //! What is asked of states, versions and histories. None of it takes memory.
 ghost use Rattle.std.specs.Prelude.{◌≡◌, ℕ, ◌-◌, ◌^◌, ◌<◌, ◌≤◌, List, length, slice_get};
 ghost use Rattle.std.specs.FinMap as map;
+ghost use Rattle.std.specs.Ordering.{nat_cmp};
+ghost use Rattle.std.specs.Cmp.Lexicographic.{slice_cmp};
 ghost use Rattle.elem_core.specs.declared.codes.TheConstants.{CODE_BITS};
 ghost use Rattle.elem_core.specs.Shown.{name_bytes};
+ghost use Rattle.champ_chain.specs.Entry.{link_with};
+ghost use Rattle.shell_terms.specs.Edit.{Bytes};
 ghost use Rattle.plain_space.specs.Workspace.{Named, State, lines_of, is_starred as has_star};
 ghost use Rattle.plain_space.specs.Cost.{alike as alike_names, alike_buffers, alike_stars};
 ghost use Rattle.state_rows.specs.Reading.{StandsIfThere};
 ghost use Rattle.state_rows.specs.InHeap.{AreLinesIn, IsStateIn, AreVersionsIn, IsHistoryIn};
 
 use champ_kinds::{MapRef, SetRef};
-use champ_trie::alike;
+use champ_trie::{alike, look_up};
 use elem_core::{Name, Text};
 use node_heap::{Heap, Link};
 use rrb_core::FlexRef;
@@ -22,6 +26,49 @@ pub fn buffer(heap: &Heap<Text>, bits: u32, state: Link, name: Name<'_>) -> Opti
 {
     let lines = names_of(heap, bits, state).get(heap, &name)?;
     Some(FlexRef::at(lines))
+}
+
+/// What a look for a buffer finds.
+#[derive(Clone, Copy)]
+pub struct FoundBuffer {
+    /// The buffer's lines, None exactly where there is no such buffer.
+    pub lines: Option<FlexRef>,
+    /// How many of the buffers' names have the masked code of this one, itself included where it is among them.
+    pub alike: usize,
+}
+
+/// The lines of the buffer of this name, None exactly where there is no such buffer, and how many names are alike, in one walk.
+pub fn find_buffer(heap: &Heap<Text>, bits: u32, state: Link, name: Name<'_>) -> FoundBuffer
+    requires bits { bits ≤ CODE_BITS }
+    requires state { (s : State) × IsStateIn heap.now bits state s }
+    ensures lines { (s : State) → IsStateIn heap.now bits state s → StandsIfThere (AreLinesIn heap.now bits) result.lines (lines_of s (name_bytes name.entry)) }
+    ensures alike { (s : State) → IsStateIn heap.now bits state s → result.alike ≡ alike_buffers bits s (name_bytes name.entry) }
+    ensures few { result.alike < 2 ^ 56 }
+{
+    let found = look_up(heap, names_of(heap, bits, state).root(), &name, bits);
+    let lines = lines_in(heap, bits, state, name, found.entry);
+    FoundBuffer {
+        lines,
+        alike: found.alike,
+    }
+}
+
+// The lines in the entry that was found of the buffer's name.
+fn lines_in(
+    heap: &Heap<Text>,
+    bits: u32,
+    state: Link,
+    name: Name<'_>,
+    found: Option<Link>,
+) -> Option<FlexRef>
+    requires { (s : State) × (is : IsStateIn heap.now bits state s) × (found ≡ link_with (slice_cmp nat_cmp) (name_bytes name) is.buffers_are.entries) }
+    ensures { (s : State) (is : IsStateIn heap.now bits state s) → found ≡ link_with (slice_cmp nat_cmp) (name_bytes name.entry) is.buffers_are.entries →
+        StandsIfThere (AreLinesIn heap.now bits) result (lines_of s (name_bytes name.entry)) }
+{
+    let Some(entry) = found else {
+        return None;
+    };
+    Some(FlexRef::at(heap.links(entry)[1]))
 }
 
 /// Whether the name is starred.

@@ -2,6 +2,7 @@ use Rattle.std.proofs.Common.{◌≡◌, [], true, false, refl, sym, ◌∙◌, 
 use Rattle.shell_terms.specs.Command.{back}
 use Rattle.plain_space.specs.Workspace.{Workspace, in_batch, is_full}
 use Rattle.plain_space.specs.Cost.{cost}
+use Rattle.state_rows.specs.InHeap.{IsStateIn}
 use Rattle.space_state.specs.Roots.{Keeps}
 use Rattle.space_state.proofs.Keeping.{heap-is, turns-after}
 use Rattle.space_state.proofs.Steps.{back-refused, back-absent, back-limited, back-done, none-there, some-there, IsHeld, is-held, may-lack, memory-refused}
@@ -14,27 +15,27 @@ returns-then-in_batch-clause-ends c = λ W K. record { due = back-refused W _ (s
 pub returns-in_default-clause-ends : goal.returns-in_default-clause-ends
 returns-in_default-clause-ends c = λ W K.
     let outside : in_batch W ≡ false = sym (c.in_batch.ensures [] W K) ∙ c.if-in_batch.false in
-    record { due = back-absent W _ outside (none-there c.args.self.now.heap c.args.self.now.bits (c.version.ensures W K) c.in_default.is); same = refl }
+    record { due = back-absent W _ outside (none-there (IsStateIn c.args.self.now.heap c.args.self.now.bits) (c.version.ensures W K) c.in_default.is); same = refl }
 
 pub returns-then-is_full-clause-ends : goal.returns-then-is_full-clause-ends
 returns-then-is_full-clause-ends c = λ W K.
     let outside : in_batch W ≡ false = sym (c.in_batch.ensures [] W K) ∙ c.if-in_batch.false in
     let full : is_full W ≡ true = sym (c.is_full.ensures W K) ∙ c.if-is_full.true in
-    let there = some-there c.args.self.now.heap c.args.self.now.bits (c.version.ensures W K) c.in-Some.is in
+    let there = some-there (IsStateIn c.args.self.now.heap c.args.self.now.bits) (c.version.ensures W K) c.in-Some.is in
     record { due = back-limited W _ outside there.0 there.1 full; same = refl }
 
 pub returns-in_err-reserve-clause-ends : goal.returns-in_err-reserve-clause-ends
 returns-in_err-reserve-clause-ends c = λ W K.
     let outside : in_batch W ≡ false = sym (c.in_batch.ensures [] W K) ∙ c.if-in_batch.false in
     let room : is_full W ≡ false = sym (c.is_full.ensures W K) ∙ c.if-is_full.false in
-    let there = some-there c.args.self.now.heap c.args.self.now.bits (c.version.ensures W K) c.in-Some.is in
+    let there = some-there (IsStateIn c.args.self.now.heap c.args.self.now.bits) (c.version.ensures W K) c.in-Some.is in
     memory-refused c.from_residual.result c.from_residual.ensures.1 (may-lack (back _) refl (back-done W _ outside there.0 there.1 room)) (heap-is c.in_err-reserve.ensures.refused)
 
 -- the version's state, which is held besides
-held : (c : After-hold) (W : Workspace) (K : Keeps c.args.self.now [] W) → IsHeld c.args.self.now c.hold.new.self c.in-Some.state (some-there _ _ (c.version.ensures W K) c.in-Some.is).0 W
+held : (c : After-hold) (W : Workspace) (K : Keeps c.args.self.now [] W) → IsHeld c.args.self.now c.hold.new.self c.in-Some.state (some-there (IsStateIn c.args.self.now.heap c.args.self.now.bits) (c.version.ensures W K) c.in-Some.is).0 W
 held c W K =
     let did = c.hold.ensures in
-    is-held K (some-there _ _ (c.version.ensures W K) c.in-Some.is).2 c.reserve.ensures.rest did.rows did.extends did.graph did.holds did.count did.makes
+    is-held K (some-there (IsStateIn c.args.self.now.heap c.args.self.now.bits) (c.version.ensures W K) c.in-Some.is).2 c.reserve.ensures.rest did.rows did.extends did.graph did.holds did.count did.makes
 
 pub turn_to-requires-clause-kept : goal.turn_to-requires-clause-kept
 turn_to-requires-clause-kept c =
@@ -48,6 +49,6 @@ unfolding cost
 returns-clause-ends c = λ W K.
     let outside : in_batch W ≡ false = sym (c.in_batch.ensures [] W K) ∙ c.if-in_batch.false in
     let room : is_full W ≡ false = sym (c.is_full.ensures W K) ∙ c.if-is_full.false in
-    let there = some-there c.args.self.now.heap c.args.self.now.bits (c.version.ensures W K) c.in-Some.is in
+    let there = some-there (IsStateIn c.args.self.now.heap c.args.self.now.bits) (c.version.ensures W K) c.in-Some.is in
     let held = held (goal.at.returns-clause-ends c).After-hold W K in
     record { after = _; told = back-done W _ outside there.0 there.1 room; turns = turns-after 0 64 held.rises refl (c.turn_to.ensures W there.0 held.keeps held.is room) (omega arith); few_made = λ placed inside. absurd placed }

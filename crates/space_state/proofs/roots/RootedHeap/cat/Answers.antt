@@ -80,4 +80,4 @@ returns c = λ W K.
     let m = joined (keeps-same (c.in_ok-key.ensures.room W K).same K) lines.now c.in-Ok.ensures.answered c.in-Ok.ensures.good c.in_ok-more.more more.xs more.now c.in-Ok.ensures.items in
     let room = c.in_ok-key.ensures.room W K in
     let done = cat-made W.current name other lines.xs more.xs lines.found more.found (omega (arith, c.if-len.false, c.len.ensures.value, c.len-2.ensures.value, lines-length lines.before, lines-length more.before, lines-short more.before)) in
-    edit-done (cat name other) c.in_ok-key.ensures.key room m done (c.put_lines.ensures W _ m.keeps m.lines room.free) (omega (arith, lines.now.vector.shape.low, more.now.vector.shape.low)) (λ placed inside. placed)
+    edit-done (cat name other) c.in_ok-key.ensures.key room m done (c.put_lines.ensures W _ m.keeps m.lines room.free) (omega (arith, lines.now.vector.shape.low, more.now.vector.shape.low)) (λ placed. placed)

@@ -48,4 +48,4 @@ returns c = λ W K.
     let m = made-again (keeps-same (c.in_ok-key.ensures.room W K).same K) (Answered-Builds c.share-lines.ensures.shares.builds) c.share-lines.ensures.same lines.now in
     let room = c.in_ok-key.ensures.room W K in
     let done = copy-made W.current name other lines.xs lines.found in
-    edit-done (copy name other) c.in_ok-key.ensures.key room m done (c.put_lines.ensures W _ m.keeps m.lines room.free) (omega arith) (λ placed inside. placed)
+    edit-done (copy name other) c.in_ok-key.ensures.key room m done (c.put_lines.ensures W _ m.keeps m.lines room.free) (omega arith) (λ placed. placed)

@@ -61,4 +61,4 @@ returns c = λ W K.
     let m = erased (keeps-same (c.in_ok-key.ensures.room W K).same K) lines.now c.in-Ok.ensures.answered c.in-Ok.ensures.good c.args.from c.args.to c.in-Ok.ensures.items in
     let room = c.in_ok-key.ensures.room W K in
     let done = del-made W.current name c.args.from c.args.to lines.xs lines.found c.if-from-to.false (omega (arith, c.if-to-len.false, c.len.ensures.value, lines-length lines.before)) in
-    edit-done (del name c.args.from c.args.to) c.in_ok-key.ensures.key room m done (c.put_lines.ensures W _ m.keeps m.lines room.free) (omega (arith, lines.now.vector.shape.low)) (λ placed inside. placed)
+    edit-done (del name c.args.from c.args.to) c.in_ok-key.ensures.key room m done (c.put_lines.ensures W _ m.keeps m.lines room.free) (omega (arith, lines.now.vector.shape.low)) (λ placed. placed)

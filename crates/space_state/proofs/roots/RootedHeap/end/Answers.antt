@@ -40,6 +40,6 @@ returns-clause-ends c = λ W K.
     record {
       after = _;
       told = end-done W base.0 base.1 room;
-      turns = turns-after 0 64 (rises-same c.reserve.ensures.rest) refl (c.record.ensures _ base.0 (keeps-closed c.in-Some.base opened now) base.2 room) (omega arith);
+      turns = turns-after 0 64 (rises-same c.reserve.ensures.rest) refl (c.record.ensures.turns _ base.0 (keeps-closed c.in-Some.base opened now) base.2 room) (omega arith);
       few_made = λ placed inside. absurd placed;
     }

@@ -77,4 +77,4 @@ returns c = λ W K.
     let free : is_full W ≡ false = sym (c.is_full.ensures W K) ∙ c.if-is_full.false in
     let key : c.in_ok-key.key ≡ name = c.in_ok-key.ensures ∙ c.as_line.ensures in
     let done : edited W.current (fill name c.args.lines) ≡ Ok (with_lines W.current name xs) = fill-made W.current name c.args.lines ∙ ap (λ ys. Ok (with_lines W.current name ys)) (sym c.into_vec-texts.ensures) in
-    lines-put (fill name c.args.lines) key (same-heap c.reserve.ensures.rest) free made done (c.put_lines.ensures W xs made.keeps made.lines free) (omega (arith, ap length c.into_vec-texts.ensures)) (λ placed inside. placed)
+    lines-put (fill name c.args.lines) key (same-heap c.reserve.ensures.rest) free made done (c.put_lines.ensures W xs made.keeps made.lines free) (omega (arith, ap length c.into_vec-texts.ensures)) (λ placed. placed)

@@ -1,47 +1,77 @@
-use Rattle.std.proofs.Common.{◌≡◌, None, refl, [], sym, ◌∙◌, arith}
+use Rattle.std.proofs.Common.{◌≡◌, [], None, refl, sym, ◌∙◌, arith}
 use Rattle.elem_core.specs.Shown.{name_bytes}
+use Rattle.node_heap.proofs.GraphLemmas.{IsGraph-kinds}
 use Rattle.shell_terms.specs.Edit.{new}
 use Rattle.plain_space.specs.Workspace.{Workspace, lines_of}
-use Rattle.space_state.specs.Roots.{Keeps}
 use Rattle.plain_space.specs.declared.refusal.Refusal.TheVariants.{Exists}
-use Rattle.space_state.proofs.Keeping.{keeps-same}
-use Rattle.space_state.proofs.Editing.{outside-apart, found-none, refuses, no-room, found-taken, found-free, emptied, can-put, edit-done, edit-refused, fails}
+use Rattle.state_rows.specs.InHeap.{AreLinesIn}
+use Rattle.state_rows.proofs.Answering.{live-more}
+use Rattle.space_state.specs.Roots.{Keeps}
+use Rattle.space_state.proofs.Keeping.{holds-few, current-holds, current-stands}
+use Rattle.space_state.proofs.Steps.{none-of, as-told}
+use Rattle.space_state.proofs.Editing.{refuses, no-room, new-taken, new-made, emptied, edit-refused, fails}
+use Rattle.space_state.proofs.Placing.{IsBeside, is-beside, alike-beside, placed}
 use Rattle.space_state.proofs.roots.RootedHeap.make.Goals as goal
-use Rattle.space_state.proofs.roots.RootedHeap.make.Goals.{Else-is_ok}
+use Rattle.space_state.proofs.roots.RootedHeap.make.Goals.{Else-is_some, In_ok-key, In-Ok}
 
-pub returns-then-is_ok : goal.returns-then-is_ok
-returns-then-is_ok c = λ W K.
-    let name = name_bytes c.args.name in
-    edit-refused refl (refuses W (new name) Exists (found-taken c.args.self.now W.current name c.buffer.result (sym c.is_ok.ensures.value ∙ c.if-is_ok.true) (c.buffer.ensures W K)))
+pub returns-then-is_some : goal.returns-then-is_some
+returns-then-is_some c = λ W K.
+    let taken = as-told (AreLinesIn c.args.self.now.heap c.args.self.now.bits) _ _ (c.find-found.ensures.lines W K) (sym c.is_some.ensures ∙ c.if-is_some.true) in
+    edit-refused refl (refuses W (new (name_bytes c.args.name)) Exists (new-taken W.current (name_bytes c.args.name) taken))
 
 -- there is no such buffer yet
-none : (c : Else-is_ok) (W : Workspace) → Keeps c.args.self.now [] W → lines_of W.current (name_bytes c.args.name) ≡ None
-none c W K = found-none c.args.self.now W.current (name_bytes c.args.name) c.buffer.result (sym c.is_ok.ensures.value ∙ c.if-is_ok.false) (c.buffer.ensures W K)
-
-pub make_in_place-requires : goal.make_in_place-requires
-make_in_place-requires c = (c.requires.0, c.requires.1, sym (c.in_batch.ensures [] c.requires.0 c.requires.1) ∙ c.if-in_batch.true, none (goal.at.make_in_place-requires c).Else-is_ok c.requires.0 c.requires.1)
-
-pub returns-then-in_batch : goal.returns-then-in_batch
-returns-then-in_batch c = λ W K. c.make_in_place.ensures W K (sym (c.in_batch.ensures [] W K) ∙ c.if-in_batch.true) (none (goal.at.returns-then-in_batch c).Else-is_ok W K)
+none : (c : Else-is_some) (W : Workspace) → Keeps c.args.self.now [] W → lines_of W.current (name_bytes c.args.name) ≡ None
+none c W K = none-of _ (as-told (AreLinesIn c.args.self.now.heap c.args.self.now.bits) _ _ (c.find-found.ensures.lines W K) (sym c.is_some.ensures ∙ c.if-is_some.false))
 
 pub returns-in_err-key : goal.returns-in_err-key
 returns-in_err-key c = λ W K.
     let name = name_bytes c.args.name in
-    let done = found-free c.args.self.now W.current name c.buffer.result (sym c.is_ok.ensures.value ∙ c.if-is_ok.false) (c.buffer.ensures W K) in
     fails c.in_err-key.field-0.0 c.from_residual.result c.from_residual.ensures.1
-    (no-room W (new name) _ done (c.in_err-key.ensures.room W K))
+    (no-room W (new name) _ (new-made W.current name (none (goal.at.returns-in_err-key c).Else-is_some W K)) (c.in_err-key.ensures.ready W K))
 
-pub put_lines-requires-clause-kept : goal.put_lines-requires-clause-kept
-put_lines-requires-clause-kept c =
+-- the key is the name
+named : (c : In_ok-key) → c.in_ok-key.key ≡ name_bytes c.args.name
+named c = c.in_ok-key.ensures.text ∙ c.as_line.ensures
+
+-- the empty lines are held besides
+there : (c : In-Ok) (W : Workspace) → Keeps c.args.self.now [] W → IsBeside c.args.self.now c.ready.new.self c.empty.new.heap c.in-Ok.lines W
+there c W K =
+    let a = c.in-Ok.ensures.answered in
+    let before = c.ready.new.self.heap in
+    let after = c.empty.new.heap in
+    is-beside (c.in_ok-key.ensures.ready W K) a refl (omega (arith, c.in-Ok.ensures.made, IsGraph-kinds before, IsGraph-kinds after, a.cells, a.nodes)) (live-more before after a.extends)
+
+pub buffer_made-state-requires-clause-few : goal.buffer_made-state-requires-clause-few
+buffer_made-state-requires-clause-few c = omega (arith, holds-few (there (goal.at.buffer_made-state-requires-clause-few c).In-Ok c.requires.0 c.requires.1).keeps)
+
+pub buffer_made-state-requires-clause-bits : goal.buffer_made-state-requires-clause-bits
+buffer_made-state-requires-clause-bits c = (there (goal.at.buffer_made-state-requires-clause-bits c).In-Ok c.requires.0 c.requires.1).keeps.bits
+
+pub buffer_made-state-requires-clause-held : goal.buffer_made-state-requires-clause-held
+buffer_made-state-requires-clause-held c = current-holds (there (goal.at.buffer_made-state-requires-clause-held c).In-Ok c.requires.0 c.requires.1).keeps
+
+pub buffer_made-state-requires-clause-state : goal.buffer_made-state-requires-clause-state
+buffer_made-state-requires-clause-state c =
     let W = c.requires.0 in
     let K = c.requires.1 in
-    let m = emptied (keeps-same (c.in_ok-key.ensures.room W K).same K) c.in-Ok.ensures.answered c.in-Ok.ensures.good c.in-Ok.ensures.items in
-    can-put c.in_ok-key.ensures.key (c.in_ok-key.ensures.room W K) m (omega arith) (omega arith)
+    let name = name_bytes c.args.name in
+    let beside = there (goal.at.buffer_made-state-requires-clause-state c).In-Ok W K in
+    let spares = (c.in_ok-key.ensures.ready W K).spares in
+    let a = c.in-Ok.ensures.answered in
+    rw (named (goal.at.buffer_made-state-requires-clause-state c).In_ok-key) (
+      W.current,
+      current-stands beside.keeps,
+      none (goal.at.buffer_made-state-requires-clause-state c).Else-is_some W K,
+      (omega (arith, spares.0, a.cells, a.balance.spare_cells), omega (arith, spares.1, a.nodes, a.balance.spare_nodes, c.find-found.ensures.alike W K, alike-beside beside W.current name)),
+    )
 
 pub returns : goal.returns
 returns c = λ W K.
     let name = name_bytes c.args.name in
-    let m = emptied (keeps-same (c.in_ok-key.ensures.room W K).same K) c.in-Ok.ensures.answered c.in-Ok.ensures.good c.in-Ok.ensures.items in
-    let room = c.in_ok-key.ensures.room W K in
-    let done = found-free c.args.self.now W.current name c.buffer.result (sym c.is_ok.ensures.value ∙ c.if-is_ok.false) (c.buffer.ensures W K) in
-    edit-done (new name) c.in_ok-key.ensures.key room m done (c.put_lines.ensures W [] m.keeps m.lines room.free) (omega arith) (outside-apart W (sym (c.in_batch.ensures [] W K) ∙ c.if-in_batch.false))
+    let ready = c.in_ok-key.ensures.ready W K in
+    let beside = there (goal.at.returns c).In-Ok W K in
+    let now = current-stands beside.keeps in
+    let did = rw (named (goal.at.returns c).In_ok-key) at c.buffer_made-state.ensures in
+    let lines = (emptied ready.turns.keeps c.in-Ok.ensures.answered c.in-Ok.ensures.good c.in-Ok.ensures.items).lines in
+    placed (new name) beside (new-made W.current name (none (goal.at.returns c).Else-is_some W K)) did.keeps (did.trades W.current now) (did.state W.current [] now lines) (omega (arith, alike-beside beside W.current name))
+    (λ inside. omega (arith, beside.few inside, c.buffer_made-state.ensures.made))

@@ -8,7 +8,7 @@ use Rattle.state_rows.specs.InHeap.{IsStateIn, AreVersionsIn}
 use Rattle.space_state.specs.Roots.{Keeps}
 use Rattle.space_state.specs.Turns.{TurnsTo}
 use Rattle.space_state.proofs.Keeping.{keeps-same, keeps-gained, keeps-turned, current-stands, versions-stand, answered-one, rises-same, rises-makes, rises-answered, rises-then, rises-more, turns-by, turns-then}
-use Rattle.space_state.proofs.Steps.{mark-refused, mark-taken, mark-done, version-there, may-lack, memory-refused, spares-kept}
+use Rattle.space_state.proofs.Steps.{mark-refused, mark-taken, mark-done, as-told, may-lack, memory-refused, spares-kept}
 use Rattle.space_state.proofs.roots.RootedHeap.mark.Goals as goal
 use Rattle.space_state.proofs.roots.RootedHeap.mark.Goals.{After-hold, After-versions-versions, After-with_version-map}
 
@@ -18,19 +18,19 @@ returns-then-in_batch c = λ W K. record { due = mark-refused W _ (sym (c.in_bat
 pub returns-then-is_some : goal.returns-then-is_some
 returns-then-is_some c = λ W K.
     let outside : in_batch W ≡ false = sym (c.in_batch.ensures [] W K) ∙ c.if-in_batch.false in
-    let there = version-there c.args.self.now.heap c.args.self.now.bits _ _ (c.version.ensures W K) (sym c.is_some.ensures ∙ c.if-is_some.true) in
+    let there = as-told (IsStateIn c.args.self.now.heap c.args.self.now.bits) _ _ (c.version.ensures W K) (sym c.is_some.ensures ∙ c.if-is_some.true) in
     record { due = mark-taken W _ outside there; same = refl }
 
 pub returns-in_err-make_version_room : goal.returns-in_err-make_version_room
 returns-in_err-make_version_room c = λ W K.
     let outside : in_batch W ≡ false = sym (c.in_batch.ensures [] W K) ∙ c.if-in_batch.false in
-    let none = version-there c.args.self.now.heap c.args.self.now.bits _ _ (c.version.ensures W K) (sym c.is_some.ensures ∙ c.if-is_some.false) in
+    let none = as-told (IsStateIn c.args.self.now.heap c.args.self.now.bits) _ _ (c.version.ensures W K) (sym c.is_some.ensures ∙ c.if-is_some.false) in
     memory-refused c.from_residual-in_err-make_version_room.result c.from_residual-in_err-make_version_room.ensures.1 (may-lack (mark _) refl (mark-done W _ outside none)) c.in_err-make_version_room.ensures.refused
 
 pub returns-in_err-key : goal.returns-in_err-key
 returns-in_err-key c = λ W K.
     let outside : in_batch W ≡ false = sym (c.in_batch.ensures [] W K) ∙ c.if-in_batch.false in
-    let none = version-there c.args.self.now.heap c.args.self.now.bits _ _ (c.version.ensures W K) (sym c.is_some.ensures ∙ c.if-is_some.false) in
+    let none = as-told (IsStateIn c.args.self.now.heap c.args.self.now.bits) _ _ (c.version.ensures W K) (sym c.is_some.ensures ∙ c.if-is_some.false) in
     memory-refused c.from_residual.result c.from_residual.ensures.1 (may-lack (mark _) refl (mark-done W _ outside none)) refl
 
 -- the current state is held once more, after room was made
@@ -75,7 +75,7 @@ pub returns : goal.returns
 unfolding cost
 returns c = λ W K.
     let outside : in_batch W ≡ false = sym (c.in_batch.ensures [] W K) ∙ c.if-in_batch.false in
-    let none = version-there c.args.self.now.heap c.args.self.now.bits _ _ (c.version.ensures W K) (sym c.is_some.ensures ∙ c.if-is_some.false) in
+    let none = as-told (IsStateIn c.args.self.now.heap c.args.self.now.bits) _ _ (c.version.ensures W K) (sym c.is_some.ensures ∙ c.if-is_some.false) in
     let made = next (goal.at.returns c).After-with_version-map W K in
     let key : c.in_ok-key.key ≡ name_bytes c.args.name = c.in_ok-key.ensures ∙ c.as_line.ensures in
     record {

@@ -71,4 +71,4 @@ returns c = λ W K.
     let has = there (goal.at.returns c).After-cell-line W K in
     let m = inserted has c.in-Ok.ensures.answered c.in-Ok.ensures.good c.args.index c.in-Ok.ensures.items in
     let done = put-made W.current name text c.args.index has.lines.xs has.lines.found (omega (arith, c.if-index-count.false, c.len-count.ensures.value, lines-length has.lines.before)) (grind (arith, c.if-count.false, c.len-count.ensures.value, lines-length has.lines.before, lines-short has.lines.before)) in
-    edit-done (put name c.args.index text) has.named has.room m done (c.put_lines.ensures W _ m.keeps m.lines has.room.free) (omega (arith, has.lines.now.vector.shape.low)) (λ placed inside. placed)
+    edit-done (put name c.args.index text) has.named has.room m done (c.put_lines.ensures W _ m.keeps m.lines has.room.free) (omega (arith, has.lines.now.vector.shape.low)) (λ placed. placed)

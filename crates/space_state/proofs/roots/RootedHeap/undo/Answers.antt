@@ -1,4 +1,4 @@
-use Rattle.std.proofs.Common.{◌+◌, ◌-◌, ◌≤◌, [], ◌∷◌, ◌++◌, length, take, arith}
+use Rattle.std.proofs.Common.{◌+◌, ◌-◌, [], ◌∷◌, ◌++◌, length, take, arith}
 use Rattle.plain_space.specs.Workspace.{Workspace}
 use Rattle.plain_space.specs.Cost.{cost}
 use Rattle.space_state.specs.Roots.{Keeps}
