@@ -6,9 +6,13 @@ ghost use Rattle.std.specs.Result.{IfErr};
 ghost use Rattle.ewig_shell.specs.Run.{IsEarly};
 
 mod execute;
+#[cfg(test)]
+mod faults;
 mod laws;
 mod load;
 mod page;
+#[cfg(test)]
+mod refused;
 mod reply;
 mod run;
 mod save;

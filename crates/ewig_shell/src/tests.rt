@@ -218,7 +218,7 @@ fn saves_the_document_of_the_pool(rt: HostRuntime) -> Result<(), Fail> {
 }
 
 // A document with two equal cells of different identity.
-const TWO_CELLS: &str =
+pub const TWO_CELLS: &str =
     r#"{"bits":32,"format":"ewig-pool","roots":[7,8,9,10],"rows":[["c","a"],["c","x"],["c","x"],["l",[1,2]],["p",[0,3]],["m",0,4096,0,[4]],["m",0,0,0,[]],["s",[5,6]],["m",0,0,0,[]],["l",[]],["l",[]]],"version":1}"#;
 
 #[test]
@@ -301,8 +301,8 @@ fn keeps_space_and_files_where_the_store_fails(rt: HostRuntime) -> Result<(), Fa
     Ok(())
 }
 
-// A document in sixteen rows, of which one is an undo of 4,294,967,295 times the same state.
-fn full_undo<R: AllocGlobal>(rt: &R) -> Result<String, Fail> {
+// A document in sixteen rows, of which one is an undo of 4,294,967,295 times the same state. None where memory is refused.
+pub fn full_undo<R: AllocGlobal>(rt: &R) -> Option<String> {
     // Of each row behind the first two: how it begins, how many links it has to one row, and its last link.
     let rows: [(&str, u32, u32, u32); 12] = [
         (r#""l""#, 31, 1, 1),
@@ -321,21 +321,23 @@ fn full_undo<R: AllocGlobal>(rt: &R) -> Result<String, Fail> {
     let mut text = String::from_str(
         rt.alloc(),
         r#"{"bits":32,"format":"ewig-pool","roots":[1,0,14,15],"rows":[["m",0,0,0,[]],["s",[0,0]],"#,
-    )?;
+    )
+    .ok()?;
     for (begin, many, link, last) in rows {
-        write!(text, "[{begin},[")?;
+        write!(text, "[{begin},[").ok()?;
         for _ in 0..many {
-            write!(text, "{link},")?;
+            write!(text, "{link},").ok()?;
         }
-        write!(text, "{last}]],")?;
+        write!(text, "{last}]],").ok()?;
     }
-    text.push_str(r#"["i",6,[7,7,7,13]],["l",[]]],"version":1}"#)?;
-    Ok(text)
+    text.push_str(r#"["i",6,[7,7,7,13]],["l",[]]],"version":1}"#)
+        .ok()?;
+    Some(text)
 }
 
 #[test]
 fn refuses_an_edit_where_undo_is_full(rt: HostRuntime) -> Result<(), Fail> {
-    let held = full_undo(&rt)?;
+    let held = full_undo(&rt).ok_or("memory for a document")?;
     let devices = Devices {
         held: held.as_bytes(),
         ..WHOLE
@@ -916,7 +918,7 @@ fn writes_as_much_as_a_file_may_have(rt: HostRuntime) -> Result<(), Fail> {
 
 #[test]
 fn asks_for_room_before_the_store(rt: HostRuntime) -> Result<(), Fail> {
-    let held = full_undo(&rt)?;
+    let held = full_undo(&rt).ok_or("memory for a document")?;
     let devices = Devices {
         held: held.as_bytes(),
         fetch_fails: &[1],

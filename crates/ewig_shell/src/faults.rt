@@ -1,0 +1,203 @@
+//! A fault at each call of each device. A run with a fault is the run without what the fault refused or cut off.
+
+use crate::run::{Ended, Status, run};
+use crate::tests::TWO_CELLS;
+use shell_io::{MemSink, MemSource, MemStore, Store};
+use std::process::Abort;
+use std::test::Fail;
+
+// The calls of the devices that fail, each device's counted from 0.
+#[derive(Clone, Copy)]
+struct Faults<'a> {
+    source: &'a [u64],
+    sink: &'a [u64],
+    fetches: &'a [u64],
+    keeps: &'a [u64],
+}
+
+const NONE: Faults<'static> = Faults {
+    source: &[],
+    sink: &[],
+    fetches: &[],
+    keeps: &[],
+};
+
+// What a run wrote, how it ended, and what it left.
+#[derive(Drop)]
+struct Ran {
+    ended: Ended,
+    sink: MemSink,
+    store: MemStore,
+}
+
+// Runs the lines, which the source gives four bytes a call. The first keep puts the document there that is opened, where one is.
+fn ran<R: Abort + AllocGlobal>(
+    rt: &R,
+    opens: bool,
+    input: &[u8],
+    faults: &Faults<'_>,
+) -> Result<Ran, Fail> {
+    let alloc = rt.alloc();
+    let mut words = Vec::new(alloc);
+    if opens {
+        words.push(String::from_str(alloc, "--open=d")?)?;
+    }
+    let mut source = MemSource::new(input.to_vec(alloc)?, 4, faults.source.to_vec(alloc)?);
+    let mut sink = MemSink::new(alloc, 1_000, 1_000, faults.sink.to_vec(alloc)?)?;
+    let mut store = MemStore::new(
+        alloc,
+        faults.fetches.to_vec(alloc)?,
+        faults.keeps.to_vec(alloc)?,
+    );
+    assert!(rt; store.keep("d", TWO_CELLS.as_bytes()).is_ok());
+    let ended = run(alloc, &words, &mut source, &mut sink, &mut store);
+    Ok(Ran { ended, sink, store })
+}
+
+// The two runs left the same files, and spaces of as many rows, now and ever made.
+fn leave_the_same<R: Abort>(rt: &R, a: &Ran, b: &Ran) {
+    for name in ["d", "o", "f", "g"] {
+        assert_eq!(rt; a.store.file(name), b.store.file(name), "{name}");
+    }
+    match (&a.ended.space, &b.ended.space) {
+        (Some(space), Some(other)) => {
+            assert_eq!(rt; space.rows(), other.rows());
+            assert_eq!(rt; space.made(), other.made());
+        }
+        _ => assert!(rt; false),
+    }
+}
+
+// The lines of a script that is begun by opening a document. It reads a file and, in a batch, writes one, and saves twice under one
+// name, and once more.
+const LINES: [&str; 12] = [
+    "new b",
+    "read b d",
+    "begin",
+    "add b x",
+    "write b o",
+    "end",
+    "save f",
+    "mark v",
+    "save f",
+    "list",
+    "marks",
+    "save g",
+];
+
+// The first lines of the script, so many, but for those whose numbers are left out.
+fn script<R: AllocGlobal>(rt: &R, count: usize, left_out: &[usize]) -> Result<Vec<u8>, Fail> {
+    let mut bytes = Vec::new(rt.alloc());
+    for (number, line) in LINES.iter().enumerate() {
+        if number < count && !left_out.contains(&number) {
+            bytes.extend_from_slice(line.as_bytes())?;
+            bytes.push(b'\n')?;
+        }
+    }
+    Ok(bytes)
+}
+
+// The lines of the bytes that a newline ends.
+fn ended_lines(bytes: &[u8]) -> &[u8] {
+    let mut lines = bytes;
+    while let Some((last, front)) = lines.split_last() {
+        if *last == b'\n' {
+            return lines;
+        }
+        lines = front;
+    }
+    lines
+}
+
+#[test]
+fn a_fault_of_the_source_cuts_off_what_comes_after(rt: HostRuntime) -> Result<(), Fail> {
+    let input = script(&rt, LINES.len(), &[])?;
+    for call in 0..100u64 {
+        let source = [call];
+        let faults = Faults {
+            source: &source,
+            ..NONE
+        };
+        let run = ran(&rt, true, &input, &faults)?;
+        let taken = input.len().min(4 * call as usize);
+        let cut = ran(&rt, true, ended_lines(&input[..taken]), &NONE)?;
+        assert_eq!(rt; run.sink.bytes(), cut.sink.bytes(), "{call}");
+        leave_the_same(&rt, &run, &cut);
+        if run.ended.status == Status::Done {
+            assert_eq!(rt; taken, input.len());
+            return Ok(());
+        }
+        assert_eq!(rt; run.ended.status, Status::ReadFault);
+    }
+    Err(Fail::from("a source that fails at no call of the run"))
+}
+
+#[test]
+fn a_fault_of_the_sink_ends_the_run_with_its_line(rt: HostRuntime) -> Result<(), Fail> {
+    let input = script(&rt, LINES.len(), &[])?;
+    // Each reply goes out in one call, and the first is that to the line that opens the document.
+    for call in 0..LINES.len() + 2 {
+        let sink = [call as u64];
+        let faults = Faults {
+            sink: &sink,
+            ..NONE
+        };
+        let run = ran(&rt, true, &input, &faults)?;
+        let cut = ran(&rt, true, &script(&rt, call, &[])?, &NONE)?;
+        leave_the_same(&rt, &run, &cut);
+        assert!(rt; cut.sink.bytes().starts_with(run.sink.bytes()), "{call}");
+        if call <= LINES.len() {
+            assert_eq!(rt; run.ended.status, Status::WriteFault);
+            assert!(rt; run.sink.bytes().len() < cut.sink.bytes().len(), "{call}");
+        } else {
+            assert_eq!(rt; run.ended.status, Status::Done);
+            assert_eq!(rt; run.sink.bytes(), cut.sink.bytes());
+        }
+    }
+    Ok(())
+}
+
+// The calls of the store that the script makes: the opening, and these lines.
+const ASKING: [usize; 5] = [LINES.len(), 1, 4, 6, 8];
+
+// These two of the store's calls fail, or this one: the run replies and leaves what it does without their lines.
+fn fails_at<R: Abort + AllocGlobal>(rt: &R, first: usize, second: usize) -> Result<(), Fail> {
+    let alloc = rt.alloc();
+    let mut fetches = Vec::new(alloc);
+    let mut keeps = Vec::new(alloc);
+    for call in [first, second] {
+        if call < 2 {
+            fetches.push(call as u64)?;
+        } else {
+            keeps.push(call as u64 - 1)?;
+        }
+    }
+    let faults = Faults {
+        fetches: &fetches,
+        keeps: &keeps,
+        ..NONE
+    };
+    let run = ran(rt, true, &script(rt, LINES.len(), &[])?, &faults)?;
+    let rest = script(rt, LINES.len(), &[ASKING[first], ASKING[second]])?;
+    let without = ran(rt, first > 0, &rest, &NONE)?;
+    leave_the_same(rt, &run, &without);
+    assert_eq!(rt; run.ended.status, Status::Done);
+    let mut wanted = str::from_utf8(without.sink.bytes())?.lines();
+    for reply in str::from_utf8(run.sink.bytes())?.lines() {
+        if reply != "! fault" {
+            assert_eq!(rt; Some(reply), wanted.next());
+        }
+    }
+    assert_eq!(rt; wanted.next(), None);
+    Ok(())
+}
+
+#[test]
+fn a_fault_of_the_store_refuses_its_line(rt: HostRuntime) -> Result<(), Fail> {
+    for first in 0..ASKING.len() {
+        for second in first..ASKING.len() {
+            fails_at(&rt, first, second)?;
+        }
+    }
+    Ok(())
+}

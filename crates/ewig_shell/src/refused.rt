@@ -1,0 +1,240 @@
+//! Scripts that run while memory is refused: `rt try --test --fail-alloc N` refuses the Nth allocation of a test. With ample memory each
+//! is an ordinary test. Where the devices or the space get no memory, a test has nothing to show, and ends.
+
+use crate::execute::execute;
+use crate::run::{Status, run};
+use crate::tests::{TWO_CELLS, full_undo};
+use elem_core::Line;
+use shell_io::{MemSink, MemSource, MemStore, Store};
+use space_state::Space;
+use std::process::Abort;
+use std::test::Fail;
+
+// More bytes than the replies of a script.
+const ROOM: usize = 20_000;
+
+const REFUSED: &[u8] = b"! memory\n";
+
+// What lines are executed on.
+#[derive(Drop)]
+struct Machine {
+    space: Space,
+    sink: MemSink,
+    store: MemStore,
+}
+
+// A machine whose store has these bytes as the file `d`. None where memory is refused.
+fn machine<R: AllocGlobal>(rt: &R, held: &[u8]) -> Option<Machine> {
+    let alloc = rt.alloc();
+    let sink = MemSink::new(alloc, ROOM, ROOM, Vec::new(alloc)).ok()?;
+    let mut store = MemStore::new(alloc, Vec::new(alloc), Vec::new(alloc));
+    store.keep("d", held).ok()?;
+    let space = Space::new(alloc, 32).ok()?;
+    Some(Machine { space, sink, store })
+}
+
+impl Machine {
+    // Executes a line, and gives how many bytes were written before its reply.
+    fn execute<R: Abort + AllocGlobal>(&mut self, rt: &R, line: &str) -> usize {
+        let before = self.sink.bytes().len();
+        let Some(line) = Line::new(line) else {
+            return before;
+        };
+        let went = execute(
+            rt.alloc(),
+            &mut self.space,
+            line.as_str().as_bytes(),
+            &mut self.sink,
+            &mut self.store,
+        );
+        assert!(rt; went.is_ok());
+        before
+    }
+
+    // The bytes that were written behind so many.
+    fn reply(&self, before: usize) -> &[u8] {
+        self.sink.bytes().get(before..).unwrap_or(b"")
+    }
+
+    // Gives a line, and once more where memory is refused, which leaves the space as it was. Gives the reply.
+    fn give<R: Abort + AllocGlobal>(&mut self, rt: &R, line: &str) -> &[u8] {
+        let rows = self.space.rows();
+        let made = self.space.made();
+        let mut before = self.execute(rt, line);
+        if self.reply(before) == REFUSED {
+            assert_eq!(rt; self.space.rows(), rows);
+            assert_eq!(rt; self.space.made(), made);
+            before = self.execute(rt, line);
+        }
+        self.reply(before)
+    }
+
+    // Gives a line, whose reply is a number.
+    fn ask<R: Abort + AllocGlobal>(&mut self, rt: &R, line: &str) -> u64 {
+        let reply = str::from_utf8(self.give(rt, line)).unwrap_or("");
+        let number = reply.strip_prefix("= ").unwrap_or("").trim();
+        number.parse().unwrap_or(0)
+    }
+
+    // Gives each line, and compares the reply.
+    fn give_all<R: Abort + AllocGlobal>(&mut self, rt: &R, lines: &[(&str, &str)]) {
+        for (line, reply) in lines {
+            assert_eq!(rt; self.give(rt, line), reply.as_bytes(), "{line}");
+        }
+    }
+}
+
+// An undo takes back an edit, and the next edit leaves nothing to redo.
+const UNDONE: [(&str, &str); 6] = [
+    ("new a", "ok\n"),
+    ("add a x", "ok\n"),
+    ("undo", "ok\n"),
+    ("add a y", "ok\n"),
+    ("redo", "! empty\n"),
+    ("get a 0", "= y\n"),
+];
+
+// Lines are cut out, joined and deleted.
+const CUT: [(&str, &str); 11] = [
+    ("new a", "ok\n"),
+    ("add a p", "ok\n"),
+    ("add a q", "ok\n"),
+    ("add a r", "ok\n"),
+    ("cut a 0 2 b", "ok\n"),
+    ("show b 0 2", "= p\n= q\nok\n"),
+    ("len a", "= 1\n"),
+    ("cat a b", "ok\n"),
+    ("show a 0 3", "= r\n= p\n= q\nok\n"),
+    ("del a 1 3", "ok\n"),
+    ("len a", "= 1\n"),
+];
+
+// Stars, copies and lists.
+const STARRED: [(&str, &str); 11] = [
+    ("star z", "ok\n"),
+    ("star z", "! exists\n"),
+    ("new b", "ok\n"),
+    ("new B", "ok\n"),
+    ("copy b c", "ok\n"),
+    ("same b c", "= yes\n"),
+    ("list", "= B 0\n= b 0\n= c 0\nok\n"),
+    ("stars", "= z\nok\n"),
+    ("unstar y", "! none\n"),
+    ("undo", "ok\n"),
+    ("list", "= B 0\n= b 0\nok\n"),
+];
+
+// A thousand edits in a batch make few more rows than they leave.
+fn edits_in_place<R: Abort + AllocGlobal>(rt: &R) {
+    let Some(mut machine) = machine(rt, b"") else {
+        return;
+    };
+    for line in ["new a", "begin", "add a x"] {
+        assert_eq!(rt; machine.give(rt, line), b"ok\n".as_slice());
+    }
+    let rows = machine.ask(rt, "stats");
+    let made = machine.ask(rt, "made");
+    for _ in 0..1_000u32 {
+        assert_eq!(rt; machine.give(rt, "set a 0 y"), b"ok\n".as_slice());
+    }
+    let more_rows = machine.ask(rt, "stats");
+    let more_made = machine.ask(rt, "made");
+    assert!(rt; rows > 0 && made > 0);
+    assert!(rt;
+        more_made.saturating_add(rows) <= made.saturating_add(more_rows).saturating_add(2_000)
+    );
+}
+
+#[test]
+fn refused_rows(rt: HostRuntime) -> Result<(), Fail> {
+    let rows: [&[(&str, &str)]; 3] = [&UNDONE, &CUT, &STARRED];
+    for lines in rows {
+        if let Some(mut machine) = machine(&rt, b"") {
+            machine.give_all(&rt, lines);
+        }
+    }
+    edits_in_place(&rt);
+    Ok(())
+}
+
+// Documents that are loaded, with questions and their replies: a new space with its empty rows shared, two names in a sub-node, one
+// line twice, and two equal lines.
+const DOCUMENTS: [(&str, &[(&str, &str)]); 4] = [
+    (
+        r#"{"bits":32,"format":"ewig-pool","roots":[1,0,2,2],"rows":[["m",0,0,0,[]],["s",[0,0]],["l",[]]],"version":1}"#,
+        &[("stats", "= 3\n"), ("list", "ok\n")],
+    ),
+    (
+        r#"{"bits":32,"format":"ewig-pool","roots":[9,10,11,12],"rows":[["c","a"],["l",[]],["p",[0,1]],["c","A"],["l",[]],["p",[3,4]],["m",1,4194816,0,[2,5]],["m",0,0,4096,[6]],["m",0,0,0,[]],["s",[7,8]],["m",0,0,0,[]],["l",[]],["l",[]]],"version":1}"#,
+        &[("stats", "= 13\n"), ("list", "= A 0\n= a 0\nok\n")],
+    ),
+    (
+        r#"{"bits":32,"format":"ewig-pool","roots":[6,7,8,9],"rows":[["c","a"],["c","x"],["l",[1,1]],["p",[0,2]],["m",0,4096,0,[3]],["m",0,0,0,[]],["s",[4,5]],["m",0,0,0,[]],["l",[]],["l",[]]],"version":1}"#,
+        &[("stats", "= 10\n"), ("show a 0 2", "= x\n= x\nok\n")],
+    ),
+    (TWO_CELLS, &[("stats", "= 11\n"), ("same a b", "! none\n")]),
+];
+
+// Loads the document, asks, and saves it again; then an edit is done and taken back, or refused where undo is full.
+fn loads<R: Abort + AllocGlobal>(rt: &R, held: &[u8], questions: &[(&str, &str)], edited: &str) {
+    if let Some(mut machine) = machine(rt, held) {
+        machine.give_all(rt, &[("load d", "ok\n")]);
+        machine.give_all(rt, questions);
+        machine.give_all(
+            rt,
+            &[
+                ("save e", "ok\n"),
+                ("new n", edited),
+                ("undo", "ok\n"),
+                ("len n", "! none\n"),
+            ],
+        );
+        assert_eq!(rt; machine.store.file("e"), Some(held));
+    }
+}
+
+#[test]
+fn refused_loads(rt: HostRuntime) -> Result<(), Fail> {
+    for (held, questions) in DOCUMENTS {
+        loads(&rt, held.as_bytes(), questions, "ok\n");
+    }
+    if let Some(held) = full_undo(&rt) {
+        loads(&rt, held.as_bytes(), &[("stats", "= 16\n")], "! limit\n");
+    }
+    Ok(())
+}
+
+// Runs a session, and gives how it ended and the sink. None where the devices get no memory.
+fn session<R: AllocGlobal>(rt: &R) -> Option<(Status, MemSink)> {
+    let alloc = rt.alloc();
+    let input = b"new a\nadd a hello\nget a 0\n"
+        .as_slice()
+        .to_vec(alloc)
+        .ok()?;
+    let mut source = MemSource::new(input, ROOM, Vec::new(alloc));
+    let mut sink = MemSink::new(alloc, ROOM, ROOM, Vec::new(alloc)).ok()?;
+    let mut store = MemStore::new(alloc, Vec::new(alloc), Vec::new(alloc));
+    let ended = run(alloc, &[], &mut source, &mut sink, &mut store);
+    Some((ended.status, sink))
+}
+
+// What the session writes where memory is ample, and where it is refused to its first or to its second line.
+const WRITTEN: [&[u8]; 3] = [
+    b"ok\nok\n= hello\n",
+    b"! memory\n! none\n! none\n",
+    b"ok\n! memory\n! range\n",
+];
+
+#[test]
+fn refused_run(rt: HostRuntime) -> Result<(), Fail> {
+    let Some((status, sink)) = session(&rt) else {
+        return Ok(());
+    };
+    if status == Status::Memory {
+        assert!(rt; sink.bytes().is_empty());
+    } else {
+        assert_eq!(rt; status, Status::Done);
+        assert!(rt; WRITTEN.contains(&sink.bytes()));
+    }
+    Ok(())
+}
