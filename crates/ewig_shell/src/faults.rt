@@ -157,19 +157,37 @@ fn a_fault_of_the_sink_ends_the_run_with_its_line(rt: HostRuntime) -> Result<(),
     Ok(())
 }
 
-// The calls of the store that the script makes: the opening, and these lines.
-const ASKING: [usize; 5] = [LINES.len(), 1, 4, 6, 8];
+// A call of the store that the script makes, counted from 0, and the number of its line, which the opening hasn't.
+#[derive(Clone, Copy, PartialEq, Eq)]
+struct Call {
+    number: u64,
+    line: usize,
+}
+
+const OPENING: Call = Call {
+    number: 0,
+    line: LINES.len(),
+};
+
+// In the script's order. The first two are fetches, and the first keep puts the document there.
+const CALLS: [Call; 5] = [
+    OPENING,
+    Call { number: 1, line: 1 },
+    Call { number: 2, line: 4 },
+    Call { number: 3, line: 6 },
+    Call { number: 4, line: 8 },
+];
 
 // These two of the store's calls fail, or this one: the run replies and leaves what it does without their lines.
-fn fails_at<R: Abort + AllocGlobal>(rt: &R, first: usize, second: usize) -> Result<(), Fail> {
+fn fails_at<R: Abort + AllocGlobal>(rt: &R, first: Call, second: Call) -> Result<(), Fail> {
     let alloc = rt.alloc();
     let mut fetches = Vec::new(alloc);
     let mut keeps = Vec::new(alloc);
     for call in [first, second] {
-        if call < 2 {
-            fetches.push(call as u64)?;
+        if call.number < 2 {
+            fetches.push(call.number)?;
         } else {
-            keeps.push(call as u64 - 1)?;
+            keeps.push(call.number - 1)?;
         }
     }
     let faults = Faults {
@@ -178,8 +196,8 @@ fn fails_at<R: Abort + AllocGlobal>(rt: &R, first: usize, second: usize) -> Resu
         ..NONE
     };
     let run = ran(rt, true, &script(rt, LINES.len(), &[])?, &faults)?;
-    let rest = script(rt, LINES.len(), &[ASKING[first], ASKING[second]])?;
-    let without = ran(rt, first > 0, &rest, &NONE)?;
+    let rest = script(rt, LINES.len(), &[first.line, second.line])?;
+    let without = ran(rt, first != OPENING, &rest, &NONE)?;
     leave_the_same(rt, &run, &without);
     assert_eq!(rt; run.ended.status, Status::Done);
     let mut wanted = str::from_utf8(without.sink.bytes())?.lines();
@@ -194,8 +212,8 @@ fn fails_at<R: Abort + AllocGlobal>(rt: &R, first: usize, second: usize) -> Resu
 
 #[test]
 fn a_fault_of_the_store_refuses_its_line(rt: HostRuntime) -> Result<(), Fail> {
-    for first in 0..ASKING.len() {
-        for second in first..ASKING.len() {
+    for (before, first) in CALLS.into_iter().enumerate() {
+        for second in CALLS.into_iter().skip(before) {
             fails_at(&rt, first, second)?;
         }
     }

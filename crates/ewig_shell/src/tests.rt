@@ -540,50 +540,90 @@ fn ends_at_the_most_bytes(rt: HostRuntime) -> Result<(), Fail> {
     Ok(())
 }
 
+// Five lines that use each device, and what they write.
+const SAVED_AND_LOADED: &[u8] = b"new a\nadd a x\nsave f\nload f\nget a 0\n";
+
+const ALL_WRITTEN: &[u8] = b"ok\nok\nok\nok\n= x\n";
+
 #[test]
 fn faults_at_each_call_in_turn(rt: HostRuntime) -> Result<(), Fail> {
-    let input = b"new a\nlen a\n";
-    let written = b"ok\n= 0\n";
-    // What was read before a fault is executed: lines of six bytes each.
-    for call in 0..5u64 {
+    // How many bytes the lines write that ended before a call of the source, which gives four bytes a call.
+    for (call, kept) in [0, 0, 3, 3, 6, 6, 9, 12, 12, 16].into_iter().enumerate() {
         let devices = Devices {
-            source_piece: 6,
-            source_fails: &[call],
+            source_piece: 4,
+            source_fails: &[call as u64],
             ..WHOLE
         };
-        let (read, status) = match call {
-            0 => (0, Status::ReadFault),
-            1 => (3, Status::ReadFault),
-            2 => (7, Status::ReadFault),
-            _ => (7, Status::Done),
-        };
-        check(&rt, input, 1 << 40, &devices, &written[..read], status)?;
+        let written = ALL_WRITTEN.get(..kept).unwrap_or(b"");
+        check(
+            &rt,
+            SAVED_AND_LOADED,
+            1 << 40,
+            &devices,
+            written,
+            Status::ReadFault,
+        )?;
     }
-    // What was written before a fault stays: two bytes a call, and one where a reply ends.
-    for call in 0..5u64 {
+    // How many bytes were written before a call of the sink, which takes a reply a call.
+    for (call, kept) in [0, 3, 6, 9, 12].into_iter().enumerate() {
         let devices = Devices {
-            sink_piece: 2,
-            sink_fails: &[call],
+            sink_fails: &[call as u64],
             ..WHOLE
         };
-        let (kept, status) = match call {
-            0 => (0, Status::WriteFault),
-            1 => (2, Status::WriteFault),
-            2 => (3, Status::WriteFault),
-            3 => (5, Status::WriteFault),
-            _ => (7, Status::Done),
-        };
-        check(&rt, input, 1 << 40, &devices, &written[..kept], status)?;
+        let written = ALL_WRITTEN.get(..kept).unwrap_or(b"");
+        check(
+            &rt,
+            SAVED_AND_LOADED,
+            1 << 40,
+            &devices,
+            written,
+            Status::WriteFault,
+        )?;
     }
     // A sink takes what it has room for.
-    for room in 0..10usize {
+    for room in 0..ALL_WRITTEN.len() {
         let devices = Devices { room, ..WHOLE };
-        let (kept, status) = if room < 7 {
-            (room, Status::WriteFault)
-        } else {
-            (7, Status::Done)
+        let written = &ALL_WRITTEN[..room];
+        check(
+            &rt,
+            SAVED_AND_LOADED,
+            1 << 40,
+            &devices,
+            written,
+            Status::WriteFault,
+        )?;
+    }
+    Ok(())
+}
+
+// Which calls of each device fail, each counted from 0, and what the five lines write then. The source gives four bytes a call.
+const NOT_ENDED: [(&[u64], &[u64], &[u64], &[u64], &[u8]); 5] = [
+    (&[10], &[], &[], &[], ALL_WRITTEN),
+    (&[], &[5], &[], &[], ALL_WRITTEN),
+    (&[], &[], &[], &[0], b"ok\nok\n! fault\n! missing\n= x\n"),
+    (&[], &[], &[0], &[], b"ok\nok\nok\n! fault\n= x\n"),
+    (&[], &[], &[0], &[0], b"ok\nok\n! fault\n! fault\n= x\n"),
+];
+
+#[test]
+fn goes_on_where_the_store_fails(rt: HostRuntime) -> Result<(), Fail> {
+    for (source_fails, sink_fails, fetch_fails, keep_fails, written) in NOT_ENDED {
+        let devices = Devices {
+            source_piece: 4,
+            source_fails,
+            sink_fails,
+            fetch_fails,
+            keep_fails,
+            ..WHOLE
         };
-        check(&rt, input, 1 << 40, &devices, &written[..kept], status)?;
+        check(
+            &rt,
+            SAVED_AND_LOADED,
+            1 << 40,
+            &devices,
+            written,
+            Status::Done,
+        )?;
     }
     Ok(())
 }
