@@ -143,163 +143,13 @@ fn replies_however_the_input_is_cut(rt: HostRuntime) -> Result<(), Fail> {
     Ok(())
 }
 
-#[test]
-fn edits_versions_undo_and_batches(rt: HostRuntime) -> Result<(), Fail> {
-    let rows: [(&[u8], &[u8]); 9] = [
-        (
-            b"new a\nadd a x\nget a 1\nshow a 1 1\nshow a 0 2\nnew a\n",
-            b"ok\nok\n! range\nok\n! range\n! exists\n",
-        ),
-        (
-            b"new a\nadd a p\nmark v\nset a 0 x\nget a 0\nback v\nget a 0\n",
-            b"ok\nok\nok\nok\n= x\nok\n= p\n",
-        ),
-        (
-            b"new a\nadd a x\nundo\nadd a y\nredo\nget a 0\n",
-            b"ok\nok\nok\nok\n! empty\n= y\n",
-        ),
-        (
-            b"new a\nadd a p\nbegin\nset a 0 q\nabort\nget a 0\nend\n",
-            b"ok\nok\nok\nok\nok\n= p\n! batch\n",
-        ),
-        (
-            b"new a\nadd a p\nadd a q\nadd a r\ncut a 0 2 b\nshow b 0 2\nlen a\ncat a b\nshow a 0 3\ndel a 1 3\nlen a\n",
-            b"ok\nok\nok\nok\nok\n= p\n= q\nok\n= 1\nok\n= r\n= p\n= q\nok\nok\n= 1\n",
-        ),
-        (
-            b"star z\nstar z\nnew b\nnew B\ncopy b c\nsame b c\nlist\nstars\nunstar y\nundo\nlist\n",
-            b"ok\n! exists\nok\nok\nok\n= yes\n= B 0\n= b 0\n= c 0\nok\n= z\nok\n! none\nok\n= B 0\n= b 0\nok\n",
-        ),
-        (
-            b"mark v\nmark v\nnew a\nmark w\neqv v w\nmarks\nunmark v\nback v\n",
-            b"ok\n! exists\nok\nok\n= no\n= v\n= w\nok\nok\n! none\n",
-        ),
-        (
-            b"new a\nnew b\nsame a b\nadd a x\nsame a b\nsame a c\nmark v\nadd b x\nmark w\nsame a b\neqv v w\neqv v v\neqv v u\n",
-            b"ok\nok\n= yes\nok\n= no\n! none\nok\nok\nok\n= yes\n= no\n= yes\n! none\n",
-        ),
-        (
-            b"new a\nbegin\nput a 0 x\ndrop a\nend\nundo\nlen a\nredo\nlen a\n",
-            b"ok\nok\nok\nok\nok\nok\n= 0\nok\n! none\n",
-        ),
-    ];
-    for (input, written) in rows {
-        check(&rt, input, 1 << 40, &WHOLE, written, Status::Done)?;
-    }
-    Ok(())
-}
-
 // The document of a new space.
 const START: &str =
     r#"{"bits":32,"format":"ewig-pool","roots":[2,3,4,5],"rows":[["m",0,0,0,[]],["m",0,0,0,[]],["s",[0,1]],["m",0,0,0,[]],["l",[]],["l",[]]],"version":1}"#;
 
-#[test]
-fn saves_the_document_of_the_pool(rt: HostRuntime) -> Result<(), Fail> {
-    // The input, whether the first keep fails, what is written, and the file `f` that is left.
-    let rows: [(&[u8], bool, &[u8], Option<&str>); 3] = [
-        (b"save f\nstats\n", false, b"ok\n= 6\n", Some(START)),
-        (b"new a\nsave f\nlen a\n", true, b"ok\n! fault\n= 0\n", None),
-        (
-            b"new a\nadd a p\nbegin\nset a 0 q\nsave f\nabort\nget a 0\nend\n",
-            false,
-            b"ok\nok\nok\nok\n! batch\nok\n= p\n! batch\n",
-            None,
-        ),
-    ];
-    for (input, fails, written, file) in rows {
-        let devices = Devices {
-            keep_fails: if fails { &[0] } else { &[] },
-            ..WHOLE
-        };
-        let store = left_by(&rt, input, 1 << 40, &devices, written, Status::Done)?;
-        assert_eq!(rt; store.file("f"), file.map(str::as_bytes));
-    }
-    Ok(())
-}
-
 // A document with two equal cells of different identity.
 pub const TWO_CELLS: &str =
     r#"{"bits":32,"format":"ewig-pool","roots":[7,8,9,10],"rows":[["c","a"],["c","x"],["c","x"],["l",[1,2]],["p",[0,3]],["m",0,4096,0,[4]],["m",0,0,0,[]],["s",[5,6]],["m",0,0,0,[]],["l",[]],["l",[]]],"version":1}"#;
-
-#[test]
-fn loads_the_pool_of_a_document(rt: HostRuntime) -> Result<(), Fail> {
-    let rows: [(&[u8], &[u8]); 4] = [
-        (
-            b"load d\nsave e\nstats\nsame a b\n",
-            b"ok\nok\n= 11\n! none\n",
-        ),
-        (
-            b"made\nload d\nsave e\nstats\nmade\n",
-            b"= 6\nok\nok\n= 11\n= 17\n",
-        ),
-        (
-            b"new b\nload d\nsave e\nlist\nget a 1\nundo\n",
-            b"ok\nok\nok\n= a 2\nok\n= x\n! empty\n",
-        ),
-        (
-            b"load d\nsave e\nbegin\nload d\nabort\nload c\n",
-            b"ok\nok\nok\n! batch\nok\n! missing\n",
-        ),
-    ];
-    for (input, written) in rows {
-        let devices = Devices {
-            held: TWO_CELLS.as_bytes(),
-            ..WHOLE
-        };
-        let store = left_by(&rt, input, 1 << 40, &devices, written, Status::Done)?;
-        assert_eq!(rt; store.file("e"), Some(TWO_CELLS.as_bytes()));
-    }
-    Ok(())
-}
-
-// The document of a new space with spaces in it, so not compact.
-const SPACED: &str =
-    r#"{"bits": 32,"format":"ewig-pool","roots":[2,3,4,5],"rows":[["m",0,0,0,[]],["m",0,0,0,[]],["s",[0,1]],["m",0,0,0,[]],["l",[]],["l",[]]],"version":1}"#;
-
-// A document of a new space is stored as the compact one.
-fn stores_it_compactly<R: Abort + AllocGlobal>(rt: &R, held: &str) -> Result<(), Fail> {
-    let devices = Devices {
-        held: held.as_bytes(),
-        ..WHOLE
-    };
-    let store = left_by(
-        rt,
-        b"load d\nsave e\nlist\nstats\n",
-        1 << 40,
-        &devices,
-        b"ok\nok\nok\n= 6\n",
-        Status::Done,
-    )?;
-    assert_eq!(rt; store.file("e"), Some(START.as_bytes()));
-    Ok(())
-}
-
-#[test]
-fn stores_the_compact_text_of_what_was_loaded(rt: HostRuntime) -> Result<(), Fail> {
-    stores_it_compactly(&rt, START)?;
-    stores_it_compactly(&rt, SPACED)
-}
-
-#[test]
-fn keeps_space_and_files_where_the_store_fails(rt: HostRuntime) -> Result<(), Fail> {
-    // The first keep puts the file there.
-    let devices = Devices {
-        fetch_fails: &[0],
-        keep_fails: &[1],
-        held: START.as_bytes(),
-        ..WHOLE
-    };
-    let store = left_by(
-        &rt,
-        b"new a\nsave d\nload d\nlen a\nload d\nlen a\n",
-        1 << 40,
-        &devices,
-        b"ok\n! fault\n! fault\n= 0\nok\n! none\n",
-        Status::Done,
-    )?;
-    assert_eq!(rt; store.file("d"), Some(START.as_bytes()));
-    Ok(())
-}
 
 // A document in sixteen rows, of which one is an undo of 4,294,967,295 times the same state. None where memory is refused.
 pub fn full_undo<R: AllocGlobal>(rt: &R) -> Option<String> {
@@ -336,120 +186,6 @@ pub fn full_undo<R: AllocGlobal>(rt: &R) -> Option<String> {
 }
 
 #[test]
-fn refuses_an_edit_where_undo_is_full(rt: HostRuntime) -> Result<(), Fail> {
-    let held = full_undo(&rt).ok_or("memory for a document")?;
-    let devices = Devices {
-        held: held.as_bytes(),
-        ..WHOLE
-    };
-    let store = left_by(
-        &rt,
-        b"load d\nsave e\nstats\nnew a\nundo\nnew a\n",
-        1 << 40,
-        &devices,
-        b"ok\nok\n= 16\n! limit\nok\nok\n",
-        Status::Done,
-    )?;
-    assert_eq!(rt; store.file("e"), Some(held.as_bytes()));
-    Ok(())
-}
-
-#[test]
-fn refuses_a_file_of_a_byte_too_many(rt: HostRuntime) -> Result<(), Fail> {
-    let held = vec![in rt.alloc(); b' '; 67_108_865]?;
-    let devices = Devices {
-        held: &held,
-        ..WHOLE
-    };
-    check(
-        &rt,
-        b"new a\nload d\nlen a\n",
-        1 << 40,
-        &devices,
-        b"ok\n! large\n= 0\n",
-        Status::Done,
-    )
-}
-
-#[test]
-fn refuses_a_document_that_is_large(rt: HostRuntime) -> Result<(), Fail> {
-    let alloc = rt.alloc();
-    // Each byte of these lines takes six in a document: 171 * 65,530 * 6 is more than 67,108,864.
-    let line = vec![in alloc; 1u8; 65_530]?;
-    let mut input = Vec::from_slice(alloc, b"new a\n")?;
-    let mut written = Vec::from_slice(alloc, b"ok\n")?;
-    for _ in 0..171u32 {
-        input.extend_from_slice(b"add a ")?;
-        input.extend_from_slice(&line)?;
-        input.extend_from_slice(b"\n")?;
-        written.extend_from_slice(b"ok\n")?;
-    }
-    input.extend_from_slice(b"save f\nlen a\n")?;
-    written.extend_from_slice(b"! large\n= 171\n")?;
-    let store = left_by(&rt, &input, 1 << 40, &WHOLE, &written, Status::Done)?;
-    assert_eq!(rt; store.file("f"), None);
-    Ok(())
-}
-
-#[test]
-fn refuses_documents_with_damage(rt: HostRuntime) -> Result<(), Fail> {
-    let rows: [(&str, &str); 4] = [
-        (r#"{"bits":32"#, "json"),
-        (
-            r#"{"bits":32,"format":"ewig-pool","roots":[2,3,4],"rows":[],"version":1}"#,
-            "form",
-        ),
-        (
-            r#"{"bits":32,"format":"ewig-pool","roots":[0,0,0,0],"rows":[["l",[0]]],"version":1}"#,
-            "link",
-        ),
-        (
-            r#"{"bits":32,"format":"ewig-pool","roots":[1,1,1,1],"rows":[["c","a"],["m",1,512,0,[0]]],"version":1}"#,
-            "trie",
-        ),
-    ];
-    for (held, word) in rows {
-        refuses(&rt, held, word)?;
-    }
-    // The document of a new space with other bits, roots, last rows or version.
-    let rows: [(u32, &str, &str, u32, &str); 9] = [
-        (32, "2,3,4,5", r#"["l",[]]"#, 9, "version"),
-        (31, "2,3,4,5", r#"["l",[]]"#, 1, "bits"),
-        (31, "2,3,4,5", r#"["q",[]]"#, 1, "bits"),
-        (32, "2,3,4,5", r#"["q",[]]"#, 1, "row"),
-        (32, "2,3,4,5", r#"["l",[]],["c","x\ny"]"#, 1, "text"),
-        (32, "2,3,4,5", r#"["i",1,[4]]"#, 1, "vector"),
-        (32, "3,3,4,5", r#"["l",[]]"#, 1, "kind"),
-        (32, "2,3,4,5", r#"["l",[]],["c","z"]"#, 1, "order"),
-        (32, "2,3,5,4", r#"["l",[]]"#, 1, "order"),
-    ];
-    for (bits, roots, last, version, word) in rows {
-        let held = format!(in rt.alloc();
-            r#"{{"bits":{bits},"format":"ewig-pool","roots":[{roots}],"rows":[["m",0,0,0,[]],["m",0,0,0,[]],["s",[0,1]],["m",0,0,0,[]],["l",[]],{last}],"version":{version}}}"#
-        )?;
-        refuses(&rt, &held, word)?;
-    }
-    Ok(())
-}
-
-// A load of the document is refused with the word of the first test that it fails.
-fn refuses<R: Abort + AllocGlobal>(rt: &R, held: &str, word: &str) -> Result<(), Fail> {
-    let written = format!(in rt.alloc(); "ok\n! damaged {word}\n= 0\n")?;
-    let devices = Devices {
-        held: held.as_bytes(),
-        ..WHOLE
-    };
-    check(
-        rt,
-        b"new a\nload d\nlen a\n",
-        1 << 40,
-        &devices,
-        written.as_bytes(),
-        Status::Done,
-    )
-}
-
-#[test]
 fn long_lines_and_many(rt: HostRuntime) -> Result<(), Fail> {
     let alloc = rt.alloc();
     let mut input = vec![in alloc; b'x'; 65_537]?;
@@ -476,46 +212,6 @@ fn long_lines_and_many(rt: HostRuntime) -> Result<(), Fail> {
     written.extend_from_slice(b"\n= y\n= ")?;
     written.extend_from_slice(&long)?;
     written.extend_from_slice(b"\nok\n")?;
-    check(&rt, &input, 1 << 40, &WHOLE, &written, Status::Done)
-}
-
-#[test]
-fn doubles_a_buffer_to_the_limit(rt: HostRuntime) -> Result<(), Fail> {
-    let alloc = rt.alloc();
-    let mut input = Vec::from_slice(alloc, b"new a\nadd a x\n")?;
-    let mut written = Vec::from_slice(alloc, b"ok\nok\n")?;
-    for _ in 0..31u32 {
-        input.extend_from_slice(b"cat a a\n")?;
-        written.extend_from_slice(b"ok\n")?;
-    }
-    input.extend_from_slice(b"cat a a\nlen a\n")?;
-    written.extend_from_slice(b"! limit\n= 2147483648\n")?;
-    check(&rt, &input, 1 << 40, &WHOLE, &written, Status::Done)
-}
-
-#[test]
-fn equal_by_shared_rows(rt: HostRuntime) -> Result<(), Fail> {
-    let alloc = rt.alloc();
-    let mut input = Vec::from_slice(alloc, b"new a\nadd a x\n")?;
-    for _ in 0..31u32 {
-        input.extend_from_slice(b"cat a a\n")?;
-    }
-    input.extend_from_slice(b"copy a b\nmark v\nnew c\ndrop c\nmark w\n")?;
-    let mut written = Vec::new(alloc);
-    for _ in 0..38u32 {
-        written.extend_from_slice(b"ok\n")?;
-    }
-    for question in [b"same a b\n".as_slice(), b"eqv v w\n".as_slice()] {
-        for _ in 0..100u32 {
-            input.extend_from_slice(question)?;
-            written.extend_from_slice(b"= yes\n")?;
-        }
-    }
-    // The same lines, cut into rows otherwise, and then one of them changed.
-    input.extend_from_slice(b"copy a b\ncut b 0 1000 c\ncat c b\nsame a c\n")?;
-    written.extend_from_slice(b"ok\nok\nok\n= yes\n")?;
-    input.extend_from_slice(b"set c 1500 y\nsame a c\n")?;
-    written.extend_from_slice(b"ok\n= no\n")?;
     check(&rt, &input, 1 << 40, &WHOLE, &written, Status::Done)
 }
 
@@ -698,39 +394,6 @@ fn words_that_do_not_read_are_usage(rt: HostRuntime) -> Result<(), Fail> {
     Ok(())
 }
 
-#[test]
-fn equal_versions_whatever_the_bits(rt: HostRuntime) -> Result<(), Fail> {
-    let alloc = rt.alloc();
-    let mut input = Vec::new(alloc);
-    for i in 0..40u32 {
-        input.extend_from_slice(format!(in alloc; "new n{i:02}\n")?.as_bytes())?;
-    }
-    input.extend_from_slice(b"mark v\n")?;
-    for i in 0..20u32 {
-        input.extend_from_slice(format!(in alloc; "drop n{i:02}\n")?.as_bytes())?;
-    }
-    for i in 0..20u32 {
-        let name = 19 - i;
-        input.extend_from_slice(format!(in alloc; "new n{name:02}\n")?.as_bytes())?;
-    }
-    input.extend_from_slice(b"mark w\neqv v w\n")?;
-    let mut written = Vec::new(alloc);
-    for _ in 0..82u32 {
-        written.extend_from_slice(b"ok\n")?;
-    }
-    written.extend_from_slice(b"= yes\n")?;
-    let rows: [&[&str]; 4] = [
-        &["--bits", "0"],
-        &["--bits=1"],
-        &["--bits=5"],
-        &["--bits", "32"],
-    ];
-    for words in rows {
-        asked(&rt, words, &input, 1 << 40, &WHOLE, &written, Status::Done)?;
-    }
-    Ok(())
-}
-
 // The words, the file `d` where there is one, the input, and what is written.
 const OPENINGS: [(&[&str], &str, &[u8], &[u8]); 6] = [
     (&["--open=nothere"], "", b"quit\nlist\n", b"! missing\nok\n"),
@@ -885,27 +548,6 @@ fn reads_and_writes_the_lines_of_files(rt: HostRuntime) -> Result<(), Fail> {
 }
 
 #[test]
-fn keeps_space_and_files_where_the_store_fails_at_text(rt: HostRuntime) -> Result<(), Fail> {
-    // The first keep puts the file there.
-    let devices = Devices {
-        fetch_fails: &[0],
-        keep_fails: &[1],
-        held: b"x\n",
-        ..WHOLE
-    };
-    let store = left_by(
-        &rt,
-        b"new n\nadd n y\nread n d\nwrite n d\nget n 0\nread n d\nget n 0\n",
-        1 << 40,
-        &devices,
-        b"ok\nok\n! fault\n! fault\n= y\nok\n= x\n",
-        Status::Done,
-    )?;
-    assert_eq!(rt; store.file("d"), Some(b"x\n".as_slice()));
-    Ok(())
-}
-
-#[test]
 fn takes_lines_and_files_up_to_their_limits(rt: HostRuntime) -> Result<(), Fail> {
     let alloc = rt.alloc();
     // A line of a byte too many, which is found before bytes that aren't UTF-8.
@@ -927,33 +569,12 @@ fn takes_lines_and_files_up_to_their_limits(rt: HostRuntime) -> Result<(), Fail>
     };
     check(
         &rt,
-        b"read n d\n",
+        b"read n d\nload d\nlist\n",
         1 << 40,
         &devices,
-        b"! large\n",
+        b"! large\n! large\nok\n",
         Status::Done,
     )
-}
-
-#[test]
-fn writes_as_much_as_a_file_may_have(rt: HostRuntime) -> Result<(), Fail> {
-    let alloc = rt.alloc();
-    // A line of 32,767 bytes, 2,048 times: with their newlines 67,108,864 bytes.
-    let line = vec![in alloc; b'x'; 32_767]?;
-    let mut input = Vec::from_slice(alloc, b"new a\nadd a ")?;
-    input.extend_from_slice(&line)?;
-    input.extend_from_slice(b"\n")?;
-    let mut written = Vec::from_slice(alloc, b"ok\nok\n")?;
-    for _ in 0..11u32 {
-        input.extend_from_slice(b"cat a a\n")?;
-        written.extend_from_slice(b"ok\n")?;
-    }
-    input.extend_from_slice(b"write a o\nadd a \nwrite a p\n")?;
-    written.extend_from_slice(b"ok\nok\n! large\n")?;
-    let store = left_by(&rt, &input, 1 << 40, &WHOLE, &written, Status::Done)?;
-    assert_eq!(rt; store.file("o").map(|bytes| bytes.len()), Some(67_108_864));
-    assert_eq!(rt; store.file("p"), None);
-    Ok(())
 }
 
 #[test]
