@@ -31,7 +31,7 @@ struct Ran {
 }
 
 // Runs the lines, which the source gives four bytes a call. The first keep puts the document there that is opened, where one is.
-fn ran<R: Abort + AllocGlobal>(
+fn run_with<R: Abort + AllocGlobal>(
     rt: &R,
     opens: bool,
     input: &[u8],
@@ -118,9 +118,9 @@ fn a_fault_of_the_source_cuts_off_what_comes_after(rt: HostRuntime) -> Result<()
             source: &source,
             ..NONE
         };
-        let run = ran(&rt, true, &input, &faults)?;
+        let run = run_with(&rt, true, &input, &faults)?;
         let taken = input.len().min(4 * call as usize);
-        let cut = ran(&rt, true, ended_lines(&input[..taken]), &NONE)?;
+        let cut = run_with(&rt, true, ended_lines(&input[..taken]), &NONE)?;
         assert_eq!(rt; run.sink.bytes(), cut.sink.bytes(), "{call}");
         leave_the_same(&rt, &run, &cut);
         if run.ended.status == Status::Done {
@@ -142,8 +142,8 @@ fn a_fault_of_the_sink_ends_the_run_with_its_line(rt: HostRuntime) -> Result<(),
             sink: &sink,
             ..NONE
         };
-        let run = ran(&rt, true, &input, &faults)?;
-        let cut = ran(&rt, true, &script(&rt, call, &[])?, &NONE)?;
+        let run = run_with(&rt, true, &input, &faults)?;
+        let cut = run_with(&rt, true, &script(&rt, call, &[])?, &NONE)?;
         leave_the_same(&rt, &run, &cut);
         assert!(rt; cut.sink.bytes().starts_with(run.sink.bytes()), "{call}");
         if call <= LINES.len() {
@@ -195,9 +195,9 @@ fn fails_at<R: Abort + AllocGlobal>(rt: &R, first: Call, second: Call) -> Result
         keeps: &keeps,
         ..NONE
     };
-    let run = ran(rt, true, &script(rt, LINES.len(), &[])?, &faults)?;
+    let run = run_with(rt, true, &script(rt, LINES.len(), &[])?, &faults)?;
     let rest = script(rt, LINES.len(), &[first.line, second.line])?;
-    let without = ran(rt, first != OPENING, &rest, &NONE)?;
+    let without = run_with(rt, first != OPENING, &rest, &NONE)?;
     leave_the_same(rt, &run, &without);
     assert_eq!(rt; run.ended.status, Status::Done);
     let mut wanted = str::from_utf8(without.sink.bytes())?.lines();

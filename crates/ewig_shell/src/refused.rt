@@ -24,7 +24,7 @@ struct Machine {
 }
 
 // A machine whose store has these bytes as the file `d`. None where memory is refused.
-fn machine<R: AllocGlobal>(rt: &R, held: &[u8]) -> Option<Machine> {
+fn machine_with<R: AllocGlobal>(rt: &R, held: &[u8]) -> Option<Machine> {
     let alloc = rt.alloc();
     let sink = MemSink::new(alloc, ROOM, ROOM, Vec::new(alloc)).ok()?;
     let mut store = MemStore::new(alloc, Vec::new(alloc), Vec::new(alloc));
@@ -126,7 +126,7 @@ const STARRED: [(&str, &str); 11] = [
 
 // A thousand edits in a batch make few more rows than they leave.
 fn edits_in_place<R: Abort + AllocGlobal>(rt: &R) {
-    let Some(mut machine) = machine(rt, b"") else {
+    let Some(mut machine) = machine_with(rt, b"") else {
         return;
     };
     for line in ["new a", "begin", "add a x"] {
@@ -149,7 +149,7 @@ fn edits_in_place<R: Abort + AllocGlobal>(rt: &R) {
 fn refused_rows(rt: HostRuntime) -> Result<(), Fail> {
     let rows: [&[(&str, &str)]; 3] = [&UNDONE, &CUT, &STARRED];
     for lines in rows {
-        if let Some(mut machine) = machine(&rt, b"") {
+        if let Some(mut machine) = machine_with(&rt, b"") {
             machine.give_all(&rt, lines);
         }
     }
@@ -177,7 +177,7 @@ const DOCUMENTS: [(&str, &[(&str, &str)]); 4] = [
 
 // Loads the document, asks, and saves it again; then an edit is done and taken back, or refused where undo is full.
 fn loads<R: Abort + AllocGlobal>(rt: &R, held: &[u8], questions: &[(&str, &str)], edited: &str) {
-    if let Some(mut machine) = machine(rt, held) {
+    if let Some(mut machine) = machine_with(rt, held) {
         machine.give_all(rt, &[("load d", "ok\n")]);
         machine.give_all(rt, questions);
         machine.give_all(
