@@ -6,20 +6,25 @@ use shell_io::{MemSink, MemSource, MemStore, Store};
 use std::process::Abort;
 use std::test::Fail;
 
-// The calls of the devices that fail, each device's counted from 0.
-#[derive(Clone, Copy)]
-struct Faults<'a> {
-    source: &'a [u64],
-    sink: &'a [u64],
-    fetches: &'a [u64],
-    keeps: &'a [u64],
+// A call of the store that the script makes, counted from 0, and the number of its line, which the opening hasn't.
+#[derive(Clone, Copy, PartialEq, Eq)]
+struct Call {
+    number: u64,
+    line: usize,
 }
 
-const NONE: Faults<'static> = Faults {
-    source: &[],
-    sink: &[],
-    fetches: &[],
-    keeps: &[],
+// The calls of the devices that fail, each device's counted from 0: one of the source, one of the sink, and two of the store.
+#[derive(Clone, Copy)]
+struct Faults {
+    source: Option<u64>,
+    sink: Option<u64>,
+    store: Option<(Call, Call)>,
+}
+
+const NONE: Faults = Faults {
+    source: None,
+    sink: None,
+    store: None,
 };
 
 // What a run wrote, how it ended, and what it left.
@@ -30,25 +35,41 @@ struct Ran {
     store: MemStore,
 }
 
+// A list of the call, if there is one.
+fn listed<R: AllocGlobal>(rt: &R, call: Option<u64>) -> Result<Vec<u64>, Fail> {
+    let mut calls = Vec::new(rt.alloc());
+    if let Some(number) = call {
+        calls.push(number)?;
+    }
+    Ok(calls)
+}
+
 // Runs the lines, which the source gives four bytes a call. The first keep puts the document there that is opened, where one is.
 fn run_with<R: Abort + AllocGlobal>(
     rt: &R,
     opens: bool,
     input: &[u8],
-    faults: &Faults<'_>,
+    faults: Faults,
 ) -> Result<Ran, Fail> {
     let alloc = rt.alloc();
     let mut words = Vec::new(alloc);
     if opens {
         words.push(String::from_str(alloc, "--open=d")?)?;
     }
-    let mut source = MemSource::new(input.to_vec(alloc)?, 4, faults.source.to_vec(alloc)?);
-    let mut sink = MemSink::new(alloc, 1_000, 1_000, faults.sink.to_vec(alloc)?)?;
-    let mut store = MemStore::new(
-        alloc,
-        faults.fetches.to_vec(alloc)?,
-        faults.keeps.to_vec(alloc)?,
-    );
+    let mut source = MemSource::new(input.to_vec(alloc)?, 4, listed(rt, faults.source)?);
+    let mut sink = MemSink::new(alloc, 1_000, 1_000, listed(rt, faults.sink)?)?;
+    let mut fetches = Vec::new(alloc);
+    let mut keeps = Vec::new(alloc);
+    if let Some((first, second)) = faults.store {
+        for call in [first, second] {
+            if call.number < 2 {
+                fetches.push(call.number)?;
+            } else {
+                keeps.push(call.number - 1)?;
+            }
+        }
+    }
+    let mut store = MemStore::new(alloc, fetches, keeps);
     assert!(rt; store.keep("d", TWO_CELLS.as_bytes()).is_ok());
     let ended = run(alloc, &words, &mut source, &mut sink, &mut store);
     Ok(Ran { ended, sink, store })
@@ -113,14 +134,13 @@ fn ended_lines(bytes: &[u8]) -> &[u8] {
 fn a_fault_of_the_source_cuts_off_what_comes_after(rt: HostRuntime) -> Result<(), Fail> {
     let input = script(&rt, LINES.len(), &[])?;
     for call in 0..100u64 {
-        let source = [call];
         let faults = Faults {
-            source: &source,
+            source: Some(call),
             ..NONE
         };
-        let run = run_with(&rt, true, &input, &faults)?;
+        let run = run_with(&rt, true, &input, faults)?;
         let taken = input.len().min(4 * call as usize);
-        let cut = run_with(&rt, true, ended_lines(&input[..taken]), &NONE)?;
+        let cut = run_with(&rt, true, ended_lines(&input[..taken]), NONE)?;
         assert_eq!(rt; run.sink.bytes(), cut.sink.bytes(), "{call}");
         leave_the_same(&rt, &run, &cut);
         if run.ended.status == Status::Done {
@@ -137,13 +157,12 @@ fn a_fault_of_the_sink_ends_the_run_with_its_line(rt: HostRuntime) -> Result<(),
     let input = script(&rt, LINES.len(), &[])?;
     // Each reply goes out in one call, and the first is that to the line that opens the document.
     for call in 0..LINES.len() + 2 {
-        let sink = [call as u64];
         let faults = Faults {
-            sink: &sink,
+            sink: Some(call as u64),
             ..NONE
         };
-        let run = run_with(&rt, true, &input, &faults)?;
-        let cut = run_with(&rt, true, &script(&rt, call, &[])?, &NONE)?;
+        let run = run_with(&rt, true, &input, faults)?;
+        let cut = run_with(&rt, true, &script(&rt, call, &[])?, NONE)?;
         leave_the_same(&rt, &run, &cut);
         assert!(rt; cut.sink.bytes().starts_with(run.sink.bytes()), "{call}");
         if call <= LINES.len() {
@@ -157,13 +176,7 @@ fn a_fault_of_the_sink_ends_the_run_with_its_line(rt: HostRuntime) -> Result<(),
     Ok(())
 }
 
-// A call of the store that the script makes, counted from 0, and the number of its line, which the opening hasn't.
-#[derive(Clone, Copy, PartialEq, Eq)]
-struct Call {
-    number: u64,
-    line: usize,
-}
-
+// The line that opens the document.
 const OPENING: Call = Call {
     number: 0,
     line: LINES.len(),
@@ -180,24 +193,13 @@ const CALLS: [Call; 5] = [
 
 // These two of the store's calls fail, or this one: the run replies and leaves what it does without their lines.
 fn fails_at<R: Abort + AllocGlobal>(rt: &R, first: Call, second: Call) -> Result<(), Fail> {
-    let alloc = rt.alloc();
-    let mut fetches = Vec::new(alloc);
-    let mut keeps = Vec::new(alloc);
-    for call in [first, second] {
-        if call.number < 2 {
-            fetches.push(call.number)?;
-        } else {
-            keeps.push(call.number - 1)?;
-        }
-    }
     let faults = Faults {
-        fetches: &fetches,
-        keeps: &keeps,
+        store: Some((first, second)),
         ..NONE
     };
-    let run = run_with(rt, true, &script(rt, LINES.len(), &[])?, &faults)?;
+    let run = run_with(rt, true, &script(rt, LINES.len(), &[])?, faults)?;
     let rest = script(rt, LINES.len(), &[first.line, second.line])?;
-    let without = run_with(rt, first != OPENING, &rest, &NONE)?;
+    let without = run_with(rt, first != OPENING, &rest, NONE)?;
     leave_the_same(rt, &run, &without);
     assert_eq!(rt; run.ended.status, Status::Done);
     let mut wanted = str::from_utf8(without.sink.bytes())?.lines();
