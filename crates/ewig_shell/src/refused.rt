@@ -124,7 +124,7 @@ const STARRED: [(&str, &str); 11] = [
     ("list", "= B 0\n= b 0\nok\n"),
 ];
 
-// A thousand edits in a batch, and what the space has and has made before and after.
+// A thousand edits in a batch make few more rows than they leave.
 fn edits_in_place<R: Abort + AllocGlobal>(rt: &R) {
     let Some(mut machine) = machine_with(rt, b"") else {
         return;
@@ -140,7 +140,9 @@ fn edits_in_place<R: Abort + AllocGlobal>(rt: &R) {
     let more_rows = machine.ask(rt, "stats");
     let more_made = machine.ask(rt, "made");
     assert!(rt; rows > 0 && made > 0);
-    assert!(rt; more_rows >= rows && more_made >= made);
+    assert!(rt;
+        more_made.saturating_add(rows) <= made.saturating_add(more_rows).saturating_add(2_000)
+    );
 }
 
 #[test]
