@@ -7,9 +7,9 @@
 Valid documents are drawn, or taken from the examples, and damaged by a small change each: a link, a root, a number, a
 bit of a set, a row, a key, a byte, the end. Many are loaded by one run of the program, and each reply is compared
 with that of the second reader; what was loaded is saved again, and its bytes are compared too. What the format leaves
-open needs a clear reply alone, and so do a few documents that are made to hurt. The first difference ends the run
-with status 1. The self-test does the same with the second reader in the place of the program: once as it is, and once
-for each of four tests that it then forgets. It isn't part of the gate.
+open needs a clear reply alone. The first difference ends the run with status 1. The self-test does the same with the
+second reader in the place of the program: once as it is, and once for each of four tests that it then forgets.
+Documents that are made to hurt are tried by tests/hostile_documents. It isn't part of the gate.
 """
 
 import argparse
@@ -18,11 +18,9 @@ import glob
 import os
 import random
 import re
-import resource
 import subprocess
 import sys
 import tempfile
-import time
 
 # The folder of tests stays as it is in the repository.
 sys.dont_write_bytecode = True
@@ -377,42 +375,6 @@ def documents(seed, number):
         yield drawn_document(random.Random(f"{seed}/{index}"), pools)
 
 
-# Documents that are made to hurt: each needs a clear reply, and some a certain one.
-
-
-def hurting():
-    start = pool_reader.start()
-    rows = pool_reader.START_ROWS
-    many = pool_reader.whole([["c", "x"]] * 1_000_000, [0, 0, 0, 0])
-    wide = pool_reader.start(more=[["l", [0] * 1_000_000]])
-    return [
-        ("arrays 64 MB deep", b"[" * MOST_BYTES, None),
-        ("one byte more", b"[" * (MOST_BYTES + 1), "! large"),
-        ("objects a million deep", b'{"a":' * 1_000_000, None),
-        ("arrays 127 deep", b"[" * 127 + b"]" * 127, "! damaged form"),
-        ("arrays 128 deep", b"[" * 128 + b"]" * 128, None),
-        ("rows 200 deep", start.replace(b'["s",[0,1]]', b"[" * 200 + b"]" * 200), None),
-        ("a number past 2^64", pool_reader.start(version=2**64), None),
-        ("a number of a million digits", start.replace(b'"version":1', b'"version":' + b"9" * 1_000_000), None),
-        ("an exponent past all numbers", start.replace(b'"version":1', b'"version":1e999999999'), None),
-        ("a version with a fraction", start.replace(b'"version":1', b'"version":1.0'), None),
-        ("a version below 0", start.replace(b'"version":1', b'"version":-1'), "! damaged form"),
-        ("a version of -0", start.replace(b'"version":1', b'"version":-0'), None),
-        ("a key twice", start.replace(b'{"bits"', b'{"bits":31,"bits"'), None),
-        ("rows twice", start.replace(b',"version"', b',"rows":[],"version"'), None),
-        ("white space to the limit", start + b" " * (MOST_BYTES - len(start)), "ok"),
-        ("white space past the limit", start + b" " * (MOST_BYTES + 1 - len(start)), "! large"),
-        ("a text to the limit", b'"' + b"x" * (MOST_BYTES - 2) + b'"', "! damaged form"),
-        ("a million cells", many, "! damaged kind"),
-        ("a million links", wide, "! damaged row"),
-        ("an array of zeros", b"[" + b"0," * (MOST_BYTES // 2 - 2) + b"0]", "! damaged form"),
-        ("only zeros", b"\x00" * 1000, "! damaged json"),
-        ("no bytes", b"", "! damaged json"),
-        ("half of a pair", pool_reader.whole([["c", "x"], *rows], [3, 4, 5, 6]).replace(b'"x"', b'"\\udc00"'),
-         "! damaged json"),
-    ]
-
-
 # Runs of the program
 
 
@@ -540,14 +502,6 @@ def main():
     if not chosen.program:
         words.error("a program is needed")
     program = [os.path.abspath(chosen.program)]
-    for kind, data, wanted in hurting():
-        began = time.monotonic()
-        found = compared(program, [(kind, data, wanted)])
-        if found:
-            tell(found)
-            return 1
-        peak = resource.getrusage(resource.RUSAGE_CHILDREN).ru_maxrss // 1024
-        print(f"{kind}: a clear reply in {time.monotonic() - began:.1f} s, {peak} MB at most so far", flush=True)
     found, counts, _kinds = try_documents(program, chosen.seed, chosen.documents)
     if found:
         tell(found)
