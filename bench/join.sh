@@ -381,13 +381,13 @@ fi
 
 report "$count" "$turns" "$shortest" "$lengths" "${runs[@]}" <<'PYTHON'
 import sys
-from shared import best_of_three, programs, table
+from shared import ROUNDS, best_of_rounds, programs, table
 
 count, turns, shortest, lengths = map(int, sys.argv[1:5])
 runs = programs(sys.argv[5:])
 phases = ["get", "split", "rotate", "insert", "erase", "again"]
-spans, peaks, _ = best_of_three(runs, len(phases) + 1, "vectors")
-print(f"{turns:,} of each at random places of a vector of {count:,}, and {count:,} gets, best of 3,")
+spans, peaks, _ = best_of_rounds(runs, len(phases) + 1, "vectors")
+print(f"{turns:,} of each at random places of a vector of {count:,}, and {count:,} gets, best of {ROUNDS},")
 print("microseconds of wall and of processor for one, and peak megabytes:")
 columns = [f"{phase} {kind}" for phase in phases for kind in ["wall", "proc."]] + ["peak"]
 times = [count if phase in ["get", "again"] else turns for phase in phases]
@@ -397,7 +397,7 @@ for name, _, _ in runs:
 table(columns, figures, width=14, digits=3)
 
 sizes = [shortest * 4**length for length in range(lengths)]
-print(f"A join of a vector with itself, best of 3 over {turns:,}, microseconds of wall and of processor for one:")
+print(f"A join of a vector with itself, best of {ROUNDS} over {turns:,}, microseconds of wall and of processor for one:")
 for name, _, _ in runs:
     figures[name] = [span * 1e6 / turns for pair in spans[name][len(phases) :] for span in pair]
 table([f"{size:,}" for size in sizes for _ in range(2)], figures, width=14, digits=3)

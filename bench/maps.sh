@@ -660,17 +660,17 @@ add_runs "im_rc of Rc, persistent|counted" "im_rc of Rc, own codes|coded" "im_rc
 
 report "$count" "${runs[@]}" <<'PYTHON'
 import sys
-from shared import best_of_three, programs, tables
+from shared import ROUNDS, best_of_rounds, programs, tables
 
 count, runs = int(sys.argv[1]), programs(sys.argv[2:])
 # The phases that count, by their places among the lines that are told after the start.
 phases = {"insert": 0, "get": 1, "remove": 2, "insert over": 4, "get over": 5, "remove over": 6}
-spans, peaks, told = best_of_three(runs, 9, "maps")
+spans, peaks, told = best_of_rounds(runs, 9, "maps")
 # The copy is looked through at the end as the map alone was.
 if told[1 + phases["get"]] != told[-1]:
     sys.exit("the copy has changed")
 for kind, clock in enumerate(["wall", "processor"]):
-    print(f"{count:,} of each over one map, and over a kept copy, best of 3, seconds of {clock}, and peak megabytes:")
+    print(f"{count:,} of each over one map, and over a kept copy, best of {ROUNDS}, seconds of {clock}, and peak megabytes:")
     figures = {name: [spans[name][place][kind] for place in phases.values()] + [peaks[name]] for name, _, _ in runs}
     tables([*phases, "peak"], figures, width=13)
 PYTHON

@@ -9,13 +9,13 @@ begin_shell 10000
 
 report "$count" "$work" "$program" <<'PYTHON'
 import os, sys
-from shared import shell_run
+from shared import ROUNDS, shell_run
 count, room, program = int(sys.argv[1]), sys.argv[2], sys.argv[3]
 TIMES = 5
 
 def best(script, done):
-    """The least time and peak of three runs, whose last replies have to be so many times `ok`, and the replies of one."""
-    runs = [shell_run(program, room, script) for _ in range(3)]
+    """The least time and peak of the rounds, whose last replies have to be so many times `ok`, and the replies of one."""
+    runs = [shell_run(program, room, script) for _ in range(ROUNDS)]
     if any(replies[len(replies) - done:] != ["ok"] * done for _, _, replies in runs):
         sys.exit(f"the last {done} replies aren't all ok")
     return min(run[0] for run in runs), min(run[1] for run in runs), runs[0][2]

@@ -3,6 +3,9 @@ import os
 import subprocess
 import sys
 
+# Each figure is the best of so many rounds.
+ROUNDS = int(os.environ.get("ROUNDS", 3))
+
 
 def programs(arguments):
     """The name, the file and the word of each program, from arguments `name|file|word`."""
@@ -40,10 +43,10 @@ def once(program, word, first):
     return spans_of(lines), peak / 1e6, [int(line[5]) for line in lines]
 
 
-def best_of_three(runs, first, what):
+def best_of_rounds(runs, first, what):
     """The best spans and the least peak of each program by its name, and the numbers that all told."""
     spans, peaks, told = {}, {}, []
-    for _ in range(3):
+    for _ in range(ROUNDS):
         for name, program, word in runs:
             taken, peak, numbers = once(program, word, first)
             told.append(numbers)

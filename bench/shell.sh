@@ -22,8 +22,9 @@ PYTHON
 
 shells=("$program")
 [ -n "$other" ] && shells+=("$other")
-python3 - "$count" "$work" "${shells[@]}" <<'PYTHON'
+report "$count" "$work" "${shells[@]}" <<'PYTHON'
 import hashlib, os, subprocess, sys, time
+from shared import ROUNDS
 count, room, shells = int(sys.argv[1]), sys.argv[2], sys.argv[3:]
 
 def once(shell):
@@ -43,14 +44,14 @@ def once(shell):
     return wall, usage.ru_utime + usage.ru_stime, usage.ru_maxrss * 1024, replies
 
 best, replies = {}, set()
-for turn in range(3):
+for turn in range(ROUNDS):
     for shell in shells:
         *figures, told = once(shell)
         replies.add(told)
         best[shell] = [min(a, b) for a, b in zip(best.get(shell, figures), figures)]
 if len(replies) > 1:
     sys.exit("the replies differ")
-print(f"{2 * count:,} lines, best of 3:")
+print(f"{2 * count:,} lines, best of {ROUNDS}:")
 for shell in shells:
     wall, processor, peak = best[shell]
     print(f"  {os.path.basename(shell):12} {wall:6.2f} s wall  {processor:6.2f} s processor  {peak / 1e6:7.1f} MB")

@@ -15,6 +15,7 @@ count, room, top, shells = int(sys.argv[1]), sys.argv[2], sys.argv[3], sys.argv[
 sys.dont_write_bytecode = True
 sys.path.insert(0, top + "/tests")
 from plain_shell import work_line
+from shared import ROUNDS
 
 draw = random.Random(7)
 with open(room + "/text", "w") as out:
@@ -42,9 +43,9 @@ def once(words, script, made=None):
     return (wall, usage.ru_utime + usage.ru_stime, usage.ru_maxrss / 1024), told.hexdigest()
 
 def best(runs):
-    """The least of each figure of three turns over the runs, and what each told."""
+    """The least of each figure of the rounds over the runs, and what each told."""
     figures, told = {}, {}
-    for _ in range(3):
+    for _ in range(ROUNDS):
         for name, run in runs.items():
             got, told[name] = once(*run)
             figures[name] = [min(a, b) for a, b in zip(figures.get(name, got), got)]
@@ -52,7 +53,7 @@ def best(runs):
         print(f"  {name:24} {wall:6.2f} s wall  {processor:6.2f} s processor  {peak:7.1f} MB")
     return figures, told
 
-print(f"a file of {count:,} lines read, 10,000 of them changed, and written; best of 3:")
+print(f"a file of {count:,} lines read, 10,000 of them changed, and written; best of {ROUNDS}:")
 figures, told = best({os.path.basename(shell): ([shell], room + "/input", room + "/left") for shell in shells})
 if len(set(told.values())) > 1:
     sys.exit("the replies or the files differ")
@@ -66,7 +67,7 @@ with open(room + "/work", "w") as out:
     for _ in range(commands):
         x = (x * 6364136223846793005 + 1442695040888963407) % 2**64
         out.write(work_line(x) + "\n")
-print(f"{commands + 8:,} lines of the generator; best of 3:")
+print(f"{commands + 8:,} lines of the generator; best of {ROUNDS}:")
 program = shells[0]
 figures, _ = best({
     "--work": ([program, "--work", "0", "--count", str(commands)], "/dev/null"),

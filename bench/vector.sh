@@ -437,12 +437,12 @@ add_runs "im_rc of Rc, persistent|counted" "im_rc, persistent|kept" "im_rc of Rc
 
 report "$count" "${runs[@]}" <<'PYTHON'
 import sys
-from shared import best_of_three, programs, tables
+from shared import ROUNDS, best_of_rounds, programs, tables
 
 count, runs = int(sys.argv[1]), programs(sys.argv[2:])
 phases = ["push", "get", "set"]
-spans, peaks, _ = best_of_three(runs, len(phases) + 2, "vectors")
-print(f"{count:,} of each over one vector, best of 3, seconds of wall and of processor, and peak megabytes:")
+spans, peaks, _ = best_of_rounds(runs, len(phases) + 2, "vectors")
+print(f"{count:,} of each over one vector, best of {ROUNDS}, seconds of wall and of processor, and peak megabytes:")
 columns = [f"{phase} {kind}" for phase in phases for kind in ["wall", "proc."]] + ["peak"]
 figures = {}
 for name, _, _ in runs:
