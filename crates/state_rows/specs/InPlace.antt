@@ -11,7 +11,7 @@ use Rattle.plain_space.specs.Workspace.{State, with_lines}
 use Rattle.plain_space.specs.Cost.{alike_buffers}
 use Rattle.state_rows.specs.InHeap.{AreLinesIn, IsStateIn}
 
--- at most so many rows are made in vain: the number made rises by no more than the rows gain, and so many more
+-- the number made rises by at most so many more than the rows gain
 abbrev pub MakesFew : {T : Type 0} → Heap T → Heap T → ℕ → Type 0
 MakesFew old new more = new.made + live_count old ≤ old.made + live_count new + more
 

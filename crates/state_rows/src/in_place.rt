@@ -21,7 +21,7 @@ use node_heap::{Heap, Link};
 use rrb_core::Flex;
 
 /// The state with the line after the last of the buffer, which is there and has room for one more. It spends the holds of the
-/// state and of the line. No row is made in vain.
+/// state and of the line. The number made rises by no more than the rows gain.
 pub fn line_added(heap: &mut Heap<Text>, bits: u32, state: Link, name: Name<'_>, line: Link) -> Link
     requires few { hold_count heap.old < 2 ^ 58 }
     requires bits { bits ≤ CODE_BITS }
@@ -47,7 +47,7 @@ pub fn line_added(heap: &mut Heap<Text>, bits: u32, state: Link, name: Name<'_>,
 }
 
 /// The state with the line at the index of the buffer, which is there and reaches so far. It spends the holds of the state and
-/// of the line. One row at most is made in vain: the line's cell, for which the old one goes.
+/// of the line. The number made rises by at most one more than the rows gain, since the old line may go.
 pub fn line_set(
     heap: &mut Heap<Text>,
     bits: u32,
@@ -81,7 +81,7 @@ pub fn line_set(
 }
 
 /// The state with a buffer of these lines, of which there is none of the name yet. It spends the holds of the state and of
-/// the lines. No row is made in vain.
+/// the lines. The number made rises by no more than the rows gain.
 pub fn buffer_made(heap: &mut Heap<Text>, bits: u32, state: Link, key: Text, lines: Flex) -> Link
     requires few { hold_count heap.old < 2 ^ 58 }
     requires bits { bits ≤ CODE_BITS }
