@@ -6,11 +6,11 @@ use shell_io::{MemSink, MemSource, MemStore, Store};
 use std::process::Abort;
 use std::test::Fail;
 
-// A call of the store that the script makes, counted from 0, and the number of its line, which the opening hasn't.
+// A call of the store, by its kind, each kind counted from 0.
 #[derive(Clone, Copy, PartialEq, Eq)]
-struct Call {
-    number: u64,
-    line: usize,
+enum Call {
+    Fetch(u64),
+    Keep(u64),
 }
 
 // The calls of the devices that fail, each device's counted from 0: one of the source, one of the sink, and two of the store.
@@ -62,10 +62,9 @@ fn run_with<R: Abort + AllocGlobal>(
     let mut keeps = Vec::new(alloc);
     if let Some((first, second)) = faults.store {
         for call in [first, second] {
-            if call.number < 2 {
-                fetches.push(call.number)?;
-            } else {
-                keeps.push(call.number - 1)?;
+            match call {
+                Call::Fetch(number) => fetches.push(number)?,
+                Call::Keep(number) => keeps.push(number)?,
             }
         }
     }
@@ -176,39 +175,43 @@ fn a_fault_of_the_sink_ends_the_run_with_its_line(rt: HostRuntime) -> Result<(),
     Ok(())
 }
 
-// The line that opens the document.
-const OPENING: Call = Call {
-    number: 0,
-    line: LINES.len(),
-};
-
-// In the script's order. The first two are fetches, and the first keep puts the document there.
-const CALLS: [Call; 5] = [
-    OPENING,
-    Call { number: 1, line: 1 },
-    Call { number: 2, line: 4 },
-    Call { number: 3, line: 6 },
-    Call { number: 4, line: 8 },
+// The calls of the store in the script's order, each with the number of its line, which the opening of the document hasn't. The
+// first keep puts the document there.
+const CALLS: [(Call, usize); 6] = [
+    (Call::Fetch(0), LINES.len()),
+    (Call::Fetch(1), 1),
+    (Call::Keep(1), 4),
+    (Call::Keep(2), 6),
+    (Call::Keep(3), 8),
+    (Call::Keep(4), 11),
 ];
 
-// These two of the store's calls fail, or this one: the run replies and leaves what it does without their lines.
-fn fails_at<R: Abort + AllocGlobal>(rt: &R, first: Call, second: Call) -> Result<(), Fail> {
+// The calls of these two lines fail, or that of this one: the run says so, and replies else and leaves what it does without them.
+fn fails_at<R: Abort + AllocGlobal>(
+    rt: &R,
+    first: (Call, usize),
+    second: (Call, usize),
+) -> Result<(), Fail> {
     let faults = Faults {
-        store: Some((first, second)),
+        store: Some((first.0, second.0)),
         ..NONE
     };
     let run = run_with(rt, true, &script(rt, LINES.len(), &[])?, faults)?;
-    let rest = script(rt, LINES.len(), &[first.line, second.line])?;
-    let without = run_with(rt, first != OPENING, &rest, NONE)?;
+    let rest = script(rt, LINES.len(), &[first.1, second.1])?;
+    let without = run_with(rt, first.0 != Call::Fetch(0), &rest, NONE)?;
     leave_the_same(rt, &run, &without);
     assert_eq!(rt; run.ended.status, Status::Done);
+    let mut told = 0u32;
     let mut wanted = str::from_utf8(without.sink.bytes())?.lines();
     for reply in str::from_utf8(run.sink.bytes())?.lines() {
-        if reply != "! fault" {
+        if reply == "! fault" {
+            told = told.saturating_add(1);
+        } else {
             assert_eq!(rt; Some(reply), wanted.next());
         }
     }
     assert_eq!(rt; wanted.next(), None);
+    assert_eq!(rt; told, if first == second { 1 } else { 2 });
     Ok(())
 }
 

@@ -1,5 +1,6 @@
-//! Scripts that run while memory is refused: `rt try --test --fail-alloc N` refuses the Nth allocation of a test. With ample memory each
-//! is an ordinary test. Where the devices or the space get no memory, a test has nothing to show, and ends.
+//! Scripts that can run while memory is refused: `rt try --test --fail-alloc N` refuses the Nth allocation of a test. With ample memory
+//! they pass as well; that memory is given then, `tests` and the examples show. Where the devices or the space get no memory, a test has
+//! nothing to show, and ends.
 
 use crate::execute::execute;
 use crate::run::{Status, run};
@@ -139,7 +140,7 @@ fn edits_in_place<R: Abort + AllocGlobal>(rt: &R) {
     }
     let more_rows = machine.ask(rt, "stats");
     let more_made = machine.ask(rt, "made");
-    assert!(rt; rows > 0 && made > 0);
+    assert!(rt; rows > 0 && more_rows > 0 && made > 0 && more_made > made);
     assert!(rt;
         more_made.saturating_add(rows) <= made.saturating_add(more_rows).saturating_add(2_000)
     );

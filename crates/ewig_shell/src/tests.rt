@@ -241,8 +241,19 @@ const SAVED_AND_LOADED: &[u8] = b"new a\nadd a x\nsave f\nload f\nget a 0\n";
 
 const ALL_WRITTEN: &[u8] = b"ok\nok\nok\nok\n= x\n";
 
+// Runs the five lines over these devices, of which one ends the run so after it wrote so many bytes.
+fn ends_after<R: Abort + AllocGlobal>(
+    rt: &R,
+    devices: &Devices<'_>,
+    kept: usize,
+    status: Status,
+) -> Result<(), Fail> {
+    let written = ALL_WRITTEN.get(..kept).unwrap_or(b"");
+    check(rt, SAVED_AND_LOADED, 1 << 40, devices, written, status)
+}
+
 #[test]
-fn faults_at_each_call_in_turn(rt: HostRuntime) -> Result<(), Fail> {
+fn a_failing_source_ends_the_run(rt: HostRuntime) -> Result<(), Fail> {
     // How many bytes the lines write that ended before a call of the source, which gives four bytes a call.
     for (call, kept) in [0, 0, 3, 3, 6, 6, 9, 12, 12, 16].into_iter().enumerate() {
         let devices = Devices {
@@ -250,44 +261,29 @@ fn faults_at_each_call_in_turn(rt: HostRuntime) -> Result<(), Fail> {
             source_fails: &[call as u64],
             ..WHOLE
         };
-        let written = ALL_WRITTEN.get(..kept).unwrap_or(b"");
-        check(
-            &rt,
-            SAVED_AND_LOADED,
-            1 << 40,
-            &devices,
-            written,
-            Status::ReadFault,
-        )?;
+        ends_after(&rt, &devices, kept, Status::ReadFault)?;
     }
+    Ok(())
+}
+
+#[test]
+fn a_failing_sink_ends_the_run(rt: HostRuntime) -> Result<(), Fail> {
     // How many bytes were written before a call of the sink, which takes a reply a call.
     for (call, kept) in [0, 3, 6, 9, 12].into_iter().enumerate() {
         let devices = Devices {
             sink_fails: &[call as u64],
             ..WHOLE
         };
-        let written = ALL_WRITTEN.get(..kept).unwrap_or(b"");
-        check(
-            &rt,
-            SAVED_AND_LOADED,
-            1 << 40,
-            &devices,
-            written,
-            Status::WriteFault,
-        )?;
+        ends_after(&rt, &devices, kept, Status::WriteFault)?;
     }
-    // A sink takes what it has room for.
+    Ok(())
+}
+
+#[test]
+fn a_full_sink_ends_the_run(rt: HostRuntime) -> Result<(), Fail> {
     for room in 0..ALL_WRITTEN.len() {
         let devices = Devices { room, ..WHOLE };
-        let written = &ALL_WRITTEN[..room];
-        check(
-            &rt,
-            SAVED_AND_LOADED,
-            1 << 40,
-            &devices,
-            written,
-            Status::WriteFault,
-        )?;
+        ends_after(&rt, &devices, room, Status::WriteFault)?;
     }
     Ok(())
 }

@@ -19,7 +19,7 @@ use Rattle.space_state.specs.declared.roots.RootedHeap.{RootedHeap}
 use Rattle.space_state.specs.declared.turning.TheConstants.{TURN_NODES}
 use Rattle.space_state.specs.Roots.{Keeps}
 use Rattle.space_state.specs.InPlace.{current_kept}
-use Rattle.space_state.specs.Turns.{IsReady, IsCarriedOut, RoomIsRefused}
+use Rattle.space_state.specs.Turns.{IsReadyInPlace, IsCarriedOut, RoomIsRefused}
 use Rattle.space_state.proofs.Keeping.{keeps-gained, keeps-placed, answered-cell, Rises, rises-answered, rises-then, rises-more, rises-trades, turns-of, turns-by}
 use Rattle.space_state.proofs.Editing.{does, cost-edit}
 
@@ -56,7 +56,7 @@ pub record IsBeside (s t : RootedHeap) (mid : Heap Bytes) (k : ℕ) (W : Workspa
   pub rises : Rises s.heap mid (TURN_NODES + 1)
   pub few : in_batch W ≡ true → MakesFew s.heap mid 1
 
-pub is-beside : {s t : RootedHeap} {mid : Heap Bytes} {k c n m : ℕ} {W : Workspace} → IsReady s t W m → Answered t.heap mid [] k c n → c + n ≡ 1 → mid.made ≤ t.heap.made + 1 → live_count t.heap ≤ live_count mid → IsBeside s t mid k W
+pub is-beside : {s t : RootedHeap} {mid : Heap Bytes} {k c n m : ℕ} {W : Workspace} → IsReadyInPlace s t W m → Answered t.heap mid [] k c n → c + n ≡ 1 → mid.made ≤ t.heap.made + 1 → live_count t.heap ≤ live_count mid → IsBeside s t mid k W
 is-beside {c = c} {n = n} ready a one made live = record {
   free = ready.free;
   keeps = keeps-gained ready.turns.keeps a;
@@ -69,7 +69,7 @@ pub alike-beside : {s t : RootedHeap} {mid : Heap Bytes} {k : ℕ} {W : Workspac
 alike-beside beside now name = λ i. alike_buffers (beside.bits i) now name
 
 -- a line's cell
-pub cell-beside : {s t : RootedHeap} {mid : Heap Bytes} {k m : ℕ} {text : Bytes} {W : Workspace} → IsReady s t W m → Adds t.heap mid k (cell text) → Makes t.heap mid 1 0 → hold_count mid ≡ hold_count t.heap + 1 → IsGraph mid → Extends t.heap mid
+pub cell-beside : {s t : RootedHeap} {mid : Heap Bytes} {k m : ℕ} {text : Bytes} {W : Workspace} → IsReadyInPlace s t W m → Adds t.heap mid k (cell text) → Makes t.heap mid 1 0 → hold_count mid ≡ hold_count t.heap + 1 → IsGraph mid → Extends t.heap mid
     → IsBeside s t mid k W
 cell-beside ready adds makes total graph extends = is-beside ready (answered-cell extends graph adds total makes) refl (omega (arith, makes.made)) (omega (arith, makes.live))
 

@@ -81,8 +81,8 @@ pub record TurnsTo (old new : RootedHeap) (besides : List ℕ) (most : ℕ) (aft
   pub made : RowsRise old.heap new.heap
 
 -- ready for an edit in place: there are spares for a cell and so many nodes; outside a batch the current state is the last of undo
--- too, and redo is empty, and in a batch no row was made
-pub record IsReady (old new : RootedHeap) (W : Workspace) (nodes : ℕ) : Type 0 where
+-- too, and redo is empty, and in a batch the number made rises by no more than the rows gain
+pub record IsReadyInPlace (old new : RootedHeap) (W : Workspace) (nodes : ℕ) : Type 0 where
   pub free : is_full W ≡ false
   pub turns : TurnsTo old new [] TURN_NODES (current_kept W)
   pub few : in_batch W ≡ true → MakesFew old.heap new.heap 0

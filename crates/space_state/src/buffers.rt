@@ -1,5 +1,5 @@
-//! The edits of buffers. Each looks for what refuses it, makes room for all that it will make, makes the new lines beside
-//! the old ones, and turns to a state that has them.
+//! The edits of buffers that make new lines beside the old ones, and turn to a state that has them; those made in place are in
+//! `in_place.rt`. Each looks for what refuses it, and makes room for all that it will make.
 ghost use Rattle.std.specs.Prelude.{◌≡◌, ◌≢◌, ◌+◌, ◌*◌, ◌<◌, List, [], ◌∷◌, IfOk, Err, IsSomeAnd, None, MatchResult, false};
 ghost use Rattle.elem_core.specs.declared.codes.TheConstants.{DEEPEST};
 ghost use Rattle.elem_core.specs.Naming.{IsName};

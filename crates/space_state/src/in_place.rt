@@ -1,7 +1,7 @@
-//! The edits of buffers that are made in place: outside a batch the current state is put at the end of undo first, so that what the
-//! edit changes of it is copied, and in a batch, where only the space holds it, it is written. What the base of the batch, a
-//! version or a history shares with it is copied once. Each looks for what refuses it and makes room for all that it will
-//! make before.
+//! The edits of buffers that are made in place: a row with one owner is written, and one with more is copied. Outside a batch the
+//! current state is put at the end of undo first, so that it has a second owner and the whole way is copied. In a batch the way is
+//! copied once, where the base, a version or a history has it too, and written from then on. Each edit first looks for what
+//! refuses it and makes room for all that it will make.
 ghost use Rattle.std.specs.Prelude.{◌≡◌, ◌+◌, ◌<◌, ◌≤◌, ◌^◌, [], IfOk, true, false, MatchResult};
 ghost use Rattle.elem_core.specs.Shown.{name_bytes, line_bytes};
 ghost use Rattle.node_heap.specs.Heap.{HasSpares};
@@ -13,7 +13,7 @@ ghost use Rattle.state_rows.specs.Reading.{StandsIfThere};
 ghost use Rattle.state_rows.specs.InHeap.{AreLinesIn};
 ghost use Rattle.space_state.specs.Roots.{Keeps};
 ghost use Rattle.space_state.specs.InPlace.{current_kept};
-ghost use Rattle.space_state.specs.Turns.{RoomIsRefused, IsReady, EndsOnRows, TurnsTo};
+ghost use Rattle.space_state.specs.Turns.{RoomIsRefused, IsReadyInPlace, EndsOnRows, TurnsTo};
 
 use crate::roots::RootedHeap;
 use crate::turning::{MOST_ITEMS, TURN_NODES};
@@ -24,7 +24,7 @@ use state_rows::{FoundBuffer, buffer_made, find_buffer, line_added, line_set};
 
 /// The nodes of a line added in place, besides one for each name that is alike: 1 for the state row, 8 for the way to the
 /// buffer, 9 for the push. No other edit in place makes more.
-const PLACE_NODES: usize = 18;
+const IN_PLACE_NODES: usize = 18;
 
 impl RootedHeap {
     // The lines of the buffer, and the number of names that are alike.
@@ -53,19 +53,19 @@ impl RootedHeap {
         self.record(self.roots.current);
     }
 
-    // Makes ready for an edit in place: gives its text, makes room for a cell, for `PLACE_NODES` nodes and one more for each of so
+    // Makes ready for an edit in place: gives its text, makes room for a cell, for `IN_PLACE_NODES` nodes and one more for each of so
     // many names that are alike, and then keeps the current state. Refused as `make_room_with` is, which leaves all as it was.
     fn ready(&mut self, line: Line<'_>, alike: usize) -> Result<Text, Refusal>
         requires kept { (W : Workspace) × Keeps self.old [] W }
         requires few { alike < 2 ^ 56 }
-        ensures ready { (W : Workspace) → Keeps self.old [] W → MatchResult result (λ _. IsReady self.old self.new W (PLACE_NODES + alike)) (RoomIsRefused self.old self.new W) }
+        ensures ready { (W : Workspace) → Keeps self.old [] W → MatchResult result (λ _. IsReadyInPlace self.old self.new W (IN_PLACE_NODES + alike)) (RoomIsRefused self.old self.new W) }
         ensures text { IfOk result (λ text. text ≡ line_bytes line.entry) }
     {
         if self.is_full() {
             return Err(Refusal::Limit);
         }
         let text = text_of(self.alloc, line)?;
-        self.heap.reserve(1, PLACE_NODES + TURN_NODES + alike)?;
+        self.heap.reserve(1, IN_PLACE_NODES + TURN_NODES + alike)?;
         self.keep_current();
         Ok(text)
     }

@@ -22,7 +22,7 @@ pub(crate) const MOST_ITEMS: u32 = u32::MAX;
 /// The nodes of a turn to another state: a push to undo, and an empty redo.
 pub(crate) const TURN_NODES: usize = PUSHED_NODES + EMPTIED_NODES;
 
-/// The nodes for which room is made before an edit, besides one for each name whose code is alike: those of the edit that makes
+/// The nodes for which room is made before an edit that isn't made in place, besides one for each name whose code is alike: those of the edit that makes
 /// most, which erases lines of a buffer (42), gives them to another as a slice (25), writes both names (10 each, and 1 for
 /// the first among the names of the second), and turns to that state.
 pub(crate) const EDIT_NODES: usize = 42 + 25 + 2 * 10 + 1 + TURN_NODES;
@@ -89,7 +89,7 @@ impl RootedHeap {
         Ok(key)
     }
 
-    /// The same, and gives the line as a text too, after the name.
+    /// The same, and gives the line as a text too.
     pub(crate) fn prepare_line(
         &mut self,
         name: Name<'_>,
