@@ -6,6 +6,12 @@ mod chains;
 #[cfg(test)]
 mod equality;
 #[cfg(test)]
+mod map_editing;
+#[cfg(test)]
+mod map_edits;
+#[cfg(test)]
+mod map_placed;
+#[cfg(test)]
 mod map_versions;
 #[cfg(test)]
 mod maps;

@@ -1,7 +1,7 @@
 //! Maps of cells, of which a test keeps each version. Its tests name them by the turn in which they came, so that they need no
 //! contract.
-ghost use Rattle.std.specs.Prelude.{◌≡◌, ◌+◌, ◌^◌, ◌<◌, ◌≤◌, IfOk, IsSome};
-ghost use Rattle.node_heap.specs.Heap.{row_at, hold_count};
+ghost use Rattle.std.specs.Prelude.{◌≡◌, ℕ, ◌+◌, ◌^◌, ◌<◌, ◌≤◌, IfOk, IsSome};
+ghost use Rattle.node_heap.specs.Heap.{row_at, holds_at, hold_count, one_at};
 ghost use Rattle.champ_kinds.specs.Stands.{IsSomeMap};
 ghost use Rattle.map_tests.specs.Stands.{IsCellMap, Keeps, Holds};
 
@@ -34,8 +34,8 @@ impl<T: Element> Model for MapVersions<T> {
     ghost invariant = { λ v. Holds (IsCellMap T.cmp T.code_of) v.heap v.maps.items };
 }
 
-// The map, whose root stays held.
-fn held(map: Map) -> MapRef
+/// The map, whose root stays held.
+pub fn held(map: Map) -> MapRef
     ensures { result ≡ map }
 {
     let view = map.view();
@@ -43,23 +43,30 @@ fn held(map: Map) -> MapRef
     view
 }
 
-// The map without keys.
-fn no_cells<T: Element>(heap: &mut Heap<T>, bits: u32) -> Result<MapRef, NoMemory>
+/// The map without keys.
+pub fn no_cells<T: Element>(heap: &mut Heap<T>, bits: u32) -> Result<MapRef, NoMemory>
     requires bits { bits ≤ CODE_BITS }
     requires few { hold_count heap.old < 2 ^ 50 }
     ensures good { IfOk result (IsCellMap T.cmp T.code_of heap.new) }
     ensures count { IfOk result (λ _. hold_count heap.new ≡ hold_count heap.old + 1) }
+    ensures holds { IfOk result (λ made. (k : ℕ) → holds_at heap.new k ≡ holds_at heap.old k + one_at made.root k) }
 {
     Ok(held(Map::empty(heap, bits)?))
 }
 
-// The map with a new cell of the value at the key.
-fn bound<T: Element>(heap: &mut Heap<T>, map: MapRef, key: T, value: T) -> Result<MapRef, NoMemory>
+/// The map with a new cell of the value at the key.
+pub fn bound<T: Element>(
+    heap: &mut Heap<T>,
+    map: MapRef,
+    key: T,
+    value: T,
+) -> Result<MapRef, NoMemory>
     requires good { IsCellMap T.cmp T.code_of heap.old map }
     requires few { hold_count heap.old < 2 ^ 50 }
     ensures good { IfOk result (IsCellMap T.cmp T.code_of heap.new) }
     ensures others { IfOk result (λ _. Keeps (IsCellMap T.cmp T.code_of) heap.old heap.new) }
     ensures count { IfOk result (λ _. hold_count heap.new ≡ hold_count heap.old + 1) }
+    ensures holds { IfOk result (λ made. (k : ℕ) → holds_at heap.new k ≡ holds_at heap.old k + one_at made.root k) }
 {
     heap.reserve(1, 0)?;
     let value = heap.cell(value);
@@ -67,13 +74,18 @@ fn bound<T: Element>(heap: &mut Heap<T>, map: MapRef, key: T, value: T) -> Resul
     Ok(held(made))
 }
 
-// The map without the key, which must be there.
-fn unbound<T: Element, P: Probe<T>>(heap: &mut Heap<T>, map: MapRef, key: &P) -> Result<MapRef, ()>
+/// The map without the key, which must be there.
+pub fn unbound<T: Element, P: Probe<T>>(
+    heap: &mut Heap<T>,
+    map: MapRef,
+    key: &P,
+) -> Result<MapRef, ()>
     requires good { IsCellMap T.cmp T.code_of heap.old map }
     requires few { hold_count heap.old < 2 ^ 50 }
     ensures good { IfOk result (IsCellMap T.cmp T.code_of heap.new) }
     ensures others { IfOk result (λ _. Keeps (IsCellMap T.cmp T.code_of) heap.old heap.new) }
     ensures count { IfOk result (λ _. hold_count heap.new ≡ hold_count heap.old + 1) }
+    ensures holds { IfOk result (λ made. (k : ℕ) → holds_at heap.new k ≡ holds_at heap.old k + one_at made.root k) }
 {
     match map_remove(heap, map, key) {
         Ok(Some(left)) => Ok(held(left)),

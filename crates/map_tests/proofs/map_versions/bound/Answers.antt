@@ -1,6 +1,7 @@
 use Rattle.std.proofs.Common.{sym, subst, arith}
 use Rattle.std.proofs.lemmas.List.Elements.{All-weaker, All-cons, All-filter}
 use Rattle.node_heap.specs.Heap.{form_at}
+use Rattle.node_heap.proofs.BuildLemmas.{count-one}
 use Rattle.node_heap.proofs.Frames.{Extends-trans}
 use Rattle.champ_kinds.specs.Binding.{Binding, bind}
 use Rattle.champ_kinds.specs.Root.{Root}
@@ -41,3 +42,9 @@ returns-clause-count g c =
     let before = Extends-trans {new = c.cell-value.new.self} c.in_ok-reserve.ensures.extends c.cell-value.ensures.extends in
     let M = cell-maps-stay before g.T.Ord.cmp g.T.Element.code_of c.args.map c.requires.good in
     omega (arith, (c.in_ok-made.ensures.answered M.0 M.1.map).count, c.cell-value.ensures.count, c.in_ok-reserve.ensures.rest.count)
+
+pub returns-clause-holds : goal.returns-clause-holds
+returns-clause-holds g c =
+    let before = Extends-trans {new = c.cell-value.new.self} c.in_ok-reserve.ensures.extends c.cell-value.ensures.extends in
+    let M = cell-maps-stay before g.T.Ord.cmp g.T.Element.code_of c.args.map c.requires.good in
+    rw c.held.ensures (λ k. omega (arith, (c.in_ok-made.ensures.answered M.0 M.1.map).holds k, c.cell-value.ensures.adds.holds k, c.in_ok-reserve.ensures.rest.holds k, count-one k c.cell-value.result))

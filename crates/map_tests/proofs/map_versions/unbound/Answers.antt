@@ -33,3 +33,9 @@ returns-in-Ok-Some-clause-count g c =
     let M = c.requires.good in
     let left = rw c.in-Ok-Some.field-0-is at c.in-Ok-Some.ensures in
     omega (arith, (left.answered M.0 M.1.map).count)
+
+pub returns-in-Ok-Some-clause-holds : goal.returns-in-Ok-Some-clause-holds
+returns-in-Ok-Some-clause-holds g c =
+    let M = c.requires.good in
+    let left = rw c.in-Ok-Some.field-0-is at c.in-Ok-Some.ensures in
+    rw c.held.ensures (λ k. omega (arith, (left.answered M.0 M.1.map).holds k))
