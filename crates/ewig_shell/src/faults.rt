@@ -201,6 +201,14 @@ fn fails_at<R: Abort + AllocGlobal>(
     let without = run_with(rt, first.0 != Call::Fetch(0), &rest, NONE)?;
     leave_the_same(rt, &run, &without);
     assert_eq!(rt; run.ended.status, Status::Done);
+    let before = run_with(rt, true, &script(rt, first.1, &[])?, NONE)?;
+    let kept = if first.0 == Call::Fetch(0) {
+        0
+    } else {
+        before.sink.bytes().len()
+    };
+    let told_first = run.sink.bytes().get(kept..).unwrap_or(b"");
+    assert!(rt; told_first.starts_with(b"! fault\n"));
     let mut told = 0u32;
     let mut wanted = str::from_utf8(without.sink.bytes())?.lines();
     for reply in str::from_utf8(run.sink.bytes())?.lines() {
