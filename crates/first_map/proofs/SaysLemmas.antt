@@ -1,5 +1,5 @@
 -- What a map of cells says stays with the rows that it stands on.
-use Rattle.std.proofs.Common.{◌≡◌, ◌≢◌, ◌<◌, ◌+◌, ℕ, List, [], ◌∷◌, refl, ap, sym, subst, ◌∙◌, arith, Option, Some, None}
+use Rattle.std.proofs.Common.{◌≡◌, ◌≢◌, ℕ, List, refl, ap, sym, subst, ◌∙◌, Some}
 use Rattle.std.specs.Prelude.{IsSome}
 use Rattle.std.specs.List.{All}
 use Rattle.std.specs.Cmp.{IsTotalOrder}
@@ -11,7 +11,7 @@ use Rattle.node_heap.specs.Heap.{Heap, row_at, links_at, IsGraph}
 use Rattle.node_heap.specs.Calls.{Extends, KeepsBelow}
 use Rattle.node_heap.proofs.Frames.{Extends-row}
 use Rattle.champ_kinds.specs.Root.{Root}
-use Rattle.champ_kinds.specs.Binding.{Binding, bind, unbind, value_with}
+use Rattle.champ_kinds.specs.Binding.{Binding, bind, unbind}
 use Rattle.champ_kinds.specs.Kinds.{IsMapOf}
 use Rattle.champ_kinds.proofs.StayLemmas.{container-stays, map-reaches, map-live, map-seen}
 use Rattle.elem_core.specs.declared.codes.TheConstants.{CODE_BITS}
@@ -43,6 +43,20 @@ module _ {T : Type 0} (cmp : T → T → Ordering) (code : T → ℕ) where
     map = (container-stays old new r keeps).map cmp code says.bindings says.map;
     unbound = says.unbound;
   }
+
+  -- a map that is opened says what it said, since all rows stay
+  pub says-opened : {old new : Heap T} {r r' : Root} {k v : T} → Extends old new → ((M : List (Binding T)) → IsMapOf cmp code old r M → IsMapOf cmp code new r' M) → Says cmp code old r k v → Says cmp code new r' k v
+  says-opened {old = old} {v = v} extends opens says = record {
+    bindings = says.bindings;
+    map = opens says.bindings says.map;
+    link = says.link;
+    bound = says.bound;
+    row = Extends-row extends says.link (there old says.link v says.row) ∙ says.row;
+  }
+
+  -- and it says the same under another name
+  pub says-seen : {h : Heap T} {r s : Root} {k v : T} → s ≡ r → Says cmp code h r k v → Says cmp code h s k v
+  says-seen {h} {k = k} {v = v} same = subst (λ t. Says cmp code h t k v) (sym same)
 
   -- a map says what was put there
   pub says-put : {new : Heap T} {r s : Root} {key v : T} {link : ℕ} (M : List (Binding T)) → IsTotalOrder cmp → s ≡ r → row_at new link ≡ Some (cell v) → IsMapOf cmp code new r (bind cmp M key link) → Says cmp code new s key v

@@ -1,5 +1,5 @@
 -- What stays where a key is taken out in place and its value is given up.
-use Rattle.std.proofs.Common.{◌≡◌, ◌≢◌, ◌<◌, ◌≤◌, ◌+◌, ℕ, List, [], ◌∷◌, refl, ap, sym, subst, ◌∙◌, arith}
+use Rattle.std.proofs.Common.{◌≡◌, ◌≢◌, ◌<◌, ◌+◌, ℕ, List, [], ◌∷◌, ap, arith}
 use Rattle.std.specs.Cmp.{IsTotalOrder}
 use Rattle.std.specs.declared.cmp.Ordering.{Ordering}
 use Rattle.std.specs.declared.cmp.Ordering.TheVariants.{Equal}
@@ -18,7 +18,7 @@ use Rattle.champ_kinds.specs.Stands.{IsSomeMap}
 use Rattle.champ_kinds.proofs.StayLemmas.{container-stays, map-seen}
 use Rattle.edit_trie.specs.Edit.{by_bits, CutsKey}
 use Rattle.edit_trie.proofs.LawLemmas.{cuts-keep-values}
-use Rattle.first_map.specs.Says.{by_root, Says, SaysNothing}
+use Rattle.first_map.specs.Says.{Says, SaysNothing}
 use Rattle.first_map.proofs.SaysLemmas.{says-below, nothing-below, says-none, says-left}
 
 module _ {T : Type 0} (cmp : T → T → Ordering) (code : T → ℕ) (o : IsTotalOrder cmp) {old mid new : Heap T} (r r' : Root) (key : T) (given : ℕ)

@@ -126,6 +126,7 @@ fn without<T: Element, P: Probe<T>>(
     requires map { IsSomeMap T.cmp T.code_of heap.old (by_root root) }
     ensures map { IfOk result (λ l. IsSomeMap T.cmp T.code_of heap.new (by_root l)) }
     ensures nothing { IfOk result (λ l. SaysNothing T.cmp T.code_of heap.new (by_root l) (P.stands_for key.now)) }
+    ensures others { IfOk result (λ l. (k v : T) → T.cmp (P.stands_for key.now) k ≢ Equal → Says T.cmp T.code_of heap.old (by_root root) k v → Says T.cmp T.code_of heap.new (by_root l) k v) }
     ensures keeps { (l : ℕ) → one_at root l < holds_at heap.old l → KeepsBelow heap.old heap.new l }
 {
     let mut edit = match TrieEdit::open(Map::from_root(root, CODE_BITS), heap) {

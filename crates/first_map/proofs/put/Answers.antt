@@ -1,6 +1,5 @@
-use Rattle.std.proofs.Common.{◌≡◌, ◌+◌, ◌∙◌, [], ◌∷◌, ap, arith, refl}
+use Rattle.std.proofs.Common.{◌≡◌, ◌+◌, ◌∙◌, ap, arith}
 use Rattle.elem_core.specs.declared.codes.TheConstants.{CODE_BITS}
-use Rattle.node_heap.specs.Links.{count}
 use Rattle.node_heap.specs.Heap.{holds_at, one_at}
 use Rattle.node_heap.proofs.BuildLemmas.{count-one}
 use Rattle.node_heap.proofs.Frames.{Extends-row, Extends-trans}
@@ -25,7 +24,7 @@ returns-clause-says g c =
     let bits : c.in_ok-map_insert.field-0.bits ≡ CODE_BITS = made.bits ∙ ap (λ (r : Root). r.bits) c.at.ensures in
     let here = c.cell-cell.ensures.adds.here in
     says-put g.T.Ord.cmp g.T.Element.code_of M.0 g.met.T.Ord.total (rooted-same c.in_ok-map_insert.field-0 c.into_root.result c.into_root.ensures bits)
-    (Extends-row (made.answered M.0 M.1).extends c.cell-cell.result (there g.T.Ord.cmp g.T.Element.code_of c.cell-cell.new.self c.cell-cell.result c.args.value here) ∙ here) (made.contents M.0 M.1)
+    (Extends-row {new = c.map_insert.new.heap} (made.answered M.0 M.1).extends c.cell-cell.result (there g.T.Ord.cmp g.T.Element.code_of c.cell-cell.new.self c.cell-cell.result c.args.value here) ∙ here) (made.contents M.0 M.1)
 
 pub returns-clause-others : goal.returns-clause-others
 returns-clause-others g c = λ k v other says.
@@ -35,14 +34,14 @@ returns-clause-others g c = λ k v other says.
     let before = Extends-trans {new = c.cell-cell.new.self} c.in_ok-reserve.ensures.extends c.cell-cell.ensures.extends in
     let M : IsSomeMap cmp code c.cell-cell.new.self c.at.result = rw c.at.ensures (maps-stay cmp code before (by_root c.args.root) c.requires.map) in
     let bits : c.in_ok-map_insert.field-0.bits ≡ CODE_BITS = made.bits ∙ ap (λ (r : Root). r.bits) c.at.ensures in
-    says-still cmp code g.met.T.Ord.total other (rooted-same c.in_ok-map_insert.field-0 c.into_root.result c.into_root.ensures bits) (Extends-trans before (made.answered M.0 M.1).extends)
+    says-still cmp code g.met.T.Ord.total other (rooted-same c.in_ok-map_insert.field-0 c.into_root.result c.into_root.ensures bits) (Extends-trans {new = c.map_insert.new.heap} before (made.answered M.0 M.1).extends)
     (λ N is. made.contents N (rw c.at.ensures ((containers-extended c.args.heap.now c.cell-cell.new.self before (by_root c.args.root)).map cmp code N is))) says
 
 pub returns-clause-extends : goal.returns-clause-extends
 returns-clause-extends g c =
     let before = Extends-trans {new = c.cell-cell.new.self} c.in_ok-reserve.ensures.extends c.cell-cell.ensures.extends in
     let M : IsSomeMap g.T.Ord.cmp g.T.Element.code_of c.cell-cell.new.self c.at.result = rw c.at.ensures (maps-stay g.T.Ord.cmp g.T.Element.code_of before (by_root c.args.root) c.requires.map) in
-    Extends-trans before (c.in_ok-map_insert.ensures.answered M.0 M.1).extends
+    Extends-trans {new = c.map_insert.new.heap} before (c.in_ok-map_insert.ensures.answered M.0 M.1).extends
 
 pub returns-clause-held : goal.returns-clause-held
 returns-clause-held g c =
@@ -71,7 +70,7 @@ pub returns-clause-maps : goal.returns-clause-maps
 returns-clause-maps g c =
     let before = Extends-trans {new = c.cell-cell.new.self} c.in_ok-reserve.ensures.extends c.cell-cell.ensures.extends in
     let M : IsSomeMap g.T.Ord.cmp g.T.Element.code_of c.cell-cell.new.self c.at.result = rw c.at.ensures (maps-stay g.T.Ord.cmp g.T.Element.code_of before (by_root c.args.root) c.requires.map) in
-    maps-stay g.T.Ord.cmp g.T.Element.code_of (Extends-trans before (c.in_ok-map_insert.ensures.answered M.0 M.1).extends)
+    maps-stay g.T.Ord.cmp g.T.Element.code_of (Extends-trans {new = c.map_insert.new.heap} before (c.in_ok-map_insert.ensures.answered M.0 M.1).extends)
 
 pub returns-clause-graph : goal.returns-clause-graph
 returns-clause-graph g c =
