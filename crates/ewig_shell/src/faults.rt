@@ -1,4 +1,4 @@
-//! A fault at each call of each device. A run with a fault is the run without what the fault refused or cut off.
+//! A fault at each call of the sink and of the store. A run with a fault is the run without what the fault refused or cut off.
 
 use crate::run::{Ended, Status, run};
 use crate::tests::TWO_CELLS;
@@ -115,40 +115,6 @@ fn script<R: AllocGlobal>(rt: &R, count: usize, left_out: &[usize]) -> Result<Ve
         }
     }
     Ok(bytes)
-}
-
-// The lines of the bytes that a newline ends.
-fn ended_lines(bytes: &[u8]) -> &[u8] {
-    let mut lines = bytes;
-    while let Some((last, front)) = lines.split_last() {
-        if *last == b'\n' {
-            return lines;
-        }
-        lines = front;
-    }
-    lines
-}
-
-#[test]
-fn a_fault_of_the_source_cuts_off_what_comes_after(rt: HostRuntime) -> Result<(), Fail> {
-    let input = script(&rt, LINES.len(), &[])?;
-    for call in 0..100u64 {
-        let faults = Faults {
-            source: Some(call),
-            ..NONE
-        };
-        let run = run_with(&rt, true, &input, faults)?;
-        let taken = input.len().min(4 * call as usize);
-        let cut = run_with(&rt, true, ended_lines(&input[..taken]), NONE)?;
-        assert_eq!(rt; run.sink.bytes(), cut.sink.bytes(), "{call}");
-        leave_the_same(&rt, &run, &cut);
-        if run.ended.status == Status::Done {
-            assert_eq!(rt; taken, input.len());
-            return Ok(());
-        }
-        assert_eq!(rt; run.ended.status, Status::ReadFault);
-    }
-    Err(Fail::from("a source that fails at no call of the run"))
 }
 
 #[test]
