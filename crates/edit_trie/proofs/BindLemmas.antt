@@ -13,7 +13,7 @@ use Rattle.node_heap.specs.declared.row.Head.TheVariants.{Pair}
 use Rattle.node_heap.specs.Heap.{Heap, row_at, form_at, links_at, holds_at, owners_at, one_at}
 use Rattle.node_heap.specs.Calls.{Adds, AddsOwner, Builds}
 use Rattle.node_heap.specs.InPlace.{Changes}
-use Rattle.node_heap.specs.Owner.{written, alone}
+use Rattle.node_heap.specs.Owner.{by_hold, written, alone, WritesOnly}
 use Rattle.node_heap.proofs.Counts.{test_other}
 use Rattle.node_heap.proofs.BuildLemmas.{count-cons, count-one, Builds-both}
 use Rattle.node_heap.proofs.Frames.{Extends-row}
@@ -33,12 +33,13 @@ use Rattle.champ_kinds.specs.Kinds.{IsPair, HasEntries, IsMapOf}
 use Rattle.champ_kinds.specs.Edit.{PutsPair}
 use Rattle.champ_kinds.proofs.PairLemmas.{absent-map, absent-pairs, link-none, others-none}
 use Rattle.champ_kinds.proofs.EditLemmas.{pairs-kept}
-use Rattle.edit_trie.specs.Path.{edit_rows, pair_rows, KeepsShared}
+use Rattle.edit_trie.specs.Path.{edit_rows, pair_rows, way_rows, KeepsShared, MakesFew}
 use Rattle.edit_trie.specs.Edit.{by_bits}
-use Rattle.edit_trie.specs.Walk.{CanEdit, PutsIn, WritesPath}
+use Rattle.edit_trie.specs.Walk.{CanEdit, PutsIn}
 use Rattle.edit_trie.specs.Bound.{CanBind, Binds}
 use Rattle.edit_trie.proofs.PathLemmas.{rows-stay, edit-says, edit-avoids}
 use Rattle.edit_trie.proofs.OwnLemmas.{none-live}
+use Rattle.edit_trie.proofs.WayLemmas.{way-says}
 use Rattle.edit_trie.proofs.InChainLemmas.{count-take}
 use Rattle.edit_trie.proofs.MapLemmas.{pairs-left, all-others, pair-by, pair-key}
 use Rattle.edit_trie.proofs.AfterLemmas.{pair-after, written-before, alone-missed, keeps-missed}
@@ -195,7 +196,7 @@ module _ {T : Type 0} (cmp : T → T → Ordering) (code : T → ℕ) (o : IsTot
         subst (λ ks. KeepsShared old ks path') (same-path most)
         (keeps-missed old mid (take (length path') path) (take (length path) path') (alone-of most (length path')) (did.path most more short (omega (arith, short', ap length all))))
 
-    writes-new : (most : ℕ) → length E ≤ most → WritesPath old new (pair_rows cmp (form_at old) key most (DEEPEST + 1) 0 c r)
+    writes-new : (most : ℕ) → length E ≤ most → WritesOnly (by_hold r) old new r (pair_rows cmp (form_at old) key most (DEEPEST + 1) 0 c r)
     writes-new most short m live off =
         let path = edit_rows cmp (form_at old) key most (DEEPEST + 1) 0 c r in
         let after = pair-after cmp (form_at old) key most (DEEPEST + 1) 0 c r in
@@ -203,6 +204,14 @@ module _ {T : Type 0} (cmp : T → T → Ordering) (code : T → ℕ) (o : IsTot
         let there : count m (written mid (edit_rows cmp (form_at mid) key most (DEEPEST + 1) 0 c r)) ≡ 0 =
         ap (λ n. count m (take n (edit_rows cmp (form_at mid) key most (DEEPEST + 1) 0 c r))) (alone-all most) ∙ ap (λ ks. count m (written old ks)) (same-path most) ∙ first in
         did.others most short m (builds.extends.live m live) there ∙ Extends-row builds.extends m live
+
+    few-new : (most more : ℕ) → length E ≤ most → 1 + length (others cmp key E) ≤ more → MakesFew old new (edit_rows cmp (form_at old) key most (DEEPEST + 1) 0 c r) (way_rows (form_at old) most (DEEPEST + 1) 0 c r) (way_rows (form_at new) more (DEEPEST + 1) 0 c r) 2
+    few-new most more short short' =
+        let all = others-none cmp key E (link-none cmp key E absent-put) in
+        let came = did.came most more short (omega (arith, short', ap length all)) in
+        let ways =
+        rows-stay cmp (code_by code bits) (form_at old) (form_at mid) _ _ _ _ (way-says cmp (code_by code bits) (form_at old) (form_at mid) most) (DEEPEST + 1) 0 c r E (forms-below old mid r (builds.extends.kept r live-root)) can.rooted.trie.trie in
+        omega (arith, came, builds.makes.live, builds.few_cells, builds.few_nodes, alone-all most, ap (alone old) (same-path most), ap length (same-path most), ap length ways)
 
     pub binds-absent : Binds cmp code old new bits r key E M value None
     binds-absent = record {
@@ -212,5 +221,6 @@ module _ {T : Type 0} (cmp : T → T → Ordering) (code : T → ℕ) (o : IsTot
       changes = changes-new;
       gains = Gains-trans (Gains-Builds builds) did.gains;
       path = path-new;
+      came = λ most more short fits short'. few-new most more short short';
       others = writes-new;
     }

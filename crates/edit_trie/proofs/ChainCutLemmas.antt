@@ -29,7 +29,7 @@ use Rattle.champ_chain.proofs.SetLemmas.{same-length, same-filter}
 use Rattle.champ_chain.proofs.PartsLemmas.{others-parts, rising-without}
 use Rattle.champ_trie.proofs.StayLemmas.{forms-below, has-next}
 use Rattle.std.proofs.Common.{not}
-use Rattle.edit_trie.specs.Path.{chain_rows}
+use Rattle.edit_trie.specs.Path.{chain_rows, MakesCopies}
 use Rattle.edit_trie.specs.Walk.{EditsChild}
 use Rattle.edit_trie.specs.Chains.{IsFront, OwnsRows, CutsFromChain, link_in}
 use Rattle.champ_chain.specs.Entry.{SameSet}
@@ -222,6 +222,10 @@ module _ {T : Type 0} (cmp : T → T → Ordering) (o : IsTotalOrder cmp) (old n
       chain = chain-new;
       gains = Gains-trans owns.gains gain;
       path = λ most more short short'. rw (was-path most short, now-path more short') (owns.path [] [] (λ some. absurd (omega (arith, some))) (KeepsAlone-none now));
+      came = λ most short.
+          let before = owns.came [] (λ some. absurd (omega (arith, some))) in
+          let all : MakesCopies old new (owns.rows ++ []) = omega (arith, before, gain.makes.live, gain.makes.cells, gain.makes.nodes, change.trades.cells, change.trades.nodes, length-append owns.rows []) in
+          subst (MakesCopies old new) (sym (was-path most short)) all;
       writes = λ most short m live other off.
           let before = owns.others [] (λ some. absurd (omega (arith, some))) m live other (subst (λ ks. count m (written old ks) ≡ 0) (was-path most short) off) in
           kept m before.1 ∙ before.0;

@@ -8,14 +8,14 @@ use Rattle.node_heap.specs.Links.{count, HasLink, Reaches, here, below}
 use Rattle.node_heap.specs.Forms.{Forms, Form, cell, node, chain, links_of, links_in, head_of, value_of, form_of}
 use Rattle.node_heap.specs.Heap.{Heap, row_at, form_at, links_at, owners_at, IsGraph}
 use Rattle.node_heap.specs.InPlace.{child_at, OwnsDown, path_start, path_then, Changes}
-use Rattle.node_heap.specs.Owner.{written}
+use Rattle.node_heap.specs.Owner.{written, alone}
 use Rattle.node_heap.proofs.Reach.{SameBelow-link}
 use Rattle.node_heap.proofs.GraphLemmas.{IsGraph-acyclic}
 use Rattle.node_heap.proofs.Ways.{IsSolePath-Reaches}
 use Rattle.node_heap.proofs.Frames.{KeepsBelow-trans}
 use Rattle.node_heap.proofs.Edited.{linked_live, KeepsPaths-owned, Changes-more, Changes-path}
 use Rattle.node_heap.proofs.EditLaws.{Changes-Unchanged, Gains-trans}
-use Rattle.node_heap.proofs.AloneLemmas.{KeepsAlone-cons, KeepsAlone-own, written-own}
+use Rattle.node_heap.proofs.AloneLemmas.{KeepsAlone-cons, KeepsAlone-own, alone-yes, written-own}
 use Rattle.champ_chain.specs.Entry.{Entry, IsEntry, key_at, key_of}
 use Rattle.champ_chain.specs.Chain.{AreChainRows}
 use Rattle.champ_chain.proofs.FrameLemmas.{links-form}
@@ -26,6 +26,7 @@ use Rattle.edit_trie.specs.Walk.{EditsChild}
 use Rattle.edit_trie.specs.Chains.{IsFront, IsPast, OwnsRows, link_in}
 use Rattle.edit_trie.proofs.RowLemmas.{key-moved, row-form}
 use Rattle.edit_trie.proofs.ChildLemmas.{OwnsChild, child-linked, live-below, own-there, own-linked, own-beneath, gains-child, child-then}
+use Rattle.edit_trie.proofs.CameLemmas.{alone-own}
 use Rattle.edit_trie.proofs.OwnLemmas.{none-live, off-first}
 use Rattle.edit_trie.proofs.FrontLemmas.{front-rest, front-push, front-above, front-turns}
 
@@ -97,6 +98,7 @@ module _ {T : Type 0} where
     keyless = keyless;
     left = λ m at x way. refl;
     path = λ rest path' next keep. keep;
+    came = λ rest next. omega arith;
     others = λ rest next m live other off. (refl, other, off);
   }
 
@@ -270,6 +272,10 @@ module _ {T : Type 0} (old now new : Heap T) (row index r i k : ℕ) (front : Li
         let tail = KeepsAlone-own now new (child_at now r i) k rest own.same own.sole own.owners graph_mid (before-own rest link) (k ∷ path') (KeepsAlone-cons new k rest path' own.sole keep) in
         let whole = o.path (child_at now r i ∷ rest) (k ∷ path') (λ some. child-linked now r i own.inside) tail in
         rw (append_assoc o.rows (child_at now r i ∷ []) rest, append_assoc o.own (k ∷ []) path') whole;
+    came = λ rest link.
+        let before = o.came (child_at now r i ∷ rest) (λ some. child-linked now r i own.inside) in
+        let copied = alone-own now new (child_at now r i) k own.same own.sole own.owners graph_mid rest (before-own rest link) in
+        omega (arith, before, copied, alone-yes new k rest own.sole, own.makes.live, length-append o.rows (child_at now r i ∷ []), ap (alone old) (append_assoc o.rows (child_at now r i ∷ []) rest));
     others = λ rest link s live other off.
         let off' : count s (written old (o.rows ++ child_at now r i ∷ rest)) ≡ 0 = subst (λ ks. count s (written old ks) ≡ 0) (append_assoc o.rows (child_at now r i ∷ []) rest) off in
         let before = o.others (child_at now r i ∷ rest) (λ some. child-linked now r i own.inside) s live other off' in

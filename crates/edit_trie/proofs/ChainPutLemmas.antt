@@ -11,10 +11,10 @@ use Rattle.std.proofs.lemmas.List.Edits.{length-remove}
 use Rattle.std.proofs.lemmas.Option.{slice_get-get_or, get_or_from_slice_get, slice_get_within}
 use Rattle.node_heap.specs.Links.{count, HasLink, SameBelow, Reaches, here}
 use Rattle.node_heap.specs.Forms.{Forms, Row, cell, node, chain, links_of, links_in, head_of, form_of, is_node}
-use Rattle.node_heap.specs.Heap.{Heap, row_at, form_at, links_at, holds_at, owners_at, IsGraph}
+use Rattle.node_heap.specs.Heap.{Heap, row_at, form_at, links_at, holds_at, owners_at, live_count, IsGraph}
 use Rattle.node_heap.specs.Calls.{KeepsBelow, KeepsOwners, AddsOwner, Makes, Builds, Gains}
 use Rattle.node_heap.specs.InPlace.{child_at, Writes, Changes}
-use Rattle.node_heap.specs.Owner.{written}
+use Rattle.node_heap.specs.Owner.{written, alone}
 use Rattle.node_heap.specs.declared.row.Head.TheVariants.{Chain}
 use Rattle.node_heap.proofs.Counts.{test_other}
 use Rattle.node_heap.proofs.BuildLemmas.{count-cons, count-one}
@@ -75,7 +75,7 @@ linked-node (Some (cell x)) k some = absurd (omega (arith, some))
 linked-node (Some (node h l)) k some = refl
 
 -- what is counted beside a link and a second one, if any
-one-of : (s x : ℕ) (o : Option ℕ) → 0 < count s (x ∷ option_to_list o) → (s ≡ x) ⊎ (o ≡ Some s)
+pub one-of : (s x : ℕ) (o : Option ℕ) → 0 < count s (x ∷ option_to_list o) → (s ≡ x) ⊎ (o ≡ Some s)
 one-of s x None some = elim (cases_eq s x) as (λ _. (s ≡ x) ⊎ (None ≡ Some s)) [
   | inl same ↦ inl same
   | inr other ↦ absurd (omega (arith, some, count-one s x, test_other s x other))
@@ -330,6 +330,10 @@ module _ {T : Type 0} (cmp : T → T → Ordering) (o : IsTotalOrder cmp) (old n
           chain = chain-with cmp o (form_at old) (form_at new) (child_at old row index) (child_at new row index) x E key c p rows-new;
           gains = Gains-trans owns.gains gains-new;
           path = λ most more short short'. rw (was-path most short, now-path more short') (owns.path [] [] (λ some. absurd (omega (arith, some))) (KeepsAlone-none now));
+          came = λ most short.
+              let before = owns.came [] (λ some. absurd (omega (arith, some))) in
+              subst (λ ks. live_count new + alone old ks ≤ live_count old + (length ks + 1)) (sym (was-path most short))
+              (omega (arith, before, makes.live, builds.makes.live, builds.few_cells, builds.few_nodes, makes'.live, length-append owns.rows []));
           writes = λ most short m live other off.
               let before = owns.others [] (λ some. absurd (omega (arith, some))) m live other (subst (λ ks. count m (written old ks) ≡ 0) (was-path most short) off) in
               others m before.1 (subst IsSome (sym before.0) live) ∙ before.0;

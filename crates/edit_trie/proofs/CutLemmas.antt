@@ -15,7 +15,7 @@ use Rattle.node_heap.specs.Heap.{Heap, row_at, form_at, links_at, owners_at, IsG
 use Rattle.node_heap.specs.Calls.{SameRows, Gains}
 use Rattle.node_heap.proofs.EditLaws.{Gains-trans}
 use Rattle.node_heap.specs.InPlace.{child_at, Changes}
-use Rattle.node_heap.specs.Owner.{written}
+use Rattle.node_heap.specs.Owner.{written, alone}
 use Rattle.node_heap.proofs.Reach.{Reaches-by, Reaches-trans, SameBelow-link}
 use Rattle.node_heap.proofs.GraphLemmas.{IsGraph-acyclic}
 use Rattle.node_heap.proofs.Edited.{Changes-more}
@@ -37,16 +37,18 @@ use Rattle.champ_trie.proofs.LeftLemmas.{deepest-alike, lone-gone}
 use Rattle.champ_trie.proofs.RowLemmas.{same-place-of, place-linked, row-less}
 use Rattle.edit_trie.specs.Path.{rows_to, chain_rows, edit_rows, KeepsShared}
 use Rattle.edit_trie.specs.Spot.{IsSpot, PutsAt}
-use Rattle.edit_trie.specs.Walk.{EditsChild, CanEdit, CutsIn}
+use Rattle.edit_trie.specs.Walk.{EditsChild, CanEdit, CutsIn, MakesShared}
 use Rattle.edit_trie.specs.Chains.{CutsFromChain}
 use Rattle.edit_trie.specs.declared.row.Spot.TheVariants.{Node as NodeAt, Empty as NoneAt}
+use Rattle.edit_trie.proofs.CameLemmas.{made-cons, made-own}
 use Rattle.edit_trie.proofs.RowLemmas.{key-moved, not-row, not-cell, row-child}
 use Rattle.edit_trie.proofs.ChildLemmas.{OwnsChild, gains-child, own-beneath, own-then, own-child-there}
 use Rattle.edit_trie.proofs.StepLemmas.{row-set, beside-stays, node-at, deeper, deeper-own, chain-at}
 use Rattle.edit_trie.proofs.PathLemmas.{rows_below, rows-first, rows-last, rows-node, below-moved, below-linked, edit-begins, edit-says}
 use Rattle.edit_trie.proofs.OwnLemmas.{none-live, off-first, row-node}
 use Rattle.edit_trie.proofs.SharedLemmas.{shared-same, shared-one, shared-cons, shared-own}
-use Rattle.node_heap.proofs.AloneLemmas.{KeepsAlone-none, KeepsAlone-cons}
+use Rattle.std.proofs.lemmas.List.{take_all}
+use Rattle.node_heap.proofs.AloneLemmas.{KeepsAlone-none, KeepsAlone-cons, alone-yes}
 use Rattle.edit_trie.proofs.SpotLemmas.{StandsAt, beside-node, set-node}
 use Rattle.edit_trie.proofs.PutLemmas.{rows-at, part-find}
 
@@ -54,6 +56,10 @@ use Rattle.edit_trie.proofs.PutLemmas.{rows-at, part-find}
 no-back : {T : Type 0} (h : Heap T) → IsGraph h → (a b : ℕ) → Reaches (links_at h) a b → a ≢ b → ¬ Reaches (links_at h) b a
 no-back h graph a b (here l) other back = other refl
 no-back h graph a b (below l k m has rest) other back = IsGraph-acyclic h graph l k has (Reaches-trans (links_at h) k m l rest back)
+
+-- where nothing came, and the path ends at its first row
+made-last : {T : Type 0} (old new : Heap T) (x : ℕ) (rest : List ℕ) {spent gained : List ℕ} → owners_at old x ≡ 1 → Gains old new → Changes x old new spent gained 0 0 → MakesShared old new (x ∷ rest) (x ∷ [])
+made-last old new x rest one gain change = omega (arith, alone-yes old x [] one, gain.makes.live, gain.makes.cells, gain.makes.nodes, change.trades.cells, change.trades.nodes)
 
 -- a path that ends at its first row
 pub shared-last : {T : Type 0} (h : Heap T) (x : ℕ) (rest : List ℕ) → owners_at h x ≡ 1 → KeepsShared h (x ∷ rest) (x ∷ [])
@@ -117,6 +123,7 @@ module _ {T : Type 0} (cmp : T → T → Ordering) (code : T → ℕ) (equal_cod
         trie = trie-written Empty puts none-left;
         changes = Changes-more 0 (left + alike_in code c E) change (omega arith) (omega arith);
         path = λ most more short short'. rw (was-entry most, now-entry more) (shared-one old row [] can.sole);
+        came = λ most more short short'. rw (was-entry most, now-entry more) (made-last old new row [] can.sole gain change);
         others = λ most short m live live' off. others_stay m (off-first old row m [] can.sole (subst (λ ks. count m (written old ks) ≡ 0) (was-entry most) off)).0;
       }
 
@@ -138,6 +145,7 @@ module _ {T : Type 0} (cmp : T → T → Ordering) (code : T → ℕ) (equal_cod
         trie = trie-written (At lone) puts (k, left_one, key-new);
         changes = Changes-more 0 (left + alike_in code c E) change (omega arith) (omega arith);
         path = λ most more short short'. rw (was-lift most, now-lift more) (shared-last old row (rows_below (λ _. []) (λ q. chain_rows cmp (form_at old) key (λ _. []) most (Some q)) (form_at old) left d c row) can.sole);
+        came = λ most more short short'. rw (was-lift most, now-lift more) (made-last old new row (rows_below (λ _. []) (λ q. chain_rows cmp (form_at old) key (λ _. []) most (Some q)) (form_at old) left d c row) can.sole gain change);
         others = λ most short m live live' off. others_stay m (off-first old row m (rows_below (λ _. []) (λ q. chain_rows cmp (form_at old) key (λ _. []) most (Some q)) (form_at old) left d c row) can.sole (subst (λ ks. count m (written old ks) ≡ 0) (was-lift most) off)).0;
       }
 
@@ -187,6 +195,13 @@ module _ {T : Type 0} (cmp : T → T → Ordering) (code : T → ℕ) (equal_cod
           let was = chain_rows cmp (form_at old) key (λ _. []) most (Some (child_at old row i)) in
           let now = chain_rows cmp (form_at new) key (λ _. []) more (Some (child_at new row i)) in
           rw (was-chain most, now-chain more) (shared-cons old row was now can.sole (shared-same keep));
+      came = λ most more short short'.
+          let keep = did.path most more (omega (arith, part-short, short)) (omega (arith, part-short, short')) in
+          let came = did.came most (omega (arith, part-short, short)) in
+          let was = chain_rows cmp (form_at old) key (λ _. []) most (Some (child_at old row i)) in
+          let now = chain_rows cmp (form_at new) key (λ _. []) more (Some (child_at new row i)) in
+          let all : MakesShared old new was now = omega (arith, came, keep.places, ap (alone old) (take_all (length now) was (omega (arith, keep.places)))) in
+          rw (was-chain most, now-chain more) (made-cons old new row was now can.sole all);
       others = λ most short m live live' off.
           let rest = off-first old row m (chain_rows cmp (form_at old) key (λ _. []) most (Some (child_at old row i))) can.sole (subst (λ ks. count m (written old ks) ≡ 0) (was-chain most) off) in
           did.writes most (omega (arith, part-short, short)) m live rest.0 rest.1;
@@ -261,6 +276,17 @@ module _ {T : Type 0} (cmp : T → T → Ordering) (code : T → ℕ) (equal_cod
           subst (λ ks. 0 < count (get_or (rest most) 0 0) ks) (links-form old j)
           (below-linked cmp code (λ _. []) (λ q. chain_rows cmp (form_at old) key (λ _. []) most (Some q)) (edit-begins cmp (form_at old) key most) (form_at old) m' (d + 1) c j (part cmp code d (digit_at c d) E) below.trie some)
 
+      came-node : (most more : ℕ) → length E ≤ most → length E ≤ more → MakesShared old new (edit_rows cmp (form_at old) key most (suc left) d c row) (edit_rows cmp (form_at new) key more (suc left) d c row)
+      came-node most more short short' =
+          let P = edit_rows cmp (form_at new) key more (suc m') (d + 1) c k in
+          let C' = λ (q : ℕ). chain_rows cmp (form_at new) key (λ _. []) more (Some q) in
+          let zs = rows_below (λ _. []) C' (form_at new) m' (d + 1) c k in
+          let first : P ≡ k ∷ zs = rows-first (λ _. []) C' (form_at new) m' (d + 1) c k in
+          let came = subst (λ ks. MakesShared mid new ks P) (mid-node most) (did.came most more (omega (arith, part-short, short)) (omega (arith, part-short, short'))) in
+          let below = made-own old mid j k own.same own.sole own.owners can.graph new (rest most) (next most) (omega (arith, own.makes.live)) k zs (subst (MakesShared mid new (k ∷ rest most)) first came) in
+          let all : MakesShared old new (row ∷ j ∷ rest most) (row ∷ P) = made-cons old new row (j ∷ rest most) P can.sole (subst (MakesShared old new (j ∷ rest most)) (sym first) below) in
+          subst (MakesShared old new (edit_rows cmp (form_at old) key most (suc left) d c row)) (sym (now-node more)) (subst (λ ks. MakesShared old new ks (row ∷ P)) (sym (was-node most)) all)
+
       others-node : (most : ℕ) → length E ≤ most → (m : ℕ) → IsSome (row_at old m) → IsSome (row_at new m) → count m (written old (row ∷ j ∷ rest most)) ≡ 0 → row_at new m ≡ row_at old m
       others-node most short m live live' off =
           let first = off-first old row m (j ∷ rest most) can.sole off in
@@ -278,6 +304,7 @@ module _ {T : Type 0} (cmp : T → T → Ordering) (code : T → ℕ) (equal_cod
             let path' = edit_rows cmp (form_at new) key more (suc m') (d + 1) c k in
             let keep = rw (mid-node most) at (did.path most more (omega (arith, part-short, short)) (omega (arith, part-short, short'))) in
             rw (was-node most, now-node more) (shared-cons old row (j ∷ rest most) path' can.sole (shared-own old mid j k (rest most) own.same own.sole own.owners can.graph (next most) path' keep));
+        came = λ most more short short'. came-node most more short short';
         others = λ most short m live live' off. others-node most short m live live' (subst (λ ks. count m (written old ks) ≡ 0) (was-node most) off);
       }
 

@@ -1,5 +1,5 @@
 -- A key was taken out of a whole map.
-use Rattle.std.proofs.Common.{◌≡◌, ◌≢◌, ℕ, ◌+◌, ◌<◌, ◌≤◌, List, [], ◌∷◌, length, get_or, refl, ap, sym, subst, ◌∙◌, arith, Some, IsSome, option_map, inl, inr}
+use Rattle.std.proofs.Common.{◌≡◌, ◌≢◌, ℕ, ◌+◌, ◌-◌, ◌^◌, ◌<◌, ◌≤◌, List, [], ◌∷◌, length, min, get_or, refl, ap, sym, subst, ◌∙◌, arith, Some, IsSome, option_map, inl, inr}
 use Rattle.std.specs.List.{All, AllZip, find}
 use Rattle.std.specs.Cmp.{IsTotalOrder}
 use Rattle.std.specs.declared.cmp.Ordering.{Ordering}
@@ -8,7 +8,7 @@ use Rattle.elem_core.specs.declared.codes.TheConstants.{DEEPEST}
 use Rattle.node_heap.specs.Links.{count, HasLink, SameBelow, Reaches, here}
 use Rattle.node_heap.specs.Forms.{Forms, links_of, links_in}
 use Rattle.node_heap.specs.Heap.{Heap, row_at, form_at, links_at, holds_at, owners_at, live_count, one_at, IsGraph}
-use Rattle.node_heap.specs.Calls.{KeepsBelow, SameRows, AddsOwner, Releases}
+use Rattle.node_heap.specs.Calls.{KeepsBelow, SameRows, AddsOwner, Makes, Releases, MakesWhatCame}
 use Rattle.node_heap.specs.InPlace.{child_at, Changes}
 use Rattle.node_heap.specs.Owner.{Owner, owned, alone, WritesOnlyLeft}
 use Rattle.node_heap.proofs.Counts.{count-cons, test_same, test_other}
@@ -33,11 +33,12 @@ use Rattle.champ_kinds.specs.Kinds.{IsPair, HasEntries, IsMapOf}
 use Rattle.champ_kinds.proofs.StayLemmas.{container-stays}
 use Rattle.edit_trie.specs.Path.{edit_rows, chain_rows, edit_path, KeepsShared}
 use Rattle.edit_trie.specs.Edit.{by_bits, CutsKey}
-use Rattle.edit_trie.specs.Walk.{CutsIn}
-use Rattle.edit_trie.proofs.PathLemmas.{rows-stay, chain-fuel, edit-begins, edit-says, edit-avoids}
+use Rattle.edit_trie.specs.Walk.{CutsIn, MakesShared}
+use Rattle.edit_trie.proofs.PathLemmas.{rows_below, rows-first, rows-stay, chain-fuel, edit-begins, edit-says, edit-avoids}
+use Rattle.edit_trie.proofs.CameLemmas.{alone-first}
 use Rattle.edit_trie.proofs.InChainLemmas.{count-take, rows-below-stay}
 use Rattle.edit_trie.proofs.RootLemmas.{IsOwned}
-use Rattle.edit_trie.proofs.WayTop.{way-shared, way-off}
+use Rattle.edit_trie.proofs.WayTop.{way-shared, way-made, way-off}
 use Rattle.edit_trie.proofs.OwnTop.{alike-top}
 use Rattle.edit_trie.proofs.MapLemmas.{map-owned, entries-owned, pairs-left, zip-found, found-link, all-others}
 
@@ -183,17 +184,34 @@ module _ {T : Type 0} (cmp : T → T → Ordering) (code : T → ℕ) (o : IsTot
           let keep = did.path (live_count old) (live_count four) short-old (omega (arith, short-mid, more)) in
           subst (KeepsShared old (edit_path cmp code old bits key (owned old owner))) (sym now-path) (way-shared cmp (code_by code bits) owner old mid r (code_by code bits key) own is.entries is.rooted.trie (λ _. []) (λ q. chain_rows cmp (form_at old) key (λ _. []) (live_count old) (Some q)) (λ _. []) (λ q. chain_rows cmp (form_at mid) key (λ _. []) (live_count old) (Some q)) (edit-begins cmp (form_at old) key (live_count old)) (edit-says cmp (code_by code bits) (form_at old) (form_at mid) key (live_count old)) path' keep)
 
+      -- as many rows came before the rest was given up
+      came-four : MakesShared old four (edit_path cmp code old bits key (owned old owner)) (edit_path cmp code new bits key r)
+      came-four =
+          let path' = edit_rows cmp (form_at four) key (live_count four) (DEEPEST + 1) 0 c r in
+          let C' = λ (q : ℕ). chain_rows cmp (form_at four) key (λ _. []) (live_count four) (Some q) in
+          let zs = rows_below (λ _. []) C' (form_at four) DEEPEST 0 c r in
+          let first : path' ≡ r ∷ zs = rows-first (λ _. []) C' (form_at four) DEEPEST 0 c r in
+          let more : live_count mid ≤ live_count four = omega (arith, did.gains.makes.live) in
+          let came = subst (MakesShared mid four (edit_rows cmp (form_at mid) key (live_count old) (DEEPEST + 1) 0 c r)) first (did.came (live_count old) (live_count four) short-old (omega (arith, short-mid, more))) in
+          subst (MakesShared old four (edit_path cmp code old bits key (owned old owner))) (sym (now-path ∙ first))
+          (way-made cmp (code_by code bits) owner old mid r (code_by code bits key) own is.entries is.rooted.trie (λ _. []) (λ q. chain_rows cmp (form_at old) key (λ _. []) (live_count old) (Some q)) (λ _. []) (λ q. chain_rows cmp (form_at mid) key (λ _. []) (live_count old) (Some q)) (edit-begins cmp (form_at old) key (live_count old)) (edit-says cmp (code_by code bits) (form_at old) (form_at mid) key (live_count old)) four r zs came)
+
+      made-new : MakesWhatCame old four → Makes four five 0 0 → new.made ≡ min (old.made + (length (edit_path cmp code new bits key r) - alone old (edit_path cmp code old bits key (owned old owner)))) (2 ^ 64 - 1)
+      made-new makes none =
+          omega (arith, makes.live, makes.made, none.made, rel.made, came-four, alone-first old (length (edit_path cmp code new bits key r)) (edit_path cmp code old bits key (owned old owner)))
+
       others-new : WritesOnlyLeft owner old new r (edit_path cmp code old bits key (owned old owner))
       others-new m live live' off =
           let both = way-off cmp (code_by code bits) owner old mid r (code_by code bits key) own is.entries is.rooted.trie (λ _. []) (λ q. chain_rows cmp (form_at old) key (λ _. []) (live_count old) (Some q)) (λ _. []) (λ q. chain_rows cmp (form_at mid) key (λ _. []) (live_count old) (Some q)) (edit-begins cmp (form_at old) key (live_count old)) (edit-says cmp (code_by code bits) (form_at old) (form_at mid) key (live_count old)) m live off in
           let live_mid = own.live m live in
           rel.same m live' ∙ rows m ∙ did.others (live_count old) short-old m live_mid (did.gains.stays m live_mid) both.1 ∙ own.kept m both.0 live
 
-      pub cuts-key : CutsKey cmp code owner bits old new r M key value
-      cuts-key = record {
+      pub cuts-key : MakesWhatCame old four → Makes four five 0 0 → CutsKey cmp code owner bits old new r M key value
+      cuts-key makes none = record {
         map = (container-stays four new (by_bits bits r) root-below).map cmp code (unbind cmp key M) map-four;
         back = back;
         edits = EditsBy-more 0 (DEEPEST + 1 + alike_keys code bits key M) (own.edits new [] (value ∷ []) 0 (DEEPEST + alike_in (code_by code bits) c is.entries) change) (omega arith) (omega (arith, alike-top cmp code o owner bits old mid r own M is key));
         path = path-new;
         others = others-new;
+        made = made-new makes none;
       }

@@ -21,7 +21,7 @@ use Rattle.node_heap.proofs.Frames.{KeepsBelow-trans}
 use Rattle.node_heap.proofs.GraphLemmas.{IsGraph-acyclic}
 use Rattle.node_heap.proofs.Ways.{IsSolePath-Reaches}
 use Rattle.node_heap.proofs.EditLaws.{Gains-trans}
-use Rattle.node_heap.proofs.AloneLemmas.{KeepsAlone-none, KeepsAlone-cons, KeepsAlone-own}
+use Rattle.node_heap.proofs.AloneLemmas.{KeepsAlone-none, KeepsAlone-cons, KeepsAlone-own, alone-yes}
 use Rattle.champ_chain.specs.Entry.{Entry, entry, IsEntry, has_key, key_at, put}
 use Rattle.champ_chain.specs.Chain.{IsChain, AreChainRows}
 use Rattle.champ_chain.specs.KeySpot.{Parts}
@@ -33,12 +33,13 @@ use Rattle.champ_chain.proofs.SpotLemmas.{rows-none}
 use Rattle.champ_chain.proofs.SetLemmas.{same-length}
 use Rattle.champ_chain.proofs.PartsLemmas.{chain-with, find-parts, find-chain}
 use Rattle.champ_trie.proofs.StayLemmas.{forms-below, rows-stay}
-use Rattle.edit_trie.specs.Path.{chain_rows, row_and_entry, entry_in, next_in}
+use Rattle.edit_trie.specs.Path.{chain_rows, row_and_entry, entry_in, next_in, MakesCopies}
 use Rattle.edit_trie.specs.Walk.{EditsChild, HasPair}
 use Rattle.edit_trie.specs.Chains.{IsFront, IsPast, OwnsRows, OwnsInChain, link_in}
 use Rattle.edit_trie.proofs.RowLemmas.{key-moved, row-form}
 use Rattle.edit_trie.proofs.StepLemmas.{find-has}
 use Rattle.edit_trie.proofs.ChildLemmas.{OwnsChild, child-linked, own-linked, own-child, gains-child, child-then}
+use Rattle.edit_trie.proofs.CameLemmas.{alone-own}
 use Rattle.edit_trie.proofs.OwnLemmas.{apart-owned}
 use Rattle.edit_trie.proofs.PathLemmas.{chain-row, order-row}
 use Rattle.edit_trie.proofs.FrontLemmas.{IsLastRow, front-last, front-path, front-rows, front-rest, front-push, front-above, front-stays, front-keyless}
@@ -265,6 +266,11 @@ module _ {T : Type 0} (cmp : T → T → Ordering) (o : IsTotalOrder cmp) (old n
       path = λ most more short short'.
           let tail = KeepsAlone-own now new (child_at now r 0) k [] own.same own.sole own.owners graph_now (λ none. absurd (omega (arith, none))) (k ∷ []) (KeepsAlone-cons new k [] [] own.sole (KeepsAlone-none new)) in
           rw (old-path most short, new-path more short') (owns.path (child_at now r 0 ∷ []) (k ∷ []) (λ some. pair-linked) tail);
+      came = λ most short.
+          let before = owns.came (child_at now r 0 ∷ []) (λ some. pair-linked) in
+          let copied = alone-own now new (child_at now r 0) k own.same own.sole own.owners graph_now [] (λ none. absurd (omega (arith, none))) in
+          let all : MakesCopies old new (owns.rows ++ child_at now r 0 ∷ []) = omega (arith, before, copied, alone-yes new k [] own.sole, own.makes.live, length-append owns.rows (child_at now r 0 ∷ [])) in
+          subst (MakesCopies old new) (sym (old-path most short)) all;
       writes = λ most short m live other off.
           let before = owns.others (child_at now r 0 ∷ []) (λ some. pair-linked) m live other (subst (λ ks. count m (written old ks) ≡ 0) (old-path most short) off) in
           own.stays m before.1 (subst IsSome (sym before.0) live) ∙ before.0;

@@ -1,6 +1,7 @@
 -- The laws of edits of maps in place: what keeps the rows that aren't written keeps what is held beside, and the values.
-use Rattle.std.proofs.Common.{◌≡◌, ℕ, zero, suc, ◌<◌, List, [], ◌∷◌, refl, ap, sym, subst, ◌∙◌, arith, Option, Some, None}
-use Rattle.std.specs.Prelude.{option_to_list, IsSome}
+use Rattle.std.proofs.Common.{◌≡◌, ◌≢◌, ℕ, zero, suc, ◌<◌, List, [], ◌∷◌, length, refl, ap, sym, subst, ◌∙◌, arith, Bool, false, Option, Some, None}
+use Rattle.std.specs.Prelude.{◌==◌, option_to_list, remove, if◌then◌else◌, IsSome}
+use Rattle.std.proofs.lemmas.Bool.Decides.{nat_tests}
 use Rattle.std.specs.Ordering.{match_ordering}
 use Rattle.std.specs.List.{All, AllZip}
 use Rattle.std.proofs.lemmas.List.Elements.{All-nil, All-cons, All-head, All-tail, All-weaker}
@@ -8,13 +9,14 @@ use Rattle.std.specs.declared.cmp.Ordering.{Ordering}
 use Rattle.std.specs.declared.cmp.Ordering.TheVariants.{Less, Equal, Greater}
 use Rattle.elem_core.specs.Codes.{digit_at}
 use Rattle.elem_core.specs.declared.codes.TheConstants.{DEEPEST}
-use Rattle.node_heap.specs.Links.{count, HasLink, Reaches}
+use Rattle.node_heap.specs.Links.{count, HasLink, Reaches, here, below}
 use Rattle.node_heap.specs.Forms.{node, chain, links_of, links_in}
 use Rattle.node_heap.proofs.Reach.{Reaches-by}
-use Rattle.node_heap.specs.Heap.{Heap, row_at, form_at, links_at, live_count}
-use Rattle.node_heap.specs.Calls.{KeepsBelow}
-use Rattle.node_heap.specs.Owner.{by_hold, owned, WritesOnly, WritesOnlyLeft}
-use Rattle.node_heap.proofs.Counts.{test_same}
+use Rattle.node_heap.specs.Heap.{Heap, row_at, form_at, links_at, holds_at, live_count, IsGraph}
+use Rattle.node_heap.specs.Calls.{KeepsBelow, HasHolds}
+use Rattle.node_heap.specs.InPlace.{child_at}
+use Rattle.node_heap.specs.Owner.{by_hold, by_place, owned, holds_beside, links_beside, relinked, WritesOnly, WritesOnlyLeft}
+use Rattle.node_heap.proofs.Counts.{test_same, one_at-flip}
 use Rattle.node_heap.proofs.BuildLemmas.{count-cons}
 use Rattle.champ_chain.specs.Entry.{Entry, key_at, key_of}
 use Rattle.champ_chain.specs.Chain.{IsChain, AreChainRows}
@@ -27,6 +29,7 @@ use Rattle.champ_kinds.specs.Root.{Root}
 use Rattle.champ_kinds.specs.Binding.{Binding}
 use Rattle.champ_kinds.specs.Kinds.{IsPair, IsMapOf}
 use Rattle.edit_trie.specs.Path.{rows_to, rows_from_place, chain_rows, order_in, order_of, entry_in, next_in, own_entry, row_and_entry, edit_path, pair_path}
+use Rattle.edit_trie.specs.Edit.{by_bits}
 use Rattle.edit_trie.specs.Laws.{EditsKeepValues, CutsKeepValues, CutsKeepHeld}
 use Rattle.edit_trie.proofs.PathLemmas.{rows_below, rows-first, rows-last, place-in, next-row}
 use Rattle.edit_trie.proofs.MapLemmas.{pair-key}
@@ -96,9 +99,9 @@ module _ {T : Type 0} (h : Heap T) where
           (says l k e rows.next (has k refl) keyless row)
         where
           by_order : (r : Ordering) (xs ys : List ℕ) → IsDown IsKeyless h l xs → IsDown IsKeyless h l ys → IsDown IsKeyless h l (match_ordering r xs ys [])
-          by_order Less xs ys on here = on
-          by_order Equal xs ys on here = here
-          by_order Greater xs ys on here = down-end IsKeyless h l
+          by_order Less xs ys on last = on
+          by_order Equal xs ys on last = last
+          by_order Greater xs ys on last = down-end IsKeyless h l
 
       chain-down : (n l k : ℕ) (P : List (Entry T)) → HasLink (links_at h) l k → IsKeyless l → IsChain cmp (form_at h) k P → IsDown IsKeyless h l (chain_rows cmp (form_at h) key own n (Some k))
       chain-down n l k P has keyless is = down-chain n l (Some k) is.entries (λ m e. let at : k ≡ m = cc in subst (HasLink (links_at h) l) at has) keyless is.rows
@@ -212,3 +215,27 @@ module _ {T : Type 0} (cmp : T → T → Ordering) (code : T → ℕ) where
       let tail : List ℕ = edit_tail old cmp code bits key root M map in
       let all : WritesOnlyLeft (by_hold root) old new root' (root ∷ tail) = subst (WritesOnlyLeft (by_hold root) old new root') (edit-path old cmp code bits key root M map) others in
       left-held (IsKeyless old) old new root root' tail graph graph' is (edit-down old cmp code bits key root M map) all
+
+  -- so what is handed in stays: it is held beside the root
+  pub handed-stays : (old new : Heap T) (root root' bits : ℕ) (M : List (Binding T)) (key : T) (l : ℕ) → IsGraph old → HasHolds old (root ∷ l ∷ []) → IsMapOf cmp code old (by_bits bits root) M
+      → WritesOnly (by_hold root) old new root' (pair_path cmp code old bits key root) → KeepsBelow old new l
+  handed-stays old new root root' bits M key l graph held map others m way =
+      let first : 0 < holds_at old root = omega (arith, held root, count-cons root root (l ∷ []), test_same root root refl) in
+      let beside : 0 < holds_beside old (by_hold root) l = omega (arith, held l, count-cons l root (l ∷ []), count-cons l l [], test_same l l refl, one_at-flip root l) in
+      (edits-keep-values (by_hold root) old new root' bits M key graph first map others).beside l m beside way
+
+  -- or held, where it doesn't reach the parent
+  pub handed-apart : (old new : Heap T) (parent index root' bits : ℕ) (M : List (Binding T)) (key : T) (l : ℕ) → IsGraph old → index < length (links_at old parent) → 0 < holds_at old l → ¬ Reaches (links_at old) l parent
+      → IsMapOf cmp code old (by_bits bits (child_at old parent index)) M → WritesOnly (by_place parent index) old new root' (pair_path cmp code old bits key (child_at old parent index)) → KeepsBelow old new l
+  handed-apart old new parent index root' bits M key l graph inside held off map others m down =
+      (edits-keep-values (by_place parent index) old new root' bits M key graph inside map others).beside l m held (way l m down off)
+      ∙ ap (λ (b : Bool). if b then relinked index root' (row_at old m) else row_at old m) (test m (λ same. off (subst (Reaches (links_at old) l) same down)))
+    where
+      test : (x : ℕ) → x ≢ parent → (x == parent) ≡ false
+      test x other = grind (arith, nat_tests, other)
+
+      way : (x y : ℕ) → Reaches (links_at old) x y → ¬ Reaches (links_at old) x parent → Reaches (links_beside old (by_place parent index)) x y
+      way x y (here k) off = here k
+      way x y (below k j z has rest) off =
+          let other : k ≢ parent = λ same. off (subst (Reaches (links_at old) k) same (here k)) in
+          below k j z (subst (λ (b : Bool). 0 < count j (if b then remove (links_at old k) index else links_at old k)) (sym (test k other)) has) (way j z rest (λ up. off (below k j parent has up)))

@@ -3,10 +3,12 @@ pub mod SpotLemmas
 pub mod ChildLemmas
 pub mod StepLemmas
 pub mod PathLemmas
+pub mod CameLemmas
 pub mod OwnLemmas
 pub mod LoneLemmas
 pub mod LoneTrie
 pub mod SharedLemmas
+pub mod WayLemmas
 pub mod PutLemmas
 pub mod SplitLemmas
 pub mod FrontLemmas

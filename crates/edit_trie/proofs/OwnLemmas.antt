@@ -19,7 +19,7 @@ use Rattle.node_heap.proofs.Counts.{count-cons, test_same}
 use Rattle.node_heap.proofs.Reach.{SameBelow-link}
 use Rattle.node_heap.proofs.Edited.{Changes-more}
 use Rattle.node_heap.proofs.EditLaws.{Gains-trans}
-use Rattle.node_heap.proofs.AloneLemmas.{KeepsAlone-none, KeepsAlone-cons, KeepsAlone-own, written-cons, written-own}
+use Rattle.node_heap.proofs.AloneLemmas.{KeepsAlone-none, KeepsAlone-cons, KeepsAlone-own, alone-yes, written-cons, written-own}
 use Rattle.champ_chain.specs.Entry.{Entry, entry, IsEntry}
 use Rattle.champ_chain.specs.Chain.{IsChain}
 use Rattle.champ_chain.proofs.FrameLemmas.{links-form}
@@ -28,11 +28,12 @@ use Rattle.champ_trie.specs.Reach.{alike_in}
 use Rattle.champ_trie.proofs.StayLemmas.{forms-below}
 use Rattle.champ_trie.proofs.PartLemmas.{part-alike}
 use Rattle.champ_trie.proofs.LeftLemmas.{deepest-alike}
-use Rattle.edit_trie.specs.Path.{rows_to, chain_rows, pair_rows, own_entry, row_and_entry}
+use Rattle.edit_trie.specs.Path.{rows_to, chain_rows, pair_rows, own_entry, row_and_entry, MakesCopies}
 use Rattle.edit_trie.specs.Spot.{IsSpot}
 use Rattle.edit_trie.specs.Walk.{EditsChild, CanEdit, HasPair, OwnsIn}
 use Rattle.edit_trie.specs.Chains.{OwnsInChain}
 use Rattle.edit_trie.specs.declared.row.Spot.TheVariants.{Entry as EntryAt, Node as NodeAt}
+use Rattle.edit_trie.proofs.CameLemmas.{copies-cons, copies-own}
 use Rattle.edit_trie.proofs.RowLemmas.{row-child}
 use Rattle.edit_trie.proofs.SpotLemmas.{set-entry, set-node}
 use Rattle.edit_trie.proofs.ChildLemmas.{OwnsChild, own-child, own-there, own-beneath, owned-child, gains-child, own-then, own-child-there, own-down}
@@ -123,6 +124,12 @@ module _ {T : Type 0} (cmp : T → T → Ordering) (code : T → ℕ) (o : IsTot
         KeepsAlone-cons old row (child_at old row i ∷ []) (r ∷ []) can.sole
         (KeepsAlone-own old new (child_at old row i) r [] own.same own.sole own.owners can.graph (λ none. absurd (omega (arith, none))) (r ∷ []) (KeepsAlone-cons new r [] [] own.sole (KeepsAlone-none new)))
 
+    copied : MakesCopies old new (row ∷ child_at old row i ∷ [])
+    copied =
+        let last : MakesCopies new new (r ∷ []) = omega (arith, alone-yes new r [] own.sole) in
+        copies-cons old new row (child_at old row i ∷ []) can.sole
+        (copies-own old new (child_at old row i) r own.same own.sole own.owners can.graph new [] (λ none. absurd (omega (arith, none))) (omega (arith, own.makes.live)) last)
+
     pub owns-entry : OwnsIn cmp code old new left d row c E key x r
     owns-entry = record {
       trie = pair-trie cmp code old row d left c E can.below e n ls is o equal_codes key is_code x pair.found pair.keyed i spot new r can.graph own;
@@ -131,6 +138,7 @@ module _ {T : Type 0} (cmp : T → T → Ordering) (code : T → ℕ) (o : IsTot
       changes = Changes-more 0 (left + 1 + alike_in code c E) own.changes (omega arith) (omega arith);
       gains = gains-child old new row i r own;
       path = λ most more short short'. rw (was-rows most, now-rows more) keeps;
+      came = λ most short. subst (MakesCopies old new) (sym (was-rows most)) copied;
       others = λ most short m live off. own.stays m (off-first old row m (child_at old row i ∷ []) can.sole (subst (λ ks. count m (written old ks) ≡ 0) (was-rows most) off)).0 live;
       apart = λ most short m live off. apart-owned old new row i r own m [] live (off-first old row m (child_at old row i ∷ []) can.sole (subst (λ ks. count m (written old ks) ≡ 0) (was-rows most) off)).1;
     }
@@ -168,6 +176,9 @@ module _ {T : Type 0} (cmp : T → T → Ordering) (code : T → ℕ) (o : IsTot
           let was = chain_rows cmp (form_at old) key (row_and_entry cmp (form_at old) key) most (Some (child_at old row i)) in
           let now = chain_rows cmp (form_at new) key (row_and_entry cmp (form_at new) key) more (Some (child_at new row i)) in
           rw (was-chain most, now-chain more) (KeepsAlone-cons old row was now can.sole keep);
+      came = λ most short.
+          let was = chain_rows cmp (form_at old) key (row_and_entry cmp (form_at old) key) most (Some (child_at old row i)) in
+          subst (MakesCopies old new) (sym (was-chain most)) (copies-cons old new row was can.sole (did.came most (omega (arith, part-short, short))));
       others = λ most short m live off.
           let rest = off-first old row m (chain_rows cmp (form_at old) key (row_and_entry cmp (form_at old) key) most (Some (child_at old row i))) can.sole (subst (λ ks. count m (written old ks) ≡ 0) (was-chain most) off) in
           did.writes most (omega (arith, part-short, short)) m live rest.0 rest.1;
@@ -253,6 +264,12 @@ module _ {T : Type 0} (cmp : T → T → Ordering) (code : T → ℕ) (o : IsTot
           let keep = subst (λ ks. KeepsAlone mid ks path') (mid-node most) (did.path most more (omega (arith, part-short, short)) (omega (arith, part-short, short'))) in
           KeepsAlone-cons old row (j ∷ rest most) path' can.sole (KeepsAlone-own old mid j k (rest most) own.same own.sole own.owners can.graph (next most) path' keep)
 
+      came-node : (most : ℕ) → length E ≤ most → MakesCopies old new (row ∷ j ∷ rest most)
+      came-node most short =
+          let came = subst (MakesCopies mid new) (mid-node most) (did.came most (omega (arith, part-short, short))) in
+          copies-cons old new row (j ∷ rest most) can.sole
+          (copies-own old mid j k own.same own.sole own.owners can.graph new (rest most) (next most) (omega (arith, own.makes.live)) came)
+
       others-node : (most : ℕ) → length E ≤ most → (m : ℕ) → IsSome (row_at old m) → count m (written old (row ∷ j ∷ rest most)) ≡ 0 → row_at new m ≡ row_at old m
       others-node most short m live off =
           let first = off-first old row m (j ∷ rest most) can.sole off in
@@ -277,6 +294,7 @@ module _ {T : Type 0} (cmp : T → T → Ordering) (code : T → ℕ) (o : IsTot
         changes = Changes-more 0 (left + 1 + alike_in code c E) edited.changes (omega arith) (omega (arith, is-left, part-alike cmp code d c E));
         gains = Gains-trans (gains-child old mid row i k own) did.gains;
         path = λ most more short short'. rw (was-node most, now-node more) (keeps-node most more short short');
+        came = λ most short. subst (MakesCopies old new) (sym (was-node most)) (came-node most short);
         others = λ most short m live off. others-node most short m live (subst (λ ks. count m (written old ks) ≡ 0) (was-node most) off);
         apart = λ most short m live off. apart-node most short m live (subst (λ ks. count m (written old ks) ≡ 0) (was-node most) off);
       }

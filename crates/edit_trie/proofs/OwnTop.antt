@@ -29,7 +29,7 @@ use Rattle.champ_kinds.specs.Binding.{Binding, binds, unbind, value_with, alike_
 use Rattle.champ_kinds.specs.Kinds.{IsPair, HasEntries, IsMapOf}
 use Rattle.champ_kinds.proofs.PairLemmas.{alike-pairs}
 use Rattle.champ_kinds.proofs.LawLemmas.{map-any_order}
-use Rattle.edit_trie.specs.Path.{pair_rows, chain_rows, own_entry, row_and_entry, pair_path}
+use Rattle.edit_trie.specs.Path.{pair_rows, chain_rows, own_entry, row_and_entry, pair_path, MakesCopies}
 use Rattle.node_heap.specs.Calls.{MakesWhatCame}
 use Rattle.edit_trie.specs.Edit.{by_bits, IsPairOf, OwnsPair}
 use Rattle.edit_trie.specs.Walk.{CanEdit, HasPair, OwnsIn}
@@ -38,7 +38,7 @@ use Rattle.edit_trie.proofs.StepLemmas.{find-has}
 use Rattle.edit_trie.proofs.PathLemmas.{pair-begins, pair-says, pair-avoids}
 use Rattle.edit_trie.proofs.InChainLemmas.{count-take}
 use Rattle.edit_trie.proofs.RootLemmas.{IsOwned}
-use Rattle.edit_trie.proofs.WayTop.{way-alone, way-others}
+use Rattle.edit_trie.proofs.WayTop.{way-alone, way-copies, way-others}
 use Rattle.edit_trie.proofs.MapLemmas.{map-owned, entries-owned, pairs-left, one-out, zip-found, found-link, find-same, count-binds, all-others, pair-by, pair-key}
 
 -- the last row of a path of rows with one owner has one, if the first has
@@ -132,6 +132,9 @@ module _ {T : Type 0} (cmp : T → T → Ordering) (code : T → ℕ) (o : IsTot
     path-new : length is.entries ≤ live_count new → KeepsAlone old (pair_path cmp code old bits key (owned old owner)) (pair_path cmp code new bits key r)
     path-new short = way-alone cmp (code_by code bits) owner old mid r (code_by code bits key) own is.entries is.rooted.trie (own_entry cmp (form_at old) key) (λ q. chain_rows cmp (form_at old) key (row_and_entry cmp (form_at old) key) (live_count old) (Some q)) (own_entry cmp (form_at mid) key) (λ q. chain_rows cmp (form_at mid) key (row_and_entry cmp (form_at mid) key) (live_count old) (Some q)) (pair-begins cmp (form_at old) key (live_count old)) (pair-says cmp (code_by code bits) (form_at old) (form_at mid) key (live_count old)) (pair_path cmp code new bits key r) (did.path (live_count old) (live_count new) short-old short)
 
+    gains-new : MakesCopies old new (pair_path cmp code old bits key (owned old owner))
+    gains-new = way-copies cmp (code_by code bits) owner old mid r (code_by code bits key) own is.entries is.rooted.trie (own_entry cmp (form_at old) key) (λ q. chain_rows cmp (form_at old) key (row_and_entry cmp (form_at old) key) (live_count old) (Some q)) (own_entry cmp (form_at mid) key) (λ q. chain_rows cmp (form_at mid) key (row_and_entry cmp (form_at mid) key) (live_count old) (Some q)) (pair-begins cmp (form_at old) key (live_count old)) (pair-says cmp (code_by code bits) (form_at old) (form_at mid) key (live_count old)) new (did.came (live_count old) short-old)
+
     others-new : WritesOnly owner old new r (pair_path cmp code old bits key (owned old owner))
     others-new = way-others cmp (code_by code bits) owner old mid r (code_by code bits key) own is.entries is.rooted.trie (own_entry cmp (form_at old) key) (λ q. chain_rows cmp (form_at old) key (row_and_entry cmp (form_at old) key) (live_count old) (Some q)) (own_entry cmp (form_at mid) key) (λ q. chain_rows cmp (form_at mid) key (row_and_entry cmp (form_at mid) key) (live_count old) (Some q)) (pair-begins cmp (form_at old) key (live_count old)) (pair-says cmp (code_by code bits) (form_at old) (form_at mid) key (live_count old)) new (did.others (live_count old) short-old)
 
@@ -145,6 +148,7 @@ module _ {T : Type 0} (cmp : T → T → Ordering) (code : T → ℕ) (o : IsTot
       down = did.down;
       edits = EditsBy-more 0 (DEEPEST + 2 + alike_keys code bits key M) (own.edits new [] [] 0 (DEEPEST + 1 + alike_in (code_by code bits) c is.entries) did.changes) (omega arith) (omega (arith, alike-top));
       path = path-new (omega (arith, short-old, makes.live));
+      gains = gains-new;
       others = others-new;
       makes = makes;
     }

@@ -14,12 +14,12 @@ use Rattle.node_heap.specs.Forms.{Forms, links_in, value_of, form_of}
 use Rattle.node_heap.specs.Heap.{Heap, row_at, form_at, links_at, holds_at}
 use Rattle.node_heap.specs.Calls.{Gains}
 use Rattle.node_heap.specs.InPlace.{child_at, Changes}
-use Rattle.node_heap.specs.Owner.{written}
+use Rattle.node_heap.specs.Owner.{alone, written}
 use Rattle.node_heap.proofs.Reach.{Reaches-by, SameBelow-link}
 use Rattle.node_heap.proofs.GraphLemmas.{IsGraph-acyclic}
 use Rattle.node_heap.proofs.Edited.{Changes-more}
 use Rattle.node_heap.proofs.EditLaws.{Gains-trans}
-use Rattle.node_heap.proofs.AloneLemmas.{written-own}
+use Rattle.node_heap.proofs.AloneLemmas.{alone-yes, written-own}
 use Rattle.champ_chain.specs.Entry.{Entry, entry, has_key, link_with, IsEntry, put}
 use Rattle.champ_chain.specs.Chain.{IsChain}
 use Rattle.champ_chain.proofs.FrameLemmas.{links-form}
@@ -35,7 +35,7 @@ use Rattle.champ_trie.proofs.PartLemmas.{stands-at, part-distinct, part-alike}
 use Rattle.champ_trie.proofs.WithLemmas.{chain-trie}
 use Rattle.champ_trie.proofs.LeftLemmas.{deepest-alike}
 use Rattle.champ_trie.proofs.RowLemmas.{same-place-of, place-linked, row-with}
-use Rattle.edit_trie.specs.Path.{rows_to, rows_from_place, chain_rows, edit_rows}
+use Rattle.edit_trie.specs.Path.{rows_to, rows_from_place, rows_on, chain_rows, edit_rows, way_rows, MakesFew}
 use Rattle.edit_trie.specs.Spot.{IsSpot, PutsAt}
 use Rattle.edit_trie.specs.Walk.{EditsChild, CanEdit, PutsIn}
 use Rattle.edit_trie.specs.Chains.{PutsInChain}
@@ -45,6 +45,10 @@ use Rattle.edit_trie.proofs.ChildLemmas.{OwnsChild, own-linked, own-beneath, own
 use Rattle.edit_trie.proofs.StepLemmas.{put-two, node-child, entry-stays, deeper, deeper-own, chain-at}
 use Rattle.edit_trie.proofs.PathLemmas.{rows_below, rows-first, rows-last, rows-none, rows-node, place-in, below-moved, below-linked, edit-begins, edit-says}
 use Rattle.edit_trie.proofs.OwnLemmas.{none-live, off-first, row-node}
+use Rattle.champ_chain.proofs.SetLemmas.{same-length}
+use Rattle.champ_kinds.proofs.PairLemmas.{others-none, link-none}
+use Rattle.edit_trie.proofs.CameLemmas.{alone-own}
+use Rattle.edit_trie.proofs.WayLemmas.{on-length, way-says}
 use Rattle.edit_trie.proofs.SharedLemmas.{shared-same, shared-one, shared-cons, shared-own}
 
 -- a path by what stands at the digit of its first row
@@ -106,12 +110,31 @@ module _ {T : Type 0} (cmp : T → T → Ordering) (code : T → ℕ) (equal_cod
     now-none : (more : ℕ) → edit_rows cmp (form_at new) key more (suc left) d c row ≡ row ∷ []
     now-none more = rows-at (λ _. []) (λ k. chain_rows cmp (form_at new) key (λ _. []) more (Some k)) (form_at new) left d c row puts.entries puts.nodes puts.links puts.row_is (At l) puts.puts
 
+    few-none : (most more : ℕ) → MakesFew old new (edit_rows cmp (form_at old) key most (suc left) d c row) (way_rows (form_at old) most (suc left) d c row) (way_rows (form_at new) more (suc left) d c row) 0
+    few-none most more =
+        let was = rows-none (λ _. []) (λ k. rows_on (form_at old) most (Some k)) (form_at old) left d c row e n ls is spot in
+        let now = rows-at (λ _. []) (λ k. rows_on (form_at new) more (Some k)) (form_at new) left d c row puts.entries puts.nodes puts.links puts.row_is (At l) puts.puts in
+        omega (
+          arith,
+          ap (alone old) (was-none most),
+          ap length (was-none most),
+          ap length was,
+          ap length now,
+          alone-yes old row [] can.sole,
+          gains.makes.live,
+          gains.makes.cells,
+          gains.makes.nodes,
+          change.trades.cells,
+          change.trades.nodes,
+        )
+
     pub puts-none : PutsIn cmp code old new left d row c E key l
     puts-none = record {
       trie = trie-none;
       changes = Changes-more 0 (left + 1 + alike_in code c E) change (omega arith) (omega arith);
       gains = gains;
       path = λ most more short short'. rw (was-none most, now-none more) (shared-one old row [] can.sole);
+      came = λ most more short short'. few-none most more;
       others = λ most short m live off. others m (off-first old row m [] can.sole (subst (λ ks. count m (written old ks) ≡ 0) (was-none most) off)).0;
     }
 
@@ -142,8 +165,30 @@ module _ {T : Type 0} (cmp : T → T → Ordering) (code : T → ℕ) (equal_cod
           chain-trie cmp code (form_at new) left (d + 1) (child_at new row i) (put cmp (part cmp code d (digit_at c d) E) (entry key l)) in-chain.0 did.chain,
         )
 
-    pub puts-chain : PutsIn cmp code old new left d row c E key l
-    puts-chain = record {
+    -- the way to the key has all rows of the chain
+    way-chain : (h : Heap T) (js : List ℕ) (most : ℕ) (P : List (Entry T)) → IsRow (form_at h) row d e n js → IsChain cmp (form_at h) (get_or js i 0) P → length P ≤ most → length (way_rows (form_at h) most (suc left) d c row) ≡ length P + 1
+    way-chain h js most P there chained few =
+        let C' = λ (k : ℕ). rows_on (form_at h) most (Some k) in
+        let rows : way_rows (form_at h) most (suc left) d c row ≡ row ∷ rows_on (form_at h) most (Some (get_or js i 0)) =
+        rows-node (λ _. []) C' (form_at h) left d c row e n js there i spot ∙ ap (λ m. row ∷ rows_to (λ _. []) C' (form_at h) m (suc d) c (get_or js i 0)) in-chain.0 ∙ ap (λ ks. row ∷ ks) (rows-last (λ _. []) C' (form_at h) (suc d) c (get_or js i 0)) in
+        let size = same-length chained.entries P chained.same in
+        omega (arith, ap length rows, on-length (form_at h) most (Some (get_or js i 0)) chained.entries (omega (arith, size, few)) chained.rows, size)
+
+    few-chain : link_with cmp key E ≡ None → (most more : ℕ) → length E ≤ most → length E + 1 ≤ more
+        → MakesFew old new (edit_rows cmp (form_at old) key most (suc left) d c row) (way_rows (form_at old) most (suc left) d c row) (way_rows (form_at new) more (suc left) d c row) 0
+    few-chain absent most more short short' =
+        let P = part cmp code d (digit_at c d) E in
+        let none = others-none cmp key P (link-none cmp key P (absent-part absent)) in
+        let size : length (put cmp P (entry key l)) ≡ length P + 1 = omega (arith, ap length none) in
+        let made = row-node old new row i d e n ls is did.child (digit_at c d) low spot in
+        let was = chain_rows cmp (form_at old) key (λ _. []) most (Some (child_at old row i)) in
+        let before = way-chain old ls most P is (subst (λ k. IsChain cmp (form_at old) k P) (row-child old row d e n ls is i) in-chain.1) (omega (arith, part-short, short)) in
+        let after = way-chain new (set ls i (child_at new row i)) more (put cmp P (entry key l)) made.0 (subst (λ k. IsChain cmp (form_at new) k (put cmp P (entry key l))) (sym made.1) did.chain) (omega (arith, size, part-short, short')) in
+        let came = did.came most (omega (arith, part-short, short)) in
+        omega (arith, came, before, after, size, ap (alone old) (was-chain most), ap length (was-chain most), alone-yes old row was can.sole)
+
+    pub puts-chain : link_with cmp key E ≡ None → PutsIn cmp code old new left d row c E key l
+    puts-chain absent = record {
       trie = trie-chain;
       changes = Changes-more 0 (left + 1 + alike_in code c E) did.child.changes (omega arith) (omega (arith, in-chain.0, deepest-alike cmp code d c E deepest small all_small can.below.agrees));
       gains = did.gains;
@@ -152,6 +197,7 @@ module _ {T : Type 0} (cmp : T → T → Ordering) (code : T → ℕ) (equal_cod
           let was = chain_rows cmp (form_at old) key (λ _. []) most (Some (child_at old row i)) in
           let now = chain_rows cmp (form_at new) key (λ _. []) more (Some (child_at new row i)) in
           rw (was-chain most, now-chain more) (shared-cons old row was now can.sole (shared-same keep));
+      came = few-chain absent;
       others = λ most short m live off.
           let rest = off-first old row m (chain_rows cmp (form_at old) key (λ _. []) most (Some (child_at old row i))) can.sole (subst (λ ks. count m (written old ks) ≡ 0) (was-chain most) off) in
           did.writes most (omega (arith, part-short, short)) m live rest.0 rest.1;
@@ -240,6 +286,57 @@ module _ {T : Type 0} (cmp : T → T → Ordering) (code : T → ℕ) (equal_cod
           subst (λ ks. 0 < count (get_or (rest most) 0 0) ks) (links-form old j)
           (below-linked cmp code (λ _. []) (λ q. chain_rows cmp (form_at old) key (λ _. []) most (Some q)) (edit-begins cmp (form_at old) key most) (form_at old) m' (d + 1) c j (part cmp code d (digit_at c d) E) below.trie some)
 
+      -- the way to the key below the child
+      abbrev beyond : ℕ → List ℕ
+      beyond most = rows_below (λ _. []) (λ q. rows_on (form_at old) most (Some q)) (form_at old) m' (d + 1) c j
+
+      way-was : (most : ℕ) → way_rows (form_at old) most (suc left) d c row ≡ row ∷ j ∷ beyond most
+      way-was most =
+          let F = form_at old in
+          let C' = λ (q : ℕ). rows_on F most (Some q) in
+          rows-node (λ _. []) C' F left d c row e n ls is i spot
+          ∙ ap (λ q. row ∷ rows_to (λ _. []) C' F left (suc d) c q) (sym (row-child old row d e n ls is i))
+          ∙ ap (λ q. row ∷ rows_to (λ _. []) C' F left q c j) deep ∙ ap (λ q. row ∷ rows_to (λ _. []) C' F q (d + 1) c j) is-left
+          ∙ ap (λ ks. row ∷ ks) (rows-first (λ _. []) C' F m' (d + 1) c j)
+
+      way-mid : (most : ℕ) → way_rows (form_at mid) most (suc m') (d + 1) c k ≡ k ∷ beyond most
+      way-mid most =
+          let F = form_at old in
+          let G = form_at mid in
+          let below = (deeper cmp code old row d left c E can.below e n ls is i spot less).below in
+          rows-first (λ _. []) (λ q. rows_on G most (Some q)) G m' (d + 1) c k
+          ∙ ap (λ ks. k ∷ ks) (below-moved cmp code F G _ _ _ _ (way-says cmp code F G most) m' (d + 1) c j k (part cmp code d (digit_at c d) E) (ap (option_map form_of) own.row)
+          (λ s has. SameBelow-link (links_in F) F G j s has (forms-below old mid j (own-beneath old mid row i k can.graph own))) below.trie)
+
+      way-now : (more : ℕ) → way_rows (form_at new) more (suc left) d c row ≡ row ∷ way_rows (form_at new) more (suc m') (d + 1) c k
+      way-now more =
+          let G = form_at new in
+          let C' = λ (q : ℕ). rows_on G more (Some q) in
+          let made = row-node old new row i d e n ls is edited (digit_at c d) low spot in
+          rows-node (λ _. []) C' G left d c row e n (set ls i (child_at new row i)) made.0 i spot
+          ∙ ap (λ q. row ∷ rows_to (λ _. []) C' G left (suc d) c q) (made.1 ∙ there)
+          ∙ ap (λ q. row ∷ rows_to (λ _. []) C' G left q c k) deep ∙ ap (λ q. row ∷ rows_to (λ _. []) C' G q (d + 1) c k) is-left
+
+      few-node : (most more : ℕ) → length E ≤ most → length E + 1 ≤ more
+          → MakesFew old new (edit_rows cmp (form_at old) key most (suc left) d c row) (way_rows (form_at old) most (suc left) d c row) (way_rows (form_at new) more (suc left) d c row) 0
+      few-node most more short short' =
+          let came = did.came most more (omega (arith, part-short, short)) (omega (arith, part-short, short')) in
+          let copied = alone-own old mid j k own.same own.sole own.owners can.graph (rest most) (next most) in
+          omega (
+            arith,
+            came,
+            copied,
+            own.makes.live,
+            alone-yes old row (j ∷ rest most) can.sole,
+            ap (alone old) (was-node most),
+            ap length (was-node most),
+            ap (alone mid) (mid-node most),
+            ap length (mid-node most),
+            ap length (way-was most),
+            ap length (way-mid most),
+            ap length (way-now more),
+          )
+
       others-node : (most : ℕ) → length E ≤ most → (m : ℕ) → IsSome (row_at old m) → count m (written old (row ∷ j ∷ rest most)) ≡ 0 → row_at new m ≡ row_at old m
       others-node most short m live off =
           let first = off-first old row m (j ∷ rest most) can.sole off in
@@ -257,5 +354,6 @@ module _ {T : Type 0} (cmp : T → T → Ordering) (code : T → ℕ) (equal_cod
             let path' = edit_rows cmp (form_at new) key more (suc m') (d + 1) c k in
             let keep = rw (mid-node most) at (did.path most more (omega (arith, part-short, short)) (omega (arith, part-short, short'))) in
             rw (was-node most, now-node more) (shared-cons old row (j ∷ rest most) path' can.sole (shared-own old mid j k (rest most) own.same own.sole own.owners can.graph (next most) path' keep));
+        came = few-node;
         others = λ most short m live off. others-node most short m live (subst (λ ks. count m (written old ks) ≡ 0) (was-node most) off);
       }

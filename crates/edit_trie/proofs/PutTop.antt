@@ -1,33 +1,40 @@
 -- A value was put at a key of a whole map.
-use Rattle.std.proofs.Common.{◌≡◌, ℕ, ◌+◌, ◌≤◌, List, [], ◌∷◌, length, subst, ◌∙◌, arith, cond, true, false, Bool, Option, Some}
-use Rattle.std.specs.Prelude.{option_to_list}
+use Rattle.std.proofs.Common.{◌≡◌, ℕ, ◌+◌, ◌≤◌, List, [], ◌∷◌, length, sym, subst, ◌∙◌, arith, cond, true, false, Bool, Option, Some, None}
+use Rattle.std.specs.Prelude.{option_to_list, MatchOption}
 use Rattle.std.specs.List.{All, AllZip, find}
 use Rattle.std.specs.Cmp.{IsTotalOrder}
 use Rattle.std.proofs.lemmas.List.Elements.{All-head, All-tail, All-weaker}
 use Rattle.std.specs.declared.cmp.Ordering.{Ordering}
 use Rattle.elem_core.specs.declared.codes.TheConstants.{DEEPEST}
 use Rattle.node_heap.specs.Links.{Reaches}
+use Rattle.node_heap.proofs.Reach.{Reaches-by}
 use Rattle.node_heap.specs.Forms.{links_in}
-use Rattle.node_heap.specs.Heap.{Heap, form_at, live_count, IsGraph}
+use Rattle.node_heap.specs.Heap.{Heap, form_at, links_at, live_count, IsGraph}
 use Rattle.node_heap.specs.Owner.{Owner, owned, WritesOnly}
 use Rattle.node_heap.proofs.OwnerLemmas.{EditsBy-more}
-use Rattle.champ_chain.specs.Entry.{Entry, SameSet, has_key, link_with}
-use Rattle.champ_trie.specs.Trie.{code_by}
+use Rattle.champ_chain.specs.Entry.{Entry, entry, SameSet, has_key, link_with, others}
+use Rattle.champ_chain.proofs.FrameLemmas.{links-form}
+use Rattle.champ_trie.specs.Trie.{IsCanon, code_by}
 use Rattle.champ_trie.specs.Reach.{alike_in}
 use Rattle.champ_trie.proofs.StayLemmas.{forms-below, canon-reach}
 use Rattle.champ_trie.proofs.CanonLemmas.{has-one-set}
 use Rattle.champ_trie.proofs.WalkLemmas.{canon-fit}
+use Rattle.champ_trie.proofs.WithLemmas.{put-distinct}
 use Rattle.champ_kinds.specs.Binding.{Binding, alike_keys}
 use Rattle.champ_kinds.specs.Kinds.{IsPair, HasEntries, IsMapOf}
 use Rattle.champ_kinds.specs.Edit.{PutsPair}
+use Rattle.champ_kinds.proofs.PairLemmas.{others-same}
 use Rattle.champ_kinds.proofs.ZipLemmas.{zip-follows}
-use Rattle.edit_trie.specs.Path.{chain_rows, own_entry, row_and_entry, edit_path, pair_path, KeepsShared}
+use Rattle.edit_trie.specs.Path.{rows_on, chain_rows, own_entry, row_and_entry, edit_rows, pair_rows, way_rows, edit_path, pair_path, key_way, KeepsShared, MakesCopies, MakesFew}
 use Rattle.node_heap.specs.Calls.{MakesWhatCame}
-use Rattle.edit_trie.specs.Edit.{by_bits, PutsValue}
+use Rattle.edit_trie.specs.Edit.{by_bits, PutsValue, OwnsEntry}
+use Rattle.edit_trie.specs.Walk.{HasPair, OwnsIn}
 use Rattle.edit_trie.specs.Bound.{CanBind, Binds}
 use Rattle.edit_trie.proofs.PathLemmas.{edit-begins, edit-says, pair-begins, pair-says}
 use Rattle.edit_trie.proofs.RootLemmas.{IsOwned}
-use Rattle.edit_trie.proofs.WayTop.{way-shared, way-others}
+use Rattle.edit_trie.proofs.StepLemmas.{find-has}
+use Rattle.edit_trie.proofs.WayLemmas.{way-begins, way-says}
+use Rattle.edit_trie.proofs.WayTop.{way-shared, way-count, way-length, way-copies, way-others}
 use Rattle.edit_trie.proofs.OwnTop.{alike-top}
 use Rattle.edit_trie.proofs.MapLemmas.{map-owned, entries-owned, found-link}
 
@@ -66,12 +73,35 @@ module _ {T : Type 0} (cmp : T → T → Ordering) (code : T → ℕ) (o : IsTot
     others-new : WritesOnly owner old new r (pair_path cmp code old bits key (owned old owner))
     others-new = way-others cmp (code_by code bits) owner old mid r (code_by code bits key) own is.entries is.rooted.trie (own_entry cmp (form_at old) key) (λ q. chain_rows cmp (form_at old) key (row_and_entry cmp (form_at old) key) (live_count old) (Some q)) (own_entry cmp (form_at mid) key) (λ q. chain_rows cmp (form_at mid) key (row_and_entry cmp (form_at mid) key) (live_count old) (Some q)) (pair-begins cmp (form_at old) key (live_count old)) (pair-says cmp (code_by code bits) (form_at old) (form_at mid) key (live_count old)) new (did.others (live_count old) short-old)
 
+    gains-new : live_count old ≤ live_count new → MatchOption given (MakesFew old new (edit_path cmp code old bits key (owned old owner)) (key_way cmp code old bits key (owned old owner)) (key_way cmp code new bits key r) 2) (λ _. MakesCopies old new (pair_path cmp code old bits key (owned old owner)))
+    gains-new more =
+        let short = canon-fit cmp (code_by code bits) o new r _ did.entries.entries.trie in
+        by_given given (did.came (live_count old) (live_count new) short-old (omega (arith, short-old, more)) (omega (arith, short)))
+      where
+        by_given : (q : Option ℕ)
+            → MatchOption q (MakesFew mid new (edit_rows cmp (form_at mid) key (live_count old) (DEEPEST + 1) 0 c r) (way_rows (form_at mid) (live_count old) (DEEPEST + 1) 0 c r) (key_way cmp code new bits key r) 2) (λ _. MakesCopies mid new (pair_rows cmp (form_at mid) key (live_count old) (DEEPEST + 1) 0 c r))
+            → MatchOption q (MakesFew old new (edit_path cmp code old bits key (owned old owner)) (key_way cmp code old bits key (owned old owner)) (key_way cmp code new bits key r) 2) (λ _. MakesCopies old new (pair_path cmp code old bits key (owned old owner)))
+        by_given None came =
+            let n : ℕ = live_count old in
+            let F = form_at old in
+            let G = form_at mid in
+            let E = λ (q : ℕ). chain_rows cmp F key (λ _. []) n (Some q) in
+            let E' = λ (q : ℕ). chain_rows cmp G key (λ _. []) n (Some q) in
+            let W = λ (q : ℕ). rows_on F n (Some q) in
+            let W' = λ (q : ℕ). rows_on G n (Some q) in
+            let lone = way-count cmp (code_by code bits) owner old mid r c own is.entries is.rooted.trie (λ _. []) E (λ _. []) E' (edit-begins cmp F key n) (edit-says cmp (code_by code bits) F G key n) in
+            let long = way-length cmp (code_by code bits) owner old mid r c own is.entries is.rooted.trie (λ _. []) E (λ _. []) E' (edit-begins cmp F key n) (edit-says cmp (code_by code bits) F G key n) in
+            let ways = way-length cmp (code_by code bits) owner old mid r c own is.entries is.rooted.trie (λ _. []) W (λ _. []) W' (way-begins F n) (way-says cmp (code_by code bits) F G n) in
+            omega (arith, came, own.came, lone, long, ways)
+        by_given (Some v) came = way-copies cmp (code_by code bits) owner old mid r (code_by code bits key) own is.entries is.rooted.trie (own_entry cmp (form_at old) key) (λ q. chain_rows cmp (form_at old) key (row_and_entry cmp (form_at old) key) (live_count old) (Some q)) (own_entry cmp (form_at mid) key) (λ q. chain_rows cmp (form_at mid) key (row_and_entry cmp (form_at mid) key) (live_count old) (Some q)) (pair-begins cmp (form_at old) key (live_count old)) (pair-says cmp (code_by code bits) (form_at old) (form_at mid) key (live_count old)) new came
+
     pub puts-value : MakesWhatCame old new → PutsValue cmp code owner bits old new r M key value given
     puts-value makes = record {
       map = did.map;
       back = did.back;
       edits = EditsBy-more 1 (DEEPEST + 3 + alike_keys code bits key M) (own.edits new (value ∷ []) (option_to_list given) 1 (DEEPEST + 2 + alike_in (code_by code bits) c is.entries) did.changes) (omega arith) (omega (arith, alike-top cmp code o owner bits old mid r own M is key));
       path = path-new makes.live;
+      gains = gains-new makes.live;
       others = others-new;
       makes = makes;
     }
@@ -111,3 +141,20 @@ module _ {T : Type 0} (cmp : T → T → Ordering) (code : T → ℕ) (o : IsTot
           p.old_cell x cell before found (subst (λ l. form_at mid l ≡ form_at old l) e.2 same ∙ row);
       new_key = p.new_key;
     }
+
+  -- what owning the way to a pair makes of the entries, told from the heap before
+  pub owned-entry : (new : Heap T) (e : Entry T) (link : ℕ) → HasPair cmp mid is.entries key e → OwnsIn cmp (code_by code bits) mid new DEEPEST 0 r (code_by code bits key) is.entries key e link
+      → OwnsEntry cmp code old new (by_bits bits r) is.entries key link
+  owned-entry new e link pair did =
+      let root : ℕ = owned old owner in
+      let Reached = λ (d : Entry T). Reaches (links_in (form_at old)) root d.link in
+      let down : Reaches (links_in (form_at old)) root e.link = all-found cmp key Reached is.entries e (canon-reach cmp (code_by code bits) (form_at old) root is.entries is.rooted.trie) pair.found in
+      let way : Reaches (links_at old) root e.link = Reaches-by (links_in (form_at old)) (links_at old) (λ l. sym (links-form old l)) root e.link down in
+      let canon : IsCanon cmp (code_by code bits) (form_at new) r (entry e.key link ∷ others cmp e.key is.entries) =
+      record { trie = did.trie; distinct = put-distinct cmp (code_by code bits) o is.entries (entry e.key link) is.rooted.trie.distinct } in
+      record {
+        before = e;
+        there = pair.found;
+        entries = record { bits = is.rooted.bits; trie = subst (λ es. IsCanon cmp (code_by code bits) (form_at new) r (entry e.key link ∷ es)) (sym (others-same cmp o key e.key (find-has cmp key is.entries e pair.found) is.entries)) canon };
+        same = did.same ∙ own.below e.link way;
+      }

@@ -236,5 +236,6 @@ module _ {T : Type 0} (cmp : T → T → Ordering) (code : T → ℕ) (o : IsTot
         changes = changes-changed;
         gains = gains-changed;
         path = path-changed;
+        came = λ most more short fits short'. omega (arith, did.came most short, makes.live);
         others = λ most short m live off. writes.others m (did.apart most short m live off) ∙ did.others most short m live off;
       }

@@ -5,8 +5,8 @@ use Rattle.std.specs.Option.{is_some}
 use Rattle.std.proofs.lemmas.Bool.{cases_eq}
 use Rattle.node_heap.specs.Links.{count, HasLink, Reaches, here}
 use Rattle.node_heap.specs.Forms.{links_of}
-use Rattle.node_heap.specs.Heap.{Heap, row_at, links_at, holds_at, owners_at, one_at, IsGraph}
-use Rattle.node_heap.specs.Calls.{KeepsBelow, Unchanged, HasGreater, KeepsToNeed, Builds, Gains, Releases, HasHolds, MakesWhatCame}
+use Rattle.node_heap.specs.Heap.{Heap, row_at, links_at, holds_at, owners_at, live_count, one_at, IsGraph}
+use Rattle.node_heap.specs.Calls.{KeepsBelow, Unchanged, HasGreater, KeepsToNeed, Makes, Builds, Gains, Releases, HasHolds, MakesWhatCame}
 use Rattle.node_heap.specs.InPlace.{other_at, Changes}
 use Rattle.node_heap.specs.Owner.{Owner, by_hold, by_place, owned, with_root, EditsBy, written, KeepsAlone, WritesOnly}
 use Rattle.node_heap.proofs.Counts.{count-cons, one_at-flip, test_same}
@@ -32,12 +32,13 @@ pub record Owns {T : Type 0} (old mid : Heap T) (root r : ℕ) : Type 0 where
   pub fresh : r ≢ root → row_at old r ≡ None
   pub owners : (k : ℕ) → owners_at mid k + one_at root k ≡ owners_at old k + (one_at r k + other_at root r * count k (links_at old root))
   pub builds : Builds old mid (root ∷ []) (r ∷ []) 0 1
+  pub makes : Makes old mid 0 (other_at root r)
 
 -- from the clauses of `own`, whose argument is the edit's own root
 pub owns : {T : Type 0} {old mid : Heap T} {root self r : ℕ} → root ≡ self → IsGraph old → 0 < holds_at old self → (r ≡ root) ↔ (owners_at old root ≡ 1) → row_at mid r ≡ row_at old root → owners_at mid r ≡ 1 → (r ≢ root → row_at old r ≡ None)
-    → ((k : ℕ) → owners_at mid k + one_at root k ≡ owners_at old k + (one_at r k + other_at root r * count k (links_at old root))) → Builds old mid (root ∷ []) (r ∷ []) 0 1 → Owns old mid self r
-owns is graph held same row sole fresh owners builds =
-    record { graph = graph; held = held; same = rw is at same; row_same = rw is at row; sole = sole; fresh = rw is at fresh; owners = rw is at owners; builds = rw is at builds }
+    → ((k : ℕ) → owners_at mid k + one_at root k ≡ owners_at old k + (one_at r k + other_at root r * count k (links_at old root))) → Builds old mid (root ∷ []) (r ∷ []) 0 1 → Makes old mid 0 (other_at root r) → Owns old mid self r
+owns is graph held same row sole fresh owners builds makes =
+    record { graph = graph; held = held; same = rw is at same; row_same = rw is at row; sole = sole; fresh = rw is at fresh; owners = rw is at owners; builds = rw is at builds; makes = rw is at makes }
 
 -- what an owner owns was made its own: it is r now, and all below it stays
 pub record IsOwned {T : Type 0} (owner : Owner) (old mid : Heap T) (r : ℕ) : Type 0 where
@@ -48,6 +49,7 @@ pub record IsOwned {T : Type 0} (owner : Owner) (old mid : Heap T) (r : ℕ) : T
   pub sole : owners_at mid r ≡ 1
   pub fresh : r ≢ owned old owner → row_at old r ≡ None
   pub owners : (k : ℕ) → owners_at mid k + one_at (owned old owner) k ≡ owners_at old k + (one_at r k + other_at (owned old owner) r * count k (links_at old (owned old owner)))
+  pub came : live_count mid ≡ live_count old + other_at (owned old owner) r
   pub live : (m : ℕ) → IsSome (row_at old m) → IsSome (row_at mid m)
   pub kept : (m : ℕ) → m ≢ r → IsSome (row_at old m) → row_at mid m ≡ with_root owner r m (row_at old m)
   pub edits : (new : Heap T) (spent gained : List ℕ) (c n : ℕ) → Changes r mid new spent gained c n → EditsBy owner old new r spent gained c (1 + n)
@@ -62,6 +64,7 @@ owned-hold {root = root} o = record {
   sole = o.sole;
   fresh = o.fresh;
   owners = o.owners;
+  came = omega (arith, o.makes.live);
   live = o.builds.extends.live;
   kept = λ m other some. o.builds.extends.kept m some m (here m);
   edits = λ new spent gained c n change. EditsBy-hold o.graph o.held o.sole o.builds change;
@@ -77,6 +80,7 @@ owned-place {old = old} {mid = mid} {parent = parent} {child = child} {r = r} gr
   sole = o.sole;
   fresh = o.fresh;
   owners = o.owners;
+  came = omega (arith, o.makes.live);
   live = (gains-child old mid parent child r o).stays;
   kept = λ m other some. rows-placed old mid parent child r o.inside o.sole o.head o.links o.others m other;
   edits = λ new spent gained c n change. EditsBy-place old mid parent child r o.inside o.sole o.head o.links o.others o.changes change;
@@ -129,6 +133,7 @@ module _ {T : Type 0} {first old : Heap T} (u : Unchanged first old) where
           ap (λ (x : ℕ). other_at x r * count k (links_at old x)) e,
           ap (λ w. other_at now r * count k (links_of w)) (u.rows now),
         );
+        came = omega (arith, o.came, u.live, ap (λ (x : ℕ). other_at x r) e);
         live = λ m some. o.live m (subst IsSome (sym (u.rows m)) some);
         kept = λ m other some. o.kept m other (subst IsSome (sym (u.rows m)) some) ∙ ap (with_root owner r m) (u.rows m);
         edits = λ new spent gained c n change. EditsBy-Unchanged first old u owner (o.edits new spent gained c n change);

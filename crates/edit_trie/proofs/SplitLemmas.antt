@@ -1,5 +1,5 @@
 -- An entry put beside another one with the same digit: that one is taken out, a node of both is made, and takes its place.
-use Rattle.std.proofs.Common.{◌≡◌, ◌≢◌, ℕ, suc, ◌+◌, ◌*◌, ◌%◌, ◌<◌, ◌≤◌, ◌^◌, List, [], ◌∷◌, get_or, refl, ap, sym, subst, ◌∙◌, arith, cond, true, false, Bool, Option, Some, None, IsSome, option_map, inl, inr}
+use Rattle.std.proofs.Common.{◌≡◌, ◌≢◌, ◌⊎◌, ℕ, suc, ◌+◌, ◌*◌, ◌%◌, ◌<◌, ◌≤◌, ◌^◌, List, [], ◌∷◌, length, get_or, refl, ap, sym, subst, ◌∙◌, arith, cond, true, false, Bool, Option, Some, None, IsSome, option_map, inl, inr}
 use Rattle.std.specs.List.{find}
 use Rattle.std.specs.Ordering.{is_eq}
 use Rattle.std.specs.declared.cmp.Ordering.{Ordering}
@@ -7,11 +7,14 @@ use Rattle.std.specs.declared.cmp.Ordering.TheVariants.{Equal}
 use Rattle.elem_core.specs.Codes.{digit_at}
 use Rattle.elem_core.specs.declared.codes.TheConstants.{DEEPEST}
 use Rattle.node_heap.specs.Links.{count, HasLink, Reaches, here}
-use Rattle.node_heap.specs.Forms.{links_in, value_of, form_of}
-use Rattle.node_heap.specs.Heap.{Heap, row_at, form_at, links_at, holds_at, owners_at}
+use Rattle.node_heap.specs.Forms.{Row, links_in, value_of, form_of}
+use Rattle.node_heap.specs.Heap.{Heap, row_at, form_at, links_at, holds_at, owners_at, live_count}
 use Rattle.node_heap.specs.Calls.{Builds, KeepsOwners, Gains}
 use Rattle.node_heap.specs.InPlace.{Changes}
-use Rattle.node_heap.specs.Owner.{written}
+use Rattle.node_heap.specs.Owner.{written, alone as alone_rows}
+use Rattle.node_heap.proofs.AloneLemmas.{alone-yes}
+use Rattle.node_heap.proofs.Counts.{test_other}
+use Rattle.std.proofs.lemmas.Bool.{cases_eq}
 use Rattle.node_heap.proofs.Reach.{Reaches-by}
 use Rattle.node_heap.proofs.GraphLemmas.{IsGraph-acyclic}
 use Rattle.node_heap.proofs.BuildLemmas.{count-cons, count-one}
@@ -32,12 +35,15 @@ use Rattle.champ_trie.proofs.PlaceLemmas.{place-entry}
 use Rattle.champ_trie.proofs.StayLemmas.{at-link, trie-stays}
 use Rattle.champ_trie.proofs.WithLemmas.{IsAlone, alone, eq-apart, put-apart}
 use Rattle.champ_trie.proofs.RowLemmas.{same-place-of, place-linked, row-with}
-use Rattle.edit_trie.specs.Path.{chain_rows, edit_rows}
+use Rattle.edit_trie.specs.Path.{rows_to, rows_on, chain_rows, edit_rows, way_rows, MakesFew}
+use Rattle.champ_chain.proofs.CopyLemmas.{key-live}
+use Rattle.edit_trie.proofs.PathLemmas.{rows-stay}
+use Rattle.edit_trie.proofs.WayLemmas.{few-came, live-along, two-rows, way-says}
 use Rattle.edit_trie.specs.Spot.{PutsAt}
 use Rattle.edit_trie.specs.Walk.{CanEdit, PutsIn}
 use Rattle.edit_trie.proofs.RowLemmas.{key-moved, not-row, not-cell}
 use Rattle.edit_trie.proofs.ChildLemmas.{live-below}
-use Rattle.edit_trie.proofs.OwnLemmas.{off-first}
+use Rattle.edit_trie.proofs.OwnLemmas.{none-live, off-first}
 use Rattle.edit_trie.proofs.SharedLemmas.{shared-one}
 use Rattle.edit_trie.proofs.PutLemmas.{rows-at, part-find}
 
@@ -53,6 +59,11 @@ not-found cmp k j y none = by_test (is_eq (cmp k j)) none
 pub not-linked : {K : Type 0} (o : Option (Entry K)) → option_map (λ (z : Entry K). z.link) o ≡ None → o ≡ None
 not-linked None is = refl
 not-linked (Some z) is = absurd cc
+
+-- what has a part has entries
+some-part : {K : Type 0} (cmp : K → K → Ordering) (code : K → ℕ) (d p : ℕ) (E : List (Entry K)) (z : Entry K) → part cmp code d p E ≡ z ∷ [] → 1 ≤ length E
+some-part cmp code d p [] z is = absurd (let bad : [] ≡ z ∷ [] = is in cc)
+some-part cmp code d p (e ∷ es) z is = omega arith
 
 -- the entry at a position of a row was taken out
 pub record TakesEntry {T : Type 0} (old cut : Heap T) (row d e n : ℕ) (ls : List ℕ) (p y : ℕ) : Type 0 where
@@ -140,6 +151,36 @@ module _ {T : Type 0} (cmp : T → T → Ordering) (code : T → ℕ) (equal_cod
       | inr up ↦ off-taken up
     ]
 
+    -- what a row that was there leads to was there
+    along : (a b : ℕ) → IsSome (row_at cut a) → Reaches (links_at built) a b → IsSome (row_at cut b)
+    along = live-along cut built took.changes.trades.graph (λ l live. Extends-row builds.extends l live)
+
+    forms-way : (a b : ℕ) → Reaches (links_in (form_at built)) a b → Reaches (links_at built) a b
+    forms-way a b way = Reaches-by (links_in (form_at built)) (links_at built) (λ i. sym (links-form built i)) a b way
+
+    links-way : (a b : ℕ) → Reaches (links_at built) a b → Reaches (links_in (form_at built)) a b
+    links-way a b way = Reaches-by (links_at built) (links_in (form_at built)) (λ i. links-form built i) a b way
+
+    -- no more rows came than lie over the new key
+    pub few-built : (most : ℕ) → 2 ≤ most → live_count built ≤ live_count cut + length (way_rows (form_at built) most left (d + 1) (code key) z)
+    few-built most enough = few-came cut built (way_rows (form_at built) most left (d + 1) (code key) z) (λ l some. by_row l some (row_at cut l) refl)
+      where
+        by_up : (l u : ℕ) → row_at cut l ≡ None → 0 < holds_at built u → Reaches (links_at built) u l → 0 < count l (way_rows (form_at built) most left (d + 1) (code key) z)
+        by_up l u gone held way = elim (cases_eq u z) as (λ _. 0 < count l (way_rows (form_at built) most left (d + 1) (code key) z)) [
+          | inl same ↦
+              two-rows (form_at built) l cmp code (entry key x) (entry al.key y) most left (d + 1) z enough made
+              (λ down. none-live (row_at cut l) gone (along x l (key-live cut x key keyed-cut) (forms-way x l down)))
+              (λ down. none-live (row_at cut l) gone (along y l (key-live cut y al.key other-cut) (forms-way y l down)))
+              (links-way z l (subst (λ j. Reaches (links_at built) j l) same way))
+          | inr other ↦
+              let held_cut : 0 < holds_at cut u = omega (arith, held, builds.holds u, count-one u z, test_other u z other) in
+              absurd (none-live (row_at cut l) gone (along u l (took.changes.trades.graph.held u held_cut) way))
+        ]
+
+        by_row : (l : ℕ) → IsSome (row_at built l) → (r : Option (Row T)) → row_at cut l ≡ r → IsSome (row_at cut l) ⊎ (0 < count l (way_rows (form_at built) most left (d + 1) (code key) z))
+        by_row l some (Some w) is = inl (subst IsSome (sym is) refl)
+        by_row l some None is = let up = builds.graph.reached l some in inr (by_up l up.0 is up.1 up.2)
+
     -- it took the place
     module _ (new : Heap T) (puts : PutsAt (form_at new) row d took.puts.entries took.puts.nodes took.puts.links (digit_at c d) (Node z)) (others : (k : ℕ) → k ≢ row → row_at new k ≡ row_at built k)
         (change : Changes row built new (z ∷ []) [] 0 0) (gains : Gains built new) where
@@ -173,6 +214,44 @@ module _ {T : Type 0} (cmp : T → T → Ordering) (code : T → ℕ) (equal_cod
           Changes-both (x ∷ []) (z ∷ []) took.changes (Changes-Builds row took.changes.trades.graph (λ k up one. same k (above_live cut k row up live-cut) ∙ one) builds)
           (λ k. omega (arith, count-cons k x (y ∷ []), count-one k x, count-one k y)) (λ k. omega arith) (λ k. omega (arith, count-cons k x (y ∷ []), count-one k x, count-one k y)) (omega arith)
 
+      deep : suc d ≡ d + 1
+      deep = omega arith
+
+      way-new : (more : ℕ) → way_rows (form_at new) more (suc left) d c row ≡ row ∷ way_rows (form_at built) more left (d + 1) (code key) z
+      way-new more =
+          let F = form_at built in
+          let G = form_at new in
+          let C' = λ (k : ℕ). rows_on G more (Some k) in
+          rows-at (λ _. []) C' G left d c row puts.entries puts.nodes puts.links puts.row_is (Node z) puts.puts
+          ∙ ap (λ q. row ∷ rows_to (λ _. []) C' G left q c z) deep ∙ ap (λ q. row ∷ rows_to (λ _. []) C' G left (d + 1) q z) is_code
+          ∙ ap (λ ks. row ∷ ks) (rows-stay cmp code F G _ _ _ _ (way-says cmp code F G more) left (d + 1) (code key) z (entry key x ∷ entry al.key y ∷ [])
+          (λ k way. ap (option_map form_of) (others k (λ at. apart-built (subst (Reaches (links_at built) z) at (forms-way z k way))))) made)
+
+      few-split : (most more : ℕ) → length E + 1 ≤ more → MakesFew old new (edit_rows cmp (form_at old) key most (suc left) d c row) (way_rows (form_at old) most (suc left) d c row) (way_rows (form_at new) more (suc left) d c row) 0
+      few-split most more short =
+          let was = rows-at (λ _. []) (λ k. rows_on (form_at old) most (Some k)) (form_at old) left d c row e n ls is (At y) (sym (place d e n ls is)) in
+          let some = some-part cmp code d (digit_at c d) E (entry al.key y) al.whole in
+          let came = few-built more (omega (arith, some, short)) in
+          omega (
+            arith,
+            came,
+            ap (alone_rows old) (was-rows most),
+            ap length (was-rows most),
+            ap length was,
+            ap length (way-new more),
+            alone-yes old row [] can.sole,
+            took.gains.makes.live,
+            took.gains.makes.cells,
+            took.gains.makes.nodes,
+            took.changes.trades.cells,
+            took.changes.trades.nodes,
+            gains.makes.live,
+            gains.makes.cells,
+            gains.makes.nodes,
+            change.trades.cells,
+            change.trades.nodes,
+          )
+
       pub puts-split : PutsIn cmp code old new left d row c E key x
       puts-split = record {
         trie = trie-new;
@@ -181,5 +260,6 @@ module _ {T : Type 0} (cmp : T → T → Ordering) (code : T → ℕ) (equal_cod
         path = λ most more short short'.
             rw (was-rows most, rows-at (λ _. []) (λ k. chain_rows cmp (form_at new) key (λ _. []) more (Some k)) (form_at new) left d c row puts.entries puts.nodes puts.links puts.row_is (Node z) puts.puts)
             (shared-one old row _ can.sole);
+        came = λ most more short short'. few-split most more short';
         others = λ most short k some off. others-new k some (off-first old row k [] can.sole (subst (λ ks. count k (written old ks) ≡ 0) (was-rows most) off)).0;
       }

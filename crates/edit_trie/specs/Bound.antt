@@ -1,10 +1,11 @@
 -- Inside: what an insertion makes of a map, whose root has one owner.
-use Rattle.std.specs.Prelude.{◌≡◌, ℕ, ◌+◌, ◌≤◌, List, [], ◌∷◌, length, Option, option_to_list}
+use Rattle.std.specs.Prelude.{◌≡◌, ℕ, ◌+◌, ◌≤◌, List, [], ◌∷◌, length, Option, MatchOption, option_to_list}
 use Rattle.std.specs.declared.cmp.Ordering.{Ordering}
 use Rattle.elem_core.specs.declared.codes.TheConstants.{DEEPEST}
 use Rattle.node_heap.specs.Heap.{Heap, form_at, owners_at, IsGraph}
 use Rattle.node_heap.specs.Calls.{Gains}
 use Rattle.node_heap.specs.InPlace.{Changes}
+use Rattle.node_heap.specs.Owner.{by_hold, WritesOnly}
 use Rattle.champ_chain.specs.Entry.{Entry, others, link_with}
 use Rattle.champ_trie.specs.Trie.{code_by}
 use Rattle.champ_trie.specs.Reach.{alike_in}
@@ -12,9 +13,8 @@ use Rattle.champ_kinds.specs.Binding.{Binding, bind, value_with}
 use Rattle.champ_kinds.specs.Kinds.{HasEntries, IsMapOf, IsPair}
 use Rattle.champ_kinds.specs.Edit.{PutsPair}
 use Rattle.std.specs.List.{AllZip}
-use Rattle.edit_trie.specs.Path.{edit_rows, pair_rows, KeepsShared}
+use Rattle.edit_trie.specs.Path.{edit_rows, pair_rows, way_rows, KeepsShared, MakesCopies, MakesFew}
 use Rattle.edit_trie.specs.Edit.{by_bits}
-use Rattle.edit_trie.specs.Walk.{WritesPath}
 
 module _ {T : Type 0} (cmp : T → T → Ordering) (code : T → ℕ) where
   -- the map of these entries and bindings, whose root has one owner, can take a value at a key, which was looked up
@@ -34,4 +34,7 @@ module _ {T : Type 0} (cmp : T → T → Ordering) (code : T → ℕ) where
     pub gains : Gains old new
     pub path : (most more : ℕ) → length E ≤ most → length E ≤ more → 1 + length (others cmp key E) ≤ more
         → KeepsShared old (edit_rows cmp (form_at old) key most (DEEPEST + 1) 0 (code_by code bits key) root) (edit_rows cmp (form_at new) key more (DEEPEST + 1) 0 (code_by code bits key) root)
-    pub others : (most : ℕ) → length E ≤ most → WritesPath old new (pair_rows cmp (form_at old) key most (DEEPEST + 1) 0 (code_by code bits key) root)
+    pub came : (most more : ℕ) → length E ≤ most → length E ≤ more → 1 + length (others cmp key E) ≤ more → MatchOption given
+        (MakesFew old new (edit_rows cmp (form_at old) key most (DEEPEST + 1) 0 (code_by code bits key) root) (way_rows (form_at old) most (DEEPEST + 1) 0 (code_by code bits key) root) (way_rows (form_at new) more (DEEPEST + 1) 0 (code_by code bits key) root) 2)
+        (λ _. MakesCopies old new (pair_rows cmp (form_at old) key most (DEEPEST + 1) 0 (code_by code bits key) root))
+    pub others : (most : ℕ) → length E ≤ most → WritesOnly (by_hold root) old new root (pair_rows cmp (form_at old) key most (DEEPEST + 1) 0 (code_by code bits key) root)

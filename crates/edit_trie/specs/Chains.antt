@@ -4,13 +4,13 @@ use Rattle.std.specs.List.{slice_get}
 use Rattle.std.specs.declared.cmp.Ordering.{Ordering}
 use Rattle.node_heap.specs.Links.{count, HasLink}
 use Rattle.node_heap.specs.Forms.{Forms, node, chain}
-use Rattle.node_heap.specs.Heap.{Heap, row_at, form_at, links_at, owners_at}
+use Rattle.node_heap.specs.Heap.{Heap, row_at, form_at, links_at, owners_at, live_count}
 use Rattle.node_heap.specs.Calls.{KeepsBelow, Gains}
 use Rattle.node_heap.specs.InPlace.{child_at, OwnsDown}
-use Rattle.node_heap.specs.Owner.{written, KeepsAlone}
+use Rattle.node_heap.specs.Owner.{written, alone, KeepsAlone}
 use Rattle.champ_chain.specs.Entry.{Entry, entry, key_at, IsEntry, others, put}
 use Rattle.champ_chain.specs.Chain.{IsChain}
-use Rattle.edit_trie.specs.Path.{chain_rows, row_and_entry}
+use Rattle.edit_trie.specs.Path.{chain_rows, row_and_entry, MakesCopies}
 use Rattle.edit_trie.specs.Walk.{EditsChild}
 
 module _ {K : Type 0} where
@@ -49,6 +49,7 @@ module _ {T : Type 0} where
     pub keyless : key_at (form_at now) r ≡ None
     pub left : (m : ℕ) → link_in now r i ≡ Some m → KeepsBelow old now m
     pub path : (rest path' : List ℕ) → (0 < length rest → HasLink (links_at now) r (slice_index rest 0)) → KeepsAlone now rest path' → KeepsAlone old (rows ++ rest) (own ++ path')
+    pub came : (rest : List ℕ) → (0 < length rest → HasLink (links_at now) r (slice_index rest 0)) → live_count now + alone old (rows ++ rest) ≡ live_count old + (length rows + alone now rest)
     pub others : (rest : List ℕ) → (0 < length rest → HasLink (links_at now) r (slice_index rest 0)) → (m : ℕ) → IsSome (row_at old m) → m ≢ row → count m (written old (rows ++ rest)) ≡ 0
         → (row_at now m ≡ row_at old m) × (m ≢ r) × (count m (written now rest) ≡ 0)
 
@@ -72,6 +73,7 @@ module _ {T : Type 0} where
       pub gains : Gains old new
       pub path : (most more : ℕ) → length E ≤ most → length E ≤ more
           → KeepsAlone old (chain_rows cmp (form_at old) key (row_and_entry cmp (form_at old) key) most (Some first)) (chain_rows cmp (form_at new) key (row_and_entry cmp (form_at new) key) more (Some first'))
+      pub came : (most : ℕ) → length E ≤ most → MakesCopies old new (chain_rows cmp (form_at old) key (row_and_entry cmp (form_at old) key) most (Some first))
       pub writes : (most : ℕ) → length E ≤ most → WritesBelow row old new (chain_rows cmp (form_at old) key (row_and_entry cmp (form_at old) key) most (Some first))
       pub apart : (most : ℕ) → length E ≤ most → (m : ℕ) → IsSome (row_at old m) → m ≢ row → count m (written old (chain_rows cmp (form_at old) key (row_and_entry cmp (form_at old) key) most (Some first))) ≡ 0 → m ≢ link
 
@@ -82,6 +84,7 @@ module _ {T : Type 0} where
       pub gains : Gains old new
       pub path : (most more : ℕ) → length E ≤ most → length E + 1 ≤ more
           → KeepsAlone old (chain_rows cmp (form_at old) key (λ _. []) most (Some first)) (chain_rows cmp (form_at new) key (λ _. []) more (Some first'))
+      pub came : (most : ℕ) → length E ≤ most → live_count new + alone old (chain_rows cmp (form_at old) key (λ _. []) most (Some first)) ≤ live_count old + (length (chain_rows cmp (form_at old) key (λ _. []) most (Some first)) + 1)
       pub writes : (most : ℕ) → length E ≤ most → WritesBelow row old new (chain_rows cmp (form_at old) key (λ _. []) most (Some first))
 
     -- the key's row was taken out, and is held
@@ -91,4 +94,5 @@ module _ {T : Type 0} where
       pub gains : Gains old new
       pub path : (most more : ℕ) → length E ≤ most → length E ≤ more
           → KeepsAlone old (chain_rows cmp (form_at old) key (λ _. []) most (Some first)) (chain_rows cmp (form_at new) key (λ _. []) more (Some first'))
+      pub came : (most : ℕ) → length E ≤ most → MakesCopies old new (chain_rows cmp (form_at old) key (λ _. []) most (Some first))
       pub writes : (most : ℕ) → length E ≤ most → WritesBelow row old new (chain_rows cmp (form_at old) key (λ _. []) most (Some first))

@@ -1,5 +1,5 @@
 -- The path of an edit, the rows that it must be able to write, from the root down, over forms.
-use Rattle.std.specs.Prelude.{ℕ, zero, suc, ◌+◌, List, [], ◌∷◌, Option, Some, None, option_to_list, length, take}
+use Rattle.std.specs.Prelude.{◌≡◌, ℕ, zero, suc, ◌+◌, ◌≤◌, List, [], ◌∷◌, Option, Some, None, option_to_list, length, take}
 use Rattle.std.specs.Ordering.{match_ordering}
 use Rattle.std.specs.declared.cmp.Ordering.{Ordering}
 use Rattle.std.specs.declared.cmp.Ordering.TheVariants.{Greater}
@@ -7,7 +7,7 @@ use Rattle.elem_core.specs.Codes.{digit_at}
 use Rattle.elem_core.specs.declared.codes.TheConstants.{DEEPEST}
 use Rattle.node_heap.specs.Forms.{Forms, Form, cell, node, leaf, inner, trie, chain, pair, state}
 use Rattle.node_heap.specs.Heap.{Heap, form_at, live_count}
-use Rattle.node_heap.specs.Owner.{KeepsAlone}
+use Rattle.node_heap.specs.Owner.{KeepsAlone, alone}
 use Rattle.champ_chain.specs.Entry.{key_at}
 use Rattle.champ_trie.specs.Trie.{place_of, code_by}
 use Rattle.champ_trie.specs.declared.place.Place.{Place}
@@ -52,6 +52,16 @@ module _ {K : Type 0} where
   rows_to at_entry at_chain F (suc left) depth c l =
       l ∷ rows_from_place at_entry (λ k. rows_to at_entry at_chain F left (suc depth) c k) (place_in (F l) (digit_at c depth))
 
+  -- all rows of a chain from a link on, so many at most
+  unfoldable pub rows_on : Forms K → ℕ → Option ℕ → List ℕ
+  rows_on F zero o = []
+  rows_on F (suc n) None = []
+  rows_on F (suc n) (Some l) = l ∷ rows_on F n (next_in (F l))
+
+  -- the rows over a key: the trie rows to which the digits of its code lead, and all rows of the chain to which they lead
+  abbrev pub way_rows : Forms K → ℕ → ℕ → ℕ → ℕ → ℕ → List ℕ
+  way_rows F most left depth c l = rows_to (λ _. []) (λ k. rows_on F most (Some k)) F left depth c l
+
   module _ (cmp : K → K → Ordering) (F : Forms K) (key : K) where
     -- how the key of an entry stands to this one; what names no entry is not before it
     abbrev pub order_of : Option K → Ordering
@@ -92,6 +102,17 @@ module _ {T : Type 0} (cmp : T → T → Ordering) (code : T → ℕ) (h : Heap 
   abbrev pub pair_path : List ℕ
   pair_path = pair_rows cmp (form_at h) key (live_count h) (DEEPEST + 1) 0 (code_by code bits key) root
 
+  abbrev pub key_way : List ℕ
+  key_way = way_rows (form_at h) (live_count h) (DEEPEST + 1) 0 (code_by code bits key) root
+
 -- at each place of the path, as far as it is in the trie before and after, the row is the old one exactly where that was alone
 abbrev pub KeepsShared : {T : Type 0} → Heap T → List ℕ → List ℕ → Type 0
 KeepsShared old path path' = KeepsAlone old (take (length path') path) (take (length path) path')
+
+-- as many rows came as the path has that aren't alone
+abbrev pub MakesCopies : {T : Type 0} → Heap T → Heap T → List ℕ → Type 0
+MakesCopies old new path = live_count new + alone old path ≡ live_count old + length path
+
+-- no more rows came than the path has that aren't alone, than the way to the key is longer now, and than so many
+abbrev pub MakesFew : {T : Type 0} → Heap T → Heap T → List ℕ → List ℕ → List ℕ → ℕ → Type 0
+MakesFew old new path way way' n = live_count new + alone old path + length way ≤ live_count old + length path + length way' + n

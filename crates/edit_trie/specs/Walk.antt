@@ -1,18 +1,18 @@
 -- Inside: what an edit makes of one trie row of its path, which has one owner, and of what is below it.
-use Rattle.std.specs.Prelude.{◌≡◌, ◌≢◌, ℕ, suc, ◌+◌, ◌<◌, ◌≤◌, List, [], ◌∷◌, length, slice_set, Some, IsSome}
+use Rattle.std.specs.Prelude.{◌≡◌, ◌≢◌, ℕ, suc, ◌+◌, ◌<◌, ◌≤◌, List, [], ◌∷◌, length, take, slice_set, Some, IsSome}
 use Rattle.std.specs.List.{find}
 use Rattle.std.specs.declared.cmp.Ordering.{Ordering}
 use Rattle.node_heap.specs.Links.{count}
 use Rattle.node_heap.specs.Forms.{head_of, is_node}
-use Rattle.node_heap.specs.Heap.{Heap, row_at, form_at, links_at, owners_at, IsGraph}
+use Rattle.node_heap.specs.Heap.{Heap, row_at, form_at, links_at, owners_at, live_count, IsGraph}
 use Rattle.node_heap.specs.Calls.{KeepsBelow, Gains}
 use Rattle.node_heap.specs.InPlace.{child_at, OwnsDown, Changes}
-use Rattle.node_heap.specs.Owner.{KeepsAlone, written}
+use Rattle.node_heap.specs.Owner.{by_hold, KeepsAlone, alone, written, WritesOnly, WritesOnlyLeft}
 use Rattle.champ_chain.specs.Entry.{Entry, entry, has_key, others, put, IsEntry}
 use Rattle.champ_trie.specs.Trie.{IsTrie}
 use Rattle.champ_trie.specs.Reach.{alike_in}
 use Rattle.champ_trie.specs.Edit.{IsBelow}
-use Rattle.edit_trie.specs.Path.{edit_rows, pair_rows, KeepsShared}
+use Rattle.edit_trie.specs.Path.{edit_rows, pair_rows, way_rows, KeepsShared, MakesCopies, MakesFew}
 
 module _ {T : Type 0} where
   -- a change at a child of a row: the row may have another link at this index, and else is as it was, with all below its other children
@@ -22,17 +22,13 @@ module _ {T : Type 0} where
     pub links : links_at new parent ≡ slice_set (links_at old parent) index (child_at new parent index)
     pub beside : (i : ℕ) → i < length (links_at old parent) → i ≢ index → KeepsBelow old new (child_at old parent i)
 
-  -- each row that was there is the same, but the rows of the path that are alone
-  abbrev pub WritesPath : Heap T → Heap T → List ℕ → Type 0
-  WritesPath old new path = (m : ℕ) → IsSome (row_at old m) → count m (written old path) ≡ 0 → row_at new m ≡ row_at old m
+  -- as many rows came as the path has now, beside those that were alone
+  abbrev pub MakesShared : Heap T → Heap T → List ℕ → List ℕ → Type 0
+  MakesShared old new path path' = live_count new + alone old (take (length path') path) ≡ live_count old + length path'
 
   -- a row that was there is this one only if it is among the rows of the path that are alone
   abbrev pub MissesPath : Heap T → List ℕ → ℕ → Type 0
   MissesPath old path link = (m : ℕ) → IsSome (row_at old m) → count m (written old path) ≡ 0 → m ≢ link
-
-  -- the same for each row that was there and is there still
-  abbrev pub WritesPathLeft : Heap T → Heap T → List ℕ → Type 0
-  WritesPathLeft old new path = (m : ℕ) → IsSome (row_at old m) → IsSome (row_at new m) → count m (written old path) ≡ 0 → row_at new m ≡ row_at old m
 
 module _ {T : Type 0} (cmp : T → T → Ordering) where
   -- one of the entries is the key's, and a node
@@ -58,7 +54,8 @@ module _ {T : Type 0} (cmp : T → T → Ordering) (code : T → ℕ) where
       pub gains : Gains old new
       pub path : (most more : ℕ) → length E ≤ most → length E ≤ more
           → KeepsAlone old (pair_rows cmp (form_at old) key most (suc left) depth c row) (pair_rows cmp (form_at new) key more (suc left) depth c row)
-      pub others : (most : ℕ) → length E ≤ most → WritesPath old new (pair_rows cmp (form_at old) key most (suc left) depth c row)
+      pub came : (most : ℕ) → length E ≤ most → MakesCopies old new (pair_rows cmp (form_at old) key most (suc left) depth c row)
+      pub others : (most : ℕ) → length E ≤ most → WritesOnly (by_hold row) old new row (pair_rows cmp (form_at old) key most (suc left) depth c row)
       pub apart : (most : ℕ) → length E ≤ most → MissesPath old (pair_rows cmp (form_at old) key most (suc left) depth c row) link
 
     -- an entry of the key, which was absent, stands below the row now
@@ -68,7 +65,9 @@ module _ {T : Type 0} (cmp : T → T → Ordering) (code : T → ℕ) where
       pub gains : Gains old new
       pub path : (most more : ℕ) → length E ≤ most → length E + 1 ≤ more
           → KeepsShared old (edit_rows cmp (form_at old) key most (suc left) depth c row) (edit_rows cmp (form_at new) key more (suc left) depth c row)
-      pub others : (most : ℕ) → length E ≤ most → WritesPath old new (edit_rows cmp (form_at old) key most (suc left) depth c row)
+      pub came : (most more : ℕ) → length E ≤ most → length E + 1 ≤ more
+          → MakesFew old new (edit_rows cmp (form_at old) key most (suc left) depth c row) (way_rows (form_at old) most (suc left) depth c row) (way_rows (form_at new) more (suc left) depth c row) 0
+      pub others : (most : ℕ) → length E ≤ most → WritesOnly (by_hold row) old new row (edit_rows cmp (form_at old) key most (suc left) depth c row)
 
     -- the key was taken out, and what was cut off for it is held
     pub record CutsIn (cut : ℕ) : Type 0 where
@@ -77,4 +76,5 @@ module _ {T : Type 0} (cmp : T → T → Ordering) (code : T → ℕ) where
       pub gains : Gains old new
       pub path : (most more : ℕ) → length E ≤ most → length E ≤ more
           → KeepsShared old (edit_rows cmp (form_at old) key most (suc left) depth c row) (edit_rows cmp (form_at new) key more (suc left) depth c row)
-      pub others : (most : ℕ) → length E ≤ most → WritesPathLeft old new (edit_rows cmp (form_at old) key most (suc left) depth c row)
+      pub came : (most more : ℕ) → length E ≤ most → length E ≤ more → MakesShared old new (edit_rows cmp (form_at old) key most (suc left) depth c row) (edit_rows cmp (form_at new) key more (suc left) depth c row)
+      pub others : (most : ℕ) → length E ≤ most → WritesOnlyLeft (by_hold row) old new row (edit_rows cmp (form_at old) key most (suc left) depth c row)

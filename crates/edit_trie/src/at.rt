@@ -2,14 +2,14 @@
 ghost use Rattle.std.specs.Prelude.{◌≡◌, ◌↔◌, ℕ, ◌+◌, ◌^◌, ◌<◌, ◌≤◌, List, [], ◌∷◌, length, IfOk, IfSome, IfErr, IsOk, OnOk, OnErr, Ok, None, option_to_list};
 ghost use Rattle.node_heap.specs.Links.{Reaches};
 ghost use Rattle.node_heap.specs.Heap.{links_at, holds_at, owners_at, hold_count, HasSpares};
-ghost use Rattle.node_heap.specs.Calls.{KeepsToNeed};
+ghost use Rattle.node_heap.specs.Calls.{KeepsBelow, KeepsToNeed};
 ghost use Rattle.node_heap.specs.InPlace.{child_at, OwnsDown, Changes};
 ghost use Rattle.node_heap.specs.Owner.{by_place};
 ghost use Rattle.champ_chain.specs.Entry.{Entry};
 ghost use Rattle.champ_kinds.specs.Binding.{Binding, alike_keys, value_with};
 ghost use Rattle.champ_kinds.specs.Kinds.{HasEntries, IsMapOf};
 ghost use Rattle.champ_kinds.specs.Edit.{PutsPair};
-ghost use Rattle.edit_trie.specs.Edit.{by_bits, PutsValue, OwnsPair};
+ghost use Rattle.edit_trie.specs.Edit.{by_bits, PutsValue, OwnsEntry, OwnsPair};
 
 use crate::edit::bound;
 use crate::own::own_entry;
@@ -38,6 +38,7 @@ pub fn insert_at<T: Element>(
         IfOk result (λ given. PutsValue T.cmp T.code_of (by_place parent child) bits heap.old heap.new (child_at heap.new parent child) M key value given) }
     ensures entries { (E : List (Entry T)) → HasEntries T.cmp T.code_of heap.old (by_bits bits (child_at heap.old parent child)) E →
         OnOk result (PutsPair T.cmp T.code_of heap.old heap.new (by_bits bits (child_at heap.new parent child)) E key value) }
+    ensures value { OnOk result (KeepsBelow heap.old heap.new value) }
     ensures changes { (M : List (Binding T)) → IsMapOf T.cmp T.code_of heap.old (by_bits bits (child_at heap.old parent child)) M →
         IfOk result (λ given. Changes parent heap.old heap.new (value ∷ []) (option_to_list given) 1 (DEEPEST + 3 + alike_keys T.code_of bits key M)) }
     ensures spares { (M : List (Binding T)) → IsMapOf T.cmp T.code_of heap.old (by_bits bits (child_at heap.old parent child)) M →
@@ -74,6 +75,8 @@ pub fn own_value_at<T: Element, P: Probe<T>>(
     ensures owns { (M : List (Binding T)) → IsMapOf T.cmp T.code_of heap.old (by_bits bits (child_at heap.old parent child)) M →
         IfOk result (λ pair. IfSome pair (λ link.
         OwnsPair T.cmp T.code_of (by_place parent child) bits heap.old heap.new (child_at heap.new parent child) M (P.stands_for key.now) link × OwnsDown heap.new parent link)) }
+    ensures entries { (E : List (Entry T)) → HasEntries T.cmp T.code_of heap.old (by_bits bits (child_at heap.old parent child)) E → IfOk result (λ pair. IfSome pair (λ link.
+        OwnsEntry T.cmp T.code_of heap.old heap.new (by_bits bits (child_at heap.new parent child)) E (P.stands_for key.now) link)) }
     ensures changes { (M : List (Binding T)) → IsMapOf T.cmp T.code_of heap.old (by_bits bits (child_at heap.old parent child)) M →
         OnOk result (Changes parent heap.old heap.new [] [] 0 (DEEPEST + 2 + alike_keys T.code_of bits (P.stands_for key.now) M)) }
     ensures none { (M : List (Binding T)) → IsMapOf T.cmp T.code_of heap.old (by_bits bits (child_at heap.old parent child)) M →

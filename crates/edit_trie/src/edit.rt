@@ -3,7 +3,7 @@ ghost use Rattle.std.specs.Prelude.{◌≡◌, ◌↔◌, ℕ, ◌+◌, ◌^◌,
 ghost use Rattle.elem_core.specs.declared.codes.TheConstants.{CODE_BITS};
 ghost use Rattle.node_heap.specs.Links.{Reaches};
 ghost use Rattle.node_heap.specs.Heap.{links_at, holds_at, owners_at, hold_count, HasSpares};
-ghost use Rattle.node_heap.specs.Calls.{Extends, KeepsToNeed, HasHolds, MakesWhatCame};
+ghost use Rattle.node_heap.specs.Calls.{Extends, KeepsBelow, KeepsToNeed, HasHolds, MakesWhatCame};
 ghost use Rattle.node_heap.specs.Owner.{by_hold, EditsBy};
 ghost use Rattle.champ_chain.specs.Entry.{Entry, others};
 ghost use Rattle.champ_trie.specs.Trie.{code_by};
@@ -12,7 +12,7 @@ ghost use Rattle.champ_kinds.specs.Binding.{Binding, alike_keys, value_with};
 ghost use Rattle.champ_kinds.specs.Kinds.{HasEntries, IsMapOf};
 ghost use Rattle.champ_kinds.specs.Edit.{PutsPair};
 ghost use Rattle.edit_trie.specs.Bound.{CanBind, Binds};
-ghost use Rattle.edit_trie.specs.Edit.{PutsValue, CutsKey, OwnsPair};
+ghost use Rattle.edit_trie.specs.Edit.{PutsValue, CutsKey, OwnsEntry, OwnsPair};
 
 use crate::cut::cut_below;
 use crate::own::own_entry;
@@ -89,7 +89,7 @@ impl TrieEdit {
     /// Puts the value at the key and gives the old one, with a hold; None where the key was absent. A key that is there stays,
     /// with its cell. It spends the value's hold on Ok alone. It makes at most a cell and `DEEPEST + 3` nodes, and one node
     /// more for each key with the same masked code. Err gives the key back where memory runs out, and leaves the map and the
-    /// heap as they were.
+    /// heap as they were. The value stays as it was, with all below it.
     pub fn insert<T: Element>(
         &mut self,
         heap: &mut Heap<T>,
@@ -102,6 +102,7 @@ impl TrieEdit {
         ensures puts { (M : List (Binding T)) → IsMapOf T.cmp T.code_of heap.old self.old M →
             IfOk result (λ given. PutsValue T.cmp T.code_of (by_hold self.old.root) self.old.bits heap.old heap.new self.new.root M key value given) }
         ensures entries { (E : List (Entry T)) → HasEntries T.cmp T.code_of heap.old self.old E → OnOk result (PutsPair T.cmp T.code_of heap.old heap.new self.new E key value) }
+        ensures value { OnOk result (KeepsBelow heap.old heap.new value) }
         ensures bits { self.new.bits ≡ self.old.bits }
         ensures spares { (M : List (Binding T)) → IsMapOf T.cmp T.code_of heap.old self.old M →
             OnOk result (KeepsToNeed heap.old heap.new 1 (DEEPEST + 3 + alike_keys T.code_of self.old.bits key M)) }
@@ -171,6 +172,8 @@ impl TrieEdit {
         requires contents { (M : List (Binding T)) × IsMapOf T.cmp T.code_of heap.old self.old M }
         ensures owns { (M : List (Binding T)) → IsMapOf T.cmp T.code_of heap.old self.old M →
             IfOk result (λ pair. IfSome pair (λ link. OwnsPair T.cmp T.code_of (by_hold self.old.root) self.old.bits heap.old heap.new self.new.root M (P.stands_for key.now) link)) }
+        ensures entries { (E : List (Entry T)) → HasEntries T.cmp T.code_of heap.old self.old E →
+            IfOk result (λ pair. IfSome pair (λ link. OwnsEntry T.cmp T.code_of heap.old heap.new self.new E (P.stands_for key.now) link)) }
         ensures none { (M : List (Binding T)) → IsMapOf T.cmp T.code_of heap.old self.old M → (result ≡ Ok None) ↔ (value_with T.cmp (P.stands_for key.now) M ≡ None) }
         ensures nothing { result ≡ Ok None → (heap.new ≡ heap.old) × (self.new ≡ self.old) }
         ensures bits { self.new.bits ≡ self.old.bits }

@@ -21,6 +21,7 @@ use Rattle.edit_trie.proofs.ChainLemmas.{read-child}
 use Rattle.edit_trie.proofs.RootLemmas.{IsOwned, owned-same, owned-place, after-room, changes-place, makes-came, to-need}
 use Rattle.edit_trie.proofs.OwnTop.{alike-top}
 use Rattle.edit_trie.proofs.PutTop.{can-bind, puts-value, pairs-of, can-bind-of, puts-before}
+use Rattle.edit_trie.proofs.LawLemmas.{handed-apart}
 use Rattle.edit_trie.proofs.at.insert_at.Goals as goal
 
 pub returns-then-is_err-clause-ample : goal.returns-then-is_err-clause-ample
@@ -258,6 +259,49 @@ returns-clause-entries g c = λ E mine.
     (c.look_up-found.ensures.entry E (subst (λ l. IsTrieOf cmp code bits old l E) (sym link) mine.trie))) in
     let there = own-child-there one mid new parent child r room.graph ownc (c.args.value ∷ []) (option_to_list c.bound.result) base.changes (unspent-one mid parent c.args.value off_mid) in
     subst (λ l. PutsPair cmp code old new (by_bits bits l) E key c.args.value) (sym there) (puts-before cmp code total (by_place parent child) bits old mid r own M is key E mine new c.args.value did.entries)
+
+pub returns-clause-value : goal.returns-clause-value
+returns-clause-value g c =
+    let M = c.requires.contents.0 in
+    let is = c.requires.contents.1 in
+    let cmp = g.T.Ord.cmp in
+    let code = g.T.Element.code_of in
+    let total = g.met.T.Ord.total in
+    let bits = c.args.bits in
+    let key = c.args.key in
+    let old = c.args.heap.now in
+    let parent = c.args.parent in
+    let child = c.args.child in
+    let link : c.index-links-child.result ≡ child_at old parent child = read-child c.links.result.now (links_at old parent) child c.index-links-child.result c.links.ensures.links c.requires.child c.index-links-child.is in
+    let entry_is = c.look_up-found.ensures.entry is.entries (subst (λ l. IsTrieOf cmp code bits old l is.entries) (sym link) is.rooted.trie) in
+    let room = c.reserve.ensures.rest in
+    let one = c.reserve.new.self in
+    let mid = c.own_child-root.new.self in
+    let r = c.own_child-root.result in
+    let ownc : OwnsChild one mid parent child r = record {
+      inside = omega (arith, c.requires.child, ap (λ w. length (links_of w)) (room.rows parent));
+      same = c.own_child-root.ensures.same;
+      row = c.own_child-root.ensures.row;
+      sole = c.own_child-root.ensures.sole;
+      fresh = c.own_child-root.ensures.fresh;
+      head = c.own_child-root.ensures.parent_head;
+      links = c.own_child-root.ensures.parent_links;
+      stays = c.own_child-root.ensures.stays;
+      others = c.own_child-root.ensures.others;
+      owners = c.own_child-root.ensures.owners;
+      changes = c.own_child-root.ensures.changes;
+      makes = c.own_child-root.ensures.makes;
+    } in
+    let own : IsOwned (by_place parent child) old mid r = after-room room (owned-place room.graph ownc) in
+    let held_one : 0 < holds_at one c.args.value = omega (arith, c.requires.held, room.holds c.args.value) in
+    let off_one : Reaches (links_at one) c.args.value parent → ⊥ = λ way. c.requires.apart (Reaches-by (links_at one) (links_at old) (λ l. ap links_of (sym (room.rows l))) c.args.value parent way) in
+    let held_mid = own-held one mid parent child r room.graph ownc c.args.value held_one in
+    let off_mid = own-apart one mid parent child r room.graph ownc c.args.value held_one off_one in
+    let did = c.bound.ensures is.entries M (can-bind cmp code total (by_place parent child) bits old mid r own M is key c.look_up-found.result.entry ownc.changes.trades.graph entry_is) in
+    let new = c.bound.new.heap in
+    let makes = makes-came room (Gains-trans (gains-child one mid parent child r ownc) did.gains) in
+    let made = puts-value cmp code total (by_place parent child) bits old mid r own M is key new c.args.value c.bound.result did makes in
+    handed-apart cmp code old new parent child r bits M key c.args.value own.graph c.requires.child (omega (arith, c.requires.held)) c.requires.apart is made.others
 
 pub returns-clause-changes : goal.returns-clause-changes
 returns-clause-changes g c = λ M is.

@@ -219,7 +219,7 @@ returns-then-depth-eq-DEEPEST g t c = λ E left key can keyed is_code absent.
     let small : c.args.code < 2 ^ CODE_BITS = omega arith in
     let all_small = λ (k : g.row.T.Denot). masked-small (g.T.Element.code_of k) c.args.bits c.requires.bits in
     let chain = chain-at cmp code old c.args.row d left c.args.code E can.below at.0 at.1 at.2 at.3 c.in-Node.index spot (omega (arith, c.if-depth-eq-DEEPEST.true)) in
-    puts-chain cmp code equal old left d c.args.row c.args.code E key c.args.entry is_code can at.0 at.1 at.2 at.3 c.put_in_chain.new.heap c.in-Node.index spot c.if-depth-eq-DEEPEST.true small all_small (c.put_in_chain.ensures P key chain.1 keyed (absent-part cmp code equal old left d c.args.row c.args.code E key c.args.entry is_code can at.0 at.1 at.2 at.3 absent))
+    puts-chain cmp code equal old left d c.args.row c.args.code E key c.args.entry is_code can at.0 at.1 at.2 at.3 c.put_in_chain.new.heap c.in-Node.index spot c.if-depth-eq-DEEPEST.true small all_small (c.put_in_chain.ensures P key chain.1 keyed (absent-part cmp code equal old left d c.args.row c.args.code E key c.args.entry is_code can at.0 at.1 at.2 at.3 absent)) absent
 
 pub returns-else-depth-eq-DEEPEST : goal.returns-else-depth-eq-DEEPEST
 returns-else-depth-eq-DEEPEST g t c = λ E left key can keyed is_code absent.

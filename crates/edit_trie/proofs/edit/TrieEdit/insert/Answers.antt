@@ -19,6 +19,7 @@ use Rattle.edit_trie.specs.Edit.{PutsValue}
 use Rattle.edit_trie.proofs.RowLemmas.{node-form}
 use Rattle.edit_trie.proofs.RootLemmas.{Owns, IsOwned, owns, owned-hold, after-room, makes-came, to-need, held-mid, apart-mid}
 use Rattle.edit_trie.proofs.PutTop.{can-bind, puts-value, pairs-of, can-bind-of, puts-before}
+use Rattle.edit_trie.proofs.LawLemmas.{handed-stays}
 use Rattle.edit_trie.proofs.edit.TrieEdit.insert.Goals as goal
 
 pub returns-then-is_err-clause-ample : goal.returns-then-is_err-clause-ample
@@ -63,7 +64,7 @@ bound-requires-clause-held g c =
     let held : HasHolds one (c.self.inside.root ∷ c.args.value ∷ []) = λ k.
     omega (arith, c.requires.held k, room.holds k, ap (λ (q : Root). count k (q.root ∷ c.args.value ∷ [])) c.self.view_is) in
     let root_held : 0 < holds_at one c.self.inside.root = omega (arith, held c.self.inside.root, count-cons c.self.inside.root c.self.inside.root (c.args.value ∷ []), test_same c.self.inside.root c.self.inside.root refl) in
-    let hold : Owns one mid c.self.inside.root r = owns refl room.graph root_held did_own.same did_own.row did_own.sole did_own.fresh did_own.owners did_own.builds in
+    let hold : Owns one mid c.self.inside.root r = owns refl room.graph root_held did_own.same did_own.row did_own.sole did_own.fresh did_own.owners did_own.builds did_own.makes in
     let own : IsOwned (by_hold c.self.inside.root) old mid r = after-room room (owned-hold hold) in
     held-mid hold c.args.value held
 
@@ -83,7 +84,7 @@ bound-requires-clause-apart g c =
     let held : HasHolds one (c.self.inside.root ∷ c.args.value ∷ []) = λ k.
     omega (arith, c.requires.held k, room.holds k, ap (λ (q : Root). count k (q.root ∷ c.args.value ∷ [])) c.self.view_is) in
     let root_held : 0 < holds_at one c.self.inside.root = omega (arith, held c.self.inside.root, count-cons c.self.inside.root c.self.inside.root (c.args.value ∷ []), test_same c.self.inside.root c.self.inside.root refl) in
-    let hold : Owns one mid c.self.inside.root r = owns refl room.graph root_held did_own.same did_own.row did_own.sole did_own.fresh did_own.owners did_own.builds in
+    let hold : Owns one mid c.self.inside.root r = owns refl room.graph root_held did_own.same did_own.row did_own.sole did_own.fresh did_own.owners did_own.builds did_own.makes in
     let own : IsOwned (by_hold c.self.inside.root) old mid r = after-room room (owned-hold hold) in
     apart-mid hold c.args.value held
 
@@ -106,7 +107,7 @@ bound-requires-clause-map g c =
     let held : HasHolds one (c.self.inside.root ∷ c.args.value ∷ []) = λ k.
     omega (arith, c.requires.held k, room.holds k, ap (λ (q : Root). count k (q.root ∷ c.args.value ∷ [])) c.self.view_is) in
     let root_held : 0 < holds_at one c.self.inside.root = omega (arith, held c.self.inside.root, count-cons c.self.inside.root c.self.inside.root (c.args.value ∷ []), test_same c.self.inside.root c.self.inside.root refl) in
-    let hold : Owns one mid c.self.inside.root r = owns refl room.graph root_held did_own.same did_own.row did_own.sole did_own.fresh did_own.owners did_own.builds in
+    let hold : Owns one mid c.self.inside.root r = owns refl room.graph root_held did_own.same did_own.row did_own.sole did_own.fresh did_own.owners did_own.builds did_own.makes in
     let own : IsOwned (by_hold c.self.inside.root) old mid r = after-room room (owned-hold hold) in
     let spare = at-ok c.reserve.result fine c.reserve.ensures.spares in (
       is.entries,
@@ -132,7 +133,7 @@ returns-clause-puts g c = λ M here.
     let held : HasHolds one (c.self.inside.root ∷ c.args.value ∷ []) = λ k.
     omega (arith, c.requires.held k, room.holds k, ap (λ (q : Root). count k (q.root ∷ c.args.value ∷ [])) c.self.view_is) in
     let root_held : 0 < holds_at one c.self.inside.root = omega (arith, held c.self.inside.root, count-cons c.self.inside.root c.self.inside.root (c.args.value ∷ []), test_same c.self.inside.root c.self.inside.root refl) in
-    let hold : Owns one mid c.self.inside.root r = owns refl room.graph root_held did_own.same did_own.row did_own.sole did_own.fresh did_own.owners did_own.builds in
+    let hold : Owns one mid c.self.inside.root r = owns refl room.graph root_held did_own.same did_own.row did_own.sole did_own.fresh did_own.owners did_own.builds did_own.makes in
     let own : IsOwned (by_hold c.self.inside.root) old mid r = after-room room (owned-hold hold) in
     let did = c.bound.ensures is.entries M (can-bind cmp code total (by_hold c.self.inside.root) bits old mid r own M is key c.look_up-found.result.entry did_own.builds.graph (c.look_up-found.ensures.entry is.entries is.rooted.trie)) in
     let makes = makes-came room (Gains-trans (Gains-Builds did_own.builds) did.gains) in
@@ -157,12 +158,38 @@ returns-clause-entries g c = λ E here.
     let held : HasHolds one (c.self.inside.root ∷ c.args.value ∷ []) = λ k.
     omega (arith, c.requires.held k, room.holds k, ap (λ (q : Root). count k (q.root ∷ c.args.value ∷ [])) c.self.view_is) in
     let root_held : 0 < holds_at one c.self.inside.root = omega (arith, held c.self.inside.root, count-cons c.self.inside.root c.self.inside.root (c.args.value ∷ []), test_same c.self.inside.root c.self.inside.root refl) in
-    let hold : Owns one mid c.self.inside.root r = owns refl room.graph root_held did_own.same did_own.row did_own.sole did_own.fresh did_own.owners did_own.builds in
+    let hold : Owns one mid c.self.inside.root r = owns refl room.graph root_held did_own.same did_own.row did_own.sole did_own.fresh did_own.owners did_own.builds did_own.makes in
     let own : IsOwned (by_hold c.self.inside.root) old mid r = after-room room (owned-hold hold) in
     let mine = entries-seen c.self.view_is here in
     let N = (pairs-of cmp code total (by_hold c.self.inside.root) bits old mid r own M is key E mine).0 in
     let did = c.bound.ensures E N (can-bind-of cmp code total (by_hold c.self.inside.root) bits old mid r own M is key E mine c.look_up-found.result.entry did_own.builds.graph (c.look_up-found.ensures.entry E mine.trie)) in
     puts-before cmp code total (by_hold c.self.inside.root) bits old mid r own M is key E mine c.bound.new.heap c.args.value did.entries
+
+pub returns-clause-value : goal.returns-clause-value
+returns-clause-value g c =
+    let cmp = g.T.Ord.cmp in
+    let code = g.T.Element.code_of in
+    let total = g.met.T.Ord.total in
+    let bits = c.self.inside.bits in
+    let key = c.args.key in
+    let old = c.args.heap.now in
+    let M = c.requires.contents.0 in
+    let is = map-seen c.self.view_is c.requires.contents.1 in
+    let room = c.reserve.ensures.rest in
+    let one = c.reserve.new.self in
+    let did_own = c.own-self-inside.ensures in
+    let mid = c.own-self-inside.new.self in
+    let r = c.own-self-inside.result in
+    let held : HasHolds one (c.self.inside.root ∷ c.args.value ∷ []) = λ k.
+    omega (arith, c.requires.held k, room.holds k, ap (λ (q : Root). count k (q.root ∷ c.args.value ∷ [])) c.self.view_is) in
+    let root_held : 0 < holds_at one c.self.inside.root = omega (arith, held c.self.inside.root, count-cons c.self.inside.root c.self.inside.root (c.args.value ∷ []), test_same c.self.inside.root c.self.inside.root refl) in
+    let hold : Owns one mid c.self.inside.root r = owns refl room.graph root_held did_own.same did_own.row did_own.sole did_own.fresh did_own.owners did_own.builds did_own.makes in
+    let own : IsOwned (by_hold c.self.inside.root) old mid r = after-room room (owned-hold hold) in
+    let did = c.bound.ensures is.entries M (can-bind cmp code total (by_hold c.self.inside.root) bits old mid r own M is key c.look_up-found.result.entry did_own.builds.graph (c.look_up-found.ensures.entry is.entries is.rooted.trie)) in
+    let makes = makes-came room (Gains-trans (Gains-Builds did_own.builds) did.gains) in
+    let made = puts-value cmp code total (by_hold c.self.inside.root) bits old mid r own M is key c.bound.new.heap c.args.value c.bound.result did makes in
+    let all : HasHolds old (c.self.inside.root ∷ c.args.value ∷ []) = λ k. omega (arith, c.requires.held k, ap (λ (q : Root). count k (q.root ∷ c.args.value ∷ [])) c.self.view_is) in
+    handed-stays cmp code old c.bound.new.heap c.self.inside.root r bits M key c.args.value own.graph all is made.others
 
 pub returns-clause-spares : goal.returns-clause-spares
 returns-clause-spares g c = λ M here.
@@ -182,7 +209,7 @@ returns-clause-spares g c = λ M here.
     let held : HasHolds one (c.self.inside.root ∷ c.args.value ∷ []) = λ k.
     omega (arith, c.requires.held k, room.holds k, ap (λ (q : Root). count k (q.root ∷ c.args.value ∷ [])) c.self.view_is) in
     let root_held : 0 < holds_at one c.self.inside.root = omega (arith, held c.self.inside.root, count-cons c.self.inside.root c.self.inside.root (c.args.value ∷ []), test_same c.self.inside.root c.self.inside.root refl) in
-    let hold : Owns one mid c.self.inside.root r = owns refl room.graph root_held did_own.same did_own.row did_own.sole did_own.fresh did_own.owners did_own.builds in
+    let hold : Owns one mid c.self.inside.root r = owns refl room.graph root_held did_own.same did_own.row did_own.sole did_own.fresh did_own.owners did_own.builds did_own.makes in
     let own : IsOwned (by_hold c.self.inside.root) old mid r = after-room room (owned-hold hold) in
     let did = c.bound.ensures is.entries M (can-bind cmp code total (by_hold c.self.inside.root) bits old mid r own M is key c.look_up-found.result.entry did_own.builds.graph (c.look_up-found.ensures.entry is.entries is.rooted.trie)) in
     let alike = alike-pairs (form_at old) code bits key is.entries M is.pairs in

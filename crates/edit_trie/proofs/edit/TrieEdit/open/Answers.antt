@@ -27,7 +27,7 @@ returns-clause-contents g c = λ M is.
     let room = c.in-Ok.ensures.rest in
     let held : 0 < holds_at c.reserve.new.self c.args.map.root = omega (arith, c.requires.held, room.holds c.args.map.root) in
     let own : IsOwned (by_hold c.args.map.root) c.args.heap.now c.own-root.new.self c.own-root.result =
-    after-room room (owned-hold (owns c.into_root.ensures room.graph held did.same did.row did.sole did.fresh did.owners did.builds)) in
+    after-room room (owned-hold (owns c.into_root.ensures room.graph held did.same did.row did.sole did.fresh did.owners did.builds did.makes)) in
     let bits : c.bits-bits.result ≡ c.args.map.bits = c.bits-bits.ensures ∙ ap (λ (q : Root). q.bits) c.view.ensures in
     subst (λ b. IsMapOf g.T.Ord.cmp g.T.Element.code_of c.own-root.new.self (by_bits b c.own-root.result) M) (sym bits)
     (map-top g.T.Ord.cmp g.T.Element.code_of (by_hold c.args.map.root) c.args.map.bits c.args.heap.now c.own-root.new.self c.own-root.result own M is)
@@ -38,7 +38,7 @@ returns-clause-entries g c = λ E is.
     let room = c.in-Ok.ensures.rest in
     let held : 0 < holds_at c.reserve.new.self c.args.map.root = omega (arith, c.requires.held, room.holds c.args.map.root) in
     let own : IsOwned (by_hold c.args.map.root) c.args.heap.now c.own-root.new.self c.own-root.result =
-    after-room room (owned-hold (owns c.into_root.ensures room.graph held did.same did.row did.sole did.fresh did.owners did.builds)) in
+    after-room room (owned-hold (owns c.into_root.ensures room.graph held did.same did.row did.sole did.fresh did.owners did.builds did.makes)) in
     let bits : c.bits-bits.result ≡ c.args.map.bits = c.bits-bits.ensures ∙ ap (λ (q : Root). q.bits) c.view.ensures in
     subst (λ b. HasEntries g.T.Ord.cmp g.T.Element.code_of c.own-root.new.self (by_bits b c.own-root.result) E) (sym bits)
     (entries-owned g.T.Ord.cmp g.T.Element.code_of (by_hold c.args.map.root) c.args.map.bits c.args.heap.now c.own-root.new.self c.own-root.result own E is)
@@ -49,7 +49,7 @@ returns-clause-edits g c =
     let room = c.in-Ok.ensures.rest in
     let held : 0 < holds_at c.reserve.new.self c.args.map.root = omega (arith, c.requires.held, room.holds c.args.map.root) in
     let own : IsOwned (by_hold c.args.map.root) c.args.heap.now c.own-root.new.self c.own-root.result =
-    after-room room (owned-hold (owns c.into_root.ensures room.graph held did.same did.row did.sole did.fresh did.owners did.builds)) in
+    after-room room (owned-hold (owns c.into_root.ensures room.graph held did.same did.row did.sole did.fresh did.owners did.builds did.makes)) in
     edits-top g.T.Ord.cmp g.T.Element.code_of (by_hold c.args.map.root) c.args.map.bits c.args.heap.now c.own-root.new.self c.own-root.result own did.builds.graph
 
 pub returns-clause-extends : goal.returns-clause-extends

@@ -28,7 +28,7 @@ use Rattle.edit_trie.specs.Walk.{CanEdit, CutsIn}
 use Rattle.edit_trie.proofs.RowLemmas.{node-form}
 use Rattle.edit_trie.proofs.ChainLemmas.{read-child}
 use Rattle.edit_trie.proofs.ChainCutLemmas.{hold-change}
-use Rattle.edit_trie.proofs.RootLemmas.{Owns, IsOwned, owns, owned-hold, after-room, to-need, released-need}
+use Rattle.edit_trie.proofs.RootLemmas.{Owns, IsOwned, owns, owned-hold, after-room, makes-came, to-need, released-need}
 use Rattle.edit_trie.proofs.OwnTop.{can-top}
 use Rattle.edit_trie.proofs.CutTop.{value-off, value-live, cut-held, entries-new, cuts-key}
 use Rattle.edit_trie.proofs.edit.TrieEdit.remove.Goals as goal
@@ -146,7 +146,7 @@ cut_below-cut-requires-clause-row g c =
     let mid = c.own-self-inside.new.self in
     let r = c.own-self-inside.result in
     let held : 0 < holds_at one c.self.inside.root = omega (arith, c.requires.held, room.holds c.self.inside.root, ap (λ (q : Root). holds_at old q.root) c.self.view_is) in
-    let hold : Owns one mid c.self.inside.root r = owns refl room.graph held did_own.same did_own.row did_own.sole did_own.fresh did_own.owners did_own.builds in
+    let hold : Owns one mid c.self.inside.root r = owns refl room.graph held did_own.same did_own.row did_own.sole did_own.fresh did_own.owners did_own.builds did_own.makes in
     let own : IsOwned (by_hold c.self.inside.root) old mid r = after-room room (owned-hold hold) in
     let code_is : c.masked-code.result ≡ code_by code bits key = c.masked-code.ensures.kept ∙ ap (λ n. masked_code n bits) c.code.ensures in
     let can = can-top cmp code total (by_hold c.self.inside.root) bits old mid r own M is key did_own.builds.graph in
@@ -180,7 +180,7 @@ hold-requires-clause-live g c =
     let mid = c.own-self-inside.new.self in
     let r = c.own-self-inside.result in
     let held : 0 < holds_at one c.self.inside.root = omega (arith, c.requires.held, room.holds c.self.inside.root, ap (λ (q : Root). holds_at old q.root) c.self.view_is) in
-    let hold : Owns one mid c.self.inside.root r = owns refl room.graph held did_own.same did_own.row did_own.sole did_own.fresh did_own.owners did_own.builds in
+    let hold : Owns one mid c.self.inside.root r = owns refl room.graph held did_own.same did_own.row did_own.sole did_own.fresh did_own.owners did_own.builds did_own.makes in
     let own : IsOwned (by_hold c.self.inside.root) old mid r = after-room room (owned-hold hold) in
     let code_is : c.masked-code.result ≡ code_by code bits key = c.masked-code.ensures.kept ∙ ap (λ n. masked_code n bits) c.code.ensures in
     let can = can-top cmp code total (by_hold c.self.inside.root) bits old mid r own M is key did_own.builds.graph in
@@ -216,7 +216,7 @@ hold-requires-clause-few g c =
     let mid = c.own-self-inside.new.self in
     let r = c.own-self-inside.result in
     let held : 0 < holds_at one c.self.inside.root = omega (arith, c.requires.held, room.holds c.self.inside.root, ap (λ (q : Root). holds_at old q.root) c.self.view_is) in
-    let hold : Owns one mid c.self.inside.root r = owns refl room.graph held did_own.same did_own.row did_own.sole did_own.fresh did_own.owners did_own.builds in
+    let hold : Owns one mid c.self.inside.root r = owns refl room.graph held did_own.same did_own.row did_own.sole did_own.fresh did_own.owners did_own.builds did_own.makes in
     let own : IsOwned (by_hold c.self.inside.root) old mid r = after-room room (owned-hold hold) in
     let code_is : c.masked-code.result ≡ code_by code bits key = c.masked-code.ensures.kept ∙ ap (λ n. masked_code n bits) c.code.ensures in
     let can = can-top cmp code total (by_hold c.self.inside.root) bits old mid r own M is key did_own.builds.graph in
@@ -252,7 +252,7 @@ release-requires g c =
     let mid = c.own-self-inside.new.self in
     let r = c.own-self-inside.result in
     let held : 0 < holds_at one c.self.inside.root = omega (arith, c.requires.held, room.holds c.self.inside.root, ap (λ (q : Root). holds_at old q.root) c.self.view_is) in
-    let hold : Owns one mid c.self.inside.root r = owns refl room.graph held did_own.same did_own.row did_own.sole did_own.fresh did_own.owners did_own.builds in
+    let hold : Owns one mid c.self.inside.root r = owns refl room.graph held did_own.same did_own.row did_own.sole did_own.fresh did_own.owners did_own.builds did_own.makes in
     let own : IsOwned (by_hold c.self.inside.root) old mid r = after-room room (owned-hold hold) in
     let code_is : c.masked-code.result ≡ code_by code bits key = c.masked-code.ensures.kept ∙ ap (λ n. masked_code n bits) c.code.ensures in
     let can = can-top cmp code total (by_hold c.self.inside.root) bits old mid r own M is key did_own.builds.graph in
@@ -287,7 +287,7 @@ returns-clause-cuts g c = λ M here.
     let mid = c.own-self-inside.new.self in
     let r = c.own-self-inside.result in
     let held : 0 < holds_at one c.self.inside.root = omega (arith, c.requires.held, room.holds c.self.inside.root, ap (λ (q : Root). holds_at old q.root) c.self.view_is) in
-    let hold : Owns one mid c.self.inside.root r = owns refl room.graph held did_own.same did_own.row did_own.sole did_own.fresh did_own.owners did_own.builds in
+    let hold : Owns one mid c.self.inside.root r = owns refl room.graph held did_own.same did_own.row did_own.sole did_own.fresh did_own.owners did_own.builds did_own.makes in
     let own : IsOwned (by_hold c.self.inside.root) old mid r = after-room room (owned-hold hold) in
     let code_is : c.masked-code.result ≡ code_by code bits key = c.masked-code.ensures.kept ∙ ap (λ n. masked_code n bits) c.code.ensures in
     let can = can-top cmp code total (by_hold c.self.inside.root) bits old mid r own M is key did_own.builds.graph in
@@ -303,7 +303,8 @@ returns-clause-cuts g c = λ M here.
     let five = c.hold.new.self in
     let off = value-off cmp code total (by_hold c.self.inside.root) bits old mid four four four r cut value x own (held-root hold.graph hold.held hold.sole hold.builds) M is key found value_is did_own.builds.graph did in
     let kept = hold-change r value did.changes.trades.graph c.hold.ensures.graph c.hold.ensures.rows c.hold.ensures.holds c.hold.ensures.owners c.hold.ensures.makes c.hold.ensures.count c.hold.ensures.extends off in
-    let made = cuts-key cmp code total (by_hold c.self.inside.root) bits old mid four five c.release.new.self r cut value x own (held-root hold.graph hold.held hold.sole hold.builds) M is key found value_is did_own.builds.graph did c.hold.ensures.rows c.hold.ensures.holds c.hold.ensures.owners kept c.release.ensures.releases c.release.ensures.graph c.release.ensures.below in
+    let makes = makes-came room (Gains-trans (Gains-Builds did_own.builds) did.gains) in
+    let made = cuts-key cmp code total (by_hold c.self.inside.root) bits old mid four five c.release.new.self r cut value x own (held-root hold.graph hold.held hold.sole hold.builds) M is key found value_is did_own.builds.graph did c.hold.ensures.rows c.hold.ensures.holds c.hold.ensures.owners kept c.release.ensures.releases c.release.ensures.graph c.release.ensures.below makes c.hold.ensures.makes in
     subst (λ (q : Root). CutsKey cmp code (by_hold q.root) q.bits old c.release.new.self r M key value) c.self.view_is made
 
 pub returns-clause-entries : goal.returns-clause-entries
@@ -327,7 +328,7 @@ returns-clause-entries g c = λ E here.
     let mid = c.own-self-inside.new.self in
     let r = c.own-self-inside.result in
     let held : 0 < holds_at one c.self.inside.root = omega (arith, c.requires.held, room.holds c.self.inside.root, ap (λ (q : Root). holds_at old q.root) c.self.view_is) in
-    let hold : Owns one mid c.self.inside.root r = owns refl room.graph held did_own.same did_own.row did_own.sole did_own.fresh did_own.owners did_own.builds in
+    let hold : Owns one mid c.self.inside.root r = owns refl room.graph held did_own.same did_own.row did_own.sole did_own.fresh did_own.owners did_own.builds did_own.makes in
     let own : IsOwned (by_hold c.self.inside.root) old mid r = after-room room (owned-hold hold) in
     let code_is : c.masked-code.result ≡ code_by code bits key = c.masked-code.ensures.kept ∙ ap (λ n. masked_code n bits) c.code.ensures in
     let can = can-top cmp code total (by_hold c.self.inside.root) bits old mid r own M is key did_own.builds.graph in
@@ -383,7 +384,7 @@ returns-clause-spares g c = λ M here.
     let mid = c.own-self-inside.new.self in
     let r = c.own-self-inside.result in
     let held : 0 < holds_at one c.self.inside.root = omega (arith, c.requires.held, room.holds c.self.inside.root, ap (λ (q : Root). holds_at old q.root) c.self.view_is) in
-    let hold : Owns one mid c.self.inside.root r = owns refl room.graph held did_own.same did_own.row did_own.sole did_own.fresh did_own.owners did_own.builds in
+    let hold : Owns one mid c.self.inside.root r = owns refl room.graph held did_own.same did_own.row did_own.sole did_own.fresh did_own.owners did_own.builds did_own.makes in
     let own : IsOwned (by_hold c.self.inside.root) old mid r = after-room room (owned-hold hold) in
     let code_is : c.masked-code.result ≡ code_by code bits key = c.masked-code.ensures.kept ∙ ap (λ n. masked_code n bits) c.code.ensures in
     let can = can-top cmp code total (by_hold c.self.inside.root) bits old mid r own M is key did_own.builds.graph in
