@@ -4,9 +4,10 @@ use Rattle.std.specs.Prelude.{◌==◌, nat_lt}
 use Rattle.std.specs.List.{position, position_or_len}
 use Rattle.std.proofs.lemmas.List.{drop_more, get_or-drop, get_or-take, get_or_default, take_rest, take_all}
 use Rattle.std.proofs.lemmas.List.Quantifiers.{position-Some}
-use Rattle.std.proofs.lemmas.List.Sums.{fails_before_first}
-use Rattle.std.proofs.lemmas.Bool.{eqb-true, eqb-false, lt-ltb, ltb-false, cases_Bool}
+use Rattle.std.proofs.lemmas.List.Sums.{fails_before_first, position_or_len_is}
+use Rattle.std.proofs.lemmas.Bool.{eqb-true, eqb-false, lt-ltb, le-ltb, ltb-false, cases_Bool, false_from_ne_true}
 use Rattle.std.specs.declared.option.Option.{Option}
+use Rattle.memchr.specs.Find.{IsFirstByte, is_byte}
 use Rattle.elem_core.specs.declared.TheConstants.{NEWLINE}
 use Rattle.shell_io.specs.Pieces.{IsUnbroken}
 use Rattle.shell_io.proofs.PiecesLemmas.{take_plus}
@@ -22,6 +23,20 @@ unbroken_below xs n within none = λ (k, h, e).
     let inside : k < n = omega (arith, length-take n xs, h) in
     eqb-false (get_or xs k 0) NEWLINE (none k inside)
     (get_or_default xs k 0 NEWLINE (omega arith) ∙ sym (get_or-take n xs k NEWLINE inside) ∙ e)
+
+-- what a search answers is the first newline
+pub newline_is : (xs : List ℕ) (r : Option ℕ) → IsFirstByte (is_byte NEWLINE) xs r → r ≡ first_newline xs
+newline_is xs None nowhere =
+    let e : position_or_len (λ byte. byte == NEWLINE) xs ≡ length xs =
+    position_or_len_is (λ byte. byte == NEWLINE) xs (length xs) 0 (omega arith)
+    (λ k h. false_from_ne_true _ (nowhere k (omega arith) h)) (λ h. absurd (omega (arith, h))) in
+    rw (e, le-ltb (length xs) (length xs) (omega arith))
+newline_is xs (Some at) found =
+    let first = found.0 in
+    let e : position_or_len (λ byte. byte == NEWLINE) xs ≡ at =
+    position_or_len_is (λ byte. byte == NEWLINE) xs at 0 (omega (arith, first.high))
+    (λ k h. false_from_ne_true _ (first.before k (omega arith) h)) (λ h. found.1) in
+    rw (e, lt-ltb at (length xs) first.high)
 
 record Found (xs : List ℕ) (at : ℕ) : Type 0 where
   inside : at < length xs

@@ -12,6 +12,7 @@ ghost use Rattle.shell_io.specs.Reader.{Reading, StandsIn, Answers, SamePlace, P
 use super::device::{Failed, Source};
 use super::window::Window;
 use elem_core::{MAX_LINE, NEWLINE, NoMemory};
+use memchr::memchr;
 use std::alloc::Global;
 use std::marker::Model;
 
@@ -329,5 +330,5 @@ pub(crate) fn newline_from(bytes: &[u8], from: usize) -> Option<usize>
 fn newline_in(bytes: &[u8]) -> Option<usize>
     ensures { result ≡ position (λ byte. byte == NEWLINE) bytes.now }
 {
-    bytes.iter().position(|byte| *byte == NEWLINE)
+    memchr(NEWLINE, bytes)
 }
