@@ -17,7 +17,7 @@ import tempfile
 sys.dont_write_bytecode = True
 from workloads import Dice
 
-LINES, TIMES, EDITS = 100_000, 2_000, 1_000
+LINES, TIMES, EDITS, MANY = 100_000, 2_000, 1_000, 1_000
 
 
 def edits(dice):
@@ -30,6 +30,10 @@ def edits(dice):
             yield "add b edit %d" % i if kind == 1 else "copy a c%d" % (i % 20)
 
 
+def show(start, count):
+    return "show a %d %d" % (start, start + count)
+
+
 def scripts():
     """For each key: what is counted, the lines before, those that count, and one after."""
     read, dice = ["read a text"], Dice(3)
@@ -37,6 +41,7 @@ def scripts():
     sets = ["set a %d changed %d" % (dice.below(LINES), i) for i in range(TIMES)]
     gets = ["get a %d" % dice.below(LINES) for _ in range(TIMES)]
     names = ["begin"] + ["new name.%d" % i for i in range(10_000)] + ["end"]
+    some = ["begin"] + ["new name.%d" % i for i in range(MANY)] + ["end"]
     half = TIMES // 4
     return {
         "a": ("append outside a batch", read, adds, []),
@@ -45,6 +50,10 @@ def scripts():
         "m": ("random `set` in a batch", read + ["begin"], sets, ["end"]),
         "h": ("`undo` and `redo`", read + ["new b", *edits(dice)], (["undo"] * half + ["redo"] * half) * 2, []),
         "l": ("random `get`", read, gets, []),
+        "p": ("`show` of one line", read, [show(dice.below(LINES), 1) for _ in range(TIMES)], []),
+        "q": ("`show` of 100 lines", read, [show(dice.below(LINES - MANY), 100) for _ in range(TIMES // 10)], []),
+        "r": ("`show` of 1,000 lines", read, [show(dice.below(LINES - MANY), MANY) for _ in range(TIMES // 20)], []),
+        "s": ("`list` of 1,000 names", some, ["list"] * (TIMES // 20), []),
         "n": ("`new` beside 10,000 names", names, ["new other.%d" % i for i in range(TIMES)], []),
         "o": ("`drop` among 10,000 names", names, ["drop name.%d" % i for i in range(TIMES)], []),
     }

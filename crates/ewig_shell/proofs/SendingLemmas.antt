@@ -80,6 +80,10 @@ module _ {K : Type 0} {written : K → Option (List ℕ)} {faults : K → ℕ} {
   Sends-then {old = old} {new} sent went {result} {a} e p =
       subst (λ (r : Result Went Failed). Sends written faults steady has_room old new r a) (sym e) (sends_then sent went p)
 
+  -- the same piece
+  pub Sends-as : {A : Type 0} {old new : K} {result : Result A Failed} {a b : List ℕ} → a ≡ b → Sends written faults steady has_room old new result a → Sends written faults steady has_room old new result b
+  Sends-as {old = old} {new} {result} e p = subst (λ (w : List ℕ). Sends written faults steady has_room old new result w) e p
+
   -- nothing was sent
   pub Sends-none : {A : Type 0} {at : K} {x : A} → Sends written faults steady has_room at at (Ok x) []
   Sends-none {at = at} = record {

@@ -6,7 +6,7 @@ ghost use Rattle.shell_io.specs.Sending.{Sends};
 ghost use Rattle.ewig_shell.specs.Sending.{Puts};
 ghost use Rattle.ewig_shell.specs.Step.{reply_of};
 
-use arrayvec::ArrayVec;
+use arrayvec::ArrayString;
 use elem_core::Text;
 use itoa::Buffer;
 use shell_io::{Failed, Sink, write_all};
@@ -15,11 +15,11 @@ use std::marker::Model;
 /// How many bytes a page has room for. It is small, since it stands on the stack.
 pub const PAGE: usize = 1024;
 
-/// A buffer of fixed size, so that a short reply goes out in one piece, and a long one in few, with no memory taken. Contracts
-/// see its bytes.
+/// A text of limited size, so that a short reply goes out in one piece, and a long one in few, with no memory taken. Contracts see
+/// its bytes.
 #[derive(Drop)]
 pub struct Page {
-    bytes: ArrayVec<u8, PAGE>,
+    text: ArrayString<PAGE>,
 }
 
 impl Model for Page {
@@ -27,7 +27,7 @@ impl Model for Page {
 
     ghost Value = { List ℕ };
 
-    ghost view = { λ it. it.bytes.items };
+    ghost view = { λ it. it.text.bytes };
 }
 
 impl Page {
@@ -36,7 +36,7 @@ impl Page {
         ensures { result ≡ [] }
     {
         Page {
-            bytes: ArrayVec::new(),
+            text: ArrayString::new(),
         }
     }
 
@@ -45,33 +45,43 @@ impl Page {
         ensures sends { Sends K.written K.faults K.steady K.has_room sink.old sink.new result self.old }
         ensures empty { self.new ≡ [] }
     {
-        let sent = write_all(sink, self.bytes.as_slice());
-        self.bytes.clear();
+        let sent = write_all(sink, self.text.as_str().as_bytes());
+        self.text.clear();
         sent
     }
 
-    /// Puts the bytes at the end. What stands before them is sent where they don't fit, and they are where a page has no room
-    /// for them.
-    pub fn put<K: Sink>(&mut self, bytes: &[u8], sink: &mut K) -> Result<(), Failed>
-        ensures { Puts K.Sink sink.old self.old sink.new self.new result bytes.now }
+    /// Puts the text at the end. What stands before it is sent where it doesn't fit, and it is where a page has no room for it.
+    pub fn put<K: Sink>(&mut self, text: &str, sink: &mut K) -> Result<(), Failed>
+        ensures { Puts K.Sink sink.old self.old sink.new self.new result text.now }
     {
-        if self.bytes.try_extend_from_slice(bytes).is_ok() {
+        if text.len() <= self.text.remaining_capacity() {
+            self.text.push_str(text);
             return Ok(());
         }
         self.flush(sink)?;
-        if self.bytes.try_extend_from_slice(bytes).is_ok() {
+        if text.len() <= self.text.remaining_capacity() {
+            self.text.push_str(text);
             return Ok(());
         }
-        write_all(sink, bytes)
+        write_all(sink, text.as_bytes())
     }
 
     /// Puts a line that shows the text.
     pub fn put_text<K: Sink>(&mut self, text: &Text, sink: &mut K) -> Result<(), Failed>
         ensures { Puts K.Sink sink.old self.old sink.new self.new result (reply_of (text_line text.now ∷ [])) }
     {
-        self.put(b"= ", sink)?;
-        self.put(text.text().as_bytes(), sink)?;
-        self.put(b"\n", sink)
+        let shown = text.text();
+        let room = self.text.remaining_capacity();
+        // Most lines are put by this one test of room.
+        if shown.len() + 2 < room {
+            self.text.push_str("= ");
+            self.text.push_str(shown);
+            self.text.push_str("\n");
+            return Ok(());
+        }
+        self.put("= ", sink)?;
+        self.put(shown, sink)?;
+        self.put("\n", sink)
     }
 
     /// Puts a line that shows a name and a number.
@@ -91,10 +101,10 @@ impl Page {
         ensures { Puts K.Sink sink.old self.old sink.new self.new result (reply_of (size_line (word.now, number) ∷ [])) }
     {
         let mut digits = Buffer::new();
-        self.put(b"= ", sink)?;
-        self.put(word.as_bytes(), sink)?;
-        self.put(b" ", sink)?;
-        self.put(digits.format(number).as_bytes(), sink)?;
-        self.put(b"\n", sink)
+        self.put("= ", sink)?;
+        self.put(word, sink)?;
+        self.put(" ", sink)?;
+        self.put(digits.format(number), sink)?;
+        self.put("\n", sink)
     }
 }

@@ -139,9 +139,9 @@ pub fn send_number<K: Sink>(number: u64, sink: &mut K) -> Result<(), Failed>
 {
     let mut digits = Buffer::new();
     let mut page = Page::new();
-    page.put(b"= ", sink)?;
-    page.put(digits.format(number).as_bytes(), sink)?;
-    page.put(b"\n", sink)?;
+    page.put("= ", sink)?;
+    page.put(digits.format(number), sink)?;
+    page.put("\n", sink)?;
     page.flush(sink)
 }
 
@@ -154,7 +154,7 @@ pub fn send_sizes<K: Sink>(sizes: &[(&Text, u32)], sink: &mut K) -> Result<(), F
     for (name, size) in sizes {
         page.put_size(name, *size, sink)?;
     }
-    page.put(b"ok\n", sink)?;
+    page.put("ok\n", sink)?;
     page.flush(sink)
 }
 
@@ -169,7 +169,7 @@ pub fn send_summary<K: Sink>(sums: &Summary, sink: &mut K) -> Result<(), Failed>
     page.put_count("refused", sums.refused as u128, sink)?;
     page.put_count("names", sums.names as u128, sink)?;
     page.put_count("lines", sums.lines, sink)?;
-    page.put(b"ok\n", sink)?;
+    page.put("ok\n", sink)?;
     page.flush(sink)
 }
 
@@ -182,7 +182,7 @@ pub fn send_names<K: Sink>(names: &[&Text], sink: &mut K) -> Result<(), Failed>
     for name in names {
         page.put_text(name, sink)?;
     }
-    page.put(b"ok\n", sink)?;
+    page.put("ok\n", sink)?;
     page.flush(sink)
 }
 
@@ -195,6 +195,6 @@ pub fn send_lines<K: Sink>(lines: SpaceLines<'_>, sink: &mut K) -> Result<(), Fa
     for line in lines {
         page.put_text(line, sink)?;
     }
-    page.put(b"ok\n", sink)?;
+    page.put("ok\n", sink)?;
     page.flush(sink)
 }
