@@ -18,6 +18,8 @@ mod run;
 mod save;
 #[cfg(test)]
 mod tests;
+#[cfg(test)]
+mod trial;
 mod work;
 
 use run::{Ended, Status, exit_code_of, run};

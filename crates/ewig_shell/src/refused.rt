@@ -3,11 +3,12 @@
 //! nothing to show, and ends.
 
 use crate::execute::execute;
-use crate::run::{Status, run};
-use crate::tests::{TWO_CELLS, full_undo};
+use crate::run::Status;
+use crate::trial::{FULL_UNDO, Given, TWO_CELLS, WHOLE, run_given};
 use elem_core::Line;
-use shell_io::{MemSink, MemSource, MemStore, Store};
+use shell_io::{MemSink, MemStore, Store};
 use space_state::Space;
+use std::alloc::Global;
 use std::process::Abort;
 use std::test::Fail;
 
@@ -25,8 +26,7 @@ struct Machine {
 }
 
 // A machine whose store has these bytes as the file `d`. None where memory is refused.
-fn machine_with<R: AllocGlobal>(rt: &R, held: &[u8]) -> Option<Machine> {
-    let alloc = rt.alloc();
+fn machine_with(alloc: Global, held: &[u8]) -> Option<Machine> {
     let sink = MemSink::new(alloc, ROOM, ROOM, Vec::new(alloc)).ok()?;
     let mut store = MemStore::new(alloc, Vec::new(alloc), Vec::new(alloc));
     store.keep("d", held).ok()?;
@@ -35,21 +35,25 @@ fn machine_with<R: AllocGlobal>(rt: &R, held: &[u8]) -> Option<Machine> {
 }
 
 impl Machine {
-    // Executes a line, and gives how many bytes were written before its reply.
-    fn execute<R: Abort + AllocGlobal>(&mut self, rt: &R, line: &str) -> usize {
-        let before = self.sink.bytes().len();
-        let Some(line) = Line::new(line) else {
-            return before;
-        };
-        let went = execute(
-            rt.alloc(),
+    // Executes a line, and tells whether its reply went out. No other function sees the clauses of that call.
+    fn execute(&mut self, alloc: Global, line: Line<'_>) -> bool {
+        execute(
+            alloc,
             &mut self.space,
             line.as_str().as_bytes(),
             &mut self.sink,
             &mut self.store,
-        );
-        assert!(rt; went.is_ok());
-        before
+        )
+        .is_ok()
+    }
+
+    // How many rows the space has, how many it has made, and how many bytes were written.
+    fn counts(&self) -> (usize, u64, usize) {
+        (
+            self.space.rows(),
+            self.space.made(),
+            self.sink.bytes().len(),
+        )
     }
 
     // The bytes that were written behind so many.
@@ -59,13 +63,16 @@ impl Machine {
 
     // Gives a line, and once more where memory is refused, which leaves the space as it was. Gives the reply.
     fn give<R: Abort + AllocGlobal>(&mut self, rt: &R, line: &str) -> &[u8] {
-        let rows = self.space.rows();
-        let made = self.space.made();
-        let mut before = self.execute(rt, line);
+        let Some(line) = Line::new(line) else {
+            return b"";
+        };
+        let (rows, made, mut before) = self.counts();
+        assert!(rt; self.execute(rt.alloc(), line));
         if self.reply(before) == REFUSED {
-            assert_eq!(rt; self.space.rows(), rows);
-            assert_eq!(rt; self.space.made(), made);
-            before = self.execute(rt, line);
+            let (rows_after, made_after, written) = self.counts();
+            assert_eq!(rt; (rows_after, made_after), (rows, made));
+            before = written;
+            assert!(rt; self.execute(rt.alloc(), line));
         }
         self.reply(before)
     }
@@ -125,9 +132,20 @@ const STARRED: [(&str, &str); 11] = [
     ("list", "= B 0\n= b 0\nok\n"),
 ];
 
+// Gives the lines to a machine whose store has this document as the file `d`, where there is one, which the lines save again as `e`.
+fn follows<R: Abort + AllocGlobal>(rt: &R, held: &str, lines: &[(&str, &str)]) {
+    let Some(mut machine) = machine_with(rt.alloc(), held.as_bytes()) else {
+        return;
+    };
+    machine.give_all(rt, lines);
+    if !held.is_empty() {
+        assert_eq!(rt; machine.store.file("e"), Some(held.as_bytes()));
+    }
+}
+
 // A thousand edits in a batch make few more rows than they leave.
 fn edits_in_place<R: Abort + AllocGlobal>(rt: &R) {
-    let Some(mut machine) = machine_with(rt, b"") else {
+    let Some(mut machine) = machine_with(rt.alloc(), b"") else {
         return;
     };
     for line in ["new a", "begin", "add a x"] {
@@ -150,73 +168,82 @@ fn edits_in_place<R: Abort + AllocGlobal>(rt: &R) {
 fn refused_rows(rt: HostRuntime) -> Result<(), Fail> {
     let rows: [&[(&str, &str)]; 3] = [&UNDONE, &CUT, &STARRED];
     for lines in rows {
-        if let Some(mut machine) = machine_with(&rt, b"") {
-            machine.give_all(&rt, lines);
-        }
+        follows(&rt, "", lines);
     }
     edits_in_place(&rt);
     Ok(())
 }
 
-// Documents that are loaded, with questions and their replies: a new space with its empty rows shared, two names in a sub-node, one
-// line twice, and two equal lines.
-const DOCUMENTS: [(&str, &[(&str, &str)]); 4] = [
+// Documents, and lines with their replies that load them, ask, save them again, and do an edit and take it back, which a full undo
+// refuses: a new space with its empty rows shared, two names in a sub-node, one line twice, two equal lines, and a full undo.
+const DOCUMENTS: [(&str, &[(&str, &str)]); 5] = [
     (
         r#"{"bits":32,"format":"ewig-pool","roots":[1,0,2,2],"rows":[["m",0,0,0,[]],["s",[0,0]],["l",[]]],"version":1}"#,
-        &[("stats", "= 3\n"), ("list", "ok\n")],
+        &[
+            ("load d", "ok\n"),
+            ("stats", "= 3\n"),
+            ("list", "ok\n"),
+            ("save e", "ok\n"),
+            ("new n", "ok\n"),
+            ("undo", "ok\n"),
+            ("len n", "! none\n"),
+        ],
     ),
     (
         r#"{"bits":32,"format":"ewig-pool","roots":[9,10,11,12],"rows":[["c","a"],["l",[]],["p",[0,1]],["c","A"],["l",[]],["p",[3,4]],["m",1,4194816,0,[2,5]],["m",0,0,4096,[6]],["m",0,0,0,[]],["s",[7,8]],["m",0,0,0,[]],["l",[]],["l",[]]],"version":1}"#,
-        &[("stats", "= 13\n"), ("list", "= A 0\n= a 0\nok\n")],
+        &[
+            ("load d", "ok\n"),
+            ("stats", "= 13\n"),
+            ("list", "= A 0\n= a 0\nok\n"),
+            ("save e", "ok\n"),
+            ("new n", "ok\n"),
+            ("undo", "ok\n"),
+            ("len n", "! none\n"),
+        ],
     ),
     (
         r#"{"bits":32,"format":"ewig-pool","roots":[6,7,8,9],"rows":[["c","a"],["c","x"],["l",[1,1]],["p",[0,2]],["m",0,4096,0,[3]],["m",0,0,0,[]],["s",[4,5]],["m",0,0,0,[]],["l",[]],["l",[]]],"version":1}"#,
-        &[("stats", "= 10\n"), ("show a 0 2", "= x\n= x\nok\n")],
+        &[
+            ("load d", "ok\n"),
+            ("stats", "= 10\n"),
+            ("show a 0 2", "= x\n= x\nok\n"),
+            ("save e", "ok\n"),
+            ("new n", "ok\n"),
+            ("undo", "ok\n"),
+            ("len n", "! none\n"),
+        ],
     ),
-    (TWO_CELLS, &[("stats", "= 11\n"), ("same a b", "! none\n")]),
+    (
+        TWO_CELLS,
+        &[
+            ("load d", "ok\n"),
+            ("stats", "= 11\n"),
+            ("same a b", "! none\n"),
+            ("save e", "ok\n"),
+            ("new n", "ok\n"),
+            ("undo", "ok\n"),
+            ("len n", "! none\n"),
+        ],
+    ),
+    (
+        FULL_UNDO,
+        &[
+            ("load d", "ok\n"),
+            ("stats", "= 16\n"),
+            ("save e", "ok\n"),
+            ("new n", "! limit\n"),
+            ("undo", "ok\n"),
+            ("len n", "! none\n"),
+        ],
+    ),
 ];
-
-// Loads the document, asks, and saves it again; then an edit is done and taken back, or refused where undo is full.
-fn loads<R: Abort + AllocGlobal>(rt: &R, held: &[u8], questions: &[(&str, &str)], edited: &str) {
-    if let Some(mut machine) = machine_with(rt, held) {
-        machine.give_all(rt, &[("load d", "ok\n")]);
-        machine.give_all(rt, questions);
-        machine.give_all(
-            rt,
-            &[
-                ("save e", "ok\n"),
-                ("new n", edited),
-                ("undo", "ok\n"),
-                ("len n", "! none\n"),
-            ],
-        );
-        assert_eq!(rt; machine.store.file("e"), Some(held));
-    }
-}
 
 #[test]
 fn refused_loads(rt: HostRuntime) -> Result<(), Fail> {
-    for (held, questions) in DOCUMENTS {
-        loads(&rt, held.as_bytes(), questions, "ok\n");
-    }
-    if let Some(held) = full_undo(&rt) {
-        loads(&rt, held.as_bytes(), &[("stats", "= 16\n")], "! limit\n");
+    for &(held, lines) in DOCUMENTS.iter() {
+        follows(&rt, held, lines);
     }
     Ok(())
-}
-
-// Runs a session, and gives how it ended and the sink. None where the devices get no memory.
-fn session<R: AllocGlobal>(rt: &R) -> Option<(Status, MemSink)> {
-    let alloc = rt.alloc();
-    let input = b"new a\nadd a hello\nget a 0\n"
-        .as_slice()
-        .to_vec(alloc)
-        .ok()?;
-    let mut source = MemSource::new(input, ROOM, Vec::new(alloc));
-    let mut sink = MemSink::new(alloc, ROOM, ROOM, Vec::new(alloc)).ok()?;
-    let mut store = MemStore::new(alloc, Vec::new(alloc), Vec::new(alloc));
-    let ended = run(alloc, &[], &mut source, &mut sink, &mut store);
-    Some((ended.status, sink))
 }
 
 // What the session writes where memory is ample, and where it is refused to its first or to its second line.
@@ -228,14 +255,18 @@ const WRITTEN: [&[u8]; 3] = [
 
 #[test]
 fn refused_run(rt: HostRuntime) -> Result<(), Fail> {
-    let Some((status, sink)) = session(&rt) else {
+    let given = Given {
+        input: b"new a\nadd a hello\nget a 0\n",
+        ..WHOLE
+    };
+    let Ok(left) = run_given(rt.alloc(), &given) else {
         return Ok(());
     };
-    if status == Status::Memory {
-        assert!(rt; sink.bytes().is_empty());
+    if left.status == Status::Memory {
+        assert!(rt; left.sink.bytes().is_empty());
     } else {
-        assert_eq!(rt; status, Status::Done);
-        assert!(rt; WRITTEN.contains(&sink.bytes()));
+        assert_eq!(rt; left.status, Status::Done);
+        assert!(rt; WRITTEN.contains(&left.sink.bytes()));
     }
     Ok(())
 }
