@@ -1,17 +1,19 @@
 -- How the lines of a buffer are edited below a state row with one owner.
-use Rattle.std.proofs.Common.{◌≡◌, ◌≢◌, ℕ, ◌+◌, ◌<◌, ◌≤◌, List, [], ◌∷◌, ◌++◌, length, remove, Bool, true, false, cond, eqb, Option, Some, None, refl, sym, subst, ap, ◌∙◌, arith}
+use Rattle.std.proofs.Common.{◌≡◌, ◌≢◌, ℕ, ◌+◌, ◌<◌, ◌≤◌, List, [], ◌∷◌, ◌++◌, length, remove, Bool, true, false, cond, eqb, Option, Some, None, inl, inr, refl, sym, subst, ap, ◌∙◌, arith}
 use Rattle.std.specs.Prelude.{option_map, IsSomeAnd, slice_get, slice_set}
 use Rattle.std.specs.List.{AllZip}
+use Rattle.std.proofs.lemmas.Bool.{cases_eq}
 use Rattle.std.proofs.lemmas.Bool.Decides.{nat_tests}
 use Rattle.node_heap.specs.Links.{count, HasLink, Reaches, here, below}
-use Rattle.node_heap.specs.Forms.{Row, Kind, cell, node, form_of, links_of, is_node}
+use Rattle.node_heap.specs.declared.row.Head.{Head}
+use Rattle.node_heap.specs.Forms.{Row, Kind, cell, node, form_of, head_of, links_of, is_node}
 use Rattle.node_heap.specs.Heap.{Heap, row_at, form_at, links_at, holds_at, owners_at, one_at, IsGraph}
 use Rattle.node_heap.specs.Calls.{Extends, Builds, KeepsHeld, Releases, Trades}
-use Rattle.node_heap.specs.InPlace.{child_at, OwnsDown, Changes, path_start, path_then}
-use Rattle.node_heap.specs.Owner.{by_hold, by_place, relinked, with_root, links_beside, EditsBy}
+use Rattle.node_heap.specs.InPlace.{child_at, OwnsDown, Changes, Writes, path_start, path_then}
+use Rattle.node_heap.specs.Owner.{by_hold, by_place, relinked, with_root, links_beside, KeepsBeside, EditsBy}
 use Rattle.node_heap.proofs.Counts.{test_same}
 use Rattle.node_heap.proofs.BuildLemmas.{count-cons, count-one}
-use Rattle.node_heap.proofs.EditLaws.{KeepsHeld-own}
+use Rattle.node_heap.proofs.EditLaws.{KeepsHeld-own, paths-off, roots-off}
 use Rattle.node_heap.proofs.Edited.{Changes-path, Changes-follow, Trades-both}
 use Rattle.node_heap.proofs.OwnerLemmas.{EditsBy-hold, KeepsHeld-EditsBy, held-root}
 use Rattle.node_heap.proofs.Frames.{Balances-Releases, KeepsHeld-Releases, KeepsHeld-then}
@@ -28,7 +30,7 @@ use Rattle.elem_core.specs.declared.codes.TheConstants.{DEEPEST}
 use Rattle.state_rows.specs.InHeap.{IsTextIn, AreLinesIn, IsStateIn}
 use Rattle.state_rows.specs.InPlace.{OwnsLines}
 use Rattle.state_rows.proofs.Zips.{zip-at, zip-push, zip-set, zip-among}
-use Rattle.state_rows.proofs.Staying.{buffers-grown, names-grown}
+use Rattle.state_rows.proofs.Staying.{buffers-grown, names-grown, states-stay}
 
 -- a state row that is made one's own
 pub state-owned : {old mid : Heap Bytes} {bits l k : ℕ} {s : State} → Extends old mid → row_at mid k ≡ row_at old l → IsStateIn old bits l s → IsStateIn mid bits k s
@@ -149,6 +151,16 @@ module _ (line : ℕ) {h0 h1 h2 : Heap Bytes} {bits state st : ℕ} {s : State} 
       let all : Changes st h1 h3 (line ∷ []) gained (0 + c) (DEEPEST + 2 + alike_buffers bits s name + n) = Changes-follow [] [] [] (line ∷ []) gained owns.changes (Changes-path owns.down change) in
       EditsBy-hold graph (state-first state line (held state)) sole builds all
 
+  -- and where a vector of lines was handed in beside the state, it stays, and doesn't reach the pair
+  pub lines-there : {ys : List Bytes} → AreLinesIn h0 bits line ys → AreLinesIn h2 bits line ys
+  lines-there {ys} is =
+      let live = graph.held line (omega (arith, held line, count-cons line state (line ∷ []), count-cons line line [], test_same line line refl)) in
+      let keeps = KeepsHeld-own st own-held sole owns.changes in
+      (states-stay h1 h2 bits line (keeps.kept line (omega (arith, mid-line, count-cons line st [])))).lines ys ((states-stay h0 h1 bits line (builds.extends.kept line live)).lines ys is)
+
+  pub lines-apart : ¬ Reaches (links_at h2) line pair
+  lines-apart = paths-off h2 st pair line owns.down line-left (roots-off h2 st line row-held (owns.changes.paths.soles st (here st) sole) (omega (arith, owns.changes.trades.holds line, mid-line)))
+
 -- as many lines as elements
 pub lines-many : {h : Heap Bytes} {bits l : ℕ} {xs : List Bytes} → AreLinesIn h bits l xs → length (elements h l) ≡ length xs
 lines-many {h} {bits} {l} {xs} are = zip-length (IsTextIn h bits) (elements h l) xs are.values
@@ -193,3 +205,29 @@ module _ {old new : Heap Bytes} {bits row pair v line index given : ℕ} {xs : L
       let at = zip-at (IsTextIn new bits) es xs index inside (lines-stay graph down held kept lines is line_held) in
       let there = some-text (slice_get xs index) at in
       (there.0, subst (λ (k : ℕ). IsTextIn new bits k there.0) (sym set.back) there.1)
+
+-- ## A buffer's lines that were put in place of others
+
+-- a row with this head and one other link
+row-written : (p index v : ℕ) (old new : Option (Row Bytes)) → index < length (links_of old) → head_of new ≡ head_of old → links_of new ≡ slice_set (links_of old) index v → new ≡ relinked index v old
+row-written p index v None new two head links = absurd (omega (arith, two))
+row-written p index v (Some (cell x)) new two head links = absurd (omega (arith, two))
+row-written p index v (Some (node h ls)) None two head links = absurd (let e = head in cc)
+row-written p index v (Some (node h ls)) (Some (cell x)) two head links = absurd (let e = head in cc)
+row-written p index v (Some (node h ls)) (Some (node k ms)) two head links =
+    let same : k ≡ h = (let e = head in cc) in
+    ap (λ (d : Head). Some (node d ms)) same ∙ ap (λ (js : List ℕ). Some (node h js)) links
+
+module _ {old new : Heap Bytes} {pair : ℕ} (v : ℕ) (two : 1 < length (links_at old pair)) (writes : Writes old new pair (head_of (row_at old pair)) (slice_set (links_at old pair) 1 v)) where
+  -- nothing but the pair's link is another
+  pub put-beside : KeepsBeside (by_place pair 1) v (λ _. 0) old new
+  put-beside l m some way = elim (cases_eq m pair) as (λ _. row_at new m ≡ with_root (by_place pair 1) v m (row_at old m)) [
+    | inl same ↦
+        subst (λ (j : ℕ). row_at new j ≡ with_root (by_place pair 1) v j (row_at old j)) (sym same)
+        (row-written pair 1 v (row_at old pair) (row_at new pair) two writes.new_head writes.new_links ∙ sym (at-owner pair v 1 (row_at old pair)))
+    | inr other ↦ writes.others m other ∙ sym (ap (λ t. cond t (relinked 1 v (row_at old m)) (row_at old m)) (other-test m pair other))
+  ]
+
+  -- so lines that don't reach the pair stay
+  pub put-stay : {bits l : ℕ} {ys : List Bytes} → ¬ Reaches (links_at old) l pair → AreLinesIn old bits l ys → AreLinesIn new bits l ys
+  put-stay {bits} {l} {ys} off is = (states-stay old new bits l (λ m down. writes.others m (λ same. off (subst (Reaches (links_at old) l) same down)))).lines ys is

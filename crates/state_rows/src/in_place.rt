@@ -80,6 +80,30 @@ pub fn line_set(
     state
 }
 
+/// The state with these lines in place of those of the buffer, which is there. It spends the holds of the state and of the new
+/// lines.
+pub fn lines_put(heap: &mut Heap<Text>, bits: u32, state: Link, name: Name<'_>, lines: Flex) -> Link
+    requires few { hold_count heap.old < 2 ^ 58 }
+    requires bits { bits ≤ CODE_BITS }
+    requires held { HasHolds heap.old (state ∷ lines ∷ []) }
+    requires lines { (ys : List Bytes) × AreLinesIn heap.old bits lines ys }
+    requires state { (s : State) × (xs : List Bytes) × IsStateIn heap.old bits state s × (lines_of s (name_bytes name) ≡ Some xs)
+        × HasSpares heap.old 0 (DEEPEST + 3 + alike_buffers bits s (name_bytes name)) }
+    ensures keeps { KeepsHeld (λ l. count l (state ∷ lines ∷ [])) heap.old heap.new }
+    ensures trades { (s : State) (xs : List Bytes) → IsStateIn heap.old bits state s → lines_of s (name_bytes name.entry) ≡ Some xs →
+        Trades heap.old heap.new (state ∷ lines ∷ []) (result ∷ []) 0 (DEEPEST + 3 + alike_buffers bits s (name_bytes name.entry)) }
+    ensures state { (s : State) (xs ys : List Bytes) → IsStateIn heap.old bits state s → lines_of s (name_bytes name.entry) ≡ Some xs → AreLinesIn heap.old bits lines ys →
+        IsStateIn heap.new bits result (has_lines s (name_bytes name.entry) ys) }
+{
+    // The call tells the proof that this is the graph of a heap.
+    let _ = heap.live();
+    let state = heap.own(state);
+    let pair = own_lines(heap, bits, state, name);
+    let replaced = heap.replace(pair, 1, lines.into_root());
+    heap.release(replaced);
+    state
+}
+
 /// The state with a buffer of these lines, of which there is none of the name yet. It spends the holds of the state and of
 /// the lines. The number made rises by no more than the rows gain.
 pub fn buffer_made(heap: &mut Heap<Text>, bits: u32, state: Link, key: Text, lines: Flex) -> Link
