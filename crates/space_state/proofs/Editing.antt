@@ -14,7 +14,7 @@ use Rattle.elem_core.specs.Codes.{text_code, masked_code}
 use Rattle.node_heap.specs.Links.{here}
 use Rattle.node_heap.specs.Forms.{cell, form_of}
 use Rattle.node_heap.specs.Heap.{Heap, form_at, holds_at, hold_count, HasSpares, IsGraph}
-use Rattle.node_heap.specs.Calls.{Extends, Adds, Makes, Answered, Releases}
+use Rattle.node_heap.specs.Calls.{Extends, Adds, Makes, Answered}
 use Rattle.node_heap.proofs.Frames.{Extends-trans}
 use Rattle.node_heap.proofs.BuildLemmas.{count-cons}
 use Rattle.champ_chain.proofs.SetLemmas.{count-cons as counted}
@@ -37,15 +37,15 @@ use Rattle.plain_space.specs.Answer.{answer, done, becomes}
 use Rattle.plain_space.specs.Cost.{alike_buffers, edit_cost, cost}
 use Rattle.plain_space.specs.Memory.{MayLackMemory}
 use Rattle.state_rows.specs.Reading.{IsText}
-use Rattle.state_rows.specs.InHeap.{AreLinesIn, IsStateIn}
+use Rattle.state_rows.specs.InHeap.{AreLinesIn}
 use Rattle.state_rows.proofs.Staying.{states-stay}
 use Rattle.state_rows.proofs.Keys.{by_bytes}
 use Rattle.space_state.specs.declared.roots.RootedHeap.{RootedHeap}
 use Rattle.space_state.specs.declared.turning.TheConstants.{EDIT_NODES}
 use Rattle.space_state.specs.Roots.{Keeps}
-use Rattle.space_state.specs.InPlace.{IsInPlace}
+use Rattle.space_state.specs.InPlace.{IsInPlace, new_key}
 use Rattle.space_state.specs.Turns.{IsDue, IsSame, RoomIsMade, RoomIsRefused, TurnsTo, IsCarriedOut, IsRefused}
-use Rattle.space_state.proofs.Keeping.{Rises, rises-answered, rises-then, rises-same, rises-more, keeps-extended, keeps-gained, keeps-same, answered-cell, keeps-turned, keeps-swapped, keeps-released, released-stands, first-held, first-counts, unchanged-stands, turns-after}
+use Rattle.space_state.proofs.Keeping.{Rises, rises-answered, rises-then, rises-same, rises-more, keeps-extended, keeps-gained, keeps-same, answered-cell, keeps-swapped, first-held, unchanged-stands, turns-after}
 
 -- ## Lists that go together
 
@@ -362,14 +362,21 @@ pub record HasLines (s t : RootedHeap) (l : ℕ) (name : Bytes) (W : Workspace) 
   pub before : AreLinesIn s.heap s.bits l xs
   pub now : AreLinesIn t.heap t.bits l xs
 
+-- by what the buffer told of them, and by what was found
 pub has-lines : {s t : RootedHeap} {l : ℕ} {name : Bytes} {W : Workspace} → IsSame s t → IsSomeAnd (lines_of W.current name) (AreLinesIn s.heap s.bits l) → HasLines s t l name W
 has-lines {s} {t} {l} {name} {W} same is =
     let lines = found-lines s l W.current name is in
     record { xs = lines.0; found = lines.1; before = lines.2; now = lines-same same lines.2 }
 
+pub has-found : {s t : RootedHeap} {l : ℕ} {name : Bytes} {W : Workspace} → IsSame s t → (xs : List Bytes) × (lines_of W.current name ≡ Some xs) × AreLinesIn s.heap s.bits l xs → HasLines s t l name W
+has-found same lines = record { xs = lines.0; found = lines.1; before = lines.2; now = lines-same same lines.2 }
+
+-- room for so many names that are alike is room for an edit of the buffer
+pub has-room : {s t : RootedHeap} {W : Workspace} {alike : ℕ} (name : Bytes) → alike ≡ alike_buffers s.bits W.current name → RoomIsMade s t W (EDIT_NODES + alike) → HasBufferRoom s t name W
+has-room {s} {t} {W} name same made = subst (λ (n : ℕ). RoomIsMade s t W (EDIT_NODES + n)) same made
+
 -- a line's text is in a new cell, which is held, and the buffer's lines are there still
-pub record HasText (s t : RootedHeap) (mid : Heap Bytes) (k l : ℕ) (key name text : Bytes) (W : Workspace) : Type 0 where
-  pub named : key ≡ name
+pub record HasText (s t : RootedHeap) (mid : Heap Bytes) (k l : ℕ) (name text : Bytes) (W : Workspace) : Type 0 where
   pub room : HasBufferRoom s t name W
   pub lines : HasLines s (record t { heap = mid }) l name W
   pub keeps : Keeps t [] W
@@ -379,15 +386,13 @@ pub record HasText (s t : RootedHeap) (mid : Heap Bytes) (k l : ℕ) (key name t
   pub adds : Adds t.heap mid k (cell text)
   pub is : IsCell text
 
-pub has-text : {s t : RootedHeap} {mid : Heap Bytes} {k l : ℕ} {key name made text : Bytes} {W : Workspace} → Keeps s [] W → key ≡ name → HasBufferRoom s t name W → IsSomeAnd (lines_of W.current name) (AreLinesIn s.heap s.bits l)
-    → IsCell text → made ≡ text → Adds t.heap mid k (cell made) → Makes t.heap mid 1 0 → hold_count mid ≡ hold_count t.heap + 1 → IsGraph mid → Extends t.heap mid → HasText s t mid k l key name text W
-has-text {s} {t} {mid} {k} {l} {key} {name} {made} {text} {W} K named room is cell_is same_text adds makes total graph extends =
-    let lines = found-lines s l W.current name is in
+pub has-text : {s t : RootedHeap} {mid : Heap Bytes} {k l : ℕ} {name made text : Bytes} {W : Workspace} → Keeps s [] W → HasBufferRoom s t name W → HasLines s t l name W
+    → IsCell text → made ≡ text → Adds t.heap mid k (cell made) → Makes t.heap mid 1 0 → hold_count mid ≡ hold_count t.heap + 1 → IsGraph mid → Extends t.heap mid → HasText s t mid k l name text W
+has-text {s} {t} {mid} {k} {l} {name} {made} {text} {W} K room lines cell_is same_text adds makes total graph extends =
     let answered = answered-cell extends graph adds total makes in
     record {
-      named = named;
       room = room;
-      lines = record { xs = lines.0; found = lines.1; before = lines.2; now = lines-stay extends (lines-same room.same lines.2) };
+      lines = record { xs = lines.xs; found = lines.found; before = lines.before; now = lines-stay extends lines.now };
       keeps = keeps-same room.same K;
       answered = answered;
       held = first-held (keeps-gained (keeps-same room.same K) answered);
@@ -438,7 +443,7 @@ made-again {s} {new} {k} {l} {xs} K g same lines = record {
 }
 
 -- the vector that an edit made with the new cell
-module _ {s t : RootedHeap} {mid new : Heap Bytes} {k l v n : ℕ} {key name text : Bytes} {W : Workspace} (has : HasText s t mid k l key name text W) (a : Answered mid new (k ∷ []) v 0 n) (good : IsGoodVector new v) where
+module _ {s t : RootedHeap} {mid new : Heap Bytes} {k l v n : ℕ} {name text : Bytes} {W : Workspace} (has : HasText s t mid k l name text W) (a : Answered mid new (k ∷ []) v 0 n) (good : IsGoodVector new v) where
   made-of : (es : List ℕ) (ys : List Bytes) → elements new v ≡ es → AreTexts new t.bits es ys → IsMade t new [] v ys W 1 n
   made-of es ys items texts = made-with has.keeps has.answered a (lines-are es good items texts)
 
@@ -476,56 +481,6 @@ module _ {s : RootedHeap} {new : Heap Bytes} {b : List ℕ} {l v n : ℕ} {xs : 
       made-by K a (lines-are (elements s.heap l ++ elements s.heap k) good items
       (zip-append R (elements s.heap l) (elements s.heap k) xs ys (texts-stay a.extends are) (texts-stay a.extends also)))
 
--- ## Two buffers at once
-
--- the first buffer has its lines, and the other's lines are held
-pub record HasFirst (s : RootedHeap) (mid : Heap Bytes) (m l : ℕ) (key : Bytes) (xs ys : List Bytes) (W : Workspace) : Type 0 where
-  pub keeps : Keeps (record s { heap = mid }) (l ∷ m ∷ []) W
-  pub state : IsStateIn mid s.bits m (with_lines W.current key xs)
-  pub lines : AreLinesIn mid s.bits l ys
-
-pub has-first : {s : RootedHeap} {mid : Heap Bytes} {k l m c n : ℕ} {key : Bytes} {xs ys : List Bytes} {W : Workspace} → Keeps s (k ∷ l ∷ []) W → Answered s.heap mid (k ∷ []) m c n
-    → IsStateIn mid s.bits m (with_lines W.current key xs) → AreLinesIn s.heap s.bits l ys → HasFirst s mid m l key xs ys W
-has-first K g is are = record { keeps = keeps-swapped (keeps-turned K g); state = is; lines = lines-stay g.extends are }
-
--- the spares that the first leaves
-pub first-spares : {old mid : Heap Bytes} {spent : List ℕ} {l : ℕ} (bits : ℕ) (now : State) (key other : Bytes) (xs : List Bytes) → Answered old mid spent l 1 (10 + alike_buffers bits now key)
-    → HasSpares old 2 (32 + alike_buffers bits now key + alike_buffers bits now other) → HasSpares mid 1 (21 + alike_buffers bits (with_lines now key xs) other)
-first-spares bits now key other xs g spares =
-    (omega (arith, g.cells, g.balance.spare_cells, spares.0), omega (arith, g.nodes, g.balance.spare_nodes, spares.1, alike-with bits now key xs other))
-
--- both have their lines, and the state between is held too
-pub record HasSecond (s : RootedHeap) (new : Heap Bytes) (n m : ℕ) (key other : Bytes) (xs ys : List Bytes) (W : Workspace) : Type 0 where
-  pub keeps : Keeps (record s { heap = new }) (m ∷ n ∷ []) W
-  pub state : IsStateIn new s.bits n (with_lines (with_lines W.current key xs) other ys)
-
-pub has-second : {s : RootedHeap} {mid new : Heap Bytes} {l m n c d : ℕ} {key other : Bytes} {xs ys : List Bytes} {W : Workspace} → HasFirst s mid m l key xs ys W → Answered mid new (l ∷ []) n c d
-    → IsStateIn new s.bits n (with_lines (with_lines W.current key xs) other ys) → HasSecond s new n m key other xs ys W
-has-second first g is = record { keeps = keeps-swapped (keeps-turned first.keeps g); state = is }
-
-pub second-spares : {old new : Heap Bytes} {spent : List ℕ} {l : ℕ} (n : ℕ) → Answered old new spent l 1 (10 + n) → HasSpares old 1 (21 + n) → HasSpares new 0 11
-second-spares n g spares = (omega arith, omega (arith, g.nodes, g.balance.spare_nodes, spares.1))
-
-pub second-rises : {old mid new : Heap Bytes} {us xs : List ℕ} {v y : ℕ} (bits : ℕ) (now : State) (key other : Bytes) (zs : List Bytes) → Answered old mid us v 1 (10 + alike_buffers bits now key)
-    → Answered mid new xs y 1 (10 + alike_buffers bits (with_lines now key zs) other) → Rises old new (23 + (alike_buffers bits now key + alike_buffers bits now other))
-second-rises bits now key other zs f g =
-    rises-more (23 + (alike_buffers bits now key + alike_buffers bits now other)) (rises-then (rises-answered f) (rises-answered g)) (omega (arith, alike-with bits now key zs other))
-
--- the state between is given up
-pub record HasTurned (s : RootedHeap) (new : Heap Bytes) (n : ℕ) (x : State) (W : Workspace) : Type 0 where
-  pub keeps : Keeps (record s { heap = new }) (n ∷ []) W
-  pub state : IsStateIn new s.bits n x
-
-pub has-turned : {s : RootedHeap} {mid new : Heap Bytes} {n m : ℕ} {key other : Bytes} {xs ys : List Bytes} {W : Workspace} → HasSecond s mid n m key other xs ys W → Releases mid new m → IsGraph new
-    → HasTurned s new n (with_lines (with_lines W.current key xs) other ys) W
-has-turned {s} {mid} {new} {n} {m} {key} {other} {xs} {ys} {W} second rel graph = record {
-  keeps = keeps-released second.keeps rel graph;
-  state = (released-stands second.keeps rel graph n (omega (arith, first-counts n []))).state (with_lines (with_lines W.current key xs) other ys) second.state;
-}
-
-pub released-spares : {old new : Heap Bytes} {l c n : ℕ} → Releases old new l → HasSpares old c n → HasSpares new c n
-released-spares rel spares = (omega (arith, rel.cells, rel.fewer_cells, spares.0), omega (arith, rel.nodes, rel.fewer_nodes, spares.1))
-
 -- ## How an edit ends
 
 pub cost-edit : (bits : ℕ) (change : PlainEdit) (W : Workspace) → cost bits (edit change) W ≡ edit_cost bits change W.current
@@ -537,21 +492,18 @@ pub alike-same : {s t : RootedHeap} → IsSame s t → (now : State) (name : Byt
 alike-same same now name = λ i. alike_buffers (same.bits i) now name
 
 -- room was made and so were the lines: all that it takes to put them into their buffer
-pub can-put : {s t : RootedHeap} {new : Heap Bytes} {l c n : ℕ} {xs : List Bytes} {W : Workspace} {key name : Bytes} → key ≡ name → HasBufferRoom s t name W → IsMade t new [] l xs W c n → c ≤ 1 → n ≤ 78
-    → (V : Workspace) × (ys : List Bytes) × Keeps (record t { heap = new }) (l ∷ []) V × AreLinesIn new t.bits l ys × (is_full V ≡ false) × HasSpares new 1 (21 + alike_buffers t.bits V.current key)
-can-put {s} {t} {xs = xs} {W = W} {key = key} {name = name} named room m few_cells few_nodes =
-    let alike : alike_buffers t.bits W.current key ≡ alike_buffers s.bits W.current name = (λ i. alike_buffers (room.same.bits i) W.current (named i)) in
-    (W, xs, m.keeps, m.lines, room.free, (omega (arith, m.cells, room.spares.0, few_cells), omega (arith, m.nodes, room.spares.1, few_nodes, alike)))
+pub can-put : {s t : RootedHeap} {new : Heap Bytes} {l c n : ℕ} {xs : List Bytes} {W : Workspace} {key : Option Bytes} (name : Bytes) → HasBufferRoom s t name W → IsMade t new [] l xs W c n → key ≡ new_key (lines_of W.current name) name → c ≤ 1 → n ≤ 78
+    → (V : Workspace) × (ys : List Bytes) × Keeps (record t { heap = new }) (l ∷ []) V × AreLinesIn new t.bits l ys × (is_full V ≡ false) × (key ≡ new_key (lines_of V.current name) name) × HasSpares new 1 (21 + alike_buffers t.bits V.current name)
+can-put {s} {t} {xs = xs} {W = W} name room m key few_cells few_nodes =
+    (W, xs, m.keeps, m.lines, room.free, key, (omega (arith, m.cells, room.spares.0, few_cells), omega (arith, m.nodes, room.spares.1, few_nodes, alike-same room.same W.current name)))
 
 -- the lines were made where there was room for them, and the state turned to the one that has them
-pub lines-put : {s t u : RootedHeap} {new : Heap Bytes} {l c n : ℕ} {xs : List Bytes} {W : Workspace} {key name : Bytes} (change : PlainEdit) → key ≡ name → IsSame s t → is_full W ≡ false → IsMade t new [] l xs W c n
-    → edited W.current change ≡ Ok (with_lines W.current name xs) → TurnsTo (record t { heap = new }) u [] (22 + alike_buffers t.bits W.current key) (with_current W (with_lines W.current key xs))
+pub lines-put : {s t u : RootedHeap} {new : Heap Bytes} {l c n : ℕ} {xs : List Bytes} {W : Workspace} (change : PlainEdit) (name : Bytes) → IsSame s t → is_full W ≡ false → IsMade t new [] l xs W c n
+    → edited W.current change ≡ Ok (with_lines W.current name xs) → TurnsTo (record t { heap = new }) u [] (22 + alike_buffers t.bits W.current name) (with_current W (with_lines W.current name xs))
     → c + n + (22 + alike_buffers s.bits W.current name) ≤ edit_cost s.bits change W.current → (IsInPlace (edit change) → ⊥) → IsCarriedOut (edit change) s u W
-lines-put {s} {t} {u} {new} {l} {c} {n} {xs} {W} {key} {name} change is same free m made turn less apart =
-    let named : TurnsTo (record t { heap = new }) u [] (22 + alike_buffers t.bits W.current name) (with_current W (with_lines W.current name xs)) =
-    subst (λ (k : Bytes). TurnsTo (record t { heap = new }) u [] (22 + alike_buffers t.bits W.current k) (with_current W (with_lines W.current k xs))) is turn in
+lines-put {s} {t} {u} {new} {l} {c} {n} {xs} {W} change name same free m made turn less apart =
     let turned : TurnsTo (record t { heap = new }) u [] (22 + alike_buffers s.bits W.current name) (with_current W (with_lines W.current name xs)) =
-    subst (λ (k : ℕ). TurnsTo (record t { heap = new }) u [] (22 + alike_buffers k W.current name) (with_current W (with_lines W.current name xs))) same.bits named in
+    subst (λ (k : ℕ). TurnsTo (record t { heap = new }) u [] (22 + alike_buffers k W.current name) (with_current W (with_lines W.current name xs))) same.bits turn in
     record {
       after = with_current W (with_lines W.current name xs);
       told = does W change (with_lines W.current name xs) made free;
@@ -560,10 +512,10 @@ lines-put {s} {t} {u} {new} {l} {c} {n} {xs} {W} {key} {name} change is same fre
     }
 
 -- the same after room was made for an edit
-pub edit-done : {s t u : RootedHeap} {new : Heap Bytes} {l c n : ℕ} {xs : List Bytes} {W : Workspace} {key name : Bytes} (change : PlainEdit) → key ≡ name → HasBufferRoom s t name W → IsMade t new [] l xs W c n
-    → edited W.current change ≡ Ok (with_lines W.current name xs) → TurnsTo (record t { heap = new }) u [] (22 + alike_buffers t.bits W.current key) (with_current W (with_lines W.current key xs))
+pub edit-done : {s t u : RootedHeap} {new : Heap Bytes} {l c n : ℕ} {xs : List Bytes} {W : Workspace} (change : PlainEdit) (name : Bytes) → HasBufferRoom s t name W → IsMade t new [] l xs W c n
+    → edited W.current change ≡ Ok (with_lines W.current name xs) → TurnsTo (record t { heap = new }) u [] (22 + alike_buffers t.bits W.current name) (with_current W (with_lines W.current name xs))
     → c + n + (22 + alike_buffers s.bits W.current name) ≤ edit_cost s.bits change W.current → (IsInPlace (edit change) → ⊥) → IsCarriedOut (edit change) s u W
-edit-done change is room m made turn less apart = lines-put change is room.same room.free m made turn less apart
+edit-done change name room m made turn less apart = lines-put change name room.same room.free m made turn less apart
 
 -- room was made, and the state turned to the one in which the buffer is gone
 pub drop-done : {s t u : RootedHeap} {new : Heap Bytes} {spent : List ℕ} {l : ℕ} {W : Workspace} {name : Bytes} (xs : List Bytes) → IsSame s t → Answered t.heap new spent l 0 (8 + alike_buffers t.bits W.current name)
@@ -602,29 +554,23 @@ has-parts {t} {mid} {new} {v} {k} {l} {n} {m} {xs} {W} from to K are a good item
     }
 
 -- spares are left to put both into their buffers
-pub both-spares-left : {s t : RootedHeap} {new : Heap Bytes} {k l n : ℕ} {xs ys : List Bytes} {W : Workspace} {key name other_key other : Bytes} → IsSame s t → key ≡ name → other_key ≡ other → HasParts t new k l xs ys W n
-    → HasSpares t.heap 2 (EDIT_NODES + alike_buffers s.bits W.current name + alike_buffers s.bits W.current other) → n ≤ 67 → HasSpares new 2 (32 + alike_buffers t.bits W.current key + alike_buffers t.bits W.current other_key)
-both-spares-left {s} {t} {W = W} {key = key} {name = name} {other_key = other_key} {other = other} same is also p spares few =
-    let one : alike_buffers t.bits W.current key ≡ alike_buffers s.bits W.current name = (λ i. alike_buffers (same.bits i) W.current (is i)) in
-    let two : alike_buffers t.bits W.current other_key ≡ alike_buffers s.bits W.current other = (λ i. alike_buffers (same.bits i) W.current (also i)) in
-    (omega (arith, p.cells, spares.0), omega (arith, p.nodes, spares.1, few, one, two))
+pub both-spares-left : {s t : RootedHeap} {new : Heap Bytes} {k l n : ℕ} {xs ys : List Bytes} {W : Workspace} (name other : Bytes) → IsSame s t → HasParts t new k l xs ys W n
+    → HasSpares t.heap 2 (EDIT_NODES + (alike_buffers s.bits W.current name + alike_buffers s.bits W.current other)) → n ≤ 67 → HasSpares new 2 (32 + alike_buffers t.bits W.current name + alike_buffers t.bits W.current other)
+both-spares-left {s} {t} {W = W} name other same p spares few =
+    (omega (arith, p.cells, spares.0), omega (arith, p.nodes, spares.1, few, alike-same same W.current name, alike-same same W.current other))
 
 -- room was made, the parts were made, and the state turned to the one that has them
-pub cut-done : {s t u : RootedHeap} {new : Heap Bytes} {k l n : ℕ} {xs ys : List Bytes} {W : Workspace} {key name other_key other : Bytes} (from to : ℕ) → IsSame s t → key ≡ name → other_key ≡ other → HasParts t new k l xs ys W n
+pub cut-done : {s t u : RootedHeap} {new : Heap Bytes} {k l n : ℕ} {xs ys : List Bytes} {W : Workspace} {name other : Bytes} (from to : ℕ) → IsSame s t → HasParts t new k l xs ys W n
     → is_full W ≡ false → edited W.current (cut name from to other) ≡ Ok (with_lines (with_lines W.current name xs) other ys)
-    → TurnsTo (record t { heap = new }) u [] (34 + (alike_buffers t.bits W.current key + alike_buffers t.bits W.current other_key)) (with_current W (with_lines (with_lines W.current key xs) other_key ys))
+    → TurnsTo (record t { heap = new }) u [] (34 + (alike_buffers t.bits W.current name + alike_buffers t.bits W.current other)) (with_current W (with_lines (with_lines W.current name xs) other ys))
     → n ≤ 67 → IsCarriedOut (edit (cut name from to other)) s u W
-cut-done {s} {t} {u} {new} {n = n} {xs = xs} {ys = ys} {W = W} {key = key} {name = name} {other_key = other_key} {other = other} from to same is also p free made turn few =
-    let one : alike_buffers t.bits W.current key ≡ alike_buffers s.bits W.current name = (λ i. alike_buffers (same.bits i) W.current (is i)) in
-    let two : alike_buffers t.bits W.current other_key ≡ alike_buffers s.bits W.current other = (λ i. alike_buffers (same.bits i) W.current (also i)) in
-    let most_more : ℕ = 34 + (alike_buffers t.bits W.current key + alike_buffers t.bits W.current other_key) in
-    let turned : TurnsTo (record t { heap = new }) u [] most_more (with_current W (with_lines (with_lines W.current name xs) other ys)) =
-    subst (λ (j : Bytes). TurnsTo (record t { heap = new }) u [] most_more (with_current W (with_lines (with_lines W.current name xs) j ys))) also
-    (subst (λ (j : Bytes). TurnsTo (record t { heap = new }) u [] most_more (with_current W (with_lines (with_lines W.current j xs) other_key ys))) is turn) in
+cut-done {s} {t} {u} {new} {n = n} {xs = xs} {ys = ys} {W = W} {name = name} {other = other} from to same p free made turn few =
     record {
       after = with_current W (with_lines (with_lines W.current name xs) other ys);
       told = does W (cut name from to other) (with_lines (with_lines W.current name xs) other ys) made free;
-      turns = turns-after (0 + n) (cost s.bits (edit (cut name from to other)) W) (rises-then (rises-same same.heap) p.rises) same.bits turned (omega (arith, few, one, two, cost-edit s.bits (cut name from to other) W));
+      turns =
+          turns-after (0 + n) (cost s.bits (edit (cut name from to other)) W) (rises-then (rises-same same.heap) p.rises) same.bits turn
+          (omega (arith, few, alike-same same W.current name, alike-same same W.current other, cost-edit s.bits (cut name from to other) W));
       few_made = λ placed inside. absurd placed;
     }
 

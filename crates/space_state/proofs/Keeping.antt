@@ -1,6 +1,6 @@
 -- How what a rooted heap keeps follows from one call to the next: what calls answer, what is released, which root is another, and how
 -- far the rows rise.
-use Rattle.std.proofs.Common.{◌≡◌, ℕ, ◌+◌, ◌^◌, ◌<◌, ◌≤◌, List, [], ◌∷◌, length, false, eqb, Option, Some, None, IsSome, Result, Ok, Err, refl, sym, ap, subst, ◌∙◌, arith, length-append}
+use Rattle.std.proofs.Common.{◌≡◌, ℕ, ◌+◌, ◌^◌, ◌<◌, ◌≤◌, List, [], ◌∷◌, ◌++◌, length, false, eqb, Option, Some, None, IsSome, Result, Ok, Err, refl, sym, ap, subst, ◌∙◌, arith, length-append}
 use Rattle.std.specs.Prelude.{sum_by, OnErr}
 use Rattle.std.proofs.lemmas.Bool.Decides.{nat_tests}
 use Rattle.elem_core.specs.declared.codes.TheConstants.{CODE_BITS}
@@ -26,7 +26,7 @@ use Rattle.space_state.specs.declared.roots.Batch.TheVariants.{Closed, Open}
 use Rattle.space_state.specs.declared.roots.Roots.{Roots}
 use Rattle.space_state.specs.declared.roots.RootedHeap.{RootedHeap}
 use Rattle.space_state.specs.Roots.{base_of, root_list, Keeps}
-use Rattle.space_state.specs.Turns.{RowsRise, IsSame, TurnsTo}
+use Rattle.space_state.specs.Turns.{RowsRise, IsSame, TurnsTo, TurnsBeside}
 use Rattle.space_state.specs.View.{room_of}
 
 -- ## Counts
@@ -146,6 +146,33 @@ keeps-besides {s} {b} {W} b' counts lengths K =
 pub keeps-swapped : {s : RootedHeap} {b : List ℕ} {W : Workspace} {l k : ℕ} → Keeps s (l ∷ k ∷ b) W → Keeps s (k ∷ l ∷ b) W
 keeps-swapped {b = b} {l = l} {k = k} K =
     keeps-besides (k ∷ l ∷ b) (λ n. omega (arith, count-cons n k (l ∷ b), count-cons n l b, count-cons n l (k ∷ b), count-cons n k b)) refl K
+
+-- ## What is left beside holds that are spent
+
+pub left-over : {n : ℕ} (k : ℕ) (spent b : List ℕ) → count k (spent ++ b) ≤ n → 0 < count k b → count k spent < n
+left-over k spent b enough some = omega (arith, enough, some, count-append k spent b)
+
+pub fewer-holds : {n : ℕ} (k : ℕ) (spent b : List ℕ) → count k (spent ++ b) ≤ n → count k spent ≤ n
+fewer-holds k spent b enough = omega (arith, enough, count-append k spent b)
+
+-- what is spent may be told with what stays held
+pub held-beside : {old new : Heap Bytes} (spent b : List ℕ) → KeepsHeld (λ l. count l spent) old new → KeepsHeld (λ l. count l (spent ++ b)) old new
+held-beside spent b held = record {
+  live = λ l some. held.live l (omega (arith, some, count-append l spent b));
+  kept = λ l some. held.kept l (omega (arith, some, count-append l spent b));
+  left = λ l. omega (arith, held.left l, count-append l spent b);
+}
+
+pub trades-beside : {old new : Heap Bytes} {c n : ℕ} (spent gained b : List ℕ) → Trades old new spent gained c n → Trades old new (spent ++ b) (gained ++ b) c n
+trades-beside spent gained b trades = record {
+  graph = trades.graph;
+  holds = λ k. omega (arith, trades.holds k, count-append k spent b, count-append k gained b);
+  total = omega (arith, trades.total, length-append spent b, length-append gained b);
+  cells = trades.cells;
+  nodes = trades.nodes;
+  balance = trades.balance;
+  made = trades.made;
+}
 
 -- ## Where every row stays
 
@@ -450,3 +477,8 @@ turns-after m' m r bits t more =
 -- one turn, and then another
 pub turns-then : {a b c : RootedHeap} {x y : List ℕ} {m' n : ℕ} {V W : Workspace} (m : ℕ) → TurnsTo a b x m' V → TurnsTo b c y n W → m' + n ≤ m → TurnsTo a c y m W
 turns-then {m' = m'} m first second more = turns-after m' m (turns-of first) first.bits second more
+
+-- lines that are held besides stand still
+pub lines-beside : {a b : RootedHeap} {x : List ℕ} {c n l : ℕ} {V : Workspace} {xs : List Bytes} → TurnsBeside a b x c n V → 0 < count l x → AreLinesIn a.heap a.bits l xs → AreLinesIn b.heap b.bits l xs
+lines-beside {a} {b} {l = l} {xs = xs} step some are =
+    subst (λ (k : ℕ). AreLinesIn b.heap k l xs) (sym step.turns.bits) ((states-stay a.heap b.heap a.bits l (step.stays l some)).lines xs are)

@@ -1,7 +1,8 @@
 -- How a call on rooted rows ends.
-use Rattle.std.specs.Prelude.{◌≡◌, ℕ, ◌+◌, ◌-◌, ◌^◌, ◌≤◌, List, [], length, false, min, Result, Err, true, MatchBool, MatchResult}
+use Rattle.std.specs.Prelude.{◌≡◌, ℕ, ◌+◌, ◌-◌, ◌^◌, ◌<◌, ◌≤◌, List, [], length, false, min, Result, Err, true, MatchBool, MatchResult}
+use Rattle.node_heap.specs.Links.{count}
 use Rattle.node_heap.specs.Heap.{Heap, live_count, HasSpares}
-use Rattle.node_heap.specs.Calls.{Unchanged}
+use Rattle.node_heap.specs.Calls.{KeepsBelow, Unchanged}
 use Rattle.shell_terms.specs.Edit.{PlainEdit, drop, unstar, fill}
 use Rattle.shell_terms.specs.Command.{PlainCommand}
 use Rattle.plain_space.specs.declared.refusal.Refusal.{Refusal}
@@ -79,6 +80,13 @@ pub record TurnsTo (old new : RootedHeap) (besides : List ℕ) (most : ℕ) (aft
   pub bits : new.bits ≡ old.bits
   pub few : live_count new.heap ≤ live_count old.heap + most
   pub made : RowsRise old.heap new.heap
+
+-- the same by spares, of which so many went at most, and what is held besides leads to what it led to
+pub record TurnsBeside (old new : RootedHeap) (besides : List ℕ) (cells nodes : ℕ) (after : Workspace) : Type 0 where
+  pub turns : TurnsTo old new besides (cells + nodes) after
+  pub stays : (l : ℕ) → 0 < count l besides → KeepsBelow old.heap new.heap l
+  pub spare_cells : old.heap.spare_cells ≤ new.heap.spare_cells + cells
+  pub spare_nodes : old.heap.spare_nodes ≤ new.heap.spare_nodes + nodes
 
 -- ready for an edit in place: there are spares for a cell and so many nodes; outside a batch the current state is the last of undo
 -- too, and redo is empty, and in a batch the number made rises by no more than the rows gain

@@ -1,25 +1,21 @@
-//! The edits of buffers that make new lines beside the old ones, and turn to a state that has them; those made in place are in
+//! The edits of buffers that make new lines beside the old ones, and put them in place of those; the edits of lines in place are in
 //! `in_place.rt`. Each looks for what refuses it, and makes room for all that it will make.
-ghost use Rattle.std.specs.Prelude.{◌≡◌, ◌≢◌, ◌+◌, ◌*◌, ◌<◌, List, [], ◌∷◌, IfOk, Err, IsSomeAnd, None, MatchResult, false};
-ghost use Rattle.elem_core.specs.declared.codes.TheConstants.{DEEPEST};
-ghost use Rattle.elem_core.specs.Naming.{IsName};
+ghost use Rattle.std.specs.Prelude.{◌≡◌, ◌≢◌, [], Err, IsSomeAnd, None, MatchResult};
 ghost use Rattle.elem_core.specs.Shown.{name_bytes, line_bytes};
-ghost use Rattle.node_heap.specs.Heap.{HasSpares};
-ghost use Rattle.shell_terms.specs.Edit.{Bytes, put, del, cat, cut, copy, drop};
+ghost use Rattle.shell_terms.specs.Edit.{put, del, cat, cut, copy, drop};
 ghost use Rattle.shell_terms.specs.Command.{edit};
-ghost use Rattle.plain_space.specs.Workspace.{Workspace, lines_of, with_lines as state_with_lines, is_full, with_current};
-ghost use Rattle.plain_space.specs.Cost.{alike_buffers};
+ghost use Rattle.plain_space.specs.Workspace.{Workspace, lines_of};
 ghost use Rattle.state_rows.specs.InHeap.{AreLinesIn};
 ghost use Rattle.space_state.specs.Roots.{Keeps};
-ghost use Rattle.space_state.specs.Turns.{MakesRoom, HasEditSpares, EndsOnRows, TurnsTo};
+ghost use Rattle.space_state.specs.Turns.{HasEditSpares, EndsOnRows};
 
 use crate::roots::RootedHeap;
-use crate::turning::{EDIT_NODES, MOST_ITEMS};
-use elem_core::{Line, Name, Text, text_of};
+use crate::turning::MOST_ITEMS;
+use elem_core::{Line, Name};
 use plain_space::Refusal;
-use rrb_core::{Flex, FlexRef};
+use rrb_core::FlexRef;
 use rrb_join::{concat, erase, insert, slice};
-use state_rows::{buffer, buffers_alike, with_lines, without_lines};
+use state_rows::{buffer, without_lines};
 
 impl RootedHeap {
     /// The lines of the buffer.
@@ -32,57 +28,15 @@ impl RootedHeap {
         buffer(&self.heap, self.bits, self.roots.current, name).ok_or(Refusal::Absent)
     }
 
-    /// Gives the buffer these lines, of which the caller's hold is spent, and turns to that state.
-    pub(crate) fn put_lines(&mut self, key: Text, lines: Flex)
-        requires name { IsName key }
-        requires kept { (W : Workspace) × (xs : List Bytes) × Keeps self.old (lines ∷ []) W × AreLinesIn self.old.heap self.old.bits lines xs × (is_full W ≡ false)
-            × HasSpares self.old.heap 1 (DEEPEST + 15 + alike_buffers self.old.bits W.current key) }
-        ensures { (W : Workspace) (xs : List Bytes) → Keeps self.old (lines ∷ []) W → AreLinesIn self.old.heap self.old.bits lines xs → is_full W ≡ false →
-            TurnsTo self.old self.new [] (DEEPEST + 16 + alike_buffers self.old.bits W.current key) (with_current W (state_with_lines W.current key xs)) }
-    {
-        let next = with_lines(&mut self.heap, self.bits, self.roots.current, key, lines);
-        self.turn_to(next);
-    }
-
-    // Makes room for an edit that writes two buffers, and gives their names as texts. Refused as `prepare` is.
-    fn prepare_both(&mut self, name: Name<'_>, other: Name<'_>) -> Result<(Text, Text), Refusal>
-        requires { (W : Workspace) × Keeps self.old [] W }
-        ensures room { MakesRoom (λ W. EDIT_NODES + alike_buffers self.old.bits W.current (name_bytes name.entry) + alike_buffers self.old.bits W.current (name_bytes other.entry)) self.old result self.new }
-        ensures keys { IfOk result (λ keys. (keys.0 ≡ name_bytes name.entry) × (keys.1 ≡ name_bytes other.entry)) }
-    {
-        if self.is_full() {
-            return Err(Refusal::Limit);
-        }
-        let key = text_of(self.alloc, name.as_line())?;
-        let other_key = text_of(self.alloc, other.as_line())?;
-        let alike = buffers_alike(&self.heap, self.bits, self.roots.current, name);
-        let other_alike = buffers_alike(&self.heap, self.bits, self.roots.current, other);
-        self.make_room_with(alike + other_alike)?;
-        Ok((key, other_key))
-    }
-
-    // Gives the two buffers these lines, of each of which the caller's hold is spent, the first buffer first, and turns to
-    // that state.
-    fn put_both(&mut self, key: Text, rest: Flex, other_key: Text, part: Flex)
-        requires names { IsName key × IsName other_key }
-        requires kept { (W : Workspace) × (xs ys : List Bytes) × Keeps self.old (rest ∷ part ∷ []) W × AreLinesIn self.old.heap self.old.bits rest xs × AreLinesIn self.old.heap self.old.bits part ys × (is_full W ≡ false)
-            × HasSpares self.old.heap 2 (2 * DEEPEST + 20 + alike_buffers self.old.bits W.current key + alike_buffers self.old.bits W.current other_key) }
-        ensures { (W : Workspace) (xs ys : List Bytes) → Keeps self.old (rest ∷ part ∷ []) W → AreLinesIn self.old.heap self.old.bits rest xs → AreLinesIn self.old.heap self.old.bits part ys → is_full W ≡ false →
-            TurnsTo self.old self.new [] (2 * DEEPEST + 22 + (alike_buffers self.old.bits W.current key + alike_buffers self.old.bits W.current other_key))
-            (with_current W (state_with_lines (state_with_lines W.current key xs) other_key ys)) }
-    {
-        let mid = with_lines(&mut self.heap, self.bits, self.roots.current, key, rest);
-        let next = with_lines(&mut self.heap, self.bits, mid, other_key, part);
-        self.heap.release(mid);
-        self.turn_to(next);
-    }
-
     /// Puts the line before the one at the index, or at the end.
     pub(crate) fn put(&mut self, name: Name<'_>, index: u32, line: Line<'_>) -> Result<(), Refusal>
         requires { (W : Workspace) × Keeps self.old [] W }
         ensures { EndsOnRows (edit (put (name_bytes name.entry) index (line_bytes line.entry))) self.old result self.new }
     {
-        let lines = self.buffer(name)?;
+        let found = self.find(name);
+        let Some(lines) = found.lines else {
+            return Err(Refusal::Absent);
+        };
         let count = lines.len(&self.heap);
         if index > count {
             return Err(Refusal::Range);
@@ -90,12 +44,12 @@ impl RootedHeap {
         if count == MOST_ITEMS {
             return Err(Refusal::Limit);
         }
-        let (key, text) = self.prepare_line(name, line)?;
+        let text = self.prepare_line(line, found.alike)?;
         let line = self.heap.cell(text);
         let Ok(longer) = insert(&mut self.heap, lines, index, line) else {
             unreachable!()
         };
-        self.put_lines(key, longer);
+        self.write_lines(name, None, longer);
         Ok(())
     }
 
@@ -104,15 +58,18 @@ impl RootedHeap {
         requires { (W : Workspace) × Keeps self.old [] W }
         ensures { EndsOnRows (edit (del (name_bytes name.entry) from to)) self.old result self.new }
     {
-        let lines = self.buffer(name)?;
+        let found = self.find(name);
+        let Some(lines) = found.lines else {
+            return Err(Refusal::Absent);
+        };
         if from > to || to > lines.len(&self.heap) {
             return Err(Refusal::Range);
         }
-        let key = self.prepare(name)?;
+        self.make_room_with(found.alike)?;
         let Ok(shorter) = erase(&mut self.heap, lines, from, to) else {
             unreachable!()
         };
-        self.put_lines(key, shorter);
+        self.write_lines(name, None, shorter);
         Ok(())
     }
 
@@ -121,16 +78,19 @@ impl RootedHeap {
         requires { (W : Workspace) × Keeps self.old [] W }
         ensures { EndsOnRows (edit (cat (name_bytes name.entry) (name_bytes other.entry))) self.old result self.new }
     {
-        let lines = self.buffer(name)?;
+        let found = self.find(name);
+        let Some(lines) = found.lines else {
+            return Err(Refusal::Absent);
+        };
         let more = self.buffer(other)?;
         if lines.len(&self.heap) > MOST_ITEMS - more.len(&self.heap) {
             return Err(Refusal::Limit);
         }
-        let key = self.prepare(name)?;
+        self.make_room_with(found.alike)?;
         let Ok(joined) = concat(&mut self.heap, lines, more) else {
             unreachable!()
         };
-        self.put_lines(key, joined);
+        self.write_lines(name, None, joined);
         Ok(())
     }
 
@@ -145,18 +105,22 @@ impl RootedHeap {
         requires { (W : Workspace) × Keeps self.old [] W }
         ensures { EndsOnRows (edit (cut (name_bytes name.entry) from to (name_bytes other.entry))) self.old result self.new }
     {
-        let lines = self.buffer(name)?;
+        let found = self.find(name);
+        let Some(lines) = found.lines else {
+            return Err(Refusal::Absent);
+        };
         if from > to || to > lines.len(&self.heap) {
             return Err(Refusal::Range);
         }
-        let (key, other_key) = self.prepare_both(name, other)?;
+        let target = self.find(other);
+        let key = self.prepare_key(other, target.lines, found.alike + target.alike)?;
         let Ok(rest) = erase(&mut self.heap, lines, from, to) else {
             unreachable!()
         };
         let Ok(part) = slice(&mut self.heap, lines, from, to) else {
             unreachable!()
         };
-        self.put_both(key, rest, other_key, part);
+        self.write_both(name, rest, other, key, part);
         Ok(())
     }
 
@@ -166,9 +130,10 @@ impl RootedHeap {
         ensures { EndsOnRows (edit (copy (name_bytes name.entry) (name_bytes other.entry))) self.old result self.new }
     {
         let lines = self.buffer(name)?;
-        let key = self.prepare(other)?;
+        let target = self.find(other);
+        let key = self.prepare_key(other, target.lines, target.alike)?;
         let lines = lines.share(&mut self.heap);
-        self.put_lines(key, lines);
+        self.write_lines(other, key, lines);
         Ok(())
     }
 

@@ -9,11 +9,11 @@ ghost use Rattle.space_state.specs.Turns.{EndsOnRows};
 
 use crate::roots::RootedHeap;
 use crate::turning::EDIT_NODES;
-use elem_core::{Name, NoMemory, Texts, text_of};
+use elem_core::{Name, NoMemory, Texts};
 use node_heap::Link;
 use plain_space::Refusal;
 use rrb_core::vector_nodes;
-use state_rows::{buffers_alike, filled};
+use state_rows::filled;
 use std::alloc::Global;
 
 // An empty list with room for so many links.
@@ -38,12 +38,12 @@ impl RootedHeap {
         let texts = lines.into_vec();
         let count = texts.len();
         let mut links = links_for(self.alloc, count)?;
-        let key = text_of(self.alloc, name.as_line())?;
-        let alike = buffers_alike(&self.heap, self.bits, self.roots.current, name);
+        let found = self.find(name);
+        let key = self.new_key(name, found.lines)?;
         self.heap
-            .reserve(count + 1, EDIT_NODES + vector_nodes(count) + alike)?;
+            .reserve(count + 1, EDIT_NODES + vector_nodes(count) + found.alike)?;
         let lines = filled(&mut self.heap, texts, &mut links);
-        self.put_lines(key, lines);
+        self.write_lines(name, key, lines);
         Ok(())
     }
 }

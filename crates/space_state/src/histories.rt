@@ -6,7 +6,7 @@ ghost use Rattle.shell_terms.specs.Command.{undo, redo};
 ghost use Rattle.plain_space.specs.Workspace.{State, Workspace, most};
 ghost use Rattle.state_rows.specs.InHeap.{IsStateIn, IsHistoryIn};
 ghost use Rattle.space_state.specs.Roots.{Keeps};
-ghost use Rattle.space_state.specs.Turns.{EndsOnRows, TurnsTo};
+ghost use Rattle.space_state.specs.Turns.{EndsOnRows, TurnsTo, TurnsBeside};
 ghost use Rattle.space_state.specs.Stepping.{HasStepRoom, IsStepRefused};
 
 use crate::roots::RootedHeap;
@@ -82,11 +82,9 @@ impl RootedHeap {
     /// Puts the state at the end of undo, which spends a hold of it.
     pub(crate) fn push_undo(&mut self, state: Link)
         requires spares { HasSpares self.old.heap 0 PUSHED_NODES }
-        requires kept { (W : Workspace) × (s : State) × Keeps self.old (state ∷ []) W × IsStateIn self.old.heap self.old.bits state s × (length W.undo < most) }
-        ensures turns { (W : Workspace) (s : State) → Keeps self.old (state ∷ []) W → IsStateIn self.old.heap self.old.bits state s →
-            TurnsTo self.old self.new [] PUSHED_NODES (record W { undo = W.undo ++ s ∷ [] }) }
-        ensures cells { self.old.heap.spare_cells ≤ self.new.heap.spare_cells }
-        ensures spares { self.old.heap.spare_nodes ≤ self.new.heap.spare_nodes + PUSHED_NODES }
+        requires kept { (b : List ℕ) × (W : Workspace) × (s : State) × Keeps self.old (state ∷ b) W × (length b ≤ 2) × IsStateIn self.old.heap self.old.bits state s × (length W.undo < most) }
+        ensures turns { (b : List ℕ) (W : Workspace) (s : State) → Keeps self.old (state ∷ b) W → IsStateIn self.old.heap self.old.bits state s →
+            TurnsBeside self.old self.new b 0 PUSHED_NODES (record W { undo = W.undo ++ s ∷ [] }) }
         ensures made { self.new.heap.made ≤ self.old.heap.made + PUSHED_NODES }
     {
         let undo = pushed(&mut self.heap, Flex::from_root(self.roots.undo), state);

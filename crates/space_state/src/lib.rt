@@ -19,6 +19,7 @@ mod stars;
 mod start;
 mod turning;
 mod versions;
+mod writing;
 
 pub use lines::SpaceLines;
 pub use plain_space::{Edit, Refusal};

@@ -6,7 +6,8 @@ ghost use Rattle.plain_space.specs.Workspace.{State, Workspace, most, in_batch, 
 ghost use Rattle.plain_space.specs.Cost.{alike_buffers};
 ghost use Rattle.state_rows.specs.InHeap.{IsStateIn};
 ghost use Rattle.space_state.specs.Roots.{Keeps};
-ghost use Rattle.space_state.specs.Turns.{MakesRoom, TurnsTo};
+ghost use Rattle.space_state.specs.InPlace.{new_key};
+ghost use Rattle.space_state.specs.Turns.{MakesRoom, TurnsTo, TurnsBeside};
 ghost use Rattle.space_state.specs.View.{room_of};
 
 use crate::roots::{Batch, RootedHeap};
@@ -22,9 +23,9 @@ pub(crate) const MOST_ITEMS: u32 = u32::MAX;
 /// The nodes of a turn to another state: a push to undo, and an empty redo.
 pub(crate) const TURN_NODES: usize = PUSHED_NODES + EMPTIED_NODES;
 
-/// The nodes for which room is made before an edit that isn't made in place, besides one for each name whose code is alike: those of the edit that makes
-/// most, which erases lines of a buffer (42), gives them to another as a slice (25), writes both names (10 each, and 1 for
-/// the first among the names of the second), and turns to that state.
+/// The nodes for which room is made before an edit that makes new lines or stars, besides one for each name whose code is alike: those of
+/// the edit that makes most, which erases lines of a buffer (42), gives them to another as a slice (25), writes both names (10 each
+/// at most, and 1 for the first among the names of the second), and keeps the state that there was.
 pub(crate) const EDIT_NODES: usize = 42 + 25 + 2 * 10 + 1 + TURN_NODES;
 
 impl RootedHeap {
@@ -74,38 +75,40 @@ impl RootedHeap {
         self.make_room_with(alike)
     }
 
-    /// The same, and gives the buffer's name as a text, for which memory may be refused however many spares there are. The text
-    /// comes first, so that an edit that wants memory for it leaves the heap the room that it had.
-    pub(crate) fn prepare(&mut self, name: Name<'_>) -> Result<Text, Refusal>
-        requires { (W : Workspace) × Keeps self.old [] W }
-        ensures room { MakesRoom (λ W. EDIT_NODES + alike_buffers self.old.bits W.current (name_bytes name.entry)) self.old result self.new }
-        ensures key { IfOk result (λ key. key ≡ name_bytes name.entry) }
-    {
-        if self.is_full() {
-            return Err(Refusal::Limit);
-        }
-        let key = text_of(self.alloc, name.as_line())?;
-        self.make_room(name)?;
-        Ok(key)
-    }
-
-    /// The same, and gives the line as a text too.
-    pub(crate) fn prepare_line(
-        &mut self,
-        name: Name<'_>,
-        line: Line<'_>,
-    ) -> Result<(Text, Text), Refusal>
-        requires { (W : Workspace) × Keeps self.old [] W }
-        ensures room { MakesRoom (λ W. EDIT_NODES + alike_buffers self.old.bits W.current (name_bytes name.entry)) self.old result self.new }
-        ensures key { IfOk result (λ texts. texts.0 ≡ name_bytes name.entry) }
-        ensures text { IfOk result (λ texts. texts.1 ≡ line_bytes line.entry) }
+    /// Makes room as `make_room_with` does, and gives the line as a text, for which memory may be refused however many spares there
+    /// are. The text comes first, so that an edit that wants memory for it leaves the heap the room that it had.
+    pub(crate) fn prepare_line(&mut self, line: Line<'_>, alike: usize) -> Result<Text, Refusal>
+        requires kept { (W : Workspace) × Keeps self.old [] W }
+        requires few { alike < 2 ^ 58 }
+        ensures room { MakesRoom (λ _. EDIT_NODES + alike) self.old result self.new }
+        ensures text { IfOk result (λ text. text ≡ line_bytes line.entry) }
     {
         if self.is_full() {
             return Err(Refusal::Limit);
         }
         let text = text_of(self.alloc, line)?;
-        let key = self.prepare(name)?;
-        Ok((key, text))
+        self.make_room_with(alike)?;
+        Ok(text)
+    }
+
+    /// The same with the text by which a buffer is made of which these lines were found.
+    pub(crate) fn prepare_key(
+        &mut self,
+        name: Name<'_>,
+        found: Option<FlexRef>,
+        alike: usize,
+    ) -> Result<Option<Text>, Refusal>
+        requires kept { (W : Workspace) × Keeps self.old [] W }
+        requires few { alike < 2 ^ 58 }
+        ensures room { MakesRoom (λ _. EDIT_NODES + alike) self.old result self.new }
+        ensures key { IfOk result (λ key. key ≡ new_key found (name_bytes name.entry)) }
+    {
+        if self.is_full() {
+            return Err(Refusal::Limit);
+        }
+        let key = self.new_key(name, found)?;
+        self.make_room_with(alike)?;
+        Ok(key)
     }
 
     /// Turns to the state, of which the caller's hold is spent. Outside a batch the old state goes to the end of undo, and
@@ -139,11 +142,9 @@ impl RootedHeap {
     /// Puts the state at the end of undo, which spends a hold of it, and empties redo.
     pub(crate) fn record(&mut self, before: Link)
         requires spares { HasSpares self.old.heap 0 TURN_NODES }
-        requires kept { (W : Workspace) × (s : State) × Keeps self.old (before ∷ []) W × IsStateIn self.old.heap self.old.bits before s × (length W.undo < most) }
-        ensures turns { (W : Workspace) (s : State) → Keeps self.old (before ∷ []) W → IsStateIn self.old.heap self.old.bits before s → length W.undo < most →
-            TurnsTo self.old self.new [] TURN_NODES (record W { undo = W.undo ++ s ∷ []; redo = [] }) }
-        ensures cells { self.old.heap.spare_cells ≤ self.new.heap.spare_cells }
-        ensures nodes { self.old.heap.spare_nodes ≤ self.new.heap.spare_nodes + TURN_NODES }
+        requires kept { (b : List ℕ) × (W : Workspace) × (s : State) × Keeps self.old (before ∷ b) W × (length b ≤ 2) × IsStateIn self.old.heap self.old.bits before s × (length W.undo < most) }
+        ensures { (b : List ℕ) (W : Workspace) (s : State) → Keeps self.old (before ∷ b) W → IsStateIn self.old.heap self.old.bits before s → length W.undo < most →
+            TurnsBeside self.old self.new b 0 TURN_NODES (record W { undo = W.undo ++ s ∷ []; redo = [] }) }
     {
         self.push_undo(before);
         let redo = emptied(&mut self.heap, Flex::from_root(self.roots.redo));

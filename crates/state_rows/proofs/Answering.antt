@@ -75,10 +75,6 @@ module _ {T : Type 0} where
     | inr other ↦ omega (arith, test_other k l (λ e. other (sym e)))
   ]
 
-  -- what a call gives is held, where the hold that it spends was there
-  pub answered-held : {old new : Heap T} {v w c n : ℕ} → Answered old new (v ∷ []) w c n → 0 < holds_at old v → 0 < holds_at new w
-  answered-held {old} {v = v} {w = w} a held = omega (arith, a.holds w, count-one w v, one-held old v held w, test_same w w refl)
-
   pub answered-gives : {old new : Heap T} {w c n : ℕ} → Answered old new [] w c n → 0 < holds_at new w
   answered-gives {w = w} a = omega (arith, a.holds w, test_same w w refl)
 

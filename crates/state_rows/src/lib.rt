@@ -2,8 +2,8 @@
 //!
 //! A state row has two links: a map from the names of buffers to vectors of cells, and the set of the names that are
 //! starred. Versions are a map from names to state rows, and a history is a vector of state rows. Histories are edited in
-//! place; nothing else here is ever changed: each other call that makes something makes new rows and shares the others. All
-//! ask for the spares that they take, so that they want no memory.
+//! place, and so are the lines of a state's buffers; each other call that makes something makes new rows and shares the
+//! others. All ask for the spares that they take, so that they want no memory.
 #![tactic(auto)]
 
 mod fill;
@@ -27,5 +27,5 @@ pub use look_up::{
     FoundBuffer, buffer, buffers_alike, find_buffer, is_starred, stars_alike, version,
     versions_alike,
 };
-pub use make::{with_lines, with_star, with_version, without_lines, without_star, without_version};
+pub use make::{with_star, with_version, without_lines, without_star, without_version};
 pub use start::{empty_history, empty_state, empty_versions};

@@ -1,43 +1,21 @@
 //! States and versions with one thing more or less. Each call takes the rows that it makes from spares, which its caller has
 //! reserved, and keeps every row that is there.
-ghost use Rattle.std.specs.Prelude.{◌≡◌, ℕ, ◌+◌, ◌^◌, ◌<◌, ◌≤◌, true, List, [], ◌∷◌, IsSome};
+ghost use Rattle.std.specs.Prelude.{◌≡◌, ℕ, ◌+◌, ◌^◌, ◌<◌, ◌≤◌, true, [], ◌∷◌, IsSome};
 ghost use Rattle.std.specs.FinMap as map;
 ghost use Rattle.elem_core.specs.declared.codes.TheConstants.{CODE_BITS, DEEPEST};
 ghost use Rattle.elem_core.specs.Naming.{IsName};
 ghost use Rattle.elem_core.specs.Shown.{name_bytes};
 ghost use Rattle.node_heap.specs.Heap.{holds_at, hold_count, HasSpares};
 ghost use Rattle.node_heap.specs.Calls.{Answered, MakesJust};
-ghost use Rattle.shell_terms.specs.Edit.{Bytes};
-ghost use Rattle.plain_space.specs.Workspace.{Named, State, lines_of, is_starred, with_lines as has_lines, without_lines as has_no_lines, with_star as has_star, without_star as has_no_star};
+ghost use Rattle.plain_space.specs.Workspace.{Named, State, lines_of, is_starred, without_lines as has_no_lines, with_star as has_star, without_star as has_no_star};
 ghost use Rattle.plain_space.specs.Cost.{alike, alike_buffers, alike_stars};
-ghost use Rattle.state_rows.specs.InHeap.{AreLinesIn, IsStateIn, AreVersionsIn};
+ghost use Rattle.state_rows.specs.InHeap.{IsStateIn, AreVersionsIn};
 
 use crate::look_up::{names_of, stars_of};
 use crate::row::{over_names, over_stars};
 use champ_kinds::{Map, MapRef, map_insert, map_remove, set_insert, set_remove};
 use elem_core::{Name, Text};
 use node_heap::{Heap, Link};
-use rrb_core::Flex;
-
-/// The state in which the buffer has these lines, made or replaced. It spends the lines' hold.
-pub fn with_lines(heap: &mut Heap<Text>, bits: u32, state: Link, key: Text, lines: Flex) -> Link
-    requires few { hold_count heap.old < 2 ^ 59 }
-    requires bits { bits ≤ CODE_BITS }
-    requires held { 0 < holds_at heap.old lines }
-    requires name { IsName key }
-    requires state { (s : State) × IsStateIn heap.old bits state s × HasSpares heap.old 1 (DEEPEST + 4 + alike_buffers bits s key) }
-    requires lines { (xs : List Bytes) × AreLinesIn heap.old bits lines xs }
-    ensures answered { (s : State) → IsStateIn heap.old bits state s → Answered heap.old heap.new (lines ∷ []) result 1 (DEEPEST + 4 + alike_buffers bits s key) }
-    ensures made { MakesJust heap.old heap.new }
-    ensures state { (s : State) (xs : List Bytes) → IsStateIn heap.old bits state s → AreLinesIn heap.old bits lines xs → IsStateIn heap.new bits result (has_lines s key xs) }
-{
-    let names = names_of(heap, bits, state);
-    let stars = stars_of(heap, bits, state).root();
-    let Ok(written) = map_insert(heap, names, key, lines.into_root()) else {
-        unreachable!()
-    };
-    over_stars(heap, written.into_root(), stars)
-}
 
 /// The state in which the buffer, which is there, is gone.
 pub fn without_lines(heap: &mut Heap<Text>, bits: u32, state: Link, name: Name<'_>) -> Link

@@ -1,11 +1,14 @@
-use Rattle.std.proofs.Common.{refl, [], arith}
+use Rattle.std.proofs.Common.{◌≡◌, [], ◌∙◌, refl, arith}
 use Rattle.elem_core.specs.Shown.{name_bytes}
 use Rattle.node_heap.proofs.BuildLemmas.{Answered-Builds}
 use Rattle.shell_terms.specs.Edit.{copy}
-use Rattle.plain_space.specs.Workspace.{Workspace}
+use Rattle.plain_space.specs.Workspace.{Workspace, lines_of}
+use Rattle.state_rows.specs.InHeap.{AreLinesIn}
 use Rattle.space_state.specs.Roots.{Keeps}
+use Rattle.space_state.specs.InPlace.{new_key}
 use Rattle.space_state.proofs.Keeping.{keeps-same}
-use Rattle.space_state.proofs.Editing.{found-lines, copy-absent, copy-made, no-room, due-absent, HasLines, has-lines, made-again, can-put, edit-done, edit-refused, fails}
+use Rattle.space_state.proofs.Editing.{found-lines, copy-absent, copy-made, no-room, due-absent, HasBufferRoom, HasLines, has-lines, has-room, made-again, can-put, edit-done, edit-refused, fails}
+use Rattle.space_state.proofs.Placing.{key-told}
 use Rattle.space_state.proofs.roots.RootedHeap.copy.Goals as goal
 use Rattle.space_state.proofs.roots.RootedHeap.copy.Goals.{In_ok-key}
 
@@ -26,26 +29,36 @@ returns-in_err-key c = λ W K.
     (no-room W (copy name other) _ done (c.in_err-key.ensures.room W K))
 
 -- the buffer's lines, once room was made
-there : (c : In_ok-key) (W : Workspace) → Keeps c.args.self.now [] W → HasLines c.args.self.now c.prepare.new.self c.in_ok-lines.lines (name_bytes c.args.name) W
+roomy : (c : In_ok-key) (W : Workspace) → Keeps c.args.self.now [] W → HasBufferRoom c.args.self.now c.prepare_key.new.self (name_bytes c.args.other) W
+roomy c W K = has-room (name_bytes c.args.other) (c.find-target.ensures.alike W K) (c.in_ok-key.ensures.room W K)
+
+there : (c : In_ok-key) (W : Workspace) → Keeps c.args.self.now [] W → HasLines c.args.self.now c.prepare_key.new.self c.in_ok-lines.lines (name_bytes c.args.name) W
 there c W K = has-lines (c.in_ok-key.ensures.room W K).same (c.in_ok-lines.ensures W K)
+
+-- the key that the other buffer wants
+key : (c : In_ok-key) (W : Workspace) → Keeps c.args.self.now [] W → c.in_ok-key.key ≡ new_key (lines_of W.current (name_bytes c.args.other)) (name_bytes c.args.other)
+key c W K = c.in_ok-key.ensures.key ∙ key-told (AreLinesIn c.args.self.now.heap c.args.self.now.bits) _ _ (name_bytes c.args.other) (c.find-target.ensures.lines W K)
 
 pub share-lines-requires-clause-good : goal.share-lines-requires-clause-good
 share-lines-requires-clause-good c = (there (goal.at.share-lines-requires-clause-good c).In_ok-key c.requires.0 c.requires.1).now.vector
 
-pub put_lines-requires-clause-kept : goal.put_lines-requires-clause-kept
-put_lines-requires-clause-kept c =
+pub write_lines-requires : goal.write_lines-requires
+write_lines-requires c =
     let W = c.requires.0 in
     let K = c.requires.1 in
-    let lines = there (goal.at.put_lines-requires-clause-kept c).In_ok-key W K in
-    let m = made-again (keeps-same (c.in_ok-key.ensures.room W K).same K) (Answered-Builds c.share-lines.ensures.shares.builds) c.share-lines.ensures.same lines.now in
-    can-put c.in_ok-key.ensures.key (c.in_ok-key.ensures.room W K) m (omega arith) (omega arith)
+    let path = (goal.at.write_lines-requires c).In_ok-key in
+    let lines = there path W K in
+    let room = roomy path W K in
+    let m = made-again (keeps-same room.same K) (Answered-Builds c.share-lines.ensures.shares.builds) c.share-lines.ensures.same lines.now in
+    can-put (name_bytes c.args.other) room m (key path W K) (omega arith) (omega arith)
 
 pub returns : goal.returns
 returns c = λ W K.
     let name = name_bytes c.args.name in
     let other = name_bytes c.args.other in
-    let lines = there (goal.at.returns c).In_ok-key W K in
-    let m = made-again (keeps-same (c.in_ok-key.ensures.room W K).same K) (Answered-Builds c.share-lines.ensures.shares.builds) c.share-lines.ensures.same lines.now in
-    let room = c.in_ok-key.ensures.room W K in
+    let path = (goal.at.returns c).In_ok-key in
+    let lines = there path W K in
+    let room = roomy path W K in
+    let m = made-again (keeps-same room.same K) (Answered-Builds c.share-lines.ensures.shares.builds) c.share-lines.ensures.same lines.now in
     let done = copy-made W.current name other lines.xs lines.found in
-    edit-done (copy name other) c.in_ok-key.ensures.key room m done (c.put_lines.ensures W _ m.keeps m.lines room.free) (omega arith) (λ placed. placed)
+    edit-done (copy name other) other room m done (c.write_lines.ensures W _ m.keeps m.lines room.free (key path W K)) (omega arith) (λ placed. placed)

@@ -1,4 +1,4 @@
-use Rattle.std.proofs.Common.{refl, sym, ◌∙◌, arith}
+use Rattle.std.proofs.Common.{[], refl, sym, ◌∙◌, arith}
 use Rattle.shell_terms.specs.Command.{«end»}
 use Rattle.plain_space.specs.Cost.{cost}
 use Rattle.space_state.proofs.Keeping.{heap-is, same-heap, keeps-same, keeps-closed, undo-stands, batch-open, batch-closed, rises-same, turns-after}
@@ -28,7 +28,7 @@ record-requires-clause-kept c =
     let now = keeps-same (same-heap c.reserve.ensures.rest) K in
     let base = batch-open c.in-Some.base opened now in
     let room = length-below (undo-stands K) (length-told (undo-stands K) c.at.ensures c.len.ensures.value) c.if-len.false in
-    (_, base.0, keeps-closed c.in-Some.base opened now, base.2, room)
+    ([], _, base.0, keeps-closed c.in-Some.base opened now, omega arith, base.2, room)
 
 pub returns-clause-ends : goal.returns-clause-ends
 unfolding cost
@@ -40,6 +40,6 @@ returns-clause-ends c = λ W K.
     record {
       after = _;
       told = end-done W base.0 base.1 room;
-      turns = turns-after 0 64 (rises-same c.reserve.ensures.rest) refl (c.record.ensures.turns _ base.0 (keeps-closed c.in-Some.base opened now) base.2 room) (omega arith);
+      turns = turns-after 0 64 (rises-same c.reserve.ensures.rest) refl (c.record.ensures [] _ base.0 (keeps-closed c.in-Some.base opened now) base.2 room).turns (omega arith);
       few_made = λ placed inside. absurd placed;
     }

@@ -1,15 +1,17 @@
 use Rattle.std.proofs.Common.{◌≡◌, ◌+◌, ◌/◌, [], length, Ok, false, refl, sym, ap, ◌∙◌, arith}
 use Rattle.elem_core.specs.Shown.{name_bytes}
 use Rattle.shell_terms.specs.Edit.{fill}
-use Rattle.plain_space.specs.Workspace.{Workspace, with_lines, is_full}
+use Rattle.plain_space.specs.Workspace.{Workspace, lines_of, with_lines, is_full}
 use Rattle.plain_space.specs.Edited.{edited}
-use Rattle.plain_space.specs.Cost.{alike_buffers}
+use Rattle.state_rows.specs.InHeap.{AreLinesIn}
 use Rattle.space_state.specs.Roots.{Keeps}
-use Rattle.space_state.proofs.Keeping.{holds-few, heap-is, same-heap, keeps-same, current-stands}
+use Rattle.space_state.specs.InPlace.{new_key}
+use Rattle.space_state.proofs.Keeping.{holds-few, heap-is, same-heap, keeps-same}
 use Rattle.space_state.proofs.Editing.{fill-made, limited, may-lack, IsMade, made-by, lines-put}
+use Rattle.space_state.proofs.Placing.{key-told}
 use Rattle.space_state.proofs.Steps.{memory-refused}
 use Rattle.space_state.proofs.roots.RootedHeap.fill.Goals as goal
-use Rattle.space_state.proofs.roots.RootedHeap.fill.Goals.{After-filled-lines}
+use Rattle.space_state.proofs.roots.RootedHeap.fill.Goals.{In_ok-key, After-filled-lines}
 
 pub returns-then-is_full : goal.returns-then-is_full
 returns-then-is_full c = λ W K.
@@ -52,21 +54,23 @@ filled-lines-requires c =
       spares = (omega (arith, spares.0, c.len-count.ensures), omega (arith, spares.1, c.vector_nodes.ensures, c.len-count.ensures));
     }
 
-pub put_lines-requires-clause-kept : goal.put_lines-requires-clause-kept
-put_lines-requires-clause-kept c =
+-- the key that the buffer wants
+key : (c : In_ok-key) (W : Workspace) → Keeps c.args.self.now [] W → c.in_ok-key.key ≡ new_key (lines_of W.current (name_bytes c.args.name)) (name_bytes c.args.name)
+key c W K = c.in_ok-key.ensures ∙ key-told (AreLinesIn c.args.self.now.heap c.args.self.now.bits) _ _ (name_bytes c.args.name) (c.find-found.ensures.lines W K)
+
+pub write_lines-requires : goal.write_lines-requires
+write_lines-requires c =
     let W = c.requires.kept.0 in
     let K = c.requires.kept.1 in
-    let made = made (goal.at.put_lines-requires-clause-kept c).After-filled-lines W K in
-    let spares = c.in_ok-reserve.ensures.spares in
-    let alike = c.buffers_alike-alike.ensures.number W.current (current-stands K) in
-    let key : c.in_ok-key.key ≡ name_bytes c.args.name = c.in_ok-key.ensures ∙ c.as_line.ensures in
-    let same : alike_buffers c.args.self.now.bits W.current c.in_ok-key.key ≡ alike_buffers c.args.self.now.bits W.current (name_bytes c.args.name) = ap (alike_buffers c.args.self.now.bits W.current) key in (
+    let made = made (goal.at.write_lines-requires c).After-filled-lines W K in
+    let spares = c.in_ok-reserve.ensures.spares in (
       W,
       c.into_vec-texts.result.items,
       made.keeps,
       made.lines,
       sym (c.is_full.ensures W K) ∙ c.if-is_full.false,
-      (omega (arith, spares.0, c.len-count.ensures, made.cells), omega (arith, spares.1, c.vector_nodes.ensures, c.len-count.ensures, made.nodes, alike, same)),
+      key (goal.at.write_lines-requires c).In_ok-key W K,
+      (omega (arith, spares.0, c.len-count.ensures, made.cells), omega (arith, spares.1, c.vector_nodes.ensures, c.len-count.ensures, made.nodes, c.find-found.ensures.alike W K)),
     )
 
 pub returns : goal.returns
@@ -75,6 +79,6 @@ returns c = λ W K.
     let xs = c.into_vec-texts.result.items in
     let made = made (goal.at.returns c).After-filled-lines W K in
     let free : is_full W ≡ false = sym (c.is_full.ensures W K) ∙ c.if-is_full.false in
-    let key : c.in_ok-key.key ≡ name = c.in_ok-key.ensures ∙ c.as_line.ensures in
     let done : edited W.current (fill name c.args.lines) ≡ Ok (with_lines W.current name xs) = fill-made W.current name c.args.lines ∙ ap (λ ys. Ok (with_lines W.current name ys)) (sym c.into_vec-texts.ensures) in
-    lines-put (fill name c.args.lines) key (same-heap c.reserve.ensures.rest) free made done (c.put_lines.ensures W xs made.keeps made.lines free) (omega (arith, ap length c.into_vec-texts.ensures)) (λ placed. placed)
+    lines-put (fill name c.args.lines) name (same-heap c.reserve.ensures.rest) free made done (c.write_lines.ensures W xs made.keeps made.lines free (key (goal.at.returns c).In_ok-key W K))
+    (omega (arith, ap length c.into_vec-texts.ensures)) (λ placed. placed)

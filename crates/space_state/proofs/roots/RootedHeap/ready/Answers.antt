@@ -1,4 +1,4 @@
-use Rattle.std.proofs.Common.{◌≡◌, false, refl, sym, subst, ◌∙◌, arith}
+use Rattle.std.proofs.Common.{◌≡◌, [], false, refl, sym, subst, ◌∙◌, arith}
 use Rattle.plain_space.specs.Workspace.{is_full}
 use Rattle.state_rows.specs.InPlace.{MakesFew}
 use Rattle.space_state.specs.declared.roots.RootedHeap.{RootedHeap}
@@ -14,7 +14,7 @@ returns-in_err-reserve-clause-ready c = λ W K.
 pub keep_current-requires-clause-kept : goal.keep_current-requires-clause-kept
 keep_current-requires-clause-kept c =
     let k = c.requires.kept in
-    (k.0, keeps-same (same-heap c.reserve.ensures.rest) k.1, sym (c.is_full.ensures k.0 k.1) ∙ c.if-is_full.false)
+    ([], k.0, keeps-same (same-heap c.reserve.ensures.rest) k.1, omega arith, sym (c.is_full.ensures k.0 k.1) ∙ c.if-is_full.false)
 
 pub keep_current-requires-clause-spares : goal.keep_current-requires-clause-spares
 keep_current-requires-clause-spares c = let spares = c.in_ok-reserve.ensures.spares in (omega arith, omega (arith, spares.1))
@@ -25,9 +25,10 @@ returns-clause-ready c = λ W K.
     let rest = c.reserve.ensures.rest in
     let kept = keeps-same (same-heap rest) K in
     let spares = c.in_ok-reserve.ensures.spares in
+    let now = c.keep_current.ensures.turns [] W kept free in
     record {
       free = free;
-      turns = turns-after 0 TURN_NODES (rises-same rest) refl (c.keep_current.ensures.turns W kept free) (omega arith);
+      turns = turns-after 0 TURN_NODES (rises-same rest) refl now.turns (omega arith);
       few = λ inside. subst (λ (u : RootedHeap). MakesFew c.args.self.now.heap u.heap 0) (sym (c.keep_current.ensures.inside W kept inside)) (omega (arith, rest.made, rest.live));
-      spares = (omega (arith, spares.0, c.keep_current.ensures.cells), omega (arith, spares.1, c.keep_current.ensures.nodes));
+      spares = (omega (arith, spares.0, now.spare_cells), omega (arith, spares.1, now.spare_nodes));
     }

@@ -59,17 +59,17 @@ pub push_undo-requires-clause-kept : goal.push_undo-requires-clause-kept
 push_undo-requires-clause-kept c =
     let W = c.requires.0 in
     let moved = moved (goal.at.push_undo-requires-clause-kept c).After-popped-redo W c.requires.1 in
-    rw c.into_root-self.ensures (_, W.current, moved.keeps, moved.before, (room (goal.at.push_undo-requires-clause-kept c).In_ok-make_step_room W c.requires.1).room)
+    rw c.into_root-self.ensures ([], _, W.current, moved.keeps, omega arith, moved.before, (room (goal.at.push_undo-requires-clause-kept c).In_ok-make_step_room W c.requires.1).room)
 
 pub returns-clause-ends : goal.returns-clause-ends
 unfolding cost
 returns-clause-ends c = λ W K.
     let room = room (goal.at.returns-clause-ends c).In_ok-make_step_room W K in
     let moved = moved (goal.at.returns-clause-ends c).After-popped-redo W K in
-    let pushed = (rw c.into_root-self.ensures at c.push_undo.ensures.turns) _ W.current moved.keeps moved.before in
+    let pushed = (rw c.into_root-self.ensures at c.push_undo.ensures.turns) [] _ W.current moved.keeps moved.before in
     record {
       after = _;
       told = redo-done W moved.x (take (length W.redo - 1) W.redo) (W.undo ++ W.current ∷ []) (step-done W W.redo W.undo room.outside moved.x moved.last room.room);
-      turns = turns-after 9 64 (rises-then (rises-same room.same.heap) (rises-trades c.popped-redo.ensures.trades)) room.same.bits pushed (omega arith);
+      turns = turns-after 9 64 (rises-then (rises-same room.same.heap) (rises-trades c.popped-redo.ensures.trades)) room.same.bits pushed.turns (omega arith);
       few_made = λ placed inside. absurd placed;
     }

@@ -17,7 +17,7 @@ record-requires-clause-kept c =
     let K = c.requires.kept.2 in
     let turned = keeps-current c.args.next x K c.requires.kept.3 in
     let outside : in_batch W ≡ false = sym (c.in_batch.ensures (c.args.self.now.roots.current ∷ []) (record W { current = x }) turned) ∙ c.if-in_batch.false in
-    (record W { current = x }, W.current, turned, current-stands K, has-room W (undo-stands K) outside c.requires.kept.4)
+    ([], record W { current = x }, W.current, turned, omega arith, current-stands K, has-room W (undo-stands K) outside c.requires.kept.4)
 
 pub returns-then-in_batch : goal.returns-then-in_batch
 returns-then-in_batch c = λ W x K is room.
@@ -30,4 +30,4 @@ returns-else-in_batch c = λ W x K is room.
     let turned = keeps-current c.args.next x K is in
     let outside : in_batch W ≡ false = sym (c.in_batch.ensures (c.args.self.now.roots.current ∷ []) (record W { current = x }) turned) ∙ c.if-in_batch.false in
     rw outside (turns-after 0 TURN_NODES (rises-refl c.args.self.now.heap) refl
-    (c.record.ensures.turns (record W { current = x }) W.current turned (current-stands K) (has-room W (undo-stands K) outside room)) (omega arith))
+    (c.record.ensures [] (record W { current = x }) W.current turned (current-stands K) (has-room W (undo-stands K) outside room)).turns (omega arith))
