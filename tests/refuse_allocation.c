@@ -1,10 +1,11 @@
 /* Preloaded into a program: of its calls for memory, by malloc and realloc, the one whose number stands in REFUSE_AT is refused,
-   counted from 1. A byte goes to the handle REFUSE_TO then, so that who started the program knows that there was such a call. */
+   counted from 1. A byte goes to the handle REFUSE_TO then, so that who started the program knows that there was such a call.
+   calloc and the like aren't counted: the program makes none (`nm -D`). */
 #include <errno.h>
 #include <stdlib.h>
 #include <unistd.h>
 
-/* How the C library of GNU calls its own. */
+/* The C library's own names of these. dlsym would find them too, but asks for memory itself. */
 void *__libc_malloc(size_t size);
 void *__libc_realloc(void *block, size_t size);
 

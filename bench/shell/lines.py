@@ -1,5 +1,5 @@
 #!/usr/bin/env python3
-"""Counts the instructions of one command line, by what it does, over a buffer of 100,000 lines.
+"""Counts the instructions of one command line, by what it does, over a buffer of 100,000 lines or among 1,000 or 10,000 names.
 
     lines.py --bin PATH [--only a,c] [--functions 8]
 
