@@ -1,11 +1,12 @@
 //! Borrowed texts that were tested once: lines and names.
 
-ghost use Rattle.std.specs.Prelude.{◌≡◌, ◌↔◌, IsTrue, IsSome, IfSome};
+ghost use Rattle.std.specs.Prelude.{◌≡◌, ◌↔◌, Contains, IsTrue, IsSome, IfSome};
 ghost use Rattle.elem_core.specs.Cell.{IsCell};
 ghost use Rattle.elem_core.specs.Naming.{IsName, is_name_byte};
 ghost use Rattle.std.specs.List.{list_all};
 
 use super::{MAX_LINE, MAX_NAME, NEWLINE};
+use memchr::memchr;
 
 /// A borrowed text that may stand in a cell: no newline, at most `MAX_LINE` bytes.
 #[derive(Clone, Copy, Debug, PartialEq, Eq)]
@@ -29,7 +30,7 @@ impl<'a> Line<'a> {
         ensures tested { IsSome result ↔ IsCell text.now }
         ensures kept { IfSome result (λ line. line_bytes line ≡ text.now) }
     {
-        if text.len() > MAX_LINE || text.as_bytes().contains(&NEWLINE) {
+        if text.len() > MAX_LINE || has_newline(text.as_bytes()) {
             None
         } else {
             Some(Line { text })
@@ -74,6 +75,13 @@ impl<'a> Name<'a> {
     {
         Line { text: self.text }
     }
+}
+
+// Whether a newline is among the bytes.
+fn has_newline(bytes: &[u8]) -> bool
+    ensures { IsTrue result ↔ Contains bytes.now NEWLINE }
+{
+    memchr(NEWLINE, bytes).is_some()
 }
 
 /// Whether the text is a name.
