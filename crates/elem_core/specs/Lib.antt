@@ -2,3 +2,4 @@ pub mod Cell
 pub mod Naming
 pub mod Shown
 pub mod Codes
+pub mod Kept

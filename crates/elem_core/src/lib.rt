@@ -3,6 +3,7 @@
 
 mod codes;
 mod element;
+mod kept;
 mod text;
 mod words;
 

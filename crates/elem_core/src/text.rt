@@ -6,27 +6,29 @@ ghost use Rattle.elem_core.specs.Cell.{IsCell};
 ghost use Rattle.elem_core.specs.Shown.{line_bytes};
 
 use super::NoMemory;
+use super::kept::Kept;
 use super::words::Line;
 use std::alloc::Global;
 use std::cmp::Ordering;
+use std::fmt;
 use std::marker::Model;
 
 /// A text that a cell owns: no newline, at most `MAX_LINE` bytes. Contracts see its bytes.
-#[derive(Debug, Drop)]
+#[derive(Drop)]
 pub struct Text {
-    text: String,
+    text: Kept,
 }
 
 impl Model for Text {
     ghost use Rattle.std.specs.Prelude.{ℕ, List};
-    ghost use Rattle.std.specs.String.{string_bytes};
     ghost use Rattle.elem_core.specs.Cell.{IsCell};
+    ghost use Rattle.elem_core.specs.Kept.{kept_bytes};
 
     ghost Value = { List ℕ };
 
-    ghost view = { λ it. string_bytes it.text };
+    ghost view = { λ it. kept_bytes it.text };
 
-    ghost invariant = { λ it. IsCell (string_bytes it.text) };
+    ghost invariant = { λ it. IsCell (kept_bytes it.text) };
 }
 
 impl Text {
@@ -37,7 +39,9 @@ impl Text {
         ensures given_back { IfErr result (λ back. back ≡ text) }
     {
         if Line::new(&text).is_some() {
-            Ok(Text { text })
+            Ok(Text {
+                text: Kept::new(text),
+            })
         } else {
             Err(text)
         }
@@ -48,7 +52,13 @@ impl Text {
         ensures shown { result.now ≡ self.now }
         ensures cell { IsCell self.now }
     {
-        &self.text
+        self.text.as_str()
+    }
+}
+
+impl fmt::Debug for Text {
+    fn fmt<W: fmt::Write>(&self, f: &mut fmt::Formatter<W>) -> fmt::Result {
+        fmt::Debug::fmt(self.text(), f)
     }
 }
 
@@ -63,7 +73,7 @@ impl PartialEq for Text {
     ghost laws = { Cmp.partial_equiv_from_equiv nat_list_eq_equiv };
 
     fn eq(&self, other: &Text) -> bool {
-        self.text == other.text
+        self.text() == other.text()
     }
 }
 
@@ -101,7 +111,7 @@ impl Ord for Text {
     ghost matches_eq = { texts_ties };
 
     fn cmp(&self, other: &Text) -> Ordering {
-        self.text.cmp(&other.text)
+        self.text().cmp(other.text())
     }
 }
 
@@ -109,7 +119,7 @@ impl Ord for Text {
 pub fn text_of(alloc: Global, line: Line<'_>) -> Result<Text, NoMemory>
     ensures { IfOk result (λ made. made ≡ line_bytes line.entry) }
 {
-    let text = String::from_str(alloc, line.as_str())?;
+    let text = Kept::copy(alloc, line.as_str())?;
     Ok(Text { text })
 }
 
