@@ -107,7 +107,7 @@ whole-in moved (Moved room) is = absurd cc
 
 -- a node in a room apart
 in-room : (moved : List (Option NodeSlot)) (h : SmallHead) (room : ℕ) (x : NodeSlot) (links : List ℕ) → room_of h ≡ Some room → get_or moved room None ≡ Some x
-    → (head_in moved h ≡ x.head) × (links_in moved h links ≡ x.links.items)
+    → (head_in moved h ≡ x.head) × (links_in moved h links ≡ x.links)
 in-room moved Chain room x links named is = absurd cc
 in-room moved Pair room x links named is = absurd cc
 in-room moved State room x links named is = absurd cc

@@ -79,7 +79,7 @@ module _ (small small' : List (Option SmallSlot)) (large moved : List (Option No
 
 module _ (small : List (Option SmallSlot)) (large large' moved : List (Option NodeSlot)) (i : ℕ) (same : SameBut large large' i) where
   pub puts-large : (s : NodeSlot) → get_or large i None ≡ None → get_or large' i None ≡ Some s
-      → Puts (nodes_in small large moved) (nodes_in small large' moved) (2 * i + 1) (record { owners = s.owners; head = s.head; links = s.links.items })
+      → Puts (nodes_in small large moved) (nodes_in small large' moved) (2 * i + 1) (record { owners = s.owners; head = s.head; links = s.links })
   puts-large s was now = record {
     was = at large ∙ ap large_node was;
     now = at large' ∙ ap large_node now;
@@ -267,7 +267,7 @@ module _ (small : List (Option SmallSlot)) (large moved : List (Option NodeSlot)
         (rw same (seen-small small (set small (index / 2) (Some y)) (index / 2) (set-apart small (index / 2) (Some y)) large moved index even refl))
 
     -- a node is written in a room apart that was free
-    pub becomes-moved : (room : ℕ) (z : NodeSlot) → Parts room_in small moved → y.owners ≡ x.owners → room_of y.head ≡ Some room → get_or moved room None ≡ None → get_or moved' room None ≡ Some z → SameBut moved moved' room → z.head ≡ head → z.links.items ≡ links
+    pub becomes-moved : (room : ℕ) (z : NodeSlot) → Parts room_in small moved → y.owners ≡ x.owners → room_of y.head ≡ Some room → get_or moved room None ≡ None → get_or moved' room None ≡ Some z → SameBut moved moved' room → z.head ≡ head → z.links ≡ links
         → Becomes (nodes_of small large moved spares) (nodes_of (set small (index / 2) (Some y)) large moved' spares) index (λ n. record { owners = n.owners; head = head; links = links })
     becomes-moved room z p owners named was now same head_is items =
         written
@@ -276,9 +276,9 @@ module _ (small : List (Option SmallSlot)) (large moved : List (Option NodeSlot)
 
   -- a node is written in its room apart
   pub becomes-room : (spares room : ℕ) (z : NodeSlot) (moved' : List (Option NodeSlot)) → Parts room_in small moved → room_of x.head ≡ Some room → get_or moved' room None ≡ Some z → SameBut moved moved' room
-      → Becomes (nodes_of small large moved spares) (nodes_of small large moved' spares) index (λ n. record { owners = n.owners; head = z.head; links = z.links.items })
+      → Becomes (nodes_of small large moved spares) (nodes_of small large moved' spares) index (λ n. record { owners = n.owners; head = z.head; links = z.links })
   becomes-room spares room z moved' p named now same =
-      let change : NodeOf Tag → NodeOf Tag = λ n. record { owners = n.owners; head = z.head; links = z.links.items } in
+      let change : NodeOf Tag → NodeOf Tag = λ n. record { owners = n.owners; head = z.head; links = z.links } in
       record {
         here = read-small small large moved' index x even is ∙ moved-node moved' x room z named now ∙ sym (ap (option_map change) (read-small small large moved index x even is));
         others = seen-left small small (index / 2) (λ k other. refl) large moved moved' room same p index even refl (ap room_in is ∙ named);

@@ -12,7 +12,7 @@ use Rattle.node_heap.specs.declared.entry.SmallSlot.{SmallSlot}
 
 abbrev pub large_node : Option NodeSlot → Option (NodeOf Tag)
 large_node None = None
-large_node (Some s) = Some (record { owners = s.owners; head = s.head; links = s.links.items })
+large_node (Some s) = Some (record { owners = s.owners; head = s.head; links = s.links })
 
 abbrev pub moved_head : Option NodeSlot → Tag
 moved_head None = tag.Leaf
@@ -20,7 +20,7 @@ moved_head (Some s) = s.head
 
 abbrev pub moved_links : Option NodeSlot → List ℕ
 moved_links None = []
-moved_links (Some s) = s.links.items
+moved_links (Some s) = s.links
 
 -- the room that the slot names
 abbrev pub room_in : Option SmallSlot → Option ℕ

@@ -1,5 +1,5 @@
 //! What the slots of the table hold.
-ghost use Rattle.std.specs.Prelude.{◌<◌, length, ◌≡◌, ◌≤◌, slice_set, slice_index, Some, None, IsSome};
+ghost use Rattle.std.specs.Prelude.{◌<◌, [], length, ◌≡◌, ◌≤◌, slice_set, slice_index, insert, remove, Some, None, IsSome};
 ghost use Rattle.node_heap.specs.Small.{tag_in, room_of};
 ghost use Rattle.node_heap.specs.declared.entry.SmallHead.TheVariants.{Moved};
 
@@ -20,12 +20,115 @@ pub(crate) struct CellSlot<T> {
 // It has no room for links.
 const _: () = prove!(size_of::<Option<CellSlot<Num>>>() <= 40);
 
+// The links of a row, at most 32. Those that are given up stay behind, where nothing reads them.
+#[derive(Drop)]
+pub(crate) struct RowLinks {
+    items: [Link; 32],
+    // How many of the items count.
+    len: usize,
+}
+
+impl Model for RowLinks {
+    ghost use Rattle.std.specs.Prelude.{ℕ, List, ◌≤◌, take};
+
+    ghost Value = { List ℕ };
+
+    ghost view = { λ l. take l.len l.items };
+
+    ghost invariant = { λ l. l.len ≤ 32 };
+}
+
+impl RowLinks {
+    // No links.
+    pub(crate) fn new() -> RowLinks
+        ensures { result ≡ [] }
+    {
+        RowLinks {
+            items: [Link::default(); 32],
+            len: 0,
+        }
+    }
+
+    // These links, at most 32.
+    pub(crate) fn from_slice(links: &[Link]) -> RowLinks
+        requires { length links.now ≤ 32 }
+        ensures { result ≡ links.now }
+    {
+        let mut kept = RowLinks::new();
+        kept.rewrite(links);
+        kept
+    }
+
+    // The links in order.
+    pub(crate) fn as_slice(&self) -> &[Link]
+        ensures value { result.now ≡ self.now }
+        ensures short { length result.now ≤ 32 }
+    {
+        &self.items[..self.len]
+    }
+
+    // Gives up all links.
+    pub(crate) fn clear(&mut self)
+        ensures { self.new ≡ [] }
+    {
+        self.len = 0;
+    }
+
+    // Puts these links, at most 32, in place of all.
+    pub(crate) fn rewrite(&mut self, links: &[Link])
+        requires { length links.now ≤ 32 }
+        ensures { self.new ≡ links.now }
+    {
+        self.items[..links.len()].copy_from_slice(links);
+        self.len = links.len();
+    }
+
+    // Puts the link in place of the one at the index, which it answers.
+    pub(crate) fn swap(&mut self, index: usize, link: Link) -> Link
+        requires { index < length self.old }
+        ensures links { self.new ≡ slice_set self.old index link }
+        ensures old { result ≡ slice_index self.old index }
+    {
+        let items = &mut self.items[..];
+        let old = items[index];
+        items[index] = link;
+        old
+    }
+
+    // Puts the link at the index, before those that stand there and after.
+    pub(crate) fn insert(&mut self, index: usize, link: Link)
+        requires index { index ≤ length self.old }
+        requires room { length self.old < 32 }
+        ensures { self.new ≡ insert self.old index link }
+    {
+        let len = self.len;
+        let items = &mut self.items[..];
+        items[len] = link;
+        items[index..len + 1].rotate_right(1);
+        self.len = len + 1;
+    }
+
+    // Takes the link at the index out.
+    pub(crate) fn remove(&mut self, index: usize) -> Link
+        requires { index < length self.old }
+        ensures old { result ≡ slice_index self.old index }
+        ensures links { self.new ≡ remove self.old index }
+    {
+        let len = self.len;
+        let old = self.items[index];
+        let items = &mut self.items[..];
+        items[index..len].rotate_left(1);
+        self.len = len - 1;
+        old
+    }
+}
+
 // A node and its owners.
 #[derive(Drop)]
 pub(crate) struct NodeSlot {
     pub(crate) owners: usize,
     pub(crate) head: Tag,
-    pub(crate) links: ArrayVec<Link, 32>,
+    pub(crate) links: RowLinks,
 }
 
 // Room for one node: the node in it, or what is left of one that is gone, over which the next is written.
@@ -48,17 +151,16 @@ impl Model for NodeRoom {
 }
 
 impl NodeRoom {
-    // Room with this node in it, which has one owner.
-    pub(crate) fn with_node(head: Tag, links: &[Link]) -> NodeRoom
-        requires { length links.now ≤ 32 }
-        ensures { result ≡ Some (record { owners = 1; head = head; links = record { items = links.now } }) }
+    // Room with no node in it.
+    pub(crate) fn blank() -> NodeRoom
+        ensures { result ≡ None }
     {
         NodeRoom {
-            is_filled: true,
+            is_filled: false,
             node: NodeSlot {
-                owners: 1,
-                head,
-                links: kept(links),
+                owners: 0,
+                head: Tag::Leaf,
+                links: RowLinks::new(),
             },
         }
     }
@@ -66,12 +168,12 @@ impl NodeRoom {
     // Writes this node, which has one owner, over what lay here.
     pub(crate) fn fill(&mut self, head: Tag, links: &[Link])
         requires { length links.now ≤ 32 }
-        ensures { self.new ≡ Some (record { owners = 1; head = head; links = record { items = links.now } }) }
+        ensures { self.new ≡ Some (record { owners = 1; head = head; links = links.now }) }
     {
         self.is_filled = true;
         self.node.owners = 1;
         self.node.head = head;
-        rewrite(&mut self.node.links, links);
+        self.node.links.rewrite(links);
     }
 
     // There is no node in it then.
@@ -183,37 +285,4 @@ impl SmallSlot {
             _ => None,
         }
     }
-}
-
-// These links, at most 32.
-pub(crate) fn kept(links: &[Link]) -> ArrayVec<Link, 32>
-    requires { length links.now ≤ 32 }
-    ensures { result.items ≡ links.now }
-{
-    let mut kept = ArrayVec::new();
-    // They are at most 32, so all of them fit.
-    let _ = kept.try_extend_from_slice(links);
-    kept
-}
-
-// Puts these links, at most 32, in place of those in the list.
-pub(crate) fn rewrite(list: &mut ArrayVec<Link, 32>, links: &[Link])
-    requires { length links.now ≤ 32 }
-    ensures { list.new.items ≡ links.now }
-{
-    list.clear();
-    // They are at most 32, so all of them fit.
-    let _ = list.try_extend_from_slice(links);
-}
-
-// Puts the link in place of the one at the index, which it answers.
-pub(crate) fn swap(list: &mut ArrayVec<Link, 32>, index: usize, link: Link) -> Link
-    requires { index < length list.old.items }
-    ensures links { list.new.items ≡ slice_set list.old.items index link }
-    ensures old { result ≡ slice_index list.old.items index }
-{
-    let links = list.as_mut_slice();
-    let old = links[index];
-    links[index] = link;
-    old
 }

@@ -7,9 +7,9 @@ ghost use Rattle.node_heap.specs.Calls.{KeepsBelow, SameRows, Adds, AddsOwner, K
 ghost use Rattle.node_heap.specs.InPlace.{child_at, other_at, Writes, Changes};
 ghost use Rattle.node_heap.specs.Layout.{graph_of, slot_at, owners_in, filled_count, Copies, rows_of_slots, IsCounted, IsDying, IsLow, KeepsRoom, Thins, cells_in, nodes_in};
 
+use crate::entry::RowLinks;
 use crate::row::{Head, Link};
 use crate::table::Table;
-use arrayvec::ArrayVec;
 use elem_core::NoMemory;
 use std::alloc::Global;
 use std::marker::Model;
@@ -358,7 +358,7 @@ fn free_waiting<T: Drop>(table: &mut Table<T>, first: usize)
     if first == END {
         return;
     }
-    let mut links = ArrayVec::new();
+    let mut links = RowLinks::new();
     let mut next = first;
     while next != END {
         let owners = table.take(next, &mut links);

@@ -1,5 +1,5 @@
 //! Lists of slots and of rooms, with their free ones on a stack.
-ghost use Rattle.std.specs.Prelude.{vec_len, vec_capacity, ◌≡◌, ℕ, ◌+◌, ◌-◌, ◌^◌, ◌<◌, ◌≤◌, length, Some, None, IsSome, OnOk, IsOk, slice_index_or, slice_set};
+ghost use Rattle.std.specs.Prelude.{vec_len, vec_capacity, ◌≡◌, ℕ, ◌+◌, ◌-◌, ◌^◌, ◌<◌, ◌≤◌, [], ◌∷◌, ◌++◌, length, Some, None, IsSome, OnOk, IsOk, slice_index_or, slice_set};
 ghost use Rattle.std.specs.Borrow.{sem};
 ghost use Rattle.node_heap.specs.LendsSlot.{LendsSlot, LendsNodeIn};
 ghost use Rattle.node_heap.specs.Inside.{IsFree};
@@ -142,6 +142,20 @@ pub(crate) fn take_out<X>(slots: &mut Vec<Option<X>>, free: &mut Vec<usize>, pla
     }
 }
 
+// Puts a room with this node, which has one owner, behind the others.
+fn push_filled(rooms: &mut Vec<NodeRoom>, head: Tag, links: &[Link])
+    requires room { vec_len rooms.old < vec_capacity rooms.old }
+    requires short { length links.now ≤ 32 }
+    ensures items { rooms.new.items ≡ rooms.old.items ++ Some (record { owners = 1; head = head; links = links.now }) ∷ [] }
+    ensures len { vec_len rooms.new ≡ vec_len rooms.old + 1 }
+    ensures capacity { vec_capacity rooms.new ≡ vec_capacity rooms.old }
+{
+    let place = rooms.len();
+    // The node is written where it is to lie, which spares a copy of its links.
+    rooms.push_reserved(NodeRoom::blank());
+    rooms[place].fill(head, links);
+}
+
 // Writes a node with one owner and these links in a free room, or in a new one where none is free. Answers which.
 pub(crate) fn fill(
     rooms: &mut Vec<NodeRoom>,
@@ -153,7 +167,7 @@ pub(crate) fn fill(
     requires room { vec_len rooms.old < vec_capacity rooms.old + vec_len free.old }
     requires short { length links.now ≤ 32 }
     ensures was { slice_index_or rooms.old.items result None ≡ None }
-    ensures now { slice_index_or rooms.new.items result None ≡ Some (record { owners = 1; head = head; links = record { items = links.now } }) }
+    ensures now { slice_index_or rooms.new.items result None ≡ Some (record { owners = 1; head = head; links = links.now }) }
     ensures others { SameBut rooms.old.items rooms.new.items result }
     ensures free { IsFree rooms.new.items free.new.items }
     ensures one { vec_len rooms.new + vec_len free.old ≡ vec_len rooms.old + vec_len free.new + 1 }
@@ -169,7 +183,7 @@ pub(crate) fn fill(
         }
         None => {
             let place = rooms.len();
-            rooms.push_reserved(NodeRoom::with_node(head, links));
+            push_filled(rooms, head, links);
             place
         }
     }
@@ -203,7 +217,7 @@ pub(crate) fn set_slot<X: Drop>(slots: &mut Vec<Option<X>>, place: usize, value:
 pub(crate) fn write_room(rooms: &mut Vec<NodeRoom>, place: usize, head: Tag, links: &[Link])
     requires inside { place < vec_len rooms.old }
     requires short { length links.now ≤ 32 }
-    ensures rooms { rooms.new.items ≡ slice_set rooms.old.items place (Some (record { owners = 1; head = head; links = record { items = links.now } })) }
+    ensures rooms { rooms.new.items ≡ slice_set rooms.old.items place (Some (record { owners = 1; head = head; links = links.now })) }
     ensures capacity { vec_capacity rooms.new ≡ vec_capacity rooms.old }
 {
     rooms[place].fill(head, links);

@@ -3,12 +3,11 @@ ghost use Rattle.std.specs.Prelude.{◌≡◌, ℕ, ◌+◌, ◌^◌, ◌<◌, �
 ghost use Rattle.std.specs.Borrow.{sem};
 ghost use Rattle.node_heap.specs.Nodes.{SameBut, node_at, node_owners, node_head, node_links, Becomes};
 
-use crate::entry::kept;
+use crate::entry::RowLinks;
 use crate::lists::{cover, put, set_slot, slot, vacate};
 use crate::rooms::Rooms;
 use crate::row::{Head, Link};
 use crate::tags::{Heads, Tag, tag_of};
-use arrayvec::ArrayVec;
 use std::alloc::{AllocError, Global};
 use std::marker::Model;
 
@@ -143,12 +142,15 @@ impl Nodes {
     }
 
     // The head and the links of the node at the index.
-    pub(crate) fn copy(&self, index: usize) -> (Head, ArrayVec<Link, 32>)
+    pub(crate) fn copy(&self, index: usize) -> (Head, RowLinks)
         requires { IsSome (node_at self.now.slots index) }
         ensures head { node_head (node_at self.now.slots index) ≡ Some result.0 }
-        ensures links { result.1.items ≡ node_links (node_at self.now.slots index) }
+        ensures links { result.1 ≡ node_links (node_at self.now.slots index) }
     {
-        (self.head(index).copy(), kept(self.links(index)))
+        (
+            self.head(index).copy(),
+            RowLinks::from_slice(self.links(index)),
+        )
     }
 
     // Puts the link in place of the one at the position, which it answers.

@@ -6,13 +6,12 @@ ghost use Rattle.std.specs.Borrow.{sem};
 ghost use Rattle.node_heap.specs.Nodes.{SameBut, node_at, node_owners, node_head, node_links, Becomes};
 ghost use Rattle.node_heap.specs.Rooms.{large_node};
 
-use crate::entry::{NodeRoom, NodeSlot, SmallSlot, kept, small_head, swap};
+use crate::entry::{NodeRoom, NodeSlot, RowLinks, SmallSlot, small_head};
 use crate::lists::{
     cover, empty, fill, node_in, node_in_mut, put, set_slot, slot, slot_mut, take_out, write_room,
 };
 use crate::row::Link;
 use crate::tags::Tag;
-use arrayvec::ArrayVec;
 use std::alloc::{AllocError, Global};
 use std::marker::Model;
 
@@ -219,11 +218,11 @@ impl Rooms {
         ensures becomes { Becomes self.old self.new index (λ n. record { owners = n.owners; head = n.head; links = slice_set n.links position link }) }
     {
         if index % 2 != 0 {
-            return swap(&mut self.large_mut(index).links, position, link);
+            return self.large_mut(index).links.swap(position, link);
         }
         let tag = self.tag(index);
-        let mut links = kept(self.links(index));
-        let old = swap(&mut links, position, link);
+        let mut links = RowLinks::from_slice(self.links(index));
+        let old = links.swap(position, link);
         self.rewrite_small(index, tag, links.as_slice());
         old
     }
@@ -240,7 +239,7 @@ impl Rooms {
             return;
         }
         let tag = self.tag(index);
-        let mut links = kept(self.links(index));
+        let mut links = RowLinks::from_slice(self.links(index));
         links.insert(position, link);
         self.rewrite_small(index, tag, links.as_slice());
     }
@@ -255,7 +254,7 @@ impl Rooms {
             return self.large_mut(index).links.remove(position);
         }
         let tag = self.tag(index);
-        let mut links = kept(self.links(index));
+        let mut links = RowLinks::from_slice(self.links(index));
         let old = links.remove(position);
         self.rewrite_small(index, tag, links.as_slice());
         old
@@ -270,7 +269,7 @@ impl Rooms {
             self.large_mut(index).head = tag;
             return;
         }
-        let links = kept(self.links(index));
+        let links = RowLinks::from_slice(self.links(index));
         self.rewrite_small(index, tag, links.as_slice());
     }
 

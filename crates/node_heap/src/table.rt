@@ -5,11 +5,10 @@ ghost use Rattle.std.specs.Borrow.{sem};
 ghost use Rattle.node_heap.specs.Forms.{cell, node, links_of, value_of, head_of, is_node};
 ghost use Rattle.node_heap.specs.Layout.{graph_of, slot_at, owners_in, rows_of_slots, filled_count, SetsOwners, Rewrites, PutsIn, TakesOut, KeepsRoom};
 
-use crate::entry::{CellSlot, rewrite};
+use crate::entry::{CellSlot, RowLinks};
 use crate::lists::{make_room, put, slot, slot_mut, take_out};
 use crate::nodes::Nodes;
 use crate::row::{Head, Link};
-use arrayvec::ArrayVec;
 use std::alloc::{AllocError, Global};
 use std::marker::Model;
 
@@ -178,9 +177,9 @@ impl<T> Table<T> {
     }
 
     // The head and the links of the node at the place.
-    pub(crate) fn copy_node(&self, place: usize) -> (Head, ArrayVec<Link, 32>)
+    pub(crate) fn copy_node(&self, place: usize) -> (Head, RowLinks)
         requires { is_node (graph_of self.now.slots place) ≡ 1 }
-        ensures { graph_of self.now.slots place ≡ Some (node result.0 result.1.items) }
+        ensures { graph_of self.now.slots place ≡ Some (node result.0 result.1) }
     {
         self.nodes.copy(place / 2)
     }
@@ -238,10 +237,10 @@ impl<T> Table<T> {
 
 impl<T: Drop> Table<T> {
     // Takes the row at the place out, which is a spare of its kind then. Answers its owners, and puts its links in the list.
-    pub(crate) fn take(&mut self, place: usize, links: &mut ArrayVec<Link, 32>) -> usize
+    pub(crate) fn take(&mut self, place: usize, links: &mut RowLinks) -> usize
         requires { IsSome (slot_at self.old.slots place) }
         ensures owners { result ≡ owners_in (slot_at self.old.slots place) }
-        ensures links { links.new.items ≡ links_of (graph_of self.old.slots place) }
+        ensures links { links.new ≡ links_of (graph_of self.old.slots place) }
         ensures takes { TakesOut self.old self.new place }
     {
         if place % 2 == 0 {
@@ -251,7 +250,7 @@ impl<T: Drop> Table<T> {
             return slot.owners;
         }
         let owners = self.nodes.owners(place / 2);
-        rewrite(links, self.nodes.links(place / 2));
+        links.rewrite(self.nodes.links(place / 2));
         self.nodes.free(place / 2);
         owners
     }
