@@ -402,7 +402,8 @@ fn copied<T>(table: &mut Table<T>, place: usize) -> usize
     ensures spare_cells { table.new.spare_cells ≡ table.old.spare_cells }
     ensures spare_nodes { table.new.spare_nodes + 1 ≡ table.old.spare_nodes }
 {
-    let (head, copies) = table.copy_node(place);
+    let mut copies = RowLinks::new();
+    let head = table.copy_node(place, &mut copies);
     let links = copies.as_slice();
     add_owners(table, links);
     table.put_node(head, links)

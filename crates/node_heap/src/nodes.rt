@@ -141,16 +141,14 @@ impl Nodes {
         self.rooms.links(index)
     }
 
-    // The head and the links of the node at the index.
-    pub(crate) fn copy(&self, index: usize) -> (Head, RowLinks)
+    // The head of the node at the index, whose links it puts in the list.
+    pub(crate) fn copy(&self, index: usize, links: &mut RowLinks) -> Head
         requires { IsSome (node_at self.now.slots index) }
-        ensures head { node_head (node_at self.now.slots index) ≡ Some result.0 }
-        ensures links { result.1 ≡ node_links (node_at self.now.slots index) }
+        ensures head { node_head (node_at self.now.slots index) ≡ Some result }
+        ensures links { links.new ≡ node_links (node_at self.now.slots index) }
     {
-        (
-            self.head(index).copy(),
-            RowLinks::from_slice(self.links(index)),
-        )
+        links.rewrite(self.links(index));
+        self.head(index).copy()
     }
 
     // Puts the link in place of the one at the position, which it answers.

@@ -176,12 +176,12 @@ impl<T> Table<T> {
         nodes.links(place / 2)
     }
 
-    // The head and the links of the node at the place.
-    pub(crate) fn copy_node(&self, place: usize) -> (Head, RowLinks)
+    // The head of the node at the place, whose links it puts in the list.
+    pub(crate) fn copy_node(&self, place: usize, links: &mut RowLinks) -> Head
         requires { is_node (graph_of self.now.slots place) ≡ 1 }
-        ensures { graph_of self.now.slots place ≡ Some (node result.0 result.1) }
+        ensures { graph_of self.now.slots place ≡ Some (node result links.new) }
     {
-        self.nodes.copy(place / 2)
+        self.nodes.copy(place / 2, links)
     }
 
     #[tactic(auto, using(crate::proofs::Slots::reown_rows))]
