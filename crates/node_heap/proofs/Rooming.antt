@@ -3,17 +3,17 @@ use Rattle.std.proofs.Common.{◌≡◌, ◌≢◌, ℕ, zero, suc, ◌+◌, ◌
 use Rattle.std.specs.Prelude.{option_map}
 use Rattle.std.proofs.lemmas.List.{length-set}
 use Rattle.std.proofs.lemmas.List.Sums.{sum_by-cons}
-use Rattle.node_heap.specs.Nodes.{SameBut, NodeOf, NodesOf, node_at, owned_by, Becomes}
+use Rattle.node_heap.specs.Nodes.{SameBut, NodeOf, NodesOf, node_at, node_links, owned_by, Becomes}
 use Rattle.node_heap.specs.Small.{tag_in, room_of}
 use Rattle.node_heap.specs.Inside.{IsFree}
-use Rattle.node_heap.specs.Rooms.{large_node, small_node, room_in, nodes_in, nodes_of, Covers, Parts, AreRooms}
+use Rattle.node_heap.specs.Rooms.{large_node, small_node, head_in, room_in, nodes_in, nodes_of, Covers, Parts, AreRooms}
 use Rattle.node_heap.specs.declared.entry.NodeSlot.{NodeSlot}
 use Rattle.node_heap.specs.declared.entry.SmallSlot.{SmallSlot}
 use Rattle.node_heap.specs.declared.tags.Tag.{Tag}
 use Rattle.node_heap.proofs.Counts.{get_or-map_default, le-sum_by}
 use Rattle.node_heap.proofs.Stored.{one_if_some}
 use Rattle.node_heap.proofs.Woven.{double-is, at-even, at-odd}
-use Rattle.node_heap.proofs.Housed.{len-nodes, at-small, read-small, read-large, set-small, set-large, moved-node, lent-whole, lent-links, whole-room}
+use Rattle.node_heap.proofs.Housed.{len-nodes, at-small, read-small, read-large, set-small, set-large, moved-node, lent-whole, lent-links, whole-in, whole-room}
 use Rattle.node_heap.proofs.Parting.{set-apart, set-there, count-apart, Covers-set, Covers-put, Covers-take, Parts-kept, Parts-named, Parts-left, Parts-written, seen-moved, seen-left, seen-small, seen-large}
 
 pub some-counted : {X : Type 0} (xs : List (Option X)) (i : ℕ) → IsSome (get_or xs i None) → 1 ≤ count_by is_some xs
@@ -230,6 +230,20 @@ frees-set xs index x is =
       len = omega (arith, count-apart xs (set xs index None) index (set-apart xs index None), ap one_if_some is, ap one_if_some gone);
     }
 
+-- an index with a link has a node
+pub linked-some : (o : Option (NodeOf Tag)) (n : ℕ) → n < length (node_links o) → IsSome o
+linked-some None n below = absurd (omega (arith, below))
+linked-some (Some x) n below = refl
+
+-- what a node becomes is told by what it was
+becomes-as : {old new : NodesOf Tag} {index : ℕ} {n : NodeOf Tag} {f g : NodeOf Tag → NodeOf Tag} → Becomes old new index f → node_at old.slots index ≡ Some n → f n ≡ g n → Becomes old new index g
+becomes-as {f = f} {g = g} becomes is same = record {
+  here = becomes.here ∙ ap (option_map f) is ∙ ap Some same ∙ sym (ap (option_map g) is);
+  others = becomes.others;
+  len = becomes.len;
+  spares = becomes.spares;
+}
+
 module _ (small : List (Option SmallSlot)) (large moved : List (Option NodeSlot)) (index : ℕ) (even : index % 2 ≡ 0) (x : SmallSlot) (is : get_or small (index / 2) None ≡ Some x) where
   pub frees-left : (room : ℕ) (moved' : List (Option NodeSlot)) → Parts room_in small moved → room_of x.head ≡ Some room → moved' ≡ set moved room None
       → Frees (nodes_in small large moved) (nodes_in (set small (index / 2) None) large moved') index
@@ -285,3 +299,26 @@ module _ (small : List (Option SmallSlot)) (large moved : List (Option NodeSlot)
         len = omega (arith, len-nodes small large moved, len-nodes small large moved');
         spares = refl;
       }
+
+  -- its links, where they lie in the slot
+  pub few-links : room_of x.head ≡ None → node_links (node_at (nodes_in small large moved) index) ≡ x.links.items
+  few-links none = ap node_links (read-small small large moved index x even is) ∙ lent-links moved x.head x.links.items none
+
+  -- they are written there
+  pub becomes-few : (spares : ℕ) (y : SmallSlot) (change : List ℕ → List ℕ) → room_of x.head ≡ None → y.owners ≡ x.owners → y.head ≡ x.head → y.links.items ≡ change x.links.items
+      → Becomes (nodes_of small large moved spares) (nodes_of (set small (index / 2) (Some y)) large moved spares) index (λ n. record { owners = n.owners; head = n.head; links = change n.links })
+  becomes-few spares y change none owners head items =
+      becomes-as (becomes-small spares y moved (head_in moved x.head) (change x.links.items) refl owners (ap tag_in head ∙ whole-in moved x.head none) items)
+      (read-small small large moved index x even is) (rw (lent-links moved x.head x.links.items none) refl)
+
+  module _ (room : ℕ) (w : NodeSlot) (named : room_of x.head ≡ Some room) (there : get_or moved room None ≡ Some w) where
+    -- its links, where they lie in a room apart
+    pub far-links : node_links (node_at (nodes_in small large moved) index) ≡ w.links
+    far-links = ap node_links (read-small small large moved index x even is ∙ moved-node moved x room w named there)
+
+    -- they are written there
+    pub becomes-far : (spares : ℕ) (z : NodeSlot) (change : List ℕ → List ℕ) → Parts room_in small moved → z.head ≡ w.head → z.links ≡ change w.links
+        → Becomes (nodes_of small large moved spares) (nodes_of small large (set moved room (Some z)) spares) index (λ n. record { owners = n.owners; head = n.head; links = change n.links })
+    becomes-far spares z change p head items =
+        becomes-as (becomes-room spares room z (set moved room (Some z)) p named (set-there moved room w (Some z) there) (set-apart moved room (Some z)))
+        (read-small small large moved index x even is ∙ moved-node moved x room w named there) (rw (head, items) refl)

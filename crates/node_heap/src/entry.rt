@@ -1,5 +1,5 @@
 //! What the slots of the table hold.
-ghost use Rattle.std.specs.Prelude.{◌<◌, [], length, ◌≡◌, ◌≤◌, slice_set, slice_index, insert, remove, Some, None, IsSome};
+ghost use Rattle.std.specs.Prelude.{◌<◌, [], length, false, ◌≡◌, ◌≤◌, slice_set, slice_index, insert, remove, Some, None, IsSome};
 ghost use Rattle.node_heap.specs.Small.{tag_in, room_of};
 ghost use Rattle.node_heap.specs.declared.entry.SmallHead.TheVariants.{Moved};
 
@@ -260,6 +260,49 @@ impl SmallSlot {
             head: SmallHead::Moved { room },
             links: ArrayVec::new(),
         }
+    }
+
+    // There is no room for another link in it.
+    pub(crate) fn is_full(&self) -> bool
+        ensures { result ≡ false → length self.now.links.items < 3 }
+    {
+        self.links.len() >= FEW
+    }
+
+    // Puts the link in place of the one at the index, which it answers.
+    pub(crate) fn swap(&mut self, index: usize, link: Link) -> Link
+        requires { index < length self.old.links.items }
+        ensures owners { self.new.owners ≡ self.old.owners }
+        ensures head { self.new.head ≡ self.old.head }
+        ensures links { self.new.links.items ≡ slice_set self.old.links.items index link }
+        ensures old { result ≡ slice_index self.old.links.items index }
+    {
+        let links = self.links.as_mut_slice();
+        let old = links[index];
+        links[index] = link;
+        old
+    }
+
+    // Puts the link at the index, before those that stand there and after.
+    pub(crate) fn insert(&mut self, index: usize, link: Link)
+        requires index { index ≤ length self.old.links.items }
+        requires room { length self.old.links.items < 3 }
+        ensures owners { self.new.owners ≡ self.old.owners }
+        ensures head { self.new.head ≡ self.old.head }
+        ensures links { self.new.links.items ≡ insert self.old.links.items index link }
+    {
+        self.links.insert(index, link);
+    }
+
+    // Takes the link at the index out.
+    pub(crate) fn remove(&mut self, index: usize) -> Link
+        requires { index < length self.old.links.items }
+        ensures owners { self.new.owners ≡ self.old.owners }
+        ensures head { self.new.head ≡ self.old.head }
+        ensures links { self.new.links.items ≡ remove self.old.links.items index }
+        ensures old { result ≡ slice_index self.old.links.items index }
+    {
+        self.links.remove(index)
     }
 
     // The tag, where it lies here.

@@ -220,11 +220,13 @@ impl Rooms {
         if index % 2 != 0 {
             return self.large_mut(index).links.swap(position, link);
         }
-        let tag = self.tag(index);
-        let mut links = RowLinks::from_slice(self.links(index));
-        let old = links.swap(position, link);
-        self.rewrite_small(index, tag, links.as_slice());
-        old
+        let place = index / 2;
+        match slot(&self.small, place).room() {
+            Some(room) => node_in_mut(&mut self.moved, room)
+                .links
+                .swap(position, link),
+            None => slot_mut(&mut self.small, place).swap(position, link),
+        }
     }
 
     // Puts the link at the position, before those that stand there and after.
@@ -238,6 +240,30 @@ impl Rooms {
             self.large_mut(index).links.insert(position, link);
             return;
         }
+        let place = index / 2;
+        let small = slot(&self.small, place);
+        match small.room() {
+            Some(room) => node_in_mut(&mut self.moved, room)
+                .links
+                .insert(position, link),
+            None => {
+                if small.is_full() {
+                    self.outgrow(index, position, link);
+                } else {
+                    slot_mut(&mut self.small, place).insert(position, link);
+                }
+            }
+        }
+    }
+
+    // The same for a node that has no room left in its small slot, so that it is written anew.
+    fn outgrow(&mut self, index: usize, position: usize, link: Link)
+        requires small { index % 2 ≡ 0 }
+        requires live { IsSome (node_at self.old.slots index) }
+        requires position { position ≤ length (node_links (node_at self.old.slots index)) }
+        requires room { length (node_links (node_at self.old.slots index)) < 32 }
+        ensures { Becomes self.old self.new index (λ n. record { owners = n.owners; head = n.head; links = insert n.links position link }) }
+    {
         let tag = self.tag(index);
         let mut links = RowLinks::from_slice(self.links(index));
         links.insert(position, link);
@@ -253,11 +279,11 @@ impl Rooms {
         if index % 2 != 0 {
             return self.large_mut(index).links.remove(position);
         }
-        let tag = self.tag(index);
-        let mut links = RowLinks::from_slice(self.links(index));
-        let old = links.remove(position);
-        self.rewrite_small(index, tag, links.as_slice());
-        old
+        let place = index / 2;
+        match slot(&self.small, place).room() {
+            Some(room) => node_in_mut(&mut self.moved, room).links.remove(position),
+            None => slot_mut(&mut self.small, place).remove(position),
+        }
     }
 
     // Puts the tag in place of the node's.
