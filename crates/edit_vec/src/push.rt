@@ -36,7 +36,7 @@ impl FlexEdit {
         ensures long { (result ≡ Err PushFault.Long) ↔ (length (elements heap.old self.old) ≡ 2 ^ 32 - 1) }
         ensures ample { HasSpares heap.old 0 9 → result ≢ Err PushFault.Memory }
     {
-        if self.view().len(heap) == u32::MAX {
+        if self.view().is_longest(heap) {
             return Err(PushFault::Long);
         }
         heap.reserve(0, PUSH_NODES)?;
@@ -67,7 +67,7 @@ pub fn push_at<T>(
     ensures ample { HasSpares heap.old 0 9 → result ≢ Err PushFault.Memory }
 {
     let root = heap.links(parent)[child];
-    if FlexRef::at(root).len(heap) == u32::MAX {
+    if FlexRef::at(root).is_longest(heap) {
         return Err(PushFault::Long);
     }
     heap.reserve(0, PUSH_NODES)?;

@@ -16,6 +16,10 @@ one-other x k other = grind (arith, nat_tests)
 pub count-split : (k n : ℕ) (xs : List ℕ) → count k xs ≡ count k (take n xs) + count k (drop n xs)
 count-split k n xs = ap (count k) (sym (take-append-drop n xs)) ∙ count-append k (take n xs) (drop n xs)
 
+-- a part has no more of a link than the whole
+pub count-part : (k i n : ℕ) (xs : List ℕ) → count k (take n (drop i xs)) ≤ count k xs
+count-part k i n xs = omega (arith, count-split k i xs, count-split k n (drop i xs))
+
 -- a link at a place is counted
 pub count-at : (xs : List ℕ) (i d : ℕ) → i < length xs → 0 < count (get_or xs i d) xs
 count-at [] i d b = absurd (omega arith)

@@ -1,7 +1,7 @@
 -- Lists of rows by what they hold: `f` gives the elements of a row. Nothing here knows a heap.
 use Rattle.std.proofs.Common.{◌≡◌, ℕ, suc, zero, ◌-◌, ◌+◌, ◌*◌, ◌/◌, ◌%◌, ◌<◌, ◌≤◌, ◌^◌, List, [], ◌∷◌, ◌++◌, length, take, drop, get_or, set, refl, ap, sym, ◌∙◌, arith, length-append, length-drop, append-nil, append_assoc, take-append-drop, ◌⊎◌, inl, inr}
 use Rattle.std.specs.List.{All, flat_map, sum_by}
-use Rattle.std.proofs.lemmas.List.{take-take, take_all, take_at, take_rest, length-take-le, take-append-le, take_more, drop_more, drop_at, drop-drop, drop-append-le, get_or_past, get_or_append_left, get_or_at, get_or-take, get_or-drop, drop_all}
+use Rattle.std.proofs.lemmas.List.{take-take, take_all, take_at, take_rest, length-take-le, take-append-le, take_more, drop_more, drop_at, drop-take, drop-drop, drop-append-le, get_or_past, get_or_append_left, get_or_at, get_or-take, get_or-drop, drop_all}
 use Rattle.std.proofs.lemmas.List.Concat.{length-flat_map, flat_map-append}
 use Rattle.std.proofs.lemmas.List.Sums.{sum_by-le, sum_by-cons}
 use Rattle.std.proofs.lemmas.List.Elements.{All-nil, All-cons, All-append, All-head, All-tail, All-take}
@@ -238,6 +238,14 @@ pub one-list : (xs : List ℕ) (x : ℕ) → length xs ≡ 1 → x ≡ get_or xs
 one-list [] x one is = absurd (omega (arith, one))
 one-list (y ∷ []) x one is = rw is refl
 one-list (y ∷ z ∷ zs) x one is = absurd (omega (arith, one))
+
+-- what was written behind the first elements of a list
+pub written-behind : (old xs part : List ℕ) (count stop : ℕ) → take stop xs ≡ take count old ++ part → count ≤ length old → stop ≡ count + length part → take (stop - count) (drop count xs) ≡ part
+written-behind old xs part count stop is within at =
+    let size : length (take count old) ≡ count = length-take-le count old within in
+    let rest : stop - count ≡ length part = omega (arith, at) in
+    let whole : take (count + length part) xs ≡ take count old ++ part = rw (← at) is in
+    rw rest (sym (drop-take count (length part) xs) ∙ ap (λ (ys : List ℕ). drop count ys) whole ∙ drop_at (take count old) part count size)
 
 -- the front of one list, a middle, and the back of another, in the words of the code
 pub gathered-items : (left right right' a0 a1 a2 a3 middle : List ℕ) (keep skip stop : ℕ) → a0 ≡ [] → a1 ≡ a0 ++ take (keep - 0) (drop 0 left) → a2 ≡ a1 ++ middle → a3 ≡ a2 ++ take (stop - skip) (drop skip right') → right' ≡ right → stop ≡ length right

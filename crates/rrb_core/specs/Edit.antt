@@ -1,5 +1,5 @@
 -- What an edit wants of one row of a vector, and what it makes of it.
-use Rattle.std.specs.Prelude.{◌≡◌, ℕ, ◌-◌, ◌+◌, ◌*◌, ◌^◌, ◌<◌, ◌≤◌, List, [], ◌∷◌, ◌++◌, length, take, drop, slice_index, slice_set, IsSome}
+use Rattle.std.specs.Prelude.{◌≡◌, ℕ, suc, ◌-◌, ◌+◌, ◌*◌, ◌^◌, ◌<◌, ◌≤◌, List, [], ◌∷◌, ◌++◌, length, take, drop, slice_index, slice_set, IsSome}
 use Rattle.std.specs.List.{flat_map}
 use Rattle.node_heap.specs.Heap.{Heap, row_at, form_at, links_at, holds_at, hold_count, IsGraph}
 use Rattle.node_heap.specs.Calls.{Builds}
@@ -72,3 +72,9 @@ module _ {T : Type 0} where
     pub held : 1 ≤ holds_at h k
     pub spare : 1 ≤ h.spare_nodes
     pub holds : hold_count h + 64 ≤ 2 ^ 60
+
+  -- the row m is the row over `links_with` of the children of the row l, with the child k; it was made for a hold of k
+  pub record PlacesChild (old new : Heap T) (below l keep k skip m : ℕ) : Type 0 where
+    pub row : IsRowOf new (suc below) m (flat_map (seq_at (form_at old) below) (links_with (links_at old l) keep k skip))
+    pub links : links_at new m ≡ links_with (links_at old l) keep k skip
+    pub builds : Builds old new (k ∷ []) (m ∷ []) 0 1

@@ -1,5 +1,5 @@
 //! Vectors by their roots, and their look-ups.
-ghost use Rattle.std.specs.Prelude.{◌≡◌, ℕ, ◌+◌, ◌^◌, ◌<◌, ◌≤◌, [], ◌∷◌, length, IfOk, IsOk, OnErr, IfSome, IsSome};
+ghost use Rattle.std.specs.Prelude.{◌≡◌, ◌↔◌, ℕ, ◌+◌, ◌-◌, ◌^◌, ◌<◌, ◌≤◌, [], ◌∷◌, length, IfOk, IsOk, OnErr, IfSome, IsSome, IsTrue};
 ghost use Rattle.std.specs.List.{All, slice_get};
 ghost use Rattle.node_heap.specs.Heap.{row_at, holds_at, hold_count, node_count, one_at, IsGraph, HasSpares};
 ghost use Rattle.node_heap.specs.Calls.{Answered, Makes, Builds, KeepsHeld, MakesJust, Releases, KeepsToNeed};
@@ -143,6 +143,18 @@ impl FlexRef {
         ensures graph { IsGraph heap.now }
     {
         size(heap, self.root, height_of(heap, self.root))
+    }
+
+    /// Whether it has 2^32 - 1 elements, which is the most.
+    pub fn is_longest<T>(&self, heap: &Heap<T>) -> bool
+        requires { IsGoodVector heap.now self.now }
+        ensures { IsTrue result ↔ (length (elements heap.now self.now) ≡ 2 ^ 32 - 1) }
+    {
+        // Up to a height of 5 a vector has at most 32^6 elements.
+        if self.height(heap) < 6 {
+            return false;
+        }
+        self.len(heap) == u32::MAX
     }
 
     /// The height of the root, 0 to 7. A vector of a height of 1 or more has more than 16^height elements.

@@ -58,7 +58,7 @@ pub fn push<T>(heap: &mut Heap<T>, vector: FlexRef, element: Link) -> Result<Fle
     ensures long { (result ≡ Err PushFault.Long) ↔ (length (elements heap.old vector) ≡ 2 ^ 32 - 1) }
     ensures ample { HasSpares heap.old 0 9 → result ≢ Err PushFault.Memory }
 {
-    if vector.len(heap) == u32::MAX {
+    if vector.is_longest(heap) {
         return Err(PushFault::Long);
     }
     heap.reserve(0, PUSH_NODES)?;

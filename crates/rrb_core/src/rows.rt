@@ -1,5 +1,5 @@
 //! Rows of a vector: what they state, and how they are made.
-ghost use Rattle.std.specs.Prelude.{◌≡◌, ℕ, suc, ◌+◌, ◌-◌, ◌*◌, ◌^◌, ◌<◌, ◌≤◌, ◌≢◌, ◌↔◌, [], ◌∷◌, ◌++◌, length, take, drop, slice_index, None, IsSome, IfSome, IsTrue};
+ghost use Rattle.std.specs.Prelude.{◌≡◌, ℕ, suc, ◌+◌, ◌-◌, ◌*◌, ◌^◌, ◌<◌, ◌≤◌, ◌≢◌, ◌↔◌, [], ◌∷◌, ◌++◌, length, take, drop, slice_index, None, IsSome, IsTrue};
 ghost use Rattle.std.specs.List.{flat_map};
 ghost use Rattle.node_heap.specs.Links.{count};
 ghost use Rattle.node_heap.specs.Heap.{row_at, form_at, links_at, holds_at, hold_count, IsGraph};
@@ -7,7 +7,7 @@ ghost use Rattle.node_heap.specs.Calls.{Makes, Builds};
 ghost use Rattle.rrb_core.specs.Seq.{seq_at, IsWell};
 ghost use Rattle.rrb_core.specs.Vector.{IsRegular, KeepsSums, HasSums, height_at, sums_at};
 ghost use Rattle.rrb_core.specs.Build.{IsRowOf, AreRows, RowsKeepOwners};
-ghost use Rattle.rrb_core.specs.Edit.{CanEdit, CanPlace, MakesRow, links_with};
+ghost use Rattle.rrb_core.specs.Edit.{CanEdit, CanPlace, MakesRow, PlacesChild, links_with};
 
 use crate::search::sum_before;
 use arrayvec::ArrayVec;
@@ -117,6 +117,69 @@ pub fn gathered<T>(
     let _ = all.try_extend_from_slice(middle);
     hold_links(heap, &mut all, right, skip, end);
     all
+}
+
+// Writes these links behind the first `count`. Answers how many there are then.
+fn put_links(room: &mut [Link], count: usize, links: &[Link]) -> usize
+    requires { count + length links.now ≤ length room.old }
+    ensures many { result ≡ count + length links.now }
+    ensures links { take result room.new ≡ take count room.old ++ links.now }
+{
+    let end = count + links.len();
+    room[count..end].copy_from_slice(links);
+    end
+}
+
+// Writes the links of a row from the place `from` to the place `to` behind the first `count`, with a hold of each. Answers
+// how many there are then.
+fn hold_part<T>(
+    heap: &mut Heap<T>,
+    room: &mut [Link],
+    count: usize,
+    link: Link,
+    from: usize,
+    to: usize,
+) -> usize
+    requires graph { IsGraph heap.old }
+    requires live { IsSome (row_at heap.old link) }
+    requires order { from ≤ to }
+    requires within { to ≤ length (links_at heap.old link) }
+    requires room { count + (to - from) ≤ length room.old }
+    requires holds { hold_count heap.old + (to - from) ≤ 2 ^ 60 }
+    ensures many { result ≡ count + (to - from) }
+    ensures links { take result room.new ≡ take count room.old ++ take (to - from) (drop from (links_at heap.old link)) }
+    ensures builds { Builds heap.old heap.new (take count room.old) (take result room.new) 0 0 }
+{
+    let end = put_links(room, count, &heap.links(link)[from..to]);
+    heap.hold_all(&room[count..end]);
+    end
+}
+
+// Writes the first `keep` links of a row, then `middle`, then its links from the place `skip` on. Each link of the row comes
+// with a hold; `middle` keeps the hold that it has. Answers how many there are.
+fn gather<T>(
+    heap: &mut Heap<T>,
+    room: &mut [Link],
+    link: Link,
+    keep: usize,
+    middle: Link,
+    skip: usize,
+) -> usize
+    requires graph { IsGraph heap.old }
+    requires live { IsSome (row_at heap.old link) }
+    requires keep { keep ≤ length (links_at heap.old link) }
+    requires skip { skip ≤ length (links_at heap.old link) }
+    requires few { keep + 1 + (length (links_at heap.old link) - skip) ≤ 32 }
+    requires room { length room.old ≡ 32 }
+    requires holds { hold_count heap.old + 64 ≤ 2 ^ 60 }
+    ensures few { result ≤ 32 }
+    ensures links { take result room.new ≡ links_with (links_at heap.old link) keep middle skip }
+    ensures builds { Builds heap.old heap.new (middle ∷ []) (take result room.new) 0 0 }
+{
+    let stop = heap.links(link).len();
+    let front = hold_part(heap, room, 0, link, 0, keep);
+    let middle_end = put_links(room, front, &[middle]);
+    hold_part(heap, room, middle_end, link, skip, stop)
 }
 
 /// The leaf over these elements, a new row; it spends a hold for each place.
@@ -281,27 +344,6 @@ fn sums_beside<T>(
     kept_sums(sums.as_slice(), below)
 }
 
-// The same sums, as far as the row `link` and the child tell them: None where all its children have to be read.
-fn sums_with<T>(
-    heap: &Heap<T>,
-    link: Link,
-    below: u8,
-    keep: usize,
-    child: Link,
-    skip: usize,
-) -> Option<Sums>
-    requires { CanPlace heap.now below link keep child skip }
-    ensures { IfSome result (KeepsSums (form_at heap.now) below (links_with (links_at heap.now link) keep child skip)) }
-{
-    if stays_regular(heap, link, below, keep, child, skip) {
-        return Some(Sums::from_slice(&[]));
-    }
-    if sums_of(heap, link).is_empty() {
-        return None;
-    }
-    Some(sums_beside(heap, link, below, keep, child, skip))
-}
-
 // The inner row over the first `keep` children of `link`, then `child`, then its children from the place `skip` on.
 pub(crate) fn inner_with<T>(
     heap: &mut Heap<T>,
@@ -316,13 +358,67 @@ pub(crate) fn inner_with<T>(
     ensures links { links_at heap.new result ≡ links_with (links_at heap.old link) keep child skip }
     ensures builds { Builds heap.old heap.new (child ∷ []) (result ∷ []) 0 1 }
 {
-    let known = sums_with(heap, link, below, keep, child, skip);
-    let gathered = gathered(heap, link, keep, &[child], link, skip);
-    let children = gathered.as_slice();
-    match known {
-        Some(sums) => inner_of(heap, children, below, sums),
-        None => inner_over(heap, children, below),
+    if stays_regular(heap, link, below, keep, child, skip) {
+        return regular_with(heap, link, below, keep, child, skip);
     }
+    if sums_of(heap, link).is_empty() {
+        return read_with(heap, link, below, keep, child, skip);
+    }
+    summed_with(heap, link, below, keep, child, skip)
+}
+
+// The same where all its children but the last are full, so that it keeps no sums.
+fn regular_with<T>(
+    heap: &mut Heap<T>,
+    link: Link,
+    below: u8,
+    keep: usize,
+    child: Link,
+    skip: usize,
+) -> Link
+    requires place { CanPlace heap.old below link keep child skip }
+    requires regular { IsRegular (form_at heap.old) below (links_with (links_at heap.old link) keep child skip) }
+    ensures { PlacesChild heap.old heap.new below link keep child skip result }
+{
+    let mut room = [Link::default(); ROW_LINKS];
+    let count = gather(heap, &mut room[..], link, keep, child, skip);
+    inner_of(heap, &room[..count], below, Sums::from_slice(&[]))
+}
+
+// The same where `link` keeps sums, which tell those of the new row.
+fn summed_with<T>(
+    heap: &mut Heap<T>,
+    link: Link,
+    below: u8,
+    keep: usize,
+    child: Link,
+    skip: usize,
+) -> Link
+    requires place { CanPlace heap.old below link keep child skip }
+    requires some { 1 ≤ length (sums_at heap.old link) }
+    ensures { PlacesChild heap.old heap.new below link keep child skip result }
+{
+    let sums = sums_beside(heap, link, below, keep, child, skip);
+    let mut room = [Link::default(); ROW_LINKS];
+    let count = gather(heap, &mut room[..], link, keep, child, skip);
+    inner_of(heap, &room[..count], below, sums)
+}
+
+// The same where all its children are read for its sums.
+fn read_with<T>(
+    heap: &mut Heap<T>,
+    link: Link,
+    below: u8,
+    keep: usize,
+    child: Link,
+    skip: usize,
+) -> Link
+    requires { CanPlace heap.old below link keep child skip }
+    ensures { PlacesChild heap.old heap.new below link keep child skip result }
+{
+    let mut room = [Link::default(); ROW_LINKS];
+    let count = gather(heap, &mut room[..], link, keep, child, skip);
+    inner_over(heap, &room[..count], below)
 }
 
 // The leaf over the first `keep` elements of `link`, then `element`, then its elements from the place `skip` on.
@@ -341,6 +437,7 @@ pub(crate) fn leaf_with<T>(
     ensures edits { MakesRow heap.old heap.new (element ∷ []) 0 result (links_with (links_at heap.old link) keep element skip) }
     ensures links { links_at heap.new result ≡ links_with (links_at heap.old link) keep element skip }
 {
-    let elements = gathered(heap, link, keep, &[element], link, skip);
-    leaf_over(heap, elements.as_slice())
+    let mut room = [Link::default(); ROW_LINKS];
+    let count = gather(heap, &mut room[..], link, keep, element, skip);
+    leaf_over(heap, &room[..count])
 }

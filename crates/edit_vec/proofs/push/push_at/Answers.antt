@@ -5,6 +5,7 @@ use Rattle.node_heap.specs.Owner.{by_place}
 use Rattle.rrb_core.specs.Vector.{elements}
 use Rattle.rrb_core.proofs.RowLists.{at-place}
 use Rattle.edit_vec.proofs.TopLemmas.{apart-room}
+use Rattle.edit_vec.proofs.PopSteps.{not-both}
 use Rattle.edit_vec.proofs.PushTop.{can-room, pushes-after, changes-after}
 use Rattle.edit_vec.proofs.push.push_at.Goals as goal
 
@@ -14,7 +15,7 @@ push_child-requires-clause-root g c =
     let child : ℕ = c.args.child in
     let at = at-place c.links.result.now (links_at c.args.heap.now parent) child c.index-links-child.result c.index-links-child.is c.links.ensures.links c.requires.child in
     let room = c.in_ok-reserve.ensures in
-    let short : length (elements c.args.heap.now (child_at c.args.heap.now parent child)) ≢ 2 ^ 32 - 1 = λ e. c.if-len.false (c.len.ensures.value ∙ ap (λ l. length (elements c.args.heap.now l)) (c.at.ensures ∙ at) ∙ e) in
+    let short : length (elements c.args.heap.now (child_at c.args.heap.now parent child)) ≢ 2 ^ 32 - 1 = λ e. not-both (c.is_longest.ensures.1 (ap (λ l. length (elements c.args.heap.now l)) (c.at.ensures ∙ at) ∙ e)) c.if-is_longest.false in
     can-room room.rest (by_place parent child) c.args.element c.requires.good short c.requires.held c.requires.few room.spares.1
 
 pub push_child-requires-clause-apart : goal.push_child-requires-clause-apart

@@ -1,13 +1,14 @@
-use Rattle.std.proofs.Common.{arith, refl, sym, ◌∙◌}
+use Rattle.std.proofs.Common.{arith, ◌≢◌, ◌-◌, ◌^◌, length, refl, sym, ◌∙◌}
 use Rattle.node_heap.proofs.BuildLemmas.{Builds-Answered, Builds-MakesJust}
 use Rattle.node_heap.proofs.RoomLemmas.{Builds-KeepsToNeed}
+use Rattle.rrb_core.specs.Vector.{elements}
 use Rattle.rrb_core.proofs.BuildLemmas.{answered-same, unchanged-good, same-forms, same-height}
 use Rattle.rrb_core.proofs.PushLemmas.{pushed-root-same, rises}
 use Rattle.rrb_core.proofs.EditLemmas.{root-after}
 use Rattle.rrb_core.proofs.grow.push.Goals as goal
 
-pub returns-then-len-clause-vectors : goal.returns-then-len-clause-vectors
-returns-then-len-clause-vectors g c = λ l good. (good, refl)
+pub returns-then-is_longest-clause-vectors : goal.returns-then-is_longest-clause-vectors
+returns-then-is_longest-clause-vectors g c = λ l good. (good, refl)
 
 pub returns-in_err-reserve-clause-vectors : goal.returns-in_err-reserve-clause-vectors
 returns-in_err-reserve-clause-vectors g c = λ l. unchanged-good l c.in_err-reserve.ensures.rest
@@ -16,7 +17,9 @@ pub push_root-root-requires-clause-root : goal.push_root-root-requires-clause-ro
 push_root-root-requires-clause-root g c = rw c.root.ensures (root-after c.in_ok-reserve.ensures.rest c.requires.good c.in_ok-reserve.ensures.spares c.requires.few)
 
 pub push_root-root-requires-clause-short : goal.push_root-root-requires-clause-short
-push_root-root-requires-clause-short g c = rw (c.root.ensures, (unchanged-good c.args.vector c.in_ok-reserve.ensures.rest c.requires.good).1) (omega (arith, c.if-len.false, c.len.ensures.value, c.requires.good.shape.short))
+push_root-root-requires-clause-short g c =
+    let shorter : length (elements c.args.heap.now c.args.vector) ≢ 2 ^ 32 - 1 = λ longest. let yes = c.is_longest.ensures.1 longest in cc in
+    rw (c.root.ensures, (unchanged-good c.args.vector c.in_ok-reserve.ensures.rest c.requires.good).1) (omega (arith, shorter, c.requires.good.shape.short))
 
 pub returns-clause-items : goal.returns-clause-items
 returns-clause-items g c = rw c.from_root.ensures (c.push_root-root.ensures.vector.1 ∙ rw (c.root.ensures, (unchanged-good c.args.vector c.in_ok-reserve.ensures.rest c.requires.good).1) refl)

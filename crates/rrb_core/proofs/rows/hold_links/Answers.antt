@@ -5,17 +5,13 @@ use Rattle.node_heap.specs.Links.{count}
 use Rattle.node_heap.specs.Heap.{links_at}
 use Rattle.node_heap.proofs.BuildLemmas.{count-append, Builds-made}
 use Rattle.rrb_core.proofs.BuildLemmas.{on-ok}
-use Rattle.rrb_core.proofs.LinkCounts.{count-split}
+use Rattle.rrb_core.proofs.LinkCounts.{count-part}
 use Rattle.rrb_core.proofs.rows.hold_links.Given.{Over}
 use Rattle.rrb_core.proofs.rows.hold_links.Goals as goal
 
 -- what was appended, as the part behind the old length
 behind : (items old part ls : List ℕ) (start : ℕ) → ls ≡ items → items ≡ old ++ part → start ≡ length old → take (length ls - start) (drop start ls) ≡ part
 behind items old part ls start same all at = take_rest ls start ∙ rw (same, all, at) (drop-append_seam old part)
-
--- a part has no more of a link than the whole
-count-part : (k i n : ℕ) (xs : List ℕ) → count k (take n (drop i xs)) ≤ count k xs
-count-part k i n xs = omega (arith, count-split k i xs, count-split k n (drop i xs))
 
 appended : (g : Over) (c : goal.After-hold_all-arg-2-1 g) → c.try_extend_from_slice.new.self.items ≡ c.args.all.now.items ++ take (c.args.to - c.args.from) (drop c.args.from (links_at c.args.heap.now c.args.link))
 appended g c =

@@ -4,21 +4,18 @@ use Rattle.rrb_core.proofs.BuildLemmas.{builds-held}
 use Rattle.rrb_core.proofs.Stays.{well-live}
 use Rattle.rrb_core.proofs.rows.leaf_with.Goals as goal
 
-pub gathered-elements-requires-clause-left : goal.gathered-elements-requires-clause-left
-gathered-elements-requires-clause-left g c = well-live c.args.heap.now 0 c.args.link c.requires.row.well
-
-pub gathered-elements-requires-clause-right : goal.gathered-elements-requires-clause-right
-gathered-elements-requires-clause-right g c = well-live c.args.heap.now 0 c.args.link c.requires.row.well
+pub gather-count-requires-clause-live : goal.gather-count-requires-clause-live
+gather-count-requires-clause-live g c = well-live c.args.heap.now 0 c.args.link c.requires.row.well
 
 pub leaf_over-requires-clause-held : goal.leaf_over-requires-clause-held
-leaf_over-requires-clause-held g c = rw c.as_slice.ensures.value (builds-held c.args.element c.requires.held c.gathered-elements.ensures.builds)
+leaf_over-requires-clause-held g c = builds-held c.args.element c.requires.held c.gather-count.ensures.builds
 
 pub returns-clause-edits : goal.returns-clause-edits
 returns-clause-edits g c =
     record {
-      row = rw (c.as_slice.ensures.value ∙ c.gathered-elements.ensures.items) at c.leaf_over.ensures.row;
-      builds = Builds-then c.gathered-elements.ensures.builds (rw c.as_slice.ensures.value at c.leaf_over.ensures.builds);
+      row = rw c.gather-count.ensures.links at c.leaf_over.ensures.row;
+      builds = Builds-then c.gather-count.ensures.builds c.leaf_over.ensures.builds;
     }
 
 pub returns-clause-links : goal.returns-clause-links
-returns-clause-links g c = c.leaf_over.ensures.links ∙ (c.as_slice.ensures.value ∙ c.gathered-elements.ensures.items)
+returns-clause-links g c = c.leaf_over.ensures.links ∙ c.gather-count.ensures.links

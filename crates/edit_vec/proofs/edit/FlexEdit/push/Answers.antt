@@ -4,6 +4,7 @@ use Rattle.node_heap.specs.Owner.{by_hold}
 use Rattle.node_heap.proofs.Counts.{test_same}
 use Rattle.node_heap.proofs.BuildLemmas.{count-cons}
 use Rattle.rrb_core.specs.Vector.{elements}
+use Rattle.edit_vec.proofs.PopSteps.{not-both}
 use Rattle.edit_vec.proofs.PushTop.{can-room, pushes-after}
 use Rattle.edit_vec.proofs.edit.FlexEdit.push.Goals as goal
 
@@ -12,7 +13,7 @@ push_root-self-inside-requires-clause-root g c =
     let self : ℕ = c.args.self.now in
     let element : ℕ = c.args.element in
     let room = c.in_ok-reserve.ensures in
-    let short : length (elements c.args.heap.now self) ≢ 2 ^ 32 - 1 = λ e. c.if-len.false (c.len.ensures.value ∙ ap (λ l. length (elements c.args.heap.now l)) c.view.ensures ∙ e) in
+    let short : length (elements c.args.heap.now self) ≢ 2 ^ 32 - 1 = λ e. not-both (c.is_longest.ensures.1 (ap (λ l. length (elements c.args.heap.now l)) c.view.ensures ∙ e)) c.if-is_longest.false in
     let held : 1 ≤ holds_at c.args.heap.now element = omega (arith, c.requires.held element, count-cons element self (element ∷ []), count-cons element element [], test_same element element refl) in
     rw c.self.view_is (can-room room.rest (by_hold self) element c.requires.good short held c.requires.few room.spares.1)
 
