@@ -8,6 +8,7 @@ pub mod BuildLemmas
 pub mod LevelLemmas
 pub mod RowSizes
 pub mod RowLists
+pub mod GetLemmas
 pub mod PushLemmas
 pub mod EditLemmas
 pub mod FilledLemmas

@@ -7,7 +7,7 @@ ghost use Rattle.rrb_core.specs.Vector.{elements, height_at, IsGoodVector, IsSam
 ghost use Rattle.rrb_core.specs.Build.{Shares};
 
 use crate::rows::{height_of, leaf_over, size};
-use crate::search::leaf_from;
+use crate::search::element_at;
 use elem_core::NoMemory;
 use node_heap::{Heap, Link};
 use std::marker::Model;
@@ -174,11 +174,7 @@ impl FlexRef {
         ensures value { result ≡ slice_get (elements heap.now self.now) index }
         ensures live { IfSome result (λ element. IsSome (row_at heap.now element)) }
     {
-        if index >= self.len(heap) {
-            return None;
-        }
-        let leaf = leaf_from(heap, self.root, index);
-        Some(leaf[0])
+        element_at(heap, self.root, index)
     }
 }
 

@@ -1,9 +1,9 @@
 //! The search for an element in inner rows, by their running sums or, in rows without sums, by the index alone.
-ghost use Rattle.std.specs.Prelude.{◌≡◌, ℕ, suc, ◌+◌, ◌-◌, ◌<◌, ◌≤◌, [], ◌∷◌, length, take, drop, slice_index};
-ghost use Rattle.std.specs.List.{flat_map};
-ghost use Rattle.node_heap.specs.Heap.{form_at, links_at};
+ghost use Rattle.std.specs.Prelude.{◌≡◌, ℕ, suc, ◌+◌, ◌-◌, ◌<◌, ◌≤◌, [], ◌∷◌, length, take, drop, slice_index, IfSome, IfNone, IsSome};
+ghost use Rattle.std.specs.List.{flat_map, slice_get};
+ghost use Rattle.node_heap.specs.Heap.{row_at, form_at, links_at};
 ghost use Rattle.rrb_core.specs.Seq.{seq_at, IsWell};
-ghost use Rattle.rrb_core.specs.Vector.{elements, HasSums, IsGoodVector};
+ghost use Rattle.rrb_core.specs.Vector.{elements, HasSums, IsGoodVector, sums_at};
 
 use crate::rows::{full_size, height_of, sums_of};
 use node_heap::{Heap, Link};
@@ -66,6 +66,88 @@ pub fn spot_of<T>(heap: &Heap<T>, link: Link, below: u8, index: u32) -> Spot
     let place = place_of(sums, index, from);
     let within = index - sum_before(sums, place);
     Spot { place, within }
+}
+
+// A child of an inner row by its link, and an element's index in that child.
+#[derive(Clone, Copy)]
+struct ChildSpot {
+    child: Link,
+    within: u32,
+}
+
+// The child of an inner row below which the element at `index` is, if the row has one; the children have the height `below`.
+// Where the row keeps no sums, an index past its elements may give its last child, and an index past the elements of that one.
+fn child_spot_of<T>(heap: &Heap<T>, link: Link, below: u8, index: u32) -> Option<ChildSpot>
+    requires well { IsWell (form_at heap.now) (suc below) link }
+    requires sums { HasSums heap.now (suc below) link }
+    requires low { below < 7 }
+    ensures well { IfSome result (λ spot. IsWell (form_at heap.now) below spot.child) }
+    ensures sums { IfSome result (λ spot. HasSums heap.now below spot.child) }
+    ensures same { IfSome result (λ spot. slice_get (seq_at (form_at heap.now) (suc below) link) index ≡ slice_get (seq_at (form_at heap.now) below spot.child) spot.within) }
+    ensures past { IfNone result (length (seq_at (form_at heap.now) (suc below) link) ≤ index) }
+{
+    let sums = sums_of(heap, link);
+    if !sums.is_empty() {
+        return child_spot_by(heap, link, sums, below, index);
+    }
+    let links = heap.links(link);
+    let place = (u64::from(index) >> (5 * (u32::from(below) + 1))) as usize;
+    if place >= links.len() {
+        return None;
+    }
+    let within = index - full_size(place, below + 1) as u32;
+    Some(ChildSpot {
+        child: links[place],
+        within,
+    })
+}
+
+// The same for a row that keeps these sums.
+fn child_spot_by<T>(
+    heap: &Heap<T>,
+    link: Link,
+    sums: &[u32],
+    below: u8,
+    index: u32,
+) -> Option<ChildSpot>
+    requires well { IsWell (form_at heap.now) (suc below) link }
+    requires sums { HasSums heap.now (suc below) link }
+    requires low { below < 7 }
+    requires kept { sums.now ≡ sums_at heap.now link }
+    requires some { 1 ≤ length sums.now }
+    ensures well { IfSome result (λ spot. IsWell (form_at heap.now) below spot.child) }
+    ensures sums { IfSome result (λ spot. HasSums heap.now below spot.child) }
+    ensures same { IfSome result (λ spot. slice_get (seq_at (form_at heap.now) (suc below) link) index ≡ slice_get (seq_at (form_at heap.now) below spot.child) spot.within) }
+    ensures past { IfNone result (length (seq_at (form_at heap.now) (suc below) link) ≤ index) }
+{
+    if index >= sums[sums.len() - 1] {
+        return None;
+    }
+    let spot = spot_of(heap, link, below, index);
+    Some(ChildSpot {
+        child: heap.links(link)[spot.place],
+        within: spot.within,
+    })
+}
+
+// The element at `index`, and none at the end or past it: one walk, which asks no row for its length.
+pub(crate) fn element_at<T>(heap: &Heap<T>, root: Link, index: u32) -> Option<Link>
+    requires { IsGoodVector heap.now root }
+    ensures value { result ≡ slice_get (elements heap.now root) index }
+    ensures live { IfSome result (λ element. IsSome (row_at heap.now element)) }
+{
+    let mut link = root;
+    let mut within = index;
+    let mut height = height_of(heap, link);
+    while height > 0 {
+        height -= 1;
+        let Some(spot) = child_spot_of(heap, link, height, within) else {
+            return None;
+        };
+        link = spot.child;
+        within = spot.within;
+    }
+    heap.links(link).get(within as usize).copied()
 }
 
 /// The one element below a row of this height that has no other.

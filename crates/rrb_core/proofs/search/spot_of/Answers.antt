@@ -1,12 +1,13 @@
-use Rattle.std.proofs.Common.{rules, arith, ◌≡◌, ◌+◌, ◌-◌, ◌<◌, ◌≤◌, ◌*◌, ◌/◌, ◌^◌, suc, length, refl, ap, ◌∙◌, sym, ℕ}
+use Rattle.std.proofs.Common.{rules, arith, ◌≡◌, ◌+◌, ◌-◌, ◌<◌, ◌≤◌, ◌*◌, ◌/◌, ◌^◌, suc, length, ap, ◌∙◌, sym, ℕ}
 use Rattle.std.specs.List.{flat_map}
 use Rattle.std.proofs.lemmas.Bool.Decides.{nat_tests}
 use Rattle.node_heap.specs.Heap.{form_at, links_at}
 use Rattle.rrb_core.specs.Seq.{seq_at}
 use Rattle.rrb_core.specs.Vector.{AreSums, sums_at}
-use Rattle.rrb_core.proofs.Lists.{pow32, start-le, last-sum, sum-before, in-child, before-le, empty-list}
+use Rattle.rrb_core.proofs.Lists.{start-le, last-sum, sum-before, in-child, before-le, empty-list}
 use Rattle.rrb_core.proofs.Stays.{well-live}
 use Rattle.rrb_core.proofs.RowLists.{over, IsStraight, kept-sums, most-each, straight}
+use Rattle.rrb_core.proofs.GetLemmas.{place-is}
 use Rattle.rrb_core.proofs.search.spot_of.Given.{Over}
 use Rattle.rrb_core.proofs.search.spot_of.Goals as goal
 
@@ -19,13 +20,8 @@ line g c =
     let none : length c.sums_of-sums.result.now ≡ 0 = grind (arith, nat_tests, c.if-is_empty.ensures) in
     straight (over c.args.heap.now c.args.below c.args.link c.requires.well c.requires.sums) c.args.index (sym c.sums_of-sums.ensures ∙ empty-list c.sums_of-sums.result.now none) c.requires.inside
 
-from-is : (from index below level : ℕ) → from ≡ index → level ≡ below → from / 2 ^ (5 * (level + 1)) ≡ index / 32 ^ suc below
-from-is from index below level e f =
-    let p : 2 ^ (5 * (level + 1)) ≡ 32 ^ suc below = ap (λ (n : ℕ). 2 ^ (5 * n)) (omega (arith, f)) ∙ sym (pow32 (suc below)) in
-    rw (p, e) refl
-
 at : (g : Over) (c : goal.Then-is_empty g) → c.from.result / 2 ^ (5 * (c.from-2.result + 1)) ≡ c.args.index / 32 ^ suc c.args.below
-at g c = from-is c.from.result c.args.index c.args.below c.from-2.result c.from.ensures c.from-2.ensures
+at g c = place-is c.from.result c.args.index c.args.below c.from-2.result c.from.ensures c.from-2.ensures
 
 before : (g : Over) (c : goal.After-full_size g) → c.full_size.result ≡ c.args.index / 32 ^ suc c.args.below * 32 ^ suc c.args.below
 before g c =
@@ -67,7 +63,7 @@ sums-still g c =
 
 pub place_of-place-requires-clause-before : goal.place_of-place-requires-clause-before
 place_of-place-requires-clause-before g c = λ k b.
-    let b' : k < c.args.index / 32 ^ suc c.args.below = rw (from-is c.from.result c.args.index c.args.below c.from-2.result c.from.ensures c.from-2.ensures) at b in
+    let b' : k < c.args.index / 32 ^ suc c.args.below = rw (place-is c.from.result c.args.index c.args.below c.from-2.result c.from.ensures c.from-2.ensures) at b in
     rw c.sums_of-sums.ensures (start-le (sums_at c.args.heap.now c.args.link) (links_at c.args.heap.now c.args.link) (seq_at (form_at c.args.heap.now) c.args.below) (sums g c) (32 ^ suc c.args.below) c.args.index k (most-each (over c.args.heap.now c.args.below c.args.link c.requires.well c.requires.sums)) b')
 
 pub place_of-place-requires-clause-passes : goal.place_of-place-requires-clause-passes
