@@ -122,9 +122,10 @@ fn read_text(text: &str) -> Result<Command<'_>, BadLine>
     ensures { plain_answer result ≡ meaning text.now }
 {
     let (word, rest) = split_piece(text);
+    // The words are tested one after another, so those that long inputs repeat come first.
     match word {
-        "new" => name(rest).map(Command::New),
         "add" => name_and_text(rest).map(|(buffer, text)| Command::Add(buffer, text)),
+        "get" => name_and_number(rest).map(|(buffer, index)| Command::Get(buffer, index)),
         "set" => name_number_and_text(rest).map(|(buffer, index, text)| Command::Set(
             buffer, index, text,
         )),
@@ -132,6 +133,11 @@ fn read_text(text: &str) -> Result<Command<'_>, BadLine>
             buffer, index, text,
         )),
         "del" => name_and_range(rest).map(|(buffer, from, to)| Command::Del(buffer, from, to)),
+        "len" => name(rest).map(Command::Len),
+        "show" => name_and_range(rest).map(|(buffer, from, to)| Command::Show(buffer, from, to)),
+        "undo" => nothing(rest).map(|()| Command::Undo),
+        "redo" => nothing(rest).map(|()| Command::Redo),
+        "new" => name(rest).map(Command::New),
         "cat" => two_names(rest).map(|(buffer, other)| Command::Cat(buffer, other)),
         "cut" => name_range_and_name(rest).map(|(buffer, from, to, other)| Command::Cut(
             buffer, from, to, other,
@@ -143,14 +149,9 @@ fn read_text(text: &str) -> Result<Command<'_>, BadLine>
         "mark" => name(rest).map(Command::Mark),
         "unmark" => name(rest).map(Command::Unmark),
         "back" => name(rest).map(Command::Back),
-        "undo" => nothing(rest).map(|()| Command::Undo),
-        "redo" => nothing(rest).map(|()| Command::Redo),
         "begin" => nothing(rest).map(|()| Command::Begin),
         "end" => nothing(rest).map(|()| Command::End),
         "abort" => nothing(rest).map(|()| Command::Abort),
-        "get" => name_and_number(rest).map(|(buffer, index)| Command::Get(buffer, index)),
-        "len" => name(rest).map(Command::Len),
-        "show" => name_and_range(rest).map(|(buffer, from, to)| Command::Show(buffer, from, to)),
         "list" => nothing(rest).map(|()| Command::List),
         "stars" => nothing(rest).map(|()| Command::Stars),
         "marks" => nothing(rest).map(|()| Command::Marks),

@@ -8,19 +8,19 @@ use Rattle.shell_words.specs.Shown.{plain_command}
 use Rattle.shell_words.proofs.CommandLemmas.{answers_word, meaning-unknown, other_word}
 use Rattle.shell_words.proofs.read_text.Goals as goal
 
-pub returns-in-new : goal.returns-in-new
-unfolding commands
-returns-in-new c =
-    answers_word c.args.text.now _ _ _ c.name.result c.map.result _ (λ b. edit (new (name_bytes b)))
-    c.utf8.text (sym c.split_piece.ensures.piece ∙ c.in-new.is) refl c.split_piece.ensures.rest (c.name.ensures (λ b. edit (new b)))
-    c.map.ensures.cases (λ x command is. ap plain_command is)
-
 pub returns-in-add : goal.returns-in-add
 unfolding commands
 returns-in-add c =
-    answers_word c.args.text.now _ _ _ c.name_and_text.result c.map-in-add.result _ (λ x. edit (add (name_bytes x.0) (line_bytes x.1)))
+    answers_word c.args.text.now _ _ _ c.name_and_text.result c.map.result _ (λ x. edit (add (name_bytes x.0) (line_bytes x.1)))
     c.utf8.text (sym c.split_piece.ensures.piece ∙ c.in-add.is) refl c.split_piece.ensures.rest (c.name_and_text.ensures (λ b t. edit (add b t)))
-    c.map-in-add.ensures.cases (λ x command is. search rules)
+    c.map.ensures.cases (λ x command is. search rules)
+
+pub returns-in-get : goal.returns-in-get
+unfolding commands
+returns-in-get c =
+    answers_word c.args.text.now _ _ _ c.name_and_number.result c.map-in-get.result _ (λ x. get (name_bytes x.0) x.1)
+    c.utf8.text (sym c.split_piece.ensures.piece ∙ c.in-get.is) refl c.split_piece.ensures.rest (c.name_and_number.ensures get)
+    c.map-in-get.ensures.cases (λ x command is. search rules)
 
 pub returns-in-set : goal.returns-in-set
 unfolding commands
@@ -42,6 +42,41 @@ returns-in-del c =
     answers_word c.args.text.now _ _ _ c.name_and_range.result c.map-in-del.result _ (λ x. edit (del (name_bytes x.0) x.1 x.2))
     c.utf8.text (sym c.split_piece.ensures.piece ∙ c.in-del.is) refl c.split_piece.ensures.rest (c.name_and_range.ensures (λ b i j. edit (del b i j)))
     c.map-in-del.ensures.cases (λ x command is. search rules)
+
+pub returns-in-len : goal.returns-in-len
+unfolding commands
+returns-in-len c =
+    answers_word c.args.text.now _ _ _ c.name.result c.map-in-len.result _ (λ b. len (name_bytes b))
+    c.utf8.text (sym c.split_piece.ensures.piece ∙ c.in-len.is) refl c.split_piece.ensures.rest (c.name.ensures len)
+    c.map-in-len.ensures.cases (λ x command is. ap plain_command is)
+
+pub returns-in-show : goal.returns-in-show
+unfolding commands
+returns-in-show c =
+    answers_word c.args.text.now _ _ _ c.name_and_range-in-show.result c.map-in-show.result _ (λ x. show (name_bytes x.0) x.1 x.2)
+    c.utf8.text (sym c.split_piece.ensures.piece ∙ c.in-show.is) refl c.split_piece.ensures.rest (c.name_and_range-in-show.ensures show)
+    c.map-in-show.ensures.cases (λ x command is. search rules)
+
+pub returns-in-undo : goal.returns-in-undo
+unfolding commands
+returns-in-undo c =
+    answers_word c.args.text.now _ _ _ c.nothing.result c.map-in-undo.result _ (λ _. undo)
+    c.utf8.text (sym c.split_piece.ensures.piece ∙ c.in-undo.is) refl c.split_piece.ensures.rest (c.nothing.ensures undo)
+    c.map-in-undo.ensures.cases (λ x command is. search rules)
+
+pub returns-in-redo : goal.returns-in-redo
+unfolding commands
+returns-in-redo c =
+    answers_word c.args.text.now _ _ _ c.nothing-in-redo.result c.map-in-redo.result _ (λ _. redo)
+    c.utf8.text (sym c.split_piece.ensures.piece ∙ c.in-redo.is) refl c.split_piece.ensures.rest (c.nothing-in-redo.ensures redo)
+    c.map-in-redo.ensures.cases (λ x command is. search rules)
+
+pub returns-in-new : goal.returns-in-new
+unfolding commands
+returns-in-new c =
+    answers_word c.args.text.now _ _ _ c.name-in-new.result c.map-in-new.result _ (λ b. edit (new (name_bytes b)))
+    c.utf8.text (sym c.split_piece.ensures.piece ∙ c.in-new.is) refl c.split_piece.ensures.rest (c.name-in-new.ensures (λ b. edit (new b)))
+    c.map-in-new.ensures.cases (λ x command is. ap plain_command is)
 
 pub returns-in-cat : goal.returns-in-cat
 unfolding commands
@@ -106,20 +141,6 @@ returns-in-back c =
     c.utf8.text (sym c.split_piece.ensures.piece ∙ c.in-back.is) refl c.split_piece.ensures.rest (c.name-in-back.ensures back)
     c.map-in-back.ensures.cases (λ x command is. ap plain_command is)
 
-pub returns-in-undo : goal.returns-in-undo
-unfolding commands
-returns-in-undo c =
-    answers_word c.args.text.now _ _ _ c.nothing.result c.map-in-undo.result _ (λ _. undo)
-    c.utf8.text (sym c.split_piece.ensures.piece ∙ c.in-undo.is) refl c.split_piece.ensures.rest (c.nothing.ensures undo)
-    c.map-in-undo.ensures.cases (λ x command is. search rules)
-
-pub returns-in-redo : goal.returns-in-redo
-unfolding commands
-returns-in-redo c =
-    answers_word c.args.text.now _ _ _ c.nothing-in-redo.result c.map-in-redo.result _ (λ _. redo)
-    c.utf8.text (sym c.split_piece.ensures.piece ∙ c.in-redo.is) refl c.split_piece.ensures.rest (c.nothing-in-redo.ensures redo)
-    c.map-in-redo.ensures.cases (λ x command is. search rules)
-
 pub returns-in-begin : goal.returns-in-begin
 unfolding commands
 returns-in-begin c =
@@ -140,27 +161,6 @@ returns-in-abort c =
     answers_word c.args.text.now _ _ _ c.nothing-in-abort.result c.map-in-abort.result _ (λ _. abort)
     c.utf8.text (sym c.split_piece.ensures.piece ∙ c.in-abort.is) refl c.split_piece.ensures.rest (c.nothing-in-abort.ensures abort)
     c.map-in-abort.ensures.cases (λ x command is. search rules)
-
-pub returns-in-get : goal.returns-in-get
-unfolding commands
-returns-in-get c =
-    answers_word c.args.text.now _ _ _ c.name_and_number.result c.map-in-get.result _ (λ x. get (name_bytes x.0) x.1)
-    c.utf8.text (sym c.split_piece.ensures.piece ∙ c.in-get.is) refl c.split_piece.ensures.rest (c.name_and_number.ensures get)
-    c.map-in-get.ensures.cases (λ x command is. search rules)
-
-pub returns-in-len : goal.returns-in-len
-unfolding commands
-returns-in-len c =
-    answers_word c.args.text.now _ _ _ c.name-in-len.result c.map-in-len.result _ (λ b. len (name_bytes b))
-    c.utf8.text (sym c.split_piece.ensures.piece ∙ c.in-len.is) refl c.split_piece.ensures.rest (c.name-in-len.ensures len)
-    c.map-in-len.ensures.cases (λ x command is. ap plain_command is)
-
-pub returns-in-show : goal.returns-in-show
-unfolding commands
-returns-in-show c =
-    answers_word c.args.text.now _ _ _ c.name_and_range-in-show.result c.map-in-show.result _ (λ x. show (name_bytes x.0) x.1 x.2)
-    c.utf8.text (sym c.split_piece.ensures.piece ∙ c.in-show.is) refl c.split_piece.ensures.rest (c.name_and_range-in-show.ensures show)
-    c.map-in-show.ensures.cases (λ x command is. search rules)
 
 pub returns-in-list : goal.returns-in-list
 unfolding commands
