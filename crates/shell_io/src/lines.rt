@@ -42,11 +42,11 @@ impl<T: Drop> From<AllocFailed<T>> for LinesFault {
 pub fn lines_of(alloc: Global, bytes: &[u8]) -> Result<Texts, LinesFault>
     ensures { HasLines bytes.now result }
 {
-    if has_overlong(bytes) {
-        return Err(LinesFault::Long);
-    }
-    let Ok(text) = str::from_utf8(bytes) else {
-        return Err(LinesFault::Utf8);
+    let text = match str::from_utf8(bytes) {
+        Ok(text) => text,
+        // The lines of a text are measured as they are taken, so only these bytes are looked through for a long one.
+        Err(_) if has_overlong(bytes) => return Err(LinesFault::Long),
+        Err(_) => return Err(LinesFault::Utf8),
     };
     let mut lines = Vec::new(alloc);
     let mut rest = text;

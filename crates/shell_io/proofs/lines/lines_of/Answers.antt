@@ -1,8 +1,7 @@
-use Rattle.std.proofs.Common.{◌≡◌, [], ◌∷◌, ◌++◌, rules, ap, sym, subst, ◌∙◌, false, append_assoc, append-nil}
-use Rattle.std.specs.Prelude.{IsTrue}
+use Rattle.std.proofs.Common.{◌≡◌, [], ◌∷◌, ◌++◌, rules, ap, sym, ◌∙◌, append_assoc, append-nil, arith}
 use Rattle.std.proofs.lemmas.Bool.{eqb-true}
 use Rattle.shell_io.specs.Pieces.{pieces}
-use Rattle.shell_io.proofs.LinesLemmas.{pieces-none, HasOverlong-behind}
+use Rattle.shell_io.proofs.LinesLemmas.{pieces-none, HasOverlong-behind, HasOverlong-first, HasOverlong-none, HasOverlong-rest}
 use Rattle.shell_io.proofs.lines.lines_of.Goals as goal
 
 pub loop-rest-preserved : goal.loop-rest-preserved
@@ -17,15 +16,19 @@ loop-rest-preserved c =
         pieces_are =
             c.loop-rest.invariant.1.pieces_are ∙ ap (λ ps. lines ++ ps) c.first_line.ensures.pieces
             ∙ sym (append_assoc lines (first ∷ []) (pieces others)) ∙ ap (λ ls. ls ++ pieces others) (sym items);
-        behind = λ h. c.loop-rest.invariant.1.behind (HasOverlong-behind _ _ _ c.first_line.ensures.pieces h);
+        long = (
+          λ h. HasOverlong-rest _ _ _ c.first_line.ensures.pieces (λ long. search (arith, long)) (c.loop-rest.invariant.1.long.0 h),
+          λ h. c.loop-rest.invariant.1.long.1 (HasOverlong-behind _ _ _ c.first_line.ensures.pieces h),
+        );
       },
     )
 
 pub returns : goal.returns
 returns c =
-    let lines = c.loop-rest.lines.items in (
+    let lines = c.loop-rest.lines.items in
+    let none = eqb-true _ _ (sym c.loop-rest-test.ensures) in (
       c.from_vec.ensures ∙ sym (c.loop-rest.invariant.1.pieces_are
-          ∙ ap (λ ps. lines ++ ps) (pieces-none c.loop-rest.rest.now (eqb-true _ _ (sym c.loop-rest-test.ensures))) ∙ append-nil lines),
-      λ h. let none : IsTrue false = subst IsTrue c.if-has_overlong.false (c.has_overlong.ensures.1 h) in absurd (search rules),
+          ∙ ap (λ ps. lines ++ ps) (pieces-none c.loop-rest.rest.now none) ∙ append-nil lines),
+      λ h. HasOverlong-none c.loop-rest.rest.now none (c.loop-rest.invariant.1.long.0 h),
       c.in-Ok.ensures.cases.1,
     )
