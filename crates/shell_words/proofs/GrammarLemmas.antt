@@ -1,10 +1,14 @@
 -- What the words of the grammar give, case by case.
-use Rattle.std.proofs.Common.{◌≡◌, ℕ, ◌+◌, ◌<◌, Bool, true, false, not, ◌||◌, cond, List, [], ◌∷◌, length, drop, Some, None, Result, Ok, Err, is_ok, suc, sym, ap, refl, ◌∙◌, arith, ltb, length-drop}
-use Rattle.std.specs.List.{list_any, position_or_len, after_first}
-use Rattle.std.proofs.lemmas.Bool.{lt-ltb, le-ltb, false≢true}
+use Rattle.std.proofs.Common.{◌≡◌, ℕ, ◌+◌, ◌<◌, ◌≤◌, Bool, true, false, not, ◌||◌, cond, List, [], ◌∷◌, length, drop, get_or, Some, None, Result, Ok, Err, is_ok, suc, sym, ap, refl, ◌∙◌, arith, ltb, length-drop}
+use Rattle.std.specs.List.{list_any, position, position_or_len, after_first}
+use Rattle.std.specs.Str.{IsCharBoundary, IsUtf8}
+use Rattle.std.proofs.lemmas.Bool.{eqb-true, lt-ltb, le-ltb, false≢true}
 use Rattle.std.proofs.lemmas.Bool.Decides.{nat_tests}
 use Rattle.std.proofs.lemmas.Grind.{common_steps}
 use Rattle.std.proofs.lemmas.List.{get_or-drop}
+use Rattle.std.proofs.lemmas.List.Quantifiers.{position-Some}
+use Rattle.std.proofs.lemmas.List.Sums.{prefix_len-le-length}
+use Rattle.std.proofs.lemmas.Str.{IsCharBoundary-after_ascii}
 use Rattle.elem_core.specs.Cell.{IsCell}
 use Rattle.elem_core.specs.Naming.{IsName, is_name}
 use Rattle.shell_terms.specs.Command.{PlainCommand}
@@ -41,6 +45,30 @@ after_piece-unspaced bytes whole =
 pub first_piece-unspaced : (bytes : List ℕ) → position_or_len is_space bytes ≡ length bytes → first_piece bytes ≡ bytes
 unfolding first_piece
 first_piece-unspaced bytes whole = grind (arith, common_steps)
+
+-- the place of the first space, and that a piece ends there as a text may
+pub record Spaced (bytes : List ℕ) (at : ℕ) : Type 0 where
+  pub first : position_or_len is_space bytes ≡ at
+  pub inside : at < length bytes
+  pub before : IsCharBoundary bytes at
+  pub behind : IsUtf8 bytes → IsCharBoundary bytes (at + 1)
+
+pub spaced : (bytes : List ℕ) (at : ℕ) → position is_space bytes ≡ Some at → Spaced bytes at
+spaced bytes at is =
+    let found = position-Some is_space bytes at 0 is in
+    let space : get_or bytes at 0 ≡ 32 = eqb-true _ _ found.1 in
+    let first : position_or_len is_space bytes ≡ at = grind (arith, common_steps) in
+    record {
+      first = first;
+      inside = found.0;
+      before = (omega (arith, found.0), λ within high. absurd (omega (arith, high, space)));
+      behind = λ utf8. IsCharBoundary-after_ascii bytes at utf8 found.0 (omega (arith, space));
+    }
+
+pub unspaced : (bytes : List ℕ) → position is_space bytes ≡ None → position_or_len is_space bytes ≡ length bytes
+unspaced bytes is =
+    let bound : position_or_len is_space bytes ≤ length bytes = prefix_len-le-length (λ b. not (is_space b)) bytes in
+    grind (arith, common_steps, nat_tests)
 
 -- what stands behind a part of a cell may stand in a cell
 pub cell-drop : (n : ℕ) (bytes : List ℕ) → IsCell bytes → IsCell (drop n bytes)

@@ -4,11 +4,12 @@
 //! pieces first, and then makes names of those that must be names.
 
 ghost use Rattle.std.specs.Prelude.{◌≡◌, ℕ, List, Ok, IfOk, option_copied};
+ghost use Rattle.std.specs.List.{position};
 ghost use Rattle.std.specs.Option.{ForSome};
 ghost use Rattle.elem_core.specs.Cell.{IsCell};
 ghost use Rattle.shell_terms.specs.Command.{PlainCommand};
 ghost use Rattle.elem_core.specs.Shown.{name_bytes, line_bytes};
-ghost use Rattle.shell_words.specs.Grammar.{RestMeaning, first_piece, after_piece, if_named};
+ghost use Rattle.shell_words.specs.Grammar.{RestMeaning, is_space, first_piece, after_piece, if_named};
 ghost use Rattle.shell_words.specs.Grammar.{the_end, a_name, a_number, the_text};
 ghost use Rattle.shell_words.specs.Number.{number_of};
 ghost use Rattle.shell_words.specs.Shown.{go_on};
@@ -23,10 +24,17 @@ pub(crate) fn split_piece(text: &str) -> (&str, Option<&str>)
     ensures rest { option_copied result.1 ≡ after_piece text.now }
     ensures cell { IsCell text.now → ForSome (option_copied result.1) IsCell }
 {
-    match text.split_once(' ') {
-        Some((piece, rest)) => (piece, Some(rest)),
+    match space_in(text.as_bytes()) {
+        Some(at) => (&text[..at], Some(&text[at + 1..])),
         None => (text, None),
     }
+}
+
+// The place of the first space. A piece is short, so its bytes are looked at one by one.
+fn space_in(bytes: &[u8]) -> Option<usize>
+    ensures { result ≡ position is_space bytes.now }
+{
+    bytes.iter().position(|byte| *byte == b' ')
 }
 
 // Refuses what stands behind the last piece of a command.
