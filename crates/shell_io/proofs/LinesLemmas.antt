@@ -1,6 +1,9 @@
 -- The pieces of bytes one after the other, and whether one of them is too long.
-use Rattle.std.proofs.Common.{◌≡◌, ℕ, zero, suc, ◌+◌, ◌<◌, List, [], ◌∷◌, ◌++◌, length, take, drop, refl, sym, ap, subst, ◌∙◌, arith}
+use Rattle.std.proofs.Common.{◌≡◌, ℕ, zero, suc, ◌+◌, ◌<◌, List, [], ◌∷◌, ◌++◌, length, length-take, take, drop, get_or, refl, sym, ap, subst, ◌∙◌, arith}
 use Rattle.std.specs.Prelude.{Contains}
+use Rattle.std.specs.Str.{IsCharBoundary, IsUtf8}
+use Rattle.std.proofs.Math.Seq.{get_or-append_seam}
+use Rattle.std.proofs.lemmas.Str.{IsCharBoundary-after_ascii}
 use Rattle.elem_core.specs.declared.TheConstants.{NEWLINE}
 use Rattle.shell_io.specs.Pieces.{pieces, IsOverlong, IsUnbroken}
 use Rattle.shell_io.specs.Lines.{HasOverlong}
@@ -47,3 +50,23 @@ pub pieces-none : (s : List ℕ) → length s ≡ 0 → pieces s ≡ []
 unfolding pieces
 pieces-none [] e = refl
 pieces-none (x ∷ xs) e = absurd (omega arith)
+
+-- the first newline stands here
+abbrev pub IsNewlineAt : List ℕ → ℕ → Type 0
+IsNewlineAt s at = (at < length s) × IsUnbroken (take at s) × (s ≡ take at s ++ NEWLINE ∷ drop (at + 1) s)
+
+-- a text may be cut before a newline and behind it
+pub record NewlinePlace (s : List ℕ) (at : ℕ) : Type 0 where
+  pub before : IsCharBoundary s at
+  pub behind : IsUtf8 s → IsCharBoundary s (at + 1)
+
+pub newline_place : (s : List ℕ) (at : ℕ) → IsNewlineAt s at → NewlinePlace s at
+newline_place s at (inside, clean, is) =
+    let whole : length (take at s) ≡ at = omega (arith, length-take at s, inside) in
+    let seam : get_or (take at s ++ NEWLINE ∷ drop (at + 1) s) at 0 ≡ NEWLINE =
+    subst (λ n. get_or (take at s ++ NEWLINE ∷ drop (at + 1) s) n 0 ≡ NEWLINE) whole (get_or-append_seam (take at s) NEWLINE (drop (at + 1) s) 0) in
+    let newline : get_or s at 0 ≡ NEWLINE = ap (λ bytes. get_or bytes at 0) is ∙ seam in
+    record {
+      before = (omega (arith, inside), λ within high. absurd (omega (arith, high, newline)));
+      behind = λ utf8. IsCharBoundary-after_ascii s at utf8 inside (omega (arith, newline));
+    }

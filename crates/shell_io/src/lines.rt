@@ -68,8 +68,8 @@ fn first_line(text: &str) -> (&str, &str)
     ensures unbroken { IsUnbroken result.0.now }
     ensures shorter { length result.1.now < length text.now }
 {
-    match text.split_once('\n') {
-        Some(split) => split,
+    match newline_from(text.as_bytes(), 0) {
+        Some(at) => (&text[..at], &text[at + 1..]),
         None => (text, ""),
     }
 }

@@ -1,25 +1,32 @@
-use Rattle.std.proofs.Common.{arith}
-use Rattle.std.specs.Prelude.{◌==◌}
-use Rattle.std.specs.List.{position_or_len}
-use Rattle.elem_core.specs.declared.TheConstants.{NEWLINE}
-use Rattle.shell_io.proofs.LinesLemmas.{pieces-at, pieces-one}
-use Rattle.shell_io.proofs.NewlineLemmas.{found_first, none_first}
+use Rattle.std.proofs.Common.{◌≡◌, List, ℕ, take, subst, rules}
+use Rattle.shell_io.specs.Pieces.{IsUnbroken}
+use Rattle.shell_io.proofs.LinesLemmas.{pieces-at, pieces-one, newline_place, IsNewlineAt}
 use Rattle.shell_io.proofs.lines.first_line.Goals as goal
+
+pub range-requires-clause-end_boundary : goal.range-requires-clause-end_boundary
+range-requires-clause-end_boundary c =
+    let found = subst (λ (s : List ℕ). IsNewlineAt s c.in-Some.at) c.as_bytes.ensures.value c.in-Some.ensures.found in
+    (newline_place c.args.text.now c.in-Some.at found).before
+
+pub range_from-requires : goal.range_from-requires
+range_from-requires c _ =
+    let found = subst (λ (s : List ℕ). IsNewlineAt s c.in-Some.at) c.as_bytes.ensures.value c.in-Some.ensures.found in
+    (newline_place c.args.text.now c.in-Some.at found).behind c.utf8.text
 
 pub returns-in-Some-clause-pieces : goal.returns-in-Some-clause-pieces
 returns-in-Some-clause-pieces c =
-    let splits = c.in-Some.ensures.byte (omega arith) (λ w o h. h) in
-    let found = found_first c.args.text.now splits.2 in
-    rw (splits.0, splits.1) (pieces-at c.args.text.now (position_or_len (λ byte. byte == NEWLINE) c.args.text.now) found.0 found.1)
+    let found = subst (λ (s : List ℕ). IsNewlineAt s c.in-Some.at) c.as_bytes.ensures.value c.in-Some.ensures.found in
+    let front : c.range.result.now ≡ take c.in-Some.at c.args.text.now = search rules in
+    rw (front, c.range_from.ensures.value) (pieces-at c.args.text.now c.in-Some.at found.1 found.2)
 
 pub returns-in-Some-clause-unbroken : goal.returns-in-Some-clause-unbroken
 returns-in-Some-clause-unbroken c =
-    let splits = c.in-Some.ensures.byte (omega arith) (λ w o h. h) in
-    rw splits.0 ((found_first c.args.text.now splits.2).0)
+    let found = subst (λ (s : List ℕ). IsNewlineAt s c.in-Some.at) c.as_bytes.ensures.value c.in-Some.ensures.found in
+    let front : c.range.result.now ≡ take c.in-Some.at c.args.text.now = search rules in
+    rw front found.1
 
 pub returns-in-None-clause-pieces : goal.returns-in-None-clause-pieces
-returns-in-None-clause-pieces c =
-    pieces-one c.args.text.now c.requires (none_first c.args.text.now (c.in-None.ensures.byte (omega arith) (λ w o h. h)))
+returns-in-None-clause-pieces c = pieces-one c.args.text.now c.requires (subst IsUnbroken c.as_bytes.ensures.value c.in-None.ensures.none)
 
 pub returns-in-None-clause-unbroken : goal.returns-in-None-clause-unbroken
-returns-in-None-clause-unbroken c = none_first c.args.text.now (c.in-None.ensures.byte (omega arith) (λ w o h. h))
+returns-in-None-clause-unbroken c = subst IsUnbroken c.as_bytes.ensures.value c.in-None.ensures.none
