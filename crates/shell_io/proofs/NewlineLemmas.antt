@@ -86,20 +86,3 @@ unbroken_from xs from within clean is =
     let whole : IsUnbroken (take from xs ++ rest) =
     IsUnbroken-append (take from xs) rest clean (subst IsUnbroken (take_all (length rest) rest (omega arith)) clean_rest) in
     subst IsUnbroken (take-append-drop from xs) whole
-
--- the first newline, where it stands within the bytes
-pub found_first : (xs : List ℕ) → position_or_len (λ byte. byte == NEWLINE) xs < length xs →
-    IsUnbroken (take (position_or_len (λ byte. byte == NEWLINE) xs) xs)
-    × (xs ≡ take (position_or_len (λ byte. byte == NEWLINE) xs) xs ++ NEWLINE ∷ drop (position_or_len (λ byte. byte == NEWLINE) xs + 1) xs)
-found_first xs within =
-    let at = position_or_len (λ byte. byte == NEWLINE) xs in
-    let f = found xs at (rw (lt-ltb at (length xs) within)) in (
-      f.clean,
-      sym (take-append-drop at xs) ∙ ap (λ ys. take at xs ++ ys) (drop_more xs at 0 within)
-          ∙ ap (λ y. take at xs ++ y ∷ drop (at + 1) xs) f.newline,
-    )
-
-pub none_first : (xs : List ℕ) → position_or_len (λ byte. byte == NEWLINE) xs ≡ length xs → IsUnbroken xs
-none_first xs is =
-    subst IsUnbroken (take_all (length xs) xs (omega arith))
-    (unbroken_below xs (length xs) (omega arith) (λ k h. fails_before_first (λ byte. byte == NEWLINE) xs k 0 (omega (arith, is, h))))
