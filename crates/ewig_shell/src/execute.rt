@@ -12,6 +12,7 @@ ghost use Rattle.ewig_shell.specs.Step.{ObeysAlone, ObeysOn, StepsOn, refusal_of
 ghost use Rattle.ewig_shell.specs.Sending.{Replies, sent_then};
 
 use crate::load::{load, read};
+use crate::page::Page;
 use crate::reply::{
     equality, line_refusal, loaded, refusal, saved, send, send_done, send_lines, send_names,
     send_number, send_sizes, send_text,
@@ -32,12 +33,13 @@ pub enum Went {
     Quit,
 }
 
-/// Does what a line asks for, and writes the reply.
+/// Does what a line asks for, and writes the reply, which is put together in the page, whatever that holds.
 /// At `Failed` only a part of the reply was written, and the space and the store are as after the command.
 pub fn execute<K: Sink, D: Store>(
     alloc: Global,
     space: &mut Space,
     piece: &[u8],
+    page: &mut Page,
     sink: &mut K,
     store: &mut D,
 ) -> Result<Went, Failed>
@@ -48,7 +50,7 @@ pub fn execute<K: Sink, D: Store>(
     ensures quits { IfOk result (λ went. (went ≡ Went.Quit) ↔ (piece.now ≡ codes "quit")) }
 {
     match read_line(piece) {
-        Ok(command) => obey(alloc, space, command, sink, store),
+        Ok(command) => obey(alloc, space, command, page, sink, store),
         Err(bad) => then(send(line_refusal(bad), sink), Went::On),
     }
 }
@@ -67,6 +69,7 @@ fn obey<K: Sink, D: Store>(
     alloc: Global,
     space: &mut Space,
     command: Command<'_>,
+    page: &mut Page,
     sink: &mut K,
     store: &mut D,
 ) -> Result<Went, Failed>
@@ -76,7 +79,7 @@ fn obey<K: Sink, D: Store>(
         (went ≡ Went.Quit) ↔ (plain_command command.entry ≡ quit_command)) }
 {
     let went = went_after(command);
-    then(answer(alloc, space, command, sink, store), went)
+    then(answer(alloc, space, command, page, sink, store), went)
 }
 
 // How the run goes on after a command.
@@ -101,6 +104,7 @@ fn answer<K: Sink, D: Store>(
     alloc: Global,
     space: &mut Space,
     command: Command<'_>,
+    page: &mut Page,
     sink: &mut K,
     store: &mut D,
 ) -> Result<(), Failed>
@@ -108,16 +112,16 @@ fn answer<K: Sink, D: Store>(
         (λ reply. ObeysOn (plain_command command.entry) D.Store space.old store.old reply space.new store.new) }
 {
     match command {
-        Command::Get(buffer, index) => get(space, buffer, index, sink),
-        Command::Len(buffer) => len(space, buffer, sink),
-        Command::Show(buffer, from, to) => show(space, buffer, from, to, sink),
-        Command::List => list(alloc, space, sink),
-        Command::Stars => stars(alloc, space, sink),
-        Command::Marks => marks(alloc, space, sink),
+        Command::Get(buffer, index) => get(space, buffer, index, page, sink),
+        Command::Len(buffer) => len(space, buffer, page, sink),
+        Command::Show(buffer, from, to) => show(space, buffer, from, to, page, sink),
+        Command::List => list(alloc, space, page, sink),
+        Command::Stars => stars(alloc, space, page, sink),
+        Command::Marks => marks(alloc, space, page, sink),
         Command::Same(buffer, other) => same(space, buffer, other, sink),
         Command::Eqv(version, other) => eqv(space, version, other, sink),
-        Command::Stats => stats(space, sink),
-        Command::Made => made(space, sink),
+        Command::Stats => stats(space, page, sink),
+        Command::Made => made(space, page, sink),
         Command::Read(buffer, file) => send(loaded(read(alloc, space, buffer, file, store)), sink),
         Command::Write(buffer, file) => send(saved(write(alloc, space, buffer, file, store)), sink),
         Command::Save(file) => send(saved(save(alloc, space, file, store)), sink),
@@ -158,22 +162,33 @@ pub fn change(space: &mut Space, command: Command<'_>) -> Result<(), Refusal>
     }
 }
 
-fn get<K: Sink>(space: &Space, buffer: Name<'_>, index: u32, sink: &mut K) -> Result<(), Failed>
+fn get<K: Sink>(
+    space: &Space,
+    buffer: Name<'_>,
+    index: u32,
+    page: &mut Page,
+    sink: &mut K,
+) -> Result<(), Failed>
     ensures { Replies K.Sink sink.old sink.new result
         (λ reply. ObeysAlone (get_command (name_bytes buffer.entry) index) space.now reply space.now) }
 {
     match space.line(buffer, index) {
-        Ok(text) => send_text(text, sink),
+        Ok(text) => send_text(text, page, sink),
         Err(reason) => send(refusal(reason), sink),
     }
 }
 
-fn len<K: Sink>(space: &Space, buffer: Name<'_>, sink: &mut K) -> Result<(), Failed>
+fn len<K: Sink>(
+    space: &Space,
+    buffer: Name<'_>,
+    page: &mut Page,
+    sink: &mut K,
+) -> Result<(), Failed>
     ensures { Replies K.Sink sink.old sink.new result
         (λ reply. ObeysAlone (len_command (name_bytes buffer.entry)) space.now reply space.now) }
 {
     match space.count(buffer) {
-        Ok(count) => send_number(count as u64, sink),
+        Ok(count) => send_number(count as u64, page, sink),
         Err(reason) => send(refusal(reason), sink),
     }
 }
@@ -183,43 +198,44 @@ fn show<K: Sink>(
     buffer: Name<'_>,
     from: u32,
     to: u32,
+    page: &mut Page,
     sink: &mut K,
 ) -> Result<(), Failed>
     ensures { Replies K.Sink sink.old sink.new result
         (λ reply. ObeysAlone (show_command (name_bytes buffer.entry) from to) space.now reply space.now) }
 {
     match space.lines(buffer, from, to) {
-        Ok(lines) => send_lines(lines, sink),
+        Ok(lines) => send_lines(lines, page, sink),
         Err(reason) => send(refusal(reason), sink),
     }
 }
 
-fn list<K: Sink>(alloc: Global, space: &Space, sink: &mut K) -> Result<(), Failed>
+fn list<K: Sink>(alloc: Global, space: &Space, page: &mut Page, sink: &mut K) -> Result<(), Failed>
     ensures { Replies K.Sink sink.old sink.new result
         (λ reply. ObeysAlone list_command space.now reply space.now) }
 {
     match space.names(alloc) {
-        Ok(sizes) => send_sizes(&sizes, sink),
+        Ok(sizes) => send_sizes(&sizes, page, sink),
         Err(_) => send(refusal(Refusal::Memory), sink),
     }
 }
 
-fn stars<K: Sink>(alloc: Global, space: &Space, sink: &mut K) -> Result<(), Failed>
+fn stars<K: Sink>(alloc: Global, space: &Space, page: &mut Page, sink: &mut K) -> Result<(), Failed>
     ensures { Replies K.Sink sink.old sink.new result
         (λ reply. ObeysAlone stars_command space.now reply space.now) }
 {
     match space.stars(alloc) {
-        Ok(names) => send_names(&names, sink),
+        Ok(names) => send_names(&names, page, sink),
         Err(_) => send(refusal(Refusal::Memory), sink),
     }
 }
 
-fn marks<K: Sink>(alloc: Global, space: &Space, sink: &mut K) -> Result<(), Failed>
+fn marks<K: Sink>(alloc: Global, space: &Space, page: &mut Page, sink: &mut K) -> Result<(), Failed>
     ensures { Replies K.Sink sink.old sink.new result
         (λ reply. ObeysAlone marks_command space.now reply space.now) }
 {
     match space.marks(alloc) {
-        Ok(names) => send_names(&names, sink),
+        Ok(names) => send_names(&names, page, sink),
         Err(_) => send(refusal(Refusal::Memory), sink),
     }
 }
@@ -248,22 +264,22 @@ fn eqv<K: Sink>(
     send(equality(space.eqv(version, other)), sink)
 }
 
-fn stats<K: Sink>(space: &Space, sink: &mut K) -> Result<(), Failed>
+fn stats<K: Sink>(space: &Space, page: &mut Page, sink: &mut K) -> Result<(), Failed>
     ensures { Replies K.Sink sink.old sink.new result
         (λ reply. ObeysAlone stats_command space.now reply space.now) }
 {
     // That the space stands for a workspace is known once it has answered.
     let _ = space.in_batch();
-    send_number(space.rows() as u64, sink)
+    send_number(space.rows() as u64, page, sink)
 }
 
-fn made<K: Sink>(space: &Space, sink: &mut K) -> Result<(), Failed>
+fn made<K: Sink>(space: &Space, page: &mut Page, sink: &mut K) -> Result<(), Failed>
     ensures { Replies K.Sink sink.old sink.new result
         (λ reply. ObeysAlone made_command space.now reply space.now) }
 {
     // That the space stands for a workspace is known once it has answered.
     let _ = space.in_batch();
-    send_number(space.made(), sink)
+    send_number(space.made(), page, sink)
 }
 
 fn quit<K: Sink>(space: &Space, sink: &mut K) -> Result<(), Failed>

@@ -12,11 +12,11 @@ use itoa::Buffer;
 use shell_io::{Failed, Sink, write_all};
 use std::marker::Model;
 
-/// How many bytes a page has room for. It is small, since it stands on the stack.
-pub const PAGE: usize = 1024;
+/// How many bytes a page has room for.
+pub const PAGE: usize = 16_384;
 
-/// A text of limited size, so that a short reply goes out in one piece, and a long one in few, with no memory taken. Contracts see
-/// its bytes.
+/// A text of limited size, so that a short reply goes out in one piece, and a long one in few, with no memory taken. A run has one
+/// page, since making one clears its room. Contracts see its bytes.
 #[derive(Drop)]
 pub struct Page {
     text: ArrayString<PAGE>,
@@ -38,6 +38,13 @@ impl Page {
         Page {
             text: ArrayString::new(),
         }
+    }
+
+    /// Lets go of its bytes, whatever they are.
+    pub fn clear(&mut self)
+        ensures { self.new ≡ [] }
+    {
+        self.text.clear();
     }
 
     /// Sends all bytes, and is empty then.

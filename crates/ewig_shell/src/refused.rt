@@ -3,6 +3,7 @@
 //! nothing to show, and ends.
 
 use crate::execute::execute;
+use crate::page::Page;
 use crate::run::Status;
 use crate::trial::{FULL_UNDO, Given, TWO_CELLS, WHOLE, run_given};
 use elem_core::Line;
@@ -41,6 +42,7 @@ impl Machine {
             alloc,
             &mut self.space,
             line.as_str().as_bytes(),
+            &mut Page::new(),
             &mut self.sink,
             &mut self.store,
         )

@@ -125,20 +125,20 @@ pub fn send_done<K: Sink>(done: Result<(), Refusal>, sink: &mut K) -> Result<(),
 }
 
 /// Sends a line that shows the text.
-pub fn send_text<K: Sink>(text: &Text, sink: &mut K) -> Result<(), Failed>
+pub fn send_text<K: Sink>(text: &Text, page: &mut Page, sink: &mut K) -> Result<(), Failed>
     ensures { Sends K.written K.faults K.steady K.has_room sink.old sink.new result (reply_of (text_line text.now ∷ [])) }
 {
-    let mut page = Page::new();
+    page.clear();
     page.put_text(text, sink)?;
     page.flush(sink)
 }
 
 /// Sends a line that shows the number.
-pub fn send_number<K: Sink>(number: u64, sink: &mut K) -> Result<(), Failed>
+pub fn send_number<K: Sink>(number: u64, page: &mut Page, sink: &mut K) -> Result<(), Failed>
     ensures { Sends K.written K.faults K.steady K.has_room sink.old sink.new result (reply_of (number_line number ∷ [])) }
 {
     let mut digits = Buffer::new();
-    let mut page = Page::new();
+    page.clear();
     page.put("= ", sink)?;
     page.put(digits.format(number), sink)?;
     page.put("\n", sink)?;
@@ -146,11 +146,15 @@ pub fn send_number<K: Sink>(number: u64, sink: &mut K) -> Result<(), Failed>
 }
 
 /// Sends a line for each name with its number, then `ok`.
-pub fn send_sizes<K: Sink>(sizes: &[(&Text, u32)], sink: &mut K) -> Result<(), Failed>
+pub fn send_sizes<K: Sink>(
+    sizes: &[(&Text, u32)],
+    page: &mut Page,
+    sink: &mut K,
+) -> Result<(), Failed>
     ensures { Sends K.written K.faults K.steady K.has_room sink.old sink.new result
         (reply_of (each size_line (each (λ size. (size.0.now, size.1)) sizes.now) ++ ok_line ∷ [])) }
 {
-    let mut page = Page::new();
+    page.clear();
     for (name, size) in sizes {
         page.put_size(name, *size, sink)?;
     }
@@ -174,11 +178,11 @@ pub fn send_summary<K: Sink>(sums: &Summary, sink: &mut K) -> Result<(), Failed>
 }
 
 /// Sends a line for each name, then `ok`.
-pub fn send_names<K: Sink>(names: &[&Text], sink: &mut K) -> Result<(), Failed>
+pub fn send_names<K: Sink>(names: &[&Text], page: &mut Page, sink: &mut K) -> Result<(), Failed>
     ensures { Sends K.written K.faults K.steady K.has_room sink.old sink.new result
         (reply_of (each text_line (each (λ name. name.now) names.now) ++ ok_line ∷ [])) }
 {
-    let mut page = Page::new();
+    page.clear();
     for name in names {
         page.put_text(name, sink)?;
     }
@@ -187,11 +191,15 @@ pub fn send_names<K: Sink>(names: &[&Text], sink: &mut K) -> Result<(), Failed>
 }
 
 /// Sends a line for each text, then `ok`.
-pub fn send_lines<K: Sink>(lines: SpaceLines<'_>, sink: &mut K) -> Result<(), Failed>
+pub fn send_lines<K: Sink>(
+    lines: SpaceLines<'_>,
+    page: &mut Page,
+    sink: &mut K,
+) -> Result<(), Failed>
     ensures { Sends K.written K.faults K.steady K.has_room sink.old sink.new result
         (reply_of (each text_line lines.entry ++ ok_line ∷ [])) }
 {
-    let mut page = Page::new();
+    page.clear();
     for line in lines {
         page.put_text(line, sink)?;
     }

@@ -13,6 +13,7 @@ ghost use Rattle.ewig_shell.specs.Run.{RunsAs, Runs, exit_code};
 ghost use Rattle.ewig_shell.specs.Work.{StepsAlone, Works, status_by};
 
 use crate::execute::{Went, execute, refuse_long};
+use crate::page::Page;
 use crate::reply::send_summary;
 use crate::work::work;
 use arrayvec::ArrayVec;
@@ -166,6 +167,7 @@ fn run_input<S: Source, K: Sink, D: Store>(
     let Ok((mut reader, mut space)) = begun(alloc, options.bits) else {
         return unbegun(Status::Memory);
     };
+    let mut page = Page::new();
     let first = options.first.as_ref();
     let status = execute_all(
         alloc,
@@ -174,6 +176,7 @@ fn run_input<S: Source, K: Sink, D: Store>(
         &mut reader,
         source,
         &mut space,
+        &mut page,
         sink,
         store,
     );
@@ -191,6 +194,7 @@ fn execute_all<S: Source, K: Sink, D: Store>(
     reader: &mut LineReader,
     source: &mut S,
     space: &mut Space,
+    page: &mut Page,
     sink: &mut K,
     store: &mut D,
 ) -> Status
@@ -203,9 +207,9 @@ fn execute_all<S: Source, K: Sink, D: Store>(
         reader.old.given ≡ 0 → ((all : List ℕ) → StandsIn all reader.old (Some all)) →
         Runs most asked input (S.left source.new) K.Sink sink.old sink.new D.Store store.old store.new result (Some space.new) }
 {
-    match open(alloc, space, first, sink, store) {
+    match open(alloc, space, first, page, sink, store) {
         Some(status) => status,
-        None => follow(alloc, most, reader, source, space, sink, store),
+        None => follow(alloc, most, reader, source, space, page, sink, store),
     }
 }
 
@@ -226,6 +230,7 @@ fn open<K: Sink, D: Store>(
     alloc: Global,
     space: &mut Space,
     first: Option<&FileName>,
+    page: &mut Page,
     sink: &mut K,
     store: &mut D,
 ) -> Option<Status>
@@ -235,7 +240,7 @@ fn open<K: Sink, D: Store>(
         return None;
     };
     let line = load_line(file);
-    status_after(execute(alloc, space, line.as_slice(), sink, store))
+    status_after(execute(alloc, space, line.as_slice(), page, sink, store))
 }
 
 // The line that loads the file.
@@ -257,6 +262,7 @@ fn follow<S: Source, K: Sink, D: Store>(
     reader: &mut LineReader,
     source: &mut S,
     space: &mut Space,
+    page: &mut Page,
     sink: &mut K,
     store: &mut D,
 ) -> Status
@@ -270,7 +276,7 @@ fn follow<S: Source, K: Sink, D: Store>(
 {
     // The proof names the loop's invariant by this label.
     'lines: loop {
-        if let Some(status) = turn(alloc, most, reader, source, space, sink, store) {
+        if let Some(status) = turn(alloc, most, reader, source, space, page, sink, store) {
             return status;
         }
     }
@@ -283,6 +289,7 @@ fn turn<S: Source, K: Sink, D: Store>(
     reader: &mut LineReader,
     source: &mut S,
     space: &mut Space,
+    page: &mut Page,
     sink: &mut K,
     store: &mut D,
 ) -> Option<Status>
@@ -301,7 +308,7 @@ fn turn<S: Source, K: Sink, D: Store>(
         (λ status. Runs most asked input (S.left source.new) K.Sink begin sink.new D.Store first store.new status (Some space.new)) }
 {
     match reader.next(source, most) {
-        Next::Line => status_after(execute(alloc, space, reader.line(), sink, store)),
+        Next::Line => status_after(execute(alloc, space, reader.line(), page, sink, store)),
         Next::Long => status_after(refuse_long(sink)),
         Next::End => Some(Status::Done),
         Next::Budget => Some(Status::TooLong),

@@ -1,8 +1,11 @@
 use Rattle.std.proofs.Common.{◌≡◌, [], ◌∷◌, ◌++◌, rules, refl}
 use Rattle.plain_space.specs.Answer.{text_line}
-use Rattle.ewig_shell.proofs.SendingLemmas.{Puts-as, Puts-then, Puts-more, Puts-ends, Puts-failed}
+use Rattle.ewig_shell.proofs.SendingLemmas.{Puts-as, Puts-kept, Puts-then, Puts-more, Puts-ends, Puts-failed}
 use Rattle.ewig_shell.proofs.LinesLemmas.{one_more, all_others, next_of, none_left}
 use Rattle.ewig_shell.proofs.reply.send_lines.Goals as goal
+
+pub loop-line-init : goal.loop-line-init
+loop-line-init g c = record { so_far = []; others = search rules; puts = Puts-kept c.clear.ensures }
 
 pub loop-line-preserved : goal.loop-line-preserved
 loop-line-preserved g c =
