@@ -1,16 +1,19 @@
 -- How the lines of a buffer are edited below a state row with one owner.
-use Rattle.std.proofs.Common.{◌≡◌, ◌≢◌, ℕ, ◌+◌, ◌<◌, ◌≤◌, List, [], ◌∷◌, ◌++◌, length, remove, Bool, true, false, cond, eqb, Option, Some, None, inl, inr, refl, sym, subst, ap, ◌∙◌, arith}
-use Rattle.std.specs.Prelude.{option_map, IsSomeAnd, slice_get, slice_set}
+use Rattle.std.proofs.Common.{◌≡◌, ◌≢◌, ℕ, ◌+◌, ◌*◌, ◌<◌, ◌≤◌, List, [], ◌∷◌, ◌++◌, length, remove, Bool, true, false, cond, eqb, Option, Some, None, inl, inr, refl, sym, subst, ap, ◌∙◌, arith}
+use Rattle.std.specs.Prelude.{option_map, IsSomeAnd, slice_get, slice_index, slice_set}
 use Rattle.std.specs.List.{AllZip}
+use Rattle.std.specs.Ordering.{nat_cmp}
+use Rattle.std.specs.Cmp.Lexicographic.{slice_cmp}
 use Rattle.std.proofs.lemmas.Bool.{cases_eq}
 use Rattle.std.proofs.lemmas.Bool.Decides.{nat_tests}
 use Rattle.node_heap.specs.Links.{count, HasLink, Reaches, here, below}
 use Rattle.node_heap.specs.declared.row.Head.{Head}
 use Rattle.node_heap.specs.Forms.{Row, Kind, cell, node, form_of, head_of, links_of, is_node}
-use Rattle.node_heap.specs.Heap.{Heap, row_at, form_at, links_at, holds_at, owners_at, one_at, IsGraph}
-use Rattle.node_heap.specs.Calls.{Extends, Builds, KeepsHeld, Releases, Trades}
-use Rattle.node_heap.specs.InPlace.{child_at, OwnsDown, Changes, Writes, path_start, path_then}
-use Rattle.node_heap.specs.Owner.{by_hold, by_place, relinked, with_root, links_beside, KeepsBeside, EditsBy}
+use Rattle.node_heap.specs.Heap.{Heap, row_at, form_at, links_at, holds_at, owners_at, live_count, one_at, IsGraph}
+use Rattle.node_heap.specs.Calls.{Extends, Builds, KeepsHeld, KeepsOwners, Makes, MakesWhatCame, Releases, Trades}
+use Rattle.node_heap.specs.InPlace.{child_at, other_at, OwnsDown, Changes, Writes, path_start, path_then}
+use Rattle.node_heap.specs.Owner.{by_hold, by_place, alone, relinked, with_root, links_beside, KeepsBeside, EditsBy}
+use Rattle.node_heap.proofs.AloneLemmas.{alone-same}
 use Rattle.node_heap.proofs.Counts.{test_same}
 use Rattle.node_heap.proofs.BuildLemmas.{count-cons, count-one}
 use Rattle.node_heap.proofs.EditLaws.{KeepsHeld-own, paths-off, roots-off}
@@ -22,13 +25,17 @@ use Rattle.node_heap.proofs.Reach.{Reaches-trans}
 use Rattle.rrb_core.specs.Vector.{elements}
 use Rattle.edit_vec.specs.Edit.{PushesElement, SetsElement}
 use Rattle.edit_vec.specs.Laws.{KeepsBesideAndElements}
+use Rattle.champ_trie.specs.Trie.{code_by}
 use Rattle.champ_kinds.proofs.ZipLemmas.{zip-length}
+use Rattle.edit_trie.specs.Path.{pair_rows, MakesCopies}
 use Rattle.shell_terms.specs.Edit.{Bytes}
 use Rattle.plain_space.specs.Workspace.{State}
 use Rattle.plain_space.specs.Cost.{alike_buffers}
 use Rattle.elem_core.specs.declared.codes.TheConstants.{DEEPEST}
+use Rattle.elem_core.specs.Codes.{text_code}
 use Rattle.state_rows.specs.InHeap.{IsTextIn, AreLinesIn, IsStateIn}
-use Rattle.state_rows.specs.InPlace.{OwnsLines}
+use Rattle.state_rows.specs.InPlace.{CopiesOfPath, OwnsLines, lines_path}
+use Rattle.state_rows.proofs.Edited.{same-rows}
 use Rattle.state_rows.proofs.Zips.{zip-at, zip-push, zip-set, zip-among}
 use Rattle.state_rows.proofs.Staying.{buffers-grown, names-grown, states-stay}
 
@@ -231,3 +238,29 @@ module _ {old new : Heap Bytes} {pair : ℕ} (v : ℕ) (two : 1 < length (links_
   -- so lines that don't reach the pair stay
   pub put-stay : {bits l : ℕ} {ys : List Bytes} → ¬ Reaches (links_at old) l pair → AreLinesIn old bits l ys → AreLinesIn new bits l ys
   put-stay {bits} {l} {ys} off is = (states-stay old new bits l (λ m down. writes.others m (λ same. off (subst (Reaches (links_at old) l) same down)))).lines ys is
+
+-- ## Where a state's row has one owner, it is one's own already
+
+module _ {old mid : Heap Bytes} {state st : ℕ} (graph : IsGraph old) (same : st ≡ state) (builds : Builds old mid (state ∷ []) (st ∷ []) 0 1) (makes : Makes old mid 0 (other_at state st))
+    (owners : (k : ℕ) → owners_at mid k + one_at state k ≡ owners_at old k + (one_at st k + other_at state st * count k (links_at old state))) where
+  none-copied : other_at state st ≡ 0
+  none-copied = ap (λ (k : ℕ). other_at state k) same ∙ ap (λ t. cond t 0 1) (same-test state)
+
+  same-owners : KeepsOwners old mid
+  same-owners k = omega (arith, owners k, ap (λ (j : ℕ). one_at j k) same, ap (λ (m : ℕ). m * count k (links_at old state)) none-copied)
+
+  -- the rows on the way to a buffer's lines are the same
+  same-path : (bits : ℕ) (name : Bytes) → lines_path mid bits st name ≡ lines_path old bits state name
+  same-path bits name =
+      let rows = same-rows graph builds.graph builds.extends same-owners in
+      let forms : (k : ℕ) → form_at mid k ≡ form_at old k = λ k. ap (option_map form_of) (rows k) in
+      let live : live_count mid ≡ live_count old = omega (arith, makes.live, none-copied) in
+      let first : child_at mid st 0 ≡ child_at old state 0 = ap (λ (k : ℕ). child_at mid k 0) same ∙ ap (λ (r : Option (Row Bytes)). slice_index (links_of r) 0) (rows state) in
+      (λ i. pair_rows (slice_cmp nat_cmp) (λ k. forms k i) name (live i) (DEEPEST + 1) 0 (code_by text_code bits name) (first i))
+
+  -- and what is made is just those of them that aren't alone
+  pub path-made : (bits : ℕ) (name : Bytes) (now new : Heap Bytes) → MakesWhatCame mid now → MakesCopies mid now (lines_path mid bits st name) → new.made ≡ now.made → CopiesOfPath old new (lines_path old bits state name)
+  path-made bits name now new came copies made =
+      let path = same-path bits name in
+      let rows : alone mid (lines_path mid bits st name) ≡ alone old (lines_path old bits state name) = alone-same mid old (lines_path mid bits st name) same-owners ∙ ap (alone old) path in
+      omega (arith, came.live, came.made, copies, made, rows, ap length path, makes.made, none-copied, graph.few_made)

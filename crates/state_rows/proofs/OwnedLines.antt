@@ -212,6 +212,7 @@ module _ (keep : EditsKeepValues by_bytes text_code) {h1 h2 : Heap Bytes} {bits 
       lines = lines2;
       changes = subst (λ k. Changes st h1 h2 [] [] 0 k) few changes;
       makes = makes;
+      copies = own.gains;
       later = λ h3 v ys spent gained c m change left beside lines. placed3 h3 v change left beside lines;
     }
 

@@ -12,7 +12,7 @@ ghost use Rattle.shell_terms.specs.Edit.{Bytes};
 ghost use Rattle.plain_space.specs.Workspace.{State, most, lines_of, with_lines as has_lines};
 ghost use Rattle.plain_space.specs.Cost.{alike_buffers};
 ghost use Rattle.state_rows.specs.InHeap.{IsTextIn, AreLinesIn, IsStateIn};
-ghost use Rattle.state_rows.specs.InPlace.{MakesFew, OwnsLines};
+ghost use Rattle.state_rows.specs.InPlace.{CopiesOfPath, MakesFew, OwnsLines, lines_path};
 
 use edit_trie::{insert_at, own_value_at};
 use edit_vec::{push_at, set_at};
@@ -81,7 +81,8 @@ pub fn line_set(
 }
 
 /// The state with these lines in place of those of the buffer, which is there. It spends the holds of the state and of the new
-/// lines.
+/// lines. Where the state's row has one owner, only those of the rows from there to the lines are made anew that have another
+/// owner, or stand below such a one.
 pub fn lines_put(heap: &mut Heap<Text>, bits: u32, state: Link, name: Name<'_>, lines: Flex) -> Link
     requires few { hold_count heap.old < 2 ^ 58 }
     requires bits { bits ≤ CODE_BITS }
@@ -92,6 +93,7 @@ pub fn lines_put(heap: &mut Heap<Text>, bits: u32, state: Link, name: Name<'_>, 
     ensures keeps { KeepsHeld (λ l. count l (state ∷ lines ∷ [])) heap.old heap.new }
     ensures trades { (s : State) (xs : List Bytes) → IsStateIn heap.old bits state s → lines_of s (name_bytes name.entry) ≡ Some xs →
         Trades heap.old heap.new (state ∷ lines ∷ []) (result ∷ []) 0 (DEEPEST + 3 + alike_buffers bits s (name_bytes name.entry)) }
+    ensures made { owners_at heap.old state ≡ 1 → CopiesOfPath heap.old heap.new (lines_path heap.old bits state (name_bytes name.entry)) }
     ensures state { (s : State) (xs ys : List Bytes) → IsStateIn heap.old bits state s → lines_of s (name_bytes name.entry) ≡ Some xs → AreLinesIn heap.old bits lines ys →
         IsStateIn heap.new bits result (has_lines s (name_bytes name.entry) ys) }
 {

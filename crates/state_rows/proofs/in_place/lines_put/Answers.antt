@@ -15,7 +15,7 @@ use Rattle.state_rows.specs.InHeap.{IsStateIn}
 use Rattle.state_rows.specs.InPlace.{OwnsLines}
 use Rattle.state_rows.proofs.Answering.{one-held}
 use Rattle.state_rows.proofs.Staying.{states-stay}
-use Rattle.state_rows.proofs.LinesPlaced.{state-owned, state-first, state-node, line-left, lines-there, lines-apart, row-left, edits-state, set-keeps, set-trades, put-beside, put-stay}
+use Rattle.state_rows.proofs.LinesPlaced.{state-owned, state-first, state-node, line-left, lines-there, lines-apart, row-left, edits-state, set-keeps, set-trades, put-beside, put-stay, path-made}
 use Rattle.state_rows.proofs.in_place.lines_put.Goals as goal
 use Rattle.state_rows.proofs.in_place.lines_put.Goals.{After-own-state, After-own_lines-pair}
 
@@ -80,6 +80,14 @@ returns-clause-trades c = λ s xs is found.
     let owned = owns (goal.at.returns-clause-trades c).After-own_lines-pair s xs is found in
     Trades-more 0 (DEEPEST + 3 + alike_buffers c.args.bits s (name_bytes c.args.name))
     (set-trades (edits-state c.args.lines c.live.ensures.graph c.requires.held c.own-state.ensures.sole c.own-state.ensures.builds owned did.changes) c.release.ensures.releases c.release.ensures.graph) (omega arith) (omega arith)
+
+pub returns-clause-made : goal.returns-clause-made
+returns-clause-made c = λ one.
+    let did = rw c.into_root.ensures at c.replace-replaced.ensures in
+    let state = c.own-state.ensures in
+    let owned = own (goal.at.returns-clause-made c).After-own_lines-pair in
+    path-made c.live.ensures.graph (state.same.1 one) state.builds state.makes state.owners c.args.bits (name_bytes c.args.name) c.own_lines-pair.new.heap c.release.new.self owned.makes owned.copies
+    (omega (arith, did.makes.made, c.release.ensures.releases.made, owned.changes.trades.graph.few_made))
 
 pub returns-clause-state : goal.returns-clause-state
 returns-clause-state c = λ s xs ys is found lines.
