@@ -1,6 +1,7 @@
 pub mod Renamed
 pub mod Staying
 pub mod Answering
+pub mod Room
 pub mod Keys
 pub mod Contents
 pub mod Zips

@@ -13,7 +13,7 @@ use Rattle.elem_core.specs.Naming.{IsName}
 use Rattle.node_heap.specs.Links.{count, HasLink, Reaches, here, below}
 use Rattle.node_heap.specs.Forms.{Row, Form, cell, node, pair, state, form_of, links_of, head_of, value_of}
 use Rattle.node_heap.specs.Heap.{Heap, row_at, form_at, links_at, holds_at, owners_at, places_in, IsGraph}
-use Rattle.node_heap.specs.Calls.{KeepsBelow, MakesWhatCame}
+use Rattle.node_heap.specs.Calls.{KeepsBelow, KeepsToNeed, MakesWhatCame}
 use Rattle.node_heap.specs.InPlace.{child_at, OwnsDown, Changes}
 use Rattle.node_heap.specs.Owner.{by_place, relinked, with_root, links_beside, KeepsBeside}
 use Rattle.node_heap.proofs.Counts.{test_same}
@@ -204,14 +204,15 @@ module _ (keep : EditsKeepValues by_bytes text_code) {h1 h2 : Heap Bytes} {bits 
       placed3 {ys} lines =
           state-placed is st (child_at h2 st 0) v name ys named (ap (option_map form_of) same3 ∙ form2) map3 lines (λ other unlike k at. KeepsBelow-trans h1 h2 h3 k (values1 other k at) (values2 other unlike k at)) (KeepsBelow-trans h1 h2 h3 is.stars stars1 stars2)
 
-    pub owns-lines : (sole : owners_at h2 p ≡ 1) (makes : MakesWhatCame h1 h2) (few : n ≡ DEEPEST + 2 + alike_buffers bits s name) → OwnsLines h1 h2 bits st s name xs p
-    owns-lines sole makes few = record {
+    pub owns-lines : (sole : owners_at h2 p ≡ 1) (makes : MakesWhatCame h1 h2) (spares : KeepsToNeed h1 h2 0 0) (few : n ≡ DEEPEST + 2 + alike_buffers bits s name) → OwnsLines h1 h2 bits st s name xs p
+    owns-lines sole makes spares few = record {
       sole = sole;
       two = omega (arith, ap length pair-links);
       down = down;
       lines = lines2;
       changes = subst (λ k. Changes st h1 h2 [] [] 0 k) few changes;
       makes = makes;
+      spares = spares;
       copies = own.gains;
       later = λ h3 v ys spent gained c m change left beside lines. placed3 h3 v change left beside lines;
     }

@@ -6,7 +6,7 @@ use Rattle.elem_core.specs.Codes.{text_code}
 use Rattle.elem_core.specs.declared.codes.TheConstants.{DEEPEST}
 use Rattle.node_heap.specs.Links.{count}
 use Rattle.node_heap.specs.Heap.{Heap, links_at, holds_at, owners_at, live_count}
-use Rattle.node_heap.specs.Calls.{MakesWhatCame}
+use Rattle.node_heap.specs.Calls.{KeepsToNeed, MakesWhatCame}
 use Rattle.node_heap.specs.InPlace.{child_at, OwnsDown, Changes}
 use Rattle.node_heap.specs.Owner.{by_place, alone, KeepsBeside}
 use Rattle.edit_trie.specs.Path.{pair_path, MakesCopies}
@@ -36,6 +36,7 @@ pub record OwnsLines (old new : Heap Bytes) (bits row : ℕ) (s : State) (name :
   pub lines : AreLinesIn new bits (child_at new pair 1) xs
   pub changes : Changes row old new [] [] 0 (DEEPEST + 2 + alike_buffers bits s name)
   pub makes : MakesWhatCame old new
+  pub spares : KeepsToNeed old new 0 0
   pub copies : MakesCopies old new (lines_path old bits row name)
   pub later : (next : Heap Bytes) (v : ℕ) (ys : List Bytes) (spent gained : List ℕ) (c n : ℕ) → Changes pair new next spent gained c n → count row spent < holds_at new row → KeepsBeside (by_place pair 1) v (λ _. 0) new next
       → AreLinesIn next bits v ys → IsStateIn next bits row (with_lines s name ys)

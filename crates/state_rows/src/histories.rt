@@ -4,7 +4,7 @@
 ghost use Rattle.std.specs.Prelude.{◌≡◌, ℕ, ◌+◌, ◌-◌, ◌^◌, ◌<◌, ◌≤◌, List, [], ◌∷◌, ◌++◌, length, take, slice_get, IsSomeAnd};
 ghost use Rattle.node_heap.specs.Links.{count};
 ghost use Rattle.node_heap.specs.Heap.{form_at, holds_at, owners_at, hold_count, HasSpares};
-ghost use Rattle.node_heap.specs.Calls.{HasHolds, KeepsHeld, KeepsOwners, MakesJust, MakesWhatCame, SameRows, Trades};
+ghost use Rattle.node_heap.specs.Calls.{HasHolds, KeepsHeld, KeepsOwners, KeepsToNeed, MakesJust, MakesWhatCame, SameRows, Trades};
 ghost use Rattle.node_heap.specs.Owner.{alone};
 ghost use Rattle.edit_vec.specs.Path.{pop_path};
 ghost use Rattle.plain_space.specs.Workspace.{State};
@@ -34,6 +34,7 @@ pub fn pushed(heap: &mut Heap<Text>, history: Flex, state: Link) -> Flex
     requires spares { HasSpares heap.old 0 10 }
     ensures keeps { KeepsHeld (λ l. count l (history ∷ state ∷ [])) heap.old heap.new }
     ensures trades { Trades heap.old heap.new (history ∷ state ∷ []) (result ∷ []) 0 10 }
+    ensures spares { KeepsToNeed heap.old heap.new 0 0 }
     ensures made { MakesJust heap.old heap.new }
     ensures history { (bits : ℕ) (ss : List State) (s : State) → IsHistoryIn heap.old bits history ss → IsStateIn heap.old bits state s → IsHistoryIn heap.new bits result (ss ++ s ∷ []) }
 {
@@ -54,6 +55,7 @@ pub fn popped(heap: &mut Heap<Text>, history: Flex) -> (Flex, Link)
     requires spares { HasSpares heap.old 0 9 }
     ensures keeps { KeepsHeld (λ l. count l (history ∷ [])) heap.old heap.new }
     ensures trades { Trades heap.old heap.new (history ∷ []) (result.0 ∷ result.1 ∷ []) 0 9 }
+    ensures spares { KeepsToNeed heap.old heap.new 0 0 }
     ensures history { (bits : ℕ) (ss : List State) → IsHistoryIn heap.old bits history ss → IsHistoryIn heap.new bits result.0 (take (length ss - 1) ss) }
     ensures alone { owners_at heap.old history ≡ 1 → heap.new.made ≤ heap.old.made + (length (pop_path (form_at heap.old) history) - alone heap.old (pop_path (form_at heap.old) history)) }
     ensures last { (bits : ℕ) (ss : List State) → IsHistoryIn heap.old bits history ss → IsSomeAnd (slice_get ss (length ss - 1)) (IsStateIn heap.new bits result.1) }
@@ -74,6 +76,7 @@ fn opened(heap: &mut Heap<Text>, history: Flex) -> FlexEdit
     requires spares { HasSpares heap.old 0 1 }
     ensures keeps { KeepsHeld (λ l. count l (history ∷ [])) heap.old heap.new }
     ensures trades { Trades heap.old heap.new (history ∷ []) (result ∷ []) 0 1 }
+    ensures spares { KeepsToNeed heap.old heap.new 0 0 }
     ensures makes { MakesWhatCame heap.old heap.new }
     ensures alone { owners_at heap.old history ≡ 1 → (result ≡ history) × SameRows heap.old heap.new × KeepsOwners heap.old heap.new × (heap.new.made ≡ heap.old.made) }
     ensures history { (bits : ℕ) (ss : List State) → IsHistoryIn heap.old bits history ss → IsHistoryIn heap.new bits result ss }
@@ -94,6 +97,7 @@ pub fn emptied(heap: &mut Heap<Text>, history: Flex) -> Flex
     requires spares { HasSpares heap.old 0 1 }
     ensures keeps { KeepsHeld (λ l. count l (history ∷ [])) heap.old heap.new }
     ensures trades { Trades heap.old heap.new (history ∷ []) (result ∷ []) 0 1 }
+    ensures spares { KeepsToNeed heap.old heap.new 0 0 }
     ensures history { (bits : ℕ) → IsHistoryIn heap.new bits result [] }
     ensures same { (bits : ℕ) → IsHistoryIn heap.old bits history [] → (result ≡ history) × (heap.new ≡ heap.old) }
 {

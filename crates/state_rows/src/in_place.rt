@@ -7,7 +7,7 @@ ghost use Rattle.elem_core.specs.Naming.{IsName};
 ghost use Rattle.elem_core.specs.Shown.{name_bytes};
 ghost use Rattle.node_heap.specs.Links.{count};
 ghost use Rattle.node_heap.specs.Heap.{holds_at, owners_at, hold_count, HasSpares};
-ghost use Rattle.node_heap.specs.Calls.{HasHolds, KeepsHeld, Trades};
+ghost use Rattle.node_heap.specs.Calls.{HasHolds, KeepsHeld, KeepsToNeed, Trades};
 ghost use Rattle.shell_terms.specs.Edit.{Bytes};
 ghost use Rattle.plain_space.specs.Workspace.{State, most, lines_of, with_lines as has_lines};
 ghost use Rattle.plain_space.specs.Cost.{alike_buffers};
@@ -33,6 +33,7 @@ pub fn line_added(heap: &mut Heap<Text>, bits: u32, state: Link, name: Name<'_>,
     ensures trades { (s : State) (xs : List Bytes) → IsStateIn heap.old bits state s → lines_of s (name_bytes name.entry) ≡ Some xs →
         Trades heap.old heap.new (state ∷ line ∷ []) (result ∷ []) 0 (DEEPEST + 12 + alike_buffers bits s (name_bytes name.entry)) }
     ensures made { MakesFew heap.old heap.new 0 }
+    ensures spares { KeepsToNeed heap.old heap.new 0 0 }
     ensures state { (s : State) (xs : List Bytes) (text : Bytes) → IsStateIn heap.old bits state s → lines_of s (name_bytes name.entry) ≡ Some xs → IsTextIn heap.old bits line text →
         IsStateIn heap.new bits result (has_lines s (name_bytes name.entry) (xs ++ text ∷ [])) }
 {
@@ -66,6 +67,7 @@ pub fn line_set(
     ensures trades { (s : State) (xs : List Bytes) → IsStateIn heap.old bits state s → lines_of s (name_bytes name.entry) ≡ Some xs →
         Trades heap.old heap.new (state ∷ line ∷ []) (result ∷ []) 0 (DEEPEST + 11 + alike_buffers bits s (name_bytes name.entry)) }
     ensures made { MakesFew heap.old heap.new 1 }
+    ensures spares { KeepsToNeed heap.old heap.new 0 0 }
     ensures state { (s : State) (xs : List Bytes) (text : Bytes) → IsStateIn heap.old bits state s → lines_of s (name_bytes name.entry) ≡ Some xs → IsTextIn heap.old bits line text →
         IsStateIn heap.new bits result (has_lines s (name_bytes name.entry) (slice_set xs index text)) }
 {
@@ -94,6 +96,7 @@ pub fn lines_put(heap: &mut Heap<Text>, bits: u32, state: Link, name: Name<'_>, 
     ensures trades { (s : State) (xs : List Bytes) → IsStateIn heap.old bits state s → lines_of s (name_bytes name.entry) ≡ Some xs →
         Trades heap.old heap.new (state ∷ lines ∷ []) (result ∷ []) 0 (DEEPEST + 3 + alike_buffers bits s (name_bytes name.entry)) }
     ensures made { owners_at heap.old state ≡ 1 → CopiesOfPath heap.old heap.new (lines_path heap.old bits state (name_bytes name.entry)) }
+    ensures spares { KeepsToNeed heap.old heap.new 0 0 }
     ensures state { (s : State) (xs ys : List Bytes) → IsStateIn heap.old bits state s → lines_of s (name_bytes name.entry) ≡ Some xs → AreLinesIn heap.old bits lines ys →
         IsStateIn heap.new bits result (has_lines s (name_bytes name.entry) ys) }
 {
@@ -118,6 +121,7 @@ pub fn buffer_made(heap: &mut Heap<Text>, bits: u32, state: Link, key: Text, lin
     ensures keeps { KeepsHeld (λ l. count l (state ∷ lines ∷ [])) heap.old heap.new }
     ensures trades { (s : State) → IsStateIn heap.old bits state s → Trades heap.old heap.new (state ∷ lines ∷ []) (result ∷ []) 1 (DEEPEST + 4 + alike_buffers bits s key) }
     ensures made { MakesFew heap.old heap.new 0 }
+    ensures spares { KeepsToNeed heap.old heap.new 0 0 }
     ensures state { (s : State) (xs : List Bytes) → IsStateIn heap.old bits state s → AreLinesIn heap.old bits lines xs → IsStateIn heap.new bits result (has_lines s key xs) }
 {
     // The call tells the proof that this is the graph of a heap.

@@ -6,7 +6,7 @@ ghost use Rattle.elem_core.specs.declared.codes.TheConstants.{CODE_BITS, DEEPEST
 ghost use Rattle.elem_core.specs.Naming.{IsName};
 ghost use Rattle.elem_core.specs.Shown.{name_bytes};
 ghost use Rattle.node_heap.specs.Heap.{holds_at, hold_count, HasSpares};
-ghost use Rattle.node_heap.specs.Calls.{Answered, MakesJust};
+ghost use Rattle.node_heap.specs.Calls.{Answered, KeepsToNeed, MakesJust};
 ghost use Rattle.plain_space.specs.Workspace.{Named, State, lines_of, is_starred, without_lines as has_no_lines, with_star as has_star, without_star as has_no_star};
 ghost use Rattle.plain_space.specs.Cost.{alike, alike_buffers, alike_stars};
 ghost use Rattle.state_rows.specs.InHeap.{IsStateIn, AreVersionsIn};
@@ -25,6 +25,7 @@ pub fn without_lines(heap: &mut Heap<Text>, bits: u32, state: Link, name: Name<'
         × HasSpares heap.old 0 (DEEPEST + 2 + alike_buffers bits s (name_bytes name)) }
     ensures answered { (s : State) → IsStateIn heap.old bits state s → Answered heap.old heap.new [] result 0 (DEEPEST + 2 + alike_buffers bits s (name_bytes name.entry)) }
     ensures made { MakesJust heap.old heap.new }
+    ensures spares { KeepsToNeed heap.old heap.new 0 0 }
     ensures state { (s : State) → IsStateIn heap.old bits state s → IsStateIn heap.new bits result (has_no_lines s (name_bytes name.entry)) }
 {
     let names = names_of(heap, bits, state);
@@ -44,6 +45,7 @@ pub fn with_star(heap: &mut Heap<Text>, bits: u32, state: Link, key: Text) -> Li
     requires state { (s : State) × IsStateIn heap.old bits state s × HasSpares heap.old 1 (DEEPEST + 3 + alike_stars bits s key) }
     ensures answered { (s : State) → IsStateIn heap.old bits state s → Answered heap.old heap.new [] result 1 (DEEPEST + 3 + alike_stars bits s key) }
     ensures made { MakesJust heap.old heap.new }
+    ensures spares { KeepsToNeed heap.old heap.new 0 0 }
     ensures state { (s : State) → IsStateIn heap.old bits state s → IsStateIn heap.new bits result (has_star s key) }
 {
     let names = names_of(heap, bits, state).root();
@@ -62,6 +64,7 @@ pub fn without_star(heap: &mut Heap<Text>, bits: u32, state: Link, name: Name<'_
         × HasSpares heap.old 0 (DEEPEST + 2 + alike_stars bits s (name_bytes name)) }
     ensures answered { (s : State) → IsStateIn heap.old bits state s → Answered heap.old heap.new [] result 0 (DEEPEST + 2 + alike_stars bits s (name_bytes name.entry)) }
     ensures made { MakesJust heap.old heap.new }
+    ensures spares { KeepsToNeed heap.old heap.new 0 0 }
     ensures state { (s : State) → IsStateIn heap.old bits state s → IsStateIn heap.new bits result (has_no_star s (name_bytes name.entry)) }
 {
     let names = names_of(heap, bits, state).root();
@@ -83,6 +86,7 @@ pub fn with_version(heap: &mut Heap<Text>, versions: MapRef, key: Text, state: L
     ensures answered { (m : Named State) → AreVersionsIn heap.old versions.bits versions.root m →
         Answered heap.old heap.new (state ∷ []) result.root 1 (DEEPEST + 3 + alike versions.bits (map.keys m) key) }
     ensures made { MakesJust heap.old heap.new }
+    ensures spares { KeepsToNeed heap.old heap.new 0 0 }
     ensures bits { result.bits ≡ versions.bits }
     ensures versions { (m : Named State) (s : State) → AreVersionsIn heap.old versions.bits versions.root m → IsStateIn heap.old versions.bits state s →
         AreVersionsIn heap.new versions.bits result.root (map.insert m key s) }
@@ -102,6 +106,7 @@ pub fn without_version(heap: &mut Heap<Text>, versions: MapRef, name: Name<'_>) 
     ensures answered { (m : Named State) → AreVersionsIn heap.old versions.bits versions.root m →
         Answered heap.old heap.new [] result.root 0 (DEEPEST + 1 + alike versions.bits (map.keys m) (name_bytes name.entry)) }
     ensures made { MakesJust heap.old heap.new }
+    ensures spares { KeepsToNeed heap.old heap.new 0 0 }
     ensures bits { result.bits ≡ versions.bits }
     ensures versions { (m : Named State) → AreVersionsIn heap.old versions.bits versions.root m →
         AreVersionsIn heap.new versions.bits result.root (map.remove m (name_bytes name.entry)) }

@@ -1,10 +1,14 @@
 use Rattle.std.proofs.Common.{ap, length, ◌∙◌}
 use Rattle.rrb_core.specs.Vector.{elements}
 use Rattle.state_rows.proofs.Edited.{emptied-keeps, emptied-history, vector-many}
+use Rattle.state_rows.proofs.Room.{room-made, room-freed, room-then}
 use Rattle.state_rows.proofs.histories.emptied.Goals as goal
 
 pub returns-clause-keeps : goal.returns-clause-keeps
 returns-clause-keeps c = emptied-keeps c.args.history c.empty_history-empty.ensures.answered c.release.ensures.keeps c.len.ensures.graph c.release.ensures.releases.holds
+
+pub returns-clause-spares : goal.returns-clause-spares
+returns-clause-spares c = room-then (room-made c.empty_history-empty.ensures.makes) (room-freed c.release.ensures.releases)
 
 pub returns-clause-history : goal.returns-clause-history
 returns-clause-history c = λ bits. emptied-history c.args.history c.empty_history-empty.ensures.answered c.release.ensures.keeps bits c.requires.held (c.empty_history-empty.ensures.history bits)

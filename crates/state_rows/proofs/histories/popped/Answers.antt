@@ -5,6 +5,7 @@ use Rattle.edit_vec.specs.Edit.{PopsElement}
 use Rattle.edit_vec.proofs.LawLemmas.{pops-keep}
 use Rattle.champ_kinds.proofs.EditLemmas.{if-some}
 use Rattle.state_rows.proofs.Edited.{keeps-then, opened-held, popped-history, popped-last, vector-many, alone-made}
+use Rattle.state_rows.proofs.Room.{room-spared, room-then}
 use Rattle.state_rows.proofs.histories.popped.Goals as goal
 use Rattle.state_rows.proofs.histories.popped.Goals.{After-freeze}
 
@@ -22,6 +23,11 @@ pub returns-clause-keeps : goal.returns-clause-keeps
 returns-clause-keeps c =
     let edits = (pops c).edits in
     keeps-then [] (c.pop.new.self ∷ c.in-Some.state ∷ []) c.opened-edit.ensures.keeps c.opened-edit.ensures.trades (KeepsHeld-EditsBy edits) edits.trades
+
+pub returns-clause-spares : goal.returns-clause-spares
+returns-clause-spares c =
+    let opened = c.opened-edit.ensures in
+    room-then opened.spares (room-spared (omega arith, omega (arith, c.requires.spares.1, opened.trades.balance.spare_nodes, opened.trades.nodes)) c.in-Ok.ensures.spares)
 
 pub returns-clause-history : goal.returns-clause-history
 returns-clause-history c = λ bits ss is.

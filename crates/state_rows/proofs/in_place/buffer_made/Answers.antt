@@ -11,6 +11,7 @@ use Rattle.champ_kinds.specs.Binding.{alike_keys}
 use Rattle.plain_space.specs.Cost.{alike_buffers}
 use Rattle.state_rows.proofs.Steps.{map-is}
 use Rattle.state_rows.proofs.Buffers.{held-first, apart-row, buffers-mid, keeps-row, trades-row, absent-row, alike-row, never-refused, buffer-is}
+use Rattle.state_rows.proofs.Room.{room-spared, room-made, room-then}
 use Rattle.state_rows.proofs.in_place.buffer_made.Goals as goal
 
 pub insert_at-requires-clause-apart : goal.insert_at-requires-clause-apart
@@ -63,6 +64,15 @@ returns-clause-made c =
     let at = buffers-mid c.live.ensures.graph held did.row did.sole did.builds c.requires.bits is in
     let puts = c.in-Ok.ensures.puts at.named.bindings (map-is at) in
     omega (arith, did.builds.makes.made, did.builds.makes.live, puts.makes.made, puts.makes.live)
+
+pub returns-clause-spares : goal.returns-clause-spares
+returns-clause-spares c =
+    let did = c.own-state.ensures in
+    let held = held-first c.args.heap.now c.args.state c.args.lines c.requires.held in
+    let at = buffers-mid c.live.ensures.graph held did.row did.sole did.builds c.requires.bits c.requires.state.1 in
+    let spares = c.requires.state.3 in
+    room-then (room-made did.makes)
+    (room-spared (omega (arith, spares.0, did.makes.spare_cells), omega (arith, spares.1, did.builds.makes.spare_nodes, did.builds.few_nodes, alike-row c.requires.state.0 at c.args.key)) (c.in-Ok.ensures.spares at.named.bindings (map-is at)))
 
 pub returns-clause-state : goal.returns-clause-state
 returns-clause-state c = λ s xs is lines.

@@ -14,6 +14,7 @@ use Rattle.edit_vec.proofs.LawLemmas.{pushes-keep}
 use Rattle.state_rows.specs.InHeap.{IsStateIn}
 use Rattle.state_rows.specs.InPlace.{OwnsLines}
 use Rattle.state_rows.proofs.LinesPlaced.{state-owned, pushed-lines, state-first, state-node, line-left, line-apart, line-there, row-left, row-held, edits-state, lines-many}
+use Rattle.state_rows.proofs.Room.{room-spared, room-made, room-then}
 use Rattle.state_rows.proofs.in_place.line_added.Goals as goal
 use Rattle.state_rows.proofs.in_place.line_added.Goals.{After-own-state, After-own_lines-pair}
 
@@ -94,6 +95,14 @@ returns-clause-made c =
     let made = c.own-state.ensures.builds.makes in
     let pushed = c.in-Ok.ensures.pushes.makes in
     omega (arith, made.made, made.live, owned.makes.made, owned.makes.live, pushed.made, pushed.live)
+
+pub returns-clause-spares : goal.returns-clause-spares
+returns-clause-spares c =
+    let owned = own (goal.at.returns-clause-spares c).After-own_lines-pair in
+    let state = c.own-state.ensures in
+    let trades = owned.changes.trades in
+    room-then (room-then (room-made state.makes) owned.spares)
+    (room-spared (omega arith, omega (arith, c.requires.state.5.1, state.builds.few_nodes, state.builds.makes.spare_nodes, trades.nodes, trades.balance.spare_nodes)) c.in-Ok.ensures.spares)
 
 pub returns-clause-state : goal.returns-clause-state
 returns-clause-state c = λ s xs text is found line.

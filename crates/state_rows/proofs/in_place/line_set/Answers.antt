@@ -23,6 +23,7 @@ use Rattle.state_rows.specs.InPlace.{OwnsLines}
 use Rattle.state_rows.proofs.Answering.{one-held}
 use Rattle.state_rows.proofs.Staying.{states-stay}
 use Rattle.state_rows.proofs.LinesPlaced.{state-owned, state-first, state-node, line-left, line-apart, line-there, row-left, row-held, edits-state, lines-many, set-keeps, set-trades, set-lines, given-text, cell-links}
+use Rattle.state_rows.proofs.Room.{room-spared, room-made, room-freed, room-then}
 use Rattle.state_rows.proofs.in_place.line_set.Goals as goal
 use Rattle.state_rows.proofs.in_place.line_set.Goals.{After-own-state, After-own_lines-pair, In-Ok}
 
@@ -122,6 +123,16 @@ returns-clause-made c =
     let rel = c.release.ensures.releases in
     let one = leaf-one c.set_at.new.heap c.release.new.self c.in-Ok.before c.in-Ok.ensures.changes.trades.graph rel (cell-links _ (given path.In-Ok owned).1.row) in
     omega (arith, made.made, made.live, owned.makes.made, owned.makes.live, set.made, set.live, rel.made, one)
+
+pub returns-clause-spares : goal.returns-clause-spares
+returns-clause-spares c =
+    let owned = own (goal.at.returns-clause-spares c).After-own_lines-pair in
+    let state = c.own-state.ensures in
+    let trades = owned.changes.trades in
+    room-then
+    (room-then (room-then (room-made state.makes) owned.spares)
+    (room-spared (omega arith, omega (arith, c.requires.state.5.1, state.builds.few_nodes, state.builds.makes.spare_nodes, trades.nodes, trades.balance.spare_nodes)) c.in-Ok.ensures.spares))
+    (room-freed c.release.ensures.releases)
 
 pub returns-clause-state : goal.returns-clause-state
 returns-clause-state c = λ s xs text is found line.

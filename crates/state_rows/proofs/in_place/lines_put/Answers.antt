@@ -16,6 +16,7 @@ use Rattle.state_rows.specs.InPlace.{OwnsLines}
 use Rattle.state_rows.proofs.Answering.{one-held}
 use Rattle.state_rows.proofs.Staying.{states-stay}
 use Rattle.state_rows.proofs.LinesPlaced.{state-owned, state-first, state-node, line-left, lines-there, lines-apart, row-left, edits-state, set-keeps, set-trades, put-beside, put-stay, path-made}
+use Rattle.state_rows.proofs.Room.{room-made, room-freed, room-then}
 use Rattle.state_rows.proofs.in_place.lines_put.Goals as goal
 use Rattle.state_rows.proofs.in_place.lines_put.Goals.{After-own-state, After-own_lines-pair}
 
@@ -88,6 +89,12 @@ returns-clause-made c = λ one.
     let owned = own (goal.at.returns-clause-made c).After-own_lines-pair in
     path-made c.live.ensures.graph (state.same.1 one) state.builds state.makes state.owners c.args.bits (name_bytes c.args.name) c.own_lines-pair.new.heap c.release.new.self owned.makes owned.copies
     (omega (arith, did.makes.made, c.release.ensures.releases.made, owned.changes.trades.graph.few_made))
+
+pub returns-clause-spares : goal.returns-clause-spares
+returns-clause-spares c =
+    let did = rw c.into_root.ensures at c.replace-replaced.ensures in
+    let owned = own (goal.at.returns-clause-spares c).After-own_lines-pair in
+    room-then (room-then (room-then (room-made c.own-state.ensures.makes) owned.spares) (room-made did.makes)) (room-freed c.release.ensures.releases)
 
 pub returns-clause-state : goal.returns-clause-state
 returns-clause-state c = λ s xs ys is found lines.

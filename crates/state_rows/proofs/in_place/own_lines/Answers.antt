@@ -11,6 +11,7 @@ use Rattle.edit_trie.proofs.LawLemmas.{edits-keep-values}
 use Rattle.edit_trie.proofs.PairLawLemmas.{pair-changes-bind, pair-changes-keep-values}
 use Rattle.state_rows.proofs.Keys.{by_bytes}
 use Rattle.state_rows.proofs.OwnedLines.{owns-lines, pair-row, state-map, state-alike, state-value}
+use Rattle.state_rows.proofs.Room.{room-spared}
 use Rattle.state_rows.proofs.in_place.own_lines.Goals as goal
 
 pub unreachable-requires : goal.unreachable-requires
@@ -31,5 +32,7 @@ returns c = λ s xs is found.
     let name = name_bytes c.args.name in
     let own = if-some c.in-Ok.found c.in-Some.pair (λ link. OwnsPair by_bytes text_code (by_place c.args.state 0) c.args.bits c.args.heap.now h2 (child_at h2 c.args.state 0) is.buffers_are.bindings name link × OwnsDown h2 c.args.state link) c.in-Some.is (c.in-Ok.ensures.owns is.buffers_are.bindings map) in
     let row = pair-row own.0.map own.0.pair own.0.value in
+    let r = c.requires.state in
+    let spares = room-spared (omega arith, omega (arith, r.4.1, state-alike r.2 name)) (c.in-Ok.ensures.spares r.2.buffers_are.bindings (state-map c.requires.bits r.2)) in
     owns-lines (edits-keep-values by_bytes text_code) c.live.ensures.graph c.requires.held is c.requires.bits found own.0 (pair-changes-bind by_bytes text_code nat_list_cmp_total) (pair-changes-keep-values by_bytes text_code nat_list_cmp_total)
-    c.args.name.named own.1 (c.in-Ok.ensures.changes is.buffers_are.bindings map) row.0 row.1 own.0.sole own.0.makes (ap (λ k. DEEPEST + 2 + k) (state-alike is name))
+    c.args.name.named own.1 (c.in-Ok.ensures.changes is.buffers_are.bindings map) row.0 row.1 own.0.sole own.0.makes spares (ap (λ k. DEEPEST + 2 + k) (state-alike is name))

@@ -13,6 +13,7 @@ use Rattle.state_rows.proofs.Contents.{names-same}
 use Rattle.state_rows.proofs.Keys.{by_bytes}
 use Rattle.state_rows.proofs.Staying.{names-grown, trie-there, buffers-kept}
 use Rattle.state_rows.proofs.Steps.{stars-at, set-is, set-ample, added-answered, added-is}
+use Rattle.state_rows.proofs.Room.{room-spared, room-made, room-then}
 use Rattle.state_rows.proofs.make.with_star.Goals as goal
 use Rattle.state_rows.proofs.make.with_star.Goals.{After-into_root}
 
@@ -46,6 +47,11 @@ returns-clause-answered c = λ s is. answered-row (answered (goal.at.returns-cla
 pub returns-clause-made : goal.returns-clause-made
 returns-clause-made c =
     just-row (answered (goal.at.returns-clause-made c).After-into_root c.requires.state.0 c.requires.state.1) c.over_names.ensures.answered c.in-Ok.ensures.made c.over_names.ensures.makes
+
+pub returns-clause-spares : goal.returns-clause-spares
+returns-clause-spares c =
+    let at = stars-at c.requires.bits c.stars_of-stars.ensures.bits c.stars_of-stars.ensures.root c.requires.state.0 c.requires.state.1 in
+    room-then (set-ample at c.args.key 8 (λ E is spares. room-spared spares (c.in-Ok.ensures.spares E is)) c.requires.state.2 (omega arith)) (room-made c.over_names.ensures.makes)
 
 pub returns-clause-state : goal.returns-clause-state
 returns-clause-state c = λ s is.

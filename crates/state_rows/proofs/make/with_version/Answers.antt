@@ -3,6 +3,7 @@ use Rattle.plain_space.specs.Workspace.{State}
 use Rattle.state_rows.specs.InHeap.{IsStateIn}
 use Rattle.state_rows.proofs.Staying.{grown}
 use Rattle.state_rows.proofs.Steps.{versions-at, map-is, map-ample, inserted-answered, inserted-is}
+use Rattle.state_rows.proofs.Room.{room-spared}
 use Rattle.state_rows.proofs.make.with_version.Goals as goal
 
 pub unreachable-requires : goal.unreachable-requires
@@ -13,6 +14,11 @@ unreachable-requires c =
 
 pub returns-clause-answered : goal.returns-clause-answered
 returns-clause-answered c = λ m is. inserted-answered (versions-at c.requires.bits is) c.args.key refl refl c.in-Ok.ensures.answered
+
+pub returns-clause-spares : goal.returns-clause-spares
+returns-clause-spares c =
+    let at = versions-at c.requires.bits c.requires.versions.1 in
+    map-ample at c.args.key 9 (λ M is spares. room-spared spares (c.in-Ok.ensures.spares M is)) c.requires.versions.2 (omega arith)
 
 pub returns-clause-versions : goal.returns-clause-versions
 returns-clause-versions c = λ m s is state.

@@ -8,6 +8,7 @@ use Rattle.state_rows.specs.InHeap.{AreLinesIn, IsStateIn}
 use Rattle.state_rows.proofs.Answering.{ready, answered-row, just-row, answered-gives}
 use Rattle.state_rows.proofs.Staying.{grown, trie-there, stars-kept}
 use Rattle.state_rows.proofs.Steps.{buffers-at, map-is, map-ample, map-found, removed-answered, removed-is}
+use Rattle.state_rows.proofs.Room.{room-spared, room-made, room-then}
 use Rattle.state_rows.proofs.make.without_lines.Goals as goal
 use Rattle.state_rows.proofs.make.without_lines.Goals.{After-into_root}
 
@@ -46,6 +47,11 @@ returns-clause-answered c = λ s is. answered-row (answered (goal.at.returns-cla
 pub returns-clause-made : goal.returns-clause-made
 returns-clause-made c =
     just-row (answered (goal.at.returns-clause-made c).After-into_root c.requires.state.0 c.requires.state.1) c.over_stars.ensures.answered c.in-Ok.ensures.made c.over_stars.ensures.makes
+
+pub returns-clause-spares : goal.returns-clause-spares
+returns-clause-spares c =
+    let at = buffers-at c.requires.bits c.names_of-names.ensures.bits c.names_of-names.ensures.root c.requires.state.0 c.requires.state.1 in
+    room-then (map-ample at (name_bytes c.args.name) 7 (λ E is spares. room-spared spares (c.in-Ok.ensures.spares E is)) c.requires.state.3 (omega arith)) (room-made c.over_stars.ensures.makes)
 
 pub returns-clause-state : goal.returns-clause-state
 returns-clause-state c = λ s is.

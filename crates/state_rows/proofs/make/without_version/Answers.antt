@@ -4,6 +4,7 @@ use Rattle.plain_space.specs.Workspace.{State}
 use Rattle.state_rows.specs.InHeap.{IsStateIn}
 use Rattle.state_rows.proofs.Staying.{grown}
 use Rattle.state_rows.proofs.Steps.{versions-at, map-ample, removed-answered, removed-is}
+use Rattle.state_rows.proofs.Room.{room-spared}
 use Rattle.state_rows.proofs.make.without_version.Goals as goal
 
 pub unreachable-requires : goal.unreachable-requires
@@ -14,6 +15,11 @@ unreachable-requires c =
 
 pub returns-clause-answered : goal.returns-clause-answered
 returns-clause-answered c = λ m is. removed-answered (versions-at c.requires.bits is) (name_bytes c.args.name) c.in-Some.is refl c.in-Ok.ensures.answered
+
+pub returns-clause-spares : goal.returns-clause-spares
+returns-clause-spares c =
+    let at = versions-at c.requires.bits c.requires.versions.1 in
+    map-ample at (name_bytes c.args.name) 7 (λ M is spares. room-spared spares (c.in-Ok.ensures.spares M is)) c.requires.versions.3 (omega arith)
 
 pub returns-clause-versions : goal.returns-clause-versions
 returns-clause-versions c = λ m is.
