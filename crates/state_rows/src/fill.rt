@@ -2,7 +2,7 @@
 //! reserved, and keeps every row that is there.
 ghost use Rattle.std.specs.Prelude.{◌≡◌, ℕ, ◌+◌, ◌/◌, ◌^◌, ◌<◌, ◌≤◌, [], length, vec_capacity};
 ghost use Rattle.node_heap.specs.Heap.{hold_count, HasSpares, IsGraph};
-ghost use Rattle.node_heap.specs.Calls.{Answered, MakesJust, Builds};
+ghost use Rattle.node_heap.specs.Calls.{Answered, KeepsToNeed, MakesJust, Builds};
 ghost use Rattle.state_rows.specs.InHeap.{AreTextsIn, AreLinesIn};
 
 use elem_core::Text;
@@ -20,6 +20,7 @@ pub fn filled(heap: &mut Heap<Text>, texts: Vec<Text>, links: &mut Vec<Link>) ->
     requires spares { HasSpares heap.old (length texts.items) (length texts.items / 16 + 8) }
     ensures answered { Answered heap.old heap.new [] result (length texts.items) (length texts.items / 16 + 8) }
     ensures made { MakesJust heap.old heap.new }
+    ensures spares { KeepsToNeed heap.old heap.new 0 0 }
     ensures lines { (bits : ℕ) → AreLinesIn heap.new bits result texts.items }
 {
     make_cells(heap, texts, links);

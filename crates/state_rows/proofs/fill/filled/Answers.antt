@@ -5,6 +5,7 @@ use Rattle.node_heap.proofs.Frames.{Unchanged-refl}
 use Rattle.node_heap.proofs.BuildLemmas.{Builds-then, Builds-more, Builds-held, Answered-Builds, Builds-MakesJust}
 use Rattle.state_rows.specs.InHeap.{AreTextsIn}
 use Rattle.state_rows.proofs.Filling.{texts-stay}
+use Rattle.state_rows.proofs.Room.{room-made}
 use Rattle.state_rows.proofs.fill.filled.Goals as goal
 
 pub vector_of_spares-requires : goal.vector_of_spares-requires
@@ -31,6 +32,7 @@ returns c =
     record {
       answered = Answered-Builds (Builds-more (length c.args.texts.items) (length c.args.texts.items / 16 + 8) both (omega arith) (omega (arith, many)));
       made = Builds-MakesJust (Unchanged-refl c.args.heap.now c.requires.graph) both;
+      spares = room-made both.makes;
       lines = λ bits. record {
         vector = made.good;
         values = subst (λ (ks : List ℕ). AreTextsIn c.vector_of_spares.new.heap bits ks c.args.texts.items) (sym (made.items ∙ seen)) (texts-stay bits made.builds.extends c.make_cells.new.links.items c.args.texts.items (did.texts bits));
