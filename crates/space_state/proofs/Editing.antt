@@ -591,6 +591,11 @@ pub fails : {command : PlainCommand} {s t : RootedHeap} {W : Workspace} (why : R
 fails why (Ok x) is refused = absurd is
 fails {command} {s} {t} {W} why (Err e) is refused = subst (λ (w : Refusal). IsRefused command s t W w) (sym is) refused
 
+-- and one that isn't want of memory is none
+pub passes : (why : Refusal) (r : Result (Unit {0}) Refusal) → IsErrAnd r (λ e. e ≡ why) → (◌≡◌ {A = Result (Unit {0}) Refusal} (Err why) (Err Memory) → ⊥) → r ≡ Err Memory → ⊥
+passes why (Ok x) is other told = is
+passes why (Err e) is other told = other (sym (ap Err is) ∙ told)
+
 -- ## Calls that have room and spares are done
 
 module _ {X : Type 0} where

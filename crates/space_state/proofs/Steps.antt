@@ -37,7 +37,7 @@ pub none-of : {X : Type 0} (o : Option X) → is_some o ≡ false → o ≡ None
 none-of None none = refl
 none-of (Some x) none = absurd (let h = none in cc)
 
-some-of : {X : Type 0} (o : Option X) → IsSome o → (x : X) × (o ≡ Some x)
+pub some-of : {X : Type 0} (o : Option X) → IsSome o → (x : X) × (o ≡ Some x)
 some-of None there = absurd (let h = there in cc)
 some-of (Some x) there = (x, refl)
 

@@ -3,7 +3,7 @@ use Rattle.std.specs.Prelude.{◌≡◌, ℕ, ◌+◌, ◌-◌, ◌^◌, ◌<◌
 use Rattle.node_heap.specs.Links.{count}
 use Rattle.node_heap.specs.Heap.{Heap, live_count, HasSpares}
 use Rattle.node_heap.specs.Calls.{KeepsBelow, Unchanged}
-use Rattle.shell_terms.specs.Edit.{PlainEdit, drop, unstar, fill}
+use Rattle.shell_terms.specs.Edit.{PlainEdit, del, cat, drop, unstar, fill}
 use Rattle.shell_terms.specs.Command.{PlainCommand}
 use Rattle.plain_space.specs.declared.refusal.Refusal.{Refusal}
 use Rattle.plain_space.specs.declared.refusal.Refusal.TheVariants.{Absent, Exists, Range, Limit, Batch, Empty, Memory}
@@ -65,6 +65,8 @@ MakesRoom nodes old result new =
 -- the heap has the spares that an edit asks for which copies no text, and to which memory isn't refused then; an edit that copies a
 -- text never has enough
 abbrev pub HasEditSpares : RootedHeap → Workspace → PlainEdit → Type 0
+HasEditSpares s W (del name from to) = HasSpares s.heap 2 (EDIT_NODES + alike_buffers s.bits W.current name)
+HasEditSpares s W (cat name other) = HasSpares s.heap 2 (EDIT_NODES + alike_buffers s.bits W.current name)
 HasEditSpares s W (drop name) = HasSpares s.heap 2 (EDIT_NODES + alike_buffers s.bits W.current name)
 HasEditSpares s W (unstar name) = HasSpares s.heap 2 (EDIT_NODES + alike_stars s.bits W.current name)
 HasEditSpares s W _ = ⊥

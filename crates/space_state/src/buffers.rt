@@ -56,7 +56,8 @@ impl RootedHeap {
     /// Takes the lines of the range out of the buffer.
     pub(crate) fn del(&mut self, name: Name<'_>, from: u32, to: u32) -> Result<(), Refusal>
         requires { (W : Workspace) × Keeps self.old [] W }
-        ensures { EndsOnRows (edit (del (name_bytes name.entry) from to)) self.old result self.new }
+        ensures ends { EndsOnRows (edit (del (name_bytes name.entry) from to)) self.old result self.new }
+        ensures ample { (W : Workspace) → Keeps self.old [] W → HasEditSpares self.old W (del (name_bytes name.entry) from to) → result ≢ Err Refusal.Memory }
     {
         let found = self.find(name);
         let Some(lines) = found.lines else {
@@ -76,7 +77,8 @@ impl RootedHeap {
     /// Adds the lines of the second buffer at the end of the first.
     pub(crate) fn cat(&mut self, name: Name<'_>, other: Name<'_>) -> Result<(), Refusal>
         requires { (W : Workspace) × Keeps self.old [] W }
-        ensures { EndsOnRows (edit (cat (name_bytes name.entry) (name_bytes other.entry))) self.old result self.new }
+        ensures ends { EndsOnRows (edit (cat (name_bytes name.entry) (name_bytes other.entry))) self.old result self.new }
+        ensures ample { (W : Workspace) → Keeps self.old [] W → HasEditSpares self.old W (cat (name_bytes name.entry) (name_bytes other.entry)) → result ≢ Err Refusal.Memory }
     {
         let found = self.find(name);
         let Some(lines) = found.lines else {
@@ -143,8 +145,11 @@ impl RootedHeap {
         ensures ends { EndsOnRows (edit (drop (name_bytes name.entry))) self.old result self.new }
         ensures ample { (W : Workspace) → Keeps self.old [] W → HasEditSpares self.old W (drop (name_bytes name.entry)) → result ≢ Err Refusal.Memory }
     {
-        self.buffer(name)?;
-        self.make_room(name)?;
+        let found = self.find(name);
+        if found.lines.is_none() {
+            return Err(Refusal::Absent);
+        }
+        self.make_room_with(found.alike)?;
         let next = without_lines(&mut self.heap, self.bits, self.roots.current, name);
         self.turn_to(next);
         Ok(())

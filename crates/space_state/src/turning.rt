@@ -3,7 +3,6 @@ ghost use Rattle.std.specs.Prelude.{◌≡◌, ◌≢◌, ℕ, ◌+◌, ◌<◌,
 ghost use Rattle.elem_core.specs.Shown.{name_bytes, line_bytes};
 ghost use Rattle.node_heap.specs.Heap.{HasSpares};
 ghost use Rattle.plain_space.specs.Workspace.{State, Workspace, most, in_batch, is_full, with_current};
-ghost use Rattle.plain_space.specs.Cost.{alike_buffers};
 ghost use Rattle.state_rows.specs.InHeap.{IsStateIn};
 ghost use Rattle.space_state.specs.Roots.{Keeps};
 ghost use Rattle.space_state.specs.InPlace.{new_key};
@@ -15,7 +14,7 @@ use elem_core::{Line, Name, Text, text_of};
 use node_heap::Link;
 use plain_space::Refusal;
 use rrb_core::{Flex, FlexRef};
-use state_rows::{EMPTIED_NODES, PUSHED_NODES, buffers_alike, emptied};
+use state_rows::{EMPTIED_NODES, PUSHED_NODES, emptied};
 
 /// The most states that undo or redo may hold, and the most lines of a buffer.
 pub(crate) const MOST_ITEMS: u32 = u32::MAX;
@@ -62,17 +61,6 @@ impl RootedHeap {
         }
         self.heap.reserve(2, EDIT_NODES + alike)?;
         Ok(())
-    }
-
-    /// Makes room for an edit that writes this buffer. Refused as `make_room_with` is.
-    pub(crate) fn make_room(&mut self, name: Name<'_>) -> Result<(), Refusal>
-        requires { (W : Workspace) × Keeps self.old [] W }
-        ensures room { MakesRoom (λ W. EDIT_NODES + alike_buffers self.old.bits W.current (name_bytes name.entry)) self.old result self.new }
-        ensures ample { (W : Workspace) → Keeps self.old [] W →
-            HasSpares self.old.heap 2 (EDIT_NODES + alike_buffers self.old.bits W.current (name_bytes name.entry)) → result ≢ Err Refusal.Memory }
-    {
-        let alike = buffers_alike(&self.heap, self.bits, self.roots.current, name);
-        self.make_room_with(alike)
     }
 
     /// Makes room as `make_room_with` does, and gives the line as a text, for which memory may be refused however many spares there

@@ -7,13 +7,13 @@ use Rattle.state_rows.specs.InHeap.{AreLinesIn}
 use Rattle.space_state.specs.Roots.{Keeps}
 use Rattle.space_state.proofs.Keeping.{keeps-same, lines-length, lines-short}
 use Rattle.space_state.proofs.Steps.{none-there, some-there}
-use Rattle.space_state.proofs.Editing.{found-lines, cat-absent, cat-missing, cat-full, cat-made, refuses, no-room, due-absent, HasBufferRoom, HasLines, has-lines, has-found, has-room, joined, joins, can-put, edit-done, edit-refused, fails}
+use Rattle.space_state.proofs.Editing.{found-lines, cat-absent, cat-missing, cat-full, cat-made, refuses, no-room, due-absent, HasBufferRoom, HasLines, has-lines, has-found, has-room, joined, joins, can-put, edit-done, edit-refused, fails, passes}
 use Rattle.space_state.proofs.Placing.{no-key}
 use Rattle.space_state.proofs.roots.RootedHeap.cat.Goals as goal
 use Rattle.space_state.proofs.roots.RootedHeap.cat.Goals.{In-Some, In_ok-make_room_with}
 
-pub returns-in_default : goal.returns-in_default
-returns-in_default c = λ W K.
+pub returns-in_default-clause-ends : goal.returns-in_default-clause-ends
+returns-in_default-clause-ends c = λ W K.
     let name = name_bytes c.args.name in
     let other = name_bytes c.args.other in
     let none = none-there (AreLinesIn c.args.self.now.heap c.args.self.now.bits) (c.find-found.ensures.lines W K) c.in_default.is in
@@ -23,32 +23,36 @@ returns-in_default c = λ W K.
 found : (c : In-Some) (W : Workspace) → Keeps c.args.self.now [] W → (xs : List Bytes) × (lines_of W.current (name_bytes c.args.name) ≡ Some xs) × AreLinesIn c.args.self.now.heap c.args.self.now.bits c.in-Some.lines xs
 found c W K = some-there (AreLinesIn c.args.self.now.heap c.args.self.now.bits) (c.find-found.ensures.lines W K) c.in-Some.is
 
-pub returns-in_err-more : goal.returns-in_err-more
-returns-in_err-more c = λ W K.
+pub returns-in_err-more-clause-ends : goal.returns-in_err-more-clause-ends
+returns-in_err-more-clause-ends c = λ W K.
     let name = name_bytes c.args.name in
     let other = name_bytes c.args.other in
-    let found = found (goal.at.returns-in_err-more c).In-Some W K in
+    let found = found (goal.at.returns-in_err-more-clause-ends c).In-Some W K in
     let none = c.in_err-more.ensures W K in
     fails c.in_err-more.field-0.0 c.from_residual.result c.from_residual.ensures.1
     (edit-refused refl (due-absent W (cat name other) none.1 (cat-missing W.current name other found.0 found.1 none.0)))
 
-pub returns-then-len : goal.returns-then-len
-returns-then-len c = λ W K.
+pub returns-then-len-clause-ends : goal.returns-then-len-clause-ends
+returns-then-len-clause-ends c = λ W K.
     let name = name_bytes c.args.name in
     let other = name_bytes c.args.other in
-    let found = found (goal.at.returns-then-len c).In-Some W K in
+    let found = found (goal.at.returns-then-len-clause-ends c).In-Some W K in
     let also = found-lines c.args.self.now c.in_ok-more.more W.current other (c.in_ok-more.ensures W K) in
     edit-refused refl (refuses W (cat name other) Limit (cat-full W.current name other found.0 also.0 found.1 also.1 (omega (arith, c.if-len.true, c.len.ensures.value, c.len-2.ensures.value, lines-length found.2, lines-length also.2))))
 
-pub returns-in_err-make_room_with : goal.returns-in_err-make_room_with
-returns-in_err-make_room_with c = λ W K.
+pub returns-in_err-make_room_with-clause-ends : goal.returns-in_err-make_room_with-clause-ends
+returns-in_err-make_room_with-clause-ends c = λ W K.
     let name = name_bytes c.args.name in
     let other = name_bytes c.args.other in
-    let found = found (goal.at.returns-in_err-make_room_with c).In-Some W K in
+    let found = found (goal.at.returns-in_err-make_room_with-clause-ends c).In-Some W K in
     let also = found-lines c.args.self.now c.in_ok-more.more W.current other (c.in_ok-more.ensures W K) in
     let done = cat-made W.current name other found.0 also.0 found.1 also.1 (omega (arith, c.if-len.false, c.len.ensures.value, c.len-2.ensures.value, lines-length found.2, lines-length also.2, lines-short also.2)) in
     fails c.in_err-make_room_with.field-0.0 c.from_residual-in_err-make_room_with.result c.from_residual-in_err-make_room_with.ensures.1
     (no-room W (cat name other) _ done (c.in_err-make_room_with.ensures.room W K))
+
+pub returns-in_err-make_room_with-clause-ample : goal.returns-in_err-make_room_with-clause-ample
+returns-in_err-make_room_with-clause-ample c = λ W K spares.
+    passes c.in_err-make_room_with.field-0.0 c.from_residual-in_err-make_room_with.result c.from_residual-in_err-make_room_with.ensures.1 (c.in_err-make_room_with.ensures.ample (spares.0, omega (arith, spares.1, c.find-found.ensures.alike W K)))
 
 -- the lines of both buffers, once room was made
 roomy : (c : In_ok-make_room_with) (W : Workspace) → Keeps c.args.self.now [] W → HasBufferRoom c.args.self.now c.make_room_with.new.self (name_bytes c.args.name) W
@@ -82,11 +86,11 @@ write_lines-requires c =
     let m = joined (keeps-same room.same K) both.0.now c.in-Ok.ensures.answered c.in-Ok.ensures.good c.in_ok-more.more both.1.xs both.1.now c.in-Ok.ensures.items in
     can-put (name_bytes c.args.name) room m (no-key (name_bytes c.args.name) both.0.found) (omega arith) (omega (arith, both.0.now.vector.shape.low, both.1.now.vector.shape.low))
 
-pub returns : goal.returns
-returns c = λ W K.
+pub returns-clause-ends : goal.returns-clause-ends
+returns-clause-ends c = λ W K.
     let name = name_bytes c.args.name in
     let other = name_bytes c.args.other in
-    let path = (goal.at.returns c).In_ok-make_room_with in
+    let path = (goal.at.returns-clause-ends c).In_ok-make_room_with in
     let both = there path W K in
     let lines = both.0 in
     let more = both.1 in

@@ -7,13 +7,13 @@ use Rattle.state_rows.specs.InHeap.{AreLinesIn}
 use Rattle.space_state.specs.Roots.{Keeps}
 use Rattle.space_state.proofs.Keeping.{keeps-same, lines-length}
 use Rattle.space_state.proofs.Steps.{none-there, some-there}
-use Rattle.space_state.proofs.Editing.{del-absent, del-late, del-past, del-made, refuses, no-room, HasBufferRoom, HasLines, has-found, has-room, erased, slices, can-put, edit-done, edit-refused, fails}
+use Rattle.space_state.proofs.Editing.{del-absent, del-late, del-past, del-made, refuses, no-room, HasBufferRoom, HasLines, has-found, has-room, erased, slices, can-put, edit-done, edit-refused, fails, passes}
 use Rattle.space_state.proofs.Placing.{no-key}
 use Rattle.space_state.proofs.roots.RootedHeap.del.Goals as goal
 use Rattle.space_state.proofs.roots.RootedHeap.del.Goals.{In-Some, In_ok-make_room_with, then-from-to-via-then-from-to, then-from-to-via-else-from-to+then-to-len}
 
-pub returns-in_default : goal.returns-in_default
-returns-in_default c = λ W K.
+pub returns-in_default-clause-ends : goal.returns-in_default-clause-ends
+returns-in_default-clause-ends c = λ W K.
     let name = name_bytes c.args.name in
     let none = none-there (AreLinesIn c.args.self.now.heap c.args.self.now.bits) (c.find-found.ensures.lines W K) c.in_default.is in
     edit-refused refl (refuses W (del name c.args.from c.args.to) Absent (del-absent W.current name c.args.from c.args.to none))
@@ -22,21 +22,25 @@ returns-in_default c = λ W K.
 found : (c : In-Some) (W : Workspace) → Keeps c.args.self.now [] W → (xs : List Bytes) × (lines_of W.current (name_bytes c.args.name) ≡ Some xs) × AreLinesIn c.args.self.now.heap c.args.self.now.bits c.in-Some.lines xs
 found c W K = some-there (AreLinesIn c.args.self.now.heap c.args.self.now.bits) (c.find-found.ensures.lines W K) c.in-Some.is
 
-pub returns-then-from-to : goal.returns-then-from-to
-returns-then-from-to c = λ W K.
+pub returns-then-from-to-clause-ends : goal.returns-then-from-to-clause-ends
+returns-then-from-to-clause-ends c = λ W K.
     let name = name_bytes c.args.name in
-    let found = found (goal.at.returns-then-from-to c).In-Some W K in
+    let found = found (goal.at.returns-then-from-to-clause-ends c).In-Some W K in
     edit-refused refl (refuses W (del name c.args.from c.args.to) Range (elim c.then-from-to.branch [
       | then-from-to-via-then-from-to w ↦ del-late W.current name c.args.from c.args.to found.0 found.1 w.if-from-to.true
       | then-from-to-via-else-from-to+then-to-len w ↦ del-past W.current name c.args.from c.args.to found.0 found.1 w.if-from-to.false (omega (arith, w.if-to-len.true, w.len.ensures.value, lines-length found.2))
     ]))
 
-pub returns-in_err-make_room_with : goal.returns-in_err-make_room_with
-returns-in_err-make_room_with c = λ W K.
+pub returns-in_err-make_room_with-clause-ends : goal.returns-in_err-make_room_with-clause-ends
+returns-in_err-make_room_with-clause-ends c = λ W K.
     let name = name_bytes c.args.name in
-    let found = found (goal.at.returns-in_err-make_room_with c).In-Some W K in
+    let found = found (goal.at.returns-in_err-make_room_with-clause-ends c).In-Some W K in
     let done = del-made W.current name c.args.from c.args.to found.0 found.1 c.if-from-to.false (omega (arith, c.if-to-len.false, c.len.ensures.value, lines-length found.2)) in
     fails c.in_err-make_room_with.field-0.0 c.from_residual.result c.from_residual.ensures.1 (no-room W (del name c.args.from c.args.to) _ done (c.in_err-make_room_with.ensures.room W K))
+
+pub returns-in_err-make_room_with-clause-ample : goal.returns-in_err-make_room_with-clause-ample
+returns-in_err-make_room_with-clause-ample c = λ W K spares.
+    passes c.in_err-make_room_with.field-0.0 c.from_residual.result c.from_residual.ensures.1 (c.in_err-make_room_with.ensures.ample (spares.0, omega (arith, spares.1, c.find-found.ensures.alike W K)))
 
 -- the buffer's lines, once room was made
 roomy : (c : In_ok-make_room_with) (W : Workspace) → Keeps c.args.self.now [] W → HasBufferRoom c.args.self.now c.make_room_with.new.self (name_bytes c.args.name) W
@@ -65,10 +69,10 @@ write_lines-requires c =
     let m = erased (keeps-same room.same K) lines.now c.in-Ok.ensures.answered c.in-Ok.ensures.good c.args.from c.args.to c.in-Ok.ensures.items in
     can-put (name_bytes c.args.name) room m (no-key (name_bytes c.args.name) lines.found) (omega arith) (omega (arith, lines.now.vector.shape.low))
 
-pub returns : goal.returns
-returns c = λ W K.
+pub returns-clause-ends : goal.returns-clause-ends
+returns-clause-ends c = λ W K.
     let name = name_bytes c.args.name in
-    let path = (goal.at.returns c).In_ok-make_room_with in
+    let path = (goal.at.returns-clause-ends c).In_ok-make_room_with in
     let lines = there path W K in
     let room = roomy path W K in
     let m = erased (keeps-same room.same K) lines.now c.in-Ok.ensures.answered c.in-Ok.ensures.good c.args.from c.args.to c.in-Ok.ensures.items in
