@@ -37,7 +37,7 @@ module _ {K : Type 0} (cmp : K → K → Ordering) (o : IsTotalOrder cmp) where
   module _ (key : K) (es : List (Entry K)) (p : Parts cmp key es) where
     pub find-parts : find (has_key cmp key) es ≡ p.equal
     find-parts =
-        ap (find (has_key cmp key)) p.whole ∙ find-after (has_key cmp key) p.smaller _ (none-below cmp o key p.smaller p.are_smaller) ∙ by_equal p.equal p.is_equal
+        ap (find (has_key cmp key)) p.in_order ∙ find-after (has_key cmp key) p.smaller _ (none-below cmp o key p.smaller p.are_smaller) ∙ by_equal p.equal p.is_equal
       where
         by_equal : (e : Option (Entry K)) → IfSome e (λ d. cmp key d.key ≡ Equal) → find (has_key cmp key) (option_to_list e ++ p.greater) ≡ e
         by_equal None is = find-none cmp o key p.greater (none-above cmp o key p.greater p.are_greater)
@@ -46,7 +46,7 @@ module _ {K : Type 0} (cmp : K → K → Ordering) (o : IsTotalOrder cmp) where
     pub others-parts : others cmp key es ≡ p.smaller ++ p.greater
     others-parts =
         let test : Entry K → Bool = λ d. not (has_key cmp key d) in
-        ap (filter test) p.whole
+        ap (filter test) p.in_order
         ∙ filter-append test p.smaller (option_to_list p.equal ++ p.greater)
         ∙ ap (λ xs. xs ++ filter test (option_to_list p.equal ++ p.greater)) (others-below cmp o key p.smaller p.are_smaller)
         ∙ ap (λ ys. p.smaller ++ ys) (by_equal p.equal p.is_equal ∙ others-above cmp o key p.greater p.are_greater)
@@ -56,16 +56,16 @@ module _ {K : Type 0} (cmp : K → K → Ordering) (o : IsTotalOrder cmp) where
         by_equal (Some d) is = ap (λ r. cond (not (is_eq r)) (d ∷ others cmp key p.greater) (others cmp key p.greater)) is
 
     pub length-parts : length es ≡ length p.smaller + (length (option_to_list p.equal) + length p.greater)
-    length-parts = ap length p.whole ∙ length-append p.smaller (option_to_list p.equal ++ p.greater) ∙ ap (λ n. length p.smaller + n) (length-append (option_to_list p.equal) p.greater)
+    length-parts = ap length p.in_order ∙ length-append p.smaller (option_to_list p.equal ++ p.greater) ∙ ap (λ n. length p.smaller + n) (length-append (option_to_list p.equal) p.greater)
 
     pub take-parts : take (length p.smaller) es ≡ p.smaller
-    take-parts = ap (take (length p.smaller)) p.whole ∙ take-front p.smaller (option_to_list p.equal ++ p.greater)
+    take-parts = ap (take (length p.smaller)) p.in_order ∙ take-front p.smaller (option_to_list p.equal ++ p.greater)
 
     rising-smaller : IsRising cmp es → IsRising cmp p.smaller
-    rising-smaller r = rising-left cmp o p.smaller (option_to_list p.equal ++ p.greater) (subst (IsRising cmp) p.whole r)
+    rising-smaller r = rising-left cmp o p.smaller (option_to_list p.equal ++ p.greater) (subst (IsRising cmp) p.in_order r)
 
     rising-greater : IsRising cmp es → IsRising cmp p.greater
-    rising-greater r = rising-right cmp o (option_to_list p.equal) p.greater (rising-right cmp o p.smaller (option_to_list p.equal ++ p.greater) (subst (IsRising cmp) p.whole r))
+    rising-greater r = rising-right cmp o (option_to_list p.equal) p.greater (rising-right cmp o p.smaller (option_to_list p.equal ++ p.greater) (subst (IsRising cmp) p.in_order r))
 
     pub rising-without : IsRising cmp es → IsRising cmp (p.smaller ++ p.greater)
     rising-without r = rising-both cmp o key p.smaller p.greater (rising-smaller r) p.are_smaller (rising-greater r) (λ x lt. above-less cmp o x key lt p.greater p.are_greater)

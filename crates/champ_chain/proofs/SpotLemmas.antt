@@ -117,7 +117,7 @@ module _ {K : Type 0} where
             smaller = p.seen;
             equal = None;
             greater = p.left;
-            whole = p.whole;
+            in_order = p.whole;
             are_smaller = p.smaller;
             is_equal = tt;
             are_greater = subst (AreAbove cmp key) (sym at.whole) (order Less less, above-less cmp o key at.first.key (order Less less) at.others rising-left'.0);
@@ -133,7 +133,7 @@ module _ {K : Type 0} where
             smaller = p.seen;
             equal = Some at.first;
             greater = at.others;
-            whole = p.whole ∙ ap (λ xs. p.seen ++ xs) at.whole;
+            in_order = p.whole ∙ ap (λ xs. p.seen ++ xs) at.whole;
             are_smaller = p.smaller;
             is_equal = order Equal equal;
             are_greater = above-same cmp o key at.first.key (order Equal equal) at.others rising-left'.0;
@@ -161,7 +161,7 @@ module _ {K : Type 0} where
                 smaller = p.seen ++ at.first ∷ [];
                 equal = None;
                 greater = [];
-                whole = more ∙ ap (λ xs. (p.seen ++ at.first ∷ []) ++ xs) none;
+                in_order = more ∙ ap (λ xs. (p.seen ++ at.first ∷ []) ++ xs) none;
                 are_smaller = smaller_more greater;
                 is_equal = tt;
                 are_greater = tt;

@@ -12,7 +12,7 @@ pub record Parts {K : Type 0} (cmp : K → K → Ordering) (key : K) (es : List 
   pub smaller : List (Entry K)
   pub equal : Option (Entry K)
   pub greater : List (Entry K)
-  pub whole : es ≡ smaller ++ (option_to_list equal ++ greater)
+  pub in_order : es ≡ smaller ++ (option_to_list equal ++ greater)
   pub are_smaller : AreBelow cmp key smaller
   pub is_equal : IfSome equal (λ e. cmp key e.key ≡ Equal)
   pub are_greater : AreAbove cmp key greater

@@ -7,10 +7,10 @@
 //! caller has reserved them.
 #![tactic(auto)]
 
-ghost use Rattle.std.specs.Prelude.{◌≡◌, ◌↔◌, ℕ, ◌+◌, ◌<◌, ◌≤◌, ◌≢◌, ◌^◌, List, [], ◌∷◌, length, Some, None, IsSome, IfOk, OnErr, OnOk, IsOk, IfSome, IfNone};
+ghost use Rattle.std.specs.Prelude.{◌≡◌, ◌↔◌, ℕ, ◌+◌, ◌<◌, ◌≤◌, ◌≢◌, List, [], ◌∷◌, length, Some, None, IsSome, IfOk, OnErr, OnOk, IsOk, IfSome, IfNone};
 ghost use Rattle.std.specs.declared.cmp.Ordering.TheVariants.{Equal};
 ghost use Rattle.node_heap.specs.Links.{count};
-ghost use Rattle.node_heap.specs.Heap.{form_at, holds_at, hold_count, HasSpares, IsGraph};
+ghost use Rattle.node_heap.specs.Heap.{form_at, holds_at, hold_count, HasSpares, IsGraph, half_holds, most_holds, row_limit};
 ghost use Rattle.node_heap.specs.Calls.{Answered, Builds, KeepsToNeed, MakesJust};
 ghost use Rattle.champ_chain.specs.Entry.{Entry, entry as entry_of, key_at, link_with, others, put};
 ghost use Rattle.champ_chain.specs.Chain.{IsChain, IsEntryOrChain, KeepsChains};
@@ -51,7 +51,7 @@ pub fn find<T: Element, P: Probe<T>>(heap: &Heap<T>, chain: Link, key: &P) -> Op
 pub fn length<T: Element>(heap: &Heap<T>, chain: Link) -> usize
     requires { (E : List (Entry T)) × IsChain T.cmp (form_at heap.now) chain E }
     ensures number { (E : List (Entry T)) → IsChain T.cmp (form_at heap.now) chain E → result ≡ length E }
-    ensures few { result < 2 ^ 56 }
+    ensures few { result < row_limit }
     ensures graph { IsGraph heap.now }
 {
     rows_from(heap, Some(chain))
@@ -63,7 +63,7 @@ pub fn look_up<T: Element, P: Probe<T>>(heap: &Heap<T>, chain: Link, key: &P) ->
     ensures entry { (E : List (Entry T)) → IsChain T.cmp (form_at heap.now) chain E →
         result.entry ≡ link_with T.cmp (P.stands_for key.now) E }
     ensures alike { (E : List (Entry T)) → IsChain T.cmp (form_at heap.now) chain E → result.alike ≡ length E }
-    ensures few { result.alike < 2 ^ 56 }
+    ensures few { result.alike < row_limit }
     ensures graph { IsGraph heap.now }
 {
     let spot = key_spot_of(heap, chain, key);
@@ -76,7 +76,7 @@ pub fn look_up<T: Element, P: Probe<T>>(heap: &Heap<T>, chain: Link, key: &P) ->
 /// A chain of two entries with different keys. A hold of each is spent on Ok. It makes at most two nodes. Err where
 /// memory runs out: it leaves the heap as it was.
 pub fn join<T: Element>(heap: &mut Heap<T>, first: Link, second: Link) -> Result<Link, NoMemory>
-    requires few { hold_count heap.old < 2 ^ 60 }
+    requires few { hold_count heap.old < most_holds }
     requires held { (l : ℕ) → count l (first ∷ second ∷ []) ≤ holds_at heap.old l }
     requires apart { (j : T) × (k : T) × (key_at (form_at heap.old) first ≡ Some j) × (key_at (form_at heap.old) second ≡ Some k) × (T.cmp j k ≢ Equal) }
     ensures answered { IfOk result (λ l. Answered heap.old heap.new (first ∷ second ∷ []) l 0 2) }
@@ -94,7 +94,7 @@ pub fn join<T: Element>(heap: &mut Heap<T>, first: Link, second: Link) -> Result
 
 /// A chain of two entries with different keys, where there are spares for its two nodes. A hold of each is spent.
 pub fn joined<T: Element>(heap: &mut Heap<T>, first: Link, second: Link) -> Link
-    requires few { hold_count heap.old < 2 ^ 60 }
+    requires few { hold_count heap.old < most_holds }
     requires held { (l : ℕ) → count l (first ∷ second ∷ []) ≤ holds_at heap.old l }
     requires apart { (j : T) × (k : T) × (key_at (form_at heap.old) first ≡ Some j) × (key_at (form_at heap.old) second ≡ Some k) × (T.cmp j k ≢ Equal) }
     requires spare { 2 ≤ heap.old.spare_nodes }
@@ -116,7 +116,7 @@ pub fn joined<T: Element>(heap: &mut Heap<T>, first: Link, second: Link) -> Link
 /// given chain stays. It makes at most one node more than the chain has entries. Err where memory runs out: it leaves the
 /// heap as it was.
 pub fn with<T: Element>(heap: &mut Heap<T>, chain: Link, entry: Link) -> Result<Link, NoMemory>
-    requires few { hold_count heap.old ≤ 2 ^ 59 }
+    requires few { hold_count heap.old ≤ half_holds }
     requires held { 0 < holds_at heap.old entry }
     requires keyed { IsSome (key_at (form_at heap.old) entry) }
     requires chain { (E : List (Entry T)) × IsChain T.cmp (form_at heap.old) chain E }
@@ -138,7 +138,7 @@ pub fn with<T: Element>(heap: &mut Heap<T>, chain: Link, entry: Link) -> Result<
 /// The chain with the entry added, or in the place of the one with its key, where there are spares for one node more than
 /// the chain has entries. The entry's hold is spent, and the given chain stays.
 pub fn added<T: Element>(heap: &mut Heap<T>, chain: Link, entry: Link) -> Link
-    requires few { hold_count heap.old ≤ 2 ^ 59 }
+    requires few { hold_count heap.old ≤ half_holds }
     requires held { 0 < holds_at heap.old entry }
     requires keyed { IsSome (key_at (form_at heap.old) entry) }
     requires chain { (E : List (Entry T)) × IsChain T.cmp (form_at heap.old) chain E × (length E < heap.old.spare_nodes) }
@@ -162,7 +162,7 @@ pub fn without<T: Element, P: Probe<T>>(
     chain: Link,
     key: &P,
 ) -> Result<Option<Link>, NoMemory>
-    requires few { hold_count heap.old < 2 ^ 59 }
+    requires few { hold_count heap.old < half_holds }
     requires chain { (E : List (Entry T)) × IsChain T.cmp (form_at heap.old) chain E }
     ensures absent { (E : List (Entry T)) → IsChain T.cmp (form_at heap.old) chain E →
         (result ≡ Ok None) ↔ (link_with T.cmp (P.stands_for key.now) E ≡ None) }
@@ -188,7 +188,7 @@ pub fn without<T: Element, P: Probe<T>>(
 /// The chain without the entry with this key, which is there, where there are as many spare nodes as the chain has entries.
 /// Where one entry is left it is that entry itself. The given chain stays.
 pub fn removed<T: Element, P: Probe<T>>(heap: &mut Heap<T>, chain: Link, key: &P) -> Link
-    requires few { hold_count heap.old < 2 ^ 59 }
+    requires few { hold_count heap.old < half_holds }
     requires chain { (E : List (Entry T)) × IsChain T.cmp (form_at heap.old) chain E × (link_with T.cmp (P.stands_for key.now) E ≢ None)
         × (length E ≤ heap.old.spare_nodes) }
     ensures builds { (E : List (Entry T)) → IsChain T.cmp (form_at heap.old) chain E → Builds heap.old heap.new [] (result ∷ []) 0 (length E) }

@@ -1,8 +1,8 @@
 //! The rows of a chain: how they are read and made.
-ghost use Rattle.std.specs.Prelude.{◌≡◌, ℕ, ◌+◌, ◌<◌, ◌≤◌, ◌^◌, List, [], ◌∷◌, ◌++◌, length, take, drop, Option, Some, None, IsSome, option_to_list};
+ghost use Rattle.std.specs.Prelude.{◌≡◌, ℕ, ◌+◌, ◌<◌, ◌≤◌, List, [], ◌∷◌, ◌++◌, length, take, drop, Option, Some, None, IsSome, option_to_list};
 ghost use Rattle.node_heap.specs.Links.{count};
 ghost use Rattle.node_heap.specs.Forms.{node, chain as chain_kind};
-ghost use Rattle.node_heap.specs.Heap.{row_at, form_at, holds_at, hold_count, IsGraph};
+ghost use Rattle.node_heap.specs.Heap.{row_at, form_at, holds_at, hold_count, IsGraph, half_holds, most_holds, row_limit};
 ghost use Rattle.node_heap.specs.Calls.{AddsOwner, SameRows, Builds};
 ghost use Rattle.node_heap.specs.declared.row.Head.TheVariants.{Chain};
 ghost use Rattle.champ_chain.specs.Entry.{Entry, entry as entry_of, key_at};
@@ -53,7 +53,7 @@ pub fn row_of<T>(heap: &Heap<T>, row: Link) -> ChainRow
 pub(crate) fn rows_from<T>(heap: &Heap<T>, first: Option<Link>) -> usize
     requires { (es : List (Entry T)) × AreChainRows (form_at heap.now) first es }
     ensures number { (es : List (Entry T)) → AreChainRows (form_at heap.now) first es → result ≡ length es }
-    ensures few { result < 2 ^ 56 }
+    ensures few { result < row_limit }
     ensures graph { IsGraph heap.now }
 {
     let mut row = first;
@@ -72,7 +72,7 @@ pub(crate) fn rows_from<T>(heap: &Heap<T>, first: Option<Link>) -> usize
 pub(crate) fn hold_tail<T>(heap: &mut Heap<T>, tail: Option<Link>)
     requires live { (l : ℕ) → tail ≡ Some l → IsSome (row_at heap.old l) }
     requires graph { IsGraph heap.old }
-    requires few { hold_count heap.old < 2 ^ 60 }
+    requires few { hold_count heap.old < most_holds }
     ensures rows { SameRows heap.old heap.new }
     ensures builds { Builds heap.old heap.new [] (option_to_list tail) 0 0 }
 {
@@ -86,7 +86,7 @@ pub(crate) fn hold_tail<T>(heap: &mut Heap<T>, tail: Option<Link>)
 pub fn row_over<T>(heap: &mut Heap<T>, entry: Link, tail: Option<Link>) -> Link
     requires spare { 0 < heap.old.spare_nodes }
     requires held { (l : ℕ) → count l (entry ∷ option_to_list tail) ≤ holds_at heap.old l }
-    requires few { hold_count heap.old < 2 ^ 60 }
+    requires few { hold_count heap.old < most_holds }
     ensures row { row_at heap.new result ≡ Some (node Chain (entry ∷ option_to_list tail)) }
     ensures fresh { row_at heap.old result ≡ None }
     ensures owners { AddsOwner heap.old heap.new result }
@@ -102,7 +102,7 @@ pub fn row_over<T>(heap: &mut Heap<T>, entry: Link, tail: Option<Link>) -> Link
 pub(crate) fn in_order<T>(heap: &mut Heap<T>, first: Link, second: Link) -> Link
     requires spare { 2 ≤ heap.old.spare_nodes }
     requires held { (l : ℕ) → count l (first ∷ second ∷ []) ≤ holds_at heap.old l }
-    requires few { hold_count heap.old < 2 ^ 60 }
+    requires few { hold_count heap.old < most_holds }
     ensures builds { Builds heap.old heap.new (first ∷ second ∷ []) (result ∷ []) 0 2 }
     ensures rows { (j k : T) → key_at (form_at heap.old) first ≡ Some j → key_at (form_at heap.old) second ≡ Some k →
         AreChainRows (form_at heap.new) (Some result) (entry_of j first ∷ entry_of k second ∷ []) }
@@ -135,7 +135,7 @@ fn copied<T>(heap: &mut Heap<T>, from: Link, number: usize, tail: Option<Link>) 
     requires some { 0 < number }
     requires spare { number ≤ heap.old.spare_nodes }
     requires held { (l : ℕ) → count l (option_to_list tail) ≤ holds_at heap.old l }
-    requires few { hold_count heap.old < 2 ^ 59 + length (option_to_list tail) }
+    requires few { hold_count heap.old < half_holds + length (option_to_list tail) }
     requires rows { (es : List (Entry T)) × AreChainRows (form_at heap.old) (Some from) es × (number ≤ length es) }
     ensures builds { Builds heap.old heap.new (option_to_list tail) (result ∷ []) 0 number }
     ensures rows { (es ts : List (Entry T)) → AreChainRows (form_at heap.old) (Some from) es → number ≤ length es → AreChainRows (form_at heap.old) tail ts →
@@ -157,7 +157,7 @@ pub(crate) fn copied_over<T>(heap: &mut Heap<T>, from: Link, number: usize, tail
     requires spare { number ≤ heap.old.spare_nodes }
     requires graph { IsGraph heap.old }
     requires held { 0 < holds_at heap.old tail }
-    requires few { hold_count heap.old < 2 ^ 59 + 1 }
+    requires few { hold_count heap.old < half_holds + 1 }
     requires rows { (es : List (Entry T)) × AreChainRows (form_at heap.old) (Some from) es × (number ≤ length es) }
     ensures builds { Builds heap.old heap.new (tail ∷ []) (result ∷ []) 0 number }
     ensures rows { (es ts : List (Entry T)) → AreChainRows (form_at heap.old) (Some from) es → number ≤ length es → AreChainRows (form_at heap.old) (Some tail) ts →
@@ -174,7 +174,7 @@ pub(crate) fn copied_over<T>(heap: &mut Heap<T>, from: Link, number: usize, tail
 fn front_of<T>(heap: &mut Heap<T>, from: Link, number: usize) -> Link
     requires some { 0 < number }
     requires spare { number ≤ heap.old.spare_nodes }
-    requires few { hold_count heap.old < 2 ^ 59 }
+    requires few { hold_count heap.old < half_holds }
     requires rows { (es : List (Entry T)) × AreChainRows (form_at heap.old) (Some from) es × (number ≤ length es) }
     ensures builds { Builds heap.old heap.new [] (result ∷ []) 0 number }
     ensures rows { (es : List (Entry T)) → AreChainRows (form_at heap.old) (Some from) es → number ≤ length es →
@@ -191,7 +191,7 @@ fn front_of<T>(heap: &mut Heap<T>, from: Link, number: usize) -> Link
 
 // The chain from a row on once more; the entry itself if it is one.
 fn shared_tail<T>(heap: &mut Heap<T>, tail: Link) -> Link
-    requires few { hold_count heap.old < 2 ^ 59 }
+    requires few { hold_count heap.old < half_holds }
     requires tail { (ts : List (Entry T)) × AreChainRows (form_at heap.old) (Some tail) ts }
     ensures builds { Builds heap.old heap.new [] (result ∷ []) 0 0 }
     ensures rows { (ts : List (Entry T)) → AreChainRows (form_at heap.old) (Some tail) ts → IsEntryOrRows (form_at heap.new) result ts }
@@ -212,7 +212,7 @@ fn shared_tail<T>(heap: &mut Heap<T>, tail: Link) -> Link
 // A chain of the first entries from a row on, so many, and those of the tail; the entry itself if it is one.
 fn over_tail<T>(heap: &mut Heap<T>, from: Link, number: usize, tail: Link) -> Link
     requires spare { number ≤ heap.old.spare_nodes }
-    requires few { hold_count heap.old < 2 ^ 59 }
+    requires few { hold_count heap.old < half_holds }
     requires rows { (es : List (Entry T)) × AreChainRows (form_at heap.old) (Some from) es × (number ≤ length es) }
     requires tail { (ts : List (Entry T)) × AreChainRows (form_at heap.old) (Some tail) ts }
     ensures builds { Builds heap.old heap.new [] (result ∷ []) 0 number }
@@ -229,7 +229,7 @@ fn over_tail<T>(heap: &mut Heap<T>, from: Link, number: usize, tail: Link) -> Li
 // The chain of the first entries from a row on, so many, and those of the tail; the entry itself if it is one.
 pub(crate) fn closed<T>(heap: &mut Heap<T>, from: Link, number: usize, tail: Option<Link>) -> Link
     requires spare { number ≤ heap.old.spare_nodes }
-    requires few { hold_count heap.old < 2 ^ 59 }
+    requires few { hold_count heap.old < half_holds }
     requires rows { (es : List (Entry T)) × AreChainRows (form_at heap.old) (Some from) es × (number ≤ length es) }
     requires tail { (ts : List (Entry T)) × AreChainRows (form_at heap.old) tail ts × (0 < number + length ts) }
     ensures builds { Builds heap.old heap.new [] (result ∷ []) 0 number }

@@ -1,7 +1,7 @@
 //! Maps.
-ghost use Rattle.std.specs.Prelude.{◌≡◌, ◌↔◌, ℕ, ◌+◌, ◌<◌, ◌≤◌, ◌^◌, List, [], ◌∷◌, length, Some, None, IsSome, IfOk, IfErr, OnOk, OnErr, IsOk, MatchOption, IfSome, IfNone};
+ghost use Rattle.std.specs.Prelude.{◌≡◌, ◌↔◌, ℕ, ◌+◌, ◌<◌, ◌≤◌, List, [], ◌∷◌, length, Some, None, IsSome, IfOk, IfErr, OnOk, OnErr, IsOk, MatchOption, IfSome, IfNone};
 ghost use Rattle.node_heap.specs.Forms.{cell};
-ghost use Rattle.node_heap.specs.Heap.{row_at, form_at, holds_at, hold_count, HasSpares, IsGraph};
+ghost use Rattle.node_heap.specs.Heap.{row_at, form_at, holds_at, hold_count, HasSpares, IsGraph, half_holds, most_holds, row_limit};
 ghost use Rattle.node_heap.specs.Calls.{Answered, Builds, KeepsToNeed, MakesJust};
 ghost use Rattle.champ_chain.specs.Entry.{Entry, entry as entry_of, others};
 ghost use Rattle.champ_trie.specs.Trie.{code_by};
@@ -15,13 +15,17 @@ ghost use Rattle.champ_kinds.specs.Laws.{KeepsContainers};
 
 use crate::fault::MapFault;
 use crate::root::{RootRef, Rooted};
-use champ_trie::{Entries, added, alike, count, entries, find, look_up, without};
-use elem_core::{DEEPEST, Element, NoMemory, Probe};
+use champ_trie::{ADD_NODES, Entries, added, alike, count, entries, find, look_up, without};
+use elem_core::{Element, LEVELS, NoMemory, Probe};
 use node_heap::{Head, Heap, Link};
 
 /// Marks the roots of maps.
 #[derive(Clone, Copy)]
 pub struct Maps;
+
+/// The most nodes that putting a value at a key makes, besides one for each key with the same masked code: those of the trie,
+/// and the pair.
+pub const INSERT_NODES: usize = ADD_NODES + 1;
 
 /// A map that owns one hold of its root. It is given up by `release`, and cannot be dropped or copied.
 pub type Map = Rooted<Maps>;
@@ -63,14 +67,14 @@ impl RootRef<Maps> {
         ensures walk { result ≡ walk heap.now self.now.root }
         ensures pairs { (M : List (Binding T)) → IsMapOf T.cmp T.code_of heap.now self.now M → ArePairLinks (form_at heap.now) result M }
         ensures number { (M : List (Binding T)) → IsMapOf T.cmp T.code_of heap.now self.now M → length result ≡ length M }
-        ensures few { length result < 2 ^ 56 }
+        ensures few { length result < row_limit }
     {
         entries(heap, self.root)
     }
 }
 
 /// The map with this value at the key. Where the key is there, its old cell stays and the value is replaced. The value's
-/// hold is spent on Ok. It makes at most one cell and `DEEPEST + 3` nodes, and one node more for each key with the same
+/// hold is spent on Ok. It makes at most one cell and `INSERT_NODES` nodes, and one node more for each key with the same
 /// masked code. The entries of other keys stay in their places, and beside the way of the key's code the tries share their
 /// rows. Err gives the key back where memory runs out: it leaves the heap as it was.
 pub fn map_insert<T: Element>(
@@ -79,30 +83,27 @@ pub fn map_insert<T: Element>(
     key: T,
     value: Link,
 ) -> Result<Map, MapFault<T>>
-    requires few { hold_count heap.old < 2 ^ 59 }
+    requires few { hold_count heap.old < half_holds }
     requires held { 0 < holds_at heap.old value }
     requires contents { (M : List (Binding T)) × IsMapOf T.cmp T.code_of heap.old map M }
     ensures answered { (M : List (Binding T)) → IsMapOf T.cmp T.code_of heap.old map M →
-        IfOk result (λ made. Answered heap.old heap.new (value ∷ []) made.root 1 (DEEPEST + 3 + alike_keys T.code_of map.bits key M)) }
+        IfOk result (λ made. Answered heap.old heap.new (value ∷ []) made.root 1 (INSERT_NODES + alike_keys T.code_of map.bits key M)) }
     ensures made { OnOk result (MakesJust heap.old heap.new) }
     ensures bits { IfOk result (λ made. made.bits ≡ map.bits) }
     ensures contents { (M : List (Binding T)) → IsMapOf T.cmp T.code_of heap.old map M →
         IfOk result (λ made. IsMapOf T.cmp T.code_of heap.new made (bind T.cmp M key value)) }
     ensures entries { (E : List (Entry T)) → HasEntries T.cmp T.code_of heap.old map E →
         IfOk result (λ made. PutsPair T.cmp T.code_of heap.old heap.new made E key value) }
-    ensures shares { IfOk result (λ made. SharesBeside (form_at heap.old) (form_at heap.new) (code_by T.code_of map.bits key) (DEEPEST + 1) 0 map.root made.root) }
+    ensures shares { IfOk result (λ made. SharesBeside (form_at heap.old) (form_at heap.new) (code_by T.code_of map.bits key) LEVELS 0 map.root made.root) }
     ensures containers { KeepsContainers heap.old heap.new }
     ensures handed_back { IfErr result (λ fault. (fault.key ≡ key) × (heap.new ≡ heap.old)) }
     ensures spares { (M : List (Binding T)) → IsMapOf T.cmp T.code_of heap.old map M →
-        OnOk result (KeepsToNeed heap.old heap.new 1 (DEEPEST + 3 + alike_keys T.code_of map.bits key M)) }
+        OnOk result (KeepsToNeed heap.old heap.new 1 (INSERT_NODES + alike_keys T.code_of map.bits key M)) }
     ensures ample { (M : List (Binding T)) → IsMapOf T.cmp T.code_of heap.old map M →
-        HasSpares heap.old 1 (DEEPEST + 3 + alike_keys T.code_of map.bits key M) → IsOk result }
+        HasSpares heap.old 1 (INSERT_NODES + alike_keys T.code_of map.bits key M) → IsOk result }
 {
     let found = look_up(heap, map.root, &key, map.bits);
-    if heap
-        .reserve(1, found.alike + usize::from(DEEPEST) + 3)
-        .is_err()
-    {
+    if heap.reserve(1, found.alike + INSERT_NODES).is_err() {
         return Err(MapFault { key });
     }
     let cell = key_cell(heap, found.entry, key);
@@ -114,7 +115,7 @@ pub fn map_insert<T: Element>(
 // The key's cell, with one hold more: that of the entry that was found, or else a new one.
 fn key_cell<T: Element>(heap: &mut Heap<T>, found: Option<Link>, key: T) -> Link
     requires spare { 0 < heap.old.spare_cells }
-    requires few { hold_count heap.old < 2 ^ 60 }
+    requires few { hold_count heap.old < most_holds }
     requires pair { IfSome found (λ x. (b : Binding T) × IsPair (form_at heap.old) (entry_of b.key x) b) }
     requires graph { IsGraph heap.old }
     ensures builds { Builds heap.old heap.new [] (result ∷ []) 1 0 }
@@ -130,7 +131,7 @@ fn key_cell<T: Element>(heap: &mut Heap<T>, found: Option<Link>, key: T) -> Link
     }
 }
 
-/// The map without the key, None exactly where the key is absent. It makes at most `DEEPEST + 1` nodes, and one more for
+/// The map without the key, None exactly where the key is absent. It makes at most `LEVELS` nodes, and one more for
 /// each key with the same masked code. The entries of other keys stay in their places, and beside the way of the key's code
 /// the tries share their rows. Err where memory runs out: it leaves the heap as it was.
 pub fn map_remove<T: Element, P: Probe<T>>(
@@ -138,12 +139,12 @@ pub fn map_remove<T: Element, P: Probe<T>>(
     map: MapRef,
     key: &P,
 ) -> Result<Option<Map>, NoMemory>
-    requires few { hold_count heap.old < 2 ^ 59 }
+    requires few { hold_count heap.old < half_holds }
     requires contents { (M : List (Binding T)) × IsMapOf T.cmp T.code_of heap.old map M }
     ensures absent { (M : List (Binding T)) → IsMapOf T.cmp T.code_of heap.old map M → (result ≡ Ok None) ↔ (value_with T.cmp (P.stands_for key.now) M ≡ None) }
     ensures nothing { IfOk result (λ left. IfNone left (heap.new ≡ heap.old)) }
     ensures answered { (M : List (Binding T)) → IsMapOf T.cmp T.code_of heap.old map M →
-        IfOk result (λ left. IfSome left (λ made. Answered heap.old heap.new [] made.root 0 (DEEPEST + 1 + alike_keys T.code_of map.bits (P.stands_for key.now) M))) }
+        IfOk result (λ left. IfSome left (λ made. Answered heap.old heap.new [] made.root 0 (LEVELS + alike_keys T.code_of map.bits (P.stands_for key.now) M))) }
     ensures made { OnOk result (MakesJust heap.old heap.new) }
     ensures bits { IfOk result (λ left. IfSome left (λ made. made.bits ≡ map.bits)) }
     ensures contents { (M : List (Binding T)) → IsMapOf T.cmp T.code_of heap.old map M →
@@ -151,13 +152,13 @@ pub fn map_remove<T: Element, P: Probe<T>>(
     ensures entries { (E : List (Entry T)) → HasEntries T.cmp T.code_of heap.old map E →
         IfOk result (λ left. IfSome left (λ made. HasEntries T.cmp T.code_of heap.new made (others T.cmp (P.stands_for key.now) E))) }
     ensures shares { IfOk result (λ left. IfSome left (λ made.
-        SharesBeside (form_at heap.old) (form_at heap.new) (code_by T.code_of map.bits (P.stands_for key.now)) (DEEPEST + 1) 0 map.root made.root)) }
+        SharesBeside (form_at heap.old) (form_at heap.new) (code_by T.code_of map.bits (P.stands_for key.now)) LEVELS 0 map.root made.root)) }
     ensures containers { KeepsContainers heap.old heap.new }
     ensures refused { OnErr result (heap.new ≡ heap.old) }
     ensures spares { (M : List (Binding T)) → IsMapOf T.cmp T.code_of heap.old map M →
-        OnOk result (KeepsToNeed heap.old heap.new 0 (DEEPEST + 1 + alike_keys T.code_of map.bits (P.stands_for key.now) M)) }
+        OnOk result (KeepsToNeed heap.old heap.new 0 (LEVELS + alike_keys T.code_of map.bits (P.stands_for key.now) M)) }
     ensures ample { (M : List (Binding T)) → IsMapOf T.cmp T.code_of heap.old map M →
-        HasSpares heap.old 0 (DEEPEST + 1 + alike_keys T.code_of map.bits (P.stands_for key.now) M) → IsOk result }
+        HasSpares heap.old 0 (LEVELS + alike_keys T.code_of map.bits (P.stands_for key.now) M) → IsOk result }
 {
     match without(heap, map.root, key, map.bits)? {
         None => Ok(None),

@@ -1,6 +1,6 @@
 //! The roots of maps and of sets: one of them owned, and one named.
-ghost use Rattle.std.specs.Prelude.{◌≡◌, ℕ, ◌+◌, ◌<◌, ◌≤◌, ◌^◌, [], ◌∷◌, IsSome, IfOk, IsOk, OnOk, OnErr};
-ghost use Rattle.node_heap.specs.Heap.{row_at, holds_at, hold_count, node_count, one_at, HasSpares, IsGraph};
+ghost use Rattle.std.specs.Prelude.{◌≡◌, ℕ, ◌+◌, ◌<◌, ◌≤◌, [], ◌∷◌, IsSome, IfOk, IsOk, OnOk, OnErr};
+ghost use Rattle.node_heap.specs.Heap.{row_at, holds_at, hold_count, node_count, one_at, HasSpares, IsGraph, half_holds};
 ghost use Rattle.node_heap.specs.Calls.{Answered, Builds, KeepsHeld, KeepsToNeed, MakesJust, Releases, SameRows};
 ghost use Rattle.champ_kinds.specs.Root.{Root};
 ghost use Rattle.champ_kinds.specs.Kinds.{IsMapOf, IsSetOf};
@@ -49,7 +49,7 @@ impl<K> Rooted<K> {
     /// heap as it was.
     pub fn empty<T: Element>(heap: &mut Heap<T>, bits: u32) -> Result<Rooted<K>, NoMemory>
         requires bits { bits ≤ CODE_BITS }
-        requires few { hold_count heap.old < 2 ^ 59 }
+        requires few { hold_count heap.old < half_holds }
         ensures answered { IfOk result (λ made. Answered heap.old heap.new [] made.root 0 1) }
         ensures one { OnOk result (node_count heap.new ≡ node_count heap.old + 1) }
         ensures made { OnOk result (MakesJust heap.old heap.new) }
@@ -68,7 +68,7 @@ impl<K> Rooted<K> {
     /// The same once more: one more hold of the root.
     pub fn share<T>(&self, heap: &mut Heap<T>) -> Rooted<K>
         requires live { IsSome (row_at heap.old self.now.root) }
-        requires few { hold_count heap.old < 2 ^ 59 }
+        requires few { hold_count heap.old < half_holds }
         ensures same { result ≡ self.now }
         ensures rows { SameRows heap.old heap.new }
         ensures builds { Builds heap.old heap.new [] (result.root ∷ []) 0 0 }

@@ -12,7 +12,7 @@ use Rattle.std.proofs.lemmas.List.{take-append-drop, length-map, nil_from_length
 use Rattle.std.proofs.lemmas.List.Elements.{All-nil, All-cons}
 use Rattle.std.proofs.lemmas.Nat.Bits.{same_from_bits_below, bit_at-lt}
 use Rattle.elem_core.specs.Codes.{digit_at}
-use Rattle.elem_core.specs.declared.codes.TheConstants.{DEEPEST}
+use Rattle.elem_core.specs.declared.codes.TheConstants.{LEVELS}
 use Rattle.node_heap.specs.Forms.{Forms, node, leaf, inner, trie, chain, pair, state, value_of, Kind, Tree, Trees, cut, tree_cell, tree_node, no_trees, tree_then, trees_of, IsTree, AreTrees, is_cell_tree, is_node_tree, are_none, are_then}
 use Rattle.node_heap.proofs.Trees.{IsTree-unique}
 use Rattle.champ_chain.specs.Entry.{Entry, entry, IsEntry, key_at, key_of, first_value, SameSet, same_none, same_first, same_turned, same_through}
@@ -334,7 +334,7 @@ module _ {K : Type 0} (cmp : K → K → Ordering) (code : K → ℕ) (o : IsTot
 
   pub follows-entries : TrieFollowsEntries cmp code
   follows-entries F l m E D t same here there is =
-      tries-match cmp code o F F (UnfoldsAs F F) (row-unfolds F F) (DEEPEST + 1) 0 l m (map itself E) E D (same-is _ _ (itself-first E)) (subst (λ xs. SameSet xs D) (sym (itself-second E)) same) (itself-matched F E) here.trie there.trie t is
+      tries-match cmp code o F F (UnfoldsAs F F) (row-unfolds F F) LEVELS 0 l m (map itself E) E D (same-is _ _ (itself-first E)) (subst (λ xs. SameSet xs D) (sym (itself-second E)) same) (itself-matched F E) here.trie there.trie t is
 
   -- another order of the entries
   place-order : (F : Forms K) (left depth : ℕ) → ((k : ℕ) (P Q : List (Entry K)) → SameSet P Q → IsTrie cmp code F left (suc depth) k P → IsTrie cmp code F left (suc depth) k Q)
@@ -361,7 +361,7 @@ module _ {K : Type 0} (cmp : K → K → Ordering) (code : K → ℕ) (o : IsTot
   }
 
   pub takes-any-order : TrieTakesAnyOrder cmp code
-  takes-any-order F l E D same canon = record { trie = trie-order F (DEEPEST + 1) 0 l E D same canon.trie; distinct = same-distinct cmp o E D same canon.distinct }
+  takes-any-order F l E D same canon = record { trie = trie-order F LEVELS 0 l E D same canon.trie; distinct = same-distinct cmp o E D same canon.distinct }
 
   -- entries with the same links are the same
   link-keys : (F : Forms K) (E D : List (Entry K)) → map (λ e. e.link) E ≡ map (λ e. e.link) D → ((e : Entry K) → Among e E → IsEntry F e) → ((e : Entry K) → Among e D → IsEntry F e) → E ≡ D
@@ -377,10 +377,10 @@ module _ {K : Type 0} (cmp : K → K → Ordering) (code : K → ℕ) (o : IsTot
   pub has-one-set : TrieHasOneSet cmp code
   has-one-set F l E D here there =
       let n = length E + length D in
-      let left = trie-walk cmp code F (DEEPEST + 1) 0 l E here.trie (DEEPEST + 1 + n) n (omega arith) (omega arith) in
-      let right = trie-walk cmp code F (DEEPEST + 1) 0 l D there.trie (DEEPEST + 1 + n) n (omega arith) (omega arith) in
+      let left = trie-walk cmp code F LEVELS 0 l E here.trie (LEVELS + n) n (omega arith) (omega arith) in
+      let right = trie-walk cmp code F LEVELS 0 l D there.trie (LEVELS + n) n (omega arith) (omega arith) in
       let lift = same-lift (λ (e : Entry K). e.link) E (map (λ e. e.link) E) (map (λ e. e.link) D) refl (same_through _ _ _ (same-sym _ _ left) right) in
-      let is = link-keys F lift.0 D lift.2 (λ e i. trie-entries cmp code F (DEEPEST + 1) 0 l E here.trie e (same-among e lift.0 E (same-sym _ _ lift.1) i)) (trie-entries cmp code F (DEEPEST + 1) 0 l D there.trie) in
+      let is = link-keys F lift.0 D lift.2 (λ e i. trie-entries cmp code F LEVELS 0 l E here.trie e (same-among e lift.0 E (same-sym _ _ lift.1) i)) (trie-entries cmp code F LEVELS 0 l D there.trie) in
       subst (SameSet E) is lift.1
 
 -- an entry and the tree that it unfolds to
@@ -471,22 +471,22 @@ module _ {K : Type 0} (cmp : K → K → Ordering) (code : K → ℕ) (o : IsTot
       let both = matches F G (λ t u. t ≡ u) (λ w. AreMatched cmp code o F G (UnfoldsAs F G) (row-unfolds F G) w) (twin-match F G) lift.0 second.0 (subst (AllZip (λ t u. t ≡ u) (map (λ z. z.tree) lift.0)) (lift.2 ∙ sym second.2) (zip-same (map (λ z. z.tree) lift.0))) (λ z i. here_is z (same-among z lift.0 first.0 (same-sym _ _ lift.1) i)) (λ z i. there_is z i) in
       let of_first : SameSet (map (λ w. w.first) both.0) E =
       subst (λ xs. SameSet xs E) (sym both.1) (subst (SameSet (map (λ z. z.of) lift.0)) first.1 (same-map (λ z. z.of) lift.0 first.0 (same-sym _ _ lift.1))) in
-      tries-match cmp code o F G (UnfoldsAs F G) (row-unfolds F G) (DEEPEST + 1) 0 l m both.0 E D of_first (same-is _ _ (both.2 ∙ second.1)) both.3 here.trie there.trie t is
+      tries-match cmp code o F G (UnfoldsAs F G) (row-unfolds F G) LEVELS 0 l m both.0 E D of_first (same-is _ _ (both.2 ∙ second.1)) both.3 here.trie there.trie t is
     where
       here_is : (z : Planted K) → Among z (plant F E ts here_trees).0 → IsEntry F z.of × IsTree F z.of.link z.tree
       here_is z i = (
-        trie-entries cmp code F (DEEPEST + 1) 0 l E here.trie z.of (subst (Among z.of) (plant F E ts here_trees).1 (among-map (λ (y : Planted K). y.of) z _ i)),
+        trie-entries cmp code F LEVELS 0 l E here.trie z.of (subst (Among z.of) (plant F E ts here_trees).1 (among-map (λ (y : Planted K). y.of) z _ i)),
         (plant F E ts here_trees).3 z i,
       )
 
       there_is : (z : Planted K) → Among z (plant G D us there_trees).0 → IsEntry G z.of × IsTree G z.of.link z.tree
       there_is z i = (
-        trie-entries cmp code G (DEEPEST + 1) 0 m D there.trie z.of (subst (Among z.of) (plant G D us there_trees).1 (among-map (λ (y : Planted K). y.of) z _ i)),
+        trie-entries cmp code G LEVELS 0 m D there.trie z.of (subst (Among z.of) (plant G D us there_trees).1 (among-map (λ (y : Planted K). y.of) z _ i)),
         (plant G D us there_trees).3 z i,
       )
 
 pub names-keys : {K : Type 0} (cmp : K → K → Ordering) (code : K → ℕ) → TrieNamesKeys cmp code
-names-keys cmp code F l E canon = all-among (IsEntry F) E (trie-entries cmp code F (DEEPEST + 1) 0 l E canon.trie)
+names-keys cmp code F l E canon = all-among (IsEntry F) E (trie-entries cmp code F LEVELS 0 l E canon.trie)
   where
     all-among : {X : Type 0} (Q : X → Type 0) (xs : List X) → ((x : X) → Among x xs → Q x) → All Q xs
     all-among Q [] each = All-nil Q

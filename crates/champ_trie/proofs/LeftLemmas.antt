@@ -8,7 +8,7 @@ use Rattle.std.proofs.lemmas.Nat.Bits.{same_from_bits_below, bit_at-zero}
 use Rattle.std.proofs.lemmas.List.Filters.{length-filter_both}
 use Rattle.std.proofs.lemmas.List.Sums.{length-filter}
 use Rattle.elem_core.specs.Codes.{digit_at}
-use Rattle.elem_core.specs.declared.codes.TheConstants.{CODE_BITS, DEEPEST}
+use Rattle.elem_core.specs.declared.codes.TheConstants.{CODE_BITS, DEEPEST, LEVELS}
 use Rattle.node_heap.specs.Forms.{Forms, Row, cell, node, chain, head_of, form_of, kind_of}
 use Rattle.node_heap.specs.Heap.{Heap, row_at, form_at}
 use Rattle.node_heap.specs.declared.row.Head.TheVariants.{Leaf, Inner, Trie, Chain, Pair, State}
@@ -289,11 +289,11 @@ place-links (Node l) = omega arith
 
 module _ {K : Type 0} (cmp : K → K → Ordering) (code : K → ℕ) where
   -- a whole trie is one from depth 0 down
-  pub canon-below : (F : Forms K) (root c : ℕ) (E : List (Entry K)) → IsCanon cmp code F root E → IsBelow cmp code F 0 root E (DEEPEST + 1) c
+  pub canon-below : (F : Forms K) (root c : ℕ) (E : List (Entry K)) → IsCanon cmp code F root E → IsBelow cmp code F 0 root E LEVELS c
   canon-below F root c E canon = record { levels = omega arith; trie = canon.trie; distinct = canon.distinct; agrees = agreeing-none cmp code c E }
 
   pub canon-kept : (F G : Forms K) → KeepsForms F G → (root : ℕ) (E : List (Entry K)) → IsCanon cmp code F root E → IsCanon cmp code G root E
-  canon-kept F G keeps root E canon = record { trie = trie-kept cmp code F G keeps (DEEPEST + 1) 0 root E canon.trie; distinct = canon.distinct }
+  canon-kept F G keeps root E canon = record { trie = trie-kept cmp code F G keeps LEVELS 0 root E canon.trie; distinct = canon.distinct }
 
 module _ {T : Type 0} where
   -- tries stay where rows are only added

@@ -10,7 +10,7 @@ use Rattle.std.proofs.lemmas.Bool.{cases_eq, cases_order, eq-eqb, eqb-true, ne_e
 use Rattle.std.proofs.lemmas.Nat.{pow_pos}
 use Rattle.std.proofs.Math.Nat.{mul-le-mul_right}
 use Rattle.elem_core.specs.Codes.{digit_at}
-use Rattle.elem_core.specs.declared.codes.TheConstants.{CODE_BITS, DEEPEST}
+use Rattle.elem_core.specs.declared.codes.TheConstants.{CODE_BITS, DEEPEST, LEVELS}
 use Rattle.elem_core.proofs.CodeLemmas.{digit-more, same-bits}
 use Rattle.champ_chain.proofs.SetLemmas.{count-cons}
 use Rattle.node_heap.specs.Forms.{Forms}
@@ -48,7 +48,7 @@ agree-test x c d = elim (cases_eq (x % 2 ^ (5 * (d + 1))) (c % 2 ^ (5 * (d + 1))
     by_tests (inr low) high other = ap (λ b. b && nat_eq (digit_at x d) (digit_at c d)) (ne_eqb (x % 2 ^ (5 * d)) (c % 2 ^ (5 * d)) low) ∙ sym (ne_eqb (x % 2 ^ (5 * (d + 1))) (c % 2 ^ (5 * (d + 1))) other)
 
 -- codes that agree above all depths are equal
-pub same-bits-at : (d x y : ℕ) → d ≡ DEEPEST + 1 → x < 2 ^ CODE_BITS → y < 2 ^ CODE_BITS → x % 2 ^ (5 * d) ≡ y % 2 ^ (5 * d) → x ≡ y
+pub same-bits-at : (d x y : ℕ) → d ≡ LEVELS → x < 2 ^ CODE_BITS → y < 2 ^ CODE_BITS → x % 2 ^ (5 * d) ≡ y % 2 ^ (5 * d) → x ≡ y
 same-bits-at d x y deep low_x low_y same = same-bits x y low_x low_y (subst (λ n. x % 2 ^ (5 * n) ≡ y % 2 ^ (5 * n)) deep same)
 
 module _ {X : Type 0} where
@@ -127,17 +127,17 @@ module _ {K : Type 0} (cmp : K → K → Ordering) (code : K → ℕ) where
   trie-row F left d l E row = (d, row.entries, row.nodes, row.links, row.row)
 
   -- the row at a depth of the walk along a code, and what stands at the place of its digit
-  module _ (F : Forms K) (d l c : ℕ) (E : List (Entry K)) (trie : IsTrie cmp code F (DEEPEST + 1 - d) d l (agreeing code d c E)) (deep : d ≤ DEEPEST) where
+  module _ (F : Forms K) (d l c : ℕ) (E : List (Entry K)) (trie : IsTrie cmp code F (LEVELS - d) d l (agreeing code d c E)) (deep : d ≤ DEEPEST) where
     more : IsTrie cmp code F (suc (DEEPEST - d)) d l (agreeing code d c E)
-    more = let same : DEEPEST + 1 - d ≡ suc (DEEPEST - d) = omega (arith, deep) in subst (λ n. IsTrie cmp code F n d l (agreeing code d c E)) same trie
+    more = let same : LEVELS - d ≡ suc (DEEPEST - d) = omega (arith, deep) in subst (λ n. IsTrie cmp code F n d l (agreeing code d c E)) same trie
 
     pub row-there : (depth e n : ℕ) × (ls : List ℕ) × IsRow F l depth e n ls
     row-there = trie-row F (DEEPEST - d) d l (agreeing code d c E) more
 
     pub next-place : (p : ℕ) (place : Place) → p ≡ digit_at c d → ((depth e n : ℕ) (ls : List ℕ) → IsRow F l depth e n ls → place ≡ place_of e n ls p)
-        → IsPlace F (λ k P. IsTrie cmp code F (DEEPEST + 1 - (d + 1)) (d + 1) k P) place (agreeing code (d + 1) c E)
+        → IsPlace F (λ k P. IsTrie cmp code F (LEVELS - (d + 1)) (d + 1) k P) place (agreeing code (d + 1) c E)
     next-place p place read was =
-        let left : DEEPEST - d ≡ DEEPEST + 1 - (d + 1) = omega (arith, deep) in
+        let left : DEEPEST - d ≡ LEVELS - (d + 1) = omega (arith, deep) in
         let next : suc d ≡ d + 1 = omega arith in
         subst (λ n. IsPlace F (λ k P. IsTrie cmp code F n (d + 1) k P) place (agreeing code (d + 1) c E)) left
         (subst (λ m. IsPlace F (λ k P. IsTrie cmp code F (DEEPEST - d) m k P) place (agreeing code (d + 1) c E)) next
@@ -176,7 +176,7 @@ module _ {K : Type 0} (cmp : K → K → Ordering) (code : K → ℕ) where
   alike-one d c E k x one = omega (arith, count-cons (λ (e : Entry K). nat_eq (code e.key) c) (entry k x) [], ap (alike_in code c) one, alike-agreeing d c E)
 
   -- so deep that the whole code is seen
-  pub alike-all : (d c : ℕ) (E : List (Entry K)) → d ≡ DEEPEST + 1 → c < 2 ^ CODE_BITS → ((k : K) → code k < 2 ^ CODE_BITS) → length (agreeing code d c E) ≡ alike_in code c E
+  pub alike-all : (d c : ℕ) (E : List (Entry K)) → d ≡ LEVELS → c < 2 ^ CODE_BITS → ((k : K) → code k < 2 ^ CODE_BITS) → length (agreeing code d c E) ≡ alike_in code c E
   alike-all d c E deep low small =
       sym (count-only _ _ (λ e is. eq-eqb (code e.key) c (same-bits-at d (code e.key) c deep (small e.key) low (eqb-true (code e.key % 2 ^ (5 * d)) (c % 2 ^ (5 * d)) is))) E) ∙ alike-agreeing d c E
 

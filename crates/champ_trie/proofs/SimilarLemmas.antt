@@ -1,10 +1,10 @@
 -- Tries whose entries are similar one to one.
-use Rattle.std.proofs.Common.{◌≡◌, ℕ, ◌+◌, List, map, sym, subst, Some, None}
+use Rattle.std.proofs.Common.{◌≡◌, ℕ, List, map, sym, subst, Some, None}
 use Rattle.std.specs.List.{AllZip}
 use Rattle.std.specs.Cmp.{IsTotalOrder}
 use Rattle.std.specs.declared.cmp.Ordering.{Ordering}
 use Rattle.std.specs.declared.cmp.Ordering.TheVariants.{Equal}
-use Rattle.elem_core.specs.declared.codes.TheConstants.{DEEPEST}
+use Rattle.elem_core.specs.declared.codes.TheConstants.{LEVELS}
 use Rattle.node_heap.specs.Forms.{Forms, node, Kind, Tree, Trees, tree_node, tree_then, IsTree, AreTrees, SimilarTree, SimilarTrees, similar_cut, similar_cell, similar_node, similar_none, similar_then, are_none, are_then}
 use Rattle.node_heap.proofs.Trees.{IsTree-unique}
 use Rattle.champ_chain.specs.Entry.{Entry, SameSet, same_through}
@@ -76,7 +76,7 @@ module _ {K : Type 0} (cmp : K → K → Ordering) (code : K → ℕ) (o : IsTot
       let walked = in-order cmp code o F l E t canon is in
       let beside = plant F walked.0 (tree_entries t) walked.2 in
       let same : SameSet (map (λ z. z.of) beside.0) E = subst (λ xs. SameSet xs E) (sym beside.1) (same-sym _ _ walked.1) in
-      (beside.0, same, beside.2, λ z i. (trie-entries cmp code F (DEEPEST + 1) 0 l E canon.trie z.of (same-among z.of (map (λ z. z.of) beside.0) E same (among-map (λ (y : Planted K). y.of) z beside.0 i)), beside.3 z i))
+      (beside.0, same, beside.2, λ z i. (trie-entries cmp code F LEVELS 0 l E canon.trie z.of (same-among z.of (map (λ z. z.of) beside.0) E same (among-map (λ (y : Planted K). y.of) z beside.0 i)), beside.3 z i))
 
   pub similar-entries-tell : SimilarEntriesTellSimilarTrees cmp code
   similar-entries-tell F G l m E D t u here there is at similar =
@@ -84,7 +84,7 @@ module _ {K : Type 0} (cmp : K → K → Ordering) (code : K → ℕ) (o : IsTot
       let second = planted G m D u there at in
       let lift = same-lift (λ (z : Planted K). z.tree) second.0 (tree_entries u) similar.0 second.2 (same-sym _ _ similar.1) in
       let both = matches F G (SimilarTree EqualKeys) (λ w. AreSimilar F G w) (similar-match F G) first.0 lift.0 (subst (λ xs. AllZip (SimilarTree EqualKeys) xs (map (λ z. z.tree) lift.0)) (sym first.2) (subst (λ ys. AllZip (SimilarTree EqualKeys) (tree_entries t) ys) (sym lift.2) similar.2)) first.3 (λ z i. second.3 z (same-among z lift.0 second.0 (same-sym _ _ lift.1) i)) in
-      tries-match cmp code o F G (UnfoldSimilar EqualKeys F G) (row-similar EqualKeys F G) (DEEPEST + 1) 0 l m both.0 E D
+      tries-match cmp code o F G (UnfoldSimilar EqualKeys F G) (row-similar EqualKeys F G) LEVELS 0 l m both.0 E D
       (subst (λ xs. SameSet xs E) (sym both.1) first.1)
       (subst (λ xs. SameSet xs D) (sym both.2) (same_through _ _ _ (same-map (λ z. z.of) lift.0 second.0 (same-sym _ _ lift.1)) second.1))
       both.3 here.trie there.trie t u is at

@@ -7,7 +7,7 @@ use Rattle.std.specs.declared.cmp.Ordering.{Ordering}
 use Rattle.std.proofs.lemmas.Bool.{cases_Bool, cases_eq, eq-eqb}
 use Rattle.std.proofs.lemmas.List.{get_or_default}
 use Rattle.elem_core.specs.Codes.{digit_at}
-use Rattle.elem_core.specs.declared.codes.TheConstants.{DEEPEST}
+use Rattle.elem_core.specs.declared.codes.TheConstants.{DEEPEST, LEVELS}
 use Rattle.node_heap.specs.Links.{count, HasLink, Reaches, SameBelow, here, below}
 use Rattle.node_heap.specs.Forms.{Form, Forms, Kind, cell, node, leaf, inner, trie, chain, pair, state, links_of, links_in, value_of, head_of, form_of}
 use Rattle.node_heap.specs.Heap.{Heap, row_at, form_at, links_at}
@@ -114,7 +114,7 @@ module _ {K : Type 0} where
             All-weaker (λ e. Reaches (links_in F) k e.link) (λ e. Reaches (links_in F) l e.link) (λ e down. below l k e.link (node-link F l d is.entries is.nodes p k is.links is.row small at) down) (part cmp code d p E) (deeper k more.1)
 
     pub canon-reach : (F : Forms K) (root : ℕ) (E : List (Entry K)) → IsCanon cmp code F root E → All (λ e. Reaches (links_in F) root e.link) E
-    canon-reach F root E canon = trie-reach F (DEEPEST + 1) 0 root E canon.trie
+    canon-reach F root E canon = trie-reach F LEVELS 0 root E canon.trie
 
   -- an entry keeps its key where its row is the same and a pair's key cell has the same value
   key-same : (F G : Forms K) (l : ℕ) (k : K) → G l ≡ F l → ((j : ℕ) (js : List ℕ) → F l ≡ Some (node pair (j ∷ js)) → value_of (F j) ≡ Some k → value_of (G j) ≡ Some k) → key_at F l ≡ Some k → key_at G l ≡ Some k
@@ -206,7 +206,7 @@ module _ {K : Type 0} where
       trie-stays = trie-where F G (Reaches (links_in F) root) reached-where cmp code
 
       pub canon-stays : (E : List (Entry K)) → IsCanon cmp code F root E → IsCanon cmp code G root E
-      canon-stays E canon = record { trie = trie-stays (DEEPEST + 1) 0 root E (here root) canon.trie; distinct = canon.distinct }
+      canon-stays E canon = record { trie = trie-stays LEVELS 0 root E (here root) canon.trie; distinct = canon.distinct }
 
   module _ (F G : Forms K) (root link : ℕ) (around : SameAround F G root link) where
     abbrev IsAround : ℕ → Type 0
@@ -252,7 +252,7 @@ module _ {K : Type 0} where
 
     -- a trie stays around one of its pairs
     pub canon-around : (cmp : K → K → Ordering) (code : K → ℕ) (E : List (Entry K)) → IsCanon cmp code F root E → IsCanon cmp code G root E
-    canon-around cmp code E canon = record { trie = trie-where F G IsAround around-where cmp code (DEEPEST + 1) 0 root E root-around canon.trie; distinct = canon.distinct }
+    canon-around cmp code E canon = record { trie = trie-where F G IsAround around-where cmp code LEVELS 0 root E root-around canon.trie; distinct = canon.distinct }
 
 module _ {T : Type 0} where
   -- what a link reaches stays by its forms too

@@ -6,7 +6,7 @@ use Rattle.std.proofs.lemmas.List.Concat.{flat_map-append}
 use Rattle.std.proofs.lemmas.List.Elements.{All-head, All-tail, All-cons, All-nil}
 use Rattle.std.specs.Cmp.{IsTotalOrder}
 use Rattle.std.specs.declared.cmp.Ordering.{Ordering}
-use Rattle.elem_core.specs.declared.codes.TheConstants.{DEEPEST}
+use Rattle.elem_core.specs.declared.codes.TheConstants.{LEVELS}
 use Rattle.node_heap.proofs.Trees.{IsTree-unique}
 use Rattle.node_heap.specs.Forms.{Form, Forms, Tree, Trees, no_trees, tree_then, trees_of, IsTree, AreTrees, is_cell_tree, is_node_tree, are_none, are_then}
 use Rattle.champ_chain.specs.Entry.{Entry, SameSet}
@@ -105,9 +105,9 @@ module _ {K : Type 0} (cmp : K → K → Ordering) (code : K → ℕ) (o : IsTot
   pub in-order : (F : Forms K) (l : ℕ) (E : List (Entry K)) (t : Tree K) → IsCanon cmp code F l E → IsTree F l t → (D : List (Entry K)) × SameSet E D × HaveTrees F D (tree_entries t)
   in-order F l E t canon is =
       let n = length E in
-      let a = DEEPEST + 1 + n in
-      let links = trie-walk cmp code F (DEEPEST + 1) 0 l E canon.trie a n (omega arith) (omega arith) in
-      let trees = trie-trees cmp code F (DEEPEST + 1) 0 l E canon.trie a n (omega arith) (omega arith) t is in
+      let a = LEVELS + n in
+      let links = trie-walk cmp code F LEVELS 0 l E canon.trie a n (omega arith) (omega arith) in
+      let trees = trie-trees cmp code F LEVELS 0 l E canon.trie a n (omega arith) (omega arith) t is in
       let lift = same-lift (λ (e : Entry K). e.link) E (map (λ e. e.link) E) (entries_of F (rows_from a F l)) refl (same-sym _ _ links) in
       (lift.0, lift.1, subst (λ ls. AreTrees F ls (trees_of (tree_entries t))) (sym lift.2) trees)
 

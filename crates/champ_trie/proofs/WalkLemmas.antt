@@ -12,7 +12,7 @@ use Rattle.std.proofs.lemmas.List.Sums.{sum_by-set}
 use Rattle.std.proofs.lemmas.List.Filters.{length-filter_both}
 use Rattle.std.proofs.lemmas.List.Elements.{All-head, All-tail, All-from_get_or}
 use Rattle.std.specs.declared.cmp.Ordering.{Ordering}
-use Rattle.elem_core.specs.declared.codes.TheConstants.{DEEPEST}
+use Rattle.elem_core.specs.declared.codes.TheConstants.{LEVELS}
 use Rattle.node_heap.specs.Forms.{Row, Form, Forms, cell, node, leaf, inner, trie, chain, pair, state, links_of, head_of, form_of, kind_of}
 use Rattle.node_heap.specs.declared.row.Head.{Head}
 use Rattle.node_heap.specs.declared.row.Head.TheVariants.{Leaf, Inner, Trie, Chain, Pair, State}
@@ -436,5 +436,5 @@ module _ {T : Type 0} (cmp : T → T → Ordering) (code : T → ℕ) (o : IsTot
   -- a trie has no more entries than the heap has rows
   pub canon-fit : (h : Heap T) (root : ℕ) (E : List (Entry T)) → IsCanon cmp code (form_at h) root E → length E ≤ live_count h
   canon-fit h root E canon =
-      let are = trie-entries cmp code (form_at h) (DEEPEST + 1) 0 root E canon.trie in
+      let are = trie-entries cmp code (form_at h) LEVELS 0 root E canon.trie in
       distinct-fit cmp code (form_at h) o h.rows E canon.distinct are (λ e i. key-live h e.link e.key (are e i))

@@ -10,7 +10,7 @@ use Rattle.std.proofs.lemmas.Bool.{cases_eq, eq-eqb, ne_eqb, eqb-true}
 use Rattle.std.proofs.lemmas.List.Filters.{length-filter_both}
 use Rattle.std.proofs.lemmas.List.Sums.{length-filter}
 use Rattle.elem_core.specs.Codes.{digit_at}
-use Rattle.elem_core.specs.declared.codes.TheConstants.{CODE_BITS, DEEPEST}
+use Rattle.elem_core.specs.declared.codes.TheConstants.{CODE_BITS, DEEPEST, LEVELS}
 use Rattle.elem_core.proofs.CodeLemmas.{digit-more}
 use Rattle.node_heap.specs.Calls.{Builds}
 use Rattle.node_heap.proofs.BuildLemmas.{Builds-refl, Builds-more}
@@ -45,7 +45,7 @@ same-more x y d low high = digit-more x d ∙ ap (λ a. a * 2 ^ (5 * d) + x % 2 
 pub chain_nodes-same : (x y : ℕ) → x ≡ y → chain_nodes x y ≡ 2
 chain_nodes-same x y same = ap (λ (b : Bool). let n : ℕ = cond b 2 0 in n) (eq-eqb x y same)
 
-pub chain_nodes-all : (x y d : ℕ) → d ≡ DEEPEST + 1 → x < 2 ^ CODE_BITS → y < 2 ^ CODE_BITS → x % 2 ^ (5 * d) ≡ y % 2 ^ (5 * d) → chain_nodes x y ≡ 2
+pub chain_nodes-all : (x y d : ℕ) → d ≡ LEVELS → x < 2 ^ CODE_BITS → y < 2 ^ CODE_BITS → x % 2 ^ (5 * d) ≡ y % 2 ^ (5 * d) → chain_nodes x y ≡ 2
 chain_nodes-all x y d deep low_x low_y same = chain_nodes-same x y (same-bits-at d x y deep low_x low_y same)
 
 module _ {K : Type 0} (cmp : K → K → Ordering) (code : K → ℕ) where
@@ -138,7 +138,7 @@ module _ {K : Type 0} (cmp : K → K → Ordering) (code : K → ℕ) where
       → (left ≡ 0) × IsChain cmp F l E × (length E ≡ alike_in code c E)
   below-chain F d l c left E below deep low small =
       let none : left ≡ 0 = omega (arith, below.levels) in
-      let all : d ≡ DEEPEST + 1 = omega (arith, below.levels) in
+      let all : d ≡ LEVELS = omega (arith, below.levels) in
       (none, trie-chain cmp code F d l E (subst (λ n. IsTrie cmp code F n d l E) none below.trie), sym (ap length below.agrees) ∙ alike-all cmp code d c E all low small)
 
   -- the row with another place at the digit's position is the trie with the entry

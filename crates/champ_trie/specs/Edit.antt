@@ -2,7 +2,7 @@
 use Rattle.std.specs.Prelude.{◌≡◌, ◌≢◌, ◌⊎◌, ℕ, zero, suc, ◌+◌, ◌<◌, List, length, slice_index, ◌==◌, if◌then◌else◌}
 use Rattle.std.specs.declared.cmp.Ordering.{Ordering}
 use Rattle.elem_core.specs.Codes.{digit_at}
-use Rattle.elem_core.specs.declared.codes.TheConstants.{DEEPEST}
+use Rattle.elem_core.specs.declared.codes.TheConstants.{LEVELS}
 use Rattle.node_heap.specs.Forms.{Forms}
 use Rattle.node_heap.specs.Heap.{Heap, form_at}
 use Rattle.champ_chain.specs.Entry.{Entry, AreDistinct}
@@ -23,7 +23,7 @@ chain_nodes c d = if c == d then 2 else 0
 
 -- a trie from a depth down, whose entries agree with the code above it
 pub record IsBelow {K : Type 0} (cmp : K → K → Ordering) (code : K → ℕ) (F : Forms K) (depth l : ℕ) (E : List (Entry K)) (left c : ℕ) : Type 0 where
-  pub levels : depth + left ≡ DEEPEST + 1
+  pub levels : depth + left ≡ LEVELS
   pub trie : IsTrie cmp code F left depth l E
   pub distinct : AreDistinct cmp E
   pub agrees : Agrees code depth c E

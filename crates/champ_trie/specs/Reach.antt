@@ -1,8 +1,8 @@
 -- Where the digits of a code lead in a trie.
-use Rattle.std.specs.Prelude.{◌≡◌, ℕ, ◌+◌, ◌*◌, ◌%◌, ◌^◌, nat_eq, List, count_by}
+use Rattle.std.specs.Prelude.{◌≡◌, ℕ, ◌*◌, ◌%◌, ◌^◌, nat_eq, List, count_by}
 use Rattle.std.specs.List.{filter}
 use Rattle.std.specs.declared.cmp.Ordering.{Ordering}
-use Rattle.elem_core.specs.declared.codes.TheConstants.{DEEPEST}
+use Rattle.elem_core.specs.declared.codes.TheConstants.{LEVELS}
 use Rattle.node_heap.specs.Forms.{Forms}
 use Rattle.champ_chain.specs.Entry.{Entry}
 use Rattle.champ_chain.specs.Chain.{IsChain}
@@ -27,7 +27,7 @@ module _ {K : Type 0} (code : K → ℕ) where
   -- the chain of all entries with that code
   pub record LeadsTo (cmp : K → K → Ordering) (F : Forms K) (E : List (Entry K)) (c : ℕ) (place : Place) : Type 0 where
     pub depth : ℕ
-    pub deep : (l : ℕ) → place ≡ Node l → depth ≡ DEEPEST + 1
+    pub deep : (l : ℕ) → place ≡ Node l → depth ≡ LEVELS
     pub stands : IsPlace F (λ l P. IsChain cmp F l P) place (agreeing depth c E)
 
 -- how many of the keys share this key's code, as far as so many bits tell

@@ -3,7 +3,7 @@ use Rattle.std.specs.Prelude.{◌≡◌, ℕ, zero, suc, ◌+◌, ◌<◌, ◌�
 use Rattle.std.specs.List.{filter}
 use Rattle.std.specs.declared.cmp.Ordering.{Ordering}
 use Rattle.elem_core.specs.Codes.{digit_at, masked_code}
-use Rattle.elem_core.specs.declared.codes.TheConstants.{DEEPEST}
+use Rattle.elem_core.specs.declared.codes.TheConstants.{LEVELS}
 use Rattle.node_heap.specs.Forms.{Forms, node, trie}
 use Rattle.node_heap.specs.Heap.{Heap, form_at}
 use Rattle.champ_chain.specs.Entry.{Entry, entry, IsEntry, AreDistinct}
@@ -70,7 +70,7 @@ module _ {K : Type 0} where
 
     -- the canonical trie of these entries, whose keys are different, from depth 0 on
     pub record IsCanon (F : Forms K) (root : ℕ) (E : List (Entry K)) : Type 0 where
-      pub trie : IsTrie F (DEEPEST + 1) 0 root E
+      pub trie : IsTrie F LEVELS 0 root E
       pub distinct : AreDistinct cmp E
 
 -- the code of a key by so many bits

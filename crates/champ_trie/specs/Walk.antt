@@ -1,7 +1,7 @@
 -- The walk over the entries of a trie.
 use Rattle.std.specs.Prelude.{ℕ, zero, suc, ◌+◌, List, [], ◌∷◌, ◌++◌, take, drop, Option, Some, None}
 use Rattle.std.specs.List.{flat_map}
-use Rattle.elem_core.specs.declared.codes.TheConstants.{DEEPEST}
+use Rattle.elem_core.specs.declared.codes.TheConstants.{LEVELS}
 use Rattle.node_heap.specs.Forms.{Form, Forms, Kind, cell, node, leaf, inner, trie, chain, pair, state, links_of, Tree, Trees, cut, tree_cell, tree_node, no_trees, tree_then}
 use Rattle.node_heap.specs.Heap.{Heap, form_at, live_count}
 use Rattle.champ_trie.specs.Bits.{rank}
@@ -56,7 +56,7 @@ module _ {K : Type 0} where
 module _ {T : Type 0} where
   -- more than the rows of any way down from a root: trie rows, and then at most all rows in one chain
   abbrev pub depth_of : Heap T → ℕ
-  depth_of h = DEEPEST + 2 + live_count h
+  depth_of h = LEVELS + 1 + live_count h
 
   -- the links of the entries of a trie in the order of the walk: those of each row, and then those of the rows below it
   abbrev pub walk : Heap T → ℕ → List ℕ

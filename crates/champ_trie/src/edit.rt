@@ -3,7 +3,7 @@ ghost use Rattle.std.specs.Prelude.{◌≡◌, ℕ, ◌+◌, ◌*◌, ◌%◌, �
 ghost use Rattle.std.specs.declared.cmp.Ordering.TheVariants.{Equal};
 ghost use Rattle.elem_core.specs.Codes.{digit_at};
 ghost use Rattle.node_heap.specs.Links.{count};
-ghost use Rattle.node_heap.specs.Heap.{form_at, holds_at, hold_count, IsGraph};
+ghost use Rattle.node_heap.specs.Heap.{form_at, holds_at, hold_count, IsGraph, half_holds, most_holds};
 ghost use Rattle.node_heap.specs.Calls.{Builds};
 ghost use Rattle.champ_chain.specs.Entry.{Entry, entry as entry_of, key_at, link_with, others, put};
 ghost use Rattle.champ_chain.specs.Chain.{IsChain};
@@ -16,7 +16,7 @@ ghost use Rattle.champ_trie.specs.Edit.{IsBelow, chain_nodes, SharesBeside};
 use crate::place::Place;
 use crate::row::{TrieRow, edited, place_at};
 use champ_chain::{added, joined, key_of, removed};
-use elem_core::{CODE_BITS, Code, DEEPEST, Element, Probe, digit, masked};
+use elem_core::{CODE_BITS, Code, DEEPEST, Element, LEVELS, Probe, digit, masked};
 use node_heap::{Head, Heap, Link};
 use std::cmp::Ordering;
 
@@ -31,7 +31,7 @@ pub(crate) fn with_at<T: Element>(
     bits: u32,
 ) -> Link
     requires bits { bits ≤ CODE_BITS }
-    requires few { hold_count heap.old ≤ 2 ^ 59 }
+    requires few { hold_count heap.old ≤ half_holds }
     requires graph { IsGraph heap.old }
     requires held { 0 < holds_at heap.old entry }
     requires key { (k : T) × (key_at (form_at heap.old) entry ≡ Some k) × (code ≡ code_by T.code_of bits k) }
@@ -67,7 +67,7 @@ fn beside<T: Element>(
 ) -> Place
     requires bits { bits ≤ CODE_BITS }
     requires depth { depth ≤ DEEPEST }
-    requires few { hold_count heap.old ≤ 2 ^ 59 }
+    requires few { hold_count heap.old ≤ half_holds }
     requires graph { IsGraph heap.old }
     requires held { 0 < holds_at heap.old entry }
     requires key { (k : T) × (key_at (form_at heap.old) entry ≡ Some k) × (code ≡ code_by T.code_of bits k) }
@@ -98,15 +98,15 @@ pub fn node_of_two<T: Element>(
     second: Link,
     second_code: Code,
 ) -> Link
-    requires depth { depth ≤ DEEPEST + 1 }
-    requires few { hold_count heap.old < 2 ^ 60 }
+    requires depth { depth ≤ LEVELS }
+    requires few { hold_count heap.old < most_holds }
     requires held { (l : ℕ) → count l (first ∷ second ∷ []) ≤ holds_at heap.old l }
     requires keys { (j k : T) × (key_at (form_at heap.old) first ≡ Some j) × (key_at (form_at heap.old) second ≡ Some k) × (T.cmp j k ≢ Equal) }
     requires codes { first_code % 2 ^ (5 * depth) ≡ second_code % 2 ^ (5 * depth) }
-    requires spare { DEEPEST + 1 + chain_nodes first_code second_code ≤ heap.old.spare_nodes + depth }
-    ensures builds { (n : ℕ) × (n + depth ≤ DEEPEST + 1 + chain_nodes first_code second_code) × Builds heap.old heap.new (first ∷ second ∷ []) (result ∷ []) 0 n }
+    requires spare { LEVELS + chain_nodes first_code second_code ≤ heap.old.spare_nodes + depth }
+    ensures builds { (n : ℕ) × (n + depth ≤ LEVELS + chain_nodes first_code second_code) × Builds heap.old heap.new (first ∷ second ∷ []) (result ∷ []) 0 n }
     ensures trie { (code : T → ℕ) (j k : T) → key_at (form_at heap.old) first ≡ Some j → key_at (form_at heap.old) second ≡ Some k →
-        first_code ≡ code j → second_code ≡ code k → (left : ℕ) → depth + left ≡ DEEPEST + 1 →
+        first_code ≡ code j → second_code ≡ code k → (left : ℕ) → depth + left ≡ LEVELS →
         IsTrie T.cmp code (form_at heap.new) left depth result (entry_of j first ∷ entry_of k second ∷ []) }
     ensures owners { KeepsOldOwners heap.old heap.new }
     ensures below { ReachesOldBy heap.old heap.new first second result }
@@ -151,7 +151,7 @@ pub(crate) fn place_without<T: Element, P: Probe<T>>(
 ) -> Place
     requires bits { bits ≤ CODE_BITS }
     requires depth { depth ≤ DEEPEST }
-    requires few { hold_count heap.old < 2 ^ 59 }
+    requires few { hold_count heap.old < half_holds }
     requires graph { IsGraph heap.old }
     requires code { code ≡ code_by T.code_of bits (P.stands_for key.now) }
     requires trie { (E : List (Entry T)) × (left : ℕ) × IsBelow T.cmp (code_by T.code_of bits) (form_at heap.old) depth link E (suc left) code
@@ -181,7 +181,7 @@ pub(crate) fn place_without<T: Element, P: Probe<T>>(
 
 // What stands for a chain once the key is gone.
 fn chain_place_without<T: Element, P: Probe<T>>(heap: &mut Heap<T>, chain: Link, key: &P) -> Place
-    requires few { hold_count heap.old < 2 ^ 59 }
+    requires few { hold_count heap.old < half_holds }
     requires chain { (E : List (Entry T)) × IsChain T.cmp (form_at heap.old) chain E × (link_with T.cmp (P.stands_for key.now) E ≢ None)
         × (length E ≤ heap.old.spare_nodes) }
     ensures builds { (E : List (Entry T)) → IsChain T.cmp (form_at heap.old) chain E → Builds heap.old heap.new [] (links_at_place result) 0 (length E) }

@@ -7,9 +7,9 @@
 //! caller has reserved them.
 #![tactic(auto)]
 
-ghost use Rattle.std.specs.Prelude.{◌≡◌, ◌↔◌, ℕ, ◌+◌, ◌<◌, ◌≤◌, ◌≢◌, ◌^◌, List, [], ◌∷◌, length, map, Some, None, IsSome, IfOk, OnOk, OnErr, IsOk, IfSome, IfNone};
+ghost use Rattle.std.specs.Prelude.{◌≡◌, ◌↔◌, ℕ, ◌+◌, ◌<◌, ◌≤◌, ◌≢◌, List, [], ◌∷◌, length, map, Some, None, IsSome, IfOk, OnOk, OnErr, IsOk, IfSome, IfNone};
 ghost use Rattle.node_heap.specs.Forms.{Tree, IsTree, AreTrees, trees_of};
-ghost use Rattle.node_heap.specs.Heap.{form_at, holds_at, hold_count, node_count, HasSpares, IsGraph};
+ghost use Rattle.node_heap.specs.Heap.{form_at, holds_at, hold_count, node_count, HasSpares, IsGraph, half_holds, row_limit};
 ghost use Rattle.node_heap.specs.Calls.{Answered, Builds, KeepsToNeed, MakesJust};
 ghost use Rattle.champ_chain.specs.Entry.{SameSet, Entry, entry as entry_of, key_at, link_with, others, put};
 ghost use Rattle.champ_trie.specs.Trie.{IsTrieOf, KeepsTries, code_by};
@@ -28,7 +28,7 @@ pub use champ_chain::Found;
 use champ_chain::{find as find_in_chain, key_of, look_up as look_up_in_chain};
 pub use edit::node_of_two;
 use edit::{place_without, with_at};
-use elem_core::{CODE_BITS, DEEPEST, Element, NoMemory, Probe, digit, masked};
+use elem_core::{CODE_BITS, Element, LEVELS, NoMemory, Probe, digit, masked};
 pub use laws::{depends_on_entries, rows_are_told_by_places, tries_stay};
 use node_heap::{Heap, Link};
 pub use place::{Place, cleared, contains, rank_of, with_position};
@@ -38,9 +38,13 @@ use row::{TrieRow, edited};
 use std::cmp::Ordering;
 pub use walk::Entries;
 
+/// The most nodes that adding an entry makes, besides one for each key with the same masked code: a row of each depth, and
+/// one of a chain.
+pub const ADD_NODES: usize = LEVELS as usize + 1;
+
 /// The empty trie: a row without links. It makes one node. Err where memory runs out: it leaves the heap as it was.
 pub fn empty<T: Element>(heap: &mut Heap<T>) -> Result<Link, NoMemory>
-    requires few { hold_count heap.old < 2 ^ 59 }
+    requires few { hold_count heap.old < half_holds }
     ensures answered { IfOk result (λ l. Answered heap.old heap.new [] l 0 1) }
     ensures one { OnOk result (node_count heap.new ≡ node_count heap.old + 1) }
     ensures entries { (bits : ℕ) → IfOk result (λ l. IsTrieOf T.cmp T.code_of bits heap.new l []) }
@@ -91,7 +95,7 @@ pub fn look_up<T: Element, P: Probe<T>>(heap: &Heap<T>, root: Link, key: &P, bit
         result.entry ≡ link_with T.cmp (P.stands_for key.now) E }
     ensures alike { (E : List (Entry T)) → IsTrieOf T.cmp T.code_of bits heap.now root E →
         result.alike ≡ alike_to T.code_of bits (P.stands_for key.now) E }
-    ensures few { result.alike < 2 ^ 56 }
+    ensures few { result.alike < row_limit }
 {
     let code = masked(key.code(), bits);
     match reached(heap, root, code, bits) {
@@ -115,7 +119,7 @@ pub fn entries<'h, T: Element>(heap: &'h Heap<T>, root: Link) -> Entries<'h, T>
     ensures links { (bits : ℕ) (E : List (Entry T)) → IsTrieOf T.cmp T.code_of bits heap.now root E →
         SameSet result (map (λ e. e.link) E) }
     ensures trees { (t : Tree T) → IsTree (form_at heap.now) root t → AreTrees (form_at heap.now) result (trees_of (tree_entries t)) }
-    ensures few { length result < 2 ^ 56 }
+    ensures few { length result < row_limit }
 {
     Entries::over(heap, root)
 }
@@ -135,13 +139,13 @@ pub fn alike<T: Element, P: Probe<T>>(heap: &Heap<T>, root: Link, key: &P, bits:
     ensures graph { IsGraph heap.now }
     ensures number { (E : List (Entry T)) → IsTrieOf T.cmp T.code_of bits heap.now root E →
         result ≡ alike_to T.code_of bits (P.stands_for key.now) E }
-    ensures few { result < 2 ^ 56 }
+    ensures few { result < row_limit }
 {
     look_up(heap, root, key, bits).alike
 }
 
 /// The trie with the entry added, or in the place of the one with its key. The entry's hold is spent on Ok, and the
-/// given root stays. It makes at most `DEEPEST + 2` nodes, and one more for each key with the same masked code. Err
+/// given root stays. It makes at most `ADD_NODES` nodes, and one more for each key with the same masked code. Err
 /// where memory runs out: it leaves the heap as it was.
 pub fn with<T: Element>(
     heap: &mut Heap<T>,
@@ -150,45 +154,45 @@ pub fn with<T: Element>(
     bits: u32,
 ) -> Result<Link, NoMemory>
     requires bits { bits ≤ CODE_BITS }
-    requires few { hold_count heap.old ≤ 2 ^ 59 }
+    requires few { hold_count heap.old ≤ half_holds }
     requires held { 0 < holds_at heap.old entry }
     requires keyed { IsSome (key_at (form_at heap.old) entry) }
     requires trie { (E : List (Entry T)) × IsTrieOf T.cmp T.code_of bits heap.old root E }
     ensures answered { (E : List (Entry T)) (k : T) → IsTrieOf T.cmp T.code_of bits heap.old root E → key_at (form_at heap.old) entry ≡ Some k →
         IfOk result (λ l. Answered heap.old heap.new (entry ∷ []) l 0
-        (DEEPEST + 2 + alike_to T.code_of bits k E)) }
+        (ADD_NODES + alike_to T.code_of bits k E)) }
     ensures entries { (E : List (Entry T)) (k : T) → IsTrieOf T.cmp T.code_of bits heap.old root E → key_at (form_at heap.old) entry ≡ Some k →
         IfOk result (λ l. IsTrieOf T.cmp T.code_of bits heap.new l (put T.cmp E (entry_of k entry))) }
     ensures shares { (E : List (Entry T)) (k : T) → IsTrieOf T.cmp T.code_of bits heap.old root E → key_at (form_at heap.old) entry ≡ Some k →
-        IfOk result (λ l. SharesBeside (form_at heap.old) (form_at heap.new) (code_by T.code_of bits k) (DEEPEST + 1) 0 root l) }
+        IfOk result (λ l. SharesBeside (form_at heap.old) (form_at heap.new) (code_by T.code_of bits k) LEVELS 0 root l) }
     ensures made { OnOk result (MakesJust heap.old heap.new) }
     ensures tries { KeepsTries heap.old heap.new }
     ensures refused { OnErr result (heap.new ≡ heap.old) }
     ensures spares { (E : List (Entry T)) (k : T) → IsTrieOf T.cmp T.code_of bits heap.old root E → key_at (form_at heap.old) entry ≡ Some k →
-        OnOk result (KeepsToNeed heap.old heap.new 0 (DEEPEST + 2 + alike_to T.code_of bits k E)) }
+        OnOk result (KeepsToNeed heap.old heap.new 0 (ADD_NODES + alike_to T.code_of bits k E)) }
     ensures ample { (E : List (Entry T)) (k : T) → IsTrieOf T.cmp T.code_of bits heap.old root E → key_at (form_at heap.old) entry ≡ Some k →
-        HasSpares heap.old 0 (DEEPEST + 2 + alike_to T.code_of bits k E) → IsOk result }
+        HasSpares heap.old 0 (ADD_NODES + alike_to T.code_of bits k E) → IsOk result }
 {
     let found = look_up(heap, root, key_of(heap, entry), bits);
-    heap.reserve(0, found.alike + usize::from(DEEPEST) + 2)?;
+    heap.reserve(0, found.alike + ADD_NODES)?;
     Ok(added(heap, root, entry, bits))
 }
 
-/// The trie with the entry added, or in the place of the one with its key, where there are `DEEPEST + 2` spare nodes,
+/// The trie with the entry added, or in the place of the one with its key, where there are `ADD_NODES` spare nodes,
 /// and one more for each key with the same masked code. The entry's hold is spent, and the given root stays.
 pub fn added<T: Element>(heap: &mut Heap<T>, root: Link, entry: Link, bits: u32) -> Link
     requires bits { bits ≤ CODE_BITS }
-    requires few { hold_count heap.old ≤ 2 ^ 59 }
+    requires few { hold_count heap.old ≤ half_holds }
     requires graph { IsGraph heap.old }
     requires held { 0 < holds_at heap.old entry }
     requires trie { (E : List (Entry T)) × (k : T) × IsTrieOf T.cmp T.code_of bits heap.old root E × (key_at (form_at heap.old) entry ≡ Some k)
-        × (DEEPEST + 2 + alike_to T.code_of bits k E ≤ heap.old.spare_nodes) }
+        × (ADD_NODES + alike_to T.code_of bits k E ≤ heap.old.spare_nodes) }
     ensures builds { (E : List (Entry T)) (k : T) → IsTrieOf T.cmp T.code_of bits heap.old root E → key_at (form_at heap.old) entry ≡ Some k →
-        Builds heap.old heap.new (entry ∷ []) (result ∷ []) 0 (DEEPEST + 2 + alike_to T.code_of bits k E) }
+        Builds heap.old heap.new (entry ∷ []) (result ∷ []) 0 (ADD_NODES + alike_to T.code_of bits k E) }
     ensures entries { (E : List (Entry T)) (k : T) → IsTrieOf T.cmp T.code_of bits heap.old root E → key_at (form_at heap.old) entry ≡ Some k →
         IsTrieOf T.cmp T.code_of bits heap.new result (put T.cmp E (entry_of k entry)) }
     ensures shares { (E : List (Entry T)) (k : T) → IsTrieOf T.cmp T.code_of bits heap.old root E → key_at (form_at heap.old) entry ≡ Some k →
-        SharesBeside (form_at heap.old) (form_at heap.new) (code_by T.code_of bits k) (DEEPEST + 1) 0 root result }
+        SharesBeside (form_at heap.old) (form_at heap.new) (code_by T.code_of bits k) LEVELS 0 root result }
     ensures tries { KeepsTries heap.old heap.new }
 {
     let code = masked(Element::code(key_of(heap, entry)), bits);
@@ -196,7 +200,7 @@ pub fn added<T: Element>(heap: &mut Heap<T>, root: Link, entry: Link, bits: u32)
 }
 
 /// The trie without the entry with this key: None exactly where the key is absent, and then nothing has changed. The
-/// given root stays. It makes at most `DEEPEST + 1` nodes, and one more for each key with the same masked code. Err
+/// given root stays. It makes at most `LEVELS` nodes, and one more for each key with the same masked code. Err
 /// where memory runs out: it leaves the heap as it was.
 pub fn without<T: Element, P: Probe<T>>(
     heap: &mut Heap<T>,
@@ -205,47 +209,47 @@ pub fn without<T: Element, P: Probe<T>>(
     bits: u32,
 ) -> Result<Option<Link>, NoMemory>
     requires bits { bits ≤ CODE_BITS }
-    requires few { hold_count heap.old < 2 ^ 59 }
+    requires few { hold_count heap.old < half_holds }
     requires trie { (E : List (Entry T)) × IsTrieOf T.cmp T.code_of bits heap.old root E }
     ensures absent { (E : List (Entry T)) → IsTrieOf T.cmp T.code_of bits heap.old root E →
         (result ≡ Ok None) ↔ (link_with T.cmp (P.stands_for key.now) E ≡ None) }
     ensures nothing { IfOk result (λ left. IfNone left (heap.new ≡ heap.old)) }
     ensures answered { (E : List (Entry T)) → IsTrieOf T.cmp T.code_of bits heap.old root E →
-        IfOk result (λ left. IfSome left (λ l. Answered heap.old heap.new [] l 0 (DEEPEST + 1 + alike_to T.code_of bits (P.stands_for key.now) E))) }
+        IfOk result (λ left. IfSome left (λ l. Answered heap.old heap.new [] l 0 (LEVELS + alike_to T.code_of bits (P.stands_for key.now) E))) }
     ensures entries { (E : List (Entry T)) → IsTrieOf T.cmp T.code_of bits heap.old root E →
         IfOk result (λ left. IfSome left (λ l. IsTrieOf T.cmp T.code_of bits heap.new l (others T.cmp (P.stands_for key.now) E))) }
     ensures shares { (E : List (Entry T)) → IsTrieOf T.cmp T.code_of bits heap.old root E →
-        IfOk result (λ left. IfSome left (λ l. SharesBeside (form_at heap.old) (form_at heap.new) (code_by T.code_of bits (P.stands_for key.now)) (DEEPEST + 1) 0 root l)) }
+        IfOk result (λ left. IfSome left (λ l. SharesBeside (form_at heap.old) (form_at heap.new) (code_by T.code_of bits (P.stands_for key.now)) LEVELS 0 root l)) }
     ensures made { OnOk result (MakesJust heap.old heap.new) }
     ensures tries { KeepsTries heap.old heap.new }
     ensures refused { OnErr result (heap.new ≡ heap.old) }
     ensures spares { (E : List (Entry T)) → IsTrieOf T.cmp T.code_of bits heap.old root E →
-        OnOk result (KeepsToNeed heap.old heap.new 0 (DEEPEST + 1 + alike_to T.code_of bits (P.stands_for key.now) E)) }
+        OnOk result (KeepsToNeed heap.old heap.new 0 (LEVELS + alike_to T.code_of bits (P.stands_for key.now) E)) }
     ensures ample { (E : List (Entry T)) → IsTrieOf T.cmp T.code_of bits heap.old root E →
-        HasSpares heap.old 0 (DEEPEST + 1 + alike_to T.code_of bits (P.stands_for key.now) E) → IsOk result }
+        HasSpares heap.old 0 (LEVELS + alike_to T.code_of bits (P.stands_for key.now) E) → IsOk result }
 {
     let found = look_up(heap, root, key, bits);
     if found.entry.is_none() {
         return Ok(None);
     }
-    heap.reserve(0, found.alike + usize::from(DEEPEST) + 1)?;
+    heap.reserve(0, found.alike + usize::from(LEVELS))?;
     Ok(Some(removed(heap, root, key, bits)))
 }
 
-/// The trie without the entry with this key, which is there, where there are `DEEPEST + 1` spare nodes, and one more
+/// The trie without the entry with this key, which is there, where there are `LEVELS` spare nodes, and one more
 /// for each key with the same masked code. The given root stays.
 pub fn removed<T: Element, P: Probe<T>>(heap: &mut Heap<T>, root: Link, key: &P, bits: u32) -> Link
     requires bits { bits ≤ CODE_BITS }
-    requires few { hold_count heap.old < 2 ^ 59 }
+    requires few { hold_count heap.old < half_holds }
     requires graph { IsGraph heap.old }
     requires trie { (E : List (Entry T)) × IsTrieOf T.cmp T.code_of bits heap.old root E × (link_with T.cmp (P.stands_for key.now) E ≢ None)
-        × (DEEPEST + 1 + alike_to T.code_of bits (P.stands_for key.now) E ≤ heap.old.spare_nodes) }
+        × (LEVELS + alike_to T.code_of bits (P.stands_for key.now) E ≤ heap.old.spare_nodes) }
     ensures builds { (E : List (Entry T)) → IsTrieOf T.cmp T.code_of bits heap.old root E →
-        Builds heap.old heap.new [] (result ∷ []) 0 (DEEPEST + 1 + alike_to T.code_of bits (P.stands_for key.now) E) }
+        Builds heap.old heap.new [] (result ∷ []) 0 (LEVELS + alike_to T.code_of bits (P.stands_for key.now) E) }
     ensures entries { (E : List (Entry T)) → IsTrieOf T.cmp T.code_of bits heap.old root E →
         IsTrieOf T.cmp T.code_of bits heap.new result (others T.cmp (P.stands_for key.now) E) }
     ensures shares { (E : List (Entry T)) → IsTrieOf T.cmp T.code_of bits heap.old root E →
-        SharesBeside (form_at heap.old) (form_at heap.new) (code_by T.code_of bits (P.stands_for key.now)) (DEEPEST + 1) 0 root result }
+        SharesBeside (form_at heap.old) (form_at heap.new) (code_by T.code_of bits (P.stands_for key.now)) LEVELS 0 root result }
     ensures tries { KeepsTries heap.old heap.new }
 {
     let code = masked(key.code(), bits);

@@ -7,7 +7,7 @@ ghost use Rattle.champ_trie.specs.Reach.{LeadsTo};
 
 use crate::place::Place;
 use crate::row::place_at;
-use elem_core::{Code, DEEPEST, Element, digit};
+use elem_core::{Code, Element, LEVELS, digit};
 use node_heap::{Heap, Link};
 
 // Where the digits of the code lead: to nothing, to an entry, or to the chain below the deepest row.
@@ -18,7 +18,7 @@ pub(crate) fn reached<T: Element>(heap: &Heap<T>, root: Link, code: Code, bits: 
         LeadsTo (code_by T.code_of bits) T.cmp (form_at heap.now) E code result }
 {
     let mut link = root;
-    for depth in 0..DEEPEST + 1 {
+    for depth in 0..LEVELS {
         match place_at(heap, link, digit(code, depth)) {
             Place::Empty => return Place::Empty,
             Place::Entry(entry) => return Place::Entry(entry),

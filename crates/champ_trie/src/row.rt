@@ -1,9 +1,9 @@
 //! Trie rows apart from the heap, and how they are made.
-ghost use Rattle.std.specs.Prelude.{◌≡◌, ◌≢◌, ◌⊎◌, ℕ, ◌+◌, ◌<◌, ◌≤◌, ◌^◌, List, [], ◌∷◌, length, Some, None, slice_index, slice_index_or};
+ghost use Rattle.std.specs.Prelude.{◌≡◌, ◌≢◌, ◌⊎◌, ℕ, ◌+◌, ◌<◌, ◌≤◌, List, [], ◌∷◌, length, Some, None, slice_index, slice_index_or};
 ghost use Rattle.std.specs.List.{flat_map};
 ghost use Rattle.node_heap.specs.Links.{count};
 ghost use Rattle.node_heap.specs.Forms.{node, trie};
-ghost use Rattle.node_heap.specs.Heap.{row_at, form_at, holds_at, hold_count, IsGraph};
+ghost use Rattle.node_heap.specs.Heap.{row_at, form_at, holds_at, hold_count, IsGraph, half_holds, most_holds};
 ghost use Rattle.node_heap.specs.Calls.{AddsOwner, SameRows, Makes, Builds};
 ghost use Rattle.node_heap.specs.declared.row.Head.TheVariants.{Trie};
 ghost use Rattle.champ_trie.specs.Trie.{AreSets, IsRow, IsRowOfPlaces, place_of, links_at_place};
@@ -105,7 +105,7 @@ impl TrieRow {
         requires sets { AreSets self.now.entries self.now.nodes self.now.links.items }
         requires spare { 0 < heap.old.spare_nodes }
         requires held { (k : ℕ) → count k self.now.links.items ≤ holds_at heap.old k }
-        requires few { hold_count heap.old < 2 ^ 60 }
+        requires few { hold_count heap.old < most_holds }
         ensures row { IsRow (form_at heap.new) result depth self.now.entries self.now.nodes self.now.links.items }
         ensures fresh { row_at heap.old result ≡ None }
         ensures owners { AddsOwner heap.old heap.new result }
@@ -126,7 +126,7 @@ impl TrieRow {
         requires sets { AreSets self.now.entries self.now.nodes self.now.links.items }
         requires spare { 0 < heap.old.spare_nodes }
         requires held { (k : ℕ) → count k self.now.links.items ≤ holds_at heap.old k }
-        requires few { hold_count heap.old < 2 ^ 60 }
+        requires few { hold_count heap.old < most_holds }
         requires graph { IsGraph heap.old }
         ensures place { Closes heap.new self.now.entries self.now.nodes self.now.links.items depth result }
         ensures builds { Builds heap.old heap.new self.now.links.items (links_at_place result) 0 1 }
@@ -160,7 +160,7 @@ pub fn row_of_places<T>(heap: &mut Heap<T>, depth: u8, places: &[Place]) -> Link
     requires all { length places.now ≡ 32 }
     requires spare { 0 < heap.old.spare_nodes }
     requires held { (k : ℕ) → count k (flat_map links_at_place places.now) ≤ holds_at heap.old k }
-    requires few { hold_count heap.old < 2 ^ 60 }
+    requires few { hold_count heap.old < most_holds }
     ensures row { IsRowOfPlaces (form_at heap.new) result depth places.now }
     ensures fresh { row_at heap.old result ≡ None }
     ensures owners { AddsOwner heap.old heap.new result }
@@ -198,7 +198,7 @@ pub(crate) fn edited<T>(heap: &mut Heap<T>, link: Link, position: u32, place: Pl
     requires row { (depth entries nodes : ℕ) × (links : List ℕ) × IsRow (form_at heap.old) link depth entries nodes links }
     requires graph { IsGraph heap.old }
     requires position { position < 32 }
-    requires few { hold_count heap.old < 2 ^ 59 + 2 }
+    requires few { hold_count heap.old < half_holds + 2 }
     ensures rows { SameRows heap.old heap.new }
     ensures builds { Builds heap.old heap.new (links_at_place place) result.links.items 0 0 }
     ensures sets { AreSets result.entries result.nodes result.links.items }

@@ -6,12 +6,12 @@ ghost use Rattle.champ_trie.specs.Walk.{entry_count, own_entries, rows_below, wa
 ghost use Rattle.champ_trie.specs.Stack.{IsWalkRow, IsLayer, IsStack, stacked, next_first, rows_on};
 
 use arrayvec::ArrayVec;
-use elem_core::DEEPEST;
+use elem_core::LEVELS;
 use node_heap::{Head, Heap, Link};
 use std::marker::Model;
 
 // How many lists of rows wait at most: those below a trie row of each depth, and the rest of a chain.
-const LAYERS: usize = DEEPEST as usize + 2;
+const LAYERS: usize = LEVELS as usize + 1;
 
 /// The links of a trie's entries: those of each row by rising position, and after them those below its nodes in turn. It
 /// takes no memory.
@@ -29,13 +29,13 @@ impl<'h, T> Model for Entries<'h, T> {
     ghost Value = { List ℕ };
 
     ghost use Rattle.std.specs.Prelude.{map, ◌+◌};
-    ghost use Rattle.elem_core.specs.declared.codes.TheConstants.{DEEPEST};
+    ghost use Rattle.elem_core.specs.declared.codes.TheConstants.{LEVELS};
     ghost use Rattle.node_heap.specs.Heap.{form_at};
     ghost use Rattle.champ_trie.specs.Stack.{walk_left, IsStack};
 
     ghost view = { λ e. walk_left e.heap.now e.own.now (map (λ r. r.now) e.rows.items) };
 
-    ghost invariant = { λ e. IsStack (form_at e.heap.now) (DEEPEST + 2) (map (λ r. r.now) e.rows.items) };
+    ghost invariant = { λ e. IsStack (form_at e.heap.now) (LEVELS + 1) (map (λ r. r.now) e.rows.items) };
 }
 
 impl<T> Drop for Entries<'_, T> {
@@ -52,7 +52,7 @@ impl<'h, T> Entries<'h, T> {
     // The walk from a root on.
     pub(crate) fn over(heap: &'h Heap<T>, root: Link) -> Entries<'h, T>
         requires row { IsWalkRow (form_at heap.now root) }
-        requires below { IsLayer (form_at heap.now) (DEEPEST + 1) (rows_below (form_at heap.now root)) }
+        requires below { IsLayer (form_at heap.now) LEVELS (rows_below (form_at heap.now root)) }
         ensures graph { IsGraph heap.now }
         ensures walk { result ≡ walk heap.now root }
     {

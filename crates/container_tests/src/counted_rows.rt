@@ -1,7 +1,7 @@
 //! Rows, holds and heads of one heap.
-ghost use Rattle.std.specs.Prelude.{◌^◌, ◌<◌, ◌≤◌, [], ◌∷◌, IfOk, OnErr, IsOk};
+ghost use Rattle.std.specs.Prelude.{◌<◌, ◌≤◌, [], ◌∷◌, IfOk, OnErr, IsOk};
 ghost use Rattle.node_heap.specs.Forms.{leaf, tree_cell, tree_node, trees_of, IsTree};
-ghost use Rattle.node_heap.specs.Heap.{form_at, hold_count};
+ghost use Rattle.node_heap.specs.Heap.{form_at, hold_count, half_holds};
 ghost use Rattle.node_heap.specs.Calls.{Answered, Unchanged};
 
 use elem_core::{NoMemory, Num};
@@ -10,7 +10,7 @@ use std::test::Fail;
 
 // A leaf of two cells, which stands for a while in a pair with a third.
 fn leaf_again<T: Drop>(heap: &mut Heap<T>, first: T, second: T, third: T) -> Result<Link, NoMemory>
-    requires { hold_count heap.old < 2 ^ 59 }
+    requires { hold_count heap.old < half_holds }
     ensures answered { IfOk result (λ link. Answered heap.old heap.new [] link 3 2) }
     ensures tree { IfOk result (λ link. IsTree (form_at heap.new) link (tree_node leaf (trees_of (tree_cell first ∷ tree_cell second ∷ [])))) }
     ensures refused { OnErr result (Unchanged heap.old heap.new) }

@@ -1,7 +1,7 @@
 //! Texts, lines, names and codes.
 use elem_core::{
-    CODE_BITS, Code, DEEPEST, Element, Line, MAX_LINE, Name, NoMemory, Num, Probe, Stored, Text,
-    Texts, digit, fnv32, is_name, masked, text_of,
+    CODE_BITS, Code, DEEPEST, Element, LEVELS, Line, MAX_LINE, Name, NoMemory, Num, Probe, Stored,
+    Text, Texts, digit, fnv32, is_name, masked, text_of,
 };
 use std::alloc::{AllocError, AllocFailed};
 use std::cmp::Ordering;
@@ -26,7 +26,7 @@ fn codes_are_those_of_fnv_1a(rt: HostRuntime) {
     assert_eq!(rt; masked(0xc40b_f6cc, 5), 12);
     assert_eq!(rt; masked(0xe40c_292c, 0), 0);
     assert_eq!(rt; masked(0xe40c_292c, CODE_BITS), 0xe40c_292c);
-    for depth in 1..DEEPEST + 1 {
+    for depth in 1..LEVELS {
         assert_eq!(rt; digit(masked(0xe40c_292c, 5), depth), 0, "at {depth}");
     }
     assert_eq!(rt; digit(0xe40c_292c, DEEPEST), 3);

@@ -1,6 +1,6 @@
 //! A store of notes, with two versions kept beside it.
 ghost use Rattle.std.specs.Prelude.{◌≡◌, ℕ, ◌+◌, ◌^◌, ◌<◌};
-ghost use Rattle.node_heap.specs.Heap.{holds_at, hold_count, one_at};
+ghost use Rattle.node_heap.specs.Heap.{holds_at, hold_count, one_at, program_holds};
 ghost use Rattle.champ_kinds.specs.Stands.{IsSomeMap};
 ghost use Rattle.note_store.specs.Undo.{IsStore, KeepsOthers, held_by};
 
@@ -52,7 +52,7 @@ fn put_three<T: Element>(
 
 // Goes back by two versions.
 fn undo_two<T: Element>(rt: &impl Abort, heap: &mut Heap<T>, store: &mut Store)
-    requires few { hold_count heap.old < 2 ^ 50 }
+    requires few { hold_count heap.old < program_holds }
     requires store { IsStore T.cmp T.code_of heap.old store.old }
     ensures store { IsStore T.cmp T.code_of heap.new store.new }
     ensures others { KeepsOthers heap.old heap.new store.old store.new }
@@ -63,7 +63,7 @@ fn undo_two<T: Element>(rt: &impl Abort, heap: &mut Heap<T>, store: &mut Store)
 
 // Goes back by the one version that is left.
 fn undo_last<T: Element>(rt: &impl Abort, heap: &mut Heap<T>, store: &mut Store)
-    requires few { hold_count heap.old < 2 ^ 50 }
+    requires few { hold_count heap.old < program_holds }
     requires store { IsStore T.cmp T.code_of heap.old store.old }
     ensures store { IsStore T.cmp T.code_of heap.new store.new }
     ensures others { KeepsOthers heap.old heap.new store.old store.new }

@@ -1,7 +1,7 @@
 //! Writes in place and counted reads.
-ghost use Rattle.std.specs.Prelude.{◌≡◌, ℕ, IsSome, ◌+◌, ◌^◌, ◌<◌, ◌≤◌, Some, length, option_copied};
+ghost use Rattle.std.specs.Prelude.{◌≡◌, ℕ, IsSome, ◌+◌, ◌<◌, ◌≤◌, Some, length, option_copied};
 ghost use Rattle.node_heap.specs.Forms.{value_of, IsTree, Tree};
-ghost use Rattle.node_heap.specs.Heap.{row_at, form_at, links_at, holds_at, hold_count, one_at, HasSpares};
+ghost use Rattle.node_heap.specs.Heap.{row_at, form_at, links_at, holds_at, hold_count, one_at, HasSpares, most_holds};
 ghost use Rattle.node_heap.specs.Calls.{KeepsHeld};
 ghost use Rattle.node_heap.specs.InPlace.{child_at};
 ghost use Rattle.node_heap.specs.Glass.{lent};
@@ -20,7 +20,7 @@ fn write_third<T>(heap: &mut Heap<T>, root: Link, value: T) -> (Link, Link)
     requires middle { 0 < length (links_at heap.old (child_at heap.old root 0)) }
     requires last { 0 < length (links_at heap.old (child_at heap.old (child_at heap.old root 0) 0)) }
     requires spares { HasSpares heap.old 1 3 }
-    requires few { hold_count heap.old < 2 ^ 60 }
+    requires few { hold_count heap.old < most_holds }
     ensures keeps { KeepsHeld (one_at root) heap.old heap.new }
     ensures stays { (t : Tree T) → IsTree (form_at heap.old) root t → IsTree (form_at heap.new) root t }
     ensures written { value_of (row_at heap.new (child_at heap.new (child_at heap.new (child_at heap.new result.0 0) 0) 0)) ≡ Some value }
@@ -29,8 +29,7 @@ fn write_third<T>(heap: &mut Heap<T>, root: Link, value: T) -> (Link, Link)
     ensures few_cells { heap.old.spare_cells ≤ heap.new.spare_cells + 1 }
     ensures few_nodes { heap.old.spare_nodes ≤ heap.new.spare_nodes + 3 }
 {
-    // The call tells the proof that this is the graph of a heap.
-    let _ = heap.live();
+    heap.is_graph();
     let top = heap.own(root);
     let middle = heap.own_child(top, 0);
     let last = heap.own_child(middle, 0);

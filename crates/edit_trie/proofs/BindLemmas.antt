@@ -1,12 +1,13 @@
 -- A value put at a key in the map of a root with one owner.
 use Rattle.std.proofs.Common.{◌≡◌, ◌≢◌, ℕ, ◌+◌, ◌<◌, ◌≤◌, List, [], ◌∷◌, length, take, refl, ap, sym, subst, ◌∙◌, arith, Option, Some, None, IsSome, option_map, inl, inr}
+use Rattle.champ_trie.specs.declared.TheConstants.{ADD_NODES}
 use Rattle.std.specs.Prelude.{unwrap_or}
 use Rattle.std.specs.List.{All, AllZip}
 use Rattle.std.specs.Cmp.{IsTotalOrder, tied_itself}
 use Rattle.std.specs.declared.cmp.Ordering.{Ordering}
 use Rattle.std.proofs.lemmas.Bool.{cases_eq}
 use Rattle.std.proofs.lemmas.List.Elements.{All-head, All-tail}
-use Rattle.elem_core.specs.declared.codes.TheConstants.{DEEPEST}
+use Rattle.elem_core.specs.declared.codes.TheConstants.{DEEPEST, LEVELS}
 use Rattle.node_heap.specs.Links.{count, Reaches, here, below}
 use Rattle.node_heap.specs.Forms.{cell, node, pair, links_of, form_of}
 use Rattle.node_heap.specs.declared.row.Head.TheVariants.{Pair}
@@ -118,7 +119,7 @@ module _ {T : Type 0} (cmp : T → T → Ordering) (code : T → ℕ) (o : IsTot
         | inr neither ↦ absurd (omega (arith, some, count-cons s x (value ∷ []), count-one s value, test_other s x other, test_other s value neither))
       ]
 
-  pub spare-put : DEEPEST + 2 + alike_in (code_by code bits) c E ≤ old.spare_nodes → DEEPEST + 1 + alike_in (code_by code bits) c E ≤ mid.spare_nodes
+  pub spare-put : ADD_NODES + alike_in (code_by code bits) c E ≤ old.spare_nodes → LEVELS + alike_in (code_by code bits) c E ≤ mid.spare_nodes
   spare-put room = omega (arith, room, builds.makes.spare_nodes, builds.few_nodes)
 
   module _ (new : Heap T) (did : PutsIn cmp (code_by code bits) mid new DEEPEST 0 r c E key y) where
@@ -132,8 +133,8 @@ module _ {T : Type 0} (cmp : T → T → Ordering) (code : T → ℕ) (o : IsTot
     stays : (l : ℕ) (k : T) → key_at (form_at mid) l ≡ Some k → row_at new l ≡ row_at mid l
     stays l k keyed =
         did.others (length E) (omega arith) l (key-live mid l k keyed)
-        (count-take l (edit_rows cmp (form_at mid) key (length E) (DEEPEST + 1) 0 c r) (alone mid (edit_rows cmp (form_at mid) key (length E) (DEEPEST + 1) 0 c r))
-        (edit-avoids cmp (code_by code bits) (form_at mid) l k keyed key (length E) (DEEPEST + 1) 0 c r E canon-mid.trie))
+        (count-take l (edit_rows cmp (form_at mid) key (length E) LEVELS 0 c r) (alone mid (edit_rows cmp (form_at mid) key (length E) LEVELS 0 c r))
+        (edit-avoids cmp (code_by code bits) (form_at mid) l k keyed key (length E) LEVELS 0 c r E canon-mid.trie))
 
     rooted-new : HasEntries cmp code new (by_bits bits r) (put cmp E (entry key y))
     rooted-new = record { bits = can.rooted.bits; trie = canon-new }
@@ -167,50 +168,50 @@ module _ {T : Type 0} (cmp : T → T → Ordering) (code : T → ℕ) (o : IsTot
       new_key = λ _. refl;
     }
 
-    changes-new : Changes r old new (value ∷ []) [] 1 (DEEPEST + 2 + alike_in (code_by code bits) c E)
+    changes-new : Changes r old new (value ∷ []) [] 1 (ADD_NODES + alike_in (code_by code bits) c E)
     changes-new =
-        Changes-more 1 (DEEPEST + 2 + alike_in (code_by code bits) c E)
+        Changes-more 1 (ADD_NODES + alike_in (code_by code bits) c E)
         (Changes-then (Changes-Builds r can.graph (λ k up sole. owners-stay k (owned-live old can.graph k (omega (arith, sole))) ∙ sole) builds) did.changes) (omega arith) (omega arith)
 
     -- the path missed what came
-    same-path : (most : ℕ) → edit_rows cmp (form_at mid) key most (DEEPEST + 1) 0 c r ≡ edit_rows cmp (form_at old) key most (DEEPEST + 1) 0 c r
+    same-path : (most : ℕ) → edit_rows cmp (form_at mid) key most LEVELS 0 c r ≡ edit_rows cmp (form_at old) key most LEVELS 0 c r
     same-path most =
-        rows-stay cmp (code_by code bits) (form_at old) (form_at mid) _ _ _ _ (edit-says cmp (code_by code bits) (form_at old) (form_at mid) key most) (DEEPEST + 1) 0 c r E (forms-below old mid r (builds.extends.kept r live-root)) can.rooted.trie.trie
+        rows-stay cmp (code_by code bits) (form_at old) (form_at mid) _ _ _ _ (edit-says cmp (code_by code bits) (form_at old) (form_at mid) key most) LEVELS 0 c r E (forms-below old mid r (builds.extends.kept r live-root)) can.rooted.trie.trie
 
-    misses : (most : ℕ) (l : ℕ) → key_at (form_at mid) l ≡ Some key → count l (edit_rows cmp (form_at mid) key most (DEEPEST + 1) 0 c r) ≡ 0
-    misses most l keyed = edit-avoids cmp (code_by code bits) (form_at mid) l key keyed key most (DEEPEST + 1) 0 c r E canon-mid.trie
+    misses : (most : ℕ) (l : ℕ) → key_at (form_at mid) l ≡ Some key → count l (edit_rows cmp (form_at mid) key most LEVELS 0 c r) ≡ 0
+    misses most l keyed = edit-avoids cmp (code_by code bits) (form_at mid) l key keyed key most LEVELS 0 c r E canon-mid.trie
 
-    alone-of : (most n : ℕ) → alone mid (take n (edit_rows cmp (form_at mid) key most (DEEPEST + 1) 0 c r)) ≡ alone old (take n (edit_rows cmp (form_at mid) key most (DEEPEST + 1) 0 c r))
+    alone-of : (most n : ℕ) → alone mid (take n (edit_rows cmp (form_at mid) key most LEVELS 0 c r)) ≡ alone old (take n (edit_rows cmp (form_at mid) key most LEVELS 0 c r))
     alone-of most n =
-        let path = edit_rows cmp (form_at mid) key most (DEEPEST + 1) 0 c r in
+        let path = edit_rows cmp (form_at mid) key most LEVELS 0 c r in
         alone-missed old mid x y (take n path) owners-mid (count-take x path n (misses most x keyed-x)) (count-take y path n (misses most y keyed-put))
 
-    alone-all : (most : ℕ) → alone mid (edit_rows cmp (form_at mid) key most (DEEPEST + 1) 0 c r) ≡ alone old (edit_rows cmp (form_at mid) key most (DEEPEST + 1) 0 c r)
-    alone-all most = alone-missed old mid x y (edit_rows cmp (form_at mid) key most (DEEPEST + 1) 0 c r) owners-mid (misses most x keyed-x) (misses most y keyed-put)
+    alone-all : (most : ℕ) → alone mid (edit_rows cmp (form_at mid) key most LEVELS 0 c r) ≡ alone old (edit_rows cmp (form_at mid) key most LEVELS 0 c r)
+    alone-all most = alone-missed old mid x y (edit_rows cmp (form_at mid) key most LEVELS 0 c r) owners-mid (misses most x keyed-x) (misses most y keyed-put)
 
-    path-new : (most more : ℕ) → length E ≤ most → length E ≤ more → 1 + length (others cmp key E) ≤ more → KeepsShared old (edit_rows cmp (form_at old) key most (DEEPEST + 1) 0 c r) (edit_rows cmp (form_at new) key more (DEEPEST + 1) 0 c r)
+    path-new : (most more : ℕ) → length E ≤ most → length E ≤ more → 1 + length (others cmp key E) ≤ more → KeepsShared old (edit_rows cmp (form_at old) key most LEVELS 0 c r) (edit_rows cmp (form_at new) key more LEVELS 0 c r)
     path-new most more short fits short' =
-        let path = edit_rows cmp (form_at mid) key most (DEEPEST + 1) 0 c r in
-        let path' = edit_rows cmp (form_at new) key more (DEEPEST + 1) 0 c r in
+        let path = edit_rows cmp (form_at mid) key most LEVELS 0 c r in
+        let path' = edit_rows cmp (form_at new) key more LEVELS 0 c r in
         let all = others-none cmp key E (link-none cmp key E absent-put) in
         subst (λ ks. KeepsShared old ks path') (same-path most)
         (keeps-missed old mid (take (length path') path) (take (length path) path') (alone-of most (length path')) (did.path most more short (omega (arith, short', ap length all))))
 
-    writes-new : (most : ℕ) → length E ≤ most → WritesOnly (by_hold r) old new r (pair_rows cmp (form_at old) key most (DEEPEST + 1) 0 c r)
+    writes-new : (most : ℕ) → length E ≤ most → WritesOnly (by_hold r) old new r (pair_rows cmp (form_at old) key most LEVELS 0 c r)
     writes-new most short m live off =
-        let path = edit_rows cmp (form_at old) key most (DEEPEST + 1) 0 c r in
-        let after = pair-after cmp (form_at old) key most (DEEPEST + 1) 0 c r in
+        let path = edit_rows cmp (form_at old) key most LEVELS 0 c r in
+        let after = pair-after cmp (form_at old) key most LEVELS 0 c r in
         let first = written-before old m path after.0 (subst (λ ks. count m (written old ks) ≡ 0) after.1 off) in
-        let there : count m (written mid (edit_rows cmp (form_at mid) key most (DEEPEST + 1) 0 c r)) ≡ 0 =
-        ap (λ n. count m (take n (edit_rows cmp (form_at mid) key most (DEEPEST + 1) 0 c r))) (alone-all most) ∙ ap (λ ks. count m (written old ks)) (same-path most) ∙ first in
+        let there : count m (written mid (edit_rows cmp (form_at mid) key most LEVELS 0 c r)) ≡ 0 =
+        ap (λ n. count m (take n (edit_rows cmp (form_at mid) key most LEVELS 0 c r))) (alone-all most) ∙ ap (λ ks. count m (written old ks)) (same-path most) ∙ first in
         did.others most short m (builds.extends.live m live) there ∙ Extends-row builds.extends m live
 
-    few-new : (most more : ℕ) → length E ≤ most → 1 + length (others cmp key E) ≤ more → MakesFew old new (edit_rows cmp (form_at old) key most (DEEPEST + 1) 0 c r) (way_rows (form_at old) most (DEEPEST + 1) 0 c r) (way_rows (form_at new) more (DEEPEST + 1) 0 c r) 2
+    few-new : (most more : ℕ) → length E ≤ most → 1 + length (others cmp key E) ≤ more → MakesFew old new (edit_rows cmp (form_at old) key most LEVELS 0 c r) (way_rows (form_at old) most LEVELS 0 c r) (way_rows (form_at new) more LEVELS 0 c r) 2
     few-new most more short short' =
         let all = others-none cmp key E (link-none cmp key E absent-put) in
         let came = did.came most more short (omega (arith, short', ap length all)) in
         let ways =
-        rows-stay cmp (code_by code bits) (form_at old) (form_at mid) _ _ _ _ (way-says cmp (code_by code bits) (form_at old) (form_at mid) most) (DEEPEST + 1) 0 c r E (forms-below old mid r (builds.extends.kept r live-root)) can.rooted.trie.trie in
+        rows-stay cmp (code_by code bits) (form_at old) (form_at mid) _ _ _ _ (way-says cmp (code_by code bits) (form_at old) (form_at mid) most) LEVELS 0 c r E (forms-below old mid r (builds.extends.kept r live-root)) can.rooted.trie.trie in
         omega (arith, came, builds.makes.live, builds.few_cells, builds.few_nodes, alone-all most, ap (alone old) (same-path most), ap length (same-path most), ap length ways)
 
     pub binds-absent : Binds cmp code old new bits r key E M value None

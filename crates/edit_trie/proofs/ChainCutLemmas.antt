@@ -82,7 +82,7 @@ module _ {T : Type 0} (cmp : T → T → Ordering) (o : IsTotalOrder cmp) (old n
   graph_now = owns.child.changes.trades.graph
 
   whole : c.entries ≡ p.smaller ++ e ∷ p.greater
-  whole = p.whole ∙ ap (λ q. p.smaller ++ (option_to_list q ++ p.greater)) equal
+  whole = p.in_order ∙ ap (λ q. p.smaller ++ (option_to_list q ++ p.greater)) equal
 
   size : length E ≡ length p.smaller + suc (length p.greater)
   size = omega (arith, ap length whole, length-append p.smaller (e ∷ p.greater), same-length c.entries E c.same)

@@ -130,7 +130,7 @@ module _ {T : Type 0} (cmp : T → T → Ordering) (o : IsTotalOrder cmp) (old n
   graph_now = owns.child.changes.trades.graph
 
   whole : c.entries ≡ p.smaller ++ p.greater
-  whole = p.whole ∙ ap (λ e. p.smaller ++ (option_to_list e ++ p.greater)) equal
+  whole = p.in_order ∙ ap (λ e. p.smaller ++ (option_to_list e ++ p.greater)) equal
 
   there : link_in old row index ≡ Some (child_at old row index)
   there = slice_get-get_or (links_at old row) index 0 inside

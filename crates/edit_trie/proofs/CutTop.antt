@@ -4,7 +4,7 @@ use Rattle.std.specs.List.{All, AllZip, find}
 use Rattle.std.specs.Cmp.{IsTotalOrder}
 use Rattle.std.specs.declared.cmp.Ordering.{Ordering}
 use Rattle.std.proofs.lemmas.Bool.{cases_eq}
-use Rattle.elem_core.specs.declared.codes.TheConstants.{DEEPEST}
+use Rattle.elem_core.specs.declared.codes.TheConstants.{DEEPEST, LEVELS}
 use Rattle.node_heap.specs.Links.{count, HasLink, SameBelow, Reaches, here}
 use Rattle.node_heap.specs.Forms.{Forms, links_of, links_in}
 use Rattle.node_heap.specs.Heap.{Heap, row_at, form_at, links_at, holds_at, owners_at, live_count, one_at, IsGraph}
@@ -137,8 +137,8 @@ module _ {T : Type 0} (cmp : T → T → Ordering) (code : T → ℕ) (o : IsTot
       rows-others =
           all-others cmp key (IsEntry (form_at mid)) (λ d. row_at four d.link ≡ row_at mid d.link)
           (λ d apart keyed.
-          let path = edit_rows cmp (form_at mid) key (length is.entries) (DEEPEST + 1) 0 c r in
-          let off = edit-avoids cmp (code_by code bits) (form_at mid) d.link d.key keyed key (length is.entries) (DEEPEST + 1) 0 c r is.entries rooted-mid.trie.trie in
+          let path = edit_rows cmp (form_at mid) key (length is.entries) LEVELS 0 c r in
+          let off = edit-avoids cmp (code_by code bits) (form_at mid) d.link d.key keyed key (length is.entries) LEVELS 0 c r is.entries rooted-mid.trie.trie in
           let live = key-live mid d.link d.key keyed in
           did.others (length is.entries) (omega arith) d.link live (did.gains.stays d.link live) (count-take d.link path (alone mid path) off))
           is.entries (names-keys cmp (code_by code bits) (form_at mid) r is.entries rooted-mid.trie)
@@ -161,7 +161,7 @@ module _ {T : Type 0} (cmp : T → T → Ordering) (code : T → ℕ) (o : IsTot
       short-mid = canon-fit cmp (code_by code bits) o mid r is.entries rooted-mid.trie
 
       -- the path is read alike once the rest was given up
-      now-path : edit_path cmp code new bits key r ≡ edit_rows cmp (form_at four) key (live_count four) (DEEPEST + 1) 0 c r
+      now-path : edit_path cmp code new bits key r ≡ edit_rows cmp (form_at four) key (live_count four) LEVELS 0 c r
       now-path =
           let F = form_at four in
           let G = form_at new in
@@ -172,14 +172,14 @@ module _ {T : Type 0} (cmp : T → T → Ordering) (code : T → ℕ) (o : IsTot
                 let stay = (edit-says cmp (code_by code bits) F G key (live_count four)).chain k P same chained in
                 let there = key-rows F G k chained.entries same chained.rows in
                 chain-fuel cmp G key (λ _. []) (live_count new) (live_count four) (Some k) chained.entries (rows-live new graph_new chained.entries (Some k) there) (rows-live four did.changes.trades.graph chained.entries (Some k) chained.rows) there ∙ stay;
-          }) (DEEPEST + 1) 0 c r (others cmp key is.entries) (forms-below four new r root-below) did.trie
+          }) LEVELS 0 c r (others cmp key is.entries) (forms-below four new r root-below) did.trie
         where
           key-rows : (F G : Forms T) (k : ℕ) (es : List (Entry T)) → SameBelow (links_in F) F G k → AreChainRows F (Some k) es → AreChainRows G (Some k) es
           key-rows F G k es same rows = rows-below-stay F G (Some k) es (λ m e. let one : k ≡ m = cc in subst (SameBelow (links_in F) F G) one same) rows
 
       path-new : KeepsShared old (edit_path cmp code old bits key (owned old owner)) (edit_path cmp code new bits key r)
       path-new =
-          let path' = edit_rows cmp (form_at four) key (live_count four) (DEEPEST + 1) 0 c r in
+          let path' = edit_rows cmp (form_at four) key (live_count four) LEVELS 0 c r in
           let more : live_count mid ≤ live_count four = omega (arith, did.gains.makes.live) in
           let keep = did.path (live_count old) (live_count four) short-old (omega (arith, short-mid, more)) in
           subst (KeepsShared old (edit_path cmp code old bits key (owned old owner))) (sym now-path) (way-shared cmp (code_by code bits) owner old mid r (code_by code bits key) own is.entries is.rooted.trie (λ _. []) (λ q. chain_rows cmp (form_at old) key (λ _. []) (live_count old) (Some q)) (λ _. []) (λ q. chain_rows cmp (form_at mid) key (λ _. []) (live_count old) (Some q)) (edit-begins cmp (form_at old) key (live_count old)) (edit-says cmp (code_by code bits) (form_at old) (form_at mid) key (live_count old)) path' keep)
@@ -187,12 +187,12 @@ module _ {T : Type 0} (cmp : T → T → Ordering) (code : T → ℕ) (o : IsTot
       -- as many rows came before the rest was given up
       came-four : MakesShared old four (edit_path cmp code old bits key (owned old owner)) (edit_path cmp code new bits key r)
       came-four =
-          let path' = edit_rows cmp (form_at four) key (live_count four) (DEEPEST + 1) 0 c r in
+          let path' = edit_rows cmp (form_at four) key (live_count four) LEVELS 0 c r in
           let C' = λ (q : ℕ). chain_rows cmp (form_at four) key (λ _. []) (live_count four) (Some q) in
           let zs = rows_below (λ _. []) C' (form_at four) DEEPEST 0 c r in
           let first : path' ≡ r ∷ zs = rows-first (λ _. []) C' (form_at four) DEEPEST 0 c r in
           let more : live_count mid ≤ live_count four = omega (arith, did.gains.makes.live) in
-          let came = subst (MakesShared mid four (edit_rows cmp (form_at mid) key (live_count old) (DEEPEST + 1) 0 c r)) first (did.came (live_count old) (live_count four) short-old (omega (arith, short-mid, more))) in
+          let came = subst (MakesShared mid four (edit_rows cmp (form_at mid) key (live_count old) LEVELS 0 c r)) first (did.came (live_count old) (live_count four) short-old (omega (arith, short-mid, more))) in
           subst (MakesShared old four (edit_path cmp code old bits key (owned old owner))) (sym (now-path ∙ first))
           (way-made cmp (code_by code bits) owner old mid r (code_by code bits key) own is.entries is.rooted.trie (λ _. []) (λ q. chain_rows cmp (form_at old) key (λ _. []) (live_count old) (Some q)) (λ _. []) (λ q. chain_rows cmp (form_at mid) key (λ _. []) (live_count old) (Some q)) (edit-begins cmp (form_at old) key (live_count old)) (edit-says cmp (code_by code bits) (form_at old) (form_at mid) key (live_count old)) four r zs came)
 
@@ -210,7 +210,7 @@ module _ {T : Type 0} (cmp : T → T → Ordering) (code : T → ℕ) (o : IsTot
       cuts-key makes none = record {
         map = (container-stays four new (by_bits bits r) root-below).map cmp code (unbind cmp key M) map-four;
         back = back;
-        edits = EditsBy-more 0 (DEEPEST + 1 + alike_keys code bits key M) (own.edits new [] (value ∷ []) 0 (DEEPEST + alike_in (code_by code bits) c is.entries) change) (omega arith) (omega (arith, alike-top cmp code o owner bits old mid r own M is key));
+        edits = EditsBy-more 0 (LEVELS + alike_keys code bits key M) (own.edits new [] (value ∷ []) 0 (DEEPEST + alike_in (code_by code bits) c is.entries) change) (omega arith) (omega (arith, alike-top cmp code o owner bits old mid r own M is key));
         path = path-new;
         others = others-new;
         made = made-new makes none;

@@ -65,7 +65,7 @@ module _ {K : Type 0} (cmp : K → K → Ordering) (o : IsTotalOrder cmp) where
     smaller = p.smaller;
     equal = p.equal;
     greater = p.greater;
-    whole = p.whole;
+    in_order = p.in_order;
     are_smaller = below-same cmp o x.key key tied p.smaller p.are_smaller;
     is_equal = subst (λ q. IfSome q (λ (d : Entry K). cmp x.key d.key ≡ Equal)) (sym equal) (tied_itself o x.key);
     are_greater = above-same cmp o x.key key tied p.greater p.are_greater;
@@ -81,7 +81,7 @@ module _ {K : Type 0} (cmp : K → K → Ordering) (o : IsTotalOrder cmp) where
   pub found-parts : (F : Forms K) (l : ℕ) (E : List (Entry K)) (key : K) (x : Entry K) (c : IsChain cmp F l E) (p : Parts cmp key c.entries) → find (has_key cmp key) E ≡ Some x → (p.equal ≡ Some x) × (c.entries ≡ (p.smaller ++ x ∷ []) ++ p.greater)
   found-parts F l E key x c p found =
       let equal : p.equal ≡ Some x = sym (find-parts cmp o key c.entries p) ∙ find-chain cmp o F l E key c p ∙ found in
-      (equal, p.whole ∙ ap (λ e. p.smaller ++ (option_to_list e ++ p.greater)) equal ∙ sym (append_assoc p.smaller (x ∷ []) p.greater))
+      (equal, p.in_order ∙ ap (λ e. p.smaller ++ (option_to_list e ++ p.greater)) equal ∙ sym (append_assoc p.smaller (x ∷ []) p.greater))
 
   -- the entries up to that of the key
   pub take-found : (F : Forms K) (l : ℕ) (E : List (Entry K)) (key : K) (x : Entry K) (c : IsChain cmp F l E) (n : ℕ) (p : Parts cmp key c.entries) → length p.smaller ≡ n → find (has_key cmp key) E ≡ Some x

@@ -1,5 +1,6 @@
 -- The way to a key's pair in a whole map was made the owner's own.
 use Rattle.std.proofs.Common.{◌≡◌, ℕ, ◌+◌, ◌≤◌, List, [], ◌∷◌, length, get_or, refl, ap, sym, ◌∙◌, arith, cond, Some, option_map}
+use Rattle.champ_trie.specs.declared.TheConstants.{ADD_NODES}
 use Rattle.std.specs.Prelude.{count_by}
 use Rattle.std.specs.List.{All, AllZip, find}
 use Rattle.std.specs.Cmp.{IsTotalOrder, Equal-is}
@@ -7,7 +8,7 @@ use Rattle.std.specs.declared.cmp.Ordering.{Ordering}
 use Rattle.std.specs.declared.cmp.Ordering.TheVariants.{Equal}
 use Rattle.std.proofs.lemmas.Cmp.{tied_back}
 use Rattle.std.proofs.lemmas.List.Elements.{All-head, All-tail}
-use Rattle.elem_core.specs.declared.codes.TheConstants.{DEEPEST}
+use Rattle.elem_core.specs.declared.codes.TheConstants.{DEEPEST, LEVELS}
 use Rattle.node_heap.specs.Links.{Links, here}
 use Rattle.node_heap.specs.Forms.{links_of, form_of}
 use Rattle.node_heap.specs.Heap.{Heap, row_at, form_at, links_at, owners_at, live_count, IsGraph}
@@ -90,8 +91,8 @@ module _ {T : Type 0} (cmp : T → T → Ordering) (code : T → ℕ) (o : IsTot
     rows-others =
         all-others cmp e.key (IsEntry (form_at mid)) (λ d. row_at new d.link ≡ row_at mid d.link)
         (λ d apart keyed.
-        let off = pair-avoids cmp (code_by code bits) (form_at mid) d.link d.key keyed key (λ equal. apart (sym (o.congr key e.key d.key same) ∙ tied_back o d.key key equal)) (length is.entries) (DEEPEST + 1) 0 c r is.entries rooted-mid.trie.trie in
-        did.others (length is.entries) (omega arith) d.link (key-live mid d.link d.key keyed) (count-take d.link (pair_rows cmp (form_at mid) key (length is.entries) (DEEPEST + 1) 0 c r) (alone mid (pair_rows cmp (form_at mid) key (length is.entries) (DEEPEST + 1) 0 c r)) off))
+        let off = pair-avoids cmp (code_by code bits) (form_at mid) d.link d.key keyed key (λ equal. apart (sym (o.congr key e.key d.key same) ∙ tied_back o d.key key equal)) (length is.entries) LEVELS 0 c r is.entries rooted-mid.trie.trie in
+        did.others (length is.entries) (omega arith) d.link (key-live mid d.link d.key keyed) (count-take d.link (pair_rows cmp (form_at mid) key (length is.entries) LEVELS 0 c r) (alone mid (pair_rows cmp (form_at mid) key (length is.entries) LEVELS 0 c r)) off))
         is.entries (names-keys cmp (code_by code bits) (form_at mid) r is.entries rooted-mid.trie)
 
     -- the binding of the pair
@@ -146,7 +147,7 @@ module _ {T : Type 0} (cmp : T → T → Ordering) (code : T → ℕ) (o : IsTot
       top = did.changes.paths.soles r (here r) own.sole;
       sole = sole-last (owners_at new) (links_at new) r link did.down (did.changes.paths.soles r (here r) own.sole);
       down = did.down;
-      edits = EditsBy-more 0 (DEEPEST + 2 + alike_keys code bits key M) (own.edits new [] [] 0 (DEEPEST + 1 + alike_in (code_by code bits) c is.entries) did.changes) (omega arith) (omega (arith, alike-top));
+      edits = EditsBy-more 0 (ADD_NODES + alike_keys code bits key M) (own.edits new [] [] 0 (LEVELS + alike_in (code_by code bits) c is.entries) did.changes) (omega arith) (omega (arith, alike-top));
       path = path-new (omega (arith, short-old, makes.live));
       gains = gains-new;
       others = others-new;

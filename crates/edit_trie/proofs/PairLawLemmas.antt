@@ -8,7 +8,7 @@ use Rattle.std.proofs.lemmas.List.Elements.{All-nil, All-cons, All-head, All-tai
 use Rattle.std.specs.declared.cmp.Ordering.{Ordering}
 use Rattle.std.specs.declared.cmp.Ordering.TheVariants.{Equal}
 use Rattle.elem_core.specs.Codes.{digit_at}
-use Rattle.elem_core.specs.declared.codes.TheConstants.{DEEPEST}
+use Rattle.elem_core.specs.declared.codes.TheConstants.{DEEPEST, LEVELS}
 use Rattle.node_heap.specs.Links.{count, HasLink, Reaches, here}
 use Rattle.node_heap.specs.Forms.{Forms, node, chain, pair, head_of, links_in, form_of}
 use Rattle.node_heap.specs.Heap.{Heap, row_at, form_at, links_at, holds_at, owners_at, IsGraph}
@@ -146,7 +146,7 @@ module _ {T : Type 0} (cmp : T → T → Ordering) (code : T → ℕ) (o : IsTot
   IsAround x m = (m ≡ x) ⊎ ReachesAround (links_at old) x r.root m
 
   all-around : (x : ℕ) (k : T) → key_at F x ≡ Some k → All (λ e. IsAround x e.link) map.entries
-  all-around x k keyed = trie-down F (IsAround x) next cmp (code_by code r.bits) (DEEPEST + 1) 0 r.root map.entries (inr (at_once r.root (off r.root root-keyless))) map.rooted.trie.trie
+  all-around x k keyed = trie-down F (IsAround x) next cmp (code_by code r.bits) LEVELS 0 r.root map.entries (inr (at_once r.root (off r.root root-keyless))) map.rooted.trie.trie
     where
       off : (m : ℕ) → key_at F m ≡ None → m ≢ x
       off m keyless same = let bad : None ≡ Some k = sym keyless ∙ ap (key_at F) same ∙ keyed in cc

@@ -1,11 +1,13 @@
 -- A value was put at a key of a whole map.
 use Rattle.std.proofs.Common.{◌≡◌, ℕ, ◌+◌, ◌≤◌, List, [], ◌∷◌, length, sym, subst, ◌∙◌, arith, cond, true, false, Bool, Option, Some, None}
+use Rattle.champ_kinds.specs.declared.map.TheConstants.{INSERT_NODES}
+use Rattle.champ_trie.specs.declared.TheConstants.{ADD_NODES}
 use Rattle.std.specs.Prelude.{option_to_list, MatchOption}
 use Rattle.std.specs.List.{All, AllZip, find}
 use Rattle.std.specs.Cmp.{IsTotalOrder}
 use Rattle.std.proofs.lemmas.List.Elements.{All-head, All-tail, All-weaker}
 use Rattle.std.specs.declared.cmp.Ordering.{Ordering}
-use Rattle.elem_core.specs.declared.codes.TheConstants.{DEEPEST}
+use Rattle.elem_core.specs.declared.codes.TheConstants.{DEEPEST, LEVELS}
 use Rattle.node_heap.specs.Links.{Reaches}
 use Rattle.node_heap.proofs.Reach.{Reaches-by}
 use Rattle.node_heap.specs.Forms.{links_in}
@@ -79,7 +81,7 @@ module _ {T : Type 0} (cmp : T → T → Ordering) (code : T → ℕ) (o : IsTot
         by_given given (did.came (live_count old) (live_count new) short-old (omega (arith, short-old, more)) (omega (arith, short)))
       where
         by_given : (q : Option ℕ)
-            → MatchOption q (MakesFew mid new (edit_rows cmp (form_at mid) key (live_count old) (DEEPEST + 1) 0 c r) (way_rows (form_at mid) (live_count old) (DEEPEST + 1) 0 c r) (key_way cmp code new bits key r) 2) (λ _. MakesCopies mid new (pair_rows cmp (form_at mid) key (live_count old) (DEEPEST + 1) 0 c r))
+            → MatchOption q (MakesFew mid new (edit_rows cmp (form_at mid) key (live_count old) LEVELS 0 c r) (way_rows (form_at mid) (live_count old) LEVELS 0 c r) (key_way cmp code new bits key r) 2) (λ _. MakesCopies mid new (pair_rows cmp (form_at mid) key (live_count old) LEVELS 0 c r))
             → MatchOption q (MakesFew old new (edit_path cmp code old bits key (owned old owner)) (key_way cmp code old bits key (owned old owner)) (key_way cmp code new bits key r) 2) (λ _. MakesCopies old new (pair_path cmp code old bits key (owned old owner)))
         by_given None came =
             let n : ℕ = live_count old in
@@ -99,7 +101,7 @@ module _ {T : Type 0} (cmp : T → T → Ordering) (code : T → ℕ) (o : IsTot
     puts-value makes = record {
       map = did.map;
       back = did.back;
-      edits = EditsBy-more 1 (DEEPEST + 3 + alike_keys code bits key M) (own.edits new (value ∷ []) (option_to_list given) 1 (DEEPEST + 2 + alike_in (code_by code bits) c is.entries) did.changes) (omega arith) (omega (arith, alike-top cmp code o owner bits old mid r own M is key));
+      edits = EditsBy-more 1 (INSERT_NODES + alike_keys code bits key M) (own.edits new (value ∷ []) (option_to_list given) 1 (ADD_NODES + alike_in (code_by code bits) c is.entries) did.changes) (omega arith) (omega (arith, alike-top cmp code o owner bits old mid r own M is key));
       path = path-new makes.live;
       gains = gains-new makes.live;
       others = others-new;

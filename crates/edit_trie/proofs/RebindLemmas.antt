@@ -1,5 +1,6 @@
 -- A value put at a key that is in the map of a root with one owner.
 use Rattle.std.proofs.Common.{◌≡◌, ◌≢◌, ℕ, ◌+◌, ◌<◌, ◌≤◌, List, [], ◌∷◌, ◌++◌, length, set, get_or, refl, ap, sym, subst, ◌∙◌, arith, Option, Some, None, option_map, inl, inr}
+use Rattle.champ_trie.specs.declared.TheConstants.{ADD_NODES}
 use Rattle.std.specs.Prelude.{slice_set, unwrap_or}
 use Rattle.std.specs.List.{All, find}
 use Rattle.std.specs.Cmp.{IsTotalOrder}
@@ -8,7 +9,7 @@ use Rattle.std.specs.declared.cmp.Ordering.TheVariants.{Equal}
 use Rattle.std.proofs.lemmas.Bool.{cases_eq}
 use Rattle.std.proofs.lemmas.Cmp.{tied_back}
 use Rattle.std.proofs.lemmas.List.Elements.{All-head, All-tail}
-use Rattle.elem_core.specs.declared.codes.TheConstants.{DEEPEST}
+use Rattle.elem_core.specs.declared.codes.TheConstants.{DEEPEST, LEVELS}
 use Rattle.node_heap.specs.Links.{Links, Reaches}
 use Rattle.node_heap.specs.Forms.{Forms, Form, cell, node, leaf, inner, trie, chain, pair, state, value_of, links_of, links_in, head_of, form_of}
 use Rattle.node_heap.specs.Heap.{Heap, row_at, form_at, links_at, holds_at, owners_at}
@@ -161,8 +162,8 @@ module _ {T : Type 0} (cmp : T → T → Ordering) (code : T → ℕ) (o : IsTot
       rows-new =
           all-others cmp key (IsEntry (form_at old)) (λ d. row_at new d.link ≡ row_at old d.link)
           (λ d apart keyed.
-          let path = pair_rows cmp (form_at old) key (length E) (DEEPEST + 1) 0 (code_by code bits key) r in
-          let off = pair-avoids cmp (code_by code bits) (form_at old) d.link d.key keyed key (λ equal. apart (tied_back o d.key key equal)) (length E) (DEEPEST + 1) 0 (code_by code bits key) r E can.rooted.trie.trie in
+          let path = pair_rows cmp (form_at old) key (length E) LEVELS 0 (code_by code bits key) r in
+          let off = pair-avoids cmp (code_by code bits) (form_at old) d.link d.key keyed key (λ equal. apart (tied_back o d.key key equal)) (length E) LEVELS 0 (code_by code bits key) r E can.rooted.trie.trie in
           let kept = did.others (length E) (omega arith) d.link (key-live old d.link d.key keyed) (count-take d.link path (alone old path) off) in
           let other : d.link ≢ link = λ at.
           let forms : form_at old d.link ≡ form_at old e.link = ap (option_map form_of) (sym kept ∙ ap (row_at now) at ∙ did.same) in
@@ -202,9 +203,9 @@ module _ {T : Type 0} (cmp : T → T → Ordering) (code : T → ℕ) (o : IsTot
       back-changed : Some given ≡ value_with cmp key M
       back-changed = ap Some (was ∙ ap (λ ks. get_or ks 1 0) links-now) ∙ sym (ap (option_map (λ (b : Binding T). b.value)) at-pair.1)
 
-      changes-changed : Changes r old new (value ∷ []) (given ∷ []) 1 (DEEPEST + 2 + alike_in (code_by code bits) (code_by code bits key) E)
+      changes-changed : Changes r old new (value ∷ []) (given ∷ []) 1 (ADD_NODES + alike_in (code_by code bits) (code_by code bits key) E)
       changes-changed =
-          Changes-more 1 (DEEPEST + 2 + alike_in (code_by code bits) (code_by code bits key) E) (Changes-beside did.changes (Changes-path did.down change)) (omega arith) (omega arith)
+          Changes-more 1 (ADD_NODES + alike_in (code_by code bits) (code_by code bits key) E) (Changes-beside did.changes (Changes-path did.down change)) (omega arith) (omega arith)
 
       gains-changed : Gains old new
       gains-changed = Gains-trans did.gains (Gains-Changes change (λ k other live. writes.others k other) makes)
@@ -217,15 +218,15 @@ module _ {T : Type 0} (cmp : T → T → Ordering) (code : T → ℕ) (o : IsTot
       ]
 
       path-changed : (most more : ℕ) → length E ≤ most → length E ≤ more → 1 + length (others cmp key E) ≤ more
-          → KeepsShared old (edit_rows cmp (form_at old) key most (DEEPEST + 1) 0 (code_by code bits key) r) (edit_rows cmp (form_at new) key more (DEEPEST + 1) 0 (code_by code bits key) r)
+          → KeepsShared old (edit_rows cmp (form_at old) key most LEVELS 0 (code_by code bits key) r) (edit_rows cmp (form_at new) key more LEVELS 0 (code_by code bits key) r)
       path-changed most more short fits short' =
           let C : ℕ = code_by code bits key in
-          let P = edit_rows cmp (form_at old) key most (DEEPEST + 1) 0 C r in
-          let P' = edit_rows cmp (form_at now) key more (DEEPEST + 1) 0 C r in
-          let after = pair-after cmp (form_at old) key most (DEEPEST + 1) 0 C r in
-          let after' = pair-after cmp (form_at now) key more (DEEPEST + 1) 0 C r in
-          let agree = rows-agree cmp (code_by code bits) (form_at now) (form_at new) link e.key keyed-now row-same keys-stay key more (DEEPEST + 1) 0 C r (put cmp E (entry e.key link)) did.trie in
-          let keep = subst (KeepsAlone old (P ++ after.0)) after'.1 (subst (λ ks. KeepsAlone old ks (pair_rows cmp (form_at now) key more (DEEPEST + 1) 0 C r)) after.1 (did.path most more short fits)) in
+          let P = edit_rows cmp (form_at old) key most LEVELS 0 C r in
+          let P' = edit_rows cmp (form_at now) key more LEVELS 0 C r in
+          let after = pair-after cmp (form_at old) key most LEVELS 0 C r in
+          let after' = pair-after cmp (form_at now) key more LEVELS 0 C r in
+          let agree = rows-agree cmp (code_by code bits) (form_at now) (form_at new) link e.key keyed-now row-same keys-stay key more LEVELS 0 C r (put cmp E (entry e.key link)) did.trie in
+          let keep = subst (KeepsAlone old (P ++ after.0)) after'.1 (subst (λ ks. KeepsAlone old ks (pair_rows cmp (form_at now) key more LEVELS 0 C r)) after.1 (did.path most more short fits)) in
           subst (KeepsShared old P) (sym agree) (keeps-before old P P' after.0 after'.0 keep)
 
       pub binds-present : Binds cmp code old new bits r key E M value (Some given)

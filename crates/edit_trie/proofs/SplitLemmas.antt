@@ -5,7 +5,7 @@ use Rattle.std.specs.Ordering.{is_eq}
 use Rattle.std.specs.declared.cmp.Ordering.{Ordering}
 use Rattle.std.specs.declared.cmp.Ordering.TheVariants.{Equal}
 use Rattle.elem_core.specs.Codes.{digit_at}
-use Rattle.elem_core.specs.declared.codes.TheConstants.{DEEPEST}
+use Rattle.elem_core.specs.declared.codes.TheConstants.{LEVELS}
 use Rattle.node_heap.specs.Links.{count, HasLink, Reaches, here}
 use Rattle.node_heap.specs.Forms.{Row, links_in, value_of, form_of}
 use Rattle.node_heap.specs.Heap.{Heap, row_at, form_at, links_at, holds_at, owners_at, live_count}
@@ -116,11 +116,11 @@ module _ {T : Type 0} (cmp : T → T → Ordering) (code : T → ℕ) (equal_cod
   pub codes-cut : (oc : ℕ) → oc ≡ code al.key → c % 2 ^ (5 * (d + 1)) ≡ oc % 2 ^ (5 * (d + 1))
   codes-cut oc is_key = sym (ap (λ m. m % 2 ^ (5 * (d + 1))) is_key ∙ al.agrees)
 
-  pub spare-cut : (oc : ℕ) → oc ≡ code al.key → left + 1 + alike_in code c E ≤ old.spare_nodes → DEEPEST + 1 + chain_nodes c oc ≤ cut.spare_nodes + (d + 1)
+  pub spare-cut : (oc : ℕ) → oc ≡ code al.key → left + 1 + alike_in code c E ≤ old.spare_nodes → LEVELS + chain_nodes c oc ≤ cut.spare_nodes + (d + 1)
   spare-cut oc is_key spare = omega (arith, ap (chain_nodes c) is_key, al.few, spare, took.changes.trades.balance.spare_nodes, took.changes.trades.nodes)
 
   -- a node of both was made
-  module _ (apart : ¬ Reaches (links_at old) x row) (held : 0 < holds_at old x) (built : Heap T) (z m oc : ℕ) (is_key : oc ≡ code al.key) (few : m + (d + 1) ≤ DEEPEST + 1 + chain_nodes c oc)
+  module _ (apart : ¬ Reaches (links_at old) x row) (held : 0 < holds_at old x) (built : Heap T) (z m oc : ℕ) (is_key : oc ≡ code al.key) (few : m + (d + 1) ≤ LEVELS + chain_nodes c oc)
       (builds : Builds cut built (x ∷ y ∷ []) (z ∷ []) 0 m) (made : IsTrie cmp code (form_at built) left (d + 1) z (entry key x ∷ entry al.key y ∷ [])) (same : KeepsOldOwners cut built) (below : ReachesOldBy cut built x y z) where
     row-built : row_at built row ≡ row_at cut row
     row-built = Extends-row builds.extends row live-cut

@@ -1,7 +1,8 @@
 -- Inside: what an insertion makes of a map, whose root has one owner.
 use Rattle.std.specs.Prelude.{◌≡◌, ℕ, ◌+◌, ◌≤◌, List, [], ◌∷◌, length, Option, MatchOption, option_to_list}
+use Rattle.champ_trie.specs.declared.TheConstants.{ADD_NODES}
 use Rattle.std.specs.declared.cmp.Ordering.{Ordering}
-use Rattle.elem_core.specs.declared.codes.TheConstants.{DEEPEST}
+use Rattle.elem_core.specs.declared.codes.TheConstants.{LEVELS}
 use Rattle.node_heap.specs.Heap.{Heap, form_at, owners_at, IsGraph}
 use Rattle.node_heap.specs.Calls.{Gains}
 use Rattle.node_heap.specs.InPlace.{Changes}
@@ -30,11 +31,11 @@ module _ {T : Type 0} (cmp : T → T → Ordering) (code : T → ℕ) where
     pub map : IsMapOf cmp code new (by_bits bits root) (bind cmp M key value)
     pub back : given ≡ value_with cmp key M
     pub entries : PutsPair cmp code old new (by_bits bits root) E key value
-    pub changes : Changes root old new (value ∷ []) (option_to_list given) 1 (DEEPEST + 2 + alike_in (code_by code bits) (code_by code bits key) E)
+    pub changes : Changes root old new (value ∷ []) (option_to_list given) 1 (ADD_NODES + alike_in (code_by code bits) (code_by code bits key) E)
     pub gains : Gains old new
     pub path : (most more : ℕ) → length E ≤ most → length E ≤ more → 1 + length (others cmp key E) ≤ more
-        → KeepsShared old (edit_rows cmp (form_at old) key most (DEEPEST + 1) 0 (code_by code bits key) root) (edit_rows cmp (form_at new) key more (DEEPEST + 1) 0 (code_by code bits key) root)
+        → KeepsShared old (edit_rows cmp (form_at old) key most LEVELS 0 (code_by code bits key) root) (edit_rows cmp (form_at new) key more LEVELS 0 (code_by code bits key) root)
     pub came : (most more : ℕ) → length E ≤ most → length E ≤ more → 1 + length (others cmp key E) ≤ more → MatchOption given
-        (MakesFew old new (edit_rows cmp (form_at old) key most (DEEPEST + 1) 0 (code_by code bits key) root) (way_rows (form_at old) most (DEEPEST + 1) 0 (code_by code bits key) root) (way_rows (form_at new) more (DEEPEST + 1) 0 (code_by code bits key) root) 2)
-        (λ _. MakesCopies old new (pair_rows cmp (form_at old) key most (DEEPEST + 1) 0 (code_by code bits key) root))
-    pub others : (most : ℕ) → length E ≤ most → WritesOnly (by_hold root) old new root (pair_rows cmp (form_at old) key most (DEEPEST + 1) 0 (code_by code bits key) root)
+        (MakesFew old new (edit_rows cmp (form_at old) key most LEVELS 0 (code_by code bits key) root) (way_rows (form_at old) most LEVELS 0 (code_by code bits key) root) (way_rows (form_at new) more LEVELS 0 (code_by code bits key) root) 2)
+        (λ _. MakesCopies old new (pair_rows cmp (form_at old) key most LEVELS 0 (code_by code bits key) root))
+    pub others : (most : ℕ) → length E ≤ most → WritesOnly (by_hold root) old new root (pair_rows cmp (form_at old) key most LEVELS 0 (code_by code bits key) root)

@@ -1,8 +1,10 @@
 -- What each edit in place makes of a map, which goes by an owner of its root.
 use Rattle.std.specs.Prelude.{◌≡◌, ℕ, ◌+◌, ◌-◌, ◌^◌, List, [], ◌∷◌, length, min, Option, Some, MatchOption, option_to_list}
+use Rattle.champ_kinds.specs.declared.map.TheConstants.{INSERT_NODES}
+use Rattle.champ_trie.specs.declared.TheConstants.{ADD_NODES}
 use Rattle.std.specs.List.{find}
 use Rattle.std.specs.declared.cmp.Ordering.{Ordering}
-use Rattle.elem_core.specs.declared.codes.TheConstants.{DEEPEST}
+use Rattle.elem_core.specs.declared.codes.TheConstants.{LEVELS}
 use Rattle.node_heap.specs.Heap.{Heap, row_at, owners_at}
 use Rattle.node_heap.specs.Calls.{MakesWhatCame}
 use Rattle.node_heap.specs.InPlace.{child_at, OwnsDown}
@@ -37,7 +39,7 @@ module _ {T : Type 0} (cmp : T → T → Ordering) (code : T → ℕ) where
     pub record PutsValue (value : ℕ) (given : Option ℕ) : Type 0 where
       pub map : IsMapOf cmp code new (by_bits bits root) (bind cmp M key value)
       pub back : given ≡ value_with cmp key M
-      pub edits : EditsBy owner old new root (value ∷ []) (option_to_list given) 1 (DEEPEST + 3 + alike_keys code bits key M)
+      pub edits : EditsBy owner old new root (value ∷ []) (option_to_list given) 1 (INSERT_NODES + alike_keys code bits key M)
       pub path : KeepsShared old (edit_path cmp code old bits key (owned old owner)) (edit_path cmp code new bits key root)
       pub gains : MatchOption given (MakesFew old new (edit_path cmp code old bits key (owned old owner)) (key_way cmp code old bits key (owned old owner)) (key_way cmp code new bits key root) 2)
           (λ _. MakesCopies old new (pair_path cmp code old bits key (owned old owner)))
@@ -48,7 +50,7 @@ module _ {T : Type 0} (cmp : T → T → Ordering) (code : T → ℕ) where
     pub record CutsKey (given : ℕ) : Type 0 where
       pub map : IsMapOf cmp code new (by_bits bits root) (unbind cmp key M)
       pub back : value_with cmp key M ≡ Some given
-      pub edits : EditsBy owner old new root [] (given ∷ []) 0 (DEEPEST + 1 + alike_keys code bits key M)
+      pub edits : EditsBy owner old new root [] (given ∷ []) 0 (LEVELS + alike_keys code bits key M)
       pub path : KeepsShared old (edit_path cmp code old bits key (owned old owner)) (edit_path cmp code new bits key root)
       pub others : WritesOnlyLeft owner old new root (edit_path cmp code old bits key (owned old owner))
       pub made : new.made ≡ min (old.made + (length (edit_path cmp code new bits key root) - alone old (edit_path cmp code old bits key (owned old owner)))) (2 ^ 64 - 1)
@@ -62,7 +64,7 @@ module _ {T : Type 0} (cmp : T → T → Ordering) (code : T → ℕ) where
       pub top : owners_at new root ≡ 1
       pub sole : owners_at new link ≡ 1
       pub down : OwnsDown new root link
-      pub edits : EditsBy owner old new root [] [] 0 (DEEPEST + 2 + alike_keys code bits key M)
+      pub edits : EditsBy owner old new root [] [] 0 (ADD_NODES + alike_keys code bits key M)
       pub path : KeepsAlone old (pair_path cmp code old bits key (owned old owner)) (pair_path cmp code new bits key root)
       pub gains : MakesCopies old new (pair_path cmp code old bits key (owned old owner))
       pub others : WritesOnly owner old new root (pair_path cmp code old bits key (owned old owner))

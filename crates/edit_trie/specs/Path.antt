@@ -4,7 +4,7 @@ use Rattle.std.specs.Ordering.{match_ordering}
 use Rattle.std.specs.declared.cmp.Ordering.{Ordering}
 use Rattle.std.specs.declared.cmp.Ordering.TheVariants.{Greater}
 use Rattle.elem_core.specs.Codes.{digit_at}
-use Rattle.elem_core.specs.declared.codes.TheConstants.{DEEPEST}
+use Rattle.elem_core.specs.declared.codes.TheConstants.{LEVELS}
 use Rattle.node_heap.specs.Forms.{Forms, Form, cell, node, leaf, inner, trie, chain, pair, state}
 use Rattle.node_heap.specs.Heap.{Heap, form_at, live_count}
 use Rattle.node_heap.specs.Owner.{KeepsAlone, alone}
@@ -97,13 +97,13 @@ module _ {K : Type 0} where
 module _ {T : Type 0} (cmp : T → T → Ordering) (code : T → ℕ) (h : Heap T) (bits : ℕ) (key : T) (root : ℕ) where
   -- these paths from a root down, by so many bits of the codes; a chain has no more rows than the heap
   abbrev pub edit_path : List ℕ
-  edit_path = edit_rows cmp (form_at h) key (live_count h) (DEEPEST + 1) 0 (code_by code bits key) root
+  edit_path = edit_rows cmp (form_at h) key (live_count h) LEVELS 0 (code_by code bits key) root
 
   abbrev pub pair_path : List ℕ
-  pair_path = pair_rows cmp (form_at h) key (live_count h) (DEEPEST + 1) 0 (code_by code bits key) root
+  pair_path = pair_rows cmp (form_at h) key (live_count h) LEVELS 0 (code_by code bits key) root
 
   abbrev pub key_way : List ℕ
-  key_way = way_rows (form_at h) (live_count h) (DEEPEST + 1) 0 (code_by code bits key) root
+  key_way = way_rows (form_at h) (live_count h) LEVELS 0 (code_by code bits key) root
 
 -- at each place of the path, as far as it is in the trie before and after, the row is the old one exactly where that was alone
 abbrev pub KeepsShared : {T : Type 0} → Heap T → List ℕ → List ℕ → Type 0

@@ -1,7 +1,7 @@
 //! Maps edited in place by their place in a row with one owner.
 ghost use Rattle.std.specs.Prelude.{◌≡◌, ◌↔◌, ℕ, ◌+◌, ◌^◌, ◌<◌, ◌≤◌, List, [], ◌∷◌, length, IfOk, IfSome, IfErr, IsOk, OnOk, OnErr, Ok, None, option_to_list};
 ghost use Rattle.node_heap.specs.Links.{Reaches};
-ghost use Rattle.node_heap.specs.Heap.{links_at, holds_at, owners_at, hold_count, HasSpares};
+ghost use Rattle.node_heap.specs.Heap.{links_at, holds_at, owners_at, hold_count, HasSpares, half_holds, quarter_holds};
 ghost use Rattle.node_heap.specs.Calls.{KeepsBelow, KeepsToNeed};
 ghost use Rattle.node_heap.specs.InPlace.{child_at, OwnsDown, Changes};
 ghost use Rattle.node_heap.specs.Owner.{by_place};
@@ -13,8 +13,8 @@ ghost use Rattle.edit_trie.specs.Edit.{by_bits, PutsValue, OwnsEntry, OwnsPair};
 
 use crate::edit::bound;
 use crate::own::own_entry;
-use champ_kinds::MapFault;
-use champ_trie::look_up;
+use champ_kinds::{INSERT_NODES, MapFault};
+use champ_trie::{ADD_NODES, look_up};
 use elem_core::{DEEPEST, Element, NoMemory, Probe, masked};
 use node_heap::{Heap, Link};
 
@@ -32,7 +32,7 @@ pub fn insert_at<T: Element>(
     requires child { child < length (links_at heap.old parent) }
     requires held { 1 ≤ holds_at heap.old value }
     requires apart { ¬ Reaches (links_at heap.old) value parent }
-    requires few { hold_count heap.old < 2 ^ 58 }
+    requires few { hold_count heap.old < quarter_holds }
     requires contents { (M : List (Binding T)) × IsMapOf T.cmp T.code_of heap.old (by_bits bits (child_at heap.old parent child)) M }
     ensures puts { (M : List (Binding T)) → IsMapOf T.cmp T.code_of heap.old (by_bits bits (child_at heap.old parent child)) M →
         IfOk result (λ given. PutsValue T.cmp T.code_of (by_place parent child) bits heap.old heap.new (child_at heap.new parent child) M key value given) }
@@ -40,12 +40,12 @@ pub fn insert_at<T: Element>(
         OnOk result (PutsPair T.cmp T.code_of heap.old heap.new (by_bits bits (child_at heap.new parent child)) E key value) }
     ensures value { OnOk result (KeepsBelow heap.old heap.new value) }
     ensures changes { (M : List (Binding T)) → IsMapOf T.cmp T.code_of heap.old (by_bits bits (child_at heap.old parent child)) M →
-        IfOk result (λ given. Changes parent heap.old heap.new (value ∷ []) (option_to_list given) 1 (DEEPEST + 3 + alike_keys T.code_of bits key M)) }
+        IfOk result (λ given. Changes parent heap.old heap.new (value ∷ []) (option_to_list given) 1 (INSERT_NODES + alike_keys T.code_of bits key M)) }
     ensures spares { (M : List (Binding T)) → IsMapOf T.cmp T.code_of heap.old (by_bits bits (child_at heap.old parent child)) M →
-        OnOk result (KeepsToNeed heap.old heap.new 1 (DEEPEST + 3 + alike_keys T.code_of bits key M)) }
+        OnOk result (KeepsToNeed heap.old heap.new 1 (INSERT_NODES + alike_keys T.code_of bits key M)) }
     ensures refused { IfErr result (λ fault. (fault.key ≡ key) × (heap.new ≡ heap.old)) }
     ensures ample { (M : List (Binding T)) → IsMapOf T.cmp T.code_of heap.old (by_bits bits (child_at heap.old parent child)) M →
-        HasSpares heap.old 1 (DEEPEST + 3 + alike_keys T.code_of bits key M) → IsOk result }
+        HasSpares heap.old 1 (INSERT_NODES + alike_keys T.code_of bits key M) → IsOk result }
 {
     let root = heap.links(parent)[child];
     let found = look_up(heap, root, &key, bits);
@@ -70,7 +70,7 @@ pub fn own_value_at<T: Element, P: Probe<T>>(
 ) -> Result<Option<Link>, NoMemory>
     requires sole { owners_at heap.old parent ≡ 1 }
     requires child { child < length (links_at heap.old parent) }
-    requires few { hold_count heap.old < 2 ^ 59 }
+    requires few { hold_count heap.old < half_holds }
     requires contents { (M : List (Binding T)) × IsMapOf T.cmp T.code_of heap.old (by_bits bits (child_at heap.old parent child)) M }
     ensures owns { (M : List (Binding T)) → IsMapOf T.cmp T.code_of heap.old (by_bits bits (child_at heap.old parent child)) M →
         IfOk result (λ pair. IfSome pair (λ link.
@@ -78,15 +78,15 @@ pub fn own_value_at<T: Element, P: Probe<T>>(
     ensures entries { (E : List (Entry T)) → HasEntries T.cmp T.code_of heap.old (by_bits bits (child_at heap.old parent child)) E → IfOk result (λ pair. IfSome pair (λ link.
         OwnsEntry T.cmp T.code_of heap.old heap.new (by_bits bits (child_at heap.new parent child)) E (P.stands_for key.now) link)) }
     ensures changes { (M : List (Binding T)) → IsMapOf T.cmp T.code_of heap.old (by_bits bits (child_at heap.old parent child)) M →
-        OnOk result (Changes parent heap.old heap.new [] [] 0 (DEEPEST + 2 + alike_keys T.code_of bits (P.stands_for key.now) M)) }
+        OnOk result (Changes parent heap.old heap.new [] [] 0 (ADD_NODES + alike_keys T.code_of bits (P.stands_for key.now) M)) }
     ensures none { (M : List (Binding T)) → IsMapOf T.cmp T.code_of heap.old (by_bits bits (child_at heap.old parent child)) M →
         (result ≡ Ok None) ↔ (value_with T.cmp (P.stands_for key.now) M ≡ None) }
     ensures nothing { result ≡ Ok None → heap.new ≡ heap.old }
     ensures spares { (M : List (Binding T)) → IsMapOf T.cmp T.code_of heap.old (by_bits bits (child_at heap.old parent child)) M →
-        OnOk result (KeepsToNeed heap.old heap.new 0 (DEEPEST + 2 + alike_keys T.code_of bits (P.stands_for key.now) M)) }
+        OnOk result (KeepsToNeed heap.old heap.new 0 (ADD_NODES + alike_keys T.code_of bits (P.stands_for key.now) M)) }
     ensures refused { OnErr result (heap.new ≡ heap.old) }
     ensures ample { (M : List (Binding T)) → IsMapOf T.cmp T.code_of heap.old (by_bits bits (child_at heap.old parent child)) M →
-        HasSpares heap.old 0 (DEEPEST + 2 + alike_keys T.code_of bits (P.stands_for key.now) M) → IsOk result }
+        HasSpares heap.old 0 (ADD_NODES + alike_keys T.code_of bits (P.stands_for key.now) M) → IsOk result }
 {
     let root = heap.links(parent)[child];
     let found = look_up(heap, root, key, bits);

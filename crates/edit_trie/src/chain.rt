@@ -2,7 +2,7 @@
 ghost use Rattle.std.specs.Prelude.{◌≡◌, ◌≢◌, ℕ, ◌+◌, ◌<◌, ◌≤◌, ◌^◌, List, [], ◌∷◌, length, take, remove, slice_set, option_to_list, Some, None, IsSome};
 ghost use Rattle.node_heap.specs.Forms.{head_of};
 ghost use Rattle.node_heap.specs.Links.{Reaches};
-ghost use Rattle.node_heap.specs.Heap.{row_at, form_at, links_at, holds_at, hold_count, owners_at, IsGraph};
+ghost use Rattle.node_heap.specs.Heap.{row_at, form_at, links_at, holds_at, hold_count, owners_at, IsGraph, half_holds, most_holds};
 ghost use Rattle.node_heap.specs.Calls.{KeepsOwners, Makes, Gains};
 ghost use Rattle.node_heap.specs.InPlace.{child_at, Writes, Changes};
 ghost use Rattle.champ_chain.specs.Entry.{Entry, key_at, link_with};
@@ -70,7 +70,7 @@ pub(crate) fn put_in_chain<T: Element>(heap: &mut Heap<T>, first: Slot, entry: L
     requires index { first.index < length (links_at heap.old first.row) }
     requires held { 0 < holds_at heap.old entry }
     requires apart { ¬ Reaches (links_at heap.old) entry first.row }
-    requires few { hold_count heap.old < 2 ^ 59 }
+    requires few { hold_count heap.old < half_holds }
     requires chain { (E : List (Entry T)) × (k : T) × IsChain T.cmp (form_at heap.old) (child_at heap.old first.row first.index) E
         × (key_at (form_at heap.old) entry ≡ Some k) × (link_with T.cmp k E ≡ None) × (length E + 1 ≤ heap.old.spare_nodes) }
     ensures { (E : List (Entry T)) (k : T) → IsChain T.cmp (form_at heap.old) (child_at heap.old first.row first.index) E →
@@ -88,7 +88,7 @@ pub(crate) fn put_in_chain<T: Element>(heap: &mut Heap<T>, first: Slot, entry: L
 fn take_next<T>(heap: &mut Heap<T>, row: Link, index: usize) -> Option<Link>
     requires graph { IsGraph heap.old }
     requires sole { owners_at heap.old row ≡ 1 }
-    requires few { hold_count heap.old < 2 ^ 60 }
+    requires few { hold_count heap.old < most_holds }
     ensures link { result ≡ link_in heap.old row index }
     ensures writes { Writes heap.old heap.new row (head_of (row_at heap.old row)) (remove (links_at heap.old row) index) }
     ensures owners { KeepsOwners heap.old heap.new }
@@ -112,7 +112,7 @@ pub(crate) fn cut_from_chain<T: Element, P: Probe<T>>(
     requires keyless { key_at (form_at heap.old) first.row ≡ None }
     requires sole { owners_at heap.old first.row ≡ 1 }
     requires index { first.index < length (links_at heap.old first.row) }
-    requires few { hold_count heap.old < 2 ^ 59 }
+    requires few { hold_count heap.old < half_holds }
     requires chain { (E : List (Entry T)) × IsChain T.cmp (form_at heap.old) (child_at heap.old first.row first.index) E
         × (link_with T.cmp (P.stands_for key.now) E ≢ None) × (3 ≤ length E) × (length E ≤ heap.old.spare_nodes) }
     ensures { (E : List (Entry T)) → IsChain T.cmp (form_at heap.old) (child_at heap.old first.row first.index) E →
@@ -136,7 +136,7 @@ fn skip_row<T>(heap: &mut Heap<T>, row: Link, index: usize, next: Link) -> Link
     requires index { index < length (links_at heap.old row) }
     requires live { IsSome (row_at heap.old next) }
     requires apart { ¬ Reaches (links_at heap.old) next row }
-    requires few { hold_count heap.old < 2 ^ 60 }
+    requires few { hold_count heap.old < most_holds }
     ensures old { result ≡ child_at heap.old row index }
     ensures writes { Writes heap.old heap.new row (head_of (row_at heap.old row)) (slice_set (links_at heap.old row) index next) }
     ensures changes { Changes row heap.old heap.new [] (result ∷ []) 0 0 }

@@ -6,7 +6,7 @@
 ghost use Rattle.std.specs.Prelude.{◌≡◌, ◌≢◌, ℕ, ◌+◌, ◌<◌, ◌≤◌, ◌^◌, List, [], ◌∷◌, None, true, false, IsSome};
 ghost use Rattle.elem_core.specs.Codes.{digit_at};
 ghost use Rattle.node_heap.specs.Links.{Reaches};
-ghost use Rattle.node_heap.specs.Heap.{row_at, form_at, links_at, owners_at, hold_count, IsGraph};
+ghost use Rattle.node_heap.specs.Heap.{row_at, form_at, links_at, owners_at, hold_count, IsGraph, half_holds};
 ghost use Rattle.node_heap.specs.Calls.{Gains};
 ghost use Rattle.node_heap.specs.InPlace.{Changes};
 ghost use Rattle.champ_trie.specs.declared.place.Place.TheVariants.{Entry as At};
@@ -34,7 +34,7 @@ pub(crate) fn cut_below<T: Element, P: Probe<T>>(
 ) -> Link
     requires bits { bits ≤ CODE_BITS }
     requires depth { depth ≤ DEEPEST }
-    requires few { hold_count heap.old < 2 ^ 59 }
+    requires few { hold_count heap.old < half_holds }
     requires code { code ≡ code_by T.code_of bits (P.stands_for key.now) }
     requires row { (E : List (Entry T)) × (left : ℕ) × CanEdit T.cmp (code_by T.code_of bits) heap.old left depth row code E
         × (link_with T.cmp (P.stands_for key.now) E ≢ None) × (left + alike_in (code_by T.code_of bits) code E ≤ heap.old.spare_nodes) }
@@ -65,7 +65,7 @@ fn lift<T>(heap: &mut Heap<T>, row: Link, depth: u8, lone: Link, position: u32) 
     requires graph { IsGraph heap.old }
     requires position { position < 32 }
     requires sole { owners_at heap.old row ≡ 1 }
-    requires few { hold_count heap.old < 2 ^ 59 }
+    requires few { hold_count heap.old < half_holds }
     requires live { IsSome (row_at heap.old lone) }
     requires apart { ¬ Reaches (links_at heap.old) lone row }
     ensures puts { (entries nodes : ℕ) (links : List ℕ) → IsRow (form_at heap.old) row depth entries nodes links →

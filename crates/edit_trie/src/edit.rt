@@ -2,7 +2,7 @@
 ghost use Rattle.std.specs.Prelude.{◌≡◌, ◌↔◌, ℕ, ◌+◌, ◌^◌, ◌<◌, ◌≤◌, List, [], ◌∷◌, IfOk, IfSome, IfErr, IsOk, OnOk, OnErr, Ok, None};
 ghost use Rattle.elem_core.specs.declared.codes.TheConstants.{CODE_BITS};
 ghost use Rattle.node_heap.specs.Links.{Reaches};
-ghost use Rattle.node_heap.specs.Heap.{links_at, holds_at, owners_at, hold_count, HasSpares};
+ghost use Rattle.node_heap.specs.Heap.{links_at, holds_at, owners_at, hold_count, HasSpares, half_holds, quarter_holds};
 ghost use Rattle.node_heap.specs.Calls.{Extends, KeepsBelow, KeepsToNeed, HasHolds, MakesWhatCame};
 ghost use Rattle.node_heap.specs.Owner.{by_hold, EditsBy};
 ghost use Rattle.champ_chain.specs.Entry.{Entry, others};
@@ -17,9 +17,9 @@ ghost use Rattle.edit_trie.specs.Edit.{PutsValue, CutsKey, OwnsEntry, OwnsPair};
 use crate::cut::cut_below;
 use crate::own::own_entry;
 use crate::put::put_below;
-use champ_kinds::{Map, MapFault, MapRef};
-use champ_trie::{Found, look_up};
-use elem_core::{DEEPEST, Element, NoMemory, Probe, masked};
+use champ_kinds::{INSERT_NODES, Map, MapFault, MapRef};
+use champ_trie::{ADD_NODES, Found, look_up};
+use elem_core::{DEEPEST, Element, LEVELS, NoMemory, Probe, masked};
 use node_heap::{Head, Heap, Link};
 use std::marker::Model;
 
@@ -48,7 +48,7 @@ impl TrieEdit {
     /// where memory runs out. A refusal leaves the heap as it was.
     pub fn open<T: Element>(map: Map, heap: &mut Heap<T>) -> Result<TrieEdit, MapOpenFault>
         requires held { 1 ≤ holds_at heap.old map.root }
-        requires few { hold_count heap.old < 2 ^ 59 }
+        requires few { hold_count heap.old < half_holds }
         requires contents { (M : List (Binding T)) × IsMapOf T.cmp T.code_of heap.old map M }
         ensures contents { (M : List (Binding T)) → IsMapOf T.cmp T.code_of heap.old map M → IfOk result (λ m. IsMapOf T.cmp T.code_of heap.new m M) }
         ensures entries { (E : List (Entry T)) → HasEntries T.cmp T.code_of heap.old map E → IfOk result (λ m. HasEntries T.cmp T.code_of heap.new m E) }
@@ -97,7 +97,7 @@ impl TrieEdit {
         value: Link,
     ) -> Result<Option<Link>, MapFault<T>>
         requires held { HasHolds heap.old (self.old.root ∷ value ∷ []) }
-        requires few { hold_count heap.old < 2 ^ 58 }
+        requires few { hold_count heap.old < quarter_holds }
         requires contents { (M : List (Binding T)) × IsMapOf T.cmp T.code_of heap.old self.old M }
         ensures puts { (M : List (Binding T)) → IsMapOf T.cmp T.code_of heap.old self.old M →
             IfOk result (λ given. PutsValue T.cmp T.code_of (by_hold self.old.root) self.old.bits heap.old heap.new self.new.root M key value given) }
@@ -105,10 +105,10 @@ impl TrieEdit {
         ensures value { OnOk result (KeepsBelow heap.old heap.new value) }
         ensures bits { self.new.bits ≡ self.old.bits }
         ensures spares { (M : List (Binding T)) → IsMapOf T.cmp T.code_of heap.old self.old M →
-            OnOk result (KeepsToNeed heap.old heap.new 1 (DEEPEST + 3 + alike_keys T.code_of self.old.bits key M)) }
+            OnOk result (KeepsToNeed heap.old heap.new 1 (INSERT_NODES + alike_keys T.code_of self.old.bits key M)) }
         ensures refused { IfErr result (λ fault. (fault.key ≡ key) × (heap.new ≡ heap.old) × (self.new ≡ self.old)) }
         ensures ample { (M : List (Binding T)) → IsMapOf T.cmp T.code_of heap.old self.old M →
-            HasSpares heap.old 1 (DEEPEST + 3 + alike_keys T.code_of self.old.bits key M) → IsOk result }
+            HasSpares heap.old 1 (INSERT_NODES + alike_keys T.code_of self.old.bits key M) → IsOk result }
     {
         let found = look_up(heap, self.root, &key, self.bits);
         if heap
@@ -122,7 +122,7 @@ impl TrieEdit {
     }
 
     /// Takes the key out and gives its value, with a hold; None where the key is absent, and then nothing has changed. It makes
-    /// at most `DEEPEST + 1` nodes, and one more for each key with the same masked code. Refused only where memory runs out. A
+    /// at most `LEVELS` nodes, and one more for each key with the same masked code. Refused only where memory runs out. A
     /// refusal leaves the map and the heap as they were.
     pub fn remove<T: Element, P: Probe<T>>(
         &mut self,
@@ -130,7 +130,7 @@ impl TrieEdit {
         key: &P,
     ) -> Result<Option<Link>, NoMemory>
         requires held { 1 ≤ holds_at heap.old self.old.root }
-        requires few { hold_count heap.old < 2 ^ 58 }
+        requires few { hold_count heap.old < quarter_holds }
         requires contents { (M : List (Binding T)) × IsMapOf T.cmp T.code_of heap.old self.old M }
         ensures cuts { (M : List (Binding T)) → IsMapOf T.cmp T.code_of heap.old self.old M →
             IfOk result (λ last. IfSome last (λ given. CutsKey T.cmp T.code_of (by_hold self.old.root) self.old.bits heap.old heap.new self.new.root M (P.stands_for key.now) given)) }
@@ -140,16 +140,16 @@ impl TrieEdit {
         ensures nothing { result ≡ Ok None → (heap.new ≡ heap.old) × (self.new ≡ self.old) }
         ensures bits { self.new.bits ≡ self.old.bits }
         ensures spares { (M : List (Binding T)) → IsMapOf T.cmp T.code_of heap.old self.old M →
-            OnOk result (KeepsToNeed heap.old heap.new 0 (DEEPEST + 1 + alike_keys T.code_of self.old.bits (P.stands_for key.now) M)) }
+            OnOk result (KeepsToNeed heap.old heap.new 0 (LEVELS + alike_keys T.code_of self.old.bits (P.stands_for key.now) M)) }
         ensures refused { OnErr result ((heap.new ≡ heap.old) × (self.new ≡ self.old)) }
         ensures ample { (M : List (Binding T)) → IsMapOf T.cmp T.code_of heap.old self.old M →
-            HasSpares heap.old 0 (DEEPEST + 1 + alike_keys T.code_of self.old.bits (P.stands_for key.now) M) → IsOk result }
+            HasSpares heap.old 0 (LEVELS + alike_keys T.code_of self.old.bits (P.stands_for key.now) M) → IsOk result }
     {
         let found = look_up(heap, self.root, key, self.bits);
         let Some(pair) = found.entry else {
             return Ok(None);
         };
-        heap.reserve(0, found.alike + usize::from(DEEPEST) + 1)?;
+        heap.reserve(0, found.alike + usize::from(LEVELS))?;
         let value = heap.links(pair)[1];
         self.root = heap.own(self.root);
         let code = masked(key.code(), self.bits);
@@ -168,7 +168,7 @@ impl TrieEdit {
         key: &P,
     ) -> Result<Option<Link>, NoMemory>
         requires held { 1 ≤ holds_at heap.old self.old.root }
-        requires few { hold_count heap.old < 2 ^ 59 }
+        requires few { hold_count heap.old < half_holds }
         requires contents { (M : List (Binding T)) × IsMapOf T.cmp T.code_of heap.old self.old M }
         ensures owns { (M : List (Binding T)) → IsMapOf T.cmp T.code_of heap.old self.old M →
             IfOk result (λ pair. IfSome pair (λ link. OwnsPair T.cmp T.code_of (by_hold self.old.root) self.old.bits heap.old heap.new self.new.root M (P.stands_for key.now) link)) }
@@ -178,10 +178,10 @@ impl TrieEdit {
         ensures nothing { result ≡ Ok None → (heap.new ≡ heap.old) × (self.new ≡ self.old) }
         ensures bits { self.new.bits ≡ self.old.bits }
         ensures spares { (M : List (Binding T)) → IsMapOf T.cmp T.code_of heap.old self.old M →
-            OnOk result (KeepsToNeed heap.old heap.new 0 (DEEPEST + 2 + alike_keys T.code_of self.old.bits (P.stands_for key.now) M)) }
+            OnOk result (KeepsToNeed heap.old heap.new 0 (ADD_NODES + alike_keys T.code_of self.old.bits (P.stands_for key.now) M)) }
         ensures refused { OnErr result ((heap.new ≡ heap.old) × (self.new ≡ self.old)) }
         ensures ample { (M : List (Binding T)) → IsMapOf T.cmp T.code_of heap.old self.old M →
-            HasSpares heap.old 0 (DEEPEST + 2 + alike_keys T.code_of self.old.bits (P.stands_for key.now) M) → IsOk result }
+            HasSpares heap.old 0 (ADD_NODES + alike_keys T.code_of self.old.bits (P.stands_for key.now) M) → IsOk result }
     {
         let found = look_up(heap, self.root, key, self.bits);
         if found.entry.is_none() {
@@ -204,12 +204,12 @@ pub(crate) fn bound<T: Element>(
     bits: u32,
 ) -> Option<Link>
     requires bits { bits ≤ CODE_BITS }
-    requires few { hold_count heap.old < 2 ^ 58 }
+    requires few { hold_count heap.old < quarter_holds }
     requires held { 0 < holds_at heap.old value }
     requires apart { ¬ Reaches (links_at heap.old) value root }
     requires cells { 1 ≤ heap.old.spare_cells }
     requires map { (E : List (Entry T)) × (M : List (Binding T)) × CanBind T.cmp T.code_of heap.old bits root key E M found.entry
-        × (DEEPEST + 2 + alike_in (code_by T.code_of bits) (code_by T.code_of bits key) E ≤ heap.old.spare_nodes) }
+        × (ADD_NODES + alike_in (code_by T.code_of bits) (code_by T.code_of bits key) E ≤ heap.old.spare_nodes) }
     ensures { (E : List (Entry T)) (M : List (Binding T)) → CanBind T.cmp T.code_of heap.old bits root key E M found.entry →
         Binds T.cmp T.code_of heap.old heap.new bits root key E M value result }
 {

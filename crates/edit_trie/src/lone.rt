@@ -9,7 +9,7 @@ ghost use Rattle.champ_trie.specs.Edit.{IsBelow};
 use crate::row::{Spot, spot_at};
 use champ_chain::{key_of, row_of};
 use champ_trie::sets_of;
-use elem_core::{CODE_BITS, Code, DEEPEST, Element, Probe, digit};
+use elem_core::{CODE_BITS, Code, DEEPEST, Element, LEVELS, Probe, digit};
 use node_heap::{Heap, Link};
 use std::cmp::Ordering;
 
@@ -23,7 +23,7 @@ pub(crate) fn lone_beside<T: Element, P: Probe<T>>(
     bits: u32,
 ) -> Option<Link>
     requires bits { bits ≤ CODE_BITS }
-    requires depth { depth ≤ DEEPEST + 1 }
+    requires depth { depth ≤ LEVELS }
     requires code { code ≡ code_by T.code_of bits (P.stands_for key.now) }
     requires node { (E : List (Entry T)) × (left : ℕ) × IsBelow T.cmp (code_by T.code_of bits) (form_at heap.now) depth node E left code
         × (link_with T.cmp (P.stands_for key.now) E ≢ None) × (2 ≤ length E) }
@@ -64,8 +64,7 @@ fn lone_in_chain<T: Element, P: Probe<T>>(heap: &Heap<T>, chain: Link, key: &P) 
         MatchOption result (2 ≤ length (others T.cmp (P.stands_for key.now) E))
         (λ lone. (k : T) × (others T.cmp (P.stands_for key.now) E ≡ entry_of k lone ∷ []) × IsEntry (form_at heap.now) (entry_of k lone)) }
 {
-    // The call tells the proof that this is the graph of a heap.
-    let _ = heap.live();
+    heap.is_graph();
     let first = row_of(heap, chain);
     let second = row_of(heap, first.next?);
     if second.next.is_some() {

@@ -2,7 +2,7 @@
 ghost use Rattle.std.specs.Prelude.{◌≡◌, ◌≢◌, ℕ, ◌+◌, ◌<◌, ◌≤◌, ◌^◌, List, [], ◌∷◌, Some, None, true};
 ghost use Rattle.elem_core.specs.Codes.{digit_at};
 ghost use Rattle.node_heap.specs.Links.{Reaches};
-ghost use Rattle.node_heap.specs.Heap.{form_at, links_at, holds_at, hold_count};
+ghost use Rattle.node_heap.specs.Heap.{form_at, links_at, holds_at, hold_count, half_holds};
 ghost use Rattle.champ_chain.specs.Entry.{Entry, key_at, link_with};
 ghost use Rattle.champ_trie.specs.Bits.{has};
 ghost use Rattle.champ_trie.specs.Trie.{IsRow, code_by};
@@ -27,7 +27,7 @@ pub(crate) fn put_below<T: Element>(
 )
     requires bits { bits ≤ CODE_BITS }
     requires depth { depth ≤ DEEPEST }
-    requires few { hold_count heap.old < 2 ^ 59 }
+    requires few { hold_count heap.old < half_holds }
     requires held { 0 < holds_at heap.old entry }
     requires apart { ¬ Reaches (links_at heap.old) entry row }
     requires row { (E : List (Entry T)) × (left : ℕ) × (k : T) × CanEdit T.cmp (code_by T.code_of bits) heap.old left depth row code E
@@ -55,7 +55,7 @@ pub(crate) fn put_below<T: Element>(
 fn split<T: Element>(heap: &mut Heap<T>, row: Link, depth: u8, entry: Link, code: Code, bits: u32)
     requires bits { bits ≤ CODE_BITS }
     requires depth { depth ≤ DEEPEST }
-    requires few { hold_count heap.old < 2 ^ 59 }
+    requires few { hold_count heap.old < half_holds }
     requires held { 0 < holds_at heap.old entry }
     requires apart { ¬ Reaches (links_at heap.old) entry row }
     requires spot { (d e n : ℕ) (ls : List ℕ) → IsRow (form_at heap.old) row d e n ls → has e (digit_at code depth) ≡ true }

@@ -1,7 +1,7 @@
 //! Trie rows that are written in place.
 ghost use Rattle.std.specs.Prelude.{◌≡◌, ◌≢◌, ℕ, ◌+◌, ◌<◌, ◌^◌, List, [], ◌∷◌, true, false, slice_index};
 ghost use Rattle.node_heap.specs.Links.{Reaches};
-ghost use Rattle.node_heap.specs.Heap.{row_at, form_at, links_at, holds_at, hold_count, owners_at, IsGraph};
+ghost use Rattle.node_heap.specs.Heap.{row_at, form_at, links_at, holds_at, hold_count, owners_at, IsGraph, most_holds};
 ghost use Rattle.node_heap.specs.Calls.{KeepsOwners, Gains};
 ghost use Rattle.node_heap.specs.InPlace.{Changes};
 ghost use Rattle.champ_trie.specs.Bits.{has, rank};
@@ -30,8 +30,7 @@ pub(crate) fn spot_at<T>(heap: &Heap<T>, row: Link, position: u32) -> Spot
     ensures graph { IsGraph heap.now }
     ensures spot { (depth entries nodes : ℕ) (links : List ℕ) → IsRow (form_at heap.now) row depth entries nodes links → IsSpot entries nodes position result }
 {
-    // The call tells the proof that this is the graph of a heap.
-    let _ = heap.live();
+    heap.is_graph();
     let (entries, nodes) = sets_of(heap, row);
     if contains(entries, position) {
         return Spot::Entry(rank_of(entries, position) as usize);
@@ -105,7 +104,7 @@ pub(crate) fn take_entry<T>(heap: &mut Heap<T>, row: Link, depth: u8, position: 
     requires row { (entries nodes : ℕ) × (links : List ℕ) × IsRow (form_at heap.old) row depth entries nodes links × (has entries position ≡ true) }
     requires position { position < 32 }
     requires sole { owners_at heap.old row ≡ 1 }
-    requires few { hold_count heap.old < 2 ^ 60 }
+    requires few { hold_count heap.old < most_holds }
     ensures taken { (entries nodes : ℕ) (links : List ℕ) → IsRow (form_at heap.old) row depth entries nodes links → result ≡ slice_index links (rank entries position) }
     ensures puts { (entries nodes : ℕ) (links : List ℕ) → IsRow (form_at heap.old) row depth entries nodes links →
         PutsAt (form_at heap.new) row depth entries nodes links position Empty }
@@ -134,7 +133,7 @@ pub(crate) fn take_node<T>(heap: &mut Heap<T>, row: Link, depth: u8, position: u
         × (has entries position ≡ false) × (has nodes position ≡ true) }
     requires position { position < 32 }
     requires sole { owners_at heap.old row ≡ 1 }
-    requires few { hold_count heap.old < 2 ^ 60 }
+    requires few { hold_count heap.old < most_holds }
     ensures taken { (entries nodes : ℕ) (links : List ℕ) → IsRow (form_at heap.old) row depth entries nodes links → result ≡ slice_index links (rank entries 32 + rank nodes position) }
     ensures puts { (entries nodes : ℕ) (links : List ℕ) → IsRow (form_at heap.old) row depth entries nodes links →
         PutsAt (form_at heap.new) row depth entries nodes links position Empty }

@@ -9,7 +9,7 @@ use Rattle.std.proofs.lemmas.List.Edits.{length-remove}
 use Rattle.std.proofs.lemmas.List.Elements.{All-cons, All-nil}
 use Rattle.node_heap.specs.Links.{count, HasLink, Reaches, here, below}
 use Rattle.node_heap.specs.Forms.{Row, cell, node, form_of, head_of, links_of, is_node}
-use Rattle.node_heap.specs.Heap.{Heap, row_at, form_at, links_at, holds_at, owners_at, hold_count, live_count}
+use Rattle.node_heap.specs.Heap.{Heap, row_at, form_at, links_at, holds_at, owners_at, hold_count, live_count, half_holds}
 use Rattle.node_heap.specs.Calls.{KeepsBelow, KeepsOwners, Builds, Makes, Gains, HasHolds, MakesWhatCame}
 use Rattle.node_heap.specs.InPlace.{child_at, Writes, Changes}
 use Rattle.node_heap.specs.Owner.{by_hold, by_place, alone, links_beside, relinked, with_root}
@@ -20,6 +20,7 @@ use Rattle.node_heap.proofs.AloneLemmas.{KeepsAlone-none}
 use Rattle.node_heap.proofs.Edited.{count-at, linked_live, above_live, Reaches-back, Trades-Builds, Changes-then, Changes-follow, Changes-more}
 use Rattle.node_heap.proofs.EditLaws.{Changes-Builds, Gains-trans, Gains-Builds, Gains-Changes, MakesJust-Gains, new-reach}
 use Rattle.node_heap.proofs.OwnerLemmas.{left-at}
+use Rattle.node_heap.specs.declared.row.TheConstants.{MOST_HEIGHT}
 use Rattle.rrb_core.specs.Seq.{form_height, seq_at, IsThick, IsWell}
 use Rattle.rrb_core.specs.Push.{IsPacked}
 use Rattle.rrb_core.specs.Vector.{elements, height_at, IsGoodVector, IsVectorOf}
@@ -56,7 +57,7 @@ module _ {T : Type 0} {old mid : Heap T} {root child n e : ℕ} (can : CanPushRo
   live-root : IsSome (row_at old root)
   live-root = well-live old n root row-before.well
 
-  pub low-root : n < 7
+  pub low-root : n < MOST_HEIGHT
   low-root = thick-low (form_at old) n root thick-before (rw height can.good.shape.low) (rw row-before.items (omega (arith, can.short)))
 
   pub rows-both : AreRows mid n (root ∷ child ∷ [])
@@ -129,7 +130,7 @@ left-in false xs i k some = some
 left-in true xs i k some = let found = left-at xs i k some in count-at xs found.0 k found.2 found.3
 
 -- the child was taken out of its place, with a hold
-module _ {T : Type 0} {old mid : Heap T} {parent place root n e : ℕ} (can : CanPushRoot old (child_at old parent place) e) (few : hold_count old < 2 ^ 59) (inside : place < length (links_at old parent)) (sole : owners_at old parent ≡ 1) (apart : ¬ Reaches (links_at old) e parent)
+module _ {T : Type 0} {old mid : Heap T} {parent place root n e : ℕ} (can : CanPushRoot old (child_at old parent place) e) (few : hold_count old < half_holds) (inside : place < length (links_at old parent)) (sole : owners_at old parent ≡ 1) (apart : ¬ Reaches (links_at old) e parent)
     (height : n ≡ height_at old (child_at old parent place)) (packed : IsPacked (form_at old) n (child_at old parent place)) (is : root ≡ child_at old parent place)
     (writes : Writes old mid parent (head_of (row_at old parent)) (remove (links_at old parent) place)) (owners : KeepsOwners old mid) (change : Changes parent old mid [] (root ∷ []) 0 0) (makes : Makes old mid 0 0) where
   linked : HasLink (links_at old) parent root

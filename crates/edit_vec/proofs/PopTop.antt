@@ -5,7 +5,7 @@ use Rattle.std.specs.List.{All, flat_map}
 use Rattle.std.proofs.lemmas.List.{get_or_at, get_or-take, length-take-le}
 use Rattle.node_heap.specs.Links.{count, HasLink, Reaches, here}
 use Rattle.node_heap.specs.Forms.{form_of, links_of, links_in}
-use Rattle.node_heap.specs.Heap.{Heap, row_at, form_at, links_at, holds_at, hold_count, one_at, IsGraph}
+use Rattle.node_heap.specs.Heap.{Heap, row_at, form_at, links_at, holds_at, hold_count, one_at, IsGraph, half_holds}
 use Rattle.node_heap.specs.Calls.{KeepsBelow, SameRows, Makes, Releases, Unchanged}
 use Rattle.node_heap.specs.InPlace.{child_at, other_at}
 use Rattle.node_heap.specs.Owner.{by_hold, alone, KeepsAlone}
@@ -212,7 +212,7 @@ module _ {T : Type 0} {first mid : Heap T} {root r n : ℕ} (o : IsOwned (by_hol
       let size : length (links_in (form_at first) root) ≤ length (seq_at (form_at first) n root) = rw down at last.wide in
       rw row.items (omega (arith, size, ap (λ (m : ℕ). length (seq_at (form_at first) m root)) tall, good.shape.two (omega (arith, up, tall))))
 
-  pub can-pop-root : IsGraph mid → hold_count mid < 2 ^ 59 → CanPop mid n r
+  pub can-pop-root : IsGraph mid → hold_count mid < half_holds → CanPop mid n r
   can-pop-root graph few = record {
     graph = graph;
     well = row.well;

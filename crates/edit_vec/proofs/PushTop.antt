@@ -5,7 +5,7 @@ use Rattle.std.proofs.lemmas.Bool.Decides.{nat_tests}
 use Rattle.std.proofs.lemmas.List.{length-take, length_push}
 use Rattle.node_heap.specs.Links.{count, HasLink, here}
 use Rattle.node_heap.specs.Forms.{Forms, form_of, links_of, links_in}
-use Rattle.node_heap.specs.Heap.{Heap, row_at, form_at, links_at, holds_at, hold_count, live_count}
+use Rattle.node_heap.specs.Heap.{Heap, row_at, form_at, links_at, holds_at, hold_count, live_count, half_holds}
 use Rattle.node_heap.specs.Calls.{Unchanged, MakesWhatCame}
 use Rattle.node_heap.specs.InPlace.{other_at, child_at, path_start, Changes}
 use Rattle.node_heap.specs.Owner.{Owner, by_place, owned, with_root, alone, written, KeepsAlone, WritesOnly}
@@ -190,7 +190,7 @@ module _ {T : Type 0} {first old : Heap T} (u : Unchanged first old) where
       Changes-more 0 (height_at first (child_at first parent child) + 2) (Changes-beside (Changes-Unchanged parent (graph-before u) u) change) (omega arith) (omega (arith, height))
 
   -- what is to be pushed to, once there is room
-  pub can-room : (owner : Owner) (e : ℕ) → IsGoodVector first (owned first owner) → length (elements first (owned first owner)) ≢ 2 ^ 32 - 1 → 1 ≤ holds_at first e → hold_count first < 2 ^ 59 → 9 ≤ old.spare_nodes → CanPushRoot old (owned old owner) e
+  pub can-room : (owner : Owner) (e : ℕ) → IsGoodVector first (owned first owner) → length (elements first (owned first owner)) ≢ 2 ^ 32 - 1 → 1 ≤ holds_at first e → hold_count first < half_holds → 9 ≤ old.spare_nodes → CanPushRoot old (owned old owner) e
   can-room owner e good short held few spare =
       let root : ℕ = owned first owner in
       let later = unchanged-good root u good in

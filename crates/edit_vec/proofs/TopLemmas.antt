@@ -19,6 +19,7 @@ use Rattle.node_heap.proofs.Edited.{Changes-path, Changes-then, Changes-beside, 
 use Rattle.node_heap.proofs.EditLaws.{Changes-Builds, Changes-Unchanged, MakesJust-Gains}
 use Rattle.node_heap.proofs.AloneLemmas.{written-cons, written-own, KeepsAlone-own}
 use Rattle.node_heap.proofs.OwnerLemmas.{EditsBy-Unchanged}
+use Rattle.node_heap.specs.declared.row.TheConstants.{MOST_HEIGHT}
 use Rattle.rrb_core.specs.Vector.{elements, height_at, IsGoodVector, IsVectorOf}
 use Rattle.rrb_core.specs.Build.{IsRowOf}
 use Rattle.rrb_core.proofs.ClosedRows.{Stays}
@@ -176,7 +177,7 @@ module _ {T : Type 0} {owner : Owner} {old mid : Heap T} {r n : ℕ} (o : IsOwne
   pub edits-owned : IsGraph mid → EditsBy owner old mid r [] [] 0 1
   edits-owned graph = o.edits mid [] [] 0 0 (Changes-Builds r graph (λ k up one. one) (Builds-refl mid [] 0 0 graph))
 
-  pub can-write : {e : ℕ} → IsGraph mid → 7 ≤ mid.spare_nodes → 1 ≤ holds_at mid e → ¬ Reaches (links_at mid) e r → CanWrite mid n r e
+  pub can-write : {e : ℕ} → IsGraph mid → MOST_HEIGHT ≤ mid.spare_nodes → 1 ≤ holds_at mid e → ¬ Reaches (links_at mid) e r → CanWrite mid n r e
   can-write graph spare held apart = record {
     graph = graph;
     well = row-owned.well;

@@ -2,10 +2,11 @@
 use Rattle.std.specs.Prelude.{◌≡◌, ◌⊎◌, ℕ, zero, suc, ◌+◌, ◌-◌, ◌++◌, take, ◌^◌, ◌<◌, ◌≤◌, List, [], ◌∷◌, length, nat_le, ◌==◌, if◌then◌else◌, slice_index, slice_set, IsSome}
 use Rattle.node_heap.specs.Links.{count, Reaches}
 use Rattle.node_heap.specs.Forms.{Forms, links_in}
-use Rattle.node_heap.specs.Heap.{Heap, row_at, form_at, links_at, holds_at, owners_at, hold_count, cell_count, node_count, live_count, IsGraph}
+use Rattle.node_heap.specs.Heap.{Heap, row_at, form_at, links_at, holds_at, owners_at, hold_count, cell_count, node_count, live_count, IsGraph, half_holds, most_holds}
 use Rattle.node_heap.specs.Calls.{Gains}
 use Rattle.node_heap.specs.InPlace.{child_at, Changes}
 use Rattle.node_heap.specs.Owner.{by_hold, by_place, EditsBy, alone, written, KeepsAlone}
+use Rattle.node_heap.specs.declared.row.TheConstants.{MOST_HEIGHT}
 use Rattle.rrb_core.specs.Seq.{seq_at, IsThick, IsWell}
 use Rattle.rrb_core.specs.Vector.{elements, height_at, HasSums, IsGoodVector, IsVectorOf}
 use Rattle.rrb_core.specs.Push.{last_in, IsPacked}
@@ -29,7 +30,7 @@ module _ {T : Type 0} where
     pub graph : IsGraph h
     pub well : IsWell (form_at h) n l
     pub sums : HasSums h n l
-    pub low : n ≤ 7
+    pub low : n ≤ MOST_HEIGHT
     pub short : length (seq_at (form_at h) n l) < 2 ^ 32
     pub spare : n ≤ h.spare_nodes
     pub sole : owners_at h l ≡ 1
@@ -66,7 +67,7 @@ module _ {T : Type 0} where
     pub good : IsGoodVector h root
     pub short : length (elements h root) + 1 < 2 ^ 32
     pub held : 1 ≤ holds_at h element
-    pub few : hold_count h < 2 ^ 60
+    pub few : hold_count h < most_holds
     pub spare : 9 ≤ h.spare_nodes
 
   -- the vector that is the child at an index of the parent has the element after its last
@@ -89,10 +90,10 @@ module _ {T : Type 0} where
     pub graph : IsGraph h
     pub well : IsWell (form_at h) n l
     pub sums : HasSums h n l
-    pub low : n ≤ 7
+    pub low : n ≤ MOST_HEIGHT
     pub short : length (seq_at (form_at h) n l) < 2 ^ 32
     pub sole : owners_at h l ≡ 1
-    pub holds : hold_count h < 2 ^ 59
+    pub holds : hold_count h < half_holds
 
   -- the row is without its last element, which is held. It has two links or more still, where it isn't left with one child. No more
   -- rows were made than those of the path that weren't alone

@@ -1,6 +1,6 @@
 //! A vector that is opened for edits in place.
-ghost use Rattle.std.specs.Prelude.{◌≡◌, ◌↔◌, ℕ, ◌^◌, ◌<◌, ◌≤◌, [], IfOk, IsOk, OnErr, IfErr};
-ghost use Rattle.node_heap.specs.Heap.{holds_at, owners_at, hold_count, HasSpares};
+ghost use Rattle.std.specs.Prelude.{◌≡◌, ◌↔◌, ℕ, ◌<◌, ◌≤◌, [], IfOk, IsOk, OnErr, IfErr};
+ghost use Rattle.node_heap.specs.Heap.{holds_at, owners_at, hold_count, HasSpares, half_holds};
 ghost use Rattle.node_heap.specs.Calls.{KeepsOwners, Extends, KeepsToNeed, MakesWhatCame};
 ghost use Rattle.node_heap.specs.Owner.{by_hold, EditsBy};
 ghost use Rattle.rrb_core.specs.Vector.{elements, IsGoodVector, IsVectorOf};
@@ -34,7 +34,7 @@ impl FlexEdit {
     pub fn open<T>(vector: Flex, heap: &mut Heap<T>) -> Result<FlexEdit, OpenFault>
         requires good { IsGoodVector heap.old vector }
         requires held { 1 ≤ holds_at heap.old vector }
-        requires few { hold_count heap.old < 2 ^ 59 }
+        requires few { hold_count heap.old < half_holds }
         ensures items { IfOk result (λ v. IsVectorOf heap.new v (elements heap.old vector)) }
         ensures same { IfOk result (λ v. (v ≡ vector) ↔ (owners_at heap.old vector ≡ 1)) }
         ensures sole { IfOk result (λ v. owners_at heap.new v ≡ 1) }

@@ -1,6 +1,6 @@
 //! The last element taken out.
 ghost use Rattle.std.specs.Prelude.{◌≡◌, ◌↔◌, ℕ, suc, ◌^◌, ◌<◌, ◌≤◌, [], length, IfOk, IsOk, OnErr, IfSome, IsTrue, Ok, None};
-ghost use Rattle.node_heap.specs.Heap.{form_at, links_at, holds_at, hold_count, HasSpares, IsGraph};
+ghost use Rattle.node_heap.specs.Heap.{form_at, links_at, holds_at, hold_count, HasSpares, IsGraph, half_holds};
 ghost use Rattle.node_heap.specs.Calls.{KeepsToNeed};
 ghost use Rattle.node_heap.specs.Owner.{by_hold};
 ghost use Rattle.rrb_core.specs.Seq.{seq_at, IsWell};
@@ -13,11 +13,11 @@ use crate::edit::FlexEdit;
 use crate::shrink::{shrink_sums, sums_without_last};
 use crate::sums::put_sums;
 use elem_core::NoMemory;
-use node_heap::{Heap, Link};
+use node_heap::{Heap, Link, MOST_HEIGHT};
 use rrb_core::{height_of, only_element, size};
 
-// The most nodes that a pop makes: one for each height from 0 to 7.
-const POP_NODES: usize = 8;
+// The most nodes that a pop makes: one for each height.
+const POP_NODES: usize = MOST_HEIGHT as usize + 1;
 
 impl FlexEdit {
     /// Takes the last element out and gives it with a hold, and None where the vector is empty. Of the rows of the right spine
@@ -27,7 +27,7 @@ impl FlexEdit {
     pub fn pop<T: Drop>(&mut self, heap: &mut Heap<T>) -> Result<Option<Link>, NoMemory>
         requires good { IsGoodVector heap.old self.old }
         requires held { 1 ≤ holds_at heap.old self.old }
-        requires few { hold_count heap.old < 2 ^ 59 }
+        requires few { hold_count heap.old < half_holds }
         ensures pops { IfOk result (λ last. IfSome last (λ given. PopsElement (by_hold self.old) heap.old heap.new self.new given)) }
         ensures none { (result ≡ Ok None) ↔ (elements heap.old self.old ≡ []) }
         ensures nothing { result ≡ Ok None → (heap.new ≡ heap.old) × (self.new ≡ self.old) }
@@ -69,7 +69,7 @@ fn leaves_child<T>(heap: &Heap<T>, root: Link, height: u8) -> bool
 fn is_single<T>(heap: &Heap<T>, link: Link, height: u8) -> bool
     requires well { IsWell (form_at heap.now) height link }
     requires sums { HasSums heap.now height link }
-    requires low { height ≤ 7 }
+    requires low { height ≤ MOST_HEIGHT }
     requires short { length (seq_at (form_at heap.now) height link) < 2 ^ 32 }
     ensures { IsTrue result ↔ (length (seq_at (form_at heap.now) height link) ≡ 1) }
 {
@@ -84,7 +84,7 @@ fn leave_first<T: Drop>(heap: &mut Heap<T>, root: Link, height: u8) -> Link
     requires height { height ≡ height_at heap.old root }
     requires goes { LeavesChild (form_at heap.old) height root }
     requires held { 1 ≤ holds_at heap.old root }
-    requires few { hold_count heap.old < 2 ^ 59 }
+    requires few { hold_count heap.old < half_holds }
     ensures { LeavesFirst heap.old heap.new root result }
 {
     let links = heap.links(root);

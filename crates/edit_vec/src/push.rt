@@ -1,7 +1,7 @@
 //! An element put after the last.
 ghost use Rattle.std.specs.Prelude.{◌≡◌, ℕ, suc, ◌+◌, ◌-◌, ◌^◌, ◌<◌, ◌≤◌, ◌≢◌, ◌↔◌, [], ◌∷◌, ◌++◌, length, None, IfOk, IfSome, IfNone, OnErr, Err};
 ghost use Rattle.node_heap.specs.Links.{Reaches};
-ghost use Rattle.node_heap.specs.Heap.{row_at, form_at, links_at, holds_at, owners_at, hold_count, HasSpares};
+ghost use Rattle.node_heap.specs.Heap.{row_at, form_at, links_at, holds_at, owners_at, hold_count, HasSpares, half_holds, most_holds};
 ghost use Rattle.node_heap.specs.Calls.{KeepsToNeed, Gains, Builds, HasHolds};
 ghost use Rattle.node_heap.specs.InPlace.{child_at, Changes};
 ghost use Rattle.node_heap.specs.Owner.{by_hold, by_place};
@@ -14,11 +14,11 @@ ghost use Rattle.edit_vec.specs.Walk.{CanPushRoot, CanWrite, HasRoomAt, PushesCh
 
 use crate::edit::FlexEdit;
 use crate::sums::{grow_sums, put_sums, sums_beside};
-use node_heap::{Heap, Link};
+use node_heap::{Heap, Link, MOST_HEIGHT};
 use rrb_core::{FlexRef, PushFault, ROW_LINKS, height_of, inner_over, spine};
 
-// The most nodes that a push makes: one for each height from 0 to 7, and a root.
-const PUSH_NODES: usize = 9;
+// The most nodes that a push makes: one for each height, and a root.
+const PUSH_NODES: usize = MOST_HEIGHT as usize + 2;
 
 impl FlexEdit {
     /// Puts `element` after the last. It spends the element's hold on Ok alone. The element goes into the lowest row of the right
@@ -29,7 +29,7 @@ impl FlexEdit {
     pub fn push<T>(&mut self, heap: &mut Heap<T>, element: Link) -> Result<(), PushFault>
         requires good { IsGoodVector heap.old self.old }
         requires held { HasHolds heap.old (self.old ∷ element ∷ []) }
-        requires few { hold_count heap.old < 2 ^ 59 }
+        requires few { hold_count heap.old < half_holds }
         ensures pushes { IfOk result (λ _. PushesElement (by_hold self.old) heap.old heap.new self.new element) }
         ensures spares { IfOk result (λ _. KeepsToNeed heap.old heap.new 0 9) }
         ensures refused { OnErr result ((heap.new ≡ heap.old) × (self.new ≡ self.old)) }
@@ -58,7 +58,7 @@ pub fn push_at<T>(
     requires good { IsGoodVector heap.old (child_at heap.old parent child) }
     requires held { 1 ≤ holds_at heap.old element }
     requires apart { ¬ Reaches (links_at heap.old) element parent }
-    requires few { hold_count heap.old < 2 ^ 59 }
+    requires few { hold_count heap.old < half_holds }
     ensures pushes { IfOk result (λ _. PushesElement (by_place parent child) heap.old heap.new (child_at heap.new parent child) element) }
     ensures changes { IfOk result (λ _. Changes parent heap.old heap.new (element ∷ []) [] 0 (height_at heap.old (child_at heap.old parent child) + 2)) }
     ensures spares { IfOk result (λ _. KeepsToNeed heap.old heap.new 0 9) }
@@ -105,7 +105,7 @@ fn push_own<T>(heap: &mut Heap<T>, root: Link, height: u8, lowest: u8, element: 
 
 // Puts the element after the last of the vector that is the child at an index of a row with one owner.
 fn push_child<T>(heap: &mut Heap<T>, parent: Link, child: usize, element: Link)
-    requires few { hold_count heap.old < 2 ^ 59 }
+    requires few { hold_count heap.old < half_holds }
     requires sole { owners_at heap.old parent ≡ 1 }
     requires child { child < length (links_at heap.old parent) }
     requires root { CanPushRoot heap.old (child_at heap.old parent child) element }
@@ -143,7 +143,7 @@ fn push_own_child<T>(
 
 // The same where the child is packed: a root over it takes its place.
 fn push_over_child<T>(heap: &mut Heap<T>, parent: Link, child: usize, height: u8, element: Link)
-    requires few { hold_count heap.old < 2 ^ 59 }
+    requires few { hold_count heap.old < half_holds }
     requires sole { owners_at heap.old parent ≡ 1 }
     requires child { child < length (links_at heap.old parent) }
     requires root { CanPushRoot heap.old (child_at heap.old parent child) element }
@@ -197,7 +197,7 @@ fn root_beside<T>(heap: &mut Heap<T>, root: Link, height: u8, element: Link) -> 
 fn push_in<T>(heap: &mut Heap<T>, row: Link, height: u8, lowest: u8, element: Link)
     requires row { CanWrite heap.old height row element }
     requires short { length (seq_at (form_at heap.old) height row) + 1 < 2 ^ 32 }
-    requires few { hold_count heap.old < 2 ^ 60 }
+    requires few { hold_count heap.old < most_holds }
     requires room { HasRoomAt (form_at heap.old) height lowest row }
     ensures { PushesIn heap.old heap.new height lowest row element }
 {
@@ -213,7 +213,7 @@ fn push_in<T>(heap: &mut Heap<T>, row: Link, height: u8, lowest: u8, element: Li
 fn push_inner<T>(heap: &mut Heap<T>, row: Link, below: u8, lowest: u8, element: Link)
     requires row { CanWrite heap.old (suc below) row element }
     requires short { length (seq_at (form_at heap.old) (suc below) row) + 1 < 2 ^ 32 }
-    requires few { hold_count heap.old < 2 ^ 60 }
+    requires few { hold_count heap.old < most_holds }
     requires room { HasRoomAt (form_at heap.old) (suc below) lowest row }
     requires lower { lowest ≤ below }
     ensures { PushesIn heap.old heap.new (suc below) lowest row element }
@@ -228,7 +228,7 @@ fn push_inner<T>(heap: &mut Heap<T>, row: Link, below: u8, lowest: u8, element: 
 fn push_here<T>(heap: &mut Heap<T>, row: Link, height: u8, element: Link)
     requires row { CanWrite heap.old height row element }
     requires short { length (seq_at (form_at heap.old) height row) + 1 < 2 ^ 32 }
-    requires few { hold_count heap.old < 2 ^ 60 }
+    requires few { hold_count heap.old < most_holds }
     requires room { HasRoomAt (form_at heap.old) height height row }
     ensures { PushesIn heap.old heap.new height height row element }
 {
@@ -253,7 +253,7 @@ fn push_leaf<T>(heap: &mut Heap<T>, row: Link, element: Link)
 fn push_beside<T>(heap: &mut Heap<T>, row: Link, below: u8, element: Link)
     requires row { CanWrite heap.old (suc below) row element }
     requires short { length (seq_at (form_at heap.old) (suc below) row) + 1 < 2 ^ 32 }
-    requires few { hold_count heap.old < 2 ^ 60 }
+    requires few { hold_count heap.old < most_holds }
     requires room { length (links_at heap.old row) < 32 }
     requires packed { IsPacked (form_at heap.old) below (last_in (form_at heap.old) row) }
     ensures { PushesIn heap.old heap.new (suc below) (suc below) row element }

@@ -1,7 +1,7 @@
 //! An element put in the place of another.
-ghost use Rattle.std.specs.Prelude.{◌≡◌, ◌≢◌, ◌↔◌, ℕ, suc, ◌+◌, ◌^◌, ◌<◌, ◌≤◌, [], ◌∷◌, length, IfOk, OnErr, Err};
+ghost use Rattle.std.specs.Prelude.{◌≡◌, ◌≢◌, ◌↔◌, ℕ, suc, ◌+◌, ◌<◌, ◌≤◌, [], ◌∷◌, length, IfOk, OnErr, Err};
 ghost use Rattle.node_heap.specs.Links.{Reaches};
-ghost use Rattle.node_heap.specs.Heap.{form_at, links_at, holds_at, owners_at, hold_count, HasSpares};
+ghost use Rattle.node_heap.specs.Heap.{form_at, links_at, holds_at, owners_at, hold_count, HasSpares, half_holds};
 ghost use Rattle.node_heap.specs.Calls.{KeepsToNeed, HasHolds};
 ghost use Rattle.node_heap.specs.InPlace.{child_at, Changes};
 ghost use Rattle.node_heap.specs.Owner.{by_hold, by_place};
@@ -11,11 +11,11 @@ ghost use Rattle.edit_vec.specs.Edit.{SetsElement};
 ghost use Rattle.edit_vec.specs.Walk.{CanWrite, SetsIn};
 
 use crate::edit::FlexEdit;
-use node_heap::{Heap, Link};
+use node_heap::{Heap, Link, MOST_HEIGHT};
 use rrb_core::{FlexRef, SetFault, height_of, spot_of};
 
-// The most nodes that a set makes: one for each height from 0 to 7.
-const SET_NODES: usize = 8;
+// The most nodes that a set makes: one for each height.
+const SET_NODES: usize = MOST_HEIGHT as usize + 1;
 
 impl FlexEdit {
     /// Puts `element` at `index` and gives the element that stood there, with a hold. It spends the element's hold on Ok alone.
@@ -30,7 +30,7 @@ impl FlexEdit {
     ) -> Result<Link, SetFault>
         requires good { IsGoodVector heap.old self.old }
         requires held { HasHolds heap.old (self.old ∷ element ∷ []) }
-        requires few { hold_count heap.old < 2 ^ 59 }
+        requires few { hold_count heap.old < half_holds }
         ensures sets { IfOk result (λ given. SetsElement (by_hold self.old) heap.old heap.new self.new index element given) }
         ensures spares { IfOk result (λ _. KeepsToNeed heap.old heap.new 0 8) }
         ensures refused { OnErr result ((heap.new ≡ heap.old) × (self.new ≡ self.old)) }
@@ -62,7 +62,7 @@ pub fn set_at<T>(
     requires good { IsGoodVector heap.old (child_at heap.old parent child) }
     requires held { 1 ≤ holds_at heap.old element }
     requires apart { ¬ Reaches (links_at heap.old) element parent }
-    requires few { hold_count heap.old < 2 ^ 59 }
+    requires few { hold_count heap.old < half_holds }
     ensures sets { IfOk result (λ given. SetsElement (by_place parent child) heap.old heap.new (child_at heap.new parent child) index element given) }
     ensures changes { IfOk result (λ given. Changes parent heap.old heap.new (element ∷ []) (given ∷ []) 0 (height_at heap.old (child_at heap.old parent child) + 1)) }
     ensures spares { IfOk result (λ _. KeepsToNeed heap.old heap.new 0 8) }

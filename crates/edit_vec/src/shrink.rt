@@ -9,7 +9,7 @@ ghost use Rattle.rrb_core.specs.Vector.{KeepsSums, HasSums, sums_at};
 ghost use Rattle.edit_vec.specs.Walk.{shrunk};
 
 use crate::sums::sums_with_last;
-use node_heap::{Head, Heap, Link, Sums};
+use node_heap::{Head, Heap, Link, MOST_HEIGHT, Sums};
 use rrb_core::{full_size, sums_of};
 
 // Takes one from the last of the sums that an inner row with one owner keeps. One that keeps none isn't written.
@@ -38,7 +38,7 @@ pub(crate) fn sums_without_last<T>(heap: &Heap<T>, row: Link, below: u8) -> Sums
     requires well { IsWell (form_at heap.now) (suc below) row }
     requires sums { HasSums heap.now (suc below) row }
     requires two { 2 ≤ length (links_at heap.now row) }
-    requires low { below < 7 }
+    requires low { below < MOST_HEIGHT }
     ensures { KeepsSums (form_at heap.now) below (take (length (links_at heap.now row) - 1) (links_at heap.now row)) result }
 {
     let known = sums_of(heap, row);

@@ -13,7 +13,7 @@ ghost use Rattle.rrb_core.specs.Push.{last_in};
 ghost use Rattle.edit_vec.specs.Walk.{with_last, grown};
 
 use arrayvec::ArrayVec;
-use node_heap::{Head, Heap, Link, Sums};
+use node_heap::{Head, Heap, Link, MOST_HEIGHT, Sums};
 use rrb_core::{full_size, size, sums_of, sums_over};
 
 // Puts these sums at an inner row with one owner. Where it keeps none and is to keep none, nothing is written.
@@ -73,7 +73,7 @@ pub(crate) fn sums_beside<T>(heap: &Heap<T>, row: Link, below: u8) -> Sums
     requires one { length (seq_at (form_at heap.now) below (last_in (form_at heap.now) row)) ≡ 1 }
     requires two { 2 ≤ length (links_at heap.now row) }
     requires few { length (links_at heap.now row) ≤ 32 }
-    requires low { below < 7 }
+    requires low { below < MOST_HEIGHT }
     requires short { length (flat_map (seq_at (form_at heap.now) below) (links_at heap.now row)) < 2 ^ 32 }
     ensures { KeepsSums (form_at heap.now) below (links_at heap.now row) result }
 {
@@ -94,7 +94,7 @@ fn sums_after<T>(heap: &Heap<T>, row: Link, below: u8) -> Sums
     requires regular { IsRegular (form_at heap.now) below (take (length (links_at heap.now row) - 1) (links_at heap.now row)) }
     requires two { 2 ≤ length (links_at heap.now row) }
     requires few { length (links_at heap.now row) ≤ 32 }
-    requires low { below < 7 }
+    requires low { below < MOST_HEIGHT }
     requires short { length (flat_map (seq_at (form_at heap.now) below) (links_at heap.now row)) < 2 ^ 32 }
     ensures { KeepsSums (form_at heap.now) below (links_at heap.now row) result }
 {

@@ -3,7 +3,7 @@ use Rattle.std.proofs.Common.{◌≡◌, ℕ, zero, suc, ◌+◌, ◌*◌, ◌%�
 use Rattle.std.proofs.lemmas.Nat.{mod-pow-add, pow_pos}
 use Rattle.std.proofs.Math.Pow.{pow_mono}
 use Rattle.elem_core.specs.Codes.{digit_at, masked_code}
-use Rattle.elem_core.specs.declared.codes.TheConstants.{CODE_BITS, DEEPEST}
+use Rattle.elem_core.specs.declared.codes.TheConstants.{CODE_BITS, DEEPEST, LEVELS}
 
 -- the bits above a depth and a digit more
 pub digit-more : (x d : ℕ) → x % 2 ^ (5 * (d + 1)) ≡ digit_at x d * 2 ^ (5 * d) + x % 2 ^ (5 * d)
@@ -20,19 +20,19 @@ same-front (suc n) x y same =
     subst (λ m. x % 2 ^ (5 * m) ≡ y % 2 ^ (5 * m)) (omega arith) both
 
 -- a code has no bits behind its last digit
-pub all-bits : (c : ℕ) → c < 2 ^ CODE_BITS → c % 2 ^ (5 * (DEEPEST + 1)) ≡ c
+pub all-bits : (c : ℕ) → c < 2 ^ CODE_BITS → c % 2 ^ (5 * LEVELS) ≡ c
 all-bits c low =
-    let longer : CODE_BITS ≤ 5 * (DEEPEST + 1) = omega arith in
-    let wide : 2 ^ CODE_BITS ≤ 2 ^ (5 * (DEEPEST + 1)) = pow_mono longer in
+    let longer : CODE_BITS ≤ 5 * LEVELS = omega arith in
+    let wide : 2 ^ CODE_BITS ≤ 2 ^ (5 * LEVELS) = pow_mono longer in
     omega (arith, low, wide)
 
 -- codes that agree above all depths are equal
-pub same-bits : (x y : ℕ) → x < 2 ^ CODE_BITS → y < 2 ^ CODE_BITS → x % 2 ^ (5 * (DEEPEST + 1)) ≡ y % 2 ^ (5 * (DEEPEST + 1)) → x ≡ y
+pub same-bits : (x y : ℕ) → x < 2 ^ CODE_BITS → y < 2 ^ CODE_BITS → x % 2 ^ (5 * LEVELS) ≡ y % 2 ^ (5 * LEVELS) → x ≡ y
 same-bits x y low_x low_y same = sym (all-bits x low_x) ∙ same ∙ all-bits y low_y
 
 -- codes that agree on all digits are equal
 pub same-digits : (x y : ℕ) → x < 2 ^ CODE_BITS → y < 2 ^ CODE_BITS → ((d : ℕ) → d ≤ DEEPEST → digit_at x d ≡ digit_at y d) → x ≡ y
-same-digits x y low_x low_y same = same-bits x y low_x low_y (same-front (DEEPEST + 1) x y (λ d less. same d (omega (arith, less))))
+same-digits x y low_x low_y same = same-bits x y low_x low_y (same-front LEVELS x y (λ d less. same d (omega (arith, less))))
 
 -- a masked code is a code
 pub masked-small : (n bits : ℕ) → bits ≤ CODE_BITS → masked_code n bits < 2 ^ CODE_BITS

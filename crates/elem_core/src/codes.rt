@@ -12,6 +12,9 @@ pub const CODE_BITS: u32 = 32;
 /// The depth of a code's last digit, which has the bits that the others leave.
 pub const DEEPEST: u8 = 6;
 
+/// The number of digits of a code, and so the most trie rows on a way from a root.
+pub const LEVELS: u8 = DEEPEST + 1;
+
 /// FNV-1a with 32 bits, the public hash of Fowler, Noll and Vo, over the bytes.
 #[tactic(auto, unfolding(crate::specs::Codes::text_code))]
 pub fn fnv32(bytes: &[u8]) -> Code

@@ -7,7 +7,7 @@ mod kept;
 mod text;
 mod words;
 
-pub use codes::{CODE_BITS, Code, DEEPEST, digit, fnv32, masked};
+pub use codes::{CODE_BITS, Code, DEEPEST, LEVELS, digit, fnv32, masked};
 pub use element::{Element, Num, Probe, Stored};
 use std::alloc::{AllocError, AllocFailed};
 pub use text::{Text, Texts, text_of};

@@ -165,7 +165,7 @@ module _ {B C : Type 0} {asked : PlainOptions} {K : sink_trait.Ghosts B} {begin 
           later = next.in_time.0;
           in_time = ap (λ (w : List (List ℕ)). opening asked.first ++ w) (given_then next) ∙ sym (append_assoc (opening asked.first) (pieces_given input old) (piece ∷ next.in_time.0));
           goes_on = opening-no_quit asked.first (pieces_given input old) going.goes_on;
-          whole = going.replies;
+          full_replies = going.replies;
           mid_space = W;
           mid_store = V;
           steps = going.steps;
@@ -316,7 +316,7 @@ module _ {B C : Type 0} {asked : PlainOptions} {K : sink_trait.Ghosts B} {sink s
           later = pieces_within most input;
           in_time = ap (λ (o : Option (List ℕ)). opening o ++ pieces_within most input) is;
           goes_on = no_quit;
-          whole = [];
+          full_replies = [];
           mid_space = W;
           mid_store = first;
           steps = (refl, empty, refl);

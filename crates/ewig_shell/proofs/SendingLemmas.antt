@@ -114,30 +114,30 @@ module _ {B : Type 0} {K : sink_trait.Ghosts B} where
 
   -- no bytes were put
   pub Puts-none : {s : B} {p : List ℕ} → Puts K s p s p (Ok tt) []
-  Puts-none {p = p} = record { sent = []; kept = p; whole = sym (append-nil p); page_is = refl; sends = Sends-none }
+  Puts-none {p = p} = record { sent = []; kept = p; parts = sym (append-nil p); page_is = refl; sends = Sends-none }
 
   -- the page has them all
   pub Puts-kept : {s : B} {p p' bytes : List ℕ} {x : Unit {0}} → p' ≡ p ++ bytes → Puts K s p s p' (Ok x) bytes
-  Puts-kept {p' = p'} e = record { sent = []; kept = p'; whole = e; page_is = refl; sends = Sends-none }
+  Puts-kept {p' = p'} e = record { sent = []; kept = p'; parts = e; page_is = refl; sends = Sends-none }
 
   -- what the page had was sent in part
   pub Puts-fails : {s s' : B} {p p' bytes : List ℕ} {x : Failed} {r : Result (Unit {0}) Failed} → IsErr r → Sends {A = Unit {0}} K.written K.faults K.steady K.has_room s s' (Err x) p → Puts K s p s' p' r bytes
-  Puts-fails {p = p} {p'} {bytes} {r = r} h sends = record { sent = p; kept = bytes; whole = refl; page_is = OnOk-err r (p' ≡ bytes) h; sends = Sends-err r h sends }
+  Puts-fails {p = p} {p'} {bytes} {r = r} h sends = record { sent = p; kept = bytes; parts = refl; page_is = OnOk-err r (p' ≡ bytes) h; sends = Sends-err r h sends }
 
   -- what the page had was sent, and it has the bytes
   pub Puts-turned : {s s' : B} {p none p' bytes : List ℕ} {x y : Unit {0}} → Sends {A = Unit {0}} K.written K.faults K.steady K.has_room s s' (Ok x) p → none ≡ [] → p' ≡ none ++ bytes → Puts K s p s' p' (Ok y) bytes
-  Puts-turned {p = p} {bytes = bytes} sends empty e = record { sent = p; kept = bytes; whole = refl; page_is = e ∙ ap (λ (w : List ℕ). w ++ bytes) empty; sends = record { writes = sends.writes; counts = CountsFaults-as sends.counts (λ h. h) (λ h. h); sure = sends.sure } }
+  Puts-turned {p = p} {bytes = bytes} sends empty e = record { sent = p; kept = bytes; parts = refl; page_is = e ∙ ap (λ (w : List ℕ). w ++ bytes) empty; sends = record { writes = sends.writes; counts = CountsFaults-as sends.counts (λ h. h) (λ h. h); sure = sends.sure } }
 
   -- what the page had was sent, and then the bytes
   pub Puts-through : {s m s' : B} {p p' bytes : List ℕ} {x : Unit {0}} (r : Result (Unit {0}) Failed) → Sends {A = Unit {0}} K.written K.faults K.steady K.has_room s m (Ok x) p → p' ≡ [] → Sends K.written K.faults K.steady K.has_room m s' r bytes → Puts K s p s' p' r bytes
-  Puts-through {p = p} {p'} {bytes} r sends empty more = record { sent = p ++ bytes; kept = []; whole = append-nil (p ++ bytes); page_is = OnOk-holds r (p' ≡ []) empty; sends = Sends-append r p bytes sends more }
+  Puts-through {p = p} {p'} {bytes} r sends empty more = record { sent = p ++ bytes; kept = []; parts = append-nil (p ++ bytes); page_is = OnOk-holds r (p' ≡ []) empty; sends = Sends-append r p bytes sends more }
 
   -- bytes were put, and then others
   pub Puts-then : {s m s' : B} {p q p' a b : List ℕ} {x : Unit {0}} {r : Result (Unit {0}) Failed} → Puts K s p m q (Ok x) a → Puts K m q s' p' r b → Puts K s p s' p' r (a ++ b)
   Puts-then {p = p} {q} {a = a} {b} {r = r} first second = record {
     sent = first.sent ++ second.sent;
     kept = second.kept;
-    whole = append_assoc first.sent second.sent second.kept ∙ ap (λ (w : List ℕ). first.sent ++ w) second.whole ∙ sym (append_assoc first.sent q b) ∙ ap (λ (w : List ℕ). w ++ b) (ap (λ (w : List ℕ). first.sent ++ w) first.page_is ∙ first.whole) ∙ append_assoc p a b;
+    parts = append_assoc first.sent second.sent second.kept ∙ ap (λ (w : List ℕ). first.sent ++ w) second.parts ∙ sym (append_assoc first.sent q b) ∙ ap (λ (w : List ℕ). w ++ b) (ap (λ (w : List ℕ). first.sent ++ w) first.page_is ∙ first.parts) ∙ append_assoc p a b;
     page_is = second.page_is;
     sends = Sends-append r first.sent second.sent first.sends second.sends;
   }
@@ -147,7 +147,7 @@ module _ {B : Type 0} {K : sink_trait.Ghosts B} where
   Puts-cut {p = p} {p' = p'} {a} b {r = r} h put = record {
     sent = put.sent;
     kept = put.kept ++ b;
-    whole = sym (append_assoc put.sent put.kept b) ∙ ap (λ (w : List ℕ). w ++ b) put.whole ∙ append_assoc p a b;
+    parts = sym (append_assoc put.sent put.kept b) ∙ ap (λ (w : List ℕ). w ++ b) put.parts ∙ append_assoc p a b;
     page_is = OnOk-err r (p' ≡ put.kept ++ b) h;
     sends = Sends-err r h put.sends;
   }
@@ -160,13 +160,13 @@ module _ {B : Type 0} {K : sink_trait.Ghosts B} where
   pub Puts-ends : {s m s' : B} {p q a : List ℕ} {x : Unit {0}} {r : Result (Unit {0}) Failed} → p ≡ [] → Puts K s p m q (Ok x) a → Sends K.written K.faults K.steady K.has_room m s' r q → Sends K.written K.faults K.steady K.has_room s s' r a
   Puts-ends {s = s} {s' = s'} {p} {q} {a} {r = r} empty put sends =
       subst (λ (w : List ℕ). Sends K.written K.faults K.steady K.has_room s s' r w)
-      (ap (λ (w : List ℕ). put.sent ++ w) put.page_is ∙ put.whole ∙ ap (λ (w : List ℕ). w ++ a) empty)
+      (ap (λ (w : List ℕ). put.sent ++ w) put.page_is ∙ put.parts ∙ ap (λ (w : List ℕ). w ++ a) empty)
       (Sends-append r put.sent q put.sends sends)
 
   -- bytes were put on an empty page in part
   pub Puts-failed : {s s' : B} {p q a : List ℕ} {x : Failed} {r : Result (Unit {0}) Failed} → IsErr r → p ≡ [] → Puts K s p s' q (Err x) a → Sends K.written K.faults K.steady K.has_room s s' r a
   Puts-failed {s = s} {s'} {p} {a = a} {r = r} h empty put =
-      subst (λ (w : List ℕ). Sends K.written K.faults K.steady K.has_room s s' r w) (put.whole ∙ ap (λ (w : List ℕ). w ++ a) empty)
+      subst (λ (w : List ℕ). Sends K.written K.faults K.steady K.has_room s s' r w) (put.parts ∙ ap (λ (w : List ℕ). w ++ a) empty)
       (Sends-cut r put.sent put.kept h put.sends)
 
   -- lines were put, and then others

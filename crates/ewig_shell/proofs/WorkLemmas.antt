@@ -149,11 +149,11 @@ module _ {lines : List (List ℕ)} {line : List ℕ} {old mid new : SpaceView} {
   counts-more done change ok refused = record {
     replies = before.replies ++ done_reply done;
     steps = alone-append lines old before.replies mid line (done_reply done) new before.steps change;
-    whole = subst (λ (w : List ℕ). IsWhole (before.replies ++ w)) (sym (done_is done)) (IsWhole-append_line before.replies (done_line done) before.whole (done-unbroken done));
+    ended = subst (λ (w : List ℕ). IsWhole (before.replies ++ w)) (sym (done_is done)) (IsWhole-append_line before.replies (done_line done) before.ended (done-unbroken done));
     ok = ok ∙ ap (λ (n : ℕ). n + count_by (λ (l : List ℕ). bytes_eq l ok_line) (done_line done ∷ [])) before.ok
-        ∙ sym (one-counted (λ (l : List ℕ). bytes_eq l ok_line) before.replies (done_reply done) (done_line done) before.whole (done-unbroken done) (done_is done));
+        ∙ sym (one-counted (λ (l : List ℕ). bytes_eq l ok_line) before.replies (done_reply done) (done_line done) before.ended (done-unbroken done) (done_is done));
     refused = refused ∙ ap (λ (n : ℕ). n + count_by is_refusal (done_line done ∷ [])) before.refused
-        ∙ sym (one-counted is_refusal before.replies (done_reply done) (done_line done) before.whole (done-unbroken done) (done_is done));
+        ∙ sym (one-counted is_refusal before.replies (done_reply done) (done_line done) before.ended (done-unbroken done) (done_is done));
   }
 
   -- one more
@@ -182,7 +182,7 @@ length-work_lines seed count = omega (arith, length-lines_from count seed)
 -- no line was executed yet
 pub Counts-none : {space : SpaceView} {tally : Tally} → tally.ok ≡ 0 → tally.refused ≡ 0 → Counts [] space tally space
 unfolding pieces ended
-Counts-none ok refused = record { replies = []; steps = (refl, refl); whole = refl; ok = ok; refused = refused }
+Counts-none ok refused = record { replies = []; steps = (refl, refl); ended = refl; ok = ok; refused = refused }
 
 -- the next of the lines to come
 pub next_line : (done left new all : List (List ℕ)) (line : List ℕ) → done ++ left ≡ all → left ≡ line ∷ new → (done ++ line ∷ []) ++ new ≡ all
@@ -190,16 +190,16 @@ next_line done left new all line others e = append_assoc done (line ∷ []) new 
 
 -- ## The summary
 
-pub SumsUp-due : {bits seed count : ℕ} {old new : SpaceView} {s : Summary} → old ≡ start_view bits → SumsUp seed count old s new → IsSummary bits seed count StepsAlone new (summary s.commands s.ok s.refused s.names s.lines)
+pub SumsUp-due : {bits seed count : ℕ} {old new : SpaceView} {s : Summary} → old ≡ start_view bits → SumsUp seed count old s new → IsSummary bits seed count StepsAlone new (summary s.commands s.ok s.refused s.buffers s.lines)
 SumsUp-due {seed = seed} {count} {new = new} {s} start sums = record {
   replies = sums.replies;
   steps = subst (λ (w : SpaceView). StepsAlone (work_lines seed count) w sums.replies new) start sums.steps;
   work = sums.work;
   stands = sums.stands;
   bytes_are =
-      ap (λ (n : ℕ). summary n s.ok s.refused s.names s.lines) sums.commands
-      ∙ ap (λ (n : ℕ). summary (8 + count) n s.refused s.names s.lines) sums.ok
-      ∙ ap (λ (n : ℕ). summary (8 + count) (ok_count sums.replies) n s.names s.lines) sums.refused
-      ∙ ap (λ (n : ℕ). summary (8 + count) (ok_count sums.replies) (refused_count sums.replies) n s.lines) sums.names
+      ap (λ (n : ℕ). summary n s.ok s.refused s.buffers s.lines) sums.commands
+      ∙ ap (λ (n : ℕ). summary (8 + count) n s.refused s.buffers s.lines) sums.ok
+      ∙ ap (λ (n : ℕ). summary (8 + count) (ok_count sums.replies) n s.buffers s.lines) sums.refused
+      ∙ ap (λ (n : ℕ). summary (8 + count) (ok_count sums.replies) (refused_count sums.replies) n s.lines) sums.buffers
       ∙ ap (λ (n : ℕ). summary (8 + count) (ok_count sums.replies) (refused_count sums.replies) (length (sizes sums.work.current)) n) sums.lines;
 }

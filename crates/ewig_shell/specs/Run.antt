@@ -97,16 +97,16 @@ pub record HasWriteFault {C : Type 0} (most : ℕ) (asked : PlainOptions) (D : s
   pub later : List (List ℕ)
   pub in_time : opening asked.first ++ pieces_within most run.input ≡ before ++ piece ∷ later
   pub goes_on : ¬ HasQuit before
-  pub whole : List ℕ
+  pub full_replies : List ℕ
   pub mid_space : SpaceView
   pub mid_store : C
-  pub steps : StepsThrough before D (start_view asked.bits) run.store whole mid_space mid_store
+  pub steps : StepsThrough before D (start_view asked.bits) run.store full_replies mid_space mid_store
   pub reply : List ℕ
   pub step : IsSomeAnd run.last (λ last. StepsOn piece D mid_space mid_store reply last run.store')
-  pub replies_are : run.replies ≡ whole ++ reply
+  pub replies_are : run.replies ≡ full_replies ++ reply
   pub count : ℕ
   pub cut : count < length reply
-  pub output_is : run.output ≡ whole ++ take count reply
+  pub output_is : run.output ≡ full_replies ++ take count reply
 
 -- What the status says of a run of at most so many bytes, whose words read.
 abbrev pub Says : {C : Type 0} → Status → ℕ → PlainOptions → store_trait.Ghosts C → Run C → Type 0

@@ -22,6 +22,6 @@ pub record Puts {B : Type 0} (K : sink_trait.Ghosts B) (sink : B) (page : List �
     (result : Result (Unit {0}) Failed) (bytes : List ℕ) : Type 0 where
   pub sent : List ℕ
   pub kept : List ℕ
-  pub whole : sent ++ kept ≡ page ++ bytes
+  pub parts : sent ++ kept ≡ page ++ bytes
   pub page_is : OnOk result (page' ≡ kept)
   pub sends : Sends K.written K.faults K.steady K.has_room sink sink' result sent

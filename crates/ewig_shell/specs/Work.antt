@@ -36,12 +36,12 @@ abbrev pub line_count : Workspace → ℕ
 line_count work = sum_by (λ size. size.1) (sizes work.current)
 
 -- The lines of a summary of five numbers.
-abbrev pub summary : (commands ok refused names lines : ℕ) → List ℕ
-summary commands ok refused names lines = reply_of (
+abbrev pub summary : (commands ok refused buffers lines : ℕ) → List ℕ
+summary commands ok refused buffers lines = reply_of (
     size_line (codes "commands", commands)
     ∷ size_line (codes "ok", ok)
     ∷ size_line (codes "refused", refused)
-    ∷ size_line (codes "names", names)
+    ∷ size_line (codes "names", buffers)
     ∷ size_line (codes "lines", lines)
     ∷ ok_line ∷ [])
 
@@ -97,7 +97,7 @@ CountsOne old (Err reason) new = (new.ok ≡ old.ok) × (new.refused ≡ old.ref
 pub record Counts (lines : List (List ℕ)) (old : SpaceView) (tally : Tally) (new : SpaceView) : Type 0 where
   pub replies : List ℕ
   pub steps : StepsAlone lines old replies new
-  pub whole : IsWhole replies
+  pub ended : IsWhole replies
   pub ok : tally.ok ≡ ok_count replies
   pub refused : tally.refused ≡ refused_count replies
 
@@ -110,5 +110,5 @@ pub record SumsUp (seed count : ℕ) (old : SpaceView) (summary : Summary) (new 
   pub refused : summary.refused ≡ refused_count replies
   pub work : Workspace
   pub stands : StandsFor new.pool work
-  pub names : summary.names ≡ length (sizes work.current)
+  pub buffers : summary.buffers ≡ length (sizes work.current)
   pub lines : summary.lines ≡ line_count work

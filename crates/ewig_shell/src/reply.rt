@@ -165,13 +165,13 @@ pub fn send_sizes<K: Sink>(
 /// Sends a line for each number of the summary, then `ok`.
 pub fn send_summary<K: Sink>(sums: &Summary, sink: &mut K) -> Result<(), Failed>
     ensures { Sends K.written K.faults K.steady K.has_room sink.old sink.new result
-        (summary sums.now.commands sums.now.ok sums.now.refused sums.now.names sums.now.lines) }
+        (summary sums.now.commands sums.now.ok sums.now.refused sums.now.buffers sums.now.lines) }
 {
     let mut page = Page::new();
     page.put_count("commands", sums.commands as u128, sink)?;
     page.put_count("ok", sums.ok as u128, sink)?;
     page.put_count("refused", sums.refused as u128, sink)?;
-    page.put_count("names", sums.names as u128, sink)?;
+    page.put_count("names", sums.buffers as u128, sink)?;
     page.put_count("lines", sums.lines, sink)?;
     page.put("ok\n", sink)?;
     page.flush(sink)

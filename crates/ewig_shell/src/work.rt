@@ -22,7 +22,7 @@ pub struct Summary {
     /// How many of them were refused.
     pub refused: u32,
     /// How many buffers there are behind them.
-    pub names: usize,
+    pub buffers: usize,
     /// How many lines these buffers have in all.
     pub lines: u128,
 }
@@ -40,12 +40,12 @@ pub fn work(space: &mut Space, seed: u64, count: u32) -> Summary
     ensures { SumsUp seed count space.old result space.new }
 {
     let tally = counted(space, seed, count);
-    let (names, lines) = space.totals();
+    let (buffers, lines) = space.totals();
     Summary {
         commands: 8 + count,
         ok: tally.ok,
         refused: tally.refused,
-        names,
+        buffers,
         lines,
     }
 }

@@ -1,9 +1,9 @@
 //! Puts prices into a map, each beside the map before it, takes one out in place, and reads all three maps.
 #![tactic(auto)]
 
-ghost use Rattle.std.specs.Prelude.{◌≡◌, ◌≢◌, ℕ, ◌+◌, ◌^◌, ◌<◌, Some, None, IfOk, OnOk, option_copied};
+ghost use Rattle.std.specs.Prelude.{◌≡◌, ◌≢◌, ℕ, ◌+◌, ◌<◌, Some, None, IfOk, OnOk, option_copied};
 ghost use Rattle.std.specs.declared.cmp.Ordering.TheVariants.{Equal};
-ghost use Rattle.node_heap.specs.Heap.{holds_at, hold_count, one_at, IsGraph};
+ghost use Rattle.node_heap.specs.Heap.{holds_at, hold_count, one_at, IsGraph, quarter_holds};
 ghost use Rattle.node_heap.specs.Calls.{Extends, KeepsBelow};
 ghost use Rattle.champ_kinds.specs.Stands.{IsSomeMap, KeepsMaps};
 ghost use Rattle.first_map.specs.Says.{by_root, Says, SaysNothing};
@@ -48,7 +48,7 @@ fn text(rt: &HostRuntime, line: &str) -> Result<Text> {
 
 // The root of the map without keys.
 fn empty<T: Element>(heap: &mut Heap<T>) -> Result<Link, NoMemory>
-    requires few { hold_count heap.old < 2 ^ 58 }
+    requires few { hold_count heap.old < quarter_holds }
     ensures map { IfOk result (λ l. IsSomeMap T.cmp T.code_of heap.new (by_root l)) }
     ensures count { OnOk result (hold_count heap.new ≡ hold_count heap.old + 1) }
 {
@@ -57,7 +57,7 @@ fn empty<T: Element>(heap: &mut Heap<T>) -> Result<Link, NoMemory>
 
 // The root of the map with a new cell of this value at the key. It stands beside the old map, and all rows stay.
 fn put<T: Element>(heap: &mut Heap<T>, root: Link, key: T, value: T) -> Result<Link, NoMemory>
-    requires few { hold_count heap.old < 2 ^ 58 }
+    requires few { hold_count heap.old < quarter_holds }
     requires map { IsSomeMap T.cmp T.code_of heap.old (by_root root) }
     ensures says { IfOk result (λ l. Says T.cmp T.code_of heap.new (by_root l) key value) }
     ensures others { IfOk result (λ l. (k v : T) → T.cmp key k ≢ Equal → Says T.cmp T.code_of heap.old (by_root root) k v → Says T.cmp T.code_of heap.new (by_root l) k v) }
@@ -98,7 +98,7 @@ fn take_out<T: Element, P: Probe<T>>(
     key: &P,
 ) -> Result<(), NoMemory>
     requires graph { IsGraph heap.old }
-    requires few { hold_count heap.old < 2 ^ 58 }
+    requires few { hold_count heap.old < quarter_holds }
     requires held { 0 < holds_at heap.old edit.old.root }
     requires map { IsSomeMap T.cmp T.code_of heap.old edit.old }
     ensures map { IsSomeMap T.cmp T.code_of heap.new edit.new }
@@ -121,7 +121,7 @@ fn without<T: Element, P: Probe<T>>(
     key: &P,
 ) -> Result<Link, NoMemory>
     requires graph { IsGraph heap.old }
-    requires few { hold_count heap.old < 2 ^ 58 }
+    requires few { hold_count heap.old < quarter_holds }
     requires held { 0 < holds_at heap.old root }
     requires map { IsSomeMap T.cmp T.code_of heap.old (by_root root) }
     ensures map { IfOk result (λ l. IsSomeMap T.cmp T.code_of heap.new (by_root l)) }

@@ -1,7 +1,7 @@
 //! Chains of numbers and of texts.
 ghost use Rattle.std.specs.Prelude.{◌≢◌, ◌+◌, ◌<◌, ◌^◌, List, IfOk};
 ghost use Rattle.std.specs.declared.cmp.Ordering.TheVariants.{Equal};
-ghost use Rattle.node_heap.specs.Heap.{form_at, hold_count};
+ghost use Rattle.node_heap.specs.Heap.{form_at, hold_count, program_holds};
 ghost use Rattle.champ_chain.specs.Entry.{Entry};
 ghost use Rattle.champ_chain.specs.Chain.{IsChain};
 
@@ -14,7 +14,7 @@ use std::test::Fail;
 
 // A chain of three values, of which the first two have different keys.
 fn chain_of<T: Element>(heap: &mut Heap<T>, first: T, second: T, third: T) -> Result<Link, NoMemory>
-    requires few { hold_count heap.old < 2 ^ 50 }
+    requires few { hold_count heap.old < program_holds }
     requires apart { T.cmp first second ≢ Equal }
     ensures chain { IfOk result (λ l. (E : List (Entry T)) × IsChain T.cmp (form_at heap.new) l E) }
     ensures few { IfOk result (λ l. hold_count heap.new < 2 ^ 51) }
@@ -35,7 +35,7 @@ fn looked<T: Element, P: Probe<T>>(
     third: T,
     key: &P,
 ) -> Result<(usize, bool, bool), NoMemory>
-    requires few { hold_count heap.old < 2 ^ 50 }
+    requires few { hold_count heap.old < program_holds }
     requires apart { T.cmp first second ≢ Equal }
 {
     let chain = chain_of(heap, first, second, third)?;
@@ -53,7 +53,7 @@ fn seen<T: Element, P: Probe<T>>(
     third: T,
     key: &P,
 ) -> Result<(usize, bool, bool), NoMemory>
-    requires { hold_count heap.old < 2 ^ 50 }
+    requires { hold_count heap.old < program_holds }
 {
     match first.cmp(&second) {
         Ordering::Less => looked(heap, first, second, third, key),

@@ -1,7 +1,7 @@
 //! Maps that are edited in place beside maps that are kept, for tests that look at values alone: their calls ask for nothing and
 //! promise nothing, so a test of them has nothing to prove.
 ghost use Rattle.std.specs.Prelude.{◌≡◌, ℕ, ◌+◌, ◌^◌, ◌<◌, ◌∷◌, IsSome, IfSome, MatchOption};
-ghost use Rattle.node_heap.specs.Heap.{row_at, holds_at, hold_count, one_at, IsGraph};
+ghost use Rattle.node_heap.specs.Heap.{row_at, holds_at, hold_count, one_at, IsGraph, program_holds};
 ghost use Rattle.champ_kinds.specs.Root.{Root};
 ghost use Rattle.map_tests.specs.Stands.{IsCellMap, AreHeld, EditsMap, GivesUp};
 
@@ -39,7 +39,7 @@ impl<T: Element> Model for MapEditing<T> {
 fn opened<T: Element>(rt: &impl Abort, heap: &mut Heap<T>, map: MapRef) -> TrieEdit
     requires cells { IsCellMap T.cmp T.code_of heap.old map }
     requires held { 0 < holds_at heap.old map.root }
-    requires few { hold_count heap.old < 2 ^ 50 }
+    requires few { hold_count heap.old < program_holds }
     ensures cells { IsCellMap T.cmp T.code_of heap.new result }
     ensures others { (r : Root) → 0 < holds_at heap.old r.root → IsCellMap T.cmp T.code_of heap.old r → IsCellMap T.cmp T.code_of heap.new r }
     ensures holds { (k : ℕ) → holds_at heap.new k ≡ holds_at heap.old k + one_at result.root k }
@@ -71,7 +71,7 @@ pub fn came_back<T: Element>(heap: &mut Heap<T>, given: Option<Link>, value: Opt
     match given {
         None => value.is_none(),
         Some(link) => {
-            let _ = heap.live();
+            heap.is_graph();
             let same = value.is_some() && heap.value(link) == value.as_ref();
             heap.release(link);
             same
@@ -90,7 +90,7 @@ fn put<T: Element>(
 ) -> bool
     requires cells { IsCellMap T.cmp T.code_of heap.old edit.old }
     requires held { 0 < holds_at heap.old edit.old.root }
-    requires few { hold_count heap.old < 2 ^ 50 }
+    requires few { hold_count heap.old < program_holds }
     ensures { EditsMap T.cmp T.code_of heap.old heap.new edit.old edit.new }
 {
     heap.reserve(1, 0).expect(rt, "memory");
@@ -114,7 +114,7 @@ fn cut<T: Element, P: Probe<T>>(
 ) -> bool
     requires cells { IsCellMap T.cmp T.code_of heap.old edit.old }
     requires held { 0 < holds_at heap.old edit.old.root }
-    requires few { hold_count heap.old < 2 ^ 50 }
+    requires few { hold_count heap.old < program_holds }
     ensures { EditsMap T.cmp T.code_of heap.old heap.new edit.old edit.new }
 {
     edits_keep_values(heap);
@@ -145,7 +145,7 @@ fn own<T: Element, P: Probe<T>>(
 ) -> bool
     requires cells { IsCellMap T.cmp T.code_of heap.old edit.old }
     requires held { 0 < holds_at heap.old edit.old.root }
-    requires few { hold_count heap.old < 2 ^ 50 }
+    requires few { hold_count heap.old < program_holds }
     ensures { EditsMap T.cmp T.code_of heap.old heap.new edit.old edit.new }
 {
     edits_keep_values(heap);

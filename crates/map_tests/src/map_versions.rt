@@ -1,7 +1,7 @@
 //! Maps of cells, of which a test keeps each version. Its tests name them by the turn in which they came, so that they need no
 //! contract.
 ghost use Rattle.std.specs.Prelude.{◌≡◌, ℕ, ◌+◌, ◌^◌, ◌<◌, ◌≤◌, IfOk, IsSome};
-ghost use Rattle.node_heap.specs.Heap.{row_at, holds_at, hold_count, one_at};
+ghost use Rattle.node_heap.specs.Heap.{row_at, holds_at, hold_count, one_at, program_holds};
 ghost use Rattle.champ_kinds.specs.Stands.{IsSomeMap};
 ghost use Rattle.map_tests.specs.Stands.{IsCellMap, Keeps, Holds};
 
@@ -46,7 +46,7 @@ pub fn held(map: Map) -> MapRef
 /// The map without keys.
 pub fn no_cells<T: Element>(heap: &mut Heap<T>, bits: u32) -> Result<MapRef, NoMemory>
     requires bits { bits ≤ CODE_BITS }
-    requires few { hold_count heap.old < 2 ^ 50 }
+    requires few { hold_count heap.old < program_holds }
     ensures good { IfOk result (IsCellMap T.cmp T.code_of heap.new) }
     ensures count { IfOk result (λ _. hold_count heap.new ≡ hold_count heap.old + 1) }
     ensures holds { IfOk result (λ made. (k : ℕ) → holds_at heap.new k ≡ holds_at heap.old k + one_at made.root k) }
@@ -62,7 +62,7 @@ pub fn bound<T: Element>(
     value: T,
 ) -> Result<MapRef, NoMemory>
     requires good { IsCellMap T.cmp T.code_of heap.old map }
-    requires few { hold_count heap.old < 2 ^ 50 }
+    requires few { hold_count heap.old < program_holds }
     ensures good { IfOk result (IsCellMap T.cmp T.code_of heap.new) }
     ensures others { IfOk result (λ _. Keeps (IsCellMap T.cmp T.code_of) heap.old heap.new) }
     ensures count { IfOk result (λ _. hold_count heap.new ≡ hold_count heap.old + 1) }
@@ -81,7 +81,7 @@ pub fn unbound<T: Element, P: Probe<T>>(
     key: &P,
 ) -> Result<MapRef, ()>
     requires good { IsCellMap T.cmp T.code_of heap.old map }
-    requires few { hold_count heap.old < 2 ^ 50 }
+    requires few { hold_count heap.old < program_holds }
     ensures good { IfOk result (IsCellMap T.cmp T.code_of heap.new) }
     ensures others { IfOk result (λ _. Keeps (IsCellMap T.cmp T.code_of) heap.old heap.new) }
     ensures count { IfOk result (λ _. hold_count heap.new ≡ hold_count heap.old + 1) }

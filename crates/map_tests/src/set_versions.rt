@@ -1,6 +1,6 @@
 //! Sets, of which a test keeps each version. Its tests name them by the turn in which they came, so that they need no contract.
 ghost use Rattle.std.specs.Prelude.{◌≡◌, ◌+◌, ◌^◌, ◌<◌, ◌≤◌, IfOk};
-ghost use Rattle.node_heap.specs.Heap.{hold_count};
+ghost use Rattle.node_heap.specs.Heap.{hold_count, program_holds};
 ghost use Rattle.champ_kinds.specs.Stands.{IsSomeSet, KeepsSets};
 ghost use Rattle.map_tests.specs.Stands.{Holds};
 
@@ -45,7 +45,7 @@ fn held(set: Set) -> SetRef
 // The set without keys.
 fn no_keys<T: Element>(heap: &mut Heap<T>, bits: u32) -> Result<SetRef, NoMemory>
     requires bits { bits ≤ CODE_BITS }
-    requires few { hold_count heap.old < 2 ^ 50 }
+    requires few { hold_count heap.old < program_holds }
     ensures good { IfOk result (IsSomeSet T.cmp T.code_of heap.new) }
     ensures count { IfOk result (λ _. hold_count heap.new ≡ hold_count heap.old + 1) }
 {
@@ -55,7 +55,7 @@ fn no_keys<T: Element>(heap: &mut Heap<T>, bits: u32) -> Result<SetRef, NoMemory
 // The set with the key.
 fn gained<T: Element>(heap: &mut Heap<T>, set: SetRef, key: T) -> Result<SetRef, NoMemory>
     requires good { IsSomeSet T.cmp T.code_of heap.old set }
-    requires few { hold_count heap.old < 2 ^ 50 }
+    requires few { hold_count heap.old < program_holds }
     ensures good { IfOk result (IsSomeSet T.cmp T.code_of heap.new) }
     ensures others { IfOk result (λ _. KeepsSets T.cmp T.code_of heap.old heap.new) }
     ensures count { IfOk result (λ _. hold_count heap.new ≡ hold_count heap.old + 1) }
@@ -67,7 +67,7 @@ fn gained<T: Element>(heap: &mut Heap<T>, set: SetRef, key: T) -> Result<SetRef,
 // The set without the key, which must be there.
 fn lost<T: Element, P: Probe<T>>(heap: &mut Heap<T>, set: SetRef, key: &P) -> Result<SetRef, ()>
     requires good { IsSomeSet T.cmp T.code_of heap.old set }
-    requires few { hold_count heap.old < 2 ^ 50 }
+    requires few { hold_count heap.old < program_holds }
     ensures good { IfOk result (IsSomeSet T.cmp T.code_of heap.new) }
     ensures others { IfOk result (λ _. KeepsSets T.cmp T.code_of heap.old heap.new) }
     ensures count { IfOk result (λ _. hold_count heap.new ≡ hold_count heap.old + 1) }

@@ -1,6 +1,6 @@
 //! Tries, of which a test keeps each version. Its tests name them by the turn in which they came, so that they need no contract.
 ghost use Rattle.std.specs.Prelude.{◌≡◌, ◌+◌, ◌^◌, ◌<◌, ◌≤◌, IfOk};
-ghost use Rattle.node_heap.specs.Heap.{hold_count};
+ghost use Rattle.node_heap.specs.Heap.{hold_count, program_holds};
 ghost use Rattle.map_tests.specs.Stands.{IsSomeTrie, Keeps, Holds};
 
 use crate::samples::kept;
@@ -33,7 +33,7 @@ impl<T: Element> Model for TrieVersions<T> {
 
 // The trie without entries.
 fn no_entries<T: Element>(heap: &mut Heap<T>, bits: u32) -> Result<Link, NoMemory>
-    requires few { hold_count heap.old < 2 ^ 50 }
+    requires few { hold_count heap.old < program_holds }
     ensures good { IfOk result (IsSomeTrie T.cmp T.code_of bits heap.new) }
     ensures count { IfOk result (λ _. hold_count heap.new ≡ hold_count heap.old + 1) }
 {
@@ -44,7 +44,7 @@ fn no_entries<T: Element>(heap: &mut Heap<T>, bits: u32) -> Result<Link, NoMemor
 fn gained<T: Element>(heap: &mut Heap<T>, root: Link, value: T, bits: u32) -> Result<Link, NoMemory>
     requires bits { bits ≤ CODE_BITS }
     requires good { IsSomeTrie T.cmp T.code_of bits heap.old root }
-    requires few { hold_count heap.old < 2 ^ 50 }
+    requires few { hold_count heap.old < program_holds }
     ensures good { IfOk result (IsSomeTrie T.cmp T.code_of bits heap.new) }
     ensures others { IfOk result (λ _. Keeps (IsSomeTrie T.cmp T.code_of bits) heap.old heap.new) }
     ensures count { IfOk result (λ _. hold_count heap.new ≡ hold_count heap.old + 1) }
@@ -63,7 +63,7 @@ fn lost<T: Element, P: Probe<T>>(
 ) -> Result<Link, ()>
     requires bits { bits ≤ CODE_BITS }
     requires good { IsSomeTrie T.cmp T.code_of bits heap.old root }
-    requires few { hold_count heap.old < 2 ^ 50 }
+    requires few { hold_count heap.old < program_holds }
     ensures good { IfOk result (IsSomeTrie T.cmp T.code_of bits heap.new) }
     ensures others { IfOk result (λ _. Keeps (IsSomeTrie T.cmp T.code_of bits) heap.old heap.new) }
     ensures count { IfOk result (λ _. hold_count heap.new ≡ hold_count heap.old + 1) }

@@ -4,7 +4,7 @@ use Rattle.std.specs.Prelude.{sum}
 use Rattle.std.proofs.lemmas.Bool.{cases_eq}
 use Rattle.node_heap.specs.Links.{count}
 use Rattle.node_heap.specs.Forms.{Row, links_of, is_cell, is_node}
-use Rattle.node_heap.specs.Heap.{Heap, holds_at, owners_at, hold_count, one_at, IsGraph}
+use Rattle.node_heap.specs.Heap.{Heap, holds_at, owners_at, hold_count, one_at, IsGraph, most_holds}
 use Rattle.node_heap.specs.Calls.{Adds, AddsOwner, Makes, Extends, KeepsHeld, KeepsTrees}
 use Rattle.node_heap.specs.Layout.{Slot, owners_in, holds_in, slot_at, places_at, PutsIn, IsCounted, IsHeap, seen}
 use Rattle.node_heap.proofs.Counts.{sum-moved, test_same, test_other}
@@ -59,7 +59,7 @@ module _ {T : Type 0} where
     held = λ l. holds-room old heap.holds (sym (ap (λ h. h.holds) heap_is)) stored.counted l _ (held l);
   }
 
-  pub IsHeap-joined : {old new : List (Option (Slot T))} {a b m a' b' m' key : ℕ} {row : Row T} {heap : Heap T} → IsHeap old a b m → seen old a b m ≡ heap → Joins old new key row → a' + is_cell (Some row) ≡ a → b' + is_node (Some row) ≡ b → hold_count heap < 2 ^ 60 → m' < 2 ^ 64 → IsHeap new a' b' m'
+  pub IsHeap-joined : {old new : List (Option (Slot T))} {a b m a' b' m' key : ℕ} {row : Row T} {heap : Heap T} → IsHeap old a b m → seen old a b m ≡ heap → Joins old new key row → a' + is_cell (Some row) ≡ a → b' + is_node (Some row) ≡ b → hold_count heap < most_holds → m' < 2 ^ 64 → IsHeap new a' b' m'
   IsHeap-joined {row = row} stored heap_is j spare_cells spare_nodes few fits = record {
     counted = counted-joined stored.counted j;
     few = omega (arith, spare_cells, spare_nodes, kinds row, j.puts.len, stored.few);

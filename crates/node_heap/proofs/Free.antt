@@ -35,7 +35,7 @@ module _ {X : Type 0} where
             get_or-set_other slots place k (Some x) None other ∙ f.vacant k (omega (arith, counted k, held));
         inside = λ k held. omega (arith, length-set slots place (Some x), f.inside k (omega (arith, counted k, held)));
         once = λ k. omega (arith, counted k, f.once k);
-        whole = omega (arith, f.whole, ap length is, length-last place rest, length-set slots place (Some x), sum_by-set one_if_some slots place (Some x) None within, ap one_if_some was);
+        all_slots = omega (arith, f.all_slots, ap length is, length-last place rest, length-set slots place (Some x), sum_by-set one_if_some slots place (Some x) None within, ap one_if_some was);
       }
 
   -- a slot in use is free
@@ -57,7 +57,7 @@ module _ {X : Type 0} where
           | inl same ↦ omega (arith, counted k, ap (λ j. count j free) same, none, test_same place k (sym same))
           | inr other ↦ omega (arith, counted k, f.once k, test_other place k (λ e. other (sym e)))
         ];
-        whole = omega (arith, f.whole, length-last place free, length-set slots place None, sum_by-set one_if_some slots place None None within, ap one_if_some is);
+        all_slots = omega (arith, f.all_slots, length-last place free, length-set slots place None, sum_by-set one_if_some slots place None None within, ap one_if_some is);
       }
     where
       unlisted : (n : ℕ) → count place free ≡ n → count place free ≡ 0
@@ -70,7 +70,7 @@ module _ {X : Type 0} where
     vacant = λ k held. get_or-set_other xs i k (Some y) None (λ same. absurd (let gone = sym is ∙ sym (ap (λ j. get_or xs j None) same) ∙ f.vacant k held in cc)) ∙ f.vacant k held;
     inside = λ k held. omega (arith, length-set xs i (Some y), f.inside k held);
     once = f.once;
-    whole = omega (arith, f.whole, count-written xs i x (Some y) is, length-set xs i (Some y));
+    all_slots = omega (arith, f.all_slots, count-written xs i x (Some y) is, length-set xs i (Some y));
   }
 
   pub no_value : {x : X} → Some x ≡ None → ⊥

@@ -1,4 +1,4 @@
--- What becomes of nodes whose whole heads lie apart.
+-- What becomes of nodes whose full heads lie apart.
 use Rattle.std.proofs.Common.{◌≡◌, ◌≢◌, ℕ, zero, suc, ◌+◌, ◌-◌, ◌<◌, ◌≤◌, List, [], ◌∷◌, map, get_or, set, length, refl, sym, ap, ◌∙◌, arith, Option, Some, None, IsSome, is_some, count_by}
 use Rattle.std.specs.Prelude.{option_map}
 use Rattle.std.proofs.lemmas.List.{map-set, length-set}
@@ -6,10 +6,10 @@ use Rattle.std.proofs.lemmas.List.Sums.{sum_by-cons}
 use Rattle.node_heap.specs.Nodes.{SameBut, NodeOf, NodesOf, Node, Nodes, node_at, node_owners, node_head, node_links, owned_by, Becomes}
 use Rattle.node_heap.specs.Inside.{IsFree}
 use Rattle.node_heap.specs.Rooms.{Parts}
-use Rattle.node_heap.specs.Tags.{plain_head, place_of, place_in, head_by, whole_node, headed, IsNodes}
+use Rattle.node_heap.specs.Tags.{plain_head, place_of, place_in, head_by, full_node, headed, IsNodes}
 use Rattle.node_heap.specs.declared.row.Head.{Head}
 use Rattle.node_heap.specs.declared.tags.Tag.{Tag}
-use Rattle.node_heap.specs.declared.tags.Tag.TheVariants.{Leaf, Inner, Chain, Pair, State, Whole}
+use Rattle.node_heap.specs.declared.tags.Tag.TheVariants.{Leaf, Inner, Chain, Pair, State, Full}
 use Rattle.node_heap.proofs.Counts.{get_or-map_default}
 use Rattle.node_heap.proofs.Free.{value_in}
 use Rattle.node_heap.proofs.Stored.{one_if_some}
@@ -32,7 +32,7 @@ plain-place (Inner height) head is = refl
 plain-place Chain head is = refl
 plain-place Pair head is = refl
 plain-place State head is = refl
-plain-place (Whole place) head is = absurd cc
+plain-place (Full place) head is = absurd cc
 
 pub place-told : (o : Option (NodeOf Tag)) (t : Tag) → node_head o ≡ Some t → place_in o ≡ place_of t
 place-told None t is = absurd cc
@@ -45,7 +45,7 @@ module _ (heads : List (Option Head)) where
   plain-by Chain head is = cc
   plain-by Pair head is = cc
   plain-by State head is = cc
-  plain-by (Whole place) head is = absurd cc
+  plain-by (Full place) head is = absurd cc
 
   pub plain-in : (t : Tag) → place_of t ≡ None → plain_head t ≡ Some (head_by heads t)
   plain-in Leaf is = refl
@@ -53,33 +53,33 @@ module _ (heads : List (Option Head)) where
   plain-in Chain is = refl
   plain-in Pair is = refl
   plain-in State is = refl
-  plain-in (Whole place) is = absurd cc
+  plain-in (Full place) is = absurd cc
 
-  pub whole-by : (t : Tag) (place : ℕ) (head : Head) → place_of t ≡ Some place → get_or heads place None ≡ Some head → head_by heads t ≡ head
-  whole-by Leaf place head named is = absurd cc
-  whole-by (Inner height) place head named is = absurd cc
-  whole-by Chain place head named is = absurd cc
-  whole-by Pair place head named is = absurd cc
-  whole-by State place head named is = absurd cc
-  whole-by (Whole other) place head named is = let same : other ≡ place = cc in rw (same, is) refl
+  pub full-by : (t : Tag) (place : ℕ) (head : Head) → place_of t ≡ Some place → get_or heads place None ≡ Some head → head_by heads t ≡ head
+  full-by Leaf place head named is = absurd cc
+  full-by (Inner height) place head named is = absurd cc
+  full-by Chain place head named is = absurd cc
+  full-by Pair place head named is = absurd cc
+  full-by State place head named is = absurd cc
+  full-by (Full other) place head named is = let same : other ≡ place = cc in rw (same, is) refl
 
-  some_headed : (o : Option (NodeOf Tag)) → IsSome (whole_node heads o) → IsSome o
+  some_headed : (o : Option (NodeOf Tag)) → IsSome (full_node heads o) → IsSome o
   some_headed None live = cc
   some_headed (Some n) live = refl
 
-  head-told : (o : Option (NodeOf Tag)) (t : Tag) → node_head o ≡ Some t → node_head (whole_node heads o) ≡ Some (head_by heads t)
+  head-told : (o : Option (NodeOf Tag)) (t : Tag) → node_head o ≡ Some t → node_head (full_node heads o) ≡ Some (head_by heads t)
   head-told None t is = absurd cc
   head-told (Some n) t is = let same : n.head ≡ t = cc in rw same refl
 
-  same-owners : (o : Option (NodeOf Tag)) → node_owners (whole_node heads o) ≡ node_owners o
+  same-owners : (o : Option (NodeOf Tag)) → node_owners (full_node heads o) ≡ node_owners o
   same-owners None = refl
   same-owners (Some n) = refl
 
-  same-links : (o : Option (NodeOf Tag)) → node_links (whole_node heads o) ≡ node_links o
+  same-links : (o : Option (NodeOf Tag)) → node_links (full_node heads o) ≡ node_links o
   same-links None = refl
   same-links (Some n) = refl
 
-  same-owned : (k : ℕ) (o : Option (NodeOf Tag)) → whole_node heads (owned_by k o) ≡ owned_by k (whole_node heads o)
+  same-owned : (k : ℕ) (o : Option (NodeOf Tag)) → full_node heads (owned_by k o) ≡ owned_by k (full_node heads o)
   same-owned k None = refl
   same-owned k (Some n) = refl
 
@@ -87,20 +87,20 @@ module _ (heads : List (Option Head)) where
   place-owned k None = refl
   place-owned k (Some n) = refl
 
-  pub len-headed : (slots : List (Option (NodeOf Tag))) → count_by is_some (map (whole_node heads) slots) ≡ count_by is_some slots
+  pub len-headed : (slots : List (Option (NodeOf Tag))) → count_by is_some (map (full_node heads) slots) ≡ count_by is_some slots
   len-headed [] = refl
-  len-headed (o ∷ os) = omega (arith, len-headed os, at_one o, sum_by-cons one_if_some (whole_node heads o) (map (whole_node heads) os), sum_by-cons one_if_some o os)
+  len-headed (o ∷ os) = omega (arith, len-headed os, at_one o, sum_by-cons one_if_some (full_node heads o) (map (full_node heads) os), sum_by-cons one_if_some o os)
     where
-      at_one : (o : Option (NodeOf Tag)) → one_if_some (whole_node heads o) ≡ one_if_some o
+      at_one : (o : Option (NodeOf Tag)) → one_if_some (full_node heads o) ≡ one_if_some o
       at_one None = refl
       at_one (Some n) = refl
 
-  pub at-headed : (slots : List (Option (NodeOf Tag))) (i : ℕ) → node_at (map (whole_node heads) slots) i ≡ whole_node heads (node_at slots i)
-  at-headed slots i = get_or-map_default (whole_node heads) slots i None
+  pub at-headed : (slots : List (Option (NodeOf Tag))) (i : ℕ) → node_at (map (full_node heads) slots) i ≡ full_node heads (node_at slots i)
+  at-headed slots i = get_or-map_default (full_node heads) slots i None
 
   -- nodes that are seen as their rooms and their heads
   module _ (rooms : NodesOf Tag) {nodes : Nodes} (view_is : headed rooms heads ≡ nodes) where
-    seen : (i : ℕ) → node_at nodes.slots i ≡ whole_node heads (node_at rooms.slots i)
+    seen : (i : ℕ) → node_at nodes.slots i ≡ full_node heads (node_at rooms.slots i)
     seen i = rw (← view_is) (at-headed rooms.slots i)
 
     pub live-room : (i : ℕ) → IsSome (node_at nodes.slots i) → IsSome (node_at rooms.slots i)
@@ -125,10 +125,10 @@ module _ (heads : List (Option Head)) where
     pub owned-headed : (i k : ℕ) → headed (record { slots = set rooms.slots i (owned_by k (node_at rooms.slots i)); spares = rooms.spares }) heads ≡ record { slots = set nodes.slots i (owned_by k (node_at nodes.slots i)); spares = nodes.spares }
     owned-headed i k =
         rw (seen i, ← same-owned k (node_at rooms.slots i), ← view_is)
-        (ap (λ xs. record { slots = xs; spares = rooms.spares }) (map-set (whole_node heads) rooms.slots i (owned_by k (node_at rooms.slots i))))
+        (ap (λ xs. record { slots = xs; spares = rooms.spares }) (map-set (full_node heads) rooms.slots i (owned_by k (node_at rooms.slots i))))
 
 -- a node whose head lies elsewhere is the same
-same-headed : (heads heads' : List (Option Head)) (place : ℕ) (o : Option (NodeOf Tag)) → SameBut heads heads' place → place_in o ≢ Some place → whole_node heads' o ≡ whole_node heads o
+same-headed : (heads heads' : List (Option Head)) (place : ℕ) (o : Option (NodeOf Tag)) → SameBut heads heads' place → place_in o ≢ Some place → full_node heads' o ≡ full_node heads o
 same-headed heads heads' place None same other = refl
 same-headed heads heads' place (Some n) same other = rw (by n.head other) refl
   where
@@ -138,37 +138,37 @@ same-headed heads heads' place (Some n) same other = rw (by n.head other) refl
     by Chain e = refl
     by Pair e = refl
     by State e = refl
-    by (Whole k) e = rw (same k (λ is. e (ap Some is))) refl
+    by (Full k) e = rw (same k (λ is. e (ap Some is))) refl
 
-pub headed-same : (heads : List (Option Head)) (slots slots' : List (Option (NodeOf Tag))) (i : ℕ) → SameBut slots slots' i → SameBut (map (whole_node heads) slots) (map (whole_node heads) slots') i
-headed-same heads slots slots' i same k other = at-headed heads slots' k ∙ ap (whole_node heads) (same k other) ∙ sym (at-headed heads slots k)
+pub headed-same : (heads : List (Option Head)) (slots slots' : List (Option (NodeOf Tag))) (i : ℕ) → SameBut slots slots' i → SameBut (map (full_node heads) slots) (map (full_node heads) slots') i
+headed-same heads slots slots' i same k other = at-headed heads slots' k ∙ ap (full_node heads) (same k other) ∙ sym (at-headed heads slots k)
 
 pub headed-apart : (heads heads' : List (Option Head)) (place : ℕ) (slots slots' : List (Option (NodeOf Tag))) (i : ℕ) → SameBut slots slots' i → SameBut heads heads' place → ((j : ℕ) → j ≢ i → place_in (get_or slots j None) ≢ Some place)
-    → SameBut (map (whole_node heads) slots) (map (whole_node heads') slots') i
+    → SameBut (map (full_node heads) slots) (map (full_node heads') slots') i
 headed-apart heads heads' place slots slots' i same same_heads unnamed k other =
-    at-headed heads' slots' k ∙ ap (whole_node heads') (same k other) ∙ same-headed heads heads' place (get_or slots k None) same_heads (unnamed k other) ∙ sym (at-headed heads slots k)
+    at-headed heads' slots' k ∙ ap (full_node heads') (same k other) ∙ same-headed heads heads' place (get_or slots k None) same_heads (unnamed k other) ∙ sym (at-headed heads slots k)
 
-module _ (heads heads' : List (Option Head)) (slots slots' : List (Option (NodeOf Tag))) (i : ℕ) (others : SameBut (map (whole_node heads) slots) (map (whole_node heads') slots') i) where
-  pub puts-headed : (n : NodeOf Tag) (node : Node) → node_at slots i ≡ None → node_at slots' i ≡ Some n → whole_node heads' (Some n) ≡ Some node → count_by is_some slots' ≡ count_by is_some slots + 1
-      → Puts (map (whole_node heads) slots) (map (whole_node heads') slots') i node
+module _ (heads heads' : List (Option Head)) (slots slots' : List (Option (NodeOf Tag))) (i : ℕ) (others : SameBut (map (full_node heads) slots) (map (full_node heads') slots') i) where
+  pub puts-headed : (n : NodeOf Tag) (node : Node) → node_at slots i ≡ None → node_at slots' i ≡ Some n → full_node heads' (Some n) ≡ Some node → count_by is_some slots' ≡ count_by is_some slots + 1
+      → Puts (map (full_node heads) slots) (map (full_node heads') slots') i node
   puts-headed n node was now is len = record {
-    was = at-headed heads slots i ∙ ap (whole_node heads) was;
-    now = at-headed heads' slots' i ∙ ap (whole_node heads') now ∙ is;
+    was = at-headed heads slots i ∙ ap (full_node heads) was;
+    now = at-headed heads' slots' i ∙ ap (full_node heads') now ∙ is;
     others = others;
     len = omega (arith, len, len-headed heads slots, len-headed heads' slots');
   }
 
-  pub frees-headed : node_at slots' i ≡ None → count_by is_some slots' + 1 ≡ count_by is_some slots → Frees (map (whole_node heads) slots) (map (whole_node heads') slots') i
+  pub frees-headed : node_at slots' i ≡ None → count_by is_some slots' + 1 ≡ count_by is_some slots → Frees (map (full_node heads) slots) (map (full_node heads') slots') i
   frees-headed gone len = record {
-    gone = at-headed heads' slots' i ∙ ap (whole_node heads') gone;
+    gone = at-headed heads' slots' i ∙ ap (full_node heads') gone;
     others = others;
     len = omega (arith, len, len-headed heads slots, len-headed heads' slots');
   }
 
-  pub becomes-headed : (spares spares' : ℕ) (f : Node → Node) (x y : NodeOf Tag) → node_at slots i ≡ Some x → node_at slots' i ≡ Some y → whole_node heads' (Some y) ≡ option_map f (whole_node heads (Some x))
+  pub becomes-headed : (spares spares' : ℕ) (f : Node → Node) (x y : NodeOf Tag) → node_at slots i ≡ Some x → node_at slots' i ≡ Some y → full_node heads' (Some y) ≡ option_map f (full_node heads (Some x))
       → count_by is_some slots' ≡ count_by is_some slots → spares' ≡ spares → Becomes (headed (record { slots = slots; spares = spares }) heads) (headed (record { slots = slots'; spares = spares' }) heads') i f
   becomes-headed spares spares' f x y was now seen len same = record {
-    here = at-headed heads' slots' i ∙ ap (whole_node heads') now ∙ seen ∙ sym (ap (option_map f) (at-headed heads slots i ∙ ap (whole_node heads) was));
+    here = at-headed heads' slots' i ∙ ap (full_node heads') now ∙ seen ∙ sym (ap (option_map f) (at-headed heads slots i ∙ ap (full_node heads) was));
     others = others;
     len = omega (arith, len, len-headed heads slots, len-headed heads' slots');
     spares = same;
@@ -183,7 +183,7 @@ becomes-links heads rooms rooms' i F live b =
     becomes-headed heads heads rooms.slots rooms'.slots i (headed-same heads rooms.slots rooms'.slots i b.others) rooms.spares rooms'.spares _ value.0 (change value.0) value.1 (b.here ∙ ap (option_map change) value.1) refl b.len b.spares
 
 -- the tag of a node is changed, and with it the head
-pub becomes-tagged : (heads heads' : List (Option Head)) (rooms rooms' : NodesOf Tag) (i : ℕ) (t : Tag) (head : Head) → SameBut (map (whole_node heads) rooms.slots) (map (whole_node heads') rooms'.slots) i → IsSome (node_at rooms.slots i) → head_by heads' t ≡ head
+pub becomes-tagged : (heads heads' : List (Option Head)) (rooms rooms' : NodesOf Tag) (i : ℕ) (t : Tag) (head : Head) → SameBut (map (full_node heads) rooms.slots) (map (full_node heads') rooms'.slots) i → IsSome (node_at rooms.slots i) → head_by heads' t ≡ head
     → Becomes rooms rooms' i (λ n. record { owners = n.owners; head = t; links = n.links })
     → Becomes (headed rooms heads) (headed rooms' heads') i (λ n. record { owners = n.owners; head = head; links = n.links })
 becomes-tagged heads heads' rooms rooms' i t head others live by b =
@@ -279,13 +279,13 @@ tagged-place rooms rooms' i t live b =
     let change : NodeOf Tag → NodeOf Tag = λ n. record { owners = n.owners; head = t; links = n.links } in
     ap place_in (b.here ∙ ap (option_map change) value.1)
 
--- a whole head is written where it lies
-pub becomes-whole : (heads : List (Option Head)) (rooms : NodesOf Tag) (i place : ℕ) (head : Head) → IsSome (node_at rooms.slots i) → Parts place_in rooms.slots heads → place_in (node_at rooms.slots i) ≡ Some place
+-- a full head is written where it lies
+pub becomes-full : (heads : List (Option Head)) (rooms : NodesOf Tag) (i place : ℕ) (head : Head) → IsSome (node_at rooms.slots i) → Parts place_in rooms.slots heads → place_in (node_at rooms.slots i) ≡ Some place
     → Becomes (headed rooms heads) (headed rooms (set heads place (Some head))) i (λ n. record { owners = n.owners; head = head; links = n.links })
-becomes-whole heads rooms i place head live p named =
+becomes-full heads rooms i place head live p named =
     let heads' = set heads place (Some head) in
     let value = value_in (node_at rooms.slots i) live in
     let was = value_in (get_or heads place None) (p.there i place named) in
-    let by : head_by heads' value.0.head ≡ head = whole-by heads' value.0.head place head (sym (ap place_in value.1) ∙ named) (set-there heads place was.0 (Some head) was.1) in
+    let by : head_by heads' value.0.head ≡ head = full-by heads' value.0.head place head (sym (ap place_in value.1) ∙ named) (set-there heads place was.0 (Some head) was.1) in
     becomes-headed heads heads' rooms.slots rooms.slots i
     (headed-apart heads heads' place rooms.slots rooms.slots i (λ k other. refl) (set-apart heads place (Some head)) (alone-named rooms.slots heads i place p named)) rooms.spares rooms.spares _ value.0 value.0 value.1 value.1 (rw by refl) refl refl

@@ -38,7 +38,7 @@ module _ {X : Type 0} where
       → IsFree xs' free' → Covers xs free a b t → Covers xs' free' a' b' t'
   Covers-put xs xs' free free' a b a' b' t t' same_a same_b same below one fewer listed c = record {
     listed = listed;
-    short = omega (arith, same, below, one, fewer, c.short, c.listed.whole);
+    short = omega (arith, same, below, one, fewer, c.short, c.listed.all_slots);
     room = omega (arith, same, same_a, c.room);
     free_room = omega (arith, same, same_b, c.free_room);
   }
@@ -59,7 +59,7 @@ module _ {X : Type 0} where
     where
       of_slot : (o : Option X) → get_or xs i None ≡ o → IsSome o → length free < b
       of_slot None is some = absurd cc
-      of_slot (Some x) is some = omega (arith, c.short, c.free_room, c.listed.whole, count-written xs i x None is)
+      of_slot (Some x) is some = omega (arith, c.short, c.free_room, c.listed.all_slots, count-written xs i x None is)
 
 -- how many slots name a place, where one is written
 named-apart : {S : Type 0} (place_in : Option S → Option ℕ) → place_in None ≡ None → (slots slots' : List (Option S)) (i : ℕ) → SameBut slots slots' i

@@ -1,5 +1,6 @@
 -- What stands at a place of a table, and what becomes of its two lists of slots.
-use Rattle.std.proofs.Common.{◌≡◌, ◌≢◌, ℕ, suc, ◌+◌, ◌*◌, ◌^◌, ◌<◌, ◌≤◌, ◌/◌, ◌%◌, List, [], ◌∷◌, map, get_or, set, length, refl, sym, ap, subst, ◌∙◌, arith, Option, Some, None, IsSome, is_some, count_by}
+use Rattle.std.proofs.Common.{◌≡◌, ◌≢◌, ℕ, suc, ◌+◌, ◌*◌, ◌<◌, ◌≤◌, ◌/◌, ◌%◌, List, [], ◌∷◌, map, get_or, set, length, refl, sym, ap, subst, ◌∙◌, arith, Option, Some, None, IsSome, is_some, count_by}
+use Rattle.node_heap.specs.Heap.{row_limit}
 use Rattle.std.specs.Prelude.{option_map}
 use Rattle.std.proofs.lemmas.List.{map-set, length-map, length-set}
 use Rattle.std.proofs.lemmas.List.Sums.{sum_by-cons}
@@ -38,7 +39,7 @@ module _ {X : Type 0} where
     where
       of_slot : (o : Option X) → get_or xs i None ≡ o → IsSome o → length free < b
       of_slot None is some = absurd cc
-      of_slot (Some x) is some = omega (arith, r.some, r.free_room, r.listed.whole, count-written xs i x None is)
+      of_slot (Some x) is some = omega (arith, r.some, r.free_room, r.listed.all_slots, count-written xs i x None is)
 
 -- nodes alone don't tell the type of the cells' values
 module _ (T : Type 0) where
@@ -66,9 +67,9 @@ module _ (T : Type 0) where
   owners_in_slot None = refl
   owners_in_slot (Some s) = refl
 
-  whole_slot : (o : Option Node) (head : Head) (links : List ℕ) → node_head o ≡ Some head → links ≡ node_links o → row_of_slot (node_slot {T = T} o) ≡ Some (node head links)
-  whole_slot None head links is items = absurd cc
-  whole_slot (Some s) head links is items = let same : s.head ≡ head = cc in rw (same, items) refl
+  full_slot : (o : Option Node) (head : Head) (links : List ℕ) → node_head o ≡ Some head → links ≡ node_links o → row_of_slot (node_slot {T = T} o) ≡ Some (node head links)
+  full_slot None head links is items = absurd cc
+  full_slot (Some s) head links is items = let same : s.head ≡ head = cc in rw (same, items) refl
 
   no_value_in : (o : Option Node) → value_of (row_of_slot (node_slot {T = T} o)) ≡ None
   no_value_in None = refl
@@ -194,7 +195,7 @@ module _ {T : Type 0} where
 
     pub node-graph : (place : ℕ) (head : Head) (links : List ℕ) → place % 2 ≢ 0 → node_head (node_at nodes.slots (place / 2)) ≡ Some head → links ≡ node_links (node_at nodes.slots (place / 2))
         → graph_of table.slots place ≡ Some (node head links)
-    node-graph place head links e is items = ap row_of_slot (node-place place e) ∙ whole_slot T (node_at nodes.slots (place / 2)) head links is items
+    node-graph place head links e is items = ap row_of_slot (node-place place e) ∙ full_slot T (node_at nodes.slots (place / 2)) head links is items
 
     -- a row with a link stands at an odd place
     pub linked-odd : (place n : ℕ) → n < length (links_of (graph_of table.slots place)) → place % 2 ≢ 0
@@ -241,7 +242,7 @@ module _ {T : Type 0} where
     })
 
   pub puts-cell : (cells cells' : List (Option (CellSlot T))) (nodes : List (Option Node)) (i : ℕ) (x : T) → get_or cells i None ≡ None → get_or cells' i None ≡ Some (record { owners = 1; value = x }) → SameBut cells cells' i
-      → i < 2 ^ 56 → count_by is_some cells' ≡ count_by is_some cells + 1 → PutsIn (slots_of cells nodes) (slots_of cells' nodes) (2 * i) (cell x)
+      → i < row_limit → count_by is_some cells' ≡ count_by is_some cells + 1 → PutsIn (slots_of cells nodes) (slots_of cells' nodes) (2 * i) (cell x)
   puts-cell cells cells' nodes i x was now others low len = record {
     was = ap (slot_at (slots_of cells nodes)) (sym (double-is i)) ∙ cell-at cells nodes i ∙ ap cell_slot was;
     now = ap (slot_at (slots_of cells' nodes)) (sym (double-is i)) ∙ cell-at cells' nodes i ∙ ap cell_slot now;
@@ -251,7 +252,7 @@ module _ {T : Type 0} where
   }
 
   pub puts-node : (cells : List (Option (CellSlot T))) (nodes nodes' : List (Option Node)) (i : ℕ) (s : Node) → s.owners ≡ 1 → get_or nodes i None ≡ None → get_or nodes' i None ≡ Some s → SameBut nodes nodes' i
-      → i < 2 ^ 57 → count_by is_some nodes' ≡ count_by is_some nodes + 1 → PutsIn (slots_of cells nodes) (slots_of cells nodes') (2 * i + 1) (node s.head s.links)
+      → i < 2 * row_limit → count_by is_some nodes' ≡ count_by is_some nodes + 1 → PutsIn (slots_of cells nodes) (slots_of cells nodes') (2 * i + 1) (node s.head s.links)
   puts-node cells nodes nodes' i s one was now others low len =
       let at : suc (double i) ≡ 2 * i + 1 = omega (arith, double-is i) in
       record {

@@ -1,5 +1,5 @@
 -- What the slots say of a row that is written in place.
-use Rattle.std.proofs.Common.{◌≡◌, ◌≢◌, ℕ, suc, ◌+◌, ◌^◌, ◌<◌, ◌≤◌, List, [], ◌∷◌, length, get_or, set, insert, remove, take, drop, refl, sym, ap, subst, ◌∙◌, arith, Option, Some, None, IsSome, cond, eqb, inl, inr, zero, drop-cons}
+use Rattle.std.proofs.Common.{◌≡◌, ◌≢◌, ℕ, suc, ◌+◌, ◌<◌, ◌≤◌, List, [], ◌∷◌, length, get_or, set, insert, remove, take, drop, refl, sym, ap, subst, ◌∙◌, arith, Option, Some, None, IsSome, cond, eqb, inl, inr, zero, drop-cons}
 use Rattle.std.specs.Prelude.{sum_by, sum}
 use Rattle.std.proofs.lemmas.Bool.{cases_eq}
 use Rattle.std.proofs.lemmas.Grind.{get_or_default_zero}
@@ -8,7 +8,7 @@ use Rattle.std.proofs.lemmas.List.Edits.{length-insert, length-remove}
 use Rattle.std.proofs.lemmas.List.Sums.{sum_by-cons, sum_by-append, sum_by-set}
 use Rattle.node_heap.specs.Links.{count, HasLink, Reaches}
 use Rattle.node_heap.specs.Forms.{Row, links_of, head_of, links_in, is_cell, is_node}
-use Rattle.node_heap.specs.Heap.{Heap, row_at, links_at, holds_at, owners_at, one_at}
+use Rattle.node_heap.specs.Heap.{Heap, row_at, links_at, holds_at, owners_at, one_at, most_holds}
 use Rattle.node_heap.specs.Calls.{KeepsOwners, Makes}
 use Rattle.node_heap.specs.InPlace.{Writes, Changes}
 use Rattle.node_heap.specs.Layout.{row_of_slot, owners_in, rows_of_slots, holds_in, slot_at, places_at, graph_of, nodes_in, cells_in, ApartAt, IsCounted, Rewrites, KeepsRoom, IsHeap, Table, seen}
@@ -130,7 +130,7 @@ module _ {T : Type 0} where
       KeepsOwners-moved a b n a' b' n' k = omega (arith, owners_at-slots old counted k, owners_at-slots new counted-moved k, owners-moved k)
 
   pub IsHeap-moved : {t t' : Table T} {place n : ℕ} {head : Option Head} {links spent gained : List ℕ} → KeepsRoom t t' → IsHeap t.slots t.spare_cells t.spare_nodes n → Moves t.slots t'.slots place head links spent gained
-      → sum (holds_in t.slots) + length gained ≤ 2 ^ 60 + length spent → IsHeap t'.slots t'.spare_cells t'.spare_nodes n
+      → sum (holds_in t.slots) + length gained ≤ most_holds + length spent → IsHeap t'.slots t'.spare_cells t'.spare_nodes n
   IsHeap-moved room stored m few = record {
     counted = counted-moved m stored.counted;
     few = omega (arith, room.len, room.spare_cells, room.spare_nodes, stored.few);

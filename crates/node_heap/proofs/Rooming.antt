@@ -13,7 +13,7 @@ use Rattle.node_heap.specs.declared.tags.Tag.{Tag}
 use Rattle.node_heap.proofs.Counts.{get_or-map_default, le-sum_by}
 use Rattle.node_heap.proofs.Stored.{one_if_some}
 use Rattle.node_heap.proofs.Woven.{double-is, at-even, at-odd}
-use Rattle.node_heap.proofs.Housed.{len-nodes, at-small, read-small, read-large, set-small, set-large, moved-node, lent-whole, lent-links, whole-in, whole-room}
+use Rattle.node_heap.proofs.Housed.{len-nodes, at-small, read-small, read-large, set-small, set-large, moved-node, lent-full, lent-links, full-in, full-room}
 use Rattle.node_heap.proofs.Parting.{set-apart, set-there, count-apart, Covers-set, Covers-put, Covers-take, Parts-kept, Parts-named, Parts-left, Parts-written, seen-moved, seen-left, seen-small, seen-large}
 
 pub some-counted : {X : Type 0} (xs : List (Option X)) (i : ℕ) → IsSome (get_or xs i None) → 1 ≤ count_by is_some xs
@@ -75,7 +75,7 @@ module _ (small small' : List (Option SmallSlot)) (large moved : List (Option No
       at xs = ap (node_at (nodes_in xs large moved)) (sym (double-is i)) ∙ at-even (map (small_node moved) xs) (map large_node large) i ∙ get_or-map_default (small_node moved) xs i None
 
       seen : small_node moved (Some s) ≡ Some (record { owners = 1; head = head; links = links })
-      seen = rw (lent-whole moved s.head head whole, lent-links moved s.head s.links.items (whole-room s.head head whole), one, items) refl
+      seen = rw (lent-full moved s.head head whole, lent-links moved s.head s.links.items (full-room s.head head whole), one, items) refl
 
 module _ (small : List (Option SmallSlot)) (large large' moved : List (Option NodeSlot)) (i : ℕ) (same : SameBut large large' i) where
   pub puts-large : (s : NodeSlot) → get_or large i None ≡ None → get_or large' i None ≡ Some s
@@ -97,7 +97,7 @@ module _ (small : List (Option SmallSlot)) (fs : List ℕ) (a b : ℕ) (large : 
     of_small = Covers-set small fs a b (n + s) i x y is nodes.of_small;
     of_large = nodes.of_large;
     of_moved = nodes.of_moved;
-    whole = omega (arith, nodes.whole, count-apart small (set small i (Some y)) i (set-apart small i (Some y)), ap one_if_some is, ap one_if_some (set-there small i x (Some y) is));
+    both_kinds = omega (arith, nodes.both_kinds, count-apart small (set small i (Some y)) i (set-apart small i (Some y)), ap one_if_some is, ap one_if_some (set-there small i x (Some y) is));
     few = nodes.few;
     parts = Parts-kept room_in refl small (set small i (Some y)) i (set-apart small i (Some y)) moved (ap room_in (set-there small i x (Some y) is) ∙ room ∙ sym (ap room_in is)) nodes.parts;
   }
@@ -107,7 +107,7 @@ module _ (small : List (Option SmallSlot)) (fs : List ℕ) (a b : ℕ) (large : 
     of_small = nodes.of_small;
     of_large = Covers-set large fl a' b' (n + s) i x y is nodes.of_large;
     of_moved = nodes.of_moved;
-    whole = omega (arith, nodes.whole, count-apart large (set large i (Some y)) i (set-apart large i (Some y)), ap one_if_some is, ap one_if_some (set-there large i x (Some y) is));
+    both_kinds = omega (arith, nodes.both_kinds, count-apart large (set large i (Some y)) i (set-apart large i (Some y)), ap one_if_some is, ap one_if_some (set-there large i x (Some y) is));
     few = nodes.few;
     parts = nodes.parts;
   }
@@ -117,7 +117,7 @@ module _ (small : List (Option SmallSlot)) (fs : List ℕ) (a b : ℕ) (large : 
     of_small = nodes.of_small;
     of_large = nodes.of_large;
     of_moved = Covers-set moved fm a'' b'' (n + s) i x y is nodes.of_moved;
-    whole = nodes.whole;
+    both_kinds = nodes.both_kinds;
     few = nodes.few;
     parts = Parts-written room_in small moved i x y is nodes.parts;
   }
@@ -128,17 +128,17 @@ module _ (small : List (Option SmallSlot)) (fs : List ℕ) (a b : ℕ) (large : 
   AreRooms-put small' fs' i a1 b1 y same_a same_b spare same was now none one fewer free =
       let total : (n + 1) + (s - 1) ≡ n + s = omega (arith, spare) in
       record {
-        of_small = Covers-put small small' fs fs' a b a1 b1 (n + s) ((n + 1) + (s - 1)) same_a same_b total (omega (arith, nodes.whole, spare)) one fewer free nodes.of_small;
+        of_small = Covers-put small small' fs fs' a b a1 b1 (n + s) ((n + 1) + (s - 1)) same_a same_b total (omega (arith, nodes.both_kinds, spare)) one fewer free nodes.of_small;
         of_large = Covers-take large large fl fl a' b' a' b' (n + s) ((n + 1) + (s - 1)) refl refl total refl nodes.of_large.listed nodes.of_large;
         of_moved = Covers-take moved moved fm fm a'' b'' a'' b'' (n + s) ((n + 1) + (s - 1)) refl refl total refl nodes.of_moved.listed nodes.of_moved;
-        whole = omega (arith, nodes.whole, count-apart small small' i same, ap one_if_some was, ap one_if_some now);
+        both_kinds = omega (arith, nodes.both_kinds, count-apart small small' i same, ap one_if_some was, ap one_if_some now);
         few = omega (arith, total, nodes.few);
         parts = Parts-kept room_in refl small small' i same moved (ap room_in now ∙ none ∙ sym (ap room_in was)) nodes.parts;
       }
 
   module _ (i : ℕ) (x : SmallSlot) (is : get_or small i None ≡ Some x) (small' : List (Option SmallSlot)) (fs' : List ℕ) (a1 b1 : ℕ) (same_a : a1 ≡ a) (same_b : b1 ≡ b) (gone : small' ≡ set small i None) (free : IsFree small' fs') where
     counted : 1 ≤ n
-    counted = omega (arith, nodes.whole, some-counted small i (rw is refl))
+    counted = omega (arith, nodes.both_kinds, some-counted small i (rw is refl))
 
     total : (n - 1) + (s + 1) ≡ n + s
     total = omega (arith, counted)
@@ -155,8 +155,8 @@ module _ (small : List (Option SmallSlot)) (fs : List ℕ) (a b : ℕ) (large : 
     of_large : Covers large fl a' b' ((n - 1) + (s + 1))
     of_large = Covers-take large large fl fl a' b' a' b' (n + s) ((n - 1) + (s + 1)) refl refl total refl nodes.of_large.listed nodes.of_large
 
-    whole : n - 1 ≡ count_by is_some small' + count_by is_some large
-    whole = omega (arith, nodes.whole, count-apart small small' i same, ap one_if_some none, ap one_if_some is)
+    both : n - 1 ≡ count_by is_some small' + count_by is_some large
+    both = omega (arith, nodes.both_kinds, count-apart small small' i same, ap one_if_some none, ap one_if_some is)
 
     -- a node in a small slot goes
     pub AreRooms-gone : room_of x.head ≡ None → AreRooms small' fs' a1 b1 large fl a' b' moved fm a'' b'' (n - 1) (s + 1)
@@ -164,7 +164,7 @@ module _ (small : List (Option SmallSlot)) (fs : List ℕ) (a b : ℕ) (large : 
       of_small = covered;
       of_large = of_large;
       of_moved = Covers-take moved moved fm fm a'' b'' a'' b'' (n + s) ((n - 1) + (s + 1)) refl refl total refl nodes.of_moved.listed nodes.of_moved;
-      whole = whole;
+      both_kinds = both;
       few = omega (arith, total, nodes.few);
       parts = Parts-kept room_in refl small small' i same moved (ap room_in none ∙ sym (ap room_in is ∙ room)) nodes.parts;
     }
@@ -179,7 +179,7 @@ module _ (small : List (Option SmallSlot)) (fs : List ℕ) (a b : ℕ) (large : 
           of_small = covered;
           of_large = of_large;
           of_moved = Covers-take moved moved' fm fm' a'' b'' a2 b2 (n + s) ((n - 1) + (s + 1)) same_a2 same_b2 total (ap length left ∙ length-set moved room None) free_room nodes.of_moved;
-          whole = whole;
+          both_kinds = both;
           few = omega (arith, total, nodes.few);
           parts = Parts-left room_in refl small small' i same moved moved' room same_rooms nodes.parts (ap room_in is ∙ named) none (omega (arith, count-apart moved moved' room same_rooms, ap one_if_some is_room, ap one_if_some gone_room));
         }
@@ -196,8 +196,8 @@ module _ (small : List (Option SmallSlot)) (fs : List ℕ) (a b : ℕ) (large : 
         of_small = Covers-set small fs a b (n + s) i x y is nodes.of_small;
         of_large = nodes.of_large;
         of_moved = Covers-put moved moved' fm fm' a'' b'' a2 b2 (n + s) (n + s) same_a same_b refl
-            (omega (arith, nodes.whole, nodes.parts.used, few-moved small i (rw is refl) (ap room_in is ∙ none))) one fewer free nodes.of_moved;
-        whole = omega (arith, nodes.whole, count-apart small small' i apart, ap one_if_some is, ap one_if_some there);
+            (omega (arith, nodes.both_kinds, nodes.parts.used, few-moved small i (rw is refl) (ap room_in is ∙ none))) one fewer free nodes.of_moved;
+        both_kinds = omega (arith, nodes.both_kinds, count-apart small small' i apart, ap one_if_some is, ap one_if_some there);
         few = nodes.few;
         parts = Parts-named room_in refl small small' i apart moved moved' room same nodes.parts (ap room_in is ∙ none) (ap room_in there ∙ named) was (rw now refl)
             (omega (arith, count-apart moved moved' room same, ap one_if_some was, ap one_if_some now));
@@ -277,7 +277,7 @@ module _ (small : List (Option SmallSlot)) (large moved : List (Option NodeSlot)
         → Becomes (nodes_of small large moved spares) (nodes_of (set small (index / 2) (Some y)) large moved' spares) index (λ n. record { owners = n.owners; head = head; links = links })
     becomes-small same owners whole items =
         written
-        (rw (lent-whole moved' y.head head whole, lent-links moved' y.head y.links.items (whole-room y.head head whole), owners, items) refl)
+        (rw (lent-full moved' y.head head whole, lent-links moved' y.head y.links.items (full-room y.head head whole), owners, items) refl)
         (rw same (seen-small small (set small (index / 2) (Some y)) (index / 2) (set-apart small (index / 2) (Some y)) large moved index even refl))
 
     -- a node is written in a room apart that was free
@@ -308,7 +308,7 @@ module _ (small : List (Option SmallSlot)) (large moved : List (Option NodeSlot)
   pub becomes-few : (spares : ℕ) (y : SmallSlot) (change : List ℕ → List ℕ) → room_of x.head ≡ None → y.owners ≡ x.owners → y.head ≡ x.head → y.links.items ≡ change x.links.items
       → Becomes (nodes_of small large moved spares) (nodes_of (set small (index / 2) (Some y)) large moved spares) index (λ n. record { owners = n.owners; head = n.head; links = change n.links })
   becomes-few spares y change none owners head items =
-      becomes-as (becomes-small spares y moved (head_in moved x.head) (change x.links.items) refl owners (ap tag_in head ∙ whole-in moved x.head none) items)
+      becomes-as (becomes-small spares y moved (head_in moved x.head) (change x.links.items) refl owners (ap tag_in head ∙ full-in moved x.head none) items)
       (read-small small large moved index x even is) (rw (lent-links moved x.head x.links.items none) refl)
 
   module _ (room : ℕ) (w : NodeSlot) (named : room_of x.head ≡ Some room) (there : get_or moved room None ≡ Some w) where

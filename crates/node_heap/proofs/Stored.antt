@@ -5,7 +5,7 @@ use Rattle.std.proofs.lemmas.List.Sums.{sum_by-cons}
 use Rattle.node_heap.specs.Links.{count, HasLink}
 use Rattle.node_heap.specs.Forms.{Row, cell, node, links_of, links_in, is_cell, is_node}
 use Rattle.node_heap.specs.Layout.{row_of_slot, owners_in, rows_of_slots, holds_in, slot_at, places_at, graph_of, cells_in, nodes_in, IsCounted, IsHeap, seen}
-use Rattle.node_heap.specs.Heap.{Heap, row_at, links_at, holds_at, owners_at, IsGraph}
+use Rattle.node_heap.specs.Heap.{Heap, row_at, links_at, holds_at, owners_at, IsGraph, row_limit}
 use Rattle.node_heap.specs.Calls.{Makes, Unchanged}
 use Rattle.node_heap.specs.Layout.{Slot}
 use Rattle.node_heap.proofs.Slots.{row_at-slots, holds_at-slots, owners_at-slots, placed, live-owned}
@@ -122,7 +122,7 @@ module _ {T : Type 0} where
   }
 
   -- the slots are the same, with more spares
-  pub IsHeap-reserved : (slots slots' : List (Option (Slot T))) (a b m a' b' : ℕ) → slots' ≡ slots → IsHeap slots a b m → count_by is_some slots + (a' + b') < 2 ^ 56 → IsHeap slots' a' b' m
+  pub IsHeap-reserved : (slots slots' : List (Option (Slot T))) (a b m a' b' : ℕ) → slots' ≡ slots → IsHeap slots a b m → count_by is_some slots + (a' + b') < row_limit → IsHeap slots' a' b' m
   IsHeap-reserved slots slots' a b m a' b' same stored few = record {
     counted = rw same stored.counted;
     few = omega (arith, few, ap (λ xs. count_by is_some xs) same);

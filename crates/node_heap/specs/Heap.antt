@@ -11,6 +11,26 @@ pub record Heap (T : Type 0) : Type 0 where
   pub spare_nodes : ℕ
   pub made : ℕ
 
+-- the most holds that a heap may have in all
+abbrev pub most_holds : ℕ
+most_holds = 2 ^ 60
+
+-- half of them: with fewer, a call that makes a container may begin, which takes holds on its way
+abbrev pub half_holds : ℕ
+half_holds = 2 ^ 59
+
+-- a quarter of them: with fewer, an edit in place may begin, whose steps are such calls
+abbrev pub quarter_holds : ℕ
+quarter_holds = 2 ^ 58
+
+-- a small part of them: with fewer, a part of a program may begin that makes many such calls
+abbrev pub program_holds : ℕ
+program_holds = 2 ^ 50
+
+-- one more than the most rows that a heap may have, its spares among them
+abbrev pub row_limit : ℕ
+row_limit = 2 ^ 56
+
 -- 1 at the link itself, and else 0
 abbrev pub one_at : ℕ → ℕ → ℕ
 one_at l k = if l == k then 1 else 0
@@ -62,6 +82,6 @@ module _ {T : Type 0} where
     pub rank : ℕ → ℕ
     pub falls : LeadsDown rank (links_at h)
     pub short : (l : ℕ) → length (links_at h l) ≤ 32
-    pub few_holds : hold_count h ≤ 2 ^ 60
-    pub few_rows : live_count h + (h.spare_cells + h.spare_nodes) < 2 ^ 56
+    pub few_holds : hold_count h ≤ most_holds
+    pub few_rows : live_count h + (h.spare_cells + h.spare_nodes) < row_limit
     pub few_made : h.made < 2 ^ 64

@@ -1,5 +1,6 @@
 -- How a table lies: place 2i is slot i of the cells, and place 2i + 1 index i of the nodes.
-use Rattle.std.specs.Prelude.{◌≡◌, ℕ, ◌+◌, ◌^◌, ◌<◌, ◌≤◌, List, [], ◌∷◌, length, map, Option, Some, None, is_some, count_by, slice_index_or}
+use Rattle.std.specs.Prelude.{◌≡◌, ℕ, ◌+◌, ◌<◌, ◌≤◌, List, [], ◌∷◌, length, map, Option, Some, None, is_some, count_by, slice_index_or}
+use Rattle.node_heap.specs.Heap.{row_limit}
 use Rattle.node_heap.specs.Links.{count}
 use Rattle.node_heap.specs.Forms.{cell, node}
 use Rattle.node_heap.specs.Layout.{Slot, Table}
@@ -22,7 +23,7 @@ pub record IsFree {X : Type 0} (slots : List (Option X)) (free : List ℕ) : Typ
   pub vacant : (k : ℕ) → 0 < count k free → slice_index_or slots k None ≡ None
   pub inside : (k : ℕ) → 0 < count k free → k < length slots
   pub once : (k : ℕ) → count k free ≤ 1
-  pub whole : count_by is_some slots + length free ≡ length slots
+  pub all_slots : count_by is_some slots + length free ≡ length slots
 
 -- there is room for the spares, of which the free slots are some
 pub record HasRoom {X : Type 0} (slots : List (Option X)) (free : List ℕ) (capacity free_capacity spares : ℕ) : Type 0 where
@@ -50,4 +51,4 @@ module _ {T : Type 0} where
   -- what is true of the fields of each table
   pub record IsTable (cells : List (Option (CellSlot T))) (free_cells : List ℕ) (cell_capacity free_cell_capacity spare_cells : ℕ) (nodes : Nodes) : Type 0 where
     pub of_cells : HasRoom cells free_cells cell_capacity free_cell_capacity spare_cells
-    pub few : count_by is_some cells + count_by is_some nodes.slots + (spare_cells + nodes.spares) < 2 ^ 56
+    pub few : count_by is_some cells + count_by is_some nodes.slots + (spare_cells + nodes.spares) < row_limit

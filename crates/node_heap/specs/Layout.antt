@@ -2,7 +2,7 @@
 use Rattle.std.specs.Prelude.{length, ◌≡◌, ◌≢◌, ◌⊎◌, ℕ, suc, ◌+◌, ◌-◌, ◌^◌, ◌<◌, ◌≤◌, List, [], ◌∷◌, map, Option, Some, None, IsSome, sum_by, sum, slice_index_or, slice_set, count_by, is_some}
 use Rattle.node_heap.specs.Links.{count, LeadsDown}
 use Rattle.node_heap.specs.Forms.{Row, links_of, head_of, links_in, is_cell, is_node}
-use Rattle.node_heap.specs.Heap.{Heap, places_in}
+use Rattle.node_heap.specs.Heap.{Heap, places_in, most_holds, row_limit}
 use Rattle.node_heap.specs.declared.row.Head.{Head}
 
 -- each number less what the function takes off at its index
@@ -148,8 +148,8 @@ module _ {T : Type 0} where
   -- what is true of the fields of each heap
   pub record IsHeap (slots : List (Option (Slot T))) (cells nodes number : ℕ) : Type 0 where
     pub counted : IsCounted slots
-    pub few : filled_count slots + (cells + nodes) < 2 ^ 56
-    pub few_holds : sum (holds_in slots) ≤ 2 ^ 60
+    pub few : filled_count slots + (cells + nodes) < row_limit
+    pub few_holds : sum (holds_in slots) ≤ most_holds
     pub fits : number < 2 ^ 64
 
   -- what contracts see of the slots, the spares and the number made

@@ -1,5 +1,6 @@
 -- How nodes lie in their lists: index 2i is small slot i, and index 2i + 1 large room i. A small slot may name a room apart.
-use Rattle.std.specs.Prelude.{◌≡◌, ℕ, ◌+◌, ◌^◌, ◌<◌, ◌≤◌, List, [], length, map, Option, Some, None, IsSome, is_some, count_by, slice_index_or}
+use Rattle.std.specs.Prelude.{◌≡◌, ℕ, ◌+◌, ◌<◌, ◌≤◌, List, [], length, map, Option, Some, None, IsSome, is_some, count_by, slice_index_or}
+use Rattle.node_heap.specs.Heap.{row_limit}
 use Rattle.node_heap.specs.Nodes.{NodeOf, NodesOf}
 use Rattle.node_heap.specs.Small.{room_of}
 use Rattle.node_heap.specs.Inside.{woven, IsFree}
@@ -7,7 +8,7 @@ use Rattle.node_heap.specs.declared.tags.Tag.{Tag}
 use Rattle.node_heap.specs.declared.tags.Tag.TheVariants as tag
 use Rattle.node_heap.specs.declared.entry.NodeSlot.{NodeSlot}
 use Rattle.node_heap.specs.declared.entry.SmallHead.{SmallHead}
-use Rattle.node_heap.specs.declared.entry.SmallHead.TheVariants.{Chain, Pair, State, Whole, Moved}
+use Rattle.node_heap.specs.declared.entry.SmallHead.TheVariants.{Chain, Pair, State, Full, Moved}
 use Rattle.node_heap.specs.declared.entry.SmallSlot.{SmallSlot}
 
 abbrev pub large_node : Option NodeSlot → Option (NodeOf Tag)
@@ -33,14 +34,14 @@ module _ (moved : List (Option NodeSlot)) where
   head_in Chain = tag.Chain
   head_in Pair = tag.Pair
   head_in State = tag.State
-  head_in (Whole place) = tag.Whole place
+  head_in (Full place) = tag.Full place
   head_in (Moved room) = moved_head (slice_index_or moved room None)
 
   abbrev pub links_in : SmallHead → List ℕ → List ℕ
   links_in Chain links = links
   links_in Pair links = links
   links_in State links = links
-  links_in (Whole _) links = links
+  links_in (Full _) links = links
   links_in (Moved room) _ = moved_links (slice_index_or moved room None)
 
   abbrev pub small_node : Option SmallSlot → Option (NodeOf Tag)
@@ -72,6 +73,6 @@ pub record AreRooms (small : List (Option SmallSlot)) (free_small : List ℕ) (a
   pub of_small : Covers small free_small a b (number + spares)
   pub of_large : Covers large free_large a' b' (number + spares)
   pub of_moved : Covers moved free_moved a'' b'' (number + spares)
-  pub whole : number ≡ count_by is_some small + count_by is_some large
-  pub few : number + spares < 2 ^ 56
+  pub both_kinds : number ≡ count_by is_some small + count_by is_some large
+  pub few : number + spares < row_limit
   pub parts : Parts room_in small moved

@@ -138,7 +138,7 @@ pub(crate) struct NodeRoom {
     pub(crate) node: NodeSlot,
 }
 
-// A whole head isn't in it.
+// A full head isn't in it.
 const _: () = prove!(size_of::<NodeRoom>() <= 296);
 
 impl Model for NodeRoom {
@@ -198,7 +198,7 @@ pub(crate) enum SmallHead {
     Chain,
     Pair,
     State,
-    Whole { place: usize },
+    Full { place: usize },
     // Head and links lie in this room apart.
     Moved { room: usize },
 }
@@ -217,7 +217,7 @@ pub(crate) fn small_head(tag: &Tag, links: &[Link]) -> Option<SmallHead>
         Tag::Chain => Some(SmallHead::Chain),
         Tag::Pair => Some(SmallHead::Pair),
         Tag::State => Some(SmallHead::State),
-        Tag::Whole { place } => Some(SmallHead::Whole { place: *place }),
+        Tag::Full { place } => Some(SmallHead::Full { place: *place }),
     }
 }
 
@@ -314,7 +314,7 @@ impl SmallSlot {
             SmallHead::Chain => Tag::Chain,
             SmallHead::Pair => Tag::Pair,
             SmallHead::State => Tag::State,
-            SmallHead::Whole { place } => Tag::Whole { place },
+            SmallHead::Full { place } => Tag::Full { place },
             SmallHead::Moved { room: _ } => unreachable!(),
         }
     }

@@ -2,7 +2,7 @@
 ghost use Rattle.std.specs.Prelude.{◌≡◌, ◌≢◌, ℕ, ◌+◌, ◌*◌, ◌∷◌, None, ◌-◌, ◌^◌, ◌<◌, ◌≤◌, ◌↔◌, [], length, Some, IsSome, OnOk, OnErr, IsOk, option_copied, slice_index, slice_set, insert, remove};
 ghost use Rattle.node_heap.specs.Links.{count, Reaches};
 ghost use Rattle.node_heap.specs.Forms.{cell, node, links_of, value_of, head_of, is_cell, is_node};
-ghost use Rattle.node_heap.specs.Heap.{row_at, links_at, holds_at, owners_at, live_count, hold_count, one_at, HasSpares, IsGraph};
+ghost use Rattle.node_heap.specs.Heap.{row_at, links_at, holds_at, owners_at, live_count, hold_count, one_at, HasSpares, IsGraph, most_holds};
 ghost use Rattle.node_heap.specs.Calls.{KeepsBelow, SameRows, Adds, AddsOwner, KeepsOwners, Makes, Releases, Extends, KeepsHeld, KeepsTrees, Unchanged, HasGreater, Builds};
 ghost use Rattle.node_heap.specs.InPlace.{child_at, other_at, Writes, Changes};
 ghost use Rattle.node_heap.specs.Layout.{graph_of, slot_at, owners_in, filled_count, Copies, rows_of_slots, IsCounted, IsDying, IsLow, KeepsRoom, Thins, cells_in, nodes_in};
@@ -57,6 +57,15 @@ impl<T> Heap<T> {
         self.table.len()
     }
 
+    /// In every heap links and holds lead to rows, each row is reached from a hold, and each link leads down: a law, for a proof
+    /// that needs it before any other call tells it. The call does nothing.
+    pub fn is_graph(&self)
+        ensures { IsGraph self.now }
+    {
+        // A field that is read tells the proof what is true of all of them.
+        let _ = &self.table;
+    }
+
     /// The number of rows ever made. It stays at 2^64 - 1 once it is there.
     pub fn made(&self) -> u64
         ensures { result ≡ self.now.made }
@@ -103,7 +112,7 @@ impl<T> Heap<T> {
     /// A cell with this value, made of a spare, which the caller holds once. All holds together are below 2^60 before.
     pub fn cell(&mut self, value: T) -> Link
         requires spare { 0 < self.old.spare_cells }
-        requires few { hold_count self.old < 2 ^ 60 }
+        requires few { hold_count self.old < most_holds }
         ensures adds { Adds self.old self.new result (cell value) }
         ensures owners { AddsOwner self.old self.new result }
         ensures sole { owners_at self.new result ≡ 1 }
@@ -125,7 +134,7 @@ impl<T> Heap<T> {
         requires spare { 0 < self.old.spare_nodes }
         requires short { length links.now ≤ 32 }
         requires held { (l : ℕ) → count l links.now ≤ holds_at self.old l }
-        requires few { hold_count self.old < 2 ^ 60 }
+        requires few { hold_count self.old < most_holds }
         ensures adds { Adds self.old self.new result (node head links.now) }
         ensures owners { AddsOwner self.old self.new result }
         ensures sole { owners_at self.new result ≡ 1 }
@@ -144,7 +153,7 @@ impl<T> Heap<T> {
     /// One hold more of a live link. All holds together are below 2^60 before.
     pub fn hold(&mut self, link: Link)
         requires live { IsSome (row_at self.old link) }
-        requires few { hold_count self.old < 2 ^ 60 }
+        requires few { hold_count self.old < most_holds }
         ensures rows { SameRows self.old self.new }
         ensures holds { (k : ℕ) → holds_at self.new k ≡ holds_at self.old k + one_at link k }
         ensures owners { AddsOwner self.old self.new link }
@@ -161,7 +170,7 @@ impl<T> Heap<T> {
     /// One hold more of each of these live links for each place that it takes there. All holds together are at most 2^60 then.
     pub fn hold_all(&mut self, links: &[Link])
         requires live { (l : ℕ) → 0 < count l links.now → IsSome (row_at self.old l) }
-        requires few { hold_count self.old + length links.now ≤ 2 ^ 60 }
+        requires few { hold_count self.old + length links.now ≤ most_holds }
         ensures rows { SameRows self.old self.new }
         ensures holds { (k : ℕ) → holds_at self.new k ≡ holds_at self.old k + count k links.now }
         ensures owners { (k : ℕ) → owners_at self.new k ≡ owners_at self.old k + count k links.now }
@@ -296,7 +305,7 @@ impl<T> Heap<T> {
     pub fn remove_link(&mut self, parent: Link, index: usize) -> Link
         requires sole { owners_at self.old parent ≡ 1 }
         requires index { index < length (links_at self.old parent) }
-        requires few { hold_count self.old < 2 ^ 60 }
+        requires few { hold_count self.old < most_holds }
         ensures old { result ≡ child_at self.old parent index }
         ensures writes { Writes self.old self.new parent (head_of (row_at self.old parent)) (remove (links_at self.old parent) index) }
         ensures owners { KeepsOwners self.old self.new }

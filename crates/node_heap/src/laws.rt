@@ -15,8 +15,7 @@ pub fn unfolds_to_one_tree<T>(heap: &Heap<T>, link: Link)
     ensures one { HasOneTree (form_at heap.now) link }
     ensures reached { TreesFollowReached T }
 {
-    // The call tells the proof that this is the graph of a heap.
-    let _ = heap.live();
+    heap.is_graph();
     // The link is there for the clauses alone.
     let _ = link;
 }
@@ -27,8 +26,7 @@ pub fn rows_are_owned<T>(heap: &Heap<T>)
     ensures owned { (l : ℕ) → IsSome (row_at heap.now l) → 0 < owners_at heap.now l }
     ensures kinds { live_count heap.now ≡ cell_count heap.now + node_count heap.now }
 {
-    // The call tells the proof that this is the graph of a heap.
-    let _ = heap.live();
+    heap.is_graph();
 }
 
 /// What a held link doesn't reach: the last row of a path of rows with one owner each, where it doesn't reach the first; and

@@ -22,4 +22,4 @@ pub use laws::{
     alone_rows_stay, changes_add_up, changes_keep_the_rest, edits_by_an_owner, gains_add_up,
     owned_rows_keep_off, rows_are_owned, rows_come_and_go, unfolds_to_one_tree,
 };
-pub use row::{Head, Link, Sums};
+pub use row::{Head, Link, MOST_HEIGHT, Sums};

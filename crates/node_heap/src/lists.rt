@@ -1,5 +1,6 @@
 //! Lists of slots and of rooms, with their free ones on a stack.
-ghost use Rattle.std.specs.Prelude.{vec_len, vec_capacity, ◌≡◌, ℕ, ◌+◌, ◌-◌, ◌^◌, ◌<◌, ◌≤◌, [], ◌∷◌, ◌++◌, length, Some, None, IsSome, OnOk, IsOk, slice_index_or, slice_set};
+ghost use Rattle.std.specs.Prelude.{vec_len, vec_capacity, ◌≡◌, ℕ, ◌+◌, ◌*◌, ◌-◌, ◌<◌, ◌≤◌, [], ◌∷◌, ◌++◌, length, Some, None, IsSome, OnOk, IsOk, slice_index_or, slice_set};
+ghost use Rattle.node_heap.specs.Heap.{row_limit};
 ghost use Rattle.std.specs.Borrow.{sem};
 ghost use Rattle.node_heap.specs.LendsSlot.{LendsSlot, LendsNodeIn};
 ghost use Rattle.node_heap.specs.Inside.{IsFree};
@@ -57,7 +58,7 @@ pub(crate) fn make_room<X>(
     free: &mut Vec<usize>,
     spares: usize,
 ) -> Result<(), AllocError>
-    requires few { vec_len slots.old + spares < 2 ^ 57 }
+    requires few { vec_len slots.old + spares < 2 * row_limit }
     requires more { vec_len free.old ≤ spares }
     requires inside { vec_len free.old ≤ vec_len slots.old }
     ensures slots { slots.new.items ≡ slots.old.items }
@@ -79,7 +80,7 @@ pub(crate) fn cover<X>(
     free: &mut Vec<usize>,
     total: usize,
 ) -> Result<(), AllocError>
-    requires few { total < 2 ^ 56 }
+    requires few { total < row_limit }
     requires short { vec_len slots.old ≤ total }
     requires inside { vec_len free.old ≤ vec_len slots.old }
     ensures slots { slots.new.items ≡ slots.old.items }

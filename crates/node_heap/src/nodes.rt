@@ -1,5 +1,6 @@
 //! The nodes of a heap: their rooms, and apart from these the heads that say more than a tag does.
-ghost use Rattle.std.specs.Prelude.{◌≡◌, ℕ, ◌+◌, ◌^◌, ◌<◌, ◌≤◌, [], length, Some, None, IsSome, OnOk, OnErr, IsOk, count_by, is_some, slice_index, slice_set, insert, remove};
+ghost use Rattle.std.specs.Prelude.{◌≡◌, ℕ, ◌+◌, ◌*◌, ◌<◌, ◌≤◌, [], length, Some, None, IsSome, OnOk, OnErr, IsOk, count_by, is_some, slice_index, slice_set, insert, remove};
+ghost use Rattle.node_heap.specs.Heap.{row_limit};
 ghost use Rattle.std.specs.Borrow.{sem};
 ghost use Rattle.node_heap.specs.Nodes.{SameBut, node_at, node_owners, node_head, node_links, Becomes};
 
@@ -15,7 +16,7 @@ use std::marker::Model;
 #[derive(Drop)]
 pub(crate) struct Nodes {
     rooms: Rooms,
-    // The whole heads that tags name.
+    // The full heads that tags name.
     heads: Vec<Option<Head>>,
     free_heads: Vec<usize>,
     lent: Heads,
@@ -66,7 +67,7 @@ impl Nodes {
     // Makes just so many spares, no fewer than there are. Refused, it leaves the nodes as they were.
     pub(crate) fn reserve(&mut self, spares: usize) -> Result<(), AllocError>
         requires more { self.old.spares ≤ spares }
-        requires few { count_by is_some self.old.slots + spares < 2 ^ 56 }
+        requires few { count_by is_some self.old.slots + spares < row_limit }
         ensures slots { self.new.slots ≡ self.old.slots }
         ensures spares { OnOk result (self.new.spares ≡ spares) }
         ensures refused { OnErr result (self.new ≡ self.old) }
@@ -76,7 +77,7 @@ impl Nodes {
         if spares == self.rooms.spares() {
             return Ok(());
         }
-        // Any node may have a whole head.
+        // Any node may have a full head.
         let total = self.rooms.len() + spares;
         cover(&mut self.heads, &mut self.free_heads, total)?;
         self.rooms.reserve(spares)?;
@@ -92,13 +93,13 @@ impl Nodes {
         ensures others { SameBut self.old.slots self.new.slots result }
         ensures len { count_by is_some self.new.slots ≡ count_by is_some self.old.slots + 1 }
         ensures spares { self.new.spares + 1 ≡ self.old.spares }
-        ensures low { result < 2 ^ 57 }
+        ensures low { result < 2 * row_limit }
     {
         match tag_of(&head) {
             Some(tag) => self.rooms.put(tag, links),
             None => {
                 let place = put(&mut self.heads, &mut self.free_heads, head);
-                self.rooms.put(Tag::Whole { place }, links)
+                self.rooms.put(Tag::Full { place }, links)
             }
         }
     }
@@ -191,7 +192,7 @@ impl Nodes {
                 Some(tag) => self.rooms.set_tag(index, tag),
                 None => {
                     let place = put(&mut self.heads, &mut self.free_heads, head);
-                    self.rooms.set_tag(index, Tag::Whole { place });
+                    self.rooms.set_tag(index, Tag::Full { place });
                 }
             },
         }

@@ -1,7 +1,8 @@
 //! Where nodes lie with their links: index 2i is small slot i, and index 2i + 1 large room i. A node of few links is made in a
 //! small slot, but for leaves and inner rows without sums, which mostly grow. What it is later given and doesn't fit there lies
 //! in a room apart, which the small slot names, so that the node keeps its index. Of its head a tag lies there.
-ghost use Rattle.std.specs.Prelude.{◌≡◌, ◌≢◌, ℕ, ◌+◌, ◌-◌, ◌*◌, ◌%◌, ◌^◌, ◌<◌, ◌≤◌, [], length, Some, None, IsSome, OnOk, OnErr, IsOk, option_map, count_by, is_some, slice_index, slice_index_or, slice_set, insert, remove};
+ghost use Rattle.std.specs.Prelude.{◌≡◌, ◌≢◌, ℕ, ◌+◌, ◌-◌, ◌*◌, ◌%◌, ◌<◌, ◌≤◌, [], length, Some, None, IsSome, OnOk, OnErr, IsOk, option_map, count_by, is_some, slice_index, slice_index_or, slice_set, insert, remove};
+ghost use Rattle.node_heap.specs.Heap.{row_limit};
 ghost use Rattle.std.specs.Borrow.{sem};
 ghost use Rattle.node_heap.specs.Nodes.{SameBut, node_at, node_owners, node_head, node_links, Becomes};
 ghost use Rattle.node_heap.specs.Rooms.{large_node};
@@ -80,7 +81,7 @@ impl Rooms {
     // Makes just so many spares, no fewer than there are. Refused, it leaves the nodes as they were.
     pub(crate) fn reserve(&mut self, spares: usize) -> Result<(), AllocError>
         requires more { self.old.spares ≤ spares }
-        requires few { count_by is_some self.old.slots + spares < 2 ^ 56 }
+        requires few { count_by is_some self.old.slots + spares < row_limit }
         ensures slots { self.new.slots ≡ self.old.slots }
         ensures spares { OnOk result (self.new.spares ≡ spares) }
         ensures refused { OnErr result (self.new ≡ self.old) }
@@ -104,7 +105,7 @@ impl Rooms {
         ensures others { SameBut self.old.slots self.new.slots result }
         ensures len { count_by is_some self.new.slots ≡ count_by is_some self.old.slots + 1 }
         ensures spares { self.new.spares + 1 ≡ self.old.spares }
-        ensures low { result < 2 ^ 57 }
+        ensures low { result < 2 * row_limit }
     {
         self.spares -= 1;
         self.len += 1;

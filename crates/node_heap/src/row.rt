@@ -70,12 +70,15 @@ impl Sums {
     }
 }
 
+/// The greatest height of a row of a vector, whose leaves are at height 0.
+pub const MOST_HEIGHT: u8 = 7;
+
 /// What a node is, beside its links.
 #[derive(Drop)]
 pub enum Head {
     /// A row of a vector at height 0: its links are elements.
     Leaf,
-    /// A row of a vector at a height of 1 to 7, with the running sums of its children's lengths, or with
+    /// A row of a vector at a height of 1 to `MOST_HEIGHT`, with the running sums of its children's lengths, or with
     /// none where it keeps none.
     Inner { height: u8, sums: Sums },
     /// A row of a trie at a depth of 0 to `DEEPEST`. The two sets of positions are masks: position p is bit p. Its links

@@ -1,6 +1,7 @@
 //! Where the rows of a heap lie: cells in a list of slots, and nodes apart. Place 2i is slot i of the cells, and place
 //! 2i + 1 index i of the nodes.
-ghost use Rattle.std.specs.Prelude.{vec_len, vec_capacity, ◌≡◌, ◌≢◌, ℕ, ◌+◌, ◌-◌, ◌^◌, ◌<◌, ◌≤◌, [], length, Some, None, IsSome, OnOk, OnErr, IsOk, option_copied, slice_index, slice_index_or, slice_set, insert, remove};
+ghost use Rattle.std.specs.Prelude.{vec_len, vec_capacity, ◌≡◌, ◌≢◌, ℕ, ◌+◌, ◌-◌, ◌<◌, ◌≤◌, [], length, Some, None, IsSome, OnOk, OnErr, IsOk, option_copied, slice_index, slice_index_or, slice_set, insert, remove};
+ghost use Rattle.node_heap.specs.Heap.{row_limit};
 ghost use Rattle.std.specs.Borrow.{sem};
 ghost use Rattle.node_heap.specs.Forms.{cell, node, links_of, value_of, head_of, is_node};
 ghost use Rattle.node_heap.specs.Layout.{graph_of, slot_at, owners_in, rows_of_slots, filled_count, SetsOwners, Rewrites, PutsIn, TakesOut, KeepsRoom};
@@ -75,7 +76,7 @@ impl<T> Table<T> {
     pub(crate) fn reserve(&mut self, cells: usize, nodes: usize) -> Result<(), AllocError>
         requires more_cells { self.old.spare_cells ≤ cells }
         requires more_nodes { self.old.spare_nodes ≤ nodes }
-        requires few { filled_count self.old.slots + (cells + nodes) < 2 ^ 56 }
+        requires few { filled_count self.old.slots + (cells + nodes) < row_limit }
         ensures slots { self.new.slots ≡ self.old.slots }
         ensures cells { OnOk result (self.new.spare_cells ≡ cells) }
         ensures nodes { OnOk result (self.new.spare_nodes ≡ nodes) }

@@ -4,7 +4,9 @@ use Rattle.std.specs.Prelude.{IsSome, OnErr, option_map}
 use Rattle.std.specs.List.{All}
 use Rattle.std.proofs.lemmas.List.Elements.{All-head}
 use Rattle.std.specs.declared.cmp.Ordering.{Ordering}
-use Rattle.elem_core.specs.declared.codes.TheConstants.{CODE_BITS, DEEPEST}
+use Rattle.elem_core.specs.declared.codes.TheConstants.{CODE_BITS}
+use Rattle.note_store.specs.declared.store.TheConstants.{PUT_NODES}
+use Rattle.champ_kinds.specs.declared.map.TheConstants.{INSERT_NODES}
 use Rattle.node_heap.specs.Links.{Reaches}
 use Rattle.node_heap.specs.Forms.{cell, form_of}
 use Rattle.node_heap.specs.Heap.{Heap, row_at, links_at, holds_at, hold_count, one_at, IsGraph}
@@ -125,14 +127,14 @@ module _ {T : Type 0} (cmp : T → T → Ordering) (code : T → ℕ) where
 
   -- what a put comes to before it has a new history: a map of a new cell beside the store's own, whose root is held once more
   pub put-begun : {a b c d e : Heap T} {seen : Root} {link root other before : ℕ} {note : T} (name : T) (s : Store) → IsStore cmp code a s → seen ≡ s.notes → Extends a b → Adds b c link (cell note) → Extends b c → hold_count c ≡ hold_count b + 1
-      → ((M : List (Binding T)) → IsMapOf cmp code c seen M → Answered c d (link ∷ []) root 1 (DEEPEST + 3 + alike_keys code seen.bits name M)) → Builds d e [] (other ∷ []) 0 0 → before ≡ other → Gained b e (λ k. one_at root k + one_at before k) 2
+      → ((M : List (Binding T)) → IsMapOf cmp code c seen M → Answered c d (link ∷ []) root 1 (INSERT_NODES + alike_keys code seen.bits name M)) → Builds d e [] (other ∷ []) 0 0 → before ≡ other → Gained b e (λ k. one_at root k + one_at before k) 2
   put-begun {c = c} name s store seen more adds added count answered shared same =
       let M = store.notes in
       shared-gained {b = c} (cell-gained {b = c} adds added count) (answered M.0 (map-there more added seen M.1)) shared same
 
   -- what a put makes where it has both
   pub put-takes : {a b c d e f : Heap T} {r seen : Root} {link root other earlier : ℕ} (name : T) (M : List (Binding T)) → IsMapOf cmp code a r M → seen ≡ r → IsGoodVector a earlier → Unchanged a b → Extends a b → Makes b c 1 0 → Extends b c → MakesJust c d
-      → ((N : List (Binding T)) → IsMapOf cmp code c seen N → Answered c d (link ∷ []) root 1 (DEEPEST + 3 + alike_keys code seen.bits name N)) → Builds d e [] (other ∷ []) 0 0 → Takes e f 0 (height_at e earlier + 2) → Takes a f 2 (DEEPEST + 5 + height_at a earlier + alike_keys code r.bits name M)
+      → ((N : List (Binding T)) → IsMapOf cmp code c seen N → Answered c d (link ∷ []) root 1 (INSERT_NODES + alike_keys code seen.bits name N)) → Builds d e [] (other ∷ []) 0 0 → Takes e f 0 (height_at e earlier + 2) → Takes a f 2 (PUT_NODES + height_at a earlier + alike_keys code r.bits name M)
   put-takes {a} {e = e} {f = f} {r} {earlier = earlier} name M is seen good room more made added just answered shared longer =
       let put = answered M (map-there more added seen is) in
       let begun = shared-takes room made just put shared in

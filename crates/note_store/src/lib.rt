@@ -3,4 +3,4 @@
 
 mod store;
 
-pub use store::Store;
+pub use store::{PUT_NODES, PUT_SPARES, Store};

@@ -3,19 +3,26 @@
 //! The notes are a map. The history is a vector, and its elements are the roots of the maps that came before. Each edit
 //! makes a new map beside the old one, a few rows of which are new and the others its own, and edits the history in place.
 ghost use Rattle.std.specs.Prelude.{◌≡◌, ◌≢◌, ℕ, ◌+◌, ◌-◌, ◌^◌, ◌<◌, ◌≤◌, ◌↔◌, List, [], ◌∷◌, ◌++◌, length, Ok, Err, true, false, IsSome, IfOk, IsOk, OnErr, OnOk};
-ghost use Rattle.elem_core.specs.declared.codes.TheConstants.{DEEPEST};
-ghost use Rattle.node_heap.specs.Heap.{holds_at, hold_count, one_at, IsGraph, HasSpares};
+ghost use Rattle.node_heap.specs.Heap.{holds_at, hold_count, one_at, IsGraph, HasSpares, program_holds, quarter_holds};
 ghost use Rattle.node_heap.specs.Calls.{Builds, Extends, KeepsHeld};
 ghost use Rattle.rrb_core.specs.Vector.{elements, height_at, IsVectorOf};
 ghost use Rattle.champ_kinds.specs.Binding.{Binding, alike_keys};
 ghost use Rattle.champ_kinds.specs.Kinds.{IsMapOf};
 
-use champ_kinds::{Map, map_insert};
+use champ_kinds::{INSERT_NODES, Map, map_insert};
 use edit_vec::{FlexEdit, OpenFault};
 use elem_core::{CODE_BITS, Element, NoMemory};
-use node_heap::Heap;
+use node_heap::{Heap, MOST_HEIGHT};
 use rrb_core::{Flex, PushFault};
 use std::mem;
+
+/// The most nodes that putting a note makes, besides the history's height and one for each name with the same masked code:
+/// those of the map, and two of the history.
+pub const PUT_NODES: usize = INSERT_NODES + 2;
+
+/// With so many spare nodes, and one for each such name, putting a note has the memory for its nodes whatever the history's
+/// height.
+pub const PUT_SPARES: usize = PUT_NODES + MOST_HEIGHT as usize;
 
 /// Notes by name, and the versions that came before. It owns one hold of each of its two roots, and is given up by
 /// `close`.
@@ -32,7 +39,7 @@ impl Store {
     /// A store without notes and without a history. Whatever anyone holds stays. Refused only where memory runs out,
     /// which it doesn't with three spare nodes, and then all holds are as they were.
     pub fn new<T: Element>(heap: &mut Heap<T>) -> Result<Store, NoMemory>
-        requires { hold_count heap.old < 2 ^ 50 }
+        requires { hold_count heap.old < program_holds }
         ensures store { IfOk result (IsStore T.cmp T.code_of heap.new) }
         ensures notes { IfOk result (λ s. IsMapOf T.cmp T.code_of heap.new s.notes []) }
         ensures first { IfOk result (λ s. elements heap.new s.earlier ≡ []) }
@@ -56,13 +63,13 @@ impl Store {
     }
 
     /// Puts this note at the name, and the version before into the history. Refused with `Memory` where memory runs out, which
-    /// it doesn't with two spare cells, `DEEPEST + 12` spare nodes and one node more for each name with the same masked code,
+    /// it doesn't with two spare cells, `PUT_SPARES` spare nodes and one node more for each name with the same masked code,
     /// and with `Long` only where the history has 2^32 - 1 versions. After a refusal the notes and the history are as they
     /// were. Whatever anyone else holds stays, and so does all that a version in the history reaches. It makes at most
-    /// `DEEPEST + 7` rows more than the history's height and one for each such name, up to 2^64 - 1 rows ever made. At
+    /// `PUT_NODES + 2` rows more than the history's height and one for each such name, up to 2^64 - 1 rows ever made. At
     /// most two of these are cells, and the spares of each kind fall by no more.
     pub fn put<T: Element>(&mut self, heap: &mut Heap<T>, name: T, note: T) -> Result<(), PushFault>
-        requires few { hold_count heap.old < 2 ^ 50 }
+        requires few { hold_count heap.old < program_holds }
         requires store { IsStore T.cmp T.code_of heap.old self.old }
         ensures store { IsStore T.cmp T.code_of heap.new self.new }
         ensures others { KeepsOthers heap.old heap.new self.old self.new }
@@ -72,11 +79,11 @@ impl Store {
         ensures refused { OnErr result ((self.new ≡ self.old) × (elements heap.new self.new.earlier ≡ elements heap.old self.old.earlier)) }
         ensures long { result ≡ Err PushFault.Long → length (elements heap.old self.old.earlier) ≡ 2 ^ 32 - 1 }
         ensures ample { (M : List (Binding T)) → IsMapOf T.cmp T.code_of heap.old self.old.notes M →
-            HasSpares heap.old 2 (DEEPEST + 12 + alike_keys T.code_of self.old.notes.bits name M) → result ≢ Err PushFault.Memory }
+            HasSpares heap.old 2 (PUT_SPARES + alike_keys T.code_of self.old.notes.bits name M) → result ≢ Err PushFault.Memory }
         ensures made { (M : List (Binding T)) → IsMapOf T.cmp T.code_of heap.old self.old.notes M →
-            heap.new.made ≤ heap.old.made + (DEEPEST + 7 + height_at heap.old self.old.earlier + alike_keys T.code_of self.old.notes.bits name M) }
+            heap.new.made ≤ heap.old.made + (PUT_NODES + 2 + height_at heap.old self.old.earlier + alike_keys T.code_of self.old.notes.bits name M) }
         ensures spares { (M : List (Binding T)) → IsMapOf T.cmp T.code_of heap.old self.old.notes M →
-            (heap.old.spare_cells ≤ heap.new.spare_cells + 2) × (heap.old.spare_nodes ≤ heap.new.spare_nodes + (DEEPEST + 5 + height_at heap.old self.old.earlier + alike_keys T.code_of self.old.notes.bits name M)) }
+            (heap.old.spare_cells ≤ heap.new.spare_cells + 2) × (heap.old.spare_nodes ≤ heap.new.spare_nodes + (PUT_NODES + height_at heap.old self.old.earlier + alike_keys T.code_of self.old.notes.bits name M)) }
     {
         heap.reserve(1, 0)?;
         let note = heap.cell(note);
@@ -107,7 +114,7 @@ impl Store {
     /// It makes at most one row more than the history's height, up to 2^64 - 1 rows ever made. These are nodes, and the
     /// spares of each kind fall by no more.
     pub fn undo<T: Element>(&mut self, heap: &mut Heap<T>) -> Result<bool, NoMemory>
-        requires few { hold_count heap.old < 2 ^ 50 }
+        requires few { hold_count heap.old < program_holds }
         requires store { IsStore T.cmp T.code_of heap.old self.old }
         ensures store { IsStore T.cmp T.code_of heap.new self.new }
         ensures others { KeepsOthers heap.old heap.new self.old self.new }
@@ -120,8 +127,7 @@ impl Store {
         ensures made { heap.new.made ≤ heap.old.made + (height_at heap.old self.old.earlier + 1) }
         ensures spares { (heap.old.spare_cells ≤ heap.new.spare_cells) × (heap.old.spare_nodes ≤ heap.new.spare_nodes + (height_at heap.old self.old.earlier + 1)) }
     {
-        // The call tells the proof that this is the graph of a heap.
-        let _ = heap.live();
+        heap.is_graph();
         let Some(root) = self.earlier.pop(heap)? else {
             return Ok(false);
         };
@@ -131,7 +137,7 @@ impl Store {
 
     /// The notes as they stand, for the caller to keep: they read the same whatever is put or undone later.
     pub fn version<T: Element>(&self, heap: &mut Heap<T>) -> Map
-        requires few { hold_count heap.old < 2 ^ 50 }
+        requires few { hold_count heap.old < program_holds }
         requires store { IsStore T.cmp T.code_of heap.old self.now }
         ensures same { result ≡ self.now.notes }
         ensures store { IsStore T.cmp T.code_of heap.new self.now }
@@ -155,7 +161,7 @@ impl Store {
 
 // A history without versions.
 fn opened<T: Drop>(heap: &mut Heap<T>) -> Result<FlexEdit, NoMemory>
-    requires { hold_count heap.old < 2 ^ 58 }
+    requires { hold_count heap.old < quarter_holds }
     ensures first { IfOk result (λ v. IsVectorOf heap.new v []) }
     ensures gained { IfOk result (λ v. (k : ℕ) → holds_at heap.new k ≡ holds_at heap.old k + one_at v k) }
     ensures count { IfOk result (λ _. hold_count heap.new ≡ hold_count heap.old + 1) }

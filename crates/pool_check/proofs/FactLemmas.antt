@@ -14,7 +14,7 @@ use Rattle.champ_trie.specs.Walk.{own_entries, rows_below}
 use Rattle.pool_text.specs.Rows.{Bytes}
 use Rattle.pool_check.specs.Vectors.{has_height}
 use Rattle.pool_check.specs.Tries.{entries_below}
-use Rattle.pool_check.specs.Kinds.{is_vector_root, is_trie_root, is_pair_of, is_state_of, is_cell_of, elements_pass, is_vector_of, is_trie_of, is_name_cell, is_lines_vector, is_names_map, is_stars_set, is_state}
+use Rattle.pool_check.specs.Kinds.{is_vector_root, is_trie_root, is_pair_of, is_state_of, is_cell_of, elements_pass, is_vector_of, is_trie_of, is_name_cell, is_lines_vector, is_buffer_map, is_stars_set, is_state}
 use Rattle.pool_check.specs.declared.kinds.RowFacts.{RowFacts}
 use Rattle.pool_check.specs.Facts.{are_elements, are_entries, is_any_cell, is_named_lines, is_named_state, facts_at, no_facts, facts_over_entries, of_both, common_facts}
 use Rattle.pool_check.proofs.TestLemmas.{not-both}
@@ -96,7 +96,7 @@ module _ (n : ℕ) (F : Forms Bytes) where
   facts_by l r = record {
     cell = is_cell_of (λ _. true) r;
     name = is_cell_of is_name r;
-    state = is_state_of (is_names_map n F) (is_stars_set n F) r;
+    state = is_state_of (is_buffer_map n F) (is_stars_set n F) r;
     named_lines = is_pair_of (is_name_cell n F) (is_lines_vector n F) r;
     named_state = is_pair_of (is_name_cell n F) (is_state n F) r;
     root = is_vector_root r || is_trie_root r;
@@ -150,13 +150,13 @@ module _ (n : ℕ) (F : Forms Bytes) where
       ∙ ap (λ b. record no_facts { named_lines = is_name_cell n F k && is_lines_vector n F v; named_state = b }) version_at
       ∙ by-form l (Some (node pair (k ∷ v ∷ []))) is
 
-  pub state-facts : (l k v : ℕ) (names stars : RowFacts) (found : Bool) → F l ≡ Some (node state (k ∷ v ∷ [])) → names ≡ facts k → stars ≡ facts v → found ≡ ((names.root && names.over_named_lines) && (stars.root && stars.over_names))
+  pub state-facts : (l k v : ℕ) (buffers stars : RowFacts) (found : Bool) → F l ≡ Some (node state (k ∷ v ∷ [])) → buffers ≡ facts k → stars ≡ facts v → found ≡ ((buffers.root && buffers.over_named_lines) && (stars.root && stars.over_names))
       → record no_facts { state = found } ≡ facts l
   unfolding facts_at
-  state-facts l k v names stars found is names_are stars_are found_is =
-      let at : found ≡ (is_names_map n F k && is_stars_set n F v) =
-      found_is ∙ ap (λ (a : RowFacts). (a.root && a.over_named_lines) && (stars.root && stars.over_names)) names_are ∙ ap (λ (b : RowFacts). ((facts k).root && (facts k).over_named_lines) && (b.root && b.over_names)) stars_are
-      ∙ ap (λ b. b && ((facts v).root && (facts v).over_names)) (trie-of (is_named_lines n F) k) ∙ ap (λ b. is_names_map n F k && b) (trie-of (is_name_cell n F) v) in
+  state-facts l k v buffers stars found is buffers_are stars_are found_is =
+      let at : found ≡ (is_buffer_map n F k && is_stars_set n F v) =
+      found_is ∙ ap (λ (a : RowFacts). (a.root && a.over_named_lines) && (stars.root && stars.over_names)) buffers_are ∙ ap (λ (b : RowFacts). ((facts k).root && (facts k).over_named_lines) && (b.root && b.over_names)) stars_are
+      ∙ ap (λ b. b && ((facts v).root && (facts v).over_names)) (trie-of (is_named_lines n F) k) ∙ ap (λ b. is_buffer_map n F k && b) (trie-of (is_name_cell n F) v) in
       ap (λ b. record no_facts { state = b }) at ∙ by-form l (Some (node state (k ∷ v ∷ []))) is
 
   module _ (falls : LeadsDown (λ l. l) (links_in F)) (code : Bytes → ℕ) where

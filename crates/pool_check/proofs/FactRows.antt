@@ -9,6 +9,7 @@ use Rattle.elem_core.specs.Naming.{IsName, is_name}
 use Rattle.elem_core.specs.declared.codes.TheConstants.{DEEPEST}
 use Rattle.elem_core.proofs.NamingLemmas.{is_name-yes, is_name-no}
 use Rattle.node_heap.specs.Forms.{Form, Forms, node, inner, trie, chain, links_of, links_in}
+use Rattle.node_heap.specs.declared.row.TheConstants.{MOST_HEIGHT}
 use Rattle.champ_trie.specs.Bits.{rank}
 use Rattle.champ_trie.specs.Trie.{code_by}
 use Rattle.champ_trie.proofs.BitLemmas.{count-rank}
@@ -74,7 +75,7 @@ module _ (P : Pool) (stand : HasRowsThatStand P) (l : ℕ) (low : l < row_count 
   pub inner-is : (height : ℕ) (ks : List ℕ) (all : RowFacts) → forms_in P l ≡ Some (node (inner height) ks) → is_in_range {K = Bytes} (node (inner height) ks) ≡ true → all ≡ common_facts (facts_in P) ks
       → record no_facts { root = leb 2 (length ks); over_cells = all.over_cells; over_states = all.over_states } ≡ facts_in P l
   inner-is height ks all is ranged common =
-      let some : 1 ≤ height = leb-true 1 height (and_parts (leb 1 height) (leb height 7) (and_parts (is_between 1 7 height) (is_between 1 32 (length ks)) ranged).0).0 in
+      let some : 1 ≤ height = leb-true 1 height (and_parts (leb 1 height) (leb height MOST_HEIGHT) (and_parts (is_between 1 MOST_HEIGHT height) (is_between 1 32 (length ks)) ranged).0).0 in
       let next : height ≡ suc (height - 1) = omega (arith, some) in
       inner-facts (row_count P) (forms_in P) l (height - 1) ks all (is ∙ ap (λ m. Some (node (inner m) ks)) next) (children-high height ks is) common
 

@@ -9,6 +9,7 @@ use Rattle.elem_core.specs.declared.codes.TheConstants.{DEEPEST}
 use Rattle.node_heap.specs.Links.{count, here}
 use Rattle.node_heap.specs.Forms.{Form, Forms, cell, node, leaf, inner, trie, chain, pair, state, links_of, links_in}
 use Rattle.node_heap.proofs.Counts.{test_same, count-cons}
+use Rattle.node_heap.specs.declared.row.TheConstants.{MOST_HEIGHT}
 use Rattle.pool_order.specs.Order.{order}
 use Rattle.pool_text.specs.Rows.{Bytes, is_between, is_in_range}
 use Rattle.pool_text.specs.Pool.{row_count, place_in, relink, pool}
@@ -62,7 +63,7 @@ rows-pass test keeps G f (k ∷ ks) each = by_row (G k) refl (rows-pass test kee
 range-relink : (f : ℕ → ℕ) (row : Form Bytes) → is_in_range (relink f row) ≡ is_in_range row
 range-relink f (cell text) = refl
 range-relink f (node leaf links) = ap (λ n. nat_le n 32) (length-map links f)
-range-relink f (node (inner height) links) = ap (λ n. is_between 1 7 height && is_between 1 32 n) (length-map links f)
+range-relink f (node (inner height) links) = ap (λ n. is_between 1 MOST_HEIGHT height && is_between 1 32 n) (length-map links f)
 range-relink f (node (trie depth entries nodes) links) = ap (λ n. nat_le depth DEEPEST && nat_lt entries (2 ^ 32) && nat_lt nodes (2 ^ 32) && nat_le n 32) (length-map links f)
 range-relink f (node chain links) = ap (λ n. is_between 1 2 n) (length-map links f)
 range-relink f (node pair links) = ap (λ n. n == 2) (length-map links f)

@@ -11,7 +11,7 @@ use Rattle.std.proofs.lemmas.List.{append-nil, get_or-take, get_or-drop}
 use Rattle.std.proofs.lemmas.List.Elements.{filter-append}
 use lib.Pointwise.{pointwise}
 use Rattle.elem_core.specs.Codes.{digit_at}
-use Rattle.elem_core.specs.declared.codes.TheConstants.{DEEPEST}
+use Rattle.elem_core.specs.declared.codes.TheConstants.{DEEPEST, LEVELS}
 use Rattle.node_heap.specs.Links.{LeadsDown}
 use Rattle.node_heap.specs.Forms.{Form, Forms, node, trie, chain, links_of, links_in}
 use Rattle.champ_chain.specs.Entry.{Entry, entry, key_at}
@@ -213,7 +213,7 @@ module _ (F : Forms Bytes) (falls : LeadsDown (λ l. l) (links_in F)) (n : ℕ) 
   or-second true b not_a h = absurd (not-both (sym not_a))
   or-second false b not_a h = h
 
-  node-stands : (left depth k : ℕ) → depth + suc left ≡ 7 → k < n → ((e d : ℕ) (ks : List ℕ) → F k ≡ Some (node (trie (suc depth) e d) ks) → IsNode left depth k (Es k)) → is_sub_node depth (F k) ≡ true → (2 ≤ length (Es k)) × IsNode left depth k (Es k)
+  node-stands : (left depth k : ℕ) → depth + suc left ≡ LEVELS → k < n → ((e d : ℕ) (ks : List ℕ) → F k ≡ Some (node (trie (suc depth) e d) ks) → IsNode left depth k (Es k)) → is_sub_node depth (F k) ≡ true → (2 ≤ length (Es k)) × IsNode left depth k (Es k)
   unfolding IsTrie
   node-stands left depth k levels low each h = elim (sub-node-is depth (F k) h) as (λ _. (2 ≤ length (Es k)) × IsNode left depth k (Es k)) [
     | inl deeper ↦
@@ -227,7 +227,7 @@ module _ (F : Forms Bytes) (falls : LeadsDown (λ l. l) (links_in F)) (n : ℕ) 
         (chained.0, subst (λ m. IsNode m depth k (Es k)) (sym none) chained.1)
   ]
 
-  places-are : (left depth e d l : ℕ) (ks : List ℕ) → depth + suc left ≡ 7 → l < n → Row depth e d l ks
+  places-are : (left depth e d l : ℕ) (ks : List ℕ) → depth + suc left ≡ LEVELS → l < n → Row depth e d l ks
       → ((k : ℕ) → k < n → (e d : ℕ) (ks : List ℕ) → F k ≡ Some (node (trie (suc depth) e d) ks) → IsNode left depth k (Es k))
       → (p : ℕ) → p < 32 → IsPlace F (IsNode left depth) (place_of e d ks p) (part by_bytes code depth p (Es l))
   places-are left depth e d l ks levels low row each p small = elim (cases_Bool (has e p)) as (λ _. IsPlace F (IsNode left depth) (place_of e d ks p) E) [
@@ -278,7 +278,7 @@ module _ (F : Forms Bytes) (falls : LeadsDown (λ l. l) (links_in F)) (n : ℕ) 
       nodes : Found (digit depth) Es (is_node_at n F code depth) (node-says depth) d p (drop r ks) (rank d p)
       nodes = found (digit depth) Es (is_node_at n F code depth) (node-says depth) d 0 32 (drop r ks) p (rank d p) row.nodes (omega arith) (omega (arith, small)) (omega (arith, rank-zero d))
 
-  pub trie-at : (left depth e d l : ℕ) (ks : List ℕ) → depth + left ≡ 7 → l < n → F l ≡ Some (node (trie depth e d) ks) → IsTrie by_bytes code F left depth l (Es l)
+  pub trie-at : (left depth e d l : ℕ) (ks : List ℕ) → depth + left ≡ LEVELS → l < n → F l ≡ Some (node (trie depth e d) ks) → IsTrie by_bytes code F left depth l (Es l)
   unfolding IsTrie
   trie-at zero depth e d l ks levels low is = absurd (omega (arith, levels, (row-is depth e d l ks is).low))
   trie-at (suc left) depth e d l ks levels low is = record {
@@ -357,5 +357,5 @@ module _ (F : Forms Bytes) (code : Bytes → ℕ) where
 pub canon-at : (F : Forms Bytes) (falls : LeadsDown (λ l. l) (links_in F)) (n : ℕ) (code : Bytes → ℕ) → ((l : ℕ) → is_canonical n F code l (F l) ≡ true)
     → ((l : ℕ) (r : Form Bytes) → F l ≡ Some r → is_in_range r ≡ true) → (l e d : ℕ) (ks : List ℕ) → l < n → F l ≡ Some (node (trie 0 e d) ks) → IsCanon by_bytes code F l (entries_below n F l)
 canon-at F falls n code canonical ranged l e d ks low is =
-    let trie_is = trie-at F falls n code canonical ranged 7 0 e d l ks refl low is in
-    record { trie = trie_is; distinct = record { once = trie-once F code 7 0 l (entries_below n F l) trie_is } }
+    let trie_is = trie-at F falls n code canonical ranged LEVELS 0 e d l ks refl low is in
+    record { trie = trie_is; distinct = record { once = trie-once F code LEVELS 0 l (entries_below n F l) trie_is } }

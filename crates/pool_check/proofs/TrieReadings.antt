@@ -7,7 +7,7 @@ use Rattle.std.proofs.lemmas.Bool.{cases_Bool, cases_eq}
 use Rattle.std.proofs.lemmas.List.{length-map, take-map}
 use Rattle.std.proofs.lemmas.List.Folds.{flat_map-map}
 use Rattle.elem_core.specs.Codes.{digit_at}
-use Rattle.elem_core.specs.declared.codes.TheConstants.{DEEPEST}
+use Rattle.elem_core.specs.declared.codes.TheConstants.{LEVELS}
 use Rattle.node_heap.specs.Links.{count, HasLink, Reaches, here, below}
 use Rattle.node_heap.specs.Forms.{Form, Forms, cell, node, leaf, inner, trie, chain, pair, state, links_of, links_in}
 use Rattle.node_heap.proofs.Counts.{test_same, test_other, count-cons}
@@ -239,7 +239,7 @@ module _ {K : Type 0} (f : ℕ → ℕ) (G H : Forms K) (root : ℕ) (image : Is
     }
 
     canon-moved : (E : List (Entry K)) → IsCanon cmp code G root E → IsCanon cmp code H (f root) (map (moved f) E)
-    canon-moved E canon = record { trie = trie-moved (DEEPEST + 1) 0 root E (here root) canon.trie; distinct = distinct-moved f cmp code E canon.distinct }
+    canon-moved E canon = record { trie = trie-moved LEVELS 0 root E (here root) canon.trie; distinct = distinct-moved f cmp code E canon.distinct }
 
   pub trie-reads-the-same : (X : Type 0) → TrieReadsTheSame X f G H root
   trie-reads-the-same X = record {

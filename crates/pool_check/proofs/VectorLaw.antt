@@ -6,6 +6,7 @@ use Rattle.std.proofs.lemmas.Bool.{ltb-true, leb-true, eqb-true}
 use Rattle.std.proofs.lemmas.List.Concat.{length-flat_map}
 use Rattle.std.proofs.lemmas.List.Sums.{sum_by-cons}
 use Rattle.node_heap.specs.Forms.{Form, Forms, cell, node, leaf, inner, trie, chain, pair, state, links_of, links_in}
+use Rattle.node_heap.specs.declared.row.TheConstants.{MOST_HEIGHT}
 use Rattle.rrb_core.specs.Seq.{height_in, form_height, seq_at, IsThick, IsWellInner, IsWell, IsWellShaped}
 use Rattle.pool_text.specs.Rows.{is_between, is_in_range}
 use Rattle.pool_check.specs.Vectors.{has_height, is_thick, length_at, are_children, keeps_fill_rule}
@@ -61,7 +62,7 @@ module _ {K : Type 0} (F : Forms K) where
   module _ (ranged : (l : ℕ) (r : Form K) → F l ≡ Some r → is_in_range r ≡ true) (filled : (l : ℕ) (r : Form K) → F l ≡ Some r → keeps_fill_rule F r ≡ true) where
     record Inner (n l : ℕ) (ks : List ℕ) : Type 0 where
       pub row : F l ≡ Some (node (inner (suc n)) ks)
-      pub low : suc n ≤ 7
+      pub low : suc n ≤ MOST_HEIGHT
       pub some : 1 ≤ length ks
       pub most : length ks ≤ 32
       pub below : Children n ks
@@ -70,8 +71,8 @@ module _ {K : Type 0} (F : Forms K) where
     inner-is l zero ks is = absurd (not-both (ranged l (node (inner zero) ks) is))
     inner-is l (suc n) ks is =
         let e : is_in_range {K = K} (node (inner (suc n)) ks) ≡ true = ranged l (node (inner (suc n)) ks) is in
-        let fits = between 1 7 (suc n) (and-first (is_between 1 7 (suc n)) (is_between 1 32 (length ks)) e) in
-        let few = between 1 32 (length ks) (and-second (is_between 1 7 (suc n)) (is_between 1 32 (length ks)) e) in
+        let fits = between 1 MOST_HEIGHT (suc n) (and-first (is_between 1 MOST_HEIGHT (suc n)) (is_between 1 32 (length ks)) e) in
+        let few = between 1 32 (length ks) (and-second (is_between 1 MOST_HEIGHT (suc n)) (is_between 1 32 (length ks)) e) in
         let one : suc n - 1 ≡ n = omega arith in
         let fill : are_children F n ks ≡ true = ap (λ n. are_children F n ks) (sym one) ∙ filled l (node (inner (suc n)) ks) is in
         (n, refl, record { row = is; low = fits.1; some = few.0; most = few.1; below = children n ks fill })

@@ -57,14 +57,14 @@ module _ (n : ℕ) (F : Forms Bytes) where
   abbrev pub is_lines_vector : ℕ → Bool
   is_lines_vector = is_vector_of F (λ k. is_cell_of (λ _. true) (F k))
 
-  abbrev pub is_names_map : ℕ → Bool
-  is_names_map = is_trie_of (λ e. is_pair_of is_name_cell is_lines_vector (F e))
+  abbrev pub is_buffer_map : ℕ → Bool
+  is_buffer_map = is_trie_of (λ e. is_pair_of is_name_cell is_lines_vector (F e))
 
   abbrev pub is_stars_set : ℕ → Bool
   is_stars_set = is_trie_of is_name_cell
 
   abbrev pub is_state : ℕ → Bool
-  is_state l = is_state_of is_names_map is_stars_set (F l)
+  is_state l = is_state_of is_buffer_map is_stars_set (F l)
 
   abbrev pub is_versions_map : ℕ → Bool
   is_versions_map = is_trie_of (λ e. is_pair_of is_name_cell is_state (F e))

@@ -20,7 +20,7 @@ pub(crate) struct RowFacts {
     pub(crate) cell: bool,
     // A cell that is a name.
     pub(crate) name: bool,
-    // A state of a names map and a stars set.
+    // A state of a map of buffers and a set of stars.
     pub(crate) state: bool,
     // A pair of a name and a vector of cells.
     pub(crate) named_lines: bool,
@@ -158,8 +158,8 @@ fn row_facts(pool: &Pool, kept: &[RowFacts]) -> RowFacts
         ),
         Row::Chain(links) => trie_facts(kept, false, 1, links.as_slice()),
         Row::Pair(key, value) => pair_facts(facts_of(kept, *key), facts_of(kept, *value)),
-        Row::State(names, stars) => RowFacts {
-            state: is_state(facts_of(kept, *names), facts_of(kept, *stars)),
+        Row::State(buffers, stars) => RowFacts {
+            state: is_state(facts_of(kept, *buffers), facts_of(kept, *stars)),
             ..NOTHING
         },
     }
@@ -210,11 +210,11 @@ fn pair_facts(key: RowFacts, value: RowFacts) -> RowFacts
     }
 }
 
-// Whether two rows of these facts are the names map and the stars set of a state.
-fn is_state(names: RowFacts, stars: RowFacts) -> bool
-    ensures { result ≡ ((names.root && names.over_named_lines) && (stars.root && stars.over_names)) }
+// Whether two rows of these facts are the map of buffers and the set of stars of a state.
+fn is_state(buffers: RowFacts, stars: RowFacts) -> bool
+    ensures { result ≡ ((buffers.root && buffers.over_named_lines) && (stars.root && stars.over_names)) }
 {
-    names.root && names.over_named_lines && stars.root && stars.over_names
+    buffers.root && buffers.over_named_lines && stars.root && stars.over_names
 }
 
 // The facts that hold of all these rows.

@@ -88,6 +88,6 @@ fn link_at(row: &Row, index: usize) -> Option<u64>
         Row::Leaf(links) | Row::Inner(_, links) | Row::Trie { links, .. } | Row::Chain(links) =>
             links.as_slice().get(index).copied(),
         Row::Pair(key, value) => [*key, *value].get(index).copied(),
-        Row::State(names, stars) => [*names, *stars].get(index).copied(),
+        Row::State(buffers, stars) => [*buffers, *stars].get(index).copied(),
     }
 }

@@ -30,7 +30,7 @@ fn leads_below(row: &Row, bound: u64) -> bool
         Row::Leaf(links) | Row::Inner(_, links) | Row::Trie { links, .. } | Row::Chain(links) =>
             are_below(links.as_slice(), bound),
         Row::Pair(key, value) => are_below(&[*key, *value], bound),
-        Row::State(names, stars) => are_below(&[*names, *stars], bound),
+        Row::State(buffers, stars) => are_below(&[*buffers, *stars], bound),
     }
 }
 

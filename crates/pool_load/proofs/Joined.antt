@@ -5,10 +5,10 @@ use Rattle.node_heap.specs.declared.row.Head.{Head}
 use Rattle.node_heap.specs.Heap.{Heap, hold_count, IsGraph}
 use Rattle.node_heap.specs.Calls.{SameRows, Adds, Makes, Extends, Builds}
 use Rattle.node_heap.proofs.Frames.{Extends-trans}
-use Rattle.pool_load.specs.Making.{Joins}
+use Rattle.pool_load.specs.Making.{ComesBeside}
 
 module _ {T : Type 0} {old new : Heap T} {link : ℕ} where
-  pub joined-cell : {x : T} → Adds old new link (cell x) → Makes old new 1 0 → hold_count new ≡ hold_count old + 1 → IsGraph new → Extends old new → Joins old new link (cell x)
+  pub joined-cell : {x : T} → Adds old new link (cell x) → Makes old new 1 0 → hold_count new ≡ hold_count old + 1 → IsGraph new → Extends old new → ComesBeside old new link (cell x)
   joined-cell adds makes count graph more = record {
     fresh = adds.fresh;
     here = adds.here;
@@ -22,7 +22,7 @@ module _ {T : Type 0} {old new : Heap T} {link : ℕ} where
 
   -- a node whose links were held for it first
   pub joined-node : {mid : Heap T} {head : Head} {links : List ℕ} → SameRows old mid → Builds old mid [] links 0 0 → Adds mid new link (node head links) → Makes mid new 0 1 → hold_count new + length links ≡ hold_count mid + 1 → IsGraph new → Extends mid new
-      → Joins old new link (node head links)
+      → ComesBeside old new link (node head links)
   joined-node same held adds makes count graph more = record {
     fresh = sym (same link) ∙ adds.fresh;
     here = adds.here;

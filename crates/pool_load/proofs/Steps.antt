@@ -9,12 +9,13 @@ use Rattle.std.proofs.lemmas.List.Elements.{All-map}
 use Rattle.std.proofs.lemmas.List.Sums.{sum_by-append, sum_by-cons, sum_by-take-le}
 use Rattle.node_heap.specs.Links.{count}
 use Rattle.node_heap.specs.Forms.{Row, Form, Forms, cell, node, leaf, inner, trie, chain, pair, state, links_of, links_in, is_cell, is_node}
-use Rattle.node_heap.specs.Heap.{Heap, row_at, form_at, links_at, hold_count, HasSpares, IsGraph}
+use Rattle.node_heap.specs.Heap.{Heap, row_at, form_at, links_at, hold_count, HasSpares, IsGraph, most_holds}
 use Rattle.node_heap.specs.Calls.{Makes, Extends}
 use Rattle.node_heap.proofs.BuildLemmas.{count-one, count-append, Makes-refl}
 use Rattle.node_heap.proofs.Counts.{test_same, test_other, count-cons}
 use Rattle.node_heap.proofs.Frames.{Extends-row, Extends-refl, Extends-trans, Makes-trans}
 use Rattle.node_heap.proofs.Trees.{map-same}
+use Rattle.node_heap.specs.declared.row.TheConstants.{MOST_HEIGHT}
 use Rattle.rrb_core.specs.Seq.{seq_at, IsWell}
 use Rattle.rrb_core.specs.Vector.{KeepsSums, row_sums, sums_at, HasSums}
 use Rattle.rrb_core.proofs.ClosedRows.{Stays}
@@ -56,11 +57,11 @@ pub record IsInner (rows : List (Form Bytes)) (n : ℕ) (ks : List ℕ) : Type 0
 between : (a b n : ℕ) → is_between a b n ≡ true → (a ≤ n) × (n ≤ b)
 between a b n e = (leb-true a n (and-first (nat_le a n) (nat_le n b) e), leb-true n b (and-second (nat_le a n) (nat_le n b) e))
 
-pub inner-range : (rows : List (Form Bytes)) → AreSound rows → (p height : ℕ) (ks : List ℕ) → slice_get rows p ≡ Some (node (inner height) ks) → (1 ≤ height) × (height ≤ 7) × (1 ≤ length ks) × (length ks ≤ 32)
+pub inner-range : (rows : List (Form Bytes)) → AreSound rows → (p height : ℕ) (ks : List ℕ) → slice_get rows p ≡ Some (node (inner height) ks) → (1 ≤ height) × (height ≤ MOST_HEIGHT) × (1 ≤ length ks) × (length ks ≤ 32)
 inner-range rows sound p height ks is =
     let e : is_in_range {K = Bytes} (node (inner height) ks) ≡ true = all-at is_in_range rows sound.in_range p (node (inner height) ks) is in
-    let fits = between 1 7 height (and-first (is_between 1 7 height) (is_between 1 32 (length ks)) e) in
-    let few = between 1 32 (length ks) (and-second (is_between 1 7 height) (is_between 1 32 (length ks)) e) in
+    let fits = between 1 MOST_HEIGHT height (and-first (is_between 1 MOST_HEIGHT height) (is_between 1 32 (length ks)) e) in
+    let few = between 1 32 (length ks) (and-second (is_between 1 MOST_HEIGHT height) (is_between 1 32 (length ks)) e) in
     (fits.0, fits.1, few.0, few.1)
 
 pub inner-at : (rows : List (Form Bytes)) → AreSound rows → (p height n : ℕ) (ks : List ℕ) → height - 1 ≡ n → slice_get rows p ≡ Some (node (inner height) ks) → IsInner rows n ks
@@ -220,13 +221,13 @@ module _ {T : Type 0} (text : T → Bytes) {old mid new : Heap T} (rows : List (
   live-mid k has = made.graph.held k (omega (arith, made.holds k, has))
 
   kept : (k : ℕ) → 0 < count k links → row_at new k ≡ row_at mid k
-  kept k has = Extends-row makes.joins.extends k (live-mid k has)
+  kept k has = Extends-row makes.comes.extends k (live-mid k has)
 
   item : (p : ℕ) → p < length links → 0 < count (get_or links p 0) links
   item p low = count-at links p 0 low
 
   stays : Stays (λ l. IsSome (row_at mid l)) mid new
-  stays = live-stays made.graph makes.joins.extends
+  stays = live-stays made.graph makes.comes.extends
 
   renamed : (p : ℕ) → p ≤ length links → option_map (relink (slice_index links)) (slice_get rows p) ≡ option_map (relink (slice_index longer)) (slice_get rows p)
   renamed p low = relink-same (slice_index links) (slice_index longer) (slice_get rows p) (λ k has. sym (at-old k (omega (arith, lead-low rows sound p k has, low))))
@@ -237,7 +238,7 @@ module _ {T : Type 0} (text : T → Bytes) {old mid new : Heap T} (rows : List (
 
   form-new : text_forms text new (get_or longer (length links) 0) ≡ option_map (relink (slice_index longer)) (slice_get rows (length links))
   form-new =
-      ap (text_forms text new) at-new ∙ ap (option_map (text_form text)) makes.joins.here ∙ ap (λ (x : Form Bytes). Some x) makes.stands
+      ap (text_forms text new) at-new ∙ ap (option_map (text_form text)) makes.comes.here ∙ ap (λ (x : Form Bytes). Some x) makes.stands
       ∙ sym (ap (option_map (relink (slice_index links))) at) ∙ renamed (length links) (omega arith)
 
   forms-more : (p : ℕ) → p < length longer → text_forms text new (get_or longer p 0) ≡ option_map (relink (slice_index longer)) (slice_get rows p)
@@ -255,7 +256,7 @@ module _ {T : Type 0} (text : T → Bytes) {old mid new : Heap T} (rows : List (
       ∙ links-made text (slice_index links) (row_at mid (slice_index links p)) (slice_get rows p) (made.forms p low)
 
   links-new : links_at new link ≡ map (slice_index links) (links_of (Some form))
-  links-new = ap links_of makes.joins.here ∙ links-made text (slice_index links) (Some makes.row) (Some form) (ap (λ (x : Form Bytes). Some x) makes.stands)
+  links-new = ap links_of makes.comes.here ∙ links-made text (slice_index links) (Some makes.row) (Some form) (ap (λ (x : Form Bytes). Some x) makes.stands)
 
   -- a row below keeps its length
   long-below : (n k : ℕ) → k < length links → has_height n (slice_get rows k) ≡ true → (length (seq_at (form_at new) n (slice_index links k)) ≡ get_or lengths k 0) × (length (seq_at (form_at new) n (slice_index links k)) ≤ 32 ^ suc n)
@@ -282,7 +283,7 @@ module _ {T : Type 0} (text : T → Bytes) {old mid new : Heap T} (rows : List (
       (all-counted (λ k. HasSums new n (slice_index links k)) ks
       (λ k has. sums-stay stays n (slice_index links k) (live-mid (slice_index links k) (item k (named k has))) (made.sums k n (named k has) (row.high k has)))) in (
         subst (λ js. KeepsSums (form_at new) n js (sums_at new link)) (sym to)
-            (subst (KeepsSums (form_at new) n (map (slice_index links) ks)) (sym (ap row_sums makes.joins.here)) keeps),
+            (subst (KeepsSums (form_at new) n (map (slice_index links) ks)) (sym (ap row_sums makes.comes.here)) keeps),
         subst (All (HasSums new n)) (sym to) all,
       )
 
@@ -319,25 +320,25 @@ module _ {T : Type 0} (text : T → Bytes) {old mid new : Heap T} (rows : List (
     once = λ k. elim (cases_eq k link) as (λ _. count k longer ≤ 1) [
       | inl same ↦
           let none : count link links ≡ 0 = elim (cases_lt 0 (count link links)) as (λ _. count link links ≡ 0) [
-            | inl some ↦ absurd (let there = live-mid link some in let gone = makes.joins.fresh in cc)
+            | inl some ↦ absurd (let there = live-mid link some in let gone = makes.comes.fresh in cc)
             | inr none ↦ omega (arith, none)
           ] in
           omega (arith, ap (λ j. count j links) same, none, count-append k links (link ∷ []), count-one k link, test_same k link same)
       | inr other ↦ omega (arith, made.once k, count-append k links (link ∷ []), count-one k link, test_other k link other)
     ];
     fresh = λ k has. elim (cases_eq k link) as (λ _. row_at old k ≡ None) [
-      | inl same ↦ ap (row_at old) same ∙ was-none made.extends link makes.joins.fresh
+      | inl same ↦ ap (row_at old) same ∙ was-none made.extends link makes.comes.fresh
       | inr other ↦ made.fresh k (counted k has other)
     ];
     all = λ k live new_there. elim (cases_eq k link) as (λ _. 0 < count k longer) [
       | inl same ↦ omega (arith, count-append k links (link ∷ []), count-one k link, test_same k link same)
-      | inr other ↦ omega (arith, count-append k links (link ∷ []), made.all k (subst IsSome (makes.joins.others k other) live) new_there)
+      | inr other ↦ omega (arith, count-append k links (link ∷ []), made.all k (subst IsSome (makes.comes.others k other) live) new_there)
     ];
     sums = sums-more;
-    holds = λ k. omega (arith, makes.joins.holds k, made.holds k, count-append k links (link ∷ []), count-one k link);
-    count = omega (arith, makes.joins.count, made.count, size);
+    holds = λ k. omega (arith, makes.comes.holds k, made.holds k, count-append k links (link ∷ []), count-one k link);
+    count = omega (arith, makes.comes.count, made.count, size);
     makes =
-        let both = Makes-trans made.makes makes.joins.makes in
+        let both = Makes-trans made.makes makes.comes.makes in
         let cells : cells_of (take (length longer) rows) ≡ cells_of (take (length links) rows) + is_cell (Some makes.row) =
         one-more (λ row. is_cell (Some row)) rows (length links) (length longer) form at size
         ∙ ap (λ c. cells_of (take (length links) rows) + c) (sym (cell-relink (slice_index links) form) ∙ sym (ap (λ x. is_cell (Some x)) makes.stands) ∙ cell-kind text makes.row) in
@@ -346,13 +347,13 @@ module _ {T : Type 0} (text : T → Bytes) {old mid new : Heap T} (rows : List (
         ∙ ap (λ c. nodes_of (take (length links) rows) + c) (sym (node-relink (slice_index links) form) ∙ sym (ap (λ x. is_node (Some x)) makes.stands) ∙ node-kind text makes.row) in
         subst (λ c. Makes old new c (nodes_of (take (length longer) rows))) (sym cells)
         (subst (λ n. Makes old new (cells_of (take (length links) rows) + is_cell (Some makes.row)) n) (sym nodes) both);
-    graph = makes.joins.graph;
-    extends = Extends-trans made.extends makes.joins.extends;
+    graph = makes.comes.graph;
+    extends = Extends-trans made.extends makes.comes.extends;
   }
 
 -- the next row can be made
 pub can-make : {T : Type 0} {text : T → Bytes} {old mid : Heap T} (rows : List (Form Bytes)) (links lengths : List ℕ) (form : Form Bytes) → AreMade text old mid rows links → slice_get rows (length links) ≡ Some form → AreSound rows → HaveLengths rows lengths → length lengths ≡ length rows
-    → HasSpares old (cells_of rows) (nodes_of rows) → hold_count old + (length rows + 32) < 2 ^ 60 → CanMake mid links lengths form
+    → HasSpares old (cells_of rows) (nodes_of rows) → hold_count old + (length rows + 32) < most_holds → CanMake mid links lengths form
 can-make rows links lengths form made at sound have known spares few =
     let n : ℕ = length links in
     let inside : n < length rows = slice_get_within rows n form at in

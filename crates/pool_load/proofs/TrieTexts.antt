@@ -8,7 +8,7 @@ use Rattle.std.proofs.lemmas.Bool.{cases_Bool}
 use Rattle.std.proofs.lemmas.List.{length-map}
 use Rattle.std.proofs.lemmas.List.Elements.{All-nil, All-cons, All-head, All-tail, All-filter}
 use Rattle.elem_core.specs.Codes.{digit_at}
-use Rattle.elem_core.specs.declared.codes.TheConstants.{DEEPEST}
+use Rattle.elem_core.specs.declared.codes.TheConstants.{LEVELS}
 use Rattle.node_heap.specs.Forms.{Row, Kind, cell, node, leaf, inner, trie, chain, pair, state, kind_of, links_of, value_of, form_of}
 use Rattle.node_heap.specs.Heap.{Heap, row_at, form_at}
 use Rattle.rrb_core.specs.Seq.{form_height}
@@ -187,4 +187,4 @@ module _ {T : Type 0} (text : T → Bytes) (cmp : T → T → Ordering) (code : 
 
     -- the canonical trie of entries by texts is that of the entries
     pub canon-typed : (l : ℕ) (E : List (Entry T)) → All (IsEntry (form_at h)) E → IsCanon by_text of_text (text_forms text h) l (map (texted text) E) → IsCanon cmp code (form_at h) l E
-    canon-typed l E all canon = record { trie = trie-typed (DEEPEST + 1) 0 l E all canon.trie; distinct = distinct-typed E canon.distinct }
+    canon-typed l E all canon = record { trie = trie-typed LEVELS 0 l E all canon.trie; distinct = distinct-typed E canon.distinct }

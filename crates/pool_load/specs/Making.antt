@@ -3,7 +3,7 @@ use Rattle.std.specs.Prelude.{◌≡◌, ◌≢◌, ℕ, ◌+◌, ◌-◌, ◌^�
 use Rattle.std.specs.List.{list_all}
 use Rattle.node_heap.specs.Links.{count, IsReached}
 use Rattle.node_heap.specs.Forms.{Row, Form, links_of, is_cell, is_node}
-use Rattle.node_heap.specs.Heap.{Heap, row_at, links_at, holds_at, hold_count, cell_count, node_count, live_count, one_at, HasSpares, IsGraph}
+use Rattle.node_heap.specs.Heap.{Heap, row_at, links_at, holds_at, hold_count, cell_count, node_count, live_count, one_at, HasSpares, IsGraph, most_holds}
 use Rattle.node_heap.specs.Calls.{SameRows, Extends, Makes}
 use Rattle.rrb_core.specs.Vector.{row_sums, HasSums}
 use Rattle.pool_text.specs.Rows.{Bytes, is_in_range}
@@ -20,7 +20,7 @@ ArePlacesBelow bound places = list_all (λ p. nat_lt p bound) places ≡ true
 
 module _ {T : Type 0} where
   -- the new heap has this row besides, held once, and every other hold stays
-  pub record Joins (old new : Heap T) (link : ℕ) (row : Row T) : Type 0 where
+  pub record ComesBeside (old new : Heap T) (link : ℕ) (row : Row T) : Type 0 where
     pub fresh : row_at old link ≡ None
     pub here : row_at new link ≡ Some row
     pub others : (k : ℕ) → k ≢ link → row_at new k ≡ row_at old k
@@ -39,13 +39,13 @@ module _ {T : Type 0} where
     pub live : AreLive T h links
     pub short : length_over lengths row < 2 ^ 32
     pub spares : HasSpares h (is_cell (Some row)) (is_node (Some row))
-    pub few : hold_count h + 32 < 2 ^ 60
+    pub few : hold_count h + 32 < most_holds
     pub graph : IsGraph h
 
   -- the row was made, with these links for its places
   pub record MakesPoolRow (text : T → Bytes) (old new : Heap T) (links lengths : List ℕ) (form : Form Bytes) (link : ℕ) : Type 0 where
     pub row : Row T
-    pub joins : Joins old new link row
+    pub comes : ComesBeside old new link row
     pub stands : text_form text row ≡ relink (slice_index links) form
     pub sums : KeepsSumsOver lengths form (row_sums (Some row))
 

@@ -7,7 +7,7 @@ ghost use Rattle.pool_load.specs.Making.{ArePlacesBelow};
 
 use arrayvec::ArrayVec;
 use elem_core::NoMemory;
-use node_heap::Sums;
+use node_heap::{MOST_HEIGHT, Sums};
 use pool_text::Row;
 use rrb_core::full_size;
 use std::alloc::Global;
@@ -56,7 +56,7 @@ fn sum_of(lengths: &[u32], places: &[u64]) -> u32
 pub(crate) fn inner_sums(lengths: &[u32], places: &[u64], below: u8) -> Sums
     requires some { 1 ≤ length places.now }
     requires few { length places.now ≤ 32 }
-    requires low { below < 7 }
+    requires low { below < MOST_HEIGHT }
     requires places { ArePlacesBelow (length lengths.now) places.now }
     requires short { sum_over lengths.now places.now < 2 ^ 32 }
     ensures { AreSumsOver lengths.now below places.now result }

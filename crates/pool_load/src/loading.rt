@@ -1,8 +1,8 @@
 //! A checked pool, loaded into a heap.
-ghost use Rattle.std.specs.Prelude.{◌≡◌, ℕ, ◌^◌, ◌<◌, ◌≤◌, [], length, map, slice_index, IfOk, OnOk, OnErr};
+ghost use Rattle.std.specs.Prelude.{◌≡◌, ℕ, ◌<◌, ◌≤◌, [], length, map, slice_index, IfOk, OnOk, OnErr};
 ghost use Rattle.std.specs.Prelude.{vec_capacity};
 ghost use Rattle.node_heap.specs.Links.{count};
-ghost use Rattle.node_heap.specs.Heap.{holds_at, hold_count, IsGraph};
+ghost use Rattle.node_heap.specs.Heap.{holds_at, hold_count, IsGraph, half_holds};
 ghost use Rattle.node_heap.specs.Calls.{KeepsToNeed};
 ghost use Rattle.pool_text.specs.Rows.{row_form};
 ghost use Rattle.pool_load.specs.Loads.{Loads, AreLoaded, cells_of, nodes_of};
@@ -24,15 +24,14 @@ pub fn load<T: Stored>(
     heap: &mut Heap<T>,
     checked: Checked<T>,
 ) -> Result<Vec<Link>, NoMemory>
-    requires few { hold_count heap.old < 2 ^ 59 }
+    requires few { hold_count heap.old < half_holds }
     ensures loads { IfOk result (λ roots. Loads heap.old heap.new roots.items checked) }
     ensures loaded { IfOk result (λ roots. AreLoaded T.bytes_of heap.new roots.items checked) }
     ensures roots { IfOk result (λ roots. length roots.items ≡ 4) }
     ensures spares { OnOk result (KeepsToNeed heap.old heap.new (cells_of checked.rows) (nodes_of checked.rows)) }
     ensures refused { OnErr result (heap.new ≡ heap.old) }
 {
-    // The call tells the proof that this is the graph of a heap.
-    let _ = heap.live();
+    heap.is_graph();
     let pool = checked.pool();
     let rows = pool.rows.as_slice();
     let places = pool.roots.as_slice();

@@ -1,14 +1,14 @@
 //! Rows of a heap made one after the other, in the order of their places.
-ghost use Rattle.std.specs.Prelude.{◌≡◌, ◌+◌, ◌^◌, ◌<◌, ◌≤◌, [], length, map, slice_index};
+ghost use Rattle.std.specs.Prelude.{◌≡◌, ◌+◌, ◌<◌, ◌≤◌, [], length, map, slice_index};
 ghost use Rattle.std.specs.Prelude.{vec_capacity};
 ghost use Rattle.node_heap.specs.Forms.{node};
-ghost use Rattle.node_heap.specs.Heap.{hold_count, HasSpares, IsGraph};
+ghost use Rattle.node_heap.specs.Heap.{hold_count, HasSpares, IsGraph, most_holds};
 ghost use Rattle.node_heap.specs.Calls.{SameRows, Builds};
 ghost use Rattle.pool_text.specs.Rows.{row_form};
 ghost use Rattle.pool_text.specs.Renaming.{AreLive};
 ghost use Rattle.pool_load.specs.Loads.{cells_of, nodes_of};
 ghost use Rattle.pool_load.specs.Rows.{AreSound, HaveLengths};
-ghost use Rattle.pool_load.specs.Making.{ArePlacesBelow, Joins, CanMake, MakesPoolRow, AreMade};
+ghost use Rattle.pool_load.specs.Making.{ArePlacesBelow, ComesBeside, CanMake, MakesPoolRow, AreMade};
 
 use crate::lengths::inner_sums;
 use arrayvec::ArrayVec;
@@ -29,7 +29,7 @@ pub(crate) fn make_rows<T: Stored>(
     requires empty { links.old.items ≡ [] }
     requires room { length rows.items ≤ vec_capacity links.old }
     requires spares { HasSpares heap.old (cells_of (map row_form rows.items)) (nodes_of (map row_form rows.items)) }
-    requires few { hold_count heap.old + (length rows.items + 32) < 2 ^ 60 }
+    requires few { hold_count heap.old + (length rows.items + 32) < most_holds }
     requires graph { IsGraph heap.old }
     ensures made { AreMade T.bytes_of heap.old heap.new (map row_form rows.items) links.new.items }
     ensures many { length links.new.items ≡ length rows.items }
@@ -70,7 +70,7 @@ fn make_row<T: Stored>(heap: &mut Heap<T>, links: &[Link], lengths: &[u32], row:
         }
         Row::Chain(places) => make_node(heap, links, Head::Chain, places.as_slice()),
         Row::Pair(key, value) => make_node(heap, links, Head::Pair, &[key, value]),
-        Row::State(names, stars) => make_node(heap, links, Head::State, &[names, stars]),
+        Row::State(buffers, stars) => make_node(heap, links, Head::State, &[buffers, stars]),
     }
 }
 
@@ -80,9 +80,9 @@ fn make_node<T>(heap: &mut Heap<T>, links: &[Link], head: Head, places: &[u64]) 
     requires places { ArePlacesBelow (length links.now) places.now }
     requires short { length places.now ≤ 32 }
     requires spare { 0 < heap.old.spare_nodes }
-    requires few { hold_count heap.old + 32 < 2 ^ 60 }
+    requires few { hold_count heap.old + 32 < most_holds }
     requires graph { IsGraph heap.old }
-    ensures { Joins heap.old heap.new result (node head (map (slice_index links.now) places.now)) }
+    ensures { ComesBeside heap.old heap.new result (node head (map (slice_index links.now) places.now)) }
 {
     hold_places(heap, links, places);
     heap.node(head, links_at_places(links, places).as_slice())
@@ -92,7 +92,7 @@ fn make_node<T>(heap: &mut Heap<T>, links: &[Link], head: Head, places: &[u64]) 
 pub(crate) fn hold_places<T>(heap: &mut Heap<T>, links: &[Link], places: &[u64])
     requires live { AreLive T heap.old links.now }
     requires places { ArePlacesBelow (length links.now) places.now }
-    requires few { hold_count heap.old + length places.now ≤ 2 ^ 60 }
+    requires few { hold_count heap.old + length places.now ≤ most_holds }
     requires graph { IsGraph heap.old }
     ensures rows { SameRows heap.old heap.new }
     ensures builds { Builds heap.old heap.new [] (map (slice_index links.now) places.now) 0 0 }

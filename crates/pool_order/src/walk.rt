@@ -1,7 +1,7 @@
 //! The walk that lists an order.
 ghost use Rattle.std.specs.Prelude.{◌≡◌, ℕ, ◌<◌, length, IsSome, IfOk};
 ghost use Rattle.node_heap.specs.Links.{count};
-ghost use Rattle.node_heap.specs.Heap.{row_at, links_at};
+ghost use Rattle.node_heap.specs.Heap.{row_at, links_at, IsGraph};
 ghost use Rattle.pool_order.specs.Order.{places, with_all_new, order_of};
 ghost use Rattle.pool_order.specs.Laws.{IsReady, IsOrder};
 
@@ -18,8 +18,7 @@ pub fn order<T>(alloc: Global, heap: &Heap<T>, roots: &[Link]) -> Result<Order, 
     ensures value { IfOk result (λ ks. ks ≡ order_of heap.now roots.now) }
     ensures is_order { IfOk result (λ ks. IsOrder (links_at heap.now) roots.now ks) }
 {
-    // The call tells the proof that this is the graph of a heap.
-    let _ = heap.live();
+    heap.is_graph();
     let mut seen = IndexSet::new(alloc);
     for root in roots {
         walk(alloc, heap, *root, &mut seen)?;
@@ -41,12 +40,11 @@ fn walk<T>(
     root: Link,
     seen: &mut IndexSet<Link>,
 ) -> Result<(), NoMemory>
+    requires graph { IsGraph heap.now }
     requires live { IsSome (row_at heap.now root) }
     requires ready { IsReady (links_at heap.now) seen.old.keys }
     ensures { IfOk result (λ _. seen.new.keys ≡ with_all_new seen.old.keys (places (length heap.now.rows) (links_at heap.now) root)) }
 {
-    // The call tells the proof that this is the graph of a heap.
-    let _ = heap.live();
     let mut stack = Vec::new(alloc);
     stack.push(Visit {
         link: root,

@@ -1,7 +1,7 @@
 //! First-seen order of rows that are shared.
 ghost use Rattle.std.specs.Prelude.{◌≡◌, ◌+◌, ◌^◌, ◌<◌, IsSome};
 ghost use Rattle.std.specs.List.{All};
-ghost use Rattle.node_heap.specs.Heap.{row_at, hold_count};
+ghost use Rattle.node_heap.specs.Heap.{row_at, hold_count, program_holds};
 ghost use Rattle.pool_tests.specs.Rows.{AreThere, KeepsRows};
 
 use elem_core::Num;
@@ -32,7 +32,7 @@ impl Model for Rows {
 
 // A new cell.
 fn new_cell(rt: &impl Abort, heap: &mut Heap<Num>, number: u32) -> Link
-    requires few { hold_count heap.old < 2 ^ 50 }
+    requires few { hold_count heap.old < program_holds }
     ensures there { IsSome (row_at heap.new result) }
     ensures others { KeepsRows heap.old heap.new }
     ensures count { hold_count heap.new ≡ hold_count heap.old + 1 }
@@ -45,7 +45,7 @@ fn new_cell(rt: &impl Abort, heap: &mut Heap<Num>, number: u32) -> Link
 fn new_node(rt: &impl Abort, heap: &mut Heap<Num>, head: Head, left: Link, right: Link) -> Link
     requires left { IsSome (row_at heap.old left) }
     requires right { IsSome (row_at heap.old right) }
-    requires few { hold_count heap.old < 2 ^ 50 }
+    requires few { hold_count heap.old < program_holds }
     ensures there { IsSome (row_at heap.new result) }
     ensures others { KeepsRows heap.old heap.new }
     ensures count { hold_count heap.new ≡ hold_count heap.old + 1 }

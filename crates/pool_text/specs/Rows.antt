@@ -2,6 +2,7 @@
 use Rattle.std.specs.Prelude.{ℕ, ◌^◌, Bool, true, ◌&&◌, ◌==◌, nat_lt, nat_le, List, [], ◌∷◌, length}
 use Rattle.elem_core.specs.declared.codes.TheConstants.{DEEPEST}
 use Rattle.node_heap.specs.Forms.{Form, cell, node, leaf, inner, trie, chain, pair, state}
+use Rattle.node_heap.specs.declared.row.TheConstants.{MOST_HEIGHT}
 use Rattle.pool_text.specs.declared.row.Row.{Row}
 use Rattle.pool_text.specs.declared.row.Row.TheVariants.{Cell, Leaf, Inner, Trie, Chain, Pair, State}
 
@@ -17,7 +18,7 @@ row_form (Inner height links) = node (inner height) links
 row_form (Trie depth entries nodes links) = node (trie depth entries nodes) links
 row_form (Chain links) = node chain links
 row_form (Pair k v) = node pair (k ∷ v ∷ [])
-row_form (State names stars) = node state (names ∷ stars ∷ [])
+row_form (State buffers stars) = node state (buffers ∷ stars ∷ [])
 
 -- whether the number lies between the two, both included
 abbrev pub is_between : ℕ → ℕ → ℕ → Bool
@@ -27,7 +28,7 @@ is_between least most n = nat_le least n && nat_le n most
 abbrev pub is_in_range : {K : Type 0} → Form K → Bool
 is_in_range (cell _) = true
 is_in_range (node leaf links) = nat_le (length links) 32
-is_in_range (node (inner height) links) = is_between 1 7 height && is_between 1 32 (length links)
+is_in_range (node (inner height) links) = is_between 1 MOST_HEIGHT height && is_between 1 32 (length links)
 is_in_range (node (trie depth entries nodes) links) = nat_le depth DEEPEST && nat_lt entries (2 ^ 32) && nat_lt nodes (2 ^ 32) && nat_le (length links) 32
 is_in_range (node chain links) = is_between 1 2 (length links)
 is_in_range (node pair links) = length links == 2

@@ -27,8 +27,7 @@ pub fn pool_of<T: Stored>(
     requires fits { (r l : ℕ) → 0 < count r roots.now → Reaches (links_at heap.now) r l → fits_pool (form_at heap.now l) ≡ true }
     ensures value { IfOk result (λ p. p ≡ pool_at T.bytes_of heap.now roots.now bits) }
 {
-    // The call tells the proof that this is the graph of a heap.
-    let _ = heap.live();
+    heap.is_graph();
     let mut rows = Vec::with_capacity(alloc, order.len())?;
     for place in 0..order.len() {
         match order.at(place) {

@@ -51,7 +51,7 @@ fn row_length(row: &Row) -> u64
         } => node_length(&[*depth as u32, *entries, *nodes], links.as_slice()),
         Row::Chain(links) => node_length(&[], links.as_slice()),
         Row::Pair(key, value) => node_length(&[], &[*key, *value]),
-        Row::State(names, stars) => node_length(&[], &[*names, *stars]),
+        Row::State(buffers, stars) => node_length(&[], &[*buffers, *stars]),
     }
 }
 

@@ -79,7 +79,7 @@ pub enum Row {
     Cell(PoolText),
     /// A row of a vector at height 0: its links are elements.
     Leaf(Places),
-    /// A row of a vector at a height of 1 to 7. Its sums aren't kept.
+    /// A row of a vector at a height of 1 to `MOST_HEIGHT`. Its sums aren't kept.
     Inner(u8, Places),
     /// A row of a trie. The two sets of positions are masks: position p is bit p.
     Trie {
@@ -92,6 +92,6 @@ pub enum Row {
     Chain(Places),
     /// A key cell and a value.
     Pair(u64, u64),
-    /// The names map and the stars set of a state.
+    /// The map of buffers and the set of stars of a state.
     State(u64, u64),
 }

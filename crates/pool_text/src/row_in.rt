@@ -11,6 +11,7 @@ use crate::numbers::{elements_of, number_between, number_of, numbers_of};
 use crate::pool::Rows;
 use crate::row::{Places, PoolText, Row};
 use elem_core::DEEPEST;
+use node_heap::MOST_HEIGHT;
 use serde_json::Value;
 use std::alloc::Global;
 
@@ -52,7 +53,7 @@ fn row_after(alloc: Global, letter: &str, rest: &[Value]) -> Result<Row, Damage>
         "m" => trie_row(alloc, rest),
         "k" => links_of(alloc, rest, 1, 2).map(Row::Chain),
         "p" => both_links(rest).map(|(key, value)| Row::Pair(key, value)),
-        "s" => both_links(rest).map(|(names, stars)| Row::State(names, stars)),
+        "s" => both_links(rest).map(|(buffers, stars)| Row::State(buffers, stars)),
         _ => Err(Damage::Row),
     }
 }
@@ -74,7 +75,7 @@ fn inner_row(alloc: Global, rest: &[Value]) -> Result<Row, Damage>
     let Some((height, links)) = rest.split_first() else {
         return Err(Damage::Row);
     };
-    let Some(height) = number_between(height, 1, 7) else {
+    let Some(height) = number_between(height, 1, MOST_HEIGHT as u64) else {
         return Err(Damage::Row);
     };
     Ok(Row::Inner(height as u8, links_of(alloc, links, 1, 32)?))

@@ -74,7 +74,7 @@ fn row_value(alloc: Global, row: &Row) -> Result<Value, NoMemory>
         ),
         Row::Chain(links) => node_value(alloc, "k", &[], links.as_slice()),
         Row::Pair(key, value) => node_value(alloc, "p", &[], &[*key, *value]),
-        Row::State(names, stars) => node_value(alloc, "s", &[], &[*names, *stars]),
+        Row::State(buffers, stars) => node_value(alloc, "s", &[], &[*buffers, *stars]),
     }
 }
 

@@ -6,10 +6,11 @@ use Rattle.std.proofs.lemmas.List.Concat.{flat_map-append}
 use Rattle.std.proofs.lemmas.Bool.{cases_lt}
 use Rattle.std.proofs.lemmas.List.Elements.{All-append, All-cons, All-nil, All-take, All-drop}
 use Rattle.node_heap.specs.Links.{count}
-use Rattle.node_heap.specs.Heap.{Heap, row_at, form_at, links_at, holds_at, hold_count, HasSpares, IsGraph}
+use Rattle.node_heap.specs.Heap.{Heap, row_at, form_at, links_at, holds_at, hold_count, HasSpares, IsGraph, half_holds}
 use Rattle.node_heap.specs.Calls.{Extends, Builds, Unchanged}
 use Rattle.node_heap.specs.Forms.{links_in}
 use Rattle.node_heap.proofs.BuildLemmas.{Builds-then, Builds-more}
+use Rattle.node_heap.specs.declared.row.TheConstants.{MOST_HEIGHT}
 use Rattle.rrb_core.specs.Seq.{seq_at, IsThick, IsWell}
 use Rattle.rrb_core.specs.Push.{last_in, IsPacked, into_leaf, into_last, into_new, IsPushedRoot, into_root, over_root}
 use Rattle.rrb_core.specs.Vector.{KeepsSums, sums_at, height_at, elements, IsGoodVector, IsVectorOf, HasSums}
@@ -134,7 +135,7 @@ pub edit-last : {T : Type 0} {h : Heap T} {n l : ℕ} (child : ℕ) → CanEdit 
 edit-last {T} {h} {n} {l} child row is = edit-at (length (links_at h l) - 1) child row (omega (arith, (over h n l row.well row.sums).some)) (rw (links-form h l) at is)
 
 -- a root after room was made
-pub root-after : {T : Type 0} {old mid : Heap T} {root spares : ℕ} → Unchanged old mid → IsGoodVector old root → HasSpares mid 0 spares → hold_count old < 2 ^ 59 → CanEditRoot mid root spares
+pub root-after : {T : Type 0} {old mid : Heap T} {root spares : ℕ} → Unchanged old mid → IsGoodVector old root → HasSpares mid 0 spares → hold_count old < half_holds → CanEditRoot mid root spares
 root-after {root = root} same good spares few = record { graph = same.graph; good = (unchanged-good root same good).0; spare = spares.1; holds = omega (arith, same.count, few) }
 
 -- a root that can be edited
@@ -374,7 +375,7 @@ module _ {T : Type 0} {old new : Heap T} {n l count : ℕ} (row : CanEdit old n 
 pub record IsPair {T : Type 0} (old new : Heap T) (n root child e : ℕ) : Type 0 where
   pub rows : AreRows new n (root ∷ child ∷ [])
   pub items : flat_map (seq_at (form_at new) n) (root ∷ child ∷ []) ≡ elements old root ++ e ∷ []
-  pub low : n < 7
+  pub low : n < MOST_HEIGHT
   pub builds : Builds old new (e ∷ []) (root ∷ child ∷ []) 0 (n + 1)
   pub beside : seq_at (form_at new) n child ≡ e ∷ []
   pub live : IsSome (row_at new child)
@@ -425,7 +426,7 @@ set-vector {T} {old} {new} {root} {i} {e} {k} good s =
     good-row new (height_at old root) k (set (elements old root) i e) s.edits.row good.shape.low (λ some. omega (arith, s.count, ap length (links-form old root), good.shape.two some)) (omega (arith, length-set (elements old root) i e, good.shape.short))
 
 -- a root with the first elements of a row
-pub takes-vector : {T : Type 0} {old new : Heap T} {n l count k : ℕ} → Takes old new n l count k → n ≤ 7 → (1 ≤ n → length (seq_at (form_at old) (n - 1) (get_or (links_at old l) 0 0)) < count) → count ≤ length (seq_at (form_at old) n l) → length (seq_at (form_at old) n l) < 2 ^ 32 → IsVectorOf new k (take count (seq_at (form_at old) n l))
+pub takes-vector : {T : Type 0} {old new : Heap T} {n l count k : ℕ} → Takes old new n l count k → n ≤ MOST_HEIGHT → (1 ≤ n → length (seq_at (form_at old) (n - 1) (get_or (links_at old l) 0 0)) < count) → count ≤ length (seq_at (form_at old) n l) → length (seq_at (form_at old) n l) < 2 ^ 32 → IsVectorOf new k (take count (seq_at (form_at old) n l))
 takes-vector {T} {old} {new} {n} {l} {count} {k} t low past fits short =
     good-row new n k (take count (seq_at (form_at old) n l)) t.edits.row low (λ some. t.two some (past some)) (omega (arith, length-take-le count (seq_at (form_at old) n l) fits, short))
 

@@ -7,6 +7,7 @@ use Rattle.std.proofs.lemmas.List.Sums.{sum_by-le}
 use Rattle.std.proofs.lemmas.List.Elements.{All-weaker, All-get_or}
 use Rattle.std.proofs.Math.Nat.{pow-suc, mul-le-mul_right}
 use Rattle.node_heap.specs.Forms.{Forms, links_in}
+use Rattle.node_heap.specs.declared.row.TheConstants.{MOST_HEIGHT}
 use Rattle.rrb_core.specs.Seq.{form_height, height_in, seq_at, seq, IsThick, IsWell, IsWellShaped}
 use Rattle.rrb_core.proofs.Lists.{sum_by-ge, empty-list}
 
@@ -98,7 +99,7 @@ module _ {K : Type 0} (F : Forms K) where
   well-most (suc n) l w = w.most
 
   -- a thick root of 32-bit length is below the last height
-  pub thick-low : (n l : ℕ) → IsThick F n l → n ≤ 7 → length (seq_at F n l) < 2 ^ 32 → n < 7
+  pub thick-low : (n l : ℕ) → IsThick F n l → n ≤ MOST_HEIGHT → length (seq_at F n l) < 2 ^ 32 → n < MOST_HEIGHT
   thick-low n l t low short = let ne = not_seven n (length (seq_at F n l)) (thick-ge n l t) short in omega (arith, ne)
     where
       not_seven : (n size : ℕ) → 16 ^ suc n ≤ size → size < 2 ^ 32 → n ≡ 7 → ⊥
@@ -110,7 +111,7 @@ module _ {K : Type 0} (F : Forms K) where
   seq-leaf (suc n) l none = absurd (omega arith)
 
   -- the root of a vector, in the words of a height
-  pub shaped-at : (n l : ℕ) (xs : List ℕ) → IsWell F n l → seq_at F n l ≡ xs → n ≤ 7 → (1 ≤ n → 2 ≤ length (links_in F l)) → length xs < 2 ^ 32 → IsWellShaped F l × (seq F l ≡ xs)
+  pub shaped-at : (n l : ℕ) (xs : List ℕ) → IsWell F n l → seq_at F n l ≡ xs → n ≤ MOST_HEIGHT → (1 ≤ n → 2 ≤ length (links_in F l)) → length xs < 2 ^ 32 → IsWellShaped F l × (seq F l ≡ xs)
   shaped-at n l xs well items low two short =
       let e : height_in F l ≡ n = height-is n l well in
       let is : seq F l ≡ xs = rw e items in

@@ -8,6 +8,7 @@ use Rattle.std.proofs.lemmas.Nat.{div-add-mod'}
 use Rattle.node_heap.specs.Forms.{Forms, node, leaf, inner, form_of, links_of, links_in}
 use Rattle.node_heap.specs.declared.row.Head.TheVariants.{Leaf, Inner}
 use Rattle.node_heap.specs.Heap.{Heap, row_at, form_at, links_at}
+use Rattle.node_heap.specs.declared.row.TheConstants.{MOST_HEIGHT}
 use Rattle.rrb_core.specs.Seq.{seq_at, IsThick, IsWell}
 use Rattle.rrb_core.specs.Vector.{AreSums, IsRegular, KeepsSums, sums_at, HasSums, height_at, elements, IsGoodVector}
 use Rattle.rrb_core.proofs.ClosedRows.{Stays}
@@ -255,7 +256,7 @@ module _ {T : Type 0} (new : Heap T) where
   leaf-thick l xs links enough = rw (links-form new l, links) enough
 
   -- the root of a vector
-  pub good-row : (n l : ℕ) (xs : List ℕ) → IsRowOf new n l xs → n ≤ 7 → (1 ≤ n → 2 ≤ length (links_at new l)) → length xs < 2 ^ 32 → IsGoodVector new l × (elements new l ≡ xs)
+  pub good-row : (n l : ℕ) (xs : List ℕ) → IsRowOf new n l xs → n ≤ MOST_HEIGHT → (1 ≤ n → 2 ≤ length (links_at new l)) → length xs < 2 ^ 32 → IsGoodVector new l × (elements new l ≡ xs)
   good-row n l xs r low two short =
       let both = shaped-at (form_at new) n l xs r.well r.items low (λ some. rw (links-form new l) (two some)) short in
       let e : height_at new l ≡ n = height-is (form_at new) n l r.well in

@@ -1,8 +1,9 @@
 -- What an edit wants of one row of a vector, and what it makes of it.
 use Rattle.std.specs.Prelude.{◌≡◌, ℕ, suc, ◌-◌, ◌+◌, ◌*◌, ◌^◌, ◌<◌, ◌≤◌, List, [], ◌∷◌, ◌++◌, length, take, drop, slice_index, slice_set, IsSome}
 use Rattle.std.specs.List.{flat_map}
-use Rattle.node_heap.specs.Heap.{Heap, row_at, form_at, links_at, holds_at, hold_count, IsGraph}
+use Rattle.node_heap.specs.Heap.{Heap, row_at, form_at, links_at, holds_at, hold_count, IsGraph, half_holds, most_holds}
 use Rattle.node_heap.specs.Calls.{Builds}
+use Rattle.node_heap.specs.declared.row.TheConstants.{MOST_HEIGHT}
 use Rattle.rrb_core.specs.Seq.{seq_at, IsThick, IsWell}
 use Rattle.rrb_core.specs.Push.{IsPushed}
 use Rattle.rrb_core.specs.Vector.{KeepsSums, HasSums, sums_at, IsGoodVector}
@@ -19,17 +20,17 @@ module _ {T : Type 0} where
     pub graph : IsGraph h
     pub good : IsGoodVector h l
     pub spare : spares ≤ h.spare_nodes
-    pub holds : hold_count h < 2 ^ 59
+    pub holds : hold_count h < half_holds
 
   -- a row of height n that an edit may copy: there is a spare for it and for each row below it on one path
   pub record CanEdit (h : Heap T) (n l : ℕ) : Type 0 where
     pub graph : IsGraph h
     pub well : IsWell (form_at h) n l
     pub sums : HasSums h n l
-    pub low : n ≤ 7
+    pub low : n ≤ MOST_HEIGHT
     pub short : length (seq_at (form_at h) n l) < 2 ^ 32
     pub spare : n + 1 ≤ h.spare_nodes
-    pub holds : hold_count h + 64 * (n + 1) ≤ 2 ^ 60
+    pub holds : hold_count h + 64 * (n + 1) ≤ most_holds
 
   -- the row k of height n has these elements; it was made of at most n + 1 nodes, and these holds were spent
   pub record MakesRow (old new : Heap T) (spent : List ℕ) (n k : ℕ) (xs : List ℕ) : Type 0 where
@@ -67,11 +68,11 @@ module _ {T : Type 0} where
     pub skip_in : skip ≤ length (links_at h l)
     pub few : keep + 1 + (length (links_at h l) - skip) ≤ 32
     pub rows : AreRows h below (links_with (links_at h l) keep k skip)
-    pub low : below < 7
+    pub low : below < MOST_HEIGHT
     pub short : length (flat_map (seq_at (form_at h) below) (links_with (links_at h l) keep k skip)) < 2 ^ 32
     pub held : 1 ≤ holds_at h k
     pub spare : 1 ≤ h.spare_nodes
-    pub holds : hold_count h + 64 ≤ 2 ^ 60
+    pub holds : hold_count h + 64 ≤ most_holds
 
   -- the row m is the row over `links_with` of the children of the row l, with the child k; it was made for a hold of k
   pub record PlacesChild (old new : Heap T) (below l keep k skip m : ℕ) : Type 0 where

@@ -2,6 +2,7 @@
 use Rattle.std.specs.Prelude.{◌≡◌, ℕ, zero, suc, ◌-◌, ◌^◌, ◌<◌, ◌≤◌, List, length, take, Option, Some, None}
 use Rattle.std.specs.List.{All, flat_map}
 use Rattle.node_heap.specs.Forms.{Form, Forms, Kind, cell, node, leaf, inner, trie, chain, pair, state, links_in}
+use Rattle.node_heap.specs.declared.row.TheConstants.{MOST_HEIGHT}
 
 -- an inner row states its height, and every other row has height 0
 abbrev pub kind_height : Kind → ℕ
@@ -60,4 +61,4 @@ module _ {K : Type 0} where
     pub well : IsWell F (height_in F l) l
     pub two : 1 ≤ height_in F l → 2 ≤ length (links_in F l)
     pub short : length (seq F l) < 2 ^ 32
-    pub low : height_in F l ≤ 7
+    pub low : height_in F l ≤ MOST_HEIGHT

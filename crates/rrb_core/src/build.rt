@@ -1,7 +1,7 @@
 //! A vector of given elements, made at once: each row is full but the last of its height.
 ghost use Rattle.std.specs.Prelude.{◌≡◌, ℕ, suc, ◌+◌, ◌*◌, ◌/◌, ◌^◌, ◌<◌, ◌≤◌, [], ◌∷◌, length, IfOk, IsOk, OnErr};
 ghost use Rattle.node_heap.specs.Links.{count};
-ghost use Rattle.node_heap.specs.Heap.{holds_at, hold_count, IsGraph, HasSpares};
+ghost use Rattle.node_heap.specs.Heap.{holds_at, hold_count, IsGraph, HasSpares, half_holds, most_holds};
 ghost use Rattle.node_heap.specs.Calls.{Answered, Builds, KeepsToNeed, MakesJust};
 ghost use Rattle.rrb_core.specs.Vector.{elements, IsGoodVector, IsSameVector};
 ghost use Rattle.rrb_core.specs.Filled.{MakesFilled};
@@ -26,7 +26,7 @@ pub fn vector_nodes(count: usize) -> usize
 pub fn vector_of<T>(heap: &mut Heap<T>, links: &[Link]) -> Result<Flex, NoMemory>
     requires held { (l : ℕ) → count l links.now ≤ holds_at heap.old l }
     requires short { length links.now < 2 ^ 32 }
-    requires few { hold_count heap.old < 2 ^ 59 }
+    requires few { hold_count heap.old < half_holds }
     ensures items { IfOk result (λ v. elements heap.new v ≡ links.now) }
     ensures good { IfOk result (λ v. IsGoodVector heap.new v) }
     ensures answered { IfOk result (λ v. Answered heap.old heap.new links.now v 0 (length links.now / 16 + 8)) }
@@ -45,7 +45,7 @@ pub fn vector_of_spares<T>(heap: &mut Heap<T>, links: &[Link]) -> Flex
     requires graph { IsGraph heap.old }
     requires held { (l : ℕ) → count l links.now ≤ holds_at heap.old l }
     requires short { length links.now < 2 ^ 32 }
-    requires few { hold_count heap.old < 2 ^ 59 }
+    requires few { hold_count heap.old < half_holds }
     requires spare { HasSpares heap.old 0 (length links.now / 16 + 8) }
     ensures items { elements heap.new result ≡ links.now }
     ensures good { IsGoodVector heap.new result }
@@ -80,7 +80,7 @@ fn row_of<T>(heap: &mut Heap<T>, links: &[Link], height: u8) -> Link
     requires short { length links.now < 2 ^ 32 }
     requires low { height ≤ 6 }
     requires spare { length links.now / 16 + (height + 1) ≤ heap.old.spare_nodes }
-    requires few { hold_count heap.old < 2 ^ 60 }
+    requires few { hold_count heap.old < most_holds }
     ensures { MakesFilled heap.old heap.new links.now height result }
 {
     if height == 0 {

@@ -1,6 +1,6 @@
 //! The first elements of a vector.
 ghost use Rattle.std.specs.Prelude.{◌≡◌, ℕ, suc, ◌+◌, ◌-◌, ◌^◌, ◌<◌, ◌≤◌, [], ◌∷◌, length, take, slice_index, IfOk, OnErr, IsOk, IsOkAnd};
-ghost use Rattle.node_heap.specs.Heap.{form_at, links_at, hold_count, IsGraph, HasSpares};
+ghost use Rattle.node_heap.specs.Heap.{form_at, links_at, hold_count, IsGraph, HasSpares, half_holds};
 ghost use Rattle.node_heap.specs.Calls.{Answered, Builds, MakesJust, KeepsToNeed};
 ghost use Rattle.rrb_core.specs.Seq.{seq_at, IsWell};
 ghost use Rattle.rrb_core.specs.Vector.{HasSums, elements, height_at, IsGoodVector, IsSameVector, IsVectorOf};
@@ -12,10 +12,10 @@ use crate::flex::{Flex, FlexRef, empty_root};
 use crate::rows::{gathered, height_of, inner_with, leaf_over, size};
 use crate::search::spot_of;
 use elem_core::NoMemory;
-use node_heap::{Heap, Link};
+use node_heap::{Heap, Link, MOST_HEIGHT};
 
-/// The most nodes that a `take` makes: one for each height from 0 to 7.
-pub const TAKE_NODES: usize = 8;
+/// The most nodes that a `take` makes: one for each height.
+pub const TAKE_NODES: usize = MOST_HEIGHT as usize + 1;
 
 /// The vector of the first `count` elements, or all where there are no more. It makes rows along the cut alone, at most one
 /// more than its own height, so 8, and shares the others: at each height up to its own it has first all rows of the vector that
@@ -23,7 +23,7 @@ pub const TAKE_NODES: usize = 8;
 /// memory. Else refused only where memory runs out. A refusal leaves the heap as it was.
 pub fn take<T>(heap: &mut Heap<T>, vector: FlexRef, count: u32) -> Result<Flex, NoMemory>
     requires good { IsGoodVector heap.old vector }
-    requires few { hold_count heap.old < 2 ^ 59 }
+    requires few { hold_count heap.old < half_holds }
     ensures items { IfOk result (λ v. elements heap.new v ≡ take count (elements heap.old vector)) }
     ensures good { IfOk result (λ v. IsGoodVector heap.new v) }
     ensures low { IfOk result (λ v. height_at heap.new v ≤ height_at heap.old vector) }
@@ -31,7 +31,7 @@ pub fn take<T>(heap: &mut Heap<T>, vector: FlexRef, count: u32) -> Result<Flex, 
     ensures answered { IfOk result (λ v. Answered heap.old heap.new [] v 0 (height_at heap.new v + 1)) }
     ensures made { IfOk result (λ _. MakesJust heap.old heap.new) }
     ensures spares { IfOk result (λ _. KeepsToNeed heap.old heap.new 0 8) }
-    ensures whole { length (elements heap.old vector) ≤ count → IsOkAnd result (λ v. (v ≡ vector) × Shares heap.old heap.new v) }
+    ensures all { length (elements heap.old vector) ≤ count → IsOkAnd result (λ v. (v ≡ vector) × Shares heap.old heap.new v) }
     ensures vectors { (l : ℕ) → IsSameVector heap.old heap.new l }
     ensures refused { OnErr result (heap.new ≡ heap.old) }
     ensures ample { HasSpares heap.old 0 8 → IsOk result }
@@ -101,7 +101,7 @@ fn take_below<T>(heap: &mut Heap<T>, link: Link, height: u8, count: u32) -> Link
     requires some { 1 ≤ count }
     requires inside { count ≤ length (seq_at (form_at heap.old) height link) }
     ensures cut { Takes heap.old heap.new height link count result }
-    ensures whole { count ≡ length (seq_at (form_at heap.old) height link) → result ≡ link }
+    ensures all { count ≡ length (seq_at (form_at heap.old) height link) → result ≡ link }
 {
     if count == size(heap, link, height) {
         heap.hold(link);

@@ -1,7 +1,7 @@
 //! Vectors by their roots, and their look-ups.
 ghost use Rattle.std.specs.Prelude.{◌≡◌, ◌↔◌, ℕ, ◌+◌, ◌-◌, ◌^◌, ◌<◌, ◌≤◌, [], ◌∷◌, length, IfOk, IsOk, OnErr, IfSome, IsSome, IsTrue};
 ghost use Rattle.std.specs.List.{All, slice_get};
-ghost use Rattle.node_heap.specs.Heap.{row_at, holds_at, hold_count, node_count, one_at, IsGraph, HasSpares};
+ghost use Rattle.node_heap.specs.Heap.{row_at, holds_at, hold_count, node_count, one_at, IsGraph, HasSpares, half_holds};
 ghost use Rattle.node_heap.specs.Calls.{Answered, Makes, Builds, KeepsHeld, MakesJust, Releases, KeepsToNeed};
 ghost use Rattle.rrb_core.specs.Vector.{elements, height_at, IsGoodVector, IsSameVector, IsVectorOf};
 ghost use Rattle.rrb_core.specs.Build.{Shares};
@@ -9,7 +9,7 @@ ghost use Rattle.rrb_core.specs.Build.{Shares};
 use crate::rows::{height_of, leaf_over, size};
 use crate::search::element_at;
 use elem_core::NoMemory;
-use node_heap::{Heap, Link};
+use node_heap::{Heap, Link, MOST_HEIGHT};
 use std::marker::Model;
 
 /// A vector that owns one hold of its root. It is given up by `release`, and cannot be dropped or copied.
@@ -44,7 +44,7 @@ impl Model for FlexRef {
 impl Flex {
     /// The empty vector. It makes one node. Refused only where memory runs out. A refusal leaves the heap as it was.
     pub fn empty<T>(heap: &mut Heap<T>) -> Result<Flex, NoMemory>
-        requires { hold_count heap.old < 2 ^ 59 }
+        requires { hold_count heap.old < half_holds }
         ensures items { IfOk result (λ v. elements heap.new v ≡ []) }
         ensures good { IfOk result (λ v. IsGoodVector heap.new v) }
         ensures answered { IfOk result (λ v. Answered heap.old heap.new [] v 0 1) }
@@ -63,7 +63,7 @@ impl Flex {
     /// The same vector once more: one more hold of its root.
     pub fn share<T>(&self, heap: &mut Heap<T>) -> Flex
         requires good { IsGoodVector heap.old self.now }
-        requires few { hold_count heap.old < 2 ^ 59 }
+        requires few { hold_count heap.old < half_holds }
         ensures same { result ≡ self.now }
         ensures shares { Shares heap.old heap.new result }
         ensures good { IsGoodVector heap.new result }
@@ -126,7 +126,7 @@ impl FlexRef {
     /// The same vector with a hold of its own: one more hold of its root.
     pub fn share<T>(&self, heap: &mut Heap<T>) -> Flex
         requires good { IsGoodVector heap.old self.now }
-        requires few { hold_count heap.old < 2 ^ 59 }
+        requires few { hold_count heap.old < half_holds }
         ensures same { result ≡ self.now }
         ensures shares { Shares heap.old heap.new result }
         ensures vectors { (l : ℕ) → IsSameVector heap.old heap.new l }
@@ -157,11 +157,11 @@ impl FlexRef {
         self.len(heap) == u32::MAX
     }
 
-    /// The height of the root, 0 to 7. A vector of a height of 1 or more has more than 16^height elements.
+    /// The height of the root, 0 to `MOST_HEIGHT`. A vector of a height of 1 or more has more than 16^height elements.
     pub fn height<T>(&self, heap: &Heap<T>) -> u8
         requires { IsGoodVector heap.now self.now }
         ensures value { result ≡ height_at heap.now self.now }
-        ensures low { result ≤ 7 }
+        ensures low { result ≤ MOST_HEIGHT }
         ensures more { 1 ≤ result → 16 ^ result < length (elements heap.now self.now) }
         ensures most { length (elements heap.now self.now) ≤ 32 ^ (result + 1) }
     {
@@ -182,7 +182,7 @@ impl FlexRef {
 pub(crate) fn empty_root<T>(heap: &mut Heap<T>) -> Link
     requires graph { IsGraph heap.old }
     requires spare { 1 ≤ heap.old.spare_nodes }
-    requires holds { hold_count heap.old < 2 ^ 59 }
+    requires holds { hold_count heap.old < half_holds }
     ensures vector { IsVectorOf heap.new result [] }
     ensures flat { height_at heap.new result ≡ 0 }
     ensures builds { Builds heap.old heap.new [] (result ∷ []) 0 1 }

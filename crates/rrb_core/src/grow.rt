@@ -1,6 +1,6 @@
 //! A vector with one more element.
 ghost use Rattle.std.specs.Prelude.{◌≡◌, ℕ, suc, ◌+◌, ◌-◌, ◌^◌, ◌<◌, ◌≤◌, ◌↔◌, ◌≢◌, [], ◌∷◌, ◌++◌, length, slice_index, IfOk, OnErr, None, IfSome, IfNone, Err};
-ghost use Rattle.node_heap.specs.Heap.{row_at, form_at, links_at, holds_at, hold_count, IsGraph, HasSpares};
+ghost use Rattle.node_heap.specs.Heap.{row_at, form_at, links_at, holds_at, hold_count, IsGraph, HasSpares, half_holds, most_holds};
 ghost use Rattle.node_heap.specs.Calls.{Answered, Builds, MakesJust, KeepsToNeed};
 ghost use Rattle.rrb_core.specs.Seq.{seq_at, IsWell};
 ghost use Rattle.rrb_core.specs.Push.{last_in, IsPacked, IsPushedRoot};
@@ -11,7 +11,7 @@ ghost use Rattle.rrb_core.specs.Edit.{CanEdit, CanEditRoot, MakesRow, Pushes};
 use crate::flex::{Flex, FlexRef};
 use crate::rows::{ROW_LINKS, height_of, inner_over, inner_with, leaf_over, leaf_with};
 use elem_core::NoMemory;
-use node_heap::{Heap, Link};
+use node_heap::{Heap, Link, MOST_HEIGHT};
 use thiserror::Error;
 
 /// Why a push gave no vector.
@@ -35,8 +35,8 @@ impl From<NoMemory> for PushFault {
     }
 }
 
-// The most nodes that a push makes: one for each height from 0 to 7, and a root.
-const PUSH_NODES: usize = 9;
+// The most nodes that a push makes: one for each height, and a root.
+const PUSH_NODES: usize = MOST_HEIGHT as usize + 2;
 
 /// The vector with `element` after its last element. The element goes into the lowest row of the right spine that has
 /// fewer than 32 links; only where each of them has 32 comes a new root. It spends the element's hold on Ok alone, and
@@ -45,7 +45,7 @@ const PUSH_NODES: usize = 9;
 pub fn push<T>(heap: &mut Heap<T>, vector: FlexRef, element: Link) -> Result<Flex, PushFault>
     requires good { IsGoodVector heap.old vector }
     requires held { 1 ≤ holds_at heap.old element }
-    requires few { hold_count heap.old < 2 ^ 59 }
+    requires few { hold_count heap.old < half_holds }
     ensures items { IfOk result (λ v. elements heap.new v ≡ elements heap.old vector ++ element ∷ []) }
     ensures good { IfOk result (λ v. IsGoodVector heap.new v) }
     ensures rule { IfOk result (λ v. IsPushedRoot (form_at heap.old) (form_at heap.new) element vector v) }
@@ -178,9 +178,9 @@ fn push_leaf<T>(heap: &mut Heap<T>, link: Link, element: Link) -> Option<Link>
 pub fn spine<T>(heap: &mut Heap<T>, height: u8, element: Link) -> Link
     requires graph { IsGraph heap.old }
     requires held { 1 ≤ holds_at heap.old element }
-    requires low { height ≤ 7 }
+    requires low { height ≤ MOST_HEIGHT }
     requires spare { height + 1 ≤ heap.old.spare_nodes }
-    requires holds { hold_count heap.old < 2 ^ 60 }
+    requires holds { hold_count heap.old < most_holds }
     ensures made { MakesRow heap.old heap.new (element ∷ []) height result (element ∷ []) }
     ensures fresh { row_at heap.old result ≡ None }
     ensures owners { RowsKeepOwners heap.old heap.new }

@@ -1,6 +1,6 @@
 //! A vector with another element in one place.
-ghost use Rattle.std.specs.Prelude.{◌≡◌, ℕ, suc, ◌+◌, ◌^◌, ◌<◌, ◌≤◌, ◌↔◌, ◌≢◌, [], ◌∷◌, length, slice_set, IfOk, OnErr, Err};
-ghost use Rattle.node_heap.specs.Heap.{form_at, holds_at, hold_count, IsGraph, HasSpares};
+ghost use Rattle.std.specs.Prelude.{◌≡◌, ℕ, suc, ◌+◌, ◌<◌, ◌≤◌, ◌↔◌, ◌≢◌, [], ◌∷◌, length, slice_set, IfOk, OnErr, Err};
+ghost use Rattle.node_heap.specs.Heap.{form_at, holds_at, hold_count, IsGraph, HasSpares, half_holds};
 ghost use Rattle.node_heap.specs.Calls.{Answered, Builds, MakesJust, KeepsToNeed};
 ghost use Rattle.rrb_core.specs.Seq.{seq_at};
 ghost use Rattle.rrb_core.specs.Vector.{elements, height_at, IsGoodVector, IsSameVector, IsVectorOf};
@@ -10,7 +10,7 @@ use crate::flex::{Flex, FlexRef};
 use crate::rows::{height_of, inner_with, leaf_with};
 use crate::search::spot_of;
 use elem_core::NoMemory;
-use node_heap::{Heap, Link};
+use node_heap::{Heap, Link, MOST_HEIGHT};
 use thiserror::Error;
 
 /// Why a set gave no vector.
@@ -34,8 +34,8 @@ impl From<NoMemory> for SetFault {
     }
 }
 
-// The most nodes that a set makes: one for each height from 0 to 7.
-const SET_NODES: usize = 8;
+// The most nodes that a set makes: one for each height.
+const SET_NODES: usize = MOST_HEIGHT as usize + 1;
 
 /// The vector with `element` at `index`. It copies the rows from the root to that place, at most as many as the height and
 /// 1, so 8, and shares all others. It spends the element's hold on Ok alone. Refused with `Range` where the index is the
@@ -48,7 +48,7 @@ pub fn set<T>(
 ) -> Result<Flex, SetFault>
     requires good { IsGoodVector heap.old vector }
     requires held { 1 ≤ holds_at heap.old element }
-    requires few { hold_count heap.old < 2 ^ 59 }
+    requires few { hold_count heap.old < half_holds }
     ensures items { IfOk result (λ v. elements heap.new v ≡ slice_set (elements heap.old vector) index element) }
     ensures good { IfOk result (λ v. IsGoodVector heap.new v) }
     ensures answered { IfOk result (λ v. Answered heap.old heap.new (element ∷ []) v 0 (height_at heap.old vector + 1)) }

@@ -2,7 +2,7 @@
 ghost use Rattle.std.specs.Prelude.{◌≡◌, ℕ, suc, ◌+◌, ◌-◌, ◌*◌, ◌^◌, ◌<◌, ◌≤◌, ◌≢◌, ◌↔◌, [], ◌∷◌, ◌++◌, length, take, drop, slice_index, None, IsSome, IsTrue};
 ghost use Rattle.std.specs.List.{flat_map};
 ghost use Rattle.node_heap.specs.Links.{count};
-ghost use Rattle.node_heap.specs.Heap.{row_at, form_at, links_at, holds_at, hold_count, IsGraph};
+ghost use Rattle.node_heap.specs.Heap.{row_at, form_at, links_at, holds_at, hold_count, IsGraph, most_holds};
 ghost use Rattle.node_heap.specs.Calls.{Makes, Builds};
 ghost use Rattle.rrb_core.specs.Seq.{seq_at, IsWell};
 ghost use Rattle.rrb_core.specs.Vector.{IsRegular, KeepsSums, HasSums, height_at, sums_at};
@@ -11,7 +11,7 @@ ghost use Rattle.rrb_core.specs.Edit.{CanEdit, CanPlace, MakesRow, PlacesChild, 
 
 use crate::search::sum_before;
 use arrayvec::ArrayVec;
-use node_heap::{Head, Heap, Link, Sums};
+use node_heap::{Head, Heap, Link, MOST_HEIGHT, Sums};
 
 /// The most links that a row holds.
 pub const ROW_LINKS: usize = 32;
@@ -44,7 +44,7 @@ pub fn sums_of<T>(heap: &Heap<T>, link: Link) -> &[u32]
 /// How many elements so many full children of an inner row of this height have.
 pub fn full_size(count: usize, height: u8) -> u64
     requires few { count ≤ 32 }
-    requires low { height ≤ 7 }
+    requires low { height ≤ MOST_HEIGHT }
     ensures { result ≡ count * 32 ^ height }
 {
     (count as u64) << (5 * u32::from(height))
@@ -55,7 +55,7 @@ pub fn full_size(count: usize, height: u8) -> u64
 pub fn size<T>(heap: &Heap<T>, link: Link, height: u8) -> u32
     requires well { IsWell (form_at heap.now) height link }
     requires sums { HasSums heap.now height link }
-    requires low { height ≤ 7 }
+    requires low { height ≤ MOST_HEIGHT }
     requires short { length (seq_at (form_at heap.now) height link) < 2 ^ 32 }
     ensures value { result ≡ length (seq_at (form_at heap.now) height link) }
     ensures graph { IsGraph heap.now }
@@ -80,7 +80,7 @@ fn hold_links<T>(heap: &mut Heap<T>, all: &mut Gathered, link: Link, from: usize
     requires order { from ≤ to }
     requires within { to ≤ length (links_at heap.old link) }
     requires room { length all.old.items + (to - from) ≤ 64 }
-    requires holds { hold_count heap.old + (to - from) ≤ 2 ^ 60 }
+    requires holds { hold_count heap.old + (to - from) ≤ most_holds }
     ensures items { all.new.items ≡ all.old.items ++ take (to - from) (drop from (links_at heap.old link)) }
     ensures builds { Builds heap.old heap.new all.old.items all.new.items 0 0 }
 {
@@ -106,7 +106,7 @@ pub fn gathered<T>(
     requires keep { keep ≤ length (links_at heap.old left) }
     requires skip { skip ≤ length (links_at heap.old right) }
     requires few { keep + length middle.now + (length (links_at heap.old right) - skip) ≤ 64 }
-    requires holds { hold_count heap.old + 64 ≤ 2 ^ 60 }
+    requires holds { hold_count heap.old + 64 ≤ most_holds }
     ensures items { result.items ≡ (take keep (links_at heap.old left) ++ middle.now) ++ drop skip (links_at heap.old right) }
     ensures builds { Builds heap.old heap.new middle.now result.items 0 0 }
 {
@@ -145,7 +145,7 @@ fn hold_part<T>(
     requires order { from ≤ to }
     requires within { to ≤ length (links_at heap.old link) }
     requires room { count + (to - from) ≤ length room.old }
-    requires holds { hold_count heap.old + (to - from) ≤ 2 ^ 60 }
+    requires holds { hold_count heap.old + (to - from) ≤ most_holds }
     ensures many { result ≡ count + (to - from) }
     ensures links { take result room.new ≡ take count room.old ++ take (to - from) (drop from (links_at heap.old link)) }
     ensures builds { Builds heap.old heap.new (take count room.old) (take result room.new) 0 0 }
@@ -171,7 +171,7 @@ fn gather<T>(
     requires skip { skip ≤ length (links_at heap.old link) }
     requires few { keep + 1 + (length (links_at heap.old link) - skip) ≤ 32 }
     requires room { length room.old ≡ 32 }
-    requires holds { hold_count heap.old + 64 ≤ 2 ^ 60 }
+    requires holds { hold_count heap.old + 64 ≤ most_holds }
     ensures few { result ≤ 32 }
     ensures links { take result room.new ≡ links_with (links_at heap.old link) keep middle skip }
     ensures builds { Builds heap.old heap.new (middle ∷ []) (take result room.new) 0 0 }
@@ -188,7 +188,7 @@ pub fn leaf_over<T>(heap: &mut Heap<T>, elements: &[Link]) -> Link
     requires few { length elements.now ≤ 32 }
     requires held { (k : ℕ) → count k elements.now ≤ holds_at heap.old k }
     requires spare { 1 ≤ heap.old.spare_nodes }
-    requires holds { hold_count heap.old < 2 ^ 60 }
+    requires holds { hold_count heap.old < most_holds }
     ensures row { IsRowOf heap.new 0 result elements.now }
     ensures links { links_at heap.new result ≡ elements.now }
     ensures fresh { row_at heap.old result ≡ None }
@@ -206,11 +206,11 @@ pub fn inner_over<T>(heap: &mut Heap<T>, children: &[Link], below: u8) -> Link
     requires rows { AreRows heap.old below children.now }
     requires some { 1 ≤ length children.now }
     requires few { length children.now ≤ 32 }
-    requires low { below < 7 }
+    requires low { below < MOST_HEIGHT }
     requires short { length (flat_map (seq_at (form_at heap.old) below) children.now) < 2 ^ 32 }
     requires held { (k : ℕ) → count k children.now ≤ holds_at heap.old k }
     requires spare { 1 ≤ heap.old.spare_nodes }
-    requires holds { hold_count heap.old < 2 ^ 60 }
+    requires holds { hold_count heap.old < most_holds }
     ensures row { IsRowOf heap.new (suc below) result (flat_map (seq_at (form_at heap.old) below) children.now) }
     ensures links { links_at heap.new result ≡ children.now }
     ensures fresh { row_at heap.old result ≡ None }
@@ -227,11 +227,11 @@ fn inner_of<T>(heap: &mut Heap<T>, children: &[Link], below: u8, sums: Sums) -> 
     requires rows { AreRows heap.old below children.now }
     requires some { 1 ≤ length children.now }
     requires few { length children.now ≤ 32 }
-    requires low { below < 7 }
+    requires low { below < MOST_HEIGHT }
     requires sums { KeepsSums (form_at heap.old) below children.now sums }
     requires held { (k : ℕ) → count k children.now ≤ holds_at heap.old k }
     requires spare { 1 ≤ heap.old.spare_nodes }
-    requires holds { hold_count heap.old < 2 ^ 60 }
+    requires holds { hold_count heap.old < most_holds }
     ensures row { IsRowOf heap.new (suc below) result (flat_map (seq_at (form_at heap.old) below) children.now) }
     ensures links { links_at heap.new result ≡ children.now }
     ensures fresh { row_at heap.old result ≡ None }
@@ -248,7 +248,7 @@ pub fn sums_over<T>(heap: &Heap<T>, children: &[Link], below: u8) -> Sums
     requires rows { AreRows heap.now below children.now }
     requires some { 1 ≤ length children.now }
     requires few { length children.now ≤ 32 }
-    requires low { below < 7 }
+    requires low { below < MOST_HEIGHT }
     requires short { length (flat_map (seq_at (form_at heap.now) below) children.now) < 2 ^ 32 }
     ensures { KeepsSums (form_at heap.now) below children.now result }
 {
@@ -266,7 +266,7 @@ pub fn sums_over<T>(heap: &Heap<T>, children: &[Link], below: u8) -> Sums
 fn kept_sums(sums: &[u32], below: u8) -> Sums
     requires some { 1 ≤ length sums.now }
     requires few { length sums.now ≤ 32 }
-    requires low { below < 7 }
+    requires low { below < MOST_HEIGHT }
     ensures none { slice_index (0 ∷ sums.now) (length sums.now - 1) ≡ (length sums.now - 1) * 32 ^ suc below → result ≡ [] }
     ensures kept { slice_index (0 ∷ sums.now) (length sums.now - 1) ≢ (length sums.now - 1) * 32 ^ suc below → result ≡ sums.now }
 {
@@ -282,7 +282,7 @@ fn kept_sums(sums: &[u32], below: u8) -> Sums
 fn has_full_size<T>(heap: &Heap<T>, link: Link, height: u8) -> bool
     requires well { IsWell (form_at heap.now) height link }
     requires sums { HasSums heap.now height link }
-    requires low { height < 7 }
+    requires low { height < MOST_HEIGHT }
     requires short { length (seq_at (form_at heap.now) height link) < 2 ^ 32 }
     ensures test { IsTrue result ↔ (length (seq_at (form_at heap.now) height link) ≡ 32 ^ suc height) }
 {

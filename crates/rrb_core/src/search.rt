@@ -6,7 +6,7 @@ ghost use Rattle.rrb_core.specs.Seq.{seq_at, IsWell};
 ghost use Rattle.rrb_core.specs.Vector.{elements, HasSums, IsGoodVector, sums_at};
 
 use crate::rows::{full_size, height_of, sums_of};
-use node_heap::{Heap, Link};
+use node_heap::{Heap, Link, MOST_HEIGHT};
 
 /// A child of an inner row by its place, and an element's index in that child.
 #[derive(Clone, Copy)]
@@ -48,7 +48,7 @@ pub(crate) fn sum_before(sums: &[u32], place: usize) -> u32
 pub fn spot_of<T>(heap: &Heap<T>, link: Link, below: u8, index: u32) -> Spot
     requires well { IsWell (form_at heap.now) (suc below) link }
     requires sums { HasSums heap.now (suc below) link }
-    requires low { below < 7 }
+    requires low { below < MOST_HEIGHT }
     requires inside { index < length (seq_at (form_at heap.now) (suc below) link) }
     ensures place { result.place < length (links_at heap.now link) }
     ensures inside { result.within < length (seq_at (form_at heap.now) below (slice_index (links_at heap.now link) result.place)) }
@@ -80,7 +80,7 @@ struct ChildSpot {
 fn child_spot_of<T>(heap: &Heap<T>, link: Link, below: u8, index: u32) -> Option<ChildSpot>
     requires well { IsWell (form_at heap.now) (suc below) link }
     requires sums { HasSums heap.now (suc below) link }
-    requires low { below < 7 }
+    requires low { below < MOST_HEIGHT }
     ensures well { IfSome result (λ spot. IsWell (form_at heap.now) below spot.child) }
     ensures sums { IfSome result (λ spot. HasSums heap.now below spot.child) }
     ensures same { IfSome result (λ spot. slice_get (seq_at (form_at heap.now) (suc below) link) index ≡ slice_get (seq_at (form_at heap.now) below spot.child) spot.within) }
@@ -112,7 +112,7 @@ fn child_spot_by<T>(
 ) -> Option<ChildSpot>
     requires well { IsWell (form_at heap.now) (suc below) link }
     requires sums { HasSums heap.now (suc below) link }
-    requires low { below < 7 }
+    requires low { below < MOST_HEIGHT }
     requires kept { sums.now ≡ sums_at heap.now link }
     requires some { 1 ≤ length sums.now }
     ensures well { IfSome result (λ spot. IsWell (form_at heap.now) below spot.child) }

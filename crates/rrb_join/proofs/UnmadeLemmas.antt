@@ -6,7 +6,7 @@ use Rattle.std.proofs.lemmas.Bool.{cases_lt}
 use Rattle.std.proofs.lemmas.List.Concat.{flat_map-append}
 use Rattle.std.proofs.lemmas.List.Elements.{All-nil, All-cons, All-append, All-drop}
 use Rattle.node_heap.specs.Links.{count}
-use Rattle.node_heap.specs.Heap.{Heap, row_at, form_at, links_at, holds_at, hold_count, IsGraph}
+use Rattle.node_heap.specs.Heap.{Heap, row_at, form_at, links_at, holds_at, hold_count, IsGraph, most_holds}
 use Rattle.node_heap.specs.Calls.{Builds}
 use Rattle.rrb_core.specs.Seq.{seq_at, IsThick, IsWell}
 use Rattle.rrb_core.specs.Vector.{HasSums, height_at, elements, IsGoodVector}
@@ -17,6 +17,7 @@ use Rattle.rrb_join.specs.Rest.{AreHalves}
 use Rattle.rrb_core.proofs.Lists.{child-short}
 use Rattle.rrb_core.proofs.LinkCounts.{count-split}
 use Rattle.node_heap.proofs.BuildLemmas.{Builds-beside}
+use Rattle.node_heap.specs.declared.row.TheConstants.{MOST_HEIGHT}
 use Rattle.rrb_core.proofs.FillRule.{well-most, thick-low, links-some}
 use Rattle.rrb_core.proofs.Stays.{links-form, well-live, links-stay, items-stay, thick-stays, all-thick-stay, rows-stay, row-stays}
 use Rattle.rrb_core.proofs.RowLists.{rows-append, rows-take, rows-drop, take-thick, rows-live, inner-thick, leaf-thick, over}
@@ -174,7 +175,7 @@ row-thick old new zero l ls s a is enough t = leaf-thick new l ls is enough
 row-thick old new (suc n) l ls s a is enough t = inner-thick new old n l ls s a is enough t
 
 -- rows can be made over unmade links that are held
-pub unmade-rows : {T : Type 0} {h : Heap T} {n : ℕ} {ls xs : List ℕ} → AreUnmade h n ls xs → IsGraph h → n ≤ 7 → length xs < 2 ^ 32 → ((k : ℕ) → count k ls ≤ holds_at h k) → hold_count h < 2 ^ 60 → CanBeRows h n ls
+pub unmade-rows : {T : Type 0} {h : Heap T} {n : ℕ} {ls xs : List ℕ} → AreUnmade h n ls xs → IsGraph h → n ≤ MOST_HEIGHT → length xs < 2 ^ 32 → ((k : ℕ) → count k ls ≤ holds_at h k) → hold_count h < most_holds → CanBeRows h n ls
 unmade-rows unmade graph low short held few = record { graph = graph; links = unmade.links; some = unmade.some; low = low; short = rw unmade.items short; held = held; holds = few }
 
 -- what one row or two are over these links
@@ -252,7 +253,7 @@ pub two-pushed : (none one two : List ℕ) (a b : ℕ) → none ≡ [] → one �
 two-pushed none one two a b e f g = g ∙ rw (f, e) refl
 
 -- two rows of one height are below the last height
-pub two-low : {T : Type 0} (h : Heap T) (n : ℕ) (ks : List ℕ) → AreRows h n ks → 2 ≤ length ks → n ≤ 7 → length (flat_map (seq_at (form_at h) n) ks) < 2 ^ 32 → n < 7
+pub two-low : {T : Type 0} (h : Heap T) (n : ℕ) (ks : List ℕ) → AreRows h n ks → 2 ≤ length ks → n ≤ MOST_HEIGHT → length (flat_map (seq_at (form_at h) n) ks) < 2 ^ 32 → n < MOST_HEIGHT
 two-low h n ks r two low short =
     let at : get_or (take 1 ks) 0 0 ≡ get_or ks 0 0 = get_or-take 1 ks 0 0 (omega arith) in
     let t : IsThick (form_at h) n (get_or (take 1 ks) 0 0) = take-thick h n 1 ks r (omega arith) 0 0 (omega (arith, length-take-le 1 ks (omega arith))) in

@@ -2,7 +2,8 @@
 use Rattle.std.specs.Prelude.{◌≡◌, ℕ, zero, suc, ◌+◌, ◌<◌, ◌≤◌, ◌^◌, List, ◌++◌, length, take, drop}
 use Rattle.std.specs.List.{All, flat_map}
 use Rattle.node_heap.specs.Links.{count}
-use Rattle.node_heap.specs.Heap.{Heap, form_at, links_at, holds_at, hold_count, IsGraph}
+use Rattle.node_heap.specs.Heap.{Heap, form_at, links_at, holds_at, hold_count, IsGraph, most_holds}
+use Rattle.node_heap.specs.declared.row.TheConstants.{MOST_HEIGHT}
 use Rattle.rrb_core.specs.Seq.{seq_at, IsThick, IsWell}
 use Rattle.rrb_core.specs.Vector.{HasSums}
 use Rattle.rrb_core.specs.Build.{AreRows}
@@ -42,10 +43,10 @@ module _ {T : Type 0} where
     pub graph : IsGraph h
     pub links : AreLinks h n ls
     pub some : 1 ≤ length ls
-    pub low : n ≤ 7
+    pub low : n ≤ MOST_HEIGHT
     pub short : length (items_below h n ls) < 2 ^ 32
     pub held : (k : ℕ) → count k ls ≤ holds_at h k
-    pub holds : hold_count h < 2 ^ 60
+    pub holds : hold_count h < most_holds
 
   -- the row l of height n and the row r of height k, neither higher than `height`, can be joined to one row of that height or two
   pub record CanJoin (h : Heap T) (n l k r height : ℕ) : Type 0 where
@@ -54,9 +55,9 @@ module _ {T : Type 0} where
     pub right : IsSomeRow h k r
     pub left_low : n ≤ height
     pub right_low : k ≤ height
-    pub low : height ≤ 7
+    pub low : height ≤ MOST_HEIGHT
     pub short : length (seq_at (form_at h) n l) + length (seq_at (form_at h) k r) < 2 ^ 32
-    pub holds : hold_count h + 128 ≤ 2 ^ 60
+    pub holds : hold_count h + 128 ≤ most_holds
 
   -- the row l of height n is its first `place` links, which are thick rows of the height `below`, and then a row of height k
   pub record EndsIn (h : Heap T) (below n l place k last : ℕ) : Type 0 where

@@ -1,6 +1,6 @@
 //! Parts of a vector.
-ghost use Rattle.std.specs.Prelude.{◌≡◌, ◌≢◌, ◌↔◌, ℕ, ◌+◌, ◌*◌, ◌<◌, ◌≤◌, ◌^◌, [], ◌++◌, length, take, drop, IfOk, OnErr, IsOk, IsTrue, Err};
-ghost use Rattle.node_heap.specs.Heap.{hold_count, HasSpares, IsGraph};
+ghost use Rattle.std.specs.Prelude.{◌≡◌, ◌≢◌, ◌↔◌, ℕ, ◌+◌, ◌*◌, ◌<◌, ◌≤◌, [], ◌++◌, length, take, drop, IfOk, OnErr, IsOk, IsTrue, Err};
+ghost use Rattle.node_heap.specs.Heap.{hold_count, HasSpares, IsGraph, half_holds};
 ghost use Rattle.node_heap.specs.Calls.{Answered, MakesJust, KeepsToNeed};
 ghost use Rattle.rrb_core.specs.Vector.{elements, height_at, IsGoodVector, IsSameVector};
 ghost use Rattle.rrb_join.specs.Answers.{GivesItself, IsPart, RisesAtNeed};
@@ -42,7 +42,7 @@ impl From<NoMemory> for SliceFault {
 /// as it was.
 pub fn drop_front<T>(heap: &mut Heap<T>, vector: FlexRef, count: u32) -> Result<Flex, NoMemory>
     requires good { IsGoodVector heap.old vector }
-    requires few { hold_count heap.old < 2 ^ 59 }
+    requires few { hold_count heap.old < half_holds }
     ensures items { IfOk result (λ v. elements heap.new v ≡ drop count (elements heap.old vector)) }
     ensures good { IfOk result (λ v. IsGoodVector heap.new v) }
     ensures low { IfOk result (λ v. height_at heap.new v ≤ height_at heap.old vector) }
@@ -87,7 +87,7 @@ pub fn slice<T: Drop>(
     to: u32,
 ) -> Result<Flex, SliceFault>
     requires good { IsGoodVector heap.old vector }
-    requires few { hold_count heap.old < 2 ^ 59 }
+    requires few { hold_count heap.old < half_holds }
     ensures items { IfOk result (λ v. elements heap.new v ≡ drop from (take to (elements heap.old vector))) }
     ensures good { IfOk result (λ v. IsGoodVector heap.new v) }
     ensures low { IfOk result (λ v. height_at heap.new v ≤ height_at heap.old vector) }
@@ -96,7 +96,7 @@ pub fn slice<T: Drop>(
     ensures answered { IfOk result (λ v. Answered heap.old heap.new [] v 0 (3 * height_at heap.old vector + 2)) }
     ensures made { IfOk result (λ v. heap.new.made ≤ heap.old.made + (3 * height_at heap.old vector + 2)) }
     ensures spares { IfOk result (λ _. KeepsToNeed heap.old heap.new 0 25) }
-    ensures whole { from ≡ 0 → to ≡ length (elements heap.old vector) → GivesItself heap.old heap.new result vector }
+    ensures all { from ≡ 0 → to ≡ length (elements heap.old vector) → GivesItself heap.old heap.new result vector }
     ensures vectors { (l : ℕ) → IsSameVector heap.old heap.new l }
     ensures refused { OnErr result (heap.new ≡ heap.old) }
     ensures range { (result ≡ Err SliceFault.Range) ↔ (¬ IsPart from to (elements heap.old vector)) }
@@ -130,7 +130,7 @@ pub fn erase<T: Drop>(
     to: u32,
 ) -> Result<Flex, SliceFault>
     requires good { IsGoodVector heap.old vector }
-    requires few { hold_count heap.old < 2 ^ 59 }
+    requires few { hold_count heap.old < half_holds }
     ensures items { IfOk result (λ v. elements heap.new v ≡ take from (elements heap.old vector) ++ drop to (elements heap.old vector)) }
     ensures good { IfOk result (λ v. IsGoodVector heap.new v) }
     ensures low { IfOk result (λ v. RisesAtNeed heap.new (height_at heap.old vector) v) }

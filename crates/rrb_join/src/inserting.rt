@@ -1,7 +1,7 @@
 //! A vector with one more element.
 ghost use Rattle.std.specs.Prelude.{◌≡◌, ◌≢◌, ◌↔◌, ℕ, suc, ◌-◌, ◌+◌, ◌*◌, ◌<◌, ◌≤◌, ◌^◌, [], ◌∷◌, ◌++◌, length, take, drop, slice_index, IfOk, OnErr, Err};
 ghost use Rattle.std.specs.List.{flat_map};
-ghost use Rattle.node_heap.specs.Heap.{form_at, links_at, holds_at, hold_count, IsGraph, HasSpares};
+ghost use Rattle.node_heap.specs.Heap.{form_at, links_at, holds_at, hold_count, IsGraph, HasSpares, half_holds, most_holds};
 ghost use Rattle.node_heap.specs.Calls.{Answered, Builds, MakesJust, KeepsToNeed};
 ghost use Rattle.rrb_core.specs.Seq.{seq_at, IsThick, IsWell};
 ghost use Rattle.rrb_core.specs.Vector.{HasSums, elements, height_at, IsGoodVector, IsSameVector};
@@ -13,7 +13,7 @@ ghost use Rattle.rrb_join.specs.declared.joining.TheConstants.{SEAM_NODES};
 use crate::joining::SEAM_NODES;
 use crate::over::{root_over, rows_over};
 use elem_core::NoMemory;
-use node_heap::{Heap, Link};
+use node_heap::{Heap, Link, MOST_HEIGHT};
 use rrb_core::{Flex, FlexRef, Gathered, Spot, gathered, height_of, spot_of};
 use thiserror::Error;
 
@@ -56,7 +56,7 @@ pub fn insert<T>(
 ) -> Result<Flex, InsertFault>
     requires good { IsGoodVector heap.old vector }
     requires held { 1 ≤ holds_at heap.old element }
-    requires few { hold_count heap.old < 2 ^ 59 }
+    requires few { hold_count heap.old < half_holds }
     ensures items { IfOk result (λ v. elements heap.new v ≡ take index (elements heap.old vector) ++ element ∷ drop index (elements heap.old vector)) }
     ensures good { IfOk result (λ v. IsGoodVector heap.new v) }
     ensures flat { length (links_at heap.old vector) < 32 → IfOk result (λ v. height_at heap.new v ≡ height_at heap.old vector) }
@@ -90,7 +90,7 @@ fn inserted_root<T>(heap: &mut Heap<T>, root: Link, index: u32, element: Link) -
     requires short { length (elements heap.old root) + 1 < 2 ^ 32 }
     requires held { 1 ≤ holds_at heap.old element }
     requires spare { SEAM_NODES ≤ heap.old.spare_nodes }
-    requires holds { hold_count heap.old + 128 ≤ 2 ^ 60 }
+    requires holds { hold_count heap.old + 128 ≤ most_holds }
     ensures items { elements heap.new result ≡ take index (elements heap.old root) ++ element ∷ drop index (elements heap.old root) }
     ensures good { IsGoodVector heap.new result }
     ensures flat { length (links_at heap.old root) < 32 → height_at heap.new result ≡ height_at heap.old root }
@@ -107,7 +107,7 @@ fn inserted_root<T>(heap: &mut Heap<T>, root: Link, index: u32, element: Link) -
 fn spot_before<T>(heap: &Heap<T>, link: Link, below: u8, index: u32) -> Spot
     requires well { IsWell (form_at heap.now) (suc below) link }
     requires sums { HasSums heap.now (suc below) link }
-    requires low { below < 7 }
+    requires low { below < MOST_HEIGHT }
     requires inside { index ≤ length (seq_at (form_at heap.now) (suc below) link) }
     ensures place { result.place < length (links_at heap.now link) }
     ensures inside { result.within ≤ length (seq_at (form_at heap.now) below (slice_index (links_at heap.now link) result.place)) }
@@ -138,12 +138,12 @@ fn insert_links<T>(
     requires graph { IsGraph heap.old }
     requires well { IsWell (form_at heap.old) height link }
     requires sums { HasSums heap.old height link }
-    requires low { height ≤ 7 }
+    requires low { height ≤ MOST_HEIGHT }
     requires inside { index ≤ length (seq_at (form_at heap.old) height link) }
     requires short { length (seq_at (form_at heap.old) height link) + 1 < 2 ^ 32 }
     requires held { 1 ≤ holds_at heap.old element }
     requires spare { 2 * height ≤ heap.old.spare_nodes }
-    requires holds { hold_count heap.old + 128 ≤ 2 ^ 60 }
+    requires holds { hold_count heap.old + 128 ≤ most_holds }
     ensures links { AreUnmade heap.new height result.items (take index (seq_at (form_at heap.old) height link) ++ element ∷ drop index (seq_at (form_at heap.old) height link)) }
     ensures thick { IsThick (form_at heap.old) height link → (16 ≤ length result.items) × AreThick heap.new height result.items }
     ensures wide { length (links_at heap.old link) ≤ length result.items }

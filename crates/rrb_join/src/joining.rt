@@ -1,6 +1,6 @@
 //! Two vectors as one.
 ghost use Rattle.std.specs.Prelude.{◌≡◌, ◌≢◌, ◌↔◌, ℕ, max, ◌+◌, ◌*◌, ◌<◌, ◌≤◌, ◌^◌, [], ◌∷◌, ◌++◌, length, IfOk, OnErr, IsTrue, Err};
-ghost use Rattle.node_heap.specs.Heap.{form_at, links_at, hold_count, IsGraph, HasSpares};
+ghost use Rattle.node_heap.specs.Heap.{form_at, links_at, hold_count, IsGraph, HasSpares, half_holds, most_holds};
 ghost use Rattle.node_heap.specs.Calls.{Answered, Builds, MakesJust, KeepsToNeed};
 ghost use Rattle.rrb_core.specs.Seq.{IsThick};
 ghost use Rattle.rrb_core.specs.Vector.{elements, height_at, IsGoodVector, IsSameVector};
@@ -11,7 +11,7 @@ ghost use Rattle.rrb_join.specs.Joining.{JoinsToLinks, JoinsToRows};
 
 use crate::over::{OneOrTwo, both_held, held_again, root_of, rows_over};
 use elem_core::NoMemory;
-use node_heap::{Heap, Link};
+use node_heap::{Heap, Link, MOST_HEIGHT};
 use rrb_core::{Flex, FlexRef, Gathered, ROW_LINKS, gathered, height_of};
 use thiserror::Error;
 
@@ -36,9 +36,9 @@ impl From<NoMemory> for JoinFault {
     }
 }
 
-/// The most nodes that a join, a cut or an insert makes along its seam: two for each height from 0 to 7, and a root over
+/// The most nodes that a join, a cut or an insert makes along its seam: two for each height, and a root over
 /// two.
-pub const SEAM_NODES: usize = 17;
+pub const SEAM_NODES: usize = 2 * MOST_HEIGHT as usize + 3;
 
 /// The elements of `left` and then those of `right`. It makes rows along the seam alone, at most twice the height of
 /// the higher vector and three more, so at most 17 nodes, and shares all others. Where one is empty it gives the other
@@ -53,7 +53,7 @@ pub const SEAM_NODES: usize = 17;
 pub fn concat<T>(heap: &mut Heap<T>, left: FlexRef, right: FlexRef) -> Result<Flex, JoinFault>
     requires left_good { IsGoodVector heap.old left }
     requires right_good { IsGoodVector heap.old right }
-    requires few { hold_count heap.old < 2 ^ 59 }
+    requires few { hold_count heap.old < half_holds }
     ensures items { IfOk result (λ v. elements heap.new v ≡ elements heap.old left ++ elements heap.old right) }
     ensures good { IfOk result (λ v. IsGoodVector heap.new v) }
     ensures flat { height_at heap.old left ≡ height_at heap.old right → length (links_at heap.old left) + length (links_at heap.old right) ≤ 32 → IfOk result (λ v. height_at heap.new v ≡ height_at heap.old left) }
@@ -92,7 +92,7 @@ pub(crate) fn joined_root<T>(heap: &mut Heap<T>, left: Link, right: Link) -> Lin
     requires right_good { IsGoodVector heap.old right }
     requires short { length (elements heap.old left) + length (elements heap.old right) < 2 ^ 32 }
     requires spare { SEAM_NODES ≤ heap.old.spare_nodes }
-    requires holds { hold_count heap.old + 128 ≤ 2 ^ 60 }
+    requires holds { hold_count heap.old + 128 ≤ most_holds }
     ensures items { elements heap.new result ≡ elements heap.old left ++ elements heap.old right }
     ensures good { IsGoodVector heap.new result }
     ensures flat { height_at heap.old left ≡ height_at heap.old right → length (links_at heap.old left) + length (links_at heap.old right) ≤ 32 → height_at heap.new result ≡ height_at heap.old left }

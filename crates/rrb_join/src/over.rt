@@ -2,7 +2,7 @@
 ghost use Rattle.std.specs.Prelude.{◌≡◌, ℕ, ◌+◌, ◌<◌, ◌≤◌, ◌^◌, [], ◌∷◌, length, IsSome};
 ghost use Rattle.std.specs.List.{All, flat_map};
 ghost use Rattle.node_heap.specs.Links.{count};
-ghost use Rattle.node_heap.specs.Heap.{row_at, form_at, links_at, holds_at, hold_count, IsGraph};
+ghost use Rattle.node_heap.specs.Heap.{row_at, form_at, links_at, holds_at, hold_count, IsGraph, most_holds};
 ghost use Rattle.node_heap.specs.Calls.{Builds};
 ghost use Rattle.rrb_core.specs.Seq.{seq_at, IsThick};
 ghost use Rattle.rrb_core.specs.Vector.{elements, height_at, IsGoodVector, IsSameVector};
@@ -14,7 +14,7 @@ ghost use Rattle.rrb_join.specs.Seam.{rows_under, AreAtNeed};
 ghost use Rattle.rrb_join.specs.Rest.{AreHalves};
 
 use arrayvec::ArrayVec;
-use node_heap::{Heap, Link};
+use node_heap::{Heap, Link, MOST_HEIGHT};
 use rrb_core::{ROW_LINKS, inner_over, leaf_over};
 
 // One row, or two side by side.
@@ -24,7 +24,7 @@ pub(crate) type OneOrTwo = ArrayVec<Link, 2>;
 pub(crate) fn held_again<T>(heap: &mut Heap<T>, root: Link) -> Link
     requires graph { IsGraph heap.old }
     requires good { IsGoodVector heap.old root }
-    requires holds { hold_count heap.old < 2 ^ 60 }
+    requires holds { hold_count heap.old < most_holds }
     ensures same { result ≡ root }
     ensures shares { Shares heap.old heap.new result }
     ensures vectors { (l : ℕ) → IsSameVector heap.old heap.new l }
@@ -38,7 +38,7 @@ pub(crate) fn both_held<T>(heap: &mut Heap<T>, left: Link, right: Link) -> OneOr
     requires graph { IsGraph heap.old }
     requires left { IsSome (row_at heap.old left) }
     requires right { IsSome (row_at heap.old right) }
-    requires holds { hold_count heap.old + 2 ≤ 2 ^ 60 }
+    requires holds { hold_count heap.old + 2 ≤ most_holds }
     ensures rows { result.items ≡ left ∷ right ∷ [] }
     ensures builds { Builds heap.old heap.new [] result.items 0 0 }
 {
@@ -100,11 +100,11 @@ pub(crate) fn root_of<T>(heap: &mut Heap<T>, rows: &[Link], height: u8) -> Link
     requires some { 1 ≤ length rows.now }
     requires need { AreAtNeed heap.old 2 rows.now }
     requires wide { 1 ≤ height → 2 ≤ length (flat_map (links_at heap.old) rows.now) }
-    requires low { height ≤ 7 }
+    requires low { height ≤ MOST_HEIGHT }
     requires short { length (flat_map (seq_at (form_at heap.old) height) rows.now) < 2 ^ 32 }
     requires held { (k : ℕ) → count k rows.now ≤ holds_at heap.old k }
     requires spare { 1 ≤ heap.old.spare_nodes }
-    requires holds { hold_count heap.old < 2 ^ 60 }
+    requires holds { hold_count heap.old < most_holds }
     ensures good { IsGoodVector heap.new result }
     ensures items { elements heap.new result ≡ flat_map (seq_at (form_at heap.old) height) rows.now }
     ensures flat { length rows.now ≤ 1 → height_at heap.new result ≡ height }

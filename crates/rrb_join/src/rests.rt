@@ -5,7 +5,7 @@
 ghost use Rattle.std.specs.Prelude.{◌≡◌, ℕ, ◌-◌, ◌+◌, ◌*◌, ◌<◌, ◌≤◌, ◌^◌, [], ◌∷◌, ◌++◌, length, drop, IsSome};
 ghost use Rattle.std.specs.List.{All, flat_map};
 ghost use Rattle.node_heap.specs.Links.{count};
-ghost use Rattle.node_heap.specs.Heap.{row_at, form_at, links_at, holds_at, hold_count, IsGraph};
+ghost use Rattle.node_heap.specs.Heap.{row_at, form_at, links_at, holds_at, hold_count, IsGraph, most_holds};
 ghost use Rattle.node_heap.specs.Calls.{Builds};
 ghost use Rattle.rrb_core.specs.Seq.{seq_at, IsThick, IsWell};
 ghost use Rattle.rrb_core.specs.Vector.{HasSums, elements, height_at, IsGoodVector};
@@ -15,7 +15,7 @@ ghost use Rattle.rrb_join.specs.Unmade.{items_below, AreLinks, AreThick, AreUnma
 ghost use Rattle.rrb_join.specs.declared.joining.TheConstants.{SEAM_NODES};
 
 use crate::over::{held_again, row_over, rows_over};
-use node_heap::{Heap, Link};
+use node_heap::{Heap, Link, MOST_HEIGHT};
 use rrb_core::{FlexRef, Gathered, ROW_LINKS, gathered, height_of, leaf_over, spot_of};
 
 // Links of one row of this height, or of two, that aren't made yet.
@@ -30,7 +30,7 @@ pub(crate) fn rest_root<T>(heap: &mut Heap<T>, root: Link, count: u32) -> Link
     requires graph { IsGraph heap.old }
     requires good { IsGoodVector heap.old root }
     requires spare { SEAM_NODES ≤ heap.old.spare_nodes }
-    requires holds { hold_count heap.old + 192 ≤ 2 ^ 60 }
+    requires holds { hold_count heap.old + 192 ≤ most_holds }
     ensures items { elements heap.new result ≡ drop count (elements heap.old root) }
     ensures good { IsGoodVector heap.new result }
     ensures low { height_at heap.new result ≤ height_at heap.old root }
@@ -55,11 +55,11 @@ fn rest_of<T>(heap: &mut Heap<T>, link: Link, height: u8, count: u32) -> Rest
     requires graph { IsGraph heap.old }
     requires well { IsWell (form_at heap.old) height link }
     requires sums { HasSums heap.old height link }
-    requires low { height ≤ 7 }
+    requires low { height ≤ MOST_HEIGHT }
     requires inside { count < length (seq_at (form_at heap.old) height link) }
     requires short { length (seq_at (form_at heap.old) height link) < 2 ^ 32 }
     requires spare { 2 * height ≤ heap.old.spare_nodes }
-    requires holds { hold_count heap.old + 192 ≤ 2 ^ 60 }
+    requires holds { hold_count heap.old + 192 ≤ most_holds }
     ensures low { result.height ≤ height }
     ensures links { AreUnmade heap.new result.height result.links.items (drop count (seq_at (form_at heap.old) height link)) }
     ensures few { length result.links.items ≤ 32 }
@@ -99,11 +99,11 @@ fn prepend<T>(heap: &mut Heap<T>, links: &[Link], links_height: u8, right: Link,
     requires two { 1 ≤ links_height → 2 ≤ length links.now }
     requires right { IsSomeRow heap.old height right }
     requires order { links_height ≤ height }
-    requires low { height ≤ 7 }
+    requires low { height ≤ MOST_HEIGHT }
     requires short { length (items_below heap.old links_height links.now) + length (seq_at (form_at heap.old) height right) < 2 ^ 32 }
     requires held { (k : ℕ) → count k links.now ≤ holds_at heap.old k }
     requires spare { 2 * (height - links_height) ≤ heap.old.spare_nodes }
-    requires holds { hold_count heap.old + 128 ≤ 2 ^ 60 }
+    requires holds { hold_count heap.old + 128 ≤ most_holds }
     ensures above { links_height ≤ result.height }
     ensures low { result.height ≤ height }
     ensures links { AreUnmade heap.new result.height result.links.items (items_below heap.old links_height links.now ++ seq_at (form_at heap.old) height right) }
@@ -131,7 +131,7 @@ fn raised<T>(heap: &mut Heap<T>, rest: Rest, link: Link, from: usize) -> Rest
     requires some { 1 ≤ length rest.links.items }
     requires most { length rest.links.items ≤ 64 }
     requires two { 1 ≤ rest.height → 2 ≤ length rest.links.items }
-    requires low { rest.height < 7 }
+    requires low { rest.height < MOST_HEIGHT }
     requires live { IsSome (row_at heap.old link) }
     requires from { from ≤ length (links_at heap.old link) }
     requires beside { AreRows heap.old rest.height (drop from (links_at heap.old link)) }
@@ -140,7 +140,7 @@ fn raised<T>(heap: &mut Heap<T>, rest: Rest, link: Link, from: usize) -> Rest
     requires short { length (items_below heap.old rest.height rest.links.items) < 2 ^ 32 }
     requires held { (k : ℕ) → count k rest.links.items ≤ holds_at heap.old k }
     requires spare { 2 ≤ heap.old.spare_nodes }
-    requires holds { hold_count heap.old + 64 ≤ 2 ^ 60 }
+    requires holds { hold_count heap.old + 64 ≤ most_holds }
     ensures above { rest.height ≤ result.height }
     ensures low { result.height ≤ rest.height + 1 }
     ensures links { AreUnmade heap.new result.height result.links.items (items_below heap.old rest.height rest.links.items ++ flat_map (seq_at (form_at heap.old) rest.height) (drop from (links_at heap.old link))) }

@@ -1,11 +1,11 @@
 -- The roots of sets and maps, as tries that are compared.
-use Rattle.std.proofs.Common.{◌≡◌, ℕ, ◌+◌, List, get_or, refl, ap, sym, subst}
+use Rattle.std.proofs.Common.{◌≡◌, ℕ, List, get_or, refl, ap, sym, subst}
 use Rattle.std.specs.Prelude.{◌↔◌}
 use Rattle.std.specs.Cmp.{IsTotalOrder}
 use Rattle.std.specs.declared.cmp.Ordering.{Ordering}
 use Rattle.std.specs.declared.cmp.Ordering.TheVariants.{Equal}
 use Rattle.elem_core.specs.Codes.{masked_code}
-use Rattle.elem_core.specs.declared.codes.TheConstants.{DEEPEST}
+use Rattle.elem_core.specs.declared.codes.TheConstants.{DEEPEST, LEVELS}
 use Rattle.node_heap.specs.Heap.{Heap, form_at}
 use Rattle.champ_chain.specs.Entry.{Entry}
 use Rattle.champ_trie.specs.Trie.{IsTrie, code_by}
@@ -26,16 +26,16 @@ module _ {T : Type 0} (cmp : T → T → Ordering) (o : IsTotalOrder cmp) (code 
   by_bits bits j k same = ap (λ n. masked_code n bits) (equal_codes j k same)
 
   -- a root's trie, by the bits of another root
-  root-trie : (r : Root) (bits l : ℕ) (E : List (Entry T)) → bits ≡ r.bits → l ≡ r.root → HasEntries cmp code h r E → IsTrie cmp (code_by code bits) (form_at h) (DEEPEST + 1) 0 l E
+  root-trie : (r : Root) (bits l : ℕ) (E : List (Entry T)) → bits ≡ r.bits → l ≡ r.root → HasEntries cmp code h r E → IsTrie cmp (code_by code bits) (form_at h) LEVELS 0 l E
   root-trie r bits l E same at is =
-      subst (λ b. IsTrie cmp (code_by code b) (form_at h) (DEEPEST + 1) 0 l E) (sym same) (subst (λ k. IsTrie cmp (code_by code r.bits) (form_at h) (DEEPEST + 1) 0 k E) (sym at) is.trie.trie)
+      subst (λ b. IsTrie cmp (code_by code b) (form_at h) LEVELS 0 l E) (sym same) (subst (λ k. IsTrie cmp (code_by code r.bits) (form_at h) LEVELS 0 k E) (sym at) is.trie.trie)
 
   module _ (r s : Root) (bits : r.bits ≡ s.bits) (l m : ℕ) (at : l ≡ r.root) (at' : m ≡ s.root) where
     pub set-tries : (E D : List (Entry T)) → IsSetOf cmp code h r E → IsSetOf cmp code h s D → (by : T → ℕ) × IsFrom cmp (form_at h) (IsCellLink (form_at h)) by 0 l × IsFrom cmp (form_at h) (IsCellLink (form_at h)) by 0 m
     set-tries E D first second = (
       code_by code r.bits,
-      record { left = DEEPEST + 1; entries = E; levels = refl; trie = root-trie r r.bits l E refl at first.rooted; good = λ k d low. ((get_or E k d).key, first.cells k d low) },
-      record { left = DEEPEST + 1; entries = D; levels = refl; trie = root-trie s r.bits m D bits at' second.rooted; good = λ k d low. ((get_or D k d).key, second.cells k d low) },
+      record { left = LEVELS; entries = E; levels = refl; trie = root-trie r r.bits l E refl at first.rooted; good = λ k d low. ((get_or E k d).key, first.cells k d low) },
+      record { left = LEVELS; entries = D; levels = refl; trie = root-trie s r.bits m D bits at' second.rooted; good = λ k d low. ((get_or D k d).key, second.cells k d low) },
     )
 
     pub set-congruent : (E D : List (Entry T)) → IsSetOf cmp code h r E → IsSetOf cmp code h s D → Congruent (form_at h) (λ x y. IsSameCell cmp (form_at h) x y) l m ↔ AreSameSets cmp E D
@@ -54,8 +54,8 @@ module _ {T : Type 0} (cmp : T → T → Ordering) (o : IsTotalOrder cmp) (code 
       map-tries =
           let F = form_at h in (
             code_by code r.bits,
-            record { left = DEEPEST + 1; entries = first.map.entries; levels = refl; trie = root-trie r r.bits l first.map.entries refl at first.map.rooted; good = pairs-good cmp F IsValue IsSame first.map.entries M first.map.pairs first.values },
-            record { left = DEEPEST + 1; entries = second.map.entries; levels = refl; trie = root-trie s r.bits m second.map.entries bits at' second.map.rooted; good = pairs-good cmp F IsValue IsSame second.map.entries N second.map.pairs second.values },
+            record { left = LEVELS; entries = first.map.entries; levels = refl; trie = root-trie r r.bits l first.map.entries refl at first.map.rooted; good = pairs-good cmp F IsValue IsSame first.map.entries M first.map.pairs first.values },
+            record { left = LEVELS; entries = second.map.entries; levels = refl; trie = root-trie s r.bits m second.map.entries bits at' second.map.rooted; good = pairs-good cmp F IsValue IsSame second.map.entries N second.map.pairs second.values },
           )
 
       pub map-congruent : Congruent (form_at h) (λ x y. IsSamePair (form_at h) cmp IsSame x y) l m ↔ AreSameMaps cmp IsSame M N

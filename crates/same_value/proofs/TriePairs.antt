@@ -6,7 +6,7 @@ use Rattle.std.specs.declared.cmp.Ordering.{Ordering}
 use Rattle.std.proofs.lemmas.Bool.{cases_eq, cases_lt}
 use Rattle.std.proofs.lemmas.List.{get_or-take, length-take}
 use Rattle.std.proofs.lemmas.List.Elements.{All-filter, All-map, All-head, All-tail, All-cons, All-nil}
-use Rattle.elem_core.specs.declared.codes.TheConstants.{DEEPEST}
+use Rattle.elem_core.specs.declared.codes.TheConstants.{DEEPEST, LEVELS}
 use Rattle.node_heap.specs.Links.{count, HasLink, here, below}
 use Rattle.node_heap.specs.Forms.{Forms, Kind, node, trie}
 use Rattle.node_heap.proofs.BuildLemmas.{count-cons, count-append}
@@ -146,7 +146,7 @@ module _ {K : Type 0} (cmp : K → K → Ordering) (code : K → ℕ) (F : Forms
 -- the trie row at a depth, with so many levels of trie rows below it
 pub record Opened {K : Type 0} (cmp : K → K → Ordering) (code : K → ℕ) (F : Forms K) (IsGood : ℕ → Type 0) (left depth l : ℕ) : Type 0 where
   pub entries : List (Entry K)
-  pub levels : depth + suc left ≡ DEEPEST + 1
+  pub levels : depth + suc left ≡ LEVELS
   pub row : IsTrieRow cmp code F depth l entries (λ k P. IsTrie cmp code F left (suc depth) k P)
   pub whole : IsTrie cmp code F (suc left) depth l entries
   pub good : All (λ e. IsGood e.link) entries
@@ -155,7 +155,7 @@ module _ {K : Type 0} (cmp : K → K → Ordering) (code : K → ℕ) (F : Forms
   pub from-opened : IsFrom cmp F IsGood code depth l → depth ≤ DEEPEST → Opened cmp code F IsGood (DEEPEST - depth) depth l
   from-opened is low = by_left is.left is.levels is.trie
     where
-      by_left : (left : ℕ) → depth + left ≡ DEEPEST + 1 → IsTrie cmp code F left depth l is.entries → Opened cmp code F IsGood (DEEPEST - depth) depth l
+      by_left : (left : ℕ) → depth + left ≡ LEVELS → IsTrie cmp code F left depth l is.entries → Opened cmp code F IsGood (DEEPEST - depth) depth l
       by_left zero levels stands = absurd (omega (arith, levels, low))
       by_left (suc left) levels stands =
           subst (λ n. Opened cmp code F IsGood n depth l) (omega (arith, levels, low))
@@ -165,7 +165,7 @@ module _ {K : Type 0} (cmp : K → K → Ordering) (code : K → ℕ) (F : Forms
   unfolding IsTrie
   from-chain is low = by_left is.left is.levels is.trie
     where
-      by_left : (left : ℕ) → depth + left ≡ DEEPEST + 1 → IsTrie cmp code F left depth l is.entries → IsChainFrom cmp F IsGood l
+      by_left : (left : ℕ) → depth + left ≡ LEVELS → IsTrie cmp code F left depth l is.entries → IsChainFrom cmp F IsGood l
       by_left zero levels stands = record { entries = stands.entries; rows = stands.rows; rising = stands.rising; good = all-turned (λ (e : Entry K). IsGood e.link) is.entries stands.entries (same-sym _ _ stands.same) is.good }
       by_left (suc left) levels stands = absurd (omega (arith, levels, low))
 

@@ -2,7 +2,7 @@
 use Rattle.std.specs.Prelude.{◌≡◌, ℕ, ◌+◌, List, [], ◌∷◌, Some}
 use Rattle.std.specs.List.{All}
 use Rattle.std.specs.declared.cmp.Ordering.{Ordering}
-use Rattle.elem_core.specs.declared.codes.TheConstants.{DEEPEST}
+use Rattle.elem_core.specs.declared.codes.TheConstants.{LEVELS}
 use Rattle.node_heap.specs.Forms.{Forms, Kind, node}
 use Rattle.champ_chain.specs.Entry.{Entry}
 use Rattle.champ_chain.specs.Chain.{AreChainRows, IsRising}
@@ -25,7 +25,7 @@ module _ {K : Type 0} (cmp : K → K → Ordering) (F : Forms K) (IsGood : ℕ �
   pub record IsFrom (code : K → ℕ) (depth l : ℕ) : Type 0 where
     pub left : ℕ
     pub entries : List (Entry K)
-    pub levels : depth + left ≡ DEEPEST + 1
+    pub levels : depth + left ≡ LEVELS
     pub trie : IsTrie cmp code F left depth l entries
     pub good : All (λ e. IsGood e.link) entries
 

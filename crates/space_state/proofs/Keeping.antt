@@ -6,7 +6,7 @@ use Rattle.std.proofs.lemmas.Bool.Decides.{nat_tests}
 use Rattle.elem_core.specs.declared.codes.TheConstants.{CODE_BITS}
 use Rattle.node_heap.specs.Links.{count}
 use Rattle.node_heap.specs.Forms.{cell, is_cell, is_node}
-use Rattle.node_heap.specs.Heap.{Heap, row_at, holds_at, hold_count, live_count, cell_count, node_count, one_at, form_at, IsGraph}
+use Rattle.node_heap.specs.Heap.{Heap, row_at, holds_at, hold_count, live_count, cell_count, node_count, one_at, form_at, IsGraph, half_holds}
 use Rattle.node_heap.specs.Calls.{Extends, KeepsHeld, Makes, Releases, Trades, Unchanged, HasGreater, Adds, Answered}
 use Rattle.node_heap.proofs.Counts.{test_same}
 use Rattle.node_heap.proofs.Frames.{KeepsHeld-Releases, Balances-Makes}
@@ -96,7 +96,7 @@ base-length (Open l) = omega arith
 pub holds-few : {s : RootedHeap} {b : List ℕ} {W : Workspace} → Keeps s b W → hold_count s.heap ≤ 5 + length b
 holds-few {s} {b} K = omega (arith, keeps-total K, base-length s.roots.batch)
 
-pub few-holds : {s : RootedHeap} {b : List ℕ} {W : Workspace} → Keeps s b W → length b ≤ 100 → hold_count s.heap < 2 ^ 59
+pub few-holds : {s : RootedHeap} {b : List ℕ} {W : Workspace} → Keeps s b W → length b ≤ 100 → hold_count s.heap < half_holds
 few-holds K short = omega (arith, holds-few K, short)
 
 pub root-held : {s : RootedHeap} {b : List ℕ} {W : Workspace} → Keeps s b W → (k : ℕ) → 0 < count k (root_list s.roots) → 0 < holds_at s.heap k

@@ -240,7 +240,7 @@ new-pool s K six =
     let full : length (order N (links_in F) roots) ≡ 6 =
     sym (pool-length N F roots (rooted-forms s.heap roots K.graph live) s.bits) ∙ sym (ap row_count same) ∙ rows-are s start K ∙ six in
     same
-    ∙ six-pool F state.names state.stars s.roots.current s.roots.versions s.roots.undo s.roots.redo state.row (named-row F V s.bits (AreLines F V s.bits) state.names state.buffers_are)
+    ∙ six-pool F state.buffers state.stars s.roots.current s.roots.versions s.roots.undo s.roots.redo state.row (named-row F V s.bits (AreLines F V s.bits) state.buffers state.buffers_are)
     (names-row F V s.bits state.stars state.stars_are) (named-row F V s.bits (IsState F V s.bits) s.roots.versions K.stands.1)
     (vector-row F s.roots.undo K.stands.2.vector.shape (history-length K.stands.2)) (vector-row F s.roots.redo K.stands.3.vector.shape (history-length K.stands.3)) N s.bits
     (omega (arith, six, count_by-le-length is_some s.heap.rows)) full

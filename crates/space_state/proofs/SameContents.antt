@@ -237,13 +237,13 @@ module _ (h : Heap Bytes) (bits : ℕ) (few : bits ≤ CODE_BITS) where
   as-state l s is =
       let Value = λ (b : Binding Bytes). IsLines h b.value in
       record {
-        map_root = is.names;
+        map_root = is.buffers;
         set_root = is.stars;
         row = is.row;
         bindings = is.buffers_are.bindings;
         map = record {
-          map = as-map h (IsGoodVector h) bits (AreLinesIn h bits) is.names s.buffers few is.buffers_are;
-          values = λ i d low. let has = named-have (AreLinesIn h bits) (IsSameLines by_bytes h) (lines-same h bits) (form_at h) (IsGoodVector h) bits is.names s.buffers is.buffers_are i d low in as-lines h bits _ has.thing has.is;
+          map = as-map h (IsGoodVector h) bits (AreLinesIn h bits) is.buffers s.buffers few is.buffers_are;
+          values = λ i d low. let has = named-have (AreLinesIn h bits) (IsSameLines by_bytes h) (lines-same h bits) (form_at h) (IsGoodVector h) bits is.buffers s.buffers is.buffers_are i d low in as-lines h bits _ has.thing has.is;
         };
         entries = is.stars_are.entries;
         set = as-set h (IsGoodVector h) bits is.stars s.stars few is.stars_are;
@@ -256,15 +256,15 @@ module _ (h : Heap Bytes) (bits : ℕ) (few : bits ≤ CODE_BITS) where
   module _ (l : ℕ) (s : State) (is : IsStateIn h bits l s) (said : contents.IsStateLink by_bytes text_code h bits l) where
     said-bindings : SameSet said.bindings is.buffers_are.bindings
     said-bindings =
-        let rows : Some (node state (said.map_root ∷ said.set_root ∷ [])) ≡ Some (node state (is.names ∷ is.stars ∷ [])) = sym said.row ∙ is.row in
-        let root : said.map_root ≡ is.names = cc in
-        let there : IsMapOf by_bytes text_code h (record { root = is.names; bits = bits }) said.bindings = subst (λ k. IsMapOf by_bytes text_code h (record { root = k; bits = bits }) said.bindings) root said.map.map in
-        root-one_map by_bytes text_code nat_list_cmp_total equal-codes h (record { root = is.names; bits = bits }) said.bindings is.buffers_are.bindings there
-        (as-map h (IsGoodVector h) bits (AreLinesIn h bits) is.names s.buffers few is.buffers_are)
+        let rows : Some (node state (said.map_root ∷ said.set_root ∷ [])) ≡ Some (node state (is.buffers ∷ is.stars ∷ [])) = sym said.row ∙ is.row in
+        let root : said.map_root ≡ is.buffers = cc in
+        let there : IsMapOf by_bytes text_code h (record { root = is.buffers; bits = bits }) said.bindings = subst (λ k. IsMapOf by_bytes text_code h (record { root = k; bits = bits }) said.bindings) root said.map.map in
+        root-one_map by_bytes text_code nat_list_cmp_total equal-codes h (record { root = is.buffers; bits = bits }) said.bindings is.buffers_are.bindings there
+        (as-map h (IsGoodVector h) bits (AreLinesIn h bits) is.buffers s.buffers few is.buffers_are)
 
     said-entries : SameSet said.entries is.stars_are.entries
     said-entries =
-        let rows : Some (node state (said.map_root ∷ said.set_root ∷ [])) ≡ Some (node state (is.names ∷ is.stars ∷ [])) = sym said.row ∙ is.row in
+        let rows : Some (node state (said.map_root ∷ said.set_root ∷ [])) ≡ Some (node state (is.buffers ∷ is.stars ∷ [])) = sym said.row ∙ is.row in
         let root : said.set_root ≡ is.stars = cc in
         let there : IsSetOf by_bytes text_code h (record { root = is.stars; bits = bits }) said.entries = subst (λ k. IsSetOf by_bytes text_code h (record { root = k; bits = bits }) said.entries) root said.set in
         root-one_set by_bytes text_code nat_list_cmp_total equal-codes h (record { root = is.stars; bits = bits }) said.entries is.stars_are.entries there
@@ -273,7 +273,7 @@ module _ (h : Heap Bytes) (bits : ℕ) (few : bits ≤ CODE_BITS) where
   states-told : (l m : ℕ) (s t : State) → IsStateIn h bits l s → IsStateIn h bits m t → IsSameState by_bytes text_code h bits l m → s ≡ t
   states-told l m s t first second same =
       let made : Named (List Bytes) → Names → State = λ b n. record { buffers = b; stars = n } in
-      let buffers : s.buffers ≡ t.buffers = named-told (AreLinesIn h bits) (IsSameLines by_bytes h) (lines-same h bits) (form_at h) (IsGoodVector h) bits first.names second.names s.buffers t.buffers first.buffers_are second.buffers_are
+      let buffers : s.buffers ≡ t.buffers = named-told (AreLinesIn h bits) (IsSameLines by_bytes h) (lines-same h bits) (form_at h) (IsGoodVector h) bits first.buffers second.buffers s.buffers t.buffers first.buffers_are second.buffers_are
       (one-to-one-turned (IsSameBinding by_bytes (IsSameLines by_bytes h)) same.first.bindings first.buffers_are.bindings same.second.bindings second.buffers_are.bindings (said-bindings l s first same.first) (said-bindings m t second same.second) same.maps) in
       let stars : s.stars ≡ t.stars = names-told (form_at h) (IsGoodVector h) bits first.stars second.stars s.stars t.stars first.stars_are second.stars_are
       (one-to-one-turned SameKey same.first.entries first.stars_are.entries same.second.entries second.stars_are.entries (said-entries l s first same.first) (said-entries m t second same.second) same.sets) in
@@ -284,7 +284,7 @@ module _ (h : Heap Bytes) (bits : ℕ) (few : bits ≤ CODE_BITS) where
   states-same l m s first second = record {
     first = as-state l s first;
     second = as-state m s second;
-    maps = named-go (AreLinesIn h bits) (IsSameLines by_bytes h) (lines-same h bits) (form_at h) (IsGoodVector h) bits first.names second.names s.buffers first.buffers_are second.buffers_are;
+    maps = named-go (AreLinesIn h bits) (IsSameLines by_bytes h) (lines-same h bits) (form_at h) (IsGoodVector h) bits first.buffers second.buffers s.buffers first.buffers_are second.buffers_are;
     sets = names-go (form_at h) (IsGoodVector h) bits first.stars second.stars s.stars first.stars_are second.stars_are;
   }
 

@@ -1,6 +1,7 @@
 //! The edits that make a buffer, and those of lines in place. Each first looks for what refuses it and makes room for all that it will
 //! make.
 ghost use Rattle.std.specs.Prelude.{◌≡◌, ◌+◌, ◌<◌, ◌^◌, [], IfOk, MatchResult};
+ghost use Rattle.node_heap.specs.Heap.{row_limit};
 ghost use Rattle.elem_core.specs.Shown.{name_bytes, line_bytes};
 ghost use Rattle.shell_terms.specs.Edit.{new, add, set};
 ghost use Rattle.shell_terms.specs.Command.{edit};
@@ -24,7 +25,7 @@ impl RootedHeap {
     // many names that are alike, and then keeps the current state. Refused as `make_room_with` is, which leaves all as it was.
     fn ready(&mut self, line: Line<'_>, alike: usize) -> Result<Text, Refusal>
         requires kept { (W : Workspace) × Keeps self.old [] W }
-        requires few { alike < 2 ^ 56 }
+        requires few { alike < row_limit }
         ensures ready { (W : Workspace) → Keeps self.old [] W → MatchResult result (λ _. IsReadyInPlace self.old self.new W (IN_PLACE_NODES + alike)) (RoomIsRefused self.old self.new W) }
         ensures text { IfOk result (λ text. text ≡ line_bytes line.entry) }
     {

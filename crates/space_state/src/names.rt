@@ -15,7 +15,7 @@ impl RootedHeap {
         requires { (W : Workspace) × Keeps self.now [] W }
         ensures { (W : Workspace) → Keeps self.now [] W → IfOk result (λ listed. each (λ size. (size.0.now, size.1)) listed.items ≡ sizes W.current) }
     {
-        state_rows::sizes(alloc, &self.heap, self.bits, self.roots.current)
+        state_rows::names(alloc, &self.heap, self.bits, self.roots.current)
     }
 
     /// The number of the buffers, and of the lines of all of them.
@@ -32,7 +32,7 @@ impl RootedHeap {
         requires { (W : Workspace) × Keeps self.now [] W }
         ensures { (W : Workspace) → Keeps self.now [] W → IfOk result (λ listed. each (λ name. name.now) listed.items ≡ map.keys W.current.stars) }
     {
-        state_rows::starred(alloc, &self.heap, self.bits, self.roots.current)
+        state_rows::stars(alloc, &self.heap, self.bits, self.roots.current)
     }
 
     /// The names of the versions, in byte order.
@@ -40,6 +40,6 @@ impl RootedHeap {
         requires { (W : Workspace) × Keeps self.now [] W }
         ensures { (W : Workspace) → Keeps self.now [] W → IfOk result (λ listed. each (λ name. name.now) listed.items ≡ map.keys W.versions) }
     {
-        state_rows::marked(alloc, &self.heap, self.versions())
+        state_rows::marks(alloc, &self.heap, self.versions())
     }
 }

@@ -4,7 +4,7 @@
 ghost use Rattle.std.specs.Prelude.{◌≡◌, ℕ, ◌+◌, ◌*◌, ◌<◌, ◌≤◌, ◌^◌, List, [], ◌∷◌, length, Option, None, IfOk, true, false};
 ghost use Rattle.elem_core.specs.declared.codes.TheConstants.{DEEPEST};
 ghost use Rattle.elem_core.specs.Shown.{name_bytes};
-ghost use Rattle.node_heap.specs.Heap.{HasSpares};
+ghost use Rattle.node_heap.specs.Heap.{HasSpares, row_limit};
 ghost use Rattle.shell_terms.specs.Edit.{Bytes};
 ghost use Rattle.plain_space.specs.Workspace.{Workspace, in_batch, lines_of, with_lines, is_full, with_current};
 ghost use Rattle.plain_space.specs.Cost.{alike_buffers};
@@ -26,7 +26,7 @@ impl RootedHeap {
         requires { (W : Workspace) × Keeps self.now [] W }
         ensures lines { (W : Workspace) → Keeps self.now [] W → StandsIfThere (AreLinesIn self.now.heap self.now.bits) result.lines (lines_of W.current (name_bytes name.entry)) }
         ensures alike { (W : Workspace) → Keeps self.now [] W → result.alike ≡ alike_buffers self.now.bits W.current (name_bytes name.entry) }
-        ensures few { result.alike < 2 ^ 56 }
+        ensures few { result.alike < row_limit }
     {
         find_buffer(&self.heap, self.bits, self.roots.current, name)
     }

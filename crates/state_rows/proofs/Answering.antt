@@ -2,7 +2,7 @@
 use Rattle.std.proofs.Common.{◌≡◌, ℕ, suc, ◌+◌, ◌≤◌, List, [], ◌∷◌, length, Option, Some, None, IsSome, is_some, refl, sym, subst, arith, inl, inr, get_or}
 use Rattle.std.specs.Prelude.{count_by, ◌^◌, ◌<◌}
 use Rattle.node_heap.specs.Links.{count}
-use Rattle.node_heap.specs.Heap.{Heap, row_at, holds_at, hold_count, live_count, one_at, HasSpares}
+use Rattle.node_heap.specs.Heap.{Heap, row_at, holds_at, hold_count, live_count, one_at, HasSpares, half_holds, most_holds}
 use Rattle.node_heap.specs.Calls.{Extends, Makes, MakesJust, Answered}
 use Rattle.node_heap.proofs.Frames.{Extends-trans, Balances-trans}
 use Rattle.std.proofs.lemmas.Bool.{cases_eq}
@@ -87,14 +87,14 @@ module _ {T : Type 0} where
 
   -- one part of a state was made, the other is there: all that the row over both asks for
   pub record IsReady (h : Heap T) (part other : ℕ) : Type 0 where
-    pub few : hold_count h + 1 < 2 ^ 60
+    pub few : hold_count h + 1 < most_holds
     pub held : 0 < holds_at h part
     pub live : IsSome (row_at h other)
     pub spares : HasSpares h 0 1
 
   -- a call made the part, of spares that leave a node
   module _ {old mid : Heap T} {xs : List ℕ} {part c n : ℕ} (first : Answered old mid xs part c n) where
-    pub ready : {other l more : ℕ} → HasSpares old c more → n + 1 ≤ more → hold_count old < 2 ^ 59 → 0 < holds_at mid part → IsSome (row_at old l) → other ≡ l → IsReady mid part other
+    pub ready : {other l more : ℕ} → HasSpares old c more → n + 1 ≤ more → hold_count old < half_holds → 0 < holds_at mid part → IsSome (row_at old l) → other ≡ l → IsReady mid part other
     ready {l = l} spares enough few held live there = record {
       few = omega (arith, few, first.count);
       held = held;

@@ -1,5 +1,6 @@
 -- A state row that was made its holder's own, and the map of its buffers, to which a buffer comes.
 use Rattle.std.proofs.Common.{◌≡◌, ◌≢◌, ℕ, ◌+◌, ◌<◌, ◌≤◌, List, [], ◌∷◌, length, remove, set, Bool, true, false, cond, Option, Some, None, get_or, ap, sym, subst, refl, ◌∙◌, arith}
+use Rattle.champ_kinds.specs.declared.map.TheConstants.{INSERT_NODES}
 use Rattle.std.specs.Prelude.{option_to_list, option_map, ◌==◌, if◌then◌else◌}
 use Rattle.std.specs.List.{All, find}
 use Rattle.std.proofs.lemmas.List.Elements.{All-head, All-tail}
@@ -49,14 +50,14 @@ module _ {old mid : Heap Bytes} {l r : ℕ} (graph : IsGraph old) (held : 0 < ho
       (omega (arith, enough, builds.holds v, count-cons v l (v ∷ []), count-cons v v [], count-cons v l [], count-cons v r [], test_same v v refl, one_at-flip v r))
 
   module _ {bits : ℕ} (fits : bits ≤ CODE_BITS) {s : State} (is : IsStateIn old bits l s) where
-    names-mid : child_at mid r 0 ≡ is.names
+    names-mid : child_at mid r 0 ≡ is.buffers
     names-mid = ap (λ w. get_or (links_of w) 0 0) row ∙ ap (λ ks. get_or ks 0 0) (sym (links-form old l) ∙ ap links_of is.row)
 
     pub buffers-mid : RootsMap mid bits (AreLinesIn mid bits) s.buffers (record { root = child_at mid r 0; bits = bits })
-    buffers-mid = record { link = is.names; named = buffers-grown old mid builds.extends bits is.names s.buffers is.buffers_are; fits = fits; by = refl; root = names-mid }
+    buffers-mid = record { link = is.buffers; named = buffers-grown old mid builds.extends bits is.buffers s.buffers is.buffers_are; fits = fits; by = refl; root = names-mid }
 
     -- what a call says where it has the spares that it may take
-    pub never-refused : (key : Bytes) {Said : Type 0} → ((M : List (Binding Bytes)) → IsMapOf by_bytes text_code mid (record { root = child_at mid r 0; bits = bits }) M → HasSpares mid 1 (DEEPEST + 3 + alike_keys text_code bits key M) → Said)
+    pub never-refused : (key : Bytes) {Said : Type 0} → ((M : List (Binding Bytes)) → IsMapOf by_bytes text_code mid (record { root = child_at mid r 0; bits = bits }) M → HasSpares mid 1 (INSERT_NODES + alike_keys text_code bits key M) → Said)
         → HasSpares old 1 (DEEPEST + 4 + alike_buffers bits s key) → Said
     never-refused key said spares =
         map-ample buffers-mid key (DEEPEST + 3) {more = DEEPEST + 3} said
@@ -117,11 +118,11 @@ module _ {mid new : Heap Bytes} {bits r v root : ℕ} {s : State} {key : Bytes} 
   lines-keep : KeepsBelow mid new v
   lines-keep m down = stays-off m (λ same. off (subst (Reaches (links_at mid) v) same down)) (beside v m line_held (way v m down off))
 
-  links-row : links_at mid r ≡ is.names ∷ is.stars ∷ []
+  links-row : links_at mid r ≡ is.buffers ∷ is.stars ∷ []
   links-row = sym (links-form mid r) ∙ ap links_of is.row
 
   stars-linked : HasLink (links_at mid) r is.stars
-  stars-linked = omega (arith, ap (count is.stars) links-row, count-cons is.stars is.names (is.stars ∷ []), count-cons is.stars is.stars [], test_same is.stars is.stars refl)
+  stars-linked = omega (arith, ap (count is.stars) links-row, count-cons is.stars is.buffers (is.stars ∷ []), count-cons is.stars is.stars [], test_same is.stars is.stars refl)
 
   stars-off : ¬ Reaches (links_at mid) is.stars r
   stars-off = IsGraph-acyclic mid graph r is.stars stars-linked
@@ -163,13 +164,13 @@ module _ (keep : EditsKeepValues by_bytes text_code) {old mid new : Heap Bytes} 
   buffer-is s xs is lines =
       let first = held-first old l v held in
       let at = buffers-mid graph first row sole builds fits is in
-      let form : form_at mid r ≡ Some (node state (is.names ∷ is.stars ∷ [])) = ap (option_map form_of) row ∙ is.row in
+      let form : form_at mid r ≡ Some (node state (is.buffers ∷ is.stars ∷ [])) = ap (option_map form_of) row ∙ is.row in
       let did = puts at.named.bindings (map-is at) in
       let inside : 0 < length (links_at mid r) = omega (arith, ap length (sym (links-form mid r) ∙ ap links_of form)) in
       let kept = keep (by_place r 0) mid new (child_at new r 0) bits at.named.bindings key builds.graph inside (map-is at) did.others in
       let rows : form_at mid r ≡ Some (node state (at.link ∷ is.stars ∷ [])) = form ∙ ap (λ (k : ℕ). Some (node state (k ∷ is.stars ∷ []))) (sym (names-mid graph first row sole builds fits is) ∙ at.root) in
       buffer-stands builds.graph (held-root graph first sole builds)
-      (record { names = at.link; stars = is.stars; row = rows; buffers_are = at.named; stars_are = names-grown old mid builds.extends bits is.stars s.stars is.stars_are })
+      (record { buffers = at.link; stars = is.stars; row = rows; buffers_are = at.named; stars_are = names-grown old mid builds.extends bits is.stars s.stars is.stars_are })
       kept.beside kept.below did.map named ((grown old mid builds.extends bits v).lines xs lines)
       (omega (arith, builds.holds v, held v, count-cons v l (v ∷ []), count-cons v v [], count-cons v l [], count-cons v r [], test_same v v refl))
       (apart-row graph first row sole builds v (held v))

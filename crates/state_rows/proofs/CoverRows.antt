@@ -8,7 +8,7 @@ use Rattle.std.proofs.lemmas.Bool.{cases_eq, cases_lt, cases_Bool, eqb-true}
 use Rattle.std.proofs.lemmas.List.Elements.{All-nil, All-cons, All-head, All-tail, All-filter, All-append, filter_passes}
 use Rattle.elem_core.specs.Cell.{IsCell}
 use Rattle.elem_core.specs.Codes.{digit_at}
-use Rattle.elem_core.specs.declared.codes.TheConstants.{CODE_BITS}
+use Rattle.elem_core.specs.declared.codes.TheConstants.{CODE_BITS, LEVELS}
 use Rattle.elem_core.proofs.CodeLemmas.{digit-more, all-bits}
 use Rattle.node_heap.specs.Links.{count, Reaches, here, below}
 use Rattle.node_heap.specs.Forms.{Forms, Kind, cell, node, chain, pair, state, links_of, links_in}
@@ -33,7 +33,7 @@ use Rattle.shell_terms.specs.Edit.{Bytes}
 pub data IsKnown (F : Forms Bytes) (code : Bytes → ℕ) (l : ℕ) : Type 0 where
   known_cell : (text : Bytes) → F l ≡ Some (cell text) → IsCell text → IsKnown F code l
   known_vector : (n : ℕ) → n ≤ 7 → IsWell F n l → length (seq_at F n l) < 2 ^ 32 → IsKnown F code l
-  known_trie : (left depth c : ℕ) (E : List (Entry Bytes)) → depth + suc left ≡ 7 → IsTrie (slice_cmp nat_cmp) code F (suc left) depth l E → All (λ e. code e.key % 2 ^ (5 * depth) ≡ c) E → (0 < depth → 2 ≤ length E) → IsKnown F code l
+  known_trie : (left depth c : ℕ) (E : List (Entry Bytes)) → depth + suc left ≡ LEVELS → IsTrie (slice_cmp nat_cmp) code F (suc left) depth l E → All (λ e. code e.key % 2 ^ (5 * depth) ≡ c) E → (0 < depth → 2 ≤ length E) → IsKnown F code l
   known_chain : (c : ℕ) (es : List (Entry Bytes)) → AreChainRows F (Some l) es → IsRising (slice_cmp nat_cmp) es → All (λ e. code e.key ≡ c) es → IsKnown F code l
   known_pair : (k m : ℕ) → F l ≡ Some (node pair (k ∷ m ∷ [])) → IsKnown F code l
   known_state : (k m : ℕ) → F l ≡ Some (node state (k ∷ m ∷ [])) → IsKnown F code l
@@ -171,7 +171,7 @@ module _ (F : Forms Bytes) (code : Bytes → ℕ) where
           (λ k P few known. known)
 
   -- a trie row, or a chain, of entries that are known
-  pub trie-known : (left depth l c : ℕ) (E : List (Entry Bytes)) → ((key : Bytes) → code key < 2 ^ CODE_BITS) → depth + left ≡ 7 → IsTrie (slice_cmp nat_cmp) code F left depth l E
+  pub trie-known : (left depth l c : ℕ) (E : List (Entry Bytes)) → ((key : Bytes) → code key < 2 ^ CODE_BITS) → depth + left ≡ LEVELS → IsTrie (slice_cmp nat_cmp) code F left depth l E
       → All (λ e. code e.key % 2 ^ (5 * depth) ≡ c) E → (0 < depth → 2 ≤ length E) → All (λ e. AllKnown e.link) E → AllKnown l
   unfolding IsTrie
   trie-known zero depth l c E small levels is agree many each =

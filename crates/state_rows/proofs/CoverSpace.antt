@@ -135,7 +135,7 @@ module _ (F : Forms Bytes) (bits : ℕ) (few : bits ≤ CODE_BITS) where
 
   state-row-known : (l : ℕ) (now : State) → IsState F (IsWellShaped F) bits l now → Covered l
   state-row-known l now is =
-      state-known F (code_by text_code bits) l is.names is.stars is.row (named-known (AreLines F (IsWellShaped F) bits) lines-known is.names now.buffers is.buffers_are) (names-known is.stars now.stars is.stars_are)
+      state-known F (code_by text_code bits) l is.buffers is.stars is.row (named-known (AreLines F (IsWellShaped F) bits) lines-known is.buffers now.buffers is.buffers_are) (names-known is.stars now.stars is.stars_are)
 
   base-known : (base : List ℕ) (now : Option State) → IsBase (IsState F (IsWellShaped F) bits) base now → All Covered base
   base-known [] None is = All-nil Covered

@@ -1,5 +1,6 @@
 -- How the lines of a buffer are edited below a state row with one owner.
 use Rattle.std.proofs.Common.{◌≡◌, ◌≢◌, ℕ, ◌+◌, ◌*◌, ◌<◌, ◌≤◌, List, [], ◌∷◌, ◌++◌, length, remove, Bool, true, false, cond, eqb, Option, Some, None, inl, inr, refl, sym, subst, ap, ◌∙◌, arith}
+use Rattle.champ_trie.specs.declared.TheConstants.{ADD_NODES}
 use Rattle.std.specs.Prelude.{option_map, IsSomeAnd, slice_get, slice_index, slice_set}
 use Rattle.std.specs.List.{AllZip}
 use Rattle.std.specs.Ordering.{nat_cmp}
@@ -31,7 +32,7 @@ use Rattle.edit_trie.specs.Path.{pair_rows, MakesCopies}
 use Rattle.shell_terms.specs.Edit.{Bytes}
 use Rattle.plain_space.specs.Workspace.{State}
 use Rattle.plain_space.specs.Cost.{alike_buffers}
-use Rattle.elem_core.specs.declared.codes.TheConstants.{DEEPEST}
+use Rattle.elem_core.specs.declared.codes.TheConstants.{LEVELS}
 use Rattle.elem_core.specs.Codes.{text_code}
 use Rattle.state_rows.specs.InHeap.{IsTextIn, AreLinesIn, IsStateIn}
 use Rattle.state_rows.specs.InPlace.{CopiesOfPath, OwnsLines, lines_path}
@@ -42,10 +43,10 @@ use Rattle.state_rows.proofs.Staying.{buffers-grown, names-grown, states-stay}
 -- a state row that is made one's own
 pub state-owned : {old mid : Heap Bytes} {bits l k : ℕ} {s : State} → Extends old mid → row_at mid k ≡ row_at old l → IsStateIn old bits l s → IsStateIn mid bits k s
 state-owned {old} {mid} {bits} {s = s} more same is = record {
-  names = is.names;
+  buffers = is.buffers;
   stars = is.stars;
   row = ap (option_map form_of) same ∙ is.row;
-  buffers_are = buffers-grown old mid more bits is.names s.buffers is.buffers_are;
+  buffers_are = buffers-grown old mid more bits is.buffers s.buffers is.buffers_are;
   stars_are = names-grown old mid more bits is.stars s.stars is.stars_are;
 }
 
@@ -153,9 +154,9 @@ module _ (line : ℕ) {h0 h1 h2 : Heap Bytes} {bits state st : ℕ} {s : State} 
   line-apart is = cell-ends h2 line pair (line-there is).row owns.two
 
   -- what is changed at the pair then is an edit by the state's hold
-  pub edits-state : {h3 : Heap Bytes} {gained : List ℕ} {c n : ℕ} → Changes pair h2 h3 (line ∷ []) gained c n → EditsBy (by_hold state) h0 h3 st (line ∷ []) gained (0 + c) (1 + (DEEPEST + 2 + alike_buffers bits s name + n))
+  pub edits-state : {h3 : Heap Bytes} {gained : List ℕ} {c n : ℕ} → Changes pair h2 h3 (line ∷ []) gained c n → EditsBy (by_hold state) h0 h3 st (line ∷ []) gained (0 + c) (1 + (ADD_NODES + alike_buffers bits s name + n))
   edits-state {h3} {gained} {c} {n} change =
-      let all : Changes st h1 h3 (line ∷ []) gained (0 + c) (DEEPEST + 2 + alike_buffers bits s name + n) = Changes-follow [] [] [] (line ∷ []) gained owns.changes (Changes-path owns.down change) in
+      let all : Changes st h1 h3 (line ∷ []) gained (0 + c) (ADD_NODES + alike_buffers bits s name + n) = Changes-follow [] [] [] (line ∷ []) gained owns.changes (Changes-path owns.down change) in
       EditsBy-hold graph (state-first state line (held state)) sole builds all
 
   -- and where a vector of lines was handed in beside the state, it stays, and doesn't reach the pair
@@ -256,7 +257,7 @@ module _ {old mid : Heap Bytes} {state st : ℕ} (graph : IsGraph old) (same : s
       let forms : (k : ℕ) → form_at mid k ≡ form_at old k = λ k. ap (option_map form_of) (rows k) in
       let live : live_count mid ≡ live_count old = omega (arith, makes.live, none-copied) in
       let first : child_at mid st 0 ≡ child_at old state 0 = ap (λ (k : ℕ). child_at mid k 0) same ∙ ap (λ (r : Option (Row Bytes)). slice_index (links_of r) 0) (rows state) in
-      (λ i. pair_rows (slice_cmp nat_cmp) (λ k. forms k i) name (live i) (DEEPEST + 1) 0 (code_by text_code bits name) (first i))
+      (λ i. pair_rows (slice_cmp nat_cmp) (λ k. forms k i) name (live i) LEVELS 0 (code_by text_code bits name) (first i))
 
   -- and what is made is just those of them that aren't alone
   pub path-made : (bits : ℕ) (name : Bytes) (now new : Heap Bytes) → MakesWhatCame mid now → MakesCopies mid now (lines_path mid bits st name) → new.made ≡ now.made → CopiesOfPath old new (lines_path old bits state name)

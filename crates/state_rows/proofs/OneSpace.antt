@@ -86,11 +86,11 @@ module _ (F : Forms Bytes) (V : ℕ → Type 0) (bits : ℕ) where
 
   one-state : IsOne (IsState F V bits)
   one-state l x y first second =
-      let both : Some (node state (first.names ∷ first.stars ∷ [])) ≡ Some (node state (second.names ∷ second.stars ∷ [])) = sym first.row ∙ second.row in
-      let names : second.names ≡ first.names = cc in
+      let both : Some (node state (first.buffers ∷ first.stars ∷ [])) ≡ Some (node state (second.buffers ∷ second.stars ∷ [])) = sym first.row ∙ second.row in
+      let names : second.buffers ≡ first.buffers = cc in
       let stars : second.stars ≡ first.stars = cc in
       let made : Named (List Bytes) → Names → State = λ m s. record { buffers = m; stars = s } in
-      let buffers = one-named (AreLines F V bits) (one-vector (IsText F V bits) one-text) first.names x.buffers y.buffers first.buffers_are (subst (λ k. IsNamed F V bits (AreLines F V bits) k y.buffers) names second.buffers_are) in
+      let buffers = one-named (AreLines F V bits) (one-vector (IsText F V bits) one-text) first.buffers x.buffers y.buffers first.buffers_are (subst (λ k. IsNamed F V bits (AreLines F V bits) k y.buffers) names second.buffers_are) in
       let starred = one-names first.stars x.stars y.stars first.stars_are (subst (λ k. AreNames F V bits k y.stars) stars second.stars_are) in
       ap (λ m. made m x.stars) buffers ∙ ap (λ s. made y.buffers s) starred
 

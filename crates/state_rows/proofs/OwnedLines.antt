@@ -1,5 +1,6 @@
 -- What owning the way to a buffer's lines makes of a state, and what a later edit there does.
 use Rattle.std.proofs.Common.{◌≡◌, ◌≢◌, ℕ, zero, suc, ◌+◌, ◌<◌, ◌≤◌, List, [], ◌∷◌, length, remove, get_or, Bool, true, false, cond, Option, Some, None, refl, sym, subst, ap, ◌∙◌, arith}
+use Rattle.champ_trie.specs.declared.TheConstants.{ADD_NODES}
 use Rattle.std.specs.Prelude.{option_map, slice_index, slice_set}
 use Rattle.std.specs.List.{All, find}
 use Rattle.std.specs.Ordering.{is_eq}
@@ -7,7 +8,7 @@ use Rattle.std.specs.declared.cmp.Ordering.TheVariants.{Equal}
 use Rattle.std.specs.FinMap as finite
 use Rattle.std.proofs.lemmas.List.Elements.{All-head, All-tail}
 use Rattle.std.proofs.lemmas.List.Sums.{sum_by-cons}
-use Rattle.elem_core.specs.declared.codes.TheConstants.{CODE_BITS, DEEPEST}
+use Rattle.elem_core.specs.declared.codes.TheConstants.{CODE_BITS}
 use Rattle.elem_core.specs.Codes.{text_code}
 use Rattle.elem_core.specs.Naming.{IsName}
 use Rattle.node_heap.specs.Links.{count, HasLink, Reaches, here, below}
@@ -98,11 +99,11 @@ module _ {T : Type 0} where
 
 module _ (keep : EditsKeepValues by_bytes text_code) {h1 h2 : Heap Bytes} {bits st p : ℕ} {s : State} {name : Bytes} {xs : List Bytes} (graph : IsGraph h1) (held : 0 < holds_at h1 st) (is : IsStateIn h1 bits st s) (fits : bits ≤ CODE_BITS)
     (found : lines_of s name ≡ Some xs) (own : OwnsPair by_bytes text_code (by_place st 0) bits h1 h2 (child_at h2 st 0) is.buffers_are.bindings name p) where
-  links1 : links_at h1 st ≡ is.names ∷ is.stars ∷ []
+  links1 : links_at h1 st ≡ is.buffers ∷ is.stars ∷ []
   links1 = sym (links-form h1 st) ∙ ap links_of is.row
 
   map1 : IsMapOf by_bytes text_code h1 (by_bits bits (child_at h1 st 0)) is.buffers_are.bindings
-  map1 = subst (λ (ks : List ℕ). IsMapOf by_bytes text_code h1 (by_bits bits (slice_index ks 0)) is.buffers_are.bindings) (sym links1) (map-at h1 (IsGoodVector h1) bits (AreLinesIn h1 bits) (by_bits bits is.names) is.names s.buffers fits is.buffers_are refl refl)
+  map1 = subst (λ (ks : List ℕ). IsMapOf by_bytes text_code h1 (by_bits bits (slice_index ks 0)) is.buffers_are.bindings) (sym links1) (map-at h1 (IsGoodVector h1) bits (AreLinesIn h1 bits) (by_bits bits is.buffers) is.buffers s.buffers fits is.buffers_are refl refl)
 
   kept : KeepsBesideAndValues by_bytes text_code (by_place st 0) h1 h2 (child_at h2 st 0) is.buffers_are.bindings
   kept = keep (by_place st 0) h1 h2 (child_at h2 st 0) bits is.buffers_are.bindings name graph (omega (arith, ap length links1)) map1 own.others
@@ -111,7 +112,7 @@ module _ (keep : EditsKeepValues by_bytes text_code) {h1 h2 : Heap Bytes} {bits 
   form2 = ap (option_map form_of) (kept.beside st st held (here st) ∙ at-owner st (child_at h2 st 0) 0 (row_at h1 st)) ∙ relinked-form 0 (child_at h2 st 0) (row_at h1 st) ∙ ap (relinked_form 0 (child_at h2 st 0)) is.row
 
   has-stars : HasLink (links_at h1) st is.stars
-  has-stars = omega (arith, ap (count is.stars) links1, second-counts is.names is.stars)
+  has-stars = omega (arith, ap (count is.stars) links1, second-counts is.buffers is.stars)
 
   stars1 : KeepsBelow h1 h2 is.stars
   stars1 = λ m way.
@@ -204,7 +205,7 @@ module _ (keep : EditsKeepValues by_bytes text_code) {h1 h2 : Heap Bytes} {bits 
       placed3 {ys} lines =
           state-placed is st (child_at h2 st 0) v name ys named (ap (option_map form_of) same3 ∙ form2) map3 lines (λ other unlike k at. KeepsBelow-trans h1 h2 h3 k (values1 other k at) (values2 other unlike k at)) (KeepsBelow-trans h1 h2 h3 is.stars stars1 stars2)
 
-    pub owns-lines : (sole : owners_at h2 p ≡ 1) (makes : MakesWhatCame h1 h2) (spares : KeepsToNeed h1 h2 0 0) (few : n ≡ DEEPEST + 2 + alike_buffers bits s name) → OwnsLines h1 h2 bits st s name xs p
+    pub owns-lines : (sole : owners_at h2 p ≡ 1) (makes : MakesWhatCame h1 h2) (spares : KeepsToNeed h1 h2 0 0) (few : n ≡ ADD_NODES + alike_buffers bits s name) → OwnsLines h1 h2 bits st s name xs p
     owns-lines sole makes spares few = record {
       sole = sole;
       two = omega (arith, ap length pair-links);
@@ -229,11 +230,11 @@ pair-row {h} {r} {M} {name} {p} {w} map q at =
 -- the map of a state's buffers, at its place in the row
 pub state-map : {h : Heap Bytes} {bits st : ℕ} {s : State} → bits ≤ CODE_BITS → (is : IsStateIn h bits st s) → IsMapOf by_bytes text_code h (by_bits bits (child_at h st 0)) is.buffers_are.bindings
 state-map {h} {bits} {st} {s} fits is =
-    let links : links_at h st ≡ is.names ∷ is.stars ∷ [] = sym (links-form h st) ∙ ap links_of is.row in
-    subst (λ (ks : List ℕ). IsMapOf by_bytes text_code h (by_bits bits (slice_index ks 0)) is.buffers_are.bindings) (sym links) (map-at h (IsGoodVector h) bits (AreLinesIn h bits) (by_bits bits is.names) is.names s.buffers fits is.buffers_are refl refl)
+    let links : links_at h st ≡ is.buffers ∷ is.stars ∷ [] = sym (links-form h st) ∙ ap links_of is.row in
+    subst (λ (ks : List ℕ). IsMapOf by_bytes text_code h (by_bits bits (slice_index ks 0)) is.buffers_are.bindings) (sym links) (map-at h (IsGoodVector h) bits (AreLinesIn h bits) (by_bits bits is.buffers) is.buffers s.buffers fits is.buffers_are refl refl)
 
 pub state-alike : {h : Heap Bytes} {bits st : ℕ} {s : State} (is : IsStateIn h bits st s) (name : Bytes) → alike_keys text_code bits name is.buffers_are.bindings ≡ alike_buffers bits s name
-state-alike {h} {bits} {st} {s} is name = bindings-alike (form_at h) (IsGoodVector h) bits (AreLinesIn h bits) is.names s.buffers is.buffers_are name
+state-alike {h} {bits} {st} {s} is name = bindings-alike (form_at h) (IsGoodVector h) bits (AreLinesIn h bits) is.buffers s.buffers is.buffers_are name
 
 value-there : (h : Heap Bytes) (bits : ℕ) (o : Option ℕ) (p : Option (List Bytes)) {xs : List Bytes} → StandsIfThere (AreLinesIn h bits) o p → p ≡ Some xs → o ≡ None → ⊥
 value-there h bits None None is first second = absurd (let h = first in cc)

@@ -14,7 +14,7 @@ use Rattle.champ_chain.specs.Entry.{Entry}
 use Rattle.champ_trie.specs.Trie.{IsTrie, code_by}
 use Rattle.pool_order.proofs.Places.{flat_map-has}
 use Rattle.pool_check.specs.Tries.{entries_below}
-use Rattle.pool_check.specs.Kinds.{is_vector_root, is_trie_root, is_pair_of, is_state_of, is_cell_of, elements_pass, is_vector_of, is_trie_of, is_name_cell, is_lines_vector, is_names_map, is_stars_set, is_state, is_versions_map, is_history, are_roots}
+use Rattle.pool_check.specs.Kinds.{is_vector_root, is_trie_root, is_pair_of, is_state_of, is_cell_of, elements_pass, is_vector_of, is_trie_of, is_name_cell, is_lines_vector, is_buffer_map, is_stars_set, is_state, is_versions_map, is_history, are_roots}
 use Rattle.shell_terms.specs.Edit.{Bytes}
 use Rattle.plain_space.specs.Workspace.{Named, Names, State, Workspace}
 use Rattle.state_rows.specs.Reading.{IsVectorOver, IsTrieOfNames, IsNamed, AreNames, IsText, AreLines, IsState}
@@ -68,8 +68,8 @@ module _ (F : Forms Bytes) (falls : LeadsDown (λ l. l) (links_in F)) (n : ℕ) 
 
   state-is : (l : ℕ) (now : State) → IsState F (IsWellShaped F) bits l now → is_state n F l ≡ true
   state-is l now is =
-      ap (is_state_of (is_names_map n F) (is_stars_set n F)) is.row
-      ∙ and_from (is_names_map n F is.names) (is_stars_set n F is.stars) (named-is (AreLines F (IsWellShaped F) bits) (is_lines_vector n F) lines-are is.names now.buffers is.buffers_are) (stars-are is.stars now.stars is.stars_are)
+      ap (is_state_of (is_buffer_map n F) (is_stars_set n F)) is.row
+      ∙ and_from (is_buffer_map n F is.buffers) (is_stars_set n F is.stars) (named-is (AreLines F (IsWellShaped F) bits) (is_lines_vector n F) lines-are is.buffers now.buffers is.buffers_are) (stars-are is.stars now.stars is.stars_are)
 
   pub roots-are : (roots : List ℕ) (W : Workspace) → StandFor F (IsWellShaped F) bits roots W → are_roots n F roots ≡ true
   unfolding are_roots

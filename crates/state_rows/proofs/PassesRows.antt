@@ -8,7 +8,7 @@ use Rattle.std.proofs.lemmas.Bool.{and_from, eq-eqb, eqb-true}
 use Rattle.std.proofs.lemmas.List.Sums.{list_all-from_AllPass}
 use Rattle.elem_core.specs.Cell.{IsCell}
 use Rattle.elem_core.specs.declared.TheConstants.{MAX_LINE, NEWLINE}
-use Rattle.elem_core.specs.declared.codes.TheConstants.{DEEPEST}
+use Rattle.elem_core.specs.declared.codes.TheConstants.{DEEPEST, LEVELS}
 use Rattle.node_heap.specs.Links.{LeadsDown}
 use Rattle.node_heap.specs.Forms.{Form, Forms, cell, node, leaf, inner, trie, chain, pair, state, links_in}
 use Rattle.rrb_core.specs.Seq.{seq_at, IsThick, IsWell}
@@ -100,7 +100,7 @@ module _ (F : Forms Bytes) (falls : LeadsDown (λ l. l) (links_in F)) (n : ℕ) 
       (and_from (is_between 1 7 (suc height)) (is_between 1 32 (length (links_in F l))) (between-test 1 7 (suc height) (omega arith) low) (between-test 1 32 (length (links_in F l)) well.some well.most))
       refl (ap (λ k. are_children F k (links_in F l)) one ∙ children-test F height l well short) (ap (is_canonical n F code l) well.kind)
 
-  trie-row-passes : (left depth l c : ℕ) (E : List (Entry Bytes)) → l < n → depth + suc left ≡ 7 → IsTrie (slice_cmp nat_cmp) code F (suc left) depth l E → is_canonical n F code l (F l) ≡ true → Passes l
+  trie-row-passes : (left depth l c : ℕ) (E : List (Entry Bytes)) → l < n → depth + suc left ≡ LEVELS → IsTrie (slice_cmp nat_cmp) code F (suc left) depth l E → is_canonical n F code l (F l) ≡ true → Passes l
   unfolding IsTrie
   trie-row-passes left depth l c E low levels is canonical =
       passes-as l (node (trie depth is.entries is.nodes) is.links) is.row.row

@@ -11,7 +11,7 @@ use Rattle.std.proofs.lemmas.List.Elements.{All-head, All-map, filter_passes}
 use Rattle.std.proofs.lemmas.List.Sums.{list_all-from_AllPass}
 use lib.Pointwise.{pointwise}
 use Rattle.elem_core.specs.Codes.{digit_at}
-use Rattle.elem_core.specs.declared.codes.TheConstants.{DEEPEST}
+use Rattle.elem_core.specs.declared.codes.TheConstants.{DEEPEST, LEVELS}
 use Rattle.node_heap.specs.Links.{count, LeadsDown}
 use Rattle.node_heap.specs.Forms.{Forms, links_of, links_in}
 use Rattle.rrb_core.proofs.LinkCounts.{count-at}
@@ -74,7 +74,7 @@ module _ (F : Forms Bytes) (falls : LeadsDown (λ l. l) (links_in F)) (n : ℕ) 
   two-links x (Some m) es some rows = refl
 
   -- what stands below a trie row of a depth may stand there
-  sub-node-passes : (left depth k : ℕ) (P : List (Entry Bytes)) → depth + suc left ≡ 7 → 2 ≤ length P → IsTrie (slice_cmp nat_cmp) code F left (suc depth) k P → is_sub_node depth (F k) ≡ true
+  sub-node-passes : (left depth k : ℕ) (P : List (Entry Bytes)) → depth + suc left ≡ LEVELS → 2 ≤ length P → IsTrie (slice_cmp nat_cmp) code F left (suc depth) k P → is_sub_node depth (F k) ≡ true
   unfolding IsTrie
   sub-node-passes zero depth k P levels two is =
       let at = first-row F k is.entries is.rows in
@@ -85,7 +85,7 @@ module _ (F : Forms Bytes) (falls : LeadsDown (λ l. l) (links_in F)) (n : ℕ) 
   sub-node-passes (suc left) depth k P levels two is = ap (is_sub_node depth) is.row.row ∙ eq-eqb (suc depth) (depth + 1) (omega arith)
 
   -- what stands at a position of a canonical trie row passes the test of the position
-  module _ (left depth l c : ℕ) (E : List (Entry Bytes)) (low : l < n) (levels : depth + suc left ≡ 7) (is : IsTrieRow (slice_cmp nat_cmp) code F depth l E (λ k P. IsTrie (slice_cmp nat_cmp) code F left (suc depth) k P)) where
+  module _ (left depth l c : ℕ) (E : List (Entry Bytes)) (low : l < n) (levels : depth + suc left ≡ LEVELS) (is : IsTrieRow (slice_cmp nat_cmp) code F depth l E (λ k P. IsTrie (slice_cmp nat_cmp) code F left (suc depth) k P)) where
     abbrev N : ℕ → List (Entry Bytes) → Type 0
     N k P = IsTrie (slice_cmp nat_cmp) code F left (suc depth) k P
 
@@ -137,7 +137,7 @@ module _ (F : Forms Bytes) (falls : LeadsDown (λ l. l) (links_in F)) (n : ℕ) 
         (λ p i from to there at. node-passes p i (omega (arith, to)) there (omega (arith, at, rank-zero is.nodes))))
 
   -- a canonical trie row passes its test
-  pub trie-passes : (left depth l c : ℕ) (E : List (Entry Bytes)) → l < n → depth + suc left ≡ 7 → IsTrie (slice_cmp nat_cmp) code F (suc left) depth l E → All (λ e. code e.key % 2 ^ (5 * depth) ≡ c) E → (0 < depth → 2 ≤ length E)
+  pub trie-passes : (left depth l c : ℕ) (E : List (Entry Bytes)) → l < n → depth + suc left ≡ LEVELS → IsTrie (slice_cmp nat_cmp) code F (suc left) depth l E → All (λ e. code e.key % 2 ^ (5 * depth) ≡ c) E → (0 < depth → 2 ≤ length E)
       → is_canonical n F code l (F l) ≡ true
   unfolding IsTrie
   trie-passes left depth l c E low levels is agree many =

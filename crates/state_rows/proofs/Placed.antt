@@ -31,7 +31,7 @@ pub state-placed : {old new : Heap Bytes} {bits l : ℕ} {s : State} (is : IsSta
     → IsMapOf by_bytes text_code new (record { root = names; bits = bits }) (bind by_bytes is.buffers_are.bindings key v) → AreLinesIn new bits v xs
     → ((name : Bytes) → is_eq (by_bytes name key) ≡ false → (k : ℕ) → value_with by_bytes name is.buffers_are.bindings ≡ Some k → KeepsBelow old new k) → KeepsBelow old new is.stars → IsStateIn new bits row (with_lines s key xs)
 state-placed {old} {new} {bits} {s = s} is row names v key xs named here made lines others stars = record {
-  names = names;
+  buffers = names;
   stars = is.stars;
   row = here;
   buffers_are =

@@ -174,13 +174,13 @@ module _ (f : ℕ → ℕ) (G H : Forms Bytes) (V W : ℕ → Type 0) (bits : �
 
   pub state-over : (l : ℕ) (s : State) → GoesOver f G H V W l → IsState G V bits l s → IsState H W bits (f l) s
   state-over l s over is =
-      let names = below l is.names is.names (first-link G l is.names is.stars state is.row) (here is.names) in
-      let stars = below l is.stars is.stars (second-link G l is.names is.stars state is.row) (here is.stars) in
+      let names = below l is.buffers is.buffers (first-link G l is.buffers is.stars state is.row) (here is.buffers) in
+      let stars = below l is.stars is.stars (second-link G l is.buffers is.stars state is.row) (here is.stars) in
       record {
-        names = f is.names;
+        buffers = f is.buffers;
         stars = f is.stars;
         row = over.renamed l (here l) ∙ ap (option_map (relink f)) is.row;
-        buffers_are = named-over (AreLines G V bits) (AreLines H W bits) is.names s.buffers (goes-below l is.names names over) lines-over is.buffers_are;
+        buffers_are = named-over (AreLines G V bits) (AreLines H W bits) is.buffers s.buffers (goes-below l is.buffers names over) lines-over is.buffers_are;
         stars_are = names-over is.stars s.stars (goes-below l is.stars stars over) is.stars_are;
       }
 

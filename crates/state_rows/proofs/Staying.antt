@@ -75,8 +75,8 @@ module _ (old new : Heap Bytes) (more : Extends old new) (bits l : ℕ) where
 
 module _ {old new : Heap Bytes} (more : Extends old new) where
   -- the two parts of a state that is there, by whichever names they go
-  pub buffers-kept : {bits l k : ℕ} (s : State) (is : IsStateIn old bits l s) → k ≡ is.names → AreBuffersIn new bits k s.buffers
-  buffers-kept {bits} {l} {k} s is same = rw same (buffers-grown old new more bits is.names s.buffers is.buffers_are)
+  pub buffers-kept : {bits l k : ℕ} (s : State) (is : IsStateIn old bits l s) → k ≡ is.buffers → AreBuffersIn new bits k s.buffers
+  buffers-kept {bits} {l} {k} s is same = rw same (buffers-grown old new more bits is.buffers s.buffers is.buffers_are)
 
   pub stars-kept : {bits l k : ℕ} (s : State) (is : IsStateIn old bits l s) → k ≡ is.stars → AreNamesIn new bits k s.stars
   stars-kept {bits} {l} {k} s is same = rw same (names-grown old new more bits is.stars s.stars is.stars_are)

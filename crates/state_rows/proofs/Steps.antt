@@ -40,8 +40,8 @@ pub record RootsSet (h : Heap Bytes) (bits : ℕ) (names : Names) (r : Root) : T
   pub root : r.root ≡ link
 
 -- the roots that are read of a state are those of its buffers and of its stars
-abbrev pub buffers-at : {h : Heap Bytes} {bits l : ℕ} {r : Root} → bits ≤ CODE_BITS → r.bits ≡ bits → ((s : State) (is : IsStateIn h bits l s) → r.root ≡ is.names) → (s : State) → IsStateIn h bits l s → RootsMap h bits (AreLinesIn h bits) s.buffers r
-buffers-at fits by root s is = record { link = is.names; named = is.buffers_are; fits = fits; by = by; root = root s is }
+abbrev pub buffers-at : {h : Heap Bytes} {bits l : ℕ} {r : Root} → bits ≤ CODE_BITS → r.bits ≡ bits → ((s : State) (is : IsStateIn h bits l s) → r.root ≡ is.buffers) → (s : State) → IsStateIn h bits l s → RootsMap h bits (AreLinesIn h bits) s.buffers r
+buffers-at fits by root s is = record { link = is.buffers; named = is.buffers_are; fits = fits; by = by; root = root s is }
 
 abbrev pub stars-at : {h : Heap Bytes} {bits l : ℕ} {r : Root} → bits ≤ CODE_BITS → r.bits ≡ bits → ((s : State) (is : IsStateIn h bits l s) → r.root ≡ is.stars) → (s : State) → IsStateIn h bits l s → RootsSet h bits s.stars r
 stars-at fits by root s is = record { link = is.stars; named = is.stars_are; fits = fits; by = by; root = root s is }

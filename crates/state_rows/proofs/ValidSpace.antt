@@ -25,7 +25,7 @@ use Rattle.pool_text.specs.Pool.{forms_in, row_count}
 use Rattle.pool_text.specs.declared.pool.Pool.{Pool}
 use Rattle.pool_check.specs.Rows.{is_line_or_node, texts_are_lines}
 use Rattle.pool_check.specs.Tries.{entries_below}
-use Rattle.pool_check.specs.Kinds.{both_pass, is_vector_root, is_trie_root, is_pair_of, is_state_of, is_cell_of, elements_pass, is_vector_of, is_trie_of, is_name_cell, is_lines_vector, is_names_map, is_stars_set, is_state, is_versions_map, is_history, are_roots, roots_are_of_kind}
+use Rattle.pool_check.specs.Kinds.{both_pass, is_vector_root, is_trie_root, is_pair_of, is_state_of, is_cell_of, elements_pass, is_vector_of, is_trie_of, is_name_cell, is_lines_vector, is_buffer_map, is_stars_set, is_state, is_versions_map, is_history, are_roots, roots_are_of_kind}
 use Rattle.pool_check.specs.Damages.{IsValid}
 use Rattle.pool_check.proofs.TestLemmas.{and-first, and-second, not-both, all-at}
 use Rattle.pool_check.proofs.PoolLaws.{vector-roots-well, trie-roots-canonical}
@@ -257,11 +257,11 @@ module _ (P : Pool) (valid : IsValid P) where
 
   state-from : (l : ℕ) → is_state n F l ≡ true → (now : State) × IsState F V P.bits l now
   state-from l h =
-      let passed = state-passed (is_names_map n F) (is_stars_set n F) (F l) h in
+      let passed = state-passed (is_buffer_map n F) (is_stars_set n F) (F l) h in
       let buffers = named-from (is_lines_vector n F) (AreLines F V P.bits) lines-from passed.2.first passed.2.first_passed in
       let stars = names-from passed.2.second passed.2.second_passed in (
         record { buffers = buffers.0; stars = stars.0 },
-        record { names = passed.2.first; stars = passed.2.second; row = passed.1 ∙ ap (λ ks. Some (node state ks)) passed.2.are; buffers_are = buffers.1; stars_are = stars.1 },
+        record { buffers = passed.2.first; stars = passed.2.second; row = passed.1 ∙ ap (λ ks. Some (node state ks)) passed.2.are; buffers_are = buffers.1; stars_are = stars.1 },
       )
 
   -- the roots, as one reads their tests

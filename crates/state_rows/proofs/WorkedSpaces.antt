@@ -147,7 +147,7 @@ x-cell = line-passed x_line refl
 pub start-stands : StandsFor start_pool start
 unfolding entries_below rows_from rank seq_at
 start-stands = (
-  record { names = 0; stars = 1; row = refl; buffers_are = nothing-named start_pool start-valid _ 0 refl refl; stars_are = no-names start_pool start-valid 1 refl refl },
+  record { buffers = 0; stars = 1; row = refl; buffers_are = nothing-named start_pool start-valid _ 0 refl refl; stars_are = no-names start_pool start-valid 1 refl refl },
   nothing-named start_pool start-valid _ 3 refl refl,
   vector-of start_pool start-valid _ 4 [] [] refl refl tt,
   vector-of start_pool start-valid _ 5 [] [] refl refl tt,
@@ -157,7 +157,7 @@ start-stands = (
 pub shared-stands : StandsFor shared_empties start
 unfolding entries_below rows_from rank seq_at
 shared-stands = (
-  record { names = 0; stars = 0; row = refl; buffers_are = nothing-named shared_empties shared-valid _ 0 refl refl; stars_are = no-names shared_empties shared-valid 0 refl refl },
+  record { buffers = 0; stars = 0; row = refl; buffers_are = nothing-named shared_empties shared-valid _ 0 refl refl; stars_are = no-names shared_empties shared-valid 0 refl refl },
   nothing-named shared_empties shared-valid _ 0 refl refl,
   vector-of shared_empties shared-valid _ 2 [] [] refl refl tt,
   vector-of shared_empties shared-valid _ 2 [] [] refl refl tt,
@@ -168,7 +168,7 @@ pub two_cells-stand : StandsFor two_cells (space_of two_lines)
 unfolding entries_below rows_from rank seq_at
 two_cells-stand = (
   record {
-    names = 5;
+    buffers = 5;
     stars = 6;
     row = refl;
     buffers_are =
@@ -188,7 +188,7 @@ pub one_line-stands : StandsFor one_line_twice (space_of two_lines)
 unfolding entries_below rows_from rank seq_at
 one_line-stands = (
   record {
-    names = 4;
+    buffers = 4;
     stars = 5;
     row = refl;
     buffers_are =
@@ -208,7 +208,7 @@ pub sub_node-stands : StandsFor sub_node (space_of two_buffers)
 unfolding entries_below rows_from rank seq_at
 sub_node-stands = (
   record {
-    names = 7;
+    buffers = 7;
     stars = 8;
     row = refl;
     buffers_are =
@@ -230,7 +230,7 @@ pub chained-stands : StandsFor chained (space_of two_buffers)
 unfolding entries_below rows_from rank seq_at
 chained-stands = (
   record {
-    names = 14;
+    buffers = 14;
     stars = 15;
     row = refl;
     buffers_are =

@@ -1,9 +1,9 @@
 -- What an edit in place of a state makes.
 use Rattle.std.specs.Prelude.{◌≡◌, ℕ, ◌+◌, ◌-◌, ◌^◌, ◌<◌, ◌≤◌, List, [], length, min}
+use Rattle.champ_trie.specs.declared.TheConstants.{ADD_NODES}
 use Rattle.std.specs.Ordering.{nat_cmp}
 use Rattle.std.specs.Cmp.Lexicographic.{slice_cmp}
 use Rattle.elem_core.specs.Codes.{text_code}
-use Rattle.elem_core.specs.declared.codes.TheConstants.{DEEPEST}
 use Rattle.node_heap.specs.Links.{count}
 use Rattle.node_heap.specs.Heap.{Heap, links_at, holds_at, owners_at, live_count}
 use Rattle.node_heap.specs.Calls.{KeepsToNeed, MakesWhatCame}
@@ -34,7 +34,7 @@ pub record OwnsLines (old new : Heap Bytes) (bits row : ℕ) (s : State) (name :
   pub two : 1 < length (links_at new pair)
   pub down : OwnsDown new row pair
   pub lines : AreLinesIn new bits (child_at new pair 1) xs
-  pub changes : Changes row old new [] [] 0 (DEEPEST + 2 + alike_buffers bits s name)
+  pub changes : Changes row old new [] [] 0 (ADD_NODES + alike_buffers bits s name)
   pub makes : MakesWhatCame old new
   pub spares : KeepsToNeed old new 0 0
   pub copies : MakesCopies old new (lines_path old bits row name)

@@ -59,12 +59,12 @@ module _ (F : Forms Bytes) (IsVector : ℕ → Type 0) (bits : ℕ) where
   abbrev pub AreLines : ℕ → List Bytes → Type 0
   AreLines = IsVectorOver IsText
 
-  -- the link is a state row: a map from names to lines, and a set of names that are starred
+  -- the link is a state row: a map of buffers, by their names, and a set of names that are starred
   pub record IsState (l : ℕ) (now : State) : Type 0 where
-    pub names : ℕ
+    pub buffers : ℕ
     pub stars : ℕ
-    pub row : F l ≡ Some (node state (names ∷ stars ∷ []))
-    pub buffers_are : IsNamed AreLines names now.buffers
+    pub row : F l ≡ Some (node state (buffers ∷ stars ∷ []))
+    pub buffers_are : IsNamed AreLines buffers now.buffers
     pub stars_are : AreNames stars now.stars
 
   -- the link is a map from names to states

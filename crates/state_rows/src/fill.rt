@@ -1,7 +1,7 @@
 //! Lines that come from outside, all at once. Each call takes the rows that it makes from spares, which its caller has
 //! reserved, and keeps every row that is there.
 ghost use Rattle.std.specs.Prelude.{◌≡◌, ℕ, ◌+◌, ◌/◌, ◌^◌, ◌<◌, ◌≤◌, [], length, vec_capacity};
-ghost use Rattle.node_heap.specs.Heap.{hold_count, HasSpares, IsGraph};
+ghost use Rattle.node_heap.specs.Heap.{hold_count, HasSpares, IsGraph, most_holds, quarter_holds};
 ghost use Rattle.node_heap.specs.Calls.{Answered, KeepsToNeed, MakesJust, Builds};
 ghost use Rattle.state_rows.specs.InHeap.{AreTextsIn, AreLinesIn};
 
@@ -13,7 +13,7 @@ use rrb_core::{Flex, vector_of_spares};
 /// has room for the link of each.
 pub fn filled(heap: &mut Heap<Text>, texts: Vec<Text>, links: &mut Vec<Link>) -> Flex
     requires graph { IsGraph heap.old }
-    requires few { hold_count heap.old < 2 ^ 58 }
+    requires few { hold_count heap.old < quarter_holds }
     requires short { length texts.items < 2 ^ 32 }
     requires empty { links.old.items ≡ [] }
     requires room { length texts.items ≤ vec_capacity links.old }
@@ -30,7 +30,7 @@ pub fn filled(heap: &mut Heap<Text>, texts: Vec<Text>, links: &mut Vec<Link>) ->
 // Makes a cell of each text, which is held once, and appends its link. There is room for all links.
 fn make_cells(heap: &mut Heap<Text>, texts: Vec<Text>, links: &mut Vec<Link>)
     requires graph { IsGraph heap.old }
-    requires few { hold_count heap.old + length texts.items < 2 ^ 60 }
+    requires few { hold_count heap.old + length texts.items < most_holds }
     requires empty { links.old.items ≡ [] }
     requires room { length texts.items ≤ vec_capacity links.old }
     requires spares { length texts.items ≤ heap.old.spare_cells }

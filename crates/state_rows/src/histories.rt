@@ -3,7 +3,7 @@
 //! rows that it makes from spares, which its caller has reserved, and keeps what is held besides.
 ghost use Rattle.std.specs.Prelude.{◌≡◌, ℕ, ◌+◌, ◌-◌, ◌^◌, ◌<◌, ◌≤◌, List, [], ◌∷◌, ◌++◌, length, take, slice_get, IsSomeAnd};
 ghost use Rattle.node_heap.specs.Links.{count};
-ghost use Rattle.node_heap.specs.Heap.{form_at, holds_at, owners_at, hold_count, HasSpares};
+ghost use Rattle.node_heap.specs.Heap.{form_at, holds_at, owners_at, hold_count, HasSpares, half_holds};
 ghost use Rattle.node_heap.specs.Calls.{HasHolds, KeepsHeld, KeepsOwners, KeepsToNeed, MakesJust, MakesWhatCame, SameRows, Trades};
 ghost use Rattle.node_heap.specs.Owner.{alone};
 ghost use Rattle.edit_vec.specs.Path.{pop_path};
@@ -28,7 +28,7 @@ pub const EMPTIED_NODES: usize = 1;
 /// The history with the state after its last. It spends the holds of both. There is room for one more state. It makes
 /// at most 10 nodes, and none in vain.
 pub fn pushed(heap: &mut Heap<Text>, history: Flex, state: Link) -> Flex
-    requires few { hold_count heap.old < 2 ^ 59 }
+    requires few { hold_count heap.old < half_holds }
     requires held { HasHolds heap.old (history ∷ state ∷ []) }
     requires history { (bits : ℕ) × (ss : List State) × IsHistoryIn heap.old bits history ss × (length ss < 2 ^ 32 - 1) }
     requires spares { HasSpares heap.old 0 10 }
@@ -49,7 +49,7 @@ pub fn pushed(heap: &mut Heap<Text>, history: Flex, state: Link) -> Flex
 /// nodes, and where the history's root has one owner only those that it copies of the rows on the way to the history's end: the
 /// ones with another owner, or below such a one.
 pub fn popped(heap: &mut Heap<Text>, history: Flex) -> (Flex, Link)
-    requires few { hold_count heap.old < 2 ^ 59 }
+    requires few { hold_count heap.old < half_holds }
     requires held { 0 < holds_at heap.old history }
     requires history { (bits : ℕ) × (ss : List State) × IsHistoryIn heap.old bits history ss × (0 < length ss) }
     requires spares { HasSpares heap.old 0 9 }
@@ -70,7 +70,7 @@ pub fn popped(heap: &mut Heap<Text>, history: Flex) -> (Flex, Link)
 
 // The history, to be edited in place. It makes one node at most, and frees none.
 fn opened(heap: &mut Heap<Text>, history: Flex) -> FlexEdit
-    requires few { hold_count heap.old < 2 ^ 59 }
+    requires few { hold_count heap.old < half_holds }
     requires held { 0 < holds_at heap.old history }
     requires history { (bits : ℕ) × (ss : List State) × IsHistoryIn heap.old bits history ss }
     requires spares { HasSpares heap.old 0 1 }
@@ -81,8 +81,7 @@ fn opened(heap: &mut Heap<Text>, history: Flex) -> FlexEdit
     ensures alone { owners_at heap.old history ≡ 1 → (result ≡ history) × SameRows heap.old heap.new × KeepsOwners heap.old heap.new × (heap.new.made ≡ heap.old.made) }
     ensures history { (bits : ℕ) (ss : List State) → IsHistoryIn heap.old bits history ss → IsHistoryIn heap.new bits result ss }
 {
-    // The call tells the proof that this is the graph of a heap.
-    let _ = heap.live();
+    heap.is_graph();
     match FlexEdit::open(history, heap) {
         Ok(edit) => edit,
         Err(_fault) => unreachable!(),
@@ -91,7 +90,7 @@ fn opened(heap: &mut Heap<Text>, history: Flex) -> FlexEdit
 
 /// A history without states in place of this one, of which it spends the hold: the same where it is empty, and else a new one.
 pub fn emptied(heap: &mut Heap<Text>, history: Flex) -> Flex
-    requires few { hold_count heap.old < 2 ^ 59 }
+    requires few { hold_count heap.old < half_holds }
     requires held { 0 < holds_at heap.old history }
     requires history { (bits : ℕ) × (ss : List State) × IsHistoryIn heap.old bits history ss }
     requires spares { HasSpares heap.old 0 1 }

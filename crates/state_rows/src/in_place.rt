@@ -2,11 +2,13 @@
 //! line are written where each has one owner, and copied where it has more. Each call takes the rows that it makes from
 //! spares, which its caller has reserved, and keeps what is held besides.
 ghost use Rattle.std.specs.Prelude.{◌≡◌, ℕ, ◌+◌, ◌^◌, ◌<◌, ◌≤◌, List, [], ◌∷◌, ◌++◌, length, slice_set, Some, None};
+ghost use Rattle.champ_kinds.specs.declared.map.TheConstants.{INSERT_NODES};
+ghost use Rattle.champ_trie.specs.declared.TheConstants.{ADD_NODES};
 ghost use Rattle.elem_core.specs.declared.codes.TheConstants.{CODE_BITS, DEEPEST};
 ghost use Rattle.elem_core.specs.Naming.{IsName};
 ghost use Rattle.elem_core.specs.Shown.{name_bytes};
 ghost use Rattle.node_heap.specs.Links.{count};
-ghost use Rattle.node_heap.specs.Heap.{holds_at, owners_at, hold_count, HasSpares};
+ghost use Rattle.node_heap.specs.Heap.{holds_at, owners_at, hold_count, HasSpares, quarter_holds};
 ghost use Rattle.node_heap.specs.Calls.{HasHolds, KeepsHeld, KeepsToNeed, Trades};
 ghost use Rattle.shell_terms.specs.Edit.{Bytes};
 ghost use Rattle.plain_space.specs.Workspace.{State, most, lines_of, with_lines as has_lines};
@@ -23,7 +25,7 @@ use rrb_core::Flex;
 /// The state with the line after the last of the buffer, which is there and has room for one more. It spends the holds of the
 /// state and of the line. The number made rises by no more than the rows gain.
 pub fn line_added(heap: &mut Heap<Text>, bits: u32, state: Link, name: Name<'_>, line: Link) -> Link
-    requires few { hold_count heap.old < 2 ^ 58 }
+    requires few { hold_count heap.old < quarter_holds }
     requires bits { bits ≤ CODE_BITS }
     requires held { HasHolds heap.old (state ∷ line ∷ []) }
     requires line { (text : Bytes) × IsTextIn heap.old bits line text }
@@ -37,8 +39,7 @@ pub fn line_added(heap: &mut Heap<Text>, bits: u32, state: Link, name: Name<'_>,
     ensures state { (s : State) (xs : List Bytes) (text : Bytes) → IsStateIn heap.old bits state s → lines_of s (name_bytes name.entry) ≡ Some xs → IsTextIn heap.old bits line text →
         IsStateIn heap.new bits result (has_lines s (name_bytes name.entry) (xs ++ text ∷ [])) }
 {
-    // The call tells the proof that this is the graph of a heap.
-    let _ = heap.live();
+    heap.is_graph();
     let state = heap.own(state);
     let pair = own_lines(heap, bits, state, name);
     let Ok(()) = push_at(heap, pair, 1, line) else {
@@ -57,7 +58,7 @@ pub fn line_set(
     index: u32,
     line: Link,
 ) -> Link
-    requires few { hold_count heap.old < 2 ^ 58 }
+    requires few { hold_count heap.old < quarter_holds }
     requires bits { bits ≤ CODE_BITS }
     requires held { HasHolds heap.old (state ∷ line ∷ []) }
     requires line { (text : Bytes) × IsTextIn heap.old bits line text }
@@ -71,8 +72,7 @@ pub fn line_set(
     ensures state { (s : State) (xs : List Bytes) (text : Bytes) → IsStateIn heap.old bits state s → lines_of s (name_bytes name.entry) ≡ Some xs → IsTextIn heap.old bits line text →
         IsStateIn heap.new bits result (has_lines s (name_bytes name.entry) (slice_set xs index text)) }
 {
-    // The call tells the proof that this is the graph of a heap.
-    let _ = heap.live();
+    heap.is_graph();
     let state = heap.own(state);
     let pair = own_lines(heap, bits, state, name);
     let Ok(before) = set_at(heap, pair, 1, index, line) else {
@@ -86,22 +86,21 @@ pub fn line_set(
 /// lines. Where the state's row has one owner, only those of the rows from there to the lines are made anew that have another
 /// owner, or stand below such a one.
 pub fn lines_put(heap: &mut Heap<Text>, bits: u32, state: Link, name: Name<'_>, lines: Flex) -> Link
-    requires few { hold_count heap.old < 2 ^ 58 }
+    requires few { hold_count heap.old < quarter_holds }
     requires bits { bits ≤ CODE_BITS }
     requires held { HasHolds heap.old (state ∷ lines ∷ []) }
     requires lines { (ys : List Bytes) × AreLinesIn heap.old bits lines ys }
     requires state { (s : State) × (xs : List Bytes) × IsStateIn heap.old bits state s × (lines_of s (name_bytes name) ≡ Some xs)
-        × HasSpares heap.old 0 (DEEPEST + 3 + alike_buffers bits s (name_bytes name)) }
+        × HasSpares heap.old 0 (INSERT_NODES + alike_buffers bits s (name_bytes name)) }
     ensures keeps { KeepsHeld (λ l. count l (state ∷ lines ∷ [])) heap.old heap.new }
     ensures trades { (s : State) (xs : List Bytes) → IsStateIn heap.old bits state s → lines_of s (name_bytes name.entry) ≡ Some xs →
-        Trades heap.old heap.new (state ∷ lines ∷ []) (result ∷ []) 0 (DEEPEST + 3 + alike_buffers bits s (name_bytes name.entry)) }
+        Trades heap.old heap.new (state ∷ lines ∷ []) (result ∷ []) 0 (INSERT_NODES + alike_buffers bits s (name_bytes name.entry)) }
     ensures made { owners_at heap.old state ≡ 1 → CopiesOfPath heap.old heap.new (lines_path heap.old bits state (name_bytes name.entry)) }
     ensures spares { KeepsToNeed heap.old heap.new 0 0 }
     ensures state { (s : State) (xs ys : List Bytes) → IsStateIn heap.old bits state s → lines_of s (name_bytes name.entry) ≡ Some xs → AreLinesIn heap.old bits lines ys →
         IsStateIn heap.new bits result (has_lines s (name_bytes name.entry) ys) }
 {
-    // The call tells the proof that this is the graph of a heap.
-    let _ = heap.live();
+    heap.is_graph();
     let state = heap.own(state);
     let pair = own_lines(heap, bits, state, name);
     let replaced = heap.replace(pair, 1, lines.into_root());
@@ -112,7 +111,7 @@ pub fn lines_put(heap: &mut Heap<Text>, bits: u32, state: Link, name: Name<'_>, 
 /// The state with a buffer of these lines, of which there is none of the name yet. It spends the holds of the state and of
 /// the lines. The number made rises by no more than the rows gain.
 pub fn buffer_made(heap: &mut Heap<Text>, bits: u32, state: Link, key: Text, lines: Flex) -> Link
-    requires few { hold_count heap.old < 2 ^ 58 }
+    requires few { hold_count heap.old < quarter_holds }
     requires bits { bits ≤ CODE_BITS }
     requires held { HasHolds heap.old (state ∷ lines ∷ []) }
     requires name { IsName key }
@@ -124,8 +123,7 @@ pub fn buffer_made(heap: &mut Heap<Text>, bits: u32, state: Link, key: Text, lin
     ensures spares { KeepsToNeed heap.old heap.new 0 0 }
     ensures state { (s : State) (xs : List Bytes) → IsStateIn heap.old bits state s → AreLinesIn heap.old bits lines xs → IsStateIn heap.new bits result (has_lines s key xs) }
 {
-    // The call tells the proof that this is the graph of a heap.
-    let _ = heap.live();
+    heap.is_graph();
     let state = heap.own(state);
     let Ok(_) = insert_at(heap, state, 0, bits, key, lines.into_root()) else {
         unreachable!()
@@ -135,16 +133,15 @@ pub fn buffer_made(heap: &mut Heap<Text>, bits: u32, state: Link, key: Text, lin
 
 // The pair of the buffer's name and its lines, below a state row with one owner: a row with one owner too, as is each on the way to it.
 fn own_lines(heap: &mut Heap<Text>, bits: u32, state: Link, name: Name<'_>) -> Link
-    requires few { hold_count heap.old < 2 ^ 58 }
+    requires few { hold_count heap.old < quarter_holds }
     requires bits { bits ≤ CODE_BITS }
     requires held { 0 < holds_at heap.old state }
     requires sole { owners_at heap.old state ≡ 1 }
     requires state { (s : State) × (xs : List Bytes) × IsStateIn heap.old bits state s × (lines_of s (name_bytes name) ≡ Some xs)
-        × HasSpares heap.old 0 (DEEPEST + 2 + alike_buffers bits s (name_bytes name)) }
+        × HasSpares heap.old 0 (ADD_NODES + alike_buffers bits s (name_bytes name)) }
     ensures { (s : State) (xs : List Bytes) → IsStateIn heap.old bits state s → lines_of s (name_bytes name.entry) ≡ Some xs → OwnsLines heap.old heap.new bits state s (name_bytes name.entry) xs result }
 {
-    // The call tells the proof that this is the graph of a heap.
-    let _ = heap.live();
+    heap.is_graph();
     let Ok(found) = own_value_at(heap, state, 0, bits, &name) else {
         unreachable!()
     };

@@ -22,7 +22,7 @@ pub use in_place::{buffer_made, line_added, line_set, lines_put};
 pub use laws::{
     one_workspace, pools_stand, roots_stand, states_stay, valid_pools_stand, worked_spaces,
 };
-pub use list::{marked, sizes, starred, totals};
+pub use list::{marks, names, stars, totals};
 pub use look_up::{
     FoundBuffer, buffer, buffers_alike, find_buffer, is_starred, stars_alike, version,
     versions_alike,

@@ -8,7 +8,7 @@ ghost use Rattle.plain_space.specs.Workspace.{Named, State, sizes as sizes_of};
 ghost use Rattle.state_rows.specs.Listing.{shown_size, shown_text, IsTextAt, IsEntryAt, IsSizeAt};
 ghost use Rattle.state_rows.specs.InHeap.{IsStateIn, AreVersionsIn};
 
-use crate::look_up::{names_of, stars_of};
+use crate::look_up::{buffers_of, stars_of};
 use champ_kinds::MapRef;
 use champ_trie::entries;
 use elem_core::{NoMemory, Text};
@@ -17,7 +17,7 @@ use rrb_core::FlexRef;
 use std::alloc::Global;
 
 /// The names of the state's buffers with the numbers of their lines, in byte order. Err where memory runs out.
-pub fn sizes<'h>(
+pub fn names<'h>(
     alloc: Global,
     heap: &'h Heap<Text>,
     bits: u32,
@@ -28,7 +28,7 @@ pub fn sizes<'h>(
     ensures { (s : State) → IsStateIn heap.now bits state s → IfOk result (λ listed. each shown_size listed.items ≡ sizes_of s) }
 {
     let mut listed = Vec::new(alloc);
-    for entry in entries(heap, names_of(heap, bits, state).root()) {
+    for entry in entries(heap, buffers_of(heap, bits, state).root()) {
         listed.push(entry_size(heap, entry))?;
     }
     listed.sort()?;
@@ -44,7 +44,7 @@ pub fn totals(heap: &Heap<Text>, bits: u32, state: Link) -> (usize, u128)
 {
     let mut buffers = 0;
     let mut lines = 0;
-    for entry in entries(heap, names_of(heap, bits, state).root()) {
+    for entry in entries(heap, buffers_of(heap, bits, state).root()) {
         let (_, count) = entry_size(heap, entry);
         buffers += 1;
         lines += u128::from(count);
@@ -53,7 +53,7 @@ pub fn totals(heap: &Heap<Text>, bits: u32, state: Link) -> (usize, u128)
 }
 
 /// The names that the state has starred, in byte order. Err where memory runs out.
-pub fn starred<'h>(
+pub fn stars<'h>(
     alloc: Global,
     heap: &'h Heap<Text>,
     bits: u32,
@@ -72,7 +72,7 @@ pub fn starred<'h>(
 }
 
 /// The names of the versions, in byte order. Err where memory runs out.
-pub fn marked<'h>(
+pub fn marks<'h>(
     alloc: Global,
     heap: &'h Heap<Text>,
     versions: MapRef,

@@ -1,5 +1,6 @@
 //! What is asked of states, versions and histories. None of it takes memory.
 ghost use Rattle.std.specs.Prelude.{◌≡◌, ℕ, ◌-◌, ◌^◌, ◌<◌, ◌≤◌, List, length, slice_get};
+ghost use Rattle.node_heap.specs.Heap.{row_limit};
 ghost use Rattle.std.specs.FinMap as map;
 ghost use Rattle.std.specs.Ordering.{nat_cmp};
 ghost use Rattle.std.specs.Cmp.Lexicographic.{slice_cmp};
@@ -24,7 +25,7 @@ pub fn buffer(heap: &Heap<Text>, bits: u32, state: Link, name: Name<'_>) -> Opti
     requires state { (s : State) × IsStateIn heap.now bits state s }
     ensures { (s : State) → IsStateIn heap.now bits state s → StandsIfThere (AreLinesIn heap.now bits) result (lines_of s (name_bytes name.entry)) }
 {
-    let lines = names_of(heap, bits, state).get(heap, &name)?;
+    let lines = buffers_of(heap, bits, state).get(heap, &name)?;
     Some(FlexRef::at(lines))
 }
 
@@ -43,9 +44,9 @@ pub fn find_buffer(heap: &Heap<Text>, bits: u32, state: Link, name: Name<'_>) ->
     requires state { (s : State) × IsStateIn heap.now bits state s }
     ensures lines { (s : State) → IsStateIn heap.now bits state s → StandsIfThere (AreLinesIn heap.now bits) result.lines (lines_of s (name_bytes name.entry)) }
     ensures alike { (s : State) → IsStateIn heap.now bits state s → result.alike ≡ alike_buffers bits s (name_bytes name.entry) }
-    ensures few { result.alike < 2 ^ 56 }
+    ensures few { result.alike < row_limit }
 {
-    let found = look_up(heap, names_of(heap, bits, state).root(), &name, bits);
+    let found = look_up(heap, buffers_of(heap, bits, state).root(), &name, bits);
     let lines = lines_in(heap, bits, state, name, found.entry);
     FoundBuffer {
         lines,
@@ -95,9 +96,9 @@ pub fn buffers_alike(heap: &Heap<Text>, bits: u32, state: Link, name: Name<'_>) 
     requires bits { bits ≤ CODE_BITS }
     requires state { (s : State) × IsStateIn heap.now bits state s }
     ensures number { (s : State) → IsStateIn heap.now bits state s → result ≡ alike_buffers bits s (name_bytes name.entry) }
-    ensures few { result < 2 ^ 56 }
+    ensures few { result < row_limit }
 {
-    alike(heap, names_of(heap, bits, state).root(), &name, bits)
+    alike(heap, buffers_of(heap, bits, state).root(), &name, bits)
 }
 
 /// The same among the names that are starred.
@@ -105,7 +106,7 @@ pub fn stars_alike(heap: &Heap<Text>, bits: u32, state: Link, name: Name<'_>) ->
     requires bits { bits ≤ CODE_BITS }
     requires state { (s : State) × IsStateIn heap.now bits state s }
     ensures number { (s : State) → IsStateIn heap.now bits state s → result ≡ alike_stars bits s (name_bytes name.entry) }
-    ensures few { result < 2 ^ 56 }
+    ensures few { result < row_limit }
 {
     alike(heap, stars_of(heap, bits, state).root(), &name, bits)
 }
@@ -115,16 +116,16 @@ pub fn versions_alike(heap: &Heap<Text>, versions: MapRef, name: Name<'_>) -> us
     requires bits { versions.bits ≤ CODE_BITS }
     requires versions { (m : Named State) × AreVersionsIn heap.now versions.bits versions.root m }
     ensures number { (m : Named State) → AreVersionsIn heap.now versions.bits versions.root m → result ≡ alike_names versions.bits (map.keys m) (name_bytes name.entry) }
-    ensures few { result < 2 ^ 56 }
+    ensures few { result < row_limit }
 {
     alike(heap, versions.root(), &name, versions.bits())
 }
 
 // The map of the state's buffers.
-pub(crate) fn names_of(heap: &Heap<Text>, bits: u32, state: Link) -> MapRef
+pub(crate) fn buffers_of(heap: &Heap<Text>, bits: u32, state: Link) -> MapRef
     requires state { (s : State) × IsStateIn heap.now bits state s }
     ensures bits { result.bits ≡ bits }
-    ensures root { (s : State) → (is : IsStateIn heap.now bits state s) → result.root ≡ is.names }
+    ensures root { (s : State) → (is : IsStateIn heap.now bits state s) → result.root ≡ is.buffers }
 {
     MapRef::at(heap.links(state)[0], bits)
 }

@@ -5,7 +5,7 @@ ghost use Rattle.std.specs.Cmp.Lexicographic.{slice_cmp};
 ghost use Rattle.std.specs.FinMap as map;
 ghost use Rattle.elem_core.specs.declared.codes.TheConstants.{CODE_BITS};
 ghost use Rattle.elem_core.specs.Codes.{text_code};
-ghost use Rattle.node_heap.specs.Heap.{hold_count, HasSpares, IsGraph};
+ghost use Rattle.node_heap.specs.Heap.{hold_count, HasSpares, IsGraph, half_holds, most_holds};
 ghost use Rattle.node_heap.specs.Calls.{Answered, Makes};
 ghost use Rattle.champ_trie.specs.Trie.{IsTrieOf};
 ghost use Rattle.plain_space.specs.Workspace.{blank};
@@ -19,20 +19,20 @@ use rrb_core::Flex;
 
 /// The state without buffers and stars: three rows, no more and no fewer.
 pub fn empty_state(heap: &mut Heap<Text>, bits: u32) -> Link
-    requires few { hold_count heap.old < 2 ^ 59 }
+    requires few { hold_count heap.old < half_holds }
     requires spares { HasSpares heap.old 0 3 }
     ensures answered { Answered heap.old heap.new [] result 0 3 }
     ensures makes { Makes heap.old heap.new 0 3 }
     ensures state { IsStateIn heap.new bits result blank }
 {
-    let names = empty_trie(heap);
+    let buffers = empty_trie(heap);
     let stars = empty_trie(heap);
-    state_row(heap, names, stars)
+    state_row(heap, buffers, stars)
 }
 
 /// No versions, by so many bits of the names' codes: one row.
 pub fn empty_versions(heap: &mut Heap<Text>, bits: u32) -> Map
-    requires few { hold_count heap.old < 2 ^ 59 }
+    requires few { hold_count heap.old < half_holds }
     requires spares { HasSpares heap.old 0 1 }
     ensures answered { Answered heap.old heap.new [] result.root 0 1 }
     ensures makes { Makes heap.old heap.new 0 1 }
@@ -44,7 +44,7 @@ pub fn empty_versions(heap: &mut Heap<Text>, bits: u32) -> Map
 
 /// The history without states: one row.
 pub fn empty_history(heap: &mut Heap<Text>) -> Flex
-    requires few { hold_count heap.old < 2 ^ 59 }
+    requires few { hold_count heap.old < half_holds }
     requires spares { HasSpares heap.old 0 1 }
     ensures answered { Answered heap.old heap.new [] result 0 1 }
     ensures makes { Makes heap.old heap.new 0 1 }
@@ -55,7 +55,7 @@ pub fn empty_history(heap: &mut Heap<Text>) -> Flex
 
 // The trie without entries: a row without links.
 fn empty_trie(heap: &mut Heap<Text>) -> Link
-    requires few { hold_count heap.old < 2 ^ 60 }
+    requires few { hold_count heap.old < most_holds }
     requires spares { HasSpares heap.old 0 1 }
     ensures answered { Answered heap.old heap.new [] result 0 1 }
     ensures makes { Makes heap.old heap.new 0 1 }

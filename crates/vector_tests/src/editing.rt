@@ -1,7 +1,7 @@
 //! Vectors of numbers that are edited in place, for tests that look at values alone: their calls ask for nothing and promise
 //! nothing, so a test of them has nothing to prove.
-ghost use Rattle.std.specs.Prelude.{◌≡◌, ℕ, ◌+◌, ◌^◌, ◌<◌};
-ghost use Rattle.node_heap.specs.Heap.{holds_at, hold_count, one_at};
+ghost use Rattle.std.specs.Prelude.{◌≡◌, ℕ, ◌+◌, ◌<◌};
+ghost use Rattle.node_heap.specs.Heap.{holds_at, hold_count, one_at, program_holds};
 ghost use Rattle.rrb_core.specs.Vector.{IsGoodVector};
 ghost use Rattle.vector_tests.specs.Stands.{KeepsVectors};
 
@@ -40,7 +40,7 @@ impl Model for Editing {
 fn opened(rt: &impl Abort, vector: Flex, heap: &mut Heap<Num>) -> FlexEdit
     requires good { IsGoodVector heap.old vector }
     requires held { 0 < holds_at heap.old vector }
-    requires few { hold_count heap.old < 2 ^ 50 }
+    requires few { hold_count heap.old < program_holds }
     ensures good { IsGoodVector heap.new result }
     ensures others { KeepsVectors heap.old heap.new }
     ensures holds { (k : ℕ) → holds_at heap.new k + one_at vector k ≡ holds_at heap.old k + one_at result k }

@@ -1,6 +1,6 @@
 //! Joins and cuts of vectors of numbers, beside those of lists.
 ghost use Rattle.std.specs.Prelude.{◌≡◌, ◌+◌, ◌^◌, ◌<◌, ◌≤◌, length, vec_len, IfOk, OnOk};
-ghost use Rattle.node_heap.specs.Heap.{holds_at, hold_count};
+ghost use Rattle.node_heap.specs.Heap.{holds_at, hold_count, quarter_holds};
 ghost use Rattle.rrb_core.specs.Vector.{IsGoodVector};
 ghost use Rattle.vector_tests.specs.Stands.{GivesBack};
 
@@ -114,7 +114,7 @@ fn inserts_as_the_list(
     index: u32,
 ) -> Result<(), Fail>
     requires good { IsGoodVector heap.old root }
-    requires few { hold_count heap.old < 2 ^ 58 }
+    requires few { hold_count heap.old < quarter_holds }
     requires inside { index ≤ length numbers.now }
     ensures { OnOk result (GivesBack heap.old heap.new) }
 {
@@ -136,7 +136,7 @@ fn erases_as_the_list(
     numbers: &[u32],
 ) -> Result<(), Fail>
     requires good { IsGoodVector heap.old root }
-    requires few { hold_count heap.old < 2 ^ 58 }
+    requires few { hold_count heap.old < quarter_holds }
     requires short { length numbers.now < 2 ^ 31 }
     ensures { OnOk result (GivesBack heap.old heap.new) }
 {
@@ -161,7 +161,7 @@ fn joins_as_the_lists(
 ) -> Result<(), Fail>
     requires left { IsGoodVector heap.old left }
     requires right { IsGoodVector heap.old right }
-    requires few { hold_count heap.old + 1 < 2 ^ 58 }
+    requires few { hold_count heap.old + 1 < quarter_holds }
     requires short { length left_numbers.now + length right_numbers.now < 2 ^ 31 }
     ensures { OnOk result (GivesBack heap.old heap.new) }
 {
@@ -187,7 +187,7 @@ fn cuts_as_the_list(
 ) -> Result<(), Fail>
     requires good { IsGoodVector heap.old root }
     requires held { 0 < holds_at heap.old root }
-    requires few { hold_count heap.old + 2 < 2 ^ 58 }
+    requires few { hold_count heap.old + 2 < quarter_holds }
     requires short { length numbers.now < 2 ^ 30 }
     requires order { from ≤ to }
     requires inside { to ≤ length numbers.now }

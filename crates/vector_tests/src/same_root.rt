@@ -1,6 +1,6 @@
 //! Calls that leave all elements as they are give the vector itself: its root is held once more, and no row is made.
-ghost use Rattle.std.specs.Prelude.{◌^◌, ◌<◌, IfOk};
-ghost use Rattle.node_heap.specs.Heap.{hold_count};
+ghost use Rattle.std.specs.Prelude.{◌<◌, IfOk};
+ghost use Rattle.node_heap.specs.Heap.{hold_count, quarter_holds};
 ghost use Rattle.rrb_core.specs.Vector.{IsGoodVector};
 
 use crate::samples::pushed_all;
@@ -25,7 +25,7 @@ enum Call {
 fn vector_after(heap: &mut Heap<Num>, call: Call, all: Link, none: Link) -> Result<Flex, Fail>
     requires good { IsGoodVector heap.old all }
     requires empty { IsGoodVector heap.old none }
-    requires few { hold_count heap.old < 2 ^ 58 }
+    requires few { hold_count heap.old < quarter_holds }
     ensures good { IfOk result (λ v. IsGoodVector heap.new v) }
 {
     let all = FlexRef::at(all);

@@ -1,6 +1,6 @@
 //! Vectors of numbers, as most tests of vectors have them.
-ghost use Rattle.std.specs.Prelude.{◌≤◌, ◌-◌, ◌≡◌, ◌+◌, ◌^◌, ◌<◌, IsSome, IfOk};
-ghost use Rattle.node_heap.specs.Heap.{row_at, holds_at, hold_count};
+ghost use Rattle.std.specs.Prelude.{◌≤◌, ◌-◌, ◌≡◌, ◌+◌, ◌<◌, IsSome, IfOk};
+ghost use Rattle.node_heap.specs.Heap.{row_at, holds_at, hold_count, quarter_holds};
 ghost use Rattle.rrb_core.specs.Vector.{IsGoodVector};
 ghost use Rattle.vector_tests.specs.Stands.{KeepsVectors};
 
@@ -12,7 +12,7 @@ use std::test::Fail;
 /// The root of the vector with a new cell of this number after its last.
 pub fn pushed(heap: &mut Heap<Num>, root: Link, number: u32) -> Result<Link, Fail>
     requires good { IsGoodVector heap.old root }
-    requires few { hold_count heap.old < 2 ^ 58 }
+    requires few { hold_count heap.old < quarter_holds }
     ensures good { IfOk result (λ l. IsGoodVector heap.new l) }
     ensures held { IfOk result (λ l. 0 < holds_at heap.new l) }
     ensures others { IfOk result (λ _. KeepsVectors heap.old heap.new) }
@@ -27,7 +27,7 @@ pub fn pushed(heap: &mut Heap<Num>, root: Link, number: u32) -> Result<Link, Fai
 pub fn pushed_all(heap: &mut Heap<Num>, root: Link, from: u32, to: u32) -> Result<Link, Fail>
     requires good { IsGoodVector heap.old root }
     requires order { from ≤ to }
-    requires few { hold_count heap.old + (to - from) < 2 ^ 58 }
+    requires few { hold_count heap.old + (to - from) < quarter_holds }
     ensures good { IfOk result (λ l. IsGoodVector heap.new l) }
     ensures others { IfOk result (λ _. KeepsVectors heap.old heap.new) }
     ensures count { IfOk result (λ _. hold_count heap.new ≡ hold_count heap.old + (to - from)) }

@@ -2,7 +2,7 @@
 //! test of them has nothing to prove.
 ghost use Rattle.std.specs.Prelude.{◌≡◌, ◌+◌, ◌<◌, ◌++◌, [], ◌∷◌, ◌^◌, length, Some, IfOk, IfSome, IsOk, slice_get};
 ghost use Rattle.std.specs.List.{All};
-ghost use Rattle.node_heap.specs.Heap.{form_at, hold_count};
+ghost use Rattle.node_heap.specs.Heap.{form_at, hold_count, program_holds};
 ghost use Rattle.same_value.specs.Cells.{IsCellLink, IsLines};
 ghost use Rattle.vector_tests.specs.Stands.{KeepsLines};
 
@@ -37,7 +37,7 @@ impl Model for Versions {
 
 // The root of the vector without elements.
 fn no_lines(heap: &mut Heap<Num>) -> Result<Link, NoMemory>
-    requires few { hold_count heap.old < 2 ^ 50 }
+    requires few { hold_count heap.old < program_holds }
     ensures lines { IfOk result (λ l. IsLines heap.new l) }
     ensures others { IfOk result (λ _. KeepsLines heap.old heap.new) }
     ensures count { IfOk result (λ _. hold_count heap.new ≡ hold_count heap.old + 1) }
@@ -48,7 +48,7 @@ fn no_lines(heap: &mut Heap<Num>) -> Result<Link, NoMemory>
 // The root of the vector with a new cell of this number after its last.
 fn pushed(heap: &mut Heap<Num>, root: Link, number: u32) -> Result<Link, PushFault>
     requires lines { IsLines heap.old root }
-    requires few { hold_count heap.old < 2 ^ 50 }
+    requires few { hold_count heap.old < program_holds }
     ensures lines { IfOk result (λ l. IsLines heap.new l) }
     ensures others { IfOk result (λ _. KeepsLines heap.old heap.new) }
     ensures count { IfOk result (λ _. hold_count heap.new ≡ hold_count heap.old + 1) }
@@ -61,7 +61,7 @@ fn pushed(heap: &mut Heap<Num>, root: Link, number: u32) -> Result<Link, PushFau
 // The root of the vector with a new cell of this number at the index.
 fn changed(heap: &mut Heap<Num>, root: Link, index: u32, number: u32) -> Result<Link, SetFault>
     requires lines { IsLines heap.old root }
-    requires few { hold_count heap.old < 2 ^ 50 }
+    requires few { hold_count heap.old < program_holds }
     ensures lines { IfOk result (λ l. IsLines heap.new l) }
     ensures others { IfOk result (λ _. KeepsLines heap.old heap.new) }
     ensures count { IfOk result (λ _. hold_count heap.new ≡ hold_count heap.old + 1) }
@@ -75,7 +75,7 @@ fn changed(heap: &mut Heap<Num>, root: Link, index: u32, number: u32) -> Result<
 // The root of the vector of the first elements.
 fn front(heap: &mut Heap<Num>, root: Link, count: u32) -> Result<Link, NoMemory>
     requires lines { IsLines heap.old root }
-    requires few { hold_count heap.old < 2 ^ 50 }
+    requires few { hold_count heap.old < program_holds }
     ensures lines { IfOk result (λ l. IsLines heap.new l) }
     ensures others { IfOk result (λ _. KeepsLines heap.old heap.new) }
     ensures count { IfOk result (λ _. hold_count heap.new ≡ hold_count heap.old + 1) }
@@ -86,7 +86,7 @@ fn front(heap: &mut Heap<Num>, root: Link, count: u32) -> Result<Link, NoMemory>
 // The root of the vector of the elements behind the first ones.
 fn back(heap: &mut Heap<Num>, root: Link, count: u32) -> Result<Link, NoMemory>
     requires lines { IsLines heap.old root }
-    requires few { hold_count heap.old < 2 ^ 50 }
+    requires few { hold_count heap.old < program_holds }
     ensures lines { IfOk result (λ l. IsLines heap.new l) }
     ensures others { IfOk result (λ _. KeepsLines heap.old heap.new) }
     ensures count { IfOk result (λ _. hold_count heap.new ≡ hold_count heap.old + 1) }
@@ -98,7 +98,7 @@ fn back(heap: &mut Heap<Num>, root: Link, count: u32) -> Result<Link, NoMemory>
 fn joined(heap: &mut Heap<Num>, left: Link, right: Link) -> Result<Link, JoinFault>
     requires left { IsLines heap.old left }
     requires right { IsLines heap.old right }
-    requires few { hold_count heap.old < 2 ^ 50 }
+    requires few { hold_count heap.old < program_holds }
     ensures lines { IfOk result (λ l. IsLines heap.new l) }
     ensures others { IfOk result (λ _. KeepsLines heap.old heap.new) }
     ensures count { IfOk result (λ _. hold_count heap.new ≡ hold_count heap.old + 1) }
@@ -110,7 +110,7 @@ fn joined(heap: &mut Heap<Num>, left: Link, right: Link) -> Result<Link, JoinFau
 fn filled(heap: &mut Heap<Num>, links: &[Link]) -> Result<Link, NoMemory>
     requires cells { All (IsCellLink (form_at heap.old)) links.now }
     requires short { length links.now < 2 ^ 32 }
-    requires few { hold_count heap.old < 2 ^ 50 }
+    requires few { hold_count heap.old < program_holds }
     ensures lines { IfOk result (λ l. IsLines heap.new l) }
     ensures others { IfOk result (λ _. KeepsLines heap.old heap.new) }
     ensures count { IfOk result (λ _. hold_count heap.new ≡ hold_count heap.old + 1) }

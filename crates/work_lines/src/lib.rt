@@ -3,11 +3,12 @@
 
 ghost use Rattle.std.specs.Prelude.{◌≡◌, ℕ, [], ◌∷◌, true, false, MatchBool};
 ghost use Rattle.work_lines.specs.Lines.{next_number, work_lines};
-ghost use Rattle.work_lines.specs.Commands.{LinesMean, ChangesSpace};
-ghost use Rattle.work_lines.specs.Worked.{WorkedLines};
+ghost use Rattle.work_lines.specs.Commands.{ChangesSpace};
 
+mod laws;
 mod line;
 
+pub use laws::{lines_are_commands, worked};
 use line::MadeLine;
 use std::marker::Model;
 
@@ -88,13 +89,3 @@ fn next_number(number: u64) -> u64
         .wrapping_mul(6_364_136_223_846_793_005)
         .wrapping_add(1_442_695_040_888_963_407)
 }
-
-/// Each line is a command that changes the space: a law. The function does nothing.
-pub fn lines_are_commands()
-    ensures { LinesMean }
-{}
-
-/// The first lines of seed 0, and the longest and the shortest of the kinds: a fact. The function does nothing.
-pub fn worked()
-    ensures { WorkedLines }
-{}

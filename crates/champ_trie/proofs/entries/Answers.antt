@@ -1,8 +1,8 @@
-use Rattle.std.proofs.Common.{arith, ◌≡◌, ◌+◌, ◌<◌, ◌^◌, subst, sym, map, List, ℕ, length}
+use Rattle.std.proofs.Common.{arith, ◌≡◌, ◌<◌, subst, sym, map, List, ℕ, length}
 use Rattle.std.proofs.lemmas.List.{length-map}
-use Rattle.elem_core.specs.declared.codes.TheConstants.{DEEPEST}
+use Rattle.elem_core.specs.declared.codes.TheConstants.{LEVELS}
 use Rattle.node_heap.specs.Forms.{AreTrees, trees_of}
-use Rattle.node_heap.specs.Heap.{Heap, form_at, live_count, IsGraph}
+use Rattle.node_heap.specs.Heap.{Heap, form_at, live_count, IsGraph, row_limit}
 use Rattle.std.specs.Cmp.{IsTotalOrder}
 use Rattle.std.specs.declared.cmp.Ordering.{Ordering}
 use Rattle.champ_chain.specs.Entry.{Entry, SameSet}
@@ -19,16 +19,16 @@ use Rattle.champ_trie.proofs.entries.Goals as goal
 has-links : {T : Type 0} (cmp : T → T → Ordering) (code : T → ℕ) → IsTotalOrder cmp → (h : Heap T) (root : ℕ) (ls : List ℕ) → ls ≡ walk h root → (E : List (Entry T)) → IsCanon cmp code (form_at h) root E → SameSet ls (map (λ e. e.link) E)
 has-links cmp code o h root ls is E canon =
     subst (λ xs. SameSet xs (map (λ e. e.link) E)) (sym is)
-    (trie-walk cmp code (form_at h) (DEEPEST + 1) 0 root E canon.trie (depth_of h) (live_count h) (canon-fit cmp code o h root E canon) (omega arith))
+    (trie-walk cmp code (form_at h) LEVELS 0 root E canon.trie (depth_of h) (live_count h) (canon-fit cmp code o h root E canon) (omega arith))
 
-are-few : {T : Type 0} (cmp : T → T → Ordering) (code : T → ℕ) → IsTotalOrder cmp → (h : Heap T) → IsGraph h → (root : ℕ) (ls : List ℕ) → ls ≡ walk h root → (E : List (Entry T)) → IsCanon cmp code (form_at h) root E → length ls < 2 ^ 56
+are-few : {T : Type 0} (cmp : T → T → Ordering) (code : T → ℕ) → IsTotalOrder cmp → (h : Heap T) → IsGraph h → (root : ℕ) (ls : List ℕ) → ls ≡ walk h root → (E : List (Entry T)) → IsCanon cmp code (form_at h) root E → length ls < row_limit
 are-few cmp code o h graph root ls is E canon =
     omega (arith, same-length ls _ (has-links cmp code o h root ls is E canon), length-map E (λ e. e.link), canon-fit cmp code o h root E canon, graph.few_rows)
 
 pub over-requires : goal.over-requires
 over-requires g c =
     let trie = c.requires.trie in
-    let layer = trie-layer g.T.Ord.cmp (code_by g.T.Element.code_of trie.0) (form_at c.args.heap.now) (DEEPEST + 1) 0 c.args.root trie.1 trie.2.trie in
+    let layer = trie-layer g.T.Ord.cmp (code_by g.T.Element.code_of trie.0) (form_at c.args.heap.now) LEVELS 0 c.args.root trie.1 trie.2.trie in
     record { row = layer.0; below = layer.1 }
 
 pub returns-clause-links : goal.returns-clause-links
@@ -42,6 +42,6 @@ returns-clause-few g c =
 pub returns-clause-trees : goal.returns-clause-trees
 returns-clause-trees g c = λ t is.
     let h = c.args.heap.now in
-    let layer = trie-layer g.T.Ord.cmp (code_by g.T.Element.code_of c.requires.trie.0) (form_at h) (DEEPEST + 1) 0 c.args.root c.requires.trie.1 c.requires.trie.2.trie in
+    let layer = trie-layer g.T.Ord.cmp (code_by g.T.Element.code_of c.requires.trie.0) (form_at h) LEVELS 0 c.args.root c.requires.trie.1 c.requires.trie.2.trie in
     subst (λ ls. AreTrees (form_at h) ls (trees_of (tree_entries t))) (sym c.over.ensures.walk)
-    (walk-trees (form_at h) (live_count h) (λ next es rows. rows-live h c.over.ensures.graph es next rows) (DEEPEST + 1) c.args.root t layer.1 (depth_of h) (omega arith) is)
+    (walk-trees (form_at h) (live_count h) (λ next es rows. rows-live h c.over.ensures.graph es next rows) LEVELS c.args.root t layer.1 (depth_of h) (omega arith) is)

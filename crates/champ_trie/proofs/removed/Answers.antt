@@ -1,7 +1,7 @@
 use Rattle.std.proofs.Common.{arith, ◌≡◌, ◌+◌, ◌∙◌, sym, ap, List, [], subst}
 use Rattle.std.specs.declared.cmp.Ordering.TheVariants.{Equal}
 use Rattle.elem_core.specs.Codes.{digit_at, masked_code}
-use Rattle.elem_core.specs.declared.codes.TheConstants.{DEEPEST}
+use Rattle.elem_core.specs.declared.codes.TheConstants.{DEEPEST, LEVELS}
 use Rattle.node_heap.specs.Heap.{form_at}
 use Rattle.node_heap.specs.Calls.{Builds}
 use Rattle.node_heap.proofs.Frames.{Extends-trans}
@@ -39,7 +39,7 @@ edited-requires-clause-row g c =
     let trie = c.requires.trie in
     let more = (went g (goal.at.edited-requires-clause-row g c).After-place_without-left trie.0 trie.1).extends in
     trie-row g.T.Ord.cmp (code_by g.T.Element.code_of c.args.bits) (form_at c.place_without-left.new.heap) DEEPEST 0 c.args.root trie.0
-    (trie-kept g.T.Ord.cmp (code_by g.T.Element.code_of c.args.bits) (form_at c.args.heap.now) (form_at c.place_without-left.new.heap) (forms-kept c.args.heap.now c.place_without-left.new.heap more) (DEEPEST + 1) 0 c.args.root trie.0 trie.1.trie)
+    (trie-kept g.T.Ord.cmp (code_by g.T.Element.code_of c.args.bits) (form_at c.args.heap.now) (form_at c.place_without-left.new.heap) (forms-kept c.args.heap.now c.place_without-left.new.heap more) LEVELS 0 c.args.root trie.0 trie.1.trie)
 
 pub edited-requires-clause-graph : goal.edited-requires-clause-graph
 edited-requires-clause-graph g c = (went g (goal.at.edited-requires-clause-graph g c).After-place_without-left c.requires.trie.0 c.requires.trie.1).graph
@@ -68,7 +68,7 @@ make-requires-clause-few g c =
 pub returns-clause-builds : goal.returns-clause-builds
 returns-clause-builds g c = λ E canon.
     let did = went g (goal.at.returns-clause-builds g c).After-place_without-left E canon in
-    Builds-more 0 (DEEPEST + 1 + alike_to g.T.Element.code_of c.args.bits (g.P.Probe.stands_for c.args.key.now) E) (Builds-then did (Builds-then c.edited.ensures.builds c.make.ensures.builds)) (omega arith) (omega arith)
+    Builds-more 0 (LEVELS + alike_to g.T.Element.code_of c.args.bits (g.P.Probe.stands_for c.args.key.now) E) (Builds-then did (Builds-then c.edited.ensures.builds c.make.ensures.builds)) (omega arith) (omega arith)
 
 pub returns-clause-entries : goal.returns-clause-entries
 returns-clause-entries g c = λ E canon.
@@ -82,7 +82,7 @@ returns-clause-entries g c = λ E canon.
     let last = form_at c.make.new.heap in
     let later = forms-kept c.place_without-left.new.heap c.make.new.heap (Extends-trans c.edited.ensures.builds.extends c.make.ensures.builds.extends) in
     let below = canon-below cmp code (form_at c.args.heap.now) c.args.root c.masked-code.result E canon in
-    let trie = trie-kept cmp code (form_at c.args.heap.now) first (forms-kept c.args.heap.now c.place_without-left.new.heap did.extends) (DEEPEST + 1) 0 c.args.root E below.trie in
+    let trie = trie-kept cmp code (form_at c.args.heap.now) first (forms-kept c.args.heap.now c.place_without-left.new.heap did.extends) LEVELS 0 c.args.root E below.trie in
     let read = c.digit.ensures.read in
     let row = c.edited.result in
     let stands = place-kept cmp code first last later DEEPEST 1 c.place_without-left.result (part cmp code 0 (digit_at c.masked-code.result 0) (others cmp key E)) (c.place_without-left.ensures.place E DEEPEST below) in
@@ -111,7 +111,7 @@ returns-clause-shares g c = λ E canon.
     let read = c.digit.ensures.read in
     let row = c.edited.result in
     let here = sym (ap (place_of row.entries row.nodes row.links.items) read) ∙ c.edited.ensures.here in
-    subst (λ n. SharesBeside F G n (DEEPEST + 1) 0 c.args.root c.make.result) is_code
+    subst (λ n. SharesBeside F G n LEVELS 0 c.args.root c.make.result) is_code
     (shares-row F G c.masked-code.result DEEPEST 0 c.args.root c.make.result old.0 old.1 old.2 row.entries row.nodes row.links.items old.3 c.make.ensures.row
     (λ q low other. c.edited.ensures.others 0 old.0 old.1 old.2 (row-kept cmp code F M first c.args.root 0 old.0 old.1 old.2 old.3) q low (λ same. other (same ∙ read)))
     (λ j k was is. shares-kept F F M G (record { kept = λ l f is. is }) later c.masked-code.result DEEPEST 1 j k (c.place_without-left.ensures.shares E DEEPEST old.0 old.1 old.2 j k below old.3 was (sym here ∙ is))))

@@ -1,11 +1,11 @@
-use Rattle.std.proofs.Common.{arith, ◌∙◌, sym, ap, ◌+◌}
+use Rattle.std.proofs.Common.{arith, ◌∙◌, sym, ap}
 use Rattle.std.specs.Option.{is_some}
 use Rattle.std.proofs.lemmas.Bool.{true≢false}
 use Rattle.node_heap.proofs.BuildLemmas.{Builds-Answered, Builds-MakesJust}
 use Rattle.champ_chain.proofs.WithLemmas.{not-ok}
 use Rattle.champ_trie.specs.Trie.{code_by}
 use Rattle.node_heap.specs.Heap.{form_at}
-use Rattle.elem_core.specs.declared.codes.TheConstants.{DEEPEST}
+use Rattle.elem_core.specs.declared.codes.TheConstants.{LEVELS}
 use Rattle.champ_chain.proofs.FrameLemmas.{forms-same}
 use Rattle.champ_trie.proofs.ShareLemmas.{shares-kept}
 use Rattle.champ_trie.proofs.LeftLemmas.{KeepsTries-same}
@@ -44,7 +44,7 @@ pub returns-clause-shares : goal.returns-clause-shares
 returns-clause-shares g c = λ E canon.
     let back = forms-same c.reserve.new.self c.args.heap.now (λ j. sym (c.in_ok-reserve.ensures.rest.rows j)) in
     shares-kept (form_at c.reserve.new.self) (form_at c.args.heap.now) (form_at c.removed.new.heap) (form_at c.removed.new.heap) back (record { kept = λ l f is. is }) (code_by g.T.Element.code_of c.args.bits (g.P.Probe.stands_for c.args.key.now))
-    (DEEPEST + 1) 0 c.args.root c.removed.result (c.removed.ensures.shares E (KeepsTries-same c.args.heap.now c.reserve.new.self c.in_ok-reserve.ensures.rest.rows g.T.Ord.cmp (code_by g.T.Element.code_of c.args.bits) c.args.root E canon))
+    LEVELS 0 c.args.root c.removed.result (c.removed.ensures.shares E (KeepsTries-same c.args.heap.now c.reserve.new.self c.in_ok-reserve.ensures.rest.rows g.T.Ord.cmp (code_by g.T.Element.code_of c.args.bits) c.args.root E canon))
 
 pub returns-then-is_none-clause-spares : goal.returns-then-is_none-clause-spares
 returns-then-is_none-clause-spares g c = λ E canon. KeepsToNeed-refl c.args.heap.now 0 _

@@ -1,7 +1,9 @@
 use Rattle.std.proofs.Common.{◌+◌, ◌∙◌, refl, ap, sym, subst, arith, List, [], ◌∷◌}
 use Rattle.std.specs.Prelude.{option_map}
 use Rattle.elem_core.specs.Codes.{masked_code}
-use Rattle.elem_core.specs.declared.codes.TheConstants.{DEEPEST}
+use Rattle.elem_core.specs.declared.codes.TheConstants.{LEVELS}
+use Rattle.champ_trie.specs.declared.TheConstants.{ADD_NODES}
+use Rattle.champ_kinds.specs.declared.map.TheConstants.{INSERT_NODES}
 use Rattle.node_heap.specs.Forms.{form_of}
 use Rattle.node_heap.specs.Heap.{form_at}
 use Rattle.node_heap.specs.Calls.{Answered, Builds}
@@ -36,7 +38,7 @@ returns-then-is_err-clause-ample g c = λ M here spares.
     let bits = ap (λ (r : Root). alike_keys g.T.Element.code_of r.bits c.args.key M) c.map.view_is in
     let alike = alike-pairs (form_at c.args.heap.now) g.T.Element.code_of c.map.inside.bits c.args.key is.entries M is.pairs in
     let counted = c.look_up-found.ensures.alike is.entries is.rooted.trie in
-    absurd (not-err c.reserve.result (sym c.is_err.ensures.value ∙ c.if-is_err.true) (c.reserve.ensures.ample (omega (arith, spares.0)) (omega (arith, spares.1, counted, alike, bits, c.from.ensures))))
+    absurd (not-err c.reserve.result (sym c.is_err.ensures.value ∙ c.if-is_err.true) (c.reserve.ensures.ample (omega (arith, spares.0)) (omega (arith, spares.1, counted, alike, bits))))
 
 pub key_cell-cell-requires-clause-pair : goal.key_cell-cell-requires-clause-pair
 key_cell-cell-requires-clause-pair g c =
@@ -67,7 +69,7 @@ added-root-requires-clause-trie g c =
       got.key_there,
       canon-extended g.T.Ord.cmp (code_by g.T.Element.code_of c.map.inside.bits) c.args.heap.now c.node-entry.new.self (made-extends made) c.map.inside.root is.entries is.rooted.trie,
       made-key made g.T.Ord.cmp g.met.T.Ord.total got,
-      omega (arith, room.1, counted, there, c.from.ensures, built.makes.spare_nodes, built.few_nodes),
+      omega (arith, room.1, counted, there, built.makes.spare_nodes, built.few_nodes),
     )
 
 module _ (g : Over) (c : goal.After-from_root g) where
@@ -91,14 +93,14 @@ module _ (g : Over) (c : goal.After-from_root g) where
     with-pair : (E : List (Entry g.row.T.Denot)) → HasEntries g.T.Ord.cmp g.T.Element.code_of c.args.heap.now given E → IsTrieOf g.T.Ord.cmp g.T.Element.code_of given.bits c.added-root.new.heap c.added-root.result (put g.T.Ord.cmp E (entry got.key_there c.node-entry.result))
     with-pair E rooted = c.added-root.ensures.entries E got.key_there (canon-extended g.T.Ord.cmp (code_by g.T.Element.code_of c.map.inside.bits) c.args.heap.now c.node-entry.new.self (made-extends made) c.map.inside.root E rooted.trie) (made-key made g.T.Ord.cmp g.met.T.Ord.total got)
 
-    added-rows : Builds c.node-entry.new.self c.added-root.new.heap (c.node-entry.result ∷ []) (c.added-root.result ∷ []) 0 (DEEPEST + 2 + alike_to g.T.Element.code_of given.bits got.key_there is.entries)
+    added-rows : Builds c.node-entry.new.self c.added-root.new.heap (c.node-entry.result ∷ []) (c.added-root.result ∷ []) 0 (ADD_NODES + alike_to g.T.Element.code_of given.bits got.key_there is.entries)
     added-rows = c.added-root.ensures.builds is.entries got.key_there (canon-extended g.T.Ord.cmp (code_by g.T.Element.code_of c.map.inside.bits) c.args.heap.now c.node-entry.new.self (made-extends made) c.map.inside.root is.entries is.rooted.trie) (made-key made g.T.Ord.cmp g.met.T.Ord.total got)
 
-    all-rows : Builds c.reserve.new.self c.added-root.new.heap (c.args.value ∷ []) (c.added-root.result ∷ []) 1 (DEEPEST + 3 + alike_keys g.T.Element.code_of given.bits c.args.key M)
+    all-rows : Builds c.reserve.new.self c.added-root.new.heap (c.args.value ∷ []) (c.added-root.result ∷ []) 1 (INSERT_NODES + alike_keys g.T.Element.code_of given.bits c.args.key M)
     all-rows =
         let there = alike-there g.T.Element.code_of given.bits c.args.key got.key_there is.entries (g.met.T.Element.equal_codes _ _ got.same) in
         let alike = alike-pairs (form_at c.args.heap.now) g.T.Element.code_of given.bits c.args.key is.entries M is.pairs in
-        all-built made c.added-root.new.heap c.added-root.result (DEEPEST + 2 + alike_to g.T.Element.code_of given.bits got.key_there is.entries) (DEEPEST + 3 + alike_keys g.T.Element.code_of given.bits c.args.key M) (omega (arith, there, alike)) added-rows
+        all-built made c.added-root.new.heap c.added-root.result (ADD_NODES + alike_to g.T.Element.code_of given.bits got.key_there is.entries) (INSERT_NODES + alike_keys g.T.Element.code_of given.bits c.args.key M) (omega (arith, there, alike)) added-rows
 
     map-made : IsMapOf g.T.Ord.cmp g.T.Element.code_of c.added-root.new.heap (record { root = c.added-root.result; bits = given.bits }) (bind g.T.Ord.cmp M c.args.key c.args.value)
     map-made = map-with made g.T.Ord.cmp g.met.T.Ord.total got g.T.Element.code_of c.added-root.new.heap added-rows.extends given c.added-root.result is (with-pair is.entries is.rooted)
@@ -110,8 +112,8 @@ pub returns-clause-answered : goal.returns-clause-answered
 returns-clause-answered g c = λ M here.
     let bits = ap (λ (r : Root). alike_keys g.T.Element.code_of r.bits c.args.key M) c.map.view_is in
     let done = Builds-Answered c.reserve.ensures.rest (all-rows g c M (map-seen c.map.view_is here)) in
-    subst (λ (r : Root). Answered c.args.heap.now c.added-root.new.heap (c.args.value ∷ []) r.root 1 (DEEPEST + 3 + alike_keys g.T.Element.code_of c.args.map.bits c.args.key M)) (sym c.from_root.ensures)
-    (subst (λ n. Answered c.args.heap.now c.added-root.new.heap (c.args.value ∷ []) c.added-root.result 1 (DEEPEST + 3 + n)) bits done)
+    subst (λ (r : Root). Answered c.args.heap.now c.added-root.new.heap (c.args.value ∷ []) r.root 1 (INSERT_NODES + alike_keys g.T.Element.code_of c.args.map.bits c.args.key M)) (sym c.from_root.ensures)
+    (subst (λ n. Answered c.args.heap.now c.added-root.new.heap (c.args.value ∷ []) c.added-root.result 1 (INSERT_NODES + n)) bits done)
 
 pub returns-clause-made : goal.returns-clause-made
 returns-clause-made g c = Builds-MakesJust c.reserve.ensures.rest (all-rows g c c.requires.contents.0 (map-seen c.map.view_is c.requires.contents.1))
@@ -135,10 +137,10 @@ returns-clause-shares g c =
     let key = (got g c c.requires.contents.0 is).key_there in
     let code = g.T.Element.code_of in
     let there = c.added-root.ensures.shares is.entries key (canon-extended g.T.Ord.cmp (code_by code c.map.inside.bits) c.args.heap.now c.node-entry.new.self (made-extends (made g c)) c.map.inside.root is.entries is.rooted.trie) (made-key (made g c) g.T.Ord.cmp g.met.T.Ord.total (got g c c.requires.contents.0 is)) in
-    let before = shares-before g.T.Ord.cmp (code_by code c.map.inside.bits) (form_at c.node-entry.new.self) F G (forms-kept c.args.heap.now c.node-entry.new.self (made-extends (made g c))) (code_by code c.map.inside.bits key) (DEEPEST + 1) 0 c.map.inside.root c.added-root.result is.entries is.rooted.trie.trie there in
-    subst (λ (r : Root). SharesBeside F G (code_by code c.args.map.bits c.args.key) (DEEPEST + 1) 0 c.args.map.root r.root) (sym c.from_root.ensures)
-    (subst (λ (r : Root). SharesBeside F G (code_by code r.bits c.args.key) (DEEPEST + 1) 0 r.root c.added-root.result) c.map.view_is
-    (subst (λ n. SharesBeside F G (masked_code n c.map.inside.bits) (DEEPEST + 1) 0 c.map.inside.root c.added-root.result) (sym (g.met.T.Element.equal_codes _ _ (got g c c.requires.contents.0 is).same)) before))
+    let before = shares-before g.T.Ord.cmp (code_by code c.map.inside.bits) (form_at c.node-entry.new.self) F G (forms-kept c.args.heap.now c.node-entry.new.self (made-extends (made g c))) (code_by code c.map.inside.bits key) LEVELS 0 c.map.inside.root c.added-root.result is.entries is.rooted.trie.trie there in
+    subst (λ (r : Root). SharesBeside F G (code_by code c.args.map.bits c.args.key) LEVELS 0 c.args.map.root r.root) (sym c.from_root.ensures)
+    (subst (λ (r : Root). SharesBeside F G (code_by code r.bits c.args.key) LEVELS 0 r.root c.added-root.result) c.map.view_is
+    (subst (λ n. SharesBeside F G (masked_code n c.map.inside.bits) LEVELS 0 c.map.inside.root c.added-root.result) (sym (g.met.T.Element.equal_codes _ _ (got g c c.requires.contents.0 is).same)) before))
 
 pub returns-then-is_err-clause-handed_back : goal.returns-then-is_err-clause-handed_back
 returns-then-is_err-clause-handed_back g c = (refl, at-err c.reserve.result (sym c.is_err.ensures.value ∙ c.if-is_err.true) c.reserve.ensures.refused)
@@ -149,5 +151,5 @@ returns-clause-spares g c = λ M here.
     let bits = ap (λ (r : Root). alike_keys g.T.Element.code_of r.bits c.args.key M) c.map.view_is in
     let alike = alike-pairs (form_at c.args.heap.now) g.T.Element.code_of c.map.inside.bits c.args.key is.entries M is.pairs in
     let counted = c.look_up-found.ensures.alike is.entries is.rooted.trie in
-    KeepsToNeed-more 1 _ (omega arith) (omega (arith, counted, alike, bits, c.from.ensures))
+    KeepsToNeed-more 1 _ (omega arith) (omega (arith, counted, alike, bits))
     (Builds-KeepsToNeed (at-ok c.reserve.result (sym c.is_err.ensures.value ∙ c.if-is_err.false) c.reserve.ensures.greater) c.reserve.ensures.rest (all-rows g c M is))

@@ -1,6 +1,6 @@
 use Rattle.std.proofs.Common.{ℕ, ◌+◌, ◌∙◌, refl, ap, sym, subst, arith, [], Ok}
 use Rattle.std.specs.Prelude.{IsErr}
-use Rattle.elem_core.specs.declared.codes.TheConstants.{DEEPEST}
+use Rattle.elem_core.specs.declared.codes.TheConstants.{LEVELS}
 use Rattle.node_heap.specs.Heap.{form_at}
 use Rattle.node_heap.specs.Calls.{Answered}
 use Rattle.champ_chain.specs.Entry.{others}
@@ -53,10 +53,10 @@ returns-in-Some-clause-answered g c = λ M here.
     let key = g.P.Probe.stands_for c.args.key.now in
     let bits = ap (λ (r : Root). alike_keys g.T.Element.code_of r.bits key M) c.map.view_is in
     let alike = alike-pairs (form_at c.args.heap.now) g.T.Element.code_of c.map.inside.bits key is.entries M is.pairs in
-    let done = if-some c.in_ok-without.field-0 c.in-Some.root (λ l. Answered c.args.heap.now c.without.new.heap [] l 0 (DEEPEST + 1 + alike_to g.T.Element.code_of c.map.inside.bits key is.entries)) c.in-Some.is
+    let done = if-some c.in_ok-without.field-0 c.in-Some.root (λ l. Answered c.args.heap.now c.without.new.heap [] l 0 (LEVELS + alike_to g.T.Element.code_of c.map.inside.bits key is.entries)) c.in-Some.is
     (c.in_ok-without.ensures.answered is.entries is.rooted.trie) in
-    subst (λ (r : Root). Answered c.args.heap.now c.without.new.heap [] r.root 0 (DEEPEST + 1 + alike_keys g.T.Element.code_of c.args.map.bits key M)) (sym c.from_root.ensures)
-    (subst (λ n. Answered c.args.heap.now c.without.new.heap [] c.in-Some.root 0 (DEEPEST + 1 + n)) (alike ∙ bits) done)
+    subst (λ (r : Root). Answered c.args.heap.now c.without.new.heap [] r.root 0 (LEVELS + alike_keys g.T.Element.code_of c.args.map.bits key M)) (sym c.from_root.ensures)
+    (subst (λ n. Answered c.args.heap.now c.without.new.heap [] c.in-Some.root 0 (LEVELS + n)) (alike ∙ bits) done)
 
 pub returns-in-Some-clause-contents : goal.returns-in-Some-clause-contents
 returns-in-Some-clause-contents g c = λ M here.
@@ -64,7 +64,7 @@ returns-in-Some-clause-contents g c = λ M here.
     let key = g.P.Probe.stands_for c.args.key.now in
     let left = if-some c.in_ok-without.field-0 c.in-Some.root (λ l. IsTrieOf g.T.Ord.cmp g.T.Element.code_of c.map.inside.bits c.without.new.heap l (others g.T.Ord.cmp key is.entries)) c.in-Some.is
     (c.in_ok-without.ensures.entries is.entries is.rooted.trie) in
-    let done = if-some c.in_ok-without.field-0 c.in-Some.root (λ l. Answered c.args.heap.now c.without.new.heap [] l 0 (DEEPEST + 1 + alike_to g.T.Element.code_of c.map.inside.bits key is.entries)) c.in-Some.is
+    let done = if-some c.in_ok-without.field-0 c.in-Some.root (λ l. Answered c.args.heap.now c.without.new.heap [] l 0 (LEVELS + alike_to g.T.Element.code_of c.map.inside.bits key is.entries)) c.in-Some.is
     (c.in_ok-without.ensures.answered is.entries is.rooted.trie) in
     map-seen c.from_root.ensures (map-left g.T.Ord.cmp g.T.Element.code_of done.extends (record { root = c.map.inside.root; bits = c.map.inside.bits }) c.in-Some.root key M is left)
 
@@ -72,7 +72,7 @@ pub returns-in-Some-clause-containers : goal.returns-in-Some-clause-containers
 returns-in-Some-clause-containers g c =
     let is = map-seen c.map.view_is c.requires.contents.1 in
     let key = g.P.Probe.stands_for c.args.key.now in
-    let done = if-some c.in_ok-without.field-0 c.in-Some.root (λ l. Answered c.args.heap.now c.without.new.heap [] l 0 (DEEPEST + 1 + alike_to g.T.Element.code_of c.map.inside.bits key is.entries)) c.in-Some.is
+    let done = if-some c.in_ok-without.field-0 c.in-Some.root (λ l. Answered c.args.heap.now c.without.new.heap [] l 0 (LEVELS + alike_to g.T.Element.code_of c.map.inside.bits key is.entries)) c.in-Some.is
     (c.in_ok-without.ensures.answered is.entries is.rooted.trie) in
     containers-extended _ _ done.extends
 
@@ -82,10 +82,10 @@ returns-in-Some-clause-shares g c =
     let F = form_at c.args.heap.now in
     let G = form_at c.without.new.heap in
     let code = λ (n : ℕ). code_by g.T.Element.code_of n (g.P.Probe.stands_for c.args.key.now) in
-    let beside = if-some c.in_ok-without.field-0 c.in-Some.root (λ l. SharesBeside F G (code c.map.inside.bits) (DEEPEST + 1) 0 c.map.inside.root l) c.in-Some.is
+    let beside = if-some c.in_ok-without.field-0 c.in-Some.root (λ l. SharesBeside F G (code c.map.inside.bits) LEVELS 0 c.map.inside.root l) c.in-Some.is
     (c.in_ok-without.ensures.shares is.entries is.rooted.trie) in
-    subst (λ (r : Root). SharesBeside F G (code c.args.map.bits) (DEEPEST + 1) 0 c.args.map.root r.root) (sym c.from_root.ensures)
-    (subst (λ (r : Root). SharesBeside F G (code r.bits) (DEEPEST + 1) 0 r.root c.in-Some.root) c.map.view_is beside)
+    subst (λ (r : Root). SharesBeside F G (code c.args.map.bits) LEVELS 0 c.args.map.root r.root) (sym c.from_root.ensures)
+    (subst (λ (r : Root). SharesBeside F G (code r.bits) LEVELS 0 r.root c.in-Some.root) c.map.view_is beside)
 
 pub returns-in-None-clause-spares : goal.returns-in-None-clause-spares
 returns-in-None-clause-spares g c = λ M here.

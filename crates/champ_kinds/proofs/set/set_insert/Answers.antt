@@ -1,6 +1,7 @@
 use Rattle.std.proofs.Common.{◌≡◌, ℕ, ◌+◌, ◌∙◌, ap, sym, subst, arith, List, [], ◌∷◌, Some, None, Ok, false, refl, is_some}
 use Rattle.std.specs.Prelude.{Option, option_map}
-use Rattle.elem_core.specs.declared.codes.TheConstants.{DEEPEST}
+use Rattle.elem_core.specs.declared.codes.TheConstants.{LEVELS}
+use Rattle.champ_trie.specs.declared.TheConstants.{ADD_NODES}
 use Rattle.node_heap.specs.Forms.{cell, form_of}
 use Rattle.node_heap.specs.Heap.{form_at}
 use Rattle.node_heap.specs.Calls.{Answered, Builds}
@@ -30,7 +31,7 @@ returns-then-is_err-clause-ample g c = λ E here spares.
     let is = set-seen c.set.view_is here in
     let bits = ap (λ (r : Root). alike_to g.T.Element.code_of r.bits c.args.key E) c.set.view_is in
     let counted = c.look_up-found.ensures.alike E is.rooted.trie in
-    absurd (not-err c.reserve.result (sym c.is_err.ensures.value ∙ c.if-is_err.true) (c.reserve.ensures.ample (omega (arith, spares.0)) (omega (arith, spares.1, counted, bits, c.from.ensures))))
+    absurd (not-err c.reserve.result (sym c.is_err.ensures.value ∙ c.if-is_err.true) (c.reserve.ensures.ample (omega (arith, spares.0)) (omega (arith, spares.1, counted, bits))))
 
 pub added-root-requires-clause-trie : goal.added-root-requires-clause-trie
 added-root-requires-clause-trie g c =
@@ -41,7 +42,7 @@ added-root-requires-clause-trie g c =
       c.args.key,
       canon-extended g.T.Ord.cmp (code_by g.T.Element.code_of c.set.inside.bits) c.args.heap.now c.cell-cell.new.self (Extends-trans (Extends-Unchanged c.reserve.ensures.rest) c.cell-cell.ensures.extends) c.set.inside.root c.requires.contents.0 is.rooted.trie,
       ap (λ r. key_of (form_at c.cell-cell.new.self) (option_map form_of r)) c.cell-cell.ensures.adds.here,
-      omega (arith, room.1, counted, c.from.ensures, c.cell-cell.ensures.makes.spare_nodes),
+      omega (arith, room.1, counted, c.cell-cell.ensures.makes.spare_nodes),
     )
 
 module _ (g : Over) (c : goal.After-from_root-2 g) where
@@ -58,10 +59,10 @@ module _ (g : Over) (c : goal.After-from_root-2 g) where
     key-here : key_at (form_at c.cell-cell.new.self) c.cell-cell.result ≡ Some c.args.key
     key-here = ap (key_of (form_at c.cell-cell.new.self)) cell-here
 
-    all-rows : Builds c.reserve.new.self c.added-root.new.heap [] (c.added-root.result ∷ []) 1 (DEEPEST + 2 + alike_to g.T.Element.code_of given.bits c.args.key E)
+    all-rows : Builds c.reserve.new.self c.added-root.new.heap [] (c.added-root.result ∷ []) 1 (ADD_NODES + alike_to g.T.Element.code_of given.bits c.args.key E)
     all-rows =
         let cell = Builds-cell c.cell-cell.ensures.adds c.cell-cell.ensures.makes c.cell-cell.ensures.count c.cell-cell.ensures.graph c.cell-cell.ensures.extends in
-        Builds-more 1 (DEEPEST + 2 + alike_to g.T.Element.code_of given.bits c.args.key E) (Builds-then cell (c.added-root.ensures.builds E c.args.key trie-here key-here)) (omega arith) (omega arith)
+        Builds-more 1 (ADD_NODES + alike_to g.T.Element.code_of given.bits c.args.key E) (Builds-then cell (c.added-root.ensures.builds E c.args.key trie-here key-here)) (omega arith) (omega arith)
 
     set-made : link_with g.T.Ord.cmp c.args.key E ≡ None → IsSetOf g.T.Ord.cmp g.T.Element.code_of c.added-root.new.heap (record { root = c.added-root.result; bits = given.bits }) (entry c.args.key c.cell-cell.result ∷ E)
     set-made none =
@@ -73,8 +74,8 @@ pub returns-clause-answered : goal.returns-clause-answered
 returns-clause-answered g c = λ E here.
     let bits = ap (λ (r : Root). alike_to g.T.Element.code_of r.bits c.args.key E) c.set.view_is in
     let done = Builds-Answered c.reserve.ensures.rest (all-rows g c E (set-seen c.set.view_is here)) in
-    subst (λ (r : Root). Answered c.args.heap.now c.added-root.new.heap [] r.root 1 (DEEPEST + 2 + alike_to g.T.Element.code_of c.args.set.bits c.args.key E)) (sym c.from_root-2.ensures)
-    (subst (λ n. Answered c.args.heap.now c.added-root.new.heap [] c.added-root.result 1 (DEEPEST + 2 + n)) bits done)
+    subst (λ (r : Root). Answered c.args.heap.now c.added-root.new.heap [] r.root 1 (ADD_NODES + alike_to g.T.Element.code_of c.args.set.bits c.args.key E)) (sym c.from_root-2.ensures)
+    (subst (λ n. Answered c.args.heap.now c.added-root.new.heap [] c.added-root.result 1 (ADD_NODES + n)) bits done)
 
 pub returns-clause-made : goal.returns-clause-made
 returns-clause-made g c = Builds-MakesJust c.reserve.ensures.rest (all-rows g c c.requires.contents.0 (set-seen c.set.view_is c.requires.contents.1))
@@ -105,9 +106,9 @@ returns-then-is_some-clause-shares g c =
     let F = form_at c.args.heap.now in
     let G = form_at c.hold.new.self in
     let code = g.T.Element.code_of in
-    let itself = shares-itself g.T.Ord.cmp (code_by code c.set.inside.bits) F G (forms-kept c.args.heap.now c.hold.new.self c.hold.ensures.extends) (code_by code c.set.inside.bits c.args.key) (DEEPEST + 1) 0 c.set.inside.root c.requires.contents.0 is.rooted.trie.trie in
-    subst (λ (r : Root). SharesBeside F G (code_by code c.args.set.bits c.args.key) (DEEPEST + 1) 0 c.args.set.root r.root) (sym c.from_root.ensures)
-    (subst (λ (r : Root). SharesBeside F G (code_by code r.bits c.args.key) (DEEPEST + 1) 0 r.root c.set.inside.root) c.set.view_is itself)
+    let itself = shares-itself g.T.Ord.cmp (code_by code c.set.inside.bits) F G (forms-kept c.args.heap.now c.hold.new.self c.hold.ensures.extends) (code_by code c.set.inside.bits c.args.key) LEVELS 0 c.set.inside.root c.requires.contents.0 is.rooted.trie.trie in
+    subst (λ (r : Root). SharesBeside F G (code_by code c.args.set.bits c.args.key) LEVELS 0 c.args.set.root r.root) (sym c.from_root.ensures)
+    (subst (λ (r : Root). SharesBeside F G (code_by code r.bits c.args.key) LEVELS 0 r.root c.set.inside.root) c.set.view_is itself)
 
 pub returns-clause-shares : goal.returns-clause-shares
 returns-clause-shares g c =
@@ -118,9 +119,9 @@ returns-clause-shares g c =
     let code = g.T.Element.code_of in
     let more = Extends-trans (Extends-Unchanged c.reserve.ensures.rest) c.cell-cell.ensures.extends in
     let there = c.added-root.ensures.shares E c.args.key (trie-here g c E is) (key-here g c E is) in
-    let before = shares-before g.T.Ord.cmp (code_by code c.set.inside.bits) (form_at c.cell-cell.new.self) F G (forms-kept c.args.heap.now c.cell-cell.new.self more) (code_by code c.set.inside.bits c.args.key) (DEEPEST + 1) 0 c.set.inside.root c.added-root.result E is.rooted.trie.trie there in
-    subst (λ (r : Root). SharesBeside F G (code_by code c.args.set.bits c.args.key) (DEEPEST + 1) 0 c.args.set.root r.root) (sym c.from_root-2.ensures)
-    (subst (λ (r : Root). SharesBeside F G (code_by code r.bits c.args.key) (DEEPEST + 1) 0 r.root c.added-root.result) c.set.view_is before)
+    let before = shares-before g.T.Ord.cmp (code_by code c.set.inside.bits) (form_at c.cell-cell.new.self) F G (forms-kept c.args.heap.now c.cell-cell.new.self more) (code_by code c.set.inside.bits c.args.key) LEVELS 0 c.set.inside.root c.added-root.result E is.rooted.trie.trie there in
+    subst (λ (r : Root). SharesBeside F G (code_by code c.args.set.bits c.args.key) LEVELS 0 c.args.set.root r.root) (sym c.from_root-2.ensures)
+    (subst (λ (r : Root). SharesBeside F G (code_by code r.bits c.args.key) LEVELS 0 r.root c.added-root.result) c.set.view_is before)
 
 pub returns-then-is_err-clause-handed_back : goal.returns-then-is_err-clause-handed_back
 returns-then-is_err-clause-handed_back g c = (refl, at-err c.reserve.result (sym c.is_err.ensures.value ∙ c.if-is_err.true) c.reserve.ensures.refused)
@@ -133,5 +134,5 @@ returns-clause-spares g c = λ E here.
     let is = set-seen c.set.view_is here in
     let bits = ap (λ (r : Root). alike_to g.T.Element.code_of r.bits c.args.key E) c.set.view_is in
     let counted = c.look_up-found.ensures.alike E is.rooted.trie in
-    KeepsToNeed-more 1 _ (omega arith) (omega (arith, counted, bits, c.from.ensures))
+    KeepsToNeed-more 1 _ (omega arith) (omega (arith, counted, bits))
     (Builds-KeepsToNeed (at-ok c.reserve.result (sym c.is_err.ensures.value ∙ c.if-is_err.false) c.reserve.ensures.greater) c.reserve.ensures.rest (all-rows g c E is))

@@ -1,5 +1,5 @@
 use Rattle.std.proofs.Common.{ℕ, ◌+◌, ap, sym, subst, arith, []}
-use Rattle.elem_core.specs.declared.codes.TheConstants.{DEEPEST}
+use Rattle.elem_core.specs.declared.codes.TheConstants.{LEVELS}
 use Rattle.node_heap.specs.Heap.{form_at}
 use Rattle.node_heap.specs.Calls.{Answered}
 use Rattle.champ_chain.specs.Entry.{others}
@@ -25,7 +25,7 @@ returns-in-Some-clause-contents g c = λ E here.
     let key = g.P.Probe.stands_for c.args.key.now in
     let left = if-some c.in_ok-without.field-0 c.in-Some.root (λ l. IsTrieOf g.T.Ord.cmp g.T.Element.code_of c.set.inside.bits c.without.new.heap l (others g.T.Ord.cmp key E)) c.in-Some.is
     (c.in_ok-without.ensures.entries E is.rooted.trie) in
-    let done = if-some c.in_ok-without.field-0 c.in-Some.root (λ l. Answered c.args.heap.now c.without.new.heap [] l 0 (DEEPEST + 1 + alike_to g.T.Element.code_of c.set.inside.bits key E)) c.in-Some.is
+    let done = if-some c.in_ok-without.field-0 c.in-Some.root (λ l. Answered c.args.heap.now c.without.new.heap [] l 0 (LEVELS + alike_to g.T.Element.code_of c.set.inside.bits key E)) c.in-Some.is
     (c.in_ok-without.ensures.answered E is.rooted.trie) in
     set-seen c.from_root.ensures (set-left g.T.Ord.cmp g.T.Element.code_of done.extends (record { root = c.set.inside.root; bits = c.set.inside.bits }) c.in-Some.root key E is left)
 
@@ -33,7 +33,7 @@ pub returns-in-Some-clause-containers : goal.returns-in-Some-clause-containers
 returns-in-Some-clause-containers g c =
     let is = set-seen c.set.view_is c.requires.contents.1 in
     let key = g.P.Probe.stands_for c.args.key.now in
-    let done = if-some c.in_ok-without.field-0 c.in-Some.root (λ l. Answered c.args.heap.now c.without.new.heap [] l 0 (DEEPEST + 1 + alike_to g.T.Element.code_of c.set.inside.bits key c.requires.contents.0)) c.in-Some.is
+    let done = if-some c.in_ok-without.field-0 c.in-Some.root (λ l. Answered c.args.heap.now c.without.new.heap [] l 0 (LEVELS + alike_to g.T.Element.code_of c.set.inside.bits key c.requires.contents.0)) c.in-Some.is
     (c.in_ok-without.ensures.answered c.requires.contents.0 is.rooted.trie) in
     containers-extended _ _ done.extends
 
@@ -43,10 +43,10 @@ returns-in-Some-clause-shares g c =
     let F = form_at c.args.heap.now in
     let G = form_at c.without.new.heap in
     let code = λ (n : ℕ). code_by g.T.Element.code_of n (g.P.Probe.stands_for c.args.key.now) in
-    let beside = if-some c.in_ok-without.field-0 c.in-Some.root (λ l. SharesBeside F G (code c.set.inside.bits) (DEEPEST + 1) 0 c.set.inside.root l) c.in-Some.is
+    let beside = if-some c.in_ok-without.field-0 c.in-Some.root (λ l. SharesBeside F G (code c.set.inside.bits) LEVELS 0 c.set.inside.root l) c.in-Some.is
     (c.in_ok-without.ensures.shares c.requires.contents.0 is.rooted.trie) in
-    subst (λ (r : Root). SharesBeside F G (code c.args.set.bits) (DEEPEST + 1) 0 c.args.set.root r.root) (sym c.from_root.ensures)
-    (subst (λ (r : Root). SharesBeside F G (code r.bits) (DEEPEST + 1) 0 r.root c.in-Some.root) c.set.view_is beside)
+    subst (λ (r : Root). SharesBeside F G (code c.args.set.bits) LEVELS 0 c.args.set.root r.root) (sym c.from_root.ensures)
+    (subst (λ (r : Root). SharesBeside F G (code r.bits) LEVELS 0 r.root c.in-Some.root) c.set.view_is beside)
 
 pub returns-in-None-clause-spares : goal.returns-in-None-clause-spares
 returns-in-None-clause-spares g c = λ E here.

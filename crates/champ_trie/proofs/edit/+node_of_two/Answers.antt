@@ -2,7 +2,7 @@ use Rattle.std.proofs.Common.{arith, ◌≡◌, IsSome, suc, ◌+◌, ◌-◌, �
 use Rattle.elem_core.specs.Codes.{digit_at}
 use Rattle.node_heap.specs.Heap.{form_at}
 use Rattle.node_heap.proofs.BuildLemmas.{count-cons, count-one, Builds-as, Builds-then}
-use Rattle.elem_core.specs.declared.codes.TheConstants.{CODE_BITS, DEEPEST}
+use Rattle.elem_core.specs.declared.codes.TheConstants.{CODE_BITS, DEEPEST, LEVELS}
 use Rattle.champ_chain.specs.Entry.{entry}
 use Rattle.champ_chain.proofs.FrameLemmas.{forms-kept, key-kept}
 use Rattle.champ_trie.specs.Trie.{IsTrie}
@@ -20,14 +20,14 @@ use Rattle.champ_trie.proofs.edit.+node_of_two.Goals as goal
 
 pub joined-requires-clause-spare : goal.joined-requires-clause-spare
 joined-requires-clause-spare g t c =
-    let deep : c.args.depth ≡ DEEPEST + 1 = omega (arith, c.if-depth-gt-DEEPEST.true, c.requires.depth) in
+    let deep : c.args.depth ≡ LEVELS = omega (arith, c.if-depth-gt-DEEPEST.true, c.requires.depth) in
     let low_first : c.args.first_code < 2 ^ CODE_BITS = omega arith in
     let low_second : c.args.second_code < 2 ^ CODE_BITS = omega arith in
     omega (arith, c.requires.spare, chain_nodes-all c.args.first_code c.args.second_code c.args.depth deep low_first low_second c.requires.codes, deep)
 
 pub returns-then-depth-gt-DEEPEST-clause-builds : goal.returns-then-depth-gt-DEEPEST-clause-builds
 returns-then-depth-gt-DEEPEST-clause-builds g t c =
-    let deep : c.args.depth ≡ DEEPEST + 1 = omega (arith, c.if-depth-gt-DEEPEST.true, c.requires.depth) in
+    let deep : c.args.depth ≡ LEVELS = omega (arith, c.if-depth-gt-DEEPEST.true, c.requires.depth) in
     let low_first : c.args.first_code < 2 ^ CODE_BITS = omega arith in
     let low_second : c.args.second_code < 2 ^ CODE_BITS = omega arith in
     (2, omega (arith, chain_nodes-all c.args.first_code c.args.second_code c.args.depth deep low_first low_second c.requires.codes, deep), c.joined.ensures.builds)

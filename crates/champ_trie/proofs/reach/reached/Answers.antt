@@ -1,5 +1,5 @@
 use Rattle.std.proofs.Common.{◌≡◌, ◌+◌, ◌-◌, sym, subst, arith}
-use Rattle.elem_core.specs.declared.codes.TheConstants.{DEEPEST}
+use Rattle.elem_core.specs.declared.codes.TheConstants.{LEVELS}
 use Rattle.node_heap.specs.Heap.{form_at}
 use Rattle.champ_trie.specs.Trie.{IsTrie, code_by}
 use Rattle.champ_trie.specs.Reach.{agreeing}
@@ -14,7 +14,7 @@ place_at-requires-clause-row g c =
 pub loop-depth-init : goal.loop-depth-init
 loop-depth-init g c = (
   λ some. absurd (omega (arith, some)),
-  λ E canon. subst (IsTrie g.T.Ord.cmp (code_by g.T.Element.code_of c.args.bits) (form_at c.args.heap.now) (DEEPEST + 1) 0 c.args.root) (sym (agreeing-none g.T.Ord.cmp (code_by g.T.Element.code_of c.args.bits) c.args.code E)) canon.trie,
+  λ E canon. subst (IsTrie g.T.Ord.cmp (code_by g.T.Element.code_of c.args.bits) (form_at c.args.heap.now) LEVELS 0 c.args.root) (sym (agreeing-none g.T.Ord.cmp (code_by g.T.Element.code_of c.args.bits) c.args.code E)) canon.trie,
 )
 
 pub loop-depth-preserved : goal.loop-depth-preserved
@@ -44,7 +44,7 @@ returns-in-Entry-clause-place g c = λ E canon. record {
 pub returns-clause-place : goal.returns-clause-place
 returns-clause-place g c = λ E canon.
     let E' = agreeing (code_by g.T.Element.code_of c.args.bits) c.loop-depth.depth c.args.code E in
-    let none : DEEPEST + 1 - c.loop-depth.depth ≡ 0 = omega (arith, c.loop-depth-test.false) in
+    let none : LEVELS - c.loop-depth.depth ≡ 0 = omega (arith, c.loop-depth-test.false) in
     let chain = trie-chain g.T.Ord.cmp (code_by g.T.Element.code_of c.args.bits) (form_at c.args.heap.now) c.loop-depth.depth c.loop-depth.link E'
     (subst (λ n. IsTrie g.T.Ord.cmp (code_by g.T.Element.code_of c.args.bits) (form_at c.args.heap.now) n c.loop-depth.depth c.loop-depth.link E') none (c.loop-depth.invariant.1 E canon)) in
     record { depth = c.loop-depth.depth; deep = λ l e. omega (arith, c.loop-depth-test.false); stands = (chain.two, chain) }

@@ -33,7 +33,7 @@ returns-in-Equal-clause-lone g c = λ E chain there.
 
 pub returns-in_default : goal.returns-in_default
 returns-in_default g c = record {
-  graph = c.live.ensures.graph;
+  graph = c.is_graph.ensures;
   lone = λ E chain there.
       left-first g.T.Ord.cmp g.met.T.Ord.total (form_at c.args.heap.now) c.args.chain E (g.P.Probe.stands_for c.args.key.now) chain c.row_of-first.result.entry c.row_of-first.result.next c.row_of-first.ensures c.in_ok-first.field-0 c.in_ok-first.was
       c.row_of-second.result.entry c.row_of-second.result.next c.row_of-second.ensures (none-of c.row_of-second.result.next (sym c.is_some.ensures ∙ c.if-is_some.false)) there c.key_of.result.now c.key_of.ensures (λ e. c.in_default.not-Equal (c.order.ensures ∙ e));

@@ -4,7 +4,7 @@ use Rattle.ewig_shell.proofs.work.work.Goals as goal
 pub returns : goal.returns
 returns c =
     let counts = c.counted-tally.ensures in
-    let there = c.totals-names.ensures in
+    let there = c.totals-buffers.ensures in
     record {
       replies = counts.replies;
       steps = counts.steps;
@@ -13,6 +13,6 @@ returns c =
       refused = counts.refused;
       work = there.0;
       stands = there.1;
-      names = there.2;
+      buffers = there.2;
       lines = there.3;
     }

@@ -51,13 +51,13 @@ facts_of-requires-in-Pair c =
 
 pub facts_of-requires-in-State : goal.facts_of-requires-in-State
 facts_of-requires-in-State c =
-    let at = read-at c.args.pool.now c.requires.stand (length c.args.kept.now) c.requires.more c.as_slice.result.now c.as_slice.ensures c.index-as_slice-kept.result c.index-as_slice-kept.is (State c.in-State.names c.in-State.stars) c.in-State.is in
-    first-low c.in-State.names c.in-State.stars (length c.args.kept.now) at.low
+    let at = read-at c.args.pool.now c.requires.stand (length c.args.kept.now) c.requires.more c.as_slice.result.now c.as_slice.ensures c.index-as_slice-kept.result c.index-as_slice-kept.is (State c.in-State.buffers c.in-State.stars) c.in-State.is in
+    first-low c.in-State.buffers c.in-State.stars (length c.args.kept.now) at.low
 
 pub facts_of-requires-in-State-2 : goal.facts_of-requires-in-State-2
 facts_of-requires-in-State-2 c =
-    let at = read-at c.args.pool.now c.requires.stand (length c.args.kept.now) c.requires.more c.as_slice.result.now c.as_slice.ensures c.index-as_slice-kept.result c.index-as_slice-kept.is (State c.in-State.names c.in-State.stars) c.in-State.is in
-    second-low c.in-State.names c.in-State.stars (length c.args.kept.now) at.low
+    let at = read-at c.args.pool.now c.requires.stand (length c.args.kept.now) c.requires.more c.as_slice.result.now c.as_slice.ensures c.index-as_slice-kept.result c.index-as_slice-kept.is (State c.in-State.buffers c.in-State.stars) c.in-State.is in
+    second-low c.in-State.buffers c.in-State.stars (length c.args.kept.now) at.low
 
 pub returns-in-Cell : goal.returns-in-Cell
 returns-in-Cell c =
@@ -102,6 +102,6 @@ returns-in-Pair c =
 
 pub returns-in-State : goal.returns-in-State
 returns-in-State c =
-    let at = read-at c.args.pool.now c.requires.stand (length c.args.kept.now) c.requires.more c.as_slice.result.now c.as_slice.ensures c.index-as_slice-kept.result c.index-as_slice-kept.is (State c.in-State.names c.in-State.stars) c.in-State.is in
-    state-facts (row_count c.args.pool.now) (forms_in c.args.pool.now) (length c.args.kept.now) c.in-State.names c.in-State.stars c.facts_of-in-State.result c.facts_of-in-State-2.result c.is_state.result at.form
+    let at = read-at c.args.pool.now c.requires.stand (length c.args.kept.now) c.requires.more c.as_slice.result.now c.as_slice.ensures c.index-as_slice-kept.result c.index-as_slice-kept.is (State c.in-State.buffers c.in-State.stars) c.in-State.is in
+    state-facts (row_count c.args.pool.now) (forms_in c.args.pool.now) (length c.args.kept.now) c.in-State.buffers c.in-State.stars c.facts_of-in-State.result c.facts_of-in-State-2.result c.is_state.result at.form
     (c.facts_of-in-State.ensures (facts_in c.args.pool.now) c.requires.kept) (c.facts_of-in-State-2.ensures (facts_in c.args.pool.now) c.requires.kept) c.is_state.ensures

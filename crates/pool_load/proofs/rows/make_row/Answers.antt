@@ -17,7 +17,7 @@ inner_sums-sums-requires-clause-places g c =
 pub returns-in-Ok : goal.returns-in-Ok
 returns-in-Ok g c = record {
   row = cell c.in-Ok.value;
-  joins = joined-cell c.cell.ensures.adds c.cell.ensures.makes c.cell.ensures.count c.cell.ensures.graph c.cell.ensures.extends;
+  comes = joined-cell c.cell.ensures.adds c.cell.ensures.makes c.cell.ensures.count c.cell.ensures.graph c.cell.ensures.extends;
   stands = ap cell (c.in-Ok.ensures.kept ∙ c.into_text.ensures) ∙ sym (ap (λ r. relink (slice_index c.args.links.now) (row_form r)) c.in-Cell.is);
   sums = rw c.in-Cell.is tt;
 }

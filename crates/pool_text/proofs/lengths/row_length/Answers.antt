@@ -28,4 +28,4 @@ pub returns-in-Pair : goal.returns-in-Pair
 returns-in-Pair c = node-says _ [] (c.in-Pair.key ∷ c.in-Pair.value ∷ []) _ (codes "p") _ c.node_length-in-Pair.ensures refl (ap (λ r. row_value (row_form r)) c.in-Pair.is) three-p
 
 pub returns-in-State : goal.returns-in-State
-returns-in-State c = node-says _ [] (c.in-State.names ∷ c.in-State.stars ∷ []) _ (codes "s") _ c.node_length-in-State.ensures refl (ap (λ r. row_value (row_form r)) c.in-State.is) three-s
+returns-in-State c = node-says _ [] (c.in-State.buffers ∷ c.in-State.stars ∷ []) _ (codes "s") _ c.node_length-in-State.ensures refl (ap (λ r. row_value (row_form r)) c.in-State.is) three-s

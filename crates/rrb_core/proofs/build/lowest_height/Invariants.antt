@@ -1,4 +1,5 @@
 use Rattle.std.proofs.Common.{◌<◌, ◌≤◌, ◌-◌, ◌^◌}
+use Rattle.node_heap.specs.declared.row.TheConstants.{MOST_HEIGHT}
 use Rattle.rrb_core.proofs.build.lowest_height.Given as goal
 
 abbrev pub invariant-loop-height : goal.invariant-loop-height
@@ -9,4 +10,4 @@ invariant-loop-height l =
     }
 
 abbrev pub decreases-loop-height : goal.decreases-loop-height
-decreases-loop-height l = 7 - l.height
+decreases-loop-height l = MOST_HEIGHT - l.height

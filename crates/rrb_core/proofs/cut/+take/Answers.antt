@@ -61,4 +61,4 @@ pub take_inner-returns : goal.take_inner-returns
 take_inner-returns g t c =
     let at = at-place c.links.result.now (links_at c.args.heap.now c.args.link) c.spot_of-found.result.place c.index-links-found.result c.index-links-found.is c.links.ensures.links c.spot_of-found.ensures.place in
     let e = c.links-end.ensures.links in
-    takes-inner c.requires.row c.requires.some c.requires.inside (record { place = c.spot_of-found.ensures.place; inside = c.spot_of-found.ensures.inside; before = c.spot_of-found.ensures.before }) (rw at at c.take_below-child.ensures.cut) (rw at at c.take_below-child.ensures.whole) (rw e at c.inner_with.ensures.row) c.inner_with.ensures.builds (rw e at c.inner_with.ensures.links)
+    takes-inner c.requires.row c.requires.some c.requires.inside (record { place = c.spot_of-found.ensures.place; inside = c.spot_of-found.ensures.inside; before = c.spot_of-found.ensures.before }) (rw at at c.take_below-child.ensures.cut) (rw at at c.take_below-child.ensures.all) (rw e at c.inner_with.ensures.row) c.inner_with.ensures.builds (rw e at c.inner_with.ensures.links)

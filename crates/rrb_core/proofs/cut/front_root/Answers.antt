@@ -38,7 +38,7 @@ pub returns-clause-low : goal.returns-clause-low
 returns-clause-low g c = rw (height-is (form_at c.take_below.new.heap) c.lowest_with-lowest.result.height c.take_below.result c.take_below.ensures.cut.edits.row.well) c.lowest_with-lowest.ensures.low
 
 pub returns-clause-rows : goal.returns-clause-rows
-returns-clause-rows g c = takes-front c.requires.root.good (omega (arith, c.requires.inside)) c.lowest_with-lowest.ensures.low c.lowest_with-lowest.ensures.inside c.lowest_with-lowest.ensures.edge c.take_below.ensures.cut c.take_below.ensures.whole
+returns-clause-rows g c = takes-front c.requires.root.good (omega (arith, c.requires.inside)) c.lowest_with-lowest.ensures.low c.lowest_with-lowest.ensures.inside c.lowest_with-lowest.ensures.edge c.take_below.ensures.cut c.take_below.ensures.all
 
 pub returns-clause-builds : goal.returns-clause-builds
 returns-clause-builds g c = Builds-more 0 (height_at c.take_below.new.heap c.take_below.result + 1) c.take_below.ensures.cut.edits.builds (omega arith) (omega (arith, height-is (form_at c.take_below.new.heap) c.lowest_with-lowest.result.height c.take_below.result c.take_below.ensures.cut.edits.row.well))

@@ -27,14 +27,14 @@ returns-then-count-len-clause-answered g c = Answered-Builds (Builds-more 0 _ c.
 pub returns-then-count-len-clause-made : goal.returns-then-count-len-clause-made
 returns-then-count-len-clause-made g c = shares-just c.len.ensures.graph c.share.ensures.shares
 
-pub returns-then-count-len-clause-whole : goal.returns-then-count-len-clause-whole
-returns-then-count-len-clause-whole g c = λ _. (c.share.ensures.same, c.share.ensures.shares)
+pub returns-then-count-len-clause-all : goal.returns-then-count-len-clause-all
+returns-then-count-len-clause-all g c = λ _. (c.share.ensures.same, c.share.ensures.shares)
 
 pub returns-in_err-reserve-clause-vectors : goal.returns-in_err-reserve-clause-vectors
 returns-in_err-reserve-clause-vectors g c = λ l. unchanged-good l c.in_err-reserve.ensures.rest
 
-pub returns-in_err-reserve-clause-whole : goal.returns-in_err-reserve-clause-whole
-returns-in_err-reserve-clause-whole g c = λ past. absurd (omega (arith, c.if-count-len.false, c.len.ensures.value, past))
+pub returns-in_err-reserve-clause-all : goal.returns-in_err-reserve-clause-all
+returns-in_err-reserve-clause-all g c = λ past. absurd (omega (arith, c.if-count-len.false, c.len.ensures.value, past))
 
 pub front_root-root-requires-clause-root : goal.front_root-root-requires-clause-root
 front_root-root-requires-clause-root g c = rw c.root.ensures (root-after c.in_ok-reserve.ensures.rest c.requires.good c.in_ok-reserve.ensures.spares c.requires.few)
@@ -60,8 +60,8 @@ returns-clause-answered g c = rw c.from_root.ensures (Builds-Answered c.in_ok-re
 pub returns-clause-made : goal.returns-clause-made
 returns-clause-made g c = Builds-MakesJust c.in_ok-reserve.ensures.rest c.front_root-root.ensures.builds
 
-pub returns-clause-whole : goal.returns-clause-whole
-returns-clause-whole g c = λ past. absurd (omega (arith, c.if-count-len.false, c.len.ensures.value, past))
+pub returns-clause-all : goal.returns-clause-all
+returns-clause-all g c = λ past. absurd (omega (arith, c.if-count-len.false, c.len.ensures.value, past))
 
 pub returns-clause-vectors : goal.returns-clause-vectors
 returns-clause-vectors g c = answered-same (Builds-Answered c.in_ok-reserve.ensures.rest c.front_root-root.ensures.builds)

@@ -4,6 +4,7 @@ use Rattle.node_heap.specs.Calls.{Answered}
 use Rattle.rrb_core.specs.Vector.{height_at, elements, IsVectorOf}
 use Rattle.rrb_core.proofs.Stays.{well-live, live-stays, extended-same}
 use Rattle.node_heap.proofs.RoomLemmas.{KeepsToNeed-Builds, KeepsToNeed-Releases, KeepsToNeed-then, KeepsToNeed-reserved}
+use Rattle.node_heap.specs.declared.row.TheConstants.{MOST_HEIGHT}
 use Rattle.rrb_core.proofs.BuildLemmas.{unchanged-good, answered-same}
 use Rattle.rrb_join.proofs.AnswerLemmas.{unchanged-height, extended-height, rises-more, rises-held}
 use Rattle.rrb_join.proofs.CutLemmas.{Gives, gives-answered, gives-built, gives-more, gives-all, gives-first, gives-second, without-second, gives-first-of, gives-third, without-third, good-held}
@@ -43,7 +44,7 @@ pub joined_root-root-requires-clause-spare : goal.joined_root-root-requires-clau
 joined_root-root-requires-clause-spare g c =
     let first = unchanged-good c.args.vector c.in_ok-reserve.ensures.rest c.requires.good in
     let second = c.in_ok-front.ensures.vectors c.args.vector first.0 in
-    let low : height_at c.take.new.heap c.root.result ≤ 7 = rw c.root.ensures second.0.shape.low in
+    let low : height_at c.take.new.heap c.root.result ≤ MOST_HEIGHT = rw c.root.ensures second.0.shape.low in
     let taken = c.in_ok-front.ensures.answered in
     omega (arith, c.in_ok-reserve.ensures.spares, first.0.shape.low, low, c.in_ok-front.ensures.low, taken.nodes, taken.balance.spare_nodes, c.rest_root-back.ensures.builds.makes.spare_nodes, c.rest_root-back.ensures.builds.few_nodes, c.rest_root-back.ensures.low)
 

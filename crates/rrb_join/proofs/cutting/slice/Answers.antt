@@ -77,8 +77,8 @@ returns-then-to-len-clause-within g c =
     let all : c.args.to ≡ length (elements c.args.heap.now c.args.vector) = c.if-to-len.true ∙ c.len.ensures.value in
     rw (c.share.ensures.same, c.if-from-eq0.true, all) (fewer-whole c.args.heap.now c.share.new.heap c.args.vector c.share.ensures.shares.rows c.share.ensures.shares.builds.graph c.requires.good)
 
-pub returns-clause-whole : goal.returns-clause-whole
-returns-clause-whole g c = λ front back. absurd (elim c.else-from-eq0.branch as (λ _. ⊥) [
+pub returns-clause-all : goal.returns-clause-all
+returns-clause-all g c = λ front back. absurd (elim c.else-from-eq0.branch as (λ _. ⊥) [
   | else-from-eq0-via-then-from-eq0+else-to-len w ↦ omega (arith, back, w.len.ensures.value, w.if-to-len.false)
   | else-from-eq0-via-else-from-eq0 w ↦ omega (arith, front, w.if-from-eq0.false)
 ])

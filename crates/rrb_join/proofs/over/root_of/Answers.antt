@@ -2,6 +2,7 @@ use Rattle.std.proofs.Common.{arith, ◌≡◌, ℕ, suc, ◌+◌, ◌<◌, List
 use Rattle.std.specs.List.{flat_map}
 use Rattle.node_heap.specs.Heap.{form_at, links_at}
 use Rattle.node_heap.proofs.BuildLemmas.{Builds-refl}
+use Rattle.node_heap.specs.declared.row.TheConstants.{MOST_HEIGHT}
 use Rattle.rrb_core.specs.Seq.{seq_at}
 use Rattle.rrb_core.specs.Vector.{elements, IsGoodVector}
 use Rattle.rrb_core.specs.Build.{IsRowOf}
@@ -62,7 +63,7 @@ inner_over-requires-clause-low g c = two-low c.args.heap.now c.args.height c.arg
 
 over : (g : given.Over) (c : goal.After-inner_over g) → IsGoodVector c.inner_over.new.heap c.inner_over.result × (elements c.inner_over.new.heap c.inner_over.result ≡ flat_map (seq_at (form_at c.args.heap.now) c.args.height) c.args.rows.now)
 over g c =
-    let low : c.args.height < 7 = two-low c.args.heap.now c.args.height c.args.rows.now c.requires.rows (omega arith) c.requires.low c.requires.short in
+    let low : c.args.height < MOST_HEIGHT = two-low c.args.heap.now c.args.height c.args.rows.now c.requires.rows (omega arith) c.requires.low c.requires.short in
     good-row c.inner_over.new.heap (suc c.args.height) c.inner_over.result (flat_map (seq_at (form_at c.args.heap.now) c.args.height) c.args.rows.now) c.inner_over.ensures.row (omega arith) (λ _. rw c.inner_over.ensures.links (omega arith)) c.requires.short
 
 pub returns-clause-good : goal.returns-clause-good

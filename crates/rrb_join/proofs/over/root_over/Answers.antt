@@ -1,6 +1,6 @@
-use Rattle.std.proofs.Common.{arith, ◌≡◌, ◌<◌, ◌^◌, length, ap, ◌∙◌, inl, inr}
+use Rattle.std.proofs.Common.{arith, ◌≡◌, ◌<◌, length, ap, ◌∙◌, inl, inr}
 use Rattle.std.proofs.lemmas.Bool.{cases_lt}
-use Rattle.node_heap.specs.Heap.{links_at, hold_count}
+use Rattle.node_heap.specs.Heap.{links_at, hold_count, most_holds}
 use Rattle.node_heap.proofs.BuildLemmas.{Builds-then}
 use Rattle.rrb_core.specs.Vector.{height_at}
 use Rattle.rrb_core.specs.Levels.{rows_of}
@@ -32,7 +32,7 @@ pub root_of-requires-clause-held : goal.root_of-requires-clause-held
 root_of-requires-clause-held g c = λ k. rw c.as_slice.ensures.value (omega (arith, c.rows_over-rows.ensures.builds.holds k, c.requires.rows.held k))
 
 pub root_of-requires-clause-holds : goal.root_of-requires-clause-holds
-root_of-requires-clause-holds g c = elim (cases_lt 32 (length c.args.links.now)) as (λ _. hold_count c.rows_over-rows.new.heap < 2 ^ 60) [
+root_of-requires-clause-holds g c = elim (cases_lt 32 (length c.args.links.now)) as (λ _. hold_count c.rows_over-rows.new.heap < most_holds) [
   | inl many ↦ omega (arith, many, c.requires.rows.holds, c.rows_over-rows.ensures.builds.total, c.rows_over-rows.ensures.few)
   | inr few ↦
       let one = one-of-need c.rows_over-rows.new.heap c.rows_over-rows.result.items (need g c) (rw c.rows_over-rows.ensures.links few) in

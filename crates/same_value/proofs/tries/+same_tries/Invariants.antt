@@ -1,5 +1,5 @@
 use Rattle.std.proofs.Common.{ℕ, ◌-◌, ◌+◌, ◌*◌, ◌<◌, ◌≤◌, List, length, get_or}
-use Rattle.elem_core.specs.declared.codes.TheConstants.{DEEPEST}
+use Rattle.elem_core.specs.declared.codes.TheConstants.{LEVELS}
 use Rattle.node_heap.specs.Heap.{form_at}
 use Rattle.node_heap.specs.Glass.{lent}
 use Rattle.same_value.specs.Congruent.{Congruent}
@@ -7,7 +7,7 @@ use Rattle.same_value.proofs.TriePairs.{Apart}
 use Rattle.same_value.proofs.tries.+same_tries.Given as goal
 
 abbrev pub decreases-same_tries : goal.decreases-same_tries
-decreases-same_tries g l = DEEPEST + 1 - l.depth
+decreases-same_tries g l = LEVELS - l.depth
 
 abbrev pub invariant-loop-place : goal.invariant-loop-place
 invariant-loop-place g l =

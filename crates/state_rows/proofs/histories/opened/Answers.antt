@@ -19,4 +19,4 @@ pub returns-clause-alone : goal.returns-clause-alone
 returns-clause-alone c = λ one.
     let said = c.in-Ok.ensures.alone one in
     let same = c.in-Ok.ensures.same.1 one in
-    (same, same-rows c.live.ensures.graph c.in-Ok.ensures.edits.trades.graph c.in-Ok.ensures.extends said.0, said.0, said.1)
+    (same, same-rows c.is_graph.ensures c.in-Ok.ensures.edits.trades.graph c.in-Ok.ensures.extends said.0, said.0, said.1)

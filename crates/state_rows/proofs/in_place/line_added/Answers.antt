@@ -29,7 +29,7 @@ pub own-state-requires-clause-node : goal.own-state-requires-clause-node
 own-state-requires-clause-node c = state-node _ c.requires.state.2.row
 
 pub own_lines-pair-requires-clause-held : goal.own_lines-pair-requires-clause-held
-own_lines-pair-requires-clause-held c = held-root c.live.ensures.graph (held (goal.at.own_lines-pair-requires-clause-held c).After-own-state) c.own-state.ensures.sole c.own-state.ensures.builds
+own_lines-pair-requires-clause-held c = held-root c.is_graph.ensures (held (goal.at.own_lines-pair-requires-clause-held c).After-own-state) c.own-state.ensures.sole c.own-state.ensures.builds
 
 pub own_lines-pair-requires-clause-state : goal.own_lines-pair-requires-clause-state
 own_lines-pair-requires-clause-state c =
@@ -55,10 +55,10 @@ pub push_at-requires-clause-good : goal.push_at-requires-clause-good
 push_at-requires-clause-good c = (own (goal.at.push_at-requires-clause-good c).After-own_lines-pair).lines.vector
 
 pub push_at-requires-clause-held : goal.push_at-requires-clause-held
-push_at-requires-clause-held c = line-left c.args.line c.live.ensures.graph c.requires.held c.own-state.ensures.sole c.own-state.ensures.builds (own (goal.at.push_at-requires-clause-held c).After-own_lines-pair)
+push_at-requires-clause-held c = line-left c.args.line c.is_graph.ensures c.requires.held c.own-state.ensures.sole c.own-state.ensures.builds (own (goal.at.push_at-requires-clause-held c).After-own_lines-pair)
 
 pub push_at-requires-clause-apart : goal.push_at-requires-clause-apart
-push_at-requires-clause-apart c = line-apart c.args.line c.live.ensures.graph c.requires.held c.own-state.ensures.sole c.own-state.ensures.builds (own (goal.at.push_at-requires-clause-apart c).After-own_lines-pair) c.requires.line.1
+push_at-requires-clause-apart c = line-apart c.args.line c.is_graph.ensures c.requires.held c.own-state.ensures.sole c.own-state.ensures.builds (own (goal.at.push_at-requires-clause-apart c).After-own_lines-pair) c.requires.line.1
 
 pub push_at-requires-clause-few : goal.push_at-requires-clause-few
 push_at-requires-clause-few c =
@@ -80,13 +80,13 @@ unreachable-requires c = by_fault c.in_default.field-0 c.in_default.is
         c.push_at.ensures.ample (omega arith, omega (arith, c.requires.state.5.1, c.own-state.ensures.builds.few_nodes, made.spare_nodes, trades.nodes, trades.balance.spare_nodes)) is
 
 pub returns-clause-keeps : goal.returns-clause-keeps
-returns-clause-keeps c = KeepsHeld-EditsBy (edits-state c.args.line c.live.ensures.graph c.requires.held c.own-state.ensures.sole c.own-state.ensures.builds (own (goal.at.returns-clause-keeps c).After-own_lines-pair) c.in-Ok.ensures.changes)
+returns-clause-keeps c = KeepsHeld-EditsBy (edits-state c.args.line c.is_graph.ensures c.requires.held c.own-state.ensures.sole c.own-state.ensures.builds (own (goal.at.returns-clause-keeps c).After-own_lines-pair) c.in-Ok.ensures.changes)
 
 pub returns-clause-trades : goal.returns-clause-trades
 returns-clause-trades c = λ s xs is found.
     let owned = owns (goal.at.returns-clause-trades c).After-own_lines-pair s xs is found in
     let pushes = c.in-Ok.ensures.pushes in
-    Trades-more 0 (DEEPEST + 12 + alike_buffers c.args.bits s (name_bytes c.args.name)) (edits-state c.args.line c.live.ensures.graph c.requires.held c.own-state.ensures.sole c.own-state.ensures.builds owned c.in-Ok.ensures.changes).trades (omega arith)
+    Trades-more 0 (DEEPEST + 12 + alike_buffers c.args.bits s (name_bytes c.args.name)) (edits-state c.args.line c.is_graph.ensures c.requires.held c.own-state.ensures.sole c.own-state.ensures.builds owned c.in-Ok.ensures.changes).trades (omega arith)
     (omega (arith, owned.lines.vector.shape.low))
 
 pub returns-clause-made : goal.returns-clause-made
@@ -110,7 +110,7 @@ returns-clause-state c = λ s xs text is found line.
     let pushes = c.in-Ok.ensures.pushes in
     let graph = owned.changes.trades.graph in
     let kept = pushes-keep _ (by_place c.own_lines-pair.result 1) c.own_lines-pair.new.heap c.push_at.new.heap _ graph owned.two owned.lines.vector pushes.others in
-    let there = line-there c.args.line c.live.ensures.graph c.requires.held c.own-state.ensures.sole c.own-state.ensures.builds owned line in
-    let left = line-left c.args.line c.live.ensures.graph c.requires.held c.own-state.ensures.sole c.own-state.ensures.builds owned in
-    owned.later c.push_at.new.heap _ (xs ++ text ∷ []) (c.args.line ∷ []) [] 0 _ c.in-Ok.ensures.changes (row-left c.args.line c.live.ensures.graph c.requires.held c.own-state.ensures.sole c.own-state.ensures.builds owned)
-    kept.beside (pushed-lines graph owned.down (row-held c.args.line c.live.ensures.graph c.requires.held c.own-state.ensures.sole c.own-state.ensures.builds owned) kept owned.lines there left pushes)
+    let there = line-there c.args.line c.is_graph.ensures c.requires.held c.own-state.ensures.sole c.own-state.ensures.builds owned line in
+    let left = line-left c.args.line c.is_graph.ensures c.requires.held c.own-state.ensures.sole c.own-state.ensures.builds owned in
+    owned.later c.push_at.new.heap _ (xs ++ text ∷ []) (c.args.line ∷ []) [] 0 _ c.in-Ok.ensures.changes (row-left c.args.line c.is_graph.ensures c.requires.held c.own-state.ensures.sole c.own-state.ensures.builds owned)
+    kept.beside (pushed-lines graph owned.down (row-held c.args.line c.is_graph.ensures c.requires.held c.own-state.ensures.sole c.own-state.ensures.builds owned) kept owned.lines there left pushes)

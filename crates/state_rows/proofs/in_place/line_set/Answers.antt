@@ -38,7 +38,7 @@ pub own-state-requires-clause-node : goal.own-state-requires-clause-node
 own-state-requires-clause-node c = state-node _ c.requires.state.2.row
 
 pub own_lines-pair-requires-clause-held : goal.own_lines-pair-requires-clause-held
-own_lines-pair-requires-clause-held c = held-root c.live.ensures.graph (held (goal.at.own_lines-pair-requires-clause-held c).After-own-state) c.own-state.ensures.sole c.own-state.ensures.builds
+own_lines-pair-requires-clause-held c = held-root c.is_graph.ensures (held (goal.at.own_lines-pair-requires-clause-held c).After-own-state) c.own-state.ensures.sole c.own-state.ensures.builds
 
 pub own_lines-pair-requires-clause-state : goal.own_lines-pair-requires-clause-state
 own_lines-pair-requires-clause-state c =
@@ -64,10 +64,10 @@ pub set_at-requires-clause-good : goal.set_at-requires-clause-good
 set_at-requires-clause-good c = (own (goal.at.set_at-requires-clause-good c).After-own_lines-pair).lines.vector
 
 pub set_at-requires-clause-held : goal.set_at-requires-clause-held
-set_at-requires-clause-held c = line-left c.args.line c.live.ensures.graph c.requires.held c.own-state.ensures.sole c.own-state.ensures.builds (own (goal.at.set_at-requires-clause-held c).After-own_lines-pair)
+set_at-requires-clause-held c = line-left c.args.line c.is_graph.ensures c.requires.held c.own-state.ensures.sole c.own-state.ensures.builds (own (goal.at.set_at-requires-clause-held c).After-own_lines-pair)
 
 pub set_at-requires-clause-apart : goal.set_at-requires-clause-apart
-set_at-requires-clause-apart c = line-apart c.args.line c.live.ensures.graph c.requires.held c.own-state.ensures.sole c.own-state.ensures.builds (own (goal.at.set_at-requires-clause-apart c).After-own_lines-pair) c.requires.line.1
+set_at-requires-clause-apart c = line-apart c.args.line c.is_graph.ensures c.requires.held c.own-state.ensures.sole c.own-state.ensures.builds (own (goal.at.set_at-requires-clause-apart c).After-own_lines-pair) c.requires.line.1
 
 pub set_at-requires-clause-few : goal.set_at-requires-clause-few
 set_at-requires-clause-few c =
@@ -97,22 +97,22 @@ module _ (c : In-Ok) {s : State} {xs : List Bytes} (owned : OwnsLines c.own-stat
   kept = sets-keep _ (by_place c.own_lines-pair.result 1) c.own_lines-pair.new.heap c.set_at.new.heap _ c.args.index owned.changes.trades.graph owned.two owned.lines.vector (omega (arith, lines-many owned.lines, inside)) c.in-Ok.ensures.sets.others
 
   given : (x : Bytes) × IsTextIn c.set_at.new.heap c.args.bits c.in-Ok.before x
-  given = given-text owned.changes.trades.graph owned.down (row-held c.args.line c.live.ensures.graph c.requires.held c.own-state.ensures.sole c.own-state.ensures.builds owned) kept owned.lines (line-there c.args.line c.live.ensures.graph c.requires.held c.own-state.ensures.sole c.own-state.ensures.builds owned c.requires.line.1) (line-left c.args.line c.live.ensures.graph c.requires.held c.own-state.ensures.sole c.own-state.ensures.builds owned) c.in-Ok.ensures.sets inside
+  given = given-text owned.changes.trades.graph owned.down (row-held c.args.line c.is_graph.ensures c.requires.held c.own-state.ensures.sole c.own-state.ensures.builds owned) kept owned.lines (line-there c.args.line c.is_graph.ensures c.requires.held c.own-state.ensures.sole c.own-state.ensures.builds owned c.requires.line.1) (line-left c.args.line c.is_graph.ensures c.requires.held c.own-state.ensures.sole c.own-state.ensures.builds owned) c.in-Ok.ensures.sets inside
 
 pub release-requires : goal.release-requires
 release-requires c =
     let path = goal.at.release-requires c in
-    let left = line-left c.args.line c.live.ensures.graph c.requires.held c.own-state.ensures.sole c.own-state.ensures.builds (own path.After-own_lines-pair) in
+    let left = line-left c.args.line c.is_graph.ensures c.requires.held c.own-state.ensures.sole c.own-state.ensures.builds (own path.After-own_lines-pair) in
     omega (arith, c.in-Ok.ensures.changes.trades.holds c.in-Ok.before, one-held c.own_lines-pair.new.heap c.args.line (omega (arith, left)) c.in-Ok.before, count-one c.in-Ok.before c.args.line, count-one c.in-Ok.before c.in-Ok.before, test_same c.in-Ok.before c.in-Ok.before refl)
 
 pub returns-clause-keeps : goal.returns-clause-keeps
-returns-clause-keeps c = set-keeps (edits-state c.args.line c.live.ensures.graph c.requires.held c.own-state.ensures.sole c.own-state.ensures.builds (own (goal.at.returns-clause-keeps c).After-own_lines-pair) c.in-Ok.ensures.changes) c.release.ensures.releases c.release.ensures.graph
+returns-clause-keeps c = set-keeps (edits-state c.args.line c.is_graph.ensures c.requires.held c.own-state.ensures.sole c.own-state.ensures.builds (own (goal.at.returns-clause-keeps c).After-own_lines-pair) c.in-Ok.ensures.changes) c.release.ensures.releases c.release.ensures.graph
 
 pub returns-clause-trades : goal.returns-clause-trades
 returns-clause-trades c = λ s xs is found.
     let owned = owns (goal.at.returns-clause-trades c).After-own_lines-pair s xs is found in
     Trades-more 0 (DEEPEST + 11 + alike_buffers c.args.bits s (name_bytes c.args.name))
-    (set-trades (edits-state c.args.line c.live.ensures.graph c.requires.held c.own-state.ensures.sole c.own-state.ensures.builds owned c.in-Ok.ensures.changes) c.release.ensures.releases c.release.ensures.graph) (omega arith) (omega (arith, owned.lines.vector.shape.low))
+    (set-trades (edits-state c.args.line c.is_graph.ensures c.requires.held c.own-state.ensures.sole c.own-state.ensures.builds owned c.in-Ok.ensures.changes) c.release.ensures.releases c.release.ensures.graph) (omega arith) (omega (arith, owned.lines.vector.shape.low))
 
 pub returns-clause-made : goal.returns-clause-made
 returns-clause-made c =
@@ -139,10 +139,10 @@ returns-clause-state c = λ s xs text is found line.
     let path = goal.at.returns-clause-state c in
     let owned = owns path.After-own_lines-pair s xs is found in
     let graph = owned.changes.trades.graph in
-    let there = line-there c.args.line c.live.ensures.graph c.requires.held c.own-state.ensures.sole c.own-state.ensures.builds owned line in
-    let left = line-left c.args.line c.live.ensures.graph c.requires.held c.own-state.ensures.sole c.own-state.ensures.builds owned in
-    let row = row-left c.args.line c.live.ensures.graph c.requires.held c.own-state.ensures.sole c.own-state.ensures.builds owned in
-    let set = set-lines graph owned.down (row-held c.args.line c.live.ensures.graph c.requires.held c.own-state.ensures.sole c.own-state.ensures.builds owned) (kept path.In-Ok owned) owned.lines there left c.in-Ok.ensures.sets in
+    let there = line-there c.args.line c.is_graph.ensures c.requires.held c.own-state.ensures.sole c.own-state.ensures.builds owned line in
+    let left = line-left c.args.line c.is_graph.ensures c.requires.held c.own-state.ensures.sole c.own-state.ensures.builds owned in
+    let row = row-left c.args.line c.is_graph.ensures c.requires.held c.own-state.ensures.sole c.own-state.ensures.builds owned in
+    let set = set-lines graph owned.down (row-held c.args.line c.is_graph.ensures c.requires.held c.own-state.ensures.sole c.own-state.ensures.builds owned) (kept path.In-Ok owned) owned.lines there left c.in-Ok.ensures.sets in
     let now = owned.later c.set_at.new.heap _ (slice_set xs c.args.index text) (c.args.line ∷ []) (c.in-Ok.before ∷ []) 0 _ c.in-Ok.ensures.changes row (kept path.In-Ok owned).beside set in
     let on = (KeepsHeld-Releases c.set_at.new.heap c.release.new.self c.in-Ok.before c.release.ensures.releases c.release.ensures.graph).kept c.own-state.result
     (omega (arith, row, c.in-Ok.ensures.changes.trades.holds c.own-state.result, count-one c.own-state.result c.args.line, count-one c.own-state.result c.in-Ok.before)) in

@@ -1,5 +1,5 @@
 use Rattle.std.proofs.Common.{◌≡◌, ℕ, ◌+◌, ◌<◌, List, [], ◌∷◌, Some, refl, sym, subst, arith}
-use Rattle.elem_core.specs.declared.codes.TheConstants.{DEEPEST}
+use Rattle.champ_kinds.specs.declared.map.TheConstants.{INSERT_NODES}
 use Rattle.elem_core.specs.Shown.{name_bytes}
 use Rattle.node_heap.specs.Links.{Reaches}
 use Rattle.node_heap.specs.Heap.{links_at, holds_at}
@@ -31,7 +31,7 @@ pub own-state-requires-clause-node : goal.own-state-requires-clause-node
 own-state-requires-clause-node c = state-node _ c.requires.state.2.row
 
 pub own_lines-pair-requires-clause-held : goal.own_lines-pair-requires-clause-held
-own_lines-pair-requires-clause-held c = held-root c.live.ensures.graph (held (goal.at.own_lines-pair-requires-clause-held c).After-own-state) c.own-state.ensures.sole c.own-state.ensures.builds
+own_lines-pair-requires-clause-held c = held-root c.is_graph.ensures (held (goal.at.own_lines-pair-requires-clause-held c).After-own-state) c.own-state.ensures.sole c.own-state.ensures.builds
 
 pub own_lines-pair-requires-clause-state : goal.own_lines-pair-requires-clause-state
 own_lines-pair-requires-clause-state c =
@@ -56,38 +56,38 @@ replace-replaced-requires-clause-index c = (own (goal.at.replace-replaced-requir
 pub replace-replaced-requires-clause-held : goal.replace-replaced-requires-clause-held
 replace-replaced-requires-clause-held c =
     subst (λ (v : ℕ). 0 < holds_at c.own_lines-pair.new.heap v) (sym c.into_root.ensures)
-    (line-left c.args.lines c.live.ensures.graph c.requires.held c.own-state.ensures.sole c.own-state.ensures.builds (own (goal.at.replace-replaced-requires-clause-held c).After-own_lines-pair))
+    (line-left c.args.lines c.is_graph.ensures c.requires.held c.own-state.ensures.sole c.own-state.ensures.builds (own (goal.at.replace-replaced-requires-clause-held c).After-own_lines-pair))
 
 pub replace-replaced-requires-clause-apart : goal.replace-replaced-requires-clause-apart
 replace-replaced-requires-clause-apart c =
     subst (λ (v : ℕ). ¬ Reaches (links_at c.own_lines-pair.new.heap) v c.own_lines-pair.result) (sym c.into_root.ensures)
-    (lines-apart c.args.lines c.live.ensures.graph c.requires.held c.own-state.ensures.sole c.own-state.ensures.builds (own (goal.at.replace-replaced-requires-clause-apart c).After-own_lines-pair))
+    (lines-apart c.args.lines c.is_graph.ensures c.requires.held c.own-state.ensures.sole c.own-state.ensures.builds (own (goal.at.replace-replaced-requires-clause-apart c).After-own_lines-pair))
 
 pub release-requires : goal.release-requires
 release-requires c =
     let path = goal.at.release-requires c in
     let did = rw c.into_root.ensures at c.replace-replaced.ensures in
-    let left = line-left c.args.lines c.live.ensures.graph c.requires.held c.own-state.ensures.sole c.own-state.ensures.builds (own path.After-own_lines-pair) in
+    let left = line-left c.args.lines c.is_graph.ensures c.requires.held c.own-state.ensures.sole c.own-state.ensures.builds (own path.After-own_lines-pair) in
     omega (arith, did.changes.trades.holds c.replace-replaced.result, one-held c.own_lines-pair.new.heap c.args.lines (omega (arith, left)) c.replace-replaced.result, count-one c.replace-replaced.result c.args.lines, count-one c.replace-replaced.result c.replace-replaced.result, test_same c.replace-replaced.result c.replace-replaced.result refl)
 
 pub returns-clause-keeps : goal.returns-clause-keeps
 returns-clause-keeps c =
     let did = rw c.into_root.ensures at c.replace-replaced.ensures in
-    set-keeps (edits-state c.args.lines c.live.ensures.graph c.requires.held c.own-state.ensures.sole c.own-state.ensures.builds (own (goal.at.returns-clause-keeps c).After-own_lines-pair) did.changes) c.release.ensures.releases c.release.ensures.graph
+    set-keeps (edits-state c.args.lines c.is_graph.ensures c.requires.held c.own-state.ensures.sole c.own-state.ensures.builds (own (goal.at.returns-clause-keeps c).After-own_lines-pair) did.changes) c.release.ensures.releases c.release.ensures.graph
 
 pub returns-clause-trades : goal.returns-clause-trades
 returns-clause-trades c = λ s xs is found.
     let did = rw c.into_root.ensures at c.replace-replaced.ensures in
     let owned = owns (goal.at.returns-clause-trades c).After-own_lines-pair s xs is found in
-    Trades-more 0 (DEEPEST + 3 + alike_buffers c.args.bits s (name_bytes c.args.name))
-    (set-trades (edits-state c.args.lines c.live.ensures.graph c.requires.held c.own-state.ensures.sole c.own-state.ensures.builds owned did.changes) c.release.ensures.releases c.release.ensures.graph) (omega arith) (omega arith)
+    Trades-more 0 (INSERT_NODES + alike_buffers c.args.bits s (name_bytes c.args.name))
+    (set-trades (edits-state c.args.lines c.is_graph.ensures c.requires.held c.own-state.ensures.sole c.own-state.ensures.builds owned did.changes) c.release.ensures.releases c.release.ensures.graph) (omega arith) (omega arith)
 
 pub returns-clause-made : goal.returns-clause-made
 returns-clause-made c = λ one.
     let did = rw c.into_root.ensures at c.replace-replaced.ensures in
     let state = c.own-state.ensures in
     let owned = own (goal.at.returns-clause-made c).After-own_lines-pair in
-    path-made c.live.ensures.graph (state.same.1 one) state.builds state.makes state.owners c.args.bits (name_bytes c.args.name) c.own_lines-pair.new.heap c.release.new.self owned.makes owned.copies
+    path-made c.is_graph.ensures (state.same.1 one) state.builds state.makes state.owners c.args.bits (name_bytes c.args.name) c.own_lines-pair.new.heap c.release.new.self owned.makes owned.copies
     (omega (arith, did.makes.made, c.release.ensures.releases.made, owned.changes.trades.graph.few_made))
 
 pub returns-clause-spares : goal.returns-clause-spares
@@ -100,9 +100,9 @@ pub returns-clause-state : goal.returns-clause-state
 returns-clause-state c = λ s xs ys is found lines.
     let did = rw c.into_root.ensures at c.replace-replaced.ensures in
     let owned = owns (goal.at.returns-clause-state c).After-own_lines-pair s xs is found in
-    let off = lines-apart c.args.lines c.live.ensures.graph c.requires.held c.own-state.ensures.sole c.own-state.ensures.builds owned in
-    let there = lines-there c.args.lines c.live.ensures.graph c.requires.held c.own-state.ensures.sole c.own-state.ensures.builds owned lines in
-    let row = row-left c.args.lines c.live.ensures.graph c.requires.held c.own-state.ensures.sole c.own-state.ensures.builds owned in
+    let off = lines-apart c.args.lines c.is_graph.ensures c.requires.held c.own-state.ensures.sole c.own-state.ensures.builds owned in
+    let there = lines-there c.args.lines c.is_graph.ensures c.requires.held c.own-state.ensures.sole c.own-state.ensures.builds owned lines in
+    let row = row-left c.args.lines c.is_graph.ensures c.requires.held c.own-state.ensures.sole c.own-state.ensures.builds owned in
     let now = owned.later c.replace-replaced.new.self c.args.lines ys (c.args.lines ∷ []) (c.replace-replaced.result ∷ []) 0 0 did.changes row (put-beside c.args.lines owned.two did.writes) (put-stay c.args.lines owned.two did.writes off there) in
     let on = (KeepsHeld-Releases c.replace-replaced.new.self c.release.new.self c.replace-replaced.result c.release.ensures.releases c.release.ensures.graph).kept c.own-state.result
     (omega (arith, row, did.changes.trades.holds c.own-state.result, count-one c.own-state.result c.args.lines, count-one c.own-state.result c.replace-replaced.result)) in

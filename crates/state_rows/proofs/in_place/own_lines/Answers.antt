@@ -1,5 +1,5 @@
 use Rattle.std.proofs.Common.{◌+◌, Ok, ap, arith}
-use Rattle.elem_core.specs.declared.codes.TheConstants.{DEEPEST}
+use Rattle.champ_trie.specs.declared.TheConstants.{ADD_NODES}
 use Rattle.elem_core.specs.Codes.{text_code}
 use Rattle.elem_core.specs.Shown.{name_bytes}
 use Rattle.node_heap.specs.InPlace.{child_at, OwnsDown}
@@ -34,5 +34,5 @@ returns c = λ s xs is found.
     let row = pair-row own.0.map own.0.pair own.0.value in
     let r = c.requires.state in
     let spares = room-spared (omega arith, omega (arith, r.4.1, state-alike r.2 name)) (c.in-Ok.ensures.spares r.2.buffers_are.bindings (state-map c.requires.bits r.2)) in
-    owns-lines (edits-keep-values by_bytes text_code) c.live.ensures.graph c.requires.held is c.requires.bits found own.0 (pair-changes-bind by_bytes text_code nat_list_cmp_total) (pair-changes-keep-values by_bytes text_code nat_list_cmp_total)
-    c.args.name.named own.1 (c.in-Ok.ensures.changes is.buffers_are.bindings map) row.0 row.1 own.0.sole own.0.makes spares (ap (λ k. DEEPEST + 2 + k) (state-alike is name))
+    owns-lines (edits-keep-values by_bytes text_code) c.is_graph.ensures c.requires.held is c.requires.bits found own.0 (pair-changes-bind by_bytes text_code nat_list_cmp_total) (pair-changes-keep-values by_bytes text_code nat_list_cmp_total)
+    c.args.name.named own.1 (c.in-Ok.ensures.changes is.buffers_are.bindings map) row.0 row.1 own.0.sole own.0.makes spares (ap (λ k. ADD_NODES + k) (state-alike is name))

@@ -10,16 +10,16 @@ use Rattle.state_rows.proofs.look_up.buffer.Goals as goal
 pub get-requires : goal.get-requires
 get-requires c =
     let is = c.requires.state.1 in
-    (is.buffers_are.bindings, map-is (buffers-at c.requires.bits c.names_of.ensures.bits c.names_of.ensures.root c.requires.state.0 is))
+    (is.buffers_are.bindings, map-is (buffers-at c.requires.bits c.buffers_of.ensures.bits c.buffers_of.ensures.root c.requires.state.0 is))
 
 pub returns : goal.returns
 returns c = λ s is.
-    let map = map-is (buffers-at c.requires.bits c.names_of.ensures.bits c.names_of.ensures.root s is) in
+    let map = map-is (buffers-at c.requires.bits c.buffers_of.ensures.bits c.buffers_of.ensures.root s is) in
     subst (λ (o : Option ℕ). StandsIfThere (AreLinesIn c.args.heap.now c.args.bits) o (lines_of s (name_bytes c.args.name))) (sym (ap Some c.at.ensures ∙ c.in_ok-lines.ensures.value is.buffers_are.bindings map))
     (is.buffers_are.reads (name_bytes c.args.name))
 
 pub returns-in_err-lines : goal.returns-in_err-lines
 returns-in_err-lines c = λ s is.
-    let map = map-is (buffers-at c.requires.bits c.names_of.ensures.bits c.names_of.ensures.root s is) in
+    let map = map-is (buffers-at c.requires.bits c.buffers_of.ensures.bits c.buffers_of.ensures.root s is) in
     subst (λ (o : Option ℕ). StandsIfThere (AreLinesIn c.args.heap.now c.args.bits) o (lines_of s (name_bytes c.args.name))) (sym (c.from_residual.ensures ∙ c.in_err-lines.ensures.value is.buffers_are.bindings map))
     (is.buffers_are.reads (name_bytes c.args.name))

@@ -14,10 +14,10 @@ pub alike-requires-clause-trie : goal.alike-requires-clause-trie
 alike-requires-clause-trie c =
     let is = c.requires.state.1 in
     let trie = is.buffers_are.trie.trie in
-    (is.buffers_are.entries, subst (λ l. IsTrieOf (slice_cmp nat_cmp) text_code c.args.bits c.args.heap.now l is.buffers_are.entries) (sym (c.root.ensures ∙ c.names_of.ensures.root c.requires.state.0 is)) trie)
+    (is.buffers_are.entries, subst (λ l. IsTrieOf (slice_cmp nat_cmp) text_code c.args.bits c.args.heap.now l is.buffers_are.entries) (sym (c.root.ensures ∙ c.buffers_of.ensures.root c.requires.state.0 is)) trie)
 
 pub returns-clause-number : goal.returns-clause-number
 returns-clause-number c = λ s is.
     c.alike.ensures.number is.buffers_are.entries
-    (subst (λ l. IsTrieOf (slice_cmp nat_cmp) text_code c.args.bits c.args.heap.now l is.buffers_are.entries) (sym (c.root.ensures ∙ c.names_of.ensures.root s is)) is.buffers_are.trie.trie)
-    ∙ named-alike (form_at c.args.heap.now) (IsGoodVector c.args.heap.now) c.args.bits (AreLinesIn c.args.heap.now c.args.bits) is.names s.buffers is.buffers_are (name_bytes c.args.name)
+    (subst (λ l. IsTrieOf (slice_cmp nat_cmp) text_code c.args.bits c.args.heap.now l is.buffers_are.entries) (sym (c.root.ensures ∙ c.buffers_of.ensures.root s is)) is.buffers_are.trie.trie)
+    ∙ named-alike (form_at c.args.heap.now) (IsGoodVector c.args.heap.now) c.args.bits (AreLinesIn c.args.heap.now c.args.bits) is.buffers s.buffers is.buffers_are (name_bytes c.args.name)

@@ -34,33 +34,33 @@ answered c s is =
     let at = stars-at c.requires.bits c.stars_of-stars.ensures.bits c.stars_of-stars.ensures.root s is in
     added-answered at c.args.key c.into_root.ensures c.in-Ok.ensures.answered
 
-pub over_names-requires : goal.over_names-requires
-over_names-requires c =
+pub over_buffers-requires : goal.over_buffers-requires
+over_buffers-requires c =
     let is = c.requires.state.1 in
     let made = answered c c.requires.state.0 is in
-    let row = ready made c.requires.state.2 (omega arith) c.requires.few (answered-gives made) (trie-there c.args.heap.now is.buffers_are.trie) (c.root-names.ensures ∙ c.names_of.ensures.root c.requires.state.0 is) in
+    let row = ready made c.requires.state.2 (omega arith) c.requires.few (answered-gives made) (trie-there c.args.heap.now is.buffers_are.trie) (c.root-buffers.ensures ∙ c.buffers_of.ensures.root c.requires.state.0 is) in
     assumption
 
 pub returns-clause-answered : goal.returns-clause-answered
-returns-clause-answered c = λ s is. answered-row (answered (goal.at.returns-clause-answered c).After-into_root s is) c.over_names.ensures.answered (omega arith)
+returns-clause-answered c = λ s is. answered-row (answered (goal.at.returns-clause-answered c).After-into_root s is) c.over_buffers.ensures.answered (omega arith)
 
 pub returns-clause-made : goal.returns-clause-made
 returns-clause-made c =
-    just-row (answered (goal.at.returns-clause-made c).After-into_root c.requires.state.0 c.requires.state.1) c.over_names.ensures.answered c.in-Ok.ensures.made c.over_names.ensures.makes
+    just-row (answered (goal.at.returns-clause-made c).After-into_root c.requires.state.0 c.requires.state.1) c.over_buffers.ensures.answered c.in-Ok.ensures.made c.over_buffers.ensures.makes
 
 pub returns-clause-spares : goal.returns-clause-spares
 returns-clause-spares c =
     let at = stars-at c.requires.bits c.stars_of-stars.ensures.bits c.stars_of-stars.ensures.root c.requires.state.0 c.requires.state.1 in
-    room-then (set-ample at c.args.key 8 (λ E is spares. room-spared spares (c.in-Ok.ensures.spares E is)) c.requires.state.2 (omega arith)) (room-made c.over_names.ensures.makes)
+    room-then (set-ample at c.args.key 8 (λ E is spares. room-spared spares (c.in-Ok.ensures.spares E is)) c.requires.state.2 (omega arith)) (room-made c.over_buffers.ensures.makes)
 
 pub returns-clause-state : goal.returns-clause-state
 returns-clause-state c = λ s is.
     let more = (answered (goal.at.returns-clause-state c).After-into_root s is).extends in
-    c.over_names.ensures.state c.args.bits (with_star s c.args.key)
-    (buffers-kept more s is (c.root-names.ensures ∙ c.names_of.ensures.root s is))
+    c.over_buffers.ensures.state c.args.bits (with_star s c.args.key)
+    (buffers-kept more s is (c.root-buffers.ensures ∙ c.buffers_of.ensures.root s is))
     (by_found c s is (names-grown c.args.heap.now c.set_insert.new.heap more c.args.bits is.stars) (link_with by_bytes c.args.key is.stars_are.entries) refl)
   where
-    by_found : (c : goal.After-over_names) (s : State) (is : IsStateIn c.args.heap.now c.args.bits c.args.state s) → ((m : Names) → AreNamesIn c.args.heap.now c.args.bits is.stars m → AreNamesIn c.set_insert.new.heap c.args.bits is.stars m)
+    by_found : (c : goal.After-over_buffers) (s : State) (is : IsStateIn c.args.heap.now c.args.bits c.args.state s) → ((m : Names) → AreNamesIn c.args.heap.now c.args.bits is.stars m → AreNamesIn c.set_insert.new.heap c.args.bits is.stars m)
         → (o : Option ℕ) → link_with by_bytes c.args.key is.stars_are.entries ≡ o → AreNamesIn c.set_insert.new.heap c.args.bits c.into_root.result (map.insert s.stars c.args.key tt)
     by_found c s is stays None none =
         let at = stars-at c.requires.bits c.stars_of-stars.ensures.bits c.stars_of-stars.ensures.root s is in

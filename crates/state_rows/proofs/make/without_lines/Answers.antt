@@ -15,23 +15,23 @@ use Rattle.state_rows.proofs.make.without_lines.Goals.{After-into_root}
 pub map_remove-requires-clause-contents : goal.map_remove-requires-clause-contents
 map_remove-requires-clause-contents c =
     let is = c.requires.state.1 in
-    (is.buffers_are.bindings, map-is (buffers-at c.requires.bits c.names_of-names.ensures.bits c.names_of-names.ensures.root c.requires.state.0 is))
+    (is.buffers_are.bindings, map-is (buffers-at c.requires.bits c.buffers_of-buffers.ensures.bits c.buffers_of-buffers.ensures.root c.requires.state.0 is))
 
 pub unreachable-requires : goal.unreachable-requires
 unreachable-requires c =
-    let at = buffers-at c.requires.bits c.names_of-names.ensures.bits c.names_of-names.ensures.root c.requires.state.0 c.requires.state.1 in
+    let at = buffers-at c.requires.bits c.buffers_of-buffers.ensures.bits c.buffers_of-buffers.ensures.root c.requires.state.0 c.requires.state.1 in
     let done = map-ample at (name_bytes c.args.name) 7 c.in_default.ensures.ample c.requires.state.3 (omega arith) in
     cc
 
 pub unreachable-requires-in_default-found : goal.unreachable-requires-in_default-found
 unreachable-requires-in_default-found c =
-    let at = buffers-at c.requires.bits c.names_of-names.ensures.bits c.names_of-names.ensures.root c.requires.state.0 c.requires.state.1 in
+    let at = buffers-at c.requires.bits c.buffers_of-buffers.ensures.bits c.buffers_of-buffers.ensures.root c.requires.state.0 c.requires.state.1 in
     map-found at (name_bytes c.args.name) c.in-Ok.ensures.absent c.requires.state.2 (ap Ok c.in_default-found.is)
 
 -- the call that makes the buffers has answered
 answered : (c : After-into_root) (s : State) → IsStateIn c.args.heap.now c.args.bits c.args.state s → Answered c.args.heap.now c.map_remove.new.heap [] c.into_root.result 0 (7 + alike_buffers c.args.bits s (name_bytes c.args.name))
 answered c s is =
-    let at = buffers-at c.requires.bits c.names_of-names.ensures.bits c.names_of-names.ensures.root s is in
+    let at = buffers-at c.requires.bits c.buffers_of-buffers.ensures.bits c.buffers_of-buffers.ensures.root s is in
     removed-answered at (name_bytes c.args.name) c.in-Some.is c.into_root.ensures c.in-Ok.ensures.answered
 
 pub over_stars-requires : goal.over_stars-requires
@@ -50,12 +50,12 @@ returns-clause-made c =
 
 pub returns-clause-spares : goal.returns-clause-spares
 returns-clause-spares c =
-    let at = buffers-at c.requires.bits c.names_of-names.ensures.bits c.names_of-names.ensures.root c.requires.state.0 c.requires.state.1 in
+    let at = buffers-at c.requires.bits c.buffers_of-buffers.ensures.bits c.buffers_of-buffers.ensures.root c.requires.state.0 c.requires.state.1 in
     room-then (map-ample at (name_bytes c.args.name) 7 (λ E is spares. room-spared spares (c.in-Ok.ensures.spares E is)) c.requires.state.3 (omega arith)) (room-made c.over_stars.ensures.makes)
 
 pub returns-clause-state : goal.returns-clause-state
 returns-clause-state c = λ s is.
-    let at = buffers-at c.requires.bits c.names_of-names.ensures.bits c.names_of-names.ensures.root s is in
+    let at = buffers-at c.requires.bits c.buffers_of-buffers.ensures.bits c.buffers_of-buffers.ensures.root s is in
     let more = (answered (goal.at.returns-clause-state c).After-into_root s is).extends in
     let stays = λ (k : ℕ) (ys : List Bytes) (are : AreLinesIn c.args.heap.now c.args.bits k ys). (grown c.args.heap.now c.map_remove.new.heap more c.args.bits k).lines ys are in
     c.over_stars.ensures.state c.args.bits (without_lines s (name_bytes c.args.name))

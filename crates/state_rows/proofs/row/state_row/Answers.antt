@@ -11,9 +11,9 @@ pub returns-clause-state : goal.returns-clause-state
 returns-clause-state c = λ bits s buffers stars.
     let more = c.node.ensures.extends in
     record {
-      names = c.args.names;
+      buffers = c.args.buffers;
       stars = c.args.stars;
       row = ap (option_map form_of) c.node.ensures.adds.here;
-      buffers_are = buffers-grown c.args.heap.now c.node.new.self more bits c.args.names s.buffers buffers;
+      buffers_are = buffers-grown c.args.heap.now c.node.new.self more bits c.args.buffers s.buffers buffers;
       stars_are = names-grown c.args.heap.now c.node.new.self more bits c.args.stars s.stars stars;
     }

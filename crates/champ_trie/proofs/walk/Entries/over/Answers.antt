@@ -1,5 +1,5 @@
 use Rattle.std.proofs.Common.{arith, ◌≡◌, ◌+◌, ◌∙◌, ap, sym, subst, ℕ, List, [], ◌++◌, map, Bor}
-use Rattle.elem_core.specs.declared.codes.TheConstants.{DEEPEST}
+use Rattle.elem_core.specs.declared.codes.TheConstants.{LEVELS}
 use Rattle.node_heap.specs.Heap.{form_at, live_count}
 use Rattle.champ_chain.proofs.FrameLemmas.{rows-live}
 use Rattle.champ_trie.specs.declared.walk.TheConstants.{LAYERS}
@@ -16,7 +16,7 @@ pub invariant_of-result : goal.invariant_of-result
 invariant_of-result g c =
     subst (IsStack (form_at c.args.heap.now) LAYERS)
     (sym (made c.new-rows.result.items c.push_some.new.rows.items c.parts_of.result.1.now (rows_below (form_at c.args.heap.now c.args.root)) c.push_some.ensures c.new-rows.ensures c.parts_of.ensures.below))
-    (stack-start (form_at c.args.heap.now) LAYERS (DEEPEST + 1) (rows_below (form_at c.args.heap.now c.args.root)) (omega arith) c.requires.below)
+    (stack-start (form_at c.args.heap.now) LAYERS LEVELS (rows_below (form_at c.args.heap.now c.args.root)) (omega arith) c.requires.below)
 
 pub returns-clause-walk : goal.returns-clause-walk
 returns-clause-walk g c =
@@ -25,4 +25,4 @@ returns-clause-walk g c =
     ap (λ s. c.parts_of.result.0.now ++ entries_of (form_at h) (rows_on h (next_first s)))
     (made c.new-rows.result.items c.push_some.new.rows.items c.parts_of.result.1.now (rows_below (form_at h l)) c.push_some.ensures c.new-rows.ensures c.parts_of.ensures.below)
     ∙ ap (λ xs. xs ++ entries_of (form_at h) (rows_on h (next_first (stacked [] (rows_below (form_at h l)))))) c.parts_of.ensures.own
-    ∙ ap (entries_of (form_at h)) (start-order (form_at h) (live_count h) (λ next es rows. rows-live h c.parts_of.ensures.graph es next rows) (DEEPEST + 1) (depth_of h) l (omega arith) c.requires.below)
+    ∙ ap (entries_of (form_at h)) (start-order (form_at h) (live_count h) (λ next es rows. rows-live h c.parts_of.ensures.graph es next rows) LEVELS (depth_of h) l (omega arith) c.requires.below)

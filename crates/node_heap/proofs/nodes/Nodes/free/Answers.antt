@@ -1,6 +1,6 @@
 use Rattle.std.proofs.Common.{◌≡◌, Some, None, map, sym, ap, ◌∙◌, arith}
 use Rattle.node_heap.specs.Nodes.{node_at}
-use Rattle.node_heap.specs.Tags.{place_in, whole_node}
+use Rattle.node_heap.specs.Tags.{place_in, full_node}
 use Rattle.node_heap.proofs.Parting.{set-apart}
 use Rattle.node_heap.proofs.Rooming.{Frees}
 use Rattle.node_heap.proofs.Headed.{place-told, headed-same, headed-apart, frees-headed, alone-named, IsNodes-kept, IsNodes-left}
@@ -23,7 +23,7 @@ invariant_of-self-in-None c =
     let none = place-told _ c.tag-tag.result c.tag-tag.ensures ∙ sym c.place.ensures ∙ c.in-None.is in
     IsNodes-kept _ _ _ _ _ c.self.invariant c.free.new.self c.args.index freed.others (ap place_in freed.gone ∙ sym none) (omega (arith, freed.len, freed.spares))
 
-left : (c : goal.After-vacate) → Frees (map (whole_node c.self.inside.heads.items) c.self.inside.rooms.slots) (map (whole_node c.vacate.new.slots.items) c.free.new.self.slots) c.args.index
+left : (c : goal.After-vacate) → Frees (map (full_node c.self.inside.heads.items) c.self.inside.rooms.slots) (map (full_node c.vacate.new.slots.items) c.free.new.self.slots) c.args.index
 left c =
     let heads = c.self.inside.heads.items in
     let heads' = c.vacate.new.slots.items in
@@ -41,7 +41,7 @@ returns-in-Some-clause-others c = rw (← c.self.view_is) (left c).others
 pub returns-in-Some-clause-len : goal.returns-in-Some-clause-len
 returns-in-Some-clause-len c = rw (← c.self.view_is) (left c).len
 
-plain : (c : goal.In-None) → Frees (map (whole_node c.self.inside.heads.items) c.self.inside.rooms.slots) (map (whole_node c.self.inside.heads.items) c.free.new.self.slots) c.args.index
+plain : (c : goal.In-None) → Frees (map (full_node c.self.inside.heads.items) c.self.inside.rooms.slots) (map (full_node c.self.inside.heads.items) c.free.new.self.slots) c.args.index
 plain c =
     let heads = c.self.inside.heads.items in
     let rooms = c.self.inside.rooms in

@@ -1,5 +1,5 @@
 use Rattle.std.proofs.Common.{sym, ◌∙◌}
-use Rattle.node_heap.proofs.Headed.{live-room, head-headed, whole-by, plain-by}
+use Rattle.node_heap.proofs.Headed.{live-room, head-headed, full-by, plain-by}
 use Rattle.node_heap.proofs.nodes.Nodes.head.Goals as goal
 
 pub tag-tag-requires : goal.tag-tag-requires
@@ -8,7 +8,7 @@ tag-tag-requires c = live-room c.self.inside.heads.items c.self.inside.rooms c.s
 pub returns-in-Some : goal.returns-in-Some
 returns-in-Some c =
     head-headed c.self.inside.heads.items c.self.inside.rooms c.self.view_is c.args.index c.tag-tag.result _ c.tag-tag.ensures
-    (whole-by c.self.inside.heads.items c.tag-tag.result c.in-Some.place _ (sym c.place.ensures ∙ c.in-Some.is) c.slot.ensures)
+    (full-by c.self.inside.heads.items c.tag-tag.result c.in-Some.place _ (sym c.place.ensures ∙ c.in-Some.is) c.slot.ensures)
 
 pub returns-in-None : goal.returns-in-None
 returns-in-None c =

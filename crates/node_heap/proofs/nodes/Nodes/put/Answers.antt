@@ -1,10 +1,10 @@
 use Rattle.std.proofs.Common.{map, refl, sym, ap, ◌∙◌, arith}
-use Rattle.node_heap.specs.Tags.{place_in, whole_node}
+use Rattle.node_heap.specs.Tags.{place_in, full_node}
 use Rattle.node_heap.proofs.Rooming.{Puts}
 use Rattle.node_heap.proofs.Headed.{plain-by, plain-place, headed-same, headed-apart, puts-headed, none-named, le-named, IsNodes-kept, IsNodes-named}
 use Rattle.node_heap.proofs.nodes.Nodes.put.Goals as goal
 
-plain : (c : goal.After-put) → Puts (map (whole_node c.self.inside.heads.items) c.self.inside.rooms.slots) (map (whole_node c.self.inside.heads.items) c.put.new.self.slots) c.put.result (record { owners = 1; head = c.args.head; links = c.args.links.now })
+plain : (c : goal.After-put) → Puts (map (full_node c.self.inside.heads.items) c.self.inside.rooms.slots) (map (full_node c.self.inside.heads.items) c.put.new.self.slots) c.put.result (record { owners = 1; head = c.args.head; links = c.args.links.now })
 plain c =
     let heads = c.self.inside.heads.items in
     let rooms = c.self.inside.rooms in
@@ -32,7 +32,7 @@ put-place-requires-clause-room c =
     let i = c.self.inside in
     let inv = c.self.invariant in
     let spare = rw (← c.self.view_is) at c.requires.spare in
-    omega (arith, spare, le-named i.rooms.slots, inv.parts.used, inv.of_heads.listed.whole, inv.of_heads.room, i.heads.ok.0, i.free_heads.ok.0)
+    omega (arith, spare, le-named i.rooms.slots, inv.parts.used, inv.of_heads.listed.all_slots, inv.of_heads.room, i.heads.ok.0, i.free_heads.ok.0)
 
 pub invariant_of-self-in-None : goal.invariant_of-self-in-None
 invariant_of-self-in-None c =
@@ -45,7 +45,7 @@ invariant_of-self-in-None c =
     (ap place_in put.was) (ap place_in put.now) (omega (arith, put.len, put.spares)) (omega (arith, spare, le-named i.rooms.slots, inv.parts.used)) place.was place.now place.others
     (omega (arith, place.one, i.heads.ok.0, i.free_heads.ok.0, c.put-place.new.slots.ok.0, c.put-place.new.free.ok.0)) (omega (arith, place.fewer, i.free_heads.ok.0, c.put-place.new.free.ok.0)) place.free
 
-whole : (c : goal.After-put-in-None) → Puts (map (whole_node c.self.inside.heads.items) c.self.inside.rooms.slots) (map (whole_node c.put-place.new.slots.items) c.put-in-None.new.self.slots) c.put-in-None.result (record { owners = 1; head = c.args.head; links = c.args.links.now })
+whole : (c : goal.After-put-in-None) → Puts (map (full_node c.self.inside.heads.items) c.self.inside.rooms.slots) (map (full_node c.put-place.new.slots.items) c.put-in-None.new.self.slots) c.put-in-None.result (record { owners = 1; head = c.args.head; links = c.args.links.now })
 whole c =
     let heads = c.self.inside.heads.items in
     let heads' = c.put-place.new.slots.items in

@@ -10,7 +10,7 @@ pub overflow_sub-self : goal.overflow_sub-self
 overflow_sub-self c =
     let i = c.self.inside in
     let live = rw (← c.self.view_is) at c.requires in
-    omega (arith, some-counted (nodes_in i.small.items i.large.items i.moved.items) c.args.index live, len-nodes i.small.items i.large.items i.moved.items, c.self.invariant.whole)
+    omega (arith, some-counted (nodes_in i.small.items i.large.items i.moved.items) c.args.index live, len-nodes i.small.items i.large.items i.moved.items, c.self.invariant.both_kinds)
 
 pub empty-requires-clause-some : goal.empty-requires-clause-some
 empty-requires-clause-some c =

@@ -5,4 +5,4 @@ use Rattle.node_heap.proofs.rooms.Rooms.len.Goals as goal
 pub returns : goal.returns
 returns c =
     let i = c.self.inside in
-    rw (← c.self.view_is) (omega (arith, len-nodes i.small.items i.large.items i.moved.items, c.self.invariant.whole))
+    rw (← c.self.view_is) (omega (arith, len-nodes i.small.items i.large.items i.moved.items, c.self.invariant.both_kinds))

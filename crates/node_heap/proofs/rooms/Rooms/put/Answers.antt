@@ -1,7 +1,7 @@
 use Rattle.std.proofs.Common.{◌+◌, ◌*◌, ap, ◌∙◌, arith}
 use Rattle.node_heap.specs.Small.{tag_in}
 use Rattle.node_heap.specs.Rooms.{nodes_in}
-use Rattle.node_heap.proofs.Housed.{whole-room}
+use Rattle.node_heap.proofs.Housed.{full-room}
 use Rattle.node_heap.proofs.Rooming.{Puts, puts-small, puts-large, AreRooms-put}
 use Rattle.node_heap.proofs.rooms.Rooms.put.Goals as goal
 
@@ -25,7 +25,7 @@ invariant_of-self c =
     let put = c.put.ensures in
     let spare = rw (← c.self.view_is) at c.requires.spare in
     let whole = ap (λ x. tag_in x.head) c.with_links-slot.ensures ∙ c.small_head.ensures.head c.in-Some.head c.in-Some.is in
-    AreRooms-put _ _ _ _ _ _ _ _ _ _ _ _ _ _ c.self.invariant c.put.new.slots.items c.put.new.free.items c.put.result _ _ _ put.capacity put.free_capacity spare put.others put.was put.now (whole-room _ _ whole)
+    AreRooms-put _ _ _ _ _ _ _ _ _ _ _ _ _ _ c.self.invariant c.put.new.slots.items c.put.new.free.items c.put.result _ _ _ put.capacity put.free_capacity spare put.others put.was put.now (full-room _ _ whole)
     (omega (arith, put.one, i.small.ok.0, i.free_small.ok.0, c.put.new.slots.ok.0, c.put.new.free.ok.0)) (omega (arith, put.fewer, i.free_small.ok.0, c.put.new.free.ok.0)) put.free
 
 pub returns-in-Some-clause-was : goal.returns-in-Some-clause-was

@@ -3,7 +3,7 @@ use Rattle.node_heap.specs.Small.{tag_in, room_of}
 use Rattle.node_heap.specs.Rooms.{room_in}
 use Rattle.node_heap.proofs.Free.{value_in}
 use Rattle.node_heap.proofs.Woven.{slot-inside}
-use Rattle.node_heap.proofs.Housed.{live-small, whole-room}
+use Rattle.node_heap.proofs.Housed.{live-small, full-room}
 use Rattle.node_heap.proofs.Parting.{set-apart, set-there}
 use Rattle.node_heap.proofs.Rooming.{few-moved, AreRooms-small, AreRooms-room, AreRooms-moved, becomes-small, becomes-moved, becomes-room}
 use Rattle.node_heap.proofs.rooms.Rooms.rewrite_small.Goals as goal
@@ -42,7 +42,7 @@ pub invariant_of-self-in-Some-small_head : goal.invariant_of-self-in-Some-small_
 invariant_of-self-in-Some-small_head c =
     let none = sym c.room.ensures ∙ c.in-None.is in
     rw (c.set_slot.ensures.slots, c.set_slot.ensures.capacity)
-    (AreRooms-small _ _ _ _ _ _ _ _ _ _ _ _ _ _ c.self.invariant (c.args.index / 2) _ _ c.slot-small.ensures (whole-room _ _ (whole c) ∙ sym none))
+    (AreRooms-small _ _ _ _ _ _ _ _ _ _ _ _ _ _ c.self.invariant (c.args.index / 2) _ _ c.slot-small.ensures (full-room _ _ (whole c) ∙ sym none))
 
 pub returns-in-Some-small_head : goal.returns-in-Some-small_head
 returns-in-Some-small_head c =
@@ -57,7 +57,7 @@ fill-room-requires-clause-room c =
     let i = c.self.inside in
     let inv = c.self.invariant in
     let none = sym c.room.ensures ∙ c.in-None.is in
-    omega (arith, few-moved i.small.items (c.args.index / 2) (rw c.slot-small.ensures refl) (ap room_in c.slot-small.ensures ∙ none), inv.parts.used, inv.whole, inv.of_moved.listed.whole, inv.of_moved.room, i.moved.ok.0, i.free_moved.ok.0)
+    omega (arith, few-moved i.small.items (c.args.index / 2) (rw c.slot-small.ensures refl) (ap room_in c.slot-small.ensures ∙ none), inv.parts.used, inv.both_kinds, inv.of_moved.listed.all_slots, inv.of_moved.room, i.moved.ok.0, i.free_moved.ok.0)
 
 pub invariant_of-self-in-None-small_head : goal.invariant_of-self-in-None-small_head
 invariant_of-self-in-None-small_head c =

@@ -1,6 +1,6 @@
 use Rattle.std.proofs.Common.{sym, ap, ◌∙◌}
 use Rattle.node_heap.specs.Nodes.{node_head}
-use Rattle.node_heap.proofs.Housed.{live-small, live-large, read-small, read-large, moved-node, whole-in}
+use Rattle.node_heap.proofs.Housed.{live-small, live-large, read-small, read-large, moved-node, full-in}
 use Rattle.node_heap.proofs.rooms.Rooms.tag.Goals as goal
 
 pub node_in-requires : goal.node_in-requires
@@ -30,4 +30,4 @@ returns-in-None c =
     let i = c.self.inside in
     let s = c.slot-small.result.now in
     let none = sym c.room.ensures ∙ c.in-None.is in
-    rw (← c.self.view_is) (ap node_head (read-small i.small.items i.large.items i.moved.items c.args.index s c.if-index-ne0.false c.slot-small.ensures) ∙ sym (whole-in i.moved.items s.head none) ∙ c.tag.ensures)
+    rw (← c.self.view_is) (ap node_head (read-small i.small.items i.large.items i.moved.items c.args.index s c.if-index-ne0.false c.slot-small.ensures) ∙ sym (full-in i.moved.items s.head none) ∙ c.tag.ensures)

@@ -5,4 +5,4 @@ use Rattle.node_heap.proofs.table.Table.len.Goals as goal
 pub returns : goal.returns
 returns g c =
     let i = c.self.inside in
-    rw (← c.self.view_is) (omega (arith, len-slots i.cells.items i.nodes.slots, c.len.ensures, c.len-2.ensures, c.len-3.ensures, c.self.invariant.of_cells.listed.whole, i.cells.ok.0, i.free_cells.ok.0))
+    rw (← c.self.view_is) (omega (arith, len-slots i.cells.items i.nodes.slots, c.len.ensures, c.len-2.ensures, c.len-3.ensures, c.self.invariant.of_cells.listed.all_slots, i.cells.ok.0, i.free_cells.ok.0))

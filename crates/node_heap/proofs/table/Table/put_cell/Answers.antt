@@ -9,4 +9,4 @@ returns-clause-puts g c =
     let spare = rw (← c.self.view_is) at c.requires in
     let room = c.self.invariant.of_cells in
     rw (← c.self.view_is) (puts-cell i.cells.items c.put.new.slots.items i.nodes.slots c.put.result c.args.value put.was put.now put.others
-    (omega (arith, put.inside, put.free.whole, room.listed.whole, put.one, put.fewer, room.some, spare, c.self.invariant.few, i.cells.ok.0, i.free_cells.ok.0, c.put.new.slots.ok.0, c.put.new.free.ok.0)) (omega (arith, put.free.whole, room.listed.whole, put.one, i.cells.ok.0, i.free_cells.ok.0, c.put.new.slots.ok.0, c.put.new.free.ok.0)))
+    (omega (arith, put.inside, put.free.all_slots, room.listed.all_slots, put.one, put.fewer, room.some, spare, c.self.invariant.few, i.cells.ok.0, i.free_cells.ok.0, c.put.new.slots.ok.0, c.put.new.free.ok.0)) (omega (arith, put.free.all_slots, room.listed.all_slots, put.one, i.cells.ok.0, i.free_cells.ok.0, c.put.new.slots.ok.0, c.put.new.free.ok.0)))

@@ -1,6 +1,6 @@
 use Rattle.std.proofs.Common.{◌≡◌, ◌+◌, ◌∙◌, ℕ, List, [], ◌∷◌, ◌++◌, refl, ap, arith}
 use Rattle.std.proofs.lemmas.Bool.{false≢true}
-use Rattle.elem_core.specs.declared.codes.TheConstants.{DEEPEST}
+use Rattle.note_store.specs.declared.store.TheConstants.{PUT_NODES}
 use Rattle.node_heap.specs.Heap.{one_at}
 use Rattle.node_heap.proofs.Counts.{one_at-flip}
 use Rattle.node_heap.proofs.BuildLemmas.{count-cons, count-one}
@@ -230,7 +230,7 @@ module _ (g : Over) (c : goal.After-release-in-Ok-push g) where
       let bits = c.in-Ok.ensures.bits ∙ (rw c.view.ensures c.requires.store.bits) in
       has-pushed g.T.Ord.cmp g.T.Element.code_of s c.in-Ok.notes c.into_root-before.result c.push.new.self c.share.ensures.builds.graph kept.0 notes bits was (λ k. omega (arith, mid.holds k, c.requires.store.held k)) c.in-Ok-push.ensures.pushes releases c.release-in-Ok-push.ensures.graph keeps
 
-  takes : (M : List (Binding g.row.T.Denot)) → IsMapOf g.T.Ord.cmp g.T.Element.code_of c.args.heap.now s.notes M → Takes c.args.heap.now c.release-in-Ok-push.new.heap 2 (DEEPEST + 5 + height_at c.args.heap.now s.earlier + alike_keys g.T.Element.code_of s.notes.bits c.args.name M)
+  takes : (M : List (Binding g.row.T.Denot)) → IsMapOf g.T.Ord.cmp g.T.Element.code_of c.args.heap.now s.notes M → Takes c.args.heap.now c.release-in-Ok-push.new.heap 2 (PUT_NODES + height_at c.args.heap.now s.earlier + alike_keys g.T.Element.code_of s.notes.bits c.args.name M)
   takes M is = put-takes g.T.Ord.cmp g.T.Element.code_of {c = c.cell-note.new.self} {d = c.map_insert.new.heap} c.args.name M is c.view.ensures c.requires.store.earlier c.in_ok-reserve.ensures.rest c.in_ok-reserve.ensures.extends c.cell-note.ensures.makes c.cell-note.ensures.extends c.in-Ok.ensures.made c.in-Ok.ensures.answered c.share.ensures.builds pushed.takes
 
 pub returns-in-Ok-push-clause-store : goal.returns-in-Ok-push-clause-store

@@ -27,7 +27,7 @@ returns-clause-store g c =
     let root = c.replace.ensures.after ∙ c.from_root.ensures in
     let releases = rw c.replace.ensures.value at c.release.ensures.releases in
     let keeps = rw c.replace.ensures.value at c.release.ensures.keeps in
-    (has-popped g.T.Ord.cmp code s c.replace.new.dest c.in-Some.root c.pop.new.self c.live.ensures.graph c.requires.store some (ap (λ (r : Root). r.root) root) (ap (λ (r : Root). r.bits) root) did releases c.release.ensures.graph keeps).store
+    (has-popped g.T.Ord.cmp code s c.replace.new.dest c.in-Some.root c.pop.new.self c.is_graph.ensures c.requires.store some (ap (λ (r : Root). r.root) root) (ap (λ (r : Root). r.bits) root) did releases c.release.ensures.graph keeps).store
 
 pub returns-clause-others : goal.returns-clause-others
 returns-clause-others g c =
@@ -38,7 +38,7 @@ returns-clause-others g c =
     let root = c.replace.ensures.after ∙ c.from_root.ensures in
     let releases = rw c.replace.ensures.value at c.release.ensures.releases in
     let keeps = rw c.replace.ensures.value at c.release.ensures.keeps in
-    turned-others g.T.Ord.cmp code (none-gained refl) (has-popped g.T.Ord.cmp code s c.replace.new.dest c.in-Some.root c.pop.new.self c.live.ensures.graph c.requires.store some (ap (λ (r : Root). r.root) root) (ap (λ (r : Root). r.bits) root) did releases c.release.ensures.graph keeps) c.live.ensures.graph.held (λ k. refl) (omega (arith, count-popped g.T.Ord.cmp code s c.replace.new.dest c.in-Some.root c.pop.new.self c.live.ensures.graph c.requires.store some (ap (λ (r : Root). r.root) root) (ap (λ (r : Root). r.bits) root) did releases c.release.ensures.graph keeps))
+    turned-others g.T.Ord.cmp code (none-gained refl) (has-popped g.T.Ord.cmp code s c.replace.new.dest c.in-Some.root c.pop.new.self c.is_graph.ensures c.requires.store some (ap (λ (r : Root). r.root) root) (ap (λ (r : Root). r.bits) root) did releases c.release.ensures.graph keeps) c.is_graph.ensures.held (λ k. refl) (omega (arith, count-popped g.T.Ord.cmp code s c.replace.new.dest c.in-Some.root c.pop.new.self c.is_graph.ensures c.requires.store some (ap (λ (r : Root). r.root) root) (ap (λ (r : Root). r.bits) root) did releases c.release.ensures.graph keeps))
 
 pub returns-clause-back : goal.returns-clause-back
 returns-clause-back g c =
@@ -49,7 +49,7 @@ returns-clause-back g c =
     let root = c.replace.ensures.after ∙ c.from_root.ensures in
     let releases = rw c.replace.ensures.value at c.release.ensures.releases in
     let keeps = rw c.replace.ensures.value at c.release.ensures.keeps in
-    λ done. items-popped g.T.Ord.cmp code s c.replace.new.dest c.in-Some.root c.pop.new.self c.live.ensures.graph c.requires.store some (ap (λ (r : Root). r.root) root) (ap (λ (r : Root). r.bits) root) did releases c.release.ensures.graph keeps
+    λ done. items-popped g.T.Ord.cmp code s c.replace.new.dest c.in-Some.root c.pop.new.self c.is_graph.ensures c.requires.store some (ap (λ (r : Root). r.root) root) (ap (λ (r : Root). r.bits) root) did releases c.release.ensures.graph keeps
 
 pub returns-clause-versions : goal.returns-clause-versions
 returns-clause-versions g c =
@@ -60,7 +60,7 @@ returns-clause-versions g c =
     let root = c.replace.ensures.after ∙ c.from_root.ensures in
     let releases = rw c.replace.ensures.value at c.release.ensures.releases in
     let keeps = rw c.replace.ensures.value at c.release.ensures.keeps in
-    turned-versions g.T.Ord.cmp code (none-gained refl) (has-popped g.T.Ord.cmp code s c.replace.new.dest c.in-Some.root c.pop.new.self c.live.ensures.graph c.requires.store some (ap (λ (r : Root). r.root) root) (ap (λ (r : Root). r.bits) root) did releases c.release.ensures.graph keeps)
+    turned-versions g.T.Ord.cmp code (none-gained refl) (has-popped g.T.Ord.cmp code s c.replace.new.dest c.in-Some.root c.pop.new.self c.is_graph.ensures c.requires.store some (ap (λ (r : Root). r.root) root) (ap (λ (r : Root). r.bits) root) did releases c.release.ensures.graph keeps)
 
 pub returns-clause-made : goal.returns-clause-made
 returns-clause-made g c =
@@ -71,7 +71,7 @@ returns-clause-made g c =
     let root = c.replace.ensures.after ∙ c.from_root.ensures in
     let releases = rw c.replace.ensures.value at c.release.ensures.releases in
     let keeps = rw c.replace.ensures.value at c.release.ensures.keeps in
-    made-popped g.T.Ord.cmp code s c.replace.new.dest c.in-Some.root c.pop.new.self c.live.ensures.graph c.requires.store some (ap (λ (r : Root). r.root) root) (ap (λ (r : Root). r.bits) root) did releases c.release.ensures.graph keeps
+    made-popped g.T.Ord.cmp code s c.replace.new.dest c.in-Some.root c.pop.new.self c.is_graph.ensures c.requires.store some (ap (λ (r : Root). r.root) root) (ap (λ (r : Root). r.bits) root) did releases c.release.ensures.graph keeps
 
 pub returns-clause-spares : goal.returns-clause-spares
 returns-clause-spares g c =
@@ -82,4 +82,4 @@ returns-clause-spares g c =
     let root = c.replace.ensures.after ∙ c.from_root.ensures in
     let releases = rw c.replace.ensures.value at c.release.ensures.releases in
     let keeps = rw c.replace.ensures.value at c.release.ensures.keeps in
-    spares-popped g.T.Ord.cmp code s c.replace.new.dest c.in-Some.root c.pop.new.self c.live.ensures.graph c.requires.store some (ap (λ (r : Root). r.root) root) (ap (λ (r : Root). r.bits) root) did releases c.release.ensures.graph keeps
+    spares-popped g.T.Ord.cmp code s c.replace.new.dest c.in-Some.root c.pop.new.self c.is_graph.ensures c.requires.store some (ap (λ (r : Root). r.root) root) (ap (λ (r : Root). r.bits) root) did releases c.release.ensures.graph keeps

@@ -10,4 +10,4 @@ marked-requires-clause-versions c = (
 )
 
 pub returns : goal.returns
-returns c = λ W K. c.marked.ensures W.versions (subst (λ (r : Root). AreVersionsIn c.args.self.now.heap r.bits r.root W.versions) (sym c.versions.ensures) K.stands.1)
+returns c = λ W K. c.marks.ensures W.versions (subst (λ (r : Root). AreVersionsIn c.args.self.now.heap r.bits r.root W.versions) (sym c.versions.ensures) K.stands.1)

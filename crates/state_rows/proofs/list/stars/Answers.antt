@@ -18,7 +18,7 @@ use Rattle.state_rows.proofs.Zips.{zip-push}
 use Rattle.state_rows.proofs.Listed.{at-turn, names-in-order, names-listed}
 use Rattle.state_rows.proofs.Staying.{map-self}
 use Rattle.state_rows.proofs.Steps.{stars-at, set-is}
-use Rattle.state_rows.proofs.list.starred.Goals as goal
+use Rattle.state_rows.proofs.list.stars.Goals as goal
 
 pub members-cell-items-requires : goal.members-cell-items-requires
 members-cell-items-requires c =

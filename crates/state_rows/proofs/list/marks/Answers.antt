@@ -15,7 +15,7 @@ use Rattle.state_rows.proofs.Contents.{keys-apart, keys-there}
 use Rattle.state_rows.proofs.Zips.{zip-push}
 use Rattle.state_rows.proofs.Listed.{at-turn, names-in-order, names-listed, entries-there, entry-names}
 use Rattle.state_rows.proofs.Staying.{map-self}
-use Rattle.state_rows.proofs.list.marked.Goals as goal
+use Rattle.state_rows.proofs.list.marks.Goals as goal
 
 pub entries-entry-items-requires : goal.entries-entry-items-requires
 entries-entry-items-requires c =
