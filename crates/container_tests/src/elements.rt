@@ -61,7 +61,15 @@ fn names_are_tested(rt: HostRuntime) {
 
 #[test]
 fn lines_and_texts_are_cells(rt: HostRuntime) -> Result<(), Fail> {
-    for (text, fits) in [("", true), ("two words \u{e9}", true), ("a\nb", false)] {
+    // A text of at most 30 bytes lies in its value, and a longer one apart.
+    for (text, fits) in [
+        ("", true),
+        ("two words \u{e9}", true),
+        ("thirty bytes, which are few \u{e9}", true),
+        ("one byte more than thirty of \u{e9}", true),
+        ("a\nb", false),
+        ("a\nb, in more than thirty bytes...", false),
+    ] {
         assert_eq!(rt; Line::new(text).is_some(), fits, "of {text:?}");
         assert_eq!(rt; Text::fits(text), fits, "of {text:?}");
         let made = Text::from_text(String::from_str(rt.alloc(), text)?);

@@ -33,9 +33,26 @@ pub enum Went {
     Quit,
 }
 
-/// Does what a line asks for, and writes the reply, which is put together in the page, whatever that holds.
+/// Does what a line asks for, and writes the reply.
 /// At `Failed` only a part of the reply was written, and the space and the store are as after the command.
 pub fn execute<K: Sink, D: Store>(
+    alloc: Global,
+    space: &mut Space,
+    piece: &[u8],
+    sink: &mut K,
+    store: &mut D,
+) -> Result<Went, Failed>
+    requires { IsCell piece.now }
+    ensures replies { Replies K.Sink sink.old sink.new result
+        (λ reply. StepsOn piece.now D.Store space.old store.old reply space.new store.new) }
+    ensures bits { space.new.pool.bits ≡ space.old.pool.bits }
+    ensures quits { IfOk result (λ went. (went ≡ Went.Quit) ↔ (piece.now ≡ codes "quit")) }
+{
+    execute_on(alloc, space, piece, &mut Page::new(), sink, store)
+}
+
+/// The same with a page of the caller, in which the reply is put together, whatever it holds: a run has one for all its lines.
+pub(crate) fn execute_on<K: Sink, D: Store>(
     alloc: Global,
     space: &mut Space,
     piece: &[u8],

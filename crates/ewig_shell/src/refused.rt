@@ -42,7 +42,6 @@ impl Machine {
             alloc,
             &mut self.space,
             line.as_str().as_bytes(),
-            &mut Page::new(),
             &mut self.sink,
             &mut self.store,
         )

@@ -12,7 +12,7 @@ ghost use Rattle.ewig_shell.specs.Going.{EndsInput, GoesAs, IsGoing, Opens, stat
 ghost use Rattle.ewig_shell.specs.Run.{RunsAs, Runs, exit_code};
 ghost use Rattle.ewig_shell.specs.Work.{StepsAlone, Works, status_by};
 
-use crate::execute::{Went, execute, refuse_long};
+use crate::execute::{Went, execute_on, refuse_long};
 use crate::page::Page;
 use crate::reply::send_summary;
 use crate::work::work;
@@ -240,7 +240,7 @@ fn open<K: Sink, D: Store>(
         return None;
     };
     let line = load_line(file);
-    status_after(execute(alloc, space, line.as_slice(), page, sink, store))
+    status_after(execute_on(alloc, space, line.as_slice(), page, sink, store))
 }
 
 // The line that loads the file.
@@ -308,7 +308,7 @@ fn turn<S: Source, K: Sink, D: Store>(
         (λ status. Runs most asked input (S.left source.new) K.Sink begin sink.new D.Store first store.new status (Some space.new)) }
 {
     match reader.next(source, most) {
-        Next::Line => status_after(execute(alloc, space, reader.line(), page, sink, store)),
+        Next::Line => status_after(execute_on(alloc, space, reader.line(), page, sink, store)),
         Next::Long => status_after(refuse_long(sink)),
         Next::End => Some(Status::Done),
         Next::Budget => Some(Status::TooLong),

@@ -18,7 +18,7 @@ use Rattle.plain_space.specs.Edited.{edited}
 use Rattle.plain_space.specs.Cost.{alike_buffers, edit_cost, cost}
 use Rattle.state_rows.specs.Reading.{StandsIfThere}
 use Rattle.state_rows.specs.InHeap.{IsTextIn, IsStateIn}
-use Rattle.state_rows.specs.InPlace.{MakesFew}
+use Rattle.state_rows.specs.InPlace.{MakesAtMost}
 use Rattle.state_rows.proofs.Keys.{by_bytes, same-name}
 use Rattle.space_state.specs.declared.roots.RootedHeap.{RootedHeap}
 use Rattle.space_state.specs.declared.turning.TheConstants.{TURN_NODES}
@@ -59,7 +59,7 @@ pub record IsBeside (s t : RootedHeap) (mid : Heap Bytes) (k : ℕ) (W : Workspa
   pub keeps : Keeps (record t { heap = mid }) (k ∷ []) (current_kept W)
   pub bits : t.bits ≡ s.bits
   pub rises : Rises s.heap mid (TURN_NODES + 1)
-  pub few : in_batch W ≡ true → MakesFew s.heap mid 1
+  pub few : in_batch W ≡ true → MakesAtMost s.heap mid 1
 
 pub is-beside : {s t : RootedHeap} {mid : Heap Bytes} {k c n m : ℕ} {W : Workspace} → IsReadyInPlace s t W m → Answered t.heap mid [] k c n → c + n ≡ 1 → mid.made ≤ t.heap.made + 1 → live_count t.heap ≤ live_count mid → IsBeside s t mid k W
 is-beside {c = c} {n = n} ready a one made live = record {
@@ -86,7 +86,7 @@ cell-text bits adds same is = record { row = ap (option_map form_of) adds.here �
 
 -- the state was edited in place
 pub placed : {s t : RootedHeap} {mid new : Heap Bytes} {k r c n : ℕ} {W : Workspace} {x : State} (change : PlainEdit) → IsBeside s t mid k W → edited W.current change ≡ Ok x
-    → KeepsHeld (λ l. count l (t.roots.current ∷ k ∷ [])) mid new → Trades mid new (t.roots.current ∷ k ∷ []) (r ∷ []) c n → IsStateIn new t.bits r x → TURN_NODES + 1 + (c + n) ≤ edit_cost s.bits change W.current → (in_batch W ≡ true → MakesFew s.heap new 2)
+    → KeepsHeld (λ l. count l (t.roots.current ∷ k ∷ [])) mid new → Trades mid new (t.roots.current ∷ k ∷ []) (r ∷ []) c n → IsStateIn new t.bits r x → TURN_NODES + 1 + (c + n) ≤ edit_cost s.bits change W.current → (in_batch W ≡ true → MakesAtMost s.heap new 2)
     → IsCarriedOut (edit change) s (record t { heap = new; roots = record t.roots { current = r } }) W
 placed {s} {t} {new = new} {r = r} {W = W} {x = x} change beside made held trades is less few = record {
   after = with_current W x;

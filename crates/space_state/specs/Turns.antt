@@ -11,7 +11,7 @@ use Rattle.plain_space.specs.Workspace.{Workspace, most, in_batch, is_full}
 use Rattle.plain_space.specs.Answer.{answer, done}
 use Rattle.plain_space.specs.Cost.{alike_buffers, alike_stars, cost}
 use Rattle.plain_space.specs.Memory.{MayLackMemory}
-use Rattle.state_rows.specs.InPlace.{MakesFew}
+use Rattle.state_rows.specs.InPlace.{MakesAtMost}
 use Rattle.space_state.specs.declared.turning.TheConstants.{EDIT_NODES, TURN_NODES}
 use Rattle.space_state.specs.declared.roots.RootedHeap.{RootedHeap}
 use Rattle.space_state.specs.Roots.{Keeps}
@@ -95,7 +95,7 @@ pub record TurnsBeside (old new : RootedHeap) (besides : List ℕ) (cells nodes 
 pub record IsReadyInPlace (old new : RootedHeap) (W : Workspace) (nodes : ℕ) : Type 0 where
   pub free : is_full W ≡ false
   pub turns : TurnsTo old new [] TURN_NODES (current_kept W)
-  pub few : in_batch W ≡ true → MakesFew old.heap new.heap 0
+  pub few : in_batch W ≡ true → MakesAtMost old.heap new.heap 0
   pub spares : HasSpares new.heap 1 nodes
 
 -- the command was carried out; in a batch an edit that is made in place makes at most two rows more than the rows gain
@@ -103,7 +103,7 @@ pub record IsCarriedOut (command : PlainCommand) (old new : RootedHeap) (W : Wor
   pub after : Workspace
   pub told : answer W command ≡ done after
   pub turns : TurnsTo old new [] (cost old.bits command W) after
-  pub few_made : IsInPlace command → in_batch W ≡ true → MakesFew old.heap new.heap 2
+  pub few_made : IsInPlace command → in_batch W ≡ true → MakesAtMost old.heap new.heap 2
 
 -- the command was not carried out, and nothing has changed
 pub record IsRefused (command : PlainCommand) (old new : RootedHeap) (W : Workspace) (why : Refusal) : Type 0 where

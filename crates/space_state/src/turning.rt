@@ -1,7 +1,7 @@
 //! What all edits share: room for an edit, the turn to another current state, and what is given up.
-ghost use Rattle.std.specs.Prelude.{◌≡◌, ◌≢◌, ℕ, ◌+◌, ◌<◌, ◌≤◌, List, [], ◌∷◌, ◌++◌, ◌^◌, length, IfOk, Err, true, false};
+ghost use Rattle.std.specs.Prelude.{◌≡◌, ◌≢◌, ℕ, ◌+◌, ◌*◌, ◌<◌, ◌≤◌, List, [], ◌∷◌, ◌++◌, ◌^◌, length, IfOk, Err, true, false};
 ghost use Rattle.elem_core.specs.Shown.{name_bytes, line_bytes};
-ghost use Rattle.node_heap.specs.Heap.{HasSpares, quarter_holds};
+ghost use Rattle.node_heap.specs.Heap.{HasSpares, row_limit};
 ghost use Rattle.plain_space.specs.Workspace.{State, Workspace, most, in_batch, is_full, with_current};
 ghost use Rattle.state_rows.specs.InHeap.{IsStateIn};
 ghost use Rattle.space_state.specs.Roots.{Keeps};
@@ -52,7 +52,7 @@ impl RootedHeap {
     /// there already.
     pub(crate) fn make_room_with(&mut self, alike: usize) -> Result<(), Refusal>
         requires kept { (W : Workspace) × Keeps self.old [] W }
-        requires few { alike < quarter_holds }
+        requires few { alike < 2 * row_limit }
         ensures room { MakesRoom (λ _. EDIT_NODES + alike) self.old result self.new }
         ensures ample { HasSpares self.old.heap 2 (EDIT_NODES + alike) → result ≢ Err Refusal.Memory }
     {
@@ -67,7 +67,7 @@ impl RootedHeap {
     /// are. The text comes first, so that an edit that wants memory for it leaves the heap the room that it had.
     pub(crate) fn prepare_line(&mut self, line: Line<'_>, alike: usize) -> Result<Text, Refusal>
         requires kept { (W : Workspace) × Keeps self.old [] W }
-        requires few { alike < quarter_holds }
+        requires few { alike < 2 * row_limit }
         ensures room { MakesRoom (λ _. EDIT_NODES + alike) self.old result self.new }
         ensures text { IfOk result (λ text. text ≡ line_bytes line.entry) }
     {
@@ -87,7 +87,7 @@ impl RootedHeap {
         alike: usize,
     ) -> Result<Option<Text>, Refusal>
         requires kept { (W : Workspace) × Keeps self.old [] W }
-        requires few { alike < quarter_holds }
+        requires few { alike < 2 * row_limit }
         ensures room { MakesRoom (λ _. EDIT_NODES + alike) self.old result self.new }
         ensures key { IfOk result (λ key. key ≡ new_key found (name_bytes name.entry)) }
     {

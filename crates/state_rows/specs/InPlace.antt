@@ -16,8 +16,8 @@ use Rattle.plain_space.specs.Cost.{alike_buffers}
 use Rattle.state_rows.specs.InHeap.{AreLinesIn, IsStateIn}
 
 -- the number made rises by at most so many more than the rows gain
-abbrev pub MakesFew : {T : Type 0} → Heap T → Heap T → ℕ → Type 0
-MakesFew old new more = new.made + live_count old ≤ old.made + live_count new + more
+abbrev pub MakesAtMost : {T : Type 0} → Heap T → Heap T → ℕ → Type 0
+MakesAtMost old new more = new.made + live_count old ≤ old.made + live_count new + more
 
 -- the rows below a state row on the way to the pair of a buffer's name and its lines, and that pair
 abbrev pub lines_path : Heap Bytes → ℕ → ℕ → Bytes → List ℕ

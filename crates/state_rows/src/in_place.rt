@@ -14,7 +14,7 @@ ghost use Rattle.shell_terms.specs.Edit.{Bytes};
 ghost use Rattle.plain_space.specs.Workspace.{State, most, lines_of, with_lines as has_lines};
 ghost use Rattle.plain_space.specs.Cost.{alike_buffers};
 ghost use Rattle.state_rows.specs.InHeap.{IsTextIn, AreLinesIn, IsStateIn};
-ghost use Rattle.state_rows.specs.InPlace.{CopiesOfPath, MakesFew, OwnsLines, lines_path};
+ghost use Rattle.state_rows.specs.InPlace.{CopiesOfPath, MakesAtMost, OwnsLines, lines_path};
 
 use edit_trie::{insert_at, own_value_at};
 use edit_vec::{push_at, set_at};
@@ -34,7 +34,7 @@ pub fn line_added(heap: &mut Heap<Text>, bits: u32, state: Link, name: Name<'_>,
     ensures keeps { KeepsHeld (λ l. count l (state ∷ line ∷ [])) heap.old heap.new }
     ensures trades { (s : State) (xs : List Bytes) → IsStateIn heap.old bits state s → lines_of s (name_bytes name.entry) ≡ Some xs →
         Trades heap.old heap.new (state ∷ line ∷ []) (result ∷ []) 0 (DEEPEST + 12 + alike_buffers bits s (name_bytes name.entry)) }
-    ensures made { MakesFew heap.old heap.new 0 }
+    ensures made { MakesAtMost heap.old heap.new 0 }
     ensures spares { KeepsToNeed heap.old heap.new 0 0 }
     ensures state { (s : State) (xs : List Bytes) (text : Bytes) → IsStateIn heap.old bits state s → lines_of s (name_bytes name.entry) ≡ Some xs → IsTextIn heap.old bits line text →
         IsStateIn heap.new bits result (has_lines s (name_bytes name.entry) (xs ++ text ∷ [])) }
@@ -67,7 +67,7 @@ pub fn line_set(
     ensures keeps { KeepsHeld (λ l. count l (state ∷ line ∷ [])) heap.old heap.new }
     ensures trades { (s : State) (xs : List Bytes) → IsStateIn heap.old bits state s → lines_of s (name_bytes name.entry) ≡ Some xs →
         Trades heap.old heap.new (state ∷ line ∷ []) (result ∷ []) 0 (DEEPEST + 11 + alike_buffers bits s (name_bytes name.entry)) }
-    ensures made { MakesFew heap.old heap.new 1 }
+    ensures made { MakesAtMost heap.old heap.new 1 }
     ensures spares { KeepsToNeed heap.old heap.new 0 0 }
     ensures state { (s : State) (xs : List Bytes) (text : Bytes) → IsStateIn heap.old bits state s → lines_of s (name_bytes name.entry) ≡ Some xs → IsTextIn heap.old bits line text →
         IsStateIn heap.new bits result (has_lines s (name_bytes name.entry) (slice_set xs index text)) }
@@ -91,10 +91,10 @@ pub fn lines_put(heap: &mut Heap<Text>, bits: u32, state: Link, name: Name<'_>, 
     requires held { HasHolds heap.old (state ∷ lines ∷ []) }
     requires lines { (ys : List Bytes) × AreLinesIn heap.old bits lines ys }
     requires state { (s : State) × (xs : List Bytes) × IsStateIn heap.old bits state s × (lines_of s (name_bytes name) ≡ Some xs)
-        × HasSpares heap.old 0 (INSERT_NODES + alike_buffers bits s (name_bytes name)) }
+        × HasSpares heap.old 0 (ADD_NODES + 1 + alike_buffers bits s (name_bytes name)) }
     ensures keeps { KeepsHeld (λ l. count l (state ∷ lines ∷ [])) heap.old heap.new }
     ensures trades { (s : State) (xs : List Bytes) → IsStateIn heap.old bits state s → lines_of s (name_bytes name.entry) ≡ Some xs →
-        Trades heap.old heap.new (state ∷ lines ∷ []) (result ∷ []) 0 (INSERT_NODES + alike_buffers bits s (name_bytes name.entry)) }
+        Trades heap.old heap.new (state ∷ lines ∷ []) (result ∷ []) 0 (ADD_NODES + 1 + alike_buffers bits s (name_bytes name.entry)) }
     ensures made { owners_at heap.old state ≡ 1 → CopiesOfPath heap.old heap.new (lines_path heap.old bits state (name_bytes name.entry)) }
     ensures spares { KeepsToNeed heap.old heap.new 0 0 }
     ensures state { (s : State) (xs ys : List Bytes) → IsStateIn heap.old bits state s → lines_of s (name_bytes name.entry) ≡ Some xs → AreLinesIn heap.old bits lines ys →
@@ -119,7 +119,7 @@ pub fn buffer_made(heap: &mut Heap<Text>, bits: u32, state: Link, key: Text, lin
     requires state { (s : State) × IsStateIn heap.old bits state s × (lines_of s key ≡ None) × HasSpares heap.old 1 (DEEPEST + 4 + alike_buffers bits s key) }
     ensures keeps { KeepsHeld (λ l. count l (state ∷ lines ∷ [])) heap.old heap.new }
     ensures trades { (s : State) → IsStateIn heap.old bits state s → Trades heap.old heap.new (state ∷ lines ∷ []) (result ∷ []) 1 (DEEPEST + 4 + alike_buffers bits s key) }
-    ensures made { MakesFew heap.old heap.new 0 }
+    ensures made { MakesAtMost heap.old heap.new 0 }
     ensures spares { KeepsToNeed heap.old heap.new 0 0 }
     ensures state { (s : State) (xs : List Bytes) → IsStateIn heap.old bits state s → AreLinesIn heap.old bits lines xs → IsStateIn heap.new bits result (has_lines s key xs) }
 {

@@ -24,8 +24,7 @@ pub use laws::{
 };
 pub use list::{marks, names, stars, totals};
 pub use look_up::{
-    FoundBuffer, buffer, buffers_alike, find_buffer, is_starred, stars_alike, version,
-    versions_alike,
+    FoundBuffer, buffer, find_buffer, is_starred, stars_alike, version, versions_alike,
 };
 pub use make::{with_star, with_version, without_lines, without_star, without_version};
 pub use start::{empty_history, empty_state, empty_versions};

@@ -91,17 +91,7 @@ pub fn version(heap: &Heap<Text>, versions: MapRef, name: Name<'_>) -> Option<Li
     versions.get(heap, &name)
 }
 
-/// How many of the buffers' names have the masked code of this one, itself included where it is among them.
-pub fn buffers_alike(heap: &Heap<Text>, bits: u32, state: Link, name: Name<'_>) -> usize
-    requires bits { bits ≤ CODE_BITS }
-    requires state { (s : State) × IsStateIn heap.now bits state s }
-    ensures number { (s : State) → IsStateIn heap.now bits state s → result ≡ alike_buffers bits s (name_bytes name.entry) }
-    ensures few { result < row_limit }
-{
-    alike(heap, buffers_of(heap, bits, state).root(), &name, bits)
-}
-
-/// The same among the names that are starred.
+/// How many of the starred names have the masked code of this one, itself included where it is among them.
 pub fn stars_alike(heap: &Heap<Text>, bits: u32, state: Link, name: Name<'_>) -> usize
     requires bits { bits ≤ CODE_BITS }
     requires state { (s : State) × IsStateIn heap.now bits state s }

@@ -23,8 +23,8 @@ pub fn without_lines(heap: &mut Heap<Text>, bits: u32, state: Link, name: Name<'
     requires few { hold_count heap.old < half_holds }
     requires bits { bits ≤ CODE_BITS }
     requires state { (s : State) × IsStateIn heap.old bits state s × IsSome (lines_of s (name_bytes name))
-        × HasSpares heap.old 0 (ADD_NODES + alike_buffers bits s (name_bytes name)) }
-    ensures answered { (s : State) → IsStateIn heap.old bits state s → Answered heap.old heap.new [] result 0 (ADD_NODES + alike_buffers bits s (name_bytes name.entry)) }
+        × HasSpares heap.old 0 (LEVELS + 1 + alike_buffers bits s (name_bytes name)) }
+    ensures answered { (s : State) → IsStateIn heap.old bits state s → Answered heap.old heap.new [] result 0 (LEVELS + 1 + alike_buffers bits s (name_bytes name.entry)) }
     ensures made { MakesJust heap.old heap.new }
     ensures spares { KeepsToNeed heap.old heap.new 0 0 }
     ensures state { (s : State) → IsStateIn heap.old bits state s → IsStateIn heap.new bits result (has_no_lines s (name_bytes name.entry)) }
@@ -43,8 +43,8 @@ pub fn with_star(heap: &mut Heap<Text>, bits: u32, state: Link, key: Text) -> Li
     requires few { hold_count heap.old < half_holds }
     requires bits { bits ≤ CODE_BITS }
     requires name { IsName key }
-    requires state { (s : State) × IsStateIn heap.old bits state s × HasSpares heap.old 1 (INSERT_NODES + alike_stars bits s key) }
-    ensures answered { (s : State) → IsStateIn heap.old bits state s → Answered heap.old heap.new [] result 1 (INSERT_NODES + alike_stars bits s key) }
+    requires state { (s : State) × IsStateIn heap.old bits state s × HasSpares heap.old 1 (ADD_NODES + 1 + alike_stars bits s key) }
+    ensures answered { (s : State) → IsStateIn heap.old bits state s → Answered heap.old heap.new [] result 1 (ADD_NODES + 1 + alike_stars bits s key) }
     ensures made { MakesJust heap.old heap.new }
     ensures spares { KeepsToNeed heap.old heap.new 0 0 }
     ensures state { (s : State) → IsStateIn heap.old bits state s → IsStateIn heap.new bits result (has_star s key) }
@@ -62,8 +62,8 @@ pub fn without_star(heap: &mut Heap<Text>, bits: u32, state: Link, name: Name<'_
     requires few { hold_count heap.old < half_holds }
     requires bits { bits ≤ CODE_BITS }
     requires state { (s : State) × IsStateIn heap.old bits state s × (is_starred s (name_bytes name) ≡ true)
-        × HasSpares heap.old 0 (ADD_NODES + alike_stars bits s (name_bytes name)) }
-    ensures answered { (s : State) → IsStateIn heap.old bits state s → Answered heap.old heap.new [] result 0 (ADD_NODES + alike_stars bits s (name_bytes name.entry)) }
+        × HasSpares heap.old 0 (LEVELS + 1 + alike_stars bits s (name_bytes name)) }
+    ensures answered { (s : State) → IsStateIn heap.old bits state s → Answered heap.old heap.new [] result 0 (LEVELS + 1 + alike_stars bits s (name_bytes name.entry)) }
     ensures made { MakesJust heap.old heap.new }
     ensures spares { KeepsToNeed heap.old heap.new 0 0 }
     ensures state { (s : State) → IsStateIn heap.old bits state s → IsStateIn heap.new bits result (has_no_star s (name_bytes name.entry)) }

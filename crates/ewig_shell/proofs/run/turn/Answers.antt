@@ -7,14 +7,14 @@ use Rattle.ewig_shell.proofs.EndLemmas.{KeepsSure-none, KeepsSure-step}
 use Rattle.ewig_shell.proofs.run.turn.Goals as goal
 
 pub returns-in-Line-clause-goes : goal.returns-in-Line-clause-goes
-returns-in-Line-clause-goes g c = record { begun = search rules; bits = search rules; causes = search rules; stores = KeepsSure-step c.execute.ensures.replies.due.counts }
+returns-in-Line-clause-goes g c = record { begun = search rules; bits = search rules; causes = search rules; stores = KeepsSure-step c.execute_on.ensures.replies.due.counts }
 
 pub returns-in-Line-clause-told : goal.returns-in-Line-clause-told
 returns-in-Line-clause-told g c = λ asked input begin first going.
     let next = subst (λ (piece : List ℕ). GivesNext c.args.most input c.args.reader.now c.next.new.self piece) (sym c.line.ensures) (c.in-Line.ensures.answers input going.stands) in
-    let done = c.execute.ensures.replies in
+    let done = c.execute_on.ensures.replies in
     Going-next going (c.in-Line.ensures.stands input going.stands) next c.in-Line.ensures.bounded
-    (record { reply = done.reply; due = done.due; sends = done.sends }) c.execute.ensures.quits c.status_after.ensures
+    (record { reply = done.reply; due = done.due; sends = done.sends }) c.execute_on.ensures.quits c.status_after.ensures
 
 pub returns-in-Long-clause-goes : goal.returns-in-Long-clause-goes
 returns-in-Long-clause-goes g c = record { begun = search rules; bits = search rules; causes = search rules; stores = KeepsSure-none }

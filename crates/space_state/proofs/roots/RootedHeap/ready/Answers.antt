@@ -1,6 +1,6 @@
 use Rattle.std.proofs.Common.{◌≡◌, [], false, refl, sym, subst, ◌∙◌, arith}
 use Rattle.plain_space.specs.Workspace.{is_full}
-use Rattle.state_rows.specs.InPlace.{MakesFew}
+use Rattle.state_rows.specs.InPlace.{MakesAtMost}
 use Rattle.space_state.specs.declared.roots.RootedHeap.{RootedHeap}
 use Rattle.space_state.specs.declared.turning.TheConstants.{TURN_NODES}
 use Rattle.space_state.proofs.Keeping.{heap-is, same-heap, keeps-same, rises-same, turns-after}
@@ -29,6 +29,6 @@ returns-clause-ready c = λ W K.
     record {
       free = free;
       turns = turns-after 0 TURN_NODES (rises-same rest) refl now.turns (omega arith);
-      few = λ inside. subst (λ (u : RootedHeap). MakesFew c.args.self.now.heap u.heap 0) (sym (c.keep_current.ensures.inside W kept inside)) (omega (arith, rest.made, rest.live));
+      few = λ inside. subst (λ (u : RootedHeap). MakesAtMost c.args.self.now.heap u.heap 0) (sym (c.keep_current.ensures.inside W kept inside)) (omega (arith, rest.made, rest.live));
       spares = (omega (arith, spares.0, now.spare_cells), omega (arith, spares.1, now.spare_nodes));
     }

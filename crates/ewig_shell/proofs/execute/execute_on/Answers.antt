@@ -3,7 +3,7 @@ use Rattle.ewig_shell.proofs.SendingLemmas.{Sends-then}
 use Rattle.ewig_shell.proofs.ReplyLemmas.{other-reply, line-other}
 use Rattle.ewig_shell.proofs.StepLemmas.{Step-line, CountsStore-none, bits-kept}
 use Rattle.ewig_shell.proofs.QuitLemmas.{quits-command, quits-bad}
-use Rattle.ewig_shell.proofs.execute.execute.Goals as goal
+use Rattle.ewig_shell.proofs.execute.execute_on.Goals as goal
 
 pub returns-in-Ok-clause-replies : goal.returns-in-Ok-clause-replies
 returns-in-Ok-clause-replies g c =
