@@ -1,7 +1,11 @@
 -- What lines come to that the program makes by itself.
 use Rattle.std.proofs.Common.{◌≡◌, ℕ, ◌+◌, Bool, false, zero, suc, List, [], ◌∷◌, ◌++◌, length, sym, ap, ◌∙◌, subst, refl, arith, append_assoc, codes, bytes_eq, count_by, sum_by, map, Result, Ok, Err, IsTrue, cond}
-use Rattle.std.proofs.lemmas.List.{append-nil}
-use Rattle.std.proofs.lemmas.List.Sums.{sum_by-append, sum_by-cons}
+use Rattle.std.proofs.Common.{get_or}
+use Rattle.std.specs.Prelude.{◌==◌}
+use Rattle.std.specs.List.{position_or_len}
+use Rattle.std.proofs.lemmas.Bool.{eqb-false}
+use Rattle.std.proofs.lemmas.List.{append-nil, get_or_default}
+use Rattle.std.proofs.lemmas.List.Sums.{fails_before_first, sum_by-append, sum_by-cons}
 use Rattle.elem_core.specs.declared.TheConstants.{NEWLINE}
 use Rattle.shell_terms.specs.Edit.{Bytes}
 use Rattle.shell_terms.specs.Command.{PlainCommand, edit, mark, unmark, back, undo, redo, begin, «end», abort}
@@ -13,7 +17,6 @@ use Rattle.plain_space.specs.Session.{reason_of}
 use Rattle.space_state.specs.View.{SpaceView, Ends, start_view}
 use Rattle.shell_io.specs.Pieces.{pieces, ended, IsWhole, IsUnbroken}
 use Rattle.shell_io.proofs.PiecesLemmas.{pieces-append_line, IsWhole-append_line}
-use Rattle.shell_io.proofs.NewlineLemmas.{none_first}
 use Rattle.shell_io.specs.declared.device.Sink as sink_trait
 use Rattle.shell_io.specs.declared.device.Store as store_trait
 use Rattle.work_lines.specs.Lines.{next_number, lines_from, work_lines}
@@ -116,6 +119,12 @@ done_line (Err reason) = codes "! " ++ reason_of reason
 done_is : (done : Result (Unit {0}) Refusal) → done_reply done ≡ done_line done ++ NEWLINE ∷ []
 done_is (Ok done) = append-nil _
 done_is (Err reason) = append-nil _
+
+-- bytes of which none is the first newline have none
+none_first : (xs : List ℕ) → position_or_len (λ byte. byte == NEWLINE) xs ≡ length xs → IsUnbroken xs
+none_first xs is = λ (k, h, e).
+    eqb-false (get_or xs k 0) NEWLINE (fails_before_first (λ byte. byte == NEWLINE) xs k 0 (omega (arith, is, h)))
+    (get_or_default xs k 0 NEWLINE h ∙ e)
 
 done-unbroken : (done : Result (Unit {0}) Refusal) → IsUnbroken (done_line done)
 done-unbroken (Ok done) = none_first ok_line refl

@@ -1,8 +1,9 @@
 -- What a rooted heap keeps, seen as the pool of its rows.
-use Rattle.std.proofs.Common.{◌≡◌, refl, sym, ◌∙◌, ap, subst, ℕ, [], Result, Ok, Err}
+use Rattle.std.proofs.Common.{◌≡◌, refl, sym, ◌∙◌, ap, subst, ℕ, [], Result, Ok, Err, arith}
 use Rattle.std.proofs.lemmas.List.{append-nil}
 use Rattle.node_heap.specs.Links.{count}
 use Rattle.node_heap.specs.Heap.{holds_at, live_count}
+use Rattle.node_heap.specs.Calls.{KeepsToNeed}
 use Rattle.pool_text.specs.Pool.{row_count}
 use Rattle.pool_text.specs.Pool as pools
 use Rattle.pool_text.proofs.Held.{nothing-leaks}
@@ -15,7 +16,8 @@ use Rattle.state_rows.proofs.HeapPools.{pool-stands}
 use Rattle.space_state.specs.declared.roots.RootedHeap.{RootedHeap}
 use Rattle.space_state.specs.Roots.{root_list, Keeps}
 use Rattle.space_state.specs.Turns.{IsCarriedOut, IsRefused, EndsOnRows}
-use Rattle.space_state.specs.View.{shown, CarriesOut, RefusesCommand, Ends}
+use Rattle.space_state.specs.Needed.{cells_needed, nodes_needed, HoardsNone}
+use Rattle.space_state.specs.View.{shown, CarriesOut, KeepsRoom, RefusesCommand, Ends}
 
 -- the pool's bits are those of the space
 pub bits-are : (s : RootedHeap) → (shown s).pool.bits ≡ s.bits
@@ -35,9 +37,14 @@ module _ (s : RootedHeap) (W : Workspace) (K : Keeps s [] W) where
   pub rows-are : row_count (shown s).pool ≡ live_count s.heap
   rows-are = nothing-leaks (λ text. text) s.heap (root_list s.roots) s.bits K.graph roots-held
 
+-- what was not hoarded by the heap was not by the space
+pub room-kept : (old new : RootedHeap) {cells nodes : ℕ} → KeepsToNeed old.heap new.heap cells nodes → KeepsRoom (shown old) (shown new) cells nodes
+room-kept old new kept = record { few_cells = omega (arith, kept.few_cells); few_nodes = omega (arith, kept.few_nodes) }
+
 -- what a command that was carried out on the rows did to the pool
-pub carried : (command : PlainCommand) (old new : RootedHeap) (W : Workspace) → Keeps old [] W → IsCarriedOut command old new W → CarriesOut command (shown old) (shown new) W
-carried command old new W K done =
+pub carried : (command : PlainCommand) (old new : RootedHeap) (W : Workspace) → Keeps old [] W → IsCarriedOut command old new W
+    → KeepsToNeed old.heap new.heap (cells_needed command) (nodes_needed old.bits command W) → CarriesOut command (shown old) (shown new) W
+carried command old new W K done kept =
     let K' : Keeps new [] done.after = done.turns.keeps in
     let rows : row_count (shown old).pool ≡ live_count old.heap = rows-are old W K in
     let rows' : row_count (shown new).pool ≡ live_count new.heap = rows-are new done.after K' in
@@ -50,6 +57,7 @@ carried command old new W K done =
       few = rw (rows, rows', bits-are old) done.turns.few;
       made = rw (rows, rows') done.turns.made;
       few_made = λ placed inside. rw (rows, rows') (done.few_made placed inside);
+      room = subst (λ (b : ℕ). KeepsRoom (shown old) (shown new) (cells_needed command) (nodes_needed b command W)) (sym (bits-are old)) (room-kept old new kept);
     }
 
 -- a refusal leaves what a space shows
@@ -58,9 +66,9 @@ refused command old new W why K refusal = record { due = refusal.due; same = ap 
 
 -- how a call on the rows ends, seen by the pool
 pub ends-seen : (command : PlainCommand) (old : RootedHeap) (result : Result (Unit {0}) Refusal) (new : RootedHeap) (W : Workspace) →
-    Keeps old [] W → EndsOnRows command old result new → Ends command (shown old) result (shown new)
-ends-seen command old (Ok done) new W K obeys = record { work = W; stands = pool-is old W K; ends = carried command old new W K (obeys W K) }
-ends-seen command old (Err why) new W K obeys = record { work = W; stands = pool-is old W K; ends = refused command old new W why K (obeys W K) }
+    Keeps old [] W → EndsOnRows command old result new → HoardsNone command old result new → Ends command (shown old) result (shown new)
+ends-seen command old (Ok done) new W K obeys spares = record { work = W; stands = pool-is old W K; ends = carried command old new W K (obeys W K) (spares W K) }
+ends-seen command old (Err why) new W K obeys spares = record { work = W; stands = pool-is old W K; ends = refused command old new W why K (obeys W K) }
 
 -- after a call that carries out a command, or refuses it, the roots stand for a workspace still
 pub kept-on : (command : PlainCommand) (old : RootedHeap) (result : Result (Unit {0}) Refusal) (new : RootedHeap) → (W : Workspace) × Keeps old [] W → EndsOnRows command old result new → (W : Workspace) × Keeps new [] W

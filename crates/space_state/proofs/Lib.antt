@@ -10,3 +10,4 @@ pub mod Beginning
 pub mod NewPool
 pub mod SameContents
 pub mod Placing
+pub mod Hoarding

@@ -11,7 +11,8 @@ use Rattle.std.proofs.lemmas.List.Sums.{count_by-le-length}
 use Rattle.elem_core.specs.Codes.{text_code}
 use Rattle.node_heap.specs.Links.{count}
 use Rattle.node_heap.specs.Forms.{Form, Forms, node, leaf, trie, state, links_of, links_in}
-use Rattle.node_heap.specs.Heap.{row_at, form_at, live_count}
+use Rattle.node_heap.specs.Heap.{row_at, form_at, live_count, cell_count, node_count}
+use Rattle.node_heap.proofs.GraphLemmas.{IsGraph-kinds}
 use Rattle.node_heap.proofs.Counts.{test_same, count-cons}
 use Rattle.rrb_core.specs.Seq.{height_in, seq_at, seq, IsWell, IsWellShaped}
 use Rattle.rrb_core.specs.Vector.{IsGoodVector}
@@ -39,7 +40,7 @@ use Rattle.state_rows.specs.Standing.{IsBase}
 use Rattle.state_rows.proofs.Keys.{own-name}
 use Rattle.space_state.specs.declared.roots.RootedHeap.{RootedHeap}
 use Rattle.space_state.specs.Roots.{base_of, root_list, Keeps}
-use Rattle.space_state.specs.View.{Room, room_of, SpaceView, shown, start_view}
+use Rattle.space_state.specs.View.{Kinds, rows_of, room_of, SpaceView, shown, start_view}
 use Rattle.space_state.proofs.Keeping.{history-length}
 use Rattle.space_state.proofs.Front.{roots-held, rows-are}
 
@@ -248,7 +249,12 @@ new-pool s K six =
 -- a space that has nothing, and six rows, shows the start space's
 pub new-shown : (s : RootedHeap) (bits : ℕ) → Keeps s [] start → s.bits ≡ bits → live_count s.heap ≡ 6 → s.heap.made ≡ 6 → room_of s.heap ≡ record { cells = 0; nodes = 6 } → shown s ≡ start_view bits
 new-shown s bits K same six made room =
-    let view : Pool → ℕ → ℕ → SpaceView = λ p l m. record { pool = p; live = l; made = m; room = room_of s.heap } in
+    let none : cell_count s.heap ≡ 0 = omega (arith, ap (λ (r : Kinds). r.cells) room) in
+    let all : node_count s.heap ≡ 6 = omega (arith, none, six, IsGraph-kinds s.heap) in
+    let rows : rows_of s.heap ≡ record { cells = 0; nodes = 6 } = (λ i. record { cells = none i; nodes = all i }) in
+    let view : Pool → ℕ → ℕ → SpaceView = λ p l m. record { pool = p; live = l; made = m; rows = rows_of s.heap; room = room_of s.heap } in
     let begun : ℕ → Pool = λ b. record start_pool { bits = b } in
     ap (λ p. view p (live_count s.heap) s.heap.made) (new-pool s K six) ∙ ap (λ b. view (begun b) (live_count s.heap) s.heap.made) same
-    ∙ ap (λ l. view (begun bits) l s.heap.made) six ∙ ap (λ m. view (begun bits) 6 m) made ∙ ap (λ (r : Room). record { pool = begun bits; live = 6; made = 6; room = r }) room
+    ∙ ap (λ l. view (begun bits) l s.heap.made) six ∙ ap (λ m. view (begun bits) 6 m) made
+    ∙ ap (λ (r : Kinds). record { pool = begun bits; live = 6; made = 6; rows = r; room = room_of s.heap }) rows
+    ∙ ap (λ (r : Kinds). record { pool = begun bits; live = 6; made = 6; rows = record { cells = 0; nodes = 6 }; room = r }) room

@@ -22,7 +22,7 @@ use Rattle.space_state.specs.declared.roots.RootedHeap.{RootedHeap}
 use Rattle.space_state.specs.Roots.{root_list, Keeps}
 use Rattle.space_state.specs.View.{shown, TakesRows, IsTaken, EndsTaking, TakesPool}
 use Rattle.space_state.proofs.Keeping.{keeps-holds, root-held, held-live}
-use Rattle.space_state.proofs.Front.{pool-is}
+use Rattle.space_state.proofs.Front.{pool-is, room-kept}
 
 -- a list of four is its elements
 pub four : (ks : List ℕ) (a b c d : ℕ) → length ks ≡ 4 → a ≡ get_or ks 0 a → b ≡ get_or ks 1 b → c ≡ get_or ks 2 c → d ≡ get_or ks 3 d → ks ≡ a ∷ b ∷ c ∷ d ∷ []
@@ -93,7 +93,7 @@ taken-seen P old result new W K ends = record { work = W; stands = pool-is old W
         → MatchBool b ((r ≡ Err InBatch) × (new ≡ old)) (MatchResult r (λ _. TakesRows P old new) (λ why. (why ≡ Memory) × (new ≡ old)))
         → MatchBool b ((r ≡ Err InBatch) × (shown new ≡ shown old)) (MatchResult r (λ _. IsTaken P (shown old) (shown new)) (λ why. (why ≡ Memory) × (shown new ≡ shown old)))
     by_batch true r told = (told.0, ap shown told.1)
-    by_batch false (Ok done) told = record { pool = told.pool; made = told.made }
+    by_batch false (Ok done) told = record { pool = told.pool; made = told.made; room = room-kept old new told.room }
     by_batch false (Err why) told = (told.0, ap shown told.1)
 
 -- after such a call the roots stand for a workspace still

@@ -4,6 +4,7 @@ ghost use Rattle.node_heap.specs.Heap.{HasSpares};
 ghost use Rattle.shell_terms.specs.Command.{begin, «end», abort};
 ghost use Rattle.plain_space.specs.Workspace.{Workspace};
 ghost use Rattle.space_state.specs.Roots.{Keeps};
+ghost use Rattle.space_state.specs.Needed.{HoardsNone};
 ghost use Rattle.space_state.specs.Turns.{EndsOnRows};
 ghost use Rattle.space_state.specs.View.{room_of};
 
@@ -17,6 +18,7 @@ impl RootedHeap {
     pub(crate) fn begin(&mut self) -> Result<(), Refusal>
         requires { (W : Workspace) × Keeps self.old [] W }
         ensures obeys { EndsOnRows begin self.old result self.new }
+        ensures spares { HoardsNone begin self.old result self.new }
         ensures made { self.new.heap.made ≡ self.old.heap.made }
         ensures room { room_of self.new.heap ≡ room_of self.old.heap }
     {
@@ -32,6 +34,7 @@ impl RootedHeap {
     pub(crate) fn end(&mut self) -> Result<(), Refusal>
         requires { (W : Workspace) × Keeps self.old [] W }
         ensures ends { EndsOnRows «end» self.old result self.new }
+        ensures spares { HoardsNone «end» self.old result self.new }
         ensures ample { HasSpares self.old.heap 0 TURN_NODES → result ≢ Err Refusal.Memory }
     {
         let Some(base) = self.roots.batch.base() else {
@@ -50,6 +53,7 @@ impl RootedHeap {
     pub(crate) fn abort(&mut self) -> Result<(), Refusal>
         requires { (W : Workspace) × Keeps self.old [] W }
         ensures obeys { EndsOnRows abort self.old result self.new }
+        ensures spares { HoardsNone abort self.old result self.new }
         ensures made { self.new.heap.made ≡ self.old.heap.made }
         ensures room { room_of self.new.heap ≡ room_of self.old.heap }
     {

@@ -7,6 +7,7 @@ ghost use Rattle.shell_terms.specs.Command.{edit};
 ghost use Rattle.plain_space.specs.Workspace.{Workspace, lines_of};
 ghost use Rattle.state_rows.specs.InHeap.{AreLinesIn};
 ghost use Rattle.space_state.specs.Roots.{Keeps};
+ghost use Rattle.space_state.specs.Needed.{HoardsNone};
 ghost use Rattle.space_state.specs.Turns.{HasEditSpares, EndsOnRows};
 
 use crate::roots::RootedHeap;
@@ -31,7 +32,8 @@ impl RootedHeap {
     /// Puts the line before the one at the index, or at the end.
     pub(crate) fn put(&mut self, name: Name<'_>, index: u32, line: Line<'_>) -> Result<(), Refusal>
         requires { (W : Workspace) × Keeps self.old [] W }
-        ensures { EndsOnRows (edit (put (name_bytes name.entry) index (line_bytes line.entry))) self.old result self.new }
+        ensures ends { EndsOnRows (edit (put (name_bytes name.entry) index (line_bytes line.entry))) self.old result self.new }
+        ensures spares { HoardsNone (edit (put (name_bytes name.entry) index (line_bytes line.entry))) self.old result self.new }
     {
         let found = self.find(name);
         let Some(lines) = found.lines else {
@@ -57,6 +59,7 @@ impl RootedHeap {
     pub(crate) fn del(&mut self, name: Name<'_>, from: u32, to: u32) -> Result<(), Refusal>
         requires { (W : Workspace) × Keeps self.old [] W }
         ensures ends { EndsOnRows (edit (del (name_bytes name.entry) from to)) self.old result self.new }
+        ensures spares { HoardsNone (edit (del (name_bytes name.entry) from to)) self.old result self.new }
         ensures ample { (W : Workspace) → Keeps self.old [] W → HasEditSpares self.old W (del (name_bytes name.entry) from to) → result ≢ Err Refusal.Memory }
     {
         let found = self.find(name);
@@ -78,6 +81,7 @@ impl RootedHeap {
     pub(crate) fn cat(&mut self, name: Name<'_>, other: Name<'_>) -> Result<(), Refusal>
         requires { (W : Workspace) × Keeps self.old [] W }
         ensures ends { EndsOnRows (edit (cat (name_bytes name.entry) (name_bytes other.entry))) self.old result self.new }
+        ensures spares { HoardsNone (edit (cat (name_bytes name.entry) (name_bytes other.entry))) self.old result self.new }
         ensures ample { (W : Workspace) → Keeps self.old [] W → HasEditSpares self.old W (cat (name_bytes name.entry) (name_bytes other.entry)) → result ≢ Err Refusal.Memory }
     {
         let found = self.find(name);
@@ -105,7 +109,8 @@ impl RootedHeap {
         other: Name<'_>,
     ) -> Result<(), Refusal>
         requires { (W : Workspace) × Keeps self.old [] W }
-        ensures { EndsOnRows (edit (cut (name_bytes name.entry) from to (name_bytes other.entry))) self.old result self.new }
+        ensures ends { EndsOnRows (edit (cut (name_bytes name.entry) from to (name_bytes other.entry))) self.old result self.new }
+        ensures spares { HoardsNone (edit (cut (name_bytes name.entry) from to (name_bytes other.entry))) self.old result self.new }
     {
         let found = self.find(name);
         let Some(lines) = found.lines else {
@@ -129,7 +134,8 @@ impl RootedHeap {
     /// Gives the second buffer the lines of the first.
     pub(crate) fn copy(&mut self, name: Name<'_>, other: Name<'_>) -> Result<(), Refusal>
         requires { (W : Workspace) × Keeps self.old [] W }
-        ensures { EndsOnRows (edit (copy (name_bytes name.entry) (name_bytes other.entry))) self.old result self.new }
+        ensures ends { EndsOnRows (edit (copy (name_bytes name.entry) (name_bytes other.entry))) self.old result self.new }
+        ensures spares { HoardsNone (edit (copy (name_bytes name.entry) (name_bytes other.entry))) self.old result self.new }
     {
         let lines = self.buffer(name)?;
         let target = self.find(other);
@@ -143,6 +149,7 @@ impl RootedHeap {
     pub(crate) fn drop_buffer(&mut self, name: Name<'_>) -> Result<(), Refusal>
         requires { (W : Workspace) × Keeps self.old [] W }
         ensures ends { EndsOnRows (edit (drop (name_bytes name.entry))) self.old result self.new }
+        ensures spares { HoardsNone (edit (drop (name_bytes name.entry))) self.old result self.new }
         ensures ample { (W : Workspace) → Keeps self.old [] W → HasEditSpares self.old W (drop (name_bytes name.entry)) → result ≢ Err Refusal.Memory }
     {
         let found = self.find(name);

@@ -3,6 +3,7 @@ ghost use Rattle.std.specs.Prelude.{◌≢◌, [], Err};
 ghost use Rattle.plain_space.specs.Workspace.{Workspace};
 ghost use Rattle.plain_space.specs.Change.{plain_edit, edit_command};
 ghost use Rattle.space_state.specs.Roots.{Keeps};
+ghost use Rattle.space_state.specs.Needed.{HoardsNone};
 ghost use Rattle.space_state.specs.Turns.{HasEditSpares, HasFewLines, EndsOnRows};
 
 use crate::roots::RootedHeap;
@@ -14,6 +15,7 @@ impl RootedHeap {
         requires kept { (W : Workspace) × Keeps self.old [] W }
         requires lines { HasFewLines (plain_edit change) }
         ensures ends { EndsOnRows (edit_command change.entry) self.old result self.new }
+        ensures spares { HoardsNone (edit_command change.entry) self.old result self.new }
         ensures ample { (W : Workspace) → Keeps self.old [] W → HasEditSpares self.old W (plain_edit change.entry) → result ≢ Err Refusal.Memory }
     {
         match change {

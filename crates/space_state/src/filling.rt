@@ -5,6 +5,7 @@ ghost use Rattle.shell_terms.specs.Edit.{fill};
 ghost use Rattle.shell_terms.specs.Command.{edit};
 ghost use Rattle.plain_space.specs.Workspace.{Workspace, most};
 ghost use Rattle.space_state.specs.Roots.{Keeps};
+ghost use Rattle.space_state.specs.Needed.{HoardsNone};
 ghost use Rattle.space_state.specs.Turns.{EndsOnRows};
 
 use crate::roots::RootedHeap;
@@ -30,7 +31,8 @@ impl RootedHeap {
     pub(crate) fn fill(&mut self, name: Name<'_>, lines: Texts) -> Result<(), Refusal>
         requires kept { (W : Workspace) × Keeps self.old [] W }
         requires few { length lines ≤ most }
-        ensures { EndsOnRows (edit (fill (name_bytes name.entry) lines)) self.old result self.new }
+        ensures ends { EndsOnRows (edit (fill (name_bytes name.entry) lines)) self.old result self.new }
+        ensures spares { HoardsNone (edit (fill (name_bytes name.entry) lines)) self.old result self.new }
     {
         if self.is_full() {
             return Err(Refusal::Limit);

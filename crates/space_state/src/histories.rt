@@ -1,12 +1,14 @@
 //! Undo and redo, which are edited in place: what nothing else holds of their rows is written, and only what a loaded document
 //! shares is copied.
-ghost use Rattle.std.specs.Prelude.{◌≡◌, ◌≢◌, ℕ, ◌+◌, ◌<◌, ◌≤◌, List, [], ◌∷◌, ◌++◌, length, Err, MatchResult};
+ghost use Rattle.std.specs.Prelude.{◌≡◌, ◌≢◌, ℕ, ◌+◌, ◌<◌, ◌≤◌, List, [], ◌∷◌, ◌++◌, length, Err, IfOk, MatchResult};
 ghost use Rattle.node_heap.specs.Heap.{HasSpares};
+ghost use Rattle.node_heap.specs.Calls.{KeepsToNeed};
 ghost use Rattle.shell_terms.specs.Command.{undo, redo};
 ghost use Rattle.plain_space.specs.Workspace.{State, Workspace, most};
 ghost use Rattle.state_rows.specs.InHeap.{IsStateIn, IsHistoryIn};
 ghost use Rattle.space_state.specs.Roots.{Keeps};
 ghost use Rattle.space_state.specs.Turns.{EndsOnRows, TurnsTo, TurnsBeside};
+ghost use Rattle.space_state.specs.Needed.{HoardsNone};
 ghost use Rattle.space_state.specs.Stepping.{HasStepRoom, IsStepRefused};
 
 use crate::roots::RootedHeap;
@@ -24,6 +26,7 @@ impl RootedHeap {
     pub(crate) fn undo(&mut self) -> Result<(), Refusal>
         requires { (W : Workspace) × Keeps self.old [] W }
         ensures ends { EndsOnRows undo self.old result self.new }
+        ensures spares { HoardsNone undo self.old result self.new }
         ensures ample { HasSpares self.old.heap 0 STEP_NODES → result ≢ Err Refusal.Memory }
         ensures made { self.new.heap.made ≤ self.old.heap.made + STEP_NODES }
     {
@@ -42,6 +45,7 @@ impl RootedHeap {
     pub(crate) fn redo(&mut self) -> Result<(), Refusal>
         requires { (W : Workspace) × Keeps self.old [] W }
         ensures ends { EndsOnRows redo self.old result self.new }
+        ensures spares { HoardsNone redo self.old result self.new }
         ensures ample { HasSpares self.old.heap 0 STEP_NODES → result ≢ Err Refusal.Memory }
         ensures made { self.new.heap.made ≤ self.old.heap.made + STEP_NODES }
     {
@@ -63,6 +67,7 @@ impl RootedHeap {
         requires kept { (W : Workspace) × (xs ys : List State) × Keeps self.old [] W × IsHistoryIn self.old.heap self.old.bits from xs × IsHistoryIn self.old.heap self.old.bits to ys }
         ensures ends { (W : Workspace) (xs ys : List State) → Keeps self.old [] W → IsHistoryIn self.old.heap self.old.bits from xs → IsHistoryIn self.old.heap self.old.bits to ys →
             MatchResult result (λ _. HasStepRoom xs ys self.old self.new W) (IsStepRefused xs ys self.old self.new W) }
+        ensures spares { IfOk result (λ _. KeepsToNeed self.old.heap self.new.heap 0 STEP_NODES) }
         ensures ample { HasSpares self.old.heap 0 STEP_NODES → result ≢ Err Refusal.Memory }
         ensures made { self.new.heap.made ≡ self.old.heap.made }
     {
@@ -86,6 +91,7 @@ impl RootedHeap {
         ensures turns { (b : List ℕ) (W : Workspace) (s : State) → Keeps self.old (state ∷ b) W → IsStateIn self.old.heap self.old.bits state s →
             TurnsBeside self.old self.new b 0 PUSHED_NODES (record W { undo = W.undo ++ s ∷ [] }) }
         ensures made { self.new.heap.made ≤ self.old.heap.made + PUSHED_NODES }
+        ensures spares { KeepsToNeed self.old.heap self.new.heap 0 0 }
     {
         let undo = pushed(&mut self.heap, Flex::from_root(self.roots.undo), state);
         self.roots.undo = undo.into_root();
@@ -98,6 +104,7 @@ impl RootedHeap {
         ensures turns { (W : Workspace) (s : State) → Keeps self.old (state ∷ []) W → IsStateIn self.old.heap self.old.bits state s →
             TurnsTo self.old self.new [] PUSHED_NODES (record W { redo = W.redo ++ s ∷ [] }) }
         ensures made { self.new.heap.made ≤ self.old.heap.made + PUSHED_NODES }
+        ensures spares { KeepsToNeed self.old.heap self.new.heap 0 0 }
     {
         let redo = pushed(&mut self.heap, Flex::from_root(self.roots.redo), state);
         self.roots.redo = redo.into_root();

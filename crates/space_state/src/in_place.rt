@@ -3,10 +3,12 @@
 ghost use Rattle.std.specs.Prelude.{◌≡◌, ◌+◌, ◌<◌, ◌^◌, [], IfOk, MatchResult};
 ghost use Rattle.node_heap.specs.Heap.{row_limit};
 ghost use Rattle.elem_core.specs.Shown.{name_bytes, line_bytes};
+ghost use Rattle.node_heap.specs.Calls.{KeepsToNeed};
 ghost use Rattle.shell_terms.specs.Edit.{new, add, set};
 ghost use Rattle.shell_terms.specs.Command.{edit};
 ghost use Rattle.plain_space.specs.Workspace.{Workspace};
 ghost use Rattle.space_state.specs.Roots.{Keeps};
+ghost use Rattle.space_state.specs.Needed.{HoardsNone};
 ghost use Rattle.space_state.specs.Turns.{RoomIsRefused, IsReadyInPlace, EndsOnRows};
 
 use crate::roots::RootedHeap;
@@ -27,6 +29,7 @@ impl RootedHeap {
         requires kept { (W : Workspace) × Keeps self.old [] W }
         requires few { alike < row_limit }
         ensures ready { (W : Workspace) → Keeps self.old [] W → MatchResult result (λ _. IsReadyInPlace self.old self.new W (IN_PLACE_NODES + alike)) (RoomIsRefused self.old self.new W) }
+        ensures spares { IfOk result (λ _. KeepsToNeed self.old.heap self.new.heap 1 (IN_PLACE_NODES + TURN_NODES + alike)) }
         ensures text { IfOk result (λ text. text ≡ line_bytes line.entry) }
     {
         if self.is_full() {
@@ -41,7 +44,8 @@ impl RootedHeap {
     /// Makes the buffer, without lines.
     pub(crate) fn make(&mut self, name: Name<'_>) -> Result<(), Refusal>
         requires { (W : Workspace) × Keeps self.old [] W }
-        ensures { EndsOnRows (edit (new (name_bytes name.entry))) self.old result self.new }
+        ensures ends { EndsOnRows (edit (new (name_bytes name.entry))) self.old result self.new }
+        ensures spares { HoardsNone (edit (new (name_bytes name.entry))) self.old result self.new }
     {
         let found = self.find(name);
         if found.lines.is_some() {
@@ -59,7 +63,8 @@ impl RootedHeap {
     /// Adds the line at the end of the buffer.
     pub(crate) fn add(&mut self, name: Name<'_>, line: Line<'_>) -> Result<(), Refusal>
         requires { (W : Workspace) × Keeps self.old [] W }
-        ensures { EndsOnRows (edit (add (name_bytes name.entry) (line_bytes line.entry))) self.old result self.new }
+        ensures ends { EndsOnRows (edit (add (name_bytes name.entry) (line_bytes line.entry))) self.old result self.new }
+        ensures spares { HoardsNone (edit (add (name_bytes name.entry) (line_bytes line.entry))) self.old result self.new }
     {
         let found = self.find(name);
         let Some(lines) = found.lines else {
@@ -78,7 +83,8 @@ impl RootedHeap {
     /// Puts the line in place of the one at the index.
     pub(crate) fn set(&mut self, name: Name<'_>, index: u32, line: Line<'_>) -> Result<(), Refusal>
         requires { (W : Workspace) × Keeps self.old [] W }
-        ensures { EndsOnRows (edit (set (name_bytes name.entry) index (line_bytes line.entry))) self.old result self.new }
+        ensures ends { EndsOnRows (edit (set (name_bytes name.entry) index (line_bytes line.entry))) self.old result self.new }
+        ensures spares { HoardsNone (edit (set (name_bytes name.entry) index (line_bytes line.entry))) self.old result self.new }
     {
         let found = self.find(name);
         let Some(lines) = found.lines else {

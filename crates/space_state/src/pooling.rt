@@ -1,5 +1,6 @@
 //! The pool of a space's rows, and a pool that takes their place.
 ghost use Rattle.std.specs.Prelude.{◌≡◌, [], IfOk};
+ghost use Rattle.node_heap.specs.Calls.{KeepsToNeed};
 ghost use Rattle.pool_text.specs.Pool.{pool_at};
 ghost use Rattle.plain_space.specs.Workspace.{Workspace};
 ghost use Rattle.space_state.specs.declared.roots.Batch.TheVariants.{Closed};
@@ -83,6 +84,7 @@ impl RootedHeap {
         ensures kept { (W : Workspace) → Keeps (record self.old { roots = roots }) (root_list self.old.roots) W → Keeps self.new [] W }
         ensures pool { pool_at (λ text. text) self.new.heap (root_list self.new.roots) self.new.bits ≡ pool_at (λ text. text) self.old.heap (root_list roots) self.old.bits }
         ensures made { self.new.heap.made ≡ self.old.heap.made }
+        ensures spares { KeepsToNeed self.old.heap self.new.heap 0 0 }
     {
         let before = self.roots;
         self.roots = roots;

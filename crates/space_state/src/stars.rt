@@ -1,12 +1,14 @@
 //! The edits of stars.
-ghost use Rattle.std.specs.Prelude.{◌≡◌, ◌≢◌, ◌+◌, [], Err};
+ghost use Rattle.std.specs.Prelude.{◌≡◌, ◌≢◌, ◌+◌, [], Err, IfOk};
 ghost use Rattle.elem_core.specs.Shown.{name_bytes};
 ghost use Rattle.node_heap.specs.Heap.{HasSpares};
+ghost use Rattle.node_heap.specs.Calls.{KeepsToNeed};
 ghost use Rattle.shell_terms.specs.Edit.{star, unstar};
 ghost use Rattle.shell_terms.specs.Command.{edit};
 ghost use Rattle.plain_space.specs.Workspace.{Workspace, is_starred as starred_in};
 ghost use Rattle.plain_space.specs.Cost.{alike_stars};
 ghost use Rattle.space_state.specs.Roots.{Keeps};
+ghost use Rattle.space_state.specs.Needed.{HoardsNone};
 ghost use Rattle.space_state.specs.Turns.{MakesRoom, HasEditSpares, EndsOnRows};
 
 use crate::roots::RootedHeap;
@@ -28,6 +30,8 @@ impl RootedHeap {
     fn make_star_room(&mut self, name: Name<'_>) -> Result<(), Refusal>
         requires { (W : Workspace) × Keeps self.old [] W }
         ensures room { MakesRoom (λ W. EDIT_NODES + alike_stars self.old.bits W.current (name_bytes name.entry)) self.old result self.new }
+        ensures spares { (W : Workspace) → Keeps self.old [] W →
+            IfOk result (λ _. KeepsToNeed self.old.heap self.new.heap 2 (EDIT_NODES + alike_stars self.old.bits W.current (name_bytes name.entry))) }
         ensures ample { (W : Workspace) → Keeps self.old [] W →
             HasSpares self.old.heap 2 (EDIT_NODES + alike_stars self.old.bits W.current (name_bytes name.entry)) → result ≢ Err Refusal.Memory }
     {
@@ -38,7 +42,8 @@ impl RootedHeap {
     /// Stars the name, which needs no buffer.
     pub(crate) fn star(&mut self, name: Name<'_>) -> Result<(), Refusal>
         requires { (W : Workspace) × Keeps self.old [] W }
-        ensures { EndsOnRows (edit (star (name_bytes name.entry))) self.old result self.new }
+        ensures ends { EndsOnRows (edit (star (name_bytes name.entry))) self.old result self.new }
+        ensures spares { HoardsNone (edit (star (name_bytes name.entry))) self.old result self.new }
     {
         if self.is_starred(name) {
             return Err(Refusal::Exists);
@@ -57,6 +62,7 @@ impl RootedHeap {
     pub(crate) fn unstar(&mut self, name: Name<'_>) -> Result<(), Refusal>
         requires { (W : Workspace) × Keeps self.old [] W }
         ensures ends { EndsOnRows (edit (unstar (name_bytes name.entry))) self.old result self.new }
+        ensures spares { HoardsNone (edit (unstar (name_bytes name.entry))) self.old result self.new }
         ensures ample { (W : Workspace) → Keeps self.old [] W → HasEditSpares self.old W (unstar (name_bytes name.entry)) → result ≢ Err Refusal.Memory }
     {
         if !self.is_starred(name) {

@@ -2,6 +2,7 @@
 ghost use Rattle.std.specs.Prelude.{◌≡◌, ◌≢◌, ℕ, ◌+◌, ◌*◌, ◌<◌, ◌≤◌, List, [], ◌∷◌, ◌++◌, ◌^◌, length, IfOk, Err, true, false};
 ghost use Rattle.elem_core.specs.Shown.{name_bytes, line_bytes};
 ghost use Rattle.node_heap.specs.Heap.{HasSpares, row_limit};
+ghost use Rattle.node_heap.specs.Calls.{KeepsToNeed};
 ghost use Rattle.plain_space.specs.Workspace.{State, Workspace, most, in_batch, is_full, with_current};
 ghost use Rattle.state_rows.specs.InHeap.{IsStateIn};
 ghost use Rattle.space_state.specs.Roots.{Keeps};
@@ -54,6 +55,7 @@ impl RootedHeap {
         requires kept { (W : Workspace) × Keeps self.old [] W }
         requires few { alike < 2 * row_limit }
         ensures room { MakesRoom (λ _. EDIT_NODES + alike) self.old result self.new }
+        ensures spares { IfOk result (λ _. KeepsToNeed self.old.heap self.new.heap 2 (EDIT_NODES + alike)) }
         ensures ample { HasSpares self.old.heap 2 (EDIT_NODES + alike) → result ≢ Err Refusal.Memory }
     {
         if self.is_full() {
@@ -69,6 +71,7 @@ impl RootedHeap {
         requires kept { (W : Workspace) × Keeps self.old [] W }
         requires few { alike < 2 * row_limit }
         ensures room { MakesRoom (λ _. EDIT_NODES + alike) self.old result self.new }
+        ensures spares { IfOk result (λ _. KeepsToNeed self.old.heap self.new.heap 2 (EDIT_NODES + alike)) }
         ensures text { IfOk result (λ text. text ≡ line_bytes line.entry) }
     {
         if self.is_full() {
@@ -89,6 +92,7 @@ impl RootedHeap {
         requires kept { (W : Workspace) × Keeps self.old [] W }
         requires few { alike < 2 * row_limit }
         ensures room { MakesRoom (λ _. EDIT_NODES + alike) self.old result self.new }
+        ensures spares { IfOk result (λ _. KeepsToNeed self.old.heap self.new.heap 2 (EDIT_NODES + alike)) }
         ensures key { IfOk result (λ key. key ≡ new_key found (name_bytes name.entry)) }
     {
         if self.is_full() {
@@ -104,8 +108,9 @@ impl RootedHeap {
     pub(crate) fn turn_to(&mut self, next: Link)
         requires spares { HasSpares self.old.heap 0 TURN_NODES }
         requires kept { (W : Workspace) × (s : State) × Keeps self.old (next ∷ []) W × IsStateIn self.old.heap self.old.bits next s × (is_full W ≡ false) }
-        ensures { (W : Workspace) (s : State) → Keeps self.old (next ∷ []) W → IsStateIn self.old.heap self.old.bits next s → is_full W ≡ false →
+        ensures turns { (W : Workspace) (s : State) → Keeps self.old (next ∷ []) W → IsStateIn self.old.heap self.old.bits next s → is_full W ≡ false →
             TurnsTo self.old self.new [] TURN_NODES (with_current W s) }
+        ensures spares { KeepsToNeed self.old.heap self.new.heap 0 0 }
     {
         let before = self.roots.current;
         self.roots.current = next;
@@ -123,6 +128,7 @@ impl RootedHeap {
         ensures roots { self.new.roots ≡ self.old.roots }
         ensures made { self.new.heap.made ≡ self.old.heap.made }
         ensures room { room_of self.new.heap ≡ room_of self.old.heap }
+        ensures spares { KeepsToNeed self.old.heap self.new.heap 0 0 }
     {
         self.heap.release(link);
     }
@@ -131,8 +137,9 @@ impl RootedHeap {
     pub(crate) fn record(&mut self, before: Link)
         requires spares { HasSpares self.old.heap 0 TURN_NODES }
         requires kept { (b : List ℕ) × (W : Workspace) × (s : State) × Keeps self.old (before ∷ b) W × (length b ≤ 2) × IsStateIn self.old.heap self.old.bits before s × (length W.undo < most) }
-        ensures { (b : List ℕ) (W : Workspace) (s : State) → Keeps self.old (before ∷ b) W → IsStateIn self.old.heap self.old.bits before s → length W.undo < most →
+        ensures turns { (b : List ℕ) (W : Workspace) (s : State) → Keeps self.old (before ∷ b) W → IsStateIn self.old.heap self.old.bits before s → length W.undo < most →
             TurnsBeside self.old self.new b 0 TURN_NODES (record W { undo = W.undo ++ s ∷ []; redo = [] }) }
+        ensures spares { KeepsToNeed self.old.heap self.new.heap 0 0 }
     {
         self.push_undo(before);
         let redo = emptied(&mut self.heap, Flex::from_root(self.roots.redo));

@@ -2,12 +2,14 @@
 ghost use Rattle.std.specs.Prelude.{◌≡◌, ◌≢◌, ◌+◌, [], ◌∷◌, IfOk, OnErr, IsOk, Err};
 ghost use Rattle.elem_core.specs.Shown.{name_bytes};
 ghost use Rattle.node_heap.specs.Heap.{HasSpares};
+ghost use Rattle.node_heap.specs.Calls.{KeepsToNeed};
 ghost use Rattle.shell_terms.specs.Command.{mark, unmark, back};
 ghost use Rattle.plain_space.specs.Workspace.{Named, State, Workspace, version_of};
 ghost use Rattle.plain_space.specs.Cost.{alike_versions};
 ghost use Rattle.state_rows.specs.Reading.{StandsIfThere};
 ghost use Rattle.state_rows.specs.InHeap.{IsStateIn, AreVersionsIn};
 ghost use Rattle.space_state.specs.Roots.{Keeps};
+ghost use Rattle.space_state.specs.Needed.{HoardsNone};
 ghost use Rattle.space_state.specs.Turns.{IsSame, EndsOnRows, TurnsTo};
 
 use crate::roots::RootedHeap;
@@ -43,6 +45,8 @@ impl RootedHeap {
         ensures refused { OnErr result (self.new ≡ self.old) }
         ensures room { (W : Workspace) → Keeps self.old [] W →
             IfOk result (λ _. HasSpares self.new.heap 2 (EDIT_NODES + alike_versions self.old.bits W (name_bytes name.entry))) }
+        ensures spares { (W : Workspace) → Keeps self.old [] W →
+            IfOk result (λ _. KeepsToNeed self.old.heap self.new.heap 2 (EDIT_NODES + alike_versions self.old.bits W (name_bytes name.entry))) }
         ensures ample { (W : Workspace) → Keeps self.old [] W →
             HasSpares self.old.heap 2 (EDIT_NODES + alike_versions self.old.bits W (name_bytes name.entry)) → IsOk result }
     {
@@ -53,8 +57,9 @@ impl RootedHeap {
     // Puts this map, of which the caller's hold is spent, in place of the versions.
     fn turn_versions(&mut self, map: Map)
         requires { (W : Workspace) × (versions : Named State) × Keeps self.old (map.root ∷ []) W × AreVersionsIn self.old.heap self.old.bits map.root versions }
-        ensures { (W : Workspace) (versions : Named State) → Keeps self.old (map.root ∷ []) W → AreVersionsIn self.old.heap self.old.bits map.root versions →
+        ensures turns { (W : Workspace) (versions : Named State) → Keeps self.old (map.root ∷ []) W → AreVersionsIn self.old.heap self.old.bits map.root versions →
             TurnsTo self.old self.new [] 0 (record W { versions = versions }) }
+        ensures spares { KeepsToNeed self.old.heap self.new.heap 0 0 }
     {
         let before = self.roots.versions;
         self.roots.versions = map.into_root();
@@ -64,7 +69,8 @@ impl RootedHeap {
     /// Keeps the current state as a version.
     pub(crate) fn mark(&mut self, name: Name<'_>) -> Result<(), Refusal>
         requires { (W : Workspace) × Keeps self.old [] W }
-        ensures { EndsOnRows (mark (name_bytes name.entry)) self.old result self.new }
+        ensures ends { EndsOnRows (mark (name_bytes name.entry)) self.old result self.new }
+        ensures spares { HoardsNone (mark (name_bytes name.entry)) self.old result self.new }
     {
         if self.in_batch() {
             return Err(Refusal::Batch);
@@ -85,6 +91,7 @@ impl RootedHeap {
     pub(crate) fn unmark(&mut self, name: Name<'_>) -> Result<(), Refusal>
         requires { (W : Workspace) × Keeps self.old [] W }
         ensures ends { EndsOnRows (unmark (name_bytes name.entry)) self.old result self.new }
+        ensures spares { HoardsNone (unmark (name_bytes name.entry)) self.old result self.new }
         ensures ample { (W : Workspace) → Keeps self.old [] W →
             HasSpares self.old.heap 2 (EDIT_NODES + alike_versions self.old.bits W (name_bytes name.entry)) → result ≢ Err Refusal.Memory }
     {
@@ -105,6 +112,7 @@ impl RootedHeap {
     pub(crate) fn back(&mut self, name: Name<'_>) -> Result<(), Refusal>
         requires { (W : Workspace) × Keeps self.old [] W }
         ensures ends { EndsOnRows (back (name_bytes name.entry)) self.old result self.new }
+        ensures spares { HoardsNone (back (name_bytes name.entry)) self.old result self.new }
         ensures ample { HasSpares self.old.heap 0 TURN_NODES → result ≢ Err Refusal.Memory }
     {
         if self.in_batch() {

@@ -5,6 +5,7 @@ ghost use Rattle.std.specs.Prelude.{◌≡◌, ℕ, ◌+◌, ◌*◌, ◌<◌, �
 ghost use Rattle.elem_core.specs.declared.codes.TheConstants.{DEEPEST};
 ghost use Rattle.elem_core.specs.Shown.{name_bytes};
 ghost use Rattle.node_heap.specs.Heap.{HasSpares, row_limit};
+ghost use Rattle.node_heap.specs.Calls.{KeepsToNeed};
 ghost use Rattle.shell_terms.specs.Edit.{Bytes};
 ghost use Rattle.plain_space.specs.Workspace.{Workspace, in_batch, lines_of, with_lines, is_full, with_current};
 ghost use Rattle.plain_space.specs.Cost.{alike_buffers};
@@ -52,6 +53,7 @@ impl RootedHeap {
         requires spares { HasSpares self.old.heap 0 TURN_NODES }
         requires kept { (b : List ℕ) × (W : Workspace) × Keeps self.old b W × (length b ≤ 2) × (is_full W ≡ false) }
         ensures turns { (b : List ℕ) (W : Workspace) → Keeps self.old b W → is_full W ≡ false → TurnsBeside self.old self.new b 0 TURN_NODES (current_kept W) }
+        ensures spares { KeepsToNeed self.old.heap self.new.heap 0 0 }
         ensures inside { (W : Workspace) → Keeps self.old [] W → in_batch W ≡ true → self.new ≡ self.old }
     {
         if self.in_batch() {
@@ -65,9 +67,10 @@ impl RootedHeap {
     pub(crate) fn place_lines(&mut self, name: Name<'_>, key: Option<Text>, lines: Flex)
         requires { (b : List ℕ) × (W : Workspace) × (xs : List Bytes) × Keeps self.old (lines ∷ b) W × (length b ≤ 1) × AreLinesIn self.old.heap self.old.bits lines xs
             × (key ≡ new_key (lines_of W.current (name_bytes name)) (name_bytes name)) × HasSpares self.old.heap 1 (DEEPEST + 4 + alike_buffers self.old.bits W.current (name_bytes name)) }
-        ensures { (b : List ℕ) (W : Workspace) (xs : List Bytes) → Keeps self.old (lines ∷ b) W → AreLinesIn self.old.heap self.old.bits lines xs →
+        ensures turns { (b : List ℕ) (W : Workspace) (xs : List Bytes) → Keeps self.old (lines ∷ b) W → AreLinesIn self.old.heap self.old.bits lines xs →
             key ≡ new_key (lines_of W.current (name_bytes name.entry)) (name_bytes name.entry) →
             TurnsBeside self.old self.new b 1 (DEEPEST + 4 + alike_buffers self.old.bits W.current (name_bytes name.entry)) (record W { current = with_lines W.current (name_bytes name.entry) xs }) }
+        ensures spares { KeepsToNeed self.old.heap self.new.heap 0 0 }
     {
         let Some(key) = key else {
             let state = lines_put(&mut self.heap, self.bits, self.roots.current, name, lines);
@@ -82,9 +85,10 @@ impl RootedHeap {
     pub(crate) fn write_lines(&mut self, name: Name<'_>, key: Option<Text>, lines: Flex)
         requires { (W : Workspace) × (xs : List Bytes) × Keeps self.old (lines ∷ []) W × AreLinesIn self.old.heap self.old.bits lines xs × (is_full W ≡ false)
             × (key ≡ new_key (lines_of W.current (name_bytes name)) (name_bytes name)) × HasSpares self.old.heap 1 (DEEPEST + 15 + alike_buffers self.old.bits W.current (name_bytes name)) }
-        ensures { (W : Workspace) (xs : List Bytes) → Keeps self.old (lines ∷ []) W → AreLinesIn self.old.heap self.old.bits lines xs → is_full W ≡ false →
+        ensures turns { (W : Workspace) (xs : List Bytes) → Keeps self.old (lines ∷ []) W → AreLinesIn self.old.heap self.old.bits lines xs → is_full W ≡ false →
             key ≡ new_key (lines_of W.current (name_bytes name.entry)) (name_bytes name.entry) →
             TurnsTo self.old self.new [] (DEEPEST + 16 + alike_buffers self.old.bits W.current (name_bytes name.entry)) (with_current W (with_lines W.current (name_bytes name.entry) xs)) }
+        ensures spares { KeepsToNeed self.old.heap self.new.heap 0 0 }
     {
         self.keep_current();
         self.place_lines(name, key, lines);
@@ -103,10 +107,11 @@ impl RootedHeap {
         requires { (W : Workspace) × (xs ys : List Bytes) × Keeps self.old (rest ∷ part ∷ []) W × AreLinesIn self.old.heap self.old.bits rest xs × AreLinesIn self.old.heap self.old.bits part ys × (is_full W ≡ false)
             × (None ≡ new_key (lines_of W.current (name_bytes name)) (name_bytes name)) × (key ≡ new_key (lines_of W.current (name_bytes other)) (name_bytes other))
             × HasSpares self.old.heap 2 (2 * DEEPEST + 20 + alike_buffers self.old.bits W.current (name_bytes name) + alike_buffers self.old.bits W.current (name_bytes other)) }
-        ensures { (W : Workspace) (xs ys : List Bytes) → Keeps self.old (rest ∷ part ∷ []) W → AreLinesIn self.old.heap self.old.bits rest xs → AreLinesIn self.old.heap self.old.bits part ys → is_full W ≡ false →
+        ensures turns { (W : Workspace) (xs ys : List Bytes) → Keeps self.old (rest ∷ part ∷ []) W → AreLinesIn self.old.heap self.old.bits rest xs → AreLinesIn self.old.heap self.old.bits part ys → is_full W ≡ false →
             None ≡ new_key (lines_of W.current (name_bytes name.entry)) (name_bytes name.entry) → key ≡ new_key (lines_of W.current (name_bytes other.entry)) (name_bytes other.entry) →
             TurnsTo self.old self.new [] (2 * DEEPEST + 22 + (alike_buffers self.old.bits W.current (name_bytes name.entry) + alike_buffers self.old.bits W.current (name_bytes other.entry)))
             (with_current W (with_lines (with_lines W.current (name_bytes name.entry) xs) (name_bytes other.entry) ys)) }
+        ensures spares { KeepsToNeed self.old.heap self.new.heap 0 0 }
     {
         self.keep_current();
         self.place_lines(name, None, rest);

@@ -26,3 +26,6 @@ returns-clause-obeys c = λ W K.
       turns = turns-after 0 0 (rises-refl c.args.self.now.heap) refl (c.give_up.ensures.turns _ (keeps-current c.in-Some.base base.0 (keeps-closed c.in-Some.base opened K) base.2)) (omega arith);
       few_made = λ placed inside. absurd placed;
     }
+
+pub returns-clause-spares : goal.returns-clause-spares
+returns-clause-spares c = λ W K. c.give_up.ensures.spares

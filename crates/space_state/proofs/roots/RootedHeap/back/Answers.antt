@@ -6,6 +6,8 @@ use Rattle.state_rows.specs.InHeap.{IsStateIn}
 use Rattle.space_state.specs.Roots.{Keeps}
 use Rattle.space_state.proofs.Keeping.{heap-is, turns-after}
 use Rattle.space_state.proofs.Steps.{back-refused, back-absent, back-limited, back-done, none-there, some-there, IsHeld, is-held, may-lack, memory-refused}
+use Rattle.state_rows.proofs.Room.{room-made, room-then}
+use Rattle.space_state.proofs.Hoarding.{room-reserved}
 use Rattle.space_state.proofs.roots.RootedHeap.back.Goals as goal
 use Rattle.space_state.proofs.roots.RootedHeap.back.Goals.{After-hold}
 
@@ -51,4 +53,7 @@ returns-clause-ends c = λ W K.
     let room : is_full W ≡ false = sym (c.is_full.ensures W K) ∙ c.if-is_full.false in
     let there = some-there (IsStateIn c.args.self.now.heap c.args.self.now.bits) (c.version.ensures W K) c.in-Some.is in
     let held = held (goal.at.returns-clause-ends c).After-hold W K in
-    record { after = _; told = back-done W _ outside there.0 there.1 room; turns = turns-after 0 64 held.rises refl (c.turn_to.ensures W there.0 held.keeps held.is room) (omega arith); few_made = λ placed inside. absurd placed }
+    record { after = _; told = back-done W _ outside there.0 there.1 room; turns = turns-after 0 64 held.rises refl (c.turn_to.ensures.turns W there.0 held.keeps held.is room) (omega arith); few_made = λ placed inside. absurd placed }
+
+pub returns-clause-spares : goal.returns-clause-spares
+returns-clause-spares c = λ W K. room-then (room-then (room-reserved c.in_ok-reserve.ensures.greater c.reserve.ensures.rest) (room-made c.hold.ensures.makes)) c.turn_to.ensures.spares

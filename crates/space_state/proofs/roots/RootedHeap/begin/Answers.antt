@@ -3,6 +3,7 @@ use Rattle.plain_space.specs.Workspace.{in_batch}
 use Rattle.plain_space.specs.Cost.{cost}
 use Rattle.space_state.proofs.Keeping.{keeps-gained, keeps-open, current-stands, answered-one, rises-answered, room-made, turns-by}
 use Rattle.space_state.proofs.Steps.{begin-refused, begin-done, closed-batch}
+use Rattle.state_rows.proofs.Room.{room-made as none-taken}
 use Rattle.space_state.proofs.roots.RootedHeap.begin.Goals as goal
 
 pub returns-then-in_batch-clause-obeys : goal.returns-then-in_batch-clause-obeys
@@ -23,3 +24,6 @@ returns-clause-obeys c = λ W K.
       turns = turns-by 0 (keeps-open c.args.self.now.roots.current W.current (closed-batch K outside) held (current-stands held)) refl (rises-answered once);
       few_made = λ placed inside. absurd placed;
     }
+
+pub returns-clause-spares : goal.returns-clause-spares
+returns-clause-spares c = λ W K. none-taken c.hold.ensures.makes

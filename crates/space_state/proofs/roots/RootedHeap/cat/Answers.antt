@@ -1,4 +1,4 @@
-use Rattle.std.proofs.Common.{◌≡◌, List, [], Some, refl, arith}
+use Rattle.std.proofs.Common.{◌+◌, ◌≡◌, List, [], Some, refl, arith}
 use Rattle.elem_core.specs.Shown.{name_bytes}
 use Rattle.shell_terms.specs.Edit.{Bytes, cat}
 use Rattle.plain_space.specs.Workspace.{Workspace, lines_of}
@@ -9,6 +9,9 @@ use Rattle.space_state.proofs.Keeping.{keeps-same, lines-length, lines-short}
 use Rattle.space_state.proofs.Steps.{none-there, some-there}
 use Rattle.space_state.proofs.Editing.{found-lines, cat-absent, cat-missing, cat-full, cat-made, refuses, no-room, due-absent, HasBufferRoom, HasLines, has-lines, has-found, has-room, joined, joins, can-put, edit-done, edit-refused, fails, passes}
 use Rattle.space_state.proofs.Placing.{no-key}
+use Rattle.plain_space.specs.Cost.{alike_buffers}
+use Rattle.state_rows.proofs.Room.{room-spared, room-then}
+use Rattle.space_state.proofs.Hoarding.{room-more}
 use Rattle.space_state.proofs.roots.RootedHeap.cat.Goals as goal
 use Rattle.space_state.proofs.roots.RootedHeap.cat.Goals.{In-Some, In_ok-make_room_with}
 
@@ -97,4 +100,9 @@ returns-clause-ends c = λ W K.
     let room = roomy path W K in
     let m = joined (keeps-same room.same K) lines.now c.in-Ok.ensures.answered c.in-Ok.ensures.good c.in_ok-more.more more.xs more.now c.in-Ok.ensures.items in
     let done = cat-made W.current name other lines.xs more.xs lines.found more.found (omega (arith, c.if-len.false, c.len.ensures.value, c.len-2.ensures.value, lines-length lines.before, lines-length more.before, lines-short more.before)) in
-    edit-done (cat name other) name room m done (c.write_lines.ensures W _ m.keeps m.lines room.free (no-key name lines.found)) (omega (arith, lines.now.vector.shape.low, more.now.vector.shape.low)) (λ placed. placed)
+    edit-done (cat name other) name room m done (c.write_lines.ensures.turns W _ m.keeps m.lines room.free (no-key name lines.found)) (omega (arith, lines.now.vector.shape.low, more.now.vector.shape.low)) (λ placed. placed)
+
+pub returns-clause-spares : goal.returns-clause-spares
+returns-clause-spares c = λ W K.
+    let made = room-then c.in_ok-make_room_with.ensures.spares (room-spared (omega arith, omega (arith, (c.in_ok-make_room_with.ensures.room W K).spares.1)) c.in-Ok.ensures.spares) in
+    room-more 2 (99 + alike_buffers c.args.self.now.bits W.current (name_bytes c.args.name)) (omega arith) (omega (arith, c.find-found.ensures.alike W K)) (room-then made c.write_lines.ensures.spares)

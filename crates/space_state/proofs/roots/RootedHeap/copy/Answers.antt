@@ -1,4 +1,4 @@
-use Rattle.std.proofs.Common.{◌≡◌, [], ◌∙◌, refl, arith}
+use Rattle.std.proofs.Common.{◌+◌, ◌≡◌, [], ◌∙◌, refl, arith}
 use Rattle.elem_core.specs.Shown.{name_bytes}
 use Rattle.node_heap.proofs.BuildLemmas.{Answered-Builds}
 use Rattle.shell_terms.specs.Edit.{copy}
@@ -9,18 +9,21 @@ use Rattle.space_state.specs.InPlace.{new_key}
 use Rattle.space_state.proofs.Keeping.{keeps-same}
 use Rattle.space_state.proofs.Editing.{found-lines, copy-absent, copy-made, no-room, due-absent, HasBufferRoom, HasLines, has-lines, has-room, made-again, can-put, edit-done, edit-refused, fails}
 use Rattle.space_state.proofs.Placing.{key-told}
+use Rattle.plain_space.specs.Cost.{alike_buffers}
+use Rattle.state_rows.proofs.Room.{room-made, room-then}
+use Rattle.space_state.proofs.Hoarding.{room-more}
 use Rattle.space_state.proofs.roots.RootedHeap.copy.Goals as goal
 use Rattle.space_state.proofs.roots.RootedHeap.copy.Goals.{In_ok-key}
 
-pub returns-in_err-lines : goal.returns-in_err-lines
-returns-in_err-lines c = λ W K.
+pub returns-in_err-lines-clause-ends : goal.returns-in_err-lines-clause-ends
+returns-in_err-lines-clause-ends c = λ W K.
     let name = name_bytes c.args.name in
     let other = name_bytes c.args.other in
     let found = c.in_err-lines.ensures W K in
     fails c.in_err-lines.field-0.0 c.from_residual.result c.from_residual.ensures.1 (edit-refused refl (due-absent W (copy name other) found.1 (copy-absent W.current name other found.0)))
 
-pub returns-in_err-key : goal.returns-in_err-key
-returns-in_err-key c = λ W K.
+pub returns-in_err-key-clause-ends : goal.returns-in_err-key-clause-ends
+returns-in_err-key-clause-ends c = λ W K.
     let name = name_bytes c.args.name in
     let other = name_bytes c.args.other in
     let found = found-lines c.args.self.now c.in_ok-lines.lines W.current name (c.in_ok-lines.ensures W K) in
@@ -52,13 +55,17 @@ write_lines-requires c =
     let m = made-again (keeps-same room.same K) (Answered-Builds c.share-lines.ensures.shares.builds) c.share-lines.ensures.same lines.now in
     can-put (name_bytes c.args.other) room m (key path W K) (omega arith) (omega arith)
 
-pub returns : goal.returns
-returns c = λ W K.
+pub returns-clause-ends : goal.returns-clause-ends
+returns-clause-ends c = λ W K.
     let name = name_bytes c.args.name in
     let other = name_bytes c.args.other in
-    let path = (goal.at.returns c).In_ok-key in
+    let path = (goal.at.returns-clause-ends c).In_ok-key in
     let lines = there path W K in
     let room = roomy path W K in
     let m = made-again (keeps-same room.same K) (Answered-Builds c.share-lines.ensures.shares.builds) c.share-lines.ensures.same lines.now in
     let done = copy-made W.current name other lines.xs lines.found in
-    edit-done (copy name other) other room m done (c.write_lines.ensures W _ m.keeps m.lines room.free (key path W K)) (omega arith) (λ placed. placed)
+    edit-done (copy name other) other room m done (c.write_lines.ensures.turns W _ m.keeps m.lines room.free (key path W K)) (omega arith) (λ placed. placed)
+
+pub returns-clause-spares : goal.returns-clause-spares
+returns-clause-spares c = λ W K.
+    room-more 2 (99 + alike_buffers c.args.self.now.bits W.current (name_bytes c.args.other)) (omega arith) (omega (arith, c.find-target.ensures.alike W K)) (room-then (room-then c.in_ok-key.ensures.spares (room-made c.share-lines.ensures.shares.builds.makes)) c.write_lines.ensures.spares)

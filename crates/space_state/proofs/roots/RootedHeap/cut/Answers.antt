@@ -14,11 +14,13 @@ use Rattle.space_state.proofs.Keeping.{keeps-same, lines-length}
 use Rattle.space_state.proofs.Steps.{none-there, some-there}
 use Rattle.space_state.proofs.Editing.{lines-stay, cut-absent, cut-late, cut-past, cut-made, refuses, no-room, HasLines, has-found, has-parts, slices, both-spares-left, cut-done, edit-refused, fails}
 use Rattle.space_state.proofs.Placing.{no-key, key-told}
+use Rattle.state_rows.proofs.Room.{room-spared, room-then}
+use Rattle.space_state.proofs.Hoarding.{room-more}
 use Rattle.space_state.proofs.roots.RootedHeap.cut.Goals as goal
 use Rattle.space_state.proofs.roots.RootedHeap.cut.Goals.{In-Some, In_ok-key, then-from-to-via-then-from-to, then-from-to-via-else-from-to+then-to-len}
 
-pub returns-in_default : goal.returns-in_default
-returns-in_default c = λ W K.
+pub returns-in_default-clause-ends : goal.returns-in_default-clause-ends
+returns-in_default-clause-ends c = λ W K.
     let name = name_bytes c.args.name in
     let other = name_bytes c.args.other in
     let none = none-there (AreLinesIn c.args.self.now.heap c.args.self.now.bits) (c.find-found.ensures.lines W K) c.in_default.is in
@@ -28,21 +30,21 @@ returns-in_default c = λ W K.
 found : (c : In-Some) (W : Workspace) → Keeps c.args.self.now [] W → (xs : List Bytes) × (lines_of W.current (name_bytes c.args.name) ≡ Some xs) × AreLinesIn c.args.self.now.heap c.args.self.now.bits c.in-Some.lines xs
 found c W K = some-there (AreLinesIn c.args.self.now.heap c.args.self.now.bits) (c.find-found.ensures.lines W K) c.in-Some.is
 
-pub returns-then-from-to : goal.returns-then-from-to
-returns-then-from-to c = λ W K.
+pub returns-then-from-to-clause-ends : goal.returns-then-from-to-clause-ends
+returns-then-from-to-clause-ends c = λ W K.
     let name = name_bytes c.args.name in
     let other = name_bytes c.args.other in
-    let found = found (goal.at.returns-then-from-to c).In-Some W K in
+    let found = found (goal.at.returns-then-from-to-clause-ends c).In-Some W K in
     edit-refused refl (refuses W (cut name c.args.from c.args.to other) Range (elim c.then-from-to.branch [
       | then-from-to-via-then-from-to w ↦ cut-late W.current name c.args.from c.args.to other found.0 found.1 w.if-from-to.true
       | then-from-to-via-else-from-to+then-to-len w ↦ cut-past W.current name c.args.from c.args.to other found.0 found.1 w.if-from-to.false (omega (arith, w.if-to-len.true, w.len.ensures.value, lines-length found.2))
     ]))
 
-pub returns-in_err-key : goal.returns-in_err-key
-returns-in_err-key c = λ W K.
+pub returns-in_err-key-clause-ends : goal.returns-in_err-key-clause-ends
+returns-in_err-key-clause-ends c = λ W K.
     let name = name_bytes c.args.name in
     let other = name_bytes c.args.other in
-    let found = found (goal.at.returns-in_err-key c).In-Some W K in
+    let found = found (goal.at.returns-in_err-key-clause-ends c).In-Some W K in
     let done = cut-made W.current name c.args.from c.args.to other found.0 found.1 c.if-from-to.false (omega (arith, c.if-to-len.false, c.len.ensures.value, lines-length found.2)) in
     fails c.in_err-key.field-0.0 c.from_residual.result c.from_residual.ensures.1
     (no-room W (cut name c.args.from c.args.to other) _ done (c.in_err-key.ensures.room W K))
@@ -109,15 +111,25 @@ write_both-requires c =
       both-spares-left name (name_bytes c.args.other) room.same p room.spares (omega (arith, lines.now.vector.shape.low, later.vector.shape.low)),
     )
 
-pub returns : goal.returns
-returns c = λ W K.
+pub returns-clause-ends : goal.returns-clause-ends
+returns-clause-ends c = λ W K.
     let name = name_bytes c.args.name in
     let other = name_bytes c.args.other in
-    let path = (goal.at.returns c).In_ok-key in
+    let path = (goal.at.returns-clause-ends c).In_ok-key in
     let lines = there path W K in
     let room = room path W K in
     let p = has-parts c.args.from c.args.to (keeps-same room.same K) lines.now c.in-Ok.ensures.answered c.in-Ok.ensures.good c.in-Ok.ensures.items c.in-Ok-slice.ensures.answered c.in-Ok-slice.ensures.good c.in-Ok-slice.ensures.items in
     let later = lines-stay c.in-Ok.ensures.answered.extends lines.now in
     let done = cut-made W.current name c.args.from c.args.to other lines.xs lines.found c.if-from-to.false (omega (arith, c.if-to-len.false, c.len.ensures.value, lines-length lines.before)) in
     cut-done c.args.from c.args.to room.same p room.free done
-    (c.write_both.ensures W (without_part lines.xs c.args.from c.args.to) (drop c.args.from (take c.args.to lines.xs)) p.keeps p.left p.part room.free (no-key name lines.found) (key path W K)) (omega (arith, lines.now.vector.shape.low, later.vector.shape.low))
+    (c.write_both.ensures.turns W (without_part lines.xs c.args.from c.args.to) (drop c.args.from (take c.args.to lines.xs)) p.keeps p.left p.part room.free (no-key name lines.found) (key path W K)) (omega (arith, lines.now.vector.shape.low, later.vector.shape.low))
+
+pub returns-clause-spares : goal.returns-clause-spares
+returns-clause-spares c = λ W K.
+    let path = (goal.at.returns-clause-spares c).In_ok-key in
+    let lines = there path W K in
+    let a = c.in-Ok.ensures.answered in
+    let room = room path W K in
+    let rest = room-then c.in_ok-key.ensures.spares (room-spared (omega arith, omega (arith, room.spares.1)) c.in-Ok.ensures.spares) in
+    let part = room-then rest (room-spared (omega arith, omega (arith, room.spares.1, a.nodes, a.balance.spare_nodes, lines.now.vector.shape.low)) c.in-Ok-slice.ensures.spares) in
+    room-more 2 (99 + (alike_buffers c.args.self.now.bits W.current (name_bytes c.args.name) + alike_buffers c.args.self.now.bits W.current (name_bytes c.args.other))) (omega arith) (omega (arith, c.find-found.ensures.alike W K, c.find-target.ensures.alike W K)) (room-then part c.write_both.ensures.spares)

@@ -1,4 +1,4 @@
-use Rattle.std.proofs.Common.{◌≡◌, List, [], Some, refl, arith}
+use Rattle.std.proofs.Common.{◌+◌, ◌≡◌, List, [], Some, refl, arith}
 use Rattle.elem_core.specs.Shown.{name_bytes}
 use Rattle.shell_terms.specs.Edit.{Bytes, del}
 use Rattle.plain_space.specs.Workspace.{Workspace, lines_of}
@@ -9,6 +9,9 @@ use Rattle.space_state.proofs.Keeping.{keeps-same, lines-length}
 use Rattle.space_state.proofs.Steps.{none-there, some-there}
 use Rattle.space_state.proofs.Editing.{del-absent, del-late, del-past, del-made, refuses, no-room, HasBufferRoom, HasLines, has-found, has-room, erased, slices, can-put, edit-done, edit-refused, fails, passes}
 use Rattle.space_state.proofs.Placing.{no-key}
+use Rattle.plain_space.specs.Cost.{alike_buffers}
+use Rattle.state_rows.proofs.Room.{room-spared, room-then}
+use Rattle.space_state.proofs.Hoarding.{room-more}
 use Rattle.space_state.proofs.roots.RootedHeap.del.Goals as goal
 use Rattle.space_state.proofs.roots.RootedHeap.del.Goals.{In-Some, In_ok-make_room_with, then-from-to-via-then-from-to, then-from-to-via-else-from-to+then-to-len}
 
@@ -77,4 +80,9 @@ returns-clause-ends c = λ W K.
     let room = roomy path W K in
     let m = erased (keeps-same room.same K) lines.now c.in-Ok.ensures.answered c.in-Ok.ensures.good c.args.from c.args.to c.in-Ok.ensures.items in
     let done = del-made W.current name c.args.from c.args.to lines.xs lines.found c.if-from-to.false (omega (arith, c.if-to-len.false, c.len.ensures.value, lines-length lines.before)) in
-    edit-done (del name c.args.from c.args.to) name room m done (c.write_lines.ensures W _ m.keeps m.lines room.free (no-key name lines.found)) (omega (arith, lines.now.vector.shape.low)) (λ placed. placed)
+    edit-done (del name c.args.from c.args.to) name room m done (c.write_lines.ensures.turns W _ m.keeps m.lines room.free (no-key name lines.found)) (omega (arith, lines.now.vector.shape.low)) (λ placed. placed)
+
+pub returns-clause-spares : goal.returns-clause-spares
+returns-clause-spares c = λ W K.
+    let made = room-then c.in_ok-make_room_with.ensures.spares (room-spared (omega arith, omega (arith, (c.in_ok-make_room_with.ensures.room W K).spares.1)) c.in-Ok.ensures.spares) in
+    room-more 2 (99 + alike_buffers c.args.self.now.bits W.current (name_bytes c.args.name)) (omega arith) (omega (arith, c.find-found.ensures.alike W K)) (room-then made c.write_lines.ensures.spares)

@@ -1,4 +1,4 @@
-use Rattle.std.proofs.Common.{◌≡◌, List, [], Some, IsSome, not, ap, refl, sym, subst, ◌∙◌, arith}
+use Rattle.std.proofs.Common.{◌+◌, ◌≡◌, List, [], Some, IsSome, not, ap, refl, sym, subst, ◌∙◌, arith}
 use Rattle.elem_core.specs.Shown.{name_bytes}
 use Rattle.shell_terms.specs.Edit.{Bytes, drop}
 use Rattle.plain_space.specs.Workspace.{Workspace, lines_of, without_lines}
@@ -8,6 +8,9 @@ use Rattle.space_state.specs.Roots.{Keeps}
 use Rattle.space_state.proofs.Keeping.{keeps-same, current-stands, keeps-gained}
 use Rattle.space_state.proofs.Steps.{none-of, some-of, as-told}
 use Rattle.space_state.proofs.Editing.{HasBufferRoom, has-room, drop-absent, drop-made, refuses, no-room, alike-same, drop-done, edit-refused, fails, passes}
+use Rattle.plain_space.specs.Cost.{alike_buffers}
+use Rattle.state_rows.proofs.Room.{room-then}
+use Rattle.space_state.proofs.Hoarding.{room-more}
 use Rattle.space_state.proofs.roots.RootedHeap.drop_buffer.Goals as goal
 use Rattle.space_state.proofs.roots.RootedHeap.drop_buffer.Goals.{Else-is_none, In_ok-make_room_with}
 
@@ -75,4 +78,8 @@ returns-clause-ends c = λ W K.
     let room = roomy (goal.at.returns-clause-ends c).In_ok-make_room_with W K in
     let made = keeps-same room.same K in
     let g = c.without_lines-next.ensures.answered W.current (current-stands made) in
-    drop-done found.0 room.same g found.1 room.free (c.turn_to.ensures W (without_lines W.current name) (keeps-gained made g) (c.without_lines-next.ensures.state W.current (current-stands made)) room.free)
+    drop-done found.0 room.same g found.1 room.free (c.turn_to.ensures.turns W (without_lines W.current name) (keeps-gained made g) (c.without_lines-next.ensures.state W.current (current-stands made)) room.free)
+
+pub returns-clause-spares : goal.returns-clause-spares
+returns-clause-spares c = λ W K.
+    room-more 2 (99 + alike_buffers c.args.self.now.bits W.current (name_bytes c.args.name)) (omega arith) (omega (arith, c.find-found.ensures.alike W K)) (room-then (room-then c.in_ok-make_room_with.ensures.spares c.without_lines-next.ensures.spares) c.turn_to.ensures.spares)

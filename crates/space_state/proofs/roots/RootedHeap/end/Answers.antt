@@ -3,6 +3,8 @@ use Rattle.shell_terms.specs.Command.{«end»}
 use Rattle.plain_space.specs.Cost.{cost}
 use Rattle.space_state.proofs.Keeping.{heap-is, same-heap, keeps-same, keeps-closed, undo-stands, batch-open, batch-closed, rises-same, turns-after}
 use Rattle.space_state.proofs.Steps.{end-refused, end-limited, end-done, base-told, base-none, length-told, length-below, may-lack, memory-refused}
+use Rattle.state_rows.proofs.Room.{room-then}
+use Rattle.space_state.proofs.Hoarding.{room-reserved}
 use Rattle.space_state.proofs.roots.RootedHeap.end.Goals as goal
 
 pub returns-in_default-clause-ends : goal.returns-in_default-clause-ends
@@ -40,6 +42,9 @@ returns-clause-ends c = λ W K.
     record {
       after = _;
       told = end-done W base.0 base.1 room;
-      turns = turns-after 0 64 (rises-same c.reserve.ensures.rest) refl (c.record.ensures [] _ base.0 (keeps-closed c.in-Some.base opened now) base.2 room).turns (omega arith);
+      turns = turns-after 0 64 (rises-same c.reserve.ensures.rest) refl (c.record.ensures.turns [] _ base.0 (keeps-closed c.in-Some.base opened now) base.2 room).turns (omega arith);
       few_made = λ placed inside. absurd placed;
     }
+
+pub returns-clause-spares : goal.returns-clause-spares
+returns-clause-spares c = λ W K. room-then (room-reserved c.in_ok-reserve.ensures.greater c.reserve.ensures.rest) c.record.ensures.spares

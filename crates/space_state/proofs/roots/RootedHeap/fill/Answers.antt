@@ -10,28 +10,31 @@ use Rattle.space_state.proofs.Keeping.{holds-few, heap-is, same-heap, keeps-same
 use Rattle.space_state.proofs.Editing.{fill-made, limited, may-lack, IsMade, made-by, lines-put}
 use Rattle.space_state.proofs.Placing.{key-told}
 use Rattle.space_state.proofs.Steps.{memory-refused}
+use Rattle.plain_space.specs.Cost.{alike_buffers}
+use Rattle.state_rows.proofs.Room.{room-then}
+use Rattle.space_state.proofs.Hoarding.{room-more, room-reserved}
 use Rattle.space_state.proofs.roots.RootedHeap.fill.Goals as goal
 use Rattle.space_state.proofs.roots.RootedHeap.fill.Goals.{In_ok-key, After-filled-lines}
 
-pub returns-then-is_full : goal.returns-then-is_full
-returns-then-is_full c = λ W K.
+pub returns-then-is_full-clause-ends : goal.returns-then-is_full-clause-ends
+returns-then-is_full-clause-ends c = λ W K.
     let name = name_bytes c.args.name in
     limited W (fill name c.args.lines) _ (fill-made W.current name c.args.lines) (sym (c.is_full.ensures W K) ∙ c.if-is_full.true)
 
-pub returns-in_err-links : goal.returns-in_err-links
-returns-in_err-links c = λ W K.
+pub returns-in_err-links-clause-ends : goal.returns-in_err-links-clause-ends
+returns-in_err-links-clause-ends c = λ W K.
     let name = name_bytes c.args.name in
     let free : is_full W ≡ false = sym (c.is_full.ensures W K) ∙ c.if-is_full.false in
     memory-refused c.from_residual.result c.from_residual.ensures.1 (may-lack W (fill name c.args.lines) _ (fill-made W.current name c.args.lines) free) refl
 
-pub returns-in_err-key : goal.returns-in_err-key
-returns-in_err-key c = λ W K.
+pub returns-in_err-key-clause-ends : goal.returns-in_err-key-clause-ends
+returns-in_err-key-clause-ends c = λ W K.
     let name = name_bytes c.args.name in
     let free : is_full W ≡ false = sym (c.is_full.ensures W K) ∙ c.if-is_full.false in
     memory-refused c.from_residual-in_err-key.result c.from_residual-in_err-key.ensures.1 (may-lack W (fill name c.args.lines) _ (fill-made W.current name c.args.lines) free) refl
 
-pub returns-in_err-reserve : goal.returns-in_err-reserve
-returns-in_err-reserve c = λ W K.
+pub returns-in_err-reserve-clause-ends : goal.returns-in_err-reserve-clause-ends
+returns-in_err-reserve-clause-ends c = λ W K.
     let name = name_bytes c.args.name in
     let free : is_full W ≡ false = sym (c.is_full.ensures W K) ∙ c.if-is_full.false in
     memory-refused c.from_residual-in_err-reserve.result c.from_residual-in_err-reserve.ensures.1 (may-lack W (fill name c.args.lines) _ (fill-made W.current name c.args.lines) free) (heap-is c.in_err-reserve.ensures.refused)
@@ -73,12 +76,20 @@ write_lines-requires c =
       (omega (arith, spares.0, c.len-count.ensures, made.cells), omega (arith, spares.1, c.vector_nodes.ensures, c.len-count.ensures, made.nodes, c.find-found.ensures.alike W K)),
     )
 
-pub returns : goal.returns
-returns c = λ W K.
+pub returns-clause-ends : goal.returns-clause-ends
+returns-clause-ends c = λ W K.
     let name = name_bytes c.args.name in
     let xs = c.into_vec-texts.result.items in
-    let made = made (goal.at.returns c).After-filled-lines W K in
+    let made = made (goal.at.returns-clause-ends c).After-filled-lines W K in
     let free : is_full W ≡ false = sym (c.is_full.ensures W K) ∙ c.if-is_full.false in
     let done : edited W.current (fill name c.args.lines) ≡ Ok (with_lines W.current name xs) = fill-made W.current name c.args.lines ∙ ap (λ ys. Ok (with_lines W.current name ys)) (sym c.into_vec-texts.ensures) in
-    lines-put (fill name c.args.lines) name (same-heap c.reserve.ensures.rest) free made done (c.write_lines.ensures W xs made.keeps made.lines free (key (goal.at.returns c).In_ok-key W K))
+    lines-put (fill name c.args.lines) name (same-heap c.reserve.ensures.rest) free made done (c.write_lines.ensures.turns W xs made.keeps made.lines free (key (goal.at.returns-clause-ends c).In_ok-key W K))
     (omega (arith, ap length c.into_vec-texts.ensures)) (λ placed. placed)
+
+pub returns-clause-spares : goal.returns-clause-spares
+returns-clause-spares c = λ W K.
+    let n = length c.args.lines in
+    let roomy =
+    room-more (n + 1) (107 + n / 16 + alike_buffers c.args.self.now.bits W.current (name_bytes c.args.name)) (omega (arith, c.len-count.ensures, ap length c.into_vec-texts.ensures))
+    (omega (arith, c.vector_nodes.ensures, c.len-count.ensures, ap length c.into_vec-texts.ensures, c.find-found.ensures.alike W K)) (room-reserved c.in_ok-reserve.ensures.greater c.reserve.ensures.rest) in
+    room-then (room-then roomy c.filled-lines.ensures.spares) c.write_lines.ensures.spares

@@ -8,6 +8,8 @@ use Rattle.space_state.specs.Turns.{TurnsBeside}
 use Rattle.space_state.specs.InPlace.{current_kept}
 use Rattle.space_state.proofs.Keeping.{answered-one, keeps-gained, current-stands, undo-stands, besides-held, held-live, has-room, rises-answered, rises-refl, rises-more, turns-by, turns-after}
 use Rattle.space_state.proofs.Placing.{kept-inside, kept-outside}
+use Rattle.state_rows.proofs.Room.{room-made, room-then}
+use Rattle.space_state.proofs.Hoarding.{room-same}
 use Rattle.space_state.proofs.roots.RootedHeap.keep_current.Goals as goal
 use Rattle.space_state.proofs.roots.RootedHeap.keep_current.Goals.{After-hold}
 
@@ -41,7 +43,7 @@ returns-clause-turns c = λ b W K free.
     let now = held (goal.at.returns-clause-turns c).After-hold b W K in
     let did : TurnsBeside (record c.args.self.now { heap = c.hold.new.self }) c.record.new.self b 0 TURN_NODES (current_kept W) =
     subst (λ (V : Workspace). TurnsBeside (record c.args.self.now { heap = c.hold.new.self }) c.record.new.self b 0 TURN_NODES V) (sym (kept-outside W outside))
-    (c.record.ensures b W W.current now (current-stands now) (has-room W (undo-stands now) outside free)) in
+    (c.record.ensures.turns b W W.current now (current-stands now) (has-room W (undo-stands now) outside free)) in
     record {
       turns = turns-after 0 TURN_NODES (rises-answered (answered-one h.extends h.graph h.holds h.count h.makes)) refl did.turns (omega arith);
       stays = λ l some. KeepsBelow-trans c.args.self.now.heap c.hold.new.self c.record.new.self.heap l (h.extends.kept l (held-live K l (besides-held K l some))) (did.stays l some);
@@ -51,3 +53,9 @@ returns-clause-turns c = λ b W K free.
 
 pub returns-clause-inside : goal.returns-clause-inside
 returns-clause-inside c = λ W K inside. absurd (let h = sym inside ∙ (sym (c.in_batch.ensures [] W K) ∙ c.if-in_batch.false) in cc)
+
+pub returns-then-in_batch-clause-spares : goal.returns-then-in_batch-clause-spares
+returns-then-in_batch-clause-spares c = room-same c.args.self.now.heap
+
+pub returns-clause-spares : goal.returns-clause-spares
+returns-clause-spares c = room-then (room-made c.hold.ensures.makes) c.record.ensures.spares

@@ -1,4 +1,4 @@
-use Rattle.std.proofs.Common.{◌≡◌, [], None, refl, sym, ◌∙◌, arith}
+use Rattle.std.proofs.Common.{◌+◌, ◌≡◌, [], None, refl, sym, ◌∙◌, arith}
 use Rattle.elem_core.specs.Shown.{name_bytes}
 use Rattle.node_heap.proofs.GraphLemmas.{IsGraph-kinds}
 use Rattle.shell_terms.specs.Edit.{new}
@@ -11,11 +11,14 @@ use Rattle.space_state.proofs.Keeping.{holds-few, current-holds, current-stands}
 use Rattle.space_state.proofs.Steps.{none-of, as-told}
 use Rattle.space_state.proofs.Editing.{refuses, no-room, new-taken, new-made, emptied, edit-refused, fails}
 use Rattle.space_state.proofs.Placing.{IsBeside, is-beside, alike-beside, placed}
+use Rattle.plain_space.specs.Cost.{alike_buffers}
+use Rattle.state_rows.proofs.Room.{room-spared, room-then}
+use Rattle.space_state.proofs.Hoarding.{room-more}
 use Rattle.space_state.proofs.roots.RootedHeap.make.Goals as goal
 use Rattle.space_state.proofs.roots.RootedHeap.make.Goals.{Else-is_some, In_ok-key, In-Ok}
 
-pub returns-then-is_some : goal.returns-then-is_some
-returns-then-is_some c = λ W K.
+pub returns-then-is_some-clause-ends : goal.returns-then-is_some-clause-ends
+returns-then-is_some-clause-ends c = λ W K.
     let taken = as-told (AreLinesIn c.args.self.now.heap c.args.self.now.bits) _ _ (c.find-found.ensures.lines W K) (sym c.is_some.ensures ∙ c.if-is_some.true) in
     edit-refused refl (refuses W (new (name_bytes c.args.name)) Exists (new-taken W.current (name_bytes c.args.name) taken))
 
@@ -23,11 +26,11 @@ returns-then-is_some c = λ W K.
 none : (c : Else-is_some) (W : Workspace) → Keeps c.args.self.now [] W → lines_of W.current (name_bytes c.args.name) ≡ None
 none c W K = none-of _ (as-told (AreLinesIn c.args.self.now.heap c.args.self.now.bits) _ _ (c.find-found.ensures.lines W K) (sym c.is_some.ensures ∙ c.if-is_some.false))
 
-pub returns-in_err-key : goal.returns-in_err-key
-returns-in_err-key c = λ W K.
+pub returns-in_err-key-clause-ends : goal.returns-in_err-key-clause-ends
+returns-in_err-key-clause-ends c = λ W K.
     let name = name_bytes c.args.name in
     fails c.in_err-key.field-0.0 c.from_residual.result c.from_residual.ensures.1
-    (no-room W (new name) _ (new-made W.current name (none (goal.at.returns-in_err-key c).Else-is_some W K)) (c.in_err-key.ensures.ready W K))
+    (no-room W (new name) _ (new-made W.current name (none (goal.at.returns-in_err-key-clause-ends c).Else-is_some W K)) (c.in_err-key.ensures.ready W K))
 
 -- the key is the name
 named : (c : In_ok-key) → c.in_ok-key.key ≡ name_bytes c.args.name
@@ -50,6 +53,11 @@ buffer_made-state-requires-clause-bits c = (there (goal.at.buffer_made-state-req
 pub buffer_made-state-requires-clause-held : goal.buffer_made-state-requires-clause-held
 buffer_made-state-requires-clause-held c = current-holds (there (goal.at.buffer_made-state-requires-clause-held c).In-Ok c.requires.0 c.requires.1).keeps
 
+pub buffer_made-state-requires-clause-lines : goal.buffer_made-state-requires-clause-lines
+buffer_made-state-requires-clause-lines c =
+    let ready = c.in_ok-key.ensures.ready c.requires.0 c.requires.1 in
+    ([], (emptied ready.turns.keeps c.in-Ok.ensures.answered c.in-Ok.ensures.good c.in-Ok.ensures.items).lines)
+
 pub buffer_made-state-requires-clause-state : goal.buffer_made-state-requires-clause-state
 buffer_made-state-requires-clause-state c =
     let W = c.requires.0 in
@@ -65,13 +73,19 @@ buffer_made-state-requires-clause-state c =
       (omega (arith, spares.0, a.cells, a.balance.spare_cells), omega (arith, spares.1, a.nodes, a.balance.spare_nodes, c.find-found.ensures.alike W K, alike-beside beside W.current name)),
     )
 
-pub returns : goal.returns
-returns c = λ W K.
+pub returns-clause-ends : goal.returns-clause-ends
+returns-clause-ends c = λ W K.
     let name = name_bytes c.args.name in
     let ready = c.in_ok-key.ensures.ready W K in
-    let beside = there (goal.at.returns c).In-Ok W K in
+    let beside = there (goal.at.returns-clause-ends c).In-Ok W K in
     let now = current-stands beside.keeps in
-    let did = rw (named (goal.at.returns c).In_ok-key) at c.buffer_made-state.ensures in
+    let did = rw (named (goal.at.returns-clause-ends c).In_ok-key) at c.buffer_made-state.ensures in
     let lines = (emptied ready.turns.keeps c.in-Ok.ensures.answered c.in-Ok.ensures.good c.in-Ok.ensures.items).lines in
-    placed (new name) beside (new-made W.current name (none (goal.at.returns c).Else-is_some W K)) did.keeps (did.trades W.current now) (did.state W.current [] now lines) (omega (arith, alike-beside beside W.current name))
+    placed (new name) beside (new-made W.current name (none (goal.at.returns-clause-ends c).Else-is_some W K)) did.keeps (did.trades W.current now) (did.state W.current [] now lines) (omega (arith, alike-beside beside W.current name))
     (λ inside. omega (arith, beside.few inside, c.buffer_made-state.ensures.made))
+
+pub returns-clause-spares : goal.returns-clause-spares
+returns-clause-spares c = λ W K.
+    let spares = (c.in_ok-key.ensures.ready W K).spares in
+    let lines = room-then c.in_ok-key.ensures.spares (room-spared (omega arith, omega (arith, spares.1)) c.in-Ok.ensures.spares) in
+    room-more 1 (29 + alike_buffers c.args.self.now.bits W.current (name_bytes c.args.name)) (omega arith) (omega (arith, c.find-found.ensures.alike W K)) (room-then lines c.buffer_made-state.ensures.spares)

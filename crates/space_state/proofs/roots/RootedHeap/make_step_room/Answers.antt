@@ -4,6 +4,7 @@ use Rattle.plain_space.specs.Workspace.{State, Workspace, in_batch}
 use Rattle.state_rows.specs.InHeap.{IsHistoryIn}
 use Rattle.space_state.proofs.Keeping.{heap-is, same-heap}
 use Rattle.space_state.proofs.Steps.{step-refused, step-empty, step-limited, step-done, length-told, length-below, last-at, step-lacks-memory}
+use Rattle.space_state.proofs.Hoarding.{room-reserved}
 use Rattle.space_state.proofs.roots.RootedHeap.make_step_room.Goals as goal
 use Rattle.space_state.proofs.roots.RootedHeap.make_step_room.Goals.{Else-len-eq0}
 
@@ -42,3 +43,6 @@ returns-clause-ends c = λ W xs ys K from to. record {
   room = length-below to (length-told to refl c.len-2.ensures.value) c.if-len.false;
   spares = c.in_ok-reserve.ensures.spares;
 }
+
+pub returns-clause-spares : goal.returns-clause-spares
+returns-clause-spares c = room-reserved c.in_ok-reserve.ensures.greater c.reserve.ensures.rest

@@ -3,6 +3,8 @@ use Rattle.std.specs.Prelude.{IfOk}
 use Rattle.node_heap.specs.Heap.{HasSpares}
 use Rattle.space_state.specs.declared.turning.TheConstants.{EDIT_NODES}
 use Rattle.space_state.proofs.Keeping.{heap-refused, versions-stand}
+use Rattle.node_heap.specs.Calls.{KeepsToNeed}
+use Rattle.space_state.proofs.Hoarding.{room-reserves}
 use Rattle.space_state.proofs.roots.RootedHeap.make_version_room.Goals as goal
 
 pub versions_alike-alike-requires-clause-versions : goal.versions_alike-alike-requires-clause-versions
@@ -20,3 +22,9 @@ returns-clause-ample c = λ W K spares.
 
 pub returns-clause-refused : goal.returns-clause-refused
 returns-clause-refused c = heap-refused c.args.self.now c.reserve.new.self c.reserve.result c.reserve.ensures.refused
+
+pub returns-clause-spares : goal.returns-clause-spares
+returns-clause-spares c = λ W K.
+    let alike = c.versions_alike-alike.ensures.number W.versions (rw c.versions.ensures (versions-stand K)) in
+    subst (λ (n : ℕ). IfOk c.reserve.result (λ _. KeepsToNeed c.args.self.now.heap c.reserve.new.self 2 (EDIT_NODES + n))) (rw c.versions.ensures at alike)
+    (room-reserves _ _ c.reserve.result c.reserve.ensures.greater c.reserve.ensures.rest)

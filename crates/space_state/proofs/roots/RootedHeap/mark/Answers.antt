@@ -9,26 +9,27 @@ use Rattle.space_state.specs.Roots.{Keeps}
 use Rattle.space_state.specs.Turns.{TurnsTo}
 use Rattle.space_state.proofs.Keeping.{keeps-same, keeps-gained, keeps-turned, current-stands, versions-stand, answered-one, rises-same, rises-makes, rises-answered, rises-then, rises-more, turns-by, turns-then}
 use Rattle.space_state.proofs.Steps.{mark-refused, mark-taken, mark-done, as-told, may-lack, memory-refused, spares-kept}
+use Rattle.state_rows.proofs.Room.{room-made, room-then}
 use Rattle.space_state.proofs.roots.RootedHeap.mark.Goals as goal
 use Rattle.space_state.proofs.roots.RootedHeap.mark.Goals.{After-hold, After-versions-versions, After-with_version-map}
 
-pub returns-then-in_batch : goal.returns-then-in_batch
-returns-then-in_batch c = λ W K. record { due = mark-refused W _ (sym (c.in_batch.ensures [] W K) ∙ c.if-in_batch.true); same = refl }
+pub returns-then-in_batch-clause-ends : goal.returns-then-in_batch-clause-ends
+returns-then-in_batch-clause-ends c = λ W K. record { due = mark-refused W _ (sym (c.in_batch.ensures [] W K) ∙ c.if-in_batch.true); same = refl }
 
-pub returns-then-is_some : goal.returns-then-is_some
-returns-then-is_some c = λ W K.
+pub returns-then-is_some-clause-ends : goal.returns-then-is_some-clause-ends
+returns-then-is_some-clause-ends c = λ W K.
     let outside : in_batch W ≡ false = sym (c.in_batch.ensures [] W K) ∙ c.if-in_batch.false in
     let there = as-told (IsStateIn c.args.self.now.heap c.args.self.now.bits) _ _ (c.version.ensures W K) (sym c.is_some.ensures ∙ c.if-is_some.true) in
     record { due = mark-taken W _ outside there; same = refl }
 
-pub returns-in_err-make_version_room : goal.returns-in_err-make_version_room
-returns-in_err-make_version_room c = λ W K.
+pub returns-in_err-make_version_room-clause-ends : goal.returns-in_err-make_version_room-clause-ends
+returns-in_err-make_version_room-clause-ends c = λ W K.
     let outside : in_batch W ≡ false = sym (c.in_batch.ensures [] W K) ∙ c.if-in_batch.false in
     let none = as-told (IsStateIn c.args.self.now.heap c.args.self.now.bits) _ _ (c.version.ensures W K) (sym c.is_some.ensures ∙ c.if-is_some.false) in
     memory-refused c.from_residual-in_err-make_version_room.result c.from_residual-in_err-make_version_room.ensures.1 (may-lack (mark _) refl (mark-done W _ outside none)) c.in_err-make_version_room.ensures.refused
 
-pub returns-in_err-key : goal.returns-in_err-key
-returns-in_err-key c = λ W K.
+pub returns-in_err-key-clause-ends : goal.returns-in_err-key-clause-ends
+returns-in_err-key-clause-ends c = λ W K.
     let outside : in_batch W ≡ false = sym (c.in_batch.ensures [] W K) ∙ c.if-in_batch.false in
     let none = as-told (IsStateIn c.args.self.now.heap c.args.self.now.bits) _ _ (c.version.ensures W K) (sym c.is_some.ensures ∙ c.if-is_some.false) in
     memory-refused c.from_residual.result c.from_residual.ensures.1 (may-lack (mark _) refl (mark-done W _ outside none)) refl
@@ -71,16 +72,20 @@ turn_versions-requires c =
     let made = next (goal.at.turn_versions-requires c).After-with_version-map c.requires.0 c.requires.1 in
     (c.requires.0, _, made.0.keeps, made.1)
 
-pub returns : goal.returns
+pub returns-clause-ends : goal.returns-clause-ends
 unfolding cost
-returns c = λ W K.
+returns-clause-ends c = λ W K.
     let outside : in_batch W ≡ false = sym (c.in_batch.ensures [] W K) ∙ c.if-in_batch.false in
     let none = as-told (IsStateIn c.args.self.now.heap c.args.self.now.bits) _ _ (c.version.ensures W K) (sym c.is_some.ensures ∙ c.if-is_some.false) in
-    let made = next (goal.at.returns c).After-with_version-map W K in
+    let made = next (goal.at.returns-clause-ends c).After-with_version-map W K in
     let key : c.in_ok-key.key ≡ name_bytes c.args.name = c.in_ok-key.ensures ∙ c.as_line.ensures in
     record {
       after = record W { versions = map.insert W.versions c.in_ok-key.key W.current };
       told = rw key (mark-done W (name_bytes c.args.name) outside none);
-      turns = turns-then (64 + alike_versions c.args.self.now.bits W (name_bytes c.args.name)) made.0 (c.turn_versions.ensures W _ made.0.keeps made.1) (omega arith);
+      turns = turns-then (64 + alike_versions c.args.self.now.bits W (name_bytes c.args.name)) made.0 (c.turn_versions.ensures.turns W _ made.0.keeps made.1) (omega arith);
       few_made = λ placed inside. absurd placed;
     }
+
+pub returns-clause-spares : goal.returns-clause-spares
+returns-clause-spares c = λ W K.
+    room-then (room-then (room-then (c.in_ok-make_version_room.ensures.spares W K) (room-made c.hold.ensures.makes)) c.with_version-map.ensures.spares) c.turn_versions.ensures.spares

@@ -33,9 +33,9 @@ lines_put-state-requires-clause-state c =
     let there = there (goal.at.lines_put-state-requires-clause-state c).In_default c.requires.1 c.requires.6 in
     (c.requires.1.current, there.0, current-stands c.requires.3, there.1, (omega arith, omega (arith, c.requires.7.1)))
 
-pub returns-in_default : goal.returns-in_default
-returns-in_default c = λ b W xs K are key.
-    let there = there (goal.at.returns-in_default c).In_default W key in
+pub returns-in_default-clause-turns : goal.returns-in_default-clause-turns
+returns-in_default-clause-turns c = λ b W xs K are key.
+    let there = there (goal.at.returns-in_default-clause-turns c).In_default W key in
     let did = c.lines_put-state.ensures in
     let is = current-stands K in
     lines-placed 1 (DEEPEST + 4 + alike_buffers c.args.self.now.bits W.current (name_bytes c.args.name)) K did.keeps (did.trades W.current there.0 is there.1) (did.state W.current there.0 xs is there.1 are) (omega arith) (omega arith)
@@ -66,9 +66,15 @@ buffer_made-state-requires-clause-state c =
     let made = made (goal.at.buffer_made-state-requires-clause-state c).In-Some c.requires.1 c.requires.6 in
     rw made.1 (c.requires.1.current, current-stands c.requires.3, made.0, c.requires.7)
 
-pub returns : goal.returns
-returns c = λ b W xs K are key.
-    let made = made (goal.at.returns c).In-Some W key in
+pub returns-clause-turns : goal.returns-clause-turns
+returns-clause-turns c = λ b W xs K are key.
+    let made = made (goal.at.returns-clause-turns c).In-Some W key in
     let did = rw made.1 at c.buffer_made-state.ensures in
     let is = current-stands K in
     lines-placed 1 (DEEPEST + 4 + alike_buffers c.args.self.now.bits W.current (name_bytes c.args.name)) K did.keeps (did.trades W.current is) (did.state W.current xs is are) (omega arith) (omega arith)
+
+pub returns-in_default-clause-spares : goal.returns-in_default-clause-spares
+returns-in_default-clause-spares c = c.lines_put-state.ensures.spares
+
+pub returns-clause-spares : goal.returns-clause-spares
+returns-clause-spares c = c.buffer_made-state.ensures.spares

@@ -25,3 +25,6 @@ returns-clause-turns c = λ b W x K is.
       spare_cells = omega (arith, did.trades.cells, did.trades.balance.spare_cells);
       spare_nodes = omega (arith, did.trades.nodes, did.trades.balance.spare_nodes);
     })
+
+pub returns-clause-spares : goal.returns-clause-spares
+returns-clause-spares c = c.pushed-undo.ensures.spares

@@ -5,6 +5,8 @@ use Rattle.space_state.specs.declared.roots.RootedHeap.{RootedHeap}
 use Rattle.space_state.specs.declared.turning.TheConstants.{TURN_NODES}
 use Rattle.space_state.proofs.Keeping.{heap-is, same-heap, keeps-same, rises-same, turns-after}
 use Rattle.space_state.proofs.Placing.{ready-refused}
+use Rattle.state_rows.proofs.Room.{room-then}
+use Rattle.space_state.proofs.Hoarding.{room-reserved}
 use Rattle.space_state.proofs.roots.RootedHeap.ready.Goals as goal
 
 pub returns-in_err-reserve-clause-ready : goal.returns-in_err-reserve-clause-ready
@@ -32,3 +34,6 @@ returns-clause-ready c = λ W K.
       few = λ inside. subst (λ (u : RootedHeap). MakesAtMost c.args.self.now.heap u.heap 0) (sym (c.keep_current.ensures.inside W kept inside)) (omega (arith, rest.made, rest.live));
       spares = (omega (arith, spares.0, now.spare_cells), omega (arith, spares.1, now.spare_nodes));
     }
+
+pub returns-clause-spares : goal.returns-clause-spares
+returns-clause-spares c = room-then (room-reserved c.in_ok-reserve.ensures.greater c.reserve.ensures.rest) c.keep_current.ensures.spares

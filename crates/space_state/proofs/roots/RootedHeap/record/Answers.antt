@@ -2,6 +2,7 @@ use Rattle.std.proofs.Common.{ℕ, List, [], ◌∷◌, arith}
 use Rattle.node_heap.proofs.Frames.{KeepsBelow-trans}
 use Rattle.space_state.specs.declared.turning.TheConstants.{TURN_NODES}
 use Rattle.space_state.proofs.Keeping.{few-holds, redo-held, redo-holds, redo-stands, keeps-redo, left-over, held-beside, trades-beside, rises-trades, rises-then, turns-of, turns-by}
+use Rattle.state_rows.proofs.Room.{room-then}
 use Rattle.space_state.proofs.roots.RootedHeap.record.Goals as goal
 
 pub emptied-redo-requires-clause-few : goal.emptied-redo-requires-clause-few
@@ -24,8 +25,8 @@ emptied-redo-requires-clause-spares c =
     let k = c.requires.kept in
     (omega arith, omega (arith, c.requires.spares.1, (c.push_undo.ensures.turns k.0 k.1 k.2 k.3 k.5).spare_nodes))
 
-pub returns : goal.returns
-returns c = λ b W x K is room.
+pub returns-clause-turns : goal.returns-clause-turns
+returns-clause-turns c = λ b W x K is room.
     let pushed = c.push_undo.ensures.turns b W x K is in
     let did = rw c.from_root.ensures at c.emptied-redo.ensures in
     let mid = c.push_undo.new.self in
@@ -37,3 +38,6 @@ returns c = λ b W x K is room.
       spare_cells = omega (arith, pushed.spare_cells, did.trades.cells, did.trades.balance.spare_cells);
       spare_nodes = omega (arith, pushed.spare_nodes, did.trades.nodes, did.trades.balance.spare_nodes);
     })
+
+pub returns-clause-spares : goal.returns-clause-spares
+returns-clause-spares c = room-then c.push_undo.ensures.spares c.emptied-redo.ensures.spares

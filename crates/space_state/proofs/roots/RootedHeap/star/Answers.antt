@@ -7,24 +7,25 @@ use Rattle.space_state.specs.Roots.{Keeps}
 use Rattle.space_state.proofs.Keeping.{keeps-same, current-stands, turns-then}
 use Rattle.space_state.proofs.Editing.{star-made, does, may-lack, limited, no-room, fails}
 use Rattle.space_state.proofs.Steps.{star-taken, memory-refused, spares-suffice, HasNext, has-next}
+use Rattle.state_rows.proofs.Room.{room-then}
 use Rattle.space_state.proofs.roots.RootedHeap.star.Goals as goal
 use Rattle.space_state.proofs.roots.RootedHeap.star.Goals.{In_ok-make_star_room, After-with_star-next}
 
-pub returns-then-is_starred : goal.returns-then-is_starred
-returns-then-is_starred c = λ W K. record { due = star-taken W _ (sym (c.is_starred.ensures W K) ∙ c.if-is_starred.true); same = refl }
+pub returns-then-is_starred-clause-ends : goal.returns-then-is_starred-clause-ends
+returns-then-is_starred-clause-ends c = λ W K. record { due = star-taken W _ (sym (c.is_starred.ensures W K) ∙ c.if-is_starred.true); same = refl }
 
-pub returns-then-is_full : goal.returns-then-is_full
-returns-then-is_full c = λ W K.
+pub returns-then-is_full-clause-ends : goal.returns-then-is_full-clause-ends
+returns-then-is_full-clause-ends c = λ W K.
     let none : is_starred W.current (name_bytes c.args.name) ≡ false = sym (c.is_starred.ensures W K) ∙ c.if-is_starred.false in
     limited W (star _) _ (star-made W.current _ none) (sym (c.is_full.ensures W K) ∙ c.if-is_full.true)
 
-pub returns-in_err-key : goal.returns-in_err-key
-returns-in_err-key c = λ W K.
+pub returns-in_err-key-clause-ends : goal.returns-in_err-key-clause-ends
+returns-in_err-key-clause-ends c = λ W K.
     let none : is_starred W.current (name_bytes c.args.name) ≡ false = sym (c.is_starred.ensures W K) ∙ c.if-is_starred.false in
     memory-refused c.from_residual.result c.from_residual.ensures.1 (may-lack W (star _) _ (star-made W.current _ none) (sym (c.is_full.ensures W K) ∙ c.if-is_full.false)) refl
 
-pub returns-in_err-make_star_room : goal.returns-in_err-make_star_room
-returns-in_err-make_star_room c = λ W K.
+pub returns-in_err-make_star_room-clause-ends : goal.returns-in_err-make_star_room-clause-ends
+returns-in_err-make_star_room-clause-ends c = λ W K.
     let none : is_starred W.current (name_bytes c.args.name) ≡ false = sym (c.is_starred.ensures W K) ∙ c.if-is_starred.false in
     fails c.in_err-make_star_room.field-0.0 c.from_residual-in_err-make_star_room.result c.from_residual-in_err-make_star_room.ensures.1 (no-room W (star _) _ (star-made W.current _ none) (c.in_err-make_star_room.ensures.room W K))
 
@@ -57,15 +58,18 @@ turn_to-requires-clause-kept c =
     let made = next (goal.at.turn_to-requires-clause-kept c).After-with_star-next c.requires.0 c.requires.1 in
     (c.requires.0, _, made.turns.keeps, made.is, made.free)
 
-pub returns : goal.returns
+pub returns-clause-ends : goal.returns-clause-ends
 unfolding cost
-returns c = λ W K.
+returns-clause-ends c = λ W K.
     let none : is_starred W.current (name_bytes c.args.name) ≡ false = sym (c.is_starred.ensures W K) ∙ c.if-is_starred.false in
-    let made = next (goal.at.returns c).After-with_star-next W K in
+    let made = next (goal.at.returns-clause-ends c).After-with_star-next W K in
     let key : c.in_ok-key.key ≡ name_bytes c.args.name = c.in_ok-key.ensures ∙ c.as_line.ensures in
     record {
       after = with_current W (with_star W.current c.in_ok-key.key);
       told = rw key (does W (star (name_bytes c.args.name)) _ (star-made W.current (name_bytes c.args.name) none) made.free);
-      turns = turns-then (64 + alike_stars c.args.self.now.bits W.current (name_bytes c.args.name)) made.turns (c.turn_to.ensures W _ made.turns.keeps made.is made.free) (omega arith);
+      turns = turns-then (64 + alike_stars c.args.self.now.bits W.current (name_bytes c.args.name)) made.turns (c.turn_to.ensures.turns W _ made.turns.keeps made.is made.free) (omega arith);
       few_made = λ placed inside. absurd placed;
     }
+
+pub returns-clause-spares : goal.returns-clause-spares
+returns-clause-spares c = λ W K. room-then (room-then (c.in_ok-make_star_room.ensures.spares W K) c.with_star-next.ensures.spares) c.turn_to.ensures.spares

@@ -2,6 +2,7 @@ use Rattle.std.proofs.Common.{◌≡◌, [], ◌∷◌, refl, sym, ◌∙◌, ar
 use Rattle.space_state.specs.declared.roots.Batch.TheVariants.{Closed}
 use Rattle.space_state.specs.declared.roots.Roots.{Roots}
 use Rattle.space_state.specs.View.{TakesRows}
+use Rattle.state_rows.proofs.Room.{room-then}
 use Rattle.space_state.proofs.Keeping.{few-holds, heap-is}
 use Rattle.space_state.proofs.Steps.{closed-batch}
 use Rattle.space_state.proofs.Taking.{four, taking-batch, taking-memory, taking-done, pool-loaded, keeps-loaded}
@@ -42,4 +43,5 @@ returns c = λ W K.
       keeps = c.turn_roots.ensures.kept kept.0 kept.1;
       pool = c.turn_roots.ensures.pool ∙ pool-loaded c.args.self.now W K c.load.new.heap c.args.checked roots links loads same c.requires.bits c.in_ok-links.ensures.loaded;
       made = c.turn_roots.ensures.made ∙ loads.made;
+      room = room-then c.in_ok-links.ensures.spares c.turn_roots.ensures.spares;
     })

@@ -2,6 +2,7 @@ use Rattle.std.proofs.Common.{ap, ◌∙◌}
 use Rattle.space_state.specs.Roots.{base_of}
 use Rattle.space_state.proofs.Keeping.{first-held, keeps-released}
 use Rattle.space_state.proofs.Taking.{keeps-alone, pool-released}
+use Rattle.state_rows.proofs.Room.{room-freed, room-then}
 use Rattle.space_state.proofs.roots.RootedHeap.turn_roots.Goals as goal
 
 pub release-requires : goal.release-requires
@@ -39,3 +40,7 @@ returns-clause-pool c =
 
 pub returns-clause-made : goal.returns-clause-made
 returns-clause-made c = c.release-4.ensures.releases.made ∙ c.release-3.ensures.releases.made ∙ c.release-2.ensures.releases.made ∙ c.release.ensures.releases.made
+
+pub returns-clause-spares : goal.returns-clause-spares
+returns-clause-spares c =
+    room-then (room-then (room-then (room-freed c.release.ensures.releases) (room-freed c.release-2.ensures.releases)) (room-freed c.release-3.ensures.releases)) (room-freed c.release-4.ensures.releases)

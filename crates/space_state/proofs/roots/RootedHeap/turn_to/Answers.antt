@@ -19,15 +19,21 @@ record-requires-clause-kept c =
     let outside : in_batch W ≡ false = sym (c.in_batch.ensures (c.args.self.now.roots.current ∷ []) (record W { current = x }) turned) ∙ c.if-in_batch.false in
     ([], record W { current = x }, W.current, turned, omega arith, current-stands K, has-room W (undo-stands K) outside c.requires.kept.4)
 
-pub returns-then-in_batch : goal.returns-then-in_batch
-returns-then-in_batch c = λ W x K is room.
+pub returns-then-in_batch-clause-turns : goal.returns-then-in_batch-clause-turns
+returns-then-in_batch-clause-turns c = λ W x K is room.
     let turned = keeps-current c.args.next x K is in
     let inside : in_batch W ≡ true = sym (c.in_batch.ensures (c.args.self.now.roots.current ∷ []) (record W { current = x }) turned) ∙ c.if-in_batch.true in
     rw inside (turns-after 0 TURN_NODES (rises-refl c.args.self.now.heap) refl (c.give_up.ensures.turns (record W { current = x }) turned) (omega arith))
 
-pub returns-else-in_batch : goal.returns-else-in_batch
-returns-else-in_batch c = λ W x K is room.
+pub returns-else-in_batch-clause-turns : goal.returns-else-in_batch-clause-turns
+returns-else-in_batch-clause-turns c = λ W x K is room.
     let turned = keeps-current c.args.next x K is in
     let outside : in_batch W ≡ false = sym (c.in_batch.ensures (c.args.self.now.roots.current ∷ []) (record W { current = x }) turned) ∙ c.if-in_batch.false in
     rw outside (turns-after 0 TURN_NODES (rises-refl c.args.self.now.heap) refl
-    (c.record.ensures [] (record W { current = x }) W.current turned (current-stands K) (has-room W (undo-stands K) outside room)).turns (omega arith))
+    (c.record.ensures.turns [] (record W { current = x }) W.current turned (current-stands K) (has-room W (undo-stands K) outside room)).turns (omega arith))
+
+pub returns-then-in_batch-clause-spares : goal.returns-then-in_batch-clause-spares
+returns-then-in_batch-clause-spares c = c.give_up.ensures.spares
+
+pub returns-else-in_batch-clause-spares : goal.returns-else-in_batch-clause-spares
+returns-else-in_batch-clause-spares c = c.record.ensures.spares

@@ -6,6 +6,7 @@ use Rattle.space_state.specs.Stepping.{HasStepRoom}
 use Rattle.space_state.proofs.Keeping.{few-holds, undo-held, undo-stands, redo-stands, keeps-same, rises-same, rises-then, rises-trades, turns-after}
 use Rattle.space_state.proofs.Editing.{fails}
 use Rattle.space_state.proofs.Steps.{IsMoved, moved-undo, step-done, undo-done, undo-due}
+use Rattle.state_rows.proofs.Room.{room-then}
 use Rattle.space_state.proofs.roots.RootedHeap.undo.Goals as goal
 use Rattle.space_state.proofs.roots.RootedHeap.undo.Goals.{In_ok-make_step_room, After-popped-undo}
 
@@ -73,3 +74,6 @@ returns-clause-ends c = λ W K.
       turns = turns-after 9 64 (rises-then (rises-same room.same.heap) (rises-trades c.popped-undo.ensures.trades)) room.same.bits pushed (omega arith);
       few_made = λ placed inside. absurd placed;
     }
+
+pub returns-clause-spares : goal.returns-clause-spares
+returns-clause-spares c = λ W K. room-then (room-then c.in_ok-make_step_room.ensures.spares c.popped-undo.ensures.spares) c.push_redo.ensures.spares

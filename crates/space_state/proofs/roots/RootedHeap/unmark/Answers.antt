@@ -7,6 +7,7 @@ use Rattle.plain_space.specs.Cost.{cost, alike, alike_versions}
 use Rattle.state_rows.specs.InHeap.{IsStateIn, AreVersionsIn}
 use Rattle.space_state.proofs.Keeping.{keeps-same, keeps-gained, versions-stand, rises-same, rises-answered, rises-then, turns-after}
 use Rattle.space_state.proofs.Steps.{unmark-refused, unmark-absent, unmark-done, as-told, may-lack, memory-refused, spares-suffice}
+use Rattle.state_rows.proofs.Room.{room-then}
 use Rattle.space_state.proofs.roots.RootedHeap.unmark.Goals as goal
 
 pub returns-then-in_batch-clause-ends : goal.returns-then-in_batch-clause-ends
@@ -58,7 +59,7 @@ returns-clause-ends c = λ W K.
     let are = rw c.versions-versions.ensures at (c.without_version-map.ensures.versions W.versions those) in
     let same : alike c.versions-versions.result.bits (map.keys W.versions) (name_bytes c.args.name) ≡ alike_versions c.args.self.now.bits W (name_bytes c.args.name) =
     rw (c.versions-versions.ensures, c.make_version_room.ensures.same.bits) refl in
-    let turned = c.turn_versions.ensures W (map.remove W.versions (name_bytes c.args.name)) (keeps-gained held answered) are in
+    let turned = c.turn_versions.ensures.turns W (map.remove W.versions (name_bytes c.args.name)) (keeps-gained held answered) are in
     record {
       after = _;
       told = unmark-done W (name_bytes c.args.name) outside there;
@@ -66,3 +67,6 @@ returns-clause-ends c = λ W K.
           turned (omega (arith, same));
       few_made = λ placed inside. absurd placed;
     }
+
+pub returns-clause-spares : goal.returns-clause-spares
+returns-clause-spares c = λ W K. room-then (room-then (c.in_ok-make_version_room.ensures.spares W K) c.without_version-map.ensures.spares) c.turn_versions.ensures.spares

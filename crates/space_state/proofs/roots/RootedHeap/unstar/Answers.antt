@@ -7,6 +7,7 @@ use Rattle.space_state.specs.Roots.{Keeps}
 use Rattle.space_state.proofs.Keeping.{keeps-same, current-stands, turns-then}
 use Rattle.space_state.proofs.Editing.{unstar-made, does, no-room, fails}
 use Rattle.space_state.proofs.Steps.{unstar-absent, spares-suffice, HasNext, has-next}
+use Rattle.state_rows.proofs.Room.{room-then}
 use Rattle.space_state.proofs.roots.RootedHeap.unstar.Goals as goal
 use Rattle.space_state.proofs.roots.RootedHeap.unstar.Goals.{In_ok-make_star_room, After-without_star-next}
 
@@ -54,6 +55,9 @@ returns-clause-ends c = λ W K.
     record {
       after = with_current W (without_star W.current (name_bytes c.args.name));
       told = does W (unstar (name_bytes c.args.name)) _ (unstar-made W.current (name_bytes c.args.name) there) made.free;
-      turns = turns-then (64 + alike_stars c.args.self.now.bits W.current (name_bytes c.args.name)) made.turns (c.turn_to.ensures W _ made.turns.keeps made.is made.free) (omega arith);
+      turns = turns-then (64 + alike_stars c.args.self.now.bits W.current (name_bytes c.args.name)) made.turns (c.turn_to.ensures.turns W _ made.turns.keeps made.is made.free) (omega arith);
       few_made = λ placed inside. absurd placed;
     }
+
+pub returns-clause-spares : goal.returns-clause-spares
+returns-clause-spares c = λ W K. room-then (room-then (c.in_ok-make_star_room.ensures.spares W K) c.without_star-next.ensures.spares) c.turn_to.ensures.spares

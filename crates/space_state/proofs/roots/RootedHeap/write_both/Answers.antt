@@ -11,6 +11,7 @@ use Rattle.space_state.specs.Turns.{TurnsTo, TurnsBeside}
 use Rattle.space_state.proofs.Keeping.{first-counts, second-counts, lines-beside, turns-then}
 use Rattle.space_state.proofs.Editing.{alike-with}
 use Rattle.space_state.proofs.Placing.{then-current, alike-turned, key-later}
+use Rattle.state_rows.proofs.Room.{room-then}
 use Rattle.space_state.proofs.roots.RootedHeap.write_both.Goals as goal
 use Rattle.space_state.proofs.roots.RootedHeap.write_both.Goals.{After-keep_current, After-place_lines}
 
@@ -33,7 +34,7 @@ first : (c : After-place_lines) (W : Workspace) (xs : List Bytes) → Keeps c.ar
     → TurnsBeside c.keep_current.new.self c.place_lines.new.self (c.args.part ∷ []) 1 (DEEPEST + 4 + alike_buffers c.keep_current.new.self.bits W.current (name_bytes c.args.name)) (record (current_kept W) { current = first_state c W xs })
 first c W xs K are free none =
     let kept = kept (goal.at.After-place_lines c).After-keep_current W K free in
-    c.place_lines.ensures (c.args.part ∷ []) (current_kept W) xs kept.turns.keeps (lines-beside kept (first-counts c.args.rest (c.args.part ∷ [])) are) none
+    c.place_lines.ensures.turns (c.args.part ∷ []) (current_kept W) xs kept.turns.keeps (lines-beside kept (first-counts c.args.rest (c.args.part ∷ [])) are) none
 
 -- the second's lines are there still
 part-lines : (c : After-place_lines) (W : Workspace) (xs ys : List Bytes) → Keeps c.args.self.now (c.args.rest ∷ c.args.part ∷ []) W → AreLinesIn c.args.self.now.heap c.args.self.now.bits c.args.rest xs → AreLinesIn c.args.self.now.heap c.args.self.now.bits c.args.part ys
@@ -95,17 +96,17 @@ place_lines-requires-2 c =
       ),
     )
 
-pub returns : goal.returns
-returns c = λ W xs ys K are also free none key.
-    let path = (goal.at.returns c).After-place_lines in
+pub returns-clause-turns : goal.returns-clause-turns
+returns-clause-turns c = λ W xs ys K are also free none key.
+    let path = (goal.at.returns-clause-turns c).After-place_lines in
     let name = name_bytes c.args.name in
     let other = name_bytes c.args.other in
-    let kept = kept (goal.at.returns c).After-keep_current W K free in
+    let kept = kept (goal.at.returns-clause-turns c).After-keep_current W K free in
     let first = first path W xs K are free none in
     let state = with_lines (first_state path W xs) other ys in
     let alike : ℕ = alike_buffers c.place_lines.new.self.bits (first_state path W xs) other in
     let placed : TurnsTo c.place_lines.new.self c.place_lines-2.new.self [] (1 + (DEEPEST + 4 + alike)) (record (current_kept W) { current = state }) =
-    (c.place_lines-2.ensures [] (record (current_kept W) { current = first_state path W xs }) ys first.turns.keeps (part-lines path W xs ys K are also free none) (other-key path W xs none key)).turns in
+    (c.place_lines-2.ensures.turns [] (record (current_kept W) { current = first_state path W xs }) ys first.turns.keeps (part-lines path W xs ys K are also free none) (other-key path W xs none key)).turns in
     let all = 2 * DEEPEST + 22 + (alike_buffers c.args.self.now.bits W.current name + alike_buffers c.args.self.now.bits W.current other) in
     turns-then all kept.turns
     (turns-then (all - 11) first.turns (subst (λ (V : Workspace). TurnsTo c.place_lines.new.self c.place_lines-2.new.self [] (1 + (DEEPEST + 4 + alike)) V) (then-current W state) placed) (omega (
@@ -115,3 +116,6 @@ returns c = λ W xs ys K are also free none key.
       alike-turned first.turns (first_state path W xs) other,
       alike-with c.args.self.now.bits W.current name xs other,
     ))) (omega arith)
+
+pub returns-clause-spares : goal.returns-clause-spares
+returns-clause-spares c = room-then (room-then c.keep_current.ensures.spares c.place_lines.ensures.spares) c.place_lines-2.ensures.spares

@@ -7,6 +7,7 @@ use Rattle.space_state.specs.InPlace.{current_kept}
 use Rattle.space_state.specs.Turns.{TurnsTo}
 use Rattle.space_state.proofs.Keeping.{first-counts, lines-beside, turns-then}
 use Rattle.space_state.proofs.Placing.{then-current, alike-turned}
+use Rattle.state_rows.proofs.Room.{room-then}
 use Rattle.space_state.proofs.roots.RootedHeap.write_lines.Goals as goal
 
 pub keep_current-requires-clause-spares : goal.keep_current-requires-clause-spares
@@ -31,12 +32,15 @@ place_lines-requires c =
       (omega (arith, spares.0, kept.spare_cells), omega (arith, spares.1, kept.spare_nodes, alike-turned kept.turns W.current name)),
     )
 
-pub returns : goal.returns
-returns c = λ W xs K are free key.
+pub returns-clause-turns : goal.returns-clause-turns
+returns-clause-turns c = λ W xs K are free key.
     let name = name_bytes c.args.name in
     let kept = c.keep_current.ensures.turns (c.args.lines ∷ []) W K free in
     let alike : ℕ = alike_buffers c.keep_current.new.self.bits W.current name in
     let placed : TurnsTo c.keep_current.new.self c.place_lines.new.self [] (1 + (DEEPEST + 4 + alike)) (record (current_kept W) { current = with_lines W.current name xs }) =
-    (c.place_lines.ensures [] (current_kept W) xs kept.turns.keeps (lines-beside kept (first-counts c.args.lines []) are) key).turns in
+    (c.place_lines.ensures.turns [] (current_kept W) xs kept.turns.keeps (lines-beside kept (first-counts c.args.lines []) are) key).turns in
     turns-then (DEEPEST + 16 + alike_buffers c.args.self.now.bits W.current name) kept.turns
     (subst (λ (V : Workspace). TurnsTo c.keep_current.new.self c.place_lines.new.self [] (1 + (DEEPEST + 4 + alike)) V) (then-current W (with_lines W.current name xs)) placed) (omega (arith, alike-turned kept.turns W.current name))
+
+pub returns-clause-spares : goal.returns-clause-spares
+returns-clause-spares c = room-then c.keep_current.ensures.spares c.place_lines.ensures.spares

@@ -10,7 +10,7 @@ invariant_of-self c = kept-on command.abort c.self.inside.rows c.abort.result c.
 pub returns-clause-ends : goal.returns-clause-ends
 returns-clause-ends c =
     subst (λ (v : SpaceView). Ends command.abort v c.abort.result (shown c.abort.new.self)) c.self.view_is
-    (ends-seen command.abort c.self.inside.rows c.abort.result c.abort.new.self c.self.invariant.0 c.self.invariant.1 c.abort.ensures.obeys)
+    (ends-seen command.abort c.self.inside.rows c.abort.result c.abort.new.self c.self.invariant.0 c.self.invariant.1 c.abort.ensures.obeys c.abort.ensures.spares)
 
 pub returns-clause-made : goal.returns-clause-made
 returns-clause-made c = c.abort.ensures.made ∙ ap (λ (v : SpaceView). v.made) c.self.view_is

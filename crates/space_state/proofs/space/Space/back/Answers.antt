@@ -11,4 +11,4 @@ invariant_of-self c = kept-on (command.back (name_bytes c.args.version)) c.self.
 pub returns : goal.returns
 returns c =
     subst (λ (v : SpaceView). Ends (command.back (name_bytes c.args.version)) v c.back.result (shown c.back.new.self)) c.self.view_is
-    (ends-seen (command.back (name_bytes c.args.version)) c.self.inside.rows c.back.result c.back.new.self c.self.invariant.0 c.self.invariant.1 c.back.ensures.ends)
+    (ends-seen (command.back (name_bytes c.args.version)) c.self.inside.rows c.back.result c.back.new.self c.self.invariant.0 c.self.invariant.1 c.back.ensures.ends c.back.ensures.spares)

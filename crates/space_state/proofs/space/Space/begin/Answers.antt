@@ -10,7 +10,7 @@ invariant_of-self c = kept-on command.begin c.self.inside.rows c.begin.result c.
 pub returns-clause-ends : goal.returns-clause-ends
 returns-clause-ends c =
     subst (λ (v : SpaceView). Ends command.begin v c.begin.result (shown c.begin.new.self)) c.self.view_is
-    (ends-seen command.begin c.self.inside.rows c.begin.result c.begin.new.self c.self.invariant.0 c.self.invariant.1 c.begin.ensures.obeys)
+    (ends-seen command.begin c.self.inside.rows c.begin.result c.begin.new.self c.self.invariant.0 c.self.invariant.1 c.begin.ensures.obeys c.begin.ensures.spares)
 
 pub returns-clause-made : goal.returns-clause-made
 returns-clause-made c = c.begin.ensures.made ∙ ap (λ (v : SpaceView). v.made) c.self.view_is

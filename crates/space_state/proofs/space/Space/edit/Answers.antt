@@ -10,4 +10,4 @@ invariant_of-self c = kept-on (edit_command c.args.change) c.self.inside.rows c.
 pub returns : goal.returns
 returns c =
     subst (λ (v : SpaceView). Ends (edit_command c.args.change) v c.edit.result (shown c.edit.new.self)) c.self.view_is
-    (ends-seen (edit_command c.args.change) c.self.inside.rows c.edit.result c.edit.new.self c.self.invariant.0 c.self.invariant.1 c.edit.ensures.ends)
+    (ends-seen (edit_command c.args.change) c.self.inside.rows c.edit.result c.edit.new.self c.self.invariant.0 c.self.invariant.1 c.edit.ensures.ends c.edit.ensures.spares)

@@ -10,4 +10,4 @@ invariant_of-self c = kept-on command.«end» c.self.inside.rows c.end.result c.
 pub returns : goal.returns
 returns c =
     subst (λ (v : SpaceView). Ends command.«end» v c.end.result (shown c.end.new.self)) c.self.view_is
-    (ends-seen command.«end» c.self.inside.rows c.end.result c.end.new.self c.self.invariant.0 c.self.invariant.1 c.end.ensures.ends)
+    (ends-seen command.«end» c.self.inside.rows c.end.result c.end.new.self c.self.invariant.0 c.self.invariant.1 c.end.ensures.ends c.end.ensures.spares)

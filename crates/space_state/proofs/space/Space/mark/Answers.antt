@@ -6,9 +6,9 @@ use Rattle.space_state.proofs.Front.{ends-seen, kept-on}
 use Rattle.space_state.proofs.space.Space.mark.Goals as goal
 
 pub invariant_of-self : goal.invariant_of-self
-invariant_of-self c = kept-on (command.mark (name_bytes c.args.version)) c.self.inside.rows c.mark.result c.mark.new.self c.self.invariant c.mark.ensures
+invariant_of-self c = kept-on (command.mark (name_bytes c.args.version)) c.self.inside.rows c.mark.result c.mark.new.self c.self.invariant c.mark.ensures.ends
 
 pub returns : goal.returns
 returns c =
     subst (λ (v : SpaceView). Ends (command.mark (name_bytes c.args.version)) v c.mark.result (shown c.mark.new.self)) c.self.view_is
-    (ends-seen (command.mark (name_bytes c.args.version)) c.self.inside.rows c.mark.result c.mark.new.self c.self.invariant.0 c.self.invariant.1 c.mark.ensures)
+    (ends-seen (command.mark (name_bytes c.args.version)) c.self.inside.rows c.mark.result c.mark.new.self c.self.invariant.0 c.self.invariant.1 c.mark.ensures.ends c.mark.ensures.spares)

@@ -10,7 +10,7 @@ invariant_of-self c = kept-on command.redo c.self.inside.rows c.redo.result c.re
 pub returns-clause-ends : goal.returns-clause-ends
 returns-clause-ends c =
     subst (λ (v : SpaceView). Ends command.redo v c.redo.result (shown c.redo.new.self)) c.self.view_is
-    (ends-seen command.redo c.self.inside.rows c.redo.result c.redo.new.self c.self.invariant.0 c.self.invariant.1 c.redo.ensures.ends)
+    (ends-seen command.redo c.self.inside.rows c.redo.result c.redo.new.self c.self.invariant.0 c.self.invariant.1 c.redo.ensures.ends c.redo.ensures.spares)
 
 pub returns-clause-made : goal.returns-clause-made
 returns-clause-made c = subst (λ (v : SpaceView). c.redo.new.self.heap.made ≤ v.made + 19) c.self.view_is c.redo.ensures.made

@@ -10,7 +10,7 @@ invariant_of-self c = kept-on command.undo c.self.inside.rows c.undo.result c.un
 pub returns-clause-ends : goal.returns-clause-ends
 returns-clause-ends c =
     subst (λ (v : SpaceView). Ends command.undo v c.undo.result (shown c.undo.new.self)) c.self.view_is
-    (ends-seen command.undo c.self.inside.rows c.undo.result c.undo.new.self c.self.invariant.0 c.self.invariant.1 c.undo.ensures.ends)
+    (ends-seen command.undo c.self.inside.rows c.undo.result c.undo.new.self c.self.invariant.0 c.self.invariant.1 c.undo.ensures.ends c.undo.ensures.spares)
 
 pub returns-clause-made : goal.returns-clause-made
 returns-clause-made c = subst (λ (v : SpaceView). c.undo.new.self.heap.made ≤ v.made + 19) c.self.view_is c.undo.ensures.made

@@ -11,4 +11,4 @@ invariant_of-self c = kept-on (command.unmark (name_bytes c.args.version)) c.sel
 pub returns : goal.returns
 returns c =
     subst (λ (v : SpaceView). Ends (command.unmark (name_bytes c.args.version)) v c.unmark.result (shown c.unmark.new.self)) c.self.view_is
-    (ends-seen (command.unmark (name_bytes c.args.version)) c.self.inside.rows c.unmark.result c.unmark.new.self c.self.invariant.0 c.self.invariant.1 c.unmark.ensures.ends)
+    (ends-seen (command.unmark (name_bytes c.args.version)) c.self.inside.rows c.unmark.result c.unmark.new.self c.self.invariant.0 c.self.invariant.1 c.unmark.ensures.ends c.unmark.ensures.spares)

@@ -1,0 +1,57 @@
+-- For how many cells and how many nodes a command makes room, of which it makes no more.
+use Rattle.std.specs.Prelude.{ℕ, ◌+◌, ◌/◌, [], length, Result, IfOk}
+use Rattle.node_heap.specs.Calls.{KeepsToNeed}
+use Rattle.shell_terms.specs.Edit.{PlainEdit, new, add, set, put, del, cat, cut, copy, drop, star, unstar, fill}
+use Rattle.shell_terms.specs.Command.{PlainCommand, edit, mark, unmark, back, undo, redo, «end»}
+use Rattle.plain_space.specs.declared.refusal.Refusal.{Refusal}
+use Rattle.plain_space.specs.Workspace.{State, Workspace}
+use Rattle.plain_space.specs.Cost.{alike_buffers, alike_stars, alike_versions}
+use Rattle.space_state.specs.declared.roots.RootedHeap.{RootedHeap}
+use Rattle.space_state.specs.Roots.{Keeps}
+
+-- the cells of an edit
+abbrev pub edit_cells : PlainEdit → ℕ
+edit_cells (new name) = 1
+edit_cells (add name text) = 1
+edit_cells (set name index text) = 1
+edit_cells (fill name lines) = length lines + 1
+edit_cells _ = 2
+
+-- its nodes: a number for its kind, one for each name that is alike in what is written, and those of a vector of the lines that come
+-- from outside
+abbrev pub edit_nodes : ℕ → PlainEdit → State → ℕ
+edit_nodes bits (new name) now = 29 + alike_buffers bits now name
+edit_nodes bits (add name text) now = 29 + alike_buffers bits now name
+edit_nodes bits (set name index text) now = 29 + alike_buffers bits now name
+edit_nodes bits (put name index text) now = 99 + alike_buffers bits now name
+edit_nodes bits (del name from to) now = 99 + alike_buffers bits now name
+edit_nodes bits (cat name other) now = 99 + alike_buffers bits now name
+edit_nodes bits (cut name from to other) now = 99 + (alike_buffers bits now name + alike_buffers bits now other)
+edit_nodes bits (copy name other) now = 99 + alike_buffers bits now other
+edit_nodes bits (drop name) now = 99 + alike_buffers bits now name
+edit_nodes bits (star name) now = 99 + alike_stars bits now name
+edit_nodes bits (unstar name) now = 99 + alike_stars bits now name
+edit_nodes bits (fill name lines) now = 107 + length lines / 16 + alike_buffers bits now name
+
+-- the same of every command
+abbrev pub cells_needed : PlainCommand → ℕ
+cells_needed (edit change) = edit_cells change
+cells_needed (mark version) = 2
+cells_needed (unmark version) = 2
+cells_needed _ = 0
+
+abbrev pub nodes_needed : ℕ → PlainCommand → Workspace → ℕ
+nodes_needed bits (edit change) work = edit_nodes bits change work.current
+nodes_needed bits (mark version) work = 99 + alike_versions bits work version
+nodes_needed bits (unmark version) work = 99 + alike_versions bits work version
+nodes_needed bits (back version) work = 11
+nodes_needed bits undo work = 19
+nodes_needed bits redo work = 19
+nodes_needed bits end work = 11
+nodes_needed bits _ work = 0
+
+-- on Ok a command hoards no room: the rows and the spares of each kind are together no more than the old rows and the old spares, or
+-- than the old rows and what the command needs, whichever is more
+abbrev pub HoardsNone : PlainCommand → RootedHeap → Result (Unit {0}) Refusal → RootedHeap → Type 0
+HoardsNone command before result after =
+    (W : Workspace) → Keeps before [] W → IfOk result (λ _. KeepsToNeed before.heap after.heap (cells_needed command) (nodes_needed before.bits command W))
