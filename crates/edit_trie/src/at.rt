@@ -1,7 +1,7 @@
 //! Maps edited in place by their place in a row with one owner.
 ghost use Rattle.std.specs.Prelude.{◌≡◌, ◌↔◌, ℕ, ◌+◌, ◌^◌, ◌<◌, ◌≤◌, List, [], ◌∷◌, length, IfOk, IfSome, IfErr, IsOk, OnOk, OnErr, Ok, None, option_to_list};
 ghost use Rattle.node_heap.specs.Links.{Reaches};
-ghost use Rattle.node_heap.specs.Heap.{links_at, holds_at, owners_at, hold_count, HasSpares, half_holds, quarter_holds};
+ghost use Rattle.node_heap.specs.Heap.{links_at, holds_at, owners_at, hold_count, HasSpares, half_holds};
 ghost use Rattle.node_heap.specs.Calls.{KeepsBelow, KeepsToNeed};
 ghost use Rattle.node_heap.specs.InPlace.{child_at, OwnsDown, Changes};
 ghost use Rattle.node_heap.specs.Owner.{by_place};
@@ -32,7 +32,7 @@ pub fn insert_at<T: Element>(
     requires child { child < length (links_at heap.old parent) }
     requires held { 1 ≤ holds_at heap.old value }
     requires apart { ¬ Reaches (links_at heap.old) value parent }
-    requires few { hold_count heap.old < quarter_holds }
+    requires few { hold_count heap.old < half_holds }
     requires contents { (M : List (Binding T)) × IsMapOf T.cmp T.code_of heap.old (by_bits bits (child_at heap.old parent child)) M }
     ensures puts { (M : List (Binding T)) → IsMapOf T.cmp T.code_of heap.old (by_bits bits (child_at heap.old parent child)) M →
         IfOk result (λ given. PutsValue T.cmp T.code_of (by_place parent child) bits heap.old heap.new (child_at heap.new parent child) M key value given) }

@@ -2,7 +2,7 @@
 ghost use Rattle.std.specs.Prelude.{◌≡◌, ◌↔◌, ℕ, ◌+◌, ◌^◌, ◌<◌, ◌≤◌, List, [], ◌∷◌, IfOk, IfSome, IfErr, IsOk, OnOk, OnErr, Ok, None};
 ghost use Rattle.elem_core.specs.declared.codes.TheConstants.{CODE_BITS};
 ghost use Rattle.node_heap.specs.Links.{Reaches};
-ghost use Rattle.node_heap.specs.Heap.{links_at, holds_at, owners_at, hold_count, HasSpares, half_holds, quarter_holds};
+ghost use Rattle.node_heap.specs.Heap.{links_at, holds_at, owners_at, hold_count, HasSpares, half_holds};
 ghost use Rattle.node_heap.specs.Calls.{Extends, KeepsBelow, KeepsToNeed, HasHolds, MakesWhatCame};
 ghost use Rattle.node_heap.specs.Owner.{by_hold, EditsBy};
 ghost use Rattle.champ_chain.specs.Entry.{Entry, others};
@@ -97,7 +97,7 @@ impl TrieEdit {
         value: Link,
     ) -> Result<Option<Link>, MapFault<T>>
         requires held { HasHolds heap.old (self.old.root ∷ value ∷ []) }
-        requires few { hold_count heap.old < quarter_holds }
+        requires few { hold_count heap.old < half_holds }
         requires contents { (M : List (Binding T)) × IsMapOf T.cmp T.code_of heap.old self.old M }
         ensures puts { (M : List (Binding T)) → IsMapOf T.cmp T.code_of heap.old self.old M →
             IfOk result (λ given. PutsValue T.cmp T.code_of (by_hold self.old.root) self.old.bits heap.old heap.new self.new.root M key value given) }
@@ -130,7 +130,7 @@ impl TrieEdit {
         key: &P,
     ) -> Result<Option<Link>, NoMemory>
         requires held { 1 ≤ holds_at heap.old self.old.root }
-        requires few { hold_count heap.old < quarter_holds }
+        requires few { hold_count heap.old < half_holds }
         requires contents { (M : List (Binding T)) × IsMapOf T.cmp T.code_of heap.old self.old M }
         ensures cuts { (M : List (Binding T)) → IsMapOf T.cmp T.code_of heap.old self.old M →
             IfOk result (λ last. IfSome last (λ given. CutsKey T.cmp T.code_of (by_hold self.old.root) self.old.bits heap.old heap.new self.new.root M (P.stands_for key.now) given)) }
@@ -204,7 +204,7 @@ pub(crate) fn bound<T: Element>(
     bits: u32,
 ) -> Option<Link>
     requires bits { bits ≤ CODE_BITS }
-    requires few { hold_count heap.old < quarter_holds }
+    requires few { hold_count heap.old < half_holds }
     requires held { 0 < holds_at heap.old value }
     requires apart { ¬ Reaches (links_at heap.old) value root }
     requires cells { 1 ≤ heap.old.spare_cells }
