@@ -7,7 +7,11 @@ ghost use Rattle.node_heap.specs.InPlace.{child_at};
 ghost use Rattle.node_heap.specs.Glass.{lent};
 
 use elem_core::Num;
-use node_heap::{Glass, Head, Heap, Link, Steps, rows_are_owned, unfolds_to_one_tree};
+use node_heap::{
+    Glass, Head, Heap, Link, Steps, alone_rows_stay, changes_add_up, changes_keep_the_rest,
+    edits_by_an_owner, gains_add_up, owned_rows_keep_off, rows_are_owned, rows_come_and_go,
+    unfolds_to_one_tree,
+};
 use std::marker::Brand;
 use std::sync::ledger::{Blank, Ledger};
 use std::test::Fail;
@@ -131,4 +135,16 @@ fn reads_through_a_glass(rt: HostRuntime) -> Result<(), Fail> {
     let leaf = heap.node(Head::Leaf, &[seven]);
     assert!(rt; is_seven::<Brand>(&heap, leaf, Blank::new(1)));
     Ok(())
+}
+
+// The laws hold of all heaps: what is called here does nothing.
+#[test]
+fn laws_of_edits_in_place(_rt: HostRuntime) {
+    owned_rows_keep_off::<Num>();
+    changes_add_up::<Num>();
+    changes_keep_the_rest::<Num>();
+    edits_by_an_owner::<Num>();
+    alone_rows_stay::<Num>();
+    gains_add_up::<Num>();
+    rows_come_and_go::<Num>();
 }

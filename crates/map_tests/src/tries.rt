@@ -1,9 +1,13 @@
 //! Tries of numbers and of texts.
+ghost use Rattle.std.specs.Prelude.{◌<◌, IsSome};
+ghost use Rattle.node_heap.specs.Heap.{row_at, holds_at, hold_count, most_holds};
+
 use crate::samples::{name, text};
 use crate::trie_versions::TrieVersions;
-use champ_trie::{depends_on_entries, tries_stay};
-use elem_core::{CODE_BITS, Num, Text};
-use node_heap::Heap;
+use champ_chain::chains_are_read_one_way;
+use champ_trie::{Place, depends_on_entries, row_of_places, rows_are_told_by_places, tries_stay};
+use elem_core::{CODE_BITS, NoMemory, Num, Text};
+use node_heap::{Head, Heap, Link};
 use std::process::Abort;
 
 // The trie with three numbers that have one code by five bits.
@@ -124,9 +128,46 @@ fn calls_the_laws(rt: HostRuntime) {
     let numbers: Heap<Num> = Heap::new(rt.alloc());
     depends_on_entries(&numbers);
     tries_stay(&numbers);
+    rows_are_told_by_places(&numbers);
+    chains_are_read_one_way(&numbers);
     let texts: Heap<Text> = Heap::new(rt.alloc());
     depends_on_entries(&texts);
     tries_stay(&texts);
+    rows_are_told_by_places(&texts);
+    chains_are_read_one_way(&texts);
+}
+
+// The row of depth 0 with this entry at position 3, and nothing else.
+fn row_at_three(heap: &mut Heap<Num>, entry: Link) -> Link
+    requires spare { 0 < heap.old.spare_nodes }
+    requires held { 0 < holds_at heap.old entry }
+    requires few { hold_count heap.old < most_holds }
+    ensures { IsSome (row_at heap.new result) }
+{
+    let mut places = [Place::Empty; 32];
+    places[3] = Place::Entry(entry);
+    row_of_places(heap, 0, &places)
+}
+
+#[test]
+fn makes_a_row_of_given_places(rt: HostRuntime) -> Result<(), NoMemory> {
+    let mut heap: Heap<Num> = Heap::new(rt.alloc());
+    heap.reserve(1, 1)?;
+    let three = heap.cell(Num(3));
+    let row = row_at_three(&mut heap, three);
+    assert!(rt;
+        matches!(
+            heap.head(row),
+            Some(Head::Trie {
+                depth: 0,
+                entries: 8,
+                nodes: 0
+            })
+        )
+    );
+    assert_eq!(rt; heap.links(row), [three].as_slice());
+    assert_eq!(rt; heap.made(), 2);
+    Ok(())
 }
 
 // Digits of five bits, from the low end on: 33 is 1 and 1, 1025 is 1, 0 and 1.

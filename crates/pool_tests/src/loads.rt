@@ -2,7 +2,7 @@
 use elem_core::Text;
 use node_heap::Heap;
 use pool_check::{Checked, check};
-use pool_load::load;
+use pool_load::{load, loaded_rows_are_listed, loaded_tries_are_good, loaded_vectors_are_good};
 use pool_order::order;
 use pool_text::{Damage, pool_from_bytes, pool_of, to_bytes};
 use std::test::Fail;
@@ -152,4 +152,12 @@ fn loads_a_shared_state(rt: HostRuntime) -> Result<(), Fail> {
     assert_eq!(rt; heap.owners(roots[0]), 2);
     assert_eq!(rt; heap.owners(roots[1]), 1);
     Ok(())
+}
+
+// The laws hold of all loads: what is called here does nothing.
+#[test]
+fn laws_of_loads(_rt: HostRuntime) {
+    loaded_rows_are_listed::<Text>();
+    loaded_vectors_are_good::<Text>();
+    loaded_tries_are_good::<Text>();
 }

@@ -4,6 +4,7 @@ ghost use Rattle.std.specs.Prelude.{◌<◌};
 use crate::editing::{Editing, Placed};
 use edit_vec::{edits_keep_elements, paths_of_small_vectors};
 use elem_core::Num;
+use rrb_core::same_row_is_as_good;
 use std::alloc::Global;
 use std::process::Abort;
 
@@ -137,4 +138,5 @@ fn edits_at_a_place(rt: HostRuntime) {
 fn laws_of_edits(_rt: HostRuntime) {
     paths_of_small_vectors();
     edits_keep_elements::<Num>();
+    same_row_is_as_good::<Num>();
 }
