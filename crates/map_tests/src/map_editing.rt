@@ -284,9 +284,4 @@ impl<T: Element> MapEditing<T> {
     pub fn made(&self) -> u64 {
         self.heap.made()
     }
-
-    /// How many rows there are.
-    pub fn live(&self) -> usize {
-        self.heap.live()
-    }
 }
