@@ -487,6 +487,11 @@ pub moved-requires-clause-good : goal.moved-requires-clause-good
 moved-requires-clause-good g c =
     (unbind g.T.Ord.cmp c.key-key.result c.requires.good.0, rw c.in-Some.is at (c.in_ok-left.ensures.contents c.requires.good.0 c.requires.good.1))
 
+pub moved-requires-clause-held : goal.moved-requires-clause-held
+moved-requires-clause-held g c =
+    let answered = rw c.in-Some.is at (c.in_ok-left.ensures.answered c.requires.good.0 c.requires.good.1) in
+    omega (arith, answered.holds c.args.map.root, c.requires.held)
+
 pub moved-requires-clause-twice : goal.moved-requires-clause-twice
 moved-requires-clause-twice g c =
     let answered = rw c.in-Some.is at (c.in_ok-left.ensures.answered c.requires.good.0 c.requires.good.1) in
