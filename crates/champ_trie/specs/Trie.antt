@@ -3,7 +3,7 @@ use Rattle.std.specs.Prelude.{◌≡◌, ℕ, zero, suc, ◌+◌, ◌<◌, ◌�
 use Rattle.std.specs.List.{filter}
 use Rattle.std.specs.declared.cmp.Ordering.{Ordering}
 use Rattle.elem_core.specs.Codes.{digit_at, masked_code}
-use Rattle.elem_core.specs.declared.codes.TheConstants.{LEVELS}
+use Rattle.elem_core.specs.declared.codes.TheConstants.{DEEPEST}
 use Rattle.node_heap.specs.Forms.{Forms, node, trie}
 use Rattle.node_heap.specs.Heap.{Heap, form_at}
 use Rattle.champ_chain.specs.Entry.{Entry, entry, IsEntry, AreDistinct}
@@ -68,10 +68,14 @@ module _ {K : Type 0} where
     IsTrie F zero depth l E = IsChain cmp F l E
     IsTrie F (suc left) depth l E = IsTrieRow F depth l E (λ k P. IsTrie F left (suc depth) k P)
 
-    -- the canonical trie of these entries, whose keys are different, from depth 0 on
-    pub record IsCanon (F : Forms K) (root : ℕ) (E : List (Entry K)) : Type 0 where
-      pub trie : IsTrie F LEVELS 0 root E
+    -- the canonical trie of these entries, whose keys are different, from depth 0 on, where codes have their last digits at this depth
+    pub record IsCanonTo (deepest : ℕ) (F : Forms K) (root : ℕ) (E : List (Entry K)) : Type 0 where
+      pub trie : IsTrie F (deepest + 1) 0 root E
       pub distinct : AreDistinct cmp E
+
+    -- the same for the codes of elements
+    abbrev pub IsCanon : Forms K → ℕ → List (Entry K) → Type 0
+    IsCanon F root E = IsCanonTo DEEPEST F root E
 
 -- the code of a key by so many bits
 abbrev pub code_by : {K : Type 0} → (K → ℕ) → ℕ → K → ℕ

@@ -15,16 +15,16 @@ use Rattle.pool_check.proofs.EntriesBelow.{own-is}
 use Rattle.pool_check.proofs.CodeLists.{all-the-same}
 use Rattle.pool_check.proofs.KeptLemmas.{Chained, chained-first, one-below, two-below, low-in, canonical-as, no-empty}
 
-module _ (n : ℕ) (F : Forms Bytes) (code : Bytes → ℕ) where
+module _ (n : ℕ) (F : Forms Bytes) (code : Bytes → ℕ) (deepest : ℕ) where
   -- what is kept of a canonical row
-  pub canonical-is : (l : ℕ) (r : Option (Form Bytes)) → F l ≡ r → is_canonical n F code l r ≡ true → Some (kept_of n F code l r) ≡ canonical_kept n F code l
+  pub canonical-is : (l : ℕ) (r : Option (Form Bytes)) → F l ≡ r → is_canonical n F code deepest l r ≡ true → Some (kept_of n F code l r) ≡ canonical_kept n F code deepest l
   unfolding canonical_kept
-  canonical-is l r is h = ap (λ x. Some (kept_of n F code l x)) (sym is) ∙ sym (ap (λ b. cond b (Some (kept_of n F code l (F l))) None) (ap (is_canonical n F code l) is ∙ h))
+  canonical-is l r is h = ap (λ x. Some (kept_of n F code l x)) (sym is) ∙ sym (ap (λ b. cond b (Some (kept_of n F code l (F l))) None) (ap (is_canonical n F code deepest l) is ∙ h))
 
   -- and nothing is of another
-  pub refused-is : (l : ℕ) (r : Option (Form Bytes)) → F l ≡ r → is_canonical n F code l r ≡ false → None ≡ canonical_kept n F code l
+  pub refused-is : (l : ℕ) (r : Option (Form Bytes)) → F l ≡ r → is_canonical n F code deepest l r ≡ false → None ≡ canonical_kept n F code deepest l
   unfolding canonical_kept
-  refused-is l r is h = sym (ap (λ b. cond b (Some (kept_of n F code l (F l))) None) (ap (is_canonical n F code l) is ∙ h))
+  refused-is l r is h = sym (ap (λ b. cond b (Some (kept_of n F code l (F l))) None) (ap (is_canonical n F code deepest l) is ∙ h))
 
   -- the key's cell of an entry
   value-at : (k : ℕ) (r : Option (Form Bytes)) (key : Bytes) → F k ≡ r → key_of F r ≡ Some key → value_of (F (cell_of k r)) ≡ Some key
@@ -147,28 +147,28 @@ module _ (n : ℕ) (F : Forms Bytes) (code : Bytes → ℕ) where
       by_key None is = refl
       by_key (Some key) is = absurd (other (cell_of k (F k)) (code key) (kept-key k (F k) key is))
 
-  module _ (kept : List Kept) (are : AreKept n F code kept) (l : ℕ) (low : l < n) where
+  module _ (kept : List Kept) (are : AreKept n F code deepest kept) (l : ℕ) (low : l < n) where
     abbrev Es : ℕ → List (Entry Bytes)
     Es = entries_below n F
 
     module _ (k : ℕ) (is : F l ≡ Some (node chain (k ∷ []))) where
       -- a chain row of one entry
-      pub one-kept : (place c : ℕ) → kept_of n F code k (F k) ≡ At place c → Some (Chain place c false) ≡ canonical_kept n F code l
+      pub one-kept : (place c : ℕ) → kept_of n F code k (F k) ≡ At place c → Some (Chain place c false) ≡ canonical_kept n F code deepest l
       one-kept place c h =
           let m = entry-means k (F k) place c h in
           ap (λ j. Some (Chain j c false)) (sym m.place_is) ∙ ap (λ b. Some (Chain (cell_of k (F k)) b false)) (sym m.code_is)
           ∙ sym (ap (λ o. Some (kept_chain code false (cell_of k (F k)) o)) m.is)
           ∙ canonical-is l (Some (node chain (k ∷ []))) is (ap is_some m.is)
 
-      pub one-refused : ((place c : ℕ) → kept_of n F code k (F k) ≡ At place c → ⊥) → None ≡ canonical_kept n F code l
+      pub one-refused : ((place c : ℕ) → kept_of n F code k (F k) ≡ At place c → ⊥) → None ≡ canonical_kept n F code deepest l
       one-refused other = refused-is l (Some (node chain (k ∷ []))) is (ap is_some (no-key k other))
 
     -- a chain row of no link, or of more than two
-    pub none-refused : (ks : List ℕ) → F l ≡ Some (node chain ks) → length ks < 1 → None ≡ canonical_kept n F code l
+    pub none-refused : (ks : List ℕ) → F l ≡ Some (node chain ks) → length ks < 1 → None ≡ canonical_kept n F code deepest l
     none-refused [] is few = refused-is l (Some (node chain [])) is refl
     none-refused (k ∷ ks) is few = absurd (omega (arith, few))
 
-    pub many-refused : (ks : List ℕ) → F l ≡ Some (node chain ks) → 3 ≤ length ks → None ≡ canonical_kept n F code l
+    pub many-refused : (ks : List ℕ) → F l ≡ Some (node chain ks) → 3 ≤ length ks → None ≡ canonical_kept n F code deepest l
     many-refused [] is many = absurd (omega (arith, many))
     many-refused (k ∷ []) is many = absurd (omega (arith, many))
     many-refused (k ∷ m ∷ []) is many = absurd (omega (arith, many))
@@ -177,14 +177,14 @@ module _ (n : ℕ) (F : Forms Bytes) (code : Bytes → ℕ) where
     -- all keys of a canonical chain have one code
     one-code : (m j : ℕ) (ks : List ℕ) → m < length kept → F m ≡ Some (node chain (j ∷ ks)) → all_same (map (λ e. code e.key) (Es m)) ≡ true
     one-code m j [] low_m is =
-        let first = chained-first n F code kept are m j [] low_m is in
-        ap (λ E. all_same (map (λ e. code e.key) E)) (one-below n F code kept are m j (low-in n F code kept are m low_m) is ∙ own-is F j first.first.key first.key)
+        let first = chained-first n F code deepest kept are m j [] low_m is in
+        ap (λ E. all_same (map (λ e. code e.key) E)) (one-below n F code deepest kept are m j (low-in n F code deepest kept are m low_m) is ∙ own-is F j first.first.key first.key)
     one-code m j (i ∷ []) low_m is =
-        and-second (is_chain_row (F i) && is_before (key_at F j) (first_key F (links_in F i))) (all_same (map (λ e. code e.key) (Es m))) (canonical-as n F code kept are m (Some (node chain (j ∷ i ∷ []))) low_m is)
-    one-code m j (i ∷ h ∷ ks) low_m is = absurd (not-both (canonical-as n F code kept are m (Some (node chain (j ∷ i ∷ h ∷ ks))) low_m is))
+        and-second (is_chain_row (F i) && is_before (key_at F j) (first_key F (links_in F i))) (all_same (map (λ e. code e.key) (Es m))) (canonical-as n F code deepest kept are m (Some (node chain (j ∷ i ∷ []))) low_m is)
+    one-code m j (i ∷ h ∷ ks) low_m is = absurd (not-both (canonical-as n F code deepest kept are m (Some (node chain (j ∷ i ∷ h ∷ ks))) low_m is))
 
     module _ (k m : ℕ) (is : F l ≡ Some (node chain (k ∷ m ∷ []))) where
-      pub entry-refused : ((place c : ℕ) → kept_of n F code k (F k) ≡ At place c → ⊥) → None ≡ canonical_kept n F code l
+      pub entry-refused : ((place c : ℕ) → kept_of n F code k (F k) ≡ At place c → ⊥) → None ≡ canonical_kept n F code deepest l
       entry-refused other = refused-is l (Some (node chain (k ∷ m ∷ []))) is
           (ap (λ o. is_chain_row (F m) && is_before o (first_key F (links_in F m)) && all_same (map (λ e. code e.key) (Es l))) (no-key k other) ∙ middle (is_chain_row (F m)) (all_same (map (λ e. code e.key) (Es l))))
         where
@@ -192,14 +192,14 @@ module _ (n : ℕ) (F : Forms Bytes) (code : Bytes → ℕ) where
           middle true b = refl
           middle false b = refl
 
-      pub next-refused : m < length kept → ((place c : ℕ) (two : Bool) → kept_of n F code m (F m) ≡ Chain place c two → ⊥) → None ≡ canonical_kept n F code l
+      pub next-refused : m < length kept → ((place c : ℕ) (two : Bool) → kept_of n F code m (F m) ≡ Chain place c two → ⊥) → None ≡ canonical_kept n F code deepest l
       next-refused low_m other =
           refused-is l (Some (node chain (k ∷ m ∷ []))) is (ap (λ b. b && is_before (key_at F k) (first_key F (links_in F m)) && all_same (map (λ e. code e.key) (Es l))) (by_kind (is_chain_row (F m)) refl))
         where
           kept-so : (ks : List ℕ) → F m ≡ Some (node chain ks) → ⊥
-          kept-so [] is = no-empty n F code kept are m low_m is
+          kept-so [] is = no-empty n F code deepest kept are m low_m is
           kept-so (j ∷ ks) is =
-              let first = chained-first n F code kept are m j ks low_m is in
+              let first = chained-first n F code deepest kept are m j ks low_m is in
               other (cell_of j (F j)) (code first.first.key) (nat_eq (length ks) 1) (ap (kept_of n F code m) is ∙ ap (kept_chain code (nat_eq (length ks) 1) (cell_of j (F j))) first.key)
 
           by_kind : (b : Bool) → is_chain_row (F m) ≡ b → b ≡ false
@@ -219,8 +219,8 @@ module _ (n : ℕ) (F : Forms Bytes) (code : Bytes → ℕ) where
             ∙ ap (λ o. is_before o (key_at F b.first)) (a.is ∙ sym (ap (λ j. value_of (F j)) (sym a.place_is) ∙ value-at k (F k) a.key refl a.is))
             ∙ ap (is_before (value_of (F place))) (b.is ∙ sym (ap (λ j. value_of (F j)) (sym b.place_is) ∙ value-at b.first (F b.first) b.key refl b.is))
 
-        first : Chained n F code kept are m b.first
-        first = chained-first n F code kept are m b.first b.rest low_m b.row
+        first : Chained n F code deepest kept are m b.first
+        first = chained-first n F code deepest kept are m b.first b.rest low_m b.row
 
         first-code : code first.first.key ≡ next_code
         first-code = let e : Some first.first.key ≡ Some b.key = sym first.key ∙ b.is in let same : first.first.key ≡ b.key = cc in ap code same ∙ b.code_is
@@ -228,28 +228,28 @@ module _ (n : ℕ) (F : Forms Bytes) (code : Bytes → ℕ) where
         codes-same : all_same (map (λ e. code e.key) (Es l)) ≡ nat_eq c next_code
         codes-same =
             let same : all_same (map (λ e. code e.key) (first.first ∷ first.rest)) ≡ true = ap (λ E. all_same (map (λ e. code e.key) E)) (sym first.is) ∙ one-code m b.first b.rest low_m b.row in
-            ap (λ E. all_same (map (λ e. code e.key) E)) (two-below n F code kept are l k m low is ∙ ap (λ E. E ++ Es m) (own-is F k a.key a.is) ∙ ap (λ E. entry a.key k ∷ E) first.is)
+            ap (λ E. all_same (map (λ e. code e.key) E)) (two-below n F code deepest kept are l k m low is ∙ ap (λ E. E ++ Es m) (own-is F k a.key a.is) ∙ ap (λ E. entry a.key k ∷ E) first.is)
             ∙ list_all-map (nat_eq (code a.key)) (λ e. code e.key) (first.first ∷ first.rest)
             ∙ all-the-same (λ e. code e.key) (λ e. nat_eq (code a.key) (code e.key)) first.first (λ e same_code. ap (nat_eq (code a.key)) (sym same_code)) first.rest same
             ∙ ap (λ x. nat_eq x (code first.first.key)) a.code_is
             ∙ ap (nat_eq c) first-code
 
-        verdict : is_canonical n F code l (Some (node chain (k ∷ m ∷ []))) ≡ (is_before (value_of (F place)) (value_of (F next_place)) && nat_eq c next_code)
+        verdict : is_canonical n F code deepest l (Some (node chain (k ∷ m ∷ []))) ≡ (is_before (value_of (F place)) (value_of (F next_place)) && nat_eq c next_code)
         verdict =
             ap (λ r. is_chain_row r && is_before (key_at F k) (first_key F (links_in F m)) && all_same (map (λ e. code e.key) (Es l))) b.row
             ∙ ap (λ v. v && all_same (map (λ e. code e.key) (Es l))) before-same
             ∙ ap (λ v. is_before (value_of (F place)) (value_of (F next_place)) && v) codes-same
 
-        pub pair-kept : is_before (value_of (F place)) (value_of (F next_place)) ≡ true → nat_eq c next_code ≡ true → Some (Chain place c true) ≡ canonical_kept n F code l
+        pub pair-kept : is_before (value_of (F place)) (value_of (F next_place)) ≡ true → nat_eq c next_code ≡ true → Some (Chain place c true) ≡ canonical_kept n F code deepest l
         pair-kept before same =
             ap (λ j. Some (Chain j c true)) (sym a.place_is) ∙ ap (λ x. Some (Chain (cell_of k (F k)) x true)) (sym a.code_is)
             ∙ sym (ap (λ o. Some (kept_chain code true (cell_of k (F k)) o)) a.is)
             ∙ canonical-is l (Some (node chain (k ∷ m ∷ []))) is (verdict ∙ ap (λ v. v && nat_eq c next_code) before ∙ same)
 
-        pub order-refused : is_before (value_of (F place)) (value_of (F next_place)) ≡ false → None ≡ canonical_kept n F code l
+        pub order-refused : is_before (value_of (F place)) (value_of (F next_place)) ≡ false → None ≡ canonical_kept n F code deepest l
         order-refused before = refused-is l (Some (node chain (k ∷ m ∷ []))) is (verdict ∙ ap (λ v. v && nat_eq c next_code) before)
 
-        pub codes-refused : nat_eq c next_code ≡ false → None ≡ canonical_kept n F code l
+        pub codes-refused : nat_eq c next_code ≡ false → None ≡ canonical_kept n F code deepest l
         codes-refused other = refused-is l (Some (node chain (k ∷ m ∷ []))) is (verdict ∙ ap (λ v. is_before (value_of (F place)) (value_of (F next_place)) && v) other ∙ ends (is_before (value_of (F place)) (value_of (F next_place))))
           where
             ends : (v : Bool) → (v && false) ≡ false

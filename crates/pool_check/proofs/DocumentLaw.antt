@@ -8,15 +8,16 @@ use Rattle.std.proofs.lemmas.Option.{none-some, same_Some}
 use Rattle.serde_json.specs.Data.{Data, string, object}
 use Rattle.node_heap.specs.Forms.{Form}
 use Rattle.pool_text.specs.Rows.{Bytes, is_in_range}
-use Rattle.pool_text.specs.Document.{document, DocumentParts, four, values_at, document_keys, number_in, numbers_in, elements_in, parts_read, parts_from, parts_in, rows_in, pool_from, pool_in, value_in, pool_in_bytes, parts_damage, value_damage, bytes_damage, or_damage}
+use Rattle.pool_text.specs.Rules.{Rules, rules_of}
+use Rattle.pool_text.specs.Document.{document, DocumentParts, four, values_at, document_keys, number_in, numbers_in, elements_in, parts_read, parts_from, parts_in, rows_in, pool_by, pool_from, pool_in, value_in, pool_in_bytes, parts_damage_by, parts_damage, value_damage, bytes_damage, or_damage}
 use Rattle.pool_text.specs.declared.pool.Pool.{Pool}
 use Rattle.pool_text.specs.declared.damage.Damage.{Damage}
 use Rattle.pool_text.specs.declared.damage.Damage.TheVariants.{Json, Form as FormDamage, Version, Bits, Row, Link, Text, Vector, Trie, Kind, Order, Memory}
-use Rattle.pool_check.specs.Rows.{rows_in_range, links_lead_back, texts_are_lines}
+use Rattle.pool_check.specs.Rows.{rows_in_range, rows_in_range_by, links_lead_back, texts_are_lines}
 use Rattle.pool_check.specs.Vectors.{vectors_stand}
 use Rattle.pool_check.specs.Tries.{tries_stand}
 use Rattle.pool_check.specs.Kinds.{roots_are_of_kind}
-use Rattle.pool_check.specs.Damages.{rows_in_order, damage, document_damage, IsValid}
+use Rattle.pool_check.specs.Damages.{rows_in_order, damage, damage_by, document_damage, IsValid}
 use Rattle.pool_check.specs.Laws.{IsReadAs, IsDocumentOf}
 use Rattle.pool_text.proofs.ReadBack.{reads-back}
 use Rattle.pool_check.proofs.DamageLemmas.{undamaged-valid, valid-undamaged}
@@ -69,12 +70,11 @@ both-none None b e = (refl, e)
 both-none (Some d) b e = absurd (let some : Some d ≡ None = e in cc)
 
 -- the two tests after that of the version are passed
-both-passed : (version bits : Bool) (rows : Option (List (Form Bytes))) → cond (not version) (Some Version) (cond (not bits) (Some Bits) (cond (is_some rows) None (Some Row))) ≡ None
+both-passed : (bits : Bool) (rows : Option (List (Form Bytes))) → cond (not bits) (Some Bits) (cond (is_some rows) None (Some Row)) ≡ None
     → (bits ≡ true) × (found : List (Form Bytes)) × (rows ≡ Some found)
-both-passed false bits rows e = absurd (let some : Some Version ≡ None = e in cc)
-both-passed true false rows e = absurd (let some : Some Bits ≡ None = e in cc)
-both-passed true true None e = absurd (let some : Some Row ≡ None = e in cc)
-both-passed true true (Some found) e = (refl, found, refl)
+both-passed false rows e = absurd (let some : Some Bits ≡ None = e in cc)
+both-passed true None e = absurd (let some : Some Row ≡ None = e in cc)
+both-passed true (Some found) e = (refl, found, refl)
 
 pool-stands : (bits : ℕ) (bytes : Bytes) → bytes_damage bits bytes ≡ None → (P : Pool) × (pool_in_bytes bytes ≡ Some P) × (P.bits ≡ bits) × (length P.roots ≡ 4)
 unfolding bytes_damage value_damage pool_in
@@ -82,9 +82,11 @@ pool-stands bits bytes e =
     let value = no-damage Json (value_damage bits) (value_in bytes) e in
     let parts = no-damage FormDamage (parts_damage bits) (parts_in value.0) value.2 in
     let p : DocumentParts = parts.0 in
-    let passed = both-passed (eqb p.version 1) (eqb p.bits bits) (rows_in p) parts.2 in
+    let version = no-damage Version (parts_damage_by bits p) (rules_of p.version) parts.2 in
+    let rules : Rules = version.0 in
+    let passed = both-passed (eqb p.bits bits) (rows_in p rules) version.2 in
     let P : Pool = record { bits = p.bits; rows = passed.1; roots = p.roots } in
-    let from : pool_from p ≡ Some P = ap (option_map (λ rows. record { bits = p.bits; rows = rows; roots = p.roots })) passed.2 in (
+    let from : pool_from p ≡ Some P = ap (option_and_then (pool_by p)) version.1 ∙ ap (option_map (λ rows. record { bits = p.bits; rows = rows; roots = p.roots })) passed.2 in (
       P,
       ap (option_and_then pool_in) value.1 ∙ ap (option_and_then pool_from) parts.1 ∙ from,
       eqb-true p.bits bits passed.0,
@@ -100,7 +102,7 @@ undamaged-stands bits bytes whole =
     (P, record { read = stands.1; kept = stands.2; roots = stands.3; valid = undamaged-valid P (sym (ap (option_and_then damage) stands.1) ∙ none.1) })
 
 in-range-rows : (P : Pool) → rows_in_range P ≡ true → list_all is_in_range P.rows ≡ true
-unfolding rows_in_range
+unfolding rows_in_range_by
 in-range-rows P h = h
 
 pub valid-document : (P : Pool) (bytes : Bytes) → value_in bytes ≡ Some (document P) → length P.roots ≡ 4 → IsValid P → IsDocumentOf P bytes
@@ -126,7 +128,7 @@ failed-test true d rest other none e = other (same_Some d Memory e)
 failed-test false d rest other none e = none e
 
 damage-is-test : (P : Pool) → damage P ≢ Some Memory
-unfolding damage
+unfolding damage_by
 damage-is-test P =
     test-failed (rows_in_range P) Row _ (λ e. cc)
     (test-failed (links_lead_back P) Link _ (λ e. cc)
@@ -146,7 +148,8 @@ unfolding bytes_damage value_damage
 bytes-damage-is-test bits bytes =
     or-damaged Json (value_damage bits) (value_in bytes) (λ e. cc) (λ d.
     or-damaged FormDamage (parts_damage bits) (parts_in d) (λ e. cc) (λ p.
-    failed-test (not (eqb p.version 1)) Version _ (λ e. cc) (failed-test (not (eqb p.bits bits)) Bits _ (λ e. cc) (test-failed (is_some (rows_in p)) Row None (λ e. cc) (λ e. none-some Memory e)))))
+    or-damaged Version (parts_damage_by bits p) (rules_of p.version) (λ e. cc) (λ rules.
+    failed-test (not (eqb p.bits bits)) Bits _ (λ e. cc) (test-failed (is_some (rows_in p rules)) Row None (λ e. cc) (λ e. none-some Memory e)))))
 
 pub no-memory : (bits : ℕ) (bytes : Bytes) → document_damage bits bytes ≢ Some Memory
 unfolding document_damage

@@ -76,15 +76,15 @@ module _ (F : Forms Bytes) (falls : LeadsDown (λ l. l) (links_in F)) (n : ℕ) 
         by_key None h = absurd (not-both h)
         by_key (Some key) h = refl
 
-    sub-node-row : (depth : ℕ) (r : Option (Form Bytes)) → is_sub_node depth r ≡ true → is_entry_row r ≡ true
-    sub-node-row depth None h = absurd (not-both h)
-    sub-node-row depth (Some (cell _)) h = absurd (not-both h)
-    sub-node-row depth (Some (node leaf _)) h = absurd (not-both h)
-    sub-node-row depth (Some (node (inner _) _)) h = absurd (not-both h)
-    sub-node-row depth (Some (node (trie _ _ _) _)) h = refl
-    sub-node-row depth (Some (node chain _)) h = refl
-    sub-node-row depth (Some (node pair _)) h = absurd (not-both h)
-    sub-node-row depth (Some (node state _)) h = absurd (not-both h)
+    sub-node-row : (deepest depth : ℕ) (r : Option (Form Bytes)) → is_sub_node deepest depth r ≡ true → is_entry_row r ≡ true
+    sub-node-row deepest depth None h = absurd (not-both h)
+    sub-node-row deepest depth (Some (cell _)) h = absurd (not-both h)
+    sub-node-row deepest depth (Some (node leaf _)) h = absurd (not-both h)
+    sub-node-row deepest depth (Some (node (inner _) _)) h = absurd (not-both h)
+    sub-node-row deepest depth (Some (node (trie _ _ _) _)) h = refl
+    sub-node-row deepest depth (Some (node chain _)) h = refl
+    sub-node-row deepest depth (Some (node pair _)) h = absurd (not-both h)
+    sub-node-row deepest depth (Some (node state _)) h = absurd (not-both h)
 
     chain-row : (r : Option (Form Bytes)) → is_chain_row r ≡ true → is_entry_row r ≡ true
     chain-row None h = absurd (not-both h)
@@ -105,17 +105,17 @@ module _ (F : Forms Bytes) (falls : LeadsDown (λ l. l) (links_in F)) (n : ℕ) 
       pub keyed : list_all (λ k. is_some (key_at F k)) entries ≡ true
       pub rows : list_all (λ k. is_entry_row (F k)) below ≡ true
 
-    pub trie-has : (l depth e d : ℕ) (ks : List ℕ) → is_canonical n F code l (Some (node (trie depth e d) ks)) ≡ true → HasRows (take (rank e 32) ks) (drop (rank e 32) ks)
+    pub trie-has : (deepest l depth e d : ℕ) (ks : List ℕ) → is_canonical n F code deepest l (Some (node (trie depth e d) ks)) ≡ true → HasRows (take (rank e 32) ks) (drop (rank e 32) ks)
     unfolding are_branches
-    trie-has l depth e d ks h =
-        let branches = (and_parts (are_branches n F code depth e d ks) (agree_above n F code depth l) (and_parts (are_branches n F code depth e d ks && agree_above n F code depth l) _ h).0).0 in
+    trie-has deepest l depth e d ks h =
+        let branches = (and_parts (are_branches n F code deepest depth e d ks) (agree_above n F code depth l) (and_parts (are_branches n F code deepest depth e d ks && agree_above n F code depth l) _ h).0).0 in
         let x : Bool = pointwise (is_entry_at n F code depth) (positions e) (take (rank e 32) ks) in
-        let y : Bool = pointwise (is_node_at n F code depth) (positions d) (drop (rank e 32) ks) in
+        let y : Bool = pointwise (is_node_at n F code deepest depth) (positions d) (drop (rank e 32) ks) in
         let two = and_parts _ y branches in
         record {
           keyed = pointwise-second (is_entry_at n F code depth) (λ k. is_some (key_at F k)) (entry-keyed depth) (positions e) (take (rank e 32) ks) (and_parts _ x two.0).1;
-          rows = pointwise-second (is_node_at n F code depth) (λ k. is_entry_row (F k))
-              (λ p k here. sub-node-row depth (F k) (and_parts (is_sub_node depth (F k)) (list_all (has_digit n F code depth p) (entries_below n F k)) here).0) (positions d) (drop (rank e 32) ks) two.1;
+          rows = pointwise-second (is_node_at n F code deepest depth) (λ k. is_entry_row (F k))
+              (λ p k here. sub-node-row deepest depth (F k) (and_parts (is_sub_node deepest depth (F k)) (list_all (has_digit n F code depth p) (entries_below n F k)) here).0) (positions d) (drop (rank e 32) ks) two.1;
         }
 
     rank-zero : (set : ℕ) → rank set 0 ≡ 0
@@ -123,19 +123,19 @@ module _ (F : Forms Bytes) (falls : LeadsDown (λ l. l) (links_in F)) (n : ℕ) 
     rank-zero set = refl
 
     -- a canonical row has links for its entries
-    pub trie-long : (l depth e d : ℕ) (ks : List ℕ) → is_canonical n F code l (Some (node (trie depth e d) ks)) ≡ true → rank e 32 ≤ length ks
+    pub trie-long : (deepest l depth e d : ℕ) (ks : List ℕ) → is_canonical n F code deepest l (Some (node (trie depth e d) ks)) ≡ true → rank e 32 ≤ length ks
     unfolding are_branches
-    trie-long l depth e d ks h =
-        let branches = (and_parts (are_branches n F code depth e d ks) (agree_above n F code depth l) (and_parts (are_branches n F code depth e d ks && agree_above n F code depth l) _ h).0).0 in
+    trie-long deepest l depth e d ks h =
+        let branches = (and_parts (are_branches n F code deepest depth e d ks) (agree_above n F code depth l) (and_parts (are_branches n F code deepest depth e d ks && agree_above n F code depth l) _ h).0).0 in
         let x : Bool = pointwise (is_entry_at n F code depth) (positions e) (take (rank e 32) ks) in
-        let y : Bool = pointwise (is_node_at n F code depth) (positions d) (drop (rank e 32) ks) in
+        let y : Bool = pointwise (is_node_at n F code deepest depth) (positions d) (drop (rank e 32) ks) in
         let long = pointwise-length (is_entry_at n F code depth) (positions e) (take (rank e 32) ks) (and_parts _ x (and_parts _ y branches).0).1 in
         omega (arith, long, positions-length e 0 32, rank-zero e, length-take (rank e 32) ks)
 
-    pub chain-has : (l : ℕ) (ks : List ℕ) → is_canonical n F code l (Some (node chain ks)) ≡ true → HasRows (take 1 ks) (drop 1 ks)
-    chain-has l [] h = absurd (not-both h)
-    chain-has l (k ∷ []) h = record { keyed = and_from (is_some (key_at F k)) true h refl; rows = refl }
-    chain-has l (k ∷ m ∷ []) h =
+    pub chain-has : (deepest l : ℕ) (ks : List ℕ) → is_canonical n F code deepest l (Some (node chain ks)) ≡ true → HasRows (take 1 ks) (drop 1 ks)
+    chain-has deepest l [] h = absurd (not-both h)
+    chain-has deepest l (k ∷ []) h = record { keyed = and_from (is_some (key_at F k)) true h refl; rows = refl }
+    chain-has deepest l (k ∷ m ∷ []) h =
         let a : Bool = is_chain_row (F m) in
         let b : Bool = is_before (key_at F k) (first_key F (links_in F m)) in
         let two = and_parts a b (and_parts (a && b) (all_same (map (λ (e : Entry Bytes). code e.key) (entries_below n F l))) h).0 in
@@ -143,4 +143,4 @@ module _ (F : Forms Bytes) (falls : LeadsDown (λ l. l) (links_in F)) (n : ℕ) 
           keyed = and_from (is_some (key_at F k)) true (before-some (key_at F k) (first_key F (links_in F m)) two.1) refl;
           rows = and_from (is_entry_row (F m)) true (chain-row (F m) two.0) refl;
         }
-    chain-has l (k ∷ m ∷ j ∷ ks) h = absurd (not-both h)
+    chain-has deepest l (k ∷ m ∷ j ∷ ks) h = absurd (not-both h)

@@ -7,11 +7,11 @@ use Rattle.std.specs.Str.{bytes_eq}
 use Rattle.node_heap.specs.Forms.{links_in}
 use Rattle.pool_order.specs.Order.{listed}
 use Rattle.pool_text.specs.Pool.{forms_in, order_in}
-use Rattle.pool_check.specs.Rows.{rows_in_range, links_lead_back, texts_are_lines}
+use Rattle.pool_check.specs.Rows.{rows_in_range, rows_in_range_by, links_lead_back, texts_are_lines}
 use Rattle.pool_check.specs.Vectors.{is_thick, length_at, are_children, vectors_stand}
-use Rattle.pool_check.specs.Tries.{entries_below, are_branches, tries_stand}
+use Rattle.pool_check.specs.Tries.{entries_below, are_branches, tries_stand, tries_stand_by}
 use Rattle.pool_check.specs.Kinds.{elements_pass, are_roots, roots_are_of_kind}
-use Rattle.pool_check.specs.Damages.{rows_in_order, damage}
+use Rattle.pool_check.specs.Damages.{rows_in_order, damage, damage_by}
 use Rattle.pool_check.specs.Documents.{full_history, overfull_history}
 use Rattle.pool_check.proofs.TestLemmas.{leads-down, roots-low}
 use Rattle.pool_order.proofs.EnteredOnce.{order-is_listed}
@@ -40,7 +40,7 @@ unfolding length_at
 length-most = refl
 
 in-range : rows_in_range full_history ≡ true
-unfolding rows_in_range
+unfolding rows_in_range_by
 in-range = refl
 
 lines : texts_are_lines full_history ≡ true
@@ -52,7 +52,7 @@ unfolding vectors_stand are_children is_thick length_at
 vectors = refl
 
 tries : tries_stand full_history ≡ true
-unfolding tries_stand are_branches entries_below rows_from text_code rank
+unfolding tries_stand_by are_branches entries_below rows_from text_code rank
 tries = refl
 
 kinds : roots_are_of_kind full_history ≡ true
@@ -68,5 +68,5 @@ too_long = refl
 
 -- the other tests after this one are not looked at, so its damage computes without the order
 pub overfull_history-damaged : damage overfull_history ≡ Some Vector
-unfolding damage rows_in_range links_lead_back texts_are_lines
+unfolding damage_by rows_in_range_by links_lead_back texts_are_lines
 overfull_history-damaged = rw too_long refl

@@ -6,7 +6,6 @@ use Rattle.std.proofs.lemmas.Bool.{leb-true, ne_eqb}
 use Rattle.std.proofs.lemmas.List.{append-nil}
 use Rattle.std.proofs.lemmas.List.Folds.{list_all-map}
 use Rattle.elem_core.specs.Codes.{digit_at}
-use Rattle.elem_core.specs.declared.codes.TheConstants.{DEEPEST}
 use Rattle.node_heap.specs.Forms.{Form, Forms, cell, node, leaf, inner, trie, chain, pair, state, value_of, links_in}
 use Rattle.champ_chain.specs.Entry.{Entry, entry, key_of, key_at}
 use Rattle.champ_trie.specs.Walk.{own_entries, rows_below}
@@ -29,12 +28,12 @@ or-second : (a b : Bool) → a ≡ false → (a || b) ≡ true → b ≡ true
 or-second true b not_a h = absurd (not-both (sym not_a))
 or-second false b not_a h = h
 
-module _ (n : ℕ) (F : Forms Bytes) (code : Bytes → ℕ) (kept : List Kept) (are : AreKept n F code kept) where
+module _ (n : ℕ) (F : Forms Bytes) (code : Bytes → ℕ) (deepest : ℕ) (kept : List Kept) (are : AreKept n F code deepest kept) where
   abbrev Es : ℕ → List (Entry Bytes)
   Es = entries_below n F
 
-  pub canonical-as : (l : ℕ) (r : Option (Form Bytes)) → l < length kept → F l ≡ r → is_canonical n F code l r ≡ true
-  canonical-as l r low is = ap (λ x. is_canonical n F code l x) (sym is) ∙ are.canonical l low
+  pub canonical-as : (l : ℕ) (r : Option (Form Bytes)) → l < length kept → F l ≡ r → is_canonical n F code deepest l r ≡ true
+  canonical-as l r low is = ap (λ x. is_canonical n F code deepest l x) (sym is) ∙ are.canonical l low
 
   pub low-in : (l : ℕ) → l < length kept → l < n
   low-in l low = omega (arith, low, are.low)
@@ -110,16 +109,16 @@ module _ (n : ℕ) (F : Forms Bytes) (code : Bytes → ℕ) (kept : List Kept) (
       m : Entry Bytes → ℕ
       m x = code x.key % 2 ^ (5 * (depth + 1))
 
-      h : is_canonical n F code k (Some (node (trie (depth + 1) e d) ks)) ≡ true
+      h : is_canonical n F code deepest k (Some (node (trie (depth + 1) e d) ks)) ≡ true
       h = canonical-as k (Some (node (trie (depth + 1) e d) ks)) low is
 
       agree : all_same (map m (Es k)) ≡ true
-      agree = and-second (are_branches n F code (depth + 1) e d ks) (agree_above n F code (depth + 1) k)
-          (and-first (are_branches n F code (depth + 1) e d ks && agree_above n F code (depth + 1) k) ((depth + 1 == 0) || nat_le 2 (length (Es k))) h)
+      agree = and-second (are_branches n F code deepest (depth + 1) e d ks) (agree_above n F code (depth + 1) k)
+          (and-first (are_branches n F code deepest (depth + 1) e d ks && agree_above n F code (depth + 1) k) ((depth + 1 == 0) || nat_le 2 (length (Es k))) h)
 
       two : 2 ≤ length (Es k)
       two = leb-true 2 (length (Es k)) (or-second (depth + 1 == 0) (nat_le 2 (length (Es k))) (ne_eqb (depth + 1) 0 (λ z. absurd (omega (arith, z))))
-          (and-second (are_branches n F code (depth + 1) e d ks && agree_above n F code (depth + 1) k) ((depth + 1 == 0) || nat_le 2 (length (Es k))) h))
+          (and-second (are_branches n F code deepest (depth + 1) e d ks && agree_above n F code (depth + 1) k) ((depth + 1 == 0) || nat_le 2 (length (Es k))) h))
 
   chain-as-first : (depth k : ℕ) (ks : List ℕ) → k < length kept → F k ≡ Some (node chain ks) → length ks ≡ 2 → AnswersAsFirst depth k
   chain-as-first depth k [] low is two = absurd (omega (arith, two))
@@ -156,14 +155,14 @@ module _ (n : ℕ) (F : Forms Bytes) (code : Bytes → ℕ) (kept : List Kept) (
           let one : length (own F j) ≡ 1 = ap length (own-is F j first.first.key first.key) in
           omega (arith, all, one, next row.0 row.1)
 
-  pub sub-as-first : (depth k : ℕ) → k < length kept → is_sub_node depth (F k) ≡ true → AnswersAsFirst depth k
-  sub-as-first depth k low h = elim (sub-node-is depth (F k) h) as (λ _. AnswersAsFirst depth k) [
+  pub sub-as-first : (depth k : ℕ) → k < length kept → is_sub_node deepest depth (F k) ≡ true → AnswersAsFirst depth k
+  sub-as-first depth k low h = elim (sub-node-is deepest depth (F k) h) as (λ _. AnswersAsFirst depth k) [
     | inl row ↦ trie-as-first depth k row.0 row.1 row.2 low row.3
     | inr row ↦ chain-as-first depth k row.0 low row.1 row.2
   ]
 
   -- what the code of the key at a link says, where the link is to name an entry
-  pub entry-says : (depth k : ℕ) → OneSays code depth (λ p. is_entry_at n F code depth p k) (own F k) (code_at n F code Entries depth k)
+  pub entry-says : (depth k : ℕ) → OneSays code depth (λ p. is_entry_at n F code depth p k) (own F k) (code_at n F code deepest Entries depth k)
   entry-says depth k = by_key (key_at F k)
     where
       by_key : (o : Option Bytes) → OneSays code depth (λ p. entry_passes (has_digit n F code depth p) (option_map (λ key. entry key k) o)) (option_to_list (option_map (λ key. entry key k) o)) (option_map code o)
@@ -183,10 +182,10 @@ module _ (n : ℕ) (F : Forms Bytes) (code : Bytes → ℕ) (kept : List Kept) (
       }
 
   -- what the code of the first key at a link says, where the link is to name a sub-node
-  pub node-says : (depth k : ℕ) → k < length kept → OneSays code depth (λ p. is_node_at n F code depth p k) (Es k) (code_at n F code Nodes depth k)
-  node-says depth k low = by_kind (is_sub_node depth (F k)) refl
+  pub node-says : (depth k : ℕ) → k < length kept → OneSays code depth (λ p. is_node_at n F code deepest depth p k) (Es k) (code_at n F code deepest Nodes depth k)
+  node-says depth k low = by_kind (is_sub_node deepest depth (F k)) refl
     where
-      by_kind : (b : Bool) → is_sub_node depth (F k) ≡ b → OneSays code depth (λ p. b && list_all (has_digit n F code depth p) (Es k)) (Es k) (cond b (slice_get (codes_below n F code k) 0) None)
+      by_kind : (b : Bool) → is_sub_node deepest depth (F k) ≡ b → OneSays code depth (λ p. b && list_all (has_digit n F code depth p) (Es k)) (Es k) (cond b (slice_get (codes_below n F code k) 0) None)
       by_kind false h = record {
         none = λ e p. refl;
         digit = λ c e p. absurd (let f : None ≡ Some c = e in cc);
@@ -253,33 +252,33 @@ module _ (n : ℕ) (F : Forms Bytes) (code : Bytes → ℕ) (kept : List Kept) (
   entry-code k (Some (node state ks)) = refl
 
   -- the code that is kept of a sub-node is that of the first key below it
-  pub node-code : (depth k : ℕ) (r : Option (Form Bytes)) → k < length kept → F k ≡ r → code_of_node depth (kept_of n F code k r) ≡ cond (is_sub_node depth r) (slice_get (codes_below n F code k) 0) None
+  pub node-code : (depth k : ℕ) (r : Option (Form Bytes)) → k < length kept → F k ≡ r → code_of_node deepest depth (kept_of n F code k r) ≡ cond (is_sub_node deepest depth r) (slice_get (codes_below n F code k) 0) None
   node-code depth k None low is = refl
   node-code depth k (Some (cell x)) low is = refl
   node-code depth k (Some (node leaf ks)) low is = refl
   node-code depth k (Some (node (inner height) ks)) low is = refl
   node-code depth k (Some (node (trie d e m) ks)) low is = by_codes (codes_below n F code k)
     where
-      by_codes : (cs : List ℕ) → code_of_node depth (kept_node d cs) ≡ cond (d == depth + 1) (slice_get cs 0) None
+      by_codes : (cs : List ℕ) → code_of_node deepest depth (kept_node d cs) ≡ cond (d == depth + 1) (slice_get cs 0) None
       by_codes [] = no-code (d == depth + 1)
       by_codes (c ∷ cs) = refl
   node-code depth k (Some (node chain [])) low is = absurd (no-empty k low is)
   node-code depth k (Some (node chain (j ∷ []))) low is =
       let first = chained-first k j [] low is in
-      ap (λ o. code_of_node depth (kept_chain code false (cell_of j (F j)) o)) first.key ∙ other (depth == DEEPEST)
+      ap (λ o. code_of_node deepest depth (kept_chain code false (cell_of j (F j)) o)) first.key ∙ other (depth == deepest)
     where
       other : (b : Bool) → cond (b && false) (Some (code (chained-first k j [] low is).first.key)) None ≡ cond (b && false) (slice_get (codes_below n F code k) 0) None
       other true = refl
       other false = refl
   node-code depth k (Some (node chain (j ∷ m ∷ []))) low is =
       let first = chained-first k j (m ∷ []) low is in
-      ap (λ o. code_of_node depth (kept_chain code true (cell_of j (F j)) o)) first.key
-      ∙ ap (λ o. cond ((depth == DEEPEST) && true) o None) (sym (ap (λ es. slice_get (map (λ e. code e.key) es) 0) first.is))
+      ap (λ o. code_of_node deepest depth (kept_chain code true (cell_of j (F j)) o)) first.key
+      ∙ ap (λ o. cond ((depth == deepest) && true) o None) (sym (ap (λ es. slice_get (map (λ e. code e.key) es) 0) first.is))
   node-code depth k (Some (node chain (j ∷ m ∷ i ∷ ks))) low is = absurd (not-both (canonical-as k (Some (node chain (j ∷ m ∷ i ∷ ks))) low is))
   node-code depth k (Some (node pair [])) low is = refl
   node-code depth k (Some (node pair (j ∷ ks))) low is = by_key (value_of (F j))
     where
-      by_key : (o : Option Bytes) → code_of_node depth (kept_entry code j o) ≡ None
+      by_key : (o : Option Bytes) → code_of_node deepest depth (kept_entry code j o) ≡ None
       by_key None = refl
       by_key (Some key) = refl
   node-code depth k (Some (node state ks)) low is = refl
@@ -292,8 +291,8 @@ module _ (n : ℕ) (F : Forms Bytes) (code : Bytes → ℕ) (kept : List Kept) (
       read (y ∷ xs) zero low is = let e : Some y ≡ Some (kept_of n F code k (F k)) = is in let f : y ≡ kept_of n F code k (F k) = cc in f
       read (y ∷ xs) (suc i) low is = read xs i (omega arith) is
 
-  pub entry-code-at : (x : Kept) (depth k : ℕ) → k < length kept → code_of_entry (get_or kept k x) ≡ code_at n F code Entries depth k
+  pub entry-code-at : (x : Kept) (depth k : ℕ) → k < length kept → code_of_entry (get_or kept k x) ≡ code_at n F code deepest Entries depth k
   entry-code-at x depth k low = ap code_of_entry (kept-at x k low) ∙ entry-code k (F k)
 
-  pub node-code-at : (x : Kept) (depth k : ℕ) → k < length kept → code_of_node depth (get_or kept k x) ≡ code_at n F code Nodes depth k
-  node-code-at x depth k low = ap (code_of_node depth) (kept-at x k low) ∙ node-code depth k (F k) low refl
+  pub node-code-at : (x : Kept) (depth k : ℕ) → k < length kept → code_of_node deepest depth (get_or kept k x) ≡ code_at n F code deepest Nodes depth k
+  node-code-at x depth k low = ap (code_of_node deepest depth) (kept-at x k low) ∙ node-code depth k (F k) low refl

@@ -4,11 +4,12 @@ use Rattle.std.specs.List.{list_all}
 use Rattle.std.proofs.lemmas.Bool.{and_parts}
 use Rattle.std.proofs.lemmas.List.{length-map}
 use Rattle.node_heap.specs.Forms.{Form, links_of}
-use Rattle.pool_text.specs.Rows.{is_in_range, row_form}
+use Rattle.pool_text.specs.Rows.{is_in_range_to, row_form}
+use Rattle.pool_text.specs.Rules.{Rules}
 use Rattle.pool_text.specs.Pool.{forms_in, row_count}
 use Rattle.pool_text.specs.declared.pool.Pool.{Pool}
 use Rattle.pool_text.specs.declared.row.Row.{Row}
-use Rattle.pool_check.specs.Rows.{rows_in_range, rows_lead_back, links_lead_back}
+use Rattle.pool_check.specs.Rows.{rows_in_range_by, rows_lead_back, links_lead_back}
 use Rattle.pool_check.proofs.TestLemmas.{all-at}
 
 -- what is kept of the first rows, and then of one more
@@ -41,9 +42,9 @@ module _ (P : Pool) (rows : List Row) (are : map row_form rows ≡ P.rows) (i : 
   pub form-at : forms_in P i ≡ Some (row_form row)
   form-at = ap (λ (forms : List (Form (List ℕ))). slice_get forms i) (sym are) ∙ row-at rows i row low at
 
-  pub range-at : rows_in_range P ≡ true → is_in_range (row_form row) ≡ true
-  unfolding rows_in_range
-  range-at h = all-at is_in_range P.rows h i (row_form row) form-at
+  pub range-at : (rules : Rules) → rows_in_range_by rules P ≡ true → is_in_range_to rules.deepest (row_form row) ≡ true
+  unfolding rows_in_range_by
+  range-at rules h = all-at (is_in_range_to rules.deepest) P.rows h i (row_form row) form-at
 
   pub links-at : links_lead_back P ≡ true → (bound : ℕ) → bound ≡ i → list_all (λ k. ltb k bound) (links_of (Some (row_form row))) ≡ true
   unfolding links_lead_back
@@ -55,8 +56,8 @@ module _ (P : Pool) (rows : List Row) (are : map row_form rows ≡ P.rows) (i : 
     pub form-is : forms_in P i ≡ Some (row_form given)
     form-is = form-at ∙ ap (λ r. Some (row_form r)) is
 
-    pub range-is : rows_in_range P ≡ true → is_in_range (row_form given) ≡ true
-    range-is h = sym (ap (λ r. is_in_range (row_form r)) is) ∙ range-at h
+    pub range-is : (rules : Rules) → rows_in_range_by rules P ≡ true → is_in_range_to rules.deepest (row_form given) ≡ true
+    range-is rules h = sym (ap (λ r. is_in_range_to rules.deepest (row_form r)) is) ∙ range-at rules h
 
     pub links-are : links_lead_back P ≡ true → (links : List ℕ) → links ≡ links_of (Some (row_form given)) → list_all (λ k. ltb k i) links ≡ true
     links-are h links same = ap (λ ks. list_all (λ k. ltb k i) ks) same ∙ sym (ap (λ r. list_all (λ k. ltb k i) (links_of (Some (row_form r)))) is) ∙ links-at h i refl

@@ -10,12 +10,12 @@ use Rattle.pool_order.specs.Order.{with_all_new, firsts, places, order}
 use Rattle.pool_order.proofs.Firsts.{with_all-append}
 use Rattle.pool_order.proofs.Walked.{firsts-more, take_all, get_or-default, count-get_or}
 use Rattle.pool_text.specs.Rows.{Bytes, row_form}
-use Rattle.pool_text.specs.Pool.{forms_in, row_count, order_in}
+use Rattle.pool_text.specs.Pool.{links_from, forms_in, row_count, order_in}
 use Rattle.pool_text.specs.declared.pool.Pool.{Pool}
 use Rattle.pool_text.specs.declared.row.Row.{Row}
 use Rattle.pool_check.specs.Rows.{rows_lead_back, links_lead_back}
 use Rattle.pool_check.specs.Damages.{rows_in_order}
-use Rattle.pool_check.specs.Counted.{links_from, CountsUp}
+use Rattle.pool_check.specs.Counted.{CountsUp}
 use Rattle.pool_check.proofs.TestLemmas.{and-first, roots-low}
 use Rattle.pool_check.proofs.CountedLemmas.{counted-before, not-counted, counted-test}
 

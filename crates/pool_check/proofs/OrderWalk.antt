@@ -10,10 +10,11 @@ use Rattle.pool_order.proofs.Places.{places-is, places-reached}
 use Rattle.pool_order.proofs.Walked.{count-get_or}
 use Rattle.node_heap.specs.Forms.{Form, links_of}
 use Rattle.pool_text.specs.Rows.{Bytes, row_form}
+use Rattle.pool_text.specs.Pool.{links_from}
 use Rattle.pool_text.specs.declared.row.Row.{Row}
 use Rattle.pool_check.specs.declared.order.Visit.{Visit}
 use Rattle.pool_check.specs.Rows.{rows_lead_back}
-use Rattle.pool_check.specs.Counted.{links_from, CountsUp}
+use Rattle.pool_check.specs.Counted.{CountsUp}
 use Rattle.pool_check.proofs.TestLemmas.{lead-back-at}
 use Rattle.pool_check.proofs.CountedLemmas.{is-listed, one-more, other-last, counted-before}
 

@@ -16,7 +16,8 @@ use Rattle.pool_order.specs.Order.{order}
 use Rattle.pool_order.specs.Laws.{IsOrder}
 use Rattle.pool_order.proofs.Places.{order-is}
 use Rattle.pool_text.specs.Rows.{Bytes}
-use Rattle.pool_text.specs.Pool.{forms_in, row_count, order_in, place_in, relink, pool}
+use Rattle.pool_text.specs.Rules.{Rules}
+use Rattle.pool_text.specs.Pool.{forms_in, row_count, order_in, place_in, relink, settings_of, pool}
 use Rattle.pool_text.specs.Renaming.{IsOfItself}
 use Rattle.pool_text.specs.declared.pool.Pool.{Pool}
 use Rattle.pool_text.proofs.Gathered.{made}
@@ -24,7 +25,7 @@ use Rattle.pool_text.proofs.Placed.{place-first, place-later}
 use Rattle.pool_text.proofs.PoolRows.{AreThere, rows_of, length-rows, row-named}
 use Rattle.pool_text.proofs.Renamed.{map-back, relink-back}
 use Rattle.pool_check.specs.Rows.{links_lead_back}
-use Rattle.pool_check.specs.Damages.{rows_in_order, IsValid}
+use Rattle.pool_check.specs.Damages.{rows_in_order, IsValidBy}
 use Rattle.pool_check.proofs.TestLemmas.{leads-down, roots-low}
 
 -- ## Places
@@ -84,22 +85,22 @@ module _ (G : Forms Bytes) (links : List ℕ) (P : Pool) (is : HaveRows G links 
       ∙ relink-back (slice_index links) (place_in links) (forms_in P i) (λ k has. place-at links is.once k (omega (arith, inside, leads-down P back i k has))))
 
   -- where the links stand in their order, the pool of the links of the roots is the pool itself
-  pub pool-of-rows : (n : ℕ) → order n (links_in G) (map (slice_index links) P.roots) ≡ links → pool n G (map (slice_index links) P.roots) P.bits ≡ P
+  pub pool-of-rows : (n : ℕ) → order n (links_in G) (map (slice_index links) P.roots) ≡ links → pool n G (map (slice_index links) P.roots) (settings_of P) ≡ P
   unfolding pool
   pool-of-rows n listed =
       let roots : List ℕ = map (slice_index links) P.roots in
       let roots_back : map (place_in links) roots ≡ P.roots =
       map-back (slice_index links) (place_in links) P.roots (λ k has. place-at links is.once k (omega (arith, roots-low P back k has, is.many))) in
-      ap (λ (ks : List ℕ). made P.bits (rows_of G (place_in ks) ks) (map (place_in ks) roots)) listed
-      ∙ ap (λ (rows : List (Form Bytes)). made P.bits rows (map (place_in links) roots)) same-rows ∙ ap (made P.bits P.rows) roots_back
+      ap (λ (ks : List ℕ). made (settings_of P) (rows_of G (place_in ks) ks) (map (place_in ks) roots)) listed
+      ∙ ap (λ (rows : List (Form Bytes)). made (settings_of P) rows (map (place_in links) roots)) same-rows ∙ ap (made (settings_of P) P.rows) roots_back
 
 -- ## Valid pools
 
-pub in-order : (P : Pool) → IsValid P → order_in P ≡ range_with_len 0 (row_count P)
+pub in-order : {rules : Rules} (P : Pool) → IsValidBy rules P → order_in P ≡ range_with_len 0 (row_count P)
 unfolding rows_in_order
 in-order P v = (bytes_eq-Decides (order_in P) (range_with_len 0 (row_count P))).0 v.in_order
 
-module _ (P : Pool) (v : IsValid P) where
+module _ {rules : Rules} (P : Pool) (v : IsValidBy rules P) where
   pub reached-low : (r p : ℕ) → Reaches (links_in (forms_in P)) r p → r < row_count P → p < row_count P
   reached-low a b (here l) low = low
   reached-low a b (below l k m has down) low = reached-low k m down (omega (arith, low, leads-down P v.lead_back l k has))
@@ -132,5 +133,5 @@ module _ (P : Pool) (v : IsValid P) where
   pub of-itself : IsOfItself P
   of-itself =
       let roots : map (slice_index own_places) P.roots ≡ P.roots = map-own (slice_index own_places) P.roots (λ r root. own-place r (roots-low P v.lead_back r root)) in
-      subst (λ (ks : List ℕ). pool (row_count P) (forms_in P) ks P.bits ≡ P) roots
+      subst (λ (ks : List ℕ). pool (row_count P) (forms_in P) ks (settings_of P) ≡ P) roots
       (pool-of-rows (forms_in P) own_places P own-rows v.lead_back (row_count P) (ap (order (row_count P) (links_in (forms_in P))) roots ∙ in-order P v))

@@ -11,7 +11,6 @@ use Rattle.std.proofs.lemmas.List.{append-nil, get_or-take, get_or-drop}
 use Rattle.std.proofs.lemmas.List.Elements.{filter-append}
 use lib.Pointwise.{pointwise}
 use Rattle.elem_core.specs.Codes.{digit_at}
-use Rattle.elem_core.specs.declared.codes.TheConstants.{DEEPEST, LEVELS}
 use Rattle.node_heap.specs.Links.{LeadsDown}
 use Rattle.node_heap.specs.Forms.{Form, Forms, node, trie, chain, links_of, links_in}
 use Rattle.champ_chain.specs.Entry.{Entry, entry, key_at}
@@ -25,17 +24,17 @@ use Rattle.champ_chain.specs.Entry.{has_key, SameSet}
 use Rattle.champ_chain.specs.Chain.{AreChainRows, IsRising, IsChain}
 use Rattle.champ_chain.proofs.SetLemmas.{same-refl, same-count, count-cons}
 use Rattle.champ_chain.proofs.RisingLemmas.{above-less, rising-distinct}
-use Rattle.champ_trie.specs.Trie.{AreSets, place_of, IsPlace, part, IsTrie, IsCanon}
+use Rattle.champ_trie.specs.Trie.{AreSets, place_of, IsPlace, part, IsTrie, IsCanonTo}
 use Rattle.champ_trie.proofs.BitLemmas.{rank-lt}
 use Rattle.champ_trie.proofs.PlaceLemmas.{place-entry, place-node, place-empty}
-use Rattle.pool_text.specs.Rows.{is_in_range}
+use Rattle.pool_text.specs.Rows.{is_in_range_to}
 use Rattle.pool_check.specs.Tries.{entry_at, entries_below, entry_passes, first_key, positions, are_apart, is_before, is_sub_node, is_chain_row, has_digit, is_entry_at, is_node_at, agree_above, are_branches, are_chained, all_same, is_canonical}
 use Rattle.pool_check.proofs.EntriesBelow.{own, own-is, rows-low, entries-is}
 use Rattle.pool_check.proofs.GroupLemmas.{positions-length, pointwise-length, Found, found}
 use Rattle.pool_check.proofs.TestLemmas.{and-first, and-second, not-both}
 use Rattle.pool_check.proofs.TrieTests.{by_bytes, before-is, some-is, chain-row-is, sub-node-is}
 
-module _ (F : Forms Bytes) (falls : LeadsDown (λ l. l) (links_in F)) (n : ℕ) (code : Bytes → ℕ) (canonical : (l : ℕ) → is_canonical n F code l (F l) ≡ true) where
+module _ (F : Forms Bytes) (falls : LeadsDown (λ l. l) (links_in F)) (n : ℕ) (code : Bytes → ℕ) (deepest : ℕ) (canonical : (l : ℕ) → is_canonical n F code deepest l (F l) ≡ true) where
   -- the chain from a row on
   record ChainAt (l : ℕ) : Type 0 where
     pub first : Entry Bytes
@@ -48,7 +47,7 @@ module _ (F : Forms Bytes) (falls : LeadsDown (λ l. l) (links_in F)) (n : ℕ) 
   chain-at : (m l : ℕ) → l < m → l < n → (ks : List ℕ) → F l ≡ Some (node chain ks) → ChainAt l
   unfolding AreChainRows
   chain-at zero l fuel low ks is = absurd (omega (arith, fuel))
-  chain-at (suc m) l fuel low ks is = by_links ks is (ap (λ r. is_canonical n F code l r) (sym is) ∙ canonical l) (chain-at m)
+  chain-at (suc m) l fuel low ks is = by_links ks is (ap (λ r. is_canonical n F code deepest l r) (sym is) ∙ canonical l) (chain-at m)
     where
       by_links : (ks : List ℕ) → F l ≡ Some (node chain ks) → are_chained n F code l ks ≡ true → ((l : ℕ) → l < m → l < n → (ks : List ℕ) → F l ≡ Some (node chain ks) → ChainAt l) → ChainAt l
       by_links [] is h deeper = absurd (not-both h)
@@ -91,14 +90,14 @@ module _ (F : Forms Bytes) (falls : LeadsDown (λ l. l) (links_in F)) (n : ℕ) 
       let at : ChainAt l = chain-at (suc l) l (omega arith) low (k ∷ j ∷ []) is in
       let below : j < l = subst (λ xs. All (λ i. i < l) xs) (ap rows_below is) (rows-low F falls l) 0 0 (omega arith) in
       let row = chain-row-is (F j) (and-first (is_chain_row (F j)) (is_before (key_at F k) (first_key F (links_in F j)))
-      (and-first (is_chain_row (F j) && is_before (key_at F k) (first_key F (links_in F j))) (all_same (map (λ e. code e.key) (entries_below n F l))) (ap (λ r. is_canonical n F code l r) (sym is) ∙ canonical l))) in
+      (and-first (is_chain_row (F j) && is_before (key_at F k) (first_key F (links_in F j))) (all_same (map (λ e. code e.key) (entries_below n F l))) (ap (λ r. is_canonical n F code deepest l r) (sym is) ∙ canonical l))) in
       let next : ChainAt j = chain-at (suc j) j (omega arith) (omega (arith, below, low)) row.0 row.1 in
       let split : entries_below n F l ≡ (own F k ++ []) ++ (entries_below n F j ++ []) =
       entries-is F falls n l low ∙ ap (λ r. flat_map (own F) (own_entries r) ++ flat_map (entries_below n F) (rows_below r)) is in
       let lower : length (entries_below n F j) ≡ suc (length next.rest) = ap length next.is in
       let upper : length (entries_below n F l) ≡ length (own F k ++ []) + length (entries_below n F j ++ []) = ap length split ∙ length-append (own F k ++ []) (entries_below n F j ++ []) in
       let keyed : (key : Bytes) × (key_at F k ≡ Some key) = let key = before-is (key_at F k) next.first.key (ap (is_before (key_at F k)) (sym next.key) ∙ and-second (is_chain_row (F j)) (is_before (key_at F k) (first_key F (links_in F j)))
-      (and-first (is_chain_row (F j) && is_before (key_at F k) (first_key F (links_in F j))) (all_same (map (λ e. code e.key) (entries_below n F l))) (ap (λ r. is_canonical n F code l r) (sym is) ∙ canonical l))) in (key.0, key.1) in
+      (and-first (is_chain_row (F j) && is_before (key_at F k) (first_key F (links_in F j))) (all_same (map (λ e. code e.key) (entries_below n F l))) (ap (λ r. is_canonical n F code deepest l r) (sym is) ∙ canonical l))) in (key.0, key.1) in
       let one : length (own F k ++ []) ≡ 1 = ap (λ es. length (es ++ [])) (own-is F k keyed.0 keyed.1) in
       let rest : length (entries_below n F j ++ []) ≡ length (entries_below n F j) = ap length (append-nil (entries_below n F j)) in
       let two_entries : 2 ≤ length (entries_below n F l) = omega (arith, upper, one, rest, lower) in (
@@ -131,8 +130,8 @@ entry-passed F test l h = by_key (key_at F l) refl h
     by_key None is h = absurd (not-both h)
     by_key (Some key) is h = (key, is, ap (λ o. list_all test (option_to_list (option_map (λ key. entry key l) o))) is ∙ ap (λ b. b && true) h)
 
-module _ (F : Forms Bytes) (falls : LeadsDown (λ l. l) (links_in F)) (n : ℕ) (code : Bytes → ℕ) (canonical : (l : ℕ) → is_canonical n F code l (F l) ≡ true)
-    (ranged : (l : ℕ) (r : Form Bytes) → F l ≡ Some r → is_in_range r ≡ true) where
+module _ (F : Forms Bytes) (falls : LeadsDown (λ l. l) (links_in F)) (n : ℕ) (code : Bytes → ℕ) (deepest : ℕ) (canonical : (l : ℕ) → is_canonical n F code deepest l (F l) ≡ true)
+    (ranged : (l : ℕ) (r : Form Bytes) → F l ≡ Some r → is_in_range_to deepest r ≡ true) where
   abbrev Es : ℕ → List (Entry Bytes)
   Es = entries_below n F
 
@@ -142,36 +141,36 @@ module _ (F : Forms Bytes) (falls : LeadsDown (λ l. l) (links_in F)) (n : ℕ) 
   -- what the test of a trie row says
   record Row (depth e d l : ℕ) (ks : List ℕ) : Type 0 where
     pub row : F l ≡ Some (node (trie depth e d) ks)
-    pub low : depth ≤ DEEPEST
+    pub low : depth ≤ deepest
     pub few_entries : e < 2 ^ 32
     pub few_nodes : d < 2 ^ 32
     pub apart : (p : ℕ) → p < 32 → has e p ≡ true → has d p ≡ false
     pub entries : pointwise (is_entry_at n F code depth) (positions e) (take (rank e 32) ks) ≡ true
-    pub nodes : pointwise (is_node_at n F code depth) (positions d) (drop (rank e 32) ks) ≡ true
+    pub nodes : pointwise (is_node_at n F code deepest depth) (positions d) (drop (rank e 32) ks) ≡ true
     pub two : ((depth == 0) || nat_le 2 (length (Es l))) ≡ true
 
   row-is : (depth e d l : ℕ) (ks : List ℕ) → F l ≡ Some (node (trie depth e d) ks) → Row depth e d l ks
   unfolding are_branches
   row-is depth e d l ks is =
-      let h : is_canonical n F code l (Some (node (trie depth e d) ks)) ≡ true = ap (λ r. is_canonical n F code l r) (sym is) ∙ canonical l in
-      let ab : (are_branches n F code depth e d ks && agree_above n F code depth l) ≡ true = and-first (are_branches n F code depth e d ks && agree_above n F code depth l) ((depth == 0) || nat_le 2 (length (Es l))) h in
-      let branches : are_branches n F code depth e d ks ≡ true = and-first (are_branches n F code depth e d ks) (agree_above n F code depth l) ab in
+      let h : is_canonical n F code deepest l (Some (node (trie depth e d) ks)) ≡ true = ap (λ r. is_canonical n F code deepest l r) (sym is) ∙ canonical l in
+      let ab : (are_branches n F code deepest depth e d ks && agree_above n F code depth l) ≡ true = and-first (are_branches n F code deepest depth e d ks && agree_above n F code depth l) ((depth == 0) || nat_le 2 (length (Es l))) h in
+      let branches : are_branches n F code deepest depth e d ks ≡ true = and-first (are_branches n F code deepest depth e d ks) (agree_above n F code depth l) ab in
       let x : Bool = are_apart e d in
       let y : Bool = pointwise (is_entry_at n F code depth) (positions e) (take (rank e 32) ks) in
-      let z : Bool = pointwise (is_node_at n F code depth) (positions d) (drop (rank e 32) ks) in
+      let z : Bool = pointwise (is_node_at n F code deepest depth) (positions d) (drop (rank e 32) ks) in
       let xy : (x && y) ≡ true = and-first (x && y) z branches in
-      let r : is_in_range {K = Bytes} (node (trie depth e d) ks) ≡ true = ranged l (node (trie depth e d) ks) is in
-      let r3 = and-first (nat_le depth DEEPEST && nat_lt e (2 ^ 32) && nat_lt d (2 ^ 32)) (nat_le (length ks) 32) r in
-      let r2 = and-first (nat_le depth DEEPEST && nat_lt e (2 ^ 32)) (nat_lt d (2 ^ 32)) r3 in
+      let r : is_in_range_to {K = Bytes} deepest (node (trie depth e d) ks) ≡ true = ranged l (node (trie depth e d) ks) is in
+      let r3 = and-first (nat_le depth deepest && nat_lt e (2 ^ 32) && nat_lt d (2 ^ 32)) (nat_le (length ks) 32) r in
+      let r2 = and-first (nat_le depth deepest && nat_lt e (2 ^ 32)) (nat_lt d (2 ^ 32)) r3 in
       record {
         row = is;
-        low = leb-true depth DEEPEST (and-first (nat_le depth DEEPEST) (nat_lt e (2 ^ 32)) r2);
-        few_entries = ltb-true e (2 ^ 32) (and-second (nat_le depth DEEPEST) (nat_lt e (2 ^ 32)) r2);
-        few_nodes = ltb-true d (2 ^ 32) (and-second (nat_le depth DEEPEST && nat_lt e (2 ^ 32)) (nat_lt d (2 ^ 32)) r3);
+        low = leb-true depth deepest (and-first (nat_le depth deepest) (nat_lt e (2 ^ 32)) r2);
+        few_entries = ltb-true e (2 ^ 32) (and-second (nat_le depth deepest) (nat_lt e (2 ^ 32)) r2);
+        few_nodes = ltb-true d (2 ^ 32) (and-second (nat_le depth deepest && nat_lt e (2 ^ 32)) (nat_lt d (2 ^ 32)) r3);
         apart = λ p small there. apart-is (has e p) (has d p) (range-all (λ q. not (has e q && has d q)) 0 32 p (and-first x y xy) (omega arith) (omega (arith, small))) there;
         entries = and-second x y xy;
         nodes = and-second (x && y) z branches;
-        two = and-second (are_branches n F code depth e d ks && agree_above n F code depth l) ((depth == 0) || nat_le 2 (length (Es l))) h;
+        two = and-second (are_branches n F code deepest depth e d ks && agree_above n F code depth l) ((depth == 0) || nat_le 2 (length (Es l))) h;
       }
 
   rank-zero : (s : ℕ) → rank s 0 ≡ 0
@@ -182,7 +181,7 @@ module _ (F : Forms Bytes) (falls : LeadsDown (λ l. l) (links_in F)) (n : ℕ) 
   entries-long depth e d l ks row = omega (arith, positions-length e 0 32, rank-zero e, pointwise-length (is_entry_at n F code depth) (positions e) (take (rank e 32) ks) row.entries)
 
   nodes-long : (depth e d l : ℕ) (ks : List ℕ) → Row depth e d l ks → rank d 32 ≡ length (drop (rank e 32) ks)
-  nodes-long depth e d l ks row = omega (arith, positions-length d 0 32, rank-zero d, pointwise-length (is_node_at n F code depth) (positions d) (drop (rank e 32) ks) row.nodes)
+  nodes-long depth e d l ks row = omega (arith, positions-length d 0 32, rank-zero d, pointwise-length (is_node_at n F code deepest depth) (positions d) (drop (rank e 32) ks) row.nodes)
 
   sets-are : (depth e d l : ℕ) (ks : List ℕ) → Row depth e d l ks → AreSets e d ks
   sets-are depth e d l ks row = record {
@@ -202,8 +201,8 @@ module _ (F : Forms Bytes) (falls : LeadsDown (λ l. l) (links_in F)) (n : ℕ) 
   entry-says : (depth q k : ℕ) → is_entry_at n F code depth q k ≡ true → list_all (λ x. nat_eq (digit depth x) q) (own F k) ≡ true
   entry-says depth q k h = (entry-passed F (has_digit n F code depth q) k h).2
 
-  node-says : (depth q k : ℕ) → is_node_at n F code depth q k ≡ true → list_all (λ x. nat_eq (digit depth x) q) (Es k) ≡ true
-  node-says depth q k h = and-second (is_sub_node depth (F k)) (list_all (has_digit n F code depth q) (Es k)) h
+  node-says : (depth q k : ℕ) → is_node_at n F code deepest depth q k ≡ true → list_all (λ x. nat_eq (digit depth x) q) (Es k) ≡ true
+  node-says depth q k h = and-second (is_sub_node deepest depth (F k)) (list_all (has_digit n F code depth q) (Es k)) h
 
   -- what stands for these entries below a row of a depth
   abbrev IsNode : ℕ → ℕ → ℕ → List (Entry Bytes) → Type 0
@@ -213,9 +212,9 @@ module _ (F : Forms Bytes) (falls : LeadsDown (λ l. l) (links_in F)) (n : ℕ) 
   or-second true b not_a h = absurd (not-both (sym not_a))
   or-second false b not_a h = h
 
-  node-stands : (left depth k : ℕ) → depth + suc left ≡ LEVELS → k < n → ((e d : ℕ) (ks : List ℕ) → F k ≡ Some (node (trie (suc depth) e d) ks) → IsNode left depth k (Es k)) → is_sub_node depth (F k) ≡ true → (2 ≤ length (Es k)) × IsNode left depth k (Es k)
+  node-stands : (left depth k : ℕ) → depth + suc left ≡ deepest + 1 → k < n → ((e d : ℕ) (ks : List ℕ) → F k ≡ Some (node (trie (suc depth) e d) ks) → IsNode left depth k (Es k)) → is_sub_node deepest depth (F k) ≡ true → (2 ≤ length (Es k)) × IsNode left depth k (Es k)
   unfolding IsTrie
-  node-stands left depth k levels low each h = elim (sub-node-is depth (F k) h) as (λ _. (2 ≤ length (Es k)) × IsNode left depth k (Es k)) [
+  node-stands left depth k levels low each h = elim (sub-node-is deepest depth (F k) h) as (λ _. (2 ≤ length (Es k)) × IsNode left depth k (Es k)) [
     | inl deeper ↦
         let one : depth + 1 ≡ suc depth = omega arith in
         let is : F k ≡ Some (node (trie (suc depth) deeper.0 deeper.1) deeper.2) = deeper.3 ∙ ap (λ x. Some (node (trie x deeper.0 deeper.1) deeper.2)) one in
@@ -223,11 +222,11 @@ module _ (F : Forms Bytes) (falls : LeadsDown (λ l. l) (links_in F)) (n : ℕ) 
         (leb-true 2 (length (Es k)) (or-second (suc depth == 0) (nat_le 2 (length (Es k))) (ne_eqb (suc depth) 0 (λ e. absurd (omega (arith, e)))) two), each deeper.0 deeper.1 deeper.2 is)
     | inr last ↦
         let none : left ≡ 0 = omega (arith, levels, last.3) in
-        let chained = chain-two F falls n code canonical k low last.0 last.1 last.2 in
+        let chained = chain-two F falls n code deepest canonical k low last.0 last.1 last.2 in
         (chained.0, subst (λ m. IsNode m depth k (Es k)) (sym none) chained.1)
   ]
 
-  places-are : (left depth e d l : ℕ) (ks : List ℕ) → depth + suc left ≡ LEVELS → l < n → Row depth e d l ks
+  places-are : (left depth e d l : ℕ) (ks : List ℕ) → depth + suc left ≡ deepest + 1 → l < n → Row depth e d l ks
       → ((k : ℕ) → k < n → (e d : ℕ) (ks : List ℕ) → F k ≡ Some (node (trie (suc depth) e d) ks) → IsNode left depth k (Es k))
       → (p : ℕ) → p < 32 → IsPlace F (IsNode left depth) (place_of e d ks p) (part by_bytes code depth p (Es l))
   places-are left depth e d l ks levels low row each p small = elim (cases_Bool (has e p)) as (λ _. IsPlace F (IsNode left depth) (place_of e d ks p) E) [
@@ -250,7 +249,7 @@ module _ (F : Forms Bytes) (falls : LeadsDown (λ l. l) (links_in F)) (n : ℕ) 
           let index : rank d p < length (drop r ks) = omega (arith, rank-lt d p 32 small there, nodes-long depth e d l ks row) in
           let below : k < l = subst (λ xs. All (λ j. j < l) xs) (ap rows_below row.row) (rows-low F falls l) (rank d p) 0 index in
           let same : k ≡ slice_index ks (r + rank d p) = get_or-drop r ks (rank d p) 0 in
-          let node_is = node-stands left depth k levels (omega (arith, below, low)) (each k (omega (arith, below, low))) (and-first (is_sub_node depth (F k)) (list_all (has_digit n F code depth p) (Es k)) found_node.1) in
+          let node_is = node-stands left depth k levels (omega (arith, below, low)) (each k (omega (arith, below, low))) (and-first (is_sub_node deepest depth (F k)) (list_all (has_digit n F code depth p) (Es k)) found_node.1) in
           let is_part : E ≡ Es k = part-is depth e d l ks row low p ∙ ap (λ es. es ++ filter (λ x. nat_eq (digit depth x) p) (flat_map Es (drop r ks))) (entries.gone absent) ∙ found_node.0 in
           let stands : NodeFor k = subst (λ es. (2 ≤ length es) × IsNode left depth k es) (sym is_part) node_is in
           subst (λ place. IsPlace F (IsNode left depth) place E) (sym (place-node e d ks p absent there)) (subst NodeFor same stands)
@@ -275,10 +274,10 @@ module _ (F : Forms Bytes) (falls : LeadsDown (λ l. l) (links_in F)) (n : ℕ) 
       entries : Found (digit depth) (own F) (is_entry_at n F code depth) (entry-says depth) e p (take r ks) (rank e p)
       entries = found (digit depth) (own F) (is_entry_at n F code depth) (entry-says depth) e 0 32 (take r ks) p (rank e p) row.entries (omega arith) (omega (arith, small)) (omega (arith, rank-zero e))
 
-      nodes : Found (digit depth) Es (is_node_at n F code depth) (node-says depth) d p (drop r ks) (rank d p)
-      nodes = found (digit depth) Es (is_node_at n F code depth) (node-says depth) d 0 32 (drop r ks) p (rank d p) row.nodes (omega arith) (omega (arith, small)) (omega (arith, rank-zero d))
+      nodes : Found (digit depth) Es (is_node_at n F code deepest depth) (node-says depth) d p (drop r ks) (rank d p)
+      nodes = found (digit depth) Es (is_node_at n F code deepest depth) (node-says depth) d 0 32 (drop r ks) p (rank d p) row.nodes (omega arith) (omega (arith, small)) (omega (arith, rank-zero d))
 
-  pub trie-at : (left depth e d l : ℕ) (ks : List ℕ) → depth + left ≡ LEVELS → l < n → F l ≡ Some (node (trie depth e d) ks) → IsTrie by_bytes code F left depth l (Es l)
+  pub trie-at : (left depth e d l : ℕ) (ks : List ℕ) → depth + left ≡ deepest + 1 → l < n → F l ≡ Some (node (trie depth e d) ks) → IsTrie by_bytes code F left depth l (Es l)
   unfolding IsTrie
   trie-at zero depth e d l ks levels low is = absurd (omega (arith, levels, (row-is depth e d l ks is).low))
   trie-at (suc left) depth e d l ks levels low is = record {
@@ -354,8 +353,8 @@ module _ (F : Forms Bytes) (code : Bytes → ℕ) where
           ]
 
 -- a trie row of depth 0 is the canonical trie of the entries below it
-pub canon-at : (F : Forms Bytes) (falls : LeadsDown (λ l. l) (links_in F)) (n : ℕ) (code : Bytes → ℕ) → ((l : ℕ) → is_canonical n F code l (F l) ≡ true)
-    → ((l : ℕ) (r : Form Bytes) → F l ≡ Some r → is_in_range r ≡ true) → (l e d : ℕ) (ks : List ℕ) → l < n → F l ≡ Some (node (trie 0 e d) ks) → IsCanon by_bytes code F l (entries_below n F l)
-canon-at F falls n code canonical ranged l e d ks low is =
-    let trie_is = trie-at F falls n code canonical ranged LEVELS 0 e d l ks refl low is in
-    record { trie = trie_is; distinct = record { once = trie-once F code LEVELS 0 l (entries_below n F l) trie_is } }
+pub canon-at : (F : Forms Bytes) (falls : LeadsDown (λ l. l) (links_in F)) (n : ℕ) (code : Bytes → ℕ) (deepest : ℕ) → ((l : ℕ) → is_canonical n F code deepest l (F l) ≡ true)
+    → ((l : ℕ) (r : Form Bytes) → F l ≡ Some r → is_in_range_to deepest r ≡ true) → (l e d : ℕ) (ks : List ℕ) → l < n → F l ≡ Some (node (trie 0 e d) ks) → IsCanonTo by_bytes code deepest F l (entries_below n F l)
+canon-at F falls n code deepest canonical ranged l e d ks low is =
+    let trie_is = trie-at F falls n code deepest canonical ranged (deepest + 1) 0 e d l ks (omega arith) low is in
+    record { trie = trie_is; distinct = record { once = trie-once F code (deepest + 1) 0 l (entries_below n F l) trie_is } }

@@ -7,7 +7,6 @@ use Rattle.std.proofs.lemmas.Bool.{cases_Bool, cases_eq}
 use Rattle.std.proofs.lemmas.List.{length-map, take-map}
 use Rattle.std.proofs.lemmas.List.Folds.{flat_map-map}
 use Rattle.elem_core.specs.Codes.{digit_at}
-use Rattle.elem_core.specs.declared.codes.TheConstants.{LEVELS}
 use Rattle.node_heap.specs.Links.{count, HasLink, Reaches, here, below}
 use Rattle.node_heap.specs.Forms.{Form, Forms, cell, node, leaf, inner, trie, chain, pair, state, links_of, links_in}
 use Rattle.node_heap.proofs.Counts.{test_same, test_other, count-cons}
@@ -18,7 +17,7 @@ use Rattle.champ_chain.specs.Entry.{Entry, entry, key_at, key_of, first_value, h
 use Rattle.champ_chain.specs.Chain.{AreChainRows, AreAbove, IsRising}
 use Rattle.champ_chain.proofs.SetLemmas.{count-cons as counted}
 use Rattle.champ_trie.specs.Bits.{has, rank}
-use Rattle.champ_trie.specs.Trie.{AreSets, IsPlace, part, IsTrie, IsCanon, place_of}
+use Rattle.champ_trie.specs.Trie.{AreSets, IsPlace, part, IsTrie, IsCanonTo, place_of}
 use Rattle.champ_trie.specs.Walk.{own_entries, rows_below, rows_from, entries_of, entries_first}
 use Rattle.champ_trie.proofs.PlaceLemmas.{place-entry, place-node, place-empty, entry-in, node-in}
 use Rattle.champ_trie.proofs.StayLemmas.{has-first}
@@ -238,8 +237,8 @@ module _ {K : Type 0} (f : ℕ → ℕ) (G H : Forms K) (root : ℕ) (image : Is
           (λ k P. IsTrie cmp code G left (suc d) k P) (λ k P. IsTrie cmp code H left (suc d) k P) (part cmp code d p E) (λ k to under. trie-moved left (suc d) k (part cmp code d p E) to under) (is.places p small));
     }
 
-    canon-moved : (E : List (Entry K)) → IsCanon cmp code G root E → IsCanon cmp code H (f root) (map (moved f) E)
-    canon-moved E canon = record { trie = trie-moved LEVELS 0 root E (here root) canon.trie; distinct = distinct-moved f cmp code E canon.distinct }
+    canon-moved : (deepest : ℕ) (E : List (Entry K)) → IsCanonTo cmp code deepest G root E → IsCanonTo cmp code deepest H (f root) (map (moved f) E)
+    canon-moved deepest E canon = record { trie = trie-moved (deepest + 1) 0 root E (here root) canon.trie; distinct = distinct-moved f cmp code E canon.distinct }
 
   pub trie-reads-the-same : (X : Type 0) → TrieReadsTheSame X f G H root
   trie-reads-the-same X = record {
@@ -249,5 +248,5 @@ module _ {K : Type 0} (f : ℕ → ℕ) (G H : Forms K) (root : ℕ) (image : Is
     readings = λ n was now each.
         ap (map now) (entries-renamed f G H n root image) ∙ map-twice now f (entries_of G (rows_from n G root))
         ∙ map-same (λ k. now (f k)) was (entries_of G (rows_from n G root)) (all-at (λ k. now (f k) ≡ was k) (entries_of G (rows_from n G root)) each);
-    canonical = λ cmp code E canon. canon-moved cmp code E canon;
+    canonical = λ cmp code deepest E canon. canon-moved cmp code deepest E canon;
   }

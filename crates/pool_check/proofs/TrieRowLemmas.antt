@@ -124,14 +124,14 @@ own-few F (k ∷ ks) = omega (arith, length-append (own F k) (flat_map (own F) k
     one (Some key) = omega arith
 
 -- a trie row of these sets and links, and what is kept of the rows that it names
-pub record IsTrieRow (n : ℕ) (F : Forms Bytes) (code : Bytes → ℕ) (kept : List Kept) (depth e d l : ℕ) (ks : List ℕ) : Type 0 where
-  pub are : AreKept n F code kept
+pub record IsTrieRow (n : ℕ) (F : Forms Bytes) (code : Bytes → ℕ) (deepest : ℕ) (kept : List Kept) (depth e d l : ℕ) (ks : List ℕ) : Type 0 where
+  pub are : AreKept n F code deepest kept
   pub low : l < n
   pub is : F l ≡ Some (node (trie depth e d) ks)
   pub below : list_all (λ k. nat_lt k (length kept)) ks ≡ true
   pub small : e < 2 ^ 32
 
-module _ {n : ℕ} {F : Forms Bytes} {code : Bytes → ℕ} {kept : List Kept} {depth e d l : ℕ} {ks : List ℕ} (row : IsTrieRow n F code kept depth e d l ks) where
+module _ {n : ℕ} {F : Forms Bytes} {code : Bytes → ℕ} {deepest : ℕ} {kept : List Kept} {depth e d l : ℕ} {ks : List ℕ} (row : IsTrieRow n F code deepest kept depth e d l ks) where
   abbrev r : ℕ
   r = rank e 32
 
@@ -142,38 +142,38 @@ module _ {n : ℕ} {F : Forms Bytes} {code : Bytes → ℕ} {kept : List Kept} {
   Es = entries_below n F
 
   abbrev verdict : Bool
-  verdict = are_branches n F code depth e d ks && agree_above n F code depth l && ((depth == 0) || nat_le 2 (length (Es l)))
+  verdict = are_branches n F code deepest depth e d ks && agree_above n F code depth l && ((depth == 0) || nat_le 2 (length (Es l)))
 
-  refused : verdict ≡ false → None ≡ canonical_kept n F code l
+  refused : verdict ≡ false → None ≡ canonical_kept n F code deepest l
   unfolding canonical_kept
-  refused h = sym (ap (λ b. cond b (Some (kept_of n F code l (F l))) None) (ap (is_canonical n F code l) row.is ∙ h))
+  refused h = sym (ap (λ b. cond b (Some (kept_of n F code l (F l))) None) (ap (is_canonical n F code deepest l) row.is ∙ h))
 
-  branches-refused : are_branches n F code depth e d ks ≡ false → None ≡ canonical_kept n F code l
+  branches-refused : are_branches n F code deepest depth e d ks ≡ false → None ≡ canonical_kept n F code deepest l
   branches-refused h = refused (ap (λ b. b && agree_above n F code depth l && ((depth == 0) || nat_le 2 (length (Es l)))) h)
 
-  entries-refused : pointwise (is_entry_at n F code depth) (positions e) (take r ks) ≡ false → None ≡ canonical_kept n F code l
+  entries-refused : pointwise (is_entry_at n F code depth) (positions e) (take r ks) ≡ false → None ≡ canonical_kept n F code deepest l
   unfolding are_branches
   entries-refused h =
-      branches-refused (ap (λ b. are_apart e d && b && pointwise (is_node_at n F code depth) (positions d) (drop r ks)) h ∙ both_false (are_apart e d) (pointwise (is_node_at n F code depth) (positions d) (drop r ks)))
+      branches-refused (ap (λ b. are_apart e d && b && pointwise (is_node_at n F code deepest depth) (positions d) (drop r ks)) h ∙ both_false (are_apart e d) (pointwise (is_node_at n F code deepest depth) (positions d) (drop r ks)))
     where
       both_false : (a b : Bool) → (a && false && b) ≡ false
       both_false true b = refl
       both_false false b = refl
 
-  nodes-refused : pointwise (is_node_at n F code depth) (positions d) (drop r ks) ≡ false → None ≡ canonical_kept n F code l
+  nodes-refused : pointwise (is_node_at n F code deepest depth) (positions d) (drop r ks) ≡ false → None ≡ canonical_kept n F code deepest l
   unfolding are_branches
   nodes-refused h =
       branches-refused (ap (λ b. are_apart e d && pointwise (is_entry_at n F code depth) (positions e) (take r ks) && b) h ∙ and-false (are_apart e d && pointwise (is_entry_at n F code depth) (positions e) (take r ks)))
 
-  pub shared-refused : bit_and e d ≢ 0 → None ≡ canonical_kept n F code l
+  pub shared-refused : bit_and e d ≢ 0 → None ≡ canonical_kept n F code deepest l
   unfolding are_branches
   shared-refused some =
-      branches-refused (ap (λ b. b && pointwise (is_entry_at n F code depth) (positions e) (take r ks) && pointwise (is_node_at n F code depth) (positions d) (drop r ks)) (not-apart e d row.small some))
+      branches-refused (ap (λ b. b && pointwise (is_entry_at n F code depth) (positions e) (take r ks) && pointwise (is_node_at n F code deepest depth) (positions d) (drop r ks)) (not-apart e d row.small some))
 
-  pub short-refused : length ks < count_ones e → None ≡ canonical_kept n F code l
+  pub short-refused : length ks < count_ones e → None ≡ canonical_kept n F code deepest l
   short-refused short = by_test (pointwise (is_entry_at n F code depth) (positions e) (take r ks)) refl
     where
-      by_test : (b : Bool) → pointwise (is_entry_at n F code depth) (positions e) (take r ks) ≡ b → None ≡ canonical_kept n F code l
+      by_test : (b : Bool) → pointwise (is_entry_at n F code depth) (positions e) (take r ks) ≡ b → None ≡ canonical_kept n F code deepest l
       by_test false h = entries-refused h
       by_test true h =
           let long = pointwise-length (is_entry_at n F code depth) (positions e) (take r ks) h in
@@ -186,21 +186,21 @@ module _ {n : ℕ} {F : Forms Bytes} {code : Bytes → ℕ} {kept : List Kept} {
   low-nodes : list_all (λ k. nat_lt k (length kept)) (drop r ks) ≡ true
   low-nodes = (low-parts (λ k. nat_lt k (length kept)) r ks row.below).1
 
-  pub codes-refused : codes_in n F code depth (count_ones e) ks ≡ None → None ≡ canonical_kept n F code l
-  codes-refused none = by_part (lacking (codes_by (code_at n F code Entries depth) (take r ks)) (codes_by (code_at n F code Nodes depth) (drop r ks)) (ap (λ i. codes_in n F code depth i ks) (sym own-is) ∙ none))
+  pub codes-refused : codes_in n F code deepest depth (count_ones e) ks ≡ None → None ≡ canonical_kept n F code deepest l
+  codes-refused none = by_part (lacking (codes_by (code_at n F code deepest Entries depth) (take r ks)) (codes_by (code_at n F code deepest Nodes depth) (drop r ks)) (ap (λ i. codes_in n F code deepest depth i ks) (sym own-is) ∙ none))
     where
-      by_part : Lacks (codes_by (code_at n F code Entries depth) (take r ks)) (codes_by (code_at n F code Nodes depth) (drop r ks)) → None ≡ canonical_kept n F code l
+      by_part : Lacks (codes_by (code_at n F code deepest Entries depth) (take r ks)) (codes_by (code_at n F code deepest Nodes depth) (drop r ks)) → None ≡ canonical_kept n F code deepest l
       by_part (lacks_first h) =
-          entries-refused (tests-fail code depth (is_entry_at n F code depth) (own F) (code_at n F code Entries depth) (length kept) (λ k _. entry-says n F code kept row.are depth k) (take r ks) (positions e) low-own h)
+          entries-refused (tests-fail code depth (is_entry_at n F code depth) (own F) (code_at n F code deepest Entries depth) (length kept) (λ k _. entry-says n F code deepest kept row.are depth k) (take r ks) (positions e) low-own h)
       by_part (lacks_second h) =
-          nodes-refused (tests-fail code depth (is_node_at n F code depth) Es (code_at n F code Nodes depth) (length kept) (λ k below. node-says n F code kept row.are depth k below) (drop r ks) (positions d) low-nodes h)
+          nodes-refused (tests-fail code depth (is_node_at n F code deepest depth) Es (code_at n F code deepest Nodes depth) (length kept) (λ k below. node-says n F code deepest kept row.are depth k below) (drop r ks) (positions d) low-nodes h)
 
   entries-are : Es l ≡ flat_map (own F) (take r ks) ++ flat_map Es (drop r ks)
   entries-are = entries-is F row.are.falls n l row.low ∙ ap (λ x. flat_map (own F) (own_entries x) ++ flat_map Es (rows_below x)) row.is
 
-  module _ {cs : List ℕ} (codes : codes_in n F code depth (count_ones e) ks ≡ Some cs) (enough : count_ones e ≤ length ks) (disjoint : bit_and e d ≡ 0) where
-    parts : (es : List ℕ) × (ds : List ℕ) × (codes_by (code_at n F code Entries depth) (take r ks) ≡ Some es) × (codes_by (code_at n F code Nodes depth) (drop r ks) ≡ Some ds) × (cs ≡ es ++ ds)
-    parts = in-parts (codes_by (code_at n F code Entries depth) (take r ks)) (codes_by (code_at n F code Nodes depth) (drop r ks)) cs (ap (λ i. codes_in n F code depth i ks) (sym own-is) ∙ codes)
+  module _ {cs : List ℕ} (codes : codes_in n F code deepest depth (count_ones e) ks ≡ Some cs) (enough : count_ones e ≤ length ks) (disjoint : bit_and e d ≡ 0) where
+    parts : (es : List ℕ) × (ds : List ℕ) × (codes_by (code_at n F code deepest Entries depth) (take r ks) ≡ Some es) × (codes_by (code_at n F code deepest Nodes depth) (drop r ks) ≡ Some ds) × (cs ≡ es ++ ds)
+    parts = in-parts (codes_by (code_at n F code deepest Entries depth) (take r ks)) (codes_by (code_at n F code deepest Nodes depth) (drop r ks)) cs (ap (λ i. codes_in n F code deepest depth i ks) (sym own-is) ∙ codes)
 
     own-enough : r ≤ length ks
     own-enough = omega (arith, own-is, enough)
@@ -208,33 +208,33 @@ module _ {n : ℕ} {F : Forms Bytes} {code : Bytes → ℕ} {kept : List Kept} {
     stands : Stand code depth (Es l) cs
     stands =
         subst (λ xs. Stand code depth (Es l) xs) (sym parts.4) (subst (λ E. Stand code depth E (parts.0 ++ parts.1)) (sym entries-are) (stand-append code depth (flat_map (own F) (take r ks)) (flat_map Es (drop r ks)) parts.0 parts.1
-        (stand-all code depth (is_entry_at n F code depth) (own F) (code_at n F code Entries depth) (length kept) (λ k _. entry-says n F code kept row.are depth k) (take r ks) parts.0 low-own parts.2)
-        (stand-all code depth (is_node_at n F code depth) Es (code_at n F code Nodes depth) (length kept) (λ k below. node-says n F code kept row.are depth k below) (drop r ks) parts.1 low-nodes parts.3)))
+        (stand-all code depth (is_entry_at n F code depth) (own F) (code_at n F code deepest Entries depth) (length kept) (λ k _. entry-says n F code deepest kept row.are depth k) (take r ks) parts.0 low-own parts.2)
+        (stand-all code depth (is_node_at n F code deepest depth) Es (code_at n F code deepest Nodes depth) (length kept) (λ k below. node-says n F code deepest kept row.are depth k below) (drop r ks) parts.1 low-nodes parts.3)))
 
     halves : (take r cs ≡ parts.0) × (drop r cs ≡ parts.1)
     halves =
-        let long : length parts.0 ≡ r = codes-length (code_at n F code Entries depth) (take r ks) parts.0 parts.2 ∙ length-take-le r ks own-enough in
+        let long : length parts.0 ≡ r = codes-length (code_at n F code deepest Entries depth) (take r ks) parts.0 parts.2 ∙ length-take-le r ks own-enough in
         let front = take-front parts.0 parts.1 r long in
         (ap (take r) parts.4 ∙ front.0, ap (drop r) parts.4 ∙ front.1)
 
     own-tests : pointwise (is_entry_at n F code depth) (positions e) (take r ks) ≡ digits_are depth e (take r cs)
     unfolding digits_are
     own-tests =
-        tests-codes code depth (is_entry_at n F code depth) (own F) (code_at n F code Entries depth) (length kept) (λ k _. entry-says n F code kept row.are depth k) (take r ks) parts.0 (positions e) low-own parts.2
+        tests-codes code depth (is_entry_at n F code depth) (own F) (code_at n F code deepest Entries depth) (length kept) (λ k _. entry-says n F code deepest kept row.are depth k) (take r ks) parts.0 (positions e) low-own parts.2
         ∙ sym (ap (digits_are depth e) halves.0)
 
-    node-tests : pointwise (is_node_at n F code depth) (positions d) (drop r ks) ≡ digits_are depth d (drop r cs)
+    node-tests : pointwise (is_node_at n F code deepest depth) (positions d) (drop r ks) ≡ digits_are depth d (drop r cs)
     unfolding digits_are
     node-tests =
-        tests-codes code depth (is_node_at n F code depth) Es (code_at n F code Nodes depth) (length kept) (λ k below. node-says n F code kept row.are depth k below) (drop r ks) parts.1 (positions d) low-nodes parts.3
+        tests-codes code depth (is_node_at n F code deepest depth) Es (code_at n F code deepest Nodes depth) (length kept) (λ k below. node-says n F code deepest kept row.are depth k below) (drop r ks) parts.1 (positions d) low-nodes parts.3
         ∙ sym (ap (digits_are depth d) halves.1)
 
     two-there : nat_le 2 (length (Es l)) ≡ (nat_lt r (length ks) || nat_le 2 r)
     two-there = by_rest (drop r ks) refl low-nodes parts.3
       where
-        some-nodes : (k : ℕ) (js : List ℕ) → drop r ks ≡ k ∷ js → k < length kept → is_sub_node depth (F k) ≡ true → nat_le 2 (length (Es l)) ≡ (nat_lt r (length ks) || nat_le 2 r)
+        some-nodes : (k : ℕ) (js : List ℕ) → drop r ks ≡ k ∷ js → k < length kept → is_sub_node deepest depth (F k) ≡ true → nat_le 2 (length (Es l)) ≡ (nat_lt r (length ks) || nat_le 2 r)
         some-nodes k js rest low_k sub =
-            let here = sub-as-first n F code kept row.are depth k low_k sub in
+            let here = sub-as-first n F code deepest kept row.are depth k low_k sub in
             let most : length (Es l) ≡ length (flat_map (own F) (take r ks)) + length (flat_map Es (drop r ks)) = ap length entries-are ∙ length-append (flat_map (own F) (take r ks)) (flat_map Es (drop r ks)) in
             let first : length (flat_map Es (drop r ks)) ≡ length (Es k) + length (flat_map Es js) = ap (λ xs. length (flat_map Es xs)) rest ∙ length-append (Es k) (flat_map Es js) in
             let two : 2 ≤ length (Es l) = omega (arith, most, first, ap length here.is, here.two) in
@@ -245,45 +245,45 @@ module _ {n : ℕ} {F : Forms Bytes} {code : Bytes → ℕ} {kept : List Kept} {
         is-sub true o c h = refl
         is-sub false o c h = absurd (let f : None ≡ Some c = h in cc)
 
-        by_rest : (js : List ℕ) → drop r ks ≡ js → list_all (λ k. nat_lt k (length kept)) js ≡ true → codes_by (code_at n F code Nodes depth) js ≡ Some parts.1 → nat_le 2 (length (Es l)) ≡ (nat_lt r (length ks) || nat_le 2 r)
+        by_rest : (js : List ℕ) → drop r ks ≡ js → list_all (λ k. nat_lt k (length kept)) js ≡ true → codes_by (code_at n F code deepest Nodes depth) js ≡ Some parts.1 → nat_le 2 (length (Es l)) ≡ (nat_lt r (length ks) || nat_le 2 r)
         by_rest [] rest low_rest h =
             let none : length ks ≡ r = omega (arith, ap length rest, length-drop r ks, own-enough) in
             let all : length (Es l) ≡ length (flat_map (own F) (take r ks)) = ap length (entries-are ∙ ap (λ xs. flat_map (own F) (take r ks) ++ flat_map Es xs) rest ∙ append-nil (flat_map (own F) (take r ks))) in
             let least : length cs ≤ length (Es l) = stands.long in
             let codes_long : length cs ≡ length parts.0 + length parts.1 = ap length parts.4 ∙ length-append parts.0 parts.1 in
-            let own_long : length parts.0 ≡ r = codes-length (code_at n F code Entries depth) (take r ks) parts.0 parts.2 ∙ length-take-le r ks own-enough in
+            let own_long : length parts.0 ≡ r = codes-length (code_at n F code deepest Entries depth) (take r ks) parts.0 parts.2 ∙ length-take-le r ks own-enough in
             let few : length (flat_map (own F) (take r ks)) ≤ r = omega (arith, own-few F (take r ks), length-take-le r ks own-enough) in
             let same : length (Es l) ≡ r = omega (arith, all, least, codes_long, own_long, few) in
             ap (nat_le 2) same ∙ sym (ap (λ b. b || nat_le 2 r) (lt-false r (length ks) (omega (arith, none))))
         by_rest (k ∷ js) rest low_rest h =
-            let first = cons-some (code_at n F code Nodes depth k) (codes_by (code_at n F code Nodes depth) js) parts.1 h in
-            some-nodes k js rest (ltb-true k (length kept) (and-first (nat_lt k (length kept)) (list_all (λ j. nat_lt j (length kept)) js) low_rest)) (is-sub (is_sub_node depth (F k)) (slice_get (codes_below n F code k) 0) first.0 first.2)
+            let first = cons-some (code_at n F code deepest Nodes depth k) (codes_by (code_at n F code deepest Nodes depth) js) parts.1 h in
+            some-nodes k js rest (ltb-true k (length kept) (and-first (nat_lt k (length kept)) (list_all (λ j. nat_lt j (length kept)) js) low_rest)) (is-sub (is_sub_node deepest depth (F k)) (slice_get (codes_below n F code k) 0) first.0 first.2)
 
     verdict-is : verdict ≡ (codes_stand depth e d cs && ((depth == 0) || (nat_lt r (length ks) || nat_le 2 r)))
     unfolding codes_stand are_branches
     verdict-is =
         let two : Bool = (depth == 0) || nat_le 2 (length (Es l)) in
-        ap (λ b. (b && pointwise (is_entry_at n F code depth) (positions e) (take r ks) && pointwise (is_node_at n F code depth) (positions d) (drop r ks)) && agree_above n F code depth l && two) (apart e d disjoint)
-        ∙ ap (λ b. (b && pointwise (is_node_at n F code depth) (positions d) (drop r ks)) && agree_above n F code depth l && two) own-tests
+        ap (λ b. (b && pointwise (is_entry_at n F code depth) (positions e) (take r ks) && pointwise (is_node_at n F code deepest depth) (positions d) (drop r ks)) && agree_above n F code depth l && two) (apart e d disjoint)
+        ∙ ap (λ b. (b && pointwise (is_node_at n F code deepest depth) (positions d) (drop r ks)) && agree_above n F code depth l && two) own-tests
         ∙ ap (λ b. (digits_are depth e (take r cs) && b) && agree_above n F code depth l && two) node-tests
         ∙ ap (λ b. (digits_are depth e (take r cs) && digits_are depth d (drop r cs)) && b && two) (stand-agree code depth (Es l) cs stands)
         ∙ ap (λ b. (digits_are depth e (take r cs) && digits_are depth d (drop r cs)) && all_same (map (λ c. c % 2 ^ (5 * depth)) cs) && ((depth == 0) || b)) two-there
 
-    pub stand-refused : codes_stand depth e d cs ≡ false → None ≡ canonical_kept n F code l
+    pub stand-refused : codes_stand depth e d cs ≡ false → None ≡ canonical_kept n F code deepest l
     stand-refused h = refused (verdict-is ∙ ap (λ b. b && ((depth == 0) || (nat_lt r (length ks) || nat_le 2 r))) h)
 
     -- the test of how many entries there are, as it is made
     enough-is : (b : Bool) → ((depth == 0) || (nat_lt (count_ones e) (length ks) || nat_le 2 (count_ones e))) ≡ b → ((depth == 0) || (nat_lt r (length ks) || nat_le 2 r)) ≡ b
     enough-is b h = ap (λ i. (depth == 0) || (nat_lt i (length ks) || nat_le 2 i)) (sym own-is) ∙ h
 
-    pub few-refused : ((depth == 0) || (nat_lt (count_ones e) (length ks) || nat_le 2 (count_ones e))) ≡ false → None ≡ canonical_kept n F code l
+    pub few-refused : ((depth == 0) || (nat_lt (count_ones e) (length ks) || nat_le 2 (count_ones e))) ≡ false → None ≡ canonical_kept n F code deepest l
     few-refused h = refused (verdict-is ∙ ap (λ b. codes_stand depth e d cs && b) (enough-is false h) ∙ and-false (codes_stand depth e d cs))
 
-    pub row-kept : codes_stand depth e d cs ≡ true → ((depth == 0) || (nat_lt (count_ones e) (length ks) || nat_le 2 (count_ones e))) ≡ true → Some (kept_node depth cs) ≡ canonical_kept n F code l
+    pub row-kept : codes_stand depth e d cs ≡ true → ((depth == 0) || (nat_lt (count_ones e) (length ks) || nat_le 2 (count_ones e))) ≡ true → Some (kept_node depth cs) ≡ canonical_kept n F code deepest l
     unfolding canonical_kept
     row-kept stand two =
         let yes : verdict ≡ true = verdict-is ∙ ap (λ b. b && ((depth == 0) || (nat_lt r (length ks) || nat_le 2 r))) stand ∙ enough-is true two in
-        ap Some (same (codes_below n F code l) cs stands.head ∙ sym (ap (kept_of n F code l) row.is)) ∙ sym (ap (λ b. cond b (Some (kept_of n F code l (F l))) None) (ap (is_canonical n F code l) row.is ∙ yes))
+        ap Some (same (codes_below n F code l) cs stands.head ∙ sym (ap (kept_of n F code l) row.is)) ∙ sym (ap (λ b. cond b (Some (kept_of n F code l (F l))) None) (ap (is_canonical n F code deepest l) row.is ∙ yes))
       where
         same : (bs cs : List ℕ) → slice_get bs 0 ≡ slice_get cs 0 → kept_node depth cs ≡ kept_node depth bs
         same [] [] h = refl

@@ -6,7 +6,6 @@ use Rattle.std.specs.declared.cmp.Ordering.{Ordering}
 use Rattle.std.specs.declared.cmp.Ordering.TheVariants.{Less, Equal, Greater}
 use Rattle.std.specs.Cmp.Lexicographic.{slice_cmp}
 use Rattle.std.proofs.lemmas.Bool.{eqb-true}
-use Rattle.elem_core.specs.declared.codes.TheConstants.{DEEPEST}
 use Rattle.node_heap.specs.Forms.{Form, cell, node, leaf, inner, trie, chain, pair, state}
 use Rattle.pool_text.specs.Rows.{Bytes}
 use Rattle.pool_check.specs.Tries.{is_before, is_sub_node, is_chain_row}
@@ -39,14 +38,14 @@ chain-row-is (Some (node chain ks)) h = (ks, refl)
 chain-row-is (Some (node pair _)) h = absurd (not-both h)
 chain-row-is (Some (node state _)) h = absurd (not-both h)
 
-pub sub-node-is : (depth : ℕ) (r : Option (Form Bytes)) → is_sub_node depth r ≡ true
-    → ((e : ℕ) × (d : ℕ) × (ks : List ℕ) × (r ≡ Some (node (trie (depth + 1) e d) ks))) ⊎ ((ks : List ℕ) × (r ≡ Some (node chain ks)) × (length ks ≡ 2) × (depth ≡ DEEPEST))
-sub-node-is depth None h = absurd (not-both h)
-sub-node-is depth (Some (cell _)) h = absurd (not-both h)
-sub-node-is depth (Some (node leaf _)) h = absurd (not-both h)
-sub-node-is depth (Some (node (inner _) _)) h = absurd (not-both h)
-sub-node-is depth (Some (node (trie c e d) ks)) h =
+pub sub-node-is : (deepest depth : ℕ) (r : Option (Form Bytes)) → is_sub_node deepest depth r ≡ true
+    → ((e : ℕ) × (d : ℕ) × (ks : List ℕ) × (r ≡ Some (node (trie (depth + 1) e d) ks))) ⊎ ((ks : List ℕ) × (r ≡ Some (node chain ks)) × (length ks ≡ 2) × (depth ≡ deepest))
+sub-node-is deepest depth None h = absurd (not-both h)
+sub-node-is deepest depth (Some (cell _)) h = absurd (not-both h)
+sub-node-is deepest depth (Some (node leaf _)) h = absurd (not-both h)
+sub-node-is deepest depth (Some (node (inner _) _)) h = absurd (not-both h)
+sub-node-is deepest depth (Some (node (trie c e d) ks)) h =
     inl (e, d, ks, ap (λ x. Some (node (trie x e d) ks)) (eqb-true c (depth + 1) h))
-sub-node-is depth (Some (node chain ks)) h = inr (ks, refl, eqb-true (length ks) 2 (and-second (depth == DEEPEST) (length ks == 2) h), eqb-true depth DEEPEST (and-first (depth == DEEPEST) (length ks == 2) h))
-sub-node-is depth (Some (node pair _)) h = absurd (not-both h)
-sub-node-is depth (Some (node state _)) h = absurd (not-both h)
+sub-node-is deepest depth (Some (node chain ks)) h = inr (ks, refl, eqb-true (length ks) 2 (and-second (depth == deepest) (length ks == 2) h), eqb-true depth deepest (and-first (depth == deepest) (length ks == 2) h))
+sub-node-is deepest depth (Some (node pair _)) h = absurd (not-both h)
+sub-node-is deepest depth (Some (node state _)) h = absurd (not-both h)

@@ -8,7 +8,7 @@ use Rattle.std.proofs.lemmas.List.Sums.{sum_by-cons}
 use Rattle.node_heap.specs.Forms.{Form, Forms, cell, node, leaf, inner, trie, chain, pair, state, links_of, links_in}
 use Rattle.node_heap.specs.declared.row.TheConstants.{MOST_HEIGHT}
 use Rattle.rrb_core.specs.Seq.{height_in, form_height, seq_at, IsThick, IsWellInner, IsWell, IsWellShaped}
-use Rattle.pool_text.specs.Rows.{is_between, is_in_range}
+use Rattle.pool_text.specs.Rows.{is_between, is_in_range_to}
 use Rattle.pool_check.specs.Vectors.{has_height, is_thick, length_at, are_children, keeps_fill_rule}
 use Rattle.pool_check.specs.Kinds.{is_vector_root}
 use Rattle.pool_check.proofs.TestLemmas.{and-first, and-second, not-both, all-from}
@@ -59,7 +59,7 @@ module _ {K : Type 0} (F : Forms K) where
   between a b n e = (leb-true a n (and-first (nat_le a n) (nat_le n b) e), leb-true n b (and-second (nat_le a n) (nat_le n b) e))
 
   -- each row is in range, and keeps the fill rule
-  module _ (ranged : (l : ℕ) (r : Form K) → F l ≡ Some r → is_in_range r ≡ true) (filled : (l : ℕ) (r : Form K) → F l ≡ Some r → keeps_fill_rule F r ≡ true) where
+  module _ (deepest : ℕ) (ranged : (l : ℕ) (r : Form K) → F l ≡ Some r → is_in_range_to deepest r ≡ true) (filled : (l : ℕ) (r : Form K) → F l ≡ Some r → keeps_fill_rule F r ≡ true) where
     record Inner (n l : ℕ) (ks : List ℕ) : Type 0 where
       pub row : F l ≡ Some (node (inner (suc n)) ks)
       pub low : suc n ≤ MOST_HEIGHT
@@ -70,7 +70,7 @@ module _ {K : Type 0} (F : Forms K) where
     inner-is : (l height : ℕ) (ks : List ℕ) → F l ≡ Some (node (inner height) ks) → (n : ℕ) × (height ≡ suc n) × Inner n l ks
     inner-is l zero ks is = absurd (not-both (ranged l (node (inner zero) ks) is))
     inner-is l (suc n) ks is =
-        let e : is_in_range {K = K} (node (inner (suc n)) ks) ≡ true = ranged l (node (inner (suc n)) ks) is in
+        let e : is_in_range_to {K = K} deepest (node (inner (suc n)) ks) ≡ true = ranged l (node (inner (suc n)) ks) is in
         let fits = between 1 MOST_HEIGHT (suc n) (and-first (is_between 1 MOST_HEIGHT (suc n)) (is_between 1 32 (length ks)) e) in
         let few = between 1 32 (length ks) (and-second (is_between 1 MOST_HEIGHT (suc n)) (is_between 1 32 (length ks)) e) in
         let one : suc n - 1 ≡ n = omega arith in

@@ -3,11 +3,12 @@ use Rattle.std.specs.Prelude.{◌≡◌, ℕ, ◌<◌, Bool, true, false, ◌&&�
 use Rattle.std.specs.List.{list_all}
 use Rattle.node_heap.specs.Forms.{Form, Forms, node, leaf, inner, trie, chain}
 use Rattle.pool_text.specs.Rows.{Bytes}
+use Rattle.pool_text.specs.Rules.{Rules}
 use Rattle.pool_text.specs.Pool.{forms_in, row_count}
 use Rattle.pool_text.specs.declared.pool.Pool.{Pool}
-use Rattle.pool_check.specs.Rows.{rows_in_range, links_lead_back}
+use Rattle.pool_check.specs.Rows.{rows_in_range_by, links_lead_back}
 use Rattle.pool_check.specs.Vectors.{vectors_stand}
-use Rattle.pool_check.specs.Tries.{entries_below, tries_stand}
+use Rattle.pool_check.specs.Tries.{entries_below, tries_stand_by}
 use Rattle.pool_check.specs.Kinds.{is_vector_root, is_trie_root, is_pair_of, is_cell_of, elements_pass, is_name_cell, is_lines_vector, is_state}
 use Rattle.pool_check.specs.declared.kinds.RowFacts.{RowFacts}
 
@@ -115,9 +116,10 @@ module _ (facts : ℕ → RowFacts) where
     over_named_states = list_all (λ k. (facts k).over_named_states) links;
   }
 
--- a pool that passes the tests before that of the roots' kinds
+-- a pool that passes the tests before that of the roots' kinds, by some rules
 pub record HasRowsThatStand (P : Pool) : Type 0 where
-  pub in_range : rows_in_range P ≡ true
+  pub rules : Rules
+  pub in_range : rows_in_range_by rules P ≡ true
   pub lead_back : links_lead_back P ≡ true
   pub vectors : vectors_stand P ≡ true
-  pub tries : tries_stand P ≡ true
+  pub tries : tries_stand_by rules P ≡ true

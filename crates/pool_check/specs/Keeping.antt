@@ -2,7 +2,6 @@
 use Rattle.std.specs.Prelude.{◌≡◌, ℕ, ◌+◌, ◌*◌, ◌%◌, ◌^◌, ◌<◌, ◌≤◌, Bool, true, ◌&&◌, ◌==◌, List, [], ◌∷◌, ◌++◌, map, take, drop, length, slice_get, Option, Some, None, option_map, option_and_then, nat_eq, if◌then◌else◌}
 use lib.Pointwise.{pointwise}
 use Rattle.elem_core.specs.Codes.{digit_at}
-use Rattle.elem_core.specs.declared.codes.TheConstants.{DEEPEST}
 use Rattle.node_heap.specs.Links.{LeadsDown}
 use Rattle.node_heap.specs.Forms.{Form, Forms, node, trie, chain, pair, links_in}
 use Rattle.champ_chain.specs.Entry.{key_of, key_at}
@@ -40,10 +39,10 @@ code_of_entry (At _ c) = Some c
 code_of_entry _ = None
 
 -- the code that is kept of a sub-node of a trie row of this depth
-abbrev pub code_of_node : ℕ → Kept → Option ℕ
-code_of_node depth (Node own c) = if own == depth + 1 then Some c else None
-code_of_node depth (Chain _ c two) = if (depth == DEEPEST) && two then Some c else None
-code_of_node depth _ = None
+abbrev pub code_of_node : ℕ → ℕ → Kept → Option ℕ
+code_of_node deepest depth (Node own c) = if own == depth + 1 then Some c else None
+code_of_node deepest depth (Chain _ c two) = if (depth == deepest) && two then Some c else None
+code_of_node deepest depth _ = None
 
 -- what is kept of a trie row over keys of these codes
 abbrev pub kept_node : ℕ → List ℕ → Kept
@@ -71,16 +70,6 @@ module _ (n : ℕ) (F : Forms Bytes) (code : Bytes → ℕ) where
   abbrev pub codes_below : ℕ → List ℕ
   codes_below l = map (λ e. code e.key) (entries_below n F l)
 
-  -- the code of the first key at a link, if it names an entry, or a sub-node of a trie row of this depth
-  abbrev pub code_at : Part → ℕ → ℕ → Option ℕ
-  code_at Entries depth l = option_map code (key_at F l)
-  code_at Nodes depth l = if is_sub_node depth (F l) then slice_get (codes_below l) 0 else None
-
-  -- the same for the links of a trie row, of which the first so many are entries
-  abbrev pub codes_in : ℕ → ℕ → List ℕ → Option (List ℕ)
-  codes_in depth own links =
-      option_and_then (λ cs. option_map (λ ds. cs ++ ds) (codes_by (code_at Nodes depth) (drop own links))) (codes_by (code_at Entries depth) (take own links))
-
   -- what is kept of the row at a place
   abbrev pub kept_of : ℕ → Option (Form Bytes) → Kept
   kept_of l (Some (node (trie depth _ _) _)) = kept_node depth (codes_below l)
@@ -88,13 +77,24 @@ module _ (n : ℕ) (F : Forms Bytes) (code : Bytes → ℕ) where
   kept_of l (Some (node chain (k ∷ ks))) = kept_chain code (length ks == 1) (cell_of k (F k)) (key_at F k)
   kept_of l r = kept_entry code (cell_of l r) (key_of F r)
 
-  -- the same, if the row is canonical
-  unfoldable pub canonical_kept : ℕ → Option Kept
-  canonical_kept l = if is_canonical n F code l (F l) then Some (kept_of l (F l)) else None
+  module _ (deepest : ℕ) where
+    -- the code of the first key at a link, if it names an entry, or a sub-node of a trie row of this depth
+    abbrev pub code_at : Part → ℕ → ℕ → Option ℕ
+    code_at Entries depth l = option_map code (key_at F l)
+    code_at Nodes depth l = if is_sub_node deepest depth (F l) then slice_get (codes_below l) 0 else None
 
-  -- this is what is kept of the first rows, all of which are canonical
-  pub record AreKept (known : List Kept) : Type 0 where
-    pub falls : LeadsDown (λ l. l) (links_in F)
-    pub low : length known ≤ n
-    pub canonical : (k : ℕ) → k < length known → is_canonical n F code k (F k) ≡ true
-    pub kept : (k : ℕ) → k < length known → slice_get known k ≡ Some (kept_of k (F k))
+    -- the same for the links of a trie row, of which the first so many are entries
+    abbrev pub codes_in : ℕ → ℕ → List ℕ → Option (List ℕ)
+    codes_in depth own links =
+        option_and_then (λ cs. option_map (λ ds. cs ++ ds) (codes_by (code_at Nodes depth) (drop own links))) (codes_by (code_at Entries depth) (take own links))
+
+    -- what is kept of the row at a place, if it is canonical
+    unfoldable pub canonical_kept : ℕ → Option Kept
+    canonical_kept l = if is_canonical n F code deepest l (F l) then Some (kept_of l (F l)) else None
+
+    -- this is what is kept of the first rows, all of which are canonical
+    pub record AreKept (known : List Kept) : Type 0 where
+      pub falls : LeadsDown (λ l. l) (links_in F)
+      pub low : length known ≤ n
+      pub canonical : (k : ℕ) → k < length known → is_canonical n F code deepest k (F k) ≡ true
+      pub kept : (k : ℕ) → k < length known → slice_get known k ≡ Some (kept_of k (F k))

@@ -3,9 +3,9 @@ use Rattle.std.specs.Prelude.{◌≡◌, ◌≢◌, ◌↔◌, ℕ, true, length
 use Rattle.std.specs.Ordering.{nat_cmp}
 use Rattle.std.specs.Cmp.Lexicographic.{slice_cmp}
 use Rattle.rrb_core.specs.Seq.{IsWellShaped}
-use Rattle.elem_core.specs.Codes.{text_code}
-use Rattle.champ_trie.specs.Trie.{IsCanon, code_by}
+use Rattle.champ_trie.specs.Trie.{IsCanonTo, code_by}
 use Rattle.pool_text.specs.Rows.{Bytes}
+use Rattle.pool_text.specs.Rules.{Rules}
 use Rattle.pool_text.specs.Pool.{forms_in, row_count}
 use Rattle.pool_text.specs.Document.{document, value_in, pool_in_bytes}
 use Rattle.pool_text.specs.declared.damage.Damage.TheVariants.{Memory}
@@ -13,19 +13,21 @@ use Rattle.pool_text.specs.Renaming.{IsOfItself}
 use Rattle.pool_text.specs.declared.pool.Pool.{Pool}
 use Rattle.pool_check.specs.Tries.{entries_below}
 use Rattle.pool_check.specs.Kinds.{is_vector_root, is_trie_root}
-use Rattle.pool_check.specs.Damages.{damage, document_damage, IsValid}
+use Rattle.pool_check.specs.Damages.{damage_by, document_damage, IsValidBy, IsValid}
 
 -- a vector root of a valid pool is the root of a well-shaped vector
 abbrev pub VectorRootsAreGood : Type 0
-VectorRootsAreGood = (P : Pool) (l : ℕ) → IsValid P → is_vector_root (forms_in P l) ≡ true → IsWellShaped (forms_in P) l
+VectorRootsAreGood = (rules : Rules) (P : Pool) (l : ℕ) → IsValidBy rules P → is_vector_root (forms_in P l) ≡ true → IsWellShaped (forms_in P) l
 
 -- a trie row of depth 0 of a valid pool is the canonical trie of the entries below it
 abbrev pub TrieRootsAreCanonical : Type 0
-TrieRootsAreCanonical = (P : Pool) (l : ℕ) → IsValid P → is_trie_root (forms_in P l) ≡ true → IsCanon (slice_cmp nat_cmp) (code_by text_code P.bits) (forms_in P) l (entries_below (row_count P) (forms_in P) l)
+TrieRootsAreCanonical =
+    (rules : Rules) (P : Pool) (l : ℕ) → IsValidBy rules P → is_trie_root (forms_in P l) ≡ true
+    → IsCanonTo (slice_cmp nat_cmp) (code_by rules.code_of P.bits) rules.deepest (forms_in P) l (entries_below (row_count P) (forms_in P) l)
 
 -- a pool has no damage exactly where it is valid
 abbrev pub UndamagedIsValid : Type 0
-UndamagedIsValid = (P : Pool) → (damage P ≡ None) ↔ IsValid P
+UndamagedIsValid = (rules : Rules) (P : Pool) → (damage_by rules P ≡ None) ↔ IsValidBy rules P
 
 -- the bytes stand for the pool, which is valid, has four roots and keeps so many bits
 pub record IsReadAs (bits : ℕ) (P : Pool) (bytes : Bytes) : Type 0 where
@@ -53,4 +55,4 @@ DamagesAreTests = (bits : ℕ) (bytes : Bytes) → document_damage bits bytes �
 
 -- a valid pool is the pool of its own rows from its roots
 abbrev pub ValidIsOfItself : Type 0
-ValidIsOfItself = (P : Pool) → IsValid P → IsOfItself P
+ValidIsOfItself = (rules : Rules) (P : Pool) → IsValidBy rules P → IsOfItself P

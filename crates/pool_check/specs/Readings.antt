@@ -6,7 +6,7 @@ use Rattle.node_heap.specs.Links.{Reaches}
 use Rattle.node_heap.specs.Forms.{Forms, links_in}
 use Rattle.rrb_core.specs.Seq.{height_in, seq, IsWellShaped}
 use Rattle.champ_chain.specs.Entry.{Entry, entry, key_at}
-use Rattle.champ_trie.specs.Trie.{IsCanon}
+use Rattle.champ_trie.specs.Trie.{IsCanonTo}
 use Rattle.champ_trie.specs.Walk.{rows_from, entries_of}
 use Rattle.pool_text.specs.Renaming.{IsRenamed}
 
@@ -34,7 +34,7 @@ module _ {K : Type 0} (X : Type 0) (f : ℕ → ℕ) (G H : Forms K) (l : ℕ) w
     pub entries : (n : ℕ) → entries_of H (rows_from n H (f l)) ≡ map f (entries_of G (rows_from n G l))
     pub reached : (n : ℕ) → All (λ k. Reaches (links_in G) l k) (entries_of G (rows_from n G l))
     pub readings : (n : ℕ) (was now : ℕ → X) → AreReadTheSame f (entries_of G (rows_from n G l)) was now → map now (entries_of H (rows_from n H (f l))) ≡ map was (entries_of G (rows_from n G l))
-    pub canonical : (cmp : K → K → Ordering) (code : K → ℕ) (E : List (Entry K)) → IsCanon cmp code G l E → IsCanon cmp code H (f l) (map (moved f) E)
+    pub canonical : (cmp : K → K → Ordering) (code : K → ℕ) (deepest : ℕ) (E : List (Entry K)) → IsCanonTo cmp code deepest G l E → IsCanonTo cmp code deepest H (f l) (map (moved f) E)
 
 -- a vector reads the same wherever its rows are renamed
 abbrev pub VectorsReadTheSame : Type 0 → Type 0 → Type 0

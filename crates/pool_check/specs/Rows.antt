@@ -3,14 +3,18 @@ use Rattle.std.specs.Prelude.{ℕ, suc, Bool, true, not, ◌&&◌, ◌==◌, nat
 use Rattle.std.specs.List.{list_any, list_all}
 use Rattle.elem_core.specs.declared.TheConstants.{MAX_LINE, NEWLINE}
 use Rattle.node_heap.specs.Forms.{Form, cell, node, links_of}
-use Rattle.pool_text.specs.Rows.{is_in_range}
-use Rattle.pool_text.specs.Rows.{Bytes}
+use Rattle.pool_text.specs.Rows.{Bytes, is_in_range_to}
+use Rattle.pool_text.specs.Rules.{Rules, present_rules}
 use Rattle.pool_text.specs.Pool.{row_count}
 use Rattle.pool_text.specs.declared.pool.Pool.{Pool}
 
+-- every row is in range by the rules
+unfoldable pub rows_in_range_by : Rules → Pool → Bool
+rows_in_range_by rules P = list_all (is_in_range_to rules.deepest) P.rows
+
 -- every row is in range
-unfoldable pub rows_in_range : Pool → Bool
-rows_in_range P = list_all is_in_range P.rows
+abbrev pub rows_in_range : Pool → Bool
+rows_in_range P = rows_in_range_by present_rules P
 
 -- every row from this place on has links to earlier places alone
 abbrev pub rows_lead_back : {K : Type 0} → ℕ → List (Form K) → Bool

@@ -4,14 +4,14 @@ use Rattle.std.specs.List.{filter, list_all, range_with_len, filter_map}
 use Rattle.std.specs.Ordering.{nat_cmp, is_lt}
 use Rattle.std.specs.Cmp.Lexicographic.{slice_cmp}
 use lib.Pointwise.{pointwise}
-use Rattle.elem_core.specs.Codes.{text_code, digit_at}
-use Rattle.elem_core.specs.declared.codes.TheConstants.{DEEPEST}
+use Rattle.elem_core.specs.Codes.{digit_at}
 use Rattle.node_heap.specs.Forms.{Form, Forms, node, trie, chain, links_in}
 use Rattle.champ_chain.specs.Entry.{Entry, entry, key_at}
 use Rattle.champ_trie.specs.Bits.{has, rank}
 use Rattle.champ_trie.specs.Trie.{code_by}
 use Rattle.champ_trie.specs.Walk.{rows_from, entries_of}
 use Rattle.pool_text.specs.Rows.{Bytes}
+use Rattle.pool_text.specs.Rules.{Rules, present_rules}
 use Rattle.pool_text.specs.Pool.{forms_in, row_count}
 use Rattle.pool_text.specs.declared.pool.Pool.{Pool}
 
@@ -48,10 +48,10 @@ is_before (Some a) (Some b) = is_lt (slice_cmp nat_cmp a b)
 is_before _ _ = false
 
 -- whether a row may stand under a trie row of this depth: a trie row one deeper, or under the deepest a chain row of two links
-abbrev pub is_sub_node : ℕ → Option (Form Bytes) → Bool
-is_sub_node depth (Some (node (trie d _ _) _)) = d == depth + 1
-is_sub_node depth (Some (node chain links)) = (depth == DEEPEST) && (length links == 2)
-is_sub_node depth _ = false
+abbrev pub is_sub_node : ℕ → ℕ → Option (Form Bytes) → Bool
+is_sub_node deepest depth (Some (node (trie d _ _) _)) = d == depth + 1
+is_sub_node deepest depth (Some (node chain links)) = (depth == deepest) && (length links == 2)
+is_sub_node deepest depth _ = false
 
 abbrev pub is_chain_row : Option (Form Bytes) → Bool
 is_chain_row (Some (node chain _)) = true
@@ -72,20 +72,9 @@ module _ (n : ℕ) (F : Forms Bytes) where
     abbrev pub is_entry_at : ℕ → ℕ → ℕ → Bool
     is_entry_at depth p l = entry_passes (has_digit depth p) (entry_at F l)
 
-    -- the link names a sub-node, and all keys below it have the position as their digit at the depth
-    abbrev pub is_node_at : ℕ → ℕ → ℕ → Bool
-    is_node_at depth p l = is_sub_node depth (F l) && list_all (has_digit depth p) (entries_below l)
-
     -- all keys below the row agree on their digits above the depth
     abbrev pub agree_above : ℕ → ℕ → Bool
     agree_above depth l = all_same (map (λ e. code e.key % 2 ^ (5 * depth)) (entries_below l))
-
-    -- the links of a trie row of these sets: an entry for each position of the first, then a sub-node for each of the second;
-    -- so there are as many links as positions, and at the deepest only a code's last digits are positions
-    unfoldable pub are_branches : ℕ → ℕ → ℕ → List ℕ → Bool
-    are_branches depth entries nodes links =
-        are_apart entries nodes && pointwise (is_entry_at depth) (positions entries) (take (rank entries 32) links)
-        && pointwise (is_node_at depth) (positions nodes) (drop (rank entries 32) links)
 
     -- a chain row's entry, and then the chain of greater keys with the same code, if there is one
     abbrev pub are_chained : ℕ → List ℕ → Bool
@@ -93,13 +82,30 @@ module _ (n : ℕ) (F : Forms Bytes) where
     are_chained l (k ∷ m ∷ []) = is_chain_row (F m) && is_before (key_at F k) (first_key F (links_in F m)) && all_same (map (λ e. code e.key) (entries_below l))
     are_chained l _ = false
 
-    -- whether the row at the place, where it is a trie row or a chain row, is canonical
-    abbrev pub is_canonical : ℕ → Option (Form Bytes) → Bool
-    is_canonical l (Some (node (trie depth entries nodes) links)) =
-        are_branches depth entries nodes links && agree_above depth l && ((depth == 0) || nat_le 2 (length (entries_below l)))
-    is_canonical l (Some (node chain links)) = are_chained l links
-    is_canonical l _ = true
+    module _ (deepest : ℕ) where
+      -- the link names a sub-node, and all keys below it have the position as their digit at the depth
+      abbrev pub is_node_at : ℕ → ℕ → ℕ → Bool
+      is_node_at depth p l = is_sub_node deepest depth (F l) && list_all (has_digit depth p) (entries_below l)
+
+      -- the links of a trie row of these sets: an entry for each position of the first, then a sub-node for each of the second;
+      -- so there are as many links as positions, and at the deepest only a code's last digits are positions
+      unfoldable pub are_branches : ℕ → ℕ → ℕ → List ℕ → Bool
+      are_branches depth entries nodes links =
+          are_apart entries nodes && pointwise (is_entry_at depth) (positions entries) (take (rank entries 32) links)
+          && pointwise (is_node_at depth) (positions nodes) (drop (rank entries 32) links)
+
+      -- whether the row at the place, where it is a trie row or a chain row, is canonical
+      abbrev pub is_canonical : ℕ → Option (Form Bytes) → Bool
+      is_canonical l (Some (node (trie depth entries nodes) links)) =
+          are_branches depth entries nodes links && agree_above depth l && ((depth == 0) || nat_le 2 (length (entries_below l)))
+      is_canonical l (Some (node chain links)) = are_chained l links
+      is_canonical l _ = true
+
+-- every trie row and every chain row is canonical by the rules
+unfoldable pub tries_stand_by : Rules → Pool → Bool
+tries_stand_by rules P =
+    list_all (λ l. is_canonical (row_count P) (forms_in P) (code_by rules.code_of P.bits) rules.deepest l (forms_in P l)) (range_with_len 0 (row_count P))
 
 -- every trie row and every chain row is canonical
-unfoldable pub tries_stand : Pool → Bool
-tries_stand P = list_all (λ l. is_canonical (row_count P) (forms_in P) (code_by text_code P.bits) l (forms_in P l)) (range_with_len 0 (row_count P))
+abbrev pub tries_stand : Pool → Bool
+tries_stand P = tries_stand_by present_rules P

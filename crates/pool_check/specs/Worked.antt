@@ -2,9 +2,10 @@
 use Rattle.std.specs.Prelude.{◌≡◌, Some, None, codes}
 use Rattle.pool_text.specs.Documents.{start_pool, two_cells, shared_empties, sub_node, one_line_twice}
 use Rattle.pool_text.specs.Document.{text}
+use Rattle.pool_text.specs.Rules.{present_rules}
 use Rattle.pool_text.specs.declared.damage.Damage.TheVariants.{Json, Form, Version, Bits, Row, Link, Text, Vector, Trie, Kind, Order}
 use Rattle.pool_check.specs.Documents.{chained, full_history, tall_row, long_pair, forward_link, root_past_end, broken_text, empty_leaf_below, overfull_history, lone_below, two_at_one, wrong_position, turned_chain, trie_for_state, loose_row, turned_roots, turned_lines}
-use Rattle.pool_check.specs.Damages.{damage, document_damage}
+use Rattle.pool_check.specs.Damages.{open_damage, damage, document_damage}
 
 -- pools that pass every test
 pub record UndamagedPools : Type 0 where
@@ -33,6 +34,9 @@ pub record DamagedPools : Type 0 where
   pub is_loose_row : damage loose_row ≡ Some Order
   pub is_turned_roots : damage turned_roots ≡ Some Order
   pub is_turned_lines : damage turned_lines ≡ Some Order
+  -- the tests `Link` to `Kind` ask nothing of the order
+  pub is_open_loose_row : open_damage present_rules loose_row ≡ None
+  pub is_open_turned_roots : open_damage present_rules turned_roots ≡ None
 
 -- documents that fail each of the tests, and one that fails none
 pub record WorkedDamages : Type 0 where

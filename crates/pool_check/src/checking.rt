@@ -2,7 +2,9 @@
 ghost use Rattle.std.specs.Prelude.{◌≡◌, ◌≢◌, ◌≤◌, length, true, None, Some, IfOk, IfErr};
 ghost use Rattle.std.specs.List.{list_all};
 ghost use Rattle.pool_text.specs.Rows.{is_in_range};
-ghost use Rattle.pool_check.specs.Damages.{IsValid, damage};
+ghost use Rattle.pool_text.specs.Rules.{rules_named};
+ghost use Rattle.pool_check.specs.Rows.{rows_in_range_by};
+ghost use Rattle.pool_check.specs.Damages.{IsValid, damage, open_damage};
 
 use crate::kinds::roots_are_of_kind;
 use crate::order::rows_in_order;
@@ -10,7 +12,7 @@ use crate::rows::{links_lead_back, texts_are_lines};
 use crate::tries::tries_stand;
 use crate::vectors::vectors_stand;
 use elem_core::{CODE_BITS, Stored};
-use pool_text::{Damage, Pool};
+use pool_text::{Damage, Pool, Rules};
 use std::alloc::Global;
 use std::marker::{Model, PhantomData};
 
@@ -66,21 +68,7 @@ pub fn check<T: Stored>(alloc: Global, pool: Pool) -> Result<Checked<T>, Damage>
     ensures valid { IfOk result (λ _. IsValid pool) }
     ensures damage { IfErr result (λ d. d ≢ Damage.Memory → damage pool ≡ Some d) }
 {
-    if !links_lead_back(&pool) {
-        return Err(Damage::Link);
-    }
-    if !texts_are_lines(&pool) {
-        return Err(Damage::Text);
-    }
-    if !vectors_stand(alloc, &pool)? {
-        return Err(Damage::Vector);
-    }
-    if !tries_stand(alloc, &pool)? {
-        return Err(Damage::Trie);
-    }
-    if !roots_are_of_kind(alloc, &pool)? {
-        return Err(Damage::Kind);
-    }
+    make_open_tests(alloc, &pool, Rules::First)?;
     if !rows_in_order(alloc, &pool)? {
         return Err(Damage::Order);
     }
@@ -88,4 +76,29 @@ pub fn check<T: Stored>(alloc: Global, pool: Pool) -> Result<Checked<T>, Damage>
         pool,
         of: PhantomData,
     })
+}
+
+// Makes the tests `Link` to `Kind` by these rules. Refused with the first that fails, and with `Memory` where memory runs out.
+fn make_open_tests(alloc: Global, pool: &Pool, rules: Rules) -> Result<(), Damage>
+    requires bits { pool.now.bits ≤ CODE_BITS }
+    requires rows { rows_in_range_by (rules_named rules) pool.now ≡ true }
+    ensures passed { IfOk result (λ _. open_damage (rules_named rules) pool.now ≡ None) }
+    ensures damage { IfErr result (λ d. d ≢ Damage.Memory → open_damage (rules_named rules) pool.now ≡ Some d) }
+{
+    if !links_lead_back(pool) {
+        return Err(Damage::Link);
+    }
+    if !texts_are_lines(pool) {
+        return Err(Damage::Text);
+    }
+    if !vectors_stand(alloc, pool)? {
+        return Err(Damage::Vector);
+    }
+    if !tries_stand(alloc, pool, rules)? {
+        return Err(Damage::Trie);
+    }
+    if !roots_are_of_kind(alloc, pool)? {
+        return Err(Damage::Kind);
+    }
+    Ok(())
 }

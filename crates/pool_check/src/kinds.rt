@@ -4,9 +4,6 @@ ghost use Rattle.std.specs.List.{list_all};
 ghost use Rattle.node_heap.specs.Forms.{Forms};
 ghost use Rattle.pool_text.specs.Rows.{Bytes};
 ghost use Rattle.pool_text.specs.Pool.{row_count};
-ghost use Rattle.pool_check.specs.Rows.{rows_in_range, links_lead_back, texts_are_lines};
-ghost use Rattle.pool_check.specs.Vectors.{vectors_stand};
-ghost use Rattle.pool_check.specs.Tries.{tries_stand};
 ghost use Rattle.pool_check.specs.Kinds.{are_roots as all_are_roots, roots_are_of_kind as all_are};
 ghost use Rattle.pool_check.specs.Facts.{facts_at, facts_in, no_facts, of_both, AreFacts, common_facts, facts_over_entries, HasRowsThatStand};
 
@@ -65,11 +62,7 @@ const EVERYTHING: RowFacts = RowFacts {
 
 // Whether the roots are of their kinds.
 pub(crate) fn roots_are_of_kind(alloc: Global, pool: &Pool) -> Result<bool, NoMemory>
-    requires rows { rows_in_range pool.now ≡ true }
-    requires links { links_lead_back pool.now ≡ true }
-    requires texts { texts_are_lines pool.now ≡ true }
-    requires vectors { vectors_stand pool.now ≡ true }
-    requires tries { tries_stand pool.now ≡ true }
+    requires stand { HasRowsThatStand pool.now }
     ensures { IfOk result (λ are. are ≡ all_are pool.now) }
 {
     let count = pool.rows.as_slice().len();

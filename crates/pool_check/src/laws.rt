@@ -4,7 +4,7 @@ ghost use Rattle.pool_check.specs.Passing.{PoolsPassAsMade};
 ghost use Rattle.pool_check.specs.Readings.{VectorsReadTheSame, TriesReadTheSame};
 ghost use Rattle.pool_check.specs.Worked.{UndamagedPools, DamagedPools, WorkedDamages};
 
-/// A vector root of a valid pool is the root of a well-shaped vector.
+/// A vector root of a valid pool is the root of a well-shaped vector, whatever the rules.
 pub fn vector_roots_are_good()
     ensures { VectorRootsAreGood }
 {}

@@ -1,16 +1,16 @@
 //! The test of the rows' order: a walk from the roots that enters no row twice. Links lead back, so while all is well the rows
 //! that were listed are those before the next one.
-ghost use Rattle.std.specs.Prelude.{◌≡◌, ◌<◌, ◌≤◌, ◌+◌, ◌^◌, true, map, length, Some, slice_get, IfOk, IfSome};
+ghost use Rattle.std.specs.Prelude.{◌≡◌, ◌<◌, true, map, length, IfOk};
 ghost use Rattle.std.specs.List.{range_with_len};
-ghost use Rattle.node_heap.specs.Forms.{links_of};
 ghost use Rattle.pool_order.specs.Order.{places, with_all_new};
 ghost use Rattle.pool_text.specs.Rows.{row_form};
+ghost use Rattle.pool_text.specs.Pool.{links_from};
 ghost use Rattle.pool_check.specs.Rows.{rows_lead_back, links_lead_back};
 ghost use Rattle.pool_check.specs.Damages.{rows_in_order as all_in_order};
-ghost use Rattle.pool_check.specs.Counted.{links_from, CountsOn};
+ghost use Rattle.pool_check.specs.Counted.{CountsOn};
 
 use elem_core::NoMemory;
-use pool_text::{Pool, Row};
+use pool_text::{Pool, Row, link_at};
 use std::alloc::Global;
 
 // Whether the rows stand in their order, and nothing else stands there.
@@ -76,18 +76,4 @@ fn next_after(
         }
     }
     Ok(Some(next))
-}
-
-// The link at this index of the row, if it has so many.
-fn link_at(row: &Row, index: usize) -> Option<u64>
-    ensures link { result ≡ slice_get (links_of (Some (row_form row.now))) index }
-    ensures fits { IfSome result (λ _. index + 1 < 2 ^ 64) }
-{
-    match row {
-        Row::Cell(_) => None,
-        Row::Leaf(links) | Row::Inner(_, links) | Row::Trie { links, .. } | Row::Chain(links) =>
-            links.as_slice().get(index).copied(),
-        Row::Pair(key, value) => [*key, *value].get(index).copied(),
-        Row::State(buffers, stars) => [*buffers, *stars].get(index).copied(),
-    }
 }

@@ -32,9 +32,10 @@ pub(crate) enum Part {
     Nodes,
 }
 
-// What is kept of a trie row of these sets and links, if it is canonical.
+// What is kept of a trie row of these sets and links, if it is canonical where tries go so deep.
 pub(crate) fn trie_row(
     kept: &[Kept],
+    deepest: u8,
     depth: u8,
     entries: u32,
     nodes: u32,
@@ -43,8 +44,8 @@ pub(crate) fn trie_row(
     requires depth { depth ≤ DEEPEST }
     requires few { length links.now ≤ 32 }
     requires below { list_all (λ k. nat_lt k (length kept.now)) links.now ≡ true }
-    ensures { (n : ℕ) (F : Forms Bytes) (code : Bytes → ℕ) (l : ℕ) → AreKept n F code kept.now → l < n
-        → F l ≡ Some (node (trie depth entries nodes) links.now) → result ≡ canonical_kept n F code l }
+    ensures { (n : ℕ) (F : Forms Bytes) (code : Bytes → ℕ) (l : ℕ) → AreKept n F code deepest kept.now → l < n
+        → F l ≡ Some (node (trie depth entries nodes) links.now) → result ≡ canonical_kept n F code deepest l }
 {
     if entries & nodes != 0 {
         return None;
@@ -53,7 +54,7 @@ pub(crate) fn trie_row(
     if links.len() < own {
         return None;
     }
-    let codes = codes_of(kept, depth, own, links)?;
+    let codes = codes_of(kept, deepest, depth, own, links)?;
     if !codes_are_of(depth, entries, nodes, codes.as_slice()) {
         return None;
     }
@@ -85,20 +86,33 @@ fn kept_node(depth: u8, codes: &[Code]) -> Kept
 }
 
 // For each link the code of the first key there, if the first `own` links name entries, and the others sub-nodes.
-fn codes_of(kept: &[Kept], depth: u8, own: usize, links: &[u64]) -> Option<ArrayVec<Code, 32>>
+fn codes_of(
+    kept: &[Kept],
+    deepest: u8,
+    depth: u8,
+    own: usize,
+    links: &[u64],
+) -> Option<ArrayVec<Code, 32>>
     requires depth { depth ≤ DEEPEST }
     requires own { own ≤ length links.now }
     requires few { length links.now ≤ 32 }
     requires below { list_all (λ k. nat_lt k (length kept.now)) links.now ≡ true }
     ensures long { IfSome result (λ codes. length codes.items ≡ length links.now) }
-    ensures codes { (n : ℕ) (F : Forms Bytes) (code : Bytes → ℕ) → AreKept n F code kept.now
-        → option_map (λ codes. codes.items) result ≡ codes_in n F code depth own links.now }
+    ensures codes { (n : ℕ) (F : Forms Bytes) (code : Bytes → ℕ) → AreKept n F code deepest kept.now
+        → option_map (λ codes. codes.items) result ≡ codes_in n F code deepest depth own links.now }
 {
     let mut codes = ArrayVec::new();
-    if !add_codes(kept, Part::Entries, depth, &links[..own], &mut codes) {
+    if !add_codes(
+        kept,
+        Part::Entries,
+        deepest,
+        depth,
+        &links[..own],
+        &mut codes,
+    ) {
         return None;
     }
-    if !add_codes(kept, Part::Nodes, depth, &links[own..], &mut codes) {
+    if !add_codes(kept, Part::Nodes, deepest, depth, &links[own..], &mut codes) {
         return None;
     }
     Some(codes)
@@ -108,6 +122,7 @@ fn codes_of(kept: &[Kept], depth: u8, own: usize, links: &[u64]) -> Option<Array
 fn add_codes(
     kept: &[Kept],
     part: Part,
+    deepest: u8,
     depth: u8,
     links: &[u64],
     codes: &mut ArrayVec<Code, 32>,
@@ -116,12 +131,12 @@ fn add_codes(
     requires room { length codes.old.items + length links.now ≤ 32 }
     requires below { list_all (λ k. nat_lt k (length kept.now)) links.now ≡ true }
     ensures long { result ≡ true → length codes.new.items ≡ length codes.old.items + length links.now }
-    ensures codes { (n : ℕ) (F : Forms Bytes) (code : Bytes → ℕ) → AreKept n F code kept.now
-        → option_map (λ cs. codes.old.items ++ cs) (codes_by (code_at n F code part depth) links.now)
+    ensures codes { (n : ℕ) (F : Forms Bytes) (code : Bytes → ℕ) → AreKept n F code deepest kept.now
+        → option_map (λ cs. codes.old.items ++ cs) (codes_by (code_at n F code deepest part depth) links.now)
         ≡ (if result then Some codes.new.items else None) }
 {
     for link in links {
-        match code_of(kept, part, depth, *link) {
+        match code_of(kept, part, deepest, depth, *link) {
             Some(code) => codes.push(code),
             None => return false,
         }
@@ -130,15 +145,15 @@ fn add_codes(
 }
 
 // The code of the first key at the link, if it names an entry, or a sub-node of a trie row of this depth.
-fn code_of(kept: &[Kept], part: Part, depth: u8, link: u64) -> Option<Code>
+fn code_of(kept: &[Kept], part: Part, deepest: u8, depth: u8, link: u64) -> Option<Code>
     requires depth { depth ≤ DEEPEST }
     requires below { link < length kept.now }
-    ensures { (n : ℕ) (F : Forms Bytes) (code : Bytes → ℕ) → AreKept n F code kept.now
-        → result ≡ code_at n F code part depth link }
+    ensures { (n : ℕ) (F : Forms Bytes) (code : Bytes → ℕ) → AreKept n F code deepest kept.now
+        → result ≡ code_at n F code deepest part depth link }
 {
     match part {
         Part::Entries => entry_code(kept[link as usize]),
-        Part::Nodes => node_code(kept[link as usize], depth),
+        Part::Nodes => node_code(kept[link as usize], deepest, depth),
     }
 }
 
@@ -153,13 +168,13 @@ fn entry_code(kept: Kept) -> Option<Code>
 }
 
 // The code that is kept of a sub-node of a trie row of this depth.
-fn node_code(kept: Kept, depth: u8) -> Option<Code>
+fn node_code(kept: Kept, deepest: u8, depth: u8) -> Option<Code>
     requires { depth ≤ DEEPEST }
-    ensures { result ≡ code_of_node depth kept }
+    ensures { result ≡ code_of_node deepest depth kept }
 {
     match kept {
         Kept::Node { depth: own, code } => (own == depth + 1).then_some(code),
-        Kept::Chain { code, two, .. } => (depth == DEEPEST && two).then_some(code),
+        Kept::Chain { code, two, .. } => (depth == deepest && two).then_some(code),
         _ => None,
     }
 }

@@ -1,31 +1,30 @@
 //! The test of trie rows and chain rows: each is looked at once, and what the rows above it ask of it is kept.
 ghost use Rattle.std.specs.Prelude.{◌≡◌, ℕ, ◌≤◌, ◌<◌, List, [], ◌∷◌, length, map, true, Some, IfOk, nat_lt};
 ghost use Rattle.std.specs.List.{list_all};
-ghost use Rattle.elem_core.specs.Codes.{text_code};
 ghost use Rattle.node_heap.specs.Forms.{value_of, node, chain};
 ghost use Rattle.champ_trie.specs.Trie.{code_by};
-ghost use Rattle.pool_text.specs.Rows.{Bytes, is_in_range, row_form};
-ghost use Rattle.pool_check.specs.Rows.{rows_in_range, links_lead_back, texts_are_lines};
-ghost use Rattle.pool_check.specs.Tries.{is_before, tries_stand as all_stand};
+ghost use Rattle.pool_text.specs.Rows.{Bytes, is_in_range_to, row_form};
+ghost use Rattle.pool_text.specs.Rules.{rules_named};
+ghost use Rattle.pool_check.specs.Rows.{rows_in_range_by, links_lead_back};
+ghost use Rattle.pool_check.specs.Tries.{is_before, tries_stand_by};
 ghost use Rattle.pool_check.specs.Keeping.{forms_at, kept_entry, canonical_kept, AreKept};
 
 use crate::trie_row::{Kept, trie_row};
-use elem_core::{CODE_BITS, NoMemory, fnv32, masked};
-use pool_text::{Pool, Row};
+use elem_core::{CODE_BITS, NoMemory, masked};
+use pool_text::{Pool, Row, Rules};
 use std::alloc::Global;
 
-// Whether every trie row and every chain row is canonical.
-pub(crate) fn tries_stand(alloc: Global, pool: &Pool) -> Result<bool, NoMemory>
+// Whether every trie row and every chain row is canonical by these rules.
+pub(crate) fn tries_stand(alloc: Global, pool: &Pool, rules: Rules) -> Result<bool, NoMemory>
     requires bits { pool.now.bits ≤ CODE_BITS }
-    requires rows { rows_in_range pool.now ≡ true }
+    requires rows { rows_in_range_by (rules_named rules) pool.now ≡ true }
     requires links { links_lead_back pool.now ≡ true }
-    requires texts { texts_are_lines pool.now ≡ true }
-    ensures { IfOk result (λ stand. stand ≡ all_stand pool.now) }
+    ensures { IfOk result (λ stand. stand ≡ tries_stand_by (rules_named rules) pool.now) }
 {
     let rows = pool.rows.as_slice();
     let mut kept = Vec::with_capacity(alloc, rows.len())?;
     for place in 0..rows.len() {
-        match kept_row(rows, &kept, pool.bits) {
+        match kept_row(rows, &kept, rules, pool.bits) {
             Some(row) => kept.push(row)?,
             None => return Ok(false),
         }
@@ -34,17 +33,17 @@ pub(crate) fn tries_stand(alloc: Global, pool: &Pool) -> Result<bool, NoMemory>
 }
 
 // What is kept of the first row after those of which something was kept, if it is canonical.
-fn kept_row(rows: &[Row], kept: &[Kept], bits: u32) -> Option<Kept>
+fn kept_row(rows: &[Row], kept: &[Kept], rules: Rules, bits: u32) -> Option<Kept>
     requires bits { bits ≤ CODE_BITS }
     requires place { length kept.now < length rows.now }
-    requires rows { list_all is_in_range (map row_form rows.now) ≡ true }
-    requires kept { AreKept (length rows.now) (forms_at rows.now) (code_by text_code bits) kept.now }
-    ensures { result ≡ canonical_kept (length rows.now) (forms_at rows.now) (code_by text_code bits) (length kept.now) }
+    requires rows { list_all (is_in_range_to (rules_named rules).deepest) (map row_form rows.now) ≡ true }
+    requires kept { AreKept (length rows.now) (forms_at rows.now) (code_by (rules_named rules).code_of bits) (rules_named rules).deepest kept.now }
+    ensures { result ≡ canonical_kept (length rows.now) (forms_at rows.now) (code_by (rules_named rules).code_of bits) (rules_named rules).deepest (length kept.now) }
 {
     match &rows[kept.len()] {
         Row::Cell(text) => Some(Kept::Entry {
             cell: kept.len() as u64,
-            code: masked(fnv32(text.as_str().as_bytes()), bits),
+            code: masked(rules.code(text.as_str()), bits),
         }),
         Row::Pair(key, _) => Some(kept_pair(rows, kept, *key)),
         Row::Trie {
@@ -52,7 +51,14 @@ fn kept_row(rows: &[Row], kept: &[Kept], bits: u32) -> Option<Kept>
             entries,
             nodes,
             links,
-        } => trie_row(kept, *depth, *entries, *nodes, links.as_slice()),
+        } => trie_row(
+            kept,
+            rules.deepest(),
+            *depth,
+            *entries,
+            *nodes,
+            links.as_slice(),
+        ),
         Row::Chain(links) => chain_row(rows, kept, links.as_slice()),
         Row::Leaf(_) | Row::Inner(..) | Row::State(..) => Some(Kept::Other),
     }
@@ -62,7 +68,7 @@ fn kept_row(rows: &[Row], kept: &[Kept], bits: u32) -> Option<Kept>
 fn kept_pair(rows: &[Row], kept: &[Kept], key: u64) -> Kept
     requires rows { key < length rows.now }
     requires below { key < length kept.now }
-    ensures { (n : ℕ) (code : Bytes → ℕ) → AreKept n (forms_at rows.now) code kept.now
+    ensures { (n : ℕ) (code : Bytes → ℕ) (deepest : ℕ) → AreKept n (forms_at rows.now) code deepest kept.now
         → result ≡ kept_entry code key (value_of (forms_at rows.now key)) }
 {
     match &rows[key as usize] {
@@ -73,10 +79,10 @@ fn kept_pair(rows: &[Row], kept: &[Kept], key: u64) -> Kept
 
 // What is kept of a chain row with these links, if it is canonical.
 fn chain_row(rows: &[Row], kept: &[Kept], links: &[u64]) -> Option<Kept>
-    requires kept { (n : ℕ) × (code : Bytes → ℕ) × AreKept n (forms_at rows.now) code kept.now }
+    requires kept { (n : ℕ) × (code : Bytes → ℕ) × (deepest : ℕ) × AreKept n (forms_at rows.now) code deepest kept.now }
     requires below { list_all (λ k. nat_lt k (length kept.now)) links.now ≡ true }
-    ensures { (n : ℕ) (code : Bytes → ℕ) (l : ℕ) → AreKept n (forms_at rows.now) code kept.now → l < n
-        → forms_at rows.now l ≡ Some (node chain links.now) → result ≡ canonical_kept n (forms_at rows.now) code l }
+    ensures { (n : ℕ) (code : Bytes → ℕ) (deepest l : ℕ) → AreKept n (forms_at rows.now) code deepest kept.now → l < n
+        → forms_at rows.now l ≡ Some (node chain links.now) → result ≡ canonical_kept n (forms_at rows.now) code deepest l }
 {
     match links {
         [entry] => match kept[*entry as usize] {
@@ -94,11 +100,11 @@ fn chain_row(rows: &[Row], kept: &[Kept], links: &[u64]) -> Option<Kept>
 
 // What is kept of a chain row of this entry and this chain, if it is canonical.
 fn chained(rows: &[Row], kept: &[Kept], entry: u64, next: u64) -> Option<Kept>
-    requires kept { (n : ℕ) × (code : Bytes → ℕ) × AreKept n (forms_at rows.now) code kept.now }
+    requires kept { (n : ℕ) × (code : Bytes → ℕ) × (deepest : ℕ) × AreKept n (forms_at rows.now) code deepest kept.now }
     requires entry { entry < length kept.now }
     requires next { next < length kept.now }
-    ensures { (n : ℕ) (code : Bytes → ℕ) (l : ℕ) → AreKept n (forms_at rows.now) code kept.now → l < n
-        → forms_at rows.now l ≡ Some (node chain (entry ∷ next ∷ [])) → result ≡ canonical_kept n (forms_at rows.now) code l }
+    ensures { (n : ℕ) (code : Bytes → ℕ) (deepest l : ℕ) → AreKept n (forms_at rows.now) code deepest kept.now → l < n
+        → forms_at rows.now l ≡ Some (node chain (entry ∷ next ∷ [])) → result ≡ canonical_kept n (forms_at rows.now) code deepest l }
 {
     let Kept::Entry { cell, code } = kept[entry as usize] else {
         return None;

@@ -2,8 +2,9 @@
 ghost use Rattle.std.specs.Prelude.{◌≡◌, ℕ, ◌<◌, ◌≤◌, ◌-◌, true, Some, None, nat_lt, length, IfOk, if◌then◌else◌};
 ghost use Rattle.std.specs.List.{list_all};
 ghost use Rattle.node_heap.specs.Forms.{Forms, links_in, links_of};
-ghost use Rattle.pool_text.specs.Rows.{Bytes, is_in_range, row_form};
-ghost use Rattle.pool_check.specs.Rows.{rows_in_range, links_lead_back};
+ghost use Rattle.pool_text.specs.Rows.{Bytes, is_in_range_to, row_form};
+ghost use Rattle.pool_text.specs.Rules.{Rules};
+ghost use Rattle.pool_check.specs.Rows.{rows_in_range_by, links_lead_back};
 ghost use Rattle.pool_check.specs.Vectors.{has_height, are_children, keeps_fill_rule, vectors_stand as all_stand};
 ghost use Rattle.pool_check.specs.Shapes.{shape_at, shape_of, AreShapes};
 
@@ -64,7 +65,7 @@ fn child_of(shapes: &[Option<Shape>], link: u64, height: u8) -> Option<Shape>
 
 // The shape of the row, which is none where it isn't a vector row. Refused where it is an inner row that breaks the fill rule.
 fn row_shape(shapes: &[Option<Shape>], row: &Row) -> Option<Option<Shape>>
-    requires range { is_in_range (row_form row.now) ≡ true }
+    requires range { (deepest : ℕ) × (is_in_range_to deepest (row_form row.now) ≡ true) }
     requires below { list_all (λ k. nat_lt k (length shapes.now)) (links_of (Some (row_form row.now))) ≡ true }
     ensures { (F : Forms Bytes) (l : ℕ) → AreShapes F shapes.now → F l ≡ Some (row_form row.now)
         → result ≡ (if keeps_fill_rule F (row_form row.now) then Some (shape_of F l (Some (row_form row.now))) else None) }
@@ -91,7 +92,7 @@ fn leaf_shape(elements: &[u64]) -> Shape
 
 // Whether every inner row keeps the fill rule.
 pub(crate) fn vectors_stand(alloc: Global, pool: &Pool) -> Result<bool, NoMemory>
-    requires rows { rows_in_range pool.now ≡ true }
+    requires rows { (rules : Rules) × (rows_in_range_by rules pool.now ≡ true) }
     requires links { links_lead_back pool.now ≡ true }
     ensures { IfOk result (λ stand. stand ≡ all_stand pool.now) }
 {

@@ -20,12 +20,12 @@ use Rattle.rrb_core.proofs.Stays.{live-stays-by, sums-stay}
 use Rattle.pool_order.specs.Order.{places, order}
 use Rattle.pool_order.proofs.Places.{flat_map-found, places-reached, order-deep}
 use Rattle.pool_text.specs.Rows.{Bytes}
-use Rattle.pool_text.specs.Pool.{forms_in, row_count, place_in, relink, text_form, text_forms, pool_at}
+use Rattle.pool_text.specs.Pool.{forms_in, row_count, place_in, relink, settings_of, text_form, text_forms, pool_at}
 use Rattle.pool_text.specs.declared.pool.Pool.{Pool}
 use Rattle.pool_text.proofs.Held.{rooted-heap}
 use Rattle.pool_text.proofs.Placed.{place-is}
 use Rattle.pool_text.proofs.Renamed.{map-found, count-map, links-relink}
-use Rattle.pool_check.specs.Rows.{rows_lead_back, rows_in_range, links_lead_back, texts_are_lines}
+use Rattle.pool_check.specs.Rows.{rows_lead_back, rows_in_range_by, links_lead_back, texts_are_lines}
 use Rattle.pool_check.specs.Vectors.{has_height, vectors_stand}
 use Rattle.pool_check.specs.Damages.{IsValid}
 use Rattle.pool_check.specs.Checked.{IsChecked}
@@ -42,7 +42,7 @@ use Rattle.pool_load.proofs.Steps.{links-made}
 
 -- a valid pool's rows are sound
 pub sound-rows : (P : Pool) → IsValid P → AreSound P.rows
-unfolding rows_in_range links_lead_back texts_are_lines vectors_stand
+unfolding rows_in_range_by links_lead_back texts_are_lines vectors_stand
 sound-rows P v = record {
   in_range = v.in_range;
   lead_back = and-first (rows_lead_back 0 P.rows) (list_all (λ k. nat_lt k (row_count P)) P.roots) v.lead_back;
@@ -210,7 +210,7 @@ module _ {T : Type 0} (text : T → Bytes) (h : Heap T) (P : Pool) (v : IsValid 
           ext_get_or 0 js ks (size ∙ sym many) (λ i low. get_or-map-range_with_len (slice_index ks) 0 n i i 0 (omega (arith, low, size)) (omega arith))
 
   -- the pool of the loaded rows is the pool itself
-  pool-loaded : pool_at text h root_links P.bits ≡ P
+  pool-loaded : pool_at text h root_links (settings_of P) ≡ P
   pool-loaded =
       pool-of-rows G links P
       (record { many = is.many; forms = is.forms; once = is.once; there = λ k has. some-map (text_form text) (row_at h k) (is.live k has) }) v.lead_back

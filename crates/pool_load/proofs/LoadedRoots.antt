@@ -1,5 +1,5 @@
 -- What loaded roots reach: the vectors and the tries of their pool.
-use Rattle.std.proofs.Common.{◌≡◌, ℕ, ◌<◌, true, List, Option, Some, None, IsSome, option_map, map, length, refl, ap, sym, subst, ◌∙◌, arith}
+use Rattle.std.proofs.Common.{◌≡◌, ℕ, ◌<◌, true, List, Option, Some, None, option_map, map, length, refl, ap, sym, subst, ◌∙◌}
 use Rattle.std.specs.Prelude.{nat_le}
 use Rattle.std.specs.Ordering.{nat_cmp}
 use Rattle.std.specs.Cmp.Lexicographic.{slice_cmp}
@@ -7,6 +7,7 @@ use Rattle.std.specs.declared.cmp.Ordering.{Ordering}
 use Rattle.std.proofs.lemmas.List.{length-map}
 use Rattle.std.proofs.lemmas.List.Elements.{All-weaker}
 use Rattle.elem_core.specs.Codes.{text_code, masked_code}
+use Rattle.elem_core.specs.declared.codes.TheConstants.{DEEPEST}
 use Rattle.node_heap.specs.Links.{count, Reaches, here}
 use Rattle.node_heap.specs.Forms.{Row, Forms, Kind, cell, node, leaf, inner, trie, chain, pair, state, kind_of, form_of, links_in}
 use Rattle.node_heap.specs.Heap.{Heap, row_at, form_at, links_at}
@@ -20,7 +21,7 @@ use Rattle.champ_trie.proofs.CanonLemmas.{names-keys}
 use Rattle.champ_trie.proofs.StayLemmas.{canon-reach}
 use Rattle.pool_order.specs.Order.{order, order_of}
 use Rattle.pool_text.specs.Rows.{Bytes}
-use Rattle.pool_text.specs.Pool.{forms_in, relink, pool, text_form, text_forms}
+use Rattle.pool_text.specs.Pool.{forms_in, relink, settings_of, pool, text_form, text_forms}
 use Rattle.pool_text.specs.Renaming.{IsRenamed, IsRooted, IsPoolOf}
 use Rattle.pool_text.specs.declared.pool.Pool.{Pool}
 use Rattle.pool_text.proofs.Gathered.{links-of-text, order-by-text}
@@ -75,15 +76,15 @@ module _ {T : Type 0} (text : T → Bytes) where
     listed =
         let n : ℕ = length h.rows in
         let G : Forms Bytes = text_forms text h in
-        let by_text : IsPoolOf G roots (order n (links_in G) roots) (pool n G roots P.bits) = record {
-          many = pool-length n G roots rooted P.bits;
-          tops = pool-roots n G roots rooted P.bits;
-          renamed = pool-renamed n G roots rooted P.bits;
-          back = pool-back n G roots rooted P.bits;
+        let by_text : IsPoolOf G roots (order n (links_in G) roots) (pool n G roots (settings_of P)) = record {
+          many = pool-length n G roots rooted (settings_of P);
+          tops = pool-roots n G roots rooted (settings_of P);
+          renamed = pool-renamed n G roots rooted (settings_of P);
+          back = pool-back n G roots rooted (settings_of P);
           same = place-back n G roots rooted;
-          in_order = pool-ordered n G roots rooted P.bits;
+          in_order = pool-ordered n G roots rooted (settings_of P);
         } in
-        subst (λ (Q : Pool). IsPoolOf G roots (order_of h roots) Q) loaded.pool (subst (λ ks. IsPoolOf G roots ks (pool n G roots P.bits)) (order-by-text text h roots) by_text)
+        subst (λ (Q : Pool). IsPoolOf G roots (order_of h roots) Q) loaded.pool (subst (λ ks. IsPoolOf G roots ks (pool n G roots (settings_of P))) (order-by-text text h roots) by_text)
 
     module _ (r l : ℕ) (root : 0 < count r roots) (down : Reaches (links_at h) r l) where
       down-by-text : Reaches (links_in (text_forms text h)) r l
@@ -128,7 +129,7 @@ module _ {T : Type 0} (text : T → Bytes) where
             let canon : IsCanon by_text of_text (forms_in P) place D = trie-roots-canonical P loaded.checked.valid place kind in
             let reads = trie-reads-the-same (link_at h roots) (forms_in P) (text_forms text h) place back ℕ in
             let there : IsCanon by_text of_text (text_forms text h) l (map (moved (link_at h roots)) D) =
-            subst (λ k. IsCanon by_text of_text (text_forms text h) k (map (moved (link_at h roots)) D)) same-link (reads.canonical by_text of_text D canon) in
+            subst (λ k. IsCanon by_text of_text (text_forms text h) k (map (moved (link_at h roots)) D)) same-link (reads.canonical by_text of_text DEEPEST D canon) in
             let typed = entries-typed text h (map (moved (link_at h roots)) D) (names-keys by_text of_text (text_forms text h) l (map (moved (link_at h roots)) D) there) in
             let reached = All-weaker (λ d. Reaches (links_in (forms_in P)) place d.link) (λ d. text_forms text h (link_at h roots d.link) ≡ option_map (relink (link_at h roots)) (forms_in P d.link)) (λ d to. back d.link to) D
             (canon-reach by_text of_text (forms_in P) place D canon) in

@@ -7,6 +7,7 @@ use Rattle.std.proofs.lemmas.Option.{slice_get_within}
 use Rattle.std.proofs.lemmas.List.{take_more, get_or_append_left, get_or_at}
 use Rattle.std.proofs.lemmas.List.Elements.{All-map}
 use Rattle.std.proofs.lemmas.List.Sums.{sum_by-append, sum_by-cons, sum_by-take-le}
+use Rattle.elem_core.specs.declared.codes.TheConstants.{DEEPEST}
 use Rattle.node_heap.specs.Links.{count}
 use Rattle.node_heap.specs.Forms.{Row, Form, Forms, cell, node, leaf, inner, trie, chain, pair, state, links_of, links_in, is_cell, is_node}
 use Rattle.node_heap.specs.Heap.{Heap, row_at, form_at, links_at, hold_count, HasSpares, IsGraph, most_holds}
@@ -264,7 +265,7 @@ module _ {T : Type 0} (text : T → Bytes) {old mid new : Heap T} (rows : List (
       let F : Forms Bytes = slice_get rows in
       let same : length (seq_at (form_at new) n (slice_index links k)) ≡ length (seq_at F n k) = length-renamed F (form_at new) (slice_index links) (length links) links_are (lead-low rows sound) n k low in
       let kept_length : slice_index lengths k ≡ length_at F n k = have k n (omega (arith, low, inside, known)) high in
-      let full : IsWell F n k = well F (all-at is_in_range rows sound.in_range) (all-at (keeps_fill_rule F) rows sound.filled) n k high in
+      let full : IsWell F n k = well F DEEPEST (all-at is_in_range rows sound.in_range) (all-at (keeps_fill_rule F) rows sound.filled) n k high in
       (same ∙ sym (length_at-is F n k) ∙ sym kept_length, omega (arith, same, seq-le F n k full))
 
   inner-sums : (n : ℕ) (ks : List ℕ) → form ≡ node (inner (suc n)) ks → HasSums new (suc n) link

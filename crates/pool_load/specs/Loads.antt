@@ -5,7 +5,7 @@ use Rattle.node_heap.specs.Forms.{Form, is_cell, is_node}
 use Rattle.node_heap.specs.Heap.{Heap, row_at, links_at, holds_at, hold_count, live_count, cell_count, node_count, IsGraph}
 use Rattle.node_heap.specs.Calls.{Extends, Balances}
 use Rattle.pool_text.specs.Rows.{Bytes}
-use Rattle.pool_text.specs.Pool.{row_count, pool_at}
+use Rattle.pool_text.specs.Pool.{row_count, settings_of, pool_at}
 use Rattle.pool_text.specs.Renaming.{AreLive}
 use Rattle.pool_text.specs.declared.pool.Pool.{Pool}
 use Rattle.pool_check.specs.Checked.{IsChecked}
@@ -38,5 +38,5 @@ module _ {T : Type 0} where
     pub graph : IsGraph h
     pub live : AreLive T h roots
     pub checked : IsChecked P
-    pub pool : pool_at text h roots P.bits ≡ P
+    pub pool : pool_at text h roots (settings_of P) ≡ P
     pub sums : HaveSums h roots

@@ -1,10 +1,11 @@
--- The rows of a heap have ranks below the number of its places.
+-- Rows that lead down have ranks below the number of their places.
 use Rattle.std.proofs.Common.{◌≡◌, ℕ, zero, suc, ◌+◌, ◌<◌, ◌≤◌, cond, ltb, IsSome, Option, None, List, [], ◌∷◌, length, get_or, ap, arith, inl, inr}
 use Rattle.std.proofs.lemmas.Bool.{cases_eq}
 use Rattle.std.proofs.lemmas.Bool.Decides.{nat_tests}
 use Rattle.node_heap.specs.Links.{Links, HasLink, LeadsDown}
 use Rattle.node_heap.specs.Forms.{Row}
 use Rattle.node_heap.specs.Heap.{Heap, row_at, links_at, IsGraph}
+use Rattle.pool_order.specs.Laws.{AreLinkedBelow}
 
 -- links lead down to rows that are there, from ranks below n
 pub record IsGrounded (n : ℕ) (L : Links) (Is : ℕ → Type 0) : Type 0 where
@@ -55,16 +56,25 @@ lower-falls rank (suc n) k s h low = elim (cases_eq k n) as (λ _. lower rank (s
   | inr other ↦ omega (arith, lower-falls rank n k s (omega (arith, h, other)) low, one_if-more (rank n) (rank k) s (omega (arith, low)))
 ]
 
+-- whatever the ranks are by which the links fall
+grounded-by : (n : ℕ) (L : Links) (Is : ℕ → Type 0) (rank : ℕ → ℕ) → LeadsDown rank L → ((l : ℕ) → Is l → l < n) → ((l k : ℕ) → HasLink L l k → Is k) → IsGrounded n L Is
+grounded-by n L Is rank falls low closed = record {
+  rank = λ l. lower rank n (rank l);
+  falls = λ l k has. lower-falls rank n k (rank l) (low k (closed l k has)) (falls l k has);
+  low = λ l there. lower-lt rank n l (low l there);
+  closed = closed;
+}
+
+-- rows in a list
+pub grounded-below : (n : ℕ) (L : Links) → AreLinkedBelow n L → IsGrounded n L (λ k. k < n)
+grounded-below n L linked = grounded-by n L (λ k. k < n) linked.rank linked.falls (λ l low. low) linked.inside
+
 module _ {T : Type 0} where
   within : (rows : List (Option (Row T))) (l : ℕ) → IsSome (get_or rows l None) → l < length rows
   within [] l live = absurd cc
   within (r ∷ rs) zero live = omega arith
   within (r ∷ rs) (suc l) live = omega (arith, within rs l live)
 
+  -- rows of a heap
   pub grounded : (h : Heap T) → IsGraph h → IsGrounded (length h.rows) (links_at h) (λ l. IsSome (row_at h l))
-  grounded h graph = record {
-    rank = λ l. lower graph.rank (length h.rows) (graph.rank l);
-    falls = λ l k has. lower-falls graph.rank (length h.rows) k (graph.rank l) (within h.rows k (graph.closed l k has)) (graph.falls l k has);
-    low = λ l live. lower-lt graph.rank (length h.rows) l (within h.rows l live);
-    closed = graph.closed;
-  }
+  grounded h graph = grounded-by (length h.rows) (links_at h) (λ l. IsSome (row_at h l)) graph.rank graph.falls (within h.rows) graph.closed

@@ -72,7 +72,7 @@ count-get_or (x ∷ xs) zero low = omega (arith, count-cons x x xs, test_same x 
 count-get_or (x ∷ xs) (suc i) low = omega (arith, count-cons (get_or xs i 0) x xs, count-get_or xs i (omega arith))
 
 -- the visits before and after a link of the last one is looked at
-pub record IsTurn (L : Links) (old vs mid : List Visit) (v : Visit) (links : List ℕ) (child : ℕ) : Type 0 where
+pub record IsTurn (L : Links) (old vs mid : List (Visit ℕ)) (v : Visit ℕ) (links : List ℕ) (child : ℕ) : Type 0 where
   pub popped : old ≡ vs ++ v ∷ []
   pub pushed : mid ≡ vs ++ record { link = v.link; next = v.next + 1 } ∷ []
   pub linked : links ≡ L v.link
@@ -80,22 +80,22 @@ pub record IsTurn (L : Links) (old vs mid : List Visit) (v : Visit) (links : Lis
   pub low : v.next < length links
 
 module _ (n : ℕ) (L : Links) (Is : ℕ → Type 0) (ground : IsGrounded n L Is) where
-  pub pending-last : (vs : List Visit) (v : Visit) → pending n L (vs ++ v ∷ []) ≡ (below_visit n L v ++ v.link ∷ []) ++ pending n L vs
+  pub pending-last : (vs : List (Visit ℕ)) (v : Visit ℕ) → pending n L (vs ++ v ∷ []) ≡ (below_visit n L v ++ v.link ∷ []) ++ pending n L vs
   unfolding pending
   pending-last [] v = sym (append-nil (below_visit n L v ++ v.link ∷ []))
   pending-last (e ∷ vs) v =
       ap (λ ys. ys ++ (below_visit n L e ++ e.link ∷ [])) (pending-last vs v) ∙ append_assoc (below_visit n L v ++ v.link ∷ []) (pending n L vs) (below_visit n L e ++ e.link ∷ [])
 
-  pub steps-last : (vs : List Visit) (v : Visit) → steps_left n L (vs ++ v ∷ []) ≡ steps_left n L vs + (2 * length (below_visit n L v) + 1)
+  pub steps-last : (vs : List (Visit ℕ)) (v : Visit ℕ) → steps_left n L (vs ++ v ∷ []) ≡ steps_left n L vs + (2 * length (below_visit n L v) + 1)
   unfolding steps_left
   steps-last [] v = omega arith
   steps-last (e ∷ vs) v = omega (arith, steps-last vs v)
 
-  pub live-last : (vs : List Visit) (v : Visit) → AreThere Is (vs ++ v ∷ []) → AreThere Is vs × Is v.link
+  pub live-last : (vs : List (Visit ℕ)) (v : Visit ℕ) → AreThere Is (vs ++ v ∷ []) → AreThere Is vs × Is v.link
   live-last [] v live = (tt, live.0)
   live-last (e ∷ vs) v live = let later = live-last vs v live.1 in ((live.0, later.0), later.1)
 
-  pub live-more : (vs : List Visit) (v : Visit) → AreThere Is vs → Is v.link → AreThere Is (vs ++ v ∷ [])
+  pub live-more : (vs : List (Visit ℕ)) (v : Visit ℕ) → AreThere Is vs → Is v.link → AreThere Is (vs ++ v ∷ [])
   live-more [] v live here_live = (here_live, tt)
   live-more (e ∷ vs) v live here_live = (live.0, live-more vs v live.1 here_live)
 
@@ -111,7 +111,7 @@ module _ (n : ℕ) (L : Links) (Is : ℕ → Type 0) (ground : IsGrounded n L Is
   }
 
   -- the last visit's row is listed, where no link of it is left
-  pub walk-list : (seen whole : List ℕ) (vs : List Visit) (v : Visit) → IsWalk n L Is seen whole (vs ++ v ∷ []) → length (L v.link) ≤ v.next → IsWalk n L Is (with_new seen v.link) whole vs
+  pub walk-list : (seen whole : List ℕ) (vs : List (Visit ℕ)) (v : Visit ℕ) → IsWalk n L Is seen whole (vs ++ v ∷ []) → length (L v.link) ≤ v.next → IsWalk n L Is (with_new seen v.link) whole vs
   unfolding pending
   walk-list seen whole vs v walk done = record {
     total =
@@ -122,12 +122,12 @@ module _ (n : ℕ) (L : Links) (Is : ℕ → Type 0) (ground : IsGrounded n L Is
   }
 
   -- the next link of the last visit is listed already
-  pub walk-skip : (seen whole : List ℕ) (vs : List Visit) (l i : ℕ) → IsReady L whole → IsWalk n L Is seen whole (vs ++ record { link = l; next = i } ∷ []) → i < length (L l) → 0 < count (get_or (L l) i 0) seen → IsWalk n L Is seen whole (vs ++ record { link = l; next = i + 1 } ∷ [])
+  pub walk-skip : (seen whole : List ℕ) (vs : List (Visit ℕ)) (l i : ℕ) → IsReady L whole → IsWalk n L Is seen whole (vs ++ record { link = l; next = i } ∷ []) → i < length (L l) → 0 < count (get_or (L l) i 0) seen → IsWalk n L Is seen whole (vs ++ record { link = l; next = i + 1 } ∷ [])
   unfolding pending
   walk-skip seen whole vs l i ready walk low has = record {
     total =
-        let old : Visit = record { link = l; next = i } in
-        let new : Visit = record { link = l; next = i + 1 } in
+        let old : Visit ℕ = record { link = l; next = i } in
+        let new : Visit ℕ = record { link = l; next = i + 1 } in
         let child : ℕ = get_or (L l) i 0 in
         let after : List ℕ = (below_visit n L new ++ l ∷ []) ++ pending n L vs in
         let all : pending n L (vs ++ old ∷ []) ≡ places n L child ++ after =
@@ -142,14 +142,14 @@ module _ (n : ℕ) (L : Links) (Is : ℕ → Type 0) (ground : IsGrounded n L Is
   }
 
   -- the next link of the last visit gets a visit
-  pub walk-enter : (seen whole : List ℕ) (vs : List Visit) (l i : ℕ) → IsWalk n L Is seen whole (vs ++ record { link = l; next = i } ∷ []) → i < length (L l) → Is (get_or (L l) i 0) → IsWalk n L Is seen whole ((vs ++ record { link = l; next = i + 1 } ∷ []) ++ record { link = get_or (L l) i 0; next = 0 } ∷ [])
+  pub walk-enter : (seen whole : List ℕ) (vs : List (Visit ℕ)) (l i : ℕ) → IsWalk n L Is seen whole (vs ++ record { link = l; next = i } ∷ []) → i < length (L l) → Is (get_or (L l) i 0) → IsWalk n L Is seen whole ((vs ++ record { link = l; next = i + 1 } ∷ []) ++ record { link = get_or (L l) i 0; next = 0 } ∷ [])
   unfolding pending
   walk-enter seen whole vs l i walk low there = record {
     total =
-        let old : Visit = record { link = l; next = i } in
-        let new : Visit = record { link = l; next = i + 1 } in
+        let old : Visit ℕ = record { link = l; next = i } in
+        let new : Visit ℕ = record { link = l; next = i + 1 } in
         let child : ℕ = get_or (L l) i 0 in
-        let entered : Visit = record { link = child; next = 0 } in
+        let entered : Visit ℕ = record { link = child; next = 0 } in
         let after : List ℕ = (below_visit n L new ++ l ∷ []) ++ pending n L vs in
         let all : pending n L (vs ++ old ∷ []) ≡ places n L child ++ after =
         pending-last vs old ∙ ap (λ ys. (ys ++ l ∷ []) ++ pending n L vs) (below-next l i low)
@@ -164,61 +164,61 @@ module _ (n : ℕ) (L : Links) (Is : ℕ → Type 0) (ground : IsGrounded n L Is
         live-more (vs ++ record { link = l; next = i + 1 } ∷ []) (record { link = get_or (L l) i 0; next = 0 }) (live-more vs (record { link = l; next = i + 1 }) live.0 live.1) there;
   }
 
-  pub steps-list : (vs : List Visit) (v : Visit) → steps_left n L vs < steps_left n L (vs ++ v ∷ [])
+  pub steps-list : (vs : List (Visit ℕ)) (v : Visit ℕ) → steps_left n L vs < steps_left n L (vs ++ v ∷ [])
   steps-list vs v = omega (arith, steps-last vs v)
 
   places-some : (k : ℕ) → Is k → length (places n L k) ≡ length (flat_map (places n L) (L k)) + 1
   places-some k there = ap length (places-is ground.rank L ground.falls n k (ground.low k there)) ∙ length-append (flat_map (places n L) (L k)) (k ∷ [])
 
-  pub steps-skip : (vs : List Visit) (l i : ℕ) → i < length (L l) → Is (get_or (L l) i 0) → steps_left n L (vs ++ record { link = l; next = i + 1 } ∷ []) < steps_left n L (vs ++ record { link = l; next = i } ∷ [])
+  pub steps-skip : (vs : List (Visit ℕ)) (l i : ℕ) → i < length (L l) → Is (get_or (L l) i 0) → steps_left n L (vs ++ record { link = l; next = i + 1 } ∷ []) < steps_left n L (vs ++ record { link = l; next = i } ∷ [])
   steps-skip vs l i low there =
-      let old : Visit = record { link = l; next = i } in
-      let new : Visit = record { link = l; next = i + 1 } in
+      let old : Visit ℕ = record { link = l; next = i } in
+      let new : Visit ℕ = record { link = l; next = i + 1 } in
       let child : ℕ = get_or (L l) i 0 in
       omega (arith, steps-last vs old, steps-last vs new, ap length (below-next l i low), length-append (places n L child) (below_visit n L new), places-some child there)
 
-  pub steps-enter : (vs : List Visit) (l i : ℕ) → i < length (L l) → Is (get_or (L l) i 0) → steps_left n L ((vs ++ record { link = l; next = i + 1 } ∷ []) ++ record { link = get_or (L l) i 0; next = 0 } ∷ []) < steps_left n L (vs ++ record { link = l; next = i } ∷ [])
+  pub steps-enter : (vs : List (Visit ℕ)) (l i : ℕ) → i < length (L l) → Is (get_or (L l) i 0) → steps_left n L ((vs ++ record { link = l; next = i + 1 } ∷ []) ++ record { link = get_or (L l) i 0; next = 0 } ∷ []) < steps_left n L (vs ++ record { link = l; next = i } ∷ [])
   steps-enter vs l i low there =
-      let old : Visit = record { link = l; next = i } in
-      let new : Visit = record { link = l; next = i + 1 } in
+      let old : Visit ℕ = record { link = l; next = i } in
+      let new : Visit ℕ = record { link = l; next = i + 1 } in
       let child : ℕ = get_or (L l) i 0 in
-      let entered : Visit = record { link = child; next = 0 } in
+      let entered : Visit ℕ = record { link = child; next = 0 } in
       omega (arith, steps-last vs old, steps-last vs new, steps-last (vs ++ new ∷ []) entered, ap length (below-next l i low), length-append (places n L child) (below_visit n L new), places-some child there)
 
-  turn-low : (old vs mid : List Visit) (v : Visit) (links : List ℕ) (child : ℕ) → IsTurn L old vs mid v links child → v.next < length (L v.link)
+  turn-low : (old vs mid : List (Visit ℕ)) (v : Visit ℕ) (links : List ℕ) (child : ℕ) → IsTurn L old vs mid v links child → v.next < length (L v.link)
   turn-low old vs mid v links child turn = omega (arith, turn.low, ap length turn.linked)
 
-  turn-child : (old vs mid : List Visit) (v : Visit) (links : List ℕ) (child : ℕ) → IsTurn L old vs mid v links child → child ≡ get_or (L v.link) v.next 0
+  turn-child : (old vs mid : List (Visit ℕ)) (v : Visit ℕ) (links : List ℕ) (child : ℕ) → IsTurn L old vs mid v links child → child ≡ get_or (L v.link) v.next 0
   turn-child old vs mid v links child turn = turn.is ∙ get_or-default links v.next child 0 turn.low ∙ ap (λ ys. get_or ys v.next 0) turn.linked
 
-  turn-live : (old vs mid : List Visit) (v : Visit) (links : List ℕ) (child : ℕ) → IsTurn L old vs mid v links child → Is (get_or (L v.link) v.next 0)
+  turn-live : (old vs mid : List (Visit ℕ)) (v : Visit ℕ) (links : List ℕ) (child : ℕ) → IsTurn L old vs mid v links child → Is (get_or (L v.link) v.next 0)
   turn-live old vs mid v links child turn = ground.closed v.link (get_or (L v.link) v.next 0) (count-get_or (L v.link) v.next (turn-low old vs mid v links child turn))
 
-  pub turn-skip : (seen whole : List ℕ) → IsReady L whole → (old vs mid : List Visit) (v : Visit) (links : List ℕ) (child : ℕ) → IsTurn L old vs mid v links child → IsWalk n L Is seen whole old → 0 < count child seen → IsWalk n L Is seen whole mid
+  pub turn-skip : (seen whole : List ℕ) → IsReady L whole → (old vs mid : List (Visit ℕ)) (v : Visit ℕ) (links : List ℕ) (child : ℕ) → IsTurn L old vs mid v links child → IsWalk n L Is seen whole old → 0 < count child seen → IsWalk n L Is seen whole mid
   turn-skip seen whole ready old vs mid v links child turn walk has =
       subst (IsWalk n L Is seen whole) (sym turn.pushed)
       (walk-skip seen whole vs v.link v.next ready (subst (IsWalk n L Is seen whole) turn.popped walk) (turn-low old vs mid v links child turn) (subst (λ k. 0 < count k seen) (turn-child old vs mid v links child turn) has))
 
-  pub turn-enter : (seen whole : List ℕ) → (old vs mid new : List Visit) (v : Visit) (links : List ℕ) (child : ℕ) → IsTurn L old vs mid v links child → new ≡ mid ++ record { link = child; next = 0 } ∷ [] → IsWalk n L Is seen whole old → IsWalk n L Is seen whole new
+  pub turn-enter : (seen whole : List ℕ) → (old vs mid new : List (Visit ℕ)) (v : Visit ℕ) (links : List ℕ) (child : ℕ) → IsTurn L old vs mid v links child → new ≡ mid ++ record { link = child; next = 0 } ∷ [] → IsWalk n L Is seen whole old → IsWalk n L Is seen whole new
   turn-enter seen whole old vs mid new v links child turn is_entered walk =
-      let last : Visit = record { link = get_or (L v.link) v.next 0; next = 0 } in
+      let last : Visit ℕ = record { link = get_or (L v.link) v.next 0; next = 0 } in
       let e : new ≡ (vs ++ record { link = v.link; next = v.next + 1 } ∷ []) ++ last ∷ [] =
       is_entered ∙ ap (λ ys. ys ++ record { link = child; next = 0 } ∷ []) turn.pushed ∙ ap (λ k. (vs ++ record { link = v.link; next = v.next + 1 } ∷ []) ++ record { link = k; next = 0 } ∷ []) (turn-child old vs mid v links child turn) in
       subst (IsWalk n L Is seen whole) (sym e)
       (walk-enter seen whole vs v.link v.next (subst (IsWalk n L Is seen whole) turn.popped walk) (turn-low old vs mid v links child turn) (turn-live old vs mid v links child turn))
 
-  pub turn-skip-steps : (old vs mid : List Visit) (v : Visit) (links : List ℕ) (child : ℕ) → IsTurn L old vs mid v links child → steps_left n L mid < steps_left n L old
+  pub turn-skip-steps : (old vs mid : List (Visit ℕ)) (v : Visit ℕ) (links : List ℕ) (child : ℕ) → IsTurn L old vs mid v links child → steps_left n L mid < steps_left n L old
   turn-skip-steps old vs mid v links child turn =
       omega (arith, ap (steps_left n L) turn.popped, ap (steps_left n L) turn.pushed, steps-skip vs v.link v.next (turn-low old vs mid v links child turn) (turn-live old vs mid v links child turn))
 
-  pub turn-enter-steps : (old vs mid new : List Visit) (v : Visit) (links : List ℕ) (child : ℕ) → IsTurn L old vs mid v links child → new ≡ mid ++ record { link = child; next = 0 } ∷ [] → steps_left n L new < steps_left n L old
+  pub turn-enter-steps : (old vs mid new : List (Visit ℕ)) (v : Visit ℕ) (links : List ℕ) (child : ℕ) → IsTurn L old vs mid v links child → new ≡ mid ++ record { link = child; next = 0 } ∷ [] → steps_left n L new < steps_left n L old
   turn-enter-steps old vs mid new v links child turn is_entered =
-      let last : Visit = record { link = get_or (L v.link) v.next 0; next = 0 } in
+      let last : Visit ℕ = record { link = get_or (L v.link) v.next 0; next = 0 } in
       let e : new ≡ (vs ++ record { link = v.link; next = v.next + 1 } ∷ []) ++ last ∷ [] =
       is_entered ∙ ap (λ ys. ys ++ record { link = child; next = 0 } ∷ []) turn.pushed ∙ ap (λ k. (vs ++ record { link = v.link; next = v.next + 1 } ∷ []) ++ record { link = k; next = 0 } ∷ []) (turn-child old vs mid v links child turn) in
       omega (arith, ap (steps_left n L) turn.popped, ap (steps_left n L) e, steps-enter vs v.link v.next (turn-low old vs mid v links child turn) (turn-live old vs mid v links child turn))
 
-  pub walk-done : (seen whole : List ℕ) (stack : List Visit) → IsWalk n L Is seen whole stack → length stack ≡ 0 → seen ≡ whole
+  pub walk-done : (seen whole : List ℕ) (stack : List (Visit ℕ)) → IsWalk n L Is seen whole stack → length stack ≡ 0 → seen ≡ whole
   unfolding pending
   walk-done seen whole [] walk e = walk.total
   walk-done seen whole (v ∷ vs) walk e = absurd (omega arith)

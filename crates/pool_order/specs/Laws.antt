@@ -16,6 +16,12 @@ pub record IsOrder (L : Links) (roots ks : List ℕ) : Type 0 where
   pub all : (r k : ℕ) → 0 < count r roots → Reaches L r k → 0 < count k ks
   pub ready : IsReady L ks
 
+-- each link names one of the first n rows, of a lower rank
+pub record AreLinkedBelow (n : ℕ) (L : Links) : Type 0 where
+  pub rank : ℕ → ℕ
+  pub falls : LeadsDown rank L
+  pub inside : (l k : ℕ) → HasLink L l k → k < n
+
 -- the roots have ranks below n
 abbrev pub HaveRanksBelow : (ℕ → ℕ) → ℕ → List ℕ → Type 0
 HaveRanksBelow rank n roots = (r : ℕ) → 0 < count r roots → rank r < n

@@ -9,4 +9,4 @@ pub use laws::{
     enters_rows_once, follows_reached, needs_no_depth, order_stays, orders_reached, worked_orders,
 };
 pub use listed::Order;
-pub use walk::order;
+pub use walk::{Visit, order};

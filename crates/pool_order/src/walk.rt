@@ -26,11 +26,13 @@ pub fn order<T>(alloc: Global, heap: &Heap<T>, roots: &[Link]) -> Result<Order, 
     Ok(Order { links: seen })
 }
 
-// A row that is being walked, and which of its links comes next.
+/// A row that is being walked, by its link or by its place in a list, and which of its links comes next.
 #[derive(Clone, Copy, Drop)]
-struct Visit {
-    link: Link,
-    next: usize,
+pub struct Visit<L> {
+    /// What names the row.
+    pub link: L,
+    /// The index of the row's next link.
+    pub next: usize,
 }
 
 // Lists what the root reaches and is not listed yet.

@@ -1,6 +1,6 @@
 -- A value that stands for a pool, and has its version, is the pool's document.
 use Rattle.std.proofs.Common.{◌≡◌, ℕ, Bool, true, false, cond, eqb, List, [], ◌∷◌, map, Option, Some, None, option_map, bytes_eq, refl, ap, ap₂, sym, subst, ◌∙◌}
-use Rattle.std.specs.Prelude.{not, is_some, codes, option_and_then, IsSomeAnd}
+use Rattle.std.specs.Prelude.{codes, option_and_then, IsSomeAnd}
 use Rattle.std.proofs.lemmas.Bool.{eqb-true}
 use Rattle.std.proofs.lemmas.Option.{none-some, same_Some, option_and_then_some}
 use Rattle.std.proofs.lemmas.Slice.Eq.{bytes_eq-Decides}
@@ -8,12 +8,12 @@ use Rattle.node_heap.specs.Forms.{Form, Kind, cell, node, leaf, inner, trie, cha
 use Rattle.serde_json.specs.Data.{unsigned, negative, float, Data, null, boolean, number, string, array, object, Items, no_items, item, Members, no_members, member}
 use Rattle.serde_json.specs.View.{items_of}
 use Rattle.serde_json.specs.Written.{compact_text}
-use Rattle.pool_text.specs.Rows.{Bytes, is_in_range}
-use Rattle.pool_text.specs.Document.{list, natural, naturals, row_value, document, text, number_in, item_list, elements_in, all_of, numbers_in, cell_form, node_form, inner_form, trie_form, form_after, form_from, kept_if, row_in, DocumentParts, four, document_keys, values_at, parts_read, parts_from, parts_in, value_in, rows_in, pool_from, pool_in, pool_in_bytes, parts_damage, or_damage, value_damage, bytes_damage}
+use Rattle.pool_text.specs.Rows.{Bytes, is_in_range_to}
+use Rattle.pool_text.specs.Rules.{Rules, rules_of}
+use Rattle.pool_text.specs.Document.{list, natural, naturals, row_value, document, text, number_in, item_list, elements_in, all_of, numbers_in, cell_form, node_form, inner_form, trie_form, form_after, form_from, row_in, DocumentParts, four, document_keys, values_at, parts_read, parts_from, parts_in, value_in, rows_in, pool_by, pool_from, pool_in, pool_in_bytes, or_damage, value_damage, bytes_damage}
 use Rattle.pool_text.specs.Laws.{IsCompact}
 use Rattle.pool_text.specs.declared.pool.Pool.{Pool}
-use Rattle.pool_text.specs.declared.damage.Damage.{Damage}
-use Rattle.pool_text.specs.declared.damage.Damage.TheVariants.{Json, Form as FormDamage, Version, Bits, Row}
+use Rattle.pool_text.specs.declared.damage.Damage.TheVariants.{Json}
 use Rattle.pool_text.proofs.EachRead.{onto-some}
 
 -- either answer of a test
@@ -131,10 +131,10 @@ form-back (string s ∷ ds) r e = after-back s ds r e
 form-back (array es ∷ ds) r e = absurd (none-some r e)
 form-back (object ms ∷ ds) r e = absurd (none-some r e)
 
-row-back : (d : Data) (r : Form Bytes) → row_in d ≡ Some r → row_value r ≡ d
-row-back d r e =
-    option_and_then_some (λ x. cond (is_in_range x) (Some x) None) (option_and_then form_from (elements_in d)) r e (λ x found kept.
-    choice (is_in_range x) (Some x) None r kept (λ _ same.
+row-back : (deepest : ℕ) (d : Data) (r : Form Bytes) → row_in deepest d ≡ Some r → row_value r ≡ d
+row-back deepest d r e =
+    option_and_then_some (λ x. cond (is_in_range_to deepest x) (Some x) None) (option_and_then form_from (elements_in d)) r e (λ x found kept.
+    choice (is_in_range_to deepest x) (Some x) None r kept (λ _ same.
     option_and_then_some form_from (elements_in d) x found (λ ds are form.
     ap row_value (sym (same_Some x r same)) ∙ form-back ds x form ∙ elements-back d ds are))
     (λ _ none. absurd (none-some r none)))
@@ -211,24 +211,21 @@ parts-back (object ms) p e =
     option_and_then_some parts_from (values_at document_keys ms) p e (λ vs are from.
     ap (λ ds. object (members_with document_keys ds)) (from-back vs p from) ∙ ap object (members-back document_keys ms vs are))
 
--- a document of no damage has the version
-version-is : (v : ℕ) (o : Option Damage) → cond (not (eqb v 1)) (Some Version) o ≡ None → v ≡ 1
-version-is v o e = by (eqb v 1) refl e
-  where
-    by : (b : Bool) → eqb v 1 ≡ b → cond (not b) (Some Version) o ≡ None → v ≡ 1
-    by true is f = eqb-true v 1 is
-    by false is f = absurd (none-some Version (sym f))
+-- a version that is read is the first
+version-is : (v : ℕ) (rules : Rules) → rules_of v ≡ Some rules → v ≡ 1
+version-is v rules e = choice (eqb v 1) _ None rules e (λ is _. eqb-true v 1 is) (λ _ none. absurd (none-some rules none))
 
 pub document-back : (bits : ℕ) (d : Data) (P : Pool) → value_damage bits d ≡ None → pool_in d ≡ Some P → document P ≡ d
-unfolding pool_in value_damage document
+unfolding pool_in document
 document-back bits d P whole is =
-    option_and_then_some pool_from (parts_in d) P is (λ p parts pool_is.
-    mapped (λ rows. record { bits = p.bits; rows = rows; roots = p.roots }) (rows_in p) P pool_is (λ rows are made.
-    let v : p.version ≡ 1 = version-is p.version _ (sym (ap (or_damage FormDamage (parts_damage bits)) parts) ∙ whole) in
+    option_and_then_some pool_from (parts_in d) P is (λ p parts found.
+    option_and_then_some (pool_by p) (rules_of p.version) P found (λ rules version pool_is.
+    mapped (λ rows. record { bits = p.bits; rows = rows; roots = p.roots }) (rows_in p rules) P pool_is (λ rows are made.
+    let v : p.version ≡ 1 = version-is p.version rules version in
     ap document (sym made)
     ∙ ap₂ (λ ds n. object (member (codes "bits") (natural p.bits) (member (codes "format") (string (codes "ewig-pool")) (member (codes "roots") (naturals p.roots) (member (codes "rows") (list ds) (member (codes "version") (natural n) no_members))))))
-    (all_of-back row_in row_value row-back p.rows rows are) (sym v)
-    ∙ parts-back d p parts))
+    (all_of-back (row_in rules.deepest) row_value (row-back rules.deepest) p.rows rows are) (sym v)
+    ∙ parts-back d p parts)))
 
 pub compact-stays : (bits : ℕ) (bytes : Bytes) (P : Pool) → bytes_damage bits bytes ≡ None → pool_in_bytes bytes ≡ Some P → IsCompact bytes → text P ≡ bytes
 unfolding bytes_damage

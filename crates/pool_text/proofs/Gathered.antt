@@ -11,7 +11,7 @@ use Rattle.pool_order.specs.Laws.{IsOrder}
 use Rattle.pool_order.proofs.Places.{order-is, order-same}
 use Rattle.pool_order.proofs.Grounded.{grounded}
 use Rattle.pool_text.specs.Rows.{Bytes}
-use Rattle.pool_text.specs.Pool.{place_in, relink, pool, fits_pool, text_form, text_forms, pool_at}
+use Rattle.pool_text.specs.Pool.{place_in, relink, Settings, pool, fits_pool, text_form, text_forms, pool_at}
 use Rattle.pool_text.specs.declared.pool.Pool.{Pool}
 
 fits-any : (K L : Type 0) (kind : Kind) (links : List ℕ) → fits_pool {K = K} (Some (node kind links)) ≡ fits_pool {K = L} (Some (node kind links))
@@ -22,8 +22,8 @@ fits-any K L chain links = refl
 fits-any K L pair links = refl
 fits-any K L state links = refl
 
-abbrev pub made : ℕ → List (Form Bytes) → List ℕ → Pool
-made bits rows roots = record { bits = bits; rows = rows; roots = roots }
+abbrev pub made : Settings → List (Form Bytes) → List ℕ → Pool
+made settings rows roots = record { bits = settings.bits; rows = rows; roots = roots }
 
 module _ {T : Type 0} where
   -- a row that fits is there
@@ -95,14 +95,14 @@ module _ {T : Type 0} where
   pub order-by-text : (text : T → Bytes) (h : Heap T) (roots : List ℕ) → order (length h.rows) (links_in (text_forms text h)) roots ≡ order_of h roots
   order-by-text text h roots = order-same (length h.rows) (links_at h) (links_in (text_forms text h)) roots (λ r root m down. links-of-text text (row_at h m))
 
-  pub pool-is : (text : T → Bytes) (h : Heap T) (roots : List ℕ) (bits : ℕ) (ks : List ℕ) (rows : List (Form Bytes)) (places : List ℕ) → ks ≡ order_of h roots
-      → rows ≡ filter_map (λ k. option_map (relink (place_in ks)) (text_forms text h k)) ks → places ≡ map (place_in ks) roots → made bits rows places ≡ pool_at text h roots bits
+  pub pool-is : (text : T → Bytes) (h : Heap T) (roots : List ℕ) (settings : Settings) (ks : List ℕ) (rows : List (Form Bytes)) (places : List ℕ) → ks ≡ order_of h roots
+      → rows ≡ filter_map (λ k. option_map (relink (place_in ks)) (text_forms text h k)) ks → places ≡ map (place_in ks) roots → made settings rows places ≡ pool_at text h roots settings
   unfolding pool
-  pool-is text h roots bits ks rows places e rows_are places_are =
+  pool-is text h roots settings ks rows places e rows_are places_are =
       let same : ks ≡ order (length h.rows) (links_in (text_forms text h)) roots = e ∙ sym (order-by-text text h roots) in
       let listed : List ℕ = order (length h.rows) (links_in (text_forms text h)) roots in
-      ap (λ (ys : List (Form Bytes)). made bits ys places) (rows_are ∙ ap (λ (zs : List ℕ). filter_map (λ k. option_map (relink (place_in zs)) (text_forms text h k)) zs) same)
-      ∙ ap (λ (ys : List ℕ). made bits (filter_map (λ k. option_map (relink (place_in listed)) (text_forms text h k)) listed) ys) (places_are ∙ ap (λ (zs : List ℕ). map (place_in zs) roots) same)
+      ap (λ (ys : List (Form Bytes)). made settings ys places) (rows_are ∙ ap (λ (zs : List ℕ). filter_map (λ k. option_map (relink (place_in zs)) (text_forms text h k)) zs) same)
+      ∙ ap (λ (ys : List ℕ). made settings (filter_map (λ k. option_map (relink (place_in listed)) (text_forms text h k)) listed) ys) (places_are ∙ ap (λ (zs : List ℕ). map (place_in zs) roots) same)
 
 take-next : (xs : List ℕ) (i r : ℕ) → Some r ≡ slice_get xs i → take (i + 1) xs ≡ take i xs ++ r ∷ []
 take-next [] i r e = absurd cc

@@ -16,7 +16,7 @@ use Rattle.pool_order.proofs.Grounded.{grounded}
 use Rattle.pool_order.proofs.Places.{order-same}
 use Rattle.pool_order.proofs.Stays.{order-stays}
 use Rattle.pool_text.specs.Rows.{Bytes}
-use Rattle.pool_text.specs.Pool.{row_count, place_in, relink, pool, text_form, text_forms, pool_at}
+use Rattle.pool_text.specs.Pool.{row_count, place_in, relink, Settings, pool, text_form, text_forms, pool_at}
 use Rattle.pool_text.specs.Renaming.{IsRooted}
 use Rattle.pool_text.proofs.Gathered.{made, links-of-text, order-of, order-by-text}
 use Rattle.pool_text.proofs.PoolRows.{pool-length}
@@ -103,19 +103,19 @@ module _ {T : Type 0} where
             some-form (row_at h l) (reached-live h graph r l (Reaches-by (links_in (form_at h)) (links_at h) (λ k. sym (links_of-form (row_at h k))) r l down) (live r root));
       }
 
-  pub nothing-leaks : (text : T → Bytes) (h : Heap T) (roots : List ℕ) (bits : ℕ) → IsGraph h → ((l : ℕ) → holds_at h l ≡ count l roots) → row_count (pool_at text h roots bits) ≡ live_count h
-  nothing-leaks text h roots bits graph held =
+  pub nothing-leaks : (text : T → Bytes) (h : Heap T) (roots : List ℕ) (settings : Settings) → IsGraph h → ((l : ℕ) → holds_at h l ≡ count l roots) → row_count (pool_at text h roots settings) ≡ live_count h
+  nothing-leaks text h roots settings graph held =
       let live : (r : ℕ) → 0 < count r roots → IsSome (row_at h r) = λ r root. graph.held r (omega (arith, held r, root)) in
       let is = order-of h roots graph live in
-      pool-length (length h.rows) (text_forms text h) roots (rooted-heap text h roots graph live) bits
+      pool-length (length h.rows) (text_forms text h) roots (rooted-heap text h roots graph live) settings
       ∙ ap length (order-by-text text h roots)
       ∙ length-live (order_of h roots) h.rows is.once (λ k some. let from = is.reached k some in reached-live h graph from.0 k from.2 (live from.0 from.1))
       (λ k some. let from = graph.reached k some in is.all from.0 k (omega (arith, held from.0, from.1)) from.2)
 
-  pub pools-stay : (text : T → Bytes) (old new : Heap T) (roots : List ℕ) (bits : ℕ) → IsGraph old → IsGraph new → ((r : ℕ) → 0 < count r roots → IsSome (row_at old r)) → ((r : ℕ) → 0 < count r roots → KeepsBelow old new r)
-      → pool_at text new roots bits ≡ pool_at text old roots bits
+  pub pools-stay : (text : T → Bytes) (old new : Heap T) (roots : List ℕ) (settings : Settings) → IsGraph old → IsGraph new → ((r : ℕ) → 0 < count r roots → IsSome (row_at old r)) → ((r : ℕ) → 0 < count r roots → KeepsBelow old new r)
+      → pool_at text new roots settings ≡ pool_at text old roots settings
   unfolding pool
-  pools-stay text old new roots bits graph graph' live keeps =
+  pools-stay text old new roots settings graph graph' live keeps =
       let now : List ℕ = order (length new.rows) (links_in (text_forms text new)) roots in
       let was : List ℕ = order (length old.rows) (links_in (text_forms text old)) roots in
       let same : now ≡ was = order-by-text text new roots ∙ order-stays old new roots graph graph' live keeps ∙ sym (order-by-text text old roots) in
@@ -124,23 +124,23 @@ module _ {T : Type 0} where
       λ k some.
       let from = is.reached k (omega (arith, some, ap (count k) (order-by-text text old roots))) in
       ap (λ r. option_map (relink (place_in was)) (option_map (text_form text) r)) (keeps from.0 from.1 k from.2) in
-      ap (λ (ks : List ℕ). made bits (filter_map (λ k. option_map (relink (place_in ks)) (text_forms text new k)) ks) (map (place_in ks) roots)) same
-      ∙ ap (λ (rows : List (Form Bytes)). made bits rows (map (place_in was) roots))
+      ap (λ (ks : List ℕ). made settings (filter_map (λ k. option_map (relink (place_in ks)) (text_forms text new k)) ks) (map (place_in ks) roots)) same
+      ∙ ap (λ (rows : List (Form Bytes)). made settings rows (map (place_in was) roots))
       (filter_map-same (λ k. option_map (relink (place_in was)) (text_forms text new k)) (λ k. option_map (relink (place_in was)) (text_forms text old k)) was kept)
 
 -- equal forms have equal pools
-pool-same : (n : ℕ) (G H : Forms Bytes) (roots : List ℕ) (bits : ℕ) → ((l : ℕ) → H l ≡ G l) → pool n H roots bits ≡ pool n G roots bits
+pool-same : (n : ℕ) (G H : Forms Bytes) (roots : List ℕ) (settings : Settings) → ((l : ℕ) → H l ≡ G l) → pool n H roots settings ≡ pool n G roots settings
 unfolding pool
-pool-same n G H roots bits same =
+pool-same n G H roots settings same =
     let now : List ℕ = order n (links_in H) roots in
     let was : List ℕ = order n (links_in G) roots in
     let listed : now ≡ was = order-same n (links_in G) (links_in H) roots (λ r root m down. ap links_of (same m)) in
-    ap (λ (ks : List ℕ). made bits (filter_map (λ k. option_map (relink (place_in ks)) (H k)) ks) (map (place_in ks) roots)) listed
-    ∙ ap (λ (rows : List (Form Bytes)). made bits rows (map (place_in was) roots))
+    ap (λ (ks : List ℕ). made settings (filter_map (λ k. option_map (relink (place_in ks)) (H k)) ks) (map (place_in ks) roots)) listed
+    ∙ ap (λ (rows : List (Form Bytes)). made settings rows (map (place_in was) roots))
     (filter_map-same (λ k. option_map (relink (place_in was)) (H k)) (λ k. option_map (relink (place_in was)) (G k)) was (λ k some. ap (option_map (relink (place_in was))) (same k)))
 
-pub texts-are-forms : (h : Heap Bytes) (roots : List ℕ) (bits : ℕ) → pool_at (λ text. text) h roots bits ≡ pool (length h.rows) (form_at h) roots bits
-texts-are-forms h roots bits = pool-same (length h.rows) (form_at h) (text_forms (λ text. text) h) roots bits (λ l. by_row (row_at h l))
+pub texts-are-forms : (h : Heap Bytes) (roots : List ℕ) (settings : Settings) → pool_at (λ text. text) h roots settings ≡ pool (length h.rows) (form_at h) roots settings
+texts-are-forms h roots settings = pool-same (length h.rows) (form_at h) (text_forms (λ text. text) h) roots settings (λ l. by_row (row_at h l))
   where
     by_row : (r : Option (Row Bytes)) → option_map (text_form (λ text. text)) r ≡ option_map form_of r
     by_row None = refl

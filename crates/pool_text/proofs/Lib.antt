@@ -4,12 +4,14 @@ pub mod Renamed
 pub mod PoolRows
 pub mod Ordered
 pub mod Held
+mod OnePool
+mod ListWalk
 pub mod ReadBack
 mod DocumentRows
 pub mod DocumentBack
 mod TextLengths
 mod EachRead
 mod NumbersRead
-mod Refusals
+pub mod Refusals
 mod PartsRead
 mod PoolRead

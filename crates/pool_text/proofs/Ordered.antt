@@ -11,7 +11,7 @@ use Rattle.pool_order.specs.Order.{with_new, with_all_new, firsts, places, order
 use Rattle.pool_order.proofs.Firsts.{count-append, with_new-cases, with_new-from, with_new-absorbs}
 use Rattle.pool_order.proofs.Places.{flat_map-same, flat_map-found, places-reached, order-deep}
 use Rattle.pool_text.specs.Rows.{Bytes}
-use Rattle.pool_text.specs.Pool.{forms_in, row_count, order_in, place_in, pool}
+use Rattle.pool_text.specs.Pool.{forms_in, row_count, order_in, place_in, Settings, pool}
 use Rattle.pool_text.specs.Renaming.{IsRooted}
 use Rattle.pool_text.specs.declared.pool.Pool.{Pool}
 use Rattle.pool_text.proofs.Placed.{place-is, place-first, place-later}
@@ -95,21 +95,21 @@ places-rest front (x ∷ back) once =
     length-more (k ∷ front) x = omega (arith, length-more front x)
 
 module _ (n : ℕ) (G : Forms Bytes) (roots : List ℕ) (rooted : IsRooted n G roots) where
-  pub pool-roots : (bits : ℕ) → (pool n G roots bits).roots ≡ map (place_in (order n (links_in G) roots)) roots
+  pub pool-roots : (settings : Settings) → (pool n G roots settings).roots ≡ map (place_in (order n (links_in G) roots)) roots
   unfolding pool
-  pool-roots bits = refl
+  pool-roots settings = refl
 
   -- the order of a pool's own rows is that of their places
-  pub pool-ordered : (bits : ℕ) → order_in (pool n G roots bits) ≡ range_with_len 0 (row_count (pool n G roots bits))
-  pool-ordered bits =
+  pub pool-ordered : (settings : Settings) → order_in (pool n G roots settings) ≡ range_with_len 0 (row_count (pool n G roots settings))
+  pool-ordered settings =
       let ks : List ℕ = order n (links_in G) roots in
-      let P : Pool = pool n G roots bits in
+      let P : Pool = pool n G roots settings in
       let L : Links = links_in G in
       let M : Links = links_in (forms_in P) in
       let N : ℕ = n + row_count P in
       let is = order-of-pool n G roots rooted in
       let linked : (r : ℕ) → 0 < count r roots → AreLinked (place_in ks) L M r =
-      λ r root m down. renamed-links (place_in ks) G (forms_in P) m (renamed-below (place_in ks) G (forms_in P) r m down (pool-renamed n G roots rooted bits r r root (here r))) in
+      λ r root m down. renamed-links (place_in ks) G (forms_in P) m (renamed-below (place_in ks) G (forms_in P) r m down (pool-renamed n G roots rooted settings r r root (here r))) in
       let in_ks : (k : ℕ) → 0 < count k (flat_map (places N L) roots) → 0 < count k ks =
       λ k some. let found = flat_map-found (places N L) roots k some in is.all found.0 k found.1 (places-reached N L found.0 k found.2) in
       let one : IsOneToOne (place_in ks) (flat_map (places N L) roots) =
@@ -117,10 +117,10 @@ module _ (n : ℕ) (G : Forms Bytes) (roots : List ℕ) (rooted : IsRooted n G r
       let low : (p : ℕ) → 0 < count p (map (place_in ks) roots) → p < row_count P =
       λ p root.
       let found = map-found (place_in ks) roots p root in
-      omega (arith, found.2, (place-is ks found.0 (is.all found.0 found.0 found.1 (here found.0))).0, pool-length n G roots rooted bits) in
-      ap (order (row_count P) M) (pool-roots bits)
-      ∙ order-deep (λ i. i) M (pool-ranked n G roots rooted bits) (row_count P) N (map (place_in ks) roots) low (λ p root. omega (arith, low p root))
+      omega (arith, found.2, (place-is ks found.0 (is.all found.0 found.0 found.1 (here found.0))).0, pool-length n G roots rooted settings) in
+      ap (order (row_count P) M) (pool-roots settings)
+      ∙ order-deep (λ i. i) M (pool-ranked n G roots rooted settings) (row_count P) N (map (place_in ks) roots) low (λ p root. omega (arith, low p root))
       ∙ order-renamed (place_in ks) L M N roots linked one
       ∙ ap (map (place_in ks)) (order-deep rooted.rank L rooted.falls N n roots (λ r root. omega (arith, rooted.low r root)) rooted.low)
       ∙ places-rest [] ks is.once
-      ∙ ap (range_with_len 0) (sym (pool-length n G roots rooted bits))
+      ∙ ap (range_with_len 0) (sym (pool-length n G roots rooted settings))

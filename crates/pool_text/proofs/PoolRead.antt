@@ -1,28 +1,60 @@
 -- The pool and the damage of a document, by its parts and its rows.
-use Rattle.std.proofs.Common.{◌≡◌, ◌≢◌, ℕ, Bool, true, false, cond, eqb, ◌&&◌, Option, Some, None, Result, Ok, Err, List, [], ◌∷◌, refl, ap, sym, subst, ◌∙◌, arith}
+use Rattle.std.proofs.Common.{◌≡◌, ◌≢◌, ℕ, Bool, true, false, cond, eqb, ◌&&◌, Option, Some, None, List, [], ◌∷◌, refl, ap, sym, ◌∙◌, arith}
 use Rattle.std.specs.Prelude.{not, is_some, option_map, option_and_then}
 use Rattle.std.specs.List.{list_all}
-use Rattle.std.specs.Result.{IsErrAnd, IfErr}
 use Rattle.std.specs.Str.{is_utf8}
 use Rattle.std.proofs.lemmas.Bool.Decides.{nat_tests}
 use Rattle.node_heap.specs.Forms.{Form}
 use Rattle.serde_json.specs.Data.{Data}
 use Rattle.serde_json.specs.Read.{read}
-use Rattle.pool_text.specs.Rows.{Bytes, is_in_range}
-use Rattle.pool_text.specs.Document.{form_from, elements_in, all_of, row_in, DocumentParts, parts_in, pool_from, pool_in, parts_damage, or_damage, value_damage, value_in, pool_in_bytes, bytes_damage}
+use Rattle.elem_core.specs.declared.codes.TheConstants.{DEEPEST}
+use Rattle.pool_text.specs.Rows.{Bytes, is_in_range_to}
+use Rattle.pool_text.specs.Rules.{Rules, rules_of, rules_named}
+use Rattle.pool_text.specs.Document.{form_from, elements_in, all_of, row_in, DocumentParts, parts_in, rows_in, pool_by, pool_from, pool_in, or_damage, parts_damage_by, parts_damage, value_damage, value_in, pool_in_bytes, bytes_damage}
+use Rattle.pool_text.specs.declared.rules.Rules.{Rules as RulesByName}
+use Rattle.pool_text.specs.declared.rules.Rules.TheVariants.{First}
 use Rattle.pool_text.specs.declared.damage.Damage.{Damage}
-use Rattle.pool_text.specs.declared.damage.Damage.TheVariants.{Json, Form as FormDamage, Version, Bits, Row, Memory}
+use Rattle.pool_text.specs.declared.damage.Damage.TheVariants.{Json, Form as FormDamage, Version, Bits, Row}
 use Rattle.pool_text.proofs.EachRead.{onto-some}
 use Rattle.pool_text.proofs.NumbersRead.{kept-passes}
 
 -- the rows that are read are in range
-pub rows-in-range : (ds : List Data) (rows : List (Form Bytes)) → all_of row_in ds ≡ Some rows → list_all is_in_range rows ≡ true
-rows-in-range [] rows e = let f : Some [] ≡ Some rows = e in let none : [] ≡ rows = cc in ap (list_all is_in_range) (sym none)
-rows-in-range (d ∷ ds) rows e =
-    let parts = onto-some (row_in d) (all_of row_in ds) rows e in
-    ap (list_all is_in_range) parts.is_both
-    ∙ ap (λ b. b && list_all is_in_range parts.rest) (kept-passes is_in_range (option_and_then form_from (elements_in d)) parts.first parts.is_first)
-    ∙ rows-in-range ds parts.rest parts.is_rest
+pub rows-in-range : (deepest : ℕ) (ds : List Data) (rows : List (Form Bytes)) → all_of (row_in deepest) ds ≡ Some rows → list_all (is_in_range_to deepest) rows ≡ true
+rows-in-range deepest [] rows e = let f : Some [] ≡ Some rows = e in let none : [] ≡ rows = cc in ap (list_all (is_in_range_to deepest)) (sym none)
+rows-in-range deepest (d ∷ ds) rows e =
+    let parts = onto-some (row_in deepest d) (all_of (row_in deepest) ds) rows e in
+    ap (list_all (is_in_range_to deepest)) parts.is_both
+    ∙ ap (λ b. b && list_all (is_in_range_to deepest) parts.rest) (kept-passes (is_in_range_to deepest) (option_and_then form_from (elements_in d)) parts.first parts.is_first)
+    ∙ rows-in-range deepest ds parts.rest parts.is_rest
+
+-- ## By rules
+
+module _ (bits : ℕ) (p : DocumentParts) (rules : Rules) where
+  abbrev after_bits : Option Damage
+  after_bits = cond (is_some (rows_in p rules)) None (Some Row)
+
+  pub bits-damage : p.bits ≢ bits → parts_damage_by bits p rules ≡ Some Bits
+  bits-damage other =
+      let differs : eqb p.bits bits ≡ false = grind (arith, nat_tests) in
+      ap (λ b. cond (not b) (Some Bits) after_bits) differs
+
+  from_bits : p.bits ≡ bits → parts_damage_by bits p rules ≡ after_bits
+  from_bits kept =
+      let same : eqb p.bits bits ≡ true = grind (arith, nat_tests) in
+      ap (λ b. cond (not b) (Some Bits) after_bits) same
+
+  pub row-damage : p.bits ≡ bits → rows_in p rules ≡ None → parts_damage_by bits p rules ≡ Some Row
+  row-damage kept none = from_bits kept ∙ ap (λ o. cond (is_some o) None (Some Row)) none
+
+  pub no-damage : (rows : List (Form Bytes)) → p.bits ≡ bits → rows_in p rules ≡ Some rows → parts_damage_by bits p rules ≡ None
+  no-damage rows kept are = from_bits kept ∙ ap (λ o. cond (is_some o) None (Some Row)) are
+
+  pub pool-read : (rows : List (Form Bytes)) → p.bits ≡ bits → rows_in p rules ≡ Some rows → pool_by p rules ≡ Some (record { bits = bits; rows = rows; roots = p.roots })
+  pool-read rows kept are =
+      ap (λ o. option_map (λ rs. record { bits = p.bits; rows = rs; roots = p.roots }) o) are
+      ∙ ap (λ b. Some (record { bits = b; rows = rows; roots = p.roots })) kept
+
+-- ## By the rules of the version
 
 pub form-damage : (bits : ℕ) (d : Data) → parts_in d ≡ None → value_damage bits d ≡ Some FormDamage
 unfolding value_damage
@@ -33,49 +65,19 @@ module _ (bits : ℕ) (d : Data) (p : DocumentParts) (is : parts_in d ≡ Some p
   unfolding value_damage
   damage-by-parts = ap (or_damage FormDamage (parts_damage bits)) is
 
-  abbrev after_version : Option Damage
-  after_version = cond (not (eqb p.bits bits)) (Some Bits) (cond (is_some (all_of row_in p.rows)) None (Some Row))
+  pub version-damage : rules_of p.version ≡ None → value_damage bits d ≡ Some Version
+  version-damage none = damage-by-parts ∙ ap (or_damage Version (parts_damage_by bits p)) none
 
-  abbrev after_bits : Option Damage
-  after_bits = cond (is_some (all_of row_in p.rows)) None (Some Row)
+  pub damage-by-rules : (rules : Rules) → rules_of p.version ≡ Some rules → value_damage bits d ≡ parts_damage_by bits p rules
+  damage-by-rules rules found = damage-by-parts ∙ ap (or_damage Version (parts_damage_by bits p)) found
 
-  pub version-damage : p.version ≢ 1 → value_damage bits d ≡ Some Version
-  version-damage other =
-      let differs : eqb p.version 1 ≡ false = grind (arith, nat_tests) in
-      damage-by-parts ∙ ap (λ b. cond (not b) (Some Version) after_version) differs
-
-  from_version : p.version ≡ 1 → value_damage bits d ≡ after_version
-  from_version one =
-      let same : eqb p.version 1 ≡ true = grind (arith, nat_tests) in
-      damage-by-parts ∙ ap (λ b. cond (not b) (Some Version) after_version) same
-
-  pub bits-damage : p.version ≡ 1 → p.bits ≢ bits → value_damage bits d ≡ Some Bits
-  bits-damage one other =
-      let differs : eqb p.bits bits ≡ false = grind (arith, nat_tests) in
-      from_version one ∙ ap (λ b. cond (not b) (Some Bits) after_bits) differs
-
-  from_bits : p.version ≡ 1 → p.bits ≡ bits → value_damage bits d ≡ after_bits
-  from_bits one kept =
-      let same : eqb p.bits bits ≡ true = grind (arith, nat_tests) in
-      from_version one ∙ ap (λ b. cond (not b) (Some Bits) after_bits) same
-
-  pub row-damage : p.version ≡ 1 → p.bits ≡ bits → all_of row_in p.rows ≡ None → value_damage bits d ≡ Some Row
-  row-damage one kept none = from_bits one kept ∙ ap (λ o. cond (is_some o) None (Some Row)) none
-
-  pub no-damage : (rows : List (Form Bytes)) → p.version ≡ 1 → p.bits ≡ bits → all_of row_in p.rows ≡ Some rows → value_damage bits d ≡ None
-  no-damage rows one kept are = from_bits one kept ∙ ap (λ o. cond (is_some o) None (Some Row)) are
-
-  pub pool-read : (rows : List (Form Bytes)) → p.bits ≡ bits → all_of row_in p.rows ≡ Some rows → pool_in d ≡ Some (record { bits = bits; rows = rows; roots = p.roots })
+  pub pool-by-rules : (rules : Rules) → rules_of p.version ≡ Some rules → pool_in d ≡ pool_by p rules
   unfolding pool_in
-  pool-read rows kept are =
-      ap (option_and_then pool_from) is
-      ∙ ap (λ o. option_map (λ rs. record { bits = p.bits; rows = rs; roots = p.roots }) o) are
-      ∙ ap (λ b. Some (record { bits = b; rows = rows; roots = p.roots })) kept
+  pool-by-rules rules found = ap (option_and_then pool_from) is ∙ ap (option_and_then (pool_by p)) found
 
--- a damage that is handed on
-pub handed-on : {A : Type 0} (r : Result A Damage) (e : Damage) (found : Option Damage) → IsErrAnd r (λ f. f ≡ e) → (e ≢ Memory → found ≡ Some e) → IfErr r (λ f. f ≢ Memory → found ≡ Some f)
-handed-on (Ok a) e found is says = absurd is
-handed-on (Err f) e found is says = subst (λ g. g ≢ Memory → found ≡ Some g) (sym is) says
+-- all rules that the code names go as deep as codes have digits
+pub deepest-named : (rules : RulesByName) → (rules_named rules).deepest ≡ DEEPEST
+deepest-named First = refl
 
 -- bytes that are the text of a value
 pub value-read : (bytes : Bytes) (d : Data) → is_utf8 bytes ≡ true → read bytes ≡ Some d → value_in bytes ≡ Some d

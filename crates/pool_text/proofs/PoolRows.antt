@@ -11,7 +11,7 @@ use Rattle.pool_order.specs.Order.{order}
 use Rattle.pool_order.specs.Laws.{IsOrder}
 use Rattle.pool_order.proofs.Places.{order-is}
 use Rattle.pool_text.specs.Rows.{Bytes}
-use Rattle.pool_text.specs.Pool.{forms_in, row_count, place_in, relink, pool}
+use Rattle.pool_text.specs.Pool.{forms_in, row_count, place_in, relink, Settings, pool}
 use Rattle.pool_text.specs.Renaming.{IsRenamed, IsRooted}
 use Rattle.pool_text.proofs.Placed.{place-is, place-low}
 use Rattle.pool_text.proofs.Renamed.{map-found, links-relink, turn-back}
@@ -56,13 +56,13 @@ module _ (n : ℕ) (G : Forms Bytes) (roots : List ℕ) (rooted : IsRooted n G r
   pub order-there : AreThere G (order n (links_in G) roots)
   order-there k some = let from = order-of-pool.reached k some in rooted.there from.0 k from.1 from.2
 
-  pub pool-length : (bits : ℕ) → row_count (pool n G roots bits) ≡ length (order n (links_in G) roots)
+  pub pool-length : (settings : Settings) → row_count (pool n G roots settings) ≡ length (order n (links_in G) roots)
   unfolding pool
-  pool-length bits = length-rows G (place_in (order n (links_in G) roots)) (order n (links_in G) roots) order-there
+  pool-length settings = length-rows G (place_in (order n (links_in G) roots)) (order n (links_in G) roots) order-there
 
-  pub pool-renamed : (bits r l : ℕ) → 0 < count r roots → Reaches (links_in G) r l → IsRenamed (place_in (order n (links_in G) roots)) G (forms_in (pool n G roots bits)) l
+  pub pool-renamed : (settings : Settings) (r l : ℕ) → 0 < count r roots → Reaches (links_in G) r l → IsRenamed (place_in (order n (links_in G) roots)) G (forms_in (pool n G roots settings)) l
   unfolding pool
-  pool-renamed bits r l root to m down =
+  pool-renamed settings r l root to m down =
       let ks : List ℕ = order n (links_in G) roots in
       let at = place-is ks m (order-of-pool.all r m root (Reaches-trans (links_in G) r l m to down)) in
       row-named G (place_in ks) ks order-there (place_in ks m) at.0 ∙ ap (λ k. option_map (relink (place_in ks)) (G k)) at.1
@@ -70,15 +70,15 @@ module _ (n : ℕ) (G : Forms Bytes) (roots : List ℕ) (rooted : IsRooted n G r
   pub place-back : (r l : ℕ) → 0 < count r roots → Reaches (links_in G) r l → slice_index (order n (links_in G) roots) (place_in (order n (links_in G) roots) l) ≡ l
   place-back r l root to = (place-is (order n (links_in G) roots) l (order-of-pool.all r l root to)).1
 
-  pub pool-back : (bits r l : ℕ) → 0 < count r roots → Reaches (links_in G) r l → IsRenamed (slice_index (order n (links_in G) roots)) (forms_in (pool n G roots bits)) G (place_in (order n (links_in G) roots) l)
-  pool-back bits r l root to =
-      turn-back (place_in (order n (links_in G) roots)) (slice_index (order n (links_in G) roots)) G (forms_in (pool n G roots bits)) l (pool-renamed bits r l root to)
+  pub pool-back : (settings : Settings) (r l : ℕ) → 0 < count r roots → Reaches (links_in G) r l → IsRenamed (slice_index (order n (links_in G) roots)) (forms_in (pool n G roots settings)) G (place_in (order n (links_in G) roots) l)
+  pool-back settings r l root to =
+      turn-back (place_in (order n (links_in G) roots)) (slice_index (order n (links_in G) roots)) G (forms_in (pool n G roots settings)) l (pool-renamed settings r l root to)
       (λ m down. place-back r m root (Reaches-trans (links_in G) r l m to down))
 
   -- each link of a row of the pool is below the row
-  pub pool-ranked : (bits : ℕ) → LeadsDown (λ i. i) (links_in (forms_in (pool n G roots bits)))
+  pub pool-ranked : (settings : Settings) → LeadsDown (λ i. i) (links_in (forms_in (pool n G roots settings)))
   unfolding pool
-  pool-ranked bits i j has =
+  pool-ranked settings i j has =
       let ks : List ℕ = order n (links_in G) roots in
       let rows : List (Form Bytes) = rows_of G (place_in ks) ks in
       let low : i < length ks = elim (cases_lt i (length ks)) as (λ _. i < length ks) [

@@ -7,7 +7,8 @@ use Rattle.std.proofs.lemmas.Bool.Decides.{nat_tests}
 use Rattle.node_heap.specs.Forms.{Form, cell, node, leaf, inner, trie, chain, pair, state}
 use Rattle.serde_json.specs.Data.{Data}
 use Rattle.serde_json.specs.View.{items_of as items}
-use Rattle.pool_text.specs.Rows.{Bytes, is_in_range}
+use Rattle.pool_text.specs.Rows.{Bytes, is_in_range, is_in_range_to}
+use Rattle.pool_text.specs.Rules.{first_rules}
 use Rattle.pool_text.specs.Document.{natural, naturals, row_value, document, number_in, item_list, elements_in, all_of, numbers_in, form_from, kept_if, row_in, DocumentParts, four, parts_in, pool_from, pool_in, parts_damage, or_damage, value_damage}
 use Rattle.pool_text.specs.Laws.{ReadsBackAs}
 use Rattle.pool_text.specs.declared.pool.Pool.{Pool}
@@ -34,22 +35,23 @@ form_from-row (node chain links) = ap (option_map (node chain)) (numbers_in-natu
 form_from-row (node pair links) = ap (option_map (node pair)) (numbers_in-naturals links)
 form_from-row (node state links) = ap (option_map (node state)) (numbers_in-naturals links)
 
-kept_if-Some : (r : Form Bytes) → is_in_range r ≡ true → kept_if is_in_range (Some r) ≡ Some r
-kept_if-Some r h = ap (λ b. cond b (Some r) None) h
+module _ (deepest : ℕ) where
+  kept_if-Some : (r : Form Bytes) → is_in_range_to deepest r ≡ true → kept_if (is_in_range_to deepest) (Some r) ≡ Some r
+  kept_if-Some r h = ap (λ b. cond b (Some r) None) h
 
-row_in-row : (r : Form Bytes) → is_in_range r ≡ true → row_in (row_value r) ≡ Some r
-row_in-row r h = ap (kept_if is_in_range) (form_from-row r) ∙ kept_if-Some r h
+  row_in-row : (r : Form Bytes) → is_in_range_to deepest r ≡ true → row_in deepest (row_value r) ≡ Some r
+  row_in-row r h = ap (kept_if (is_in_range_to deepest)) (form_from-row r) ∙ kept_if-Some r h
 
 both : (a b : Bool) → (a && b) ≡ true → (a ≡ true) × (b ≡ true)
 both true b h = (refl, h)
 both false b h = absurd (both_ways false refl h)
 
-all_of-rows : (rs : List (Form Bytes)) → list_all is_in_range rs ≡ true → all_of row_in (map row_value rs) ≡ Some rs
-all_of-rows [] h = refl
-all_of-rows (r ∷ rs) h =
-    let pass = both (is_in_range r) (list_all is_in_range rs) h in
-    ap (option_and_then (λ y. option_map (λ ys. y ∷ ys) (all_of row_in (map row_value rs)))) (row_in-row r pass.0)
-    ∙ ap (λ o. option_map (λ ys. r ∷ ys) o) (all_of-rows rs pass.1)
+all_of-rows : (deepest : ℕ) (rs : List (Form Bytes)) → list_all (is_in_range_to deepest) rs ≡ true → all_of (row_in deepest) (map row_value rs) ≡ Some rs
+all_of-rows deepest [] h = refl
+all_of-rows deepest (r ∷ rs) h =
+    let pass = both (is_in_range_to deepest r) (list_all (is_in_range_to deepest) rs) h in
+    ap (option_and_then (λ y. option_map (λ ys. y ∷ ys) (all_of (row_in deepest) (map row_value rs)))) (row_in-row deepest r pass.0)
+    ∙ ap (λ o. option_map (λ ys. r ∷ ys) o) (all_of-rows deepest rs pass.1)
 
 four-is : (ks : List ℕ) → length ks ≡ 4 → four ks ≡ Some ks
 four-is [] h = absurd (omega (arith, h))
@@ -77,9 +79,9 @@ unfolding pool_in value_damage
 reads-back P h range = record {
   same =
       ap (option_and_then pool_from) (parts_in-document P h)
-      ∙ ap (option_map (λ rs. record { bits = P.bits; rows = rs; roots = P.roots })) (all_of-rows P.rows range);
+      ∙ ap (option_map (λ rs. record { bits = P.bits; rows = rs; roots = P.roots })) (all_of-rows first_rules.deepest P.rows range);
   whole =
       ap (or_damage FormDamage (parts_damage P.bits)) (parts_in-document P h)
-      ∙ ap (λ b. cond (not b) (Some Bits) (cond (is_some (all_of row_in (map row_value P.rows))) None (Some Row))) (eqb-same P.bits)
-      ∙ ap (λ o. cond (is_some o) None (Some Row)) (all_of-rows P.rows range);
+      ∙ ap (λ b. cond (not b) (Some Bits) (cond (is_some (all_of (row_in first_rules.deepest) (map row_value P.rows))) None (Some Row))) (eqb-same P.bits)
+      ∙ ap (λ o. cond (is_some o) None (Some Row)) (all_of-rows first_rules.deepest P.rows range);
 }

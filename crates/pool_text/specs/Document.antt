@@ -6,7 +6,8 @@ use Rattle.serde_json.specs.Data.{unsigned, Data, number, string, array, object,
 use Rattle.serde_json.specs.Read.{read}
 use Rattle.serde_json.specs.View.{items_of}
 use Rattle.serde_json.specs.Written.{compact_text}
-use Rattle.pool_text.specs.Rows.{Bytes, is_in_range}
+use Rattle.pool_text.specs.Rows.{Bytes, is_in_range_to}
+use Rattle.pool_text.specs.Rules.{Rules, rules_of}
 use Rattle.pool_text.specs.declared.pool.Pool.{Pool}
 use Rattle.pool_text.specs.declared.damage.Damage.{Damage}
 use Rattle.pool_text.specs.declared.damage.Damage.TheVariants.{Json, Form as FormDamage, Version, Bits, Row}
@@ -101,9 +102,9 @@ form_from _ = None
 abbrev pub kept_if : {X : Type 0} → (X → Bool) → Option X → Option X
 kept_if test o = option_and_then (λ x. if test x then Some x else None) o
 
--- the row that a value stands for, if its numbers and its links are in range
-abbrev pub row_in : Data → Option (Form Bytes)
-row_in d = kept_if is_in_range (option_and_then form_from (elements_in d))
+-- the row that a value stands for, if its numbers and its links are in range, where tries go so deep
+abbrev pub row_in : ℕ → Data → Option (Form Bytes)
+row_in deepest d = kept_if (is_in_range_to deepest) (option_and_then form_from (elements_in d))
 
 -- the five values of a document
 pub record DocumentParts : Type 0 where
@@ -144,13 +145,17 @@ parts_in _ = None
 abbrev pub value_in : Bytes → Option Data
 value_in bytes = if is_utf8 bytes then read bytes else None
 
--- the rows of a document, each in its form and in range
-abbrev pub rows_in : DocumentParts → Option (List (Form Bytes))
-rows_in p = all_of row_in p.rows
+-- the rows of a document, each in its form and in range by these rules
+abbrev pub rows_in : DocumentParts → Rules → Option (List (Form Bytes))
+rows_in p rules = all_of (row_in rules.deepest) p.rows
 
--- the pool that the parts of a document stand for
+-- the pool that the parts of a document stand for by these rules
+abbrev pub pool_by : DocumentParts → Rules → Option Pool
+pool_by p rules = option_map (λ rows. record { bits = p.bits; rows = rows; roots = p.roots }) (rows_in p rules)
+
+-- the pool that the parts of a document stand for by the rules of its version, if that is one that is read
 abbrev pub pool_from : DocumentParts → Option Pool
-pool_from p = option_map (λ rows. record { bits = p.bits; rows = rows; roots = p.roots }) (rows_in p)
+pool_from p = option_and_then (pool_by p) (rules_of p.version)
 
 -- the pool that a document stands for
 unfoldable pub pool_in : Data → Option Pool
@@ -160,17 +165,20 @@ pool_in d = option_and_then pool_from (parts_in d)
 abbrev pub pool_in_bytes : Bytes → Option Pool
 pool_in_bytes bytes = option_and_then pool_in (value_in bytes)
 
--- the first of the tests that the parts fail, of `Version`, `Bits` and `Row`, in a space of so many bits
-abbrev pub parts_damage : ℕ → DocumentParts → Option Damage
-parts_damage bits p =
-    if not (p.version == 1) then Some Version else
-    if not (p.bits == bits) then Some Bits else
-    if is_some (rows_in p) then None else Some Row
-
 -- what the next test says of what is there, and the damage where nothing is
 abbrev pub or_damage : {X : Type 0} → Damage → (X → Option Damage) → Option X → Option Damage
 or_damage d next None = Some d
 or_damage d next (Some x) = next x
+
+-- the first of the tests that the parts fail by these rules, of `Bits` and `Row`, in a space of so many bits
+abbrev pub parts_damage_by : ℕ → DocumentParts → Rules → Option Damage
+parts_damage_by bits p rules =
+    if not (p.bits == bits) then Some Bits else
+    if is_some (rows_in p rules) then None else Some Row
+
+-- the first of the tests that the parts fail, of `Version`, `Bits` and `Row`, in a space of so many bits
+abbrev pub parts_damage : ℕ → DocumentParts → Option Damage
+parts_damage bits p = or_damage Version (parts_damage_by bits p) (rules_of p.version)
 
 -- the first of the tests `Form` to `Row` that the value fails, if any
 unfoldable pub value_damage : ℕ → Data → Option Damage

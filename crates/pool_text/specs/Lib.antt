@@ -1,4 +1,5 @@
 pub mod Rows
+pub mod Rules
 pub mod Pool
 pub mod Document
 pub mod Length

@@ -1,11 +1,16 @@
 -- The pool of some roots: their rows in first-seen order, with places for links.
 use Rattle.std.specs.Prelude.{ℕ, ◌==◌, Bool, true, false, List, length, map, Option, Some, None, option_map, slice_get, nat_eq}
 use Rattle.std.specs.List.{position_or_len, filter_map}
-use Rattle.node_heap.specs.Forms.{Row, Form, Forms, cell, node, leaf, inner, trie, chain, pair, state, kind_of, links_in}
+use Rattle.node_heap.specs.Links.{Links}
+use Rattle.node_heap.specs.Forms.{Row, Form, Forms, cell, node, leaf, inner, trie, chain, pair, state, kind_of, links_of, links_in}
 use Rattle.node_heap.specs.Heap.{Heap, row_at}
 use Rattle.pool_order.specs.Order.{order}
 use Rattle.pool_text.specs.Rows.{Bytes}
 use Rattle.pool_text.specs.declared.pool.Pool.{Pool}
+
+-- the links of the row at each place in a list
+abbrev pub links_from : {K : Type 0} → List (Form K) → Links
+links_from rows l = links_of (slice_get rows l)
 
 -- the row at each place
 abbrev pub forms_in : Pool → Forms Bytes
@@ -27,12 +32,23 @@ abbrev pub relink : {K : Type 0} → (ℕ → ℕ) → Form K → Form K
 relink f (cell x) = cell x
 relink f (node kind links) = node kind (map f links)
 
+-- what a pool has beside its rows and its roots
+pub record Settings : Type 0 where
+  pub bits : ℕ
+
+-- the settings that keep so many code bits
+abbrev pub settings_by : ℕ → Settings
+settings_by bits = record { bits = bits }
+
+abbrev pub settings_of : Pool → Settings
+settings_of P = settings_by P.bits
+
 -- the pool of the rows that the roots reach, each way down at most n rows long
-unfoldable pub pool : ℕ → Forms Bytes → List ℕ → ℕ → Pool
-pool n G roots bits =
+unfoldable pub pool : ℕ → Forms Bytes → List ℕ → Settings → Pool
+pool n G roots settings =
     let ks : List ℕ = order n (links_in G) roots in
     record {
-      bits = bits;
+      bits = settings.bits;
       rows = filter_map (λ k. option_map (relink (place_in ks)) (G k)) ks;
       roots = map (place_in ks) roots;
     }
@@ -59,5 +75,5 @@ module _ {T : Type 0} (text : T → Bytes) where
   text_forms h l = option_map text_form (row_at h l)
 
   -- the pool of the rows of a heap that the roots reach
-  abbrev pub pool_at : Heap T → List ℕ → ℕ → Pool
-  pool_at h roots bits = pool (length h.rows) (text_forms h) roots bits
+  abbrev pub pool_at : Heap T → List ℕ → Settings → Pool
+  pool_at h roots settings = pool (length h.rows) (text_forms h) roots settings

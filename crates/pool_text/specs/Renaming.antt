@@ -8,7 +8,7 @@ use Rattle.node_heap.specs.Calls.{KeepsBelow}
 use Rattle.pool_order.specs.Order.{order}
 use Rattle.pool_order.specs.Laws.{HaveRanksBelow}
 use Rattle.pool_text.specs.Rows.{Bytes}
-use Rattle.pool_text.specs.Pool.{forms_in, row_count, order_in, place_in, relink, pool, pool_at}
+use Rattle.pool_text.specs.Pool.{forms_in, row_count, order_in, place_in, relink, Settings, settings_of, pool, pool_at}
 use Rattle.pool_text.specs.declared.pool.Pool.{Pool}
 
 module _ {K : Type 0} where
@@ -49,11 +49,18 @@ pub record IsPoolOf (G : Forms Bytes) (roots ks : List ℕ) (P : Pool) : Type 0 
 
 -- a pool has the rows that the roots reach, under their places, and stands in its own order
 abbrev pub PoolsAreRenamed : Type 0
-PoolsAreRenamed = (n : ℕ) (G : Forms Bytes) (roots : List ℕ) (bits : ℕ) → IsRooted n G roots → IsPoolOf G roots (order n (links_in G) roots) (pool n G roots bits)
+PoolsAreRenamed = (n : ℕ) (G : Forms Bytes) (roots : List ℕ) (settings : Settings) → IsRooted n G roots → IsPoolOf G roots (order n (links_in G) roots) (pool n G roots settings)
+
+-- where new links can be turned back into the old ones, the rows under new links have the pool of the old ones
+abbrev pub RenamedHaveOnePool : Type 0
+RenamedHaveOnePool =
+    (n m : ℕ) (f g : ℕ → ℕ) (G H : Forms Bytes) (roots : List ℕ) (settings : Settings) → IsRooted n G roots → IsRooted m H (map f roots)
+    → ((r : ℕ) → 0 < count r roots → IsRenamed f G H r) → ((r l : ℕ) → 0 < count r roots → Reaches (links_in G) r l → g (f l) ≡ l)
+    → pool m H (map f roots) settings ≡ pool n G roots settings
 
 -- a pool is the pool of its own rows from its roots
 abbrev pub IsOfItself : Pool → Type 0
-IsOfItself P = pool (row_count P) (forms_in P) P.roots P.bits ≡ P
+IsOfItself P = pool (row_count P) (forms_in P) P.roots (settings_of P) ≡ P
 
 module _ (T : Type 0) where
   -- these roots are rows of the heap
@@ -66,14 +73,14 @@ module _ (T : Type 0) where
 
   -- where the roots are all that is held, each as often as it stands in the list, the pool has every row of the heap
   abbrev pub NothingLeaks : Type 0
-  NothingLeaks = (text : T → Bytes) (h : Heap T) (roots : List ℕ) (bits : ℕ) → IsGraph h → ((l : ℕ) → holds_at h l ≡ count l roots) → row_count (pool_at text h roots bits) ≡ live_count h
+  NothingLeaks = (text : T → Bytes) (h : Heap T) (roots : List ℕ) (settings : Settings) → IsGraph h → ((l : ℕ) → holds_at h l ≡ count l roots) → row_count (pool_at text h roots settings) ≡ live_count h
 
   -- the pool stays where all that the roots reach stays
   abbrev pub PoolsStay : Type 0
   PoolsStay =
-      (text : T → Bytes) (old new : Heap T) (roots : List ℕ) (bits : ℕ) → IsGraph old → IsGraph new → AreLive old roots → ((r : ℕ) → 0 < count r roots → KeepsBelow old new r)
-      → pool_at text new roots bits ≡ pool_at text old roots bits
+      (text : T → Bytes) (old new : Heap T) (roots : List ℕ) (settings : Settings) → IsGraph old → IsGraph new → AreLive old roots → ((r : ℕ) → 0 < count r roots → KeepsBelow old new r)
+      → pool_at text new roots settings ≡ pool_at text old roots settings
 
 -- the pool of a heap of texts is that of its forms
 abbrev pub TextsAreForms : Type 0
-TextsAreForms = (h : Heap Bytes) (roots : List ℕ) (bits : ℕ) → pool_at (λ text. text) h roots bits ≡ pool (length h.rows) (form_at h) roots bits
+TextsAreForms = (h : Heap Bytes) (roots : List ℕ) (settings : Settings) → pool_at (λ text. text) h roots settings ≡ pool (length h.rows) (form_at h) roots settings

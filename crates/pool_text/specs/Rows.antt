@@ -24,12 +24,16 @@ row_form (State buffers stars) = node state (buffers ∷ stars ∷ [])
 abbrev pub is_between : ℕ → ℕ → ℕ → Bool
 is_between least most n = nat_le least n && nat_le n most
 
--- whether the row's numbers and its count of links are in range
+-- whether the row's numbers and its count of links are in range, where tries go so deep
+abbrev pub is_in_range_to : {K : Type 0} → ℕ → Form K → Bool
+is_in_range_to deepest (cell _) = true
+is_in_range_to deepest (node leaf links) = nat_le (length links) 32
+is_in_range_to deepest (node (inner height) links) = is_between 1 MOST_HEIGHT height && is_between 1 32 (length links)
+is_in_range_to deepest (node (trie depth entries nodes) links) = nat_le depth deepest && nat_lt entries (2 ^ 32) && nat_lt nodes (2 ^ 32) && nat_le (length links) 32
+is_in_range_to deepest (node chain links) = is_between 1 2 (length links)
+is_in_range_to deepest (node pair links) = length links == 2
+is_in_range_to deepest (node state links) = length links == 2
+
+-- the same where tries go as deep as codes have digits
 abbrev pub is_in_range : {K : Type 0} → Form K → Bool
-is_in_range (cell _) = true
-is_in_range (node leaf links) = nat_le (length links) 32
-is_in_range (node (inner height) links) = is_between 1 MOST_HEIGHT height && is_between 1 32 (length links)
-is_in_range (node (trie depth entries nodes) links) = nat_le depth DEEPEST && nat_lt entries (2 ^ 32) && nat_lt nodes (2 ^ 32) && nat_le (length links) 32
-is_in_range (node chain links) = is_between 1 2 (length links)
-is_in_range (node pair links) = length links == 2
-is_in_range (node state links) = length links == 2
+is_in_range row = is_in_range_to DEEPEST row

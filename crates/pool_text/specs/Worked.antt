@@ -1,6 +1,6 @@
 -- What the definitions say of small spaces.
 use Rattle.std.specs.Prelude.{◌≡◌, Some, None, codes, [], ◌∷◌}
-use Rattle.pool_text.specs.Pool.{pool, forms_in}
+use Rattle.pool_text.specs.Pool.{settings_by, pool, forms_in}
 use Rattle.pool_text.specs.Document.{document, text, value_damage, bytes_damage}
 use Rattle.pool_text.specs.Documents.{start_pool, two_cells, shared_empties, sub_node, one_line_twice}
 use Rattle.pool_text.specs.Renaming.{IsOfItself}
@@ -13,7 +13,7 @@ pub record WorkedDocuments : Type 0 where
   pub sub_node_itself : IsOfItself sub_node
   pub one_line_twice_itself : IsOfItself one_line_twice
   -- rows are listed in order, whatever links name them
-  pub turned : pool 6 (forms_in start_pool) (2 ∷ 3 ∷ 5 ∷ 4 ∷ []) 32 ≡ start_pool
+  pub turned : pool 6 (forms_in start_pool) (2 ∷ 3 ∷ 5 ∷ 4 ∷ []) (settings_by 32) ≡ start_pool
   -- the bits are those of another space
   pub other_bits : value_damage 31 (document start_pool) ≡ Some Bits
   -- the text of the start space, from which its pool is read again

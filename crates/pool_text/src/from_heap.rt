@@ -5,7 +5,7 @@ ghost use Rattle.node_heap.specs.Forms.{cell, node, kind_of};
 ghost use Rattle.node_heap.specs.Heap.{form_at, links_at};
 ghost use Rattle.pool_order.specs.Order.{order_of};
 ghost use Rattle.pool_text.specs.Rows.{Bytes, row_form};
-ghost use Rattle.pool_text.specs.Pool.{place_in, relink, fits_pool, text_forms, pool_at};
+ghost use Rattle.pool_text.specs.Pool.{place_in, relink, settings_by, fits_pool, text_forms, pool_at};
 
 use crate::pool::{Pool, Rows};
 use crate::row::{Places, PoolText, Row};
@@ -25,7 +25,7 @@ pub fn pool_of<T: Stored>(
 ) -> Result<Pool, NoMemory>
     requires order { order.now ≡ order_of heap.now roots.now }
     requires fits { (r l : ℕ) → 0 < count r roots.now → Reaches (links_at heap.now) r l → fits_pool (form_at heap.now l) ≡ true }
-    ensures value { IfOk result (λ p. p ≡ pool_at T.bytes_of heap.now roots.now bits) }
+    ensures value { IfOk result (λ p. p ≡ pool_at T.bytes_of heap.now roots.now (settings_by bits)) }
 {
     heap.is_graph();
     let mut rows = Vec::with_capacity(alloc, order.len())?;

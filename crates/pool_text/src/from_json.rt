@@ -3,8 +3,9 @@ ghost use Rattle.std.specs.Prelude.{◌≡◌, ◌≢◌, ◌≤◌, List, [], �
 ghost use Rattle.std.specs.List.{list_all};
 ghost use Rattle.std.specs.Str.{bytes_eq};
 ghost use Rattle.serde_json.specs.View.{view, members_view};
-ghost use Rattle.pool_text.specs.Rows.{Bytes, is_in_range};
-ghost use Rattle.pool_text.specs.Document.{values_at, parts_read, parts_in, pool_in, pool_in_bytes, value_damage, bytes_damage};
+ghost use Rattle.pool_text.specs.Rows.{Bytes, is_in_range, is_in_range_to};
+ghost use Rattle.pool_text.specs.Rules.{rules_named};
+ghost use Rattle.pool_text.specs.Document.{values_at, parts_read, parts_in, pool_by as pool_of_parts, pool_in, pool_in_bytes, parts_damage_by, value_damage, bytes_damage};
 ghost use Rattle.pool_text.specs.Parsing.{Reads, parts_seen};
 
 use crate::damage::Damage;
@@ -12,6 +13,7 @@ use crate::numbers::{elements_of, number_of, numbers_of};
 use crate::pool::Pool;
 use crate::row::Places;
 use crate::row_in::rows_of;
+use crate::rules::Rules;
 use elem_core::CODE_BITS;
 use serde_json::Value;
 use std::alloc::Global;
@@ -49,13 +51,26 @@ pub fn pool_from_json(alloc: Global, value: &Value, bits: u32) -> Result<Pool, D
     ensures damage { IfErr result (λ d. d ≢ Damage.Memory → value_damage bits (view value.now) ≡ Some d) }
 {
     let parts = parts_of(alloc, value)?;
-    if parts.version != 1 {
-        return Err(Damage::Version);
+    match Rules::of_version(parts.version) {
+        Some(rules) => pool_by(alloc, parts, rules, bits),
+        None => Err(Damage::Version),
     }
+}
+
+// The pool that the parts stand for by these rules. Refused with the first of the tests `Bits` and `Row` that they fail.
+fn pool_by(alloc: Global, parts: Parts<'_>, rules: Rules, bits: u32) -> Result<Pool, Damage>
+    requires { length parts.roots ≡ 4 }
+    ensures pool { IfOk result (λ p. pool_of_parts (parts_seen parts.entry) (rules_named rules) ≡ Some p) }
+    ensures bits { IfOk result (λ p. p.bits ≡ bits) }
+    ensures roots { IfOk result (λ p. length p.roots ≡ 4) }
+    ensures rows { IfOk result (λ p. list_all (is_in_range_to (rules_named rules).deepest) p.rows ≡ true) }
+    ensures whole { IfOk result (λ _. parts_damage_by bits (parts_seen parts.entry) (rules_named rules) ≡ None) }
+    ensures damage { IfErr result (λ d. d ≢ Damage.Memory → parts_damage_by bits (parts_seen parts.entry) (rules_named rules) ≡ Some d) }
+{
     if parts.bits != bits as u64 {
         return Err(Damage::Bits);
     }
-    let rows = rows_of(alloc, parts.rows)?;
+    let rows = rows_of(alloc, parts.rows, rules.deepest())?;
     Ok(Pool {
         bits,
         rows,

@@ -1,6 +1,6 @@
 //! Laws of documents, as the clauses of functions that do nothing.
 ghost use Rattle.pool_text.specs.Laws.{ReadsBack, DocumentsAreExact, CompactDocumentsAreTexts};
-ghost use Rattle.pool_text.specs.Renaming.{RenamedReadsTheSame, RenamingTurnsBack, PoolsAreRenamed, HeapsAreRooted, NothingLeaks, PoolsStay, TextsAreForms};
+ghost use Rattle.pool_text.specs.Renaming.{RenamedReadsTheSame, RenamingTurnsBack, PoolsAreRenamed, RenamedHaveOnePool, HeapsAreRooted, NothingLeaks, PoolsStay, TextsAreForms};
 ghost use Rattle.pool_text.specs.Worked.{WorkedDocuments};
 
 /// The document of a pool in range stands for that pool.
@@ -36,6 +36,11 @@ pub fn renaming_turns_back<K>()
 /// A pool has the rows that its roots reach, under their places, and stands in its own order.
 pub fn pools_are_renamed()
     ensures { PoolsAreRenamed }
+{}
+
+/// Rows under other links have the pool of the old ones.
+pub fn renamed_have_one_pool()
+    ensures { RenamedHaveOnePool }
 {}
 
 /// What the roots of a heap reach is there, no deeper than the heap has places.

@@ -5,23 +5,27 @@
 mod damage;
 mod from_heap;
 mod from_json;
+mod from_rows;
 mod laws;
 mod lengths;
 mod numbers;
 mod pool;
 mod row;
 mod row_in;
+mod rules;
 mod written;
 
 pub use damage::Damage;
 pub use from_heap::pool_of;
 pub use from_json::{pool_from_bytes, pool_from_json};
+pub use from_rows::pool_of_rows;
 pub use laws::{
     compact_documents_are_texts, documents_are_exact, heaps_are_rooted, nothing_leaks,
-    pools_are_renamed, pools_stay, reads_back, renamed_reads_the_same, renaming_turns_back,
-    texts_are_forms, worked_documents,
+    pools_are_renamed, pools_stay, reads_back, renamed_have_one_pool, renamed_reads_the_same,
+    renaming_turns_back, texts_are_forms, worked_documents,
 };
 pub use lengths::text_length;
 pub use pool::{Pool, Rows};
-pub use row::{Places, PoolText, Row};
+pub use row::{Places, PoolText, Row, link_at};
+pub use rules::Rules;
 pub use written::{to_bytes, to_json};

@@ -1,6 +1,8 @@
 //! A row of a pool, and what it holds.
-ghost use Rattle.std.specs.Prelude.{◌≡◌};
+ghost use Rattle.std.specs.Prelude.{◌≡◌, ◌<◌, ◌+◌, ◌^◌, Some, slice_get, IfSome};
 ghost use Rattle.std.specs.String.{string_bytes};
+ghost use Rattle.node_heap.specs.Forms.{links_of};
+ghost use Rattle.pool_text.specs.Rows.{row_form};
 
 use std::marker::Model;
 
@@ -94,4 +96,18 @@ pub enum Row {
     Pair(u64, u64),
     /// The map of buffers and the set of stars of a state.
     State(u64, u64),
+}
+
+/// The link at this index of the row, if it has so many.
+pub fn link_at(row: &Row, index: usize) -> Option<u64>
+    ensures link { result ≡ slice_get (links_of (Some (row_form row.now))) index }
+    ensures fits { IfSome result (λ _. index + 1 < 2 ^ 64) }
+{
+    match row {
+        Row::Cell(_) => None,
+        Row::Leaf(links) | Row::Inner(_, links) | Row::Trie { links, .. } | Row::Chain(links) =>
+            links.as_slice().get(index).copied(),
+        Row::Pair(key, value) => [*key, *value].get(index).copied(),
+        Row::State(buffers, stars) => [*buffers, *stars].get(index).copied(),
+    }
 }

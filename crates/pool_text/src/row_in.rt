@@ -2,7 +2,7 @@
 ghost use Rattle.std.specs.Prelude.{◌≡◌, ◌≢◌, ℕ, List, [], ◌∷◌, map, length, option_map, IfNone, IfSome};
 ghost use Rattle.node_heap.specs.Forms.{leaf};
 ghost use Rattle.serde_json.specs.View.{view};
-ghost use Rattle.pool_text.specs.Rows.{is_in_range, row_form};
+ghost use Rattle.pool_text.specs.Rows.{is_in_range_to, row_form};
 ghost use Rattle.pool_text.specs.Document.{all_of, cell_form, inner_form, trie_form, form_after, kept_if, row_in};
 ghost use Rattle.pool_text.specs.Parsing.{Reads, links_between, two_links};
 
@@ -10,25 +10,24 @@ use crate::damage::Damage;
 use crate::numbers::{elements_of, number_between, number_of, numbers_of};
 use crate::pool::Rows;
 use crate::row::{Places, PoolText, Row};
-use elem_core::DEEPEST;
 use node_heap::MOST_HEIGHT;
 use serde_json::Value;
 use std::alloc::Global;
 
-// The rows of these values.
-pub(crate) fn rows_of(alloc: Global, values: &[Value]) -> Result<Rows, Damage>
-    ensures { Reads (λ rows. rows) Damage.Row (all_of row_in (map view values.now)) result }
+// The rows of these values, where tries go so deep.
+pub(crate) fn rows_of(alloc: Global, values: &[Value], deepest: u8) -> Result<Rows, Damage>
+    ensures { Reads (λ rows. rows) Damage.Row (all_of (row_in deepest) (map view values.now)) result }
 {
     let mut rows = Vec::with_capacity(alloc, values.len())?;
     for value in values {
-        rows.push(row_of(alloc, value)?)?;
+        rows.push(row_of(alloc, value, deepest)?)?;
     }
     Ok(Rows::from_vec(rows))
 }
 
 // The row of a value: its letter, its numbers and its links.
-fn row_of(alloc: Global, value: &Value) -> Result<Row, Damage>
-    ensures { Reads row_form Damage.Row (row_in (view value.now)) result }
+fn row_of(alloc: Global, value: &Value, deepest: u8) -> Result<Row, Damage>
+    ensures { Reads row_form Damage.Row (row_in deepest (view value.now)) result }
 {
     let Some(items) = elements_of(value) else {
         return Err(Damage::Row);
@@ -39,18 +38,18 @@ fn row_of(alloc: Global, value: &Value) -> Result<Row, Damage>
     let Some(letter) = first.as_str() else {
         return Err(Damage::Row);
     };
-    row_after(alloc, letter, rest)
+    row_after(alloc, letter, rest, deepest)
 }
 
 // The row of this letter with these values behind it.
-fn row_after(alloc: Global, letter: &str, rest: &[Value]) -> Result<Row, Damage>
-    ensures { Reads row_form Damage.Row (kept_if is_in_range (form_after letter.now (map view rest.now))) result }
+fn row_after(alloc: Global, letter: &str, rest: &[Value], deepest: u8) -> Result<Row, Damage>
+    ensures { Reads row_form Damage.Row (kept_if (is_in_range_to deepest) (form_after letter.now (map view rest.now))) result }
 {
     match letter {
         "c" => cell_row(alloc, rest),
         "l" => links_of(alloc, rest, 0, 32).map(Row::Leaf),
         "i" => inner_row(alloc, rest),
-        "m" => trie_row(alloc, rest),
+        "m" => trie_row(alloc, rest, deepest),
         "k" => links_of(alloc, rest, 1, 2).map(Row::Chain),
         "p" => both_links(rest).map(|(key, value)| Row::Pair(key, value)),
         "s" => both_links(rest).map(|(buffers, stars)| Row::State(buffers, stars)),
@@ -70,7 +69,7 @@ fn cell_row(alloc: Global, rest: &[Value]) -> Result<Row, Damage>
 
 // An inner row: its height and its links.
 fn inner_row(alloc: Global, rest: &[Value]) -> Result<Row, Damage>
-    ensures { Reads row_form Damage.Row (kept_if is_in_range (inner_form (map view rest.now))) result }
+    ensures { (deepest : ℕ) → Reads row_form Damage.Row (kept_if (is_in_range_to deepest) (inner_form (map view rest.now))) result }
 {
     let Some((height, links)) = rest.split_first() else {
         return Err(Damage::Row);
@@ -82,8 +81,8 @@ fn inner_row(alloc: Global, rest: &[Value]) -> Result<Row, Damage>
 }
 
 // A trie row: its depth, its two sets of positions and its links.
-fn trie_row(alloc: Global, rest: &[Value]) -> Result<Row, Damage>
-    ensures { Reads row_form Damage.Row (kept_if is_in_range (trie_form (map view rest.now))) result }
+fn trie_row(alloc: Global, rest: &[Value], deepest: u8) -> Result<Row, Damage>
+    ensures { Reads row_form Damage.Row (kept_if (is_in_range_to deepest) (trie_form (map view rest.now))) result }
 {
     let Some((depth, rest)) = rest.split_first() else {
         return Err(Damage::Row);
@@ -94,7 +93,7 @@ fn trie_row(alloc: Global, rest: &[Value]) -> Result<Row, Damage>
     let Some((nodes, links)) = rest.split_first() else {
         return Err(Damage::Row);
     };
-    let Some(depth) = number_between(depth, 0, DEEPEST as u64) else {
+    let Some(depth) = number_between(depth, 0, deepest as u64) else {
         return Err(Damage::Row);
     };
     let Some(entries) = number_between(entries, 0, u32::MAX as u64) else {

@@ -4,7 +4,7 @@ use Rattle.std.proofs.lemmas.List.{append-nil}
 use Rattle.node_heap.specs.Links.{count}
 use Rattle.node_heap.specs.Heap.{holds_at, live_count}
 use Rattle.node_heap.specs.Calls.{KeepsToNeed}
-use Rattle.pool_text.specs.Pool.{row_count}
+use Rattle.pool_text.specs.Pool.{row_count, settings_by}
 use Rattle.pool_text.specs.Pool as pools
 use Rattle.pool_text.proofs.Held.{nothing-leaks}
 use Rattle.pool_check.specs.Damages.{IsValid}
@@ -35,7 +35,7 @@ module _ (s : RootedHeap) (W : Workspace) (K : Keeps s [] W) where
   roots-held k = K.holds k ∙ ap (λ ks. count k ks) (append-nil (root_list s.roots))
 
   pub rows-are : row_count (shown s).pool ≡ live_count s.heap
-  rows-are = nothing-leaks (λ text. text) s.heap (root_list s.roots) s.bits K.graph roots-held
+  rows-are = nothing-leaks (λ text. text) s.heap (root_list s.roots) (settings_by s.bits) K.graph roots-held
 
 -- what was not hoarded by the heap was not by the space
 pub room-kept : (old new : RootedHeap) {cells nodes : ℕ} → KeepsToNeed old.heap new.heap cells nodes → KeepsRoom (shown old) (shown new) cells nodes

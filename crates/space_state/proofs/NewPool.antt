@@ -26,7 +26,7 @@ use Rattle.champ_kinds.specs.Binding.{Binding, binds, value_with}
 use Rattle.champ_kinds.specs.Kinds.{IsPair}
 use Rattle.pool_order.specs.Order.{with_new, with_all_new, firsts, places, order}
 use Rattle.pool_order.proofs.Firsts.{with_new-cases, with_all-once, count-append}
-use Rattle.pool_text.specs.Pool.{row_count, place_in, relink, pool}
+use Rattle.pool_text.specs.Pool.{row_count, place_in, relink, settings_by, pool}
 use Rattle.pool_text.specs.Documents.{start_pool}
 use Rattle.pool_text.specs.declared.pool.Pool.{Pool}
 use Rattle.pool_text.proofs.Held.{rooted-forms, texts-are-forms}
@@ -112,7 +112,7 @@ module _ (F : Forms Bytes) where
     ordered (suc zero) deep = absurd (omega arith)
     ordered (suc (suc d)) deep = ordered-deep d
 
-    pub six-pool : (N bits : ℕ) → 2 ≤ N → length (order N (links_in F) (c ∷ v ∷ u ∷ r ∷ [])) ≡ 6 → pool N F (c ∷ v ∷ u ∷ r ∷ []) bits ≡ record start_pool { bits = bits }
+    pub six-pool : (N bits : ℕ) → 2 ≤ N → length (order N (links_in F) (c ∷ v ∷ u ∷ r ∷ [])) ≡ 6 → pool N F (c ∷ v ∷ u ∷ r ∷ []) (settings_by bits) ≡ record start_pool { bits = bits }
     unfolding pool
     six-pool N bits deep full =
         let all : firsts six ≡ six = none-out [] six (ap (λ (ks : List ℕ). length ks) (sym (ordered N deep)) ∙ full) in
@@ -237,9 +237,9 @@ new-pool s K six =
     let listed : root_list s.roots ≡ roots =
     ap (λ ks. s.roots.current ∷ s.roots.versions ∷ s.roots.undo ∷ s.roots.redo ∷ ks) (no-base (IsStateIn s.heap s.bits) (base_of s.roots.batch) K.stands.4) in
     let live : (r : ℕ) → 0 < count r roots → IsSome (row_at s.heap r) = λ r root. K.graph.held r (omega (arith, root, roots-held s start K r, ap (count r) listed)) in
-    let same : (shown s).pool ≡ pool N F roots s.bits = texts-are-forms s.heap (root_list s.roots) s.bits ∙ ap (λ rs. pool N F rs s.bits) listed in
+    let same : (shown s).pool ≡ pool N F roots (settings_by s.bits) = texts-are-forms s.heap (root_list s.roots) (settings_by s.bits) ∙ ap (λ rs. pool N F rs (settings_by s.bits)) listed in
     let full : length (order N (links_in F) roots) ≡ 6 =
-    sym (pool-length N F roots (rooted-forms s.heap roots K.graph live) s.bits) ∙ sym (ap row_count same) ∙ rows-are s start K ∙ six in
+    sym (pool-length N F roots (rooted-forms s.heap roots K.graph live) (settings_by s.bits)) ∙ sym (ap row_count same) ∙ rows-are s start K ∙ six in
     same
     ∙ six-pool F state.buffers state.stars s.roots.current s.roots.versions s.roots.undo s.roots.redo state.row (named-row F V s.bits (AreLines F V s.bits) state.buffers state.buffers_are)
     (names-row F V s.bits state.stars state.stars_are) (named-row F V s.bits (IsState F V s.bits) s.roots.versions K.stands.1)

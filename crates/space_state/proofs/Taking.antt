@@ -6,7 +6,7 @@ use Rattle.node_heap.specs.Heap.{Heap, IsGraph}
 use Rattle.node_heap.specs.Calls.{Releases}
 use Rattle.node_heap.proofs.Frames.{KeepsHeld-Releases}
 use Rattle.node_heap.proofs.BuildLemmas.{count-cons, count-append}
-use Rattle.pool_text.specs.Pool.{pool_at}
+use Rattle.pool_text.specs.Pool.{settings_by, pool_at}
 use Rattle.pool_text.specs.declared.pool.Pool.{Pool}
 use Rattle.pool_text.proofs.Held.{pools-stay}
 use Rattle.pool_load.specs.Loads.{Loads, AreLoaded}
@@ -56,9 +56,9 @@ module _ (W : Workspace) (Done AsBefore : Type 0) where
 
 -- where a hold is given up besides, the roots have the same pool
 pub pool-released : {s : RootedHeap} {b : List ℕ} {W : Workspace} {new : Heap Bytes} {l : ℕ} → Keeps s (l ∷ b) W → Releases s.heap new l → IsGraph new
-    → pool_at (λ text. text) new (root_list s.roots) s.bits ≡ pool_at (λ text. text) s.heap (root_list s.roots) s.bits
+    → pool_at (λ text. text) new (root_list s.roots) (settings_by s.bits) ≡ pool_at (λ text. text) s.heap (root_list s.roots) (settings_by s.bits)
 pool-released {s} {b} {W} {new} {l} K rel graph =
-    pools-stay (λ text. text) s.heap new (root_list s.roots) s.bits K.graph graph (λ r root. held-live K r (root-held K r root))
+    pools-stay (λ text. text) s.heap new (root_list s.roots) (settings_by s.bits) K.graph graph (λ r root. held-live K r (root-held K r root))
     (λ r root. (KeepsHeld-Releases s.heap new l rel graph).kept r (omega (arith, keeps-holds K r, count-cons r l b, root)))
 
 module _ (s : RootedHeap) (W : Workspace) (K : Keeps s [] W) (h : Heap Bytes) (P : Pool) (roots : Roots) (links : List ℕ) (loads : Loads s.heap h links P) (same : links ≡ root_list roots) (bits : P.bits ≡ s.bits)
@@ -66,14 +66,14 @@ module _ (s : RootedHeap) (W : Workspace) (K : Keeps s [] W) (h : Heap Bytes) (P
   abbrev pub loaded : RootedHeap
   loaded = record s { heap = h; roots = roots }
 
-  pub pool-loaded : pool_at (λ text. text) h (root_list roots) s.bits ≡ P
-  pool-loaded = sym (ap (λ (ks : List ℕ). pool_at (λ text. text) h ks s.bits) same) ∙ sym (ap (λ b. pool_at (λ text. text) h links b) bits) ∙ all.pool
+  pub pool-loaded : pool_at (λ text. text) h (root_list roots) (settings_by s.bits) ≡ P
+  pool-loaded = sym (ap (λ (ks : List ℕ). pool_at (λ text. text) h ks (settings_by s.bits)) same) ∙ sym (ap (λ b. pool_at (λ text. text) h links (settings_by b)) bits) ∙ all.pool
 
   -- the new roots stand for what the pool stands for, and the old roots are held besides
   pub keeps-loaded : (after : Workspace) × Keeps loaded (root_list s.roots) after
   keeps-loaded =
       let stands = valid-stands P all.checked.valid in
-      let there : StandsFor (pool_at (λ text. text) h (root_list roots) s.bits) stands.0 = subst (λ (Q : Pool). StandsFor Q stands.0) (sym pool-loaded) stands.1 in (
+      let there : StandsFor (pool_at (λ text. text) h (root_list roots) (settings_by s.bits)) stands.0 = subst (λ (Q : Pool). StandsFor Q stands.0) (sym pool-loaded) stands.1 in (
         stands.0,
         record {
           graph = loads.graph;

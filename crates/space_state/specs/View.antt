@@ -2,7 +2,7 @@
 use Rattle.std.specs.Prelude.{◌≡◌, ℕ, ◌+◌, ◌-◌, ◌^◌, ◌≤◌, [], true, min, max, Result, Err, MatchBool, MatchResult}
 use Rattle.node_heap.specs.Heap.{Heap, live_count, cell_count, node_count}
 use Rattle.node_heap.specs.Calls.{KeepsToNeed}
-use Rattle.pool_text.specs.Pool.{row_count, pool_at}
+use Rattle.pool_text.specs.Pool.{row_count, settings_by, pool_at}
 use Rattle.pool_text.specs.declared.pool.Pool.{Pool}
 use Rattle.pool_text.specs.Documents.{start_pool}
 use Rattle.pool_check.specs.Damages.{IsValid}
@@ -51,7 +51,7 @@ pub record KeepsRoom (old new : SpaceView) (cells nodes : ℕ) : Type 0 where
 
 -- What a rooted heap shows.
 abbrev pub shown : RootedHeap → SpaceView
-shown s = record { pool = pool_at (λ text. text) s.heap (root_list s.roots) s.bits; live = live_count s.heap; made = s.heap.made; rows = rows_of s.heap; room = room_of s.heap }
+shown s = record { pool = pool_at (λ text. text) s.heap (root_list s.roots) (settings_by s.bits); live = live_count s.heap; made = s.heap.made; rows = rows_of s.heap; room = room_of s.heap }
 
 -- A new space by so many bits: an empty map of names, an empty set of stars, the state of both, an empty map of versions, and
 -- two empty histories. It has room for just these six nodes.

@@ -1,7 +1,7 @@
 //! The pool of a space's rows, and a pool that takes their place.
 ghost use Rattle.std.specs.Prelude.{◌≡◌, [], IfOk};
 ghost use Rattle.node_heap.specs.Calls.{KeepsToNeed};
-ghost use Rattle.pool_text.specs.Pool.{pool_at};
+ghost use Rattle.pool_text.specs.Pool.{settings_by, pool_at};
 ghost use Rattle.plain_space.specs.Workspace.{Workspace};
 ghost use Rattle.space_state.specs.declared.roots.Batch.TheVariants.{Closed};
 ghost use Rattle.space_state.specs.Roots.{Keeps, root_list};
@@ -21,7 +21,7 @@ impl RootedHeap {
     /// The pool of the rows that the roots reach.
     pub(crate) fn pool(&self, alloc: Global) -> Result<Pool, NoMemory>
         requires { (W : Workspace) × Keeps self.now [] W }
-        ensures { IfOk result (λ p. p ≡ pool_at (λ text. text) self.now.heap (root_list self.now.roots) self.now.bits) }
+        ensures { IfOk result (λ p. p ≡ pool_at (λ text. text) self.now.heap (root_list self.now.roots) (settings_by self.now.bits)) }
     {
         match self.roots.batch.base() {
             None => self.pool_from(
@@ -50,7 +50,7 @@ impl RootedHeap {
     fn pool_from(&self, alloc: Global, roots: &[Link]) -> Result<Pool, NoMemory>
         requires keeps { (W : Workspace) × Keeps self.now [] W }
         requires roots { roots.now ≡ root_list self.now.roots }
-        ensures { IfOk result (λ p. p ≡ pool_at (λ text. text) self.now.heap (root_list self.now.roots) self.now.bits) }
+        ensures { IfOk result (λ p. p ≡ pool_at (λ text. text) self.now.heap (root_list self.now.roots) (settings_by self.now.bits)) }
     {
         let order = order(alloc, &self.heap, roots)?;
         pool_of(alloc, &self.heap, &order, roots, self.bits)
@@ -82,7 +82,7 @@ impl RootedHeap {
         requires closed { self.old.roots.batch ≡ Closed }
         requires kept { (W : Workspace) × Keeps (record self.old { roots = roots }) (root_list self.old.roots) W }
         ensures kept { (W : Workspace) → Keeps (record self.old { roots = roots }) (root_list self.old.roots) W → Keeps self.new [] W }
-        ensures pool { pool_at (λ text. text) self.new.heap (root_list self.new.roots) self.new.bits ≡ pool_at (λ text. text) self.old.heap (root_list roots) self.old.bits }
+        ensures pool { pool_at (λ text. text) self.new.heap (root_list self.new.roots) (settings_by self.new.bits) ≡ pool_at (λ text. text) self.old.heap (root_list roots) (settings_by self.old.bits) }
         ensures made { self.new.heap.made ≡ self.old.heap.made }
         ensures spares { KeepsToNeed self.old.heap self.new.heap 0 0 }
     {

@@ -11,7 +11,7 @@ use Rattle.rrb_core.specs.Vector.{IsGoodVector}
 use Rattle.champ_chain.specs.Entry.{Entry}
 use Rattle.champ_trie.specs.Trie.{IsTrie}
 use Rattle.pool_order.specs.Order.{order}
-use Rattle.pool_text.specs.Pool.{forms_in, place_in, pool, pool_at}
+use Rattle.pool_text.specs.Pool.{forms_in, place_in, settings_by, pool, pool_at}
 use Rattle.pool_text.specs.Renaming.{IsRooted}
 use Rattle.pool_text.specs.declared.pool.Pool.{Pool}
 use Rattle.pool_text.proofs.Held.{rooted-forms, texts-are-forms}
@@ -61,7 +61,7 @@ unfolding IsWell
 well-there F zero l well = form-there F l _ well.kind
 well-there F (suc n) l well = form-there F l _ well.kind
 
-pub pool-bits : (n : ℕ) (G : Forms Bytes) (roots : List ℕ) (bits : ℕ) → (pool n G roots bits).bits ≡ bits
+pub pool-bits : (n : ℕ) (G : Forms Bytes) (roots : List ℕ) (bits : ℕ) → (pool n G roots (settings_by bits)).bits ≡ bits
 unfolding pool
 pool-bits n G roots bits = refl
 
@@ -78,12 +78,12 @@ module _ (h : Heap Bytes) (bits : ℕ) (roots : List ℕ) (W : Workspace) (graph
   rooted = rooted-forms h roots graph live
 
   abbrev made : Pool
-  made = pool (length h.rows) (form_at h) roots bits
+  made = pool (length h.rows) (form_at h) roots (settings_by bits)
 
   root-over : (r : ℕ) → 0 < count r roots → GoesOver (place_in (order (length h.rows) (links_in (form_at h)) roots)) (form_at h) (forms_in made) (IsGoodVector h) (IsWellShaped (forms_in made)) r
   root-over r root =
       let f : ℕ → ℕ = place_in (order (length h.rows) (links_in (form_at h)) roots) in
-      let image = pool-renamed (length h.rows) (form_at h) roots rooted bits r r root (here r) in
+      let image = pool-renamed (length h.rows) (form_at h) roots rooted (settings_by bits) r r root (here r) in
       record {
         renamed = image;
         vectors = λ k down good. (vector-reads-the-same f (form_at h) (forms_in made) ℕ k (renamed-below f (form_at h) (forms_in made) r k down image)).shaped good.shape;
@@ -93,11 +93,11 @@ module _ (h : Heap Bytes) (bits : ℕ) (roots : List ℕ) (W : Workspace) (graph
   made-stands =
       let f : ℕ → ℕ = place_in (order (length h.rows) (links_in (form_at h)) roots) in
       let moved : StandFor (forms_in made) (IsWellShaped (forms_in made)) bits (map f roots) W = roots-over f (form_at h) (forms_in made) (IsGoodVector h) (IsWellShaped (forms_in made)) bits roots W root-over stands in
-      let placed : StandFor (forms_in made) (IsWellShaped (forms_in made)) bits made.roots W = subst (λ rs. StandFor (forms_in made) (IsWellShaped (forms_in made)) bits rs W) (sym (pool-roots (length h.rows) (form_at h) roots rooted bits)) moved in
+      let placed : StandFor (forms_in made) (IsWellShaped (forms_in made)) bits made.roots W = subst (λ rs. StandFor (forms_in made) (IsWellShaped (forms_in made)) bits rs W) (sym (pool-roots (length h.rows) (form_at h) roots rooted (settings_by bits))) moved in
       subst (λ b. StandFor (forms_in made) (IsWellShaped (forms_in made)) b made.roots W) (sym (pool-bits (length h.rows) (form_at h) roots bits)) placed
 
-  pub pool-stands : bits ≤ CODE_BITS → IsValid (pool_at (λ text. text) h roots bits) × StandsFor (pool_at (λ text. text) h roots bits) W
+  pub pool-stands : bits ≤ CODE_BITS → IsValid (pool_at (λ text. text) h roots (settings_by bits)) × StandsFor (pool_at (λ text. text) h roots (settings_by bits)) W
   pool-stands few =
-      let passes : PassesAsMade (form_at h) roots made = passes-as-made (length h.rows) (form_at h) roots rooted bits in
-      subst (λ (P : Pool). IsValid P × StandsFor P W) (sym (texts-are-forms h roots bits))
+      let passes : PassesAsMade (form_at h) roots made = passes-as-made (length h.rows) (form_at h) roots rooted (settings_by bits) in
+      subst (λ (P : Pool). IsValid P × StandsFor P W) (sym (texts-are-forms h roots (settings_by bits)))
       (standing-valid made W (omega (arith, few, pool-bits (length h.rows) (form_at h) roots bits)) made-stands passes.lead_back passes.in_order, made-stands)

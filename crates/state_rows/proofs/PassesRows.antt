@@ -82,25 +82,25 @@ module _ (F : Forms Bytes) (falls : LeadsDown (λ l. l) (links_in F)) (n : ℕ) 
     pub in_range : (r : Form Bytes) → F l ≡ Some r → is_in_range r ≡ true
     pub line : (r : Form Bytes) → F l ≡ Some r → is_line_or_node r ≡ true
     pub filled : (r : Form Bytes) → F l ≡ Some r → keeps_fill_rule F r ≡ true
-    pub canonical : is_canonical n F code l (F l) ≡ true
+    pub canonical : is_canonical n F code DEEPEST l (F l) ≡ true
 
   -- what a row's own form passes
   by-form : (l : ℕ) (form : Form Bytes) → F l ≡ Some form → (test : Form Bytes → Bool) → test form ≡ true → (r : Form Bytes) → F l ≡ Some r → test r ≡ true
   by-form l form is test passed r at = let same : r ≡ form = (let both : Some r ≡ Some form = sym at ∙ is in cc) in ap test same ∙ passed
 
-  passes-as : (l : ℕ) (form : Form Bytes) → F l ≡ Some form → is_in_range form ≡ true → is_line_or_node form ≡ true → keeps_fill_rule F form ≡ true → is_canonical n F code l (F l) ≡ true → Passes l
+  passes-as : (l : ℕ) (form : Form Bytes) → F l ≡ Some form → is_in_range form ≡ true → is_line_or_node form ≡ true → keeps_fill_rule F form ≡ true → is_canonical n F code DEEPEST l (F l) ≡ true → Passes l
   passes-as l form is ranged line filled canonical = record { in_range = by-form l form is is_in_range ranged; line = by-form l form is is_line_or_node line; filled = by-form l form is (keeps_fill_rule F) filled; canonical = canonical }
 
   vector-passes : (height l : ℕ) → height ≤ 7 → IsWell F height l → length (seq_at F height l) < 2 ^ 32 → Passes l
   unfolding IsWell
-  vector-passes zero l low well short = passes-as l (node leaf (links_in F l)) well.kind (most-test (length (links_in F l)) 32 well.most) refl refl (ap (is_canonical n F code l) well.kind)
+  vector-passes zero l low well short = passes-as l (node leaf (links_in F l)) well.kind (most-test (length (links_in F l)) 32 well.most) refl refl (ap (is_canonical n F code DEEPEST l) well.kind)
   vector-passes (suc height) l low well short =
       let one : suc height - 1 ≡ height = omega arith in
       passes-as l (node (inner (suc height)) (links_in F l)) well.kind
       (and_from (is_between 1 7 (suc height)) (is_between 1 32 (length (links_in F l))) (between-test 1 7 (suc height) (omega arith) low) (between-test 1 32 (length (links_in F l)) well.some well.most))
-      refl (ap (λ k. are_children F k (links_in F l)) one ∙ children-test F height l well short) (ap (is_canonical n F code l) well.kind)
+      refl (ap (λ k. are_children F k (links_in F l)) one ∙ children-test F height l well short) (ap (is_canonical n F code DEEPEST l) well.kind)
 
-  trie-row-passes : (left depth l c : ℕ) (E : List (Entry Bytes)) → l < n → depth + suc left ≡ LEVELS → IsTrie (slice_cmp nat_cmp) code F (suc left) depth l E → is_canonical n F code l (F l) ≡ true → Passes l
+  trie-row-passes : (left depth l c : ℕ) (E : List (Entry Bytes)) → l < n → depth + suc left ≡ LEVELS → IsTrie (slice_cmp nat_cmp) code F (suc left) depth l E → is_canonical n F code DEEPEST l (F l) ≡ true → Passes l
   unfolding IsTrie
   trie-row-passes left depth l c E low levels is canonical =
       passes-as l (node (trie depth is.entries is.nodes) is.links) is.row.row
@@ -114,7 +114,7 @@ module _ (F : Forms Bytes) (falls : LeadsDown (λ l. l) (links_in F)) (n : ℕ) 
   one-or-two x None = refl
   one-or-two x (Some m) = refl
 
-  chain-row-passes : (l : ℕ) (es : List (Entry Bytes)) → AreChainRows F (Some l) es → is_canonical n F code l (F l) ≡ true → Passes l
+  chain-row-passes : (l : ℕ) (es : List (Entry Bytes)) → AreChainRows F (Some l) es → is_canonical n F code DEEPEST l (F l) ≡ true → Passes l
   unfolding AreChainRows
   chain-row-passes l [] rows canonical = absurd (let none : Some l ≡ None = rows in cc)
   chain-row-passes l (e ∷ es) rows canonical =
@@ -122,9 +122,9 @@ module _ (F : Forms Bytes) (falls : LeadsDown (λ l. l) (links_in F)) (n : ℕ) 
       passes-as l (node chain (e.link ∷ option_to_list rows.next)) (ap F (sym same) ∙ rows.row) (one-or-two e.link rows.next) refl refl canonical
 
   pub known-passes : (l : ℕ) → l < n → IsKnown F code l → Passes l
-  known-passes l low (known_cell text is line) = passes-as l (cell text) is refl (line-test text line) refl (ap (is_canonical n F code l) is)
+  known-passes l low (known_cell text is line) = passes-as l (cell text) is refl (line-test text line) refl (ap (is_canonical n F code DEEPEST l) is)
   known-passes l low (known_vector h few well short) = vector-passes h l few well short
   known-passes l low (known_trie left depth c E levels is agree many) = trie-row-passes left depth l c E low levels is (trie-passes F falls n code left depth l c E low levels is agree many)
   known-passes l low (known_chain c es rows rising alike) = chain-row-passes l es rows (chain-passes F falls n code l c es low rows rising alike)
-  known-passes l low (known_pair k m is) = passes-as l (node pair (k ∷ m ∷ [])) is refl refl refl (ap (is_canonical n F code l) is)
-  known-passes l low (known_state k m is) = passes-as l (node state (k ∷ m ∷ [])) is refl refl refl (ap (is_canonical n F code l) is)
+  known-passes l low (known_pair k m is) = passes-as l (node pair (k ∷ m ∷ [])) is refl refl refl (ap (is_canonical n F code DEEPEST l) is)
+  known-passes l low (known_state k m is) = passes-as l (node state (k ∷ m ∷ [])) is refl refl refl (ap (is_canonical n F code DEEPEST l) is)

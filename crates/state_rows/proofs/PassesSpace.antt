@@ -4,7 +4,7 @@ use Rattle.std.specs.List.{range_with_len}
 use Rattle.std.proofs.lemmas.Bool.{cases_eq}
 use Rattle.std.proofs.lemmas.Slice.Eq.{bytes_eq-Decides}
 use Rattle.elem_core.specs.Codes.{text_code}
-use Rattle.elem_core.specs.declared.codes.TheConstants.{CODE_BITS}
+use Rattle.elem_core.specs.declared.codes.TheConstants.{CODE_BITS, DEEPEST}
 use Rattle.node_heap.specs.Links.{count, Reaches}
 use Rattle.node_heap.specs.Forms.{links_in}
 use Rattle.node_heap.proofs.Counts.{test_same, count-cons}
@@ -13,9 +13,9 @@ use Rattle.pool_order.proofs.Places.{order-is}
 use Rattle.pool_text.specs.Rows.{is_in_range}
 use Rattle.pool_text.specs.Pool.{forms_in, row_count, order_in}
 use Rattle.pool_text.specs.declared.pool.Pool.{Pool}
-use Rattle.pool_check.specs.Rows.{rows_in_range, links_lead_back, is_line_or_node, texts_are_lines}
+use Rattle.pool_check.specs.Rows.{rows_in_range_by, links_lead_back, is_line_or_node, texts_are_lines}
 use Rattle.pool_check.specs.Vectors.{keeps_fill_rule, vectors_stand}
-use Rattle.pool_check.specs.Tries.{is_canonical, tries_stand}
+use Rattle.pool_check.specs.Tries.{is_canonical, tries_stand_by}
 use Rattle.pool_check.specs.Kinds.{roots_are_of_kind}
 use Rattle.pool_check.specs.Damages.{rows_in_order, IsValid}
 use Rattle.pool_check.proofs.PoolLaws.{get-low}
@@ -51,13 +51,13 @@ module _ (P : Pool) (W : Workspace) (few : P.bits ≤ CODE_BITS) (stands : Stand
   row-passes l low = known-passes (forms_in P) (leads-down P back) (row_count P) (code_by text_code P.bits) l low (row-known l low)
 
   pub standing-valid : IsValid P
-  unfolding rows_in_range texts_are_lines vectors_stand tries_stand roots_are_of_kind
+  unfolding rows_in_range_by texts_are_lines vectors_stand tries_stand_by roots_are_of_kind
   standing-valid = record {
     in_range = rows-pass is_in_range P.rows (λ i r is. (row-passes i (get-low P.rows i r is)).in_range r is);
     lead_back = back;
     lines = rows-pass is_line_or_node P.rows (λ i r is. (row-passes i (get-low P.rows i r is)).line r is);
     vectors = rows-pass (keeps_fill_rule (forms_in P)) P.rows (λ i r is. (row-passes i (get-low P.rows i r is)).filled r is);
-    tries = range-pass (λ l. is_canonical (row_count P) (forms_in P) (code_by text_code P.bits) l (forms_in P l)) 0 (row_count P) (λ l from to. (row-passes l (omega (arith, to))).canonical);
+    tries = range-pass (λ l. is_canonical (row_count P) (forms_in P) (code_by text_code P.bits) DEEPEST l (forms_in P l)) 0 (row_count P) (λ l from to. (row-passes l (omega (arith, to))).canonical);
     kinds = roots-are (forms_in P) (leads-down P back) (row_count P) (get-low P.rows) P.bits P.roots W stands;
     in_order = ordered;
   }

@@ -7,6 +7,7 @@ use Rattle.std.specs.FinMap as finite
 use Rattle.std.proofs.lemmas.List.Elements.{All-nil, All-cons, All-head, All-tail, All-map}
 use Rattle.elem_core.specs.Naming.{IsName}
 use Rattle.elem_core.specs.Codes.{text_code}
+use Rattle.elem_core.specs.declared.codes.TheConstants.{DEEPEST}
 use Rattle.node_heap.specs.Links.{count, HasLink, Reaches, here, below}
 use Rattle.node_heap.specs.Forms.{Forms, Kind, node, state, links_of, links_in}
 use Rattle.node_heap.proofs.Counts.{test_same, count-cons}
@@ -140,7 +141,7 @@ module _ (f : ℕ → ℕ) (G H : Forms Bytes) (V W : ℕ → Type 0) (bits : �
 
   trie-over : (l : ℕ) (E : List (Entry Bytes)) → GoesOver f G H V W l → IsTrieOfNames G V bits l E → IsTrieOfNames H W bits (f l) (map (moved f) E)
   trie-over l E over is = record {
-    trie = (trie-reads-the-same f G H l over.renamed ℕ).canonical (slice_cmp nat_cmp) (code_by text_code bits) E is.trie;
+    trie = (trie-reads-the-same f G H l over.renamed ℕ).canonical (slice_cmp nat_cmp) (code_by text_code bits) DEEPEST E is.trie;
     names = All-map (λ e. IsName e.key) (moved f) E is.names;
   }
 

@@ -23,9 +23,9 @@ use Rattle.pool_text.specs.Pool.{forms_in, row_count}
 use Rattle.pool_text.specs.Documents.{start_pool, two_cells, shared_empties, sub_node, one_line_twice}
 use Rattle.pool_text.specs.declared.pool.Pool.{Pool}
 use Rattle.pool_check.specs.Documents.{chained}
-use Rattle.pool_check.specs.Rows.{rows_in_range, links_lead_back, texts_are_lines}
+use Rattle.pool_check.specs.Rows.{rows_in_range_by, links_lead_back, texts_are_lines}
 use Rattle.pool_check.specs.Vectors.{is_thick, length_at, are_children, vectors_stand}
-use Rattle.pool_check.specs.Tries.{entries_below, are_branches, tries_stand}
+use Rattle.pool_check.specs.Tries.{entries_below, are_branches, tries_stand_by}
 use Rattle.pool_check.specs.Kinds.{is_vector_root, is_trie_root, elements_pass, are_roots, roots_are_of_kind}
 use Rattle.pool_check.specs.Damages.{rows_in_order, IsValid}
 use Rattle.pool_check.proofs.PoolLaws.{vector-roots-well, trie-roots-canonical}
@@ -98,27 +98,27 @@ module _ (P : Pool) (valid : IsValid P) where
 -- the pools are valid
 
 start-valid : IsValid start_pool
-unfolding places order rows_in_range links_lead_back texts_are_lines is_thick length_at are_children vectors_stand entries_below are_branches tries_stand elements_pass are_roots roots_are_of_kind rows_in_order text_code is_name rows_from rank
+unfolding places order rows_in_range_by links_lead_back texts_are_lines is_thick length_at are_children vectors_stand entries_below are_branches tries_stand_by elements_pass are_roots roots_are_of_kind rows_in_order text_code is_name rows_from rank
 start-valid = record { in_range = refl; lead_back = refl; lines = refl; vectors = refl; tries = refl; kinds = refl; in_order = refl }
 
 shared-valid : IsValid shared_empties
-unfolding places order rows_in_range links_lead_back texts_are_lines is_thick length_at are_children vectors_stand entries_below are_branches tries_stand elements_pass are_roots roots_are_of_kind rows_in_order text_code is_name rows_from rank
+unfolding places order rows_in_range_by links_lead_back texts_are_lines is_thick length_at are_children vectors_stand entries_below are_branches tries_stand_by elements_pass are_roots roots_are_of_kind rows_in_order text_code is_name rows_from rank
 shared-valid = record { in_range = refl; lead_back = refl; lines = refl; vectors = refl; tries = refl; kinds = refl; in_order = refl }
 
 two_cells-valid : IsValid two_cells
-unfolding places order rows_in_range links_lead_back texts_are_lines is_thick length_at are_children vectors_stand entries_below are_branches tries_stand elements_pass are_roots roots_are_of_kind rows_in_order text_code is_name rows_from rank
+unfolding places order rows_in_range_by links_lead_back texts_are_lines is_thick length_at are_children vectors_stand entries_below are_branches tries_stand_by elements_pass are_roots roots_are_of_kind rows_in_order text_code is_name rows_from rank
 two_cells-valid = record { in_range = refl; lead_back = refl; lines = refl; vectors = refl; tries = refl; kinds = refl; in_order = refl }
 
 one_line-valid : IsValid one_line_twice
-unfolding places order rows_in_range links_lead_back texts_are_lines is_thick length_at are_children vectors_stand entries_below are_branches tries_stand elements_pass are_roots roots_are_of_kind rows_in_order text_code is_name rows_from rank
+unfolding places order rows_in_range_by links_lead_back texts_are_lines is_thick length_at are_children vectors_stand entries_below are_branches tries_stand_by elements_pass are_roots roots_are_of_kind rows_in_order text_code is_name rows_from rank
 one_line-valid = record { in_range = refl; lead_back = refl; lines = refl; vectors = refl; tries = refl; kinds = refl; in_order = refl }
 
 sub_node-valid : IsValid sub_node
-unfolding places order rows_in_range links_lead_back texts_are_lines is_thick length_at are_children vectors_stand entries_below are_branches tries_stand elements_pass are_roots roots_are_of_kind rows_in_order text_code is_name rows_from rank
+unfolding places order rows_in_range_by links_lead_back texts_are_lines is_thick length_at are_children vectors_stand entries_below are_branches tries_stand_by elements_pass are_roots roots_are_of_kind rows_in_order text_code is_name rows_from rank
 sub_node-valid = record { in_range = refl; lead_back = refl; lines = refl; vectors = refl; tries = refl; kinds = refl; in_order = refl }
 
 chained-valid : IsValid chained
-unfolding places order rows_in_range links_lead_back texts_are_lines is_thick length_at are_children vectors_stand entries_below are_branches tries_stand elements_pass are_roots roots_are_of_kind rows_in_order text_code is_name rows_from rank
+unfolding places order rows_in_range_by links_lead_back texts_are_lines is_thick length_at are_children vectors_stand entries_below are_branches tries_stand_by elements_pass are_roots roots_are_of_kind rows_in_order text_code is_name rows_from rank
 chained-valid = record { in_range = refl; lead_back = refl; lines = refl; vectors = refl; tries = refl; kinds = refl; in_order = refl }
 
 -- the names and the lines of these pools

@@ -2,7 +2,7 @@
 use Rattle.std.specs.Prelude.{◌≡◌, ℕ, ◌≤◌, List}
 use Rattle.elem_core.specs.declared.codes.TheConstants.{CODE_BITS}
 use Rattle.node_heap.specs.Heap.{Heap, IsGraph}
-use Rattle.pool_text.specs.Pool.{pool_at}
+use Rattle.pool_text.specs.Pool.{settings_by, pool_at}
 use Rattle.pool_text.specs.Renaming.{AreLive}
 use Rattle.pool_text.specs.declared.pool.Pool.{Pool}
 use Rattle.pool_check.specs.Damages.{IsValid}
@@ -15,12 +15,12 @@ use Rattle.state_rows.specs.Standing.{StandsFor, HeapStandsFor}
 abbrev pub PoolsStand : Type 0
 PoolsStand =
     (h : Heap Bytes) (bits : ℕ) (roots : List ℕ) (W : Workspace) → IsGraph h → bits ≤ CODE_BITS → HeapStandsFor h bits roots W
-    → IsValid (pool_at (λ text. text) h roots bits) × StandsFor (pool_at (λ text. text) h roots bits) W
+    → IsValid (pool_at (λ text. text) h roots (settings_by bits)) × StandsFor (pool_at (λ text. text) h roots (settings_by bits)) W
 
 -- roots of a heap stand for a workspace where their pool does, and the inner rows below them keep their sums
 abbrev pub RootsStand : Type 0
 RootsStand =
-    (h : Heap Bytes) (bits : ℕ) (roots : List ℕ) (W : Workspace) → IsGraph h → AreLive Bytes h roots → HaveSums h roots → StandsFor (pool_at (λ text. text) h roots bits) W
+    (h : Heap Bytes) (bits : ℕ) (roots : List ℕ) (W : Workspace) → IsGraph h → AreLive Bytes h roots → HaveSums h roots → StandsFor (pool_at (λ text. text) h roots (settings_by bits)) W
     → HeapStandsFor h bits roots W
 
 -- a pool stands for one workspace

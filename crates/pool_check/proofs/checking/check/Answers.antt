@@ -1,47 +1,34 @@
 use Rattle.std.proofs.Common.{rules}
-use Rattle.pool_check.proofs.DamageLemmas.{valid-undamaged}
-use Rattle.pool_check.proofs.Refused.{in-range, fails-link, fails-text, fails-vector, fails-trie, fails-kind, fails-order}
+use Rattle.pool_text.specs.Rules.{first_rules}
+use Rattle.pool_text.proofs.Refusals.{handed-on}
+use Rattle.pool_check.specs.Damages.{damage}
+use Rattle.pool_check.proofs.DamageLemmas.{undamaged-valid, open-fails, open-leads-back, order-fails, order-passes}
+use Rattle.pool_check.proofs.Refused.{in-range}
 use Rattle.pool_check.proofs.checking.check.Goals as goal
 
-pub returns-then-not-links_lead_back-clause-damage : goal.returns-then-not-links_lead_back-clause-damage
-returns-then-not-links_lead_back-clause-damage g c = λ _. fails-link c.args.pool (in-range c.args.pool c.requires.rows) (search rules)
+pub make_open_tests-requires-clause-rows : goal.make_open_tests-requires-clause-rows
+make_open_tests-requires-clause-rows g c = in-range first_rules c.args.pool c.requires.rows
 
-pub returns-then-not-texts_are_lines-clause-damage : goal.returns-then-not-texts_are_lines-clause-damage
-returns-then-not-texts_are_lines-clause-damage g c = λ _. fails-text c.args.pool (in-range c.args.pool c.requires.rows) (search rules) (search rules)
+pub returns-in_err-make_open_tests-clause-damage : goal.returns-in_err-make_open_tests-clause-damage
+returns-in_err-make_open_tests-clause-damage g c =
+    handed-on c.from_residual.result c.in_err-make_open_tests.field-0.0 (damage c.args.pool) c.from_residual.ensures.1
+    (λ not_memory. open-fails first_rules c.args.pool (in-range first_rules c.args.pool c.requires.rows) c.in_err-make_open_tests.field-0.0 (c.in_err-make_open_tests.ensures.damage not_memory))
 
-pub vectors_stand-requires-clause-rows : goal.vectors_stand-requires-clause-rows
-vectors_stand-requires-clause-rows g c = in-range c.args.pool c.requires.rows
+pub rows_in_order-requires : goal.rows_in_order-requires
+rows_in_order-requires g c = open-leads-back first_rules c.args.pool (in-range first_rules c.args.pool c.requires.rows) c.in_ok-make_open_tests.ensures.passed
 
 pub returns-then-not-branch-clause-damage : goal.returns-then-not-branch-clause-damage
-returns-then-not-branch-clause-damage g c = λ _. fails-vector c.args.pool (in-range c.args.pool c.requires.rows) (search rules) (search rules) (search rules)
-
-pub tries_stand-requires-clause-rows : goal.tries_stand-requires-clause-rows
-tries_stand-requires-clause-rows g c = in-range c.args.pool c.requires.rows
-
-pub returns-then-not-branch-2-clause-damage : goal.returns-then-not-branch-2-clause-damage
-returns-then-not-branch-2-clause-damage g c = λ _. fails-trie c.args.pool (in-range c.args.pool c.requires.rows) (search rules) (search rules) (search rules) (search rules)
-
-pub roots_are_of_kind-requires-clause-rows : goal.roots_are_of_kind-requires-clause-rows
-roots_are_of_kind-requires-clause-rows g c = in-range c.args.pool c.requires.rows
-
-pub returns-then-not-branch-3-clause-damage : goal.returns-then-not-branch-3-clause-damage
-returns-then-not-branch-3-clause-damage g c = λ _. fails-kind c.args.pool (in-range c.args.pool c.requires.rows) (search rules) (search rules) (search rules) (search rules) (search rules)
-
-pub returns-then-not-branch-4-clause-damage : goal.returns-then-not-branch-4-clause-damage
-returns-then-not-branch-4-clause-damage g c = λ _. fails-order c.args.pool (in-range c.args.pool c.requires.rows) (search rules) (search rules) (search rules) (search rules) (search rules) (search rules)
+returns-then-not-branch-clause-damage g c = λ _. order-fails first_rules c.args.pool (in-range first_rules c.args.pool c.requires.rows) c.in_ok-make_open_tests.ensures.passed (search rules)
 
 pub invariant_of-result : goal.invariant_of-result
 invariant_of-result g c = record {
   bits = c.requires.bits;
   roots = c.requires.roots;
-  valid = record { in_range = in-range c.args.pool c.requires.rows; lead_back = search rules; lines = search rules; vectors = search rules; tries = search rules; kinds = search rules; in_order = search rules };
+  valid = undamaged-valid c.args.pool (order-passes first_rules c.args.pool (in-range first_rules c.args.pool c.requires.rows) c.in_ok-make_open_tests.ensures.passed (search rules));
 }
 
 pub returns-clause-valid : goal.returns-clause-valid
-returns-clause-valid g c =
-    record { in_range = in-range c.args.pool c.requires.rows; lead_back = search rules; lines = search rules; vectors = search rules; tries = search rules; kinds = search rules; in_order = search rules }
+returns-clause-valid g c = undamaged-valid c.args.pool (order-passes first_rules c.args.pool (in-range first_rules c.args.pool c.requires.rows) c.in_ok-make_open_tests.ensures.passed (search rules))
 
 pub returns-clause-undamaged : goal.returns-clause-undamaged
-returns-clause-undamaged g c =
-    valid-undamaged c.args.pool
-    (record { in_range = in-range c.args.pool c.requires.rows; lead_back = search rules; lines = search rules; vectors = search rules; tries = search rules; kinds = search rules; in_order = search rules })
+returns-clause-undamaged g c = order-passes first_rules c.args.pool (in-range first_rules c.args.pool c.requires.rows) c.in_ok-make_open_tests.ensures.passed (search rules)

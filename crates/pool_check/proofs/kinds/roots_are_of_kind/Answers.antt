@@ -32,7 +32,7 @@ pub are_roots-requires : goal.are_roots-requires
 are_roots-requires c =
     let length_is : length c.as_slice-2.result.now ≡ row_count c.args.pool.now =
     omega (arith, ap (λ (xs : List RowFacts). length xs) c.as_slice-2.ensures.value, c.loop-place.invariant.count, c.loop-place-test.false, length-map c.as_slice-count.result.now row_form, ap (λ (forms : List (Form Bytes)). length forms) c.as_slice-count.ensures) in
-    roots-low c.args.pool.now c.requires.links (length c.as_slice-2.result.now) length_is c.as_slice-3.result.now c.as_slice-3.ensures
+    roots-low c.args.pool.now c.requires.stand.lead_back (length c.as_slice-2.result.now) length_is c.as_slice-3.result.now c.as_slice-3.ensures
 
 pub returns : goal.returns
 unfolding roots_are_of_kind

@@ -32,7 +32,7 @@ trie_facts-requires-clause-low c =
 pub trie_facts-requires-in-Chain-clause-count : goal.trie_facts-requires-in-Chain-clause-count
 trie_facts-requires-in-Chain-clause-count c =
     let at = read-at c.args.pool.now c.requires.stand (length c.args.kept.now) c.requires.more c.as_slice.result.now c.as_slice.ensures c.index-as_slice-kept.result c.index-as_slice-kept.is (Chain c.in-Chain.links) c.in-Chain.is in
-    subst (λ ks. 1 ≤ length ks) (sym c.as_slice-in-Chain.ensures) (chain-some c.in-Chain.links at.ranged)
+    subst (λ ks. 1 ≤ length ks) (sym c.as_slice-in-Chain.ensures) (chain-some c.requires.stand.rules.deepest c.in-Chain.links at.ranged)
 
 pub trie_facts-requires-in-Chain-clause-low : goal.trie_facts-requires-in-Chain-clause-low
 trie_facts-requires-in-Chain-clause-low c =

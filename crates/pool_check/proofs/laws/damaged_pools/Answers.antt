@@ -4,16 +4,16 @@ use Rattle.elem_core.specs.Naming.{is_name}
 use Rattle.champ_trie.specs.Walk.{rows_from}
 use Rattle.champ_trie.specs.Bits.{rank}
 use Rattle.pool_order.specs.Order.{places, order}
-use Rattle.pool_check.specs.Rows.{rows_in_range, links_lead_back, texts_are_lines}
+use Rattle.pool_check.specs.Rows.{rows_in_range_by, links_lead_back, texts_are_lines}
 use Rattle.pool_check.specs.Vectors.{is_thick, length_at, are_children, vectors_stand}
-use Rattle.pool_check.specs.Tries.{entries_below, are_branches, tries_stand}
+use Rattle.pool_check.specs.Tries.{entries_below, are_branches, tries_stand_by}
 use Rattle.pool_check.specs.Kinds.{elements_pass, are_roots, roots_are_of_kind}
-use Rattle.pool_check.specs.Damages.{rows_in_order, damage}
+use Rattle.pool_check.specs.Damages.{rows_in_order, open_damage, damage_by}
 use Rattle.pool_check.proofs.History.{overfull_history-damaged}
 use Rattle.pool_check.proofs.laws.damaged_pools.Goals as goal
 
 pub returns : goal.returns
-unfolding places order rows_in_range links_lead_back texts_are_lines is_thick length_at are_children vectors_stand entries_below are_branches tries_stand elements_pass are_roots roots_are_of_kind rows_in_order damage text_code is_name rows_from rank
+unfolding places order rows_in_range_by links_lead_back texts_are_lines is_thick length_at are_children vectors_stand entries_below are_branches tries_stand_by elements_pass are_roots roots_are_of_kind rows_in_order open_damage damage_by text_code is_name rows_from rank
 returns c = record {
   is_tall_row = refl;
   is_long_pair = refl;
@@ -30,4 +30,6 @@ returns c = record {
   is_loose_row = refl;
   is_turned_roots = refl;
   is_turned_lines = refl;
+  is_open_loose_row = refl;
+  is_open_turned_roots = refl;
 }

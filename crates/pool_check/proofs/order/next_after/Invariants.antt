@@ -2,7 +2,7 @@ use Rattle.std.proofs.Common.{map, length}
 use Rattle.std.specs.List.{range_with_len}
 use Rattle.pool_order.specs.Order.{places, with_all_new}
 use Rattle.pool_text.specs.Rows.{row_form}
-use Rattle.pool_check.specs.Counted.{links_from}
+use Rattle.pool_text.specs.Pool.{links_from}
 use Rattle.pool_check.proofs.OrderWalk.{IsWalk, steps_left}
 use Rattle.pool_check.proofs.order.next_after.Given as goal
 

@@ -33,8 +33,8 @@ pub returns-then-not-add_codes : goal.returns-then-not-add_codes
 returns-then-not-add_codes c = record {
   long = tt;
   codes = λ n F code are.
-      let entries = code_at n F code Entries c.args.depth in
-      let nodes = code_at n F code Nodes c.args.depth in
+      let entries = code_at n F code c.args.deepest Entries c.args.depth in
+      let nodes = code_at n F code c.args.deepest Nodes c.args.depth in
       let own = take c.args.own c.args.links.now in
       both-first (codes_by entries own) (codes_by nodes (drop c.args.own c.args.links.now))
       (ap (λ xs. option_map (λ es. xs ++ es) (codes_by entries own)) (sym c.new-codes.ensures) ∙ added entries c.new-codes.result.items own own c.add_codes.new.codes.items c.add_codes.result false refl (c.add_codes.ensures.codes n F code are) c.if-not-add_codes.true);
@@ -44,8 +44,8 @@ pub returns-then-not-add_codes-2 : goal.returns-then-not-add_codes-2
 returns-then-not-add_codes-2 c = record {
   long = tt;
   codes = λ n F code are.
-      let entries = code_at n F code Entries c.args.depth in
-      let nodes = code_at n F code Nodes c.args.depth in
+      let entries = code_at n F code c.args.deepest Entries c.args.depth in
+      let nodes = code_at n F code c.args.deepest Nodes c.args.depth in
       let links = c.args.links.now in
       both-second (codes_by entries (take c.args.own links)) (codes_by nodes (drop c.args.own links)) c.add_codes.new.codes.items
       (added nodes c.add_codes.new.codes.items (drop c.args.own links) (take (length links - c.args.own) (drop c.args.own links)) c.add_codes-2.new.codes.items c.add_codes-2.result false (rest-is c.args.own links) (c.add_codes-2.ensures.codes n F code are) c.if-not-add_codes-2.true);
@@ -57,8 +57,8 @@ returns c = record {
       let links = c.args.links.now in
       omega (arith, c.add_codes.ensures.long c.if-not-add_codes.false, c.add_codes-2.ensures.long c.if-not-add_codes-2.false, ap length c.new-codes.ensures, length-take-le c.args.own links c.requires.own, ap length (rest-is c.args.own links), length-drop c.args.own links, c.requires.own);
   codes = λ n F code are.
-      let entries = code_at n F code Entries c.args.depth in
-      let nodes = code_at n F code Nodes c.args.depth in
+      let entries = code_at n F code c.args.deepest Entries c.args.depth in
+      let nodes = code_at n F code c.args.deepest Nodes c.args.depth in
       let links = c.args.links.now in
       let own = take c.args.own links in
       both-some (codes_by entries own) (codes_by nodes (drop c.args.own links)) c.add_codes.new.codes.items c.add_codes-2.new.codes.items

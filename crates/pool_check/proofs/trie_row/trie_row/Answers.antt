@@ -8,8 +8,8 @@ use Rattle.pool_check.proofs.trie_row.trie_row.Goals as goal
 use Rattle.pool_check.proofs.trie_row.trie_row.Goals.{Start}
 
 -- the row that is tested
-tested : {n : ℕ} {F : Forms Bytes} {code : Bytes → ℕ} {l : ℕ} (c : Start) → AreKept n F code c.args.kept.now → l < n → F l ≡ Some (node (trie c.args.depth c.args.entries c.args.nodes) c.args.links.now)
-    → IsTrieRow n F code c.args.kept.now c.args.depth c.args.entries c.args.nodes l c.args.links.now
+tested : {n : ℕ} {F : Forms Bytes} {code : Bytes → ℕ} {l : ℕ} (c : Start) → AreKept n F code c.args.deepest c.args.kept.now → l < n → F l ≡ Some (node (trie c.args.depth c.args.entries c.args.nodes) c.args.links.now)
+    → IsTrieRow n F code c.args.deepest c.args.kept.now c.args.depth c.args.entries c.args.nodes l c.args.links.now
 tested c are low is = record { are = are; low = low; is = is; below = c.requires.below; small = omega arith }
 
 pub returns-then-entries-nodes-ne0 : goal.returns-then-entries-nodes-ne0

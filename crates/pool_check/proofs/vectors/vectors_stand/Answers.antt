@@ -22,7 +22,7 @@ row_shape-requires c =
     let low : i < length rows = omega arith in
     let count : length c.as_slice.result.now ≡ i = ap (λ (xs : List (Option Shape)). length xs) c.as_slice.ensures.value ∙ c.loop-row.invariant.count in
     record {
-      range = range-at P rows c.as_slice-rows.ensures i c.row-item.result low c.row-item.is c.requires.rows;
+      range = (c.requires.rows.0.deepest, range-at P rows c.as_slice-rows.ensures i c.row-item.result low c.row-item.is c.requires.rows.0 c.requires.rows.1);
       below = links-at P rows c.as_slice-rows.ensures i c.row-item.result low c.row-item.is c.requires.links (length c.as_slice.result.now) count;
     }
 

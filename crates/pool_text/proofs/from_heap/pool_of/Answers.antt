@@ -3,7 +3,7 @@ use Rattle.std.specs.List.{filter_map}
 use Rattle.std.proofs.lemmas.List.{map-append}
 use Rattle.node_heap.specs.Links.{count}
 use Rattle.pool_text.specs.Rows.{row_form}
-use Rattle.pool_text.specs.Pool.{place_in, relink, text_forms}
+use Rattle.pool_text.specs.Pool.{place_in, relink, settings_by, text_forms}
 use Rattle.pool_text.proofs.Placed.{item_in, get-some, get-none}
 use Rattle.pool_text.proofs.Gathered.{listed-fits, listed-links, listed-roots, pool-is, rows-next, take_all}
 use Rattle.pool_text.proofs.from_heap.pool_of.Goals as goal
@@ -37,7 +37,7 @@ places_of-requires g c = record {
 pub returns : goal.returns
 returns g c = record {
   value =
-      pool-is g.T.Stored.bytes_of c.args.heap.now c.args.roots.now c.args.bits c.args.order.now c.from_vec.result c.in_ok-places_of.field-0 c.requires.order
+      pool-is g.T.Stored.bytes_of c.args.heap.now c.args.roots.now (settings_by c.args.bits) c.args.order.now c.from_vec.result c.in_ok-places_of.field-0 c.requires.order
       (c.from_vec.ensures ∙ c.loop-place.invariant ∙ ap (filter_map (λ k. option_map (relink (place_in c.args.order.now)) (text_forms g.T.Stored.bytes_of c.args.heap.now k))) (take_all c.args.order.now c.loop-place.place (omega arith)))
       c.in_ok-places_of.ensures;
 }

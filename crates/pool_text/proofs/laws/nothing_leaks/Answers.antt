@@ -2,4 +2,4 @@ use Rattle.pool_text.proofs.Held.{nothing-leaks}
 use Rattle.pool_text.proofs.laws.nothing_leaks.Goals as goal
 
 pub returns : goal.returns
-returns g c text h roots bits graph held = nothing-leaks text h roots bits graph held
+returns g c text h roots settings graph held = nothing-leaks text h roots settings graph held
