@@ -1,10 +1,15 @@
-//! Documents that are checked, loaded, and written again.
+//! Documents that are checked, loaded, and written again, and the pools of some of their rows.
+ghost use Rattle.std.specs.Prelude.{◌<◌};
+ghost use Rattle.std.specs.List.{All};
+
 use elem_core::Text;
 use node_heap::Heap;
 use pool_check::{Checked, check};
 use pool_load::{load, loaded_rows_are_listed, loaded_tries_are_good, loaded_vectors_are_good};
 use pool_order::order;
-use pool_text::{Damage, pool_from_bytes, pool_of, to_bytes};
+use pool_text::{Damage, pool_from_bytes, pool_of, pool_of_rows, to_bytes};
+use std::alloc::Global;
+use std::process::Abort;
 use std::test::Fail;
 
 // The pool that the bytes stand for, checked for a space of 32 bits, or what is wrong with them.
@@ -160,4 +165,49 @@ fn laws_of_loads(_rt: HostRuntime) {
     loaded_rows_are_listed::<Text>();
     loaded_vectors_are_good::<Text>();
     loaded_tries_are_good::<Text>();
+}
+
+// Two buffers, `b` and `a`, over one leaf.
+const SHARED: &[u8] =
+    b"{\"bits\":32,\"format\":\"ewig-pool\",\"roots\":[8,9,10,11],\"rows\":[[\"c\",\"b\"],[\"c\",\"x\"],[\"l\",[1]],[\"p\",[0,2]],[\"c\",\"a\"],[\"p\",[4,2]],[\"m\",0,4128,0,[3,5]],[\"m\",0,0,0,[]],[\"s\",[6,7]],[\"m\",0,0,0,[]],[\"l\",[]],[\"l\",[]]],\"version\":1}";
+
+// Places of its rows, and the text of the pool of these: none; both buffers, one of them twice, which share their leaf and reach no
+// state; and its roots, the last first.
+const GATHERED: [(&[u64], &[u8]); 3] = [
+    (
+        &[],
+        b"{\"bits\":32,\"format\":\"ewig-pool\",\"roots\":[],\"rows\":[],\"version\":1}",
+    ),
+    (
+        &[5, 3, 5],
+        b"{\"bits\":32,\"format\":\"ewig-pool\",\"roots\":[3,5,3],\"rows\":[[\"c\",\"a\"],[\"c\",\"x\"],[\"l\",[1]],[\"p\",[0,2]],[\"c\",\"b\"],[\"p\",[4,2]]],\"version\":1}",
+    ),
+    (
+        &[11, 10, 9, 8],
+        b"{\"bits\":32,\"format\":\"ewig-pool\",\"roots\":[0,1,2,11],\"rows\":[[\"l\",[]],[\"l\",[]],[\"m\",0,0,0,[]],[\"c\",\"b\"],[\"c\",\"x\"],[\"l\",[4]],[\"p\",[3,5]],[\"c\",\"a\"],[\"p\",[7,5]],[\"m\",0,4128,0,[6,8]],[\"m\",0,0,0,[]],[\"s\",[9,10]]],\"version\":1}",
+    ),
+];
+
+// These places, all of which are below the number.
+fn places_below(rt: &impl Abort, alloc: Global, places: &[u64], count: u64) -> Vec<u64>
+    ensures { All (λ place. place < count) result.items }
+{
+    let mut below = Vec::new(alloc);
+    for place in places {
+        assert!(rt; *place < count);
+        below.push(*place).expect(rt, "memory");
+    }
+    below
+}
+
+#[test]
+fn gathers_rows_of_a_list(rt: HostRuntime) -> Result<(), Fail> {
+    let shared = checked(&rt, SHARED)?;
+    let rows = &shared.pool().rows;
+    for (places, bytes) in GATHERED {
+        let roots = places_below(&rt, rt.alloc(), places, rows.as_slice().len() as u64);
+        let pool = pool_of_rows(rt.alloc(), rows, &roots, 32)?;
+        assert_eq!(rt; to_bytes(rt.alloc(), &pool)?.as_slice(), bytes);
+    }
+    Ok(())
 }

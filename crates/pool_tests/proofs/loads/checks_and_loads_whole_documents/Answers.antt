@@ -1,8 +1,6 @@
-use Rattle.std.proofs.Common.{◌≡◌, ℕ, ◌<◌, true, Option, Some, None, IsSome, option_map, List, map, refl, ap, sym, subst, ◌∙◌}
-use Rattle.std.specs.Prelude.{◌==◌}
-use Rattle.std.proofs.lemmas.List.{length-map}
+use Rattle.std.proofs.Common.{◌≡◌, ℕ, ◌<◌, true, Option, Some, None, IsSome, option_map, List, refl, subst}
 use Rattle.node_heap.specs.Links.{count, Reaches, here}
-use Rattle.node_heap.specs.Forms.{Row, Kind, cell, node, leaf, inner, trie, chain, pair, state, kind_of, form_of, links_in}
+use Rattle.node_heap.specs.Forms.{Row, cell, node, kind_of, form_of, links_in}
 use Rattle.node_heap.specs.Heap.{Heap, row_at, form_at, links_at}
 use Rattle.node_heap.proofs.Reach.{Reaches-by}
 use Rattle.pool_text.specs.Rows.{Bytes, is_in_range}
@@ -10,7 +8,7 @@ use Rattle.pool_text.specs.Pool.{forms_in, relink, fits_pool, text_form, text_fo
 use Rattle.pool_text.specs.declared.pool.Pool.{Pool}
 use Rattle.pool_text.proofs.Gathered.{links-of-text}
 use Rattle.pool_text.proofs.Held.{rooted-heap}
-use Rattle.pool_check.specs.Rows.{rows_in_range}
+use Rattle.pool_check.specs.Rows.{rows_in_range, rows_in_range_by}
 use Rattle.pool_check.proofs.TestLemmas.{all-at}
 use Rattle.pool_load.specs.Loads.{AreLoaded}
 use Rattle.pool_load.specs.Laws.{place_at}
@@ -25,7 +23,7 @@ module _ {T : Type 0} (text : T → Bytes) (f : ℕ → ℕ) where
   range-fits (node head links) in_range = node-fits Bytes T f (kind_of head) links in_range
 
   listed-fits : (P : Pool) (place : ℕ) (row : Option (Row T)) → rows_in_range P ≡ true → IsSome (option_map (text_form text) row) → forms_in P place ≡ option_map (relink f) (option_map (text_form text) row) → fits_pool (option_map form_of row) ≡ true
-  unfolding rows_in_range
+  unfolding rows_in_range_by
   listed-fits P place None passes there image = absurd (let h = there in cc)
   listed-fits P place (Some row) passes there image = range-fits row (all-at is_in_range P.rows passes place (relink f (text_form text row)) image)
 
