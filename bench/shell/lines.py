@@ -4,7 +4,9 @@
     lines.py --bin PATH [--only a,c] [--functions 8]
 
 Each script is run by valgrind's callgrind with its lines and without them, and the difference is told for one line: of all, and of
-the functions that take most. The counts repeat exactly, whatever else the machine does. PATH is a program with the lines of `ewig`.
+the functions that take most. The counts repeat exactly, whatever else the machine does. A table that grows is moved once for many
+lines, and whether that comes among those that count is chance: what `realloc` takes is told apart. PATH is a program with the lines
+of `ewig`.
 """
 
 import argparse
@@ -60,7 +62,7 @@ def scripts():
 
 
 def counted(path, room, lines):
-    """The instructions of each function in a run over these lines."""
+    """The instructions of each function in a run over these lines, and those of all growing of tables."""
     with open(os.path.join(room, "input"), "w") as script:
         script.write("".join(line + "\n" for line in lines))
     words = ["valgrind", "--tool=callgrind", "--callgrind-out-file=counts", path]
@@ -68,10 +70,15 @@ def counted(path, room, lines):
         done = subprocess.run(words, stdin=script, stdout=subprocess.DEVNULL, stderr=subprocess.PIPE, cwd=room, text=True)
     if done.returncode != 0:
         sys.exit(f"{path} ended with {done.returncode}: {done.stderr[-400:]}")
-    words = ["callgrind_annotate", "--threshold=100", "--show-percs=no", "counts"]
-    told = subprocess.run(words, stdout=subprocess.PIPE, cwd=room, text=True, check=True).stdout
+    return told(room, "no"), told(room, "yes").get("realloc", 0)
+
+
+def told(room, inclusive):
+    """The instructions of each function as the file of counts has them, with or without those of what it calls."""
+    words = ["callgrind_annotate", "--threshold=100", "--show-percs=no", f"--inclusive={inclusive}", "counts"]
+    lines = subprocess.run(words, stdout=subprocess.PIPE, cwd=room, text=True, check=True).stdout.splitlines()
     found = {}
-    for line in told.splitlines():
+    for line in lines:
         part = re.match(r"\s*([\d,]+)\s+\S*?:(.*?)( \[.*\])?$", line)
         if part:
             found[part.group(2)] = found.get(part.group(2), 0) + int(part.group(1).replace(",", ""))
@@ -91,10 +98,11 @@ def main():
         for key, (what, before, lines, after) in scripts().items():
             if words.only and key not in words.only.split(","):
                 continue
-            whole, bare = counted(path, room, before + lines + after), counted(path, room, before + after)
+            (whole, grown), (bare, grown_before) = counted(path, room, before + lines + after), counted(path, room, before + after)
+            grown -= grown_before
             more = {name: whole.get(name, 0) - bare.get(name, 0) for name in {**whole, **bare}}
             total = sum(more.values())
-            print(f"{key} {what}: {total / len(lines):,.0f} a line")
+            print(f"{key} {what}: {(total - grown) / len(lines):,.0f} a line, and {grown / len(lines):,.0f} where tables grow")
             for name, count in sorted(more.items(), key=lambda it: -it[1])[: words.functions]:
                 print(f"  {count / len(lines):8,.0f} {100 * count / total:5.1f} %  {name[:100]}")
 

@@ -1,5 +1,5 @@
 #!/bin/sh
-# Builds the two shells, without a download.
+# Builds the shells, without a download.
 #   ./setup.sh           where cargo finds the crates by itself, or Debian's packages of them are installed
 #   ./setup.sh FOLDER    with cargo set up as FOLDER/.cargo/config.toml says
 # The crates are im-rc 15.1 with `serde`, serde 1 with `derive` and `rc`, and serde_json 1. Debian has them in its packages
@@ -29,4 +29,4 @@ if ! cargo build --release --offline ${setup:+--config "$setup"}; then
     echo "Debian's packages librust-im-rc-dev, librust-serde+serde-derive-dev and librust-serde-json-dev." >&2
     exit 1
 fi
-ls -l target/release/im_shell target/release/std_shell
+ls -l target/release/im_shell target/release/std_shell target/release/ok_shell
