@@ -53,7 +53,9 @@ pub(crate) fn with_at<T: Element>(
         Place::Entry(old) => beside(heap, old, depth, entry, code, bits),
         Place::Node(child) => Place::Node(with_at(heap, child, depth + 1, entry, code, bits)),
     };
-    edited(heap, link, position, place).make(heap, depth)
+    let mut row = TrieRow::empty();
+    edited(heap, link, position, place, &mut row);
+    row.make(heap, depth)
 }
 
 // What stands for the entry and an older one at a position: the new one where the keys are the same, else a node of both.
@@ -129,11 +131,11 @@ pub fn node_of_two<T: Element>(
 // A row with something at one position.
 fn lone_row(position: u32, place: Place) -> TrieRow
     requires { position < 32 }
-    ensures sets { AreSets result.entries result.nodes result.links.items }
-    ensures here { place_of result.entries result.nodes result.links.items position ≡ place }
-    ensures others { (p : ℕ) → p < 32 → p ≢ position → place_of result.entries result.nodes result.links.items p ≡ Empty }
-    ensures links { (k : ℕ) → count k result.links.items ≡ count k (links_at_place place) }
-    ensures number { length result.links.items ≡ length (links_at_place place) }
+    ensures sets { AreSets result.entries result.nodes result.links }
+    ensures here { place_of result.entries result.nodes result.links position ≡ place }
+    ensures others { (p : ℕ) → p < 32 → p ≢ position → place_of result.entries result.nodes result.links p ≡ Empty }
+    ensures links { (k : ℕ) → count k result.links ≡ count k (links_at_place place) }
+    ensures number { length result.links ≡ length (links_at_place place) }
 {
     let mut row = TrieRow::empty();
     row.put(position, place);
@@ -174,7 +176,9 @@ pub(crate) fn place_without<T: Element, P: Probe<T>>(
                 return chain_place_without(heap, child, key);
             }
             let left = place_without(heap, child, depth + 1, key, code, bits);
-            edited(heap, child, digit(code, depth + 1), left).close(heap, depth + 1)
+            let mut row = TrieRow::empty();
+            edited(heap, child, digit(code, depth + 1), left, &mut row);
+            row.close(heap, depth + 1)
         }
     }
 }

@@ -254,5 +254,7 @@ pub fn removed<T: Element, P: Probe<T>>(heap: &mut Heap<T>, root: Link, key: &P,
 {
     let code = masked(key.code(), bits);
     let left = place_without(heap, root, 0, key, code, bits);
-    edited(heap, root, digit(code, 0), left).make(heap, 0)
+    let mut row = TrieRow::empty();
+    edited(heap, root, digit(code, 0), left, &mut row);
+    row.make(heap, 0)
 }

@@ -11,57 +11,51 @@ ghost use Rattle.champ_trie.specs.Edit.{Closes};
 ghost use Rattle.champ_trie.specs.declared.place.Place.TheVariants.{Empty, Entry as At, Node};
 
 use crate::place::{Place, cleared, contains, place_among, rank_of, with_position};
-use arrayvec::ArrayVec;
-use node_heap::{Head, Heap, Link};
+use node_heap::{Head, Heap, Link, RowLinks};
 
 // The sets and links of a trie row.
 #[derive(Drop)]
 pub(crate) struct TrieRow {
     pub(crate) entries: u32,
     pub(crate) nodes: u32,
-    pub(crate) links: ArrayVec<Link, 32>,
+    pub(crate) links: RowLinks,
 }
 
 impl TrieRow {
     // A row with nothing at any position.
     pub(crate) fn empty() -> TrieRow
-        ensures sets { AreSets result.entries result.nodes result.links.items }
-        ensures none { result.links.items ≡ [] }
-        ensures places { (p : ℕ) → place_of result.entries result.nodes result.links.items p ≡ Empty }
+        ensures sets { AreSets result.entries result.nodes result.links }
+        ensures none { result.links ≡ [] }
+        ensures places { (p : ℕ) → place_of result.entries result.nodes result.links p ≡ Empty }
     {
         TrieRow {
             entries: 0,
             nodes: 0,
-            links: ArrayVec::new(),
+            links: RowLinks::new(),
         }
     }
 
-    // The row at a link.
-    pub(crate) fn read<T>(heap: &Heap<T>, link: Link) -> TrieRow
+    // Makes it the row at a link, whatever it was.
+    pub(crate) fn read<T>(&mut self, heap: &Heap<T>, link: Link)
         requires { (depth entries nodes : ℕ) × (links : List ℕ) × IsRow (form_at heap.now) link depth entries nodes links }
         ensures { (depth entries nodes : ℕ) (links : List ℕ) → IsRow (form_at heap.now) link depth entries nodes links →
-            (result.entries ≡ entries) × (result.nodes ≡ nodes) × (result.links.items ≡ links) }
+            (self.new.entries ≡ entries) × (self.new.nodes ≡ nodes) × (self.new.links ≡ links) }
     {
         let (entries, nodes) = sets_of(heap, link);
-        let mut links = ArrayVec::new();
-        // A row has at most 32 links, so all of them fit.
-        let _ = links.try_extend_from_slice(heap.links(link));
-        TrieRow {
-            entries,
-            nodes,
-            links,
-        }
+        self.entries = entries;
+        self.nodes = nodes;
+        self.links.rewrite(heap.links(link));
     }
 
     // Takes out what stands at the position.
     pub(crate) fn clear(&mut self, position: u32)
-        requires sets { AreSets self.old.entries self.old.nodes self.old.links.items }
+        requires sets { AreSets self.old.entries self.old.nodes self.old.links }
         requires position { position < 32 }
-        ensures sets { AreSets self.new.entries self.new.nodes self.new.links.items }
-        ensures here { place_of self.new.entries self.new.nodes self.new.links.items position ≡ Empty }
+        ensures sets { AreSets self.new.entries self.new.nodes self.new.links }
+        ensures here { place_of self.new.entries self.new.nodes self.new.links position ≡ Empty }
         ensures others { (p : ℕ) → p < 32 → p ≢ position →
-            place_of self.new.entries self.new.nodes self.new.links.items p ≡ place_of self.old.entries self.old.nodes self.old.links.items p }
-        ensures links { (k : ℕ) → count k self.new.links.items ≤ count k self.old.links.items }
+            place_of self.new.entries self.new.nodes self.new.links p ≡ place_of self.old.entries self.old.nodes self.old.links p }
+        ensures links { (k : ℕ) → count k self.new.links ≤ count k self.old.links }
     {
         if contains(self.entries, position) {
             self.links.remove(rank_of(self.entries, position) as usize);
@@ -75,15 +69,15 @@ impl TrieRow {
 
     // Puts something at a position where nothing stands.
     pub(crate) fn put(&mut self, position: u32, place: Place)
-        requires sets { AreSets self.old.entries self.old.nodes self.old.links.items }
+        requires sets { AreSets self.old.entries self.old.nodes self.old.links }
         requires position { position < 32 }
-        requires free { place_of self.old.entries self.old.nodes self.old.links.items position ≡ Empty }
-        ensures sets { AreSets self.new.entries self.new.nodes self.new.links.items }
-        ensures here { place_of self.new.entries self.new.nodes self.new.links.items position ≡ place }
+        requires free { place_of self.old.entries self.old.nodes self.old.links position ≡ Empty }
+        ensures sets { AreSets self.new.entries self.new.nodes self.new.links }
+        ensures here { place_of self.new.entries self.new.nodes self.new.links position ≡ place }
         ensures others { (p : ℕ) → p < 32 → p ≢ position →
-            place_of self.new.entries self.new.nodes self.new.links.items p ≡ place_of self.old.entries self.old.nodes self.old.links.items p }
-        ensures links { (k : ℕ) → count k self.new.links.items ≡ count k self.old.links.items + count k (links_at_place place) }
-        ensures number { length self.new.links.items ≡ length self.old.links.items + length (links_at_place place) }
+            place_of self.new.entries self.new.nodes self.new.links p ≡ place_of self.old.entries self.old.nodes self.old.links p }
+        ensures links { (k : ℕ) → count k self.new.links ≡ count k self.old.links + count k (links_at_place place) }
+        ensures number { length self.new.links ≡ length self.old.links + length (links_at_place place) }
     {
         match place {
             Place::Empty => {}
@@ -102,14 +96,14 @@ impl TrieRow {
 
     // A row of the heap like this one. It spends a hold of each link.
     pub(crate) fn make<T>(&self, heap: &mut Heap<T>, depth: u8) -> Link
-        requires sets { AreSets self.now.entries self.now.nodes self.now.links.items }
+        requires sets { AreSets self.now.entries self.now.nodes self.now.links }
         requires spare { 0 < heap.old.spare_nodes }
-        requires held { (k : ℕ) → count k self.now.links.items ≤ holds_at heap.old k }
+        requires held { (k : ℕ) → count k self.now.links ≤ holds_at heap.old k }
         requires few { hold_count heap.old < most_holds }
-        ensures row { IsRow (form_at heap.new) result depth self.now.entries self.now.nodes self.now.links.items }
+        ensures row { IsRow (form_at heap.new) result depth self.now.entries self.now.nodes self.now.links }
         ensures fresh { row_at heap.old result ≡ None }
         ensures owners { AddsOwner heap.old heap.new result }
-        ensures builds { Builds heap.old heap.new self.now.links.items (result ∷ []) 0 1 }
+        ensures builds { Builds heap.old heap.new self.now.links (result ∷ []) 0 1 }
         ensures makes { Makes heap.old heap.new 0 1 }
     {
         let head = Head::Trie {
@@ -123,16 +117,17 @@ impl TrieRow {
     // What stands for the row in the one above: the only entry that it has, or else a row of the heap like it. It spends
     // a hold of each link.
     pub(crate) fn close<T>(&self, heap: &mut Heap<T>, depth: u8) -> Place
-        requires sets { AreSets self.now.entries self.now.nodes self.now.links.items }
+        requires sets { AreSets self.now.entries self.now.nodes self.now.links }
         requires spare { 0 < heap.old.spare_nodes }
-        requires held { (k : ℕ) → count k self.now.links.items ≤ holds_at heap.old k }
+        requires held { (k : ℕ) → count k self.now.links ≤ holds_at heap.old k }
         requires few { hold_count heap.old < most_holds }
         requires graph { IsGraph heap.old }
-        ensures place { Closes heap.new self.now.entries self.now.nodes self.now.links.items depth result }
-        ensures builds { Builds heap.old heap.new self.now.links.items (links_at_place result) 0 1 }
+        ensures place { Closes heap.new self.now.entries self.now.nodes self.now.links depth result }
+        ensures builds { Builds heap.old heap.new self.now.links (links_at_place result) 0 1 }
     {
-        if self.nodes == 0 && self.links.len() == 1 {
-            Place::Entry(self.links[0])
+        let links = self.links.as_slice();
+        if self.nodes == 0 && links.len() == 1 {
+            Place::Entry(links[0])
         } else {
             Place::Node(self.make(heap, depth))
         }
@@ -142,10 +137,10 @@ impl TrieRow {
 // The row at whose positions stand these places in turn.
 fn filled(places: &[Place]) -> TrieRow
     requires { length places.now ≡ 32 }
-    ensures sets { AreSets result.entries result.nodes result.links.items }
-    ensures places { (p : ℕ) → p < 32 → place_of result.entries result.nodes result.links.items p ≡ slice_index_or places.now p Empty }
-    ensures links { (k : ℕ) → count k result.links.items ≡ count k (flat_map links_at_place places.now) }
-    ensures number { length result.links.items ≡ length (flat_map links_at_place places.now) }
+    ensures sets { AreSets result.entries result.nodes result.links }
+    ensures places { (p : ℕ) → p < 32 → place_of result.entries result.nodes result.links p ≡ slice_index_or places.now p Empty }
+    ensures links { (k : ℕ) → count k result.links ≡ count k (flat_map links_at_place places.now) }
+    ensures number { length result.links ≡ length (flat_map links_at_place places.now) }
 {
     let mut row = TrieRow::empty();
     for position in 0..32 {
@@ -193,22 +188,27 @@ pub(crate) fn place_at<T>(heap: &Heap<T>, link: Link, position: u32) -> Place
     place_among(entries, nodes, heap.links(link), position)
 }
 
-// The row at a link with another place at the position. A hold of each other link is gained.
-pub(crate) fn edited<T>(heap: &mut Heap<T>, link: Link, position: u32, place: Place) -> TrieRow
+// Makes the row the one at a link with another place at the position, whatever it was. A hold of each other link is gained.
+pub(crate) fn edited<T>(
+    heap: &mut Heap<T>,
+    link: Link,
+    position: u32,
+    place: Place,
+    row: &mut TrieRow,
+)
     requires row { (depth entries nodes : ℕ) × (links : List ℕ) × IsRow (form_at heap.old) link depth entries nodes links }
     requires graph { IsGraph heap.old }
     requires position { position < 32 }
     requires few { hold_count heap.old < half_holds + 2 }
     ensures rows { SameRows heap.old heap.new }
-    ensures builds { Builds heap.old heap.new (links_at_place place) result.links.items 0 0 }
-    ensures sets { AreSets result.entries result.nodes result.links.items }
-    ensures here { place_of result.entries result.nodes result.links.items position ≡ place }
+    ensures builds { Builds heap.old heap.new (links_at_place place) row.new.links 0 0 }
+    ensures sets { AreSets row.new.entries row.new.nodes row.new.links }
+    ensures here { place_of row.new.entries row.new.nodes row.new.links position ≡ place }
     ensures others { (depth entries nodes : ℕ) (links : List ℕ) → IsRow (form_at heap.old) link depth entries nodes links →
-        (p : ℕ) → p < 32 → p ≢ position → place_of result.entries result.nodes result.links.items p ≡ place_of entries nodes links p }
+        (p : ℕ) → p < 32 → p ≢ position → place_of row.new.entries row.new.nodes row.new.links p ≡ place_of entries nodes links p }
 {
-    let mut row = TrieRow::read(heap, link);
+    row.read(heap, link);
     row.clear(position);
     heap.hold_all(row.links.as_slice());
     row.put(position, place);
-    row
 }

@@ -1,7 +1,7 @@
 //! Maps edited in place by their place in a row with one owner.
-ghost use Rattle.std.specs.Prelude.{◌≡◌, ◌↔◌, ℕ, ◌+◌, ◌^◌, ◌<◌, ◌≤◌, List, [], ◌∷◌, length, IfOk, IfSome, IfErr, IsOk, OnOk, OnErr, Ok, None, option_to_list};
+ghost use Rattle.std.specs.Prelude.{◌≡◌, ◌≢◌, ◌↔◌, ℕ, ◌+◌, ◌^◌, ◌<◌, ◌≤◌, List, [], ◌∷◌, length, IfOk, IfSome, IfErr, IsOk, OnOk, OnErr, Ok, None, option_to_list};
 ghost use Rattle.node_heap.specs.Links.{Reaches};
-ghost use Rattle.node_heap.specs.Heap.{links_at, holds_at, owners_at, hold_count, HasSpares, half_holds};
+ghost use Rattle.node_heap.specs.Heap.{links_at, holds_at, owners_at, hold_count, HasSpares, IsGraph, half_holds};
 ghost use Rattle.node_heap.specs.Calls.{KeepsBelow, KeepsToNeed};
 ghost use Rattle.node_heap.specs.InPlace.{child_at, OwnsDown, Changes};
 ghost use Rattle.node_heap.specs.Owner.{by_place};
@@ -97,4 +97,29 @@ pub fn own_value_at<T: Element, P: Probe<T>>(
     let root = heap.own_child(parent, child);
     let code = masked(key.code(), bits);
     Ok(Some(own_entry(heap, root, 0, key, code, bits)))
+}
+
+/// The same for a key that is there, where there are `ADD_NODES` spare nodes, and one more for each key with the same masked code: it
+/// goes down to the pair once, and refuses nothing.
+pub fn own_value_there<T: Element, P: Probe<T>>(
+    heap: &mut Heap<T>,
+    parent: Link,
+    child: usize,
+    bits: u32,
+    key: &P,
+) -> Link
+    requires sole { owners_at heap.old parent ≡ 1 }
+    requires child { child < length (links_at heap.old parent) }
+    requires graph { IsGraph heap.old }
+    requires there { (M : List (Binding T)) × IsMapOf T.cmp T.code_of heap.old (by_bits bits (child_at heap.old parent child)) M × (value_with T.cmp (P.stands_for key.now) M ≢ None)
+        × (ADD_NODES + alike_keys T.code_of bits (P.stands_for key.now) M ≤ heap.old.spare_nodes) }
+    ensures owns { (M : List (Binding T)) → IsMapOf T.cmp T.code_of heap.old (by_bits bits (child_at heap.old parent child)) M → value_with T.cmp (P.stands_for key.now) M ≢ None →
+        OwnsPair T.cmp T.code_of (by_place parent child) bits heap.old heap.new (child_at heap.new parent child) M (P.stands_for key.now) result × OwnsDown heap.new parent result }
+    ensures changes { (M : List (Binding T)) → IsMapOf T.cmp T.code_of heap.old (by_bits bits (child_at heap.old parent child)) M → value_with T.cmp (P.stands_for key.now) M ≢ None →
+        Changes parent heap.old heap.new [] [] 0 (ADD_NODES + alike_keys T.code_of bits (P.stands_for key.now) M) }
+    ensures spares { KeepsToNeed heap.old heap.new 0 0 }
+{
+    let root = heap.own_child(parent, child);
+    let code = masked(key.code(), bits);
+    own_entry(heap, root, 0, key, code, bits)
 }

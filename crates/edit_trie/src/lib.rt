@@ -2,7 +2,7 @@
 //! it have one owner too, and each other one is copied.
 //!
 //! A map is edited by an owner of its root: by a hold, which a `TrieEdit` has, or by its place in another row, which itself
-//! has one owner (`insert_at`, `own_value_at`).
+//! has one owner (`insert_at`, `own_value_at`, and `own_value_there` for a key that is there).
 #![tactic(auto)]
 
 mod at;
@@ -15,6 +15,6 @@ mod own;
 mod put;
 mod row;
 
-pub use at::{insert_at, own_value_at};
+pub use at::{insert_at, own_value_at, own_value_there};
 pub use edit::{MapOpenFault, TrieEdit};
 pub use laws::{edits_keep_values, paths_of_small_tries};

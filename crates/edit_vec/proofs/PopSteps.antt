@@ -2,7 +2,7 @@
 use Rattle.std.proofs.Common.{Bool, false, ◌≡◌, ◌≢◌, ℕ, suc, ◌-◌, ◌+◌, ◌*◌, ◌<◌, ◌≤◌, List, [], ◌∷◌, ◌++◌, length, take, drop, get_or, set, refl, ap, sym, subst, ◌∙◌, arith, length-append, length-set, append-nil, append_assoc, Option, Some, None, IsSome, inl, inr}
 use Rattle.std.specs.Prelude.{IsTrue, option_map, ◌↔◌}
 use Rattle.std.specs.List.{flat_map}
-use Rattle.std.proofs.lemmas.Bool.{cases_eq}
+use Rattle.std.proofs.lemmas.Bool.{cases_eq, cases_lt}
 use Rattle.std.proofs.lemmas.Bool.Decides.{nat_tests}
 use Rattle.std.proofs.lemmas.List.{drop_all, get_or-set_same}
 use Rattle.node_heap.specs.Links.{count, HasLink, Reaches, here}
@@ -53,6 +53,21 @@ alone-copied {T} old mid x c rest same sole owners = elim (cases_eq c x) as (λ 
 -- a test that holds doesn't fail
 pub not-both : {b : Bool} → IsTrue b → b ≡ false → ⊥
 not-both holds fails = absurd cc
+
+-- an index that isn't past the end
+pub within : {b : Bool} {index m n : ℕ} → m ≡ n → (IsTrue b ↔ (m ≤ index)) → b ≡ false → index < n
+within {b} {index} {m} {n} same told fails = elim (cases_lt index m) as (λ _. index < n) [
+  | inl low ↦ omega (arith, low, same)
+  | inr past ↦ absurd (not-both (told.1 past) fails)
+]
+
+some-list : (xs : List ℕ) → (xs ≡ [] → ⊥) → 1 ≤ length xs
+some-list [] other = absurd (other refl)
+some-list (x ∷ xs) other = omega arith
+
+-- a list that isn't empty
+pub not-empty : {b : Bool} {xs ys : List ℕ} → xs ≡ ys → (IsTrue b ↔ (xs ≡ [])) → b ≡ false → 1 ≤ length ys
+not-empty {b} {xs} {ys} same told fails = some-list ys (λ none. not-both (told.1 (same ∙ none)) fails)
 
 gone-live : {T : Type 0} (r : Option (Row T)) → r ≡ None → IsSome r → ⊥
 gone-live r e live = absurd cc

@@ -35,7 +35,7 @@ impl FlexEdit {
         ensures refused { OnErr result ((heap.new ≡ heap.old) × (self.new ≡ self.old)) }
         ensures ample { HasSpares heap.old 0 8 → IsOk result }
     {
-        if self.view().len(heap) == 0 {
+        if self.view().is_empty(heap) {
             return Ok(None);
         }
         heap.reserve(0, POP_NODES)?;

@@ -37,7 +37,7 @@ impl FlexEdit {
         ensures range { (result ≡ Err SetFault.Range) ↔ (length (elements heap.old self.old) ≤ index) }
         ensures ample { HasSpares heap.old 0 8 → result ≢ Err SetFault.Memory }
     {
-        if index >= self.view().len(heap) {
+        if self.view().is_past(heap, index) {
             return Err(SetFault::Range);
         }
         heap.reserve(0, SET_NODES)?;
@@ -71,7 +71,7 @@ pub fn set_at<T>(
     ensures ample { HasSpares heap.old 0 8 → result ≢ Err SetFault.Memory }
 {
     let root = heap.links(parent)[child];
-    if index >= FlexRef::at(root).len(heap) {
+    if FlexRef::at(root).is_past(heap, index) {
         return Err(SetFault::Range);
     }
     heap.reserve(0, SET_NODES)?;

@@ -1,17 +1,14 @@
 //! Where a text lies: in the value itself if it is short, and apart if it isn't.
 
-ghost use Rattle.std.specs.Prelude.{◌≡◌, ◌≤◌, length, IfOk};
+ghost use Rattle.std.specs.Prelude.{◌≡◌, ◌≤◌, length, IfOk, IsOk};
 ghost use Rattle.std.specs.String.{string_bytes};
 ghost use Rattle.elem_core.specs.Kept.{kept_bytes};
 
-use super::NoMemory;
+use super::{NoMemory, SHORT_TEXT};
 use std::alloc::Global;
 use std::marker::Model;
 use std::mem::size_of;
 use std::str;
-
-/// The most bytes of a short text: with its length, and what tells it from a long one, it fills four words.
-const SHORT: usize = 30;
 
 /// A text. A short one takes no memory of its own, and is read with what it lies in.
 #[derive(Drop)]
@@ -20,7 +17,7 @@ pub(crate) enum Kept {
     Long(String),
 }
 
-// A short text makes a cell one word larger.
+// Four words: one more than a `String`.
 const _: () = prove!(size_of::<Kept>() <= 32);
 
 impl Kept {
@@ -28,18 +25,19 @@ impl Kept {
     pub(crate) fn new(text: String) -> Kept
         ensures { kept_bytes result ≡ string_bytes text }
     {
-        if text.len() <= SHORT {
+        if text.len() <= SHORT_TEXT {
             Kept::Short(Short::new(&text))
         } else {
             Kept::Long(text)
         }
     }
 
-    /// Keeps a copy of the text. Err where memory runs out.
+    /// Keeps a copy of the text. Err where memory runs out, which a short text takes none of.
     pub(crate) fn copy(alloc: Global, text: &str) -> Result<Kept, NoMemory>
-        ensures { IfOk result (λ made. kept_bytes made ≡ text.now) }
+        ensures kept { IfOk result (λ made. kept_bytes made ≡ text.now) }
+        ensures short { length text.now ≤ SHORT_TEXT → IsOk result }
     {
-        if text.len() <= SHORT {
+        if text.len() <= SHORT_TEXT {
             Ok(Kept::Short(Short::new(text)))
         } else {
             Ok(Kept::Long(String::from_str(alloc, text)?))
@@ -57,10 +55,10 @@ impl Kept {
     }
 }
 
-/// A text of at most `SHORT` bytes. Contracts see its bytes.
+/// A text of at most `SHORT_TEXT` bytes. Contracts see its bytes.
 #[derive(Drop)]
 pub(crate) struct Short {
-    bytes: [u8; SHORT],
+    bytes: [u8; SHORT_TEXT],
     len: u8,
 }
 
@@ -77,10 +75,10 @@ impl Model for Short {
 impl Short {
     /// A copy of the text.
     pub(crate) fn new(text: &str) -> Short
-        requires { length text.now ≤ SHORT }
+        requires { length text.now ≤ SHORT_TEXT }
         ensures { result ≡ text.now }
     {
-        let mut bytes = [0; SHORT];
+        let mut bytes = [0; SHORT_TEXT];
         bytes[..text.len()].copy_from_slice(text.as_bytes());
         Short {
             bytes,
@@ -92,6 +90,7 @@ impl Short {
     pub(crate) fn as_str(&self) -> &str
         ensures { result.now ≡ self.now }
     {
+        // SAFETY: the invariant says that these bytes are UTF-8.
         unsafe { str::from_utf8_unchecked(&self.bytes[..usize::from(self.len)]) }
     }
 }

@@ -17,6 +17,9 @@ pub use words::{Line, Name, is_name};
 /// The most bytes that a line, and so a text cell, may have.
 pub const MAX_LINE: usize = 65_536;
 
+/// The most bytes of a text that takes no memory of its own: with its length, and what tells it from a long one, it fills four words.
+pub const SHORT_TEXT: usize = 30;
+
 /// The most bytes that a name may have.
 pub const MAX_NAME: usize = 64;
 

@@ -1,13 +1,13 @@
 //! The texts that cells own.
 
-ghost use Rattle.std.specs.Prelude.{◌≡◌, ◌↔◌, IsOk, IfOk, IfErr};
+ghost use Rattle.std.specs.Prelude.{◌≡◌, ◌↔◌, ◌≤◌, length, IsOk, IfOk, IfErr};
 ghost use Rattle.std.specs.String.{string_bytes};
 ghost use Rattle.elem_core.specs.Cell.{IsCell};
 ghost use Rattle.elem_core.specs.Shown.{line_bytes};
 
-use super::NoMemory;
 use super::kept::Kept;
 use super::words::Line;
+use super::{NoMemory, SHORT_TEXT};
 use std::alloc::Global;
 use std::cmp::Ordering;
 use std::fmt;
@@ -115,9 +115,10 @@ impl Ord for Text {
     }
 }
 
-/// A copy of the line that a cell may own. Err where memory runs out.
+/// A copy of the line that a cell may own. Err where memory runs out, which a text of at most `SHORT_TEXT` bytes takes none of.
 pub fn text_of(alloc: Global, line: Line<'_>) -> Result<Text, NoMemory>
-    ensures { IfOk result (λ made. made ≡ line_bytes line.entry) }
+    ensures kept { IfOk result (λ made. made ≡ line_bytes line.entry) }
+    ensures short { length (line_bytes line.entry) ≤ SHORT_TEXT → IsOk result }
 {
     let text = Kept::copy(alloc, line.as_str())?;
     Ok(Text { text })

@@ -37,6 +37,14 @@ impl<'a> Line<'a> {
         }
     }
 
+    /// The line of a text that is a cell. It isn't looked through.
+    pub fn of_cell(text: &'a str) -> Line<'a>
+        requires { IsCell text.now }
+        ensures { line_bytes result ≡ text.now }
+    {
+        Line { text }
+    }
+
     /// The text of the line.
     pub fn as_str(&self) -> &'a str
         ensures shown { result.now ≡ line_bytes self.now }

@@ -127,15 +127,16 @@ pub fn read<D: Store>(
     }
     let mut bytes = Vec::new(alloc);
     store.fetch(file.as_str(), MOST_STORED as usize, &mut bytes)?;
-    fill(alloc, space, buffer, &bytes)
+    fill(alloc, space, buffer, bytes)
 }
 
-// Gives the buffer the lines of the bytes.
-fn fill(alloc: Global, space: &mut Space, buffer: Name<'_>, bytes: &[u8]) -> Result<(), LoadFault>
-    requires { length bytes.now ≤ most_stored }
-    ensures { FillsIn (name_bytes buffer.entry) bytes.now space.old result space.new }
+// Gives the buffer the lines of the bytes, which are given up before the lines come into the heap.
+fn fill(alloc: Global, space: &mut Space, buffer: Name<'_>, bytes: Vec<u8>) -> Result<(), LoadFault>
+    requires { length bytes.items ≤ most_stored }
+    ensures { FillsIn (name_bytes buffer.entry) bytes.items space.old result space.new }
 {
-    let lines = lines_of(alloc, bytes)?;
+    let lines = lines_of(alloc, &bytes)?;
+    drop(bytes);
     match space.edit(Edit::Read(buffer, lines)) {
         Ok(()) => Ok(()),
         // Undo has room where this is called.

@@ -86,6 +86,14 @@ impl Page {
             self.text.push_str("\n");
             return Ok(());
         }
+        self.put_in_parts(shown, sink)
+    }
+
+    // The same of its text, where the page has no room for the line: apart, so that the other lines are put where they are shown.
+    #[inline(never)]
+    fn put_in_parts<K: Sink>(&mut self, shown: &str, sink: &mut K) -> Result<(), Failed>
+        ensures { Puts K.Sink sink.old self.old sink.new self.new result (reply_of (text_line shown.now ∷ [])) }
+    {
         self.put("= ", sink)?;
         self.put(shown, sink)?;
         self.put("\n", sink)

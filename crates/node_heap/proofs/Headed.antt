@@ -9,7 +9,7 @@ use Rattle.node_heap.specs.Rooms.{Parts}
 use Rattle.node_heap.specs.Tags.{plain_head, place_of, place_in, head_by, full_node, headed, IsNodes}
 use Rattle.node_heap.specs.declared.row.Head.{Head}
 use Rattle.node_heap.specs.declared.tags.Tag.{Tag}
-use Rattle.node_heap.specs.declared.tags.Tag.TheVariants.{Leaf, Inner, Chain, Pair, State, Full}
+use Rattle.node_heap.specs.declared.tags.Tag.TheVariants.{Leaf, Inner, Chain, Pair, State, Apart}
 use Rattle.node_heap.proofs.Counts.{get_or-map_default}
 use Rattle.node_heap.proofs.Free.{value_in}
 use Rattle.node_heap.proofs.Stored.{one_if_some}
@@ -32,7 +32,7 @@ plain-place (Inner height) head is = refl
 plain-place Chain head is = refl
 plain-place Pair head is = refl
 plain-place State head is = refl
-plain-place (Full place) head is = absurd cc
+plain-place (Apart place) head is = absurd cc
 
 pub place-told : (o : Option (NodeOf Tag)) (t : Tag) → node_head o ≡ Some t → place_in o ≡ place_of t
 place-told None t is = absurd cc
@@ -45,7 +45,7 @@ module _ (heads : List (Option Head)) where
   plain-by Chain head is = cc
   plain-by Pair head is = cc
   plain-by State head is = cc
-  plain-by (Full place) head is = absurd cc
+  plain-by (Apart place) head is = absurd cc
 
   pub plain-in : (t : Tag) → place_of t ≡ None → plain_head t ≡ Some (head_by heads t)
   plain-in Leaf is = refl
@@ -53,7 +53,7 @@ module _ (heads : List (Option Head)) where
   plain-in Chain is = refl
   plain-in Pair is = refl
   plain-in State is = refl
-  plain-in (Full place) is = absurd cc
+  plain-in (Apart place) is = absurd cc
 
   pub full-by : (t : Tag) (place : ℕ) (head : Head) → place_of t ≡ Some place → get_or heads place None ≡ Some head → head_by heads t ≡ head
   full-by Leaf place head named is = absurd cc
@@ -61,7 +61,7 @@ module _ (heads : List (Option Head)) where
   full-by Chain place head named is = absurd cc
   full-by Pair place head named is = absurd cc
   full-by State place head named is = absurd cc
-  full-by (Full other) place head named is = let same : other ≡ place = cc in rw (same, is) refl
+  full-by (Apart other) place head named is = let same : other ≡ place = cc in rw (same, is) refl
 
   some_headed : (o : Option (NodeOf Tag)) → IsSome (full_node heads o) → IsSome o
   some_headed None live = cc
@@ -138,7 +138,7 @@ same-headed heads heads' place (Some n) same other = rw (by n.head other) refl
     by Chain e = refl
     by Pair e = refl
     by State e = refl
-    by (Full k) e = rw (same k (λ is. e (ap Some is))) refl
+    by (Apart k) e = rw (same k (λ is. e (ap Some is))) refl
 
 pub headed-same : (heads : List (Option Head)) (slots slots' : List (Option (NodeOf Tag))) (i : ℕ) → SameBut slots slots' i → SameBut (map (full_node heads) slots) (map (full_node heads) slots') i
 headed-same heads slots slots' i same k other = at-headed heads slots' k ∙ ap (full_node heads) (same k other) ∙ sym (at-headed heads slots k)

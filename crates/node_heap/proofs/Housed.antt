@@ -8,7 +8,7 @@ use Rattle.node_heap.specs.Inside.{woven}
 use Rattle.node_heap.specs.Rooms.{large_node, small_node, head_in, links_in, room_in, nodes_in}
 use Rattle.node_heap.specs.declared.entry.NodeSlot.{NodeSlot}
 use Rattle.node_heap.specs.declared.entry.SmallHead.{SmallHead}
-use Rattle.node_heap.specs.declared.entry.SmallHead.TheVariants.{Chain, Pair, State, Full, Moved}
+use Rattle.node_heap.specs.declared.entry.SmallHead.TheVariants.{Chain, Pair, State, Apart, Moved}
 use Rattle.node_heap.specs.declared.entry.SmallSlot.{SmallSlot}
 use Rattle.node_heap.specs.declared.tags.Tag.{Tag}
 use Rattle.node_heap.proofs.Counts.{get_or-map_default}
@@ -80,7 +80,7 @@ pub lent-full : (moved : List (Option NodeSlot)) (h : SmallHead) (head : Tag) �
 lent-full moved Chain head is = cc
 lent-full moved Pair head is = cc
 lent-full moved State head is = cc
-lent-full moved (Full place) head is = cc
+lent-full moved (Apart place) head is = cc
 lent-full moved (Moved room) head is = absurd cc
 
 -- then the links lie there too
@@ -88,21 +88,21 @@ pub full-room : (h : SmallHead) (head : Tag) → tag_in h ≡ Some head → room
 full-room Chain head is = refl
 full-room Pair head is = refl
 full-room State head is = refl
-full-room (Full place) head is = refl
+full-room (Apart place) head is = refl
 full-room (Moved room) head is = absurd cc
 
 pub lent-links : (moved : List (Option NodeSlot)) (h : SmallHead) (links : List ℕ) → room_of h ≡ None → links_in moved h links ≡ links
 lent-links moved Chain links is = refl
 lent-links moved Pair links is = refl
 lent-links moved State links is = refl
-lent-links moved (Full place) links is = refl
+lent-links moved (Apart place) links is = refl
 lent-links moved (Moved room) links is = absurd cc
 
 pub full-in : (moved : List (Option NodeSlot)) (h : SmallHead) → room_of h ≡ None → tag_in h ≡ Some (head_in moved h)
 full-in moved Chain is = refl
 full-in moved Pair is = refl
 full-in moved State is = refl
-full-in moved (Full place) is = refl
+full-in moved (Apart place) is = refl
 full-in moved (Moved room) is = absurd cc
 
 -- a node in a room apart
@@ -111,7 +111,7 @@ in-room : (moved : List (Option NodeSlot)) (h : SmallHead) (room : ℕ) (x : Nod
 in-room moved Chain room x links named is = absurd cc
 in-room moved Pair room x links named is = absurd cc
 in-room moved State room x links named is = absurd cc
-in-room moved (Full place) room x links named is = absurd cc
+in-room moved (Apart place) room x links named is = absurd cc
 in-room moved (Moved k) room x links named is = let same : k ≡ room = cc in (rw (same, is) refl, rw (same, is) refl)
 
 pub moved-node : (moved : List (Option NodeSlot)) (s : SmallSlot) (room : ℕ) (x : NodeSlot) → room_of s.head ≡ Some room → get_or moved room None ≡ Some x
@@ -126,7 +126,7 @@ stays : (moved moved' : List (Option NodeSlot)) (room : ℕ) (h : SmallHead) (li
 stays moved moved' room Chain links same other = (refl, refl)
 stays moved moved' room Pair links same other = (refl, refl)
 stays moved moved' room State links same other = (refl, refl)
-stays moved moved' room (Full place) links same other = (refl, refl)
+stays moved moved' room (Apart place) links same other = (refl, refl)
 stays moved moved' room (Moved k) links same other = let read = same k (λ is. other (ap Some is)) in (rw read refl, rw read refl)
 
 pub same-node : (moved moved' : List (Option NodeSlot)) (room : ℕ) (o : Option SmallSlot) → SameBut moved moved' room → room_in o ≢ Some room → small_node moved' o ≡ small_node moved o

@@ -15,11 +15,11 @@ pub record Heap (T : Type 0) : Type 0 where
 abbrev pub most_holds : ℕ
 most_holds = 2 ^ 60
 
--- half of them: with fewer, a call that makes a container may begin, which takes holds on its way
+-- half of them: with fewer, a call on one container may begin, which takes holds on its way
 abbrev pub half_holds : ℕ
 half_holds = 2 ^ 59
 
--- a quarter of them: with fewer, an edit in place may begin, whose steps are such calls
+-- a quarter of them: with fewer, an edit may begin whose steps are such calls
 abbrev pub quarter_holds : ℕ
 quarter_holds = 2 ^ 58
 

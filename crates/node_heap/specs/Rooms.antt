@@ -8,7 +8,7 @@ use Rattle.node_heap.specs.declared.tags.Tag.{Tag}
 use Rattle.node_heap.specs.declared.tags.Tag.TheVariants as tag
 use Rattle.node_heap.specs.declared.entry.NodeSlot.{NodeSlot}
 use Rattle.node_heap.specs.declared.entry.SmallHead.{SmallHead}
-use Rattle.node_heap.specs.declared.entry.SmallHead.TheVariants.{Chain, Pair, State, Full, Moved}
+use Rattle.node_heap.specs.declared.entry.SmallHead.TheVariants.{Chain, Pair, State, Apart, Moved}
 use Rattle.node_heap.specs.declared.entry.SmallSlot.{SmallSlot}
 
 abbrev pub large_node : Option NodeSlot → Option (NodeOf Tag)
@@ -34,14 +34,14 @@ module _ (moved : List (Option NodeSlot)) where
   head_in Chain = tag.Chain
   head_in Pair = tag.Pair
   head_in State = tag.State
-  head_in (Full place) = tag.Full place
+  head_in (Apart place) = tag.Apart place
   head_in (Moved room) = moved_head (slice_index_or moved room None)
 
   abbrev pub links_in : SmallHead → List ℕ → List ℕ
   links_in Chain links = links
   links_in Pair links = links
   links_in State links = links
-  links_in (Full _) links = links
+  links_in (Apart _) links = links
   links_in (Moved room) _ = moved_links (slice_index_or moved room None)
 
   abbrev pub small_node : Option SmallSlot → Option (NodeOf Tag)

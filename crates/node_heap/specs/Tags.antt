@@ -4,26 +4,26 @@ use Rattle.node_heap.specs.Heap.{row_limit}
 use Rattle.node_heap.specs.Nodes.{NodeOf, NodesOf, Node, Nodes}
 use Rattle.node_heap.specs.Rooms.{Covers, Parts}
 use Rattle.node_heap.specs.declared.row.Head.{Head}
-use Rattle.node_heap.specs.declared.row.Head.TheVariants as full_head
+use Rattle.node_heap.specs.declared.row.Head.TheVariants as lent_head
 use Rattle.node_heap.specs.declared.tags.Tag.{Tag}
-use Rattle.node_heap.specs.declared.tags.Tag.TheVariants.{Leaf, Inner, Chain, Pair, State, Full}
+use Rattle.node_heap.specs.declared.tags.Tag.TheVariants.{Leaf, Inner, Chain, Pair, State, Apart}
 
 -- the head of a tag that says all of it
 abbrev pub plain_head : Tag → Option Head
-plain_head Leaf = Some full_head.Leaf
-plain_head (Inner height) = Some (full_head.Inner height [])
-plain_head Chain = Some full_head.Chain
-plain_head Pair = Some full_head.Pair
-plain_head State = Some full_head.State
-plain_head (Full _) = None
+plain_head Leaf = Some lent_head.Leaf
+plain_head (Inner height) = Some (lent_head.Inner height [])
+plain_head Chain = Some lent_head.Chain
+plain_head Pair = Some lent_head.Pair
+plain_head State = Some lent_head.State
+plain_head (Apart _) = None
 
 -- the heads that are lent
 pub record AreHeads (leaf : Head) (inner : List Head) (chain pair state : Head) : Type 0 where
-  pub is_leaf : leaf ≡ full_head.Leaf
-  pub are_inner : inner ≡ full_head.Inner 0 [] ∷ full_head.Inner 1 [] ∷ full_head.Inner 2 [] ∷ full_head.Inner 3 [] ∷ full_head.Inner 4 [] ∷ full_head.Inner 5 [] ∷ full_head.Inner 6 [] ∷ full_head.Inner 7 [] ∷ []
-  pub is_chain : chain ≡ full_head.Chain
-  pub is_pair : pair ≡ full_head.Pair
-  pub is_state : state ≡ full_head.State
+  pub is_leaf : leaf ≡ lent_head.Leaf
+  pub are_inner : inner ≡ lent_head.Inner 0 [] ∷ lent_head.Inner 1 [] ∷ lent_head.Inner 2 [] ∷ lent_head.Inner 3 [] ∷ lent_head.Inner 4 [] ∷ lent_head.Inner 5 [] ∷ lent_head.Inner 6 [] ∷ lent_head.Inner 7 [] ∷ []
+  pub is_chain : chain ≡ lent_head.Chain
+  pub is_pair : pair ≡ lent_head.Pair
+  pub is_state : state ≡ lent_head.State
 
 -- where the full head lies
 abbrev pub place_of : Tag → Option ℕ
@@ -32,24 +32,24 @@ place_of (Inner _) = None
 place_of Chain = None
 place_of Pair = None
 place_of State = None
-place_of (Full place) = Some place
+place_of (Apart place) = Some place
 
 abbrev pub place_in : Option (NodeOf Tag) → Option ℕ
 place_in None = None
 place_in (Some n) = place_of n.head
 
 abbrev pub head_or_leaf : Option Head → Head
-head_or_leaf None = full_head.Leaf
+head_or_leaf None = lent_head.Leaf
 head_or_leaf (Some head) = head
 
 module _ (heads : List (Option Head)) where
   abbrev pub head_by : Tag → Head
-  head_by Leaf = full_head.Leaf
-  head_by (Inner height) = full_head.Inner height []
-  head_by Chain = full_head.Chain
-  head_by Pair = full_head.Pair
-  head_by State = full_head.State
-  head_by (Full place) = head_or_leaf (slice_index_or heads place None)
+  head_by Leaf = lent_head.Leaf
+  head_by (Inner height) = lent_head.Inner height []
+  head_by Chain = lent_head.Chain
+  head_by Pair = lent_head.Pair
+  head_by State = lent_head.State
+  head_by (Apart place) = head_or_leaf (slice_index_or heads place None)
 
   abbrev pub full_node : Option (NodeOf Tag) → Option Node
   full_node None = None

@@ -1,5 +1,5 @@
 //! What the slots of the table hold.
-ghost use Rattle.std.specs.Prelude.{◌<◌, [], length, false, ◌≡◌, ◌≤◌, slice_set, slice_index, insert, remove, Some, None, IsSome};
+ghost use Rattle.std.specs.Prelude.{◌<◌, ◌↔◌, [], length, IsTrue, ◌≡◌, ◌≤◌, slice_set, slice_index, insert, remove, Some, None, IsSome};
 ghost use Rattle.node_heap.specs.Small.{tag_in, room_of};
 ghost use Rattle.node_heap.specs.declared.entry.SmallHead.TheVariants.{Moved};
 
@@ -20,9 +20,9 @@ pub(crate) struct CellSlot<T> {
 // It has no room for links.
 const _: () = prove!(size_of::<Option<CellSlot<Num>>>() <= 40);
 
-// The links of a row, at most 32. Those that are given up stay behind, where nothing reads them.
+/// The links of a row, at most 32. Those that are given up stay behind, where nothing reads them.
 #[derive(Drop)]
-pub(crate) struct RowLinks {
+pub struct RowLinks {
     items: [Link; 32],
     // How many of the items count.
     len: usize,
@@ -39,8 +39,8 @@ impl Model for RowLinks {
 }
 
 impl RowLinks {
-    // No links.
-    pub(crate) fn new() -> RowLinks
+    /// No links.
+    pub fn new() -> RowLinks
         ensures { result ≡ [] }
     {
         RowLinks {
@@ -59,8 +59,8 @@ impl RowLinks {
         kept
     }
 
-    // The links in order.
-    pub(crate) fn as_slice(&self) -> &[Link]
+    /// The links in order.
+    pub fn as_slice(&self) -> &[Link]
         ensures value { result.now ≡ self.now }
         ensures short { length result.now ≤ 32 }
     {
@@ -74,8 +74,8 @@ impl RowLinks {
         self.len = 0;
     }
 
-    // Puts these links, at most 32, in place of all.
-    pub(crate) fn rewrite(&mut self, links: &[Link])
+    /// Puts these links, at most 32, in place of all.
+    pub fn rewrite(&mut self, links: &[Link])
         requires { length links.now ≤ 32 }
         ensures { self.new ≡ links.now }
     {
@@ -84,7 +84,7 @@ impl RowLinks {
     }
 
     // Puts the link in place of the one at the index, which it answers.
-    pub(crate) fn swap(&mut self, index: usize, link: Link) -> Link
+    pub(crate) fn replace(&mut self, index: usize, link: Link) -> Link
         requires { index < length self.old }
         ensures links { self.new ≡ slice_set self.old index link }
         ensures old { result ≡ slice_index self.old index }
@@ -95,8 +95,8 @@ impl RowLinks {
         old
     }
 
-    // Puts the link at the index, before those that stand there and after.
-    pub(crate) fn insert(&mut self, index: usize, link: Link)
+    /// Puts the link at the index, before those that stand there and after.
+    pub fn insert(&mut self, index: usize, link: Link)
         requires index { index ≤ length self.old }
         requires room { length self.old < 32 }
         ensures { self.new ≡ insert self.old index link }
@@ -108,8 +108,8 @@ impl RowLinks {
         self.len = len + 1;
     }
 
-    // Takes the link at the index out.
-    pub(crate) fn remove(&mut self, index: usize) -> Link
+    /// Takes the link at the index out.
+    pub fn remove(&mut self, index: usize) -> Link
         requires { index < length self.old }
         ensures old { result ≡ slice_index self.old index }
         ensures links { self.new ≡ remove self.old index }
@@ -138,7 +138,7 @@ pub(crate) struct NodeRoom {
     pub(crate) node: NodeSlot,
 }
 
-// A full head isn't in it.
+// A head apart isn't in it.
 const _: () = prove!(size_of::<NodeRoom>() <= 296);
 
 impl Model for NodeRoom {
@@ -198,7 +198,7 @@ pub(crate) enum SmallHead {
     Chain,
     Pair,
     State,
-    Full { place: usize },
+    Apart { place: usize },
     // Head and links lie in this room apart.
     Moved { room: usize },
 }
@@ -217,7 +217,7 @@ pub(crate) fn small_head(tag: &Tag, links: &[Link]) -> Option<SmallHead>
         Tag::Chain => Some(SmallHead::Chain),
         Tag::Pair => Some(SmallHead::Pair),
         Tag::State => Some(SmallHead::State),
-        Tag::Full { place } => Some(SmallHead::Full { place: *place }),
+        Tag::Apart { place } => Some(SmallHead::Apart { place: *place }),
     }
 }
 
@@ -262,15 +262,15 @@ impl SmallSlot {
         }
     }
 
-    // There is no room for another link in it.
-    pub(crate) fn is_full(&self) -> bool
-        ensures { result ≡ false → length self.now.links.items < 3 }
+    // Whether all places for links are taken.
+    pub(crate) fn has_no_room(&self) -> bool
+        ensures { IsTrue result ↔ 3 ≤ length self.now.links.items }
     {
         self.links.len() >= FEW
     }
 
     // Puts the link in place of the one at the index, which it answers.
-    pub(crate) fn swap(&mut self, index: usize, link: Link) -> Link
+    pub(crate) fn replace(&mut self, index: usize, link: Link) -> Link
         requires { index < length self.old.links.items }
         ensures owners { self.new.owners ≡ self.old.owners }
         ensures head { self.new.head ≡ self.old.head }
@@ -314,7 +314,7 @@ impl SmallSlot {
             SmallHead::Chain => Tag::Chain,
             SmallHead::Pair => Tag::Pair,
             SmallHead::State => Tag::State,
-            SmallHead::Full { place } => Tag::Full { place },
+            SmallHead::Apart { place } => Tag::Apart { place },
             SmallHead::Moved { room: _ } => unreachable!(),
         }
     }

@@ -96,8 +96,14 @@ impl<T> Heap<T> {
         ensures owners { KeepsOwners self.old self.new }
         ensures ample { cells ≤ self.old.spare_cells → nodes ≤ self.old.spare_nodes → IsOk result }
     {
-        let spare_cells = self.table.spare_cells().max(cells);
-        let spare_nodes = self.table.spare_nodes().max(nodes);
+        let old_cells = self.table.spare_cells();
+        let old_nodes = self.table.spare_nodes();
+        // Often there are enough.
+        if cells <= old_cells && nodes <= old_nodes {
+            return Ok(());
+        }
+        let spare_cells = old_cells.max(cells);
+        let spare_nodes = old_nodes.max(nodes);
         // So many rows take more bytes than any machine has.
         if spare_cells >= ROWS || spare_nodes >= ROWS {
             return Err(NoMemory);

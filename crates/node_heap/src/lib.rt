@@ -16,6 +16,7 @@ mod row;
 mod table;
 mod tags;
 
+pub use entry::RowLinks;
 pub use glass::{Glass, Steps};
 pub use heap::Heap;
 pub use laws::{

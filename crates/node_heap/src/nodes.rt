@@ -16,7 +16,7 @@ use std::marker::Model;
 #[derive(Drop)]
 pub(crate) struct Nodes {
     rooms: Rooms,
-    // The full heads that tags name.
+    // The heads apart, which tags name.
     heads: Vec<Option<Head>>,
     free_heads: Vec<usize>,
     lent: Heads,
@@ -77,7 +77,7 @@ impl Nodes {
         if spares == self.rooms.spares() {
             return Ok(());
         }
-        // Any node may have a full head.
+        // Any node may have a head apart.
         let total = self.rooms.len() + spares;
         cover(&mut self.heads, &mut self.free_heads, total)?;
         self.rooms.reserve(spares)?;
@@ -99,7 +99,7 @@ impl Nodes {
             Some(tag) => self.rooms.put(tag, links),
             None => {
                 let place = put(&mut self.heads, &mut self.free_heads, head);
-                self.rooms.put(Tag::Full { place }, links)
+                self.rooms.put(Tag::Apart { place }, links)
             }
         }
     }
@@ -192,7 +192,7 @@ impl Nodes {
                 Some(tag) => self.rooms.set_tag(index, tag),
                 None => {
                     let place = put(&mut self.heads, &mut self.free_heads, head);
-                    self.rooms.set_tag(index, Tag::Full { place });
+                    self.rooms.set_tag(index, Tag::Apart { place });
                 }
             },
         }

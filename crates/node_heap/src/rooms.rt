@@ -219,14 +219,14 @@ impl Rooms {
         ensures becomes { Becomes self.old self.new index (λ n. record { owners = n.owners; head = n.head; links = slice_set n.links position link }) }
     {
         if index % 2 != 0 {
-            return self.large_mut(index).links.swap(position, link);
+            return self.large_mut(index).links.replace(position, link);
         }
         let place = index / 2;
         match slot(&self.small, place).room() {
             Some(room) => node_in_mut(&mut self.moved, room)
                 .links
-                .swap(position, link),
-            None => slot_mut(&mut self.small, place).swap(position, link),
+                .replace(position, link),
+            None => slot_mut(&mut self.small, place).replace(position, link),
         }
     }
 
@@ -248,7 +248,7 @@ impl Rooms {
                 .links
                 .insert(position, link),
             None => {
-                if small.is_full() {
+                if small.has_no_room() {
                     self.outgrow(index, position, link);
                 } else {
                     slot_mut(&mut self.small, place).insert(position, link);

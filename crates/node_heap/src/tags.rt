@@ -1,4 +1,4 @@
-//! What lies of a node's head with its links: the whole of a head that says little, or where the full head lies.
+//! What lies of a node's head with its links: the whole of a head that says little, or where the head lies apart.
 ghost use Rattle.std.specs.Prelude.{◌≡◌, ◌<◌, ℕ, [], Some, None};
 ghost use Rattle.node_heap.specs.Tags.{plain_head, place_of};
 ghost use Rattle.node_heap.specs.declared.row.Head.TheVariants.{Inner};
@@ -51,16 +51,16 @@ pub(crate) enum Tag {
     Chain,
     Pair,
     State,
-    Full { place: usize },
+    Apart { place: usize },
 }
 
 impl Tag {
-    // Where the full head lies, if it does.
+    // Where the head lies apart, if it does.
     pub(crate) fn place(&self) -> Option<usize>
         ensures { result ≡ place_of self.now }
     {
         match self {
-            Tag::Full { place } => Some(*place),
+            Tag::Apart { place } => Some(*place),
             _ => None,
         }
     }
@@ -88,7 +88,7 @@ pub(crate) fn tag_of(head: &Head) -> Option<Tag>
     }
 }
 
-// Full heads that are lent for tags that say all.
+// The heads that are lent for tags that say all.
 #[derive(Drop)]
 pub(crate) struct Heads {
     leaf: Head,
@@ -151,7 +151,7 @@ impl Heads {
             Tag::Chain => &self.chain,
             Tag::Pair => &self.pair,
             Tag::State => &self.state,
-            Tag::Full { place: _ } => unreachable!(),
+            Tag::Apart { place: _ } => unreachable!(),
         }
     }
 }

@@ -113,5 +113,10 @@ fn escaped_length(byte: u8) -> u64
 fn has_letter(byte: u8) -> bool
     ensures { result ≡ nat_lt 0 (escape_letter byte) }
 {
-    matches!(byte, b'"' | b'\\' | 8 | 9 | 10 | 12 | 13)
+    // Nearly all bytes of a text are above the quotation mark: two tests tell for these.
+    if byte > b'"' {
+        byte == b'\\'
+    } else {
+        matches!(byte, b'"' | 8 | 9 | 10 | 12 | 13)
+    }
 }

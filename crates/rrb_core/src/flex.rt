@@ -6,7 +6,7 @@ ghost use Rattle.node_heap.specs.Calls.{Answered, Makes, Builds, KeepsHeld, Make
 ghost use Rattle.rrb_core.specs.Vector.{elements, height_at, IsGoodVector, IsSameVector, IsVectorOf};
 ghost use Rattle.rrb_core.specs.Build.{Shares};
 
-use crate::rows::{height_of, leaf_over, size};
+use crate::rows::{height_of, leaf_over, size, size_before_last};
 use crate::search::element_at;
 use elem_core::NoMemory;
 use node_heap::{Heap, Link, MOST_HEIGHT};
@@ -143,6 +143,29 @@ impl FlexRef {
         ensures graph { IsGraph heap.now }
     {
         size(heap, self.root, height_of(heap, self.root))
+    }
+
+    /// Whether it has no element.
+    pub fn is_empty<T>(&self, heap: &Heap<T>) -> bool
+        requires { IsGoodVector heap.now self.now }
+        ensures { IsTrue result ↔ (elements heap.now self.now ≡ []) }
+    {
+        // A root above the leaves has elements below it.
+        if self.height(heap) > 0 {
+            return false;
+        }
+        self.len(heap) == 0
+    }
+
+    /// Whether `index` is the length or past it. Mostly the root tells, without a look at the rows below it.
+    pub fn is_past<T>(&self, heap: &Heap<T>, index: u32) -> bool
+        requires { IsGoodVector heap.now self.now }
+        ensures { IsTrue result ↔ (length (elements heap.now self.now) ≤ index) }
+    {
+        if u64::from(index) < size_before_last(heap, self.root, self.height(heap)) {
+            return false;
+        }
+        index >= self.len(heap)
     }
 
     /// Whether it has 2^32 - 1 elements, which is the most.

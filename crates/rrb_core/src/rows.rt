@@ -73,6 +73,26 @@ pub fn size<T>(heap: &Heap<T>, link: Link, height: u8) -> u32
     before + size(heap, links[last], height - 1)
 }
 
+// A number of elements that a row of this height has at least: those below its children before the last, where these are full,
+// and else 0. No row below it is read.
+pub(crate) fn size_before_last<T>(heap: &Heap<T>, link: Link, height: u8) -> u64
+    requires well { IsWell (form_at heap.now) height link }
+    requires sums { HasSums heap.now height link }
+    requires low { height ≤ MOST_HEIGHT }
+    ensures { result ≤ length (seq_at (form_at heap.now) height link) }
+{
+    let links = heap.links(link);
+    if height == 0 {
+        return 0;
+    }
+    let sums = sums_of(heap, link);
+    if !sums.is_empty() {
+        return 0;
+    }
+    let last = links.len() - 1;
+    full_size(last, height)
+}
+
 // Appends the links of a row from the place `from` to the place `to`, with a hold of each.
 fn hold_links<T>(heap: &mut Heap<T>, all: &mut Gathered, link: Link, from: usize, to: usize)
     requires graph { IsGraph heap.old }

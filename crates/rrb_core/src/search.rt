@@ -163,7 +163,9 @@ pub fn only_element<T>(heap: &Heap<T>, link: Link, height: u8) -> Link
     only_element(heap, first, height - 1)
 }
 
-// The elements from `index` on, as far as they stand in one leaf.
+// The elements from `index` on, as far as they stand in one leaf. It is apart from the step to the next element, which mostly
+// looks no leaf up.
+#[inline(never)]
 pub(crate) fn leaf_from<T>(heap: &Heap<T>, root: Link, index: u32) -> &[Link]
     requires good { IsGoodVector heap.now root }
     requires inside { index < length (elements heap.now root) }

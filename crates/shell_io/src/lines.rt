@@ -52,10 +52,10 @@ pub fn lines_of(alloc: Global, bytes: &[u8]) -> Result<Texts, LinesFault>
     let mut rest = text;
     while !rest.is_empty() {
         let (first, others) = first_line(rest);
-        let Some(line) = Line::new(first) else {
+        if first.len() > MAX_LINE {
             return Err(LinesFault::Long);
-        };
-        lines.push(text_of(alloc, line)?)?;
+        }
+        lines.push(text_of(alloc, Line::of_cell(first))?)?;
         rest = others;
     }
     Ok(Texts::from_vec(lines))

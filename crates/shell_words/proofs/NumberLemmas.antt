@@ -1,10 +1,13 @@
 -- What a text is read as, by what the library reads.
-use Rattle.std.proofs.Common.{◌≡◌, ◌∙◌, ℕ, zero, suc, ◌<◌, ◌≤◌, ◌^◌, true, false, List, [], ◌∷◌, length, Some, None, Result, Ok, Err, slice_index, sym, ap, refl, subst, arith, get_or}
-use Rattle.std.specs.Char.{is_ascii_digit}
+use Rattle.std.proofs.Common.{◌≡◌, ◌∙◌, ◌&&◌, ℕ, zero, suc, ◌+◌, ◌-◌, ◌*◌, ◌<◌, ◌≤◌, ◌^◌, true, false, List, [], ◌∷◌, length, drop, Option, Some, None, slice_index, sym, ap, refl, add-one, arith, get_or}
+use Rattle.std.specs.Prelude.{IfSome, IfNone}
+use Rattle.std.specs.Char.{digit_value, is_ascii_digit}
+use Rattle.std.specs.Option.{ForSome}
 use Rattle.std.specs.Str.{all_ascii_digits}
-use Rattle.std.specs.Str.Parse.{ParsesUnsigned, digits_value}
+use Rattle.std.specs.Str.Parse.{digits_value, digits_value_after}
 use Rattle.std.proofs.lemmas.Bool.{lt-ltb, le-leb, ne_eqb, ltb-true, leb-true, and_parts, and_from, false≢true, not-true, not_from_false, false_from_ne_true}
-use Rattle.std.proofs.lemmas.Str.Parse.{IsNumeralModel, numerals_by_value, tells_all_ascii_digits, parse_plain}
+use Rattle.std.proofs.lemmas.Str.{digit_value_digit}
+use Rattle.std.proofs.lemmas.Str.Parse.{IsNumeralModel, numerals_by_value, tells_all_ascii_digits}
 use Rattle.std.specs.Fmt.{decimal, digits}
 use Rattle.std.proofs.lemmas.Fmt.{decimal_nonempty, first_decimal, digits_decimal, digits_value-decimal}
 use Rattle.shell_words.specs.Number.{leading_zero, is_number, number_to}
@@ -47,42 +50,74 @@ number_to-some most text numeral =
     let e = is_number-yes most text numeral in
     rw e refl
 
--- a plus is no digit
-plus_first : (text : List ℕ) → slice_index text 0 ≡ 43 → all_ascii_digits text ≡ true → ⊥
-plus_first [] plus digits = absurd (omega (arith, plus))
-plus_first (c ∷ cs) plus digits =
-    let digit : is_ascii_digit c ≡ true = (and_parts _ _ digits).0 in
-    let wrong : false ≡ true = rw plus at digit in
-    false≢true wrong
-
 module _ (most : ℕ) (text : List ℕ) where
-  -- a plus writes no number
-  pub number_to-plus : slice_index text 0 ≡ 43 → number_to most text ≡ None
-  number_to-plus plus = number_to-none most text (λ numeral. plus_first text plus numeral.digits)
+  -- nothing writes no number
+  pub number_to-empty : length text ≡ 0 → number_to most text ≡ None
+  number_to-empty none = number_to-none most text (λ numeral. let some = numeral.some in absurd (omega (arith, none, some)))
 
   -- nor does a leading zero
   pub number_to-zero : leading_zero text ≡ true → number_to most text ≡ None
   number_to-zero padded = number_to-none most text (λ numeral. false≢true (sym numeral.plain ∙ padded))
 
-  module _ {E : Type 0} (r : Result ℕ E) (no_plus : slice_index text 0 ≡ 43 → ⊥) (plain : leading_zero text ≡ false) (parsed : ParsesUnsigned 64 10 text r) where
-    -- else what the library reads is the number, where it isn't too large
-    pub number_to-read : (n : ℕ) → r ≡ Ok n → n ≤ most → number_to most text ≡ Some n
-    number_to-read n is within =
-        let read = parse_plain own {E = E} 64 text (Ok n) (subst (ParsesUnsigned 64 10 text) is parsed) no_plus in
-        let same = read.1 in
-        number_to-some most text (record { some = read.0.1; digits = read.0.0; plain = plain; fits = omega (arith, same) }) ∙ sym (ap (λ v. Some v) same)
+  -- else digits write what they are read as, where that isn't too large
+  pub number_to-digits : (r : Option ℕ) → (length text ≡ 0 → ⊥) → leading_zero text ≡ false
+      → IfSome r (λ n. (all_ascii_digits text ≡ true) × (n ≡ digits_value 10 text)) → ForSome r (λ n. n ≤ most) → IfNone r (all_ascii_digits text ≡ true → most < digits_value 10 text) → r ≡ number_to most text
+  number_to-digits None some plain read bound none =
+      sym (number_to-none most text (λ numeral. let over = none numeral.digits in let fits = numeral.fits in absurd (omega (arith, over, fits))))
+  number_to-digits (Some n) some plain read bound none =
+      let within : n ≤ most = bound n refl in
+      sym (number_to-some most text (record { some = omega (arith, some); digits = read.0; plain = plain; fits = omega (arith, within, read.1) }) ∙ ap (λ v. Some v) (sym read.1))
 
-    pub number_to-large : (n : ℕ) → r ≡ Ok n → most < n → number_to most text ≡ None
-    number_to-large n is beyond =
-        let read = parse_plain own {E = E} 64 text (Ok n) (subst (ParsesUnsigned 64 10 text) is parsed) no_plus in
-        let same = read.1 in
-        number_to-none most text (λ numeral. let fits = numeral.fits in absurd (omega (arith, same, fits)))
+-- the bytes from an index on, one after the other
+left-more : (bytes : List ℕ) (i byte : ℕ) → i < length bytes → byte ≡ get_or bytes i 0 → drop i bytes ≡ byte ∷ drop (i + 1) bytes
+left-more [] i byte low is = absurd (omega (arith, low))
+left-more (b ∷ bs) zero byte low is = let same : byte ≡ b = is in ap (λ x. x ∷ bs) (sym same)
+left-more (b ∷ bs) (suc i) byte low is = rw add-one (rw add-one at (left-more bs i byte (omega (arith, low)) is))
 
-    -- and what it doesn't read is none
-    pub number_to-unread : (e : E) → r ≡ Err e → most < 2 ^ 64 → number_to most text ≡ None
-    number_to-unread e is small =
-        let read = parse_plain own {E = E} 64 text (Err e) (subst (ParsesUnsigned 64 10 text) is parsed) no_plus in
-        number_to-none most text (λ numeral. let fits = numeral.fits in read (numeral.digits, numeral.some, omega (arith, fits)))
+nothing-left : (i : ℕ) → ◌≡◌ {A = List ℕ} (drop i []) []
+nothing-left zero = refl
+nothing-left (suc i) = refl
+
+pub none-left : (bytes : List ℕ) (i : ℕ) → length bytes ≤ i → drop i bytes ≡ []
+none-left [] i past = nothing-left i
+none-left (b ∷ bs) zero past = absurd (omega (arith, past))
+none-left (b ∷ bs) (suc i) past = none-left bs i (omega (arith, past))
+
+-- what a number is at least, once digits follow
+after-more : (n : ℕ) (ds : List ℕ) → n ≤ digits_value_after 10 n ds
+after-more n [] = omega arith
+after-more n (d ∷ ds) = omega (arith, after-more (n * 10 + digit_value d) ds)
+
+digit-is : (byte : ℕ) → is_ascii_digit byte ≡ true → digit_value byte ≡ byte - 48
+digit-is byte digit =
+    let parts = and_parts _ _ digit in
+    omega (arith, digit_value_digit byte (leb-true _ _ parts.0, leb-true _ _ parts.1))
+
+module _ (bytes : List ℕ) (i byte : ℕ) (low : i < length bytes) (is : byte ≡ get_or bytes i 0) where
+  -- one digit more
+  pub digit-more : is_ascii_digit byte ≡ true → all_ascii_digits (drop i bytes) ≡ all_ascii_digits (drop (i + 1) bytes)
+  digit-more digit = ap all_ascii_digits (left-more bytes i byte low is) ∙ ap (λ b. b && all_ascii_digits (drop (i + 1) bytes)) digit
+
+  value-after : (n : ℕ) → digits_value_after 10 n (drop i bytes) ≡ digits_value_after 10 (n * 10 + digit_value byte) (drop (i + 1) bytes)
+  value-after n = ap (digits_value_after 10 n) (left-more bytes i byte low is)
+
+module _ (bytes : List ℕ) (i byte n : ℕ) where
+  pub value-more : (more : ℕ) → i < length bytes → byte ≡ get_or bytes i 0 → is_ascii_digit byte ≡ true → more ≡ n * 10 + (byte - 48) → digits_value_after 10 n (drop i bytes) ≡ digits_value_after 10 more (drop (i + 1) bytes)
+  value-more more low is digit grown =
+      let same : n * 10 + digit_value byte ≡ more = omega (arith, digit-is byte digit, grown) in
+      value-after bytes i byte low is n ∙ ap (λ m. digits_value_after 10 m (drop (i + 1) bytes)) same
+
+  -- a digit that makes it too large
+  pub past-most : (most : ℕ) → i < length bytes → byte ≡ get_or bytes i 0 → all_ascii_digits (drop i bytes) ≡ true → digits_value 10 bytes ≡ digits_value_after 10 n (drop i bytes)
+      → (is_ascii_digit byte ≡ true → most < n * 10 + (byte - 48)) → most < digits_value 10 bytes
+  past-most most low is digits value large =
+      let parts = and_parts _ _ (sym (ap all_ascii_digits (left-more bytes i byte low is)) ∙ digits) in
+      omega (arith, large parts.0, digit-is byte parts.0, value, value-after bytes i byte low is n, after-more (n * 10 + digit_value byte) (drop (i + 1) bytes))
+
+-- all are read
+pub all-read : (bytes : List ℕ) (i n : ℕ) → drop i bytes ≡ [] → all_ascii_digits bytes ≡ all_ascii_digits (drop i bytes) → digits_value 10 bytes ≡ digits_value_after 10 n (drop i bytes)
+    → (all_ascii_digits bytes ≡ true) × (n ≡ digits_value 10 bytes)
+all-read bytes i n left digits value = (digits ∙ ap all_ascii_digits left, sym (value ∙ ap (digits_value_after 10 n) left))
 
 -- what a number writes of itself has no leading zero
 decimal_plain : (n : ℕ) → n < 2 ^ 64 → leading_zero (decimal n) ≡ false

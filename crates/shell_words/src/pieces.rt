@@ -195,7 +195,7 @@ fn text(rest: Option<&str>) -> Result<Line<'_>, BadLine>
 {
     match rest {
         // The line is a cell, and so is each part of it.
-        Some(text) => Ok(Line::new(text).unwrap()),
+        Some(text) => Ok(Line::of_cell(text)),
         None => Err(BadLine::Command),
     }
 }

@@ -1,7 +1,8 @@
 -- How what a rooted heap keeps follows from one call to the next: what calls answer, what is released, which root is another, and how
 -- far the rows rise.
-use Rattle.std.proofs.Common.{◌≡◌, ℕ, ◌+◌, ◌^◌, ◌<◌, ◌≤◌, List, [], ◌∷◌, ◌++◌, length, false, eqb, Option, Some, None, IsSome, Result, Ok, Err, refl, sym, ap, subst, ◌∙◌, arith, length-append}
-use Rattle.std.specs.Prelude.{sum_by, OnErr}
+use Rattle.std.proofs.Common.{◌≡◌, ℕ, ◌+◌, ◌^◌, ◌<◌, ◌≤◌, List, [], ◌∷◌, ◌++◌, length, Bool, true, false, eqb, Option, Some, None, IsSome, Result, Ok, Err, refl, sym, ap, subst, ◌∙◌, arith, length-append}
+use Rattle.std.specs.Prelude.{◌↔◌, IsTrue, sum_by, OnErr}
+use Rattle.std.proofs.lemmas.Bool.{eq-eqb, ne_eqb, false≢true}
 use Rattle.std.proofs.lemmas.Bool.Decides.{nat_tests}
 use Rattle.elem_core.specs.declared.codes.TheConstants.{CODE_BITS}
 use Rattle.node_heap.specs.Links.{count}
@@ -401,6 +402,15 @@ history-short is = omega (arith, history-length is, is.vector.shape.short)
 
 pub lines-short : {h : Heap Bytes} {bits l : ℕ} {xs : List Bytes} → AreLinesIn h bits l xs → length xs ≤ most
 lines-short are = omega (arith, lines-length are, are.vector.shape.short)
+
+-- what a vector tells of a history's length
+pub count-told : {h : Heap Bytes} {bits l r m : ℕ} {ss : List State} {b : Bool} → IsHistoryIn h bits l ss → r ≡ l → (IsTrue b ↔ (length (elements h r) ≡ m)) → IsTrue b ↔ (length ss ≡ m)
+count-told {h} {m = m} {b = b} is same told = subst (λ n. IsTrue b ↔ (n ≡ m)) (ap (λ l. length (elements h l)) same ∙ history-length is) told
+
+-- the answer of a test that holds just at the most
+pub most-told : (b : Bool) (n : ℕ) → (IsTrue b ↔ (n ≡ most)) → b ≡ eqb n most
+most-told true n told = sym (eq-eqb n most (told.0 refl))
+most-told false n told = sym (ne_eqb n most (λ e. false≢true (told.1 e)))
 
 -- outside a batch, undo is full exactly where it has the most states
 pub full-outside : (W : Workspace) (n : ℕ) → in_batch W ≡ false → n ≡ length W.undo → eqb n most ≡ is_full W

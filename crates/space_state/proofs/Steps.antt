@@ -1,6 +1,6 @@
 -- What the plain answer is to steps through histories, to batches, versions and stars, and how refusals end.
 use Rattle.std.proofs.Common.{◌≡◌, refl, sym, ◌∙◌, ap, subst, ℕ, zero, suc, ◌+◌, ◌-◌, ◌<◌, ◌≤◌, List, [], ◌∷◌, ◌++◌, length, take, arith, Bool, true, false, Option, Some, None, is_some, IsSome, Result, Ok, Err, slice_get, leb, IsTrue, IsOk, MatchOption}
-use Rattle.std.specs.Prelude.{IsErrAnd, IsSomeAnd, MatchBool, MatchResult}
+use Rattle.std.specs.Prelude.{◌↔◌, IsErrAnd, IsSomeAnd, MatchBool, MatchResult}
 use Rattle.std.proofs.lemmas.Bool.{le-leb}
 use Rattle.std.specs.FinMap as map
 use Rattle.node_heap.specs.Links.{count}
@@ -223,13 +223,29 @@ base-none {batch} is told = subst (λ (o : Option ℕ). MatchOption o (batch ≡
 
 -- ## Histories
 
--- a length that a vector told
-pub length-told : {h : Heap Bytes} {bits l r n : ℕ} {ss : List State} → IsHistoryIn h bits l ss → r ≡ l → n ≡ length (elements h r) → n ≡ length ss
-length-told {h} is same told = told ∙ ap (λ l. length (elements h l)) same ∙ history-length is
-
 -- where that isn't the most, there is room for one more
 pub length-below : {h : Heap Bytes} {bits l n : ℕ} {ss : List State} → IsHistoryIn h bits l ss → n ≡ length ss → (n ≡ most → ⊥) → length ss < most
 length-below is same apart = grind (arith, history-short is, same, apart)
+
+-- a test that holds doesn't fail
+pub not-yes : {b : Bool} → IsTrue b → b ≡ false → ⊥
+not-yes holds fails = absurd cc
+
+-- where a history hasn't the most, there is room for one more
+pub has-below : {h : Heap Bytes} {bits l : ℕ} {ss : List State} {b : Bool} → IsHistoryIn h bits l ss → (IsTrue b ↔ (length ss ≡ most)) → b ≡ false → length ss < most
+has-below is told fails = length-below is refl (λ full. not-yes (told.1 full) fails)
+
+-- a history that isn't empty
+pub has-some : {h : Heap Bytes} {bits l r : ℕ} {ss : List State} {b : Bool} → IsHistoryIn h bits l ss → r ≡ l → (IsTrue b ↔ (elements h r ≡ [])) → b ≡ false → 0 < length ss
+has-some {h} {r = r} is same told fails = more (elements h r) (λ none. not-yes (told.1 none) fails) (ap (λ l. length (elements h l)) same ∙ history-length is)
+  where
+    more : {n : ℕ} (ks : List ℕ) → (ks ≡ [] → ⊥) → length ks ≡ n → 0 < n
+    more [] other many = absurd (other refl)
+    more (k ∷ ks) other many = omega (arith, many)
+
+-- and one that is
+pub has-none : {h : Heap Bytes} {bits l r : ℕ} {ss : List State} → IsHistoryIn h bits l ss → r ≡ l → elements h r ≡ [] → length ss ≡ 0
+has-none {h} is same none = sym (history-length is) ∙ sym (ap (λ l. length (elements h l)) same) ∙ ap length none
 
 -- ## What is there
 

@@ -9,7 +9,7 @@ ghost use Rattle.space_state.specs.Turns.{EndsOnRows};
 ghost use Rattle.space_state.specs.View.{room_of};
 
 use crate::roots::{Batch, RootedHeap};
-use crate::turning::{MOST_ITEMS, TURN_NODES};
+use crate::turning::TURN_NODES;
 use plain_space::Refusal;
 use rrb_core::FlexRef;
 
@@ -40,7 +40,7 @@ impl RootedHeap {
         let Some(base) = self.roots.batch.base() else {
             return Err(Refusal::Batch);
         };
-        if FlexRef::at(self.roots.undo).len(&self.heap) == MOST_ITEMS {
+        if FlexRef::at(self.roots.undo).is_longest(&self.heap) {
             return Err(Refusal::Limit);
         }
         self.heap.reserve(0, TURN_NODES)?;

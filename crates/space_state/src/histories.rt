@@ -12,7 +12,6 @@ ghost use Rattle.space_state.specs.Needed.{HoardsNone};
 ghost use Rattle.space_state.specs.Stepping.{HasStepRoom, IsStepRefused};
 
 use crate::roots::RootedHeap;
-use crate::turning::MOST_ITEMS;
 use node_heap::Link;
 use plain_space::Refusal;
 use rrb_core::{Flex, FlexRef};
@@ -74,10 +73,10 @@ impl RootedHeap {
         if self.in_batch() {
             return Err(Refusal::Batch);
         }
-        if from.len(&self.heap) == 0 {
+        if from.is_empty(&self.heap) {
             return Err(Refusal::Empty);
         }
-        if to.len(&self.heap) == MOST_ITEMS {
+        if to.is_longest(&self.heap) {
             return Err(Refusal::Limit);
         }
         self.heap.reserve(0, STEP_NODES)?;

@@ -12,7 +12,7 @@ ghost use Rattle.space_state.specs.Needed.{HoardsNone};
 ghost use Rattle.space_state.specs.Turns.{RoomIsRefused, IsReadyInPlace, EndsOnRows};
 
 use crate::roots::RootedHeap;
-use crate::turning::{MOST_ITEMS, TURN_NODES};
+use crate::turning::TURN_NODES;
 use elem_core::{Line, Name, Text, text_of};
 use plain_space::Refusal;
 use rrb_core::Flex;
@@ -70,7 +70,7 @@ impl RootedHeap {
         let Some(lines) = found.lines else {
             return Err(Refusal::Absent);
         };
-        if lines.len(&self.heap) == MOST_ITEMS {
+        if lines.is_longest(&self.heap) {
             return Err(Refusal::Limit);
         }
         let text = self.ready(line, found.alike)?;
@@ -90,7 +90,7 @@ impl RootedHeap {
         let Some(lines) = found.lines else {
             return Err(Refusal::Absent);
         };
-        if index >= lines.len(&self.heap) {
+        if lines.is_past(&self.heap, index) {
             return Err(Refusal::Range);
         }
         let text = self.ready(line, found.alike)?;

@@ -44,7 +44,7 @@ impl RootedHeap {
         requires { (W : Workspace) × Keeps self.now [] W }
         ensures { (W : Workspace) → Keeps self.now [] W → result ≡ is_full W }
     {
-        !self.in_batch() && FlexRef::at(self.roots.undo).len(&self.heap) == MOST_ITEMS
+        !self.in_batch() && FlexRef::at(self.roots.undo).is_longest(&self.heap)
     }
 
     /// Makes room for an edit: for two cells, for `EDIT_NODES` nodes, and for one more for each of so many names with the

@@ -100,7 +100,8 @@ pub fn emptied(heap: &mut Heap<Text>, history: Flex) -> Flex
     ensures history { (bits : ℕ) → IsHistoryIn heap.new bits result [] }
     ensures same { (bits : ℕ) → IsHistoryIn heap.old bits history [] → (result ≡ history) × (heap.new ≡ heap.old) }
 {
-    if history.view().len(heap) == 0 {
+    heap.is_graph();
+    if history.view().is_empty(heap) {
         return history;
     }
     let empty = empty_history(heap);

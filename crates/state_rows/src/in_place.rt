@@ -16,7 +16,7 @@ ghost use Rattle.plain_space.specs.Cost.{alike_buffers};
 ghost use Rattle.state_rows.specs.InHeap.{IsTextIn, AreLinesIn, IsStateIn};
 ghost use Rattle.state_rows.specs.InPlace.{CopiesOfPath, MakesAtMost, OwnsLines, lines_path};
 
-use edit_trie::{insert_at, own_value_at};
+use edit_trie::{insert_at, own_value_there};
 use edit_vec::{push_at, set_at};
 use elem_core::{Name, Text};
 use node_heap::{Heap, Link};
@@ -142,9 +142,5 @@ fn own_lines(heap: &mut Heap<Text>, bits: u32, state: Link, name: Name<'_>) -> L
     ensures { (s : State) (xs : List Bytes) → IsStateIn heap.old bits state s → lines_of s (name_bytes name.entry) ≡ Some xs → OwnsLines heap.old heap.new bits state s (name_bytes name.entry) xs result }
 {
     heap.is_graph();
-    let Ok(found) = own_value_at(heap, state, 0, bits, &name) else {
-        unreachable!()
-    };
-    let Some(pair) = found else { unreachable!() };
-    pair
+    own_value_there(heap, state, 0, bits, &name)
 }

@@ -15,7 +15,7 @@ returns-clause-answered g c =
 
 pub returns-clause-entries : goal.returns-clause-entries
 returns-clause-entries g c = λ bits.
-    canon-empty g.T.Ord.cmp (code_by g.T.Element.code_of bits) (form_at c.make.new.heap) c.make.result c.empty.result.entries c.empty.result.nodes c.empty.result.links.items c.make.ensures.row c.empty.ensures.places
+    canon-empty g.T.Ord.cmp (code_by g.T.Element.code_of bits) (form_at c.make.new.heap) c.make.result c.empty.result.entries c.empty.result.nodes c.empty.result.links c.make.ensures.row c.empty.ensures.places
 
 pub returns-clause-tries : goal.returns-clause-tries
 returns-clause-tries g c = KeepsTries-Extends c.args.heap.now c.make.new.heap (Extends-trans (Extends-Unchanged c.in_ok-reserve.ensures.rest) c.make.ensures.builds.extends)

@@ -62,7 +62,7 @@ make-requires-clause-held g c = λ k.
 pub make-requires-clause-few : goal.make-requires-clause-few
 make-requires-clause-few g c =
     let did = went g (goal.at.make-requires-clause-few g c).After-place_without-left c.requires.trie.0 c.requires.trie.1 in
-    let short = sets-short c.edited.result.entries c.edited.result.nodes c.edited.result.links.items c.edited.ensures.sets in
+    let short = sets-short c.edited.new.row.entries c.edited.new.row.nodes c.edited.new.row.links c.edited.ensures.sets in
     omega (arith, c.requires.few, did.total, place-links c.place_without-left.result, c.edited.ensures.builds.total, short)
 
 pub returns-clause-builds : goal.returns-clause-builds
@@ -84,12 +84,12 @@ returns-clause-entries g c = λ E canon.
     let below = canon-below cmp code (form_at c.args.heap.now) c.args.root c.masked-code.result E canon in
     let trie = trie-kept cmp code (form_at c.args.heap.now) first (forms-kept c.args.heap.now c.place_without-left.new.heap did.extends) LEVELS 0 c.args.root E below.trie in
     let read = c.digit.ensures.read in
-    let row = c.edited.result in
+    let row = c.edited.new.row in
     let stands = place-kept cmp code first last later DEEPEST 1 c.place_without-left.result (part cmp code 0 (digit_at c.masked-code.result 0) (others cmp key E)) (c.place_without-left.ensures.place E DEEPEST below) in
-    let places = left-places cmp code equal_codes first last 0 DEEPEST c.args.root c.masked-code.result E key row.entries row.nodes row.links.items c.place_without-left.result later is_code trie
-    (sym (ap (place_of row.entries row.nodes row.links.items) read) ∙ c.edited.ensures.here) stands
+    let places = left-places cmp code equal_codes first last 0 DEEPEST c.args.root c.masked-code.result E key row.entries row.nodes row.links c.place_without-left.result later is_code trie
+    (sym (ap (place_of row.entries row.nodes row.links) read) ∙ c.edited.ensures.here) stands
     (λ depth entries nodes links was p small other. c.edited.ensures.others depth entries nodes links was p small (λ is. other (is ∙ read))) in
-    record { trie = row-trie cmp code last DEEPEST 0 c.make.result row.entries row.nodes row.links.items (others cmp key E) c.make.ensures.row places; distinct = others-distinct cmp code key E canon.distinct }
+    record { trie = row-trie cmp code last DEEPEST 0 c.make.result row.entries row.nodes row.links (others cmp key E) c.make.ensures.row places; distinct = others-distinct cmp code key E canon.distinct }
 
 pub returns-clause-tries : goal.returns-clause-tries
 returns-clause-tries g c =
@@ -109,9 +109,9 @@ returns-clause-shares g c = λ E canon.
     let below = canon-below cmp code F c.args.root c.masked-code.result E canon in
     let old = row-at cmp code F DEEPEST 0 c.args.root E below.trie in
     let read = c.digit.ensures.read in
-    let row = c.edited.result in
-    let here = sym (ap (place_of row.entries row.nodes row.links.items) read) ∙ c.edited.ensures.here in
+    let row = c.edited.new.row in
+    let here = sym (ap (place_of row.entries row.nodes row.links) read) ∙ c.edited.ensures.here in
     subst (λ n. SharesBeside F G n LEVELS 0 c.args.root c.make.result) is_code
-    (shares-row F G c.masked-code.result DEEPEST 0 c.args.root c.make.result old.0 old.1 old.2 row.entries row.nodes row.links.items old.3 c.make.ensures.row
+    (shares-row F G c.masked-code.result DEEPEST 0 c.args.root c.make.result old.0 old.1 old.2 row.entries row.nodes row.links old.3 c.make.ensures.row
     (λ q low other. c.edited.ensures.others 0 old.0 old.1 old.2 (row-kept cmp code F M first c.args.root 0 old.0 old.1 old.2 old.3) q low (λ same. other (same ∙ read)))
     (λ j k was is. shares-kept F F M G (record { kept = λ l f is. is }) later c.masked-code.result DEEPEST 1 j k (c.place_without-left.ensures.shares E DEEPEST old.0 old.1 old.2 j k below old.3 was (sym here ∙ is))))

@@ -70,7 +70,7 @@ returns-then-position-other-clause-trie g t c = λ code j k is_j is_k code_j cod
     let below = trie-kept g.T.Ord.cmp code (form_at c.node_of_two-node.new.heap) (form_at c.make.new.heap) keeps rest (c.args.depth + 1) c.node_of_two-node.result both
     (c.node_of_two-node.ensures.trie code j k is_j is_k code_j code_k rest (omega (arith, levels, more))) in
     subst (λ n. IsTrie g.T.Ord.cmp code (form_at c.make.new.heap) n c.args.depth c.make.result both) (sym more)
-    (two-below g.T.Ord.cmp code (form_at c.make.new.heap) rest c.args.depth c.make.result c.lone_row.result.entries c.lone_row.result.nodes c.lone_row.result.links.items (entry j c.args.first) (entry k c.args.second) c.make.ensures.row
+    (two-below g.T.Ord.cmp code (form_at c.make.new.heap) rest c.args.depth c.make.result c.lone_row.result.entries c.lone_row.result.nodes c.lone_row.result.links (entry j c.args.first) (entry k c.args.second) c.make.ensures.row
     c.digit-position.result c.node_of_two-node.result first_digit second_digit c.lone_row.ensures.here c.lone_row.ensures.others below)
 
 pub returns-else-position-other-clause-builds : goal.returns-else-position-other-clause-builds
@@ -94,7 +94,7 @@ returns-else-position-other-clause-trie g t c = λ code j k is_j is_k code_j cod
     let keeps = forms-kept c.args.heap.now c.make-else-position-other.new.heap c.make-else-position-other.ensures.builds.extends in
     let row = c.put.new.self in
     subst (λ n. IsTrie g.T.Ord.cmp code G n c.args.depth c.make-else-position-other.result both) (sym more)
-    (two-apart g.T.Ord.cmp code G rest c.args.depth c.make-else-position-other.result row.entries row.nodes row.links.items (entry j c.args.first) (entry k c.args.second) c.make-else-position-other.ensures.row c.digit-position.result
+    (two-apart g.T.Ord.cmp code G rest c.args.depth c.make-else-position-other.result row.entries row.nodes row.links (entry j c.args.first) (entry k c.args.second) c.make-else-position-other.ensures.row c.digit-position.result
     c.digit-other.result first_digit second_digit c.if-position-other.false (c.put.ensures.others c.digit-position.result c.digit-position.ensures.small c.if-position-other.false ∙ c.lone_row-row.ensures.here) c.put.ensures.here
     (λ q low not_first not_second. c.put.ensures.others q low not_second ∙ c.lone_row-row.ensures.others q low not_first) (key-kept F G keeps c.args.first j is_j) (key-kept F G keeps c.args.second k is_k))
 
@@ -108,7 +108,7 @@ returns-then-position-other-clause-below g t c =
     let mid = c.node_of_two-node.new.heap in
     let new = c.make.new.heap in
     let built = c.node_of_two-node.ensures.builds.2 in
-    let links = c.lone_row.result.links.items in
+    let links = c.lone_row.result.links in
     let lone : (k : ℕ) → 0 < count k links → k ≡ c.node_of_two-node.result = λ k some. in-one k c.node_of_two-node.result (omega (arith, some, c.lone_row.ensures.links k)) in
     row-reaches old mid new (λ m. Reaches (links_at old) c.args.first m ⊎ Reaches (links_at old) c.args.second m) c.make.result links built.extends c.make.ensures.builds.extends c.make.ensures.fresh
     (sym (links-form new c.make.result) ∙ ap links_of c.make.ensures.row.row)
@@ -122,7 +122,7 @@ pub returns-else-position-other-clause-below : goal.returns-else-position-other-
 returns-else-position-other-clause-below g t c =
     let old = c.args.heap.now in
     let new = c.make-else-position-other.new.heap in
-    let links = c.put.new.self.links.items in
+    let links = c.put.new.self.links in
     let both : (k : ℕ) → 0 < count k links → (k ≡ c.args.first) ⊎ (k ≡ c.args.second) = λ k some.
     in-two k c.args.first c.args.second (omega (arith, some, c.put.ensures.links k, c.lone_row-row.ensures.links k, count-cons k c.args.first (c.args.second ∷ []), count-one k c.args.first)) in
     let there : (k : ℕ) → (k ≡ c.args.first) ⊎ (k ≡ c.args.second) → IsSome (row_at old k) = λ k is. elim is as (λ _. IsSome (row_at old k)) [

@@ -103,7 +103,7 @@ close-requires-clause-held g t c = λ k.
 pub close-requires-clause-few : goal.close-requires-clause-few
 close-requires-clause-few g t c =
     let did = went g t (goal.at.close-requires-clause-few g t c).In-Node (omega (arith, c.if-depth-eq-DEEPEST.false, c.requires.depth)) c.place_without-left.new.heap c.place_without-left.result c.place_without-left.ensures.builds c.requires.trie.0 c.requires.trie.1 c.requires.trie.2 in
-    let short = sets-short c.edited.result.entries c.edited.result.nodes c.edited.result.links.items c.edited.ensures.sets in
+    let short = sets-short c.edited.new.row.entries c.edited.new.row.nodes c.edited.new.row.links c.edited.ensures.sets in
     omega (arith, c.requires.few, did.2.total, place-links c.place_without-left.result, c.edited.ensures.builds.total, short)
 
 pub chain_place_without-requires-clause-chain : goal.chain_place_without-requires-clause-chain
@@ -130,12 +130,12 @@ returns-else-depth-eq-DEEPEST-clause-place g t c = λ E left below.
     let keeps = forms-kept c.place_without-left.new.heap c.close.new.heap (Extends-trans c.edited.ensures.builds.extends c.close.ensures.builds.extends) in
     let trie = trie-kept cmp code (form_at c.args.heap.now) first (forms-kept c.args.heap.now c.place_without-left.new.heap (c.place_without-left.ensures.builds P d.m d.below).extends) (suc d.m) (c.args.depth + 1) c.in-Node.child P d.below.trie in
     let next = c.digit-in-Node.ensures.read in
-    let row = c.edited.result in
+    let row = c.edited.new.row in
     let stands = place-kept cmp code first last keeps d.m (c.args.depth + 1 + 1) c.place_without-left.result (part cmp code (c.args.depth + 1) (digit_at c.args.code (c.args.depth + 1)) (others cmp key P)) (c.place_without-left.ensures.place P d.m d.below) in
-    let places = left-places cmp code equal_codes first last (c.args.depth + 1) d.m c.in-Node.child c.args.code P key row.entries row.nodes row.links.items c.place_without-left.result keeps c.requires.code trie
-    (sym (ap (place_of row.entries row.nodes row.links.items) next) ∙ c.edited.ensures.here) stands
+    let places = left-places cmp code equal_codes first last (c.args.depth + 1) d.m c.in-Node.child c.args.code P key row.entries row.nodes row.links c.place_without-left.result keeps c.requires.code trie
+    (sym (ap (place_of row.entries row.nodes row.links) next) ∙ c.edited.ensures.here) stands
     (λ depth entries nodes links was p small other. c.edited.ensures.others depth entries nodes links was p small (λ is. other (is ∙ next))) in
-    let whole = left-stands cmp code equal_codes c.close.new.heap (c.args.depth + 1) d.m P key row.entries row.nodes row.links.items c.close.result d.below.distinct d.two c.edited.ensures.sets places c.close.ensures.place in
+    let whole = left-stands cmp code equal_codes c.close.new.heap (c.args.depth + 1) d.m P key row.entries row.nodes row.links c.close.result d.below.distinct d.two c.edited.ensures.sets places c.close.ensures.place in
     subst (λ m. IsPlace last (λ k Q. IsTrie cmp code last m (c.args.depth + 1) k Q) c.close.result (part cmp code c.args.depth (digit_at c.args.code c.args.depth) (others cmp key E))) (sym d.is)
     (subst (IsPlace last (λ k Q. IsTrie cmp code last (suc d.m) (c.args.depth + 1) k Q) c.close.result) (sym (part-others cmp code c.args.depth (digit_at c.args.code c.args.depth) key E)) whole)
 
@@ -194,12 +194,12 @@ returns-else-depth-eq-DEEPEST-clause-shares g t c = λ E left e n ls j k below r
     let later = forms-kept c.place_without-left.new.heap c.close.new.heap (Extends-trans c.edited.ensures.builds.extends c.close.ensures.builds.extends) in
     let old = row-at cmp code F d.m (c.args.depth + 1) c.in-Node.child P d.below.trie in
     let next = c.digit-in-Node.ensures.read in
-    let new = c.edited.result in
-    let here = sym (ap (place_of new.entries new.nodes new.links.items) next) ∙ c.edited.ensures.here in
-    let closed = closes-row c.close.new.heap new.entries new.nodes new.links.items (c.args.depth + 1) c.close.result k c.close.ensures.place is in
+    let new = c.edited.new.row in
+    let here = sym (ap (place_of new.entries new.nodes new.links) next) ∙ c.edited.ensures.here in
+    let closed = closes-row c.close.new.heap new.entries new.nodes new.links (c.args.depth + 1) c.close.result k c.close.ensures.place is in
     let child = same-node c.in-Node.child j (c.in-Node.ensures.place c.args.depth e n ls row ∙ ap (place_of e n ls) c.digit.ensures.read ∙ was) in
     subst (λ i. SharesBeside F G c.args.code left (c.args.depth + 1) i k) child
     (subst (λ m. SharesBeside F G c.args.code m (c.args.depth + 1) c.in-Node.child k) (sym d.is)
-    (shares-row F G c.args.code d.m (c.args.depth + 1) c.in-Node.child k old.0 old.1 old.2 new.entries new.nodes new.links.items old.3 closed
+    (shares-row F G c.args.code d.m (c.args.depth + 1) c.in-Node.child k old.0 old.1 old.2 new.entries new.nodes new.links old.3 closed
     (λ q low other. c.edited.ensures.others (c.args.depth + 1) old.0 old.1 old.2 (row-kept cmp code F M first c.in-Node.child (c.args.depth + 1) old.0 old.1 old.2 old.3) q low (λ same. other (same ∙ next)))
     (λ i m at there. shares-kept F F M G (record { kept = λ l f is. is }) later c.args.code d.m (c.args.depth + 1 + 1) i m (c.place_without-left.ensures.shares P d.m old.0 old.1 old.2 i m d.below old.3 at (sym here ∙ there)))))

@@ -163,7 +163,7 @@ make-requires-clause-held g t c = λ k.
 pub make-requires-clause-few : goal.make-requires-clause-few
 make-requires-clause-few g t c =
     let did = grown g t (goal.at.make-requires-clause-few g t c).Joined-place_at in
-    let few = sets-short c.edited.result.entries c.edited.result.nodes c.edited.result.links.items c.edited.ensures.sets in
+    let few = sets-short c.edited.new.row.entries c.edited.new.row.nodes c.edited.new.row.links c.edited.ensures.sets in
     omega (arith, did.3.total, c.edited.ensures.builds.total, few, c.requires.few)
 
 pub returns-clause-builds : goal.returns-clause-builds
@@ -186,10 +186,10 @@ returns-clause-trie g t c = λ E left k below keyed.
     let keeps = forms-kept c.match-place_at.heap c.make.new.heap (Extends-trans c.edited.ensures.builds.extends c.make.ensures.builds.extends) in
     let given = same-key F c.args.entry c.args.entry c.requires.key.0 k refl c.requires.key.1 keyed in
     let read = c.digit-position.ensures.read in
-    let row = c.edited.result in
-    let here = sym (ap (place_of row.entries row.nodes row.links.items) read) ∙ c.edited.ensures.here in
+    let row = c.edited.new.row in
+    let here = sym (ap (place_of row.entries row.nodes row.links) read) ∙ c.edited.ensures.here in
     subst (λ n. IsTrie g.T.Ord.cmp code G n c.args.depth c.make.result (put g.T.Ord.cmp E (entry k c.args.entry))) (sym more.1)
-    (with-trie g.T.Ord.cmp code M G keeps more.0 c.args.depth c.args.link c.args.code c.make.result row.entries row.nodes row.links.items E k c.args.entry c.match-place_at.place trie
+    (with-trie g.T.Ord.cmp code M G keeps more.0 c.args.depth c.args.link c.args.code c.make.result row.entries row.nodes row.links E k c.args.entry c.match-place_at.place trie
     (λ i j e. ap (λ n. masked_code n c.args.bits) (g.met.T.Element.equal_codes i j e)) (c.requires.key.2 ∙ ap code given) c.make.ensures.row here
     (λ d e n ls was q low other. c.edited.ensures.others d e n ls was q low (λ same. other (same ∙ read))) (at.stands E more.0 k more.2 keyed))
 
@@ -210,9 +210,9 @@ returns-clause-shares g t c = λ E left below.
     let later = forms-kept c.match-place_at.heap c.make.new.heap (Extends-trans c.edited.ensures.builds.extends c.make.ensures.builds.extends) in
     let old = row-at g.T.Ord.cmp code F more.0 c.args.depth c.args.link E more.2.trie in
     let read = c.digit-position.ensures.read in
-    let row = c.edited.result in
-    let here = sym (ap (place_of row.entries row.nodes row.links.items) read) ∙ c.edited.ensures.here in
+    let row = c.edited.new.row in
+    let here = sym (ap (place_of row.entries row.nodes row.links) read) ∙ c.edited.ensures.here in
     subst (λ n. SharesBeside F G c.args.code n c.args.depth c.args.link c.make.result) (sym more.1)
-    (shares-row F G c.args.code more.0 c.args.depth c.args.link c.make.result old.0 old.1 old.2 row.entries row.nodes row.links.items old.3 c.make.ensures.row
+    (shares-row F G c.args.code more.0 c.args.depth c.args.link c.make.result old.0 old.1 old.2 row.entries row.nodes row.links old.3 c.make.ensures.row
     (λ q low other. c.edited.ensures.others c.args.depth old.0 old.1 old.2 (row-kept g.T.Ord.cmp code F M first c.args.link c.args.depth old.0 old.1 old.2 old.3) q low (λ same. other (same ∙ read)))
     (λ j k was is. shares-kept F F M G (record { kept = λ l f is. is }) later c.args.code more.0 (c.args.depth + 1) j k (at.shares E more.0 old.0 old.1 old.2 j k more.2 old.3 was (sym here ∙ is))))

@@ -26,7 +26,7 @@ loop-position-preserved c =
     let row = c.loop-position.row in
     let within : n < length places = omega (arith, c.loop-position-test.true, c.requires) in
     let at : c.index-places-position.result ≡ get_or places n Empty = get_or_read places n c.index-places-position.result within c.index-places-position.is Empty in
-    filled-more places n row.entries row.nodes row.links.items c.loop-position.invariant within c.put.new.self.entries c.put.new.self.nodes c.put.new.self.links.items c.loop-position-test.true
+    filled-more places n row.entries row.nodes row.links c.loop-position.invariant within c.put.new.self.entries c.put.new.self.nodes c.put.new.self.links c.loop-position-test.true
     c.put.ensures.sets (c.put.ensures.here ∙ at) c.put.ensures.others (λ k. omega (arith, c.put.ensures.links k, ap (λ x. count k (links_at_place x)) at)) (omega (arith, c.put.ensures.number, ap (λ x. length (links_at_place x)) at))
 
 pub returns : goal.returns

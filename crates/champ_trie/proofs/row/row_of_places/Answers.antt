@@ -9,7 +9,7 @@ pub returns-clause-row : goal.returns-clause-row
 returns-clause-row g c = record {
   entries = c.filled.result.entries;
   nodes = c.filled.result.nodes;
-  links = c.filled.result.links.items;
+  links = c.filled.result.links;
   row = c.make.ensures.row;
   at = c.filled.ensures.places;
 }

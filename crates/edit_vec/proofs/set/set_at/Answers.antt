@@ -7,6 +7,7 @@ use Rattle.rrb_core.specs.Vector.{elements, height_at}
 use Rattle.rrb_core.proofs.RowLists.{at-place}
 use Rattle.rrb_core.proofs.Stays.{well-live}
 use Rattle.edit_vec.proofs.OwnLemmas.{owns-child, gains-child, child-now}
+use Rattle.edit_vec.proofs.PopSteps.{within}
 use Rattle.edit_vec.proofs.TopLemmas.{good-node, owned-place, owned-same, after-room, row-owned, write-place, changes-place, held-room, apart-room, child-room, makes-came}
 use Rattle.edit_vec.proofs.SetTop.{sets-element}
 use Rattle.edit_vec.proofs.set.set_at.Goals as goal
@@ -47,7 +48,7 @@ set_in-given-requires-clause-inside g c =
     let there = child-room parent child room.rest c.requires.good in
     let own = owns-child room.rest.graph (rw (room.rest.rows parent) c.requires.child) did.same did.row did.sole did.fresh did.parent_head did.parent_links did.stays did.others did.owners did.changes did.makes in
     let height = c.height_of-height.ensures ∙ ap (height_at c.reserve.new.self) (at ∙ sym (owned-same room.rest (by_place parent child))) in
-    let inside : c.args.index < length (elements c.args.heap.now (child_at c.args.heap.now parent child)) = omega (arith, c.if-index-len.false, c.len.ensures.value, ap (λ l. length (elements c.args.heap.now l)) (c.at.ensures ∙ at)) in
+    let inside : c.args.index < length (elements c.args.heap.now (child_at c.args.heap.now parent child)) = within (ap (λ l. length (elements c.args.heap.now l)) (c.at.ensures ∙ at)) c.is_past.ensures c.if-is_past.false in
     rw (row-owned (after-room room.rest (owned-place own)) c.requires.good (height ∙ there.1)).items inside
 
 pub returns-clause-sets : goal.returns-clause-sets
@@ -60,7 +61,7 @@ returns-clause-sets g c =
     let there = child-room parent child room.rest c.requires.good in
     let own = owns-child room.rest.graph (rw (room.rest.rows parent) c.requires.child) did.same did.row did.sole did.fresh did.parent_head did.parent_links did.stays did.others did.owners did.changes did.makes in
     let height = c.height_of-height.ensures ∙ ap (height_at c.reserve.new.self) (at ∙ sym (owned-same room.rest (by_place parent child))) in
-    let inside : c.args.index < length (elements c.args.heap.now (child_at c.args.heap.now parent child)) = omega (arith, c.if-index-len.false, c.len.ensures.value, ap (λ l. length (elements c.args.heap.now l)) (c.at.ensures ∙ at)) in
+    let inside : c.args.index < length (elements c.args.heap.now (child_at c.args.heap.now parent child)) = within (ap (λ l. length (elements c.args.heap.now l)) (c.at.ensures ∙ at)) c.is_past.ensures c.if-is_past.false in
     let held = held-room c.args.element room.rest c.requires.held in
     let apart = apart-room c.args.element parent room.rest c.requires.apart in
     let set = c.set_in-given.ensures in

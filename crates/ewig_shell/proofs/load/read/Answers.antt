@@ -1,6 +1,5 @@
-use Rattle.std.proofs.Common.{◌∙◌, sym, subst, Ok, List, ℕ}
+use Rattle.std.proofs.Common.{◌∙◌, sym, Ok}
 use Rattle.elem_core.specs.Shown.{name_bytes}
-use Rattle.ewig_shell.specs.Loading.{FillsIn}
 use Rattle.ewig_shell.proofs.StepLemmas.{fault-is}
 use Rattle.ewig_shell.proofs.LoadLemmas.{read-takes, ObeysOn-full, Takes-given, Takes-fault, fetched_by}
 use Rattle.ewig_shell.proofs.load.read.Goals as goal
@@ -18,4 +17,4 @@ returns g c =
     Takes-given (read-takes c.full.ensures.0 (name_bytes c.args.buffer) (name_bytes c.args.file) c.full.ensures.1 (sym c.full.ensures.2 ∙ c.if-full.false)) c.fetch.ensures.same c.fetch.ensures.calls
     c.fetch.new.into.items c.fill.result (λ failed. let both = sym c.in_ok-fetch.was ∙ failed in cc) c.in_ok-fetch.ensures.within
     (fetched_by _ c.as_str.result.now (name_bytes c.args.file) c.fetch.result (Ok tt) c.fetch.new.into.items c.as_str.ensures.shown c.in_ok-fetch.was c.fetch.ensures.told)
-    (subst (λ (w : List ℕ). FillsIn (name_bytes c.args.buffer) w c.args.space.now c.fill.result c.fill.new.space) c.deref.ensures.value c.fill.ensures c.full.ensures.0 c.full.ensures.1)
+    (c.fill.ensures c.full.ensures.0 c.full.ensures.1)

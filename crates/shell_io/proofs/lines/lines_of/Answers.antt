@@ -10,7 +10,7 @@ loop-rest-preserved c =
     let first = c.first_line.result.0.now in
     let others = c.first_line.result.1.now in
     let items : c.push.new.self.items ≡ lines ++ first ∷ [] =
-    c.in_ok-push.ensures.items ∙ ap (λ line. lines ++ line ∷ []) (c.in_ok-text_of.ensures ∙ c.in-Some.ensures.kept) in (
+    c.in_ok-push.ensures.items ∙ ap (λ line. lines ++ line ∷ []) (c.in_ok-text_of.ensures.kept ∙ c.of_cell.ensures) in (
       search rules,
       record {
         pieces_are =

@@ -4,9 +4,7 @@ use Rattle.shell_words.proofs.pieces.text.Goals as goal
 
 pub returns-in-Some : goal.returns-in-Some
 unfolding the_text
-returns-in-Some c = λ f.
-    let kept = rw c.unwrap.ensures at c.new.ensures.kept in
-    rw c.in-Some.is (ap (λ t. Ok (f t)) (sym kept))
+returns-in-Some c = λ f. rw c.in-Some.is (ap (λ t. Ok (f t)) (sym c.of_cell.ensures))
 
 pub returns-in-None : goal.returns-in-None
 unfolding the_text

@@ -9,8 +9,8 @@ lone-list [] x y one is = absurd (omega (arith, one))
 lone-list (a ∷ []) x y one is = ap (λ z. z ∷ []) (sym is)
 lone-list (a ∷ b ∷ xs) x y one is = absurd (omega (arith, one))
 
-pub returns-then-len-eq1-clause-builds : goal.returns-then-len-eq1-clause-builds
-returns-then-len-eq1-clause-builds g c =
-    let x = c.index-deref-0.result in
-    let one = lone-list c.args.self.now.links.items x x (sym c.len.ensures.value ∙ c.if-len-eq1.true) (c.index-deref-0.is ∙ ap (λ xs. get_or xs 0 x) c.deref.ensures.0) in
+pub returns-then-links-eq1-clause-builds : goal.returns-then-links-eq1-clause-builds
+returns-then-links-eq1-clause-builds g c =
+    let x = c.index-links-0.result in
+    let one = lone-list c.args.self.now.links x x (sym (ap length c.as_slice-links.ensures.value) ∙ c.if-links-eq1.true) (c.index-links-0.is ∙ ap (λ xs. get_or xs 0 x) c.as_slice-links.ensures.value) in
     subst (λ xs. Builds c.args.heap.now c.args.heap.now xs (x ∷ []) 0 1) (sym one) (Builds-refl c.args.heap.now (x ∷ []) 0 1 c.requires.graph)

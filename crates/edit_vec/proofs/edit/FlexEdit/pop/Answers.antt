@@ -7,7 +7,7 @@ use Rattle.rrb_core.proofs.RowLists.{at-place}
 use Rattle.edit_vec.specs.Walk.{LeavesChild, LeavesFirst}
 use Rattle.edit_vec.proofs.OwnerLemmas.{owns}
 use Rattle.edit_vec.proofs.TopLemmas.{good-node, owned-hold, after-room}
-use Rattle.edit_vec.proofs.PopSteps.{not-both}
+use Rattle.edit_vec.proofs.PopSteps.{not-both, not-empty}
 use Rattle.edit_vec.proofs.PopTop.{two-children, leaves-same, pops-child, enough-mid, more-mid, can-pop-root, pops-root}
 use Rattle.edit_vec.proofs.edit.FlexEdit.pop.Goals as goal
 
@@ -41,7 +41,7 @@ pop_in-given-requires-clause-row g c =
     let h = c.reserve.new.self in
     let root = owns c.self.view_is room.rest.graph (omega (arith, c.requires.held, room.rest.holds self)) did.same did.row did.sole did.fresh did.owners did.builds did.makes in
     let height : c.height_of-height.result ≡ height_at c.args.heap.now self = c.height_of-height.ensures ∙ ap (height_at h) c.self.view_is ∙ same-height c.args.heap.now h self room.rest.rows in
-    let some : 1 ≤ length (elements c.args.heap.now self) = omega (arith, c.if-len-eq0.false, c.len.ensures.value, ap (λ l. length (elements c.args.heap.now l)) c.view.ensures) in
+    let some : 1 ≤ length (elements c.args.heap.now self) = not-empty (ap (elements c.args.heap.now) c.view.ensures) c.is_empty.ensures c.if-is_empty.false in
     can-pop-root (after-room room.rest (owned-hold root)) c.requires.good height did.builds.graph (omega (arith, c.requires.few, did.builds.total, room.rest.count))
 
 pub pop_in-given-requires-clause-some : goal.pop_in-given-requires-clause-some
@@ -52,7 +52,7 @@ pop_in-given-requires-clause-some g c =
     let h = c.reserve.new.self in
     let root = owns c.self.view_is room.rest.graph (omega (arith, c.requires.held, room.rest.holds self)) did.same did.row did.sole did.fresh did.owners did.builds did.makes in
     let height : c.height_of-height.result ≡ height_at c.args.heap.now self = c.height_of-height.ensures ∙ ap (height_at h) c.self.view_is ∙ same-height c.args.heap.now h self room.rest.rows in
-    let some : 1 ≤ length (elements c.args.heap.now self) = omega (arith, c.if-len-eq0.false, c.len.ensures.value, ap (λ l. length (elements c.args.heap.now l)) c.view.ensures) in
+    let some : 1 ≤ length (elements c.args.heap.now self) = not-empty (ap (elements c.args.heap.now) c.view.ensures) c.is_empty.ensures c.if-is_empty.false in
     enough-mid (after-room room.rest (owned-hold root)) c.requires.good height some
 
 pub pop_in-given-requires-clause-more : goal.pop_in-given-requires-clause-more
@@ -73,7 +73,7 @@ returns-clause-pops g c =
     let h = c.reserve.new.self in
     let root = owns c.self.view_is room.rest.graph (omega (arith, c.requires.held, room.rest.holds self)) did.same did.row did.sole did.fresh did.owners did.builds did.makes in
     let height : c.height_of-height.result ≡ height_at c.args.heap.now self = c.height_of-height.ensures ∙ ap (height_at h) c.self.view_is ∙ same-height c.args.heap.now h self room.rest.rows in
-    let some : 1 ≤ length (elements c.args.heap.now self) = omega (arith, c.if-len-eq0.false, c.len.ensures.value, ap (λ l. length (elements c.args.heap.now l)) c.view.ensures) in
+    let some : 1 ≤ length (elements c.args.heap.now self) = not-empty (ap (elements c.args.heap.now) c.view.ensures) c.is_empty.ensures c.if-is_empty.false in
     let stays : ¬ LeavesChild (form_at c.args.heap.now) c.height_of-height.result self = λ goes. not-both (c.leaves_child.ensures.1 (rw c.self.view_is ((leaves-same room.rest c.requires.good height).1 goes))) c.if-leaves_child.false in
     let made = rw c.self.view_is at did.makes in
     pops-root (after-room room.rest (owned-hold root)) c.requires.good height some stays (omega (arith, made.made, room.rest.made)) c.pop_in-given.ensures

@@ -3,6 +3,7 @@ use Rattle.node_heap.proofs.EditLaws.{Gains-trans, Gains-Builds}
 use Rattle.rrb_core.specs.Vector.{elements, height_at}
 use Rattle.rrb_core.proofs.BuildLemmas.{unchanged-good, same-height}
 use Rattle.edit_vec.proofs.OwnerLemmas.{owns}
+use Rattle.edit_vec.proofs.PopSteps.{within}
 use Rattle.edit_vec.proofs.TopLemmas.{good-node, holds-root, owned-hold, after-room, row-owned, write-hold, makes-came}
 use Rattle.edit_vec.proofs.SetTop.{sets-element}
 use Rattle.edit_vec.proofs.edit.FlexEdit.set.Goals as goal
@@ -26,7 +27,8 @@ set_in-given-requires-clause-inside g c =
     let self : ℕ = c.args.self.now in
     let root = owns c.self.view_is room.rest.graph (omega (arith, holds-root c.args.heap.now self c.args.element c.requires.held, room.rest.holds self)) did.same did.row did.sole did.fresh did.owners did.builds did.makes in
     let height = c.height_of-height.ensures ∙ ap (height_at c.reserve.new.self) c.self.view_is ∙ same-height c.args.heap.now c.reserve.new.self self room.rest.rows in
-    rw (row-owned (after-room room.rest (owned-hold root)) c.requires.good height).items (omega (arith, c.if-index-len.false, c.len.ensures.value, ap (λ l. length (elements c.args.heap.now l)) c.view.ensures))
+    let inside : c.args.index < length (elements c.args.heap.now self) = within (ap (λ l. length (elements c.args.heap.now l)) c.view.ensures) c.is_past.ensures c.if-is_past.false in
+    rw (row-owned (after-room room.rest (owned-hold root)) c.requires.good height).items inside
 
 pub returns-clause-sets : goal.returns-clause-sets
 returns-clause-sets g c =
@@ -35,5 +37,5 @@ returns-clause-sets g c =
     let self : ℕ = c.args.self.now in
     let root = owns c.self.view_is room.rest.graph (omega (arith, holds-root c.args.heap.now self c.args.element c.requires.held, room.rest.holds self)) did.same did.row did.sole did.fresh did.owners did.builds did.makes in
     let height = c.height_of-height.ensures ∙ ap (height_at c.reserve.new.self) c.self.view_is ∙ same-height c.args.heap.now c.reserve.new.self self room.rest.rows in
-    let inside : c.args.index < length (elements c.args.heap.now self) = omega (arith, c.if-index-len.false, c.len.ensures.value, ap (λ l. length (elements c.args.heap.now l)) c.view.ensures) in
+    let inside : c.args.index < length (elements c.args.heap.now self) = within (ap (λ l. length (elements c.args.heap.now l)) c.view.ensures) c.is_past.ensures c.if-is_past.false in
     sets-element (after-room room.rest (owned-hold root)) c.requires.good height inside c.set_in-given.ensures (makes-came room.rest (Gains-trans (Gains-Builds did.builds) c.set_in-given.ensures.gains))

@@ -4,6 +4,15 @@ use Rattle.node_heap.proofs.Stored.{IsGraph-stored, Unchanged-stored, IsHeap-res
 use Rattle.node_heap.proofs.Owners.{KeepsOwners-Unchanged}
 use Rattle.node_heap.proofs.heap.Heap.reserve.Goals as goal
 
+pub returns-then-nodes-old_nodes-clause-rest : goal.returns-then-nodes-old_nodes-clause-rest
+returns-then-nodes-old_nodes-clause-rest g c = Unchanged-refl _ (rw (← c.self.view_is) (IsGraph-stored _ _ _ _ c.self.invariant))
+
+pub returns-then-nodes-old_nodes-clause-owners : goal.returns-then-nodes-old_nodes-clause-owners
+returns-then-nodes-old_nodes-clause-owners g c = KeepsOwners-Unchanged _ _ (returns-then-nodes-old_nodes-clause-rest g c)
+
+pub returns-then-nodes-old_nodes-clause-keeps : goal.returns-then-nodes-old_nodes-clause-keeps
+returns-then-nodes-old_nodes-clause-keeps g c = KeepsHeld-Unchanged _ _ (rw (← c.self.view_is) (IsGraph-stored _ _ _ _ c.self.invariant)) (returns-then-nodes-old_nodes-clause-rest g c)
+
 pub returns-then-spare_cells-ge-ROWS-clause-rest : goal.returns-then-spare_cells-ge-ROWS-clause-rest
 returns-then-spare_cells-ge-ROWS-clause-rest g c = Unchanged-refl _ (rw (← c.self.view_is) (IsGraph-stored _ _ _ _ c.self.invariant))
 
@@ -48,7 +57,7 @@ pub returns-clause-rest : goal.returns-clause-rest
 returns-clause-rest g c =
     let done = c.in_ok-reserve.ensures in
     rw (← c.self.view_is) (Unchanged-stored c.self.inside.table.slots _ _ _ _ _ _ c.reserve.ensures.slots (invariant_of-self-2 g c)
-    (omega (arith, done.cells, c.spare_cells.ensures, c.max-spare_cells.ensures)) (omega (arith, done.nodes, c.spare_nodes.ensures, c.max-spare_nodes.ensures)))
+    (omega (arith, done.cells, c.spare_cells-old_cells.ensures, c.max-spare_cells.ensures)) (omega (arith, done.nodes, c.spare_nodes-old_nodes.ensures, c.max-spare_nodes.ensures)))
 
 pub returns-clause-owners : goal.returns-clause-owners
 returns-clause-owners g c = KeepsOwners-Unchanged _ _ (returns-clause-rest g c)

@@ -1,7 +1,7 @@
 use Rattle.std.proofs.Common.{◌≡◌, Some, refl, sym, ◌∙◌, arith}
 use Rattle.node_heap.specs.Nodes.{node_at}
 use Rattle.node_heap.specs.Tags.{place_in}
-use Rattle.node_heap.specs.declared.tags.Tag.TheVariants.{Full}
+use Rattle.node_heap.specs.declared.tags.Tag.TheVariants.{Apart}
 use Rattle.node_heap.proofs.Headed.{live-room, place-told, plain-by, plain-place, headed-same, headed-apart, none-named, few-named, becomes-tagged, becomes-full, tagged-place, IsNodes-kept, IsNodes-named, IsNodes-written}
 use Rattle.node_heap.proofs.nodes.Nodes.set_head.Goals as goal
 
@@ -55,7 +55,7 @@ invariant_of-self-in-None-tag_of c =
     let new = c.set_tag-in-None-tag_of.new.self in
     let set = c.set_tag-in-None-tag_of.ensures in
     IsNodes-named i.rooms i.heads.items i.free_heads.items _ _ inv new c.put-place.new.slots.items c.put-place.new.free.items _ _ c.args.index c.put-place.result c.args.head place.capacity place.free_capacity set.others
-    was (tagged-place i.rooms new c.args.index (Full c.put-place.result) live set) (omega (arith, set.len, set.spares)) (omega (arith, few-named i.rooms.slots c.args.index live was, inv.parts.used)) place.was place.now place.others
+    was (tagged-place i.rooms new c.args.index (Apart c.put-place.result) live set) (omega (arith, set.len, set.spares)) (omega (arith, few-named i.rooms.slots c.args.index live was, inv.parts.used)) place.was place.now place.others
     (omega (arith, place.one, i.heads.ok.0, i.free_heads.ok.0, c.put-place.new.slots.ok.0, c.put-place.new.free.ok.0)) (omega (arith, place.fewer, i.free_heads.ok.0, c.put-place.new.free.ok.0)) place.free
 
 pub returns-in-None-tag_of : goal.returns-in-None-tag_of
@@ -67,6 +67,6 @@ returns-in-None-tag_of c =
     let new = c.set_tag-in-None-tag_of.new.self in
     let set = c.set_tag-in-None-tag_of.ensures in
     rw (← c.self.view_is)
-    (becomes-tagged i.heads.items heads' i.rooms new c.args.index (Full c.put-place.result) c.args.head
+    (becomes-tagged i.heads.items heads' i.rooms new c.args.index (Apart c.put-place.result) c.args.head
     (headed-apart i.heads.items heads' c.put-place.result i.rooms.slots new.slots c.args.index set.others place.others (λ j other. none-named i.rooms.slots i.heads.items c.put-place.result c.self.invariant.parts place.was j)) live
     (rw place.now refl) set)

@@ -39,19 +39,19 @@ returns-in-Some c =
     let named = sym c.room.ensures ∙ c.in-Some.is in
     rw (← c.self.view_is) (becomes-far i.small.items i.large.items i.moved.items c.args.index c.if-index-ne0.false c.slot-small.result.now c.slot-small.ensures c.in-Some.room c.node_in_mut.result.now named c.node_in_mut.ensures.value i.spares _ (λ xs. insert xs c.args.position c.args.link) c.self.invariant.parts refl c.insert-in-Some.ensures)
 
-pub insert-requires-else-is_full-clause-index : goal.insert-requires-else-is_full-clause-index
-insert-requires-else-is_full-clause-index c =
+pub insert-requires-else-has_no_room-clause-index : goal.insert-requires-else-has_no_room-clause-index
+insert-requires-else-has_no_room-clause-index c =
     let i = c.self.inside in
     let none = ap room_in (sym c.slot_mut.ensures.value ∙ c.slot-small.ensures) ∙ sym c.room.ensures ∙ c.in-None.is in
     let inside = rw (← c.self.view_is) at c.requires.position in
     omega (arith, inside, ap length (few-links i.small.items i.large.items i.moved.items c.args.index c.if-index-ne0.false c.slot_mut.result.now c.slot_mut.ensures.value none))
 
-pub invariant_of-self-else-is_full : goal.invariant_of-self-else-is_full
-invariant_of-self-else-is_full c =
-    AreRooms-small _ _ _ _ _ _ _ _ _ _ _ _ _ _ c.self.invariant (c.args.index / 2) _ _ c.slot_mut.ensures.value (ap room_of c.insert-else-is_full.ensures.head)
+pub invariant_of-self-else-has_no_room : goal.invariant_of-self-else-has_no_room
+invariant_of-self-else-has_no_room c =
+    AreRooms-small _ _ _ _ _ _ _ _ _ _ _ _ _ _ c.self.invariant (c.args.index / 2) _ _ c.slot_mut.ensures.value (ap room_of c.insert-else-has_no_room.ensures.head)
 
-pub returns-else-is_full : goal.returns-else-is_full
-returns-else-is_full c =
+pub returns-else-has_no_room : goal.returns-else-has_no_room
+returns-else-has_no_room c =
     let i = c.self.inside in
     let none = ap room_in (sym c.slot_mut.ensures.value ∙ c.slot-small.ensures) ∙ sym c.room.ensures ∙ c.in-None.is in
-    rw (← c.self.view_is) (becomes-few i.small.items i.large.items i.moved.items c.args.index c.if-index-ne0.false c.slot_mut.result.now c.slot_mut.ensures.value i.spares _ (λ xs. insert xs c.args.position c.args.link) none c.insert-else-is_full.ensures.owners c.insert-else-is_full.ensures.head c.insert-else-is_full.ensures.links)
+    rw (← c.self.view_is) (becomes-few i.small.items i.large.items i.moved.items c.args.index c.if-index-ne0.false c.slot_mut.result.now c.slot_mut.ensures.value i.spares _ (λ xs. insert xs c.args.position c.args.link) none c.insert-else-has_no_room.ensures.owners c.insert-else-has_no_room.ensures.head c.insert-else-has_no_room.ensures.links)

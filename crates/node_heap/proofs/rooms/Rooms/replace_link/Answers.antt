@@ -15,8 +15,8 @@ pub node_in_mut-requires : goal.node_in_mut-requires
 node_in_mut-requires c =
     c.self.invariant.parts.there (c.args.index / 2) c.in-Some.room (ap room_in c.slot.ensures ∙ sym c.room.ensures ∙ c.in-Some.is)
 
-pub swap-requires-in-Some : goal.swap-requires-in-Some
-swap-requires-in-Some c =
+pub replace-requires-in-Some : goal.replace-requires-in-Some
+replace-requires-in-Some c =
     let i = c.self.inside in
     let named = sym c.room.ensures ∙ c.in-Some.is in
     let inside = rw (← c.self.view_is) at c.requires in
@@ -30,21 +30,21 @@ pub returns-in-Some-clause-old : goal.returns-in-Some-clause-old
 returns-in-Some-clause-old c =
     let i = c.self.inside in
     let named = sym c.room.ensures ∙ c.in-Some.is in
-    rw (← c.self.view_is) (c.swap-in-Some.ensures.old ∙ sym (ap (λ xs. slice_index xs c.args.position) (far-links i.small.items i.large.items i.moved.items c.args.index c.if-index-ne0.false c.slot.result.now c.slot.ensures c.in-Some.room c.node_in_mut.result.now named c.node_in_mut.ensures.value)))
+    rw (← c.self.view_is) (c.replace-in-Some.ensures.old ∙ sym (ap (λ xs. slice_index xs c.args.position) (far-links i.small.items i.large.items i.moved.items c.args.index c.if-index-ne0.false c.slot.result.now c.slot.ensures c.in-Some.room c.node_in_mut.result.now named c.node_in_mut.ensures.value)))
 
 pub returns-in-Some-clause-becomes : goal.returns-in-Some-clause-becomes
 returns-in-Some-clause-becomes c =
     let i = c.self.inside in
     let named = sym c.room.ensures ∙ c.in-Some.is in
-    rw (← c.self.view_is) (becomes-far i.small.items i.large.items i.moved.items c.args.index c.if-index-ne0.false c.slot.result.now c.slot.ensures c.in-Some.room c.node_in_mut.result.now named c.node_in_mut.ensures.value i.spares _ (λ xs. slice_set xs c.args.position c.args.link) c.self.invariant.parts refl c.swap-in-Some.ensures.links)
+    rw (← c.self.view_is) (becomes-far i.small.items i.large.items i.moved.items c.args.index c.if-index-ne0.false c.slot.result.now c.slot.ensures c.in-Some.room c.node_in_mut.result.now named c.node_in_mut.ensures.value i.spares _ (λ xs. slice_set xs c.args.position c.args.link) c.self.invariant.parts refl c.replace-in-Some.ensures.links)
 
 pub slot_mut-requires : goal.slot_mut-requires
 slot_mut-requires c =
     let i = c.self.inside in
     live-small i.small.items i.large.items i.moved.items c.args.index c.if-index-ne0.false (linked-some _ _ (rw (← c.self.view_is) at c.requires))
 
-pub swap-requires-in-None : goal.swap-requires-in-None
-swap-requires-in-None c =
+pub replace-requires-in-None : goal.replace-requires-in-None
+replace-requires-in-None c =
     let i = c.self.inside in
     let none = ap room_in (sym c.slot_mut.ensures.value ∙ c.slot.ensures) ∙ sym c.room.ensures ∙ c.in-None.is in
     let inside = rw (← c.self.view_is) at c.requires in
@@ -52,16 +52,16 @@ swap-requires-in-None c =
 
 pub invariant_of-self-in-None : goal.invariant_of-self-in-None
 invariant_of-self-in-None c =
-    AreRooms-small _ _ _ _ _ _ _ _ _ _ _ _ _ _ c.self.invariant (c.args.index / 2) _ _ c.slot_mut.ensures.value (ap room_of c.swap-in-None.ensures.head)
+    AreRooms-small _ _ _ _ _ _ _ _ _ _ _ _ _ _ c.self.invariant (c.args.index / 2) _ _ c.slot_mut.ensures.value (ap room_of c.replace-in-None.ensures.head)
 
 pub returns-in-None-clause-old : goal.returns-in-None-clause-old
 returns-in-None-clause-old c =
     let i = c.self.inside in
     let none = ap room_in (sym c.slot_mut.ensures.value ∙ c.slot.ensures) ∙ sym c.room.ensures ∙ c.in-None.is in
-    rw (← c.self.view_is) (c.swap-in-None.ensures.old ∙ sym (ap (λ xs. slice_index xs c.args.position) (few-links i.small.items i.large.items i.moved.items c.args.index c.if-index-ne0.false c.slot_mut.result.now c.slot_mut.ensures.value none)))
+    rw (← c.self.view_is) (c.replace-in-None.ensures.old ∙ sym (ap (λ xs. slice_index xs c.args.position) (few-links i.small.items i.large.items i.moved.items c.args.index c.if-index-ne0.false c.slot_mut.result.now c.slot_mut.ensures.value none)))
 
 pub returns-in-None-clause-becomes : goal.returns-in-None-clause-becomes
 returns-in-None-clause-becomes c =
     let i = c.self.inside in
     let none = ap room_in (sym c.slot_mut.ensures.value ∙ c.slot.ensures) ∙ sym c.room.ensures ∙ c.in-None.is in
-    rw (← c.self.view_is) (becomes-few i.small.items i.large.items i.moved.items c.args.index c.if-index-ne0.false c.slot_mut.result.now c.slot_mut.ensures.value i.spares _ (λ xs. slice_set xs c.args.position c.args.link) none c.swap-in-None.ensures.owners c.swap-in-None.ensures.head c.swap-in-None.ensures.links)
+    rw (← c.self.view_is) (becomes-few i.small.items i.large.items i.moved.items c.args.index c.if-index-ne0.false c.slot_mut.result.now c.slot_mut.ensures.value i.spares _ (λ xs. slice_set xs c.args.position c.args.link) none c.replace-in-None.ensures.owners c.replace-in-None.ensures.head c.replace-in-None.ensures.links)

@@ -1,19 +1,20 @@
 use Rattle.std.proofs.Common.{◌+◌, ◌≡◌, ◌<◌, List, [], length, Some, refl, arith}
 use Rattle.elem_core.specs.Shown.{name_bytes, line_bytes}
+use Rattle.rrb_core.specs.Vector.{elements}
 use Rattle.shell_terms.specs.Edit.{Bytes, add}
 use Rattle.plain_space.specs.Workspace.{Workspace, most, lines_of}
 use Rattle.plain_space.specs.declared.refusal.Refusal.TheVariants.{Absent, Limit}
 use Rattle.state_rows.specs.InHeap.{AreLinesIn}
 use Rattle.space_state.specs.Roots.{Keeps}
 use Rattle.space_state.proofs.Keeping.{lines-length, lines-short, holds-few, current-holds, current-stands}
-use Rattle.space_state.proofs.Steps.{none-there, some-there}
+use Rattle.space_state.proofs.Steps.{none-there, some-there, not-yes}
 use Rattle.space_state.proofs.Editing.{refuses, no-room, add-absent, add-full, add-made, edit-refused, fails}
 use Rattle.space_state.proofs.Placing.{IsBeside, cell-beside, cell-text, alike-beside, placed}
 use Rattle.plain_space.specs.Cost.{alike_buffers}
 use Rattle.state_rows.proofs.Room.{room-made, room-then}
 use Rattle.space_state.proofs.Hoarding.{room-more}
 use Rattle.space_state.proofs.roots.RootedHeap.add.Goals as goal
-use Rattle.space_state.proofs.roots.RootedHeap.add.Goals.{In-Some, Else-len, After-cell-line}
+use Rattle.space_state.proofs.roots.RootedHeap.add.Goals.{In-Some, Else-is_longest, After-cell-line}
 
 pub returns-in_default-clause-ends : goal.returns-in_default-clause-ends
 returns-in_default-clause-ends c = λ W K.
@@ -25,23 +26,25 @@ returns-in_default-clause-ends c = λ W K.
 found : (c : In-Some) (W : Workspace) → Keeps c.args.self.now [] W → (xs : List Bytes) × (lines_of W.current (name_bytes c.args.name) ≡ Some xs) × AreLinesIn c.args.self.now.heap c.args.self.now.bits c.in-Some.lines xs
 found c W K = some-there (AreLinesIn c.args.self.now.heap c.args.self.now.bits) (c.find-found.ensures.lines W K) c.in-Some.is
 
-pub returns-then-len-clause-ends : goal.returns-then-len-clause-ends
-returns-then-len-clause-ends c = λ W K.
+pub returns-then-is_longest-clause-ends : goal.returns-then-is_longest-clause-ends
+returns-then-is_longest-clause-ends c = λ W K.
     let name = name_bytes c.args.name in
     let text = line_bytes c.args.line in
-    let found = found (goal.at.returns-then-len-clause-ends c).In-Some W K in
-    edit-refused refl (refuses W (add name text) Limit (add-full W.current name text found.0 found.1 (omega (arith, c.if-len.true, c.len.ensures.value, lines-length found.2))))
+    let found = found (goal.at.returns-then-is_longest-clause-ends c).In-Some W K in
+    edit-refused refl (refuses W (add name text) Limit (add-full W.current name text found.0 found.1 (omega (arith, c.is_longest.ensures.0 c.if-is_longest.true, lines-length found.2))))
 
 -- it has room for one more
-fits : (c : Else-len) {xs : List Bytes} → AreLinesIn c.args.self.now.heap c.args.self.now.bits c.in-Some.lines xs → length xs < most
-fits c lines = grind (arith, c.if-len.false, c.len.ensures.value, lines-length lines, lines-short lines)
+fits : (c : Else-is_longest) {xs : List Bytes} → AreLinesIn c.args.self.now.heap c.args.self.now.bits c.in-Some.lines xs → length xs < most
+fits c lines =
+    let apart : length (elements c.args.self.now.heap c.in-Some.lines) ≡ most → ⊥ = λ full. not-yes (c.is_longest.ensures.1 full) c.if-is_longest.false in
+    grind (arith, apart, lines-length lines, lines-short lines)
 
 pub returns-in_err-text-clause-ends : goal.returns-in_err-text-clause-ends
 returns-in_err-text-clause-ends c = λ W K.
     let name = name_bytes c.args.name in
     let text = line_bytes c.args.line in
     let found = found (goal.at.returns-in_err-text-clause-ends c).In-Some W K in
-    let done = add-made W.current name text found.0 found.1 (fits (goal.at.returns-in_err-text-clause-ends c).Else-len found.2) in
+    let done = add-made W.current name text found.0 found.1 (fits (goal.at.returns-in_err-text-clause-ends c).Else-is_longest found.2) in
     fails c.in_err-text.field-0.0 c.from_residual.result c.from_residual.ensures.1 (no-room W (add name text) _ done (c.in_err-text.ensures.ready W K))
 
 -- the line's cell is held besides
@@ -74,7 +77,7 @@ line_added-state-requires-clause-state c =
       found.0,
       current-stands beside.keeps,
       found.1,
-      fits (goal.at.line_added-state-requires-clause-state c).Else-len found.2,
+      fits (goal.at.line_added-state-requires-clause-state c).Else-is_longest found.2,
       (omega arith, omega (arith, spares.1, c.cell-line.ensures.makes.spare_nodes, c.find-found.ensures.alike W K, alike-beside beside W.current name)),
     )
 
@@ -87,7 +90,7 @@ returns-clause-ends c = λ W K.
     let now = current-stands beside.keeps in
     let did = c.line_added-state.ensures in
     let is = cell-text c.ready.new.self.bits c.cell-line.ensures.adds c.in_ok-text.ensures.text c.args.line.cell in
-    let done = add-made W.current name text found.0 found.1 (fits (goal.at.returns-clause-ends c).Else-len found.2) in
+    let done = add-made W.current name text found.0 found.1 (fits (goal.at.returns-clause-ends c).Else-is_longest found.2) in
     placed (add name text) beside done did.keeps (did.trades W.current found.0 now found.1) (did.state W.current found.0 text now found.1 is) (omega (arith, alike-beside beside W.current name)) (λ inside. omega (arith, beside.few inside, did.made))
 
 pub returns-clause-spares : goal.returns-clause-spares

@@ -43,7 +43,7 @@ held c W K =
 -- as many names are alike, by the bits of then and by the key
 alike-key : (c : After-versions-versions) (W : Workspace) → alike c.versions-versions.result.bits (map.keys W.versions) c.in_ok-key.key ≡ alike_versions c.args.self.now.bits W (name_bytes c.args.name)
 alike-key c W =
-    let key : c.in_ok-key.key ≡ name_bytes c.args.name = c.in_ok-key.ensures ∙ c.as_line.ensures in
+    let key : c.in_ok-key.key ≡ name_bytes c.args.name = c.in_ok-key.ensures.kept ∙ c.as_line.ensures in
     rw (c.versions-versions.ensures, c.make_version_room.ensures.same.bits, key) refl
 
 -- the versions with the new one
@@ -78,7 +78,7 @@ returns-clause-ends c = λ W K.
     let outside : in_batch W ≡ false = sym (c.in_batch.ensures [] W K) ∙ c.if-in_batch.false in
     let none = as-told (IsStateIn c.args.self.now.heap c.args.self.now.bits) _ _ (c.version.ensures W K) (sym c.is_some.ensures ∙ c.if-is_some.false) in
     let made = next (goal.at.returns-clause-ends c).After-with_version-map W K in
-    let key : c.in_ok-key.key ≡ name_bytes c.args.name = c.in_ok-key.ensures ∙ c.as_line.ensures in
+    let key : c.in_ok-key.key ≡ name_bytes c.args.name = c.in_ok-key.ensures.kept ∙ c.as_line.ensures in
     record {
       after = record W { versions = map.insert W.versions c.in_ok-key.key W.current };
       told = rw key (mark-done W (name_bytes c.args.name) outside none);

@@ -7,4 +7,4 @@ pub returns-then-is_some : goal.returns-then-is_some
 returns-then-is_some c = key-needless c.args.found (name_bytes c.args.name) (sym c.is_some.ensures ∙ c.if-is_some.true)
 
 pub returns : goal.returns
-returns c = key-wanted c.args.found (name_bytes c.args.name) (sym c.is_some.ensures ∙ c.if-is_some.false) (c.in_ok-key.ensures ∙ c.as_line.ensures)
+returns c = key-wanted c.args.found (name_bytes c.args.name) (sym c.is_some.ensures ∙ c.if-is_some.false) (c.in_ok-key.ensures.kept ∙ c.as_line.ensures)

@@ -32,7 +32,7 @@ returns-in_err-make_star_room-clause-ends c = λ W K.
 -- as many names are alike, by the bits after room was made and by the key
 alike : (c : In_ok-make_star_room) (W : Workspace) → Keeps c.args.self.now [] W → alike_stars c.make_star_room.new.self.bits W.current c.in_ok-key.key ≡ alike_stars c.args.self.now.bits W.current (name_bytes c.args.name)
 alike c W K =
-    let key : c.in_ok-key.key ≡ name_bytes c.args.name = c.in_ok-key.ensures ∙ c.as_line.ensures in
+    let key : c.in_ok-key.key ≡ name_bytes c.args.name = c.in_ok-key.ensures.kept ∙ c.as_line.ensures in
     rw ((c.in_ok-make_star_room.ensures.room W K).same.bits, key) refl
 
 -- the state with the star
@@ -63,7 +63,7 @@ unfolding cost
 returns-clause-ends c = λ W K.
     let none : is_starred W.current (name_bytes c.args.name) ≡ false = sym (c.is_starred.ensures W K) ∙ c.if-is_starred.false in
     let made = next (goal.at.returns-clause-ends c).After-with_star-next W K in
-    let key : c.in_ok-key.key ≡ name_bytes c.args.name = c.in_ok-key.ensures ∙ c.as_line.ensures in
+    let key : c.in_ok-key.key ≡ name_bytes c.args.name = c.in_ok-key.ensures.kept ∙ c.as_line.ensures in
     record {
       after = with_current W (with_star W.current c.in_ok-key.key);
       told = rw key (does W (star (name_bytes c.args.name)) _ (star-made W.current (name_bytes c.args.name) none) made.free);

@@ -1,7 +1,7 @@
 use Rattle.std.proofs.Common.{arith, ◌<◌, length, ap}
 use Rattle.std.proofs.lemmas.List.{length-take}
 use Rattle.std.proofs.Math.Seq.{take-set-lt}
-use Rattle.node_heap.proofs.entry.RowLinks.swap.Goals as goal
+use Rattle.node_heap.proofs.entry.RowLinks.replace.Goals as goal
 
 pub returns-clause-links : goal.returns-clause-links
 returns-clause-links c =
