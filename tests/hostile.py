@@ -4,12 +4,13 @@
     tests/hostile.py PROGRAM [--documents N] [--seed S]
     tests/hostile.py --self-test
 
-Valid documents are drawn, or taken from the examples, and damaged by a small change each: a link, a root, a number, a
-bit of a set, a row, a key, a byte, the end. Many are loaded by one run of the program, and each reply is compared
-with that of the second reader; what was loaded is saved again, and its bytes are compared too. What the format leaves
-open needs a clear reply alone. The first difference ends the run with status 1. The self-test does the same with the
-second reader in the place of the program: once as it is, and once for each of four tests that it then forgets.
-Documents that are made to hurt are tried by tests/hostile_documents. It isn't part of the gate.
+Valid documents of both versions are drawn, or taken from the examples, and damaged by a small change each: a link, a
+root, a number, a bit of a set, a row, a key, a byte, the end. Many are loaded by one run of the program, and each reply
+is compared with that of the second reader; what was loaded is saved again, and its bytes are compared too. What the
+format leaves open needs a clear reply alone. The first difference ends the run with status 1. The self-test does the same
+with the second reader in the place of the program: once as it is, and once for each of four tests that it then forgets.
+Whole histories of version 1 are tried by tests/old_documents.py, and documents that are made to hurt by
+tests/hostile_documents. It isn't part of the gate.
 """
 
 import argparse
@@ -26,31 +27,32 @@ import tempfile
 sys.dont_write_bytecode = True
 
 import pool_reader
-from pool_reader import DEEPEST, TESTS, Pool, Row, code_of, compact, digit, document, known, written
+from pool_reader import BITS, EXAMPLES, OLD, RULES, TESTS, TODAY, Pool, Row, bits_in, code_of, compact, digit, document, known
 
 MOST_BYTES = 67_108_864
 DOCUMENTS_OF_A_RUN = 500
 SECONDS = 300
 CLEAR = re.compile(r"ok|! large|! memory|! damaged (" + "|".join(TESTS) + ")")
-BITS = 32
 
-# Two names of one code, whatever is added to both.
+# Two names of one code, whatever is added to both: by codes of 32 bits, and by those of 64.
 COLLIDING = ("costarring", "liquid")
+COLLIDING_TODAY = ("7mohtcOFVz", "c1E51sSEyx")
 
 
 def colliding_names():
-    """Four names of one code: two beginnings, with two endings that lead from their code to one code."""
+    """Four names of one code of 32 bits: two beginnings, with two endings that lead from their code to one code."""
     seen = {}
     for number in range(10**6):
         ending = f".{number}"
-        code = code_of(COLLIDING[0] + ending, BITS)
+        code = code_of(COLLIDING[0] + ending, RULES[OLD].code_bits, OLD)
         if code in seen:
             return [beginning + it for beginning in COLLIDING for it in (seen[code], ending)]
         seen[code] = ending
     return list(COLLIDING)
 
 
-NAMES = ["a", "b", "c", "A", "b1", "n.x", "_", "Z-9", "x" * 64, *COLLIDING, *colliding_names()]
+NAMES = ["a", "b", "c", "A", "b1", "n.x", "_", "Z-9", "x" * 64, *COLLIDING, *colliding_names(), *COLLIDING_TODAY]
+NAMES += [name + ".1" for name in COLLIDING_TODAY]
 TEXTS = ["", "x", "y", "two words", "é ü 漢", "\r", "\t\u0001\"\\", "\U0001f600", "a" * 300]
 
 
@@ -58,10 +60,10 @@ TEXTS = ["", "x", "y", "two words", "é ü 漢", "\r", "\t\u0001\"\\", "\U0001f6
 
 
 class Builder:
-    """Rows that are made one by one. An equal row is made again, or taken again."""
+    """Rows by a version and so many bits, which are made one by one. An equal row is made again, or taken again."""
 
-    def __init__(self, draw):
-        self.draw, self.rows, self.places = draw, [], {}
+    def __init__(self, draw, version=TODAY, bits=BITS):
+        self.draw, self.version, self.bits, self.rows, self.places = draw, version, bits, [], {}
         self.sharing = draw.choice([0, 0.5, 1])
 
     def add(self, letter, text=None, numbers=(), links=()):
@@ -94,10 +96,10 @@ class Builder:
         """The map or the set of these: each key with its entry's place."""
         at = collections.defaultdict(list)
         for key, place in entries:
-            at[digit(code_of(key, BITS), depth)].append((key, place))
+            at[digit(code_of(key, self.bits, self.version), depth)].append((key, place))
         alone = sorted(position for position in at if len(at[position]) == 1)
         below = sorted(position for position in at if len(at[position]) > 1)
-        make = self.chain if depth == DEEPEST else lambda those: self.trie(those, depth + 1)
+        make = self.chain if depth == RULES[self.version].deepest else lambda those: self.trie(those, depth + 1)
         links = [at[position][0][1] for position in alone] + [make(at[position]) for position in below]
         numbers = [depth, sum(1 << position for position in alone), sum(1 << position for position in below)]
         return self.add("m", numbers=numbers, links=links)
@@ -122,25 +124,24 @@ class Builder:
         return self.add("s", links=[self.mapped(buffers), self.trie([(it, self.add("c", it)) for it in stars])])
 
 
-def drawn_pool(draw):
-    """A valid pool."""
-    builder = Builder(draw)
+def drawn_pool(draw, version=TODAY, bits=BITS):
+    """A valid pool of a version, for a shell by so many bits."""
+    builder = Builder(draw, version, bits_in(version, bits))
     states = [builder.state() for _ in range(draw.choice([1, 1, 2, 3]))]
     versions = {name: draw.choice(states) for name in draw.sample(NAMES, draw.choice([0, 1, 2]))}
     histories = [[draw.choice(states) for _ in range(draw.choice([0, 0, 1, 3, 40]))] for _ in range(2)]
     roots = [states[-1], builder.mapped(versions)] + [builder.vector(states) for states in histories]
-    return pool_reader.in_order(Pool(BITS, builder.rows, roots))
+    return pool_reader.in_order(Pool(version, builder.bits, builder.rows, roots))
 
 
 def example_pools():
     """The pools of the documents that examples have and that are known."""
-    folder = os.path.join(os.path.dirname(os.path.abspath(__file__)), "..", "examples")
     found = [data for data, reply in known() if reply == "ok"]
-    for path in sorted(glob.glob(f"{folder}/*.kept/*")):
+    for path in sorted(glob.glob(f"{EXAMPLES}/*.kept/*")):
         if os.path.isfile(path):
             with open(path, "rb") as file:
                 found.append(file.read())
-    return [pool_reader.read(data, BITS).pool for data in found if pool_reader.reply_to(data, BITS) == "ok"]
+    return [pool_reader.read(data).pool for data in found if pool_reader.reply_to(data) == "ok"]
 
 
 # Small changes of a document as a JSON value. Each takes the document and the draw, and changes the document.
@@ -202,7 +203,7 @@ def change_number(value, draw):
     row = some_row(value, draw, "im")
     if row[0] in "im":
         index = draw.randrange(1, len(row) - 1)
-        row[index] = draw.choice([row[index] + 1, row[index] - 1, 0, 6, 7, 8, 16, 2**32 - 1, 2**32, 2**63, -1])
+        row[index] = draw.choice([row[index] + 1, row[index] - 1, 0, 6, 7, 8, 12, 13, 16, 2**32 - 1, 2**32, 2**63, -1])
 
 
 def change_bit(value, draw):
@@ -210,7 +211,7 @@ def change_bit(value, draw):
     if row[0] == "m":
         bit = 1 << draw.randrange(32)
         for index in draw.choice([[2], [3], [2, 3]]):
-            row[index] ^= draw.choice([bit, row[index] & -row[index], 1 << 4])
+            row[index] ^= draw.choice([bit, row[index] & -row[index], 1 << 4, 1 << 16])
 
 
 def turn_bit(value, draw):
@@ -230,7 +231,7 @@ def turn_form(value, draw):
     """A row of another form with the same links."""
     row = some_row(value, draw, "limkps")
     if row[0] != "c":
-        trie = ["m", draw.randint(0, 6), 1, 2]
+        trie = ["m", draw.randint(0, 12), 1, 2]
         row[:-1] = draw.choice([["l"], ["i", draw.randint(1, 3)], trie, ["k"], ["p"], ["s"]])
 
 
@@ -239,7 +240,7 @@ def change_text(value, draw):
     if row[0] == "c":
         row[1] = draw.choice([
             "x\ny", "\n", "x" * 65_536, "x" * 65_537, "漢" * 21_845 + "x", "漢" * 21_845 + "xx", ".x", "", "é",
-            "x" * 65, "a", row[1] + "a", row[1].upper(), COLLIDING[0], COLLIDING[1], 7, None, ["x"],
+            "x" * 65, "a", row[1] + "a", row[1].upper(), *COLLIDING, *COLLIDING_TODAY, 7, None, ["x"],
         ])
 
 
@@ -274,7 +275,7 @@ def move_row(value, draw):
 def in_new_order(value, draw):
     """A link changed, and then the rows put in their order: what the roots lead to, and no more."""
     change_link(value, draw)
-    pool = pool_reader.pool_of(value, BITS)
+    pool = pool_reader.pool_of(value, value["bits"])
     pool_reader.test_links(pool)
     ordered = document(pool_reader.in_order(pool))
     value.update(ordered)
@@ -303,12 +304,20 @@ def change_key(value, draw):
     elif how == 2:
         value[draw.choice(["Rows", "formats"])] = value.pop(key)
     else:
-        value[key] = draw.choice([None, True, 0, 1, 2, 31, 33, -1, 2**63, "", "ewig-pool", "ewig", [], {}, [0] * 4])
+        value[key] = draw.choice([
+            None, True, 0, 1, 2, 3, 31, 32, 33, 63, 64, 65, -1, 2**63, "", "ewig-pool", "ewig", [], {}, [0] * 4,
+        ])
+
+
+def change_version(value, _draw):
+    """The other version, with the rows as they are, and with its bits or as it is."""
+    value["version"] = OLD + TODAY - value["version"]
+    value["bits"] = bits_in(value["version"], BITS if value["bits"] == RULES[OLD].code_bits else value["bits"])
 
 
 VALUE_CHANGES = [
     change_link, change_links, change_root, change_number, change_bit, turn_bit, change_letter, turn_form, change_text,
-    change_rows, move_row, in_new_order, change_row, change_key,
+    change_rows, move_row, in_new_order, change_row, change_key, change_version,
 ]
 
 
@@ -342,9 +351,8 @@ def spaced(value, draw):
     return draw.choice([b"", b"\n "]) + text + draw.choice([b"", b"\r\n\t "])
 
 
-def drawn_document(draw, pools):
-    """The name of a change, and a document that it was made to."""
-    pool = draw.choice(pools) if draw.random() < 0.5 else drawn_pool(draw)
+def changed(draw, pool):
+    """The name of a change, and the document of a pool that it was made to."""
     value = document(pool)
     kind = draw.choice(VALUE_CHANGES + [changed_bytes, changed_bytes, spaced, None])
     if kind is None:
@@ -366,13 +374,14 @@ def documents(seed, number):
     pools = example_pools()
     made = 0
     for pool in sorted(pools, key=lambda pool: len(pool.rows))[:5]:
-        data = written(pool)
+        data = pool_reader.written(pool)
         for length in range(len(data)):
             if made < number // 4:
                 made += 1
                 yield "cut", data[:length]
     for index in range(made, number):
-        yield drawn_document(random.Random(f"{seed}/{index}"), pools)
+        draw = random.Random(f"{seed}/{index}")
+        yield changed(draw, draw.choice(pools) if draw.random() < 0.5 else drawn_pool(draw, draw.choice([OLD, TODAY])))
 
 
 # Runs of the program
@@ -390,8 +399,10 @@ def replies(program, room, names):
     return ran.stdout.decode("utf-8", "replace").splitlines(), f"status {ran.returncode}"
 
 
-def compared(program, batch):
-    """The first difference in a run over these documents, or None."""
+def compared(program, batch, bits=BITS):
+    """The first difference in a run by so many bits over these documents, or None."""
+    if bits != BITS:
+        program = [*program, "--bits", str(bits)]
     with tempfile.TemporaryDirectory() as room:
         for index, (_kind, data, _wanted) in enumerate(batch):
             with open(f"{room}/d{index}", "wb") as file:
@@ -405,8 +416,8 @@ def compared(program, batch):
                 return f"{kind}: the reply is {reply}, and not {wanted}; that to a save is {saved}", data
             if wanted == "ok":
                 with open(f"{room}/d{index}.saved", "rb") as file:
-                    if file.read() != written(pool_reader.read(data, BITS).pool):
-                        return f"{kind}: another document is saved than was loaded", data
+                    if file.read() != pool_reader.saved(data, bits):
+                        return f"{kind}: another document is saved than the one that was loaded stands for", data
         if len(lines) != 2 * len(batch) or ending != "status 0":
             return f"the run ended with {ending} and {len(lines)} replies", b""
     return None
@@ -416,7 +427,7 @@ def try_documents(program, seed, number):
     """The first difference among so many documents, or None; and how often each reply was due."""
     counts, batch, kinds = collections.Counter(), [], collections.defaultdict(collections.Counter)
     for kind, data in documents(seed, number):
-        wanted = pool_reader.reply_to(data, BITS)
+        wanted = pool_reader.reply_to(data)
         counts[wanted or "left open"] += 1
         kinds[kind][wanted] += 1
         batch.append((kind, data, wanted))
@@ -428,9 +439,40 @@ def try_documents(program, seed, number):
     return compared(program, batch) if batch else None, counts, kinds
 
 
-def tell(found):
-    """Prints a difference."""
-    sys.stdout.buffer.write(f"{found[0]}\n".encode() + found[1][:2000] + b"\n")
+# What tests/old_documents.py has too: what is told, and the words of the command line
+
+
+def tell(found, counts):
+    """Prints a difference, and how often each reply was due; gives how many differences there are, one or none."""
+    if found:
+        sys.stdout.buffer.write(f"{found[0]}\n".encode() + found[1][:2000] + b"\n")
+        sys.stdout.flush()
+    print(", ".join(f"{reply} {count}" for reply, count in sorted(counts.items())))
+    return 1 if found else 0
+
+
+def words_of(description):
+    """The words of the command line, to which others may be added."""
+    words = argparse.ArgumentParser(description=description)
+    words.add_argument("program", nargs="?")
+    words.add_argument("--documents", type=int, default=20_000)
+    words.add_argument("--seed", type=int, default=1)
+    words.add_argument("--self-test", action="store_true")
+    return words
+
+
+def status_of(words, self_test, try_program):
+    """The status of a run: of the self-test, or of what tries the program by the words that were chosen and gives the first
+    difference, or None, with how often each reply was due."""
+    chosen = words.parse_args()
+    if chosen.self_test:
+        return 1 if self_test() else 0
+    if not chosen.program:
+        words.error("a program is needed")
+    if tell(*try_program([os.path.abspath(chosen.program)], chosen)):
+        return 1
+    print(f"{chosen.documents} documents of seed {chosen.seed}: no difference")
+    return 0
 
 
 # The self-test
@@ -453,9 +495,9 @@ def stand_in(forgotten):
             continue
         with open(name, "rb") as file:
             data = file.read()
-        reply = "! large" if len(data) > MOST_BYTES else pool_reader.reply_to(data, BITS) or "! damaged json"
+        reply = "! large" if len(data) > MOST_BYTES else pool_reader.reply_to(data) or "! damaged json"
         if reply == "ok":
-            loaded = written(pool_reader.read(data, BITS).pool)
+            loaded = pool_reader.saved(data)
         print(reply)
 
 
@@ -465,14 +507,11 @@ def self_test():
     draw = random.Random("self-test")
     wrong = 0
     for _ in range(200):
-        data = written(drawn_pool(draw))
-        wrong += pool_reader.reply_to(data, BITS) != "ok"
+        data = pool_reader.written(drawn_pool(draw, draw.choice([OLD, TODAY])))
+        wrong += pool_reader.reply_to(data) != "ok"
     print(f"200 drawn documents: {wrong} aren't valid")
     found, counts, kinds = try_documents(own, 1, 4_000)
-    wrong += found is not None
-    if found:
-        tell(found)
-    print(", ".join(f"{reply} {count}" for reply, count in sorted(counts.items())))
+    wrong += tell(found, counts)
     for name in TESTS:
         if not counts[f"! damaged {name}"]:
             print(f"no document fails {name}")
@@ -491,24 +530,8 @@ def self_test():
 def main():
     if sys.argv[1:2] == ["--stand-in"]:
         return stand_in((sys.argv[2:] or [None])[0])
-    words = argparse.ArgumentParser(description="Compares the program with the second reader on damaged documents.")
-    words.add_argument("program", nargs="?")
-    words.add_argument("--documents", type=int, default=20_000)
-    words.add_argument("--seed", type=int, default=1)
-    words.add_argument("--self-test", action="store_true")
-    chosen = words.parse_args()
-    if chosen.self_test:
-        return 1 if self_test() else 0
-    if not chosen.program:
-        words.error("a program is needed")
-    program = [os.path.abspath(chosen.program)]
-    found, counts, _kinds = try_documents(program, chosen.seed, chosen.documents)
-    if found:
-        tell(found)
-        return 1
-    print(", ".join(f"{reply} {count}" for reply, count in sorted(counts.items())))
-    print(f"{chosen.documents} documents of seed {chosen.seed}: no difference")
-    return 0
+    words = words_of("Compares the program with the second reader on damaged documents.")
+    return status_of(words, self_test, lambda program, chosen: try_documents(program, chosen.seed, chosen.documents)[:2])
 
 
 if __name__ == "__main__":

@@ -288,7 +288,7 @@ def read_words(words):
             value = rest.pop(0)
         if key in options or key not in ("bits", "open", "work", "count"):
             return None
-        most = {"bits": 32, "open": None, "work": 2**64 - 1, "count": 100_000}[key]
+        most = {"bits": 64, "open": None, "work": 2**64 - 1, "count": 100_000}[key]
         options[key] = value if most is None else read_number(value, most)
         if options[key] is None or (most is None and not NAME.match(value)):
             return None

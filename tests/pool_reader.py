@@ -2,13 +2,16 @@
 """A second reader and writer of pool documents, made from docs/POOL.md alone.
 
     tests/pool_reader.py [--bits W] FILE..     tells of each file what it stands for, or the first test that it fails
+    tests/pool_reader.py --saved [--bits W] FILE   writes what a shell saves that has loaded the file
     tests/pool_reader.py --self-test           reads documents whose answers are known
 
-It shares nothing with the program but that page, so that tests/hostile.py can compare the two. No shared row is ever
-unfolded: each test keeps a fact for each row. It isn't part of the gate.
+It reads documents of both versions and carries those of version 1 over, as a shell does that loads them. It shares
+nothing with the program but that page, so that tests/hostile.py and tests/old_documents.py can compare the two. No shared
+row is ever unfolded: each test keeps a fact for each row. It isn't part of the gate.
 """
 
 import argparse
+import functools
 import glob
 import json
 import os
@@ -20,22 +23,36 @@ TESTS = ["json", "form", "version", "bits", "row", "link", "text", "vector", "tr
 KEYS = ["bits", "format", "roots", "rows", "version"]
 LONGEST_TEXT = 65_536
 LONGEST_VECTOR = 2**32 - 1
-DEEPEST = 6
 NAME = re.compile(r"[A-Za-z0-9_][A-Za-z0-9._-]{0,63}\Z", re.ASCII)
 
-# What stands between the letter and the links, as bounds, and how many links there are.
-FORMS = {
-    "l": ([], 0, 32),
-    "i": ([(1, 7)], 1, 32),
-    "m": ([(0, 6), (0, 2**32 - 1), (0, 2**32 - 1)], 0, 32),
-    "k": ([], 1, 2),
-    "p": ([], 2, 2),
-    "s": ([], 2, 2),
-}
+# What tells the versions of a document apart: the bits of a code, with what FNV-1a starts, by what it multiplies, and the
+# depth of a code's last digit.
+Rules = namedtuple("Rules", "code_bits start prime deepest")
+RULES = {1: Rules(32, 2166136261, 16777619, 6), 2: Rules(64, 14695981039346656037, 1099511628211, 12)}
+OLD, TODAY = 1, 2
+EXAMPLES = os.path.join(os.path.dirname(os.path.abspath(__file__)), "..", "examples")
+
+# By so many bits a shell goes where it isn't told otherwise.
+BITS = RULES[TODAY].code_bits
 
 # A row: its letter, the text of a cell, the numbers of the others, and the links.
 Row = namedtuple("Row", "letter text numbers links")
-Pool = namedtuple("Pool", "bits rows roots")
+Pool = namedtuple("Pool", "version bits rows roots")
+
+
+def forms_by(rules):
+    """What stands between a row's letter and its links, as bounds, and how many links there are."""
+    return {
+        "l": ([], 0, 32),
+        "i": ([(1, 7)], 1, 32),
+        "m": ([(0, rules.deepest), (0, 2**32 - 1), (0, 2**32 - 1)], 0, 32),
+        "k": ([], 1, 2),
+        "p": ([], 2, 2),
+        "s": ([], 2, 2),
+    }
+
+
+FORMS = {version: forms_by(rules) for version, rules in RULES.items()}
 
 
 class Damaged(Exception):
@@ -54,12 +71,19 @@ def needs(test, name):
 # Codes
 
 
-def code_of(text, bits):
-    """The masked code of a text."""
-    code = 2166136261
+@functools.lru_cache(maxsize=100_000)
+def code_of(text, bits, version=TODAY):
+    """The masked code of a text, as a version has it."""
+    rules = RULES[version]
+    code = rules.start
     for byte in text.encode("utf-8"):
-        code = ((code ^ byte) * 16777619) % 2**32
+        code = (code ^ byte) * rules.prime % 2**rules.code_bits
     return code % 2**bits
+
+
+def bits_in(version, bits):
+    """The bits that a document of this version has for a shell by so many: no more than its codes."""
+    return min(RULES[version].code_bits, bits)
 
 
 def digit(code, depth):
@@ -147,15 +171,15 @@ def is_number(value):
     return type(value) is int
 
 
-def row_of(value):
+def row_of(value, version):
     """The row that a JSON value is a form of."""
     needs(type(value) is list and value and type(value[0]) is str, "row")
     letter, rest = value[0], value[1:]
     if letter == "c":
         needs(len(rest) == 1 and type(rest[0]) is str, "row")
         return Row("c", rest[0], [], [])
-    needs(letter in FORMS, "row")
-    bounds, least, most = FORMS[letter]
+    needs(letter in FORMS[version], "row")
+    bounds, least, most = FORMS[version][letter]
     needs(len(rest) == len(bounds) + 1, "row")
     numbers, links = rest[:-1], rest[-1]
     for number, (low, high) in zip(numbers, bounds):
@@ -171,9 +195,10 @@ def pool_of(value, bits):
     roots = value["roots"]
     needs(type(roots) is list and len(roots) == 4 and all(map(is_number, roots)), "form")
     needs(type(value["rows"]) is list, "form")
-    needs(value["version"] == 1, "version")
-    needs(value["bits"] == bits, "bits")
-    return Pool(bits, [row_of(row) for row in value["rows"]], roots)
+    version = value["version"]
+    needs(version in RULES, "version")
+    needs(value["bits"] == bits_in(version, bits), "bits")
+    return Pool(version, value["bits"], [row_of(row, version) for row in value["rows"]], roots)
 
 
 def test_links(pool):
@@ -230,7 +255,7 @@ def key_of(pool, place):
 def chain_fact(pool, row, facts):
     key = key_of(pool, row.links[0])
     needs(key is not None, "trie")
-    code, count = code_of(key, pool.bits), 1
+    code, count = code_of(key, pool.bits, pool.version), 1
     if len(row.links) == 2:
         needs(pool.rows[row.links[1]].letter == "k", "trie")
         rest = facts[row.links[1]]
@@ -239,27 +264,33 @@ def chain_fact(pool, row, facts):
     return TrieFact(code, count, key)
 
 
-def is_below(row, depth):
+def is_below(row, depth, rules):
     """Whether the row may stand below a trie row of this depth."""
-    if depth == DEEPEST:
+    if depth == rules.deepest:
         return row.letter == "k" and len(row.links) == 2
     return row.letter == "m" and row.numbers[0] == depth + 1
 
 
+def last_positions(rules):
+    """The set of all positions that the last digit of a code can have."""
+    return 2**2**(rules.code_bits - 5 * rules.deepest) - 1
+
+
 def trie_fact(pool, row, facts):
+    rules = RULES[pool.version]
     depth, entries, nodes = row.numbers
     needs(entries & nodes == 0, "trie")
-    needs(depth < DEEPEST or (entries | nodes) < 16, "trie")
+    needs(depth < rules.deepest or (entries | nodes) <= last_positions(rules), "trie")
     at, below_at = positions(entries), positions(nodes)
     needs(len(row.links) == len(at) + len(below_at), "trie")
     codes, count = [], len(at)
     for position, link in zip(at, row.links):
         key = key_of(pool, link)
         needs(key is not None, "trie")
-        codes.append(code_of(key, pool.bits))
+        codes.append(code_of(key, pool.bits, pool.version))
         needs(digit(codes[-1], depth) == position, "trie")
     for position, link in zip(below_at, row.links[len(at):]):
-        needs(is_below(pool.rows[link], depth), "trie")
+        needs(is_below(pool.rows[link], depth, rules), "trie")
         codes.append(facts[link].code)
         needs(digit(codes[-1], depth) == position, "trie")
         count += facts[link].count
@@ -360,8 +391,8 @@ def test_order(pool):
     needs(order_of(pool.rows, pool.roots) == list(range(len(pool.rows))), "order")
 
 
-def read(data, bits):
-    """The workspace that bytes stand for. Raises `Damaged` with the first test that they fail."""
+def read(data, bits=BITS):
+    """The workspace of a document, by its own rows. Raises `Damaged` with the first test that the bytes fail."""
     pool = pool_of(value_of(data), bits)
     test_links(pool)
     test_texts(pool)
@@ -372,8 +403,8 @@ def read(data, bits):
     return Workspace(pool, facts)
 
 
-def reply_to(data, bits=32):
-    """What a shell answers to `load`, or None where the format leaves that open."""
+def reply_to(data, bits=BITS):
+    """What a shell by so many bits answers to `load`, or None where the format leaves that open."""
     try:
         read(data, bits)
     except Damaged as damage:
@@ -381,6 +412,83 @@ def reply_to(data, bits=32):
     except LeftOpen:
         return None
     return "ok"
+
+
+# Documents of version 1, carried over
+
+
+class Carrying:
+    """The rows that come in the place of those of a valid pool of version 1.
+
+    A cell, a row of a vector, a pair and a state have one each, with links to what came in the place of those that they link
+    to. In the place of a map or a set comes the trie of its entries by the codes of today; equal rows of such tries are one.
+    """
+
+    def __init__(self, pool, bits):
+        self.bits, self.rows, self.once, self.image = bits, [], {}, {}
+        for place, row in enumerate(pool.rows):
+            if row.letter not in "mk":
+                self.image[place] = self.add(row._replace(links=[self.image[link] for link in row.links]))
+            elif row.letter == "m" and row.numbers[0] == 0:
+                self.image[place] = self.trie([(key, self.image[link]) for key, link in entries_of(pool, place)])
+
+    def add(self, row):
+        self.rows.append(row)
+        return len(self.rows) - 1
+
+    def add_once(self, row):
+        same = row.letter, *row.numbers, *row.links
+        if same not in self.once:
+            self.once[same] = self.add(row)
+        return self.once[same]
+
+    def trie(self, entries, depth=0):
+        """The trie of keys, each with its entry's place, which agree in their digits above a depth."""
+        at = {}
+        for key, place in entries:
+            at.setdefault(digit(code_of(key, self.bits), depth), []).append((key, place))
+        alone = [position for position in sorted(at) if len(at[position]) == 1]
+        below = [position for position in sorted(at) if len(at[position]) > 1]
+        links = [at[position][0][1] for position in alone]
+        for position in below:
+            is_last = depth == RULES[TODAY].deepest
+            links.append(self.chain(at[position]) if is_last else self.trie(at[position], depth + 1))
+        sets = [sum(1 << position for position in those) for those in (alone, below)]
+        return self.add_once(Row("m", None, [depth, *sets], links))
+
+    def chain(self, entries):
+        """The chain of keys, the least one first."""
+        rest = []
+        for _key, place in sorted(entries, key=lambda entry: entry[0].encode("utf-8"), reverse=True):
+            rest = [self.add_once(Row("k", None, [], [place, *rest]))]
+        return rest[0]
+
+
+def entries_of(pool, place):
+    """The keys of a map or a set, each with the place of its entry."""
+    waiting = [place]
+    while waiting:
+        for link in pool.rows[waiting.pop()].links:
+            if pool.rows[link].letter in "mk":
+                waiting.append(link)
+            else:
+                yield key_of(pool, link), link
+
+
+def carried(pool, bits):
+    """The pool of today that a valid one of version 1 stands for in a shell by so many bits."""
+    carrying = Carrying(pool, bits)
+    return in_order(Pool(TODAY, bits, carrying.rows, [carrying.image[root] for root in pool.roots]))
+
+
+def stands_for(pool, bits=BITS):
+    """The pool that the document of a valid one stands for in a shell by so many bits."""
+    return pool if pool.version == TODAY else carried(pool, bits)
+
+
+def saved(data, bits=BITS):
+    """What a shell by so many bits saves that has loaded these bytes."""
+    return written(stands_for(read(data, bits).pool, bits))
 
 
 # What a document stands for
@@ -420,14 +528,7 @@ class Workspace:
 
     def entries(self, place):
         """The keys of a map or a set, each with its entry's row."""
-        waiting = [place]
-        while waiting:
-            for link in self.pool.rows[waiting.pop()].links:
-                row = self.pool.rows[link]
-                if row.letter in "mk":
-                    waiting.append(link)
-                else:
-                    yield key_of(self.pool, link), row
+        return [(key, self.pool.rows[link]) for key, link in entries_of(self.pool, place)]
 
     def versions(self):
         """The places of the states that have names, by these."""
@@ -448,8 +549,8 @@ class Workspace:
         """What a reader sees first."""
         sizes = {name: len(lines) for name, lines in sorted(self.buffers(self.current).items())}
         named = sorted(self.versions())
-        return f"rows {len(self.pool.rows)}, buffers {sizes}, stars {sorted(self.stars(self.current))}, " \
-            f"versions {named}, undo {len(self.undo)}, redo {len(self.redo)}"
+        return f"version {self.pool.version}, rows {len(self.pool.rows)}, buffers {sizes}, " \
+            f"stars {sorted(self.stars(self.current))}, versions {named}, undo {len(self.undo)}, redo {len(self.redo)}"
 
 
 # Writing
@@ -469,7 +570,7 @@ def document(pool):
     """The JSON value of a pool as it stands, whether it is valid or not."""
     return {
         "bits": pool.bits, "format": "ewig-pool", "roots": list(pool.roots), "rows": [form(row) for row in pool.rows],
-        "version": 1,
+        "version": pool.version,
     }
 
 
@@ -478,7 +579,7 @@ def in_order(pool):
     order = order_of(pool.rows, pool.roots)
     new = {place: index for index, place in enumerate(order)}
     rows = [pool.rows[place]._replace(links=[new[link] for link in pool.rows[place].links]) for place in order]
-    return Pool(pool.bits, rows, [new[root] for root in pool.roots])
+    return pool._replace(rows=rows, roots=[new[root] for root in pool.roots])
 
 
 def written(pool):
@@ -492,9 +593,10 @@ EMPTY_MAP = ["m", 0, 0, 0, []]
 START_ROWS = [EMPTY_MAP, EMPTY_MAP, ["s", [0, 1]], EMPTY_MAP, ["l", []], ["l", []]]
 
 
-def whole(rows, roots, **others):
+def whole(rows, roots, version=TODAY, **others):
     """The compact document of these rows and roots, other keys in place of the usual ones."""
-    return compact({"bits": 32, "format": "ewig-pool", "roots": roots, "rows": rows, "version": 1, **others})
+    bits = RULES[version].code_bits if version in RULES else BITS
+    return compact({"bits": bits, "format": "ewig-pool", "roots": roots, "rows": rows, "version": version, **others})
 
 
 def start(last=None, more=(), roots=(2, 3, 4, 5), **others):
@@ -502,7 +604,7 @@ def start(last=None, more=(), roots=(2, 3, 4, 5), **others):
     return whole(START_ROWS[:-1] + [last or ["l", []], *more], list(roots), **others)
 
 
-def full_undo():
+def full_undo(**others):
     """A document of sixteen rows whose undo has 4,294,967,295 states."""
     rows = [EMPTY_MAP, ["s", [0, 0]], ["l", [1] * 32]]
     for height in range(1, 6):
@@ -510,86 +612,145 @@ def full_undo():
     rows += [["l", [1] * 31], ["i", 1, [2] * 31 + [8]]]
     for place in range(10, 14):
         rows.append(["i", place - 8, [place - 7] * 31 + [place - 1]])
-    return whole(rows + [["i", 6, [7, 7, 7, 13]], ["l", []]], [1, 0, 14, 15])
+    return whole(rows + [["i", 6, [7, 7, 7, 13]], ["l", []]], [1, 0, 14, 15], **others)
 
 
-def two_lines(cells, leaf):
-    """A buffer `a` with the lines `x` and `x`."""
+def two_lines(cells, leaf, one_empty_map=False, **others):
+    """A buffer `a` with the lines `x` and `x`, with a map of versions of its own or with one that is the set of stars too."""
     past = len(cells)
     rows = [["c", "a"], *cells, ["l", leaf], ["p", [0, past + 1]], ["m", 0, 4096, 0, [past + 2]], EMPTY_MAP,
-            ["s", [past + 3, past + 4]], EMPTY_MAP, ["l", []], ["l", []]]
-    return whole(rows, [past + 5, past + 6, past + 7, past + 8])
+            ["s", [past + 3, past + 4]]]
+    if one_empty_map:
+        return whole(rows + [["l", []], ["l", []]], [past + 5, past + 4, past + 6, past + 7], **others)
+    return whole(rows + [EMPTY_MAP, ["l", []], ["l", []]], [past + 5, past + 6, past + 7, past + 8], **others)
 
 
-def two_names():
-    """Empty buffers `a` and `A`, whose codes part at depth 1."""
+def two_names(positions, one_empty_map=False, **others):
+    """Empty buffers `a` and `A`, whose codes part at depth 1: at these positions."""
     rows = [["c", "a"], ["l", []], ["p", [0, 1]], ["c", "A"], ["l", []], ["p", [3, 4]],
-            ["m", 1, 2**9 + 2**22, 0, [2, 5]], ["m", 0, 0, 2**12, [6]], EMPTY_MAP, ["s", [7, 8]], EMPTY_MAP,
-            ["l", []], ["l", []]]
-    return whole(rows, [9, 10, 11, 12])
+            ["m", 1, positions, 0, [2, 5]], ["m", 0, 0, 2**12, [6]], EMPTY_MAP, ["s", [7, 8]]]
+    if one_empty_map:
+        return whole(rows + [["l", []], ["l", []]], [9, 8, 10, 11], **others)
+    return whole(rows + [EMPTY_MAP, ["l", []], ["l", []]], [9, 10, 11, 12], **others)
 
 
-def in_a_chain(keys, **others):
-    """Stars `A` and `a` by 5 bits of the codes, below seven trie rows."""
-    rows = [["c", keys[1]], ["c", keys[0]], ["k", [0]], ["k", [1, 2]], ["m", 6, 0, 1, [3]]]
-    for depth in range(5, 0, -1):
+OLD_POSITIONS, POSITIONS = 2**9 + 2**22, 2**4 + 2**23
+
+
+def in_a_chain(keys, version=TODAY, **others):
+    """Stars `A` and `a` by 5 bits of the codes, below a trie row for each depth."""
+    deepest = RULES[version].deepest
+    rows = [["c", keys[1]], ["c", keys[0]], ["k", [0]], ["k", [1, 2]], ["m", deepest, 0, 1, [3]]]
+    for depth in range(deepest - 1, 0, -1):
         rows.append(["m", depth, 0, 1, [len(rows) - 1]])
     rows.append(["m", 0, 0, 2**12, [len(rows) - 1]])
-    rows += [EMPTY_MAP, ["s", [11, 10]], EMPTY_MAP, ["l", []], ["l", []]]
-    pool = pool_of({"bits": 5, "format": "ewig-pool", "roots": [12, 13, 14, 15], "rows": rows, "version": 1}, 5)
-    return compact({**document(in_order(pool)), **others})
+    end = len(rows)
+    rows += [EMPTY_MAP, ["s", [end, end - 1]], EMPTY_MAP, ["l", []], ["l", []]]
+    roots = [end + 1, end + 2, end + 3, end + 4]
+    value = {"bits": 5, "format": "ewig-pool", "roots": roots, "rows": rows, "version": version}
+    return compact({**document(in_order(pool_of(value, 5))), **others})
+
+
+def known_by(version):
+    """Documents of a version, and the replies to them by as many bits as codes of today have."""
+    def of(make, *given, **others):
+        return make(*given, version=version, **others)
+
+    cell, deepest = ["c", "x"], RULES[version].deepest
+    positions = {OLD: OLD_POSITIONS, TODAY: POSITIONS}
+    lone = [["c", "a"], ["m", 1, {OLD: 512, TODAY: 16}[version], 0, [0]]]
+    chain = [["c", "a"], ["c", "b"], ["k", [1]], ["k", [0, 2]]]
+    return [
+        (of(start), "ok"), (of(whole, [EMPTY_MAP, ["s", [0, 0]], ["l", []]], [1, 0, 2, 2]), "ok"),
+        (of(two_names, positions[version]), "ok"), (of(two_names, positions[OLD + TODAY - version]), "! damaged trie"),
+        (of(two_lines, [cell, cell], [1, 2]), "ok"), (of(two_lines, [cell], [1, 1]), "ok"), (of(full_undo), "ok"),
+        (of(whole, [], [2, 3, 4]), "! damaged form"),
+        (of(start, bits=31), "! damaged bits"), (of(start, bits=RULES[OLD + TODAY - version].code_bits), "! damaged bits"),
+        (of(start, last=["q", []], bits=31), "! damaged bits"), (of(start, last=["q", []]), "! damaged row"),
+        (of(whole, [["l", [0]]], [0, 0, 0, 0]), "! damaged link"),
+        (of(start, more=[["c", "x\ny"]]), "! damaged text"), (of(start, last=["i", 1, [4]]), "! damaged vector"),
+        (of(whole, lone, [1, 1, 1, 1]), "! damaged trie"), (of(start, roots=[3, 3, 4, 5]), "! damaged kind"),
+        (of(start, last=["m", deepest, 0, 0, []]), "! damaged trie"),
+        (of(start, last=["m", deepest + 1, 0, 0, []]), "! damaged row"),
+        (of(start, more=[*chain, ["m", deepest, 0, last_positions(RULES[version]) + 1, [9]]]), "! damaged trie"),
+        (of(start, more=[["c", "z"]]), "! damaged order"), (of(start, roots=[2, 3, 5, 4]), "! damaged order"),
+        (of(in_a_chain, "aA" if version == OLD else "Aa"), "! damaged bits"),
+        (of(in_a_chain, "Aa", bits=RULES[version].code_bits), "! damaged trie"),
+        (of(start, more=[["c", "\\"]]).replace(b"\\\\", b"\\ud800"), "! damaged json"),
+        (of(start, bits=True), "! damaged form"), (of(start, bits=1.5), None), (b" " + of(start) + b"\n", "ok"),
+        (of(start, more=[["c", "é" * 32_768]]), "! damaged order"), (of(start, more=[["c", "é" * 32_769]]), "! damaged text"),
+    ]
 
 
 def known():
-    """Documents by 32 bits, and the replies to them."""
-    cell = ["c", "x"]
-    lone = [["c", "a"], ["m", 1, 512, 0, [0]]]
+    """Documents, and the replies to them by as many bits as codes of today have."""
     return [
-        (start(), "ok"), (whole([EMPTY_MAP, ["s", [0, 0]], ["l", []]], [1, 0, 2, 2]), "ok"), (two_names(), "ok"),
-        (two_lines([cell, cell], [1, 2]), "ok"), (two_lines([cell], [1, 1]), "ok"), (full_undo(), "ok"),
-        (b'{"bits":32', "! damaged json"), (whole([], [2, 3, 4]), "! damaged form"),
-        (start(version=9), "! damaged version"), (start(bits=31), "! damaged bits"),
-        (start(last=["q", []], bits=31), "! damaged bits"), (start(last=["q", []]), "! damaged row"),
-        (whole([["l", [0]]], [0, 0, 0, 0]), "! damaged link"),
-        (start(more=[["c", "x\ny"]]), "! damaged text"), (start(last=["i", 1, [4]]), "! damaged vector"),
-        (whole(lone, [1, 1, 1, 1]), "! damaged trie"), (start(roots=[3, 3, 4, 5]), "! damaged kind"),
-        (start(more=[["c", "z"]]), "! damaged order"), (start(roots=[2, 3, 5, 4]), "! damaged order"),
-        (in_a_chain("aA"), "! damaged bits"), (in_a_chain("aA", bits=32), "! damaged trie"),
+        *known_by(OLD), *known_by(TODAY),
+        (b'{"bits":32', "! damaged json"), (start(version=9), "! damaged version"), (start(version=0), "! damaged version"),
+        (start(version=TODAY + 1), "! damaged version"), (start(version=9, bits=31), "! damaged version"),
         (b"\xff", "! damaged json"), (b"\xef\xbb\xbf" + start(), "! damaged json"), (b"", "! damaged json"),
-        (b"[]", "! damaged form"), (start(more=[["c", "\\"]]).replace(b"\\\\", b"\\ud800"), "! damaged json"),
-        (start(version=-1), "! damaged form"), (start(bits=True), "! damaged form"), (start(bits=1.5), None),
-        (start(version=2**64), None), (b"[" * 1000, None), (b" " + start() + b"\n", "ok"),
-        (start(more=[["c", "é" * 32_768]]), "! damaged order"), (start(more=[["c", "é" * 32_769]]), "! damaged text"),
+        (b"[]", "! damaged form"), (start(version=-1), "! damaged form"), (start(version=2**64), None), (b"[" * 1000, None),
+    ]
+
+
+def known_by_fewer():
+    """Documents with the bits of the shell that reads them, and its reply."""
+    return [
+        (in_a_chain("Aa"), 5, "ok"), (in_a_chain("aA"), 5, "! damaged trie"), (in_a_chain("aa"), 5, "! damaged trie"),
+        (in_a_chain("Aa", version=OLD), 5, "ok"), (in_a_chain("aA", version=OLD), 5, "! damaged trie"),
+        (in_a_chain("Aa", version=OLD), 32, "! damaged bits"), (in_a_chain("Aa", version=OLD), 64, "! damaged bits"),
+        (start(version=OLD), 32, "ok"), (start(version=OLD), 33, "ok"), (start(version=OLD), 31, "! damaged bits"),
+        (start(version=OLD, bits=31), 31, "ok"), (start(version=OLD, bits=0), 0, "ok"), (start(version=OLD, bits=33), 33, "! damaged bits"),
+        (start(), 32, "! damaged bits"), (start(bits=32), 32, "ok"), (start(bits=33), 33, "ok"), (start(bits=0), 0, "ok"),
+    ]
+
+
+def carried_over():
+    """Documents of version 1, the bits of the shell that reads them, and what it saves."""
+    cell = ["c", "x"]
+    return [
+        (start(version=OLD), BITS, whole([EMPTY_MAP, ["s", [0, 0]], ["l", []], ["l", []]], [1, 0, 2, 3])),
+        (whole([EMPTY_MAP, ["s", [0, 0]], ["l", []]], [1, 0, 2, 2], version=OLD), BITS, whole([EMPTY_MAP, ["s", [0, 0]], ["l", []]], [1, 0, 2, 2])),
+        (two_lines([cell, cell], [1, 2], version=OLD), BITS, two_lines([cell, cell], [1, 2], one_empty_map=True)),
+        (two_lines([cell], [1, 1], version=OLD), BITS, two_lines([cell], [1, 1], one_empty_map=True)),
+        (two_names(OLD_POSITIONS, version=OLD), BITS, two_names(POSITIONS, one_empty_map=True)),
+        (two_names(OLD_POSITIONS, version=OLD), 40, two_names(POSITIONS, one_empty_map=True, bits=40)),
+        (full_undo(version=OLD), BITS, full_undo()),
+        (full_undo(version=OLD, bits=7), 7, full_undo(bits=7)),
     ]
 
 
 def self_test():
     """How many known documents are read otherwise than they should be."""
     wrong = 0
-    for data, reply in known():
-        if reply_to(data) != reply:
-            print(f"{reply_to(data)}, and not {reply}: {data[:200]!r}")
+    replies = [(data, BITS, reply) for data, reply in known()] + known_by_fewer()
+    for data, bits, reply in replies:
+        if reply_to(data, bits) != reply:
+            print(f"{reply_to(data, bits)} by {bits} bits, and not {reply}: {data[:200]!r}")
             wrong += 1
-    for keys, reply in [("Aa", "ok"), ("aA", "! damaged trie"), ("aa", "! damaged trie")]:
-        wrong += reply_to(in_a_chain(keys), 5) != reply
-    undo = read(full_undo(), 32).undo
+    undo = read(full_undo()).undo
     wrong += len(undo) != 2**32 - 1 or undo[0] != 1 or undo[2**32 - 2] != 1
-    examples = os.path.join(os.path.dirname(os.path.abspath(__file__)), "..", "examples")
-    saved = [path for path in glob.glob(f"{examples}/save_*.kept/*") if os.path.isfile(path)]
-    for path in saved:
+    for data, bits, wanted in carried_over():
+        if saved(data, bits) != wanted:
+            print(f"{data[:200]!r} is carried over to {saved(data, bits)[:200]!r}, and not to {wanted[:200]!r}")
+            wrong += 1
+    paths = [path for path in glob.glob(f"{EXAMPLES}/save_*.kept/*") if os.path.isfile(path)]
+    for path in paths:
         with open(path, "rb") as file:
             data = file.read()
-        if data.startswith(b"{") and written(read(data, 32).pool) != data:
+        if data.startswith(b"{") and saved(data) != data:
             print(f"{path} is written otherwise")
             wrong += 1
-    print(f"{len(known()) + 4} known documents and {len(saved)} files of examples: {wrong} read wrongly")
+    count = len(replies) + len(carried_over()) + 1
+    print(f"{count} known documents and {len(paths)} files of examples: {wrong} read wrongly")
     return wrong
 
 
 def main():
     words = argparse.ArgumentParser(description="Reads pool documents.")
     words.add_argument("files", nargs="*")
-    words.add_argument("--bits", type=int, default=32)
+    words.add_argument("--bits", type=int, default=BITS)
+    words.add_argument("--saved", action="store_true")
     words.add_argument("--self-test", action="store_true")
     chosen = words.parse_args()
     if chosen.self_test:
@@ -598,11 +759,15 @@ def main():
     for path in chosen.files:
         try:
             with open(path, "rb") as file:
-                said = read(file.read(), chosen.bits).summary()
+                data = file.read()
+            if chosen.saved:
+                sys.stdout.buffer.write(saved(data, chosen.bits))
+                continue
+            said = read(data, chosen.bits).summary()
         except (OSError, Damaged, LeftOpen) as why:
             refused += 1
             said = f"! damaged {why}" if isinstance(why, Damaged) else str(why) or "the format leaves it open"
-        print(f"{path}: {said}")
+        print(f"{path}: {said}", file=sys.stderr if chosen.saved else sys.stdout)
     return 1 if refused else 0
 
 

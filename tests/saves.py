@@ -27,8 +27,6 @@ import pool_reader
 from fuzz import drawn_script
 from plain_shell import Shell, pieces
 
-BITS = 32
-
 # What asks for the rows that there are and for those that were ever made, what replies, and both numbers of a new space.
 ROWS = [b"stats", b"made"]
 NUMBER = re.compile(r"= (0|[1-9][0-9]*)\Z", re.ASCII)
@@ -74,10 +72,10 @@ def wrong_number(numbers):
 def difference(shell, rows, data):
     """How a saved document differs from what the plain shell has, or None."""
     try:
-        workspace = pool_reader.read(data, BITS)
+        workspace = pool_reader.read(data)
     except pool_reader.Damaged as damage:
         return f"the document fails the test {damage}"
-    if pool_reader.written(workspace.pool) != data:
+    if workspace.pool.version != pool_reader.TODAY or pool_reader.written(workspace.pool) != data:
         return "the document isn't the compact text of its rows"
     if rows != len(workspace.pool.rows):
         return f"the document has {len(workspace.pool.rows)} rows, and not {rows}"

@@ -1,35 +1,60 @@
 //! Texts, lines, names and codes.
 use elem_core::{
     CODE_BITS, Code, DEEPEST, Element, LEVELS, Line, MAX_LINE, Name, NoMemory, Num, Probe, Stored,
-    Text, Texts, digit, fnv32, is_name, masked, text_of,
+    Text, Texts, digit, fnv32, fnv64, is_name, masked, text_of,
 };
 use std::alloc::{AllocError, AllocFailed};
 use std::cmp::Ordering;
 use std::test::Fail;
 
-// Vectors of FNV-1a with 32 bits, with the digits of the two lowest depths.
+// Vectors of FNV-1a with 64 bits, with the digits of the two lowest depths.
 #[test]
 fn codes_are_those_of_fnv_1a(rt: HostRuntime) {
     let rows = [
-        ("", 0x811c_9dc5, 5, 14),
-        ("a", 0xe40c_292c, 12, 9),
-        ("b", 0xe70c_2de5, 5, 15),
-        ("A", 0xc40b_f6cc, 12, 22),
-        ("foobar", 0xbf9c_f968, 8, 11),
+        ("", 0xcbf2_9ce4_8422_2325, 5, 25),
+        ("a", 0xaf63_dc4c_8601_ec8c, 12, 4),
+        ("b", 0xaf63_df4c_8601_f1a5, 5, 13),
+        ("A", 0xaf63_fc4c_8602_22ec, 12, 23),
+        ("foobar", 0x8594_4171_f739_67e8, 8, 31),
+        ("7mohtcOFVz", 0x184a_de9a_9619_53a2, 2, 29),
+        ("c1E51sSEyx", 0x184a_de9a_9619_53a2, 2, 29),
     ];
     for (text, code, first, second) in rows {
-        assert_eq!(rt; fnv32(text.as_bytes()), code, "of {text:?}");
+        assert_eq!(rt; fnv64(text.as_bytes()), code, "of {text:?}");
         assert_eq!(rt; digit(code, 0), first, "of {text:?}");
         assert_eq!(rt; digit(code, 1), second, "of {text:?}");
     }
-    assert_eq!(rt; masked(0xe40c_292c, 5), 12);
-    assert_eq!(rt; masked(0xc40b_f6cc, 5), 12);
-    assert_eq!(rt; masked(0xe40c_292c, 0), 0);
-    assert_eq!(rt; masked(0xe40c_292c, CODE_BITS), 0xe40c_292c);
+    assert_eq!(rt; masked(0xaf63_dc4c_8601_ec8c, 5), 12);
+    assert_eq!(rt; masked(0xaf63_fc4c_8602_22ec, 5), 12);
+    assert_eq!(rt; masked(0xaf63_dc4c_8601_ec8c, 0), 0);
+    assert_eq!(rt; masked(0xaf63_dc4c_8601_ec8c, 40), 0x4c_8601_ec8c);
+    assert_eq!(rt;
+        masked(0xaf63_dc4c_8601_ec8c, CODE_BITS),
+        0xaf63_dc4c_8601_ec8c
+    );
     for depth in 1..LEVELS {
-        assert_eq!(rt; digit(masked(0xe40c_292c, 5), depth), 0, "at {depth}");
+        assert_eq!(rt;
+            digit(masked(0xaf63_dc4c_8601_ec8c, 5), depth),
+            0,
+            "at {depth}"
+        );
     }
-    assert_eq!(rt; digit(0xe40c_292c, DEEPEST), 3);
+    assert_eq!(rt; digit(0xaf63_dc4c_8601_ec8c, DEEPEST), 10);
+}
+
+// Vectors of FNV-1a with 32 bits, the codes of documents of version 1.
+#[test]
+fn old_codes_are_those_of_fnv_1a(rt: HostRuntime) {
+    let rows = [
+        ("", 0x811c_9dc5),
+        ("a", 0xe40c_292c),
+        ("b", 0xe70c_2de5),
+        ("A", 0xc40b_f6cc),
+        ("foobar", 0xbf9c_f968),
+    ];
+    for (text, code) in rows {
+        assert_eq!(rt; fnv32(text.as_bytes()), code, "of {text:?}");
+    }
 }
 
 #[test]

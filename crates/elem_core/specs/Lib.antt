@@ -3,3 +3,4 @@ pub mod Naming
 pub mod Shown
 pub mod Codes
 pub mod Kept
+pub mod Worked

@@ -8,7 +8,7 @@ ghost use Rattle.std.specs.declared.cmp.Ordering.TheVariants.{Equal};
 ghost use Rattle.elem_core.specs.Cell.{IsCell};
 ghost use Rattle.elem_core.specs.Codes.{text_code};
 
-use super::codes::{Code, fnv32};
+use super::codes::{Code, fnv64};
 use super::text::Text;
 use super::words::Name;
 use std::cmp::Ordering;
@@ -89,7 +89,7 @@ impl Element for Num {
     ghost code_of = { λ number. number.0 };
 
     fn code(&self) -> Code {
-        self.0
+        u64::from(self.0)
     }
 
     ghost equal_codes = { λ x y same. nat_cmp-IsAntisymmetric x.0 y.0 same };
@@ -102,7 +102,7 @@ impl Element for Text {
     ghost code_of = { text_code };
 
     fn code(&self) -> Code {
-        fnv32(self.text().as_bytes())
+        fnv64(self.text().as_bytes())
     }
 
     ghost equal_codes = { λ x y same. ap text_code (slice_cmp-IsAntisymmetric nat_cmp-IsAntisymmetric x y same) };
@@ -141,7 +141,7 @@ impl Probe<Text> for Name<'_> {
     ghost stands_for = { name_bytes };
 
     fn code(&self) -> Code {
-        fnv32(self.as_str().as_bytes())
+        fnv64(self.as_str().as_bytes())
     }
 
     fn order(&self, other: &Text) -> Ordering {

@@ -4,11 +4,13 @@
 mod codes;
 mod element;
 mod kept;
+mod laws;
 mod text;
 mod words;
 
-pub use codes::{CODE_BITS, Code, DEEPEST, LEVELS, digit, fnv32, masked};
+pub use codes::{CODE_BITS, Code, DEEPEST, LEVELS, digit, fnv32, fnv64, masked};
 pub use element::{Element, Num, Probe, Stored};
+pub use laws::worked_codes;
 use std::alloc::{AllocError, AllocFailed};
 pub use text::{Text, Texts, text_of};
 use thiserror::Error;

@@ -6,8 +6,10 @@ pub mod ReplyLemmas
 pub mod CommandLemmas
 pub mod StepLemmas
 pub mod SaveLemmas
+pub mod DocumentLemmas
 pub mod LoadLemmas
 pub mod RoundTripLemmas
+pub mod StandsLemmas
 pub mod ReadLemmas
 pub mod WorkLemmas
 pub mod RunLemmas

@@ -23,7 +23,7 @@ use Rattle.pool_text.specs.Document.{pool_in_bytes, bytes_damage}
 use Rattle.pool_text.specs.declared.pool.Pool.{Pool}
 use Rattle.pool_text.specs.declared.damage.Damage.{Damage}
 use Rattle.pool_text.specs.declared.damage.Damage.TheVariants as damage_is
-use Rattle.pool_check.specs.Damages.{damage, document_damage, IsValid}
+use Rattle.pool_check.specs.Damages.{own_damage, document_damage, IsValid}
 use Rattle.state_rows.specs.Standing.{StandsFor}
 use Rattle.space_state.specs.View.{SpaceView, CarriesOut, Ends, EndsTaking}
 use Rattle.shell_io.specs.Fault.{Calls}
@@ -34,7 +34,7 @@ use Rattle.shell_io.specs.declared.device.FetchFault.TheVariants as fetch
 use Rattle.shell_io.specs.declared.device.Store as store_trait
 use Rattle.ewig_shell.specs.declared.load.LoadFault.{LoadFault}
 use Rattle.ewig_shell.specs.declared.load.LoadFault.TheVariants as unloaded
-use Rattle.ewig_shell.specs.Step.{Machine, KeepsFiles, Refuses, Fetched, fetched, missing, large, given, Makes, Takes, IsLoaded, LoadsBytes, ReadsBytes, SaysElsewhere, ObeysOn, CountsStore, shown_store, machine_of, uses_store, most_stored, damage_word, reply_of, refusal_of, loaded_reply}
+use Rattle.ewig_shell.specs.Step.{Machine, KeepsFiles, Refuses, Fetched, fetched, missing, large, given, Makes, Takes, DocumentStandsFor, IsLoaded, LoadsBytes, ReadsBytes, SaysElsewhere, ObeysOn, CountsStore, shown_store, machine_of, uses_store, most_stored, damage_word, reply_of, refusal_of, loaded_reply}
 use Rattle.ewig_shell.specs.Loading.{TakesIn, FillsIn, fault_of, load_fault, read_fault}
 use Rattle.ewig_shell.proofs.ReplyLemmas.{other-reply}
 use Rattle.ewig_shell.proofs.StepLemmas.{same_files, CountsStore-failed, CountsStore-succeeded, load-outside, answer-outside, Obeys-elsewhere, ObeysOn-refused, may_lack, fault-is}
@@ -47,8 +47,8 @@ module _ (bits : ℕ) (bytes : Bytes) where
   unfolding document_damage
   read_damage d e = rw e refl
 
-  -- one found in the pool that it stands for
-  pub pool_damage : (P : Pool) (found : Option Damage) → bytes_damage bits bytes ≡ None → pool_in_bytes bytes ≡ Some P → damage P ≡ found → document_damage bits bytes ≡ found
+  -- one found in the pool of its rows
+  pub pool_damage : (P : Pool) (found : Option Damage) → bytes_damage bits bytes ≡ None → pool_in_bytes bytes ≡ Some P → own_damage P ≡ found → document_damage bits bytes ≡ found
   unfolding document_damage
   pool_damage P found none is e = rw none (rw is e)
 
@@ -79,12 +79,12 @@ module _ (bytes : Bytes) (old new : SpaceView) where
   TakesIn-damaged (Ok done) d e is same = absurd e
   TakesIn-damaged (Err fault) d e is same = subst (λ (f : LoadFault). TakesIn bytes old (Err f) new) (sym e) (by_fault d bytes old new is same)
 
-  -- its pool is the space's now
-  pub TakesIn-ok : (P : Pool) → pool_in_bytes bytes ≡ Some P → P.bits ≡ old.pool.bits → document_damage old.pool.bits bytes ≡ None → IsValid P → new.pool ≡ P → new.made ≡ min (old.made + row_count P) (2 ^ 64 - 1) → TakesIn bytes old (Ok tt) new
+  -- what it stands for is the space's now
+  pub TakesIn-ok : (P : Pool) → DocumentStandsFor old.pool.bits bytes P → P.bits ≡ old.pool.bits → document_damage old.pool.bits bytes ≡ None → IsValid P → new.pool ≡ P → new.made ≡ min (old.made + row_count P) (2 ^ 64 - 1) → TakesIn bytes old (Ok tt) new
   TakesIn-ok P is bits whole valid same made =
       inl (subst (λ (d : Option Damage). MatchOption d (IsLoaded bytes old (reply_of (ok_line ∷ [])) new) (λ (w : Damage). Refuses old (codes "damaged " ++ damage_word w) (reply_of (ok_line ∷ [])) new)) (sym whole) (record {
         reply_is = refl;
-        pool = is ∙ ap Some (sym same);
+        pool = subst (DocumentStandsFor old.pool.bits bytes) (sym same) is;
         valid = subst (λ (Q : Pool). IsValid Q) (sym same) valid;
         bits = ap (λ (Q : Pool). Q.bits) same ∙ bits;
         made = subst (λ (Q : Pool). new.made ≡ min (old.made + row_count Q) (2 ^ 64 - 1)) (sym same) made;

@@ -1,7 +1,6 @@
 -- What a save and a load make of each other.
 use Rattle.std.proofs.Common.{◌≡◌, ℕ, List, ◌++◌, Bool, true, false, Option, None, Some, codes, length, refl, sym, ap, subst, ◌∙◌, inl, inr, ◌⊎◌, cond, MatchBool, MatchOption, IfSome, Ok}
 use Rattle.std.proofs.lemmas.Option.{same_Some}
-use Rattle.std.specs.Option.{option_or}
 use Rattle.std.specs.FinMap.{get, insert}
 use Rattle.shell_terms.specs.Edit.{Bytes}
 use Rattle.shell_terms.specs.Command.{PlainCommand, save, load}
@@ -9,7 +8,8 @@ use Rattle.plain_space.specs.declared.refusal.Refusal.TheVariants as why
 use Rattle.plain_space.specs.Workspace.{Workspace, in_batch}
 use Rattle.plain_space.specs.Refusing.{unless}
 use Rattle.plain_space.specs.Answer.{Answer, elsewhere}
-use Rattle.pool_text.specs.Document.{text, pool_in_bytes, bytes_damage}
+use Rattle.pool_text.specs.Pool.{today}
+use Rattle.pool_text.specs.Document.{text, pool_in_bytes}
 use Rattle.pool_text.specs.declared.pool.Pool.{Pool}
 use Rattle.pool_text.specs.declared.damage.Damage.{Damage}
 use Rattle.pool_text.proofs.DocumentBack.{compact-stays}
@@ -22,6 +22,7 @@ use Rattle.space_state.specs.View.{SpaceView}
 use Rattle.state_rows.proofs.FourRoots.{outside-batch}
 use Rattle.ewig_shell.specs.Step.{Machine, Refuses, IsStored, FailsToStore, IsLoaded, Fetched, large, given, fetched, Makes, TakesFile, LoadsBytes, SaysElsewhere, Gives, Obeys, is_large, damage_word, refusal_of}
 use Rattle.ewig_shell.specs.RoundTrip.{ok_reply, LoadThenSave, SaveThenLoad}
+use Rattle.ewig_shell.proofs.DocumentLemmas.{present-stands, is-present}
 use Rattle.ewig_shell.proofs.ReplyLemmas.{no-refusal}
 use Rattle.ewig_shell.proofs.StepLemmas.{IsOutsideBatch, save-outside, load-outside}
 
@@ -101,14 +102,6 @@ loaded-ok name old new files bytes told there obeys = elim (said-ok (load name) 
 
 -- ## A load, and then a save
 
-first-none : (one other : Option Damage) → option_or one other ≡ None → one ≡ None
-first-none None other none = refl
-first-none (Some d) other none = absurd (let some : Some d ≡ None = none in cc)
-
-read-undamaged : (bits : ℕ) (bytes : Bytes) → document_damage bits bytes ≡ None → bytes_damage bits bytes ≡ None
-unfolding document_damage
-read-undamaged bits bytes whole = first-none (bytes_damage bits bytes) _ whole
-
 -- the loaded pool has four roots
 four-loaded : (bits : ℕ) (bytes : Bytes) (P : Pool) → document_damage bits bytes ≡ None → pool_in_bytes bytes ≡ Some P → length P.roots ≡ 4
 four-loaded bits bytes P whole read =
@@ -126,10 +119,11 @@ saved-if false name bytes reply old new small same ends = elim ends [
 ]
 
 pub load-then-save : LoadThenSave
-load-then-save first loaded later last files file other bytes reply told there compact loads same saves =
+load-then-save first loaded later last files file other bytes reply told there compact now loads same saves =
     let read = loaded-ok file first loaded files bytes told there loads in
-    let text_is : text later.space.pool ≡ bytes = ap text same ∙ compact-stays first.space.pool.bits bytes loaded.space.pool (read-undamaged first.space.pool.bits bytes read.1) read.2.pool compact in
-    let four : length later.space.pool.roots ≡ 4 = ap (λ (P : Pool). length P.roots) same ∙ four-loaded first.space.pool.bits bytes loaded.space.pool read.1 read.2.pool in
+    let present = present-stands first.space.pool.bits bytes loaded.space.pool now read.2.pool in
+    let text_is : text later.space.pool ≡ bytes = ap text same ∙ compact-stays bytes loaded.space.pool present.0 present.1 compact in
+    let four : length later.space.pool.roots ≡ 4 = ap (λ (P : Pool). length P.roots) same ∙ four-loaded first.space.pool.bits bytes loaded.space.pool read.1 present.0 in
     elim saves.gives [
       | inl gives ↦
           let said : SaysElsewhere (save other) later saves.work reply last =
@@ -153,7 +147,8 @@ save-then-load first saved later last files file other reply saves told there bi
             subst (λ (b : Bool). Makes (LoadsBytes later.space) (cond b large (given (text P))) later.space reply last.space) stored.0 (read-file other later last reply files (text P) told there reads) in
             let is : IsLoaded (text P) later.space reply last.space =
             subst (λ (o : Option Damage). MatchOption o (IsLoaded (text P) later.space reply last.space) (λ (d : Damage). Refuses later.space (codes "damaged " ++ damage_word d) reply last.space)) whole small in
-            inl (is.reply_is, same_Some last.space.pool P (sym is.pool ∙ stored.2.read))
+            let present = present-stands later.space.pool.bits (text P) last.space.pool (is-present (text P) (today P) stored.2.read refl) is.pool in
+            inl (is.reply_is, same_Some last.space.pool (today P) (sym present.0 ∙ stored.2.read))
         | inr fails ↦ inr (inr (inl fails.space))
       ]
       | inr keeps ↦ elim keeps [

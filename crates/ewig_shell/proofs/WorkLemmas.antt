@@ -1,13 +1,12 @@
 -- What lines come to that the program makes by itself.
-use Rattle.std.proofs.Common.{◌≡◌, ℕ, ◌+◌, Bool, false, zero, suc, List, [], ◌∷◌, ◌++◌, length, sym, ap, ◌∙◌, subst, refl, arith, append_assoc, codes, bytes_eq, count_by, sum_by, map, Result, Ok, Err, IsTrue, cond}
+use Rattle.std.proofs.Common.{◌≡◌, ℕ, ◌+◌, Bool, false, zero, suc, List, [], ◌∷◌, ◌++◌, length, sym, ap, ◌∙◌, subst, refl, arith, append_assoc, codes, bytes_eq, count_by, Result, Ok, Err, IsTrue, cond}
 use Rattle.std.proofs.Common.{get_or}
 use Rattle.std.specs.Prelude.{◌==◌}
 use Rattle.std.specs.List.{position_or_len}
 use Rattle.std.proofs.lemmas.Bool.{eqb-false}
 use Rattle.std.proofs.lemmas.List.{append-nil, get_or_default}
-use Rattle.std.proofs.lemmas.List.Sums.{fails_before_first, sum_by-append, sum_by-cons}
+use Rattle.std.proofs.lemmas.List.Sums.{fails_before_first, sum_by-append}
 use Rattle.elem_core.specs.declared.TheConstants.{NEWLINE}
-use Rattle.shell_terms.specs.Edit.{Bytes}
 use Rattle.shell_terms.specs.Command.{PlainCommand, edit, mark, unmark, back, undo, redo, begin, «end», abort}
 use Rattle.shell_terms.specs.Changing.{only_changes}
 use Rattle.plain_space.specs.declared.refusal.Refusal.{Refusal}

@@ -7,3 +7,4 @@ pub mod Going
 pub mod Saving
 pub mod Loading
 pub mod RoundTrip
+pub mod Stands

@@ -1,5 +1,5 @@
 -- What one piece of the input makes of a space and a store, and the reply that it gets.
-use Rattle.std.specs.Prelude.{◌≡◌, ℕ, ◌+◌, ◌-◌, ◌*◌, ◌^◌, ◌≤◌, min, Bool, true, false, nat_lt, List, [], ◌∷◌, ◌++◌, length, codes, Result, Ok, Err, Option, Some, None, IfSome, IsSomeAnd, MatchBool, MatchOption, if◌then◌else◌, ◌⊎◌}
+use Rattle.std.specs.Prelude.{◌≡◌, ℕ, ◌+◌, ◌-◌, ◌*◌, ◌^◌, ◌≤◌, min, Bool, true, false, nat_lt, List, [], ◌∷◌, ◌++◌, length, codes, Result, Ok, Err, Option, Some, None, IfSome, IsSomeAnd, MatchBool, MatchOption, if◌then◌else◌, ◌⊎◌, ◌==◌}
 use Rattle.std.specs.FinMap.{insert, get as get_file}
 use Rattle.std.specs.List.{flat_map}
 use Rattle.elem_core.specs.declared.TheConstants.{MAX_LINE, NEWLINE}
@@ -19,12 +19,16 @@ use Rattle.plain_space.specs.Workspace.{Workspace, lines_of}
 use Rattle.plain_space.specs.Answer.{Answer, tells, elsewhere, answer, ok_line, number_line, equal_line}
 use Rattle.plain_space.specs.Memory.{MayLackMemory}
 use Rattle.plain_space.specs.Session.{reason_of}
+use Rattle.pool_text.specs.Rules.{present_rules}
 use Rattle.pool_text.specs.Pool.{row_count}
 use Rattle.pool_text.specs.Document.{text, pool_in_bytes}
+use Rattle.pool_text.specs.declared.pool.Pool.{Pool}
+use Rattle.pool_text.specs.declared.rules.TheConstants.{FIRST_VERSION}
 use Rattle.pool_text.specs.declared.damage.Damage.{Damage}
 use Rattle.pool_text.specs.declared.damage.Damage.TheVariants as damage
 use Rattle.pool_check.specs.Damages.{document_damage, IsValid}
 use Rattle.pool_check.specs.Laws.{IsDocumentOf}
+use Rattle.pool_carry.specs.Carried.{IsCarried}
 use Rattle.state_rows.specs.Standing.{StandsFor}
 use Rattle.space_state.specs.View.{SpaceView, CarriesOut}
 use Rattle.ewig_shell.specs.declared.load.LoadFault.{LoadFault}
@@ -211,10 +215,16 @@ pub record FailsToTake (old : Machine) (reply : List ℕ) (new : Machine) : Type
 abbrev pub Takes : (name : List ℕ) → Machine → List ℕ → Machine → (ByBytes : List ℕ → List ℕ → SpaceView → Type 0) → Type 0
 Takes name old reply new ByBytes = TakesFile name old reply new ByBytes ⊎ FailsToTake old reply new
 
+-- In a space of so many bits the bytes stand for this pool: a document of the present version for that of its rows, and one of
+-- the first version for what that is carried to.
+abbrev pub DocumentStandsFor : ℕ → List ℕ → Pool → Type 0
+DocumentStandsFor bits bytes Q =
+    IsSomeAnd (pool_in_bytes bytes) (λ P. MatchBool (P.version == FIRST_VERSION) (IsCarried present_rules bits P Q) (Q ≡ P))
+
 -- The pool that the document stands for is the space's now, and the number made has risen by its rows, up to 2^64 - 1.
 pub record IsLoaded (bytes : List ℕ) (old : SpaceView) (reply : List ℕ) (new : SpaceView) : Type 0 where
   pub reply_is : reply ≡ reply_of (ok_line ∷ [])
-  pub pool : pool_in_bytes bytes ≡ Some new.pool
+  pub pool : DocumentStandsFor old.pool.bits bytes new.pool
   pub valid : IsValid new.pool
   pub bits : new.pool.bits ≡ old.pool.bits
   pub made : new.made ≡ min (old.made + row_count new.pool) (2 ^ 64 - 1)

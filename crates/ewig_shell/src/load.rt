@@ -1,15 +1,19 @@
 //! What a run takes from files.
 
-ghost use Rattle.std.specs.Prelude.{◌≡◌, ◌≢◌, ◌≤◌, length};
+ghost use Rattle.std.specs.Prelude.{◌≡◌, ◌≢◌, ◌≤◌, length, None, Some, IfOk, IfErr};
 ghost use Rattle.elem_core.specs.Shown.{name_bytes};
+ghost use Rattle.pool_text.specs.Rules.{first_rules, present_rules};
+ghost use Rattle.pool_check.specs.Damages.{document_damage, IsValid, IsValidBy};
+ghost use Rattle.pool_carry.specs.Carried.{IsCarried};
 ghost use Rattle.shell_terms.specs.Command.{read as read_command, load as load_command};
-ghost use Rattle.ewig_shell.specs.Step.{ObeysOn, loaded_reply, most_stored};
+ghost use Rattle.ewig_shell.specs.Step.{ObeysOn, DocumentStandsFor, loaded_reply, most_stored};
 ghost use Rattle.ewig_shell.specs.Loading.{TakesIn, FillsIn, fault_of, load_fault, read_fault};
 
 use crate::save::MOST_STORED;
-use elem_core::Name;
-use pool_check::check;
-use pool_text::{Damage, pool_from_bytes};
+use elem_core::{CODE_BITS, Name, Text};
+use pool_carry::{carried_is_valid, carry};
+use pool_check::{Checked, Old, check, check_old};
+use pool_text::{Damage, FIRST_VERSION, pool_from_bytes};
 use shell_io::{FetchFault, LinesFault, Store, lines_of};
 use space_state::{Edit, Space};
 use std::alloc::Global;
@@ -73,10 +77,11 @@ impl From<LinesFault> for LoadFault {
     }
 }
 
-/// Makes the space the one that the document in the file stands for. `Batch` exactly in a batch. Else, unless the store fails
-/// at this call (`Failed`) or memory runs out (`Memory`), and over a store that tells its files: `Missing` exactly where there
-/// is no such file, `Large` exactly where it has more than 67,108,864 bytes, and `Damaged`, with the first test that the bytes
-/// fail, exactly where they fail one. After a refusal the space is as it was.
+/// Makes the space the one that the document in the file stands for; one of the first version stands for what its pool is carried
+/// to. `Batch` exactly in a batch. Else, unless the store fails at this call (`Failed`) or memory runs out (`Memory`), and over a
+/// store that tells its files: `Missing` exactly where there is no such file, `Large` exactly where it has more than 67,108,864
+/// bytes, and `Damaged`, with the first test that the bytes fail, exactly where they fail one. After a refusal the space is as it
+/// was.
 pub fn load<D: Store>(
     alloc: Global,
     space: &mut Space,
@@ -94,13 +99,45 @@ pub fn load<D: Store>(
     take_in(alloc, space, &bytes)
 }
 
+// The pool that the bytes stand for in a space of so many code bits, checked. Refused with the first of the tests that they fail,
+// and with `Memory` where memory runs out.
+fn checked_pool(alloc: Global, bytes: &[u8], bits: u32) -> Result<Checked<Text>, Damage>
+    requires { bits ≤ CODE_BITS }
+    ensures stands { IfOk result (DocumentStandsFor bits bytes.now) }
+    ensures valid { IfOk result IsValid }
+    ensures bits { IfOk result (λ P. P.bits ≡ bits) }
+    ensures whole { IfOk result (λ _. document_damage bits bytes.now ≡ None) }
+    ensures damage { IfErr result (λ d. d ≢ Damage.Memory → document_damage bits bytes.now ≡ Some d) }
+{
+    let pool = pool_from_bytes(alloc, bytes, bits)?;
+    if pool.version == FIRST_VERSION {
+        let old = check_old::<Text>(alloc, pool)?;
+        carried(alloc, old, bits)
+    } else {
+        check(alloc, pool)
+    }
+}
+
+// The pool, carried over to so many code bits, and checked, which passes. Refused only where memory runs out.
+fn carried(alloc: Global, old: Old, bits: u32) -> Result<Checked<Text>, Damage>
+    requires bits { bits ≤ CODE_BITS }
+    requires valid { IsValidBy first_rules old }
+    ensures carried { IfOk result (IsCarried present_rules bits old) }
+    ensures valid { IfOk result IsValid }
+    ensures bits { IfOk result (λ P. P.bits ≡ bits) }
+    ensures memory { IfErr result (λ d. d ≡ Damage.Memory) }
+{
+    let pool = carry(alloc, old, bits)?;
+    carried_is_valid();
+    check(alloc, pool)
+}
+
 // Makes the space the one that the bytes stand for.
 fn take_in(alloc: Global, space: &mut Space, bytes: &[u8]) -> Result<(), LoadFault>
     ensures takes { TakesIn bytes.now space.old result space.new }
     ensures damage { result ≢ Err (LoadFault.Damaged Damage.Memory) }
 {
-    let pool = pool_from_bytes(alloc, bytes, space.bits())?;
-    let checked = check(alloc, pool)?;
+    let checked = checked_pool(alloc, bytes, space.bits())?;
     match space.take_pool(checked) {
         Ok(()) => Ok(()),
         // No batch is open where this is called.

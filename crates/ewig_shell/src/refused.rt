@@ -6,7 +6,7 @@ use crate::execute::execute;
 use crate::page::Page;
 use crate::run::Status;
 use crate::trial::{FULL_UNDO, Given, TWO_CELLS, WHOLE, run_given};
-use elem_core::Line;
+use elem_core::{CODE_BITS, Line};
 use shell_io::{MemSink, MemStore, Store};
 use space_state::Space;
 use std::alloc::Global;
@@ -31,7 +31,7 @@ fn machine_with(alloc: Global, held: &[u8]) -> Option<Machine> {
     let sink = MemSink::new(alloc, ROOM, ROOM, Vec::new(alloc)).ok()?;
     let mut store = MemStore::new(alloc, Vec::new(alloc), Vec::new(alloc));
     store.keep("d", held).ok()?;
-    let space = Space::new(alloc, 32).ok()?;
+    let space = Space::new(alloc, CODE_BITS).ok()?;
     Some(Machine { space, sink, store })
 }
 
@@ -133,14 +133,14 @@ const STARRED: [(&str, &str); 11] = [
     ("list", "= B 0\n= b 0\nok\n"),
 ];
 
-// Gives the lines to a machine whose store has this document as the file `d`, where there is one, which the lines save again as `e`.
-fn follows<R: Abort + AllocGlobal>(rt: &R, held: &str, lines: &[(&str, &str)]) {
+// Gives the lines to a machine whose store has this document as the file `d`, where there is one; the lines save it as `e`.
+fn follows<R: Abort + AllocGlobal>(rt: &R, held: &str, saved: &str, lines: &[(&str, &str)]) {
     let Some(mut machine) = machine_with(rt.alloc(), held.as_bytes()) else {
         return;
     };
     machine.give_all(rt, lines);
     if !held.is_empty() {
-        assert_eq!(rt; machine.store.file("e"), Some(held.as_bytes()));
+        assert_eq!(rt; machine.store.file("e"), Some(saved.as_bytes()));
     }
 }
 
@@ -169,17 +169,19 @@ fn edits_in_place<R: Abort + AllocGlobal>(rt: &R) {
 fn refused_rows(rt: HostRuntime) -> Result<(), Fail> {
     let rows: [&[(&str, &str)]; 3] = [&UNDONE, &CUT, &STARRED];
     for lines in rows {
-        follows(&rt, "", lines);
+        follows(&rt, "", "", lines);
     }
     edits_in_place(&rt);
     Ok(())
 }
 
-// Documents, and lines with their replies that load them, ask, save them again, and do an edit and take it back, which a full undo
-// refuses: a new space with its empty rows shared, two names in a sub-node, one line twice, two equal lines, and a full undo.
-const DOCUMENTS: [(&str, &[(&str, &str)]); 5] = [
+// Documents, what each is saved as, and lines with their replies that load it, ask, save it, and do an edit and take it back, which a
+// full undo refuses: of version 1 a new space with its empty rows shared, two names in a sub-node and one line twice, two equal lines, and of
+// version 1 a full undo.
+const DOCUMENTS: [(&str, &str, &[(&str, &str)]); 5] = [
     (
         r#"{"bits":32,"format":"ewig-pool","roots":[1,0,2,2],"rows":[["m",0,0,0,[]],["s",[0,0]],["l",[]]],"version":1}"#,
+        r#"{"bits":64,"format":"ewig-pool","roots":[1,0,2,2],"rows":[["m",0,0,0,[]],["s",[0,0]],["l",[]]],"version":2}"#,
         &[
             ("load d", "ok\n"),
             ("stats", "= 3\n"),
@@ -192,9 +194,10 @@ const DOCUMENTS: [(&str, &[(&str, &str)]); 5] = [
     ),
     (
         r#"{"bits":32,"format":"ewig-pool","roots":[9,10,11,12],"rows":[["c","a"],["l",[]],["p",[0,1]],["c","A"],["l",[]],["p",[3,4]],["m",1,4194816,0,[2,5]],["m",0,0,4096,[6]],["m",0,0,0,[]],["s",[7,8]],["m",0,0,0,[]],["l",[]],["l",[]]],"version":1}"#,
+        r#"{"bits":64,"format":"ewig-pool","roots":[9,8,10,11],"rows":[["c","a"],["l",[]],["p",[0,1]],["c","A"],["l",[]],["p",[3,4]],["m",1,8388624,0,[2,5]],["m",0,0,4096,[6]],["m",0,0,0,[]],["s",[7,8]],["l",[]],["l",[]]],"version":2}"#,
         &[
             ("load d", "ok\n"),
-            ("stats", "= 13\n"),
+            ("stats", "= 12\n"),
             ("list", "= A 0\n= a 0\nok\n"),
             ("save e", "ok\n"),
             ("new n", "ok\n"),
@@ -204,9 +207,10 @@ const DOCUMENTS: [(&str, &[(&str, &str)]); 5] = [
     ),
     (
         r#"{"bits":32,"format":"ewig-pool","roots":[6,7,8,9],"rows":[["c","a"],["c","x"],["l",[1,1]],["p",[0,2]],["m",0,4096,0,[3]],["m",0,0,0,[]],["s",[4,5]],["m",0,0,0,[]],["l",[]],["l",[]]],"version":1}"#,
+        r#"{"bits":64,"format":"ewig-pool","roots":[6,5,7,8],"rows":[["c","a"],["c","x"],["l",[1,1]],["p",[0,2]],["m",0,4096,0,[3]],["m",0,0,0,[]],["s",[4,5]],["l",[]],["l",[]]],"version":2}"#,
         &[
             ("load d", "ok\n"),
-            ("stats", "= 10\n"),
+            ("stats", "= 9\n"),
             ("show a 0 2", "= x\n= x\nok\n"),
             ("save e", "ok\n"),
             ("new n", "ok\n"),
@@ -215,6 +219,7 @@ const DOCUMENTS: [(&str, &[(&str, &str)]); 5] = [
         ],
     ),
     (
+        TWO_CELLS,
         TWO_CELLS,
         &[
             ("load d", "ok\n"),
@@ -228,6 +233,7 @@ const DOCUMENTS: [(&str, &[(&str, &str)]); 5] = [
     ),
     (
         FULL_UNDO,
+        r#"{"bits":64,"format":"ewig-pool","roots":[1,0,14,15],"rows":[["m",0,0,0,[]],["s",[0,0]],["l",[1,1,1,1,1,1,1,1,1,1,1,1,1,1,1,1,1,1,1,1,1,1,1,1,1,1,1,1,1,1,1,1]],["i",1,[2,2,2,2,2,2,2,2,2,2,2,2,2,2,2,2,2,2,2,2,2,2,2,2,2,2,2,2,2,2,2,2]],["i",2,[3,3,3,3,3,3,3,3,3,3,3,3,3,3,3,3,3,3,3,3,3,3,3,3,3,3,3,3,3,3,3,3]],["i",3,[4,4,4,4,4,4,4,4,4,4,4,4,4,4,4,4,4,4,4,4,4,4,4,4,4,4,4,4,4,4,4,4]],["i",4,[5,5,5,5,5,5,5,5,5,5,5,5,5,5,5,5,5,5,5,5,5,5,5,5,5,5,5,5,5,5,5,5]],["i",5,[6,6,6,6,6,6,6,6,6,6,6,6,6,6,6,6,6,6,6,6,6,6,6,6,6,6,6,6,6,6,6,6]],["l",[1,1,1,1,1,1,1,1,1,1,1,1,1,1,1,1,1,1,1,1,1,1,1,1,1,1,1,1,1,1,1]],["i",1,[2,2,2,2,2,2,2,2,2,2,2,2,2,2,2,2,2,2,2,2,2,2,2,2,2,2,2,2,2,2,2,8]],["i",2,[3,3,3,3,3,3,3,3,3,3,3,3,3,3,3,3,3,3,3,3,3,3,3,3,3,3,3,3,3,3,3,9]],["i",3,[4,4,4,4,4,4,4,4,4,4,4,4,4,4,4,4,4,4,4,4,4,4,4,4,4,4,4,4,4,4,4,10]],["i",4,[5,5,5,5,5,5,5,5,5,5,5,5,5,5,5,5,5,5,5,5,5,5,5,5,5,5,5,5,5,5,5,11]],["i",5,[6,6,6,6,6,6,6,6,6,6,6,6,6,6,6,6,6,6,6,6,6,6,6,6,6,6,6,6,6,6,6,12]],["i",6,[7,7,7,13]],["l",[]]],"version":2}"#,
         &[
             ("load d", "ok\n"),
             ("stats", "= 16\n"),
@@ -241,8 +247,8 @@ const DOCUMENTS: [(&str, &[(&str, &str)]); 5] = [
 
 #[test]
 fn refused_loads(rt: HostRuntime) -> Result<(), Fail> {
-    for &(held, lines) in DOCUMENTS.iter() {
-        follows(&rt, held, lines);
+    for &(held, saved, lines) in DOCUMENTS.iter() {
+        follows(&rt, held, saved, lines);
     }
     Ok(())
 }

@@ -8,7 +8,7 @@ ghost use Rattle.ewig_shell.specs.Saving.{Collects, save_fault};
 ghost use Rattle.ewig_shell.specs.Step.{ObeysOn, ended_lines, most_stored, saved_reply};
 
 use elem_core::{NEWLINE, Name, NoMemory};
-use pool_text::{text_length, to_bytes};
+use pool_text::{into_bytes, text_length};
 use shell_io::{KeepFault, Store};
 use space_state::{Space, SpaceLines};
 use std::alloc::{AllocError, AllocFailed, Global};
@@ -84,7 +84,7 @@ pub fn save<D: Store>(
     if text_length(&pool) > MOST_STORED {
         return Err(SaveFault::Large);
     }
-    let bytes = to_bytes(alloc, &pool)?;
+    let bytes = into_bytes(alloc, pool)?;
     store.keep(file.as_str(), &bytes)?;
     Ok(())
 }

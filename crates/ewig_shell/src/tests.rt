@@ -2,13 +2,13 @@
 //! program shows that is run with whole devices stands in examples.
 
 use crate::run::Status;
-use crate::trial::{FULL_UNDO, Given, TWO_CELLS, WHOLE, check};
+use crate::trial::{FULL_UNDO, Given, OLD_TWO_CELLS, TWO_CELLS, WHOLE, check};
 use std::process::Abort;
 use std::test::Fail;
 
 // The document of a new space.
 const START: &str =
-    r#"{"bits":32,"format":"ewig-pool","roots":[2,3,4,5],"rows":[["m",0,0,0,[]],["m",0,0,0,[]],["s",[0,1]],["m",0,0,0,[]],["l",[]],["l",[]]],"version":1}"#;
+    r#"{"bits":64,"format":"ewig-pool","roots":[2,3,4,5],"rows":[["m",0,0,0,[]],["m",0,0,0,[]],["s",[0,1]],["m",0,0,0,[]],["l",[]],["l",[]]],"version":2}"#;
 
 // Runs with all taken and given at once, and however input and output are cut.
 fn check_cut<R: Abort + AllocGlobal>(
@@ -90,7 +90,7 @@ fn replies_however_the_input_is_cut(rt: HostRuntime) -> Result<(), Fail> {
 type Words = &'static [&'static str];
 
 // The words, the file `d` where there is one, the input, and what is written.
-const OPENINGS: [(Words, &str, &[u8], &[u8]); 6] = [
+const OPENINGS: [(Words, &str, &[u8], &[u8]); 9] = [
     (&["--open=nothere"], "", b"quit\nlist\n", b"! missing\nok\n"),
     (&["--open", "d"], "", b"", b"! missing\n"),
     (
@@ -98,6 +98,24 @@ const OPENINGS: [(Words, &str, &[u8], &[u8]); 6] = [
         TWO_CELLS,
         b"stats\nget a 1\n",
         b"ok\n= 11\n= x\n",
+    ),
+    (
+        &["--open", "d"],
+        OLD_TWO_CELLS,
+        b"stats\nget a 1\n",
+        b"ok\n= 10\n= x\n",
+    ),
+    (
+        &["--open=d", "--bits=32"],
+        OLD_TWO_CELLS,
+        b"stats\nget a 1\n",
+        b"ok\n= 10\n= x\n",
+    ),
+    (
+        &["--open=d", "--bits=31"],
+        OLD_TWO_CELLS,
+        b"stats\n",
+        b"! damaged bits\n= 6\n",
     ),
     (
         &["--open", "d"],
@@ -112,7 +130,7 @@ const OPENINGS: [(Words, &str, &[u8], &[u8]); 6] = [
         b"! damaged bits\nok\n",
     ),
     (
-        &["--bits=32", "--open=d"],
+        &["--bits=64", "--open=d"],
         START,
         b"new a\nlist",
         b"ok\nok\n= a 0\nok\n",
@@ -134,7 +152,7 @@ fn opens_a_document_as_a_first_line(rt: HostRuntime) -> Result<(), Fail> {
 }
 
 const UNREAD: [Words; 5] = [
-    &["--bits", "33"],
+    &["--bits", "65"],
     &["--bits=5", "--bits", "5"],
     &["--open=.x"],
     &["--work", "0"],

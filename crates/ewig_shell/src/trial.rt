@@ -10,6 +10,10 @@ use std::test::Fail;
 
 /// A document with two equal cells of different identity.
 pub const TWO_CELLS: &str =
+    r#"{"bits":64,"format":"ewig-pool","roots":[7,8,9,10],"rows":[["c","a"],["c","x"],["c","x"],["l",[1,2]],["p",[0,3]],["m",0,4096,0,[4]],["m",0,0,0,[]],["s",[5,6]],["m",0,0,0,[]],["l",[]],["l",[]]],"version":2}"#;
+
+/// The same as shells saved it whose codes had 32 bits.
+pub const OLD_TWO_CELLS: &str =
     r#"{"bits":32,"format":"ewig-pool","roots":[7,8,9,10],"rows":[["c","a"],["c","x"],["c","x"],["l",[1,2]],["p",[0,3]],["m",0,4096,0,[4]],["m",0,0,0,[]],["s",[5,6]],["m",0,0,0,[]],["l",[]],["l",[]]],"version":1}"#;
 
 /// A document in sixteen rows, of which one is an undo of 4,294,967,295 times the same state.

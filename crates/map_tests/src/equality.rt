@@ -2,12 +2,12 @@
 use crate::map_versions::MapVersions;
 use crate::maps::insert_numbers;
 use crate::set_versions::SetVersions;
-use elem_core::Num;
+use elem_core::{CODE_BITS, Num};
 
 // A new cell of the same value leaves a map the same, and one of another value doesn't.
 #[test]
 fn maps_follow_their_values(rt: HostRuntime) {
-    let mut maps: MapVersions<Num> = MapVersions::start(&rt, rt.alloc(), 32);
+    let mut maps: MapVersions<Num> = MapVersions::start(&rt, rt.alloc(), CODE_BITS);
     let all = insert_numbers(&rt, &mut maps, 0, 0, 1000);
     let again = maps.insert(&rt, all, Num(999), Num(999));
     let other = maps.insert(&rt, all, Num(999), Num(1000));

@@ -4,7 +4,7 @@ ghost use Rattle.std.specs.Prelude.{◌<◌};
 use crate::map_editing::MapEditing;
 use crate::map_placed::PlacedMap;
 use edit_trie::{edits_keep_values, paths_of_small_tries};
-use elem_core::Num;
+use elem_core::{CODE_BITS, Num};
 use node_heap::Heap;
 use std::alloc::Global;
 use std::process::Abort;
@@ -100,7 +100,7 @@ fn edits_by_seven_bits(rt: HostRuntime) {
 
 #[test]
 fn edits_by_all_bits(rt: HostRuntime) {
-    edits_as_pure_calls(&rt, rt.alloc(), 32, 1000);
+    edits_as_pure_calls(&rt, rt.alloc(), CODE_BITS, 1000);
 }
 
 // Puts each of these numbers in at itself, none of which is there.
@@ -235,7 +235,7 @@ fn equal_however_built(rt: &impl Abort, alloc: Global, bits: u32) {
 
 #[test]
 fn are_equal_however_built(rt: HostRuntime) {
-    for bits in [0, 5, 7, 32] {
+    for bits in [0, 5, 7, 32, CODE_BITS] {
         equal_however_built(&rt, rt.alloc(), bits);
     }
 }

@@ -4,7 +4,7 @@ use crate::map_versions::MapVersions;
 use crate::samples::{name, text};
 use crate::shapes::Shape;
 use champ_kinds::{Map, containers_stay, maps_follow_contents};
-use elem_core::{Element, Num, Probe, Text};
+use elem_core::{CODE_BITS, Element, Num, Probe, Text};
 use node_heap::Heap;
 use std::alloc::Global;
 use std::process::Abort;
@@ -40,7 +40,8 @@ fn insert_backwards(
     turn
 }
 
-// Whether so many keys stand in a chain below seven trie rows, and share the masked code of this key.
+// Whether so many keys stand in a chain below thirteen trie rows, and share the masked code of this key, whose digits are 0 below
+// depth 0.
 fn is_chain_of<T: Element, P: Probe<T>>(
     rt: &impl Abort,
     maps: &MapVersions<T>,
@@ -49,14 +50,14 @@ fn is_chain_of<T: Element, P: Probe<T>>(
     number: usize,
 ) -> bool {
     let lowest = Shape::Trie {
-        depth: 6,
+        depth: 12,
         entries: 0,
         nodes: 1,
     };
     maps.len(rt, turn) == number
         && maps.alike(rt, turn, key) == number
-        && maps.shape_below(rt, turn, 6) == Some(lowest)
-        && maps.shape_below(rt, turn, 7) == Some(Shape::Chain)
+        && maps.shape_below(rt, turn, 12) == Some(lowest)
+        && maps.shape_below(rt, turn, 13) == Some(Shape::Chain)
 }
 
 // Keys with one masked code stand in a chain, and when one is left its tree is that of the map with this key alone.
@@ -91,7 +92,7 @@ fn keeps_one_entry_in_the_root(rt: HostRuntime) {
 
 #[test]
 fn two_orders_give_one_tree(rt: HostRuntime) {
-    let mut maps: MapVersions<Num> = MapVersions::start(&rt, rt.alloc(), 32);
+    let mut maps: MapVersions<Num> = MapVersions::start(&rt, rt.alloc(), CODE_BITS);
     let up = insert_numbers(&rt, &mut maps, 0, 0, 1000);
     let down = insert_backwards(&rt, &mut maps, 0, 1000);
     assert!(rt; maps.len(&rt, up) == 1000);
@@ -105,7 +106,7 @@ fn two_orders_give_one_tree(rt: HostRuntime) {
 #[test]
 fn keeps_values_by_name(rt: HostRuntime) {
     let key = name(&rt, "k");
-    let mut maps: MapVersions<Text> = MapVersions::start(&rt, rt.alloc(), 32);
+    let mut maps: MapVersions<Text> = MapVersions::start(&rt, rt.alloc(), CODE_BITS);
     let old = maps.insert(
         &rt,
         0,
@@ -125,19 +126,19 @@ fn keeps_values_by_name(rt: HostRuntime) {
 
 #[test]
 fn keeps_the_cell_of_a_key(rt: HostRuntime) {
-    let mut maps: MapVersions<Num> = MapVersions::start(&rt, rt.alloc(), 32);
+    let mut maps: MapVersions<Num> = MapVersions::start(&rt, rt.alloc(), CODE_BITS);
     let old = maps.insert(&rt, 0, Num(7), Num(1));
     let new = maps.insert(&rt, old, Num(7), Num(2));
     let cell = maps.first_key(&rt, old);
     assert!(rt; cell.is_some() && maps.first_key(&rt, new) == cell);
     assert!(rt; maps.walked(&rt, new) == 1);
-    assert!(rt; maps.bits(&rt, new) == 32);
+    assert!(rt; maps.bits(&rt, new) == CODE_BITS);
 }
 
 #[test]
 fn loses_a_value_by_name(rt: HostRuntime) {
     let key = name(&rt, "k");
-    let mut maps: MapVersions<Text> = MapVersions::start(&rt, rt.alloc(), 32);
+    let mut maps: MapVersions<Text> = MapVersions::start(&rt, rt.alloc(), CODE_BITS);
     let one = maps.insert(
         &rt,
         0,
@@ -166,8 +167,8 @@ fn insert_both(rt: &impl Abort, alloc: Global, maps: &mut MapVersions<Text>) -> 
     (small, both)
 }
 
-// The codes of `a` and `A`, 0xE40C292C and 0xC40BF6CC, have the same low 5 bits. So by 5 bits they stand in a chain below seven
-// trie rows.
+// The codes of `a` and `A`, 0xAF63DC4C8601EC8C and 0xAF63FC4C860222EC, have the same low 5 bits. So by 5 bits they stand in a
+// chain below thirteen trie rows.
 #[test]
 fn keeps_texts_in_a_chain(rt: HostRuntime) {
     let lower = name(&rt, "a");
@@ -183,6 +184,45 @@ fn keeps_texts_in_a_chain(rt: HostRuntime) {
     assert!(rt; is_chain_of(&rt, &maps, both, &lower, 2));
     assert!(rt; maps.is_bound(&rt, both, &lower, &text(&rt, rt.alloc(), "1")));
     assert!(rt; maps.is_bound(&rt, both, &upper, &text(&rt, rt.alloc(), "2")));
+}
+
+// By all bits they part at depth 1, where their digits are 4 and 23.
+#[test]
+fn keeps_texts_in_a_row_below(rt: HostRuntime) {
+    let lower = name(&rt, "a");
+    let mut maps: MapVersions<Text> = MapVersions::start(&rt, rt.alloc(), CODE_BITS);
+    let (_small, both) = insert_both(&rt, rt.alloc(), &mut maps);
+    let below = Shape::Trie {
+        depth: 1,
+        entries: 1 << 4 | 1 << 23,
+        nodes: 0,
+    };
+    assert!(rt; maps.shape_below(&rt, both, 1) == Some(below));
+    assert!(rt; maps.alike(&rt, both, &lower) == 1);
+}
+
+// Two names that have one code of 64 bits, and so stand in a chain by all of them.
+#[test]
+fn keeps_names_of_one_code(rt: HostRuntime) {
+    let first = name(&rt, "7mohtcOFVz");
+    let second = name(&rt, "c1E51sSEyx");
+    let mut maps: MapVersions<Text> = MapVersions::start(&rt, rt.alloc(), CODE_BITS);
+    let one = maps.insert(
+        &rt,
+        0,
+        text(&rt, rt.alloc(), "c1E51sSEyx"),
+        text(&rt, rt.alloc(), "2"),
+    );
+    let both = maps.insert(
+        &rt,
+        one,
+        text(&rt, rt.alloc(), "7mohtcOFVz"),
+        text(&rt, rt.alloc(), "1"),
+    );
+    assert!(rt; maps.alike(&rt, both, &first) == 2);
+    assert!(rt; maps.shape_below(&rt, both, 13) == Some(Shape::Chain));
+    assert!(rt; maps.is_bound(&rt, both, &first, &text(&rt, rt.alloc(), "1")));
+    assert!(rt; maps.is_bound(&rt, both, &second, &text(&rt, rt.alloc(), "2")));
 }
 
 // `A` comes first in the chain, and the entry of `a` stays the one that it was, there and when it is alone again.

@@ -2,7 +2,7 @@
 use crate::samples::{name, text};
 use crate::set_versions::SetVersions;
 use champ_kinds::{Set, SetRef, sets_follow_contents};
-use elem_core::{Element, Num, Text};
+use elem_core::{CODE_BITS, Element, Num, Text};
 use node_heap::Heap;
 use std::alloc::Global;
 use std::process::Abort;
@@ -36,7 +36,7 @@ fn loses_a_number(rt: HostRuntime) {
 fn keeps_names(rt: HostRuntime) {
     let first = name(&rt, "z");
     let second = name(&rt, "b");
-    let mut sets: SetVersions<Text> = SetVersions::start(&rt, rt.alloc(), 32);
+    let mut sets: SetVersions<Text> = SetVersions::start(&rt, rt.alloc(), CODE_BITS);
     let one = sets.insert(&rt, 0, text(&rt, rt.alloc(), "z"));
     let two = sets.insert(&rt, one, text(&rt, rt.alloc(), "b"));
     let same = sets.insert(&rt, two, text(&rt, rt.alloc(), "z"));
@@ -51,7 +51,7 @@ fn keeps_names(rt: HostRuntime) {
 #[test]
 fn loses_a_name(rt: HostRuntime) {
     let first = name(&rt, "z");
-    let mut sets: SetVersions<Text> = SetVersions::start(&rt, rt.alloc(), 32);
+    let mut sets: SetVersions<Text> = SetVersions::start(&rt, rt.alloc(), CODE_BITS);
     let one = sets.insert(&rt, 0, text(&rt, rt.alloc(), "z"));
     let two = sets.insert(&rt, one, text(&rt, rt.alloc(), "b"));
     let less = sets.remove(&rt, two, &first);

@@ -54,7 +54,7 @@ fn looks_up_as_find_and_alike(rt: HostRuntime) {
 // 1 and 33 stand in a row below the root, and 2 in the root. Each edit makes a cell and the rows on its key's way alone.
 #[test]
 fn shares_what_stands_beside(rt: HostRuntime) {
-    let mut tries: TrieVersions<Num> = TrieVersions::start(&rt, rt.alloc(), 32);
+    let mut tries: TrieVersions<Num> = TrieVersions::start(&rt, rt.alloc(), CODE_BITS);
     let one = tries.insert(&rt, 0, Num(1));
     assert!(rt; tries.made() == 3);
     let two = tries.insert(&rt, one, Num(33));
@@ -98,7 +98,7 @@ fn has_scattered(rt: &impl Abort, tries: &TrieVersions<Num>, turn: usize) -> boo
 
 #[test]
 fn finds_what_is_there(rt: HostRuntime) {
-    for bits in [0, 3, 5, 7, 32] {
+    for bits in [0, 3, 5, 7, 32, CODE_BITS] {
         let mut tries: TrieVersions<Num> = TrieVersions::start(&rt, rt.alloc(), bits);
         let all = insert_scattered(&rt, &mut tries, 0);
         assert!(rt; tries.count(&rt, all) == 300, "by {bits}");
@@ -173,7 +173,7 @@ fn makes_a_row_of_given_places(rt: HostRuntime) -> Result<(), NoMemory> {
 // Digits of five bits, from the low end on: 33 is 1 and 1, 1025 is 1, 0 and 1.
 #[test]
 fn walks_each_row_before_those_below_it(rt: HostRuntime) {
-    let mut tries: TrieVersions<Num> = TrieVersions::start(&rt, rt.alloc(), 32);
+    let mut tries: TrieVersions<Num> = TrieVersions::start(&rt, rt.alloc(), CODE_BITS);
     assert!(rt; tries.walks_as(&rt, 0, &[]));
     let one = tries.insert(&rt, 0, Num(33));
     let two = tries.insert(&rt, one, Num(1));
@@ -193,10 +193,10 @@ fn walks_a_chain_by_its_keys(rt: HostRuntime) {
     assert!(rt; tries.walks_as(&rt, four, &[Num(2), Num(1), Num(33), Num(65)]));
 }
 
-// Two numbers that differ in the last digit alone.
+// Two numbers that differ in their seventh digit alone, which has the top bits of numbers.
 #[test]
-fn walks_the_deepest_row(rt: HostRuntime) {
-    let mut tries: TrieVersions<Num> = TrieVersions::start(&rt, rt.alloc(), 32);
+fn walks_a_row_far_below(rt: HostRuntime) {
+    let mut tries: TrieVersions<Num> = TrieVersions::start(&rt, rt.alloc(), CODE_BITS);
     let one = tries.insert(&rt, 0, Num(1 << 30));
     let two = tries.insert(&rt, one, Num(0));
     assert!(rt; tries.walks_as(&rt, two, &[Num(0), Num(1 << 30)]));

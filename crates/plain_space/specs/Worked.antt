@@ -206,9 +206,9 @@ on_nothing =
 -- A cost counts the names of the written map whose codes are alike: all by no bits, and by all bits the name itself.
 pub record WorkedCost : Type 0 where
   pub buffers_alike : costs 0 on_buffers ≡ 66 ∷ 66 ∷ 66 ∷ 514 ∷ 514 ∷ 130 ∷ 516 ∷ 516 ∷ 66 ∷ 66 ∷ 66 ∷ 70 ∷ 66 ∷ []
-  pub buffers_apart : costs 32 on_buffers ≡ 64 ∷ 65 ∷ 65 ∷ 513 ∷ 513 ∷ 129 ∷ 514 ∷ 513 ∷ 65 ∷ 64 ∷ 65 ∷ 69 ∷ 64 ∷ []
+  pub buffers_apart : costs 64 on_buffers ≡ 64 ∷ 65 ∷ 65 ∷ 513 ∷ 513 ∷ 129 ∷ 514 ∷ 513 ∷ 65 ∷ 64 ∷ 65 ∷ 69 ∷ 64 ∷ []
   pub names_alike : costs 0 on_names ≡ 65 ∷ 65 ∷ 65 ∷ 65 ∷ []
-  pub names_apart : costs 32 on_names ≡ 64 ∷ 65 ∷ 64 ∷ 65 ∷ []
+  pub names_apart : costs 64 on_names ≡ 64 ∷ 65 ∷ 64 ∷ 65 ∷ []
   pub states : costs 0 on_states ≡ 64 ∷ 64 ∷ 64 ∷ 64 ∷ []
   pub nothing : costs 0 on_nothing ≡ replicate 15 0
 

@@ -32,7 +32,7 @@ module _ (F : Forms Bytes) (falls : LeadsDown (λ l. l) (links_in F)) where
   rows-deep (suc n) (suc m) l low low' =
       ap (λ ks. l ∷ ks) (flat_map-same (rows_from n F) (rows_from m F) (rows_below (F l)) (λ i d lt. let below = rows-low l i d lt in rows-deep n m _ (omega (arith, below, low)) (omega (arith, below, low'))))
 
-  rows-is : (n l : ℕ) → l < n → rows_from n F l ≡ l ∷ flat_map (rows_from n F) (rows_below (F l))
+  pub rows-is : (n l : ℕ) → l < n → rows_from n F l ≡ l ∷ flat_map (rows_from n F) (rows_below (F l))
   unfolding rows_from
   rows-is zero l low = absurd (omega (arith, low))
   rows-is (suc n) l low =

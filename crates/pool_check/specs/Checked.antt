@@ -1,11 +1,21 @@
--- Pools that `check` lets through.
+-- Pools that `check` and `check_old` let through.
 use Rattle.std.specs.Prelude.{◌≡◌, ◌≤◌, length}
 use Rattle.elem_core.specs.declared.codes.TheConstants.{CODE_BITS}
 use Rattle.pool_text.specs.declared.pool.Pool.{Pool}
-use Rattle.pool_check.specs.Damages.{IsValid}
+use Rattle.pool_text.specs.Rules.{first_rules}
+use Rattle.pool_text.specs.declared.rules.TheConstants.{FIRST_VERSION, PRESENT_VERSION, FIRST_CODE_BITS}
+use Rattle.pool_check.specs.Damages.{IsValid, IsValidBy}
 
--- a valid pool of four roots, by no more bits than a code has
+-- a valid pool of four roots and of the present version, by no more bits than a code has
 pub record IsChecked (P : Pool) : Type 0 where
+  pub version : P.version ≡ PRESENT_VERSION
   pub bits : P.bits ≤ CODE_BITS
   pub roots : length P.roots ≡ 4
   pub valid : IsValid P
+
+-- one of the first version: valid by its rules, by no more bits than its codes had
+pub record IsOld (P : Pool) : Type 0 where
+  pub version : P.version ≡ FIRST_VERSION
+  pub bits : P.bits ≤ FIRST_CODE_BITS
+  pub roots : length P.roots ≡ 4
+  pub valid : IsValidBy first_rules P

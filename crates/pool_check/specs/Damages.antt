@@ -1,10 +1,10 @@
 -- Damage: the first test that a pool fails.
-use Rattle.std.specs.Prelude.{◌≡◌, ℕ, Bool, true, List, [], ◌∷◌, ◌++◌, Option, Some, None, option_and_then, if◌then◌else◌}
+use Rattle.std.specs.Prelude.{◌≡◌, ℕ, Bool, true, List, [], ◌∷◌, ◌++◌, Option, Some, None, IsSomeAnd, option_and_then, if◌then◌else◌}
 use Rattle.std.specs.List.{range_with_len}
 use Rattle.std.specs.Option.{option_or}
 use Rattle.std.specs.Str.{bytes_eq}
 use Rattle.pool_text.specs.Rows.{Bytes}
-use Rattle.pool_text.specs.Rules.{Rules, present_rules}
+use Rattle.pool_text.specs.Rules.{Rules, present_rules, rules_of}
 use Rattle.pool_text.specs.Pool.{order_in, row_count}
 use Rattle.pool_text.specs.Document.{pool_in_bytes, bytes_damage}
 use Rattle.pool_text.specs.declared.pool.Pool.{Pool}
@@ -60,7 +60,15 @@ damage P = damage_by present_rules P
 abbrev pub IsValid : Pool → Type 0
 IsValid P = IsValidBy present_rules P
 
+-- the first test that the pool fails by the rules of its own version, if any
+abbrev pub own_damage : Pool → Option Damage
+own_damage P = option_and_then (λ rules. damage_by rules P) (rules_of P.version)
+
+-- a pool of a version that is read, which passes every test by its rules
+abbrev pub IsValidByVersion : Pool → Type 0
+IsValidByVersion P = IsSomeAnd (rules_of P.version) (λ rules. IsValidBy rules P)
+
 -- the first of the tests that the bytes fail, if any, in a space of so many bits: one that the document is read by, or else one of
--- the pool that it stands for
+-- the pool of its rows, by the rules of its version
 unfoldable pub document_damage : ℕ → Bytes → Option Damage
-document_damage bits bytes = option_or (bytes_damage bits bytes) (option_and_then damage (pool_in_bytes bytes))
+document_damage bits bytes = option_or (bytes_damage bits bytes) (option_and_then own_damage (pool_in_bytes bytes))

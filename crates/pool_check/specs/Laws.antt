@@ -5,15 +5,15 @@ use Rattle.std.specs.Cmp.Lexicographic.{slice_cmp}
 use Rattle.rrb_core.specs.Seq.{IsWellShaped}
 use Rattle.champ_trie.specs.Trie.{IsCanonTo, code_by}
 use Rattle.pool_text.specs.Rows.{Bytes}
-use Rattle.pool_text.specs.Rules.{Rules}
-use Rattle.pool_text.specs.Pool.{forms_in, row_count}
+use Rattle.pool_text.specs.Rules.{Rules, bits_by}
+use Rattle.pool_text.specs.Pool.{forms_in, row_count, today}
 use Rattle.pool_text.specs.Document.{document, value_in, pool_in_bytes}
 use Rattle.pool_text.specs.declared.damage.Damage.TheVariants.{Memory}
 use Rattle.pool_text.specs.Renaming.{IsOfItself}
 use Rattle.pool_text.specs.declared.pool.Pool.{Pool}
 use Rattle.pool_check.specs.Tries.{entries_below}
 use Rattle.pool_check.specs.Kinds.{is_vector_root, is_trie_root}
-use Rattle.pool_check.specs.Damages.{damage_by, document_damage, IsValidBy, IsValid}
+use Rattle.pool_check.specs.Damages.{damage_by, document_damage, IsValidBy, IsValid, IsValidByVersion}
 
 -- a vector root of a valid pool is the root of a well-shaped vector
 abbrev pub VectorRootsAreGood : Type 0
@@ -29,21 +29,22 @@ TrieRootsAreCanonical =
 abbrev pub UndamagedIsValid : Type 0
 UndamagedIsValid = (rules : Rules) (P : Pool) → (damage_by rules P ≡ None) ↔ IsValidBy rules P
 
--- the bytes stand for the pool, which is valid, has four roots and keeps so many bits
+-- the bytes have the pool's rows, and it is valid by the rules of its version, has four roots and keeps the bits of such a
+-- document
 pub record IsReadAs (bits : ℕ) (P : Pool) (bytes : Bytes) : Type 0 where
   pub read : pool_in_bytes bytes ≡ Some P
-  pub kept : P.bits ≡ bits
+  pub kept : P.bits ≡ bits_by P.version bits
   pub roots : length P.roots ≡ 4
-  pub valid : IsValid P
+  pub valid : IsValidByVersion P
 
--- bytes without damage stand for a valid pool
+-- bytes without damage have the rows of a valid pool
 abbrev pub UndamagedDocumentsStand : Type 0
 UndamagedDocumentsStand = (bits : ℕ) (bytes : Bytes) → document_damage bits bytes ≡ None → (P : Pool) × IsReadAs bits P bytes
 
--- no test fails of the bytes, and this is the pool that they stand for
+-- no test fails of the bytes, and this is the pool that they stand for, at the present version
 pub record IsDocumentOf (P : Pool) (bytes : Bytes) : Type 0 where
   pub undamaged : document_damage P.bits bytes ≡ None
-  pub read : pool_in_bytes bytes ≡ Some P
+  pub read : pool_in_bytes bytes ≡ Some (today P)
 
 -- bytes that read as the document of a valid pool of four roots have no damage
 abbrev pub ValidDocumentsAreUndamaged : Type 0

@@ -2,9 +2,10 @@
 ghost use Rattle.std.specs.Prelude.{◌≡◌, ◌≢◌, ◌≤◌, length, true, None, Some, IfOk, IfErr};
 ghost use Rattle.std.specs.List.{list_all};
 ghost use Rattle.pool_text.specs.Rows.{is_in_range};
-ghost use Rattle.pool_text.specs.Rules.{rules_named};
+ghost use Rattle.pool_text.specs.Rules.{first_rules, rules_named};
+ghost use Rattle.pool_text.specs.declared.rules.TheConstants.{FIRST_VERSION, PRESENT_VERSION, FIRST_CODE_BITS};
 ghost use Rattle.pool_check.specs.Rows.{rows_in_range_by};
-ghost use Rattle.pool_check.specs.Damages.{IsValid, damage, open_damage};
+ghost use Rattle.pool_check.specs.Damages.{IsValid, IsValidBy, damage, damage_by, open_damage};
 
 use crate::kinds::roots_are_of_kind;
 use crate::order::rows_in_order;
@@ -12,11 +13,12 @@ use crate::rows::{links_lead_back, texts_are_lines};
 use crate::tries::tries_stand;
 use crate::vectors::vectors_stand;
 use elem_core::{CODE_BITS, Stored};
-use pool_text::{Damage, Pool, Rules};
+use pool_text::{Damage, FIRST_CODE_BITS, Pool, Rules};
 use std::alloc::Global;
 use std::marker::{Model, PhantomData};
 
-/// A pool of four roots that passes every test, to be loaded as rows over values of `T`. Contracts see the pool.
+/// A pool of the present version, of four roots, that passes every test, to be loaded as rows over values of `T`. Contracts see
+/// the pool.
 #[derive(Drop)]
 pub struct Checked<T: Stored> {
     pool: Pool,
@@ -39,6 +41,7 @@ impl<T: Stored> Checked<T> {
     pub fn pool(&self) -> &Pool
         ensures same { result.now ≡ self.now }
         ensures valid { IsValid result.now }
+        ensures version { result.now.version ≡ PRESENT_VERSION }
         ensures roots { length result.now.roots ≡ 4 }
         ensures bits { result.now.bits ≤ CODE_BITS }
     {
@@ -49,6 +52,7 @@ impl<T: Stored> Checked<T> {
     pub fn into_pool(self) -> Pool
         ensures same { result ≡ self }
         ensures valid { IsValid result }
+        ensures version { result.version ≡ PRESENT_VERSION }
         ensures roots { length result.roots ≡ 4 }
         ensures bits { result.bits ≤ CODE_BITS }
     {
@@ -56,10 +60,52 @@ impl<T: Stored> Checked<T> {
     }
 }
 
-/// Makes the tests `Link` to `Order` of a pool of four roots whose rows are in range. Refused with the first that fails, and with
-/// `Memory` where memory runs out. It looks at each row once for each test, and takes time and memory for the rows and their
-/// links, however often a row is shared.
+/// A pool of the first version, of four roots, that passes every test by its rules. Contracts see the pool.
+#[derive(Drop)]
+pub struct Old {
+    pool: Pool,
+}
+
+impl Model for Old {
+    ghost use Rattle.pool_text.specs.declared.pool.Pool.{Pool};
+    ghost use Rattle.pool_check.specs.Checked.{IsOld};
+
+    ghost Value = { Pool };
+
+    ghost view = { λ old. old.pool };
+
+    ghost invariant = { λ old. IsOld old.pool };
+}
+
+impl Old {
+    /// The pool. It takes no memory.
+    pub fn pool(&self) -> &Pool
+        ensures same { result.now ≡ self.now }
+        ensures valid { IsValidBy first_rules result.now }
+        ensures version { result.now.version ≡ FIRST_VERSION }
+        ensures roots { length result.now.roots ≡ 4 }
+        ensures bits { result.now.bits ≤ FIRST_CODE_BITS }
+    {
+        &self.pool
+    }
+
+    /// The pool, given back. It takes no memory.
+    pub fn into_pool(self) -> Pool
+        ensures same { result ≡ self }
+        ensures valid { IsValidBy first_rules result }
+        ensures version { result.version ≡ FIRST_VERSION }
+        ensures roots { length result.roots ≡ 4 }
+        ensures bits { result.bits ≤ FIRST_CODE_BITS }
+    {
+        self.pool
+    }
+}
+
+/// Makes the tests `Link` to `Order` of a pool of the present version, of four roots, whose rows are in range. Refused with the
+/// first that fails, and with `Memory` where memory runs out. It looks at each row once for each test, and takes time and memory
+/// for the rows and their links, however often a row is shared.
 pub fn check<T: Stored>(alloc: Global, pool: Pool) -> Result<Checked<T>, Damage>
+    requires version { pool.version ≡ PRESENT_VERSION }
     requires bits { pool.bits ≤ CODE_BITS }
     requires roots { length pool.roots ≡ 4 }
     requires rows { list_all is_in_range pool.rows ≡ true }
@@ -68,14 +114,41 @@ pub fn check<T: Stored>(alloc: Global, pool: Pool) -> Result<Checked<T>, Damage>
     ensures valid { IfOk result (λ _. IsValid pool) }
     ensures damage { IfErr result (λ d. d ≢ Damage.Memory → damage pool ≡ Some d) }
 {
-    make_open_tests(alloc, &pool, Rules::First)?;
-    if !rows_in_order(alloc, &pool)? {
-        return Err(Damage::Order);
-    }
+    make_tests(alloc, &pool, Rules::present())?;
     Ok(Checked {
         pool,
         of: PhantomData,
     })
+}
+
+/// Makes the same tests of a pool of the first version, by its rules. Refused with the first that fails, and with `Memory` where
+/// memory runs out. It takes what `check` takes.
+pub fn check_old<T: Stored>(alloc: Global, pool: Pool) -> Result<Old, Damage>
+    requires version { pool.version ≡ FIRST_VERSION }
+    requires bits { pool.bits ≤ FIRST_CODE_BITS }
+    requires roots { length pool.roots ≡ 4 }
+    requires rows { rows_in_range_by first_rules pool ≡ true }
+    ensures same { IfOk result (λ old. old ≡ pool) }
+    ensures undamaged { IfOk result (λ _. damage_by first_rules pool ≡ None) }
+    ensures valid { IfOk result (λ _. IsValidBy first_rules pool) }
+    ensures damage { IfErr result (λ d. d ≢ Damage.Memory → damage_by first_rules pool ≡ Some d) }
+{
+    make_tests(alloc, &pool, Rules::First)?;
+    Ok(Old { pool })
+}
+
+// Makes the tests `Link` to `Order` by these rules. Refused with the first that fails, and with `Memory` where memory runs out.
+fn make_tests(alloc: Global, pool: &Pool, rules: Rules) -> Result<(), Damage>
+    requires bits { pool.now.bits ≤ CODE_BITS }
+    requires rows { rows_in_range_by (rules_named rules) pool.now ≡ true }
+    ensures passed { IfOk result (λ _. damage_by (rules_named rules) pool.now ≡ None) }
+    ensures damage { IfErr result (λ d. d ≢ Damage.Memory → damage_by (rules_named rules) pool.now ≡ Some d) }
+{
+    make_open_tests(alloc, pool, rules)?;
+    if !rows_in_order(alloc, pool)? {
+        return Err(Damage::Order);
+    }
+    Ok(())
 }
 
 // Makes the tests `Link` to `Kind` by these rules. Refused with the first that fails, and with `Memory` where memory runs out.

@@ -19,7 +19,8 @@ pub fn undamaged_is_valid()
     ensures { UndamagedIsValid }
 {}
 
-/// Bytes without damage stand for a valid pool of four roots, by as many bits as were asked for.
+/// Bytes without damage have the rows of a pool of four roots that is valid by the rules of its version, by as many bits as such
+/// a document keeps.
 pub fn undamaged_documents_stand()
     ensures { UndamagedDocumentsStand }
 {}

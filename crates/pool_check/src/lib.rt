@@ -10,7 +10,7 @@ mod trie_row;
 mod tries;
 mod vectors;
 
-pub use checking::{Checked, check};
+pub use checking::{Checked, Old, check, check_old};
 pub use laws::{
     damaged_pools, damages_are_tests, pools_pass_as_made, trie_roots_are_canonical,
     tries_read_the_same, undamaged_documents_stand, undamaged_is_valid, undamaged_pools,

@@ -2,6 +2,10 @@
 #![tactic(auto)]
 
 #[cfg(test)]
+mod carried;
+#[cfg(test)]
+mod documents;
+#[cfg(test)]
 mod loads;
 #[cfg(test)]
 mod orders;

@@ -2,42 +2,43 @@
 ghost use Rattle.std.specs.Prelude.{◌<◌};
 ghost use Rattle.std.specs.List.{All};
 
-use elem_core::Text;
+use crate::documents::present_pool;
+use elem_core::{CODE_BITS, Text};
 use node_heap::Heap;
 use pool_check::{Checked, check};
 use pool_load::{load, loaded_rows_are_listed, loaded_tries_are_good, loaded_vectors_are_good};
 use pool_order::order;
-use pool_text::{Damage, pool_from_bytes, pool_of, pool_of_rows, to_bytes};
+use pool_text::{Damage, pool_of, pool_of_rows, to_bytes};
 use std::alloc::Global;
 use std::process::Abort;
 use std::test::Fail;
 
-// The pool that the bytes stand for, checked for a space of 32 bits, or what is wrong with them.
-fn checked(rt: &HostRuntime, bytes: &[u8]) -> Result<Checked<Text>, Damage> {
-    check(rt.alloc(), pool_from_bytes(rt.alloc(), bytes, 32)?)
+// The pool that the bytes stand for, checked for a space of all bits, or what is wrong with them.
+fn checked(alloc: Global, bytes: &[u8]) -> Result<Checked<Text>, Damage> {
+    check(alloc, present_pool(alloc, bytes, CODE_BITS)?)
 }
 
 // Documents that fail no test: a new space, the same with its empty rows shared, two equal lines as two cells and as one, and two
 // names in a sub-node; and how many rows each has.
 const WHOLE: [(&[u8], usize); 5] = [
     (
-        b"{\"bits\":32,\"format\":\"ewig-pool\",\"roots\":[2,3,4,5],\"rows\":[[\"m\",0,0,0,[]],[\"m\",0,0,0,[]],[\"s\",[0,1]],[\"m\",0,0,0,[]],[\"l\",[]],[\"l\",[]]],\"version\":1}",
+        b"{\"bits\":64,\"format\":\"ewig-pool\",\"roots\":[2,3,4,5],\"rows\":[[\"m\",0,0,0,[]],[\"m\",0,0,0,[]],[\"s\",[0,1]],[\"m\",0,0,0,[]],[\"l\",[]],[\"l\",[]]],\"version\":2}",
         6,
     ),
     (
-        b"{\"bits\":32,\"format\":\"ewig-pool\",\"roots\":[1,0,2,2],\"rows\":[[\"m\",0,0,0,[]],[\"s\",[0,0]],[\"l\",[]]],\"version\":1}",
+        b"{\"bits\":64,\"format\":\"ewig-pool\",\"roots\":[1,0,2,2],\"rows\":[[\"m\",0,0,0,[]],[\"s\",[0,0]],[\"l\",[]]],\"version\":2}",
         3,
     ),
     (
-        b"{\"bits\":32,\"format\":\"ewig-pool\",\"roots\":[7,8,9,10],\"rows\":[[\"c\",\"a\"],[\"c\",\"x\"],[\"c\",\"x\"],[\"l\",[1,2]],[\"p\",[0,3]],[\"m\",0,4096,0,[4]],[\"m\",0,0,0,[]],[\"s\",[5,6]],[\"m\",0,0,0,[]],[\"l\",[]],[\"l\",[]]],\"version\":1}",
+        b"{\"bits\":64,\"format\":\"ewig-pool\",\"roots\":[7,8,9,10],\"rows\":[[\"c\",\"a\"],[\"c\",\"x\"],[\"c\",\"x\"],[\"l\",[1,2]],[\"p\",[0,3]],[\"m\",0,4096,0,[4]],[\"m\",0,0,0,[]],[\"s\",[5,6]],[\"m\",0,0,0,[]],[\"l\",[]],[\"l\",[]]],\"version\":2}",
         11,
     ),
     (
-        b"{\"bits\":32,\"format\":\"ewig-pool\",\"roots\":[6,7,8,9],\"rows\":[[\"c\",\"a\"],[\"c\",\"x\"],[\"l\",[1,1]],[\"p\",[0,2]],[\"m\",0,4096,0,[3]],[\"m\",0,0,0,[]],[\"s\",[4,5]],[\"m\",0,0,0,[]],[\"l\",[]],[\"l\",[]]],\"version\":1}",
+        b"{\"bits\":64,\"format\":\"ewig-pool\",\"roots\":[6,7,8,9],\"rows\":[[\"c\",\"a\"],[\"c\",\"x\"],[\"l\",[1,1]],[\"p\",[0,2]],[\"m\",0,4096,0,[3]],[\"m\",0,0,0,[]],[\"s\",[4,5]],[\"m\",0,0,0,[]],[\"l\",[]],[\"l\",[]]],\"version\":2}",
         10,
     ),
     (
-        b"{\"bits\":32,\"format\":\"ewig-pool\",\"roots\":[9,10,11,12],\"rows\":[[\"c\",\"a\"],[\"l\",[]],[\"p\",[0,1]],[\"c\",\"A\"],[\"l\",[]],[\"p\",[3,4]],[\"m\",1,4194816,0,[2,5]],[\"m\",0,0,4096,[6]],[\"m\",0,0,0,[]],[\"s\",[7,8]],[\"m\",0,0,0,[]],[\"l\",[]],[\"l\",[]]],\"version\":1}",
+        b"{\"bits\":64,\"format\":\"ewig-pool\",\"roots\":[9,10,11,12],\"rows\":[[\"c\",\"a\"],[\"l\",[]],[\"p\",[0,1]],[\"c\",\"A\"],[\"l\",[]],[\"p\",[3,4]],[\"m\",1,8388624,0,[2,5]],[\"m\",0,0,4096,[6]],[\"m\",0,0,0,[]],[\"s\",[7,8]],[\"m\",0,0,0,[]],[\"l\",[]],[\"l\",[]]],\"version\":2}",
         13,
     ),
 ];
@@ -46,12 +47,12 @@ const WHOLE: [(&[u8], usize); 5] = [
 fn checks_and_loads_whole_documents(rt: HostRuntime) -> Result<(), Fail> {
     for (bytes, rows) in WHOLE {
         let mut heap: Heap<Text> = Heap::new(rt.alloc());
-        let roots = load(rt.alloc(), &mut heap, checked(&rt, bytes)?)?;
+        let roots = load(rt.alloc(), &mut heap, checked(rt.alloc(), bytes)?)?;
         assert_eq!(rt; roots.len(), 4);
         assert_eq!(rt; heap.live(), rows);
         assert_eq!(rt; heap.made(), rows as u64);
         let listed = order(rt.alloc(), &heap, &roots)?;
-        let pool = pool_of(rt.alloc(), &heap, &listed, &roots, 32)?;
+        let pool = pool_of(rt.alloc(), &heap, &listed, &roots, CODE_BITS)?;
         assert_eq!(rt; to_bytes(rt.alloc(), &pool)?.as_slice(), bytes);
     }
     Ok(())
@@ -60,70 +61,70 @@ fn checks_and_loads_whole_documents(rt: HostRuntime) -> Result<(), Fail> {
 // Each document fails the test beside it, and those before it in the order of the tests not.
 const DAMAGED: [(&[u8], Damage); 16] = [
     (
-        b"{\"bits\":32,\"format\":\"ewig-pool\",\"roots\":[0,0,0,0],\"rows\":[[\"l\",[0]]],\"version\":1}",
+        b"{\"bits\":64,\"format\":\"ewig-pool\",\"roots\":[0,0,0,0],\"rows\":[[\"l\",[0]]],\"version\":2}",
         Damage::Link,
     ),
     (
-        b"{\"bits\":32,\"format\":\"ewig-pool\",\"roots\":[2,3,4,5],\"rows\":[[\"m\",0,0,0,[]],[\"m\",0,0,0,[]],[\"s\",[0,1]],[\"m\",0,0,0,[]],[\"l\",[]],[\"l\",[]],[\"c\",\"x\\ny\"]],\"version\":1}",
+        b"{\"bits\":64,\"format\":\"ewig-pool\",\"roots\":[2,3,4,5],\"rows\":[[\"m\",0,0,0,[]],[\"m\",0,0,0,[]],[\"s\",[0,1]],[\"m\",0,0,0,[]],[\"l\",[]],[\"l\",[]],[\"c\",\"x\\ny\"]],\"version\":2}",
         Damage::Text,
     ),
     (
-        b"{\"bits\":32,\"format\":\"ewig-pool\",\"roots\":[2,3,4,5],\"rows\":[[\"m\",0,0,0,[]],[\"m\",0,0,0,[]],[\"s\",[0,1]],[\"m\",0,0,0,[]],[\"l\",[]],[\"i\",1,[4]]],\"version\":1}",
+        b"{\"bits\":64,\"format\":\"ewig-pool\",\"roots\":[2,3,4,5],\"rows\":[[\"m\",0,0,0,[]],[\"m\",0,0,0,[]],[\"s\",[0,1]],[\"m\",0,0,0,[]],[\"l\",[]],[\"i\",1,[4]]],\"version\":2}",
         Damage::Vector,
     ),
     (
-        b"{\"bits\":32,\"format\":\"ewig-pool\",\"roots\":[1,1,1,1],\"rows\":[[\"c\",\"a\"],[\"m\",1,512,0,[0]]],\"version\":1}",
+        b"{\"bits\":64,\"format\":\"ewig-pool\",\"roots\":[1,1,1,1],\"rows\":[[\"c\",\"a\"],[\"m\",1,16,0,[0]]],\"version\":2}",
         Damage::Trie,
     ),
     (
-        b"{\"bits\":32,\"format\":\"ewig-pool\",\"roots\":[3,3,4,5],\"rows\":[[\"m\",0,0,0,[]],[\"m\",0,0,0,[]],[\"s\",[0,1]],[\"m\",0,0,0,[]],[\"l\",[]],[\"l\",[]]],\"version\":1}",
+        b"{\"bits\":64,\"format\":\"ewig-pool\",\"roots\":[3,3,4,5],\"rows\":[[\"m\",0,0,0,[]],[\"m\",0,0,0,[]],[\"s\",[0,1]],[\"m\",0,0,0,[]],[\"l\",[]],[\"l\",[]]],\"version\":2}",
         Damage::Kind,
     ),
     (
-        b"{\"bits\":32,\"format\":\"ewig-pool\",\"roots\":[2,3,4,5],\"rows\":[[\"m\",0,0,0,[]],[\"m\",0,0,0,[]],[\"s\",[0,1]],[\"m\",0,0,0,[]],[\"l\",[]],[\"l\",[]],[\"c\",\"z\"]],\"version\":1}",
+        b"{\"bits\":64,\"format\":\"ewig-pool\",\"roots\":[2,3,4,5],\"rows\":[[\"m\",0,0,0,[]],[\"m\",0,0,0,[]],[\"s\",[0,1]],[\"m\",0,0,0,[]],[\"l\",[]],[\"l\",[]],[\"c\",\"z\"]],\"version\":2}",
         Damage::Order,
     ),
     (
-        b"{\"bits\":32,\"format\":\"ewig-pool\",\"roots\":[2,3,5,4],\"rows\":[[\"m\",0,0,0,[]],[\"m\",0,0,0,[]],[\"s\",[0,1]],[\"m\",0,0,0,[]],[\"l\",[]],[\"l\",[]]],\"version\":1}",
+        b"{\"bits\":64,\"format\":\"ewig-pool\",\"roots\":[2,3,5,4],\"rows\":[[\"m\",0,0,0,[]],[\"m\",0,0,0,[]],[\"s\",[0,1]],[\"m\",0,0,0,[]],[\"l\",[]],[\"l\",[]]],\"version\":2}",
         Damage::Order,
     ),
     (
-        b"{\"bits\":32,\"format\":\"ewig-pool\",\"roots\":[2,3,4,5],\"rows\":[[\"m\",0,0,0,[]],[\"m\",0,0,0,[]],[\"s\",[0,1]],[\"m\",0,0,0,[]],[\"l\",[]],[\"q\",[]]],\"version\":1}",
+        b"{\"bits\":64,\"format\":\"ewig-pool\",\"roots\":[2,3,4,5],\"rows\":[[\"m\",0,0,0,[]],[\"m\",0,0,0,[]],[\"s\",[0,1]],[\"m\",0,0,0,[]],[\"l\",[]],[\"q\",[]]],\"version\":2}",
         Damage::Row,
     ),
     // A row of 15 links before the last one of its parent, and a row of height 2 over leaves.
     (
-        b"{\"bits\":32,\"format\":\"ewig-pool\",\"roots\":[2,3,6,7],\"rows\":[[\"m\",0,0,0,[]],[\"m\",0,0,0,[]],[\"s\",[0,1]],[\"m\",0,0,0,[]],[\"l\",[2,2,2,2,2,2,2,2,2,2,2,2,2,2,2]],[\"l\",[2]],[\"i\",1,[4,5]],[\"l\",[]]],\"version\":1}",
+        b"{\"bits\":64,\"format\":\"ewig-pool\",\"roots\":[2,3,6,7],\"rows\":[[\"m\",0,0,0,[]],[\"m\",0,0,0,[]],[\"s\",[0,1]],[\"m\",0,0,0,[]],[\"l\",[2,2,2,2,2,2,2,2,2,2,2,2,2,2,2]],[\"l\",[2]],[\"i\",1,[4,5]],[\"l\",[]]],\"version\":2}",
         Damage::Vector,
     ),
     (
-        b"{\"bits\":32,\"format\":\"ewig-pool\",\"roots\":[2,3,6,7],\"rows\":[[\"m\",0,0,0,[]],[\"m\",0,0,0,[]],[\"s\",[0,1]],[\"m\",0,0,0,[]],[\"l\",[2,2,2,2,2,2,2,2,2,2,2,2,2,2,2,2]],[\"l\",[2]],[\"i\",2,[4,5]],[\"l\",[]]],\"version\":1}",
+        b"{\"bits\":64,\"format\":\"ewig-pool\",\"roots\":[2,3,6,7],\"rows\":[[\"m\",0,0,0,[]],[\"m\",0,0,0,[]],[\"s\",[0,1]],[\"m\",0,0,0,[]],[\"l\",[2,2,2,2,2,2,2,2,2,2,2,2,2,2,2,2]],[\"l\",[2]],[\"i\",2,[4,5]],[\"l\",[]]],\"version\":2}",
         Damage::Vector,
     ),
     // A pair whose key is a leaf, and tries with a link more than they have positions, and with one fewer.
     (
-        b"{\"bits\":32,\"format\":\"ewig-pool\",\"roots\":[2,2,2,2],\"rows\":[[\"l\",[]],[\"p\",[0,0]],[\"m\",0,4096,0,[1]]],\"version\":1}",
+        b"{\"bits\":64,\"format\":\"ewig-pool\",\"roots\":[2,2,2,2],\"rows\":[[\"l\",[]],[\"p\",[0,0]],[\"m\",0,4096,0,[1]]],\"version\":2}",
         Damage::Trie,
     ),
     (
-        b"{\"bits\":32,\"format\":\"ewig-pool\",\"roots\":[1,1,1,1],\"rows\":[[\"c\",\"a\"],[\"m\",0,4096,0,[0,0]]],\"version\":1}",
+        b"{\"bits\":64,\"format\":\"ewig-pool\",\"roots\":[1,1,1,1],\"rows\":[[\"c\",\"a\"],[\"m\",0,4096,0,[0,0]]],\"version\":2}",
         Damage::Trie,
     ),
     (
-        b"{\"bits\":32,\"format\":\"ewig-pool\",\"roots\":[1,1,1,1],\"rows\":[[\"c\",\"a\"],[\"m\",0,4128,0,[0]]],\"version\":1}",
+        b"{\"bits\":64,\"format\":\"ewig-pool\",\"roots\":[1,1,1,1],\"rows\":[[\"c\",\"a\"],[\"m\",0,4128,0,[0]]],\"version\":2}",
         Damage::Trie,
     ),
     // A name with a space, a pair among lines, and an undo whose root has one child.
     (
-        b"{\"bits\":32,\"format\":\"ewig-pool\",\"roots\":[5,6,7,8],\"rows\":[[\"c\",\"a b\"],[\"l\",[]],[\"p\",[0,1]],[\"m\",0,262144,0,[2]],[\"m\",0,0,0,[]],[\"s\",[3,4]],[\"m\",0,0,0,[]],[\"l\",[]],[\"l\",[]]],\"version\":1}",
+        b"{\"bits\":64,\"format\":\"ewig-pool\",\"roots\":[5,6,7,8],\"rows\":[[\"c\",\"a b\"],[\"l\",[]],[\"p\",[0,1]],[\"m\",0,262144,0,[2]],[\"m\",0,0,0,[]],[\"s\",[3,4]],[\"m\",0,0,0,[]],[\"l\",[]],[\"l\",[]]],\"version\":2}",
         Damage::Kind,
     ),
     (
-        b"{\"bits\":32,\"format\":\"ewig-pool\",\"roots\":[7,8,9,10],\"rows\":[[\"c\",\"a\"],[\"l\",[]],[\"p\",[0,1]],[\"l\",[2]],[\"p\",[0,3]],[\"m\",0,4096,0,[4]],[\"m\",0,0,0,[]],[\"s\",[5,6]],[\"m\",0,0,0,[]],[\"l\",[]],[\"l\",[]]],\"version\":1}",
+        b"{\"bits\":64,\"format\":\"ewig-pool\",\"roots\":[7,8,9,10],\"rows\":[[\"c\",\"a\"],[\"l\",[]],[\"p\",[0,1]],[\"l\",[2]],[\"p\",[0,3]],[\"m\",0,4096,0,[4]],[\"m\",0,0,0,[]],[\"s\",[5,6]],[\"m\",0,0,0,[]],[\"l\",[]],[\"l\",[]]],\"version\":2}",
         Damage::Kind,
     ),
     (
-        b"{\"bits\":32,\"format\":\"ewig-pool\",\"roots\":[2,3,5,6],\"rows\":[[\"m\",0,0,0,[]],[\"m\",0,0,0,[]],[\"s\",[0,1]],[\"m\",0,0,0,[]],[\"l\",[2]],[\"i\",1,[4]],[\"l\",[]]],\"version\":1}",
+        b"{\"bits\":64,\"format\":\"ewig-pool\",\"roots\":[2,3,5,6],\"rows\":[[\"m\",0,0,0,[]],[\"m\",0,0,0,[]],[\"s\",[0,1]],[\"m\",0,0,0,[]],[\"l\",[2]],[\"i\",1,[4]],[\"l\",[]]],\"version\":2}",
         Damage::Kind,
     ),
 ];
@@ -131,7 +132,7 @@ const DAMAGED: [(&[u8], Damage); 16] = [
 #[test]
 fn tells_the_damage_of_others(rt: HostRuntime) -> Result<(), Fail> {
     for (bytes, damage) in DAMAGED {
-        assert_eq!(rt; checked(&rt, bytes).err(), Some(damage));
+        assert_eq!(rt; checked(rt.alloc(), bytes).err(), Some(damage));
     }
     Ok(())
 }
@@ -140,8 +141,8 @@ fn tells_the_damage_of_others(rt: HostRuntime) -> Result<(), Fail> {
 #[test]
 fn tells_the_damage_of_a_chain_over_a_trie_row(rt: HostRuntime) -> Result<(), Fail> {
     let bytes =
-        b"{\"bits\":5,\"format\":\"ewig-pool\",\"roots\":[3,3,3,3],\"rows\":[[\"c\",\"A\"],[\"c\",\"a\"],[\"m\",0,4096,0,[1]],[\"k\",[0,2]]],\"version\":1}";
-    let pool = pool_from_bytes(rt.alloc(), bytes.as_slice(), 5)?;
+        b"{\"bits\":5,\"format\":\"ewig-pool\",\"roots\":[3,3,3,3],\"rows\":[[\"c\",\"A\"],[\"c\",\"a\"],[\"m\",0,4096,0,[1]],[\"k\",[0,2]]],\"version\":2}";
+    let pool = present_pool(rt.alloc(), bytes.as_slice(), 5)?;
     let answer: Result<Checked<Text>, Damage> = check(rt.alloc(), pool);
     assert_eq!(rt; answer.err(), Some(Damage::Trie));
     Ok(())
@@ -151,9 +152,13 @@ fn tells_the_damage_of_a_chain_over_a_trie_row(rt: HostRuntime) -> Result<(), Fa
 #[test]
 fn loads_a_shared_state(rt: HostRuntime) -> Result<(), Fail> {
     let bytes =
-        b"{\"bits\":32,\"format\":\"ewig-pool\",\"roots\":[2,3,4,5],\"rows\":[[\"m\",0,0,0,[]],[\"m\",0,0,0,[]],[\"s\",[0,1]],[\"m\",0,0,0,[]],[\"l\",[2]],[\"l\",[]]],\"version\":1}";
+        b"{\"bits\":64,\"format\":\"ewig-pool\",\"roots\":[2,3,4,5],\"rows\":[[\"m\",0,0,0,[]],[\"m\",0,0,0,[]],[\"s\",[0,1]],[\"m\",0,0,0,[]],[\"l\",[2]],[\"l\",[]]],\"version\":2}";
     let mut heap: Heap<Text> = Heap::new(rt.alloc());
-    let roots = load(rt.alloc(), &mut heap, checked(&rt, bytes.as_slice())?)?;
+    let roots = load(
+        rt.alloc(),
+        &mut heap,
+        checked(rt.alloc(), bytes.as_slice())?,
+    )?;
     assert_eq!(rt; heap.owners(roots[0]), 2);
     assert_eq!(rt; heap.owners(roots[1]), 1);
     Ok(())
@@ -169,22 +174,22 @@ fn laws_of_loads(_rt: HostRuntime) {
 
 // Two buffers, `b` and `a`, over one leaf.
 const SHARED: &[u8] =
-    b"{\"bits\":32,\"format\":\"ewig-pool\",\"roots\":[8,9,10,11],\"rows\":[[\"c\",\"b\"],[\"c\",\"x\"],[\"l\",[1]],[\"p\",[0,2]],[\"c\",\"a\"],[\"p\",[4,2]],[\"m\",0,4128,0,[3,5]],[\"m\",0,0,0,[]],[\"s\",[6,7]],[\"m\",0,0,0,[]],[\"l\",[]],[\"l\",[]]],\"version\":1}";
+    b"{\"bits\":64,\"format\":\"ewig-pool\",\"roots\":[8,9,10,11],\"rows\":[[\"c\",\"b\"],[\"c\",\"x\"],[\"l\",[1]],[\"p\",[0,2]],[\"c\",\"a\"],[\"p\",[4,2]],[\"m\",0,4128,0,[3,5]],[\"m\",0,0,0,[]],[\"s\",[6,7]],[\"m\",0,0,0,[]],[\"l\",[]],[\"l\",[]]],\"version\":2}";
 
 // Places of its rows, and the text of the pool of these: none; both buffers, one of them twice, which share their leaf and reach no
 // state; and its roots, the last first.
 const GATHERED: [(&[u64], &[u8]); 3] = [
     (
         &[],
-        b"{\"bits\":32,\"format\":\"ewig-pool\",\"roots\":[],\"rows\":[],\"version\":1}",
+        b"{\"bits\":64,\"format\":\"ewig-pool\",\"roots\":[],\"rows\":[],\"version\":2}",
     ),
     (
         &[5, 3, 5],
-        b"{\"bits\":32,\"format\":\"ewig-pool\",\"roots\":[3,5,3],\"rows\":[[\"c\",\"a\"],[\"c\",\"x\"],[\"l\",[1]],[\"p\",[0,2]],[\"c\",\"b\"],[\"p\",[4,2]]],\"version\":1}",
+        b"{\"bits\":64,\"format\":\"ewig-pool\",\"roots\":[3,5,3],\"rows\":[[\"c\",\"a\"],[\"c\",\"x\"],[\"l\",[1]],[\"p\",[0,2]],[\"c\",\"b\"],[\"p\",[4,2]]],\"version\":2}",
     ),
     (
         &[11, 10, 9, 8],
-        b"{\"bits\":32,\"format\":\"ewig-pool\",\"roots\":[0,1,2,11],\"rows\":[[\"l\",[]],[\"l\",[]],[\"m\",0,0,0,[]],[\"c\",\"b\"],[\"c\",\"x\"],[\"l\",[4]],[\"p\",[3,5]],[\"c\",\"a\"],[\"p\",[7,5]],[\"m\",0,4128,0,[6,8]],[\"m\",0,0,0,[]],[\"s\",[9,10]]],\"version\":1}",
+        b"{\"bits\":64,\"format\":\"ewig-pool\",\"roots\":[0,1,2,11],\"rows\":[[\"l\",[]],[\"l\",[]],[\"m\",0,0,0,[]],[\"c\",\"b\"],[\"c\",\"x\"],[\"l\",[4]],[\"p\",[3,5]],[\"c\",\"a\"],[\"p\",[7,5]],[\"m\",0,4128,0,[6,8]],[\"m\",0,0,0,[]],[\"s\",[9,10]]],\"version\":2}",
     ),
 ];
 
@@ -202,11 +207,11 @@ fn places_below(rt: &impl Abort, alloc: Global, places: &[u64], count: u64) -> V
 
 #[test]
 fn gathers_rows_of_a_list(rt: HostRuntime) -> Result<(), Fail> {
-    let shared = checked(&rt, SHARED)?;
+    let shared = checked(rt.alloc(), SHARED)?;
     let rows = &shared.pool().rows;
     for (places, bytes) in GATHERED {
         let roots = places_below(&rt, rt.alloc(), places, rows.as_slice().len() as u64);
-        let pool = pool_of_rows(rt.alloc(), rows, &roots, 32)?;
+        let pool = pool_of_rows(rt.alloc(), rows, &roots, CODE_BITS)?;
         assert_eq!(rt; to_bytes(rt.alloc(), &pool)?.as_slice(), bytes);
     }
     Ok(())

@@ -3,8 +3,8 @@ use elem_core::{Line, Text, text_of};
 use node_heap::{Head, Heap};
 use pool_order::order;
 use pool_text::{
-    Damage, Places, Pool, PoolText, Row, Rows, pool_from_bytes, pool_from_json, pool_of,
-    text_length, to_bytes, to_json,
+    Damage, Places, Pool, PoolText, Row, Rows, into_bytes, pool_from_bytes, pool_from_json,
+    pool_of, text_length, to_bytes, to_json,
 };
 use std::test::Fail;
 
@@ -20,7 +20,7 @@ fn gathers_a_leaf_with_its_cell(rt: HostRuntime) -> Result<(), Fail> {
     let pool = pool_of(rt.alloc(), &heap, &listed, &roots, 5)?;
     let bytes = to_bytes(rt.alloc(), &pool)?;
     let expected =
-        b"{\"bits\":5,\"format\":\"ewig-pool\",\"roots\":[1,1],\"rows\":[[\"c\",\"x\"],[\"l\",[0]]],\"version\":1}";
+        b"{\"bits\":5,\"format\":\"ewig-pool\",\"roots\":[1,1],\"rows\":[[\"c\",\"x\"],[\"l\",[0]]],\"version\":2}";
     assert_eq!(rt; bytes.as_slice(), expected.as_slice());
     Ok(())
 }
@@ -43,7 +43,8 @@ fn rows_of_each_kind(rt: &HostRuntime) -> Result<Pool, Fail> {
     rows.push(Row::Pair(0, 1))?;
     rows.push(Row::State(3, 18446744073709551615))?;
     Ok(Pool {
-        bits: 32,
+        bits: 64,
+        version: 2,
         rows: Rows::from_vec(rows),
         roots: Places::from_vec(vec![in alloc; 6, 3, 2, 1]?),
     })
@@ -54,19 +55,23 @@ fn writes_and_reads_rows_of_each_kind(rt: HostRuntime) -> Result<(), Fail> {
     let pool = rows_of_each_kind(&rt)?;
     let bytes = to_bytes(rt.alloc(), &pool)?;
     let expected =
-        "{\"bits\":32,\"format\":\"ewig-pool\",\"roots\":[6,3,2,1],\"rows\":[[\"c\",\"a\\\"b\\\\c\\td\\u0001\u{e9}\"],[\"l\",[]],[\"i\",1,[1]],[\"m\",0,4096,0,[0]],[\"k\",[0,10]],[\"p\",[0,1]],[\"s\",[3,18446744073709551615]]],\"version\":1}";
+        "{\"bits\":64,\"format\":\"ewig-pool\",\"roots\":[6,3,2,1],\"rows\":[[\"c\",\"a\\\"b\\\\c\\td\\u0001\u{e9}\"],[\"l\",[]],[\"i\",1,[1]],[\"m\",0,4096,0,[0]],[\"k\",[0,10]],[\"p\",[0,1]],[\"s\",[3,18446744073709551615]]],\"version\":2}";
     assert_eq!(rt; bytes.as_slice(), expected.as_bytes());
     assert_eq!(rt; text_length(&pool), bytes.len() as u64);
     let value = to_json(rt.alloc(), &pool)?;
     assert_eq!(rt; value.to_string(rt.alloc())?.as_str(), expected);
-    let read = pool_from_json(rt.alloc(), &value, 32)?;
+    let read = pool_from_json(rt.alloc(), &value, 64)?;
     assert_eq!(rt;
         to_bytes(rt.alloc(), &read)?.as_slice(),
         expected.as_bytes()
     );
-    let read = pool_from_bytes(rt.alloc(), expected.as_bytes(), 32)?;
+    let read = pool_from_bytes(rt.alloc(), expected.as_bytes(), 64)?;
     assert_eq!(rt;
         to_bytes(rt.alloc(), &read)?.as_slice(),
+        expected.as_bytes()
+    );
+    assert_eq!(rt;
+        into_bytes(rt.alloc(), read)?.as_slice(),
         expected.as_bytes()
     );
     Ok(())
@@ -76,40 +81,41 @@ fn writes_and_reads_rows_of_each_kind(rt: HostRuntime) -> Result<(), Fail> {
 #[test]
 fn reads_white_space_and_any_order_of_keys(rt: HostRuntime) -> Result<(), Fail> {
     let loose =
-        b" {\"version\" : 1,\n\"rows\":[[\"m\",0,0,0,[]], [\"m\",0,0,0,[ ]],[\"s\",[0,1]],[\"m\",0,0,0,[]],[\"l\",[]],[\"l\",[]]],\t\"roots\":[2,3,4,5],\"format\":\"ewig-pool\",\"bits\":32}\r\n";
+        b" {\"version\" : 2,\n\"rows\":[[\"m\",0,0,0,[]], [\"m\",0,0,0,[ ]],[\"s\",[0,1]],[\"m\",0,0,0,[]],[\"l\",[]],[\"l\",[]]],\t\"roots\":[2,3,4,5],\"format\":\"ewig-pool\",\"bits\":64}\r\n";
     let compact =
-        b"{\"bits\":32,\"format\":\"ewig-pool\",\"roots\":[2,3,4,5],\"rows\":[[\"m\",0,0,0,[]],[\"m\",0,0,0,[]],[\"s\",[0,1]],[\"m\",0,0,0,[]],[\"l\",[]],[\"l\",[]]],\"version\":1}";
-    let pool = pool_from_bytes(rt.alloc(), loose.as_slice(), 32)?;
+        b"{\"bits\":64,\"format\":\"ewig-pool\",\"roots\":[2,3,4,5],\"rows\":[[\"m\",0,0,0,[]],[\"m\",0,0,0,[]],[\"s\",[0,1]],[\"m\",0,0,0,[]],[\"l\",[]],[\"l\",[]]],\"version\":2}";
+    let pool = pool_from_bytes(rt.alloc(), loose.as_slice(), 64)?;
     assert_eq!(rt; to_bytes(rt.alloc(), &pool)?.as_slice(), compact.as_slice());
     Ok(())
 }
 
-// What a space of 32 bits finds wrong with the bytes.
+// What a space of 64 bits finds wrong with the bytes.
 fn damage_in(rt: &HostRuntime, bytes: &[u8]) -> Option<Damage> {
-    match pool_from_bytes(rt.alloc(), bytes, 32) {
+    match pool_from_bytes(rt.alloc(), bytes, 64) {
         Ok(_) => None,
         Err(damage) => Some(damage),
     }
 }
 
-// Each document but the last fails the test beside it, and those before it in the order of the tests not.
-const DOCUMENTS: [(&[u8], Option<Damage>); 14] = [
-    (b"{\"bits\":32", Some(Damage::Json)),
+// Each document fails the test beside it, if there is one, and those before it in the order of the tests not. The last ones are of
+// version 1, whose tries are less deep and whose bits are at most 32, and of one that isn't read.
+const DOCUMENTS: [(&[u8], Option<Damage>); 22] = [
+    (b"{\"bits\":64", Some(Damage::Json)),
     (b"[\"\xff\"]", Some(Damage::Json)),
     (
-        b"{\"bits\":32,\"format\":\"ewig-pool\",\"roots\":[2,3,4],\"rows\":[],\"version\":1}",
+        b"{\"bits\":64,\"format\":\"ewig-pool\",\"roots\":[2,3,4],\"rows\":[],\"version\":2}",
         Some(Damage::Form),
     ),
     (
-        b"{\"bits\":32,\"format\":\"ewig-pool\",\"more\":0,\"roots\":[2,3,4,5],\"rows\":[],\"version\":1}",
+        b"{\"bits\":64,\"format\":\"ewig-pool\",\"more\":0,\"roots\":[2,3,4,5],\"rows\":[],\"version\":2}",
         Some(Damage::Form),
     ),
     (
-        b"{\"bits\":32,\"format\":\"ewig-pod\",\"roots\":[2,3,4,5],\"rows\":[],\"version\":1}",
+        b"{\"bits\":64,\"format\":\"ewig-pod\",\"roots\":[2,3,4,5],\"rows\":[],\"version\":2}",
         Some(Damage::Form),
     ),
     (
-        b"{\"bits\":-1,\"format\":\"ewig-pool\",\"roots\":[2,3,4,5],\"rows\":[],\"version\":1}",
+        b"{\"bits\":-1,\"format\":\"ewig-pool\",\"roots\":[2,3,4,5],\"rows\":[],\"version\":2}",
         Some(Damage::Form),
     ),
     (
@@ -117,32 +123,64 @@ const DOCUMENTS: [(&[u8], Option<Damage>); 14] = [
         Some(Damage::Version),
     ),
     (
-        b"{\"bits\":31,\"format\":\"ewig-pool\",\"roots\":[2,3,4,5],\"rows\":[[\"q\",[]]],\"version\":1}",
+        b"{\"bits\":31,\"format\":\"ewig-pool\",\"roots\":[2,3,4,5],\"rows\":[[\"q\",[]]],\"version\":2}",
         Some(Damage::Bits),
     ),
     (
-        b"{\"bits\":32,\"format\":\"ewig-pool\",\"roots\":[2,3,4,5],\"rows\":[[\"l\",[]],[\"q\",[]]],\"version\":1}",
+        b"{\"bits\":64,\"format\":\"ewig-pool\",\"roots\":[2,3,4,5],\"rows\":[[\"l\",[]],[\"q\",[]]],\"version\":2}",
         Some(Damage::Row),
     ),
     (
-        b"{\"bits\":32,\"format\":\"ewig-pool\",\"roots\":[2,3,4,5],\"rows\":[[\"i\",8,[0]]],\"version\":1}",
+        b"{\"bits\":64,\"format\":\"ewig-pool\",\"roots\":[2,3,4,5],\"rows\":[[\"i\",8,[0]]],\"version\":2}",
         Some(Damage::Row),
     ),
     (
-        b"{\"bits\":32,\"format\":\"ewig-pool\",\"roots\":[2,3,4,5],\"rows\":[[\"m\",0,4294967296,0,[0]]],\"version\":1}",
+        b"{\"bits\":64,\"format\":\"ewig-pool\",\"roots\":[2,3,4,5],\"rows\":[[\"m\",0,4294967296,0,[0]]],\"version\":2}",
         Some(Damage::Row),
     ),
     (
-        b"{\"bits\":32,\"format\":\"ewig-pool\",\"roots\":[2,3,4,5],\"rows\":[[\"k\",[0,1,2]]],\"version\":1}",
+        b"{\"bits\":64,\"format\":\"ewig-pool\",\"roots\":[2,3,4,5],\"rows\":[[\"k\",[0,1,2]]],\"version\":2}",
         Some(Damage::Row),
     ),
     (
-        b"{\"bits\":32,\"format\":\"ewig-pool\",\"roots\":[2,3,4,5],\"rows\":[[\"p\",[0]]],\"version\":1}",
+        b"{\"bits\":64,\"format\":\"ewig-pool\",\"roots\":[2,3,4,5],\"rows\":[[\"p\",[0]]],\"version\":2}",
         Some(Damage::Row),
     ),
     (
-        b"{\"bits\":32,\"format\":\"ewig-pool\",\"roots\":[0,0,0,0],\"rows\":[[\"l\",[0]]],\"version\":1}",
+        b"{\"bits\":64,\"format\":\"ewig-pool\",\"roots\":[0,0,0,0],\"rows\":[[\"l\",[0]]],\"version\":2}",
         None,
+    ),
+    (
+        b"{\"bits\":64,\"format\":\"ewig-pool\",\"roots\":[0,0,0,0],\"rows\":[[\"m\",12,0,0,[]]],\"version\":2}",
+        None,
+    ),
+    (
+        b"{\"bits\":64,\"format\":\"ewig-pool\",\"roots\":[0,0,0,0],\"rows\":[[\"m\",13,0,0,[]]],\"version\":2}",
+        Some(Damage::Row),
+    ),
+    (
+        b"{\"bits\":32,\"format\":\"ewig-pool\",\"roots\":[0,0,0,0],\"rows\":[[\"m\",6,0,0,[]]],\"version\":2}",
+        Some(Damage::Bits),
+    ),
+    (
+        b"{\"bits\":32,\"format\":\"ewig-pool\",\"roots\":[0,0,0,0],\"rows\":[[\"m\",6,0,0,[]]],\"version\":1}",
+        None,
+    ),
+    (
+        b"{\"bits\":32,\"format\":\"ewig-pool\",\"roots\":[0,0,0,0],\"rows\":[[\"m\",7,0,0,[]]],\"version\":1}",
+        Some(Damage::Row),
+    ),
+    (
+        b"{\"bits\":31,\"format\":\"ewig-pool\",\"roots\":[0,0,0,0],\"rows\":[[\"m\",6,0,0,[]]],\"version\":1}",
+        Some(Damage::Bits),
+    ),
+    (
+        b"{\"bits\":64,\"format\":\"ewig-pool\",\"roots\":[0,0,0,0],\"rows\":[[\"m\",6,0,0,[]]],\"version\":1}",
+        Some(Damage::Bits),
+    ),
+    (
+        b"{\"bits\":64,\"format\":\"ewig-pool\",\"roots\":[0,0,0,0],\"rows\":[[\"l\",[0]]],\"version\":3}",
+        Some(Damage::Version),
     ),
 ];
 

@@ -1,7 +1,6 @@
 -- A value that stands for a pool, and has its version, is the pool's document.
-use Rattle.std.proofs.Common.{◌≡◌, ℕ, Bool, true, false, cond, eqb, List, [], ◌∷◌, map, Option, Some, None, option_map, bytes_eq, refl, ap, ap₂, sym, subst, ◌∙◌}
+use Rattle.std.proofs.Common.{◌≡◌, ℕ, Bool, true, false, cond, List, [], ◌∷◌, map, Option, Some, None, option_map, bytes_eq, refl, ap, ap₂, sym, subst, ◌∙◌}
 use Rattle.std.specs.Prelude.{codes, option_and_then, IsSomeAnd}
-use Rattle.std.proofs.lemmas.Bool.{eqb-true}
 use Rattle.std.proofs.lemmas.Option.{none-some, same_Some, option_and_then_some}
 use Rattle.std.proofs.lemmas.Slice.Eq.{bytes_eq-Decides}
 use Rattle.node_heap.specs.Forms.{Form, Kind, cell, node, leaf, inner, trie, chain, pair, state}
@@ -9,11 +8,11 @@ use Rattle.serde_json.specs.Data.{unsigned, negative, float, Data, null, boolean
 use Rattle.serde_json.specs.View.{items_of}
 use Rattle.serde_json.specs.Written.{compact_text}
 use Rattle.pool_text.specs.Rows.{Bytes, is_in_range_to}
-use Rattle.pool_text.specs.Rules.{Rules, rules_of}
-use Rattle.pool_text.specs.Document.{list, natural, naturals, row_value, document, text, number_in, item_list, elements_in, all_of, numbers_in, cell_form, node_form, inner_form, trie_form, form_after, form_from, row_in, DocumentParts, four, document_keys, values_at, parts_read, parts_from, parts_in, value_in, rows_in, pool_by, pool_from, pool_in, pool_in_bytes, or_damage, value_damage, bytes_damage}
+use Rattle.pool_text.specs.Rules.{rules_of}
+use Rattle.pool_text.specs.Document.{list, natural, naturals, row_value, document, text, number_in, item_list, elements_in, all_of, numbers_in, cell_form, node_form, inner_form, trie_form, form_after, form_from, row_in, DocumentParts, four, document_keys, values_at, parts_read, parts_from, parts_in, value_in, rows_in, pool_by, pool_from, pool_in, pool_in_bytes}
 use Rattle.pool_text.specs.Laws.{IsCompact}
 use Rattle.pool_text.specs.declared.pool.Pool.{Pool}
-use Rattle.pool_text.specs.declared.damage.Damage.TheVariants.{Json}
+use Rattle.pool_text.specs.declared.rules.TheConstants.{PRESENT_VERSION}
 use Rattle.pool_text.proofs.EachRead.{onto-some}
 
 -- either answer of a test
@@ -211,25 +210,20 @@ parts-back (object ms) p e =
     option_and_then_some parts_from (values_at document_keys ms) p e (λ vs are from.
     ap (λ ds. object (members_with document_keys ds)) (from-back vs p from) ∙ ap object (members-back document_keys ms vs are))
 
--- a version that is read is the first
-version-is : (v : ℕ) (rules : Rules) → rules_of v ≡ Some rules → v ≡ 1
-version-is v rules e = choice (eqb v 1) _ None rules e (λ is _. eqb-true v 1 is) (λ _ none. absurd (none-some rules none))
-
-pub document-back : (bits : ℕ) (d : Data) (P : Pool) → value_damage bits d ≡ None → pool_in d ≡ Some P → document P ≡ d
+pub document-back : (d : Data) (P : Pool) → pool_in d ≡ Some P → P.version ≡ PRESENT_VERSION → document P ≡ d
 unfolding pool_in document
-document-back bits d P whole is =
+document-back d P is now =
     option_and_then_some pool_from (parts_in d) P is (λ p parts found.
     option_and_then_some (pool_by p) (rules_of p.version) P found (λ rules version pool_is.
-    mapped (λ rows. record { bits = p.bits; rows = rows; roots = p.roots }) (rows_in p rules) P pool_is (λ rows are made.
-    let v : p.version ≡ 1 = version-is p.version rules version in
+    mapped (λ rows. record { bits = p.bits; version = p.version; rows = rows; roots = p.roots }) (rows_in p rules) P pool_is (λ rows are made.
+    let v : p.version ≡ PRESENT_VERSION = ap (λ (Q : Pool). Q.version) made ∙ now in
     ap document (sym made)
     ∙ ap₂ (λ ds n. object (member (codes "bits") (natural p.bits) (member (codes "format") (string (codes "ewig-pool")) (member (codes "roots") (naturals p.roots) (member (codes "rows") (list ds) (member (codes "version") (natural n) no_members))))))
     (all_of-back (row_in rules.deepest) row_value (row-back rules.deepest) p.rows rows are) (sym v)
     ∙ parts-back d p parts)))
 
-pub compact-stays : (bits : ℕ) (bytes : Bytes) (P : Pool) → bytes_damage bits bytes ≡ None → pool_in_bytes bytes ≡ Some P → IsCompact bytes → text P ≡ bytes
-unfolding bytes_damage
-compact-stays bits bytes P whole is compact =
+pub compact-stays : (bytes : Bytes) (P : Pool) → pool_in_bytes bytes ≡ Some P → P.version ≡ PRESENT_VERSION → IsCompact bytes → text P ≡ bytes
+compact-stays bytes P is now compact =
     option_and_then_some pool_in (value_in bytes) P is (λ d read pool_is.
     let same : bytes ≡ compact_text d = subst (λ o. IsSomeAnd o (λ x. bytes ≡ compact_text x)) read compact in
-    ap compact_text (document-back bits d P (sym (ap (or_damage Json (value_damage bits)) read) ∙ whole) pool_is) ∙ sym same)
+    ap compact_text (document-back d P pool_is now) ∙ sym same)

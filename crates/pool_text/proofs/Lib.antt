@@ -15,3 +15,4 @@ mod NumbersRead
 pub mod Refusals
 mod PartsRead
 mod PoolRead
+mod DocumentText

@@ -1,18 +1,18 @@
 -- The pool and the damage of a document, by its parts and its rows.
-use Rattle.std.proofs.Common.{◌≡◌, ◌≢◌, ℕ, Bool, true, false, cond, eqb, ◌&&◌, Option, Some, None, List, [], ◌∷◌, refl, ap, sym, ◌∙◌, arith}
-use Rattle.std.specs.Prelude.{not, is_some, option_map, option_and_then}
+use Rattle.std.proofs.Common.{◌≡◌, ◌≢◌, ℕ, ◌≤◌, Bool, true, false, cond, eqb, ◌&&◌, Option, Some, None, List, [], ◌∷◌, refl, ap, sym, ◌∙◌, arith, subst}
+use Rattle.std.specs.Prelude.{not, is_some, option_map, option_and_then, IsSomeAnd}
 use Rattle.std.specs.List.{list_all}
 use Rattle.std.specs.Str.{is_utf8}
+use Rattle.std.proofs.lemmas.Bool.{eqb-true}
 use Rattle.std.proofs.lemmas.Bool.Decides.{nat_tests}
+use Rattle.std.proofs.lemmas.Option.{none-some}
+use Rattle.pool_text.specs.declared.pool.Pool.{Pool}
 use Rattle.node_heap.specs.Forms.{Form}
 use Rattle.serde_json.specs.Data.{Data}
 use Rattle.serde_json.specs.Read.{read}
-use Rattle.elem_core.specs.declared.codes.TheConstants.{DEEPEST}
 use Rattle.pool_text.specs.Rows.{Bytes, is_in_range_to}
-use Rattle.pool_text.specs.Rules.{Rules, rules_of, rules_named}
-use Rattle.pool_text.specs.Document.{form_from, elements_in, all_of, row_in, DocumentParts, parts_in, rows_in, pool_by, pool_from, pool_in, or_damage, parts_damage_by, parts_damage, value_damage, value_in, pool_in_bytes, bytes_damage}
-use Rattle.pool_text.specs.declared.rules.Rules.{Rules as RulesByName}
-use Rattle.pool_text.specs.declared.rules.Rules.TheVariants.{First}
+use Rattle.pool_text.specs.Rules.{Rules, first_rules, second_rules, rules_of, bits_by}
+use Rattle.pool_text.specs.Document.{form_from, elements_in, all_of, row_in, DocumentParts, parts_in, rows_in, pool_by, pool_from, pool_in, or_damage, parts_damage_by, parts_damage, value_damage, value_in, pool_in_bytes, bytes_damage, IsInRange}
 use Rattle.pool_text.specs.declared.damage.Damage.{Damage}
 use Rattle.pool_text.specs.declared.damage.Damage.TheVariants.{Json, Form as FormDamage, Version, Bits, Row}
 use Rattle.pool_text.proofs.EachRead.{onto-some}
@@ -27,32 +27,47 @@ rows-in-range deepest (d ∷ ds) rows e =
     ∙ ap (λ b. b && list_all (is_in_range_to deepest) parts.rest) (kept-passes (is_in_range_to deepest) (option_and_then form_from (elements_in d)) parts.first parts.is_first)
     ∙ rows-in-range deepest ds parts.rest parts.is_rest
 
+-- a pool of a version that is read, whose rows were read by the rules of that version
+pub range-by-rules : (P : Pool) (v : ℕ) (rules : Rules) (ds : List Data) → P.version ≡ v → rules_of v ≡ Some rules → all_of (row_in rules.deepest) ds ≡ Some P.rows → IsInRange P
+range-by-rules P v rules ds same found are =
+    subst (λ o. IsSomeAnd o (λ (r : Rules). list_all (is_in_range_to r.deepest) P.rows ≡ true)) (sym (ap rules_of same ∙ found)) (rows-in-range rules.deepest ds P.rows are)
+
 -- ## By rules
 
+other-numbers : (a b : ℕ) → a ≢ b → eqb a b ≡ false
+other-numbers a b other = grind (arith, nat_tests)
+
+same-numbers : (a b : ℕ) → a ≡ b → eqb a b ≡ true
+same-numbers a b same = grind (arith, nat_tests)
+
 module _ (bits : ℕ) (p : DocumentParts) (rules : Rules) where
+  -- the bits that the document keeps
+  abbrev kept_bits : ℕ
+  kept_bits = bits_by p.version bits
+
   abbrev after_bits : Option Damage
   after_bits = cond (is_some (rows_in p rules)) None (Some Row)
 
-  pub bits-damage : p.bits ≢ bits → parts_damage_by bits p rules ≡ Some Bits
+  pub bits-damage : p.bits ≢ kept_bits → parts_damage_by bits p rules ≡ Some Bits
   bits-damage other =
-      let differs : eqb p.bits bits ≡ false = grind (arith, nat_tests) in
-      ap (λ b. cond (not b) (Some Bits) after_bits) differs
+      ap (λ b. cond (not b) (Some Bits) after_bits) (other-numbers p.bits kept_bits other)
 
-  from_bits : p.bits ≡ bits → parts_damage_by bits p rules ≡ after_bits
+  from_bits : p.bits ≡ kept_bits → parts_damage_by bits p rules ≡ after_bits
   from_bits kept =
-      let same : eqb p.bits bits ≡ true = grind (arith, nat_tests) in
-      ap (λ b. cond (not b) (Some Bits) after_bits) same
+      ap (λ b. cond (not b) (Some Bits) after_bits) (same-numbers p.bits kept_bits kept)
 
-  pub row-damage : p.bits ≡ bits → rows_in p rules ≡ None → parts_damage_by bits p rules ≡ Some Row
+  pub row-damage : p.bits ≡ kept_bits → rows_in p rules ≡ None → parts_damage_by bits p rules ≡ Some Row
   row-damage kept none = from_bits kept ∙ ap (λ o. cond (is_some o) None (Some Row)) none
 
-  pub no-damage : (rows : List (Form Bytes)) → p.bits ≡ bits → rows_in p rules ≡ Some rows → parts_damage_by bits p rules ≡ None
+  pub no-damage : (rows : List (Form Bytes)) → p.bits ≡ kept_bits → rows_in p rules ≡ Some rows → parts_damage_by bits p rules ≡ None
   no-damage rows kept are = from_bits kept ∙ ap (λ o. cond (is_some o) None (Some Row)) are
 
-  pub pool-read : (rows : List (Form Bytes)) → p.bits ≡ bits → rows_in p rules ≡ Some rows → pool_by p rules ≡ Some (record { bits = bits; rows = rows; roots = p.roots })
-  pool-read rows kept are =
-      ap (λ o. option_map (λ rs. record { bits = p.bits; rows = rs; roots = p.roots }) o) are
-      ∙ ap (λ b. Some (record { bits = b; rows = rows; roots = p.roots })) kept
+  pub pool-read : (rows : List (Form Bytes)) (b v : ℕ) → p.bits ≡ b → p.version ≡ v → rows_in p rules ≡ Some rows
+      → pool_by p rules ≡ Some (record { bits = b; version = v; rows = rows; roots = p.roots })
+  pool-read rows b v is_b is_v are =
+      ap (λ o. option_map (λ rs. record { bits = p.bits; version = p.version; rows = rs; roots = p.roots }) o) are
+      ∙ ap (λ n. Some (record { bits = n; version = p.version; rows = rows; roots = p.roots })) is_b
+      ∙ ap (λ n. Some (record { bits = b; version = n; rows = rows; roots = p.roots })) is_v
 
 -- ## By the rules of the version
 
@@ -75,9 +90,14 @@ module _ (bits : ℕ) (d : Data) (p : DocumentParts) (is : parts_in d ≡ Some p
   unfolding pool_in
   pool-by-rules rules found = ap (option_and_then pool_from) is ∙ ap (option_and_then (pool_by p)) found
 
--- all rules that the code names go as deep as codes have digits
-pub deepest-named : (rules : RulesByName) → (rules_named rules).deepest ≡ DEEPEST
-deepest-named First = refl
+-- a version that is read is small
+pub version-low : (v : ℕ) (rules : Rules) → rules_of v ≡ Some rules → v ≤ 2
+version-low v rules e = by (eqb v 1) (eqb v 2) refl refl e
+  where
+    by : (first second : Bool) → eqb v 1 ≡ first → eqb v 2 ≡ second → cond first (Some first_rules) (cond second (Some second_rules) None) ≡ Some rules → v ≤ 2
+    by true second is _ _ = omega (arith, eqb-true v 1 is)
+    by false true _ is _ = omega (arith, eqb-true v 2 is)
+    by false false _ _ none = absurd (none-some rules none)
 
 -- bytes that are the text of a value
 pub value-read : (bytes : Bytes) (d : Data) → is_utf8 bytes ≡ true → read bytes ≡ Some d → value_in bytes ≡ Some d

@@ -8,10 +8,11 @@ use Rattle.node_heap.specs.Forms.{Form, cell, node, leaf, inner, trie, chain, pa
 use Rattle.serde_json.specs.Data.{Data}
 use Rattle.serde_json.specs.View.{items_of as items}
 use Rattle.pool_text.specs.Rows.{Bytes, is_in_range, is_in_range_to}
-use Rattle.pool_text.specs.Rules.{first_rules}
+use Rattle.pool_text.specs.Rules.{present_rules}
 use Rattle.pool_text.specs.Document.{natural, naturals, row_value, document, number_in, item_list, elements_in, all_of, numbers_in, form_from, kept_if, row_in, DocumentParts, four, parts_in, pool_from, pool_in, parts_damage, or_damage, value_damage}
 use Rattle.pool_text.specs.Laws.{ReadsBackAs}
 use Rattle.pool_text.specs.declared.pool.Pool.{Pool}
+use Rattle.pool_text.specs.declared.rules.TheConstants.{PRESENT_VERSION}
 use Rattle.pool_text.specs.declared.damage.Damage.TheVariants.{Form as FormDamage, Bits, Row}
 
 pub item_list-items : (ds : List Data) → item_list (items ds) ≡ ds
@@ -62,9 +63,9 @@ four-is (a ∷ b ∷ c ∷ d ∷ []) h = refl
 four-is (a ∷ b ∷ c ∷ d ∷ e ∷ ks) h = absurd (omega (arith, h))
 
 abbrev parts_of : Pool → Option (List ℕ) → List Data → Option DocumentParts
-parts_of P o ds = option_and_then (λ ks. Some (record { bits = P.bits; roots = ks; rows = ds; version = 1 })) o
+parts_of P o ds = option_and_then (λ ks. Some (record { bits = P.bits; roots = ks; rows = ds; version = PRESENT_VERSION })) o
 
-parts_in-document : (P : Pool) → length P.roots ≡ 4 → parts_in (document P) ≡ Some (record { bits = P.bits; roots = P.roots; rows = map row_value P.rows; version = 1 })
+parts_in-document : (P : Pool) → length P.roots ≡ 4 → parts_in (document P) ≡ Some (record { bits = P.bits; roots = P.roots; rows = map row_value P.rows; version = PRESENT_VERSION })
 unfolding document
 parts_in-document P h =
     ap (λ o. parts_of P (option_and_then four o) (item_list (items (map row_value P.rows)))) (numbers_in-naturals P.roots)
@@ -79,9 +80,9 @@ unfolding pool_in value_damage
 reads-back P h range = record {
   same =
       ap (option_and_then pool_from) (parts_in-document P h)
-      ∙ ap (option_map (λ rs. record { bits = P.bits; rows = rs; roots = P.roots })) (all_of-rows first_rules.deepest P.rows range);
+      ∙ ap (option_map (λ rs. record { bits = P.bits; version = PRESENT_VERSION; rows = rs; roots = P.roots })) (all_of-rows present_rules.deepest P.rows range);
   whole =
       ap (or_damage FormDamage (parts_damage P.bits)) (parts_in-document P h)
-      ∙ ap (λ b. cond (not b) (Some Bits) (cond (is_some (all_of (row_in first_rules.deepest) (map row_value P.rows))) None (Some Row))) (eqb-same P.bits)
-      ∙ ap (λ o. cond (is_some o) None (Some Row)) (all_of-rows first_rules.deepest P.rows range);
+      ∙ ap (λ b. cond (not b) (Some Bits) (cond (is_some (all_of (row_in present_rules.deepest) (map row_value P.rows))) None (Some Row))) (eqb-same P.bits)
+      ∙ ap (λ o. cond (is_some o) None (Some Row)) (all_of-rows present_rules.deepest P.rows range);
 }

@@ -73,7 +73,7 @@ cell-row-length bytes =
     omega (arith, whole, three, sum_by-cons item_length (string (codes "c")) (string bytes ∷ []), sum_by-cons item_length (string bytes) [])
 
 -- the text of a document in pieces
-pieces : (P : Pool) → text P ≡ codes "{\"bits\":" ++ (decimal P.bits ++ (codes ",\"format\":\"ewig-pool\",\"roots\":" ++ (compact_text (naturals P.roots) ++ (codes ",\"rows\":" ++ (compact_text (list (map row_value P.rows)) ++ codes ",\"version\":1}")))))
+pieces : (P : Pool) → text P ≡ codes "{\"bits\":" ++ (decimal P.bits ++ (codes ",\"format\":\"ewig-pool\",\"roots\":" ++ (compact_text (naturals P.roots) ++ (codes ",\"rows\":" ++ (compact_text (list (map row_value P.rows)) ++ codes ",\"version\":2}")))))
 unfolding document digits serde_json_on_literals
 pieces P = refl
 
@@ -82,7 +82,7 @@ seven a x b y c z d = simp length-append
 
 pub document-length : (P : Pool) → length (text P) ≡ 59 + (length (decimal P.bits) + (length (compact_text (naturals P.roots)) + length (compact_text (list (map row_value P.rows)))))
 document-length P =
-    let whole = ap length (pieces P) ∙ seven (codes "{\"bits\":") (decimal P.bits) (codes ",\"format\":\"ewig-pool\",\"roots\":") (compact_text (naturals P.roots)) (codes ",\"rows\":") (compact_text (list (map row_value P.rows))) (codes ",\"version\":1}") in
+    let whole = ap length (pieces P) ∙ seven (codes "{\"bits\":") (decimal P.bits) (codes ",\"format\":\"ewig-pool\",\"roots\":") (compact_text (naturals P.roots)) (codes ",\"rows\":") (compact_text (list (map row_value P.rows))) (codes ",\"version\":2}") in
     omega (arith, whole)
 
 pub quoted-length : (bytes : List ℕ) → length (compact_text (string bytes)) ≡ 2 + sum_by (λ b. length (escape_byte b)) bytes

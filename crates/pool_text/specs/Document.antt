@@ -1,5 +1,6 @@
 -- The document of a pool, as a JSON value and as its compact text, and what a document stands for.
-use Rattle.std.specs.Prelude.{ℕ, not, ◌==◌, List, [], ◌∷◌, map, Bool, Option, Some, None, is_some, option_map, option_and_then, if◌then◌else◌, codes}
+use Rattle.std.specs.Prelude.{◌≡◌, ℕ, not, ◌==◌, List, [], ◌∷◌, map, Bool, true, Option, Some, None, is_some, IsSomeAnd, option_map, option_and_then, if◌then◌else◌, codes}
+use Rattle.std.specs.List.{list_all}
 use Rattle.std.specs.Str.{bytes_eq, is_utf8}
 use Rattle.node_heap.specs.Forms.{Form, Kind, cell, node, leaf, inner, trie, chain, pair, state}
 use Rattle.serde_json.specs.Data.{unsigned, Data, number, string, array, object, Items, no_items, item, Members, no_members, member}
@@ -7,8 +8,9 @@ use Rattle.serde_json.specs.Read.{read}
 use Rattle.serde_json.specs.View.{items_of}
 use Rattle.serde_json.specs.Written.{compact_text}
 use Rattle.pool_text.specs.Rows.{Bytes, is_in_range_to}
-use Rattle.pool_text.specs.Rules.{Rules, rules_of}
+use Rattle.pool_text.specs.Rules.{Rules, rules_of, bits_by}
 use Rattle.pool_text.specs.declared.pool.Pool.{Pool}
+use Rattle.pool_text.specs.declared.rules.TheConstants.{PRESENT_VERSION}
 use Rattle.pool_text.specs.declared.damage.Damage.{Damage}
 use Rattle.pool_text.specs.declared.damage.Damage.TheVariants.{Json, Form as FormDamage, Version, Bits, Row}
 
@@ -38,7 +40,7 @@ row_value (node state links) = list (string (codes "s") ∷ naturals links ∷ [
 unfoldable pub document : Pool → Data
 document P =
     object (member (codes "bits") (natural P.bits) (member (codes "format") (string (codes "ewig-pool")) (member (codes "roots") (naturals P.roots)
-    (member (codes "rows") (list (map row_value P.rows)) (member (codes "version") (natural 1) no_members)))))
+    (member (codes "rows") (list (map row_value P.rows)) (member (codes "version") (natural PRESENT_VERSION) no_members)))))
 
 -- the compact text of that document
 abbrev pub text : Pool → Bytes
@@ -151,7 +153,7 @@ rows_in p rules = all_of (row_in rules.deepest) p.rows
 
 -- the pool that the parts of a document stand for by these rules
 abbrev pub pool_by : DocumentParts → Rules → Option Pool
-pool_by p rules = option_map (λ rows. record { bits = p.bits; rows = rows; roots = p.roots }) (rows_in p rules)
+pool_by p rules = option_map (λ rows. record { bits = p.bits; version = p.version; rows = rows; roots = p.roots }) (rows_in p rules)
 
 -- the pool that the parts of a document stand for by the rules of its version, if that is one that is read
 abbrev pub pool_from : DocumentParts → Option Pool
@@ -165,6 +167,10 @@ pool_in d = option_and_then pool_from (parts_in d)
 abbrev pub pool_in_bytes : Bytes → Option Pool
 pool_in_bytes bytes = option_and_then pool_in (value_in bytes)
 
+-- the pool has a version that is read, and by its rules each row is in range
+abbrev pub IsInRange : Pool → Type 0
+IsInRange P = IsSomeAnd (rules_of P.version) (λ rules. list_all (is_in_range_to rules.deepest) P.rows ≡ true)
+
 -- what the next test says of what is there, and the damage where nothing is
 abbrev pub or_damage : {X : Type 0} → Damage → (X → Option Damage) → Option X → Option Damage
 or_damage d next None = Some d
@@ -173,7 +179,7 @@ or_damage d next (Some x) = next x
 -- the first of the tests that the parts fail by these rules, of `Bits` and `Row`, in a space of so many bits
 abbrev pub parts_damage_by : ℕ → DocumentParts → Rules → Option Damage
 parts_damage_by bits p rules =
-    if not (p.bits == bits) then Some Bits else
+    if not (p.bits == bits_by p.version bits) then Some Bits else
     if is_some (rows_in p rules) then None else Some Row
 
 -- the first of the tests that the parts fail, of `Version`, `Bits` and `Row`, in a space of so many bits

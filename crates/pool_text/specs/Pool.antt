@@ -7,6 +7,7 @@ use Rattle.node_heap.specs.Heap.{Heap, row_at}
 use Rattle.pool_order.specs.Order.{order}
 use Rattle.pool_text.specs.Rows.{Bytes}
 use Rattle.pool_text.specs.declared.pool.Pool.{Pool}
+use Rattle.pool_text.specs.declared.rules.TheConstants.{PRESENT_VERSION}
 
 -- the links of the row at each place in a list
 abbrev pub links_from : {K : Type 0} → List (Form K) → Links
@@ -35,13 +36,18 @@ relink f (node kind links) = node kind (map f links)
 -- what a pool has beside its rows and its roots
 pub record Settings : Type 0 where
   pub bits : ℕ
+  pub version : ℕ
 
--- the settings that keep so many code bits
+-- the settings that keep so many code bits, of the version of the pools that are made
 abbrev pub settings_by : ℕ → Settings
-settings_by bits = record { bits = bits }
+settings_by bits = record { bits = bits; version = PRESENT_VERSION }
 
 abbrev pub settings_of : Pool → Settings
-settings_of P = settings_by P.bits
+settings_of P = record { bits = P.bits; version = P.version }
+
+-- the pool, whatever its version, as one that is made: its version is no part of what it stands for
+abbrev pub today : Pool → Pool
+today P = record P { version = PRESENT_VERSION }
 
 -- the pool of the rows that the roots reach, each way down at most n rows long
 unfoldable pub pool : ℕ → Forms Bytes → List ℕ → Settings → Pool
@@ -49,6 +55,7 @@ pool n G roots settings =
     let ks : List ℕ = order n (links_in G) roots in
     record {
       bits = settings.bits;
+      version = settings.version;
       rows = filter_map (λ k. option_map (relink (place_in ks)) (G k)) ks;
       roots = map (place_in ks) roots;
     }

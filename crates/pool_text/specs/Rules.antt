@@ -1,28 +1,38 @@
--- What tells the versions of a document apart: the codes of texts, and how deep tries go.
-use Rattle.std.specs.Prelude.{ℕ, ◌==◌, Option, Some, None, if◌then◌else◌}
-use Rattle.elem_core.specs.Codes.{text_code}
+-- What tells the versions of a document apart: the codes of texts, how deep tries go, and how many bits are kept.
+use Rattle.std.specs.Prelude.{ℕ, min, ◌==◌, Option, Some, None, if◌then◌else◌}
+use Rattle.elem_core.specs.Codes.{text_code, old_text_code}
 use Rattle.elem_core.specs.declared.codes.TheConstants.{DEEPEST}
 use Rattle.pool_text.specs.Rows.{Bytes}
+use Rattle.pool_text.specs.declared.rules.TheConstants.{FIRST_CODE_BITS, FIRST_DEEPEST}
 use Rattle.pool_text.specs.declared.rules.Rules.{Rules as RulesByName}
-use Rattle.pool_text.specs.declared.rules.Rules.TheVariants.{First}
+use Rattle.pool_text.specs.declared.rules.Rules.TheVariants.{First, Second}
 
 -- the code of a text, and the depth of its last digit, below which chains stand
 pub record Rules : Type 0 where
   pub code_of : Bytes → ℕ
   pub deepest : ℕ
 
--- the rules of the first version: those of the codes of elements
+-- the rules of the first version: shorter codes
 abbrev pub first_rules : Rules
-first_rules = record { code_of = text_code; deepest = DEEPEST }
+first_rules = record { code_of = old_text_code; deepest = FIRST_DEEPEST }
+
+-- the rules of the second version: the codes of elements
+abbrev pub second_rules : Rules
+second_rules = record { code_of = text_code; deepest = DEEPEST }
 
 -- the rules by which pools are made
 abbrev pub present_rules : Rules
-present_rules = first_rules
+present_rules = second_rules
 
 -- the rules of each version that is read
 abbrev pub rules_of : ℕ → Option Rules
-rules_of version = if version == 1 then Some first_rules else None
+rules_of version = if version == 1 then Some first_rules else if version == 2 then Some second_rules else None
+
+-- how many bits a document of this version keeps in a space of so many
+abbrev pub bits_by : ℕ → ℕ → ℕ
+bits_by version bits = if version == 1 then min FIRST_CODE_BITS bits else bits
 
 -- the rules that the code names
 abbrev pub rules_named : RulesByName → Rules
 rules_named First = first_rules
+rules_named Second = second_rules

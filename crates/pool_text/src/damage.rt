@@ -12,9 +12,10 @@ pub enum Damage {
     Json,
     /// The value isn't an object of the five keys, with their values.
     Form,
-    /// The version isn't 1.
+    /// The version isn't one that is read.
     Version,
-    /// The number of code bits isn't the space's.
+    /// The number of code bits isn't what a document of this version keeps in the space: the space's, and by the first version at
+    /// most 32.
     Bits,
     /// A row has no form, or a number or a count of links out of range.
     Row,

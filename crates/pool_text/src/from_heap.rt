@@ -9,6 +9,7 @@ ghost use Rattle.pool_text.specs.Pool.{place_in, relink, settings_by, fits_pool,
 
 use crate::pool::{Pool, Rows};
 use crate::row::{Places, PoolText, Row};
+use crate::rules::PRESENT_VERSION;
 use elem_core::{NoMemory, Stored};
 use node_heap::{Head, Heap, Link};
 use pool_order::Order;
@@ -37,6 +38,7 @@ pub fn pool_of<T: Stored>(
     }
     Ok(Pool {
         bits,
+        version: PRESENT_VERSION,
         rows: Rows::from_vec(rows),
         roots: places_of(alloc, order, roots)?,
     })

@@ -9,6 +9,7 @@ ghost use Rattle.pool_text.specs.Pool.{links_from, place_in, relink, settings_by
 
 use crate::pool::{Pool, Rows};
 use crate::row::{Places, PoolText, Row, link_at};
+use crate::rules::PRESENT_VERSION;
 use elem_core::NoMemory;
 use indexmap::IndexSet;
 use pool_order::Visit;
@@ -33,6 +34,7 @@ pub fn pool_of_rows(alloc: Global, rows: &Rows, roots: &[u64], bits: u32) -> Res
     }
     Ok(Pool {
         bits,
+        version: PRESENT_VERSION,
         rows: Rows::from_vec(made),
         roots: new_places(alloc, &listed, roots)?,
     })

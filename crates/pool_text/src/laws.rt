@@ -8,12 +8,12 @@ pub fn reads_back()
     ensures { ReadsBack }
 {}
 
-/// A value without damage is the document of the pool that it stands for.
+/// A value without damage, of the version that is written, is the document of the pool that it stands for.
 pub fn documents_are_exact()
     ensures { DocumentsAreExact }
 {}
 
-/// A compact document without damage is the text of the pool that it stands for.
+/// A compact document without damage, of the version that is written, is the text of the pool that it stands for.
 pub fn compact_documents_are_texts()
     ensures { CompactDocumentsAreTexts }
 {}

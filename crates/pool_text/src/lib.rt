@@ -27,5 +27,5 @@ pub use laws::{
 pub use lengths::text_length;
 pub use pool::{Pool, Rows};
 pub use row::{Places, PoolText, Row, link_at};
-pub use rules::Rules;
-pub use written::{to_bytes, to_json};
+pub use rules::{FIRST_CODE_BITS, FIRST_DEEPEST, FIRST_VERSION, PRESENT_VERSION, Rules};
+pub use written::{into_bytes, to_bytes, to_json};

@@ -44,11 +44,14 @@ impl Rows {
     }
 }
 
-/// Rows whose links are places, the places of the roots, and the number of code bits kept.
+/// Rows whose links are places, the places of the roots, the number of code bits kept, and the version by whose rules they are
+/// kept.
 #[derive(Drop)]
 pub struct Pool {
     /// How many low bits of the keys' codes its tries go by.
     pub bits: u32,
+    /// The version by whose rules its tries stand, which is one that is read. It is no part of what the pool stands for.
+    pub version: u32,
     /// The rows, whose links are places in this list.
     pub rows: Rows,
     /// The places of the roots.

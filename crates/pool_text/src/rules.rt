@@ -1,14 +1,28 @@
 //! The rules of a document's version.
 ghost use Rattle.std.specs.Prelude.{◌≡◌, ◌≤◌, option_map};
-ghost use Rattle.pool_text.specs.Rules.{rules_of, rules_named};
+ghost use Rattle.pool_text.specs.Rules.{present_rules, rules_of, rules_named};
 
-use elem_core::{Code, DEEPEST, fnv32};
+use elem_core::{Code, DEEPEST, fnv32, fnv64};
+
+/// The first version of documents.
+pub const FIRST_VERSION: u32 = 1;
+
+/// The version of the documents that are written, and of the pools that are made.
+pub const PRESENT_VERSION: u32 = 2;
+
+/// The number of bits of a code by the rules of the first version, and so the most that a document of that version keeps.
+pub const FIRST_CODE_BITS: u32 = 32;
+
+/// The depth of a code's last digit by the rules of the first version.
+pub const FIRST_DEEPEST: u8 = 6;
 
 /// The rules of a version of documents: the codes of texts, and how deep tries go.
 #[derive(Clone, Copy)]
 pub enum Rules {
     /// Codes of 32 bits, whose last digit is at depth 6.
     First,
+    /// Codes of 64 bits, whose last digit is at depth 12.
+    Second,
 }
 
 impl Rules {
@@ -18,9 +32,18 @@ impl Rules {
     {
         if version == 1 {
             Some(Rules::First)
+        } else if version == 2 {
+            Some(Rules::Second)
         } else {
             None
         }
+    }
+
+    /// The rules by which pools are made.
+    pub fn present() -> Rules
+        ensures { rules_named result ≡ present_rules }
+    {
+        Rules::Second
     }
 
     /// The code of a text.
@@ -28,7 +51,8 @@ impl Rules {
         ensures { result ≡ (rules_named self).code_of text.now }
     {
         match self {
-            Rules::First => fnv32(text.as_bytes()),
+            Rules::First => Code::from(fnv32(text.as_bytes())),
+            Rules::Second => fnv64(text.as_bytes()),
         }
     }
 
@@ -38,7 +62,8 @@ impl Rules {
         ensures low { result ≤ DEEPEST }
     {
         match self {
-            Rules::First => DEEPEST,
+            Rules::First => FIRST_DEEPEST,
+            Rules::Second => DEEPEST,
         }
     }
 }

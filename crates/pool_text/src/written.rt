@@ -3,15 +3,17 @@ ghost use Rattle.std.specs.Prelude.{◌≡◌, ◌∷◌, [], ◌++◌, map, cod
 ghost use Rattle.serde_json.specs.Data.{string, object, member, no_members};
 ghost use Rattle.serde_json.specs.View.{view};
 ghost use Rattle.pool_text.specs.Rows.{row_form};
+ghost use Rattle.pool_text.specs.declared.rules.TheConstants.{PRESENT_VERSION};
 ghost use Rattle.pool_text.specs.Document.{list, natural, naturals, row_value as value_of_row, document, text as text_of_pool, value_in};
 
 use crate::pool::Pool;
 use crate::row::Row;
+use crate::rules::PRESENT_VERSION;
 use elem_core::NoMemory;
 use serde_json::{Value, json};
 use std::alloc::{AllocError, Global};
 
-/// The document of a pool. Err where memory runs out.
+/// The document of a pool, of the present version whatever the pool's. Err where memory runs out.
 pub fn to_json(alloc: Global, pool: &Pool) -> Result<Value, NoMemory>
     ensures value { IfOk result (λ v. view v ≡ document pool.now) }
 {
@@ -28,17 +30,34 @@ pub fn to_bytes(alloc: Global, pool: &Pool) -> Result<Vec<u8>, NoMemory>
     Ok(to_json(alloc, pool)?.to_vec(alloc)?)
 }
 
+/// The same text of a pool that is used up, without a copy of its texts on the way. Err where memory runs out.
+pub fn into_bytes(alloc: Global, pool: Pool) -> Result<Vec<u8>, NoMemory>
+    ensures value { IfOk result (λ b. b.items ≡ text_of_pool pool) }
+    ensures reads { IfOk result (λ b. value_in b.items ≡ Some (document pool)) }
+{
+    Ok(into_json(alloc, pool)?.to_vec(alloc)?)
+}
+
+// The document of a pool that is used up, whose texts it has then.
+fn into_json(alloc: Global, pool: Pool) -> Result<Value, NoMemory>
+    ensures value { IfOk result (λ v. view v ≡ document pool) }
+{
+    let rows = rows_into_value(alloc, pool.rows.into_vec())?;
+    let roots = numbers_value(alloc, pool.roots.as_slice())?;
+    Ok(document_value(alloc, pool.bits, roots, rows)?)
+}
+
 // A document of these bits, roots and rows.
 fn document_value(alloc: Global, bits: u32, roots: Value, rows: Value) -> Result<Value, AllocError>
     ensures { IfOk result (λ v. view v ≡ object (member (codes "bits") (natural bits) (member (codes "format") (string (codes "ewig-pool"))
-        (member (codes "roots") (view roots) (member (codes "rows") (view rows) (member (codes "version") (natural 1) no_members)))))) }
+        (member (codes "roots") (view roots) (member (codes "rows") (view rows) (member (codes "version") (natural PRESENT_VERSION) no_members)))))) }
 {
     json!(in alloc; {
         "bits": bits,
         "format": "ewig-pool",
         "roots": roots,
         "rows": rows,
-        "version": 1u32
+        "version": PRESENT_VERSION
     })
 }
 
@@ -51,6 +70,27 @@ fn rows_value(alloc: Global, rows: &[Row]) -> Result<Value, NoMemory>
         items.push(row_value(alloc, row)?)?;
     }
     Ok(Value::from(items))
+}
+
+// The same of rows that are used up. Each is given up as soon as its value is made.
+fn rows_into_value(alloc: Global, rows: Vec<Row>) -> Result<Value, NoMemory>
+    ensures { IfOk result (λ v. view v ≡ list (map (λ row. value_of_row (row_form row)) rows.items)) }
+{
+    let mut items = Vec::with_capacity(alloc, rows.len())?;
+    for row in rows {
+        items.push(row_into_value(alloc, row)?)?;
+    }
+    Ok(Value::from(items))
+}
+
+// A row that is used up: the text of a cell is moved there.
+fn row_into_value(alloc: Global, row: Row) -> Result<Value, NoMemory>
+    ensures { IfOk result (λ v. view v ≡ value_of_row (row_form row)) }
+{
+    match row {
+        Row::Cell(text) => Ok(json!(in alloc; ["c", text.into_text()])?),
+        node => row_value(alloc, &node),
+    }
 }
 
 // A row: its letter, its numbers and its links.

@@ -14,12 +14,12 @@ asks bits first work = Some (record { bits = bits; first = first; work = work })
 
 -- Lists of words that read.
 pub record WorkedOptions : Type 0 where
-  pub none : asked_by [] ≡ asks 32 None None
+  pub none : asked_by [] ≡ asks 64 None None
   pub no_bits : asked_by ("--bits=0" ∷ []) ≡ asks 0 None None
-  pub all_bits : asked_by ("--bits" ∷ "32" ∷ []) ≡ asks 32 None None
-  pub document : asked_by ("--open" ∷ "a.b" ∷ []) ≡ asks 32 (Some (codes "a.b")) None
+  pub all_bits : asked_by ("--bits" ∷ "64" ∷ []) ≡ asks 64 None None
+  pub document : asked_by ("--open" ∷ "a.b" ∷ []) ≡ asks 64 (Some (codes "a.b")) None
   pub two : asked_by ("--open=nothere" ∷ "--bits" ∷ "7" ∷ []) ≡ asks 7 (Some (codes "nothere")) None
-  pub work : asked_by ("--work" ∷ "0" ∷ "--count" ∷ "2" ∷ []) ≡ asks 32 None (Some (0, 2))
+  pub work : asked_by ("--work" ∷ "0" ∷ "--count" ∷ "2" ∷ []) ≡ asks 64 None (Some (0, 2))
   pub three :
       asked_by ("--count=100000" ∷ "--work=18446744073709551615" ∷ "--bits=5" ∷ [])
       ≡ asks 5 None (Some (18446744073709551615, 100000))
@@ -31,7 +31,7 @@ NoneReads lists = map asked_by lists ≡ replicate (length lists) None
 -- Lists with a value that is no number up to the most, or no name.
 pub record WorkedValues : Type 0 where
   pub bits : NoneReads (
-      ("--bits" ∷ "33" ∷ []) ∷ ("--bits" ∷ "032" ∷ []) ∷ ("--bits=00" ∷ []) ∷ ("--bits=+5" ∷ []) ∷ ("--bits" ∷ " 5" ∷ [])
+      ("--bits" ∷ "65" ∷ []) ∷ ("--bits" ∷ "064" ∷ []) ∷ ("--bits=00" ∷ []) ∷ ("--bits=+5" ∷ []) ∷ ("--bits" ∷ " 5" ∷ [])
       ∷ ("--bits=" ∷ []) ∷ ("--bits" ∷ "" ∷ []) ∷ ("--bits=0x5" ∷ []) ∷ [])
   pub names : NoneReads (("--open=.x" ∷ []) ∷ ("--open=-x" ∷ []) ∷ ("--open=a=b" ∷ []) ∷ ("--open" ∷ "a/b" ∷ []) ∷ ("--open=" ∷ []) ∷ [])
   pub seeds : NoneReads (("--work=18446744073709551616" ∷ "--count" ∷ "2" ∷ []) ∷ ("--work=01" ∷ "--count" ∷ "2" ∷ []) ∷ [])

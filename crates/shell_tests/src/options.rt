@@ -1,5 +1,6 @@
 //! Lists of words with the options that each must give, and the lines of a seed.
 
+use elem_core::CODE_BITS;
 use shell_options::{Options, WordsFault, read_words};
 use std::process::Abort;
 use std::test::Fail;
@@ -21,13 +22,18 @@ fn read<R: Abort + AllocGlobal>(
 #[test]
 fn reads_words(rt: HostRuntime) -> Result<(), Fail> {
     let rows: [(&[&str], u32, Option<&str>, Option<(u64, u32)>); 5] = [
-        (&[], 32, None, None),
+        (&[], CODE_BITS, None, None),
         (&["--bits=0"], 0, None, None),
         (&["--open=a.b", "--bits", "7"], 7, Some("a.b"), None),
-        (&["--work", "0", "--count", "2"], 32, None, Some((0, 2))),
+        (
+            &["--work", "0", "--count", "2"],
+            CODE_BITS,
+            None,
+            Some((0, 2)),
+        ),
         (
             &["--count=100000", "--work=18446744073709551615"],
-            32,
+            CODE_BITS,
             None,
             Some((18_446_744_073_709_551_615, 100_000)),
         ),
@@ -48,8 +54,8 @@ fn reads_words(rt: HostRuntime) -> Result<(), Fail> {
 #[test]
 fn refuses_words(rt: HostRuntime) -> Result<(), Fail> {
     let rows: [&[&str]; 14] = [
-        &["--bits", "33"],
-        &["--bits", "032"],
+        &["--bits", "65"],
+        &["--bits", "064"],
         &["--bits", "-1"],
         &["--bits", "5", "--bits=5"],
         &["--bi", "5"],

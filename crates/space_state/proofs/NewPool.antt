@@ -8,6 +8,8 @@ use Rattle.std.proofs.lemmas.Bool.{cases_lt}
 use Rattle.std.proofs.lemmas.Nat.{zero_from_ones}
 use Rattle.std.proofs.lemmas.List.{append_assoc}
 use Rattle.std.proofs.lemmas.List.Sums.{count_by-le-length}
+use Rattle.elem_core.specs.declared.codes.TheConstants.{DEEPEST}
+use Rattle.pool_text.specs.declared.rules.TheConstants.{PRESENT_VERSION}
 use Rattle.elem_core.specs.Codes.{text_code}
 use Rattle.node_heap.specs.Links.{count}
 use Rattle.node_heap.specs.Forms.{Form, Forms, node, leaf, trie, state, links_of, links_in}
@@ -134,7 +136,7 @@ module _ (F : Forms Bytes) where
         (next-row f c (v ∷ u ∷ r ∷ []) _ _ state_row
         (next-row f v (u ∷ r ∷ []) _ _ (ap (option_map (relink f)) at_v)
         (next-row f u (r ∷ []) _ _ (ap (option_map (relink f)) at_u) (next-row f r [] _ [] (ap (option_map (relink f)) at_r) refl))))) in
-        let made : List (Form Bytes) → List ℕ → Pool = λ rs tops. record { bits = bits; rows = rs; roots = tops } in
+        let made : List (Form Bytes) → List ℕ → Pool = λ rs tops. record { bits = bits; version = PRESENT_VERSION; rows = rs; roots = tops } in
         ap (λ (ks : List ℕ). made (filter_map (λ k. option_map (relink (place_in ks)) (F k)) ks) (map (place_in ks) (c ∷ v ∷ u ∷ r ∷ []))) listed
         ∙ ap (λ rs. made rs (f c ∷ f v ∷ f u ∷ f r ∷ [])) rows ∙ ap (λ i. made start_pool.rows (i ∷ f v ∷ f u ∷ f r ∷ [])) fc
         ∙ ap (λ i. made start_pool.rows (2 ∷ i ∷ f u ∷ f r ∷ [])) fv ∙ ap (λ i. made start_pool.rows (2 ∷ 3 ∷ i ∷ f r ∷ [])) fu
@@ -160,7 +162,7 @@ module _ (F : Forms Bytes) where
   unfolding IsTrie
   trie-none code l is =
       let row = is.trie in
-      let N : ℕ → List (Entry Bytes) → Type 0 = λ k P. IsTrie (slice_cmp nat_cmp) code F 6 1 k P in
+      let N : ℕ → List (Entry Bytes) → Type 0 = λ k P. IsTrie (slice_cmp nat_cmp) code F DEEPEST 1 k P in
       let first : (p : ℕ) → p < 32 → _ = λ p low. no-first (λ q. IsPlace F N q []) (has row.entries p) _ _ (row.places p low) (λ at. let h : [] ≡ _ ∷ [] = at.1 in cc) in
       let entries : row.entries ≡ 0 = none-at row.entries row.row.sets.entries_small (λ p low. (first p low).0) in
       let nodes : row.nodes ≡ 0 =

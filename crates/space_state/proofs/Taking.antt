@@ -67,7 +67,10 @@ module _ (s : RootedHeap) (W : Workspace) (K : Keeps s [] W) (h : Heap Bytes) (P
   loaded = record s { heap = h; roots = roots }
 
   pub pool-loaded : pool_at (λ text. text) h (root_list roots) (settings_by s.bits) ≡ P
-  pool-loaded = sym (ap (λ (ks : List ℕ). pool_at (λ text. text) h ks (settings_by s.bits)) same) ∙ sym (ap (λ b. pool_at (λ text. text) h links (settings_by b)) bits) ∙ all.pool
+  pool-loaded =
+      sym (ap (λ (ks : List ℕ). pool_at (λ text. text) h ks (settings_by s.bits)) same)
+      ∙ sym (ap (λ b. pool_at (λ text. text) h links (settings_by b)) bits)
+      ∙ sym (ap (λ v. pool_at (λ text. text) h links (record { bits = P.bits; version = v })) all.checked.version) ∙ all.pool
 
   -- the new roots stand for what the pool stands for, and the old roots are held besides
   pub keeps-loaded : (after : Workspace) × Keeps loaded (root_list s.roots) after

@@ -4,6 +4,7 @@ ghost use Rattle.std.specs.FinMap as map;
 ghost use Rattle.std.specs.List.{sum_by};
 ghost use Rattle.elem_core.specs.Shown.{name_bytes};
 ghost use Rattle.pool_text.specs.Pool.{row_count};
+ghost use Rattle.pool_text.specs.declared.rules.TheConstants.{PRESENT_VERSION};
 ghost use Rattle.pool_check.specs.Damages.{IsValid};
 ghost use Rattle.shell_terms.specs.Command.{mark, unmark, back, undo, redo, begin, «end», abort};
 ghost use Rattle.plain_space.specs.Workspace.{Workspace, start, sizes, in_batch, is_full, lines_of, version_of};
@@ -203,6 +204,7 @@ impl Space {
     /// their links and their texts. Err where memory runs out.
     pub fn pool(&self, alloc: Global) -> Result<Pool, NoMemory>
         ensures value { IfOk result (λ pool. pool ≡ self.now.pool) }
+        ensures version { self.now.pool.version ≡ PRESENT_VERSION }
         ensures valid { IsValid self.now.pool }
     {
         self.rows.pool(alloc)

@@ -11,7 +11,7 @@ ghost use Rattle.space_state.specs.Turns.{MakesRoom, TurnsTo, TurnsBeside};
 ghost use Rattle.space_state.specs.View.{room_of};
 
 use crate::roots::{Batch, RootedHeap};
-use elem_core::{Line, Name, Text, text_of};
+use elem_core::{DEEPEST, Line, Name, Text, text_of};
 use node_heap::Link;
 use plain_space::Refusal;
 use rrb_core::{Flex, FlexRef};
@@ -23,10 +23,13 @@ pub(crate) const MOST_ITEMS: u32 = u32::MAX;
 /// The nodes of a turn to another state: a push to undo, and an empty redo.
 pub(crate) const TURN_NODES: usize = PUSHED_NODES + EMPTIED_NODES;
 
-/// The nodes for which room is made before an edit that makes new lines or stars, besides one for each name whose code is alike: those of
-/// the edit that makes most, which erases lines of a buffer (42), gives them to another as a slice (25), writes both names (10 each
-/// at most, and 1 for the first among the names of the second), and keeps the state that there was.
-pub(crate) const EDIT_NODES: usize = 42 + 25 + 2 * 10 + 1 + TURN_NODES;
+/// The nodes for which room is made before an edit that makes new lines or stars, besides one for each name whose code is alike:
+/// those of the edit that makes most, which erases lines of a buffer (42), gives them to another as a slice (25), writes both
+/// names (at most `WRITTEN_NODES` each, and 1 for the first among the names of the second), and keeps the state that there was.
+pub(crate) const EDIT_NODES: usize = 42 + 25 + 2 * WRITTEN_NODES + 1 + TURN_NODES;
+
+/// The nodes of a name that is written: a trie row of each depth, a node that makes two of one, a pair and a state.
+const WRITTEN_NODES: usize = DEEPEST as usize + 4;
 
 impl RootedHeap {
     /// Whether a batch is open.

@@ -1,6 +1,6 @@
 -- Calls that answer, one after the other: what they add together, what they leave, and how far they raise the number made.
 use Rattle.std.proofs.Common.{◌≡◌, ℕ, suc, ◌+◌, ◌≤◌, List, [], ◌∷◌, length, Option, Some, None, IsSome, is_some, refl, sym, subst, arith, inl, inr, get_or}
-use Rattle.std.specs.Prelude.{count_by, ◌^◌, ◌<◌}
+use Rattle.std.specs.Prelude.{count_by, ◌<◌}
 use Rattle.node_heap.specs.Links.{count}
 use Rattle.node_heap.specs.Heap.{Heap, row_at, holds_at, hold_count, live_count, one_at, HasSpares, half_holds, most_holds}
 use Rattle.node_heap.specs.Calls.{Extends, Makes, MakesJust, Answered}

@@ -1,6 +1,6 @@
 -- What the roots of a workspace reach: cells of lines, rows of vectors, rows of tries and of chains, pairs and states.
 use Rattle.std.proofs.Common.{◌≡◌, ℕ, zero, suc, ◌+◌, ◌*◌, ◌%◌, ◌^◌, ◌<◌, ◌≤◌, List, [], ◌∷◌, Option, Some, None, length, take, get_or, refl, ap, sym, subst, ◌∙◌, arith, inl, inr, length-append}
-use Rattle.std.specs.Prelude.{option_to_list, nat_eq, true}
+use Rattle.std.specs.Prelude.{Bool, true, false, option_to_list, nat_eq}
 use Rattle.std.specs.List.{All, flat_map}
 use Rattle.std.specs.Ordering.{nat_cmp}
 use Rattle.std.specs.Cmp.Lexicographic.{slice_cmp}
@@ -8,10 +8,9 @@ use Rattle.std.proofs.lemmas.Bool.{cases_eq, cases_lt, cases_Bool, eqb-true}
 use Rattle.std.proofs.lemmas.List.Elements.{All-nil, All-cons, All-head, All-tail, All-filter, All-append, filter_passes}
 use Rattle.elem_core.specs.Cell.{IsCell}
 use Rattle.elem_core.specs.Codes.{digit_at}
-use Rattle.elem_core.specs.declared.codes.TheConstants.{CODE_BITS, LEVELS}
-use Rattle.elem_core.proofs.CodeLemmas.{digit-more, all-bits}
+use Rattle.elem_core.proofs.CodeLemmas.{digit-more}
 use Rattle.node_heap.specs.Links.{count, Reaches, here, below}
-use Rattle.node_heap.specs.Forms.{Forms, Kind, cell, node, chain, pair, state, links_of, links_in}
+use Rattle.node_heap.specs.Forms.{Form, Forms, Kind, cell, node, trie, chain, pair, state, links_of, links_in}
 use Rattle.rrb_core.specs.Seq.{seq_at, IsWell}
 use Rattle.rrb_core.proofs.LinkCounts.{count-split}
 use Rattle.node_heap.proofs.Counts.{test_other, count-cons}
@@ -19,7 +18,7 @@ use Rattle.champ_chain.specs.Entry.{Entry, entry}
 use Rattle.champ_chain.specs.Chain.{AreChainRows, IsRising}
 use Rattle.champ_chain.proofs.SetLemmas.{same-sym}
 use Rattle.champ_trie.specs.Bits.{has, rank}
-use Rattle.champ_trie.specs.Trie.{IsPlace, IsTrie, IsTrieRow, place_of, part}
+use Rattle.champ_trie.specs.Trie.{IsPlace, IsTrie, IsTrieRow, IsCanonTo, place_of, part}
 use Rattle.champ_trie.specs.Walk.{rows_below}
 use Rattle.champ_trie.proofs.PlaceLemmas.{place-entry, place-node, place-empty}
 use Rattle.champ_trie.proofs.GatherLemmas.{gather, entry_links, entries-gather}
@@ -29,14 +28,35 @@ use Rattle.pool_order.proofs.Places.{flat_map-has}
 use Rattle.pool_check.proofs.VectorReadings.{all-at}
 use Rattle.shell_terms.specs.Edit.{Bytes}
 
--- a row of a kind that a workspace has: the codes go by `code`, and the entries of a trie row at a depth agree above it
-pub data IsKnown (F : Forms Bytes) (code : Bytes → ℕ) (l : ℕ) : Type 0 where
-  known_cell : (text : Bytes) → F l ≡ Some (cell text) → IsCell text → IsKnown F code l
-  known_vector : (n : ℕ) → n ≤ 7 → IsWell F n l → length (seq_at F n l) < 2 ^ 32 → IsKnown F code l
-  known_trie : (left depth c : ℕ) (E : List (Entry Bytes)) → depth + suc left ≡ LEVELS → IsTrie (slice_cmp nat_cmp) code F (suc left) depth l E → All (λ e. code e.key % 2 ^ (5 * depth) ≡ c) E → (0 < depth → 2 ≤ length E) → IsKnown F code l
-  known_chain : (c : ℕ) (es : List (Entry Bytes)) → AreChainRows F (Some l) es → IsRising (slice_cmp nat_cmp) es → All (λ e. code e.key ≡ c) es → IsKnown F code l
-  known_pair : (k m : ℕ) → F l ≡ Some (node pair (k ∷ m ∷ [])) → IsKnown F code l
-  known_state : (k m : ℕ) → F l ≡ Some (node state (k ∷ m ∷ [])) → IsKnown F code l
+-- a row that is none of a trie: a cell, a row of a vector, a pair or a state
+abbrev pub is_loose : Option (Form Bytes) → Bool
+is_loose None = false
+is_loose (Some (node (trie _ _ _) _)) = false
+is_loose (Some (node chain _)) = false
+is_loose (Some _) = true
+
+-- What a workspace has: the codes go by `code` and have their last digit at the deepest depth.
+module _ (F : Forms Bytes) (code : Bytes → ℕ) (deepest : ℕ) where
+  -- the link is the root of a trie of rows that are none of a trie
+  pub record IsRootOfLoose (l : ℕ) : Type 0 where
+    pub entries : List (Entry Bytes)
+    pub trie : IsCanonTo (slice_cmp nat_cmp) code deepest F l entries
+    pub loose : All (λ e. is_loose (F e.link) ≡ true) entries
+
+  -- what a row that is none of a trie may link to
+  pub data IsWhole (l : ℕ) : Type 0 where
+    loose_row : is_loose (F l) ≡ true → IsWhole l
+    trie_root : IsRootOfLoose l → IsWhole l
+
+  -- a row of a kind that a workspace has: the entries of a trie row at a depth agree above it, and so do those of a chain
+  pub data IsKnown (l : ℕ) : Type 0 where
+    known_cell : (text : Bytes) → F l ≡ Some (cell text) → IsCell text → IsKnown l
+    known_vector : (n : ℕ) → n ≤ 7 → IsWell F n l → length (seq_at F n l) < 2 ^ 32 → ((k : ℕ) → 0 < count k (links_in F l) → IsWhole k) → IsKnown l
+    known_trie : (left depth c : ℕ) (E : List (Entry Bytes)) → depth + suc left ≡ deepest + 1 → IsTrie (slice_cmp nat_cmp) code F (suc left) depth l E
+        → All (λ e. code e.key % 2 ^ (5 * depth) ≡ c) E → (0 < depth → 2 ≤ length E) → IsKnown l
+    known_chain : (c : ℕ) (es : List (Entry Bytes)) → AreChainRows F (Some l) es → IsRising (slice_cmp nat_cmp) es → All (λ e. code e.key % 2 ^ (5 * (deepest + 1)) ≡ c) es → IsKnown l
+    known_pair : (k m : ℕ) → F l ≡ Some (node pair (k ∷ m ∷ [])) → IsWhole k → IsWhole m → IsKnown l
+    known_state : (k m : ℕ) → F l ≡ Some (node state (k ∷ m ∷ [])) → IsWhole k → IsWhole m → IsKnown l
 
 -- what stands at a position of a trie row: each row there is so if it is so of each entry, and of each node of two entries or more
 module _ (F : Forms Bytes) (Q : ℕ → Type 0) (N : ℕ → List (Entry Bytes) → Type 0) (e n p : ℕ) (ls : List ℕ) (P : List (Entry Bytes)) where
@@ -84,32 +104,40 @@ part-agree code depth c p E agree = λ i d low.
     digit-agree (code (get_or P i d).key) depth c p (filter_passes (λ e. nat_eq (digit_at (code e.key) depth) p) E i d low)
     (All-filter (λ e. nat_eq (digit_at (code e.key) depth) p) (λ e. code e.key % 2 ^ (5 * depth) ≡ c) E agree i d low)
 
-module _ (F : Forms Bytes) (code : Bytes → ℕ) where
+module _ (F : Forms Bytes) (code : Bytes → ℕ) (deepest : ℕ) where
   -- so are all rows that the link reaches
   abbrev pub AllKnown : ℕ → Type 0
-  AllKnown l = (m : ℕ) → Reaches (links_in F) l m → IsKnown F code m
+  AllKnown l = (m : ℕ) → Reaches (links_in F) l m → IsKnown F code deepest m
 
-  each-known : (l m : ℕ) → Reaches (links_in F) l m → IsKnown F code l → ((k : ℕ) → 0 < count k (links_in F l) → AllKnown k) → IsKnown F code m
+  each-known : (l m : ℕ) → Reaches (links_in F) l m → IsKnown F code deepest l → ((k : ℕ) → 0 < count k (links_in F l) → AllKnown k) → IsKnown F code deepest m
   each-known x y (here l) known each = known
   each-known x y (below l k m has down) known each = each k has m down
 
-  all-known : (l : ℕ) → IsKnown F code l → ((k : ℕ) → 0 < count k (links_in F l) → AllKnown k) → AllKnown l
+  all-known : (l : ℕ) → IsKnown F code deepest l → ((k : ℕ) → 0 < count k (links_in F l) → AllKnown k) → AllKnown l
   all-known l known each m down = each-known l m down known each
 
   -- the links of a row that is known by its form
   links-known : (l : ℕ) (kind : Kind) (ks : List ℕ) → F l ≡ Some (node kind ks) → All AllKnown ks → (k : ℕ) → 0 < count k (links_in F l) → AllKnown k
   links-known l kind ks is all k has = all-at AllKnown ks all k (omega (arith, has, ap (λ r. count k (links_of r)) is))
 
-  pub cell-known : (l : ℕ) (text : Bytes) → F l ≡ Some (cell text) → IsCell text → AllKnown l
-  cell-known l text is line = all-known l (known_cell text is line) (λ k has. absurd (omega (arith, has, ap (λ r. count k (links_of r)) is)))
+  -- the row may be linked to, and all that it reaches is known
+  abbrev pub Covered : ℕ → Type 0
+  Covered l = IsWhole F code deepest l × AllKnown l
 
-  pub pair-known : (l k m : ℕ) → F l ≡ Some (node pair (k ∷ m ∷ [])) → AllKnown k → AllKnown m → AllKnown l
-  pair-known l k m is first second =
-      all-known l (known_pair k m is) (links-known l pair (k ∷ m ∷ []) is (All-cons AllKnown k (m ∷ []) first (All-cons AllKnown m [] second (All-nil AllKnown))))
+  pub cell-known : (l : ℕ) (text : Bytes) → F l ≡ Some (cell text) → IsCell text → Covered l
+  cell-known l text is line = (loose_row (ap is_loose is), all-known l (known_cell text is line) (λ k has. absurd (omega (arith, has, ap (λ r. count k (links_of r)) is))))
 
-  pub state-known : (l k m : ℕ) → F l ≡ Some (node state (k ∷ m ∷ [])) → AllKnown k → AllKnown m → AllKnown l
-  state-known l k m is first second =
-      all-known l (known_state k m is) (links-known l state (k ∷ m ∷ []) is (All-cons AllKnown k (m ∷ []) first (All-cons AllKnown m [] second (All-nil AllKnown))))
+  pub pair-known : (l k m : ℕ) → F l ≡ Some (node pair (k ∷ m ∷ [])) → Covered k → Covered m → Covered l
+  pair-known l k m is first second = (
+    loose_row (ap is_loose is),
+    all-known l (known_pair k m is first.0 second.0) (links-known l pair (k ∷ m ∷ []) is (All-cons AllKnown k (m ∷ []) first.1 (All-cons AllKnown m [] second.1 (All-nil AllKnown)))),
+  )
+
+  pub state-known : (l k m : ℕ) → F l ≡ Some (node state (k ∷ m ∷ [])) → Covered k → Covered m → Covered l
+  state-known l k m is first second = (
+    loose_row (ap is_loose is),
+    all-known l (known_state k m is first.0 second.0) (links-known l state (k ∷ m ∷ []) is (All-cons AllKnown k (m ∷ []) first.1 (All-cons AllKnown m [] second.1 (All-nil AllKnown)))),
+  )
 
   -- a part of a list of lists is no longer than the whole
   part-short : (f : ℕ → List ℕ) (ks : List ℕ) (k : ℕ) → 0 < count k ks → length (f k) ≤ length (flat_map f ks)
@@ -120,25 +148,25 @@ module _ (F : Forms Bytes) (code : Bytes → ℕ) where
   ]
 
   -- a row of a vector, where all its elements are known
-  pub vector-known : (n l : ℕ) → n ≤ 7 → IsWell F n l → length (seq_at F n l) < 2 ^ 32 → ((k : ℕ) → 0 < count k (seq_at F n l) → AllKnown k) → AllKnown l
+  pub vector-known : (n l : ℕ) → n ≤ 7 → IsWell F n l → length (seq_at F n l) < 2 ^ 32 → ((k : ℕ) → 0 < count k (seq_at F n l) → Covered k) → Covered l
   unfolding IsWell seq_at
-  vector-known zero l low well short each = all-known l (known_vector zero low well short) each
+  vector-known zero l low well short each = (loose_row (ap is_loose well.kind), all-known l (known_vector zero low well short (λ k has. (each k has).0)) (λ k has. (each k has).1))
   vector-known (suc n) l low well short each =
-      all-known l (known_vector (suc n) low well short)
-      (λ k has.
+      let child : (k : ℕ) → 0 < count k (links_in F l) → Covered k = λ k has.
       vector-known n k (omega (arith, low)) (all-at (IsWell F n) (links_in F l) well.children k has) (omega (arith, short, part-short (seq_at F n) (links_in F l) k has))
-      (λ j some. each j (flat_map-has (seq_at F n) (links_in F l) k j has some)))
+      (λ j some. each j (flat_map-has (seq_at F n) (links_in F l) k j has some)) in
+      (loose_row (ap is_loose well.kind), all-known l (known_vector (suc n) low well short (λ k has. (child k has).0)) (λ k has. (child k has).1))
 
   -- the rows of a chain, where all its entries are known
-  chain-known : (c : ℕ) (es : List (Entry Bytes)) (o : Option ℕ) → AreChainRows F o es → IsRising (slice_cmp nat_cmp) es → All (λ e. code e.key ≡ c) es → All (λ e. AllKnown e.link) es → (l : ℕ) → o ≡ Some l → AllKnown l
+  chain-known : (c : ℕ) (es : List (Entry Bytes)) (o : Option ℕ) → AreChainRows F o es → IsRising (slice_cmp nat_cmp) es → All (λ e. code e.key % 2 ^ (5 * (deepest + 1)) ≡ c) es → All (λ e. AllKnown e.link) es → (l : ℕ) → o ≡ Some l → AllKnown l
   unfolding AreChainRows
-  chain-known c [] o rows rising alike each l is = absurd (let none : None ≡ Some l = sym rows ∙ is in cc)
-  chain-known c (e ∷ es) o rows rising alike each l is =
+  chain-known c [] o rows rising agree each l is = absurd (let none : None ≡ Some l = sym rows ∙ is in cc)
+  chain-known c (e ∷ es) o rows rising agree each l is =
       let same : rows.link ≡ l = (let both : Some rows.link ≡ Some l = sym rows.here ∙ is in cc) in
       let row : F l ≡ Some (node chain (e.link ∷ option_to_list rows.next)) = ap F (sym same) ∙ rows.row in
       let rest : (m : ℕ) → rows.next ≡ Some m → AllKnown m =
-      chain-known c es rows.next rows.rest rising.1 (All-tail (λ e. code e.key ≡ c) e es alike) (All-tail (λ e. AllKnown e.link) e es each) in
-      all-known l (known_chain c (e ∷ es) (record { link = l; next = rows.next; here = refl; row = row; key = rows.key; rest = rows.rest }) rising alike)
+      chain-known c es rows.next rows.rest rising.1 (All-tail (λ e. code e.key % 2 ^ (5 * (deepest + 1)) ≡ c) e es agree) (All-tail (λ e. AllKnown e.link) e es each) in
+      all-known l (known_chain c (e ∷ es) (record { link = l; next = rows.next; here = refl; row = row; key = rows.key; rest = rows.rest }) rising agree)
       (links-known l chain (e.link ∷ option_to_list rows.next) row (All-cons AllKnown e.link (option_to_list rows.next) (All-head (λ e. AllKnown e.link) e es each) (next-known rows.next rest)))
     where
       next-known : (next : Option ℕ) → ((m : ℕ) → next ≡ Some m → AllKnown m) → All AllKnown (option_to_list next)
@@ -171,21 +199,20 @@ module _ (F : Forms Bytes) (code : Bytes → ℕ) where
           (λ k P few known. known)
 
   -- a trie row, or a chain, of entries that are known
-  pub trie-known : (left depth l c : ℕ) (E : List (Entry Bytes)) → ((key : Bytes) → code key < 2 ^ CODE_BITS) → depth + left ≡ LEVELS → IsTrie (slice_cmp nat_cmp) code F left depth l E
+  pub trie-known : (left depth l c : ℕ) (E : List (Entry Bytes)) → depth + left ≡ deepest + 1 → IsTrie (slice_cmp nat_cmp) code F left depth l E
       → All (λ e. code e.key % 2 ^ (5 * depth) ≡ c) E → (0 < depth → 2 ≤ length E) → All (λ e. AllKnown e.link) E → AllKnown l
   unfolding IsTrie
-  trie-known zero depth l c E small levels is agree many each =
-      let deepest : depth ≡ 7 = omega (arith, levels) in
-      let alike : All (λ e. code e.key ≡ c) E = λ i d low. sym (all-bits (code (get_or E i d).key) (small (get_or E i d).key)) ∙ ap (λ n. code (get_or E i d).key % 2 ^ (5 * n)) (sym deepest) ∙ agree i d low in
+  trie-known zero depth l c E levels is agree many each =
+      let last : depth ≡ deepest + 1 = omega (arith, levels) in
       let back = same-sym is.entries E is.same in
-      chain-known c is.entries (Some l) is.rows is.rising (all-turned (λ e. code e.key ≡ c) E is.entries back alike) (all-turned (λ e. AllKnown e.link) E is.entries back each) l refl
-  trie-known (suc left) depth l c E small levels is agree many each =
+      chain-known c is.entries (Some l) is.rows is.rising (subst (λ n. All (λ e. code e.key % 2 ^ (5 * n) ≡ c) is.entries) last (all-turned (λ e. code e.key % 2 ^ (5 * depth) ≡ c) E is.entries back agree)) (all-turned (λ e. AllKnown e.link) E is.entries back each) l refl
+  trie-known (suc left) depth l c E levels is agree many each =
       all-known l (known_trie left depth c E levels is agree many)
       (row-known (λ k P. IsTrie (slice_cmp nat_cmp) code F left (suc depth) k P) depth l E is
       (λ p k two under.
       let one : depth + 1 ≡ suc depth = omega arith in
       let P : List (Entry Bytes) = part (slice_cmp nat_cmp) code depth p E in
-      trie-known left (suc depth) k (p * 2 ^ (5 * depth) + c) P small (omega (arith, levels)) under
+      trie-known left (suc depth) k (p * 2 ^ (5 * depth) + c) P (omega (arith, levels)) under
       (subst (λ n. All (λ e. code e.key % 2 ^ (5 * n) ≡ p * 2 ^ (5 * depth) + c) P) one (part-agree code depth c p E agree)) (λ _. two)
       (All-filter (λ e. nat_eq (digit_at (code e.key) depth) p) (λ e. AllKnown e.link) E each))
       each)

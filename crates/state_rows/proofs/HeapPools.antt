@@ -11,6 +11,7 @@ use Rattle.rrb_core.specs.Vector.{IsGoodVector}
 use Rattle.champ_chain.specs.Entry.{Entry}
 use Rattle.champ_trie.specs.Trie.{IsTrie}
 use Rattle.pool_order.specs.Order.{order}
+use Rattle.pool_text.specs.Rules.{present_rules}
 use Rattle.pool_text.specs.Pool.{forms_in, place_in, settings_by, pool, pool_at}
 use Rattle.pool_text.specs.Renaming.{IsRooted}
 use Rattle.pool_text.specs.declared.pool.Pool.{Pool}
@@ -92,7 +93,7 @@ module _ (h : Heap Bytes) (bits : ℕ) (roots : List ℕ) (W : Workspace) (graph
   made-stands : StandsFor made W
   made-stands =
       let f : ℕ → ℕ = place_in (order (length h.rows) (links_in (form_at h)) roots) in
-      let moved : StandFor (forms_in made) (IsWellShaped (forms_in made)) bits (map f roots) W = roots-over f (form_at h) (forms_in made) (IsGoodVector h) (IsWellShaped (forms_in made)) bits roots W root-over stands in
+      let moved : StandFor (forms_in made) (IsWellShaped (forms_in made)) bits (map f roots) W = roots-over f (form_at h) (forms_in made) (IsGoodVector h) (IsWellShaped (forms_in made)) bits present_rules roots W root-over stands in
       let placed : StandFor (forms_in made) (IsWellShaped (forms_in made)) bits made.roots W = subst (λ rs. StandFor (forms_in made) (IsWellShaped (forms_in made)) bits rs W) (sym (pool-roots (length h.rows) (form_at h) roots rooted (settings_by bits))) moved in
       subst (λ b. StandFor (forms_in made) (IsWellShaped (forms_in made)) b made.roots W) (sym (pool-bits (length h.rows) (form_at h) roots bits)) placed
 
@@ -100,4 +101,4 @@ module _ (h : Heap Bytes) (bits : ℕ) (roots : List ℕ) (W : Workspace) (graph
   pool-stands few =
       let passes : PassesAsMade (form_at h) roots made = passes-as-made (length h.rows) (form_at h) roots rooted (settings_by bits) in
       subst (λ (P : Pool). IsValid P × StandsFor P W) (sym (texts-are-forms h roots (settings_by bits)))
-      (standing-valid made W (omega (arith, few, pool-bits (length h.rows) (form_at h) roots bits)) made-stands passes.lead_back passes.in_order, made-stands)
+      (standing-valid present_rules made W (omega (arith, few, pool-bits (length h.rows) (form_at h) roots bits)) made-stands passes.lead_back passes.in_order, made-stands)

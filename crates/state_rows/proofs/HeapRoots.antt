@@ -9,6 +9,7 @@ use Rattle.node_heap.proofs.Trees.{links_of-form}
 use Rattle.rrb_core.specs.Seq.{IsWellShaped}
 use Rattle.rrb_core.specs.Vector.{IsGoodVector, HaveSums}
 use Rattle.pool_order.specs.Order.{order}
+use Rattle.pool_text.specs.Rules.{present_rules}
 use Rattle.pool_text.specs.Pool.{forms_in, place_in, settings_by, pool, pool_at}
 use Rattle.pool_text.specs.Renaming.{IsRenamed, IsRooted}
 use Rattle.pool_text.specs.declared.pool.Pool.{Pool}
@@ -70,4 +71,4 @@ module _ (h : Heap Bytes) (bits : ℕ) (roots : List ℕ) (W : Workspace) (graph
       ap (map (slice_index listed)) (pool-roots (length h.rows) (form_at h) roots rooted (settings_by bits))
       ∙ map-back (place_in listed) (slice_index listed) roots (λ r root. place-back (length h.rows) (form_at h) roots rooted r r root (here r)) in
       subst (λ rs. StandFor (form_at h) (IsGoodVector h) bits rs W) back
-      (roots-over (slice_index listed) (forms_in made) (form_at h) (IsWellShaped (forms_in made)) (IsGoodVector h) bits made.roots W each-over by_bits)
+      (roots-over (slice_index listed) (forms_in made) (form_at h) (IsWellShaped (forms_in made)) (IsGoodVector h) bits present_rules made.roots W each-over by_bits)

@@ -1,3 +1,4 @@
+pub mod TrieSets
 pub mod Renamed
 pub mod Staying
 pub mod Answering

@@ -1,5 +1,5 @@
 -- What rows stand for is one value: one text, one list of lines, one state, one workspace.
-use Rattle.std.proofs.Common.{◌≡◌, ℕ, List, [], ◌∷◌, Option, Some, None, refl, ap, sym, subst, ◌∙◌}
+use Rattle.std.proofs.Common.{◌≡◌, ℕ, ◌+◌, List, [], ◌∷◌, Option, Some, None, refl, ap, sym, subst, ◌∙◌}
 use Rattle.std.specs.Prelude.{is_some, option_map}
 use Rattle.std.specs.List.{AllZip}
 use Rattle.std.specs.Ordering.{nat_cmp}
@@ -7,22 +7,22 @@ use Rattle.std.specs.Cmp.Lexicographic.{slice_cmp}
 use Rattle.std.specs.FinMap as map
 use Rattle.std.specs.FinMap.{nat_cmp-IsAntisymmetric, slice_cmp-IsAntisymmetric, same_map}
 use Rattle.std.proofs.lemmas.Cmp.{nat_list_cmp_total}
-use Rattle.elem_core.specs.Codes.{text_code}
 use Rattle.node_heap.specs.Forms.{Forms, cell, node, pair, state}
 use Rattle.rrb_core.specs.Seq.{seq}
 use Rattle.champ_chain.specs.Entry.{Entry, has_key, link_with}
 use Rattle.champ_chain.proofs.SetLemmas.{same-find}
 use Rattle.champ_trie.specs.Trie.{code_by}
-use Rattle.champ_trie.proofs.CanonLemmas.{has-one-set}
 use Rattle.champ_kinds.specs.Binding.{Binding, value_with}
 use Rattle.champ_kinds.specs.Kinds.{IsPair}
 use Rattle.champ_kinds.proofs.PairLemmas.{found-pairs, absent-map}
 use Rattle.champ_kinds.proofs.ZipLemmas.{zip-unique}
+use Rattle.pool_text.specs.Rules.{Rules, present_rules}
 use Rattle.pool_check.proofs.TestLemmas.{not-both}
 use Rattle.shell_terms.specs.Edit.{Bytes}
 use Rattle.plain_space.specs.Workspace.{Named, Names, State, Workspace}
-use Rattle.state_rows.specs.Reading.{StandsIfThere, IsVectorOver, IsTrieOfNames, IsNamed, AreNames, IsText, AreLines, IsState}
-use Rattle.state_rows.specs.Standing.{IsBase, StandFor}
+use Rattle.state_rows.specs.Reading.{StandsIfThere, IsVectorOver, IsText, AreLines, IsTrieOfNamesBy, IsNamedBy, AreNamesBy, IsStateBy}
+use Rattle.state_rows.specs.Standing.{IsBase, StandForBy, StandFor}
+use Rattle.state_rows.proofs.TrieSets.{one-set}
 
 -- a link stands for one value
 abbrev pub IsOne : {X : Type 0} → (ℕ → X → Type 0) → Type 0
@@ -53,12 +53,6 @@ module _ (F : Forms Bytes) (V : ℕ → Type 0) (bits : ℕ) where
   one-vector : {X : Type 0} (Is : ℕ → X → Type 0) → IsOne Is → IsOne (IsVectorOver F V bits Is)
   one-vector Is one l xs ys first second = zip-unique Is one (seq F l) xs ys first.values second.values
 
-  -- the entries of one trie find the same
-  one-link : (l : ℕ) (E D : List (Entry Bytes)) → IsTrieOfNames F V bits l E → IsTrieOfNames F V bits l D → (name : Bytes) → link_with (slice_cmp nat_cmp) name E ≡ link_with (slice_cmp nat_cmp) name D
-  one-link l E D first second name =
-      ap (option_map (λ (e : Entry Bytes). e.link))
-      (same-find (has_key (slice_cmp nat_cmp) name) E D (has-one-set (slice_cmp nat_cmp) (code_by text_code bits) nat_list_cmp_total F l E D first.trie second.trie) (first.trie.distinct.once name))
-
   one-value : (E D : List (Entry Bytes)) (M N : List (Binding Bytes)) (name : Bytes) → link_with (slice_cmp nat_cmp) name E ≡ link_with (slice_cmp nat_cmp) name D → AllZip (IsPair F) E M → AllZip (IsPair F) D N
       → value_with (slice_cmp nat_cmp) name M ≡ value_with (slice_cmp nat_cmp) name N
   one-value E D M N name links first second = by_link (link_with (slice_cmp nat_cmp) name E) refl
@@ -73,48 +67,59 @@ module _ (F : Forms Bytes) (V : ℕ → Type 0) (bits : ℕ) where
           let there = found-pairs F (slice_cmp nat_cmp) name D N x second (sym links ∙ is) in
           here.here ∙ ap Some (second-link x here.pair.key_cell here.value there.pair.key_cell there.value here.pair.row there.pair.row) ∙ sym there.here
 
-  one-named : {X : Type 0} (Is : ℕ → X → Type 0) → IsOne Is → IsOne (IsNamed F V bits Is)
-  one-named Is one l m n first second =
-      same-names m n
-      (λ name.
-      let same = one-value first.entries second.entries first.bindings second.bindings name (one-link l first.entries second.entries first.trie second.trie name) first.pairs second.pairs in
-      one-there Is one (value_with (slice_cmp nat_cmp) name first.bindings) (map.get m name) (map.get n name) (first.reads name) (subst (λ o. StandsIfThere Is o (map.get n name)) (sym same) (second.reads name)))
+  module _ {rules : Rules} where
+    -- the entries of one trie find the same
+    one-link : (l : ℕ) (E D : List (Entry Bytes)) → IsTrieOfNamesBy rules F V bits l E → IsTrieOfNamesBy rules F V bits l D → (name : Bytes) → link_with (slice_cmp nat_cmp) name E ≡ link_with (slice_cmp nat_cmp) name D
+    one-link l E D first second name =
+        ap (option_map (λ (e : Entry Bytes). e.link))
+        (same-find (has_key (slice_cmp nat_cmp) name) E D (one-set (code_by rules.code_of bits) F (rules.deepest + 1) 0 l E D first.trie.trie second.trie.trie) (first.trie.distinct.once name))
 
-  one-names : IsOne (AreNames F V bits)
-  one-names l m n first second =
-      same-names m n (λ name. nothing-else (map.get m name) (map.get n name) (sym (first.reads name) ∙ ap is_some (one-link l first.entries second.entries first.trie second.trie name) ∙ second.reads name))
+    one-named : {X : Type 0} (Is : ℕ → X → Type 0) → IsOne Is → IsOne (IsNamedBy rules F V bits Is)
+    one-named Is one l m n first second =
+        same-names m n
+        (λ name.
+        let same = one-value first.entries second.entries first.bindings second.bindings name (one-link l first.entries second.entries first.trie second.trie name) first.pairs second.pairs in
+        one-there Is one (value_with (slice_cmp nat_cmp) name first.bindings) (map.get m name) (map.get n name) (first.reads name) (subst (λ o. StandsIfThere Is o (map.get n name)) (sym same) (second.reads name)))
 
-  one-state : IsOne (IsState F V bits)
-  one-state l x y first second =
-      let both : Some (node state (first.buffers ∷ first.stars ∷ [])) ≡ Some (node state (second.buffers ∷ second.stars ∷ [])) = sym first.row ∙ second.row in
-      let names : second.buffers ≡ first.buffers = cc in
-      let stars : second.stars ≡ first.stars = cc in
-      let made : Named (List Bytes) → Names → State = λ m s. record { buffers = m; stars = s } in
-      let buffers = one-named (AreLines F V bits) (one-vector (IsText F V bits) one-text) first.buffers x.buffers y.buffers first.buffers_are (subst (λ k. IsNamed F V bits (AreLines F V bits) k y.buffers) names second.buffers_are) in
-      let starred = one-names first.stars x.stars y.stars first.stars_are (subst (λ k. AreNames F V bits k y.stars) stars second.stars_are) in
-      ap (λ m. made m x.stars) buffers ∙ ap (λ s. made y.buffers s) starred
+    one-names : IsOne (AreNamesBy rules F V bits)
+    one-names l m n first second =
+        same-names m n (λ name. nothing-else (map.get m name) (map.get n name) (sym (first.reads name) ∙ ap is_some (one-link l first.entries second.entries first.trie second.trie name) ∙ second.reads name))
 
-  one-base : (base : List ℕ) (a b : Option State) → IsBase (IsState F V bits) base a → IsBase (IsState F V bits) base b → a ≡ b
-  one-base [] None None first second = refl
-  one-base [] None (Some y) first second = absurd second
-  one-base [] (Some x) b first second = absurd first
-  one-base (l ∷ []) None b first second = absurd first
-  one-base (l ∷ []) (Some x) None first second = absurd second
-  one-base (l ∷ []) (Some x) (Some y) first second = ap Some (one-state l x y first second)
-  one-base (l ∷ m ∷ ls) None b first second = absurd first
-  one-base (l ∷ m ∷ ls) (Some x) b first second = absurd first
+    one-state : IsOne (IsStateBy rules F V bits)
+    one-state l x y first second =
+        let both : Some (node state (first.buffers ∷ first.stars ∷ [])) ≡ Some (node state (second.buffers ∷ second.stars ∷ [])) = sym first.row ∙ second.row in
+        let names : second.buffers ≡ first.buffers = cc in
+        let stars : second.stars ≡ first.stars = cc in
+        let made : Named (List Bytes) → Names → State = λ m s. record { buffers = m; stars = s } in
+        let buffers = one-named (AreLines F V bits) (one-vector (IsText F V bits) one-text) first.buffers x.buffers y.buffers first.buffers_are (subst (λ k. IsNamedBy rules F V bits (AreLines F V bits) k y.buffers) names second.buffers_are) in
+        let starred = one-names first.stars x.stars y.stars first.stars_are (subst (λ k. AreNamesBy rules F V bits k y.stars) stars second.stars_are) in
+        ap (λ m. made m x.stars) buffers ∙ ap (λ s. made y.buffers s) starred
 
-  pub one-space : (roots : List ℕ) (x y : Workspace) → StandFor F V bits roots x → StandFor F V bits roots y → x ≡ y
-  one-space [] x y first second = absurd first
-  one-space (c ∷ []) x y first second = absurd first
-  one-space (c ∷ v ∷ []) x y first second = absurd first
-  one-space (c ∷ v ∷ u ∷ []) x y first second = absurd first
-  one-space (c ∷ v ∷ u ∷ r ∷ base) x y first second =
+  one-base : (rules : Rules) (base : List ℕ) (a b : Option State) → IsBase (IsStateBy rules F V bits) base a → IsBase (IsStateBy rules F V bits) base b → a ≡ b
+  one-base rules [] None None first second = refl
+  one-base rules [] None (Some y) first second = absurd second
+  one-base rules [] (Some x) b first second = absurd first
+  one-base rules (l ∷ []) None b first second = absurd first
+  one-base rules (l ∷ []) (Some x) None first second = absurd second
+  one-base rules (l ∷ []) (Some x) (Some y) first second = ap Some (one-state l x y first second)
+  one-base rules (l ∷ m ∷ ls) None b first second = absurd first
+  one-base rules (l ∷ m ∷ ls) (Some x) b first second = absurd first
+
+  pub one-space-by : (rules : Rules) (roots : List ℕ) (x y : Workspace) → StandForBy rules F V bits roots x → StandForBy rules F V bits roots y → x ≡ y
+  one-space-by rules [] x y first second = absurd first
+  one-space-by rules (c ∷ []) x y first second = absurd first
+  one-space-by rules (c ∷ v ∷ []) x y first second = absurd first
+  one-space-by rules (c ∷ v ∷ u ∷ []) x y first second = absurd first
+  one-space-by rules (c ∷ v ∷ u ∷ r ∷ base) x y first second =
       let made : State → Named State → List State → List State → Option State → Workspace = λ now kept back forth start. record { current = now; versions = kept; undo = back; redo = forth; base = start } in
       let current = one-state c x.current y.current first.0 second.0 in
-      let versions = one-named (IsState F V bits) one-state v x.versions y.versions first.1 second.1 in
-      let undo = one-vector (IsState F V bits) one-state u x.undo y.undo first.2 second.2 in
-      let redo = one-vector (IsState F V bits) one-state r x.redo y.redo first.3 second.3 in
-      let start = one-base base x.base y.base first.4 second.4 in
+      let versions = one-named (IsStateBy rules F V bits) one-state v x.versions y.versions first.1 second.1 in
+      let undo = one-vector (IsStateBy rules F V bits) one-state u x.undo y.undo first.2 second.2 in
+      let redo = one-vector (IsStateBy rules F V bits) one-state r x.redo y.redo first.3 second.3 in
+      let start = one-base rules base x.base y.base first.4 second.4 in
       ap (λ s. made s x.versions x.undo x.redo x.base) current ∙ ap (λ s. made y.current s x.undo x.redo x.base) versions ∙ ap (λ s. made y.current y.versions s x.redo x.base) undo
       ∙ ap (λ s. made y.current y.versions y.undo s x.base) redo ∙ ap (λ s. made y.current y.versions y.undo y.redo s) start
+
+  -- by the rules by which pools are made
+  pub one-space : (roots : List ℕ) (x y : Workspace) → StandFor F V bits roots x → StandFor F V bits roots y → x ≡ y
+  one-space = one-space-by present_rules

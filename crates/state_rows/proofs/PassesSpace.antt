@@ -1,28 +1,30 @@
 -- A pool that stands for a workspace, leads back and stands in its order is valid.
-use Rattle.std.proofs.Common.{◌≡◌, ℕ, zero, suc, ◌+◌, ◌<◌, ◌≤◌, true, ap, arith, inl, inr}
+use Rattle.std.proofs.Common.{◌≡◌, ℕ, zero, suc, ◌+◌, ◌*◌, ◌%◌, ◌^◌, ◌<◌, ◌≤◌, true, ap, arith, inl, inr}
 use Rattle.std.specs.List.{range_with_len}
 use Rattle.std.proofs.lemmas.Bool.{cases_eq}
+use Rattle.std.proofs.lemmas.Nat.{pow_pos}
+use Rattle.std.proofs.Math.Pow.{pow_mono}
 use Rattle.std.proofs.lemmas.Slice.Eq.{bytes_eq-Decides}
-use Rattle.elem_core.specs.Codes.{text_code}
-use Rattle.elem_core.specs.declared.codes.TheConstants.{CODE_BITS, DEEPEST}
+use Rattle.elem_core.specs.Codes.{masked_code}
 use Rattle.node_heap.specs.Links.{count, Reaches}
 use Rattle.node_heap.specs.Forms.{links_in}
 use Rattle.node_heap.proofs.Counts.{test_same, count-cons}
 use Rattle.champ_trie.specs.Trie.{code_by}
 use Rattle.pool_order.proofs.Places.{order-is}
-use Rattle.pool_text.specs.Rows.{is_in_range}
+use Rattle.pool_text.specs.Rows.{is_in_range_to}
+use Rattle.pool_text.specs.Rules.{Rules}
 use Rattle.pool_text.specs.Pool.{forms_in, row_count, order_in}
 use Rattle.pool_text.specs.declared.pool.Pool.{Pool}
 use Rattle.pool_check.specs.Rows.{rows_in_range_by, links_lead_back, is_line_or_node, texts_are_lines}
 use Rattle.pool_check.specs.Vectors.{keeps_fill_rule, vectors_stand}
 use Rattle.pool_check.specs.Tries.{is_canonical, tries_stand_by}
 use Rattle.pool_check.specs.Kinds.{roots_are_of_kind}
-use Rattle.pool_check.specs.Damages.{rows_in_order, IsValid}
+use Rattle.pool_check.specs.Damages.{rows_in_order, IsValidBy}
 use Rattle.pool_check.proofs.PoolLaws.{get-low}
 use Rattle.pool_check.proofs.TestLemmas.{leads-down, roots-low}
 use Rattle.pool_check.proofs.VectorReadings.{all-at}
 use Rattle.plain_space.specs.Workspace.{Workspace}
-use Rattle.state_rows.specs.Standing.{StandsFor}
+use Rattle.state_rows.specs.Standing.{StandsForBy}
 use Rattle.state_rows.proofs.CoverRows.{IsKnown}
 use Rattle.state_rows.proofs.CoverSpace.{Covered, roots-known}
 use Rattle.state_rows.proofs.PassesLists.{rows-pass, range-pass}
@@ -37,27 +39,42 @@ count-range a (suc m) p from to = elim (cases_eq a p) as (λ _. 0 < count p (ran
   | inr other ↦ omega (arith, count-cons p a (range_with_len (a + 1) m), count-range (a + 1) m p (omega (arith, from, other)) (omega (arith, to)))
 ]
 
-module _ (P : Pool) (W : Workspace) (few : P.bits ≤ CODE_BITS) (stands : StandsFor P W) (back : links_lead_back P ≡ true) (ordered : rows_in_order P ≡ true) where
-  row-reached : (l : ℕ) → l < row_count P → (r : ℕ) × (0 < count r P.roots) × Reaches (links_in (forms_in P)) r l
-  unfolding rows_in_order
-  row-reached l low =
-      let order_is : order_in P ≡ range_with_len 0 (row_count P) = (bytes_eq-Decides (order_in P) (range_with_len 0 (row_count P))).0 ordered in
-      (order-is (λ k. k) (links_in (forms_in P)) (leads-down P back) (row_count P) P.roots (roots-low P back)).reached l (omega (arith, count-range 0 (row_count P) l (omega arith) (omega (arith, low)), ap (count l) order_is))
+-- a code that keeps so many bits has no more
+masked-low : (n bits most : ℕ) → bits ≤ most → masked_code n bits < 2 ^ most
+masked-low n bits most le =
+    let some : 0 < 2 ^ bits = pow_pos bits in
+    let wide : 2 ^ bits ≤ 2 ^ most = pow_mono le in
+    let less : n % 2 ^ bits < 2 ^ bits = omega (arith, some) in
+    omega (arith, less, wide)
 
-  row-known : (l : ℕ) → l < row_count P → IsKnown (forms_in P) (code_by text_code P.bits) l
-  row-known l low = let from = row-reached l low in all-at (Covered (forms_in P) P.bits few) P.roots (roots-known (forms_in P) P.bits few P.roots W stands) from.0 from.1 l from.2
+-- each row of a pool in its order is reached
+pub row-reached : (P : Pool) → links_lead_back P ≡ true → rows_in_order P ≡ true → (l : ℕ) → l < row_count P → (r : ℕ) × (0 < count r P.roots) × Reaches (links_in (forms_in P)) r l
+unfolding rows_in_order
+row-reached P back ordered l low =
+    let order_is : order_in P ≡ range_with_len 0 (row_count P) = (bytes_eq-Decides (order_in P) (range_with_len 0 (row_count P))).0 ordered in
+    (order-is (λ k. k) (links_in (forms_in P)) (leads-down P back) (row_count P) P.roots (roots-low P back)).reached l (omega (arith, count-range 0 (row_count P) l (omega arith) (omega (arith, low)), ap (count l) order_is))
 
-  row-passes : (l : ℕ) → l < row_count P → Passes (forms_in P) (leads-down P back) (row_count P) (code_by text_code P.bits) l
-  row-passes l low = known-passes (forms_in P) (leads-down P back) (row_count P) (code_by text_code P.bits) l low (row-known l low)
+module _ (rules : Rules) (P : Pool) (W : Workspace) (stands : StandsForBy rules P W) (back : links_lead_back P ≡ true) (ordered : rows_in_order P ≡ true) where
+  -- and is known
+  pub row-known : (l : ℕ) → l < row_count P → IsKnown (forms_in P) (code_by rules.code_of P.bits) rules.deepest l
+  row-known l low =
+      let from = row-reached P back ordered l low in
+      (all-at (Covered rules (forms_in P) P.bits) P.roots (roots-known rules (forms_in P) P.bits P.roots W stands) from.0 from.1).1 l from.2
 
-  pub standing-valid : IsValid P
+module _ (rules : Rules) (P : Pool) (W : Workspace) (few : P.bits ≤ 5 * (rules.deepest + 1)) (stands : StandsForBy rules P W) (back : links_lead_back P ≡ true) (ordered : rows_in_order P ≡ true) where
+  row-passes : (l : ℕ) → l < row_count P → Passes (forms_in P) (leads-down P back) (row_count P) (code_by rules.code_of P.bits) rules.deepest l
+  row-passes l low =
+      known-passes (forms_in P) (leads-down P back) (row_count P) (code_by rules.code_of P.bits) rules.deepest (λ key. masked-low (rules.code_of key) P.bits (5 * (rules.deepest + 1)) few) l low
+      (row-known rules P W stands back ordered l low)
+
+  pub standing-valid : IsValidBy rules P
   unfolding rows_in_range_by texts_are_lines vectors_stand tries_stand_by roots_are_of_kind
   standing-valid = record {
-    in_range = rows-pass is_in_range P.rows (λ i r is. (row-passes i (get-low P.rows i r is)).in_range r is);
+    in_range = rows-pass (is_in_range_to rules.deepest) P.rows (λ i r is. (row-passes i (get-low P.rows i r is)).in_range r is);
     lead_back = back;
     lines = rows-pass is_line_or_node P.rows (λ i r is. (row-passes i (get-low P.rows i r is)).line r is);
     vectors = rows-pass (keeps_fill_rule (forms_in P)) P.rows (λ i r is. (row-passes i (get-low P.rows i r is)).filled r is);
-    tries = range-pass (λ l. is_canonical (row_count P) (forms_in P) (code_by text_code P.bits) DEEPEST l (forms_in P l)) 0 (row_count P) (λ l from to. (row-passes l (omega (arith, to))).canonical);
-    kinds = roots-are (forms_in P) (leads-down P back) (row_count P) (get-low P.rows) P.bits P.roots W stands;
+    tries = range-pass (λ l. is_canonical (row_count P) (forms_in P) (code_by rules.code_of P.bits) rules.deepest l (forms_in P l)) 0 (row_count P) (λ l from to. (row-passes l (omega (arith, to))).canonical);
+    kinds = roots-are (forms_in P) (leads-down P back) (row_count P) (get-low P.rows) P.bits rules P.roots W stands;
     in_order = ordered;
   }

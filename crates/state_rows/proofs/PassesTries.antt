@@ -11,7 +11,6 @@ use Rattle.std.proofs.lemmas.List.Elements.{All-head, All-map, filter_passes}
 use Rattle.std.proofs.lemmas.List.Sums.{list_all-from_AllPass}
 use lib.Pointwise.{pointwise}
 use Rattle.elem_core.specs.Codes.{digit_at}
-use Rattle.elem_core.specs.declared.codes.TheConstants.{DEEPEST, LEVELS}
 use Rattle.node_heap.specs.Links.{count, LeadsDown}
 use Rattle.node_heap.specs.Forms.{Forms, links_of, links_in}
 use Rattle.rrb_core.proofs.LinkCounts.{count-at}
@@ -47,7 +46,7 @@ apart-test : (e d : Bool) → (e ≡ true → d ≡ false) → not (e && d) ≡ 
 apart-test false d apart = refl
 apart-test true d apart = ap (λ b. not (true && b)) (apart refl)
 
-module _ (F : Forms Bytes) (falls : LeadsDown (λ l. l) (links_in F)) (n : ℕ) (code : Bytes → ℕ) where
+module _ (F : Forms Bytes) (falls : LeadsDown (λ l. l) (links_in F)) (n : ℕ) (code : Bytes → ℕ) (deepest : ℕ) where
   -- the entries below a canonical trie row, or below a chain, are those that it has, in some order
   pub entries-same : (left depth l : ℕ) (E : List (Entry Bytes)) → l < n → IsTrie (slice_cmp nat_cmp) code F left depth l E → SameSet (entries_below n F l) E
   unfolding entries_below
@@ -74,18 +73,18 @@ module _ (F : Forms Bytes) (falls : LeadsDown (λ l. l) (links_in F)) (n : ℕ) 
   two-links x (Some m) es some rows = refl
 
   -- what stands below a trie row of a depth may stand there
-  sub-node-passes : (left depth k : ℕ) (P : List (Entry Bytes)) → depth + suc left ≡ LEVELS → 2 ≤ length P → IsTrie (slice_cmp nat_cmp) code F left (suc depth) k P → is_sub_node DEEPEST depth (F k) ≡ true
+  sub-node-passes : (left depth k : ℕ) (P : List (Entry Bytes)) → depth + suc left ≡ deepest + 1 → 2 ≤ length P → IsTrie (slice_cmp nat_cmp) code F left (suc depth) k P → is_sub_node deepest depth (F k) ≡ true
   unfolding IsTrie
   sub-node-passes zero depth k P levels two is =
       let at = first-row F k is.entries is.rows in
       let long : 2 ≤ length is.entries = omega (arith, two, same-length is.entries P is.same) in
-      let deepest : depth ≡ 6 = omega (arith, levels) in
-      ap (is_sub_node DEEPEST depth) at.row
-      ∙ and_from (depth == DEEPEST) (length (at.first.link ∷ option_to_list at.next) == 2) (eq-eqb depth DEEPEST deepest) (eq-eqb (length (at.first.link ∷ option_to_list at.next)) 2 (two-links at.first.link at.next at.others (omega (arith, long, ap length at.whole)) at.rows))
-  sub-node-passes (suc left) depth k P levels two is = ap (is_sub_node DEEPEST depth) is.row.row ∙ eq-eqb (suc depth) (depth + 1) (omega arith)
+      let last : depth ≡ deepest = omega (arith, levels) in
+      ap (is_sub_node deepest depth) at.row
+      ∙ and_from (depth == deepest) (length (at.first.link ∷ option_to_list at.next) == 2) (eq-eqb depth deepest last) (eq-eqb (length (at.first.link ∷ option_to_list at.next)) 2 (two-links at.first.link at.next at.others (omega (arith, long, ap length at.whole)) at.rows))
+  sub-node-passes (suc left) depth k P levels two is = ap (is_sub_node deepest depth) is.row.row ∙ eq-eqb (suc depth) (depth + 1) (omega arith)
 
   -- what stands at a position of a canonical trie row passes the test of the position
-  module _ (left depth l c : ℕ) (E : List (Entry Bytes)) (low : l < n) (levels : depth + suc left ≡ LEVELS) (is : IsTrieRow (slice_cmp nat_cmp) code F depth l E (λ k P. IsTrie (slice_cmp nat_cmp) code F left (suc depth) k P)) where
+  module _ (left depth l c : ℕ) (E : List (Entry Bytes)) (low : l < n) (levels : depth + suc left ≡ deepest + 1) (is : IsTrieRow (slice_cmp nat_cmp) code F depth l E (λ k P. IsTrie (slice_cmp nat_cmp) code F left (suc depth) k P)) where
     abbrev N : ℕ → List (Entry Bytes) → Type 0
     N k P = IsTrie (slice_cmp nat_cmp) code F left (suc depth) k P
 
@@ -103,7 +102,7 @@ module _ (F : Forms Bytes) (falls : LeadsDown (λ l. l) (links_in F)) (n : ℕ) 
         ∙ ap (is_entry_at n F code depth p) (get_or-take (rank is.entries 32) is.links (rank is.entries p) 0 (rank-lt is.entries p 32 small there))
         ∙ ap (λ o. entry_passes (has_digit n F code depth p) (option_map (λ key. entry key x) o)) stands.2 ∙ digit
 
-    node-passes : (p i : ℕ) → p < 32 → has is.nodes p ≡ true → 0 + i ≡ rank is.nodes p → is_node_at n F code DEEPEST depth p (get_or (drop (rank is.entries 32) is.links) i 0) ≡ true
+    node-passes : (p i : ℕ) → p < 32 → has is.nodes p ≡ true → 0 + i ≡ rank is.nodes p → is_node_at n F code deepest depth p (get_or (drop (rank is.entries 32) is.links) i 0) ≡ true
     node-passes p i small there at =
         let k : ℕ = get_or is.links (rank is.entries 32 + rank is.nodes p) 0 in
         let absent : has is.entries p ≡ false = elim (cases_Bool (has is.entries p)) as (λ _. has is.entries p ≡ false) [
@@ -113,49 +112,49 @@ module _ (F : Forms Bytes) (falls : LeadsDown (λ l. l) (links_in F)) (n : ℕ) 
         let stands = subst (λ q. IsPlace F N q (P-at p)) (place-node is.entries is.nodes is.links p absent there) (is.places p small) in
         let under : k < l = falls l k (omega (arith, count-at is.links (rank is.entries 32 + rank is.nodes p) 0 (node-in is.entries is.nodes is.links p small is.row.sets there), ap (λ r. count k (links_of r)) is.row.row)) in
         let same : i ≡ rank is.nodes p = omega (arith, at) in
-        ap (λ j. is_node_at n F code DEEPEST depth p (get_or (drop (rank is.entries 32) is.links) j 0)) same
-        ∙ ap (is_node_at n F code DEEPEST depth p) (get_or-drop (rank is.entries 32) is.links (rank is.nodes p) 0)
-        ∙ and_from (is_sub_node DEEPEST depth (F k)) (list_all (has_digit n F code depth p) (entries_below n F k)) (sub-node-passes left depth k (P-at p) levels stands.0 stands.1)
+        ap (λ j. is_node_at n F code deepest depth p (get_or (drop (rank is.entries 32) is.links) j 0)) same
+        ∙ ap (is_node_at n F code deepest depth p) (get_or-drop (rank is.entries 32) is.links (rank is.nodes p) 0)
+        ∙ and_from (is_sub_node deepest depth (F k)) (list_all (has_digit n F code depth p) (entries_below n F k)) (sub-node-passes left depth k (P-at p) levels stands.0 stands.1)
         (each-below (has_digit n F code depth p) left (suc depth) k (P-at p) (omega (arith, under, low)) stands.1 (filter_passes (λ e. nat_eq (digit_at (code e.key) depth) p) E))
 
     rank-zero : (s : ℕ) → rank s 0 ≡ 0
     unfolding rank
     rank-zero s = refl
 
-    branches-pass : are_branches n F code DEEPEST depth is.entries is.nodes is.links ≡ true
+    branches-pass : are_branches n F code deepest depth is.entries is.nodes is.links ≡ true
     unfolding are_branches
     branches-pass =
         let r : ℕ = rank is.entries 32 in
         let a : Bool = are_apart is.entries is.nodes in
         let b : Bool = pointwise (is_entry_at n F code depth) (positions is.entries) (take r is.links) in
-        let c : Bool = pointwise (is_node_at n F code DEEPEST depth) (positions is.nodes) (drop r is.links) in
+        let c : Bool = pointwise (is_node_at n F code deepest depth) (positions is.nodes) (drop r is.links) in
         and_from (a && b) c
         (and_from a b (range-pass (λ p. not (has is.entries p && has is.nodes p)) 0 32 (λ p from to. apart-test (has is.entries p) (has is.nodes p) (is.row.sets.apart p (omega (arith, to)))))
         (positions-pass (is_entry_at n F code depth) is.entries 0 32 (take r is.links) (omega (arith, rank-zero is.entries, length-take r is.links, is.row.sets.count))
         (λ p i from to there at. entry-passes p i (omega (arith, to)) there (omega (arith, at, rank-zero is.entries)))))
-        (positions-pass (is_node_at n F code DEEPEST depth) is.nodes 0 32 (drop r is.links) (omega (arith, rank-zero is.nodes, length-drop r is.links, is.row.sets.count))
+        (positions-pass (is_node_at n F code deepest depth) is.nodes 0 32 (drop r is.links) (omega (arith, rank-zero is.nodes, length-drop r is.links, is.row.sets.count))
         (λ p i from to there at. node-passes p i (omega (arith, to)) there (omega (arith, at, rank-zero is.nodes))))
 
   -- a canonical trie row passes its test
-  pub trie-passes : (left depth l c : ℕ) (E : List (Entry Bytes)) → l < n → depth + suc left ≡ LEVELS → IsTrie (slice_cmp nat_cmp) code F (suc left) depth l E → All (λ e. code e.key % 2 ^ (5 * depth) ≡ c) E → (0 < depth → 2 ≤ length E)
-      → is_canonical n F code DEEPEST l (F l) ≡ true
+  pub trie-passes : (left depth l c : ℕ) (E : List (Entry Bytes)) → l < n → depth + suc left ≡ deepest + 1 → IsTrie (slice_cmp nat_cmp) code F (suc left) depth l E → All (λ e. code e.key % 2 ^ (5 * depth) ≡ c) E → (0 < depth → 2 ≤ length E)
+      → is_canonical n F code deepest l (F l) ≡ true
   unfolding IsTrie
   trie-passes left depth l c E low levels is agree many =
-      let a : Bool = are_branches n F code DEEPEST depth is.entries is.nodes is.links in
+      let a : Bool = are_branches n F code deepest depth is.entries is.nodes is.links in
       let b : Bool = agree_above n F code depth l in
       let long : length (entries_below n F l) ≡ length E = same-length (entries_below n F l) E (entries-same (suc left) depth l E low is) in
-      ap (is_canonical n F code DEEPEST l) is.row.row
+      ap (is_canonical n F code deepest l) is.row.row
       ∙ and_from (a && b) ((depth == 0) || nat_le 2 (length (entries_below n F l)))
       (and_from a b (branches-pass left depth l c E low levels is) (alike-below (λ e. code e.key % 2 ^ (5 * depth)) c (suc left) depth l E low is agree))
       (many-test depth (length (entries_below n F l)) (λ some. omega (arith, many some, long)))
 
   -- a row of a chain passes its test
-  pub chain-passes : (l c : ℕ) (es : List (Entry Bytes)) → l < n → AreChainRows F (Some l) es → IsRising (slice_cmp nat_cmp) es → All (λ e. code e.key ≡ c) es → is_canonical n F code DEEPEST l (F l) ≡ true
+  pub chain-passes : (l c : ℕ) (es : List (Entry Bytes)) → l < n → AreChainRows F (Some l) es → IsRising (slice_cmp nat_cmp) es → All (λ e. code e.key ≡ c) es → is_canonical n F code deepest l (F l) ≡ true
   unfolding AreChainRows IsTrie
   chain-passes l c [] low rows rising alike = absurd (let none : Some l ≡ None = rows in cc)
   chain-passes l c (e ∷ es) low rows rising alike =
       let same : rows.link ≡ l = (let both : Some rows.link ≡ Some l = sym rows.here in cc) in
-      ap (is_canonical n F code DEEPEST l) (ap F (sym same) ∙ rows.row) ∙ by_next rows.next rows.rest
+      ap (is_canonical n F code deepest l) (ap F (sym same) ∙ rows.row) ∙ by_next rows.next rows.rest
     where
       greater : (at : List (Entry Bytes)) (first : Entry Bytes) (others : List (Entry Bytes)) → at ≡ first ∷ others → AreAbove (slice_cmp nat_cmp) e.key at → slice_cmp nat_cmp e.key first.key ≡ Less
       greater at first others whole above = (subst (AreAbove (slice_cmp nat_cmp) e.key) whole above).0
@@ -166,8 +165,8 @@ module _ (F : Forms Bytes) (falls : LeadsDown (λ l. l) (links_in F)) (n : ℕ) 
           let at : FirstRow F m es = first-row F m es rest in
           let a : Bool = is_chain_row (F m) in
           let b : Bool = is_before (key_at F e.link) (first_key F (links_in F m)) in
-          let chained : IsTrie (slice_cmp nat_cmp) code F zero 7 l (e ∷ es) = record { entries = e ∷ es; rows = rows; rising = rising; same = same-refl (e ∷ es); two = omega (arith, ap length at.whole) } in
+          let chained : IsTrie (slice_cmp nat_cmp) code F zero 0 l (e ∷ es) = record { entries = e ∷ es; rows = rows; rising = rising; same = same-refl (e ∷ es); two = omega (arith, ap length at.whole) } in
           and_from (a && b) (all_same (map (λ d. code d.key) (entries_below n F l)))
           (and_from a b (ap is_chain_row at.row)
           (ap (λ o. is_before o (first_key F (links_in F m))) rows.key ∙ ap (is_before (Some e.key)) (ap (λ r. first_key F (links_of r)) at.row ∙ at.key) ∙ ap is_lt (greater es at.first at.others at.whole rising.0)))
-          (alike-below (λ d. code d.key) c zero 7 l (e ∷ es) low chained alike)
+          (alike-below (λ d. code d.key) c zero 0 l (e ∷ es) low chained alike)

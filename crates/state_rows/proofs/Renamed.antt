@@ -6,8 +6,6 @@ use Rattle.std.specs.Cmp.Lexicographic.{slice_cmp}
 use Rattle.std.specs.FinMap as finite
 use Rattle.std.proofs.lemmas.List.Elements.{All-nil, All-cons, All-head, All-tail, All-map}
 use Rattle.elem_core.specs.Naming.{IsName}
-use Rattle.elem_core.specs.Codes.{text_code}
-use Rattle.elem_core.specs.declared.codes.TheConstants.{DEEPEST}
 use Rattle.node_heap.specs.Links.{count, HasLink, Reaches, here, below}
 use Rattle.node_heap.specs.Forms.{Forms, Kind, node, state, links_of, links_in}
 use Rattle.node_heap.proofs.Counts.{test_same, count-cons}
@@ -15,9 +13,10 @@ use Rattle.node_heap.proofs.Reach.{Reaches-then, Reaches-trans}
 use Rattle.rrb_core.specs.Seq.{seq}
 use Rattle.champ_chain.specs.Entry.{Entry, link_with, has_key}
 use Rattle.champ_trie.specs.Trie.{code_by}
-use Rattle.champ_trie.proofs.StayLemmas.{canon-reach}
+use Rattle.champ_trie.proofs.StayLemmas.{trie-reach}
 use Rattle.champ_kinds.specs.Binding.{Binding, binding, binds, value_with}
 use Rattle.champ_kinds.specs.Kinds.{IsKeyCell, IsPair}
+use Rattle.pool_text.specs.Rules.{Rules}
 use Rattle.pool_text.specs.Pool.{relink}
 use Rattle.pool_text.specs.Renaming.{IsRenamed}
 use Rattle.pool_text.proofs.Renamed.{renamed-below}
@@ -26,8 +25,8 @@ use Rattle.pool_check.proofs.VectorReadings.{vector-reads-the-same}
 use Rattle.pool_check.proofs.TrieReadings.{trie-reads-the-same}
 use Rattle.shell_terms.specs.Edit.{Bytes}
 use Rattle.plain_space.specs.Workspace.{Named, Names, State, Workspace}
-use Rattle.state_rows.specs.Reading.{StandsIfThere, IsVectorOver, IsTrieOfNames, IsNamed, AreNames, IsText, AreLines, IsState, AreVersions, IsHistory}
-use Rattle.state_rows.specs.Standing.{IsBase, StandFor}
+use Rattle.state_rows.specs.Reading.{StandsIfThere, IsVectorOver, IsText, AreLines, IsTrieOfNamesBy, IsNamedBy, AreNamesBy, IsStateBy, AreVersionsBy, IsHistoryBy}
+use Rattle.state_rows.specs.Standing.{IsBase, StandForBy}
 
 -- the links of a row with two links are below it
 pub first-link : {K : Type 0} (F : Forms K) (l k m : ℕ) (kind : Kind) → F l ≡ Some (node kind (k ∷ m ∷ [])) → HasLink (links_in F) l k
@@ -139,77 +138,78 @@ module _ (f : ℕ → ℕ) (G H : Forms Bytes) (V W : ℕ → Type 0) (bits : �
             (zip-moved f (Reaches (links_in G) l) R S (λ k x down. so k x (goes-below l k down over)) (seq G l) xs reads.reached is.values);
       }
 
-  trie-over : (l : ℕ) (E : List (Entry Bytes)) → GoesOver f G H V W l → IsTrieOfNames G V bits l E → IsTrieOfNames H W bits (f l) (map (moved f) E)
-  trie-over l E over is = record {
-    trie = (trie-reads-the-same f G H l over.renamed ℕ).canonical (slice_cmp nat_cmp) (code_by text_code bits) DEEPEST E is.trie;
-    names = All-map (λ e. IsName e.key) (moved f) E is.names;
-  }
-
-  entries-below : (l : ℕ) (E : List (Entry Bytes)) → IsTrieOfNames G V bits l E → All (λ e. Reaches (links_in G) l e.link) E
-  entries-below l E is = canon-reach (slice_cmp nat_cmp) (code_by text_code bits) G l E is.trie
-
-  pub named-over : {X : Type 0} (R S : ℕ → X → Type 0) (l : ℕ) (m : Named X) → GoesOver f G H V W l → ((k : ℕ) (x : X) → GoesOver f G H V W k → R k x → S (f k) x)
-      → IsNamed G V bits R l m → IsNamed H W bits S (f l) m
-  named-over R S l m over so is =
-      let down = entries-below l is.entries is.trie in
-      record {
-        entries = map (moved f) is.entries;
-        bindings = map (moved_binding f) is.bindings;
-        trie = trie-over l is.entries over is.trie;
-        pairs = pairs-moved f G H l over.renamed is.entries is.bindings down is.pairs;
-        reads = λ name.
-            reads-moved f (Reaches (links_in G) l) R S (λ k x to. so k x (goes-below l k to over)) name is.bindings (finite.get m name)
-            (values-below G l is.entries is.bindings down is.pairs) (is.reads name);
-      }
-
-  pub names-over : (l : ℕ) (names : Names) → GoesOver f G H V W l → AreNames G V bits l names → AreNames H W bits (f l) names
-  names-over l names over is = record {
-    entries = map (moved f) is.entries;
-    trie = trie-over l is.entries over is.trie;
-    cells = keys-moved f G H l over.renamed is.entries (entries-below l is.entries is.trie) is.cells;
-    reads = λ name. has-moved f name is.entries ∙ is.reads name;
-  }
-
   pub lines-over : (l : ℕ) (xs : List Bytes) → GoesOver f G H V W l → AreLines G V bits l xs → AreLines H W bits (f l) xs
   lines-over l xs over is = vector-over (IsText G V bits) (IsText H W bits) l xs over text-over is
 
-  pub state-over : (l : ℕ) (s : State) → GoesOver f G H V W l → IsState G V bits l s → IsState H W bits (f l) s
-  state-over l s over is =
-      let names = below l is.buffers is.buffers (first-link G l is.buffers is.stars state is.row) (here is.buffers) in
-      let stars = below l is.stars is.stars (second-link G l is.buffers is.stars state is.row) (here is.stars) in
-      record {
-        buffers = f is.buffers;
-        stars = f is.stars;
-        row = over.renamed l (here l) ∙ ap (option_map (relink f)) is.row;
-        buffers_are = named-over (AreLines G V bits) (AreLines H W bits) is.buffers s.buffers (goes-below l is.buffers names over) lines-over is.buffers_are;
-        stars_are = names-over is.stars s.stars (goes-below l is.stars stars over) is.stars_are;
-      }
+  module _ {rules : Rules} where
+    trie-over : (l : ℕ) (E : List (Entry Bytes)) → GoesOver f G H V W l → IsTrieOfNamesBy rules G V bits l E → IsTrieOfNamesBy rules H W bits (f l) (map (moved f) E)
+    trie-over l E over is = record {
+      trie = (trie-reads-the-same f G H l over.renamed ℕ).canonical (slice_cmp nat_cmp) (code_by rules.code_of bits) rules.deepest E is.trie;
+      names = All-map (λ e. IsName e.key) (moved f) E is.names;
+    }
 
-  pub versions-over : (l : ℕ) (m : Named State) → GoesOver f G H V W l → AreVersions G V bits l m → AreVersions H W bits (f l) m
-  versions-over l m over is = named-over (IsState G V bits) (IsState H W bits) l m over state-over is
+    entries-below : (l : ℕ) (E : List (Entry Bytes)) → IsTrieOfNamesBy rules G V bits l E → All (λ e. Reaches (links_in G) l e.link) E
+    entries-below l E is = trie-reach (slice_cmp nat_cmp) (code_by rules.code_of bits) G (rules.deepest + 1) 0 l E is.trie.trie
 
-  pub history-over : (l : ℕ) (ss : List State) → GoesOver f G H V W l → IsHistory G V bits l ss → IsHistory H W bits (f l) ss
-  history-over l ss over is = vector-over (IsState G V bits) (IsState H W bits) l ss over state-over is
+    pub named-over : {X : Type 0} (R S : ℕ → X → Type 0) (l : ℕ) (m : Named X) → GoesOver f G H V W l → ((k : ℕ) (x : X) → GoesOver f G H V W k → R k x → S (f k) x)
+        → IsNamedBy rules G V bits R l m → IsNamedBy rules H W bits S (f l) m
+    named-over R S l m over so is =
+        let down = entries-below l is.entries is.trie in
+        record {
+          entries = map (moved f) is.entries;
+          bindings = map (moved_binding f) is.bindings;
+          trie = trie-over l is.entries over is.trie;
+          pairs = pairs-moved f G H l over.renamed is.entries is.bindings down is.pairs;
+          reads = λ name.
+              reads-moved f (Reaches (links_in G) l) R S (λ k x to. so k x (goes-below l k to over)) name is.bindings (finite.get m name)
+              (values-below G l is.entries is.bindings down is.pairs) (is.reads name);
+        }
 
-  base-over : (base : List ℕ) (b : Option State) → ((r : ℕ) → 0 < count r base → GoesOver f G H V W r) → IsBase (IsState G V bits) base b → IsBase (IsState H W bits) (map f base) b
-  base-over [] None over is = tt
-  base-over [] (Some s) over is = absurd is
-  base-over (l ∷ []) None over is = absurd is
-  base-over (l ∷ []) (Some s) over is = state-over l s (over l (omega (arith, count-cons l l [], test_same l l refl))) is
-  base-over (l ∷ k ∷ more) b over is = absurd is
+    pub names-over : (l : ℕ) (names : Names) → GoesOver f G H V W l → AreNamesBy rules G V bits l names → AreNamesBy rules H W bits (f l) names
+    names-over l names over is = record {
+      entries = map (moved f) is.entries;
+      trie = trie-over l is.entries over is.trie;
+      cells = keys-moved f G H l over.renamed is.entries (entries-below l is.entries is.trie) is.cells;
+      reads = λ name. has-moved f name is.entries ∙ is.reads name;
+    }
+
+    pub state-over : (l : ℕ) (s : State) → GoesOver f G H V W l → IsStateBy rules G V bits l s → IsStateBy rules H W bits (f l) s
+    state-over l s over is =
+        let names = below l is.buffers is.buffers (first-link G l is.buffers is.stars state is.row) (here is.buffers) in
+        let stars = below l is.stars is.stars (second-link G l is.buffers is.stars state is.row) (here is.stars) in
+        record {
+          buffers = f is.buffers;
+          stars = f is.stars;
+          row = over.renamed l (here l) ∙ ap (option_map (relink f)) is.row;
+          buffers_are = named-over (AreLines G V bits) (AreLines H W bits) is.buffers s.buffers (goes-below l is.buffers names over) lines-over is.buffers_are;
+          stars_are = names-over is.stars s.stars (goes-below l is.stars stars over) is.stars_are;
+        }
+
+    pub versions-over : (l : ℕ) (m : Named State) → GoesOver f G H V W l → AreVersionsBy rules G V bits l m → AreVersionsBy rules H W bits (f l) m
+    versions-over l m over is = named-over (IsStateBy rules G V bits) (IsStateBy rules H W bits) l m over state-over is
+
+    pub history-over : (l : ℕ) (ss : List State) → GoesOver f G H V W l → IsHistoryBy rules G V bits l ss → IsHistoryBy rules H W bits (f l) ss
+    history-over l ss over is = vector-over (IsStateBy rules G V bits) (IsStateBy rules H W bits) l ss over state-over is
+
+  base-over : (rules : Rules) (base : List ℕ) (b : Option State) → ((r : ℕ) → 0 < count r base → GoesOver f G H V W r) → IsBase (IsStateBy rules G V bits) base b → IsBase (IsStateBy rules H W bits) (map f base) b
+  base-over rules [] None over is = tt
+  base-over rules [] (Some s) over is = absurd is
+  base-over rules (l ∷ []) None over is = absurd is
+  base-over rules (l ∷ []) (Some s) over is = state-over l s (over l (omega (arith, count-cons l l [], test_same l l refl))) is
+  base-over rules (l ∷ k ∷ more) b over is = absurd is
 
   -- roots that stand for a workspace stand for it under other links
-  pub roots-over : (roots : List ℕ) (W' : Workspace) → ((r : ℕ) → 0 < count r roots → GoesOver f G H V W r) → StandFor G V bits roots W' → StandFor H W bits (map f roots) W'
-  roots-over [] work over stand = absurd stand
-  roots-over (c ∷ []) work over stand = absurd stand
-  roots-over (c ∷ v ∷ []) work over stand = absurd stand
-  roots-over (c ∷ v ∷ u ∷ []) work over stand = absurd stand
-  roots-over (c ∷ v ∷ u ∷ r ∷ base) work over stand =
+  pub roots-over : (rules : Rules) (roots : List ℕ) (W' : Workspace) → ((r : ℕ) → 0 < count r roots → GoesOver f G H V W r) → StandForBy rules G V bits roots W' → StandForBy rules H W bits (map f roots) W'
+  roots-over rules [] work over stand = absurd stand
+  roots-over rules (c ∷ []) work over stand = absurd stand
+  roots-over rules (c ∷ v ∷ []) work over stand = absurd stand
+  roots-over rules (c ∷ v ∷ u ∷ []) work over stand = absurd stand
+  roots-over rules (c ∷ v ∷ u ∷ r ∷ base) work over stand =
       let counts : (k : ℕ) → count k (c ∷ v ∷ u ∷ r ∷ base) ≡ count k (c ∷ []) + count k (v ∷ []) + count k (u ∷ []) + count k (r ∷ []) + count k base =
       λ k. omega (arith, count-cons k c (v ∷ u ∷ r ∷ base), count-cons k v (u ∷ r ∷ base), count-cons k u (r ∷ base), count-cons k r base, count-cons k c [], count-cons k v [], count-cons k u [], count-cons k r []) in (
         state-over c work.current (over c (omega (arith, counts c, count-cons c c [], test_same c c refl))) stand.0,
         versions-over v work.versions (over v (omega (arith, counts v, count-cons v v [], test_same v v refl))) stand.1,
         history-over u work.undo (over u (omega (arith, counts u, count-cons u u [], test_same u u refl))) stand.2,
         history-over r work.redo (over r (omega (arith, counts r, count-cons r r [], test_same r r refl))) stand.3,
-        base-over base work.base (λ k some. over k (omega (arith, counts k, some))) stand.4,
+        base-over rules base work.base (λ k some. over k (omega (arith, counts k, some))) stand.4,
       )

@@ -2,7 +2,9 @@
 use Rattle.std.proofs.Common.{◌≡◌, ℕ, ◌+◌, ◌≤◌, List, [], ◌∷◌, Option, Some, None, is_some, ap, sym, subst, refl, ◌∙◌, arith}
 use Rattle.std.specs.Prelude.{◌↔◌, true, IfSome, IsSome}
 use Rattle.std.specs.FinMap as finite
-use Rattle.elem_core.specs.declared.codes.TheConstants.{CODE_BITS}
+use Rattle.champ_kinds.specs.declared.map.TheConstants.{INSERT_NODES}
+use Rattle.champ_trie.specs.declared.TheConstants.{ADD_NODES}
+use Rattle.elem_core.specs.declared.codes.TheConstants.{CODE_BITS, LEVELS}
 use Rattle.elem_core.specs.Naming.{IsName}
 use Rattle.elem_core.specs.Codes.{text_code}
 use Rattle.node_heap.specs.Heap.{Heap, form_at, HasSpares}
@@ -66,18 +68,18 @@ module _ {X : Type 0} {old : Heap Bytes} {bits : ℕ} {R : ℕ → X → Type 0}
       let there = sym (named-there (form_at old) (IsGoodVector old) bits R at.link m at.named key) ∙ ap is_some ((absent at.named.bindings map-is).0 nothing) in
       cc
 
-  pub inserted-answered : {new : Heap Bytes} {v spent w k : ℕ} (key : Bytes) → v ≡ spent → k ≡ w → ((M : List (Binding Bytes)) → IsMapOf by_bytes text_code old r M → Answered old new (v ∷ []) w 1 (9 + alike_keys text_code r.bits key M))
-      → Answered old new (spent ∷ []) k 1 (9 + alike bits (finite.keys m) key)
+  pub inserted-answered : {new : Heap Bytes} {v spent w k : ℕ} (key : Bytes) → v ≡ spent → k ≡ w → ((M : List (Binding Bytes)) → IsMapOf by_bytes text_code old r M → Answered old new (v ∷ []) w 1 (INSERT_NODES + alike_keys text_code r.bits key M))
+      → Answered old new (spent ∷ []) k 1 (INSERT_NODES + alike bits (finite.keys m) key)
   inserted-answered {new} {v} {spent} {w} {k} key is root answers =
-      let done = answered-more 1 (9 + alike bits (finite.keys m) key) (answers at.named.bindings map-is) (omega arith) (omega (arith, map-alike key)) in
+      let done = answered-more 1 (INSERT_NODES + alike bits (finite.keys m) key) (answers at.named.bindings map-is) (omega arith) (omega (arith, map-alike key)) in
       rw (← is, root) done
 
   pub removed-answered : {new : Heap Bytes} {found : Option Root} {w : Root} {k : ℕ} (key : Bytes) → found ≡ Some w → k ≡ w.root
-      → ((M : List (Binding Bytes)) → IsMapOf by_bytes text_code old r M → IfSome found (λ q. Answered old new [] q.root 0 (7 + alike_keys text_code r.bits key M)))
-      → Answered old new [] k 0 (7 + alike bits (finite.keys m) key)
+      → ((M : List (Binding Bytes)) → IsMapOf by_bytes text_code old r M → IfSome found (λ q. Answered old new [] q.root 0 (LEVELS + alike_keys text_code r.bits key M)))
+      → Answered old new [] k 0 (LEVELS + alike bits (finite.keys m) key)
   removed-answered {new} {found} {w} key there root answers =
-      let done = if-some found w (λ (q : Root). Answered old new [] q.root 0 (7 + alike_keys text_code r.bits key at.named.bindings)) there (answers at.named.bindings map-is) in
-      rw root (answered-more 0 (7 + alike bits (finite.keys m) key) done (omega arith) (omega (arith, map-alike key)))
+      let done = if-some found w (λ (q : Root). Answered old new [] q.root 0 (LEVELS + alike_keys text_code r.bits key at.named.bindings)) there (answers at.named.bindings map-is) in
+      rw root (answered-more 0 (LEVELS + alike bits (finite.keys m) key) done (omega arith) (omega (arith, map-alike key)))
 
   module _ {new : Heap Bytes} (S : ℕ → X → Type 0) (so : (k : ℕ) (x : X) → R k x → S k x) {w : Root} {k : ℕ} (key : Bytes) (root : k ≡ w.root) where
     here : (M : List (Binding Bytes)) → w.bits ≡ r.bits → IsMapOf by_bytes text_code new w M → IsMapOf by_bytes text_code new (record { root = k; bits = bits }) M
@@ -111,17 +113,17 @@ module _ {old : Heap Bytes} {bits : ℕ} {names : Names} {r : Root} (at : RootsS
       let there = sym (at.named.reads key) ∙ ap is_some ((absent at.named.entries set-is).0 nothing) in
       cc
 
-  pub added-answered : {new : Heap Bytes} {w k : ℕ} (key : Bytes) → k ≡ w → ((E : List (Entry Bytes)) → IsSetOf by_bytes text_code old r E → Answered old new [] w 1 (8 + alike_to text_code r.bits key E))
-      → Answered old new [] k 1 (8 + alike bits (finite.keys names) key)
+  pub added-answered : {new : Heap Bytes} {w k : ℕ} (key : Bytes) → k ≡ w → ((E : List (Entry Bytes)) → IsSetOf by_bytes text_code old r E → Answered old new [] w 1 (ADD_NODES + alike_to text_code r.bits key E))
+      → Answered old new [] k 1 (ADD_NODES + alike bits (finite.keys names) key)
   added-answered key root answers =
-      rw root (answered-more 1 (8 + alike bits (finite.keys names) key) (answers at.named.entries set-is) (omega arith) (omega (arith, set-alike key)))
+      rw root (answered-more 1 (ADD_NODES + alike bits (finite.keys names) key) (answers at.named.entries set-is) (omega arith) (omega (arith, set-alike key)))
 
   pub taken-answered : {new : Heap Bytes} {found : Option Root} {w : Root} {k : ℕ} (key : Bytes) → found ≡ Some w → k ≡ w.root
-      → ((E : List (Entry Bytes)) → IsSetOf by_bytes text_code old r E → IfSome found (λ q. Answered old new [] q.root 0 (7 + alike_to text_code r.bits key E)))
-      → Answered old new [] k 0 (7 + alike bits (finite.keys names) key)
+      → ((E : List (Entry Bytes)) → IsSetOf by_bytes text_code old r E → IfSome found (λ q. Answered old new [] q.root 0 (LEVELS + alike_to text_code r.bits key E)))
+      → Answered old new [] k 0 (LEVELS + alike bits (finite.keys names) key)
   taken-answered {new} {found} {w} key there root answers =
-      let done = if-some found w (λ (q : Root). Answered old new [] q.root 0 (7 + alike_to text_code r.bits key at.named.entries)) there (answers at.named.entries set-is) in
-      rw root (answered-more 0 (7 + alike bits (finite.keys names) key) done (omega arith) (omega (arith, set-alike key)))
+      let done = if-some found w (λ (q : Root). Answered old new [] q.root 0 (LEVELS + alike_to text_code r.bits key at.named.entries)) there (answers at.named.entries set-is) in
+      rw root (answered-more 0 (LEVELS + alike bits (finite.keys names) key) done (omega arith) (omega (arith, set-alike key)))
 
   module _ {new : Heap Bytes} {w : Root} {k : ℕ} (key : Bytes) (root : k ≡ w.root) where
     set-here : (E : List (Entry Bytes)) → w.bits ≡ r.bits → IsSetOf by_bytes text_code new w E → IsSetOf by_bytes text_code new (record { root = k; bits = bits }) E

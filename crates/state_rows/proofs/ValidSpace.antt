@@ -1,5 +1,5 @@
 -- Every valid pool stands for a workspace.
-use Rattle.std.proofs.Common.{◌≡◌, ℕ, zero, suc, ◌<◌, Bool, true, false, ◌&&◌, ◌||◌, not, cond, List, [], ◌∷◌, Option, Some, None, length, get_or, refl, ap, sym, subst, ◌∙◌, arith}
+use Rattle.std.proofs.Common.{◌≡◌, ℕ, zero, suc, ◌+◌, ◌<◌, Bool, true, false, ◌&&◌, ◌||◌, not, cond, List, [], ◌∷◌, Option, Some, None, length, get_or, refl, ap, sym, subst, ◌∙◌, arith}
 use Rattle.std.specs.Prelude.{nat_le, ◌==◌, is_some, option_map}
 use Rattle.std.specs.List.{All, AllZip, find, flat_map, list_all, list_any}
 use Rattle.std.specs.Ordering.{nat_cmp}
@@ -10,29 +10,29 @@ use Rattle.std.proofs.lemmas.Cmp.{nat_list_cmp_total}
 use Rattle.std.proofs.lemmas.List.Elements.{All-nil, All-cons, All-head, All-tail}
 use Rattle.std.proofs.lemmas.List.Folds.{list_all-append}
 use Rattle.elem_core.specs.Cell.{IsCell}
-use Rattle.elem_core.specs.Codes.{text_code}
 use Rattle.elem_core.specs.Naming.{IsName, is_name}
 use Rattle.elem_core.specs.declared.TheConstants.{MAX_LINE, NEWLINE}
 use Rattle.elem_core.proofs.NamingLemmas.{named_by_test}
 use Rattle.node_heap.specs.Forms.{Form, Forms, cell, node, leaf, inner, trie, chain, pair, state, value_of, links_in}
 use Rattle.rrb_core.specs.Seq.{height_in, seq_at, seq, IsWellShaped}
 use Rattle.champ_chain.specs.Entry.{Entry, IsEntry, key_of, has_key, link_with}
-use Rattle.champ_trie.specs.Trie.{IsCanon, code_by}
-use Rattle.champ_trie.proofs.CanonLemmas.{names-keys}
+use Rattle.champ_trie.specs.Trie.{IsCanonTo, code_by}
 use Rattle.champ_kinds.specs.Binding.{Binding, binding, binds, value_with}
 use Rattle.champ_kinds.specs.Kinds.{IsKeyCell, IsPair}
+use Rattle.pool_text.specs.Rules.{Rules}
 use Rattle.pool_text.specs.Pool.{forms_in, row_count}
 use Rattle.pool_text.specs.declared.pool.Pool.{Pool}
 use Rattle.pool_check.specs.Rows.{is_line_or_node, texts_are_lines}
 use Rattle.pool_check.specs.Tries.{entries_below}
 use Rattle.pool_check.specs.Kinds.{both_pass, is_vector_root, is_trie_root, is_pair_of, is_state_of, is_cell_of, elements_pass, is_vector_of, is_trie_of, is_name_cell, is_lines_vector, is_buffer_map, is_stars_set, is_state, is_versions_map, is_history, are_roots, roots_are_of_kind}
-use Rattle.pool_check.specs.Damages.{IsValid}
+use Rattle.pool_check.specs.Damages.{IsValidBy}
 use Rattle.pool_check.proofs.TestLemmas.{and-first, and-second, not-both, all-at}
 use Rattle.pool_check.proofs.PoolLaws.{vector-roots-well, trie-roots-canonical}
 use Rattle.shell_terms.specs.Edit.{Bytes}
 use Rattle.plain_space.specs.Workspace.{Named, Names, State, Workspace}
-use Rattle.state_rows.specs.Reading.{StandsIfThere, IsVectorOver, IsNamed, AreNames, IsText, AreLines, IsState, AreVersions, IsHistory}
-use Rattle.state_rows.specs.Standing.{StandFor, StandsFor}
+use Rattle.state_rows.specs.Reading.{StandsIfThere, IsVectorOver, IsText, AreLines, IsNamedBy, AreNamesBy, IsStateBy, AreVersionsBy, IsHistoryBy}
+use Rattle.state_rows.specs.Standing.{StandForBy, StandsForBy}
+use Rattle.state_rows.proofs.TrieSets.{all-named}
 
 -- What the tests of links say.
 
@@ -200,7 +200,7 @@ module _ (F : Forms Bytes) (n : ℕ) where
             by_key name true later = thing.1
             by_key name false later = later
 
-module _ (P : Pool) (valid : IsValid P) where
+module _ {rules : Rules} (P : Pool) (valid : IsValidBy rules P) where
   abbrev F : Forms Bytes
   F = forms_in P
 
@@ -210,14 +210,14 @@ module _ (P : Pool) (valid : IsValid P) where
   abbrev V : ℕ → Type 0
   V = IsWellShaped F
 
-  canon-from : (test : ℕ → Bool) (l : ℕ) → is_trie_of n F test l ≡ true → IsCanon (slice_cmp nat_cmp) (code_by text_code P.bits) F l (entries_below n F l)
+  canon-from : (test : ℕ → Bool) (l : ℕ) → is_trie_of n F test l ≡ true → IsCanonTo (slice_cmp nat_cmp) (code_by rules.code_of P.bits) rules.deepest F l (entries_below n F l)
   canon-from test l h = trie-roots-canonical P valid l (and-first (is_trie_root (F l)) (list_all (λ e. test e.link) (entries_below n F l)) h)
 
-  named-from : {X : Type 0} (test : ℕ → Bool) (Is : ℕ → X → Type 0) → ((k : ℕ) → test k ≡ true → (x : X) × Is k x) → (l : ℕ) → is_trie_of n F (λ e. is_pair_of (is_name_cell n F) test (F e)) l ≡ true → (m : Named X) × IsNamed F V P.bits Is l m
+  named-from : {X : Type 0} (test : ℕ → Bool) (Is : ℕ → X → Type 0) → ((k : ℕ) → test k ≡ true → (x : X) × Is k x) → (l : ℕ) → is_trie_of n F (λ e. is_pair_of (is_name_cell n F) test (F e)) l ≡ true → (m : Named X) × IsNamedBy rules F V P.bits Is l m
   named-from test Is each l h =
       let pairs : ℕ → Bool = λ e. is_pair_of (is_name_cell n F) test (F e) in
       let canon = canon-from pairs l h in
-      let built = build-map F n test Is each (entries_below n F l) (names-keys (slice_cmp nat_cmp) (code_by text_code P.bits) F l (entries_below n F l) canon) (and-second (is_trie_root (F l)) (list_all (λ e. pairs e.link) (entries_below n F l)) h) in (
+      let built = build-map F n test Is each (entries_below n F l) (all-named (code_by rules.code_of P.bits) F (rules.deepest + 1) 0 l (entries_below n F l) canon.trie) (and-second (is_trie_root (F l)) (list_all (λ e. pairs e.link) (entries_below n F l)) h) in (
         map.from_entries built.values,
         record {
           entries = entries_below n F l;
@@ -228,10 +228,10 @@ module _ (P : Pool) (valid : IsValid P) where
         },
       )
 
-  names-from : (l : ℕ) → is_stars_set n F l ≡ true → (names : Names) × AreNames F V P.bits l names
+  names-from : (l : ℕ) → is_stars_set n F l ≡ true → (names : Names) × AreNamesBy rules F V P.bits l names
   names-from l h =
       let canon = canon-from (is_name_cell n F) l h in
-      let built = build-set F n (entries_below n F l) (names-keys (slice_cmp nat_cmp) (code_by text_code P.bits) F l (entries_below n F l) canon) (and-second (is_trie_root (F l)) (list_all (λ e. is_name_cell n F e.link) (entries_below n F l)) h) in (
+      let built = build-set F n (entries_below n F l) (all-named (code_by rules.code_of P.bits) F (rules.deepest + 1) 0 l (entries_below n F l) canon.trie) (and-second (is_trie_root (F l)) (list_all (λ e. is_name_cell n F e.link) (entries_below n F l)) h) in (
         map.from_entries built.values,
         record {
           entries = entries_below n F l;
@@ -255,7 +255,7 @@ module _ (P : Pool) (valid : IsValid P) where
   lines-from : (l : ℕ) → is_lines_vector n F l ≡ true → (xs : List Bytes) × AreLines F V P.bits l xs
   lines-from = vector-from (λ k. is_cell_of (λ _. true) (F k)) (IsText F V P.bits) text-from
 
-  state-from : (l : ℕ) → is_state n F l ≡ true → (now : State) × IsState F V P.bits l now
+  state-from : (l : ℕ) → is_state n F l ≡ true → (now : State) × IsStateBy rules F V P.bits l now
   state-from l h =
       let passed = state-passed (is_buffer_map n F) (is_stars_set n F) (F l) h in
       let buffers = named-from (is_lines_vector n F) (AreLines F V P.bits) lines-from passed.2.first passed.2.first_passed in
@@ -266,17 +266,17 @@ module _ (P : Pool) (valid : IsValid P) where
 
   -- the roots, as one reads their tests
   four-from : (c v u r : ℕ) → (is_state n F c && is_versions_map n F v && is_history n F u && is_history n F r) ≡ true
-      → (now : State) × (kept : Named State) × (back : List State) × (forth : List State) × IsState F V P.bits c now × AreVersions F V P.bits v kept × IsHistory F V P.bits u back × IsHistory F V P.bits r forth
+      → (now : State) × (kept : Named State) × (back : List State) × (forth : List State) × IsStateBy rules F V P.bits c now × AreVersionsBy rules F V P.bits v kept × IsHistoryBy rules F V P.bits u back × IsHistoryBy rules F V P.bits r forth
   four-from c v u r h =
       let first : (is_state n F c && is_versions_map n F v && is_history n F u) ≡ true = and-first (is_state n F c && is_versions_map n F v && is_history n F u) (is_history n F r) h in
       let second : (is_state n F c && is_versions_map n F v) ≡ true = and-first (is_state n F c && is_versions_map n F v) (is_history n F u) first in
       let now = state-from c (and-first (is_state n F c) (is_versions_map n F v) second) in
-      let kept = named-from (is_state n F) (IsState F V P.bits) state-from v (and-second (is_state n F c) (is_versions_map n F v) second) in
-      let back = vector-from (is_state n F) (IsState F V P.bits) state-from u (and-second (is_state n F c && is_versions_map n F v) (is_history n F u) first) in
-      let forth = vector-from (is_state n F) (IsState F V P.bits) state-from r (and-second (is_state n F c && is_versions_map n F v && is_history n F u) (is_history n F r) h) in
+      let kept = named-from (is_state n F) (IsStateBy rules F V P.bits) state-from v (and-second (is_state n F c) (is_versions_map n F v) second) in
+      let back = vector-from (is_state n F) (IsStateBy rules F V P.bits) state-from u (and-second (is_state n F c && is_versions_map n F v) (is_history n F u) first) in
+      let forth = vector-from (is_state n F) (IsStateBy rules F V P.bits) state-from r (and-second (is_state n F c && is_versions_map n F v && is_history n F u) (is_history n F r) h) in
       (now.0, kept.0, back.0, forth.0, now.1, kept.1, back.1, forth.1)
 
-  roots-from : (roots : List ℕ) → are_roots n F roots ≡ true → (W : Workspace) × StandFor F V P.bits roots W
+  roots-from : (roots : List ℕ) → are_roots n F roots ≡ true → (W : Workspace) × StandForBy rules F V P.bits roots W
   unfolding are_roots
   roots-from [] h = absurd (not-both h)
   roots-from (c ∷ []) h = absurd (not-both h)
@@ -291,6 +291,6 @@ module _ (P : Pool) (valid : IsValid P) where
       (record { current = four.0; versions = four.1; undo = four.2; redo = four.3; base = Some start.0 }, (four.4, four.5, four.6, four.7, start.1))
   roots-from (c ∷ v ∷ u ∷ r ∷ b ∷ a ∷ rs) h = absurd (not-both h)
 
-  pub valid-stands : (W : Workspace) × StandsFor P W
+  pub valid-stands : (W : Workspace) × StandsForBy rules P W
   unfolding roots_are_of_kind
   valid-stands = roots-from P.roots valid.kinds

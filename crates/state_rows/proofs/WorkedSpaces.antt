@@ -230,19 +230,19 @@ pub chained-stands : StandsFor chained (space_of two_buffers)
 unfolding entries_below rows_from rank seq_at
 chained-stands = (
   record {
-    buffers = 14;
-    stars = 15;
+    buffers = 20;
+    stars = 21;
     row = refl;
     buffers_are =
-        named-of chained chained-valid _ 14 (entry A_key 2 ∷ entry a_key 5 ∷ []) (binding A_key 1 ∷ binding a_key 4 ∷ []) ((A_key, []) ∷ (a_key, []) ∷ []) two_buffers.buffers refl refl
+        named-of chained chained-valid _ 20 (entry A_key 2 ∷ entry a_key 5 ∷ []) (binding A_key 1 ∷ binding a_key 4 ∷ []) ((A_key, []) ∷ (a_key, []) ∷ []) two_buffers.buffers refl refl
         (All-cons (λ e. IsName e.key) (entry A_key 2) (entry a_key 5 ∷ []) A-name (All-cons (λ e. IsName e.key) (entry a_key 5) [] a-name (All-nil (λ e. IsName e.key))))
         (record { key_cell = 0; cell = refl; row = refl; key = refl }, (record { key_cell = 3; cell = refl; row = refl; key = refl }, tt))
         ((refl, vector-of chained chained-valid _ 1 [] [] refl refl tt), ((refl, vector-of chained chained-valid _ 4 [] [] refl refl tt), tt))
         (λ name. get-two a_key A_key [] [] name ∙ either-first (eq_by_cmp (slice_cmp nat_cmp) name a_key) (eq_by_cmp (slice_cmp nat_cmp) name A_key) []);
-    stars_are = no-names chained chained-valid 15 refl refl;
+    stars_are = no-names chained chained-valid 21 refl refl;
   },
-  nothing-named chained chained-valid _ 17 refl refl,
-  vector-of chained chained-valid _ 18 [] [] refl refl tt,
-  vector-of chained chained-valid _ 19 [] [] refl refl tt,
+  nothing-named chained chained-valid _ 23 refl refl,
+  vector-of chained chained-valid _ 24 [] [] refl refl tt,
+  vector-of chained chained-valid _ 25 [] [] refl refl tt,
   tt,
 )

@@ -5,11 +5,12 @@ use Rattle.node_heap.specs.Heap.{Heap, IsGraph}
 use Rattle.pool_text.specs.Pool.{settings_by, pool_at}
 use Rattle.pool_text.specs.Renaming.{AreLive}
 use Rattle.pool_text.specs.declared.pool.Pool.{Pool}
-use Rattle.pool_check.specs.Damages.{IsValid}
+use Rattle.pool_text.specs.Rules.{Rules}
+use Rattle.pool_check.specs.Damages.{IsValid, IsValidBy}
 use Rattle.rrb_core.specs.Vector.{HaveSums}
 use Rattle.shell_terms.specs.Edit.{Bytes}
 use Rattle.plain_space.specs.Workspace.{Workspace}
-use Rattle.state_rows.specs.Standing.{StandsFor, HeapStandsFor}
+use Rattle.state_rows.specs.Standing.{StandsForBy, StandsFor, HeapStandsFor}
 
 -- roots of a heap that stand for a workspace have a valid pool, which stands for it too
 abbrev pub PoolsStand : Type 0
@@ -23,10 +24,10 @@ RootsStand =
     (h : Heap Bytes) (bits : ℕ) (roots : List ℕ) (W : Workspace) → IsGraph h → AreLive Bytes h roots → HaveSums h roots → StandsFor (pool_at (λ text. text) h roots (settings_by bits)) W
     → HeapStandsFor h bits roots W
 
--- a pool stands for one workspace
+-- by whatever rules, a pool stands for one workspace
 abbrev pub OneWorkspace : Type 0
-OneWorkspace = (P : Pool) (V W : Workspace) → StandsFor P V → StandsFor P W → V ≡ W
+OneWorkspace = (rules : Rules) (P : Pool) (V W : Workspace) → StandsForBy rules P V → StandsForBy rules P W → V ≡ W
 
--- every valid pool stands for a workspace
+-- and every pool that is valid by them stands for a workspace
 abbrev pub ValidPoolsStand : Type 0
-ValidPoolsStand = (P : Pool) → IsValid P → (W : Workspace) × StandsFor P W
+ValidPoolsStand = (rules : Rules) (P : Pool) → IsValidBy rules P → (W : Workspace) × StandsForBy rules P W

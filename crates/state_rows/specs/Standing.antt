@@ -4,11 +4,12 @@ use Rattle.node_heap.specs.Forms.{Forms}
 use Rattle.node_heap.specs.Heap.{Heap, form_at}
 use Rattle.rrb_core.specs.Seq.{IsWellShaped}
 use Rattle.rrb_core.specs.Vector.{IsGoodVector}
+use Rattle.pool_text.specs.Rules.{Rules, present_rules}
 use Rattle.pool_text.specs.Pool.{forms_in}
 use Rattle.pool_text.specs.declared.pool.Pool.{Pool}
 use Rattle.shell_terms.specs.Edit.{Bytes}
 use Rattle.plain_space.specs.Workspace.{State, Workspace}
-use Rattle.state_rows.specs.Reading.{IsState, AreVersions, IsHistory}
+use Rattle.state_rows.specs.Reading.{IsStateBy, AreVersionsBy, IsHistoryBy}
 
 -- a base state is there in a batch alone, as the fifth root
 abbrev pub IsBase : (ℕ → State → Type 0) → List ℕ → Option State → Type 0
@@ -16,16 +17,24 @@ IsBase IsIt [] None = Unit {0}
 IsBase IsIt (l ∷ []) (Some now) = IsIt l now
 IsBase IsIt _ _ = ⊥
 
--- the roots are the current state, the versions, undo and redo, and in a batch its base
-abbrev pub StandFor : Forms Bytes → (ℕ → Type 0) → ℕ → List ℕ → Workspace → Type 0
-StandFor F IsVector bits (c ∷ v ∷ u ∷ r ∷ base) W =
-    IsState F IsVector bits c W.current × AreVersions F IsVector bits v W.versions × IsHistory F IsVector bits u W.undo
-    × IsHistory F IsVector bits r W.redo × IsBase (IsState F IsVector bits) base W.base
-StandFor F IsVector bits _ W = ⊥
+-- the roots are the current state, the versions, undo and redo, and in a batch its base, by these rules
+abbrev pub StandForBy : Rules → Forms Bytes → (ℕ → Type 0) → ℕ → List ℕ → Workspace → Type 0
+StandForBy rules F IsVector bits (c ∷ v ∷ u ∷ r ∷ base) W =
+    IsStateBy rules F IsVector bits c W.current × AreVersionsBy rules F IsVector bits v W.versions × IsHistoryBy rules F IsVector bits u W.undo
+    × IsHistoryBy rules F IsVector bits r W.redo × IsBase (IsStateBy rules F IsVector bits) base W.base
+StandForBy rules F IsVector bits _ W = ⊥
 
--- the pool stands for the workspace
+-- the same by the rules by which pools are made
+abbrev pub StandFor : Forms Bytes → (ℕ → Type 0) → ℕ → List ℕ → Workspace → Type 0
+StandFor = StandForBy present_rules
+
+-- the pool stands for the workspace by these rules
+abbrev pub StandsForBy : Rules → Pool → Workspace → Type 0
+StandsForBy rules P W = StandForBy rules (forms_in P) (IsWellShaped (forms_in P)) P.bits P.roots W
+
+-- the pool stands for the workspace by the rules by which pools are made
 abbrev pub StandsFor : Pool → Workspace → Type 0
-StandsFor P W = StandFor (forms_in P) (IsWellShaped (forms_in P)) P.bits P.roots W
+StandsFor P W = StandsForBy present_rules P W
 
 -- the roots of a heap stand for the workspace
 abbrev pub HeapStandsFor : Heap Bytes → ℕ → List ℕ → Workspace → Type 0

@@ -4,4 +4,4 @@ use Rattle.elem_core.proofs.codes.masked.Goals as goal
 
 pub returns-else-bits-eq-CODE_BITS-clause-kept : goal.returns-else-bits-eq-CODE_BITS-clause-kept
 returns-else-bits-eq-CODE_BITS-clause-kept c =
-    rw (one_shl c.args.bits 32 (omega arith), and_mask c.args.code c.args.bits) refl
+    rw (one_shl c.args.bits 64 (omega arith), and_mask c.args.code c.args.bits) refl

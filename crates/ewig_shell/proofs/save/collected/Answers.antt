@@ -1,4 +1,4 @@
-use Rattle.std.proofs.Common.{◌≡◌, ℕ, List, [], ◌∷◌, ◌++◌, ap, sym, ◌∙◌, rules, arith, append_assoc, length, length-append}
+use Rattle.std.proofs.Common.{◌≡◌, ℕ, List, [], ◌∷◌, ◌++◌, ap, sym, ◌∙◌, rules, append_assoc}
 use Rattle.elem_core.specs.declared.TheConstants.{NEWLINE}
 use Rattle.ewig_shell.specs.Step.{ended_lines}
 use Rattle.ewig_shell.proofs.LinesLemmas.{next_of}

@@ -1,5 +1,5 @@
 use Rattle.std.proofs.Common.{refl}
-use Rattle.elem_core.specs.Codes.{text_code}
+use Rattle.elem_core.specs.Codes.{text_code, old_text_code}
 use Rattle.elem_core.specs.Naming.{is_name}
 use Rattle.champ_trie.specs.Walk.{rows_from}
 use Rattle.champ_trie.specs.Bits.{rank}
@@ -13,7 +13,7 @@ use Rattle.pool_check.proofs.History.{overfull_history-damaged}
 use Rattle.pool_check.proofs.laws.damaged_pools.Goals as goal
 
 pub returns : goal.returns
-unfolding places order rows_in_range_by links_lead_back texts_are_lines is_thick length_at are_children vectors_stand entries_below are_branches tries_stand_by elements_pass are_roots roots_are_of_kind rows_in_order open_damage damage_by text_code is_name rows_from rank
+unfolding places order rows_in_range_by links_lead_back texts_are_lines is_thick length_at are_children vectors_stand entries_below are_branches tries_stand_by elements_pass are_roots roots_are_of_kind rows_in_order open_damage damage_by text_code old_text_code is_name rows_from rank
 returns c = record {
   is_tall_row = refl;
   is_long_pair = refl;
@@ -30,6 +30,10 @@ returns c = record {
   is_loose_row = refl;
   is_turned_roots = refl;
   is_turned_lines = refl;
+  is_old_sub_node = refl;
+  is_old_chained = refl;
+  is_later_sub_node = refl;
+  is_later_chained = refl;
   is_open_loose_row = refl;
   is_open_turned_roots = refl;
 }

@@ -142,7 +142,12 @@ returns g c =
       loaded =
           subst (λ (ks : List ℕ). AreLoaded g.T.Stored.bytes_of new ks P) (sym chosen)
           (are-loaded g.T.Stored.bytes_of new P is.valid links (rows-loaded is up)
-          (record { bits = omega (arith, c.pool-pool.ensures.bits, ap (λ (Q : Pool). Q.bits) c.pool-pool.ensures.same); roots = four; valid = is.valid }));
+          (record {
+            version = omega (arith, c.pool-pool.ensures.version, ap (λ (Q : Pool). Q.version) c.pool-pool.ensures.same);
+            bits = omega (arith, c.pool-pool.ensures.bits, ap (λ (Q : Pool). Q.bits) c.pool-pool.ensures.same);
+            roots = four;
+            valid = is.valid;
+          }));
       roots = ap length chosen ∙ length-map P.roots (slice_index links) ∙ four;
       spares =
           need-kept is up c.in_ok-reserve.ensures.greater c.reserve.ensures.rest (c.count_cells-cells.ensures ∙ was.cells)

@@ -23,4 +23,13 @@ returns c = record {
   later_version = refl;
   unknown_letter = refl;
   no_damage = refl;
+  fewer_bits = refl;
+  deepest_row = refl;
+  old = refl;
+  old_pool = refl;
+  old_by_few_bits = refl;
+  old_by_more_bits = refl;
+  old_by_all_bits = refl;
+  too_deep = refl;
+  old_written = refl;
 }

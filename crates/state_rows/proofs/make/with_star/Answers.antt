@@ -1,5 +1,6 @@
 use Rattle.std.proofs.Common.{◌≡◌, ℕ, ◌+◌, [], Option, Some, None, refl, ap, sym, subst, ◌∙◌, arith}
 use Rattle.std.specs.FinMap as map
+use Rattle.champ_trie.specs.declared.TheConstants.{ADD_NODES}
 use Rattle.node_heap.specs.Heap.{form_at}
 use Rattle.node_heap.specs.Calls.{Answered}
 use Rattle.rrb_core.specs.Vector.{IsGoodVector}
@@ -25,11 +26,11 @@ set_insert-requires-clause-contents c =
 pub unreachable-requires : goal.unreachable-requires
 unreachable-requires c =
     let at = stars-at c.requires.bits c.stars_of-stars.ensures.bits c.stars_of-stars.ensures.root c.requires.state.0 c.requires.state.1 in
-    let done = set-ample at c.args.key 8 c.in_default.ensures.ample c.requires.state.2 (omega arith) in
+    let done = set-ample at c.args.key ADD_NODES c.in_default.ensures.ample c.requires.state.2 (omega arith) in
     cc
 
 -- the call that makes the stars has answered
-answered : (c : After-into_root) (s : State) → IsStateIn c.args.heap.now c.args.bits c.args.state s → Answered c.args.heap.now c.set_insert.new.heap [] c.into_root.result 1 (8 + alike_stars c.args.bits s c.args.key)
+answered : (c : After-into_root) (s : State) → IsStateIn c.args.heap.now c.args.bits c.args.state s → Answered c.args.heap.now c.set_insert.new.heap [] c.into_root.result 1 (ADD_NODES + alike_stars c.args.bits s c.args.key)
 answered c s is =
     let at = stars-at c.requires.bits c.stars_of-stars.ensures.bits c.stars_of-stars.ensures.root s is in
     added-answered at c.args.key c.into_root.ensures c.in-Ok.ensures.answered
@@ -51,7 +52,7 @@ returns-clause-made c =
 pub returns-clause-spares : goal.returns-clause-spares
 returns-clause-spares c =
     let at = stars-at c.requires.bits c.stars_of-stars.ensures.bits c.stars_of-stars.ensures.root c.requires.state.0 c.requires.state.1 in
-    room-then (set-ample at c.args.key 8 (λ E is spares. room-spared spares (c.in-Ok.ensures.spares E is)) c.requires.state.2 (omega arith)) (room-made c.over_buffers.ensures.makes)
+    room-then (set-ample at c.args.key ADD_NODES (λ E is spares. room-spared spares (c.in-Ok.ensures.spares E is)) c.requires.state.2 (omega arith)) (room-made c.over_buffers.ensures.makes)
 
 pub returns-clause-state : goal.returns-clause-state
 returns-clause-state c = λ s is.

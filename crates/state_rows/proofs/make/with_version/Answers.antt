@@ -1,4 +1,5 @@
 use Rattle.std.proofs.Common.{ℕ, refl, arith}
+use Rattle.champ_kinds.specs.declared.map.TheConstants.{INSERT_NODES}
 use Rattle.plain_space.specs.Workspace.{State}
 use Rattle.state_rows.specs.InHeap.{IsStateIn}
 use Rattle.state_rows.proofs.Staying.{grown}
@@ -9,7 +10,7 @@ use Rattle.state_rows.proofs.make.with_version.Goals as goal
 pub unreachable-requires : goal.unreachable-requires
 unreachable-requires c =
     let at = versions-at c.requires.bits c.requires.versions.1 in
-    let done = map-ample at c.args.key 9 c.in_default.ensures.ample c.requires.versions.2 (omega arith) in
+    let done = map-ample at c.args.key INSERT_NODES c.in_default.ensures.ample c.requires.versions.2 (omega arith) in
     cc
 
 pub returns-clause-answered : goal.returns-clause-answered
@@ -18,7 +19,7 @@ returns-clause-answered c = λ m is. inserted-answered (versions-at c.requires.b
 pub returns-clause-spares : goal.returns-clause-spares
 returns-clause-spares c =
     let at = versions-at c.requires.bits c.requires.versions.1 in
-    map-ample at c.args.key 9 (λ M is spares. room-spared spares (c.in-Ok.ensures.spares M is)) c.requires.versions.2 (omega arith)
+    map-ample at c.args.key INSERT_NODES (λ M is spares. room-spared spares (c.in-Ok.ensures.spares M is)) c.requires.versions.2 (omega arith)
 
 pub returns-clause-versions : goal.returns-clause-versions
 returns-clause-versions c = λ m s is state.

@@ -1,4 +1,5 @@
 use Rattle.std.proofs.Common.{◌+◌, [], Ok, ap, ◌∙◌, arith}
+use Rattle.elem_core.specs.declared.codes.TheConstants.{LEVELS}
 use Rattle.elem_core.specs.Shown.{name_bytes}
 use Rattle.node_heap.specs.Calls.{Answered}
 use Rattle.plain_space.specs.Workspace.{State, without_star}
@@ -19,7 +20,7 @@ set_remove-requires-clause-contents c =
 pub unreachable-requires : goal.unreachable-requires
 unreachable-requires c =
     let at = stars-at c.requires.bits c.stars_of-stars.ensures.bits c.stars_of-stars.ensures.root c.requires.state.0 c.requires.state.1 in
-    let done = set-ample at (name_bytes c.args.name) 7 c.in_default.ensures.ample c.requires.state.3 (omega arith) in
+    let done = set-ample at (name_bytes c.args.name) LEVELS c.in_default.ensures.ample c.requires.state.3 (omega arith) in
     cc
 
 pub unreachable-requires-in_default-found : goal.unreachable-requires-in_default-found
@@ -28,7 +29,7 @@ unreachable-requires-in_default-found c =
     set-found at (name_bytes c.args.name) c.in-Ok.ensures.absent c.requires.state.2 (ap Ok c.in_default-found.is)
 
 -- the call that makes the stars has answered
-answered : (c : After-into_root) (s : State) → IsStateIn c.args.heap.now c.args.bits c.args.state s → Answered c.args.heap.now c.set_remove.new.heap [] c.into_root.result 0 (7 + alike_stars c.args.bits s (name_bytes c.args.name))
+answered : (c : After-into_root) (s : State) → IsStateIn c.args.heap.now c.args.bits c.args.state s → Answered c.args.heap.now c.set_remove.new.heap [] c.into_root.result 0 (LEVELS + alike_stars c.args.bits s (name_bytes c.args.name))
 answered c s is =
     let at = stars-at c.requires.bits c.stars_of-stars.ensures.bits c.stars_of-stars.ensures.root s is in
     taken-answered at (name_bytes c.args.name) c.in-Some.is c.into_root.ensures c.in-Ok.ensures.answered
@@ -50,7 +51,7 @@ returns-clause-made c =
 pub returns-clause-spares : goal.returns-clause-spares
 returns-clause-spares c =
     let at = stars-at c.requires.bits c.stars_of-stars.ensures.bits c.stars_of-stars.ensures.root c.requires.state.0 c.requires.state.1 in
-    room-then (set-ample at (name_bytes c.args.name) 7 (λ E is spares. room-spared spares (c.in-Ok.ensures.spares E is)) c.requires.state.3 (omega arith)) (room-made c.over_buffers.ensures.makes)
+    room-then (set-ample at (name_bytes c.args.name) LEVELS (λ E is spares. room-spared spares (c.in-Ok.ensures.spares E is)) c.requires.state.3 (omega arith)) (room-made c.over_buffers.ensures.makes)
 
 pub returns-clause-state : goal.returns-clause-state
 returns-clause-state c = λ s is.

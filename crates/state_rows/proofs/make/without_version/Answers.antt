@@ -1,4 +1,5 @@
 use Rattle.std.proofs.Common.{ℕ, refl, arith}
+use Rattle.elem_core.specs.declared.codes.TheConstants.{LEVELS}
 use Rattle.elem_core.specs.Shown.{name_bytes}
 use Rattle.plain_space.specs.Workspace.{State}
 use Rattle.state_rows.specs.InHeap.{IsStateIn}
@@ -10,7 +11,7 @@ use Rattle.state_rows.proofs.make.without_version.Goals as goal
 pub unreachable-requires : goal.unreachable-requires
 unreachable-requires c =
     let at = versions-at c.requires.bits c.requires.versions.1 in
-    let done = map-ample at (name_bytes c.args.name) 7 c.in_default.ensures.ample c.requires.versions.3 (omega arith) in
+    let done = map-ample at (name_bytes c.args.name) LEVELS c.in_default.ensures.ample c.requires.versions.3 (omega arith) in
     cc
 
 pub returns-clause-answered : goal.returns-clause-answered
@@ -19,7 +20,7 @@ returns-clause-answered c = λ m is. removed-answered (versions-at c.requires.bi
 pub returns-clause-spares : goal.returns-clause-spares
 returns-clause-spares c =
     let at = versions-at c.requires.bits c.requires.versions.1 in
-    map-ample at (name_bytes c.args.name) 7 (λ M is spares. room-spared spares (c.in-Ok.ensures.spares M is)) c.requires.versions.3 (omega arith)
+    map-ample at (name_bytes c.args.name) LEVELS (λ M is spares. room-spared spares (c.in-Ok.ensures.spares M is)) c.requires.versions.3 (omega arith)
 
 pub returns-clause-versions : goal.returns-clause-versions
 returns-clause-versions c = λ m is.

@@ -1,4 +1,5 @@
 use Rattle.std.proofs.Common.{◌+◌, ◌≡◌, [], ◌∙◌, refl, arith}
+use Rattle.space_state.specs.declared.turning.TheConstants.{EDIT_NODES}
 use Rattle.elem_core.specs.Shown.{name_bytes}
 use Rattle.node_heap.proofs.BuildLemmas.{Answered-Builds}
 use Rattle.shell_terms.specs.Edit.{copy}
@@ -68,4 +69,4 @@ returns-clause-ends c = λ W K.
 
 pub returns-clause-spares : goal.returns-clause-spares
 returns-clause-spares c = λ W K.
-    room-more 2 (99 + alike_buffers c.args.self.now.bits W.current (name_bytes c.args.other)) (omega arith) (omega (arith, c.find-target.ensures.alike W K)) (room-then (room-then c.in_ok-key.ensures.spares (room-made c.share-lines.ensures.shares.builds.makes)) c.write_lines.ensures.spares)
+    room-more 2 (EDIT_NODES + alike_buffers c.args.self.now.bits W.current (name_bytes c.args.other)) (omega arith) (omega (arith, c.find-target.ensures.alike W K)) (room-then (room-then c.in_ok-key.ensures.spares (room-made c.share-lines.ensures.shares.builds.makes)) c.write_lines.ensures.spares)

@@ -132,4 +132,4 @@ returns-clause-spares c = λ W K.
     let room = room path W K in
     let rest = room-then c.in_ok-key.ensures.spares (room-spared (omega arith, omega (arith, room.spares.1)) c.in-Ok.ensures.spares) in
     let part = room-then rest (room-spared (omega arith, omega (arith, room.spares.1, a.nodes, a.balance.spare_nodes, lines.now.vector.shape.low)) c.in-Ok-slice.ensures.spares) in
-    room-more 2 (99 + (alike_buffers c.args.self.now.bits W.current (name_bytes c.args.name) + alike_buffers c.args.self.now.bits W.current (name_bytes c.args.other))) (omega arith) (omega (arith, c.find-found.ensures.alike W K, c.find-target.ensures.alike W K)) (room-then part c.write_both.ensures.spares)
+    room-more 2 (EDIT_NODES + (alike_buffers c.args.self.now.bits W.current (name_bytes c.args.name) + alike_buffers c.args.self.now.bits W.current (name_bytes c.args.other))) (omega arith) (omega (arith, c.find-found.ensures.alike W K, c.find-target.ensures.alike W K)) (room-then part c.write_both.ensures.spares)

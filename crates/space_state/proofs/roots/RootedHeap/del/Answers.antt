@@ -1,4 +1,5 @@
 use Rattle.std.proofs.Common.{◌+◌, ◌≡◌, List, [], Some, refl, arith}
+use Rattle.space_state.specs.declared.turning.TheConstants.{EDIT_NODES}
 use Rattle.elem_core.specs.Shown.{name_bytes}
 use Rattle.shell_terms.specs.Edit.{Bytes, del}
 use Rattle.plain_space.specs.Workspace.{Workspace, lines_of}
@@ -85,4 +86,4 @@ returns-clause-ends c = λ W K.
 pub returns-clause-spares : goal.returns-clause-spares
 returns-clause-spares c = λ W K.
     let made = room-then c.in_ok-make_room_with.ensures.spares (room-spared (omega arith, omega (arith, (c.in_ok-make_room_with.ensures.room W K).spares.1)) c.in-Ok.ensures.spares) in
-    room-more 2 (99 + alike_buffers c.args.self.now.bits W.current (name_bytes c.args.name)) (omega arith) (omega (arith, c.find-found.ensures.alike W K)) (room-then made c.write_lines.ensures.spares)
+    room-more 2 (EDIT_NODES + alike_buffers c.args.self.now.bits W.current (name_bytes c.args.name)) (omega arith) (omega (arith, c.find-found.ensures.alike W K)) (room-then made c.write_lines.ensures.spares)

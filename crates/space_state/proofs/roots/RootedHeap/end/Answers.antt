@@ -1,4 +1,4 @@
-use Rattle.std.proofs.Common.{[], refl, sym, ◌∙◌, arith}
+use Rattle.std.proofs.Common.{[], refl, arith}
 use Rattle.shell_terms.specs.Command.{«end»}
 use Rattle.plain_space.specs.Cost.{cost}
 use Rattle.space_state.proofs.Keeping.{heap-is, same-heap, keeps-same, keeps-closed, undo-stands, count-told, batch-open, batch-closed, rises-same, turns-after}

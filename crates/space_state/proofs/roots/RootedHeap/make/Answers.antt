@@ -1,4 +1,6 @@
 use Rattle.std.proofs.Common.{◌+◌, ◌≡◌, [], None, refl, sym, ◌∙◌, arith}
+use Rattle.space_state.specs.declared.turning.TheConstants.{TURN_NODES}
+use Rattle.space_state.specs.declared.in_place.TheConstants.{IN_PLACE_NODES}
 use Rattle.elem_core.specs.Shown.{name_bytes}
 use Rattle.node_heap.proofs.GraphLemmas.{IsGraph-kinds}
 use Rattle.shell_terms.specs.Edit.{new}
@@ -88,4 +90,4 @@ pub returns-clause-spares : goal.returns-clause-spares
 returns-clause-spares c = λ W K.
     let spares = (c.in_ok-key.ensures.ready W K).spares in
     let lines = room-then c.in_ok-key.ensures.spares (room-spared (omega arith, omega (arith, spares.1)) c.in-Ok.ensures.spares) in
-    room-more 1 (29 + alike_buffers c.args.self.now.bits W.current (name_bytes c.args.name)) (omega arith) (omega (arith, c.find-found.ensures.alike W K)) (room-then lines c.buffer_made-state.ensures.spares)
+    room-more 1 (IN_PLACE_NODES + TURN_NODES + alike_buffers c.args.self.now.bits W.current (name_bytes c.args.name)) (omega arith) (omega (arith, c.find-found.ensures.alike W K)) (room-then lines c.buffer_made-state.ensures.spares)

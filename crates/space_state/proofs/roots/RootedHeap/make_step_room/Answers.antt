@@ -1,6 +1,6 @@
 use Rattle.std.proofs.Common.{◌≡◌, ◌-◌, ◌<◌, [], List, length, false, refl, sym, ◌∙◌, arith}
 use Rattle.std.proofs.lemmas.Option.{slice_get_past}
-use Rattle.plain_space.specs.Workspace.{State, Workspace, in_batch}
+use Rattle.plain_space.specs.Workspace.{State, in_batch}
 use Rattle.state_rows.specs.InHeap.{IsHistoryIn}
 use Rattle.space_state.proofs.Keeping.{heap-is, same-heap, count-told}
 use Rattle.space_state.proofs.Steps.{step-refused, step-empty, step-limited, step-done, has-some, has-none, has-below, last-at, step-lacks-memory}

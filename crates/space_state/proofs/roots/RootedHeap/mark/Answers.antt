@@ -2,6 +2,7 @@ use Rattle.std.proofs.Common.{◌≡◌, ◌+◌, [], ◌∷◌, false, refl, sy
 use Rattle.elem_core.specs.Shown.{name_bytes}
 use Rattle.shell_terms.specs.Command.{mark}
 use Rattle.std.specs.FinMap as map
+use Rattle.champ_kinds.specs.declared.map.TheConstants.{INSERT_NODES}
 use Rattle.plain_space.specs.Workspace.{Workspace, in_batch}
 use Rattle.plain_space.specs.Cost.{cost, alike, alike_versions}
 use Rattle.state_rows.specs.InHeap.{IsStateIn, AreVersionsIn}
@@ -64,7 +65,7 @@ with_version-map-requires-clause-versions c =
     let W = c.requires.0 in
     let K = c.requires.1 in
     let path = goal.at.with_version-map-requires-clause-versions c in
-    let spares = spares-kept _ _ 1 9 _ _ (c.in_ok-make_version_room.ensures.room W K) c.hold.ensures.makes (omega arith) (omega arith) (alike-key path.After-versions-versions W) in
+    let spares = spares-kept _ _ 1 INSERT_NODES _ _ (c.in_ok-make_version_room.ensures.room W K) c.hold.ensures.makes (omega arith) (omega arith) (alike-key path.After-versions-versions W) in
     (W.versions, rw c.versions-versions.ensures (versions-stand (held path.After-hold W K)), spares)
 
 pub turn_versions-requires : goal.turn_versions-requires

@@ -1,4 +1,5 @@
 use Rattle.std.proofs.Common.{◌+◌, ◌≡◌, List, [], Some, refl, arith}
+use Rattle.space_state.specs.declared.turning.TheConstants.{EDIT_NODES}
 use Rattle.elem_core.specs.Shown.{name_bytes, line_bytes}
 use Rattle.shell_terms.specs.Edit.{Bytes, put}
 use Rattle.plain_space.specs.Workspace.{Workspace, lines_of}
@@ -88,4 +89,4 @@ returns-clause-spares c = λ W K.
     let has = there (goal.at.returns-clause-spares c).After-cell-line W K in
     let text = room-then c.in_ok-text.ensures.spares (room-made c.cell-line.ensures.makes) in
     let longer = room-then text (room-spared (omega arith, omega (arith, has.nodes)) c.in-Ok.ensures.spares) in
-    room-more 2 (99 + alike_buffers c.args.self.now.bits W.current (name_bytes c.args.name)) (omega arith) (omega (arith, c.find-found.ensures.alike W K)) (room-then longer c.write_lines.ensures.spares)
+    room-more 2 (EDIT_NODES + alike_buffers c.args.self.now.bits W.current (name_bytes c.args.name)) (omega arith) (omega (arith, c.find-found.ensures.alike W K)) (room-then longer c.write_lines.ensures.spares)

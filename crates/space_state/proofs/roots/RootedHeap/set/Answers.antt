@@ -1,4 +1,6 @@
 use Rattle.std.proofs.Common.{◌+◌, ◌≡◌, ◌<◌, ◌≤◌, List, [], length, Some, refl, arith}
+use Rattle.space_state.specs.declared.turning.TheConstants.{TURN_NODES}
+use Rattle.space_state.specs.declared.in_place.TheConstants.{IN_PLACE_NODES}
 use Rattle.elem_core.specs.Shown.{name_bytes, line_bytes}
 use Rattle.rrb_core.specs.Vector.{elements}
 use Rattle.shell_terms.specs.Edit.{Bytes, set}
@@ -96,4 +98,4 @@ returns-clause-ends c = λ W K.
 pub returns-clause-spares : goal.returns-clause-spares
 returns-clause-spares c = λ W K.
     let line = room-then c.in_ok-text.ensures.spares (room-made c.cell-line.ensures.makes) in
-    room-more 1 (29 + alike_buffers c.args.self.now.bits W.current (name_bytes c.args.name)) (omega arith) (omega (arith, c.find-found.ensures.alike W K)) (room-then line c.line_set-state.ensures.spares)
+    room-more 1 (IN_PLACE_NODES + TURN_NODES + alike_buffers c.args.self.now.bits W.current (name_bytes c.args.name)) (omega arith) (omega (arith, c.find-found.ensures.alike W K)) (room-then line c.line_set-state.ensures.spares)

@@ -1,4 +1,5 @@
 use Rattle.std.proofs.Common.{◌≡◌, ◌+◌, [], false, refl, sym, ◌∙◌, arith}
+use Rattle.champ_trie.specs.declared.TheConstants.{ADD_NODES}
 use Rattle.elem_core.specs.Shown.{name_bytes}
 use Rattle.shell_terms.specs.Edit.{star}
 use Rattle.plain_space.specs.Workspace.{Workspace, is_starred, with_current, with_star}
@@ -41,14 +42,14 @@ next : (c : After-with_star-next) (W : Workspace) → Keeps c.args.self.now [] W
 next c W K =
     let room = c.in_ok-make_star_room.ensures.room W K in
     let now = current-stands (keeps-same room.same K) in
-    has-next 9 _ _ K room (c.with_star-next.ensures.answered W.current now) (c.with_star-next.ensures.state W.current now) (omega arith) (alike (goal.at.After-with_star-next c).In_ok-make_star_room W K)
+    has-next (ADD_NODES + 1) _ _ K room (c.with_star-next.ensures.answered W.current now) (c.with_star-next.ensures.state W.current now) (omega arith) (alike (goal.at.After-with_star-next c).In_ok-make_star_room W K)
 
 pub with_star-next-requires-clause-state : goal.with_star-next-requires-clause-state
 with_star-next-requires-clause-state c =
     let W = c.requires.0 in
     let K = c.requires.1 in
     let room = c.in_ok-make_star_room.ensures.room W K in
-    (W.current, current-stands (keeps-same (c.in_ok-make_star_room.ensures.room W K).same K), spares-suffice c.make_star_room.new.self.heap 1 9 _ _ room.spares (omega arith) (omega arith) (alike (goal.at.with_star-next-requires-clause-state c).In_ok-make_star_room W K))
+    (W.current, current-stands (keeps-same (c.in_ok-make_star_room.ensures.room W K).same K), spares-suffice c.make_star_room.new.self.heap 1 (ADD_NODES + 1) _ _ room.spares (omega arith) (omega arith) (alike (goal.at.with_star-next-requires-clause-state c).In_ok-make_star_room W K))
 
 pub turn_to-requires-clause-spares : goal.turn_to-requires-clause-spares
 turn_to-requires-clause-spares c = (next (goal.at.turn_to-requires-clause-spares c).After-with_star-next c.requires.0 c.requires.1).spares

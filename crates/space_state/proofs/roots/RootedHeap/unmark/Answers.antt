@@ -2,6 +2,7 @@ use Rattle.std.proofs.Common.{◌≡◌, ◌+◌, [], false, not, ap, refl, sym,
 use Rattle.elem_core.specs.Shown.{name_bytes}
 use Rattle.shell_terms.specs.Command.{unmark}
 use Rattle.std.specs.FinMap as map
+use Rattle.elem_core.specs.declared.codes.TheConstants.{LEVELS}
 use Rattle.plain_space.specs.Workspace.{in_batch}
 use Rattle.plain_space.specs.Cost.{cost, alike, alike_versions}
 use Rattle.state_rows.specs.InHeap.{IsStateIn, AreVersionsIn}
@@ -35,7 +36,7 @@ without_version-map-requires-clause-versions c =
       W.versions,
       rw c.versions-versions.ensures (versions-stand (keeps-same c.make_version_room.ensures.same K)),
       there,
-      spares-suffice c.make_version_room.new.self.heap 0 7 _ _ (c.in_ok-make_version_room.ensures.room W K) (omega arith) (omega arith) same,
+      spares-suffice c.make_version_room.new.self.heap 0 LEVELS _ _ (c.in_ok-make_version_room.ensures.room W K) (omega arith) (omega arith) same,
     )
 
 pub turn_versions-requires : goal.turn_versions-requires

@@ -1,4 +1,5 @@
 use Rattle.std.proofs.Common.{◌≡◌, ◌+◌, [], true, refl, sym, ◌∙◌, arith}
+use Rattle.elem_core.specs.declared.codes.TheConstants.{LEVELS}
 use Rattle.elem_core.specs.Shown.{name_bytes}
 use Rattle.shell_terms.specs.Edit.{unstar}
 use Rattle.plain_space.specs.Workspace.{Workspace, is_starred, with_current, without_star}
@@ -29,7 +30,7 @@ next : (c : After-without_star-next) (W : Workspace) → Keeps c.args.self.now [
 next c W K =
     let room = c.in_ok-make_star_room.ensures.room W K in
     let now = current-stands (keeps-same room.same K) in
-    has-next 8 _ _ K room (c.without_star-next.ensures.answered W.current now) (c.without_star-next.ensures.state W.current now) (omega arith) (alike (goal.at.After-without_star-next c).In_ok-make_star_room W K)
+    has-next (LEVELS + 1) _ _ K room (c.without_star-next.ensures.answered W.current now) (c.without_star-next.ensures.state W.current now) (omega arith) (alike (goal.at.After-without_star-next c).In_ok-make_star_room W K)
 
 pub without_star-next-requires-clause-state : goal.without_star-next-requires-clause-state
 without_star-next-requires-clause-state c =
@@ -37,7 +38,7 @@ without_star-next-requires-clause-state c =
     let K = c.requires.1 in
     let there : is_starred W.current (name_bytes c.args.name) ≡ true = sym (c.is_starred.ensures W K) ∙ c.if-not-is_starred.false in
     let as_many = alike (goal.at.without_star-next-requires-clause-state c).In_ok-make_star_room W K in
-    (W.current, current-stands (keeps-same (c.in_ok-make_star_room.ensures.room W K).same K), there, spares-suffice c.make_star_room.new.self.heap 0 8 _ _ (c.in_ok-make_star_room.ensures.room W K).spares (omega arith) (omega arith) as_many)
+    (W.current, current-stands (keeps-same (c.in_ok-make_star_room.ensures.room W K).same K), there, spares-suffice c.make_star_room.new.self.heap 0 (LEVELS + 1) _ _ (c.in_ok-make_star_room.ensures.room W K).spares (omega arith) (omega arith) as_many)
 
 pub turn_to-requires-clause-spares : goal.turn_to-requires-clause-spares
 turn_to-requires-clause-spares c = (next (goal.at.turn_to-requires-clause-spares c).After-without_star-next c.requires.0 c.requires.1).spares

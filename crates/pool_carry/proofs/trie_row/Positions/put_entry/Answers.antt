@@ -1,0 +1,31 @@
+use Rattle.std.proofs.Common.{◌≡◌, ◌∙◌, sym, ap, subst, arith}
+use Rattle.std.specs.List.{insert}
+use Rattle.champ_trie.specs.Bits.{rank}
+use Rattle.champ_trie.specs.Trie.{AreSets, place_of}
+use Rattle.champ_trie.proofs.BitLemmas.{rank-mono}
+use Rattle.champ_trie.proofs.PlaceLemmas.{place-free, put-entry}
+use Rattle.pool_carry.proofs.trie_row.Positions.put_entry.Goals as goal
+
+pub insert-requires : goal.insert-requires
+insert-requires c = omega (arith, c.rank_of.ensures, c.requires.sets.count, rank-mono c.args.self.now.entries c.args.position 32 (omega (arith, c.requires.position)), c.args.self.now.links.ok.0)
+
+pub returns-clause-sets : goal.returns-clause-sets
+returns-clause-sets c =
+    let free = place-free c.args.self.now.entries c.args.self.now.nodes c.args.self.now.links.items c.args.position c.requires.free in
+    let changed = put-entry c.args.self.now.entries c.args.self.now.nodes c.args.self.now.links.items c.args.position c.requires.position c.requires.sets c.with_position-self.result c.args.entry c.with_position-self.type_inv free.0 free.1 c.with_position-self.ensures in
+    let items : c.insert.new.self.items ≡ insert c.args.self.now.links.items (rank c.args.self.now.entries c.args.position) c.args.entry = c.in_ok-insert.ensures.items ∙ ap (λ i. insert c.args.self.now.links.items i c.args.entry) c.rank_of.ensures in
+    subst (AreSets c.with_position-self.result c.args.self.now.nodes) (sym items) changed.sets
+
+pub returns-clause-here : goal.returns-clause-here
+returns-clause-here c =
+    let free = place-free c.args.self.now.entries c.args.self.now.nodes c.args.self.now.links.items c.args.position c.requires.free in
+    let changed = put-entry c.args.self.now.entries c.args.self.now.nodes c.args.self.now.links.items c.args.position c.requires.position c.requires.sets c.with_position-self.result c.args.entry c.with_position-self.type_inv free.0 free.1 c.with_position-self.ensures in
+    let items : c.insert.new.self.items ≡ insert c.args.self.now.links.items (rank c.args.self.now.entries c.args.position) c.args.entry = c.in_ok-insert.ensures.items ∙ ap (λ i. insert c.args.self.now.links.items i c.args.entry) c.rank_of.ensures in
+    ap (λ xs. place_of c.with_position-self.result c.args.self.now.nodes xs c.args.position) items ∙ changed.here
+
+pub returns-clause-others : goal.returns-clause-others
+returns-clause-others c =
+    let free = place-free c.args.self.now.entries c.args.self.now.nodes c.args.self.now.links.items c.args.position c.requires.free in
+    let changed = put-entry c.args.self.now.entries c.args.self.now.nodes c.args.self.now.links.items c.args.position c.requires.position c.requires.sets c.with_position-self.result c.args.entry c.with_position-self.type_inv free.0 free.1 c.with_position-self.ensures in
+    let items : c.insert.new.self.items ≡ insert c.args.self.now.links.items (rank c.args.self.now.entries c.args.position) c.args.entry = c.in_ok-insert.ensures.items ∙ ap (λ i. insert c.args.self.now.links.items i c.args.entry) c.rank_of.ensures in
+    λ p low other. ap (λ xs. place_of c.with_position-self.result c.args.self.now.nodes xs p) items ∙ changed.others p low other
