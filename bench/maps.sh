@@ -228,7 +228,7 @@ ghost use Rattle.map_rows.specs.Turn.{IsGood, Turns};
 
 use anyhow::Result;
 use champ_kinds::{Map, MapRef, map_insert, map_remove};
-use elem_core::{Element, NoMemory, Num};
+use elem_core::{CODE_BITS, Element, NoMemory, Num};
 use node_heap::Heap;
 use std::io;
 use std::rt::Clock;
@@ -298,7 +298,7 @@ fn first<T: Numbered>(heap: &mut Heap<T>) -> Result<MapRef, NoMemory>
     ensures held { IfOk result (λ m. 0 < holds_at heap.new m.root) }
     ensures count { OnOk result (hold_count heap.new ≡ 1) }
 {
-    let made = Map::empty(heap, 32)?;
+    let made = Map::empty(heap, CODE_BITS)?;
     Ok(kept(made))
 }
 
@@ -541,7 +541,7 @@ ghost use Rattle.map_in_place.specs.Given.{GivesUp};
 use anyhow::Result;
 use champ_kinds::{Map, MapRef};
 use edit_trie::{MapOpenFault, TrieEdit};
-use elem_core::{Element, NoMemory, Num};
+use elem_core::{CODE_BITS, Element, NoMemory, Num};
 use node_heap::{Heap, Link};
 use std::io;
 use std::rt::Clock;
@@ -566,7 +566,7 @@ fn opened<T: Numbered>(heap: &mut Heap<T>) -> Result<TrieEdit, NoMemory>
     ensures held { IfOk result (λ m. 0 < holds_at heap.new m.root) }
     ensures count { OnOk result (hold_count heap.new ≡ 1) }
 {
-    let empty = Map::empty(heap, 32)?;
+    let empty = Map::empty(heap, CODE_BITS)?;
     match TrieEdit::open(empty, heap) {
         Ok(map) => Ok(map),
         Err(MapOpenFault { map }) => {
