@@ -48,18 +48,6 @@ module _ {A X Y : Type 0} (f : X → Option Y) (seen : A → X) where
       ∙ ap (λ o. option_and_then (onto (Some (parts.rest ++ y ∷ []))) o) parts.is_first
       ∙ ap (λ zs. Some (zs ++ y ∷ [])) (sym parts.is_both))
 
-  -- the same behind all that were read
-  pub all_of-last : (xs : List A) (x : A) (ys : List Y) (y : Y) → all_of f (map seen xs) ≡ Some ys → f (seen x) ≡ Some y → all_of f (map seen (xs ++ x ∷ [])) ≡ Some (ys ++ y ∷ [])
-  all_of-last [] x ys y before is =
-      let none : Some [] ≡ Some ys = before in
-      let empty : ys ≡ [] = cc in
-      ap (λ o. option_and_then (onto (Some [])) o) is ∙ ap (λ zs. Some (zs ++ y ∷ [])) (sym empty)
-  all_of-last (z ∷ xs) x ys y before is =
-      let parts = onto-some (f (seen z)) (all_of f (map seen xs)) ys before in
-      ap (λ o. option_and_then (onto o) (f (seen z))) (all_of-last xs x parts.rest y parts.is_rest is)
-      ∙ ap (λ o. option_and_then (onto (Some (parts.rest ++ y ∷ []))) o) parts.is_first
-      ∙ ap (λ zs. Some (zs ++ y ∷ [])) (sym parts.is_both)
-
 module _ {X Y : Type 0} (f : X → Option Y) where
   pub length-all_of : (xs : List X) (ys : List Y) → all_of f xs ≡ Some ys → length ys ≡ length xs
   length-all_of [] ys is = let none : Some [] ≡ Some ys = is in let empty : [] ≡ ys = cc in ap length (sym empty)

@@ -26,4 +26,4 @@ abbrev pub two_links : ℕ × ℕ → List ℕ
 two_links p = p.0 ∷ p.1 ∷ []
 
 abbrev pub parts_seen : Parts → DocumentParts
-parts_seen p = record { bits = p.bits; roots = p.roots; rows = map view p.rows.items; version = p.version }
+parts_seen p = record { bits = p.bits; roots = p.roots; rows = map view p.rows.now; version = p.version }

@@ -1,7 +1,6 @@
 //! The pool that a document stands for, or the first test that the document fails.
 ghost use Rattle.std.specs.Prelude.{◌≡◌, ◌≢◌, ◌≤◌, List, [], ◌∷◌, if◌then◌else◌, map, length, codes, None, Some, option_and_then, option_map, IfOk, IfErr};
 ghost use Rattle.std.specs.Str.{bytes_eq};
-ghost use Rattle.serde_json.specs.Find.{as_object};
 ghost use Rattle.serde_json.specs.View.{view, members_view};
 ghost use Rattle.pool_text.specs.Rows.{Bytes};
 ghost use Rattle.pool_text.specs.Rules.{rules_of, rules_named, bits_by};
@@ -9,7 +8,7 @@ ghost use Rattle.pool_text.specs.Document.{values_at, parts_read, parts_in, pool
 ghost use Rattle.pool_text.specs.Parsing.{Reads, parts_seen};
 
 use crate::damage::Damage;
-use crate::numbers::{items_of, number_of, numbers_of};
+use crate::numbers::{elements_of, number_of, numbers_of};
 use crate::pool::Pool;
 use crate::row::Places;
 use crate::row_in::rows_of;
@@ -17,7 +16,7 @@ use crate::rules::{FIRST_CODE_BITS, FIRST_VERSION, Rules};
 use elem_core::CODE_BITS;
 use serde_json::Value;
 use std::alloc::Global;
-use std::collections::btree_map::IntoIter;
+use std::collections::btree_map::Iter;
 
 /// The pool of the rows that the bytes have, of the version of their document, in a space of so many code bits. Refused with the
 /// first of the tests `Json`, `Form`, `Version`, `Bits` and `Row` that the bytes fail, and with `Memory` where memory runs out,
@@ -32,7 +31,7 @@ pub fn pool_from_bytes(alloc: Global, bytes: &[u8], bits: u32) -> Result<Pool, D
     ensures damage { IfErr result (λ d. d ≢ Damage.Memory → bytes_damage bits bytes.now ≡ Some d) }
 {
     match Value::from_slice(alloc, bytes) {
-        Ok(value) => pool_from_value(alloc, value, bits),
+        Ok(value) => pool_from_json(alloc, &value, bits),
         Err(error) if error.is_memory() => Err(Damage::Memory),
         Err(_) => Err(Damage::Json),
     }
@@ -50,20 +49,6 @@ pub fn pool_from_json(alloc: Global, value: &Value, bits: u32) -> Result<Pool, D
     ensures whole { IfOk result (λ _. value_damage bits (view value.now) ≡ None) }
     ensures damage { IfErr result (λ d. d ≢ Damage.Memory → value_damage bits (view value.now) ≡ Some d) }
 {
-    pool_from_value(alloc, value.clone()?, bits)
-}
-
-// The pool that `pool_from_json` says, of a value that is used up. It takes time and memory for the value, whose texts the pool
-// has then.
-fn pool_from_value(alloc: Global, value: Value, bits: u32) -> Result<Pool, Damage>
-    requires { bits ≤ CODE_BITS }
-    ensures pool { IfOk result (λ p. pool_in (view value) ≡ Some p) }
-    ensures bits { IfOk result (λ p. p.bits ≡ bits_by p.version bits) }
-    ensures roots { IfOk result (λ p. length p.roots ≡ 4) }
-    ensures rows { IfOk result IsInRange }
-    ensures whole { IfOk result (λ _. value_damage bits (view value) ≡ None) }
-    ensures damage { IfErr result (λ d. d ≢ Damage.Memory → value_damage bits (view value) ≡ Some d) }
-{
     let parts = parts_of(alloc, value)?;
     match Rules::of_version(parts.version) {
         Some(rules) => pool_by(alloc, parts, rules, bits),
@@ -73,15 +58,15 @@ fn pool_from_value(alloc: Global, value: Value, bits: u32) -> Result<Pool, Damag
 
 // The pool of the rows of these parts, by the rules of their version. Refused with the first of the tests `Bits` and `Row` that
 // they fail.
-fn pool_by(alloc: Global, parts: Parts, rules: Rules, bits: u32) -> Result<Pool, Damage>
+fn pool_by(alloc: Global, parts: Parts<'_>, rules: Rules, bits: u32) -> Result<Pool, Damage>
     requires roots { length parts.roots ≡ 4 }
     requires version { rules_of parts.version ≡ Some (rules_named rules) }
-    ensures pool { IfOk result (λ p. pool_of_parts (parts_seen parts) (rules_named rules) ≡ Some p) }
+    ensures pool { IfOk result (λ p. pool_of_parts (parts_seen parts.entry) (rules_named rules) ≡ Some p) }
     ensures bits { IfOk result (λ p. p.bits ≡ bits_by p.version bits) }
     ensures roots { IfOk result (λ p. length p.roots ≡ 4) }
     ensures rows { IfOk result IsInRange }
-    ensures whole { IfOk result (λ _. parts_damage_by bits (parts_seen parts) (rules_named rules) ≡ None) }
-    ensures damage { IfErr result (λ d. d ≢ Damage.Memory → parts_damage_by bits (parts_seen parts) (rules_named rules) ≡ Some d) }
+    ensures whole { IfOk result (λ _. parts_damage_by bits (parts_seen parts.entry) (rules_named rules) ≡ None) }
+    ensures damage { IfErr result (λ d. d ≢ Damage.Memory → parts_damage_by bits (parts_seen parts.entry) (rules_named rules) ≡ Some d) }
 {
     let kept = kept_bits(parts.version, bits);
     if parts.bits != kept as u64 {
@@ -109,50 +94,50 @@ fn kept_bits(version: u64, bits: u32) -> u32
 
 // What a document has beside its format.
 #[derive(Drop)]
-pub(crate) struct Parts {
+pub(crate) struct Parts<'a> {
     pub(crate) bits: u64,
     pub(crate) roots: Places,
-    pub(crate) rows: Vec<Value>,
+    pub(crate) rows: &'a [Value],
     pub(crate) version: u64,
 }
 
 // The parts of a document.
-fn parts_of(alloc: Global, value: Value) -> Result<Parts, Damage>
-    ensures value { Reads parts_seen Damage.Form (parts_in (view value)) result }
+fn parts_of(alloc: Global, value: &Value) -> Result<Parts<'_>, Damage>
+    ensures value { Reads parts_seen Damage.Form (parts_in (view value.now)) result }
     ensures roots { IfOk result (λ p. length p.roots ≡ 4) }
 {
     let Some(values) = values_of(value) else {
         return Err(Damage::Form);
     };
     let (Some(bits), Some(rows), Some(version)) = (
-        number_of(&values.bits),
-        items_of(values.rows),
-        number_of(&values.version),
+        number_of(values.bits),
+        elements_of(values.rows),
+        number_of(values.version),
     ) else {
         return Err(Damage::Form);
     };
     Ok(Parts {
         bits,
-        roots: numbers_of(alloc, &values.roots, 4, 4, Damage::Form)?,
+        roots: numbers_of(alloc, values.roots, 4, 4, Damage::Form)?,
         rows,
         version,
     })
 }
 
 // The values of a document's keys, but for its format.
-#[derive(Drop)]
-struct DocumentValues {
-    bits: Value,
-    roots: Value,
-    rows: Value,
-    version: Value,
+#[derive(Clone, Copy)]
+struct DocumentValues<'a> {
+    bits: &'a Value,
+    roots: &'a Value,
+    rows: &'a Value,
+    version: &'a Value,
 }
 
 // The values of an object whose keys are a document's, and whose format is the pool's.
-fn values_of(value: Value) -> Option<DocumentValues>
-    ensures { parts_in (view value) ≡ option_and_then (λ v. parts_read (view v.bits) (view v.roots) (view v.rows) (view v.version)) result }
+fn values_of(value: &Value) -> Option<DocumentValues<'_>>
+    ensures { parts_in (view value.now) ≡ option_and_then (λ v. parts_read (view v.bits.now) (view v.roots.now) (view v.rows.now) (view v.version.now)) result }
 {
-    let mut members = members_of(value)?;
+    let mut members = value.as_object()?.iter();
     let bits = value_at(&mut members, "bits")?;
     let format = value_at(&mut members, "format")?;
     let roots = value_at(&mut members, "roots")?;
@@ -173,20 +158,10 @@ fn values_of(value: Value) -> Option<DocumentValues>
     }
 }
 
-// The members of an object, one after another.
-fn members_of(value: Value) -> Option<IntoIter<String, Value, Global>>
-    ensures { option_map members_view result ≡ as_object (view value) }
-{
-    match value {
-        Value::Object(members) => Some(members.into_iter()),
-        _ => None,
-    }
-}
-
 // The value of the next member, if that is its key.
-fn value_at(members: &mut IntoIter<String, Value, Global>, key: &str) -> Option<Value>
+fn value_at<'a>(members: &mut Iter<'a, String, Value>, key: &str) -> Option<&'a Value>
     ensures { (keys : List Bytes) → values_at (key.now ∷ keys) (members_view members.old)
-        ≡ option_and_then (λ v. option_map (λ ds. view v ∷ ds) (values_at keys (members_view members.new))) result }
+        ≡ option_and_then (λ v. option_map (λ ds. view v.now ∷ ds) (values_at keys (members_view members.new))) result }
 {
     let (name, value) = members.next()?;
     if name.as_str() == key {
@@ -197,7 +172,7 @@ fn value_at(members: &mut IntoIter<String, Value, Global>, key: &str) -> Option<
 }
 
 // Whether no member is left.
-fn is_over(members: &mut IntoIter<String, Value, Global>) -> bool
+fn is_over(members: &mut Iter<'_, String, Value>) -> bool
     ensures { values_at [] (members_view members.old) ≡ (if result then Some [] else None) }
 {
     members.next().is_none()

@@ -20,16 +20,6 @@ pub(crate) fn elements_of(value: &Value) -> Option<&[Value]>
     }
 }
 
-// The elements of an array, taken out of it.
-pub(crate) fn items_of(value: Value) -> Option<Vec<Value>>
-    ensures { option_map (λ v. map view v.items) result ≡ elements_in (view value) }
-{
-    match value {
-        Value::Array(items) => Some(items),
-        _ => None,
-    }
-}
-
 // A number of 64 bits without a sign.
 pub(crate) fn number_of(value: &Value) -> Option<u64>
     ensures { result ≡ number_in (view value.now) }

@@ -1,25 +1,22 @@
 //! The row that a JSON value stands for.
 ghost use Rattle.std.specs.Prelude.{◌≡◌, ◌≢◌, ℕ, List, [], ◌∷◌, map, length, option_map, IfNone, IfSome};
-ghost use Rattle.std.specs.String.{string_bytes};
 ghost use Rattle.node_heap.specs.Forms.{leaf};
-ghost use Rattle.serde_json.specs.Find.{as_str};
 ghost use Rattle.serde_json.specs.View.{view};
 ghost use Rattle.pool_text.specs.Rows.{is_in_range_to, row_form};
 ghost use Rattle.pool_text.specs.Document.{all_of, cell_form, inner_form, trie_form, form_after, kept_if, row_in};
 ghost use Rattle.pool_text.specs.Parsing.{Reads, links_between, two_links};
 
 use crate::damage::Damage;
-use crate::numbers::{elements_of, items_of, number_between, number_of, numbers_of};
+use crate::numbers::{elements_of, number_between, number_of, numbers_of};
 use crate::pool::Rows;
 use crate::row::{Places, PoolText, Row};
 use node_heap::MOST_HEIGHT;
 use serde_json::Value;
 use std::alloc::Global;
 
-// The rows of these values, where tries go so deep. Each value is given up as soon as its row is made, and the text of a cell is
-// the value's own.
-pub(crate) fn rows_of(alloc: Global, values: Vec<Value>, deepest: u8) -> Result<Rows, Damage>
-    ensures { Reads (λ rows. rows) Damage.Row (all_of (row_in deepest) (map view values.items)) result }
+// The rows of these values, where tries go so deep.
+pub(crate) fn rows_of(alloc: Global, values: &[Value], deepest: u8) -> Result<Rows, Damage>
+    ensures { Reads (λ rows. rows) Damage.Row (all_of (row_in deepest) (map view values.now)) result }
 {
     let mut rows = Vec::with_capacity(alloc, values.len())?;
     for value in values {
@@ -29,13 +26,13 @@ pub(crate) fn rows_of(alloc: Global, values: Vec<Value>, deepest: u8) -> Result<
 }
 
 // The row of a value: its letter, its numbers and its links.
-fn row_of(alloc: Global, value: Value, deepest: u8) -> Result<Row, Damage>
-    ensures { Reads row_form Damage.Row (row_in deepest (view value)) result }
+fn row_of(alloc: Global, value: &Value, deepest: u8) -> Result<Row, Damage>
+    ensures { Reads row_form Damage.Row (row_in deepest (view value.now)) result }
 {
-    let Some(mut items) = items_of(value) else {
+    let Some(items) = elements_of(value) else {
         return Err(Damage::Row);
     };
-    let Some((first, rest)) = items.split_first_mut() else {
+    let Some((first, rest)) = items.split_first() else {
         return Err(Damage::Row);
     };
     let Some(letter) = first.as_str() else {
@@ -44,12 +41,12 @@ fn row_of(alloc: Global, value: Value, deepest: u8) -> Result<Row, Damage>
     row_after(alloc, letter, rest, deepest)
 }
 
-// The row of this letter with these values behind it. A text is taken out of them.
-fn row_after(alloc: Global, letter: &str, rest: &mut [Value], deepest: u8) -> Result<Row, Damage>
-    ensures { Reads row_form Damage.Row (kept_if (is_in_range_to deepest) (form_after letter.now (map view rest.old))) result }
+// The row of this letter with these values behind it.
+fn row_after(alloc: Global, letter: &str, rest: &[Value], deepest: u8) -> Result<Row, Damage>
+    ensures { Reads row_form Damage.Row (kept_if (is_in_range_to deepest) (form_after letter.now (map view rest.now))) result }
 {
     match letter {
-        "c" => cell_row(rest),
+        "c" => cell_row(alloc, rest),
         "l" => links_of(alloc, rest, 0, 32).map(Row::Leaf),
         "i" => inner_row(alloc, rest),
         "m" => trie_row(alloc, rest, deepest),
@@ -60,27 +57,14 @@ fn row_after(alloc: Global, letter: &str, rest: &mut [Value], deepest: u8) -> Re
     }
 }
 
-// A cell: its text, which is taken out.
-fn cell_row(rest: &mut [Value]) -> Result<Row, Damage>
-    ensures { Reads row_form Damage.Row (cell_form (map view rest.old)) result }
+// A cell: its text.
+fn cell_row(alloc: Global, rest: &[Value]) -> Result<Row, Damage>
+    ensures { Reads row_form Damage.Row (cell_form (map view rest.now)) result }
 {
-    let [only] = rest else {
+    let Some(text) = only(rest).and_then(Value::as_str) else {
         return Err(Damage::Row);
     };
-    match text_of(only.take()) {
-        Some(text) => Ok(Row::Cell(PoolText::from_text(text))),
-        None => Err(Damage::Row),
-    }
-}
-
-// The text of a string.
-fn text_of(value: Value) -> Option<String>
-    ensures { option_map string_bytes result ≡ as_str (view value) }
-{
-    match value {
-        Value::String(text) => Some(text),
-        _ => None,
-    }
+    Ok(Row::Cell(PoolText::from_text(String::from_str(alloc, text)?)))
 }
 
 // An inner row: its height and its links.

@@ -11,17 +11,17 @@ use Rattle.pool_text.proofs.from_json.parts_of.Goals as goal
 pub returns-in_err-numbers_of-clause-value : goal.returns-in_err-numbers_of-clause-value
 returns-in_err-numbers_of-clause-value c =
     let values = c.in-Some.values in
-    reads-refused parts_seen Form (parts_in (view c.args.value)) c.from_residual.result c.in_err-numbers_of.field-0.0 c.from_residual.ensures.1
+    reads-refused parts_seen Form (parts_in (view c.args.value.now)) c.from_residual.result c.in_err-numbers_of.field-0.0 c.from_residual.ensures.1
     (λ not_memory. let refused = c.in_err-numbers_of.ensures not_memory in
-    (refused.0, c.in-Some.ensures ∙ no-roots (view values.bits) (view values.roots) (view values.rows) (view values.version) refused.1))
+    (refused.0, c.in-Some.ensures ∙ no-roots (view values.bits.now) (view values.roots.now) (view values.rows.now) (view values.version.now) refused.1))
 
 pub returns-clause-value : goal.returns-clause-value
 returns-clause-value c =
     let values = c.in-Some.values in
     let found = c.in-Some-Some-Some in
     c.in-Some.ensures
-    ∙ all-parts (view values.bits) (view values.roots) (view values.rows) (view values.version) found.bits found.version c.in_ok-numbers_of.field-0 (map view found.rows.items)
+    ∙ all-parts (view values.bits.now) (view values.roots.now) (view values.rows.now) (view values.version.now) found.bits found.version c.in_ok-numbers_of.field-0 (map view found.rows.now)
     (sym found.ensures) c.in_ok-numbers_of.ensures (sym found.ensures') (sym found.ensures'')
 
 pub returns-clause-roots : goal.returns-clause-roots
-returns-clause-roots c = four-of (view c.in-Some.values.roots) c.in_ok-numbers_of.field-0 c.in_ok-numbers_of.ensures
+returns-clause-roots c = four-of (view c.in-Some.values.roots.now) c.in_ok-numbers_of.field-0 c.in_ok-numbers_of.ensures

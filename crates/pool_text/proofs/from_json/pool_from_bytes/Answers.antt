@@ -11,17 +11,17 @@ use Rattle.pool_text.proofs.from_json.pool_from_bytes.Goals as goal
 pub returns-in-Ok-clause-pool : goal.returns-in-Ok-clause-pool
 returns-in-Ok-clause-pool c =
     let is = value-read c.args.bytes.now (view c.in-Ok.value) (is_utf8-from_IsUtf8 c.args.bytes.now c.in-Ok.ensures.ok.0) c.in-Ok.ensures.ok.1 in
-    subst (λ (o : Option Pool). IfOk c.pool_from_value.result (λ p. o ≡ Some p)) (sym (pool-by-value c.args.bytes.now (view c.in-Ok.value) is)) c.pool_from_value.ensures.pool
+    subst (λ (o : Option Pool). IfOk c.pool_from_json.result (λ p. o ≡ Some p)) (sym (pool-by-value c.args.bytes.now (view c.in-Ok.value) is)) c.pool_from_json.ensures.pool
 
 pub returns-in-Ok-clause-whole : goal.returns-in-Ok-clause-whole
 returns-in-Ok-clause-whole c =
     let is = value-read c.args.bytes.now (view c.in-Ok.value) (is_utf8-from_IsUtf8 c.args.bytes.now c.in-Ok.ensures.ok.0) c.in-Ok.ensures.ok.1 in
-    subst (λ (o : Option Damage). IfOk c.pool_from_value.result (λ p. o ≡ None)) (sym (damage-by-value c.args.bits c.args.bytes.now (view c.in-Ok.value) is)) c.pool_from_value.ensures.whole
+    subst (λ (o : Option Damage). IfOk c.pool_from_json.result (λ p. o ≡ None)) (sym (damage-by-value c.args.bits c.args.bytes.now (view c.in-Ok.value) is)) c.pool_from_json.ensures.whole
 
 pub returns-in-Ok-clause-damage : goal.returns-in-Ok-clause-damage
 returns-in-Ok-clause-damage c =
     let is = value-read c.args.bytes.now (view c.in-Ok.value) (is_utf8-from_IsUtf8 c.args.bytes.now c.in-Ok.ensures.ok.0) c.in-Ok.ensures.ok.1 in
-    subst (λ (o : Option Damage). IfErr c.pool_from_value.result (λ d. d ≢ Memory → o ≡ Some d)) (sym (damage-by-value c.args.bits c.args.bytes.now (view c.in-Ok.value) is)) c.pool_from_value.ensures.damage
+    subst (λ (o : Option Damage). IfErr c.pool_from_json.result (λ d. d ≢ Memory → o ≡ Some d)) (sym (damage-by-value c.args.bits c.args.bytes.now (view c.in-Ok.value) is)) c.pool_from_json.ensures.damage
 
 pub returns-in-Err-2-clause-damage : goal.returns-in-Err-2-clause-damage
 returns-in-Err-2-clause-damage c not_memory =
