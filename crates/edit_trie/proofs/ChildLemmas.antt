@@ -15,7 +15,7 @@ use Rattle.node_heap.proofs.Frames.{KeepsBelow-trans}
 use Rattle.node_heap.proofs.Edited.{count-at, linked_live, IsOwners-heap, KeepsBelow-sibling, KeepsBelow-apart, Reaches-back, Changes-path, Changes-beside}
 use Rattle.node_heap.proofs.EditLaws.{Gains-Changes}
 use Rattle.edit_trie.specs.Walk.{EditsChild}
-use Rattle.edit_trie.proofs.SpotLemmas.{count-two}
+use Rattle.node_heap.proofs.OwnerLemmas.{count-two}
 
 -- a path with one owner a row, from a row further up
 pub sole-before : (O : ℕ → ℕ) (L : Links) (p k x : ℕ) → HasLink L p k → O k ≡ 1 → IsSolePath O L k x → IsSolePath O L p x

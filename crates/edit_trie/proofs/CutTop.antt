@@ -37,7 +37,7 @@ use Rattle.edit_trie.specs.Walk.{CutsIn, MakesShared}
 use Rattle.edit_trie.proofs.PathLemmas.{rows_below, rows-first, rows-stay, chain-fuel, edit-begins, edit-says, edit-avoids}
 use Rattle.edit_trie.proofs.CameLemmas.{alone-first}
 use Rattle.edit_trie.proofs.InChainLemmas.{count-take, rows-below-stay}
-use Rattle.edit_trie.proofs.RootLemmas.{IsOwned}
+use Rattle.node_heap.proofs.OwnedRows.{IsOwned}
 use Rattle.edit_trie.proofs.WayTop.{way-shared, way-made, way-off}
 use Rattle.edit_trie.proofs.OwnTop.{alike-top}
 use Rattle.edit_trie.proofs.MapLemmas.{map-owned, entries-owned, pairs-left, zip-found, found-link, all-others}

@@ -1,22 +1,19 @@
 -- What stays where each row that was there is itself but for the rows of a path that are alone.
-use Rattle.std.proofs.Common.{◌≡◌, ◌≢◌, ℕ, zero, suc, ◌<◌, ◌≤◌, List, [], ◌∷◌, length, take, get_or, refl, ap, sym, subst, ◌∙◌, arith, Bool, true, false, IsSome, inl, inr, Option, None}
-use Rattle.std.specs.Prelude.{◌==◌, remove, if◌then◌else◌}
+use Rattle.std.proofs.Common.{◌≡◌, ◌≢◌, ℕ, ◌<◌, List, [], ◌∷◌, take, refl, ap, sym, subst, ◌∙◌, arith, IsSome, inl, inr}
 use Rattle.std.proofs.lemmas.Bool.{cases_eq, cases_lt}
-use Rattle.std.proofs.lemmas.Bool.Decides.{nat_tests}
 use Rattle.node_heap.specs.Links.{Links, count, HasLink, Reaches, here, below}
-use Rattle.node_heap.specs.Forms.{Row, links_of}
-use Rattle.node_heap.specs.Heap.{Heap, row_at, links_at, holds_at, owners_at, one_at, IsGraph}
+use Rattle.node_heap.specs.Forms.{links_of}
+use Rattle.node_heap.specs.Heap.{Heap, row_at, links_at, holds_at, owners_at, IsGraph}
 use Rattle.node_heap.specs.Calls.{KeepsBelow}
-use Rattle.node_heap.specs.InPlace.{child_at}
-use Rattle.node_heap.specs.Owner.{Owner, by_hold, by_place, owned, holds_beside, links_beside, relinked, with_root, KeepsBeside, written, WritesOnly, WritesOnlyLeft, IsOwner}
-use Rattle.node_heap.proofs.Counts.{test_same, test_other, le-sum_by}
+use Rattle.node_heap.specs.Owner.{Owner, by_hold, owned, holds_beside, links_beside, with_root, KeepsBeside, written, WritesOnly, WritesOnlyLeft, IsOwner}
+use Rattle.node_heap.proofs.Counts.{test_same, test_other}
 use Rattle.node_heap.proofs.BuildLemmas.{count-cons}
-use Rattle.node_heap.proofs.Reach.{Reaches-then, Reaches-trans, Reaches-within}
+use Rattle.node_heap.proofs.Reach.{Reaches-trans, Reaches-within}
 use Rattle.node_heap.proofs.Ways.{Reaches-last}
-use Rattle.node_heap.proofs.GraphLemmas.{IsGraph-acyclic, linked-places}
-use Rattle.node_heap.proofs.Edited.{count-at, IsOwners-heap}
+use Rattle.node_heap.proofs.GraphLemmas.{IsGraph-acyclic}
+use Rattle.node_heap.proofs.Edited.{IsOwners-heap}
 use Rattle.node_heap.proofs.AloneLemmas.{alone-no, written-cons}
-use Rattle.node_heap.proofs.OwnerLemmas.{left-at}
+use Rattle.node_heap.proofs.BesideOwner.{live-down, beside-in, off-root, held-is, same-below}
 
 -- each of these rows is a link of the one before, from the row l on, and each that is followed by another is of this kind
 unfoldable pub IsDown : {T : Type 0} → (ℕ → Type 0) → Heap T → ℕ → List ℕ → Type 0
@@ -77,83 +74,6 @@ module _ {T : Type 0} (Q : ℕ → Type 0) (h : Heap T) where
         | inl same ↦ (l, d.1, subst (HasLink (links_at h) l) (sym same) d.0, ap (owners_at h) same ∙ f.0)
         | inr other ↦ written-above j js d.2 k (omega (arith, f.1, count-cons k j (written h js), test_other k j other))
       ]
-
--- all that a row reaches is there
-live-down : {T : Type 0} (h : Heap T) → IsGraph h → (k m : ℕ) → Reaches (links_at h) k m → IsSome (row_at h k) → IsSome (row_at h m)
-live-down h graph k m (here l) live = live
-live-down h graph k m (below l j n has way) live = live-down h graph j m way (graph.closed l j has)
-
--- two places of one link
-count-two : (xs : List ℕ) (i j x : ℕ) → i ≢ j → i < length xs → j < length xs → get_or xs i 0 ≡ x → get_or xs j 0 ≡ x → 2 ≤ count x xs
-count-two [] i j x other at_i at_j found found' = absurd (omega (arith, at_i))
-count-two (y ∷ ys) zero zero x other at_i at_j found found' = absurd (other refl)
-count-two (y ∷ ys) zero (suc j) x other at_i at_j found found' = omega (arith, count-cons x y ys, test_same x y (sym found), count-at ys j x (omega (arith, at_j)) found')
-count-two (y ∷ ys) (suc i) zero x other at_i at_j found found' = omega (arith, count-cons x y ys, test_same x y (sym found'), count-at ys i x (omega (arith, at_i)) found)
-count-two (y ∷ ys) (suc i) (suc j) x other at_i at_j found found' = omega (arith, count-cons x y ys, count-two ys i j x (λ e. other (ap suc e)) (omega (arith, at_i)) (omega (arith, at_j)) found found')
-
--- the ways beside the owner
-module _ {T : Type 0} (owner : Owner) (old : Heap T) (is : IsOwner old owner) where
-  beside-in : (a b : ℕ) → HasLink (links_beside old owner) a b → HasLink (links_at old) a b
-  beside-in a b has = within owner has
-    where
-      within : (o : Owner) → HasLink (links_beside old o) a b → HasLink (links_at old) a b
-      within (by_hold r) h = h
-      within (by_place parent index) h = elim (cases_eq a parent) as (λ _. HasLink (links_at old) a b) [
-        | inl same ↦
-            let test : (a == parent) ≡ true = grind (arith, nat_tests, same) in
-            let was : 0 < count b (remove (links_at old a) index) = subst (λ (t : Bool). 0 < count b (if t then remove (links_at old a) index else links_at old a)) test h in
-            let f = left-at (links_at old a) index b was in
-            count-at (links_at old a) f.0 b f.2 f.3
-        | inr other ↦
-            let test : (a == parent) ≡ false = grind (arith, nat_tests, other) in
-            subst (λ (t : Bool). 0 < count b (if t then remove (links_at old a) index else links_at old a)) test h
-      ]
-
-  off-root : (x : ℕ) → 0 < holds_beside old owner x → owners_at old (owned old owner) ≡ 1 → ¬ Reaches (links_beside old owner) x (owned old owner)
-  off-root x held one way = by owner is held one way
-    where
-      by : (o : Owner) → IsOwner old o → 0 < holds_beside old o x → owners_at old (owned old o) ≡ 1 → ¬ Reaches (links_beside old o) x (owned old o)
-      by (by_hold r) i some sole up = elim (Reaches-last (links_at old) x r up) as (λ _. ⊥) [
-        | inl same ↦ absurd (omega (arith, some, ap (λ k. one_at r k) same, test_same r r refl, ap (holds_at old) same, sole))
-        | inr last ↦ absurd (omega (arith, i, sole, linked-places old.rows last.0 r last.2))
-      ]
-      by (by_place parent index) i some sole up =
-          let c : ℕ = child_at old parent index in
-          let linked : HasLink (links_at old) parent c = count-at (links_at old parent) index c i refl in
-          let beside : Links = links_beside old (by_place parent index) in
-          elim (Reaches-last beside x c up) as (λ _. ⊥) [
-            | inl same ↦ absurd (omega (arith, some, ap (holds_at old) same, (IsOwners-heap old).unheld parent c linked sole))
-            | inr last ↦ elim (cases_eq last.0 parent) as (λ _. ⊥) [
-              | inl at ↦
-                  let test : (last.0 == parent) ≡ true = grind (arith, nat_tests, at) in
-                  let was : 0 < count c (remove (links_at old last.0) index) = subst (λ (t : Bool). 0 < count c (if t then remove (links_at old last.0) index else links_at old last.0)) test last.2 in
-                  let f = left-at (links_at old parent) index c (subst (λ j. 0 < count c (remove (links_at old j) index)) at was) in
-                  absurd (omega (arith, sole, count-two (links_at old parent) f.0 index c f.1 f.2 i f.3 refl, le-sum_by (λ (w : Option (Row T)). count c (links_of w)) None refl old.rows parent))
-              | inr off ↦
-                  let test : (last.0 == parent) ≡ false = grind (arith, nat_tests, off) in
-                  let was : HasLink (links_at old) last.0 c = subst (λ (t : Bool). 0 < count c (if t then remove (links_at old last.0) index else links_at old last.0)) test last.2 in
-                  off ((IsOwners-heap old).only parent last.0 c linked was sole)
-            ]
-          ]
-
-  held-is : (x : ℕ) → 0 < holds_beside old owner x → 0 < holds_at old x
-  held-is x some = by owner some
-    where
-      by : (o : Owner) → 0 < holds_beside old o x → 0 < holds_at old x
-      by (by_hold r) more = omega (arith, more)
-      by (by_place parent index) more = more
-
-  -- what doesn't lead to the root doesn't lead to its parent
-  same-below : (root x : ℕ) → ¬ Reaches (links_at old) x (owned old owner) → (w : ℕ) → Reaches (links_at old) x w → with_root owner root w (row_at old w) ≡ row_at old w
-  same-below root x off w on = by owner is off
-    where
-      by : (o : Owner) → IsOwner old o → ¬ Reaches (links_at old) x (owned old o) → with_root o root w (row_at old w) ≡ row_at old w
-      by (by_hold r) i off = refl
-      by (by_place parent index) i off =
-          let linked : HasLink (links_at old) parent (child_at old parent index) = count-at (links_at old parent) index (child_at old parent index) i refl in
-          let other : w ≢ parent = λ e. off (Reaches-then (links_at old) x parent (child_at old parent index) (subst (Reaches (links_at old) x) e on) linked) in
-          let test : (w == parent) ≡ false = grind (arith, nat_tests, other) in
-          ap (λ (t : Bool). if t then relinked index root (row_at old w) else row_at old w) test
 
 -- a link of a row below the root that is not of the kind leads to no written row of a path of such rows
 module _ {T : Type 0} (Q : ℕ → Type 0) (h : Heap T) (l : ℕ) (tail : List ℕ) (graph : IsGraph h) (down : IsDown Q h l tail) (row x : ℕ) (under : Reaches (links_at h) l row) (has : HasLink (links_at h) row x) where

@@ -23,7 +23,7 @@ use Rattle.champ_kinds.specs.Kinds.{IsPair, HasEntries, IsMapOf}
 use Rattle.champ_kinds.proofs.ZipLemmas.{zip-as, zip-all}
 use Rattle.champ_kinds.proofs.PairLemmas.{others-pairs}
 use Rattle.edit_trie.specs.Edit.{by_bits}
-use Rattle.edit_trie.proofs.RootLemmas.{IsOwned}
+use Rattle.node_heap.proofs.OwnedRows.{IsOwned}
 
 -- what passes a test, where one at most does, and then the others are all
 module _ {X : Type 0} (p : X → Bool) where

@@ -38,7 +38,7 @@ use Rattle.edit_trie.proofs.RowLemmas.{node-form}
 use Rattle.edit_trie.proofs.StepLemmas.{find-has}
 use Rattle.edit_trie.proofs.PathLemmas.{pair-begins, pair-says, pair-avoids}
 use Rattle.edit_trie.proofs.InChainLemmas.{count-take}
-use Rattle.edit_trie.proofs.RootLemmas.{IsOwned}
+use Rattle.node_heap.proofs.OwnedRows.{IsOwned}
 use Rattle.edit_trie.proofs.WayTop.{way-alone, way-copies, way-others}
 use Rattle.edit_trie.proofs.MapLemmas.{map-owned, entries-owned, pairs-left, one-out, zip-found, found-link, find-same, count-binds, all-others, pair-by, pair-key}
 

@@ -33,7 +33,7 @@ use Rattle.edit_trie.specs.Edit.{by_bits, PutsValue, OwnsEntry}
 use Rattle.edit_trie.specs.Walk.{HasPair, OwnsIn}
 use Rattle.edit_trie.specs.Bound.{CanBind, Binds}
 use Rattle.edit_trie.proofs.PathLemmas.{edit-begins, edit-says, pair-begins, pair-says}
-use Rattle.edit_trie.proofs.RootLemmas.{IsOwned}
+use Rattle.node_heap.proofs.OwnedRows.{IsOwned}
 use Rattle.edit_trie.proofs.StepLemmas.{find-has}
 use Rattle.edit_trie.proofs.WayLemmas.{way-begins, way-says}
 use Rattle.edit_trie.proofs.WayTop.{way-shared, way-count, way-length, way-copies, way-others}

@@ -1,23 +1,13 @@
 -- What stands at each position of a row where one of its links is replaced.
-use Rattle.std.proofs.Common.{◌≡◌, ◌≢◌, ℕ, suc, zero, ◌+◌, ◌<◌, ◌≤◌, List, [], ◌∷◌, length, get_or, set, refl, ap, sym, ◌∙◌, arith, true, false, inl, inr}
+use Rattle.std.proofs.Common.{◌≡◌, ◌≢◌, ℕ, ◌+◌, ◌<◌, List, [], ◌∷◌, length, get_or, set, ap, sym, ◌∙◌, arith, true, false, inl, inr}
 use Rattle.std.proofs.lemmas.Bool.{cases_Bool, cases_order}
 use Rattle.std.proofs.lemmas.List.{get_or-set_same, get_or-set_other, length-set}
 use Rattle.node_heap.specs.Links.{count}
-use Rattle.node_heap.proofs.Counts.{count-cons, test_same, one_at-flip}
-use Rattle.node_heap.proofs.Edited.{count-at}
 use Rattle.champ_trie.specs.Bits.{has, rank}
 use Rattle.champ_trie.specs.Trie.{AreSets, place_of, links_at_place}
 use Rattle.champ_trie.specs.declared.place.Place.TheVariants.{Entry as At, Node}
 use Rattle.champ_trie.proofs.BitLemmas.{rank-lt}
 use Rattle.champ_trie.proofs.PlaceLemmas.{Changes, place-entry, place-node, place-empty, entry-in, node-in}
-
--- a link that stands at two indices is counted twice
-pub count-two : (ks : List ℕ) (i j x : ℕ) → i ≢ j → i < length ks → j < length ks → get_or ks i 0 ≡ x → get_or ks j 0 ≡ x → 2 ≤ count x ks
-count-two [] i j x other in_i in_j at_i at_j = absurd (omega (arith, in_i))
-count-two (k ∷ ks) zero zero x other in_i in_j at_i at_j = absurd (other refl)
-count-two (k ∷ ks) zero (suc j) x other in_i in_j at_i at_j = omega (arith, count-cons x k ks, one_at-flip x k, test_same k x at_i, count-at ks j x (omega (arith, in_j)) at_j)
-count-two (k ∷ ks) (suc i) zero x other in_i in_j at_i at_j = omega (arith, count-cons x k ks, one_at-flip x k, test_same k x at_j, count-at ks i x (omega (arith, in_i)) at_i)
-count-two (k ∷ ks) (suc i) (suc j) x other in_i in_j at_i at_j = omega (arith, count-cons x k ks, count-two ks i j x (λ e. other (ap suc e)) (omega (arith, in_i)) (omega (arith, in_j)) at_i at_j)
 
 -- two positions with something have different ranks
 rank-apart : (s p q : ℕ) → q ≢ p → has s p ≡ true → has s q ≡ true → rank s q ≢ rank s p

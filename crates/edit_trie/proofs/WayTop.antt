@@ -17,7 +17,8 @@ use Rattle.edit_trie.specs.Walk.{MakesShared}
 use Rattle.edit_trie.proofs.CameLemmas.{alone-own, copies-own, made-own}
 use Rattle.edit_trie.proofs.PathLemmas.{BeginsThere, SaysTheSame, rows_below, rows-first, below-moved, below-linked}
 use Rattle.edit_trie.proofs.SharedLemmas.{shared-own}
-use Rattle.edit_trie.proofs.RootLemmas.{IsOwned, path-owned, off-owned, others-owned}
+use Rattle.node_heap.proofs.OwnedRows.{IsOwned}
+use Rattle.edit_trie.proofs.RootLemmas.{path-owned, off-owned, others-owned}
 
 module _ {T : Type 0} (cmp : T → T → Ordering) (code : T → ℕ) (owner : Owner) (old mid : Heap T) (r c : ℕ) (own : IsOwned owner old mid r) (E : List (Entry T)) (is : IsCanon cmp code (form_at old) (owned old owner) E)
     (A B A' B' : ℕ → List ℕ) (begins : BeginsThere A B) (says : SaysTheSame cmp code (form_at old) (form_at mid) A B A' B') where

@@ -1,30 +1,26 @@
 -- What stays where each row that was there is itself but for the rows of the path that are alone.
-use Rattle.std.proofs.Common.{◌≡◌, ◌≢◌, ℕ, zero, suc, ◌-◌, ◌<◌, ◌≤◌, List, [], ◌∷◌, length, take, get_or, refl, ap, sym, subst, ◌∙◌, arith, Bool, true, false, IsSome, inl, inr, Option, None}
-use Rattle.std.specs.Prelude.{◌==◌, remove, if◌then◌else◌}
+use Rattle.std.proofs.Common.{◌≡◌, ◌≢◌, ℕ, zero, suc, ◌-◌, ◌<◌, ◌≤◌, List, [], ◌∷◌, length, take, get_or, refl, ap, sym, subst, ◌∙◌, arith, IsSome, inl, inr}
 use Rattle.std.specs.List.{All, flat_map}
 use Rattle.std.proofs.lemmas.Bool.{cases_eq, cases_lt}
-use Rattle.std.proofs.lemmas.Bool.Decides.{nat_tests}
 use Rattle.node_heap.specs.Links.{Links, count, HasLink, Reaches, here, below}
-use Rattle.node_heap.specs.Forms.{Row, links_of, links_in}
-use Rattle.node_heap.specs.Heap.{Heap, row_at, form_at, links_at, holds_at, owners_at, one_at, IsGraph}
+use Rattle.node_heap.specs.Forms.{links_of, links_in}
+use Rattle.node_heap.specs.Heap.{Heap, row_at, form_at, links_at, holds_at, owners_at, IsGraph}
 use Rattle.node_heap.specs.Calls.{KeepsBelow}
-use Rattle.node_heap.specs.InPlace.{child_at}
-use Rattle.node_heap.proofs.Counts.{test_same, test_other, le-sum_by}
-use Rattle.node_heap.proofs.Reach.{Reaches-then, Reaches-trans, Reaches-within}
+use Rattle.node_heap.proofs.Counts.{test_same, test_other}
+use Rattle.node_heap.proofs.Reach.{Reaches-trans, Reaches-within}
 use Rattle.node_heap.proofs.Ways.{Reaches-last}
 use Rattle.node_heap.proofs.BuildLemmas.{count-cons, count-append}
-use Rattle.node_heap.proofs.GraphLemmas.{IsGraph-acyclic, linked-places}
+use Rattle.node_heap.proofs.GraphLemmas.{IsGraph-acyclic}
 use Rattle.node_heap.proofs.Edited.{count-at, IsOwners-heap}
 use Rattle.rrb_core.specs.Seq.{height_in, seq_at, IsWell}
 use Rattle.rrb_core.proofs.FillRule.{height-is}
 use Rattle.rrb_core.proofs.Stays.{links-form}
 use Rattle.edit_vec.specs.Path.{rows_over}
-use Rattle.node_heap.specs.Owner.{Owner, by_hold, by_place, owned, holds_beside, links_beside, relinked, with_root, KeepsBeside, written, WritesOnly, WritesOnlyLeft, IsOwner}
-use Rattle.edit_vec.proofs.RowLemmas.{count-two}
+use Rattle.node_heap.specs.Owner.{Owner, by_hold, owned, holds_beside, links_beside, with_root, KeepsBeside, written, WritesOnly, WritesOnlyLeft, IsOwner}
 use Rattle.edit_vec.proofs.ReachLemmas.{found-at}
 use Rattle.edit_vec.proofs.PathLemmas.{is-in, over-at, rows_below, rows-below, spine_below, spine-below}
 use Rattle.node_heap.proofs.AloneLemmas.{alone-no, written-cons}
-use Rattle.node_heap.proofs.OwnerLemmas.{left-at}
+use Rattle.node_heap.proofs.BesideOwner.{live-down, beside-in, off-root, held-is, same-below}
 
 -- each of these rows is a link of the one before, from the row l of height n on
 unfoldable pub IsDown : {T : Type 0} → Heap T → ℕ → ℕ → List ℕ → Type 0
@@ -124,62 +120,6 @@ module _ {T : Type 0} (h : Heap T) where
         | inr none ↦ down step ks (λ j some'. has j (omega (arith, some', count-cons j k ks))) (λ i d b. wells (suc i) d (omega (arith, b))) (omega (arith, more, none, count-append x (seq_at (form_at h) n k) (flat_map (seq_at (form_at h) n) ks)))
       ]
 
-  live-down : IsGraph h → (k m : ℕ) → Reaches (links_at h) k m → IsSome (row_at h k) → IsSome (row_at h m)
-  live-down graph k m (here l) live = live
-  live-down graph k m (below l j n has way) live = live-down graph j m way (graph.closed l j has)
-
--- the ways beside the owner
-module _ {T : Type 0} (owner : Owner) (old : Heap T) (is : IsOwner old owner) where
-  beside-in : (a b : ℕ) → HasLink (links_beside old owner) a b → HasLink (links_at old) a b
-  beside-in a b has = within owner has
-    where
-      within : (o : Owner) → HasLink (links_beside old o) a b → HasLink (links_at old) a b
-      within (by_hold r) h = h
-      within (by_place parent index) h = elim (cases_eq a parent) as (λ _. HasLink (links_at old) a b) [
-        | inl same ↦
-            let test : (a == parent) ≡ true = grind (arith, nat_tests, same) in
-            let was : 0 < count b (remove (links_at old a) index) = subst (λ (t : Bool). 0 < count b (if t then remove (links_at old a) index else links_at old a)) test h in
-            let f = left-at (links_at old a) index b was in
-            count-at (links_at old a) f.0 b f.2 f.3
-        | inr other ↦
-            let test : (a == parent) ≡ false = grind (arith, nat_tests, other) in
-            subst (λ (t : Bool). 0 < count b (if t then remove (links_at old a) index else links_at old a)) test h
-      ]
-
-  off-root : (x : ℕ) → 0 < holds_beside old owner x → owners_at old (owned old owner) ≡ 1 → ¬ Reaches (links_beside old owner) x (owned old owner)
-  off-root x held one way = by owner is held one way
-    where
-      by : (o : Owner) → IsOwner old o → 0 < holds_beside old o x → owners_at old (owned old o) ≡ 1 → ¬ Reaches (links_beside old o) x (owned old o)
-      by (by_hold r) i some sole up = elim (Reaches-last (links_at old) x r up) as (λ _. ⊥) [
-        | inl same ↦ absurd (omega (arith, some, ap (λ k. one_at r k) same, test_same r r refl, ap (holds_at old) same, sole))
-        | inr last ↦ absurd (omega (arith, i, sole, linked-places old.rows last.0 r last.2))
-      ]
-      by (by_place parent index) i some sole up =
-          let c : ℕ = child_at old parent index in
-          let linked : HasLink (links_at old) parent c = count-at (links_at old parent) index c i refl in
-          let beside : Links = links_beside old (by_place parent index) in
-          elim (Reaches-last beside x c up) as (λ _. ⊥) [
-            | inl same ↦ absurd (omega (arith, some, ap (holds_at old) same, (IsOwners-heap old).unheld parent c linked sole))
-            | inr last ↦ elim (cases_eq last.0 parent) as (λ _. ⊥) [
-              | inl at ↦
-                  let test : (last.0 == parent) ≡ true = grind (arith, nat_tests, at) in
-                  let was : 0 < count c (remove (links_at old last.0) index) = subst (λ (t : Bool). 0 < count c (if t then remove (links_at old last.0) index else links_at old last.0)) test last.2 in
-                  let f = left-at (links_at old parent) index c (subst (λ j. 0 < count c (remove (links_at old j) index)) at was) in
-                  absurd (omega (arith, sole, count-two (links_at old parent) f.0 index c f.1 f.2 i f.3 refl, le-sum_by (λ (w : Option (Row T)). count c (links_of w)) None refl old.rows parent))
-              | inr off ↦
-                  let test : (last.0 == parent) ≡ false = grind (arith, nat_tests, off) in
-                  let was : HasLink (links_at old) last.0 c = subst (λ (t : Bool). 0 < count c (if t then remove (links_at old last.0) index else links_at old last.0)) test last.2 in
-                  off ((IsOwners-heap old).only parent last.0 c linked was sole)
-            ]
-          ]
-
-  held-is : (x : ℕ) → 0 < holds_beside old owner x → 0 < holds_at old x
-  held-is x some = by owner some
-    where
-      by : (o : Owner) → 0 < holds_beside old o x → 0 < holds_at old x
-      by (by_hold r) more = omega (arith, more)
-      by (by_place parent index) more = more
-
 -- an edit that leaves all but the rows of a path that are alone
 module _ {T : Type 0} (owner : Owner) (old new : Heap T) (root n : ℕ) (tail : List ℕ) (graph : IsGraph old) (is : IsOwner old owner) (well : IsWell (form_at old) n (owned old owner)) (down : IsDown old n (owned old owner) tail)
     (others : WritesOnly owner old new root (owned old owner ∷ tail)) where
@@ -211,15 +151,7 @@ module _ {T : Type 0} (owner : Owner) (old new : Heap T) (root n : ℕ) (tail : 
       let q : leaf.0 ≡ up.0 = (IsOwners-heap old).only up.0 leaf.0 k up.2 (subst (HasLink (links_at old) leaf.0) same leaf.2) up.3 in
       absurd (omega (arith, up.1, ap (height_in (form_at old)) q, leaf.3)) in
       off-row m (λ has. off-written old (links_at old) (λ a b h. h) x n (owned old owner) tail down (λ one. off-top) off m has way) (live-down old graph x m way (graph.closed leaf.0 x leaf.2))
-      ∙ same owner is off-top
-    where
-      same : (o : Owner) → IsOwner old o → ¬ Reaches (links_at old) x (owned old o) → with_root o root m (row_at old m) ≡ row_at old m
-      same (by_hold r) i off = refl
-      same (by_place parent index) i off =
-          let linked : HasLink (links_at old) parent (child_at old parent index) = count-at (links_at old parent) index (child_at old parent index) i refl in
-          let other : m ≢ parent = λ e. off (Reaches-then (links_at old) x parent (child_at old parent index) (subst (Reaches (links_at old) x) e way) linked) in
-          let test : (m == parent) ≡ false = grind (arith, nat_tests, other) in
-          ap (λ (t : Bool). if t then relinked index root (row_at old m) else row_at old m) test
+      ∙ same-below owner old is root x off-top m way
 
 -- where rows may be freed: what is there and leads to no written row stays, with all below it
 module _ {T : Type 0} (owner : Owner) (old new : Heap T) (root n : ℕ) (tail : List ℕ) (graph : IsGraph old) (graph' : IsGraph new) (is : IsOwner old owner) (well : IsWell (form_at old) n (owned old owner)) (down : IsDown old n (owned old owner) tail)
@@ -246,15 +178,7 @@ module _ {T : Type 0} (owner : Owner) (old new : Heap T) (root n : ℕ) (tail : 
       let up = written-above old n (owned old owner) tail well down k has in
       let q : leaf.0 ≡ up.0 = (IsOwners-heap old).only up.0 leaf.0 k up.2 (subst (HasLink (links_at old) leaf.0) same leaf.2) up.3 in
       absurd (omega (arith, up.1, ap (height_in (form_at old)) q, leaf.3)) in
-      left-down x m way (graph.closed leaf.0 x leaf.2) there (λ w on has. off-written old (links_at old) (λ a b h. h) x n (owned old owner) tail down (λ one. off-top) off w has on) (λ w on. same owner is off-top w on)
-    where
-      same : (o : Owner) → IsOwner old o → ¬ Reaches (links_at old) x (owned old o) → (w : ℕ) → Reaches (links_at old) x w → with_root o root w (row_at old w) ≡ row_at old w
-      same (by_hold r) i off w on = refl
-      same (by_place parent index) i off w on =
-          let linked : HasLink (links_at old) parent (child_at old parent index) = count-at (links_at old parent) index (child_at old parent index) i refl in
-          let other : w ≢ parent = λ e. off (Reaches-then (links_at old) x parent (child_at old parent index) (subst (Reaches (links_at old) x) e on) linked) in
-          let test : (w == parent) ≡ false = grind (arith, nat_tests, other) in
-          ap (λ (t : Bool). if t then relinked index root (row_at old w) else row_at old w) test
+      left-down x m way (graph.closed leaf.0 x leaf.2) there (λ w on has. off-written old (links_at old) (λ a b h. h) x n (owned old owner) tail down (λ one. off-top) off w has on) (same-below owner old is root x off-top)
 
 -- and by a hold, what else is held
 pub left-held : {T : Type 0} (old new : Heap T) (vector root n : ℕ) (tail : List ℕ) (graph : IsGraph old) (graph' : IsGraph new) (is : 0 < holds_at old vector) (well : IsWell (form_at old) n vector) (down : IsDown old n vector tail)

@@ -30,7 +30,8 @@ use Rattle.edit_vec.specs.Edit.{PopsElement}
 use Rattle.edit_vec.specs.Walk.{pop_rows, LeavesChild, LeavesFirst, CanPop, PopsIn}
 use Rattle.edit_vec.proofs.PopPath.{pop_tail, is-last, rows-first, tail-same, tail-stays, tail-linked, pop-goes, pop-stays}
 use Rattle.edit_vec.proofs.PopSteps.{alone-copied}
-use Rattle.edit_vec.proofs.TopLemmas.{IsOwned, stays-owned, row-is, row-owned, wide-owned, path-owned, off-owned}
+use Rattle.node_heap.proofs.OwnedRows.{IsOwned}
+use Rattle.edit_vec.proofs.TopLemmas.{stays-owned, row-is, row-owned, wide-owned, path-owned, off-owned}
 use Rattle.edit_vec.proofs.KeptLemmas.{leaf-of}
 use Rattle.edit_vec.proofs.PopLemmas.{room-trans, room-makes, room-released}
 

@@ -28,7 +28,8 @@ use Rattle.edit_vec.specs.Walk.{CanPushRoot, HasRoomAt, PushesIn}
 use Rattle.edit_vec.proofs.PathLemmas.{spine_below, spine-below, spine-same, spine-stays}
 use Rattle.edit_vec.proofs.PushLemmas.{spine-linked-take, room-same, room-stays}
 use Rattle.edit_vec.proofs.OwnLemmas.{OwnsChild, down, alone-own}
-use Rattle.edit_vec.proofs.TopLemmas.{IsOwned, graph-before, owned-same, stays-owned, row-is, row-owned, wide-owned, path-owned, others-owned}
+use Rattle.node_heap.proofs.OwnedRows.{IsOwned, graph-before, owned-same}
+use Rattle.edit_vec.proofs.TopLemmas.{stays-owned, row-is, row-owned, wide-owned, path-owned, others-owned}
 
 take-none : (k : ℕ) → take {A = ℕ} k [] ≡ []
 take-none zero = refl

@@ -1,12 +1,10 @@
 -- Rows with the same head, and lists whose members have as many elements.
-use Rattle.std.proofs.Common.{◌≡◌, ◌≢◌, ℕ, suc, zero, ◌-◌, ◌+◌, ◌<◌, ◌≤◌, ◌^◌, List, [], ◌∷◌, length, take, get_or, refl, ap, sym, ◌∙◌, arith, length-append, Option, Some, None}
+use Rattle.std.proofs.Common.{◌≡◌, ℕ, suc, zero, ◌-◌, ◌+◌, ◌<◌, ◌^◌, List, [], ◌∷◌, length, take, get_or, refl, sym, ◌∙◌, arith, length-append, Option, Some, None}
 use Rattle.std.specs.Prelude.{option_map}
 use Rattle.std.specs.List.{All, flat_map}
 use Rattle.std.proofs.lemmas.List.{get_or-take, length-take, get_or_default}
 use Rattle.node_heap.specs.Links.{count}
 use Rattle.node_heap.specs.Forms.{Row, Forms, Kind, cell, node, form_of, head_of, links_of}
-use Rattle.node_heap.proofs.Counts.{count-cons, test_same}
-use Rattle.node_heap.proofs.Edited.{count-at}
 use Rattle.rrb_core.specs.Seq.{seq_at}
 use Rattle.rrb_core.specs.Vector.{IsRegular, KeepsSums, row_sums}
 
@@ -59,11 +57,3 @@ keeps-same {K} {F} {G} n ks js ss count same s =
       none = (λ e. to (s.none.0 e), λ r. s.none.1 (from r));
       kept = λ no. let a = s.kept (λ r. no (to r)) in record { count = a.count ∙ sym count; each = λ i b. a.each i (omega (arith, b, count)) ∙ sym (sizes-take (seq_at F n) (seq_at G n) ks js (i + 1) count same) };
     }
-
--- two places of one link
-pub count-two : (xs : List ℕ) (i j x : ℕ) → i ≢ j → i < length xs → j < length xs → get_or xs i 0 ≡ x → get_or xs j 0 ≡ x → 2 ≤ count x xs
-count-two [] i j x other at_i at_j found found' = absurd (omega (arith, at_i))
-count-two (y ∷ ys) zero zero x other at_i at_j found found' = absurd (other refl)
-count-two (y ∷ ys) zero (suc j) x other at_i at_j found found' = omega (arith, count-cons x y ys, test_same y x found, count-at ys j x (omega (arith, at_j)) found')
-count-two (y ∷ ys) (suc i) zero x other at_i at_j found found' = omega (arith, count-cons x y ys, test_same y x found', count-at ys i x (omega (arith, at_i)) found)
-count-two (y ∷ ys) (suc i) (suc j) x other at_i at_j found found' = omega (arith, count-cons x y ys, count-two ys i j x (λ e. other (ap suc e)) (omega (arith, at_i)) (omega (arith, at_j)) found found')

@@ -18,7 +18,8 @@ use Rattle.edit_vec.specs.Edit.{SetsElement}
 use Rattle.edit_vec.specs.Walk.{SetsIn}
 use Rattle.edit_vec.proofs.PathLemmas.{rows_below, rows-below, below-linked, below-same, below-stays}
 use Rattle.edit_vec.proofs.OwnLemmas.{alone-own}
-use Rattle.edit_vec.proofs.TopLemmas.{IsOwned, stays-owned, row-is, row-owned, wide-owned, path-owned, others-owned}
+use Rattle.node_heap.proofs.OwnedRows.{IsOwned}
+use Rattle.edit_vec.proofs.TopLemmas.{stays-owned, row-is, row-owned, wide-owned, path-owned, others-owned}
 
 module _ {T : Type 0} {owner : Owner} {old mid new : Heap T} {r n index e given : ℕ} (o : IsOwned owner old mid r) (good : IsGoodVector old (owned old owner)) (height : n ≡ height_at old (owned old owner)) (inside : index < length (elements old (owned old owner))) (sub : SetsIn mid new n r index e given) where
   abbrev root : ℕ

@@ -20,7 +20,7 @@ use Rattle.rrb_core.proofs.LinkCounts.{all-counted}
 use Rattle.rrb_core.proofs.Lists.{items-around, set-parts}
 use Rattle.rrb_core.proofs.Stays.{seq-stays, items-stay, all-thick-stay, rows-stay}
 use Rattle.rrb_core.proofs.RowLists.{IsOver, over, rows-take, rows-drop, take-thick, one-row, rows-around}
-use Rattle.edit_vec.proofs.RowLemmas.{count-two}
+use Rattle.node_heap.proofs.OwnerLemmas.{count-two}
 use Rattle.edit_vec.proofs.OwnLemmas.{OwnsChild, linked-now, IsBelow, stays-below}
 
 -- the child was edited then

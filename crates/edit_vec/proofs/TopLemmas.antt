@@ -1,24 +1,18 @@
 -- An edit of a whole vector: room is made, what the owner owns is made its own, and the edit goes down from there.
-use Rattle.std.proofs.Common.{◌≡◌, ◌≢◌, ℕ, ◌+◌, ◌*◌, ◌<◌, ◌≤◌, List, [], ◌∷◌, length, get_or, refl, ap, sym, subst, ◌∙◌, arith, None, IsSome, inl, inr}
-use Rattle.std.specs.Prelude.{◌↔◌, slice_index}
+use Rattle.std.proofs.Common.{◌≡◌, ◌≢◌, ℕ, ◌+◌, ◌<◌, ◌≤◌, List, [], ◌∷◌, length, get_or, refl, ap, sym, ◌∙◌, arith, None, IsSome, inl, inr}
 use Rattle.std.proofs.lemmas.Bool.{cases_eq}
 use Rattle.node_heap.specs.Links.{count, HasLink, Reaches, here}
 use Rattle.node_heap.specs.Forms.{links_of, links_in, is_node}
-use Rattle.node_heap.specs.Heap.{Heap, row_at, form_at, links_at, holds_at, owners_at, live_count, one_at, IsGraph}
-use Rattle.node_heap.specs.Calls.{KeepsBelow, Unchanged, HasGreater, KeepsToNeed, Gains, HasHolds, MakesWhatCame}
-use Rattle.node_heap.specs.InPlace.{other_at, child_at, path_start, Changes}
-use Rattle.node_heap.specs.Owner.{Owner, by_hold, by_place, owned, with_root, EditsBy, written, KeepsAlone, WritesOnly}
-use Rattle.node_heap.proofs.Counts.{count-cons, one_at-flip, test_same}
+use Rattle.node_heap.specs.Heap.{Heap, row_at, form_at, links_at, holds_at, IsGraph}
+use Rattle.node_heap.specs.Calls.{Unchanged, HasHolds}
+use Rattle.node_heap.specs.InPlace.{child_at, path_start, Changes}
+use Rattle.node_heap.specs.Owner.{Owner, by_place, owned, EditsBy, written, KeepsAlone, WritesOnly}
+use Rattle.node_heap.proofs.Counts.{count-cons, test_same}
 use Rattle.node_heap.proofs.Reach.{Reaches-by}
-use Rattle.node_heap.proofs.Ways.{Reaches-last}
-use Rattle.node_heap.proofs.GraphLemmas.{linked-places}
-use Rattle.node_heap.proofs.Owners.{KeepsOwners-Unchanged}
-use Rattle.node_heap.proofs.RoomLemmas.{KeepsToNeed-reserved}
 use Rattle.node_heap.proofs.BuildLemmas.{Builds-refl}
 use Rattle.node_heap.proofs.Edited.{Changes-path, Changes-then, Changes-beside, Changes-more}
-use Rattle.node_heap.proofs.EditLaws.{Changes-Builds, Changes-Unchanged, MakesJust-Gains}
+use Rattle.node_heap.proofs.EditLaws.{Changes-Builds, Changes-Unchanged}
 use Rattle.node_heap.proofs.AloneLemmas.{written-cons, written-own, KeepsAlone-own}
-use Rattle.node_heap.proofs.OwnerLemmas.{EditsBy-Unchanged}
 use Rattle.node_heap.specs.declared.row.TheConstants.{MOST_HEIGHT}
 use Rattle.rrb_core.specs.Vector.{elements, height_at, IsGoodVector, IsVectorOf}
 use Rattle.rrb_core.specs.Build.{IsRowOf}
@@ -30,7 +24,8 @@ use Rattle.rrb_core.proofs.RowLists.{good-row, root-row}
 use Rattle.edit_vec.specs.Walk.{CanWrite}
 use Rattle.edit_vec.proofs.StepLemmas.{well-node}
 use Rattle.edit_vec.proofs.OwnLemmas.{OwnsChild, linked, stays-below, down, held-now, apart-child, gains-child}
-use Rattle.edit_vec.proofs.OwnerLemmas.{Owns, owns-held, edits-hold, placed, edits-place}
+use Rattle.node_heap.proofs.OwnedRows.{Owns, IsOwned, owned-hold, graph-before, owned-same, held-mid, apart-mid}
+use Rattle.edit_vec.proofs.OwnerLemmas.{placed, edits-place}
 
 -- the root of a vector is a node
 pub good-node : {T : Type 0} {h : Heap T} {l : ℕ} → IsGoodVector h l → is_node (row_at h l) ≡ 1
@@ -39,36 +34,6 @@ good-node {h = h} {l = l} good = well-node h (height_at h l) l good.shape.well
 -- a root and an element that are held beside one another
 pub holds-root : {T : Type 0} (h : Heap T) (root e : ℕ) → HasHolds h (root ∷ e ∷ []) → 0 < holds_at h root
 holds-root h root e held = omega (arith, held root, count-cons root root (e ∷ []), test_same root root refl)
-
--- what an owner owns was made its own: it is r now, and all below it stays
-pub record IsOwned {T : Type 0} (owner : Owner) (old mid : Heap T) (r : ℕ) : Type 0 where
-  pub graph : IsGraph old
-  pub below : KeepsBelow old mid (owned old owner)
-  pub row_same : row_at mid r ≡ row_at old (owned old owner)
-  pub same : (r ≡ owned old owner) ↔ (owners_at old (owned old owner) ≡ 1)
-  pub sole : owners_at mid r ≡ 1
-  pub fresh : r ≢ owned old owner → row_at old r ≡ None
-  pub owners : (k : ℕ) → owners_at mid k + one_at (owned old owner) k ≡ owners_at old k + (one_at r k + other_at (owned old owner) r * count k (links_at old (owned old owner)))
-  pub came : live_count mid ≡ live_count old + other_at (owned old owner) r
-  pub live : (m : ℕ) → IsSome (row_at old m) → IsSome (row_at mid m)
-  pub kept : (m : ℕ) → m ≢ r → IsSome (row_at old m) → row_at mid m ≡ with_root owner r m (row_at old m)
-  pub edits : (new : Heap T) (spent gained : List ℕ) (c n : ℕ) → Changes r mid new spent gained c n → EditsBy owner old new r spent gained c (1 + n)
-
--- a held root that was made its holder's own
-pub owned-hold : {T : Type 0} {old mid : Heap T} {root r : ℕ} → Owns old mid root r → IsOwned (by_hold root) old mid r
-owned-hold {root = root} o = record {
-  graph = o.graph;
-  below = o.builds.extends.kept root (o.graph.held root o.held);
-  row_same = o.row_same;
-  same = o.same;
-  sole = o.sole;
-  fresh = o.fresh;
-  owners = o.owners;
-  came = omega (arith, o.makes.live);
-  live = o.builds.extends.live;
-  kept = λ m other some. o.builds.extends.kept m some m (here m);
-  edits = edits-hold o;
-}
 
 -- a child that was made its parent's own
 pub owned-place : {T : Type 0} {old mid : Heap T} {parent child r : ℕ} (o : OwnsChild old mid parent child r) → IsOwned (by_place parent child) old mid r
@@ -85,73 +50,6 @@ owned-place {old = old} {parent = parent} {child = child} o = record {
   kept = λ m other some. placed o m other;
   edits = edits-place o;
 }
-
--- room was made first
-module _ {T : Type 0} {first old : Heap T} (u : Unchanged first old) where
-  pub graph-before : IsGraph first
-  graph-before = record {
-    closed = λ l k has. subst IsSome (u.rows k) (u.graph.closed l k (link l k has));
-    held = λ l some. subst IsSome (u.rows l) (u.graph.held l (omega (arith, some, u.holds l)));
-    reached = λ l live.
-        let up = u.graph.reached l (subst IsSome (sym (u.rows l)) live) in
-        (up.0, omega (arith, up.1, u.holds up.0), Reaches-by (links_at old) (links_at first) (λ k. ap links_of (sym (u.rows k))) up.0 l up.2);
-    rank = u.graph.rank;
-    falls = λ l k has. u.graph.falls l k (link l k has);
-    short = λ l. omega (arith, u.graph.short l, ap (λ w. length (links_of w)) (u.rows l));
-    few_holds = omega (arith, u.graph.few_holds, u.count);
-    few_rows = omega (arith, u.graph.few_rows, u.live, u.spare_cells, u.spare_nodes);
-    few_made = omega (arith, u.graph.few_made, u.made);
-  }
-    where
-      link : (l k : ℕ) → HasLink (links_at first) l k → HasLink (links_at old) l k
-      link l k has = subst (λ w. 0 < count k (links_of w)) (sym (u.rows l)) has
-
-  pub owned-same : (owner : Owner) → owned old owner ≡ owned first owner
-  owned-same (by_hold _) = refl
-  owned-same (by_place parent index) = ap (λ w. slice_index (links_of w) index) (u.rows parent)
-
-  pub after-room : {owner : Owner} {mid : Heap T} {r : ℕ} → IsOwned owner old mid r → IsOwned owner first mid r
-  after-room {owner} {mid} {r} o =
-      let e = owned-same owner in
-      let now : ℕ = owned first owner in
-      let owners = KeepsOwners-Unchanged first old u in
-      record {
-        graph = graph-before;
-        below = λ m way. o.below m (subst (λ x. Reaches (links_at old) x m) (sym e) (Reaches-by (links_at first) (links_at old) (λ k. ap links_of (u.rows k)) now m way)) ∙ u.rows m;
-        row_same = o.row_same ∙ u.rows (owned old owner) ∙ ap (row_at first) e;
-        same = (
-          λ is. omega (arith, o.same.0 (is ∙ sym e), owners (owned old owner), ap (owners_at first) e),
-          λ one. o.same.1 (omega (arith, one, owners (owned old owner), ap (owners_at first) e)) ∙ e,
-        );
-        sole = o.sole;
-        fresh = λ other. sym (u.rows r) ∙ o.fresh (λ is. other (is ∙ e));
-        owners = λ k. omega (
-          arith,
-          o.owners k,
-          owners k,
-          ap (λ (x : ℕ). one_at x k) e,
-          ap (λ (x : ℕ). other_at x r * count k (links_at old x)) e,
-          ap (λ w. other_at now r * count k (links_of w)) (u.rows now),
-        );
-        came = omega (arith, o.came, u.live, ap (λ (x : ℕ). other_at x r) e);
-        live = λ m some. o.live m (subst IsSome (sym (u.rows m)) some);
-        kept = λ m other some. o.kept m other (subst IsSome (sym (u.rows m)) some) ∙ ap (with_root owner r m) (u.rows m);
-        edits = λ new spent gained c n change. EditsBy-Unchanged first old u owner (o.edits new spent gained c n change);
-      }
-
-  -- and the step after it made rows of spares and freed none
-  module _ {new : Heap T} (gains : Gains old new) where
-    pub makes-came : MakesWhatCame first new
-    makes-came = record {
-      stays = λ l some. gains.stays l (subst IsSome (sym (u.rows l)) some);
-      live = omega (arith, gains.makes.live, u.live);
-      made = let just = MakesJust-Gains gains in omega (arith, just, u.made, u.live);
-    }
-
-    pub to-need : {cells nodes : ℕ} → HasGreater first old cells nodes → KeepsToNeed first new cells nodes
-    to-need room =
-        let keeps : KeepsToNeed old new 0 0 = record { few_cells = omega (arith, gains.makes.spare_cells, gains.makes.cells); few_nodes = omega (arith, gains.makes.spare_nodes, gains.makes.nodes) } in
-        KeepsToNeed-reserved room u (omega arith) (omega arith) keeps
 
 -- the root of a vector was made its owner's own
 module _ {T : Type 0} {owner : Owner} {old mid : Heap T} {r n : ℕ} (o : IsOwned owner old mid r) (good : IsGoodVector old (owned old owner)) (height : n ≡ height_at old (owned old owner)) where
@@ -211,22 +109,9 @@ module _ {T : Type 0} {owner : Owner} {old mid : Heap T} {r n : ℕ} (o : IsOwne
         let both = off-owned m live off in
         others m (o.live m live) both.1 ∙ o.kept m both.0 live
 
--- what is handed in beside a held root that was made its holder's own
-module _ {T : Type 0} {old mid : Heap T} {root r : ℕ} (o : Owns old mid root r) (e : ℕ) (held : HasHolds old (root ∷ e ∷ [])) where
-  held-beside : one_at root e + 1 ≤ holds_at old e
-  held-beside = omega (arith, held e, count-cons e root (e ∷ []), count-cons e e [], test_same e e refl, one_at-flip root e)
-
-  pub held-mid : 1 ≤ holds_at mid e
-  held-mid = omega (arith, held-beside, o.builds.holds e, count-cons e root [], count-cons e r [], one_at-flip root e)
-
-  pub apart-mid : ¬ Reaches (links_at mid) e r
-  apart-mid way = elim (Reaches-last (links_at mid) e r way) as (λ _. ⊥) [
-    | inl same ↦ absurd (omega (arith, held-beside, o.builds.holds e, count-cons e root [], count-cons e r [], one_at-flip root e, test_same r e (sym same), ap (holds_at mid) same, o.sole))
-    | inr last ↦ absurd (omega (arith, owns-held o, o.sole, linked-places mid.rows last.0 r last.2))
-  ]
-
-  pub write-hold : {n : ℕ} → IsGoodVector old root → n ≡ height_at old root → 8 ≤ old.spare_nodes → CanWrite mid n r e
-  write-hold good height spare = can-write (owned-hold o) good height o.builds.graph (omega (arith, spare, o.builds.makes.spare_nodes, o.builds.few_nodes)) held-mid apart-mid
+-- the same of a held root, with an element handed in beside it
+pub write-hold : {T : Type 0} {old mid : Heap T} {root r n : ℕ} (o : Owns old mid root r) (e : ℕ) → HasHolds old (root ∷ e ∷ []) → IsGoodVector old root → n ≡ height_at old root → 8 ≤ old.spare_nodes → CanWrite mid n r e
+write-hold o e held good height spare = can-write (owned-hold o) good height o.builds.graph (omega (arith, spare, o.builds.makes.spare_nodes, o.builds.few_nodes)) (held-mid o e held) (apart-mid o e held)
 
 -- and beside a child that was made its parent's own, where it doesn't reach the parent
 pub write-place : {T : Type 0} {old mid : Heap T} {parent child r n e : ℕ} (o : OwnsChild old mid parent child r) → 1 ≤ holds_at old e → ¬ Reaches (links_at old) e parent → IsGoodVector old (child_at old parent child) → n ≡ height_at old (child_at old parent child) → 8 ≤ old.spare_nodes → CanWrite mid n r e

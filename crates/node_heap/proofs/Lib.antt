@@ -24,6 +24,8 @@ pub mod Edited
 pub mod EditLaws
 pub mod AloneLemmas
 pub mod OwnerLemmas
+pub mod OwnedRows
+pub mod BesideOwner
 pub mod Rewritten
 pub mod Copied
 pub mod Owned

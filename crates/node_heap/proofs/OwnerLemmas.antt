@@ -27,7 +27,7 @@ relinked-is (Some (node h l)) (Some (cell y)) index link some heads links = absu
 relinked-is (Some (node h l)) (Some (node h' l')) index link some heads links = cc
 
 -- what stands at two places is counted twice
-count-two : (xs : List ℕ) (i j x : ℕ) → i ≢ j → i < length xs → j < length xs → get_or xs i 0 ≡ x → get_or xs j 0 ≡ x → 2 ≤ count x xs
+pub count-two : (xs : List ℕ) (i j x : ℕ) → i ≢ j → i < length xs → j < length xs → get_or xs i 0 ≡ x → get_or xs j 0 ≡ x → 2 ≤ count x xs
 count-two [] i j x other at_i at_j found found' = absurd (omega (arith, at_i))
 count-two (y ∷ ys) zero zero x other at_i at_j found found' = absurd (other refl)
 count-two (y ∷ ys) zero (suc j) x other at_i at_j found found' = omega (arith, count-cons x y ys, test_same y x found, count-at ys j x (omega (arith, at_j)) found')

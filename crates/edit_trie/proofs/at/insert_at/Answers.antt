@@ -18,7 +18,8 @@ use Rattle.edit_trie.specs.Edit.{by_bits, PutsValue}
 use Rattle.edit_trie.proofs.RowLemmas.{node-form}
 use Rattle.edit_trie.proofs.ChildLemmas.{OwnsChild, gains-child, own-linked, own-held, own-apart, apart-child, unspent-one, own-child-there}
 use Rattle.edit_trie.proofs.ChainLemmas.{read-child}
-use Rattle.edit_trie.proofs.RootLemmas.{IsOwned, owned-same, owned-place, after-room, changes-place, makes-came, to-need}
+use Rattle.node_heap.proofs.OwnedRows.{IsOwned, owned-same, after-room, makes-came, to-need}
+use Rattle.edit_trie.proofs.RootLemmas.{owned-place, changes-place}
 use Rattle.edit_trie.proofs.OwnTop.{alike-top}
 use Rattle.edit_trie.proofs.PutTop.{can-bind, puts-value, pairs-of, can-bind-of, puts-before}
 use Rattle.edit_trie.proofs.LawLemmas.{handed-apart}

@@ -21,7 +21,8 @@ use Rattle.edit_trie.specs.Walk.{CanEdit, OwnsIn}
 use Rattle.edit_trie.proofs.RowLemmas.{node-form}
 use Rattle.edit_trie.proofs.ChildLemmas.{OwnsChild, gains-child, own-child-there, own-down}
 use Rattle.edit_trie.proofs.ChainLemmas.{read-child}
-use Rattle.edit_trie.proofs.RootLemmas.{IsOwned, owned-same, owned-place, after-room, changes-place, makes-came, to-need, some-of}
+use Rattle.node_heap.proofs.OwnedRows.{IsOwned, owned-same, after-room, makes-came, to-need}
+use Rattle.edit_trie.proofs.RootLemmas.{owned-place, changes-place, some-of}
 use Rattle.edit_trie.proofs.OwnTop.{can-top, pair-top, alike-top, owns-pair}
 use Rattle.edit_trie.proofs.PutTop.{pairs-of, owned-entry}
 use Rattle.edit_trie.proofs.at.own_value_at.Goals as goal

@@ -15,7 +15,8 @@ use Rattle.edit_trie.specs.Edit.{OwnsPair}
 use Rattle.edit_trie.specs.Walk.{CanEdit, OwnsIn}
 use Rattle.edit_trie.proofs.RowLemmas.{node-form}
 use Rattle.edit_trie.proofs.ChildLemmas.{OwnsChild, gains-child, own-child-there, own-down}
-use Rattle.edit_trie.proofs.RootLemmas.{IsOwned, owned-place, changes-place, makes-came}
+use Rattle.node_heap.proofs.OwnedRows.{IsOwned, makes-came}
+use Rattle.edit_trie.proofs.RootLemmas.{owned-place, changes-place}
 use Rattle.edit_trie.proofs.OwnTop.{can-top, pair-top, alike-top, owns-pair}
 use Rattle.edit_trie.proofs.at.own_value_there.Given as given
 use Rattle.edit_trie.proofs.at.own_value_there.Goals as goal

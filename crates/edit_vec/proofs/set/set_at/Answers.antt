@@ -8,7 +8,8 @@ use Rattle.rrb_core.proofs.RowLists.{at-place}
 use Rattle.rrb_core.proofs.Stays.{well-live}
 use Rattle.edit_vec.proofs.OwnLemmas.{owns-child, gains-child, child-now}
 use Rattle.edit_vec.proofs.PopSteps.{within}
-use Rattle.edit_vec.proofs.TopLemmas.{good-node, owned-place, owned-same, after-room, row-owned, write-place, changes-place, held-room, apart-room, child-room, makes-came}
+use Rattle.node_heap.proofs.OwnedRows.{owned-same, after-room, makes-came}
+use Rattle.edit_vec.proofs.TopLemmas.{good-node, owned-place, row-owned, write-place, changes-place, held-room, apart-room, child-room}
 use Rattle.edit_vec.proofs.SetTop.{sets-element}
 use Rattle.edit_vec.proofs.set.set_at.Goals as goal
 

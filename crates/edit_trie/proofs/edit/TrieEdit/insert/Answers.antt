@@ -17,7 +17,7 @@ use Rattle.champ_kinds.proofs.StayLemmas.{map-seen, entries-seen}
 use Rattle.node_heap.specs.Calls.{HasHolds}
 use Rattle.edit_trie.specs.Edit.{PutsValue}
 use Rattle.edit_trie.proofs.RowLemmas.{node-form}
-use Rattle.edit_trie.proofs.RootLemmas.{Owns, IsOwned, owns, owned-hold, after-room, makes-came, to-need, held-mid, apart-mid}
+use Rattle.node_heap.proofs.OwnedRows.{Owns, IsOwned, owns, owned-hold, after-room, makes-came, to-need, held-mid, apart-mid}
 use Rattle.edit_trie.proofs.PutTop.{can-bind, puts-value, pairs-of, can-bind-of, puts-before}
 use Rattle.edit_trie.proofs.LawLemmas.{handed-stays}
 use Rattle.edit_trie.proofs.edit.TrieEdit.insert.Goals as goal

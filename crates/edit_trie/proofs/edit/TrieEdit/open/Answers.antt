@@ -10,7 +10,7 @@ use Rattle.champ_kinds.specs.Root.{Root}
 use Rattle.champ_kinds.specs.Kinds.{HasEntries, IsMapOf}
 use Rattle.edit_trie.specs.Edit.{by_bits}
 use Rattle.edit_trie.proofs.RowLemmas.{node-form}
-use Rattle.edit_trie.proofs.RootLemmas.{IsOwned, owns, owned-hold, after-room}
+use Rattle.node_heap.proofs.OwnedRows.{IsOwned, owns, owned-hold, after-room}
 use Rattle.edit_trie.proofs.OwnTop.{map-top, edits-top}
 use Rattle.edit_trie.proofs.MapLemmas.{entries-owned}
 use Rattle.edit_trie.proofs.edit.TrieEdit.open.Goals as goal

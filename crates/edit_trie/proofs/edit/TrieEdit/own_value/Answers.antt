@@ -20,7 +20,8 @@ use Rattle.champ_kinds.specs.Kinds.{IsMapOf}
 use Rattle.edit_trie.specs.Edit.{by_bits, OwnsPair}
 use Rattle.edit_trie.specs.Walk.{CanEdit, OwnsIn}
 use Rattle.edit_trie.proofs.RowLemmas.{node-form}
-use Rattle.edit_trie.proofs.RootLemmas.{IsOwned, owns, owned-hold, after-room, makes-came, to-need, some-of}
+use Rattle.node_heap.proofs.OwnedRows.{IsOwned, owns, owned-hold, after-room, makes-came, to-need}
+use Rattle.edit_trie.proofs.RootLemmas.{some-of}
 use Rattle.edit_trie.proofs.OwnTop.{can-top, pair-top, owns-pair}
 use Rattle.edit_trie.proofs.PutTop.{pairs-of, owned-entry}
 use Rattle.edit_trie.proofs.edit.TrieEdit.own_value.Goals as goal

@@ -28,7 +28,8 @@ use Rattle.edit_trie.specs.Walk.{CanEdit, CutsIn}
 use Rattle.edit_trie.proofs.RowLemmas.{node-form}
 use Rattle.edit_trie.proofs.ChainLemmas.{read-child}
 use Rattle.edit_trie.proofs.ChainCutLemmas.{hold-change}
-use Rattle.edit_trie.proofs.RootLemmas.{Owns, IsOwned, owns, owned-hold, after-room, makes-came, to-need, released-need}
+use Rattle.node_heap.proofs.OwnedRows.{Owns, IsOwned, owns, owned-hold, after-room, makes-came, to-need}
+use Rattle.edit_trie.proofs.RootLemmas.{released-need}
 use Rattle.edit_trie.proofs.OwnTop.{can-top}
 use Rattle.edit_trie.proofs.CutTop.{value-off, value-live, cut-held, entries-new, cuts-key}
 use Rattle.edit_trie.proofs.edit.TrieEdit.remove.Goals as goal

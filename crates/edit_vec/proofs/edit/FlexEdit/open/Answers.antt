@@ -1,8 +1,8 @@
 use Rattle.std.proofs.Common.{refl, arith}
 use Rattle.node_heap.proofs.Frames.{Extends-trans}
 use Rattle.rrb_core.proofs.BuildLemmas.{unchanged-good}
-use Rattle.edit_vec.proofs.OwnerLemmas.{Owns, owns}
-use Rattle.edit_vec.proofs.TopLemmas.{good-node, owned-hold, after-room, vector-owned, edits-owned}
+use Rattle.node_heap.proofs.OwnedRows.{Owns, owns, owned-hold, after-room}
+use Rattle.edit_vec.proofs.TopLemmas.{good-node, vector-owned, edits-owned}
 use Rattle.edit_vec.proofs.edit.FlexEdit.open.Given.{Over}
 use Rattle.edit_vec.proofs.edit.FlexEdit.open.Goals as goal
 

@@ -5,8 +5,8 @@ use Rattle.rrb_core.specs.Vector.{elements, height_at}
 use Rattle.rrb_core.proofs.BuildLemmas.{unchanged-good, same-height}
 use Rattle.rrb_core.proofs.RowLists.{at-place}
 use Rattle.edit_vec.specs.Walk.{LeavesChild, LeavesFirst}
-use Rattle.edit_vec.proofs.OwnerLemmas.{owns}
-use Rattle.edit_vec.proofs.TopLemmas.{good-node, owned-hold, after-room}
+use Rattle.node_heap.proofs.OwnedRows.{owns, owned-hold, after-room}
+use Rattle.edit_vec.proofs.TopLemmas.{good-node}
 use Rattle.edit_vec.proofs.PopSteps.{not-both, not-empty}
 use Rattle.edit_vec.proofs.PopTop.{two-children, leaves-same, pops-child, enough-mid, more-mid, can-pop-root, pops-root}
 use Rattle.edit_vec.proofs.edit.FlexEdit.pop.Goals as goal

@@ -2,9 +2,9 @@ use Rattle.std.proofs.Common.{◌<◌, ℕ, length, ap, ◌∙◌, arith}
 use Rattle.node_heap.proofs.EditLaws.{Gains-trans, Gains-Builds}
 use Rattle.rrb_core.specs.Vector.{elements, height_at}
 use Rattle.rrb_core.proofs.BuildLemmas.{unchanged-good, same-height}
-use Rattle.edit_vec.proofs.OwnerLemmas.{owns}
+use Rattle.node_heap.proofs.OwnedRows.{owns, owned-hold, after-room, makes-came}
 use Rattle.edit_vec.proofs.PopSteps.{within}
-use Rattle.edit_vec.proofs.TopLemmas.{good-node, holds-root, owned-hold, after-room, row-owned, write-hold, makes-came}
+use Rattle.edit_vec.proofs.TopLemmas.{good-node, holds-root, row-owned, write-hold}
 use Rattle.edit_vec.proofs.SetTop.{sets-element}
 use Rattle.edit_vec.proofs.edit.FlexEdit.set.Goals as goal
 
