@@ -1,10 +1,14 @@
 """Writes documents of the format in docs/POOL.md, those of a shell that got `new a` and then lines by `add a`, or that got
-many names by `new`. They are of version 2, or of version 1 as shells wrote them before that."""
+many names by `new`. They are of version 3, or of version 1 or 2 as shells wrote them before that."""
 
 WIDTH = 32
 
+# What shells write today.
+TODAY = 3
+
 # By the version of a document: the bits of a code, with what FNV-1a starts, by what it multiplies, and the last digit's depth.
-RULES = {1: (32, 2166136261, 16777619, 6), 2: (64, 14695981039346656037, 1099511628211, 12)}
+WIDE_RULES = (64, 14695981039346656037, 1099511628211, 12)
+RULES = {1: (32, 2166136261, 16777619, 6), 2: WIDE_RULES, TODAY: WIDE_RULES}
 
 
 class Row:
@@ -165,14 +169,15 @@ def written(roots, version):
     places = ",".join(str(root.place) for root in roots)
     texts = ",".join(row.text() for row in rows)
     bits = RULES[version][0]
-    return f'{{"bits":{bits},"format":"ewig-pool","roots":[{places}],"rows":[{texts}],"version":{version}}}', len(rows)
+    history = '"history":4294967295,' if version == TODAY else ""
+    return f'{{"bits":{bits},"format":"ewig-pool",{history}"roots":[{places}],"rows":[{texts}],"version":{version}}}', len(rows)
 
 
-def document(lines, in_batch, version=2):
+def document(lines, in_batch, version=TODAY):
     """The document after so many lines, and how many rows it has."""
     return written(rows_of(lines, in_batch), version)
 
 
-def document_of_names(count, in_batch, version=2):
+def document_of_names(count, in_batch, version=TODAY):
     """The document after so many names, and how many rows it has."""
     return written(names_of(count, in_batch, version), version)

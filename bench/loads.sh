@@ -17,7 +17,7 @@ begin "$@"
 below=$(sed -n 's/^pool_carry: //p' "$top/crates.txt" | tr ' ' '\n' | grep -vx indexmap | tr '\n' ' ')
 # `pool_carry` stands on most of them, and `pool_load` beside it.
 "$top/tools/prove-program" pool_load
-take_crates $below edit_vec edit_trie pool_load pool_carry
+take_crates $below rrb_join edit_vec edit_trie pool_load pool_carry
 begin_program load_parts 'pool_load pool_carry pool_check pool_text node_heap elem_core serde_json anyhow'
 cat > "$crate/src/main.rt" <<PROGRAM
 //! Reads the document of standard input over and over, and tells the clocks before and after each part of a load.
@@ -124,15 +124,13 @@ fn rows_of(checked: &Checked<Text>) -> usize {
 }
 PROGRAM
 add_tell usize
-# What the program has to show of a pool by its version, with the lemmas of the tests of pools.
-cp "$top/crates/pool_tests/proofs/Versions.antt" "$crate/proofs/Versions.antt"
-echo 'mod Versions' > "$crate/proofs/Lib.antt"
+# What the program has to show of a pool by its version.
 mkdir -p "$crate/proofs/checked_pool" "$crate/proofs/carried"
 cat > "$crate/proofs/checked_pool/Answers.antt" <<'ANSWERS'
 use Rattle.std.proofs.Common.{sym, subst, arith}
 use Rattle.pool_text.specs.Rules.{first_rules}
 use Rattle.pool_check.specs.Damages.{IsValidBy}
-use Rattle.load_parts.proofs.Versions.{first-range, first-bits, present-version, present-range, present-bits}
+use Rattle.pool_check.proofs.Versions.{first-range, first-bits, present-are, present-range, present-bits}
 use Rattle.load_parts.proofs.checked_pool.Goals as goal
 
 pub check_old-requires-clause-bits : goal.check_old-requires-clause-bits
@@ -144,22 +142,23 @@ check_old-requires-clause-rows g c = first-range c.in_ok-pool.pool c.in_ok-pool.
 pub carried-requires : goal.carried-requires
 carried-requires g c = subst (IsValidBy first_rules) (sym c.in_ok-old.ensures.same) c.in_ok-old.ensures.valid
 
-pub check-requires-clause-version : goal.check-requires-clause-version
-check-requires-clause-version g c = present-version c.in_ok-pool.pool c.in_ok-pool.ensures.rows c.if-pool-eq-FIRST_VERSION.false
+pub check-requires-clause-rules : goal.check-requires-clause-rules
+check-requires-clause-rules g c = present-are c.in_ok-pool.pool c.in_ok-pool.ensures.rows c.if-pool-eq-FIRST_VERSION.false
+
+pub check-requires-clause-history : goal.check-requires-clause-history
+check-requires-clause-history g c = c.in_ok-pool.ensures.history
 
 pub check-requires-clause-bits : goal.check-requires-clause-bits
-check-requires-clause-bits g c =
-    let now = present-version c.in_ok-pool.pool c.in_ok-pool.ensures.rows c.if-pool-eq-FIRST_VERSION.false in
-    omega (arith, present-bits c.in_ok-pool.pool 64 c.in_ok-pool.ensures.bits now)
+check-requires-clause-bits g c = omega (arith, present-bits c.in_ok-pool.pool 64 c.in_ok-pool.ensures.bits c.if-pool-eq-FIRST_VERSION.false)
 
 pub check-requires-clause-rows : goal.check-requires-clause-rows
 check-requires-clause-rows g c = present-range c.in_ok-pool.pool c.in_ok-pool.ensures.rows c.if-pool-eq-FIRST_VERSION.false
 ANSWERS
 cat > "$crate/proofs/carried/Answers.antt" <<'ANSWERS'
-use Rattle.std.proofs.Common.{◌≡◌, true, arith}
+use Rattle.std.proofs.Common.{◌≡◌, ap, true, arith}
 use Rattle.std.specs.List.{list_all}
 use Rattle.pool_text.specs.Rows.{is_in_range}
-use Rattle.pool_text.specs.Rules.{first_rules, present_rules}
+use Rattle.pool_text.specs.Rules.{first_rules, present_rules, rules_of}
 use Rattle.pool_text.specs.declared.pool.Pool.{Pool}
 use Rattle.pool_check.specs.Rows.{rows_in_range_by}
 use Rattle.pool_check.specs.Damages.{IsValid}
@@ -169,8 +168,12 @@ valid-range : (P : Pool) → IsValid P → list_all is_in_range P.rows ≡ true
 unfolding rows_in_range_by
 valid-range P valid = valid.in_range
 
-pub check-requires-clause-version : goal.check-requires-clause-version
-check-requires-clause-version g c = c.in_ok-pool.ensures.version
+pub check-requires-clause-rules : goal.check-requires-clause-rules
+check-requires-clause-rules g c = ap rules_of c.in_ok-pool.ensures.version
+
+pub check-requires-clause-history : goal.check-requires-clause-history
+check-requires-clause-history g c =
+    record { within = omega (arith, c.in_ok-pool.ensures.history); older = λ _. c.in_ok-pool.ensures.history }
 
 pub check-requires-clause-bits : goal.check-requires-clause-bits
 check-requires-clause-bits g c = omega (arith, c.in_ok-pool.ensures.bits)
@@ -211,7 +214,7 @@ fi
 
 report "$count" "$turns" "$work" "${readers[@]}" <<'PYTHON'
 import os, subprocess, sys
-from documents import document, document_of_names
+from documents import TODAY, document, document_of_names
 from shared import spans_of
 
 count, turns, room, readers = int(sys.argv[1]), int(sys.argv[2]), sys.argv[3], sys.argv[4:]
@@ -245,7 +248,7 @@ SHAPES = [
 figures = []
 for make, shape, least, in_batch in SHAPES:
     for n in (least, 4 * least, 16 * least):
-        for version in (2, 1):
+        for version in (TODAY, 1):
             text, rows = make(n, in_batch, version)
             with open(room + "/document", "w") as out:
                 out.write(text)

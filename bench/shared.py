@@ -82,14 +82,26 @@ def tables(columns, figures, width, margin=32):
     table(columns, places, width, margin=margin)
 
 
+# Starts a program, and tells in a file what it took. It is a process of its own, since the system tells of none a peak below that of
+# the process that started it, and a bench holds whole scripts and replies.
+MEASURED = """
+import os, subprocess, sys
+child = subprocess.Popen(sys.argv[2:])
+_, status, usage = os.wait4(child.pid, 0)
+with open(sys.argv[1], "w") as out:
+    out.write(f"{status} {usage.ru_utime + usage.ru_stime} {usage.ru_maxrss}")
+"""
+
+
 def shell_run(program, room, script):
     """What one run of the shell over a script took in this folder: the processor seconds, the peak megabytes, and its replies."""
     with open(room + "/input", "w") as out:
         out.write(script)
     with open(room + "/input") as given, open(room + "/replies", "wb") as out:
-        child = subprocess.Popen([program], stdin=given, stdout=out, cwd=room)
-        _, status, usage = os.wait4(child.pid, 0)
-    if status != 0:
+        subprocess.run([sys.executable, "-c", MEASURED, room + "/usage", program], stdin=given, stdout=out, cwd=room, check=True)
+    with open(room + "/usage") as usage:
+        status, seconds, peak = usage.read().split()
+    if status != "0":
         sys.exit(f"the program ended with {status}")
     with open(room + "/replies") as replies:
-        return usage.ru_utime + usage.ru_stime, usage.ru_maxrss * 1024 / 1e6, replies.read().split("\n")[:-1]
+        return float(seconds), int(peak) * 1024 / 1e6, replies.read().split("\n")[:-1]

@@ -34,7 +34,8 @@ FILES = {
     "bad": b"x\n\xff\n", "long": b"x\n" + 65_537 * b"y" + b"\n", "both": 65_537 * b"\xff", "edge": 65_536 * b"z" + b"\n" + b"q" * 65_536,
 }
 WORDS = [
-    ["--bits", "0"], ["--bits=5"], ["--bits", "32"], ["--bits", "33"], ["--bits", "64"], ["--bits=65"], ["--bits="], ["--bits", "05"], ["--bits", "-1"], ["--bit", "5"],
+    ["--bits", "0"], ["--bits=5"], ["--bits", "32"], ["--bits", "33"], ["--bits", "64"], ["--bits=65"], ["--bits="], ["--bits", "05"],
+    ["--bits", "-1"], ["--bit", "5"],
     ["-b", "5"], ["--"], ["--help"], ["--version"], ["--open", "two"], ["--open=nothere"], ["--open=.x"], ["--open"],
     ["--work", "7", "--count", "40"], ["--count=3", "--work=18446744073709551615"], ["--work", "18446744073709551616", "--count", "1"],
     ["--work", "1"], ["--count", "1"], ["--work", "1", "--count", "100001"], ["--work", "1", "--count", "1", "--open", "two"],
@@ -43,7 +44,7 @@ WORDS = [
 NO_LINES = [b"", b" ", b"New a", b"list ", b"\xff", b"add a \xc3", b"undo x", b"new  a", b"get a", b"save", b"stats x", b"made x"]
 WEIGHTS = {
     "add": 6, "undo": 4, "redo": 3, "new": 3, "put": 3, "begin": 2, "end": 3, "mark": 2, "same": 2, "eqv": 2,
-    "quit": 0.05, "drop": 0.5, "read": 1.5,
+    "quit": 0.05, "drop": 0.5, "read": 1.5, "history": 0.7,
 }
 
 
@@ -65,6 +66,15 @@ def drawn_number(draw, length):
     return str(draw.randint(0, length + 1))
 
 
+def drawn_bound(draw, length):
+    """How many states undo is to keep: few, about as many as there are, or as many as can be; rarely what is no number."""
+    if draw.random() < 0.3:
+        return str(draw.randint(0, 3))
+    if draw.random() < 0.3:
+        return "4294967295"
+    return drawn_number(draw, length)
+
+
 def drawn_line(draw, shell):
     """A line of bytes for the shell as it stands."""
     if draw.random() < 0.02:
@@ -83,16 +93,19 @@ def drawn_line(draw, shell):
     numbers = [drawn_number(draw, length) for _ in range(2)]
     if draw.random() < 0.8:
         numbers.sort(key=lambda number: int(number) if number.isdigit() else 0)
-    arguments = [name]
-    for kind in SHAPES[word][1:]:
-        if kind == "I":
+    arguments = []
+    for kind in SHAPES[word]:
+        if word == "history":
+            arguments.append(drawn_bound(draw, len(shell.undo)))
+        elif not arguments:
+            arguments.append(name)
+        elif kind == "I":
             arguments.append(numbers.pop(0))
         elif kind == "N":
             arguments.append(drawn_name(draw, files if word in ("read", "write") else present))
         else:
             arguments.append(draw.choice(TEXTS))
-    words = [word] + arguments if SHAPES[word] else [word]
-    return " ".join(words).encode("utf-8")
+    return " ".join([word, *arguments]).encode("utf-8")
 
 
 def drawn_script(draw):

@@ -4,11 +4,12 @@
     tests/hostile.py PROGRAM [--documents N] [--seed S]
     tests/hostile.py --self-test
 
-Valid documents of both versions are drawn, or taken from the examples, and damaged by a small change each: a link, a
+Valid documents of all versions are drawn, or taken from the examples, and damaged by a small change each: a link, a
 root, a number, a bit of a set, a row, a key, a byte, the end. Many are loaded by one run of the program, and each reply
 is compared with that of the second reader; what was loaded is saved again, and its bytes are compared too. What the
 format leaves open needs a clear reply alone. The first difference ends the run with status 1. The self-test does the same
-with the second reader in the place of the program: once as it is, and once for each of four tests that it then forgets.
+with the second reader in the place of the program: once as it is, once for each of five tests that it then forgets, and
+once where it forgets that a document of an older version sets the bound of undo.
 Whole histories of version 1 are tried by tests/old_documents.py, and documents that are made to hurt by
 tests/hostile_documents. It isn't part of the gate.
 """
@@ -27,7 +28,8 @@ import tempfile
 sys.dont_write_bytecode = True
 
 import pool_reader
-from pool_reader import BITS, EXAMPLES, OLD, RULES, TESTS, TODAY, Pool, Row, bits_in, code_of, compact, digit, document, known
+from pool_reader import BITS, EXAMPLES, MOST_HISTORY, OLD, RULES, SECOND, TESTS, TODAY, Pool, Row
+from pool_reader import bits_in, code_of, compact, digit, document, known
 
 MOST_BYTES = 67_108_864
 DOCUMENTS_OF_A_RUN = 500
@@ -131,7 +133,8 @@ def drawn_pool(draw, version=TODAY, bits=BITS):
     versions = {name: draw.choice(states) for name in draw.sample(NAMES, draw.choice([0, 1, 2]))}
     histories = [[draw.choice(states) for _ in range(draw.choice([0, 0, 1, 3, 40]))] for _ in range(2)]
     roots = [states[-1], builder.mapped(versions)] + [builder.vector(states) for states in histories]
-    return pool_reader.in_order(Pool(version, builder.bits, builder.rows, roots))
+    most = draw.choice([len(histories[0]), len(histories[0]) + 1, 100, MOST_HISTORY]) if version == TODAY else MOST_HISTORY
+    return pool_reader.in_order(Pool(version, builder.bits, builder.rows, roots, most))
 
 
 def example_pools():
@@ -309,15 +312,23 @@ def change_key(value, draw):
         ])
 
 
-def change_version(value, _draw):
-    """The other version, with the rows as they are, and with its bits or as it is."""
-    value["version"] = OLD + TODAY - value["version"]
+def change_version(value, draw):
+    """Another version, with the rows as they are, and with its bits and its keys or as it is."""
+    value["version"] = draw.choice([version for version in (OLD, SECOND, TODAY) if version != value["version"]])
+    if draw.random() < 0.8:
+        value.pop("history", None)
+        value.update(pool_reader.bound_in(value["version"]))
     value["bits"] = bits_in(value["version"], BITS if value["bits"] == RULES[OLD].code_bits else value["bits"])
+
+
+def change_history(value, draw):
+    """Another number of states that undo keeps, about as many as it has, or what is no such number; also where none is said."""
+    value["history"] = draw.choice([0, 1, 2, 3, 39, 40, 41, 2**32 - 2, 2**32 - 1, 2**32, 2**63, -1, True, None, "1", []])
 
 
 VALUE_CHANGES = [
     change_link, change_links, change_root, change_number, change_bit, turn_bit, change_letter, turn_form, change_text,
-    change_rows, move_row, in_new_order, change_row, change_key, change_version,
+    change_rows, move_row, in_new_order, change_row, change_key, change_version, change_history,
 ]
 
 
@@ -381,7 +392,7 @@ def documents(seed, number):
                 yield "cut", data[:length]
     for index in range(made, number):
         draw = random.Random(f"{seed}/{index}")
-        yield changed(draw, draw.choice(pools) if draw.random() < 0.5 else drawn_pool(draw, draw.choice([OLD, TODAY])))
+        yield changed(draw, draw.choice(pools) if draw.random() < 0.5 else drawn_pool(draw, draw.choice([OLD, SECOND, TODAY])))
 
 
 # Runs of the program
@@ -478,14 +489,21 @@ def status_of(words, self_test, try_program):
 # The self-test
 
 
+# Tests that a stand-in forgets, with the functions that make them: what fails one of them alone is loaded then. That undo is no
+# longer than its bound is the last part of the test `kind`, and asked of vectors alone.
+FORGOTTEN = {
+    "text": ["test_texts"], "trie": ["test_tries"], "kind": ["test_kinds", "test_bound"], "bound": ["test_bound"],
+    "order": ["test_order"],
+}
+# What a stand-in forgets besides: where a document says no bound of undo, it keeps the one that there was.
+OLDER_BOUND = "bound of an older version"
+
+
 def stand_in(forgotten):
-    """Answers `load` and `save` lines by the second reader, which forgets a test: what fails it alone is loaded."""
-    loaded = b""
-    if forgotten:
-        tests = {
-            "text": "test_texts", "trie": "test_tries", "kind": "test_kinds", "order": "test_order",
-        }
-        setattr(pool_reader, tests[forgotten], lambda pool: None)
+    """Answers `load` and `save` lines by the second reader, which forgets something, or nothing."""
+    loaded, history = b"", MOST_HISTORY
+    for name in FORGOTTEN.get(forgotten, []):
+        setattr(pool_reader, name, lambda *given: None)
     for line in sys.stdin:
         word, name = line.split()
         if word == "save":
@@ -497,17 +515,20 @@ def stand_in(forgotten):
             data = file.read()
         reply = "! large" if len(data) > MOST_BYTES else pool_reader.reply_to(data) or "! damaged json"
         if reply == "ok":
-            loaded = pool_reader.saved(data)
+            pool = pool_reader.read(data).pool
+            if pool.version == TODAY or forgotten != OLDER_BOUND:
+                history = pool.history
+            loaded = pool_reader.written(pool_reader.stands_for(pool)._replace(history=history))
         print(reply)
 
 
 def self_test():
-    """Whether the comparison finds nothing where nothing differs, and something for each test that is forgotten."""
+    """Whether the comparison finds nothing where nothing differs, and something for each thing that is forgotten."""
     own = [sys.executable, os.path.abspath(__file__), "--stand-in"]
     draw = random.Random("self-test")
     wrong = 0
     for _ in range(200):
-        data = pool_reader.written(drawn_pool(draw, draw.choice([OLD, TODAY])))
+        data = pool_reader.written(drawn_pool(draw, draw.choice([OLD, SECOND, TODAY])))
         wrong += pool_reader.reply_to(data) != "ok"
     print(f"200 drawn documents: {wrong} aren't valid")
     found, counts, kinds = try_documents(own, 1, 4_000)
@@ -520,7 +541,7 @@ def self_test():
         if kind not in ("nothing", "spaced") and len(replied) == replied["ok"]:
             print(f"{kind} damages nothing")
             wrong += 1
-    for name in ["text", "trie", "kind", "order"]:
+    for name in [*FORGOTTEN, OLDER_BOUND]:
         found, _counts, _kinds = try_documents(own + [name], 1, 2_000)
         print(f"{name} forgotten: {found[0] if found else 'not found'}")
         wrong += found is None

@@ -8,6 +8,8 @@
 The program of the commit aaf29b1 is such a one, and none after the codes became 64 bits wide. So the documents can't be
 made anew from this tree: they stay in the examples `old_documents_*` as they are. What these examples want of today's
 program is thus not made by it: replies come from the older one, documents and numbers of rows from tests/pool_reader.py.
+Only where undo is full, as in `full_undo`, the older one refuses each edit, and today's gives up the oldest state: there
+the replies come from tests/plain_shell.py, which is given the last states alone.
 """
 
 import os
@@ -20,6 +22,7 @@ import tempfile
 sys.dont_write_bytecode = True
 
 import pool_reader
+from plain_shell import MOST, Shell, State
 from pool_reader import EXAMPLES, OLD
 
 # Names whose codes meet: the first two by 32 bits, the next two by 64, and `A`, `a` and `ba` by few.
@@ -75,8 +78,12 @@ BY_ALL_BITS = {
         *batch(*numbered("a", 70)), *batch(*numbered("b", 45)), "cat a b", "put a 50 between", "cut a 20 60 c",
         "mark v", "del a 3 40", "put a 3 again", "cat c c", "cat c a", "copy c a", "undo", "undo",
     ],
-    "hundred_names": [*batch(*each("new", [f"n{number}" for number in range(100)])), *each("star", [f"n{number}" for number in range(0, 100, 7)])],
-    "names_one_by_one": [*each("new", [f"n{number}" for number in range(45)]), "mark v", *each("drop", [f"n{number}" for number in range(0, 45, 2)])],
+    "hundred_names": [
+        *batch(*each("new", [f"n{number}" for number in range(100)])), *each("star", [f"n{number}" for number in range(0, 100, 7)]),
+    ],
+    "names_one_by_one": [
+        *each("new", [f"n{number}" for number in range(45)]), "mark v", *each("drop", [f"n{number}" for number in range(0, 45, 2)]),
+    ],
     "long_history": [*with_lines("a", ["x"]), *[f"set a 0 y{number}" for number in range(70)], *["undo"] * 40, "mark v"],
     "given_up": ["new a", "mark v", "begin", "add a x", "add a y", "abort", "begin", "end", "add a z"],
 }
@@ -164,17 +171,21 @@ def ask_of(program, documents, old_bits, bits, example):
     """Writes one example over these documents."""
     lines, told, kept = [], {}, {}
     for name, data in sorted(documents.items()):
-        pool = pool_reader.stands_for(pool_reader.read(data, bits).pool, bits)
+        workspace = pool_reader.read(data, bits)
+        pool, asked = pool_reader.stands_for(workspace.pool, bits), questions(workspace)
         kept[name], kept[f"{name}.now"] = data, pool_reader.written(pool)
-        told[len(lines) + 1] = len(pool.rows)
-        lines += [f"load {name}", "stats", f"save {name}.now", *questions(pool_reader.read(data, bits))]
+        told[len(lines) + 1] = [f"= {len(pool.rows)}"]
+        lines += [f"load {name}", "stats", f"save {name}.now"]
+        if len(workspace.undo) == MOST:
+            told.update(enumerate(replied_today(workspace, asked), len(lines)))
+        lines += asked
         put(f"{example}.files/{name}", data)
     with tempfile.TemporaryDirectory() as room:
         for name, data in documents.items():
             put(f"{room}/{name}", data)
         blocks = replied(program, old_bits, lines, room)
-    for index, count in told.items():
-        blocks[index] = [f"= {count}"]
+    for index, block in told.items():
+        blocks[index] = block
     put(f"{example}.in", "".join(f"{line}\n" for line in lines).encode())
     put(f"{example}.out", "".join(f"{line}\n" for block in blocks for line in block).encode())
     if bits != pool_reader.BITS:
@@ -192,6 +203,22 @@ def replied(program, bits, lines, room):
             block.append(next(replies))
         blocks.append(block)
     return blocks
+
+
+def replied_today(workspace, lines):
+    """The reply lines to each of these lines by the plain shell. It has as many of the last states of undo and of redo as there are
+    lines, which are all that they can come to."""
+    def state(place):
+        buffers = {name: workspace.lines(cells) for name, cells in workspace.buffers(place).items()}
+        return State(buffers, workspace.stars(place))
+
+    def last(states):
+        return [state(states[index]) for index in range(max(0, len(states) - len(lines)), len(states))]
+
+    shell = Shell()
+    shell.current, shell.undo, shell.redo = state(workspace.current), last(workspace.undo), last(workspace.redo)
+    shell.versions = {name: state(place) for name, place in workspace.versions().items()}
+    return [shell.answer(line.encode()) for line in lines]
 
 
 def ask(program, folder):

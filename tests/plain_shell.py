@@ -20,7 +20,7 @@ USAGE = "usage: ewig [--bits W] [--open F] [--work SEED --count N]"
 SHAPES = {
     "new": "N", "add": "NT", "set": "NIT", "put": "NIT", "del": "NII", "cat": "NN", "cut": "NIIN", "copy": "NN",
     "drop": "N", "star": "N", "unstar": "N", "read": "NN", "write": "NN",
-    "mark": "N", "unmark": "N", "back": "N", "undo": "", "redo": "", "begin": "", "end": "", "abort": "",
+    "mark": "N", "unmark": "N", "back": "N", "undo": "", "redo": "", "begin": "", "end": "", "abort": "", "history": "I",
     "get": "NI", "len": "N", "show": "NII", "list": "", "stars": "", "marks": "", "same": "NN", "eqv": "NN",
     "quit": "",
 }
@@ -95,7 +95,7 @@ class State:
 
 
 def edited(state, word, arguments):
-    """The state that an edit makes, or its first refusal but for a full undo."""
+    """The state that an edit makes, or its first refusal."""
     name = arguments[0]
     if word == "new":
         needs(name not in state.buffers, "exists")
@@ -133,7 +133,8 @@ def edited(state, word, arguments):
 
 
 class Shell:
-    """A current state, versions, states to undo and to redo, and in a batch the state at its begin; and the files."""
+    """A current state, versions, states to undo and to redo, how many of the former are kept, and in a batch the state at its
+    begin; and the files."""
 
     def __init__(self, files=None):
         self.files = {} if files is None else files
@@ -141,6 +142,7 @@ class Shell:
         self.versions = {}
         self.undo = []
         self.redo = []
+        self.most = MOST
         self.base = None
         self.over = False
 
@@ -157,15 +159,19 @@ class Shell:
 
     def become(self, state):
         """Makes the state current, as an edit does."""
-        self.has_room()
         if self.base is None:
-            self.undo.append(self.current)
+            self.keep(self.current)
             self.redo = []
         self.current = state
 
-    def has_room(self):
-        """Refuses where an edit would put a state into a full undo."""
-        needs(self.base is not None or len(self.undo) < MOST, "limit")
+    def keep(self, state):
+        """Puts a state at the end of undo, and forgets the oldest states beyond as many as are kept."""
+        self.undo.append(state)
+        self.forget()
+
+    def forget(self):
+        """Forgets the oldest states of undo beyond as many as are kept."""
+        del self.undo[:max(0, len(self.undo) - self.most)]
 
     def outside_batch(self):
         needs(self.base is None, "batch")
@@ -185,19 +191,24 @@ class Shell:
         needs(version in self.versions, "none")
         self.become(self.versions[version])
 
-    def move(self, taken, given):
-        """Makes the last of one list current, and puts what was current at the end of the other."""
-        self.outside_batch()
-        needs(taken, "empty")
-        needs(len(given) < MOST, "limit")
-        given.append(self.current)
-        self.current = taken.pop()
-
     def do_undo(self):
-        self.move(self.undo, self.redo)
+        self.outside_batch()
+        needs(self.undo, "empty")
+        needs(len(self.redo) < MOST, "limit")
+        self.redo.append(self.current)
+        self.current = self.undo.pop()
 
     def do_redo(self):
-        self.move(self.redo, self.undo)
+        self.outside_batch()
+        needs(self.redo, "empty")
+        state = self.redo.pop()
+        self.keep(self.current)
+        self.current = state
+
+    def do_history(self, count):
+        self.outside_batch()
+        self.most = count
+        self.forget()
 
     def do_begin(self):
         self.outside_batch()
@@ -205,8 +216,7 @@ class Shell:
 
     def do_end(self):
         needs(self.base is not None, "batch")
-        needs(len(self.undo) < MOST, "limit")
-        self.undo.append(self.base)
+        self.keep(self.base)
         self.redo = []
         self.base = None
 
@@ -216,7 +226,6 @@ class Shell:
         self.base = None
 
     def do_read(self, name, file):
-        self.has_room()
         needs(file in self.files, "missing")
         data = self.files[file]
         needs(len(data) <= LARGEST_FILE, "large")

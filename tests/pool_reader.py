@@ -5,7 +5,7 @@
     tests/pool_reader.py --saved [--bits W] FILE   writes what a shell saves that has loaded the file
     tests/pool_reader.py --self-test           reads documents whose answers are known
 
-It reads documents of both versions and carries those of version 1 over, as a shell does that loads them. It shares
+It reads documents of all versions and carries those of version 1 over, as a shell does that loads them. It shares
 nothing with the program but that page, so that tests/hostile.py and tests/old_documents.py can compare the two. No shared
 row is ever unfolded: each test keeps a fact for each row. It isn't part of the gate.
 """
@@ -21,15 +21,20 @@ from collections import namedtuple
 
 TESTS = ["json", "form", "version", "bits", "row", "link", "text", "vector", "trie", "kind", "order"]
 KEYS = ["bits", "format", "roots", "rows", "version"]
+BOUNDED_KEYS = sorted([*KEYS, "history"])
 LONGEST_TEXT = 65_536
 LONGEST_VECTOR = 2**32 - 1
+
+# How many states undo keeps where a document doesn't say it.
+MOST_HISTORY = 2**32 - 1
 NAME = re.compile(r"[A-Za-z0-9_][A-Za-z0-9._-]{0,63}\Z", re.ASCII)
 
 # What tells the versions of a document apart: the bits of a code, with what FNV-1a starts, by what it multiplies, and the
 # depth of a code's last digit.
 Rules = namedtuple("Rules", "code_bits start prime deepest")
-RULES = {1: Rules(32, 2166136261, 16777619, 6), 2: Rules(64, 14695981039346656037, 1099511628211, 12)}
-OLD, TODAY = 1, 2
+WIDE_RULES = Rules(64, 14695981039346656037, 1099511628211, 12)
+RULES = {1: Rules(32, 2166136261, 16777619, 6), 2: WIDE_RULES, 3: WIDE_RULES}
+OLD, SECOND, TODAY = 1, 2, 3
 EXAMPLES = os.path.join(os.path.dirname(os.path.abspath(__file__)), "..", "examples")
 
 # By so many bits a shell goes where it isn't told otherwise.
@@ -37,7 +42,7 @@ BITS = RULES[TODAY].code_bits
 
 # A row: its letter, the text of a cell, the numbers of the others, and the links.
 Row = namedtuple("Row", "letter text numbers links")
-Pool = namedtuple("Pool", "version bits rows roots")
+Pool = namedtuple("Pool", "version bits rows roots history", defaults=[MOST_HISTORY])
 
 
 def forms_by(rules):
@@ -190,7 +195,11 @@ def row_of(value, version):
 
 def pool_of(value, bits):
     """The pool of a JSON value, which passes the tests `form` to `row`."""
-    needs(type(value) is dict and sorted(value) == KEYS, "form")
+    needs(type(value) is dict, "form")
+    bounded = value.get("version") == TODAY
+    needs(sorted(value) == (BOUNDED_KEYS if bounded else KEYS), "form")
+    history = value["history"] if bounded else MOST_HISTORY
+    needs(is_number(history) and history <= MOST_HISTORY, "form")
     needs(value["format"] == "ewig-pool" and is_number(value["bits"]) and is_number(value["version"]), "form")
     roots = value["roots"]
     needs(type(roots) is list and len(roots) == 4 and all(map(is_number, roots)), "form")
@@ -198,7 +207,7 @@ def pool_of(value, bits):
     version = value["version"]
     needs(version in RULES, "version")
     needs(value["bits"] == bits_in(version, bits), "bits")
-    return Pool(version, value["bits"], [row_of(row, version) for row in value["rows"]], roots)
+    return Pool(version, value["bits"], [row_of(row, version) for row in value["rows"]], roots, history)
 
 
 def test_links(pool):
@@ -371,6 +380,11 @@ def test_kinds(pool):
     needs(kinds.is_vector(undo, kinds.states) and kinds.is_vector(redo, kinds.states), "kind")
 
 
+def test_bound(pool, facts):
+    """What stands last in the test `kind`: undo is no longer than its bound."""
+    needs(facts[pool.roots[2]].length <= pool.history, "kind")
+
+
 def order_of(rows, roots):
     """The places of the rows that the roots lead to, in their order."""
     order, entered = [], set()
@@ -399,6 +413,7 @@ def read(data, bits=BITS):
     facts = test_vectors(pool)
     test_tries(pool)
     test_kinds(pool)
+    test_bound(pool, facts)
     test_order(pool)
     return Workspace(pool, facts)
 
@@ -483,7 +498,7 @@ def carried(pool, bits):
 
 def stands_for(pool, bits=BITS):
     """The pool that the document of a valid one stands for in a shell by so many bits."""
-    return pool if pool.version == TODAY else carried(pool, bits)
+    return carried(pool, bits) if pool.version == OLD else pool._replace(version=TODAY)
 
 
 def saved(data, bits=BITS):
@@ -570,8 +585,13 @@ def document(pool):
     """The JSON value of a pool as it stands, whether it is valid or not."""
     return {
         "bits": pool.bits, "format": "ewig-pool", "roots": list(pool.roots), "rows": [form(row) for row in pool.rows],
-        "version": pool.version,
+        "version": pool.version, **bound_in(pool.version, pool.history),
     }
+
+
+def bound_in(version, history=MOST_HISTORY):
+    """What a document of this version says of how many states undo keeps."""
+    return {"history": history} if version == TODAY else {}
 
 
 def in_order(pool):
@@ -594,9 +614,10 @@ START_ROWS = [EMPTY_MAP, EMPTY_MAP, ["s", [0, 1]], EMPTY_MAP, ["l", []], ["l", [
 
 
 def whole(rows, roots, version=TODAY, **others):
-    """The compact document of these rows and roots, other keys in place of the usual ones."""
+    """The compact document of these rows and roots, other keys in place of the usual ones, and none where it is None."""
     bits = RULES[version].code_bits if version in RULES else BITS
-    return compact({"bits": bits, "format": "ewig-pool", "roots": roots, "rows": rows, "version": version, **others})
+    value = {"bits": bits, "format": "ewig-pool", "roots": roots, "rows": rows, "version": version, **bound_in(version), **others}
+    return compact({key: it for key, it in value.items() if it is not None})
 
 
 def start(last=None, more=(), roots=(2, 3, 4, 5), **others):
@@ -647,7 +668,7 @@ def in_a_chain(keys, version=TODAY, **others):
     end = len(rows)
     rows += [EMPTY_MAP, ["s", [end, end - 1]], EMPTY_MAP, ["l", []], ["l", []]]
     roots = [end + 1, end + 2, end + 3, end + 4]
-    value = {"bits": 5, "format": "ewig-pool", "roots": roots, "rows": rows, "version": version}
+    value = {"bits": 5, "format": "ewig-pool", "roots": roots, "rows": rows, "version": version, **bound_in(version)}
     return compact({**document(in_order(pool_of(value, 5))), **others})
 
 
@@ -657,15 +678,16 @@ def known_by(version):
         return make(*given, version=version, **others)
 
     cell, deepest = ["c", "x"], RULES[version].deepest
-    positions = {OLD: OLD_POSITIONS, TODAY: POSITIONS}
-    lone = [["c", "a"], ["m", 1, {OLD: 512, TODAY: 16}[version], 0, [0]]]
+    other = TODAY if version == OLD else OLD
+    positions = {OLD: OLD_POSITIONS, SECOND: POSITIONS, TODAY: POSITIONS}
+    lone = [["c", "a"], ["m", 1, 512 if version == OLD else 16, 0, [0]]]
     chain = [["c", "a"], ["c", "b"], ["k", [1]], ["k", [0, 2]]]
     return [
         (of(start), "ok"), (of(whole, [EMPTY_MAP, ["s", [0, 0]], ["l", []]], [1, 0, 2, 2]), "ok"),
-        (of(two_names, positions[version]), "ok"), (of(two_names, positions[OLD + TODAY - version]), "! damaged trie"),
+        (of(two_names, positions[version]), "ok"), (of(two_names, positions[other]), "! damaged trie"),
         (of(two_lines, [cell, cell], [1, 2]), "ok"), (of(two_lines, [cell], [1, 1]), "ok"), (of(full_undo), "ok"),
         (of(whole, [], [2, 3, 4]), "! damaged form"),
-        (of(start, bits=31), "! damaged bits"), (of(start, bits=RULES[OLD + TODAY - version].code_bits), "! damaged bits"),
+        (of(start, bits=31), "! damaged bits"), (of(start, bits=RULES[other].code_bits), "! damaged bits"),
         (of(start, last=["q", []], bits=31), "! damaged bits"), (of(start, last=["q", []]), "! damaged row"),
         (of(whole, [["l", [0]]], [0, 0, 0, 0]), "! damaged link"),
         (of(start, more=[["c", "x\ny"]]), "! damaged text"), (of(start, last=["i", 1, [4]]), "! damaged vector"),
@@ -682,10 +704,28 @@ def known_by(version):
     ]
 
 
+def one_undone(**others):
+    """A space with one state to undo."""
+    return whole([EMPTY_MAP, ["s", [0, 0]], ["l", [1]], ["l", []]], [1, 0, 2, 3], **others)
+
+
+def known_bounds():
+    """Documents that say how many states undo keeps, and the replies to them."""
+    return [
+        (start(history=0), "ok"), (start(history=2**32 - 1), "ok"), (start(history=2**32), "! damaged form"),
+        (start(history=-1), "! damaged form"), (start(history="1"), "! damaged form"), (start(history=None), "! damaged form"),
+        (start(history=2**64), None), (start(version=SECOND, history=1), "! damaged form"),
+        (start(version=OLD, history=1), "! damaged form"), (start(version=9, history=1), "! damaged form"),
+        (one_undone(), "ok"), (one_undone(history=1), "ok"),
+        (one_undone(history=0), "! damaged kind"), (full_undo(history=2**32 - 2), "! damaged kind"),
+        (start(history=0, roots=[2, 3, 5, 4]), "! damaged order"), (one_undone(history=0, bits=31), "! damaged bits"),
+    ]
+
+
 def known():
     """Documents, and the replies to them by as many bits as codes of today have."""
     return [
-        *known_by(OLD), *known_by(TODAY),
+        *known_by(OLD), *known_by(SECOND), *known_by(TODAY), *known_bounds(),
         (b'{"bits":32', "! damaged json"), (start(version=9), "! damaged version"), (start(version=0), "! damaged version"),
         (start(version=TODAY + 1), "! damaged version"), (start(version=9, bits=31), "! damaged version"),
         (b"\xff", "! damaged json"), (b"\xef\xbb\xbf" + start(), "! damaged json"), (b"", "! damaged json"),
@@ -706,15 +746,17 @@ def known_by_fewer():
 
 
 def carried_over():
-    """Documents of version 1, the bits of the shell that reads them, and what it saves."""
-    cell = ["c", "x"]
+    """Documents of older versions, the bits of the shell that reads them, and what it saves."""
+    cell, shared = ["c", "x"], [EMPTY_MAP, ["s", [0, 0]], ["l", []]]
     return [
-        (start(version=OLD), BITS, whole([EMPTY_MAP, ["s", [0, 0]], ["l", []], ["l", []]], [1, 0, 2, 3])),
-        (whole([EMPTY_MAP, ["s", [0, 0]], ["l", []]], [1, 0, 2, 2], version=OLD), BITS, whole([EMPTY_MAP, ["s", [0, 0]], ["l", []]], [1, 0, 2, 2])),
+        (start(version=OLD), BITS, whole([*shared, ["l", []]], [1, 0, 2, 3])),
+        (whole(shared, [1, 0, 2, 2], version=OLD), BITS, whole(shared, [1, 0, 2, 2])),
         (two_lines([cell, cell], [1, 2], version=OLD), BITS, two_lines([cell, cell], [1, 2], one_empty_map=True)),
         (two_lines([cell], [1, 1], version=OLD), BITS, two_lines([cell], [1, 1], one_empty_map=True)),
         (two_names(OLD_POSITIONS, version=OLD), BITS, two_names(POSITIONS, one_empty_map=True)),
         (two_names(OLD_POSITIONS, version=OLD), 40, two_names(POSITIONS, one_empty_map=True, bits=40)),
+        (start(version=SECOND), BITS, start()), (two_lines([cell, cell], [1, 2], version=SECOND), BITS, two_lines([cell, cell], [1, 2])),
+        (full_undo(version=SECOND), BITS, full_undo()), (one_undone(history=1), BITS, one_undone(history=1)),
         (full_undo(version=OLD), BITS, full_undo()),
         (full_undo(version=OLD, bits=7), 7, full_undo(bits=7)),
     ]

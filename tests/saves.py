@@ -79,6 +79,8 @@ def difference(shell, rows, data):
         return "the document isn't the compact text of its rows"
     if rows != len(workspace.pool.rows):
         return f"the document has {len(workspace.pool.rows)} rows, and not {rows}"
+    if workspace.pool.history != shell.most:
+        return f"undo keeps {workspace.pool.history} states, and not {shell.most}"
     if told(workspace, workspace.current) != plain(shell.current):
         return "the current state differs"
     versions = {name: told(workspace, place) for name, place in workspace.versions().items()}

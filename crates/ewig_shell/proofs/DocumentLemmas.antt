@@ -1,15 +1,16 @@
 -- What a document stands for, by its version.
-use Rattle.std.proofs.Common.{◌≡◌, ◌≢◌, ℕ, ◌≤◌, Bool, true, false, cond, eqb, Option, Some, None, Result, Ok, Err, refl, ap, sym, subst, ◌∙◌, arith}
-use Rattle.std.specs.Prelude.{min, option_and_then, IsSomeAnd, MatchBool}
+use Rattle.std.proofs.Common.{◌≡◌, ◌≢◌, ℕ, true, eqb, Option, Some, None, Result, Ok, Err, refl, ap, sym, subst, ◌∙◌}
+use Rattle.std.specs.Prelude.{option_and_then, IsSomeAnd, MatchBool}
 use Rattle.std.specs.List.{list_all}
 use Rattle.std.specs.Result.{IfOk}
-use Rattle.std.proofs.lemmas.Bool.{eqb-true}
+use Rattle.std.proofs.lemmas.Bool.{ne_eqb}
 use Rattle.shell_terms.specs.Edit.{Bytes}
-use Rattle.pool_text.specs.Rows.{is_in_range, is_in_range_to}
-use Rattle.pool_text.specs.Rules.{Rules, first_rules, second_rules, present_rules, rules_of, bits_by}
-use Rattle.pool_text.specs.Document.{pool_in_bytes, IsInRange}
+use Rattle.pool_text.specs.Rows.{is_in_range}
+use Rattle.pool_text.specs.Rules.{Rules, first_rules, present_rules, rules_of}
+use Rattle.pool_text.specs.Pool.{pool, today}
+use Rattle.pool_text.specs.Document.{pool_in_bytes}
 use Rattle.pool_text.specs.declared.pool.Pool.{Pool}
-use Rattle.pool_text.specs.declared.rules.TheConstants.{FIRST_VERSION, PRESENT_VERSION, FIRST_CODE_BITS}
+use Rattle.pool_text.specs.declared.rules.TheConstants.{FIRST_VERSION, PRESENT_VERSION}
 use Rattle.pool_text.specs.declared.damage.Damage.{Damage}
 use Rattle.pool_text.specs.declared.damage.Damage.TheVariants.{Memory}
 use Rattle.pool_check.specs.Rows.{rows_in_range_by}
@@ -23,37 +24,8 @@ use Rattle.ewig_shell.specs.RoundTrip.{IsPresent}
 pub own-first : (P : Pool) (found : Option Damage) → P.version ≡ FIRST_VERSION → damage_by first_rules P ≡ found → own_damage P ≡ found
 own-first P found first is = ap (λ v. option_and_then (λ (r : Rules). damage_by r P) (rules_of v)) first ∙ is
 
-pub own-present : (P : Pool) (found : Option Damage) → P.version ≡ PRESENT_VERSION → damage P ≡ found → own_damage P ≡ found
-own-present P found now is = ap (λ v. option_and_then (λ (r : Rules). damage_by r P) (rules_of v)) now ∙ is
-
-abbrev range_by : Pool → Rules → Type 0
-range_by P rules = list_all (is_in_range_to rules.deepest) P.rows ≡ true
-
-module _ (P : Pool) (range : IsInRange P) where
-  -- a document of the first version has its rows in range by the first rules
-  pub first-range : P.version ≡ FIRST_VERSION → rows_in_range_by first_rules P ≡ true
-  unfolding rows_in_range_by
-  first-range first = subst (λ v. IsSomeAnd (rules_of v) (range_by P)) first range
-
-  -- and each other one that is read is of the present version
-  later : (one two : Bool) → eqb P.version 1 ≡ one → eqb P.version 2 ≡ two → IsSomeAnd (cond one (Some first_rules) (cond two (Some second_rules) None)) (range_by P) → P.version ≢ FIRST_VERSION → P.version ≡ PRESENT_VERSION
-  later true two is _ _ other = absurd (other (eqb-true P.version 1 is))
-  later false true _ is _ other = eqb-true P.version 2 is
-  later false false _ _ none other = absurd none
-
-  pub present-version : P.version ≢ FIRST_VERSION → P.version ≡ PRESENT_VERSION
-  present-version other = later (eqb P.version 1) (eqb P.version 2) refl refl range other
-
-  pub present-range : P.version ≢ FIRST_VERSION → list_all is_in_range P.rows ≡ true
-  present-range other = subst (λ v. IsSomeAnd (rules_of v) (range_by P)) (present-version other) range
-
--- the bits that a document keeps
-module _ (P : Pool) (bits : ℕ) (kept : P.bits ≡ bits_by P.version bits) where
-  pub first-bits : P.version ≡ FIRST_VERSION → P.bits ≤ FIRST_CODE_BITS
-  first-bits first = let is : P.bits ≡ min FIRST_CODE_BITS bits = kept ∙ ap (λ v. bits_by v bits) first in omega (arith, is)
-
-  pub present-bits : P.version ≡ PRESENT_VERSION → P.bits ≡ bits
-  present-bits now = kept ∙ ap (λ v. bits_by v bits) now
+pub own-present : (P : Pool) (found : Option Damage) → rules_of P.version ≡ Some present_rules → damage P ≡ found → own_damage P ≡ found
+own-present P found now is = ap (λ o. option_and_then (λ (r : Rules). damage_by r P) o) now ∙ is
 
 -- ## Pools that are carried over
 
@@ -74,16 +46,22 @@ both-ok (Err e) P Q R both p q = tt
 -- ## What the bytes stand for
 
 abbrev by_version : ℕ → Pool → Pool → Type 0
-by_version bits Q P = MatchBool (eqb P.version FIRST_VERSION) (IsCarried present_rules bits P Q) (Q ≡ P)
+by_version bits Q P = MatchBool (eqb P.version FIRST_VERSION) (IsCarried present_rules bits P Q) (Q ≡ today P)
+
+-- what is carried over has the present version
+pub carried-today : (bits : ℕ) (P Q : Pool) → IsCarried present_rules bits P Q → today Q ≡ Q
+unfolding pool
+carried-today bits P Q c = ap (λ v. record Q { version = v }) (sym (ap (λ (R : Pool). R.version) c.same))
 
 module _ (bits : ℕ) (bytes : Bytes) (P Q : Pool) (read : pool_in_bytes bytes ≡ Some P) where
-  pub stands-carried : P.version ≡ FIRST_VERSION → IsCarried present_rules bits P Q → DocumentStandsFor bits bytes Q
+  pub stands-carried : P.version ≡ FIRST_VERSION → IsCarried present_rules bits P Q → DocumentStandsFor bits bytes (today Q)
   stands-carried first is =
-      subst (λ o. IsSomeAnd o (by_version bits Q)) (sym read) (subst (λ v. MatchBool (eqb v FIRST_VERSION) (IsCarried present_rules bits P Q) (Q ≡ P)) (sym first) is)
+      let carried : IsCarried present_rules bits P (today Q) = subst (IsCarried present_rules bits P) (sym (carried-today bits P Q is)) is in
+      subst (λ o. IsSomeAnd o (by_version bits (today Q))) (sym read) (subst (λ v. MatchBool (eqb v FIRST_VERSION) (IsCarried present_rules bits P (today Q)) (today Q ≡ today P)) (sym first) carried)
 
-  pub stands-present : P.version ≡ PRESENT_VERSION → Q ≡ P → DocumentStandsFor bits bytes Q
-  stands-present now is =
-      subst (λ o. IsSomeAnd o (by_version bits Q)) (sym read) (subst (λ v. MatchBool (eqb v FIRST_VERSION) (IsCarried present_rules bits P Q) (Q ≡ P)) (sym now) is)
+  pub stands-present : P.version ≢ FIRST_VERSION → Q ≡ today P → DocumentStandsFor bits bytes Q
+  stands-present other is =
+      subst (λ o. IsSomeAnd o (by_version bits Q)) (sym read) (subst (λ b. MatchBool b (IsCarried present_rules bits P Q) (Q ≡ today P)) (sym (ne_eqb P.version FIRST_VERSION other)) is)
 
 -- of the present version, for the pool of their rows
 pub present-stands : (bits : ℕ) (bytes : Bytes) (Q : Pool) → IsPresent bytes → DocumentStandsFor bits bytes Q → (pool_in_bytes bytes ≡ Some Q) × (Q.version ≡ PRESENT_VERSION)
@@ -92,8 +70,9 @@ present-stands bits bytes Q now stands = by (pool_in_bytes bytes) now stands
     by : (o : Option Pool) → IsSomeAnd o (λ P. P.version ≡ PRESENT_VERSION) → IsSomeAnd o (by_version bits Q) → (o ≡ Some Q) × (Q.version ≡ PRESENT_VERSION)
     by None now stands = absurd now
     by (Some P) now stands =
-        let same : Q ≡ P = subst (λ v. MatchBool (eqb v FIRST_VERSION) (IsCarried present_rules bits P Q) (Q ≡ P)) now stands in
-        (ap Some (sym same), ap (λ (R : Pool). R.version) same ∙ now)
+        let same : Q ≡ today P = subst (λ v. MatchBool (eqb v FIRST_VERSION) (IsCarried present_rules bits P Q) (Q ≡ today P)) now stands in
+        let as_made : today P ≡ P = ap (λ v. record P { version = v }) (sym now) in
+        (ap Some (sym (same ∙ as_made)), ap (λ (R : Pool). R.version) same)
 
 pub is-present : (bytes : Bytes) (P : Pool) → pool_in_bytes bytes ≡ Some P → P.version ≡ PRESENT_VERSION → IsPresent bytes
 is-present bytes P read now = subst (λ o. IsSomeAnd o (λ (R : Pool). R.version ≡ PRESENT_VERSION)) (sym read) now

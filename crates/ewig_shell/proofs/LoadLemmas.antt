@@ -10,15 +10,15 @@ use Rattle.shell_terms.specs.Edit.{Bytes, fill}
 use Rattle.shell_terms.specs.Command.{PlainCommand, edit, read, load}
 use Rattle.plain_space.specs.declared.refusal.Refusal.{Refusal}
 use Rattle.plain_space.specs.declared.refusal.Refusal.TheVariants as why
-use Rattle.plain_space.specs.Workspace.{Workspace, in_batch, is_full}
-use Rattle.plain_space.specs.Refusing.{unless}
+use Rattle.plain_space.specs.Workspace.{Workspace, in_batch}
 use Rattle.plain_space.specs.Answer.{answer, elsewhere, ok_line}
 use Rattle.plain_space.specs.Memory.{wants_memory}
+use Rattle.pool_check.proofs.DocumentLaw.{valid-today}
 use Rattle.state_rows.proofs.OneSpace.{one-space}
 use Rattle.shell_io.specs.Lines.{HasLines}
 use Rattle.shell_io.specs.declared.lines.LinesFault.{LinesFault}
 use Rattle.shell_io.specs.declared.lines.LinesFault.TheVariants as unread
-use Rattle.pool_text.specs.Pool.{row_count}
+use Rattle.pool_text.specs.Pool.{row_count, today}
 use Rattle.pool_text.specs.Document.{pool_in_bytes, bytes_damage}
 use Rattle.pool_text.specs.declared.pool.Pool.{Pool}
 use Rattle.pool_text.specs.declared.damage.Damage.{Damage}
@@ -37,7 +37,7 @@ use Rattle.ewig_shell.specs.declared.load.LoadFault.TheVariants as unloaded
 use Rattle.ewig_shell.specs.Step.{Machine, KeepsFiles, Refuses, Fetched, fetched, missing, large, given, Makes, Takes, DocumentStandsFor, IsLoaded, LoadsBytes, ReadsBytes, SaysElsewhere, ObeysOn, CountsStore, shown_store, machine_of, uses_store, most_stored, damage_word, reply_of, refusal_of, loaded_reply}
 use Rattle.ewig_shell.specs.Loading.{TakesIn, FillsIn, fault_of, load_fault, read_fault}
 use Rattle.ewig_shell.proofs.ReplyLemmas.{other-reply}
-use Rattle.ewig_shell.proofs.StepLemmas.{same_files, CountsStore-failed, CountsStore-succeeded, load-outside, answer-outside, Obeys-elsewhere, ObeysOn-refused, may_lack, fault-is}
+use Rattle.ewig_shell.proofs.StepLemmas.{same_files, CountsStore-failed, CountsStore-succeeded, load-outside, answer-outside, Obeys-elsewhere, may_lack, fault-is}
 
 -- ## A document
 
@@ -80,12 +80,12 @@ module _ (bytes : Bytes) (old new : SpaceView) where
   TakesIn-damaged (Err fault) d e is same = subst (λ (f : LoadFault). TakesIn bytes old (Err f) new) (sym e) (by_fault d bytes old new is same)
 
   -- what it stands for is the space's now
-  pub TakesIn-ok : (P : Pool) → DocumentStandsFor old.pool.bits bytes P → P.bits ≡ old.pool.bits → document_damage old.pool.bits bytes ≡ None → IsValid P → new.pool ≡ P → new.made ≡ min (old.made + row_count P) (2 ^ 64 - 1) → TakesIn bytes old (Ok tt) new
+  pub TakesIn-ok : (P : Pool) → DocumentStandsFor old.pool.bits bytes (today P) → P.bits ≡ old.pool.bits → document_damage old.pool.bits bytes ≡ None → IsValid P → new.pool ≡ today P → new.made ≡ min (old.made + row_count P) (2 ^ 64 - 1) → TakesIn bytes old (Ok tt) new
   TakesIn-ok P is bits whole valid same made =
       inl (subst (λ (d : Option Damage). MatchOption d (IsLoaded bytes old (reply_of (ok_line ∷ [])) new) (λ (w : Damage). Refuses old (codes "damaged " ++ damage_word w) (reply_of (ok_line ∷ [])) new)) (sym whole) (record {
         reply_is = refl;
         pool = subst (DocumentStandsFor old.pool.bits bytes) (sym same) is;
-        valid = subst (λ (Q : Pool). IsValid Q) (sym same) valid;
+        valid = subst (λ (Q : Pool). IsValid Q) (sym same) (valid-today P valid);
         bits = ap (λ (Q : Pool). Q.bits) same ∙ bits;
         made = subst (λ (Q : Pool). new.made ≡ min (old.made + row_count Q) (2 ^ 64 - 1)) (sym same) made;
       }))
@@ -259,24 +259,20 @@ load-takes {space} W name stands e = record {
 
 -- ## A read
 
-read-full : (W : Workspace) (name file : Bytes) (full : Bool) → is_full W ≡ full → answer W (read name file) ≡ unless full why.Limit (Ok elsewhere)
-unfolding answer
-read-full W name file full e = ap (λ (b : Bool). unless b why.Limit (Ok elsewhere)) e
-
--- undo is full
-pub ObeysOn-full : {C : Type 0} {D : store_trait.Ghosts C} {space : SpaceView} {store : C} (W : Workspace) (name file : Bytes) → StandsFor space.pool W → is_full W ≡ true → ObeysOn (read name file) D space store (refusal_of (codes "limit")) space store
-ObeysOn-full W name file stands e = ObeysOn-refused (read name file) W why.Limit stands (read-full W name file true e)
-
 reads-other : (W : Workspace) (name : Bytes) (old : SpaceView) (bytes reply : List ℕ) (new : SpaceView) → ReadsBytes W name old bytes reply new → reply ≢ refusal_of (codes "fault")
 reads-other W name old bytes reply new reads = elim reads [
   | inl long ↦ other-reply long.1.reply_is refl
   | inr more ↦ elim more [ inl utf8 ↦ other-reply utf8.1.reply_is refl | inr is ↦ other-reply is.reply_is refl ]
 ]
 
-pub read-takes : {space : SpaceView} (W : Workspace) (name file : Bytes) → StandsFor space.pool W → is_full W ≡ false → TakesFrom (read name file) W space file (ReadsBytes W name space)
-read-takes {space} W name file stands e = record {
+read-elsewhere : (W : Workspace) (name file : Bytes) → answer W (read name file) ≡ Ok elsewhere
+unfolding answer
+read-elsewhere W name file = refl
+
+pub read-takes : {space : SpaceView} (W : Workspace) (name file : Bytes) → StandsFor space.pool W → TakesFrom (read name file) W space file (ReadsBytes W name space)
+read-takes {space} W name file stands = record {
   stands = stands;
-  granted = read-full W name file false e;
+  granted = read-elsewhere W name file;
   wants = refl;
   uses = refl;
   says = λ old new reply same takes. subst (λ (s : SpaceView). Takes file old reply new (ReadsBytes W name s)) (sym same) takes;
@@ -315,7 +311,7 @@ FillsIn-refused fault name bytes old result none is =
 -- the buffer has the lines
 pub FillsIn-ok : (name bytes : Bytes) (lines : List Bytes) (old new : SpaceView) (x : Unit {0}) → HasLines bytes (Ok lines) → Ends (edit (fill name lines)) old (Ok x) new → FillsIn name bytes old (Ok tt) new
 FillsIn-ok name bytes lines old new x lines_are ends W stands =
-    let one : ends.work ≡ W = one-space _ _ _ _ ends.work W ends.stands stands in
+    let one : ends.work ≡ W = one-space _ _ _ _ ends.work W (ends.stands.1 ∙ sym stands.1) ends.stands.0 stands.0 in
     inl (inr (inr (record { lines = lines; lines_are = lines_are; reply_is = refl; filled = subst (λ (V : Workspace). CarriesOut (edit (fill name lines)) old new V) one ends.ends })))
 
 -- memory was refused to the edit

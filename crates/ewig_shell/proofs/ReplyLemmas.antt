@@ -1,17 +1,17 @@
 -- Which replies aren't `! fault`.
-use Rattle.std.proofs.Common.{◌≡◌, ◌≢◌, ℕ, ◌+◌, Bool, true, false, ◌&&◌, nat_le, List, [], ◌∷◌, ◌++◌, length, map, slice_get, slice_range, is_some, codes, bytes_eq, sym, ap, ◌∙◌, refl, arith, inl, inr, Result, Ok, Err, Option, Some, None, IfOk}
+use Rattle.std.proofs.Common.{◌≡◌, ◌≢◌, ℕ, ◌+◌, Bool, true, false, ◌&&◌, nat_le, List, [], ◌∷◌, ◌++◌, length, map, take, ◌-◌, slice_get, slice_range, is_some, codes, bytes_eq, sym, ap, ◌∙◌, refl, arith, inl, inr, Result, Ok, Err, Option, Some, None, IfOk}
 use Rattle.std.proofs.lemmas.Slice.Eq.{bytes_eq-Decides}
 use Rattle.std.specs.FinMap as map_of
 use Rattle.shell_terms.specs.Edit.{Bytes}
-use Rattle.shell_terms.specs.Command.{PlainCommand, edit, mark, unmark, back, undo, redo, begin, «end», abort, get, len, show, list, stars, marks, same as same_lines, eqv, stats, made, read, write, save, load, quit}
+use Rattle.shell_terms.specs.Command.{PlainCommand, edit, mark, unmark, back, undo, redo, begin, «end», abort, history, get, len, show, list, stars, marks, same as same_lines, eqv, stats, made, read, write, save, load, quit}
 use Rattle.shell_words.specs.declared.BadLine.{BadLine}
 use Rattle.shell_words.specs.declared.BadLine.TheVariants as bad
 use Rattle.plain_space.specs.declared.refusal.Refusal.{Refusal}
 use Rattle.plain_space.specs.declared.refusal.Refusal.TheVariants as why
-use Rattle.plain_space.specs.Workspace.{State, Workspace, most, lines_of, version_of, sizes, same_texts, same_state, in_batch, is_full}
-use Rattle.plain_space.specs.Refusing.{needs, unless, given, outside_batch}
+use Rattle.plain_space.specs.Workspace.{State, Workspace, most, lines_of, version_of, sizes, same_texts, same_state, in_batch, undo_with}
+use Rattle.plain_space.specs.Refusing.{needs, unless, given, room, on_last, outside_batch}
 use Rattle.plain_space.specs.Edited.{edited}
-use Rattle.plain_space.specs.Answer.{Answer, Told, tells, elsewhere, answer, asked, becomes, history_step, steps_to, ok_line, text_line, size_line, equal_line}
+use Rattle.plain_space.specs.Answer.{Answer, Told, tells, elsewhere, answer, done, asked, becomes, ok_line, text_line, size_line, equal_line}
 use Rattle.plain_space.specs.Session.{reason_of}
 use Rattle.ewig_shell.specs.Step.{Machine, SaysElsewhere, Gives, Obeys, uses_store, line_reason, reply_of, refusal_of}
 
@@ -91,16 +91,16 @@ module _ (W : Workspace) where
   outside next h = by_unless TellsOther (in_batch W) why.Batch next h
 
   becoming : (next : Result State Refusal) → IfOk (becomes W next) TellsOther
-  becoming (Ok state) = by_unless TellsOther (is_full W) why.Limit _ refl
+  becoming (Ok state) = refl
   becoming (Err reason) = tt
 
   asking : (lines : Result (List Bytes) Refusal) → IfOk lines AreOther → IfOk (asked W lines) TellsOther
   asking (Ok lines) h = h
   asking (Err reason) h = tt
 
-  stepping : (after : State → List State → List State → Workspace) (step : Result (State × List State × List State) Refusal) → IfOk (steps_to after step) TellsOther
-  stepping after (Ok stepped) = refl
-  stepping after (Err reason) = tt
+  -- a step from the end of a history
+  stepping : (states : List State) (next : State → List State → Answer) → ((last : State) (before : List State) → IfOk (next last before) TellsOther) → IfOk (outside_batch W (on_last states next)) TellsOther
+  stepping states next h = outside _ (by_given TellsOther (slice_get states (length states - 1)) why.Empty _ (λ last. h last (take (length states - 1) states)))
 
   answer-other : (command : PlainCommand) → IfOk (answer W command) TellsOther
   unfolding answer
@@ -108,11 +108,13 @@ module _ (W : Workspace) where
   answer-other (mark version) = outside _ (by_unless TellsOther (is_some (version_of W version)) why.Exists _ refl)
   answer-other (unmark version) = outside _ (by_given TellsOther (version_of W version) why.Absent _ (λ state. refl))
   answer-other (back version) = outside _ (by_given TellsOther (version_of W version) why.Absent _ (λ state. becoming (Ok state)))
-  answer-other undo = stepping _ (history_step W W.undo W.redo)
-  answer-other redo = stepping _ (history_step W W.redo W.undo)
+  answer-other undo = stepping W.undo (λ last before. room (length W.redo + 1) (done (record W { current = last; undo = before; redo = W.redo ++ W.current ∷ [] })))
+      (λ last before. by_needs TellsOther (nat_le (length W.redo + 1) most) why.Limit _ refl)
+  answer-other redo = stepping W.redo (λ last before. done (record W { current = last; undo = undo_with W W.current; redo = before })) (λ last before. refl)
   answer-other begin = outside _ refl
-  answer-other «end» = by_given TellsOther W.base why.Batch _ (λ base. by_needs TellsOther (nat_le (length W.undo + 1) most) why.Limit _ refl)
+  answer-other «end» = by_given TellsOther W.base why.Batch _ (λ base. refl)
   answer-other abort = by_given TellsOther W.base why.Batch _ (λ base. refl)
+  answer-other (history count) = outside _ refl
   answer-other (get name index) = asking _ (by_given AreOther (lines_of W.current name) why.Absent _ (λ lines. by_given AreOther (slice_get lines index) why.Range _ (λ line. refl)))
   answer-other (len name) = asking _ (by_given AreOther (lines_of W.current name) why.Absent _ (λ lines. refl))
   answer-other (show name from to) = asking _ (by_given AreOther (lines_of W.current name) why.Absent _ (λ lines. by_needs AreOther (nat_le from to && nat_le to (length lines)) why.Range _ (texts-other (slice_range lines from to))))
@@ -123,7 +125,7 @@ module _ (W : Workspace) where
   answer-other (eqv version other) = asking _ (by_given AreOther (version_of W version) why.Absent _ (λ state. by_given AreOther (version_of W other) why.Absent _ (λ others. equal-other (same_state state others))))
   answer-other stats = tt
   answer-other made = tt
-  answer-other (read name file) = by_unless TellsOther (is_full W) why.Limit _ tt
+  answer-other (read name file) = tt
   answer-other (write name file) = by_given TellsOther (lines_of W.current name) why.Absent _ (λ lines. tt)
   answer-other (save file) = outside _ tt
   answer-other (load file) = outside _ tt

@@ -33,6 +33,7 @@ use Rattle.ewig_shell.specs.declared.save.SaveFault.{SaveFault}
 use Rattle.ewig_shell.specs.declared.save.SaveFault.TheVariants as unsaved
 use Rattle.ewig_shell.specs.Saving.{Collects, save_fault}
 use Rattle.ewig_shell.specs.Step.{Machine, KeepsFiles, Refuses, IsStored, FailsToStore, Stores, SaysElsewhere, ObeysOn, CountsStore, shown_store, machine_of, uses_store, most_stored, ended_lines, reply_of, refusal_of, saved_reply}
+use Rattle.pool_text.specs.declared.rules.TheConstants.{MOST_HISTORY}
 use Rattle.elem_core.specs.declared.TheConstants.{NEWLINE}
 use Rattle.std.proofs.lemmas.List.{append-nil, take_all}
 use Rattle.std.proofs.lemmas.Option.{same_Some}
@@ -41,10 +42,10 @@ use Rattle.ewig_shell.proofs.ReplyLemmas.{other-reply, no-refusal}
 use Rattle.ewig_shell.proofs.StepLemmas.{some_lines, Obeys-lacks, CountsStore-none, CountsStore-failed, CountsStore-succeeded, save-outside, answer-outside, Obeys-elsewhere, ObeysOn-refused, may_lack, fault-is}
 
 -- the text of a valid pool outside a batch is one that a load takes
-pub document-is : (W : Workspace) (pool made : Pool) (bytes : Bytes) → StandsFor pool W → in_batch W ≡ false → IsValid pool → made ≡ pool → bytes ≡ text made → value_in bytes ≡ Some (document made) → IsDocumentOf pool (text pool)
-document-is W pool made bytes stands e valid same is reads =
+pub document-is : (W : Workspace) (pool made : Pool) (bytes : Bytes) → StandsFor pool W → in_batch W ≡ false → IsValid pool → pool.history ≤ MOST_HISTORY → made ≡ pool → bytes ≡ text made → value_in bytes ≡ Some (document made) → IsDocumentOf pool (text pool)
+document-is W pool made bytes stands e valid within same is reads =
     subst (λ (w : Bytes). IsDocumentOf pool w) (is ∙ ap text same)
-    (valid-document pool bytes (reads ∙ ap (λ (P : Pool). Some (document P)) same) (four-roots pool W stands e) valid)
+    (valid-document pool bytes (reads ∙ ap (λ (P : Pool). Some (document P)) same) within (four-roots pool W stands e) valid)
 
 -- how a space was stored where the store kept its file, or didn't
 abbrev pub saved_as : Result (Unit {0}) KeepFault → Result (Unit {0}) SaveFault
@@ -223,7 +224,7 @@ range-all xs n e = take_all (n - 0) (drop 0 xs) (omega (arith, ap length (drop-n
 module _ (P : Pool) (V W : Workspace) (name : Bytes) where
   pub never-past : {X : Type 0} (IsPast : List Bytes → Type 0) (count : ℕ) (reason : Refusal) (IsAnswer : List Bytes → X → Type 0) → StandsFor P V → StandsFor P W → OnLines {X = ℕ} V name (Ok count) (λ (lines : List Bytes) (n : ℕ). n ≡ length lines) IsPast → OnLines {X = X} W name (Err reason) IsAnswer (IsNoPart count) → ⊥
   never-past {X} IsPast count reason IsAnswer first second counted none =
-      let one : W ≡ V = one-space _ _ _ _ W V second first in
+      let one : W ≡ V = one-space _ _ _ _ W V (second.1 ∙ sym first.1) second.0 first.0 in
       let there = some_lines (lines_of V.current name) (λ (lines : List Bytes). count ≡ length lines) counted in
       past-none V name there.0 count reason IsAnswer there.1 there.2 (subst (λ (U : Workspace). OnLines {X = X} U name (Err reason) IsAnswer (IsNoPart count)) one none)
 
@@ -231,7 +232,7 @@ module _ (P : Pool) (V W : Workspace) (name : Bytes) where
   pub all-shown : (IsPast : List Bytes → Type 0) (count : ℕ) (shown : List Bytes) → StandsFor P V → StandsFor P W → OnLines {X = ℕ} V name (Ok count) (λ (lines : List Bytes) (n : ℕ). n ≡ length lines) IsPast →
       OnLines {X = List Bytes} W name (Ok shown) (λ (lines part : List Bytes). IsPart count lines part) (IsNoPart count) → (lines : List Bytes) × (lines_of V.current name ≡ Some lines) × (shown ≡ lines)
   all-shown IsPast count shown first second counted part =
-      let one : W ≡ V = one-space _ _ _ _ W V second first in
+      let one : W ≡ V = one-space _ _ _ _ W V (second.1 ∙ sym first.1) second.0 first.0 in
       let there = some_lines (lines_of V.current name) (λ (lines : List Bytes). count ≡ length lines) counted in
       let is : IsPart count there.0 shown
       = subst (λ (o : Option (List Bytes)). IsSomeAnd o (λ (lines : List Bytes). IsPart count lines shown)) there.1

@@ -9,7 +9,7 @@ use Rattle.std.specs.declared.option.Option.{Option}
 use Rattle.std.specs.declared.result.Result.{Result}
 use Rattle.elem_core.specs.declared.TheConstants.{MAX_LINE}
 use Rattle.shell_terms.specs.Edit.{Bytes}
-use Rattle.shell_terms.specs.Command.{PlainCommand, edit, mark, unmark, back, undo, redo, begin, «end», abort, get, len, show, list, stars, marks, same as same_lines, eqv, stats, made, read as read_file, write as write_file, save, load, quit}
+use Rattle.shell_terms.specs.Command.{PlainCommand, edit, mark, unmark, back, undo, redo, begin, «end», abort, history, get, len, show, list, stars, marks, same as same_lines, eqv, stats, made, read as read_file, write as write_file, save, load, quit}
 use Rattle.shell_words.specs.Grammar.{meaning}
 use Rattle.shell_words.specs.declared.BadLine.{BadLine}
 use Rattle.plain_space.specs.declared.refusal.Refusal.{Refusal}
@@ -319,6 +319,7 @@ bits_elsewhere redo old new W reply says = absurd says
 bits_elsewhere begin old new W reply says = absurd says
 bits_elsewhere «end» old new W reply says = absurd says
 bits_elsewhere abort old new W reply says = absurd says
+bits_elsewhere (history count) old new W reply says = absurd says
 bits_elsewhere (get name index) old new W reply says = absurd says
 bits_elsewhere (len name) old new W reply says = absurd says
 bits_elsewhere (show name from to) old new W reply says = absurd says

@@ -7,7 +7,7 @@ use Rattle.std.proofs.lemmas.Bool.{eqb-false}
 use Rattle.std.proofs.lemmas.List.{append-nil, get_or_default}
 use Rattle.std.proofs.lemmas.List.Sums.{fails_before_first, sum_by-append}
 use Rattle.elem_core.specs.declared.TheConstants.{NEWLINE}
-use Rattle.shell_terms.specs.Command.{PlainCommand, edit, mark, unmark, back, undo, redo, begin, «end», abort}
+use Rattle.shell_terms.specs.Command.{PlainCommand, edit, mark, unmark, back, undo, redo, begin, «end», abort, history}
 use Rattle.shell_terms.specs.Changing.{only_changes}
 use Rattle.plain_space.specs.declared.refusal.Refusal.{Refusal}
 use Rattle.plain_space.specs.declared.refusal.Refusal.TheVariants as why
@@ -41,6 +41,7 @@ changes-asks redo e = refl
 changes-asks begin e = refl
 changes-asks «end» e = refl
 changes-asks abort e = refl
+changes-asks (history count) e = refl
 changes-asks _ e = absurd (let never = e in cc)
 
 pub changes-alone : (command : PlainCommand) → IsTrue (only_changes command) → uses_store command ≡ false
@@ -53,6 +54,7 @@ changes-alone redo e = refl
 changes-alone begin e = refl
 changes-alone «end» e = refl
 changes-alone abort e = refl
+changes-alone (history count) e = refl
 changes-alone _ e = absurd (let never = e in cc)
 
 module _ {C : Type 0} (D : store_trait.Ghosts C) (store : C) where

@@ -20,7 +20,7 @@ use Rattle.plain_space.specs.Answer.{Answer, tells, elsewhere, answer, ok_line, 
 use Rattle.plain_space.specs.Memory.{MayLackMemory}
 use Rattle.plain_space.specs.Session.{reason_of}
 use Rattle.pool_text.specs.Rules.{present_rules}
-use Rattle.pool_text.specs.Pool.{row_count}
+use Rattle.pool_text.specs.Pool.{row_count, today}
 use Rattle.pool_text.specs.Document.{text, pool_in_bytes}
 use Rattle.pool_text.specs.declared.pool.Pool.{Pool}
 use Rattle.pool_text.specs.declared.rules.TheConstants.{FIRST_VERSION}
@@ -100,7 +100,6 @@ damage_word damage.Memory = codes "memory"
 abbrev pub loaded_reply : Result (Unit {0}) LoadFault → List ℕ
 loaded_reply (Ok done) = reply_of (ok_line ∷ [])
 loaded_reply (Err unloaded.Batch) = refusal_of (codes "batch")
-loaded_reply (Err unloaded.Limit) = refusal_of (codes "limit")
 loaded_reply (Err unloaded.Missing) = refusal_of (codes "missing")
 loaded_reply (Err unloaded.Large) = refusal_of (codes "large")
 loaded_reply (Err unloaded.Failed) = refusal_of (codes "fault")
@@ -215,11 +214,11 @@ pub record FailsToTake (old : Machine) (reply : List ℕ) (new : Machine) : Type
 abbrev pub Takes : (name : List ℕ) → Machine → List ℕ → Machine → (ByBytes : List ℕ → List ℕ → SpaceView → Type 0) → Type 0
 Takes name old reply new ByBytes = TakesFile name old reply new ByBytes ⊎ FailsToTake old reply new
 
--- In a space of so many bits the bytes stand for this pool: a document of the present version for that of its rows, and one of
--- the first version for what that is carried to.
+-- In a space of so many bits the bytes stand for this pool: a document of the second or the third version for that of its rows, and
+-- one of the first version for what that is carried to.
 abbrev pub DocumentStandsFor : ℕ → List ℕ → Pool → Type 0
 DocumentStandsFor bits bytes Q =
-    IsSomeAnd (pool_in_bytes bytes) (λ P. MatchBool (P.version == FIRST_VERSION) (IsCarried present_rules bits P Q) (Q ≡ P))
+    IsSomeAnd (pool_in_bytes bytes) (λ P. MatchBool (P.version == FIRST_VERSION) (IsCarried present_rules bits P Q) (Q ≡ today P))
 
 -- The pool that the document stands for is the space's now, and the number made has risen by its rows, up to 2^64 - 1.
 pub record IsLoaded (bytes : List ℕ) (old : SpaceView) (reply : List ℕ) (new : SpaceView) : Type 0 where

@@ -175,6 +175,7 @@ pub fn change(space: &mut Space, command: Command<'_>) -> Result<(), Refusal>
         Command::Begin => space.begin(),
         Command::End => space.end(),
         Command::Abort => space.abort(),
+        Command::History(count) => space.history(count),
         _ => unreachable!(),
     }
 }

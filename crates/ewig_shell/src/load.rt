@@ -3,6 +3,7 @@
 ghost use Rattle.std.specs.Prelude.{◌≡◌, ◌≢◌, ◌≤◌, length, None, Some, IfOk, IfErr};
 ghost use Rattle.elem_core.specs.Shown.{name_bytes};
 ghost use Rattle.pool_text.specs.Rules.{first_rules, present_rules};
+ghost use Rattle.pool_text.specs.Pool.{today};
 ghost use Rattle.pool_check.specs.Damages.{document_damage, IsValid, IsValidBy};
 ghost use Rattle.pool_carry.specs.Carried.{IsCarried};
 ghost use Rattle.shell_terms.specs.Command.{read as read_command, load as load_command};
@@ -23,8 +24,6 @@ use std::alloc::Global;
 pub enum LoadFault {
     /// A batch is open: of a load alone.
     Batch,
-    /// Undo holds 2^32 - 1 states and no batch is open: of a read alone.
-    Limit,
     /// There is no such file.
     Missing,
     /// The file has more bytes than a file may.
@@ -99,11 +98,11 @@ pub fn load<D: Store>(
     take_in(alloc, space, &bytes)
 }
 
-// The pool that the bytes stand for in a space of so many code bits, checked. Refused with the first of the tests that they fail,
-// and with `Memory` where memory runs out.
+// The pool that the bytes stand for in a space of so many code bits, checked; its version may be an older one. Refused with the first
+// of the tests that they fail, and with `Memory` where memory runs out.
 fn checked_pool(alloc: Global, bytes: &[u8], bits: u32) -> Result<Checked<Text>, Damage>
     requires { bits ≤ CODE_BITS }
-    ensures stands { IfOk result (DocumentStandsFor bits bytes.now) }
+    ensures stands { IfOk result (λ P. DocumentStandsFor bits bytes.now (today P)) }
     ensures valid { IfOk result IsValid }
     ensures bits { IfOk result (λ P. P.bits ≡ bits) }
     ensures whole { IfOk result (λ _. document_damage bits bytes.now ≡ None) }
@@ -145,11 +144,10 @@ fn take_in(alloc: Global, space: &mut Space, bytes: &[u8]) -> Result<(), LoadFau
     }
 }
 
-/// Gives the buffer the lines of the file, made or replaced, as one edit. `Limit` exactly where undo is full and no batch is open,
-/// before the store is asked. Else, unless the store fails at this call (`Failed`) or memory runs out (`Memory`), and over a store
-/// that tells its files: `Missing` exactly where there is no such file, `Large` exactly where it has more than 67,108,864 bytes,
-/// `Long` exactly where a line of it has more than 65,536 bytes, and else `Utf8` exactly where it isn't UTF-8. After a refusal the
-/// space is as it was.
+/// Gives the buffer the lines of the file, made or replaced, as one edit. Unless the store fails at this call (`Failed`) or memory runs
+/// out (`Memory`), and over a store that tells its files: `Missing` exactly where there is no such file, `Large` exactly where it has
+/// more than 67,108,864 bytes, `Long` exactly where a line of it has more than 65,536 bytes, and else `Utf8` exactly where it isn't
+/// UTF-8. After a refusal the space is as it was.
 pub fn read<D: Store>(
     alloc: Global,
     space: &mut Space,
@@ -159,9 +157,8 @@ pub fn read<D: Store>(
 ) -> Result<(), LoadFault>
     ensures { ObeysOn (read_command (name_bytes buffer.entry) (name_bytes file.entry)) D.Store space.old store.old (loaded_reply result) space.new store.new }
 {
-    if space.full() {
-        return Err(LoadFault::Limit);
-    }
+    // Asked for its clause alone: that the space stands for a workspace.
+    let _ = space.in_batch();
     let mut bytes = Vec::new(alloc);
     store.fetch(file.as_str(), MOST_STORED as usize, &mut bytes)?;
     fill(alloc, space, buffer, bytes)
@@ -176,7 +173,7 @@ fn fill(alloc: Global, space: &mut Space, buffer: Name<'_>, bytes: Vec<u8>) -> R
     drop(bytes);
     match space.edit(Edit::Read(buffer, lines)) {
         Ok(()) => Ok(()),
-        // Undo has room where this is called.
+        // Nothing but want of memory refuses it.
         Err(_) => Err(LoadFault::Memory),
     }
 }

@@ -83,7 +83,6 @@ pub fn loaded(loaded: Result<(), LoadFault>) -> &'static [u8]
     match loaded {
         Ok(()) => b"ok\n",
         Err(LoadFault::Batch) => b"! batch\n",
-        Err(LoadFault::Limit) => b"! limit\n",
         Err(LoadFault::Missing) => b"! missing\n",
         Err(LoadFault::Large) => b"! large\n",
         Err(LoadFault::Failed) => b"! fault\n",

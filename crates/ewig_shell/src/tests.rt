@@ -8,7 +8,7 @@ use std::test::Fail;
 
 // The document of a new space.
 const START: &str =
-    r#"{"bits":64,"format":"ewig-pool","roots":[2,3,4,5],"rows":[["m",0,0,0,[]],["m",0,0,0,[]],["s",[0,1]],["m",0,0,0,[]],["l",[]],["l",[]]],"version":2}"#;
+    r#"{"bits":64,"format":"ewig-pool","history":4294967295,"roots":[2,3,4,5],"rows":[["m",0,0,0,[]],["m",0,0,0,[]],["s",[0,1]],["m",0,0,0,[]],["l",[]],["l",[]]],"version":3}"#;
 
 // Runs with all taken and given at once, and however input and output are cut.
 fn check_cut<R: Abort + AllocGlobal>(
@@ -239,13 +239,13 @@ const OPENING_CUT_OFF: [Faulty; 3] = [
     (&[], &[1], &[], &[], b"ok\n", Status::WriteFault),
 ];
 
-// A read that a full undo refuses asks nothing of the store: the second fetch, which fails, is that of the second read.
+// A full undo refuses neither a read nor an undo; the second fetch, which fails, is that of the first read.
 const FULL_CUT_OFF: [Faulty; 1] = [(
     &[],
     &[],
     &[1],
     &[],
-    b"ok\n! limit\nok\n! fault\n! missing\n",
+    b"ok\n! fault\nok\nok\n! missing\n",
     Status::Done,
 )];
 

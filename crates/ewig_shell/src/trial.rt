@@ -10,7 +10,7 @@ use std::test::Fail;
 
 /// A document with two equal cells of different identity.
 pub const TWO_CELLS: &str =
-    r#"{"bits":64,"format":"ewig-pool","roots":[7,8,9,10],"rows":[["c","a"],["c","x"],["c","x"],["l",[1,2]],["p",[0,3]],["m",0,4096,0,[4]],["m",0,0,0,[]],["s",[5,6]],["m",0,0,0,[]],["l",[]],["l",[]]],"version":2}"#;
+    r#"{"bits":64,"format":"ewig-pool","history":4294967295,"roots":[7,8,9,10],"rows":[["c","a"],["c","x"],["c","x"],["l",[1,2]],["p",[0,3]],["m",0,4096,0,[4]],["m",0,0,0,[]],["s",[5,6]],["m",0,0,0,[]],["l",[]],["l",[]]],"version":3}"#;
 
 /// The same as shells saved it whose codes had 32 bits.
 pub const OLD_TWO_CELLS: &str =

@@ -1,7 +1,7 @@
 -- A buffer that is joined to itself again and again: what is replied, by the number of its lines alone.
 use Rattle.std.proofs.Common.{◌≡◌, ℕ, zero, suc, ◌+◌, ◌<◌, ◌≤◌, List, [], ◌∷◌, ◌++◌, false, cond, None, Some, Err, length, refl, ap, ◌∙◌, arith}
 use Rattle.std.specs.Prelude.{replicate}
-use Rattle.std.proofs.lemmas.Bool.{le-leb, lt-leb, ne_eqb}
+use Rattle.std.proofs.lemmas.Bool.{le-leb, lt-leb}
 use Rattle.std.proofs.lemmas.List.{length-append}
 use Rattle.std.specs.Ordering.{is_eq, nat_cmp, eq_by_cmp}
 use Rattle.std.specs.Cmp.{tied_itself}
@@ -54,14 +54,12 @@ module _ (work : Workspace) (name : Bytes) (ls : List Bytes) (found : get work.c
   unfolding answer edited
   cat-refused many = let no = lt-leb (length ls + length ls) most many in rw (found, no) refl
 
-  -- else done, outside a batch and where undo has room
-  pub cat-done : work.base ≡ None → length ls + length ls ≤ most → length work.undo < most
-      → answer work (edit (cat name name)) ≡ done (joined work name ls)
+  -- else done
+  pub cat-done : length ls + length ls ≤ most → answer work (edit (cat name name)) ≡ done (joined work name ls)
   unfolding answer edited
-  cat-done unbatched few room =
+  cat-done few =
       let yes = le-leb (length ls + length ls) most few in
-      let no = ne_eqb (length work.undo) most (λ e. omega arith) in
-      rw (found, yes, unbatched, no) refl
+      rw (found, yes) refl
 
   -- what a joining leaves outside a batch
   joined-found : work.base ≡ None → get (joined work name ls).current.buffers name ≡ Some (ls ++ ls)
@@ -69,9 +67,6 @@ module _ (work : Workspace) (name : Bytes) (ls : List Bytes) (found : get work.c
 
   joined-unbatched : work.base ≡ None → (joined work name ls).base ≡ None
   joined-unbatched unbatched = rw unbatched refl
-
-  joined-undo : work.base ≡ None → length (joined work name ls).undo ≡ length work.undo + 1
-  joined-undo unbatched = rw unbatched (length-append work.undo (work.current ∷ []))
 
   joined-versions : work.base ≡ None → (joined work name ls).versions ≡ work.versions
   joined-versions unbatched = rw unbatched refl
@@ -88,14 +83,13 @@ pub record Doubled (work : Workspace) (name : Bytes) (ls : List Bytes) (n : ℕ)
   pub found : get after.current.buffers name ≡ Some lines
   pub long : length lines ≡ doubles n (length ls)
   pub unbatched : after.base ≡ None
-  pub steps : length after.undo ≡ length work.undo + n
   pub same_versions : after.versions ≡ work.versions
   pub others : (q : Bytes) → eq_by_cmp (slice_cmp nat_cmp) q name ≡ false → get after.current.buffers q ≡ get work.current.buffers q
 
 pub doubled : (n : ℕ) (work : Workspace) (name : Bytes) (ls : List Bytes) (rest : List PlainCommand)
-    → get work.current.buffers name ≡ Some ls → work.base ≡ None → doubles n (length ls) ≤ most → length work.undo + n ≤ most
+    → get work.current.buffers name ≡ Some ls → work.base ≡ None → doubles n (length ls) ≤ most
     → Doubled work name ls n rest
-doubled zero work name ls rest found unbatched few room =
+doubled zero work name ls rest found unbatched few =
     record {
       after = work;
       lines = ls;
@@ -103,17 +97,15 @@ doubled zero work name ls rest found unbatched few room =
       found = found;
       long = refl;
       unbatched = unbatched;
-      steps = omega arith;
       same_versions = refl;
       others = λ q other. refl;
     }
-doubled (suc n) work name ls rest found unbatched few room =
+doubled (suc n) work name ls rest found unbatched few =
     let twice : length (ls ++ ls) ≡ length ls + length ls = length-append ls ls in
     let long : length ls + length ls ≤ doubles n (length ls + length ls) = grows n (length ls + length ls) in
-    let one = joined-undo work name ls found unbatched in
-    let step = cat-done work name ls found unbatched (omega arith) (omega arith) in
+    let step = cat-done work name ls found (omega arith) in
     let later : Doubled (joined work name ls) name (ls ++ ls) n rest =
-    doubled n (joined work name ls) name (ls ++ ls) rest (joined-found work name ls found unbatched) (joined-unbatched work name ls found unbatched) (rw twice few) (omega arith) in
+    doubled n (joined work name ls) name (ls ++ ls) rest (joined-found work name ls found unbatched) (joined-unbatched work name ls found unbatched) (rw twice few) in
     record {
       after = later.after;
       lines = later.lines;
@@ -123,7 +115,6 @@ doubled (suc n) work name ls rest found unbatched few room =
       found = later.found;
       long = later.long ∙ ap (doubles n) twice;
       unbatched = later.unbatched;
-      steps = let s = later.steps in omega arith;
       same_versions = later.same_versions ∙ joined-versions work name ls found unbatched;
       others = λ q other. later.others q other ∙ joined-others work name ls found unbatched q other;
     }

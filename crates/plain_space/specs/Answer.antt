@@ -4,10 +4,10 @@ use Rattle.std.specs.Fmt.{decimal}
 use lib.Chars.{codes}
 use Rattle.std.specs.FinMap as map
 use Rattle.plain_space.specs.declared.refusal.Refusal.{Refusal}
-use Rattle.plain_space.specs.declared.refusal.Refusal.TheVariants.{Absent, Exists, Range, Limit}
+use Rattle.plain_space.specs.declared.refusal.Refusal.TheVariants.{Absent, Exists, Range}
 use Rattle.shell_terms.specs.Edit.{Bytes}
-use Rattle.shell_terms.specs.Command.{PlainCommand, edit, mark, unmark, back, undo, redo, begin, «end», abort, get, len, show, list, stars, marks, same, eqv, stats, made, read, write, save, load, quit}
-use Rattle.plain_space.specs.Workspace.{State, Workspace, sizes, same_texts, same_state, is_full, version_of, with_current}
+use Rattle.shell_terms.specs.Command.{PlainCommand, edit, mark, unmark, back, undo, redo, begin, «end», abort, history, get, len, show, list, stars, marks, same, eqv, stats, made, read, write, save, load, quit}
+use Rattle.plain_space.specs.Workspace.{State, Workspace, sizes, same_texts, same_state, version_of, undo_with, last_of, with_current}
 use Rattle.plain_space.specs.Refusing.{unless, given, on_lines, on_range, room, on_last, outside_batch, on_base}
 use Rattle.plain_space.specs.Edited.{edited}
 
@@ -51,22 +51,10 @@ abbrev pub asked : Workspace → Result (List Bytes) Refusal → Answer
 asked work (Ok reply) = Ok (tells reply work)
 asked work (Err reason) = Err reason
 
--- An edit: another current state, which undo must have room for.
+-- An edit: another current state.
 abbrev pub becomes : Workspace → Result State Refusal → Answer
-becomes work (Ok next) = unless (is_full work) Limit (done (with_current work next))
+becomes work (Ok next) = done (with_current work next)
 becomes work (Err reason) = Err reason
-
--- A step through the histories: the last state of the one, that history without it, and the other with the current state at its
--- end. Refused in a batch, where the one is empty, and where the other has no room.
-abbrev pub history_step : Workspace → List State → List State → Result (State × List State × List State) Refusal
-history_step work from to = outside_batch work (
-    on_last from (λ last before.
-    room (length to + 1) (Ok (last, before, to ++ work.current ∷ []))))
-
--- The answer to such a step: the workspace that its state and its two histories make.
-abbrev pub steps_to : (State → List State → List State → Workspace) → Result (State × List State × List State) Refusal → Answer
-steps_to after (Ok stepped) = done (after stepped.0 stepped.1 stepped.2)
-steps_to after (Err reason) = Err reason
 
 -- The answer of each command: the first refusal that holds, else its reply and the workspace afterwards.
 unfoldable pub answer : Workspace → PlainCommand → Answer
@@ -79,15 +67,17 @@ answer work (unmark version) = outside_batch work (
     done (record work { versions = map.remove work.versions version })))
 answer work (back version) = outside_batch work (
     given (version_of work version) Absent (λ state. becomes work (Ok state)))
-answer work undo = steps_to (λ state before longer. record work { current = state; undo = before; redo = longer })
-    (history_step work work.undo work.redo)
-answer work redo = steps_to (λ state before longer. record work { current = state; undo = longer; redo = before })
-    (history_step work work.redo work.undo)
+answer work undo = outside_batch work (
+    on_last work.undo (λ last before.
+    room (length work.redo + 1) (
+    done (record work { current = last; undo = before; redo = work.redo ++ work.current ∷ [] }))))
+answer work redo = outside_batch work (
+    on_last work.redo (λ last before.
+    done (record work { current = last; undo = undo_with work work.current; redo = before })))
 answer work begin = outside_batch work (done (record work { base = Some work.current }))
-answer work end = on_base work (λ base.
-    room (length work.undo + 1) (
-    done (record work { undo = work.undo ++ base ∷ []; redo = []; base = None })))
+answer work end = on_base work (λ base. done (record work { undo = undo_with work base; redo = []; base = None }))
 answer work abort = on_base work (λ base. done (record work { current = base; base = None }))
+answer work (history count) = outside_batch work (done (record work { undo = last_of count work.undo; history = count }))
 answer work (get name index) = asked work (
     on_lines work.current name (λ lines.
     given (slice_get lines index) Range (λ line. Ok (text_line line ∷ []))))
@@ -107,7 +97,7 @@ answer work (eqv version other) = asked work (
     given (version_of work other) Absent (λ others. Ok (equal_line (same_state state others) ∷ []))))
 answer work stats = Ok elsewhere
 answer work made = Ok elsewhere
-answer work (read name file) = unless (is_full work) Limit (Ok elsewhere)
+answer work (read name file) = Ok elsewhere
 answer work (write name file) = on_lines work.current name (λ lines. Ok elsewhere)
 answer work (save file) = outside_batch work (Ok elsewhere)
 answer work (load file) = outside_batch work (Ok elsewhere)

@@ -4,7 +4,7 @@ use Rattle.std.specs.List.{count_by}
 use Rattle.std.specs.FinMap as map
 use Rattle.elem_core.specs.Codes.{text_code, masked_code}
 use Rattle.shell_terms.specs.Edit.{Bytes, PlainEdit, new, add, set, put, del, cat, cut, copy, drop, star, unstar, fill}
-use Rattle.shell_terms.specs.Command.{PlainCommand, edit, mark, unmark, back, undo, redo, «end»}
+use Rattle.shell_terms.specs.Command.{PlainCommand, edit, mark, unmark, back, undo, redo, «end», history}
 use Rattle.plain_space.specs.Workspace.{State, Workspace}
 
 -- How many of the names have the masked code of this one, itself included where it is among them.
@@ -26,18 +26,18 @@ alike_versions bits work version = alike bits (map.keys work.versions) version
 -- The most rows that an edit adds: a number for its kind, one for each name that is alike in what is written, and two for each
 -- line that comes from outside.
 abbrev pub edit_cost : ℕ → PlainEdit → State → ℕ
-edit_cost bits (new name) now = 64 + alike_buffers bits now name
-edit_cost bits (add name text) now = 64 + alike_buffers bits now name
-edit_cost bits (set name index text) now = 64 + alike_buffers bits now name
-edit_cost bits (put name index text) now = 512 + alike_buffers bits now name
-edit_cost bits (del name from to) now = 512 + alike_buffers bits now name
-edit_cost bits (cat name other) now = 128 + alike_buffers bits now name
-edit_cost bits (cut name from to other) now = 512 + (alike_buffers bits now name + alike_buffers bits now other)
-edit_cost bits (copy name other) now = 64 + alike_buffers bits now other
-edit_cost bits (drop name) now = 64 + alike_buffers bits now name
-edit_cost bits (star name) now = 64 + alike_stars bits now name
-edit_cost bits (unstar name) now = 64 + alike_stars bits now name
-edit_cost bits (fill name lines) now = 64 + 2 * length lines + alike_buffers bits now name
+edit_cost bits (new name) now = 256 + alike_buffers bits now name
+edit_cost bits (add name text) now = 256 + alike_buffers bits now name
+edit_cost bits (set name index text) now = 256 + alike_buffers bits now name
+edit_cost bits (put name index text) now = 768 + alike_buffers bits now name
+edit_cost bits (del name from to) now = 768 + alike_buffers bits now name
+edit_cost bits (cat name other) now = 320 + alike_buffers bits now name
+edit_cost bits (cut name from to other) now = 768 + (alike_buffers bits now name + alike_buffers bits now other)
+edit_cost bits (copy name other) now = 256 + alike_buffers bits now other
+edit_cost bits (drop name) now = 256 + alike_buffers bits now name
+edit_cost bits (star name) now = 256 + alike_stars bits now name
+edit_cost bits (unstar name) now = 256 + alike_stars bits now name
+edit_cost bits (fill name lines) now = 256 + 2 * length lines + alike_buffers bits now name
 
 -- The same of every command. What only asks, begins or aborts adds none. Of the line
 -- `read` the edit that it comes to is counted.
@@ -45,8 +45,9 @@ unfoldable pub cost : ℕ → PlainCommand → Workspace → ℕ
 cost bits (edit change) work = edit_cost bits change work.current
 cost bits (mark version) work = 64 + alike_versions bits work version
 cost bits (unmark version) work = 64 + alike_versions bits work version
-cost bits (back version) work = 64
+cost bits (back version) work = 256
 cost bits undo work = 64
-cost bits redo work = 64
-cost bits end work = 64
+cost bits redo work = 256
+cost bits end work = 256
+cost bits (history count) work = 256
 cost bits _ work = 0

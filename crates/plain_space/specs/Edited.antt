@@ -7,8 +7,7 @@ use Rattle.shell_terms.specs.Edit.{PlainEdit, new, add, set, put, del, cat, cut,
 use Rattle.plain_space.specs.Workspace.{State, lines_of, with_lines, without_lines, is_starred, with_star, without_star}
 use Rattle.plain_space.specs.Refusing.{needs, unless, on_lines, on_range, room}
 
--- The state afterwards, or the first refusal that holds. That undo has room is a matter of the workspace, and is
--- tested last.
+-- The state afterwards, or the first refusal that holds.
 unfoldable pub edited : State → PlainEdit → Result State Refusal
 edited now (new name) =
     unless (is_some (lines_of now name)) Exists (Ok (with_lines now name []))

@@ -3,9 +3,9 @@ use Rattle.std.specs.Prelude.{◌≡◌, ℕ, Bool, true, false, List, [], ◌�
 use Prim.Native.String.{String}
 use lib.Chars.{codes}
 use Rattle.shell_terms.specs.Edit.{Bytes, new, add, set, put, del, cat, cut, copy, drop, star, unstar, fill}
-use Rattle.shell_terms.specs.Command.{PlainCommand, edit, mark, unmark, back, undo, redo, begin, «end», abort, get, len, show, list, stars, marks, same, eqv, stats, made, read, write, save, load, quit}
+use Rattle.shell_terms.specs.Command.{PlainCommand, edit, mark, unmark, back, undo, redo, begin, «end», abort, history, get, len, show, list, stars, marks, same, eqv, stats, made, read, write, save, load, quit}
 use Rattle.plain_space.specs.declared.refusal.Refusal.TheVariants.{Absent, Batch}
-use Rattle.plain_space.specs.Workspace.{start}
+use Rattle.plain_space.specs.Workspace.{start, last_of}
 use Rattle.plain_space.specs.Answer.{answer, elsewhere}
 use Rattle.plain_space.specs.Cost.{cost}
 use Rattle.plain_space.specs.Memory.{wants_memory}
@@ -152,8 +152,40 @@ WorkedAbort = GetReplies
 -- What a batch refuses, and what is refused where none is open.
 abbrev pub WorkedInBatch : Type 0
 WorkedInBatch = GetReplies
-    (end ∷ abort ∷ begin ∷ begin ∷ mark v ∷ unmark v ∷ back v ∷ undo ∷ redo ∷ save p ∷ load p ∷ eqv v v ∷ edit (new a) ∷ same a a ∷ end ∷ redo ∷ undo ∷ list ∷ undo ∷ quit ∷ [])
-    (lines ("! batch" ∷ "! batch" ∷ "ok" ∷ "! batch" ∷ "! batch" ∷ "! batch" ∷ "! batch" ∷ "! batch" ∷ "! batch" ∷ "! batch" ∷ "! batch" ∷ "! none" ∷ "ok" ∷ "= yes" ∷ "ok" ∷ "! empty" ∷ "ok" ∷ "ok" ∷ "! empty" ∷ "ok" ∷ []))
+    (end ∷ abort ∷ begin ∷ begin ∷ mark v ∷ unmark v ∷ back v ∷ undo ∷ redo ∷ save p ∷ load p ∷ history 1 ∷ eqv v v ∷ edit (new a) ∷ same a a ∷ end ∷ redo ∷ undo ∷ list ∷ undo ∷ quit ∷ [])
+    (lines ("! batch" ∷ "! batch" ∷ "ok" ∷ "! batch" ∷ "! batch" ∷ "! batch" ∷ "! batch" ∷ "! batch" ∷ "! batch" ∷ "! batch" ∷ "! batch" ∷ "! batch" ∷ "! none" ∷ "ok" ∷ "= yes" ∷ "ok" ∷ "! empty" ∷ "ok" ∷ "ok" ∷ "! empty" ∷ "ok" ∷ []))
+
+-- The last so many of a list: none, some, all of it, and all of it where it has no more.
+pub record WorkedLast : Type 0 where
+  pub none : last_of 0 (x ∷ y ∷ z ∷ []) ≡ []
+  pub two : last_of 2 (x ∷ y ∷ z ∷ []) ≡ y ∷ z ∷ []
+  pub three : last_of 3 (x ∷ y ∷ z ∷ []) ≡ x ∷ y ∷ z ∷ []
+  pub no_more : last_of 4 (x ∷ y ∷ z ∷ []) ≡ x ∷ y ∷ z ∷ []
+
+-- Undo keeps the last states, as many as the bound says, by an edit, by `back` and by the end of a batch.
+abbrev pub WorkedHistory : Type 0
+WorkedHistory = GetReplies
+    (history 1 ∷ edit (new a) ∷ edit (new b) ∷ undo ∷ undo ∷ list ∷ mark v ∷ edit (drop a) ∷ back v ∷ undo ∷ undo ∷ list ∷ edit (new b) ∷ begin ∷ edit (new c) ∷ end ∷ undo ∷ undo ∷ list ∷ [])
+    (lines ("ok" ∷ "ok" ∷ "ok" ∷ "ok" ∷ "! empty" ∷ "= a 0" ∷ "ok" ∷ "ok" ∷ "ok" ∷ "ok" ∷ "ok" ∷ "! empty" ∷ "ok" ∷ "ok" ∷ "ok" ∷ "ok" ∷ "ok" ∷ "ok" ∷ "! empty" ∷ "= b 0" ∷ "ok" ∷ []))
+
+-- And by `redo`, where the bound has become less since the undo.
+abbrev pub WorkedRedoCut : Type 0
+WorkedRedoCut = GetReplies
+    (edit (new a) ∷ edit (new b) ∷ edit (new c) ∷ undo ∷ undo ∷ history 1 ∷ redo ∷ redo ∷ undo ∷ undo ∷ list ∷ [])
+    (lines ("ok" ∷ "ok" ∷ "ok" ∷ "ok" ∷ "ok" ∷ "ok" ∷ "ok" ∷ "ok" ∷ "ok" ∷ "! empty" ∷ "= a 0" ∷ "= b 0" ∷ "ok" ∷ []))
+
+-- A bound of none keeps no state, and a redo goes by it too.
+abbrev pub WorkedNoHistory : Type 0
+WorkedNoHistory = GetReplies
+    (edit (new a) ∷ edit (new b) ∷ undo ∷ history 0 ∷ redo ∷ undo ∷ list ∷ edit (drop a) ∷ undo ∷ begin ∷ edit (new c) ∷ end ∷ undo ∷ list ∷ [])
+    (lines ("ok" ∷ "ok" ∷ "ok" ∷ "ok" ∷ "ok" ∷ "! empty" ∷ "= a 0" ∷ "= b 0" ∷ "ok" ∷ "ok" ∷ "! empty" ∷ "ok" ∷ "ok" ∷ "ok" ∷ "! empty" ∷ "= b 0" ∷ "= c 0" ∷ "ok" ∷ []))
+
+-- A bound isn't set in a batch, and neither undo nor redo brings an older one back. A smaller one cuts at once, from the oldest on, and
+-- a greater one brings nothing back.
+abbrev pub WorkedHistoryStays : Type 0
+WorkedHistoryStays = GetReplies
+    (begin ∷ history 2 ∷ abort ∷ edit (new a) ∷ history 2 ∷ undo ∷ redo ∷ edit (new b) ∷ edit (new c) ∷ undo ∷ undo ∷ undo ∷ list ∷ redo ∷ redo ∷ history 1 ∷ history 4 ∷ undo ∷ undo ∷ list ∷ edit (new c) ∷ undo ∷ list ∷ [])
+    (lines ("ok" ∷ "! batch" ∷ "ok" ∷ "ok" ∷ "ok" ∷ "ok" ∷ "ok" ∷ "ok" ∷ "ok" ∷ "ok" ∷ "ok" ∷ "! empty" ∷ "= a 0" ∷ "ok" ∷ "ok" ∷ "ok" ∷ "ok" ∷ "ok" ∷ "ok" ∷ "! empty" ∷ "= a 0" ∷ "= b 0" ∷ "ok" ∷ "ok" ∷ "ok" ∷ "= a 0" ∷ "= b 0" ∷ "ok" ∷ []))
 
 -- Buffers are the same by their lines alone, and both have to be there.
 abbrev pub WorkedEqualLines : Type 0
@@ -196,7 +228,7 @@ on_names = edit (star a) ∷ edit (unstar z) ∷ mark w ∷ unmark v ∷ []
 
 -- Commands that write states or lists of states.
 abbrev pub on_states : List PlainCommand
-on_states = back v ∷ undo ∷ redo ∷ end ∷ []
+on_states = back v ∷ undo ∷ redo ∷ end ∷ history 1 ∷ []
 
 -- Commands that write nothing.
 abbrev pub on_nothing : List PlainCommand
@@ -205,11 +237,11 @@ on_nothing =
 
 -- A cost counts the names of the written map whose codes are alike: all by no bits, and by all bits the name itself.
 pub record WorkedCost : Type 0 where
-  pub buffers_alike : costs 0 on_buffers ≡ 66 ∷ 66 ∷ 66 ∷ 514 ∷ 514 ∷ 130 ∷ 516 ∷ 516 ∷ 66 ∷ 66 ∷ 66 ∷ 70 ∷ 66 ∷ []
-  pub buffers_apart : costs 64 on_buffers ≡ 64 ∷ 65 ∷ 65 ∷ 513 ∷ 513 ∷ 129 ∷ 514 ∷ 513 ∷ 65 ∷ 64 ∷ 65 ∷ 69 ∷ 64 ∷ []
-  pub names_alike : costs 0 on_names ≡ 65 ∷ 65 ∷ 65 ∷ 65 ∷ []
-  pub names_apart : costs 64 on_names ≡ 64 ∷ 65 ∷ 64 ∷ 65 ∷ []
-  pub states : costs 0 on_states ≡ 64 ∷ 64 ∷ 64 ∷ 64 ∷ []
+  pub buffers_alike : costs 0 on_buffers ≡ 258 ∷ 258 ∷ 258 ∷ 770 ∷ 770 ∷ 322 ∷ 772 ∷ 772 ∷ 258 ∷ 258 ∷ 258 ∷ 262 ∷ 258 ∷ []
+  pub buffers_apart : costs 64 on_buffers ≡ 256 ∷ 257 ∷ 257 ∷ 769 ∷ 769 ∷ 321 ∷ 770 ∷ 769 ∷ 257 ∷ 256 ∷ 257 ∷ 261 ∷ 256 ∷ []
+  pub names_alike : costs 0 on_names ≡ 257 ∷ 257 ∷ 65 ∷ 65 ∷ []
+  pub names_apart : costs 64 on_names ≡ 256 ∷ 257 ∷ 64 ∷ 65 ∷ []
+  pub states : costs 0 on_states ≡ 256 ∷ 64 ∷ 256 ∷ 256 ∷ 256 ∷ []
   pub nothing : costs 0 on_nothing ≡ replicate 15 0
 
 -- Whether each of the commands may want memory.
@@ -221,7 +253,7 @@ wants = map wants_memory
 pub record WorkedMemory : Type 0 where
   pub buffers : wants on_buffers ≡ replicate 13 true
   pub names : wants on_names ≡ replicate 4 true
-  pub states : wants on_states ≡ replicate 4 true
+  pub states : wants on_states ≡ replicate 5 true
   pub sorting : wants (list ∷ stars ∷ marks ∷ []) ≡ replicate 3 true
   pub files : wants (read a p ∷ write a p ∷ save p ∷ load p ∷ []) ≡ replicate 4 true
   pub looking : wants (begin ∷ abort ∷ get a 0 ∷ len a ∷ show a 0 0 ∷ same a b ∷ eqv v v ∷ stats ∷ made ∷ quit ∷ []) ≡ replicate 10 false

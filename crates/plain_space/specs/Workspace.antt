@@ -1,5 +1,5 @@
 -- The plain workspace: what a space stands for.
-use Rattle.std.specs.Prelude.{ℕ, ◌-◌, ◌^◌, Bool, ◌&&◌, not, if◌then◌else◌, ◌==◌, List, [], ◌∷◌, ◌++◌, Option, None, is_some, length, map as each, nat_eq}
+use Rattle.std.specs.Prelude.{ℕ, ◌-◌, ◌^◌, ◌≤◌, Bool, ◌&&◌, if◌then◌else◌, List, [], ◌∷◌, ◌++◌, Option, None, is_some, length, drop, map as each, nat_eq}
 use Rattle.std.specs.Ordering.{nat_cmp}
 use Rattle.std.specs.Cmp.Lexicographic.{slice_cmp}
 use Rattle.std.specs.FinMap as map
@@ -19,16 +19,17 @@ pub record State : Type 0 where
   pub buffers : Named (List Bytes)
   pub stars : Names
 
--- A workspace: the current state, the versions by their names, the states to undo and to redo, the last one last,
--- and in a batch the base: the state at its begin.
+-- A workspace: the current state, the versions by their names, the states to undo and to redo, the last one last, the bound:
+-- how many states undo keeps; and in a batch the base: the state at its begin.
 pub record Workspace : Type 0 where
   pub current : State
   pub versions : Named State
   pub undo : List State
   pub redo : List State
+  pub history : ℕ
   pub base : Option State
 
--- The most lines that a buffer may have, and the most states that undo or redo may hold.
+-- The most lines that a buffer may have, the most states that redo may hold, and the greatest bound of undo.
 abbrev pub most : ℕ
 most = 2 ^ 32 - 1
 
@@ -36,9 +37,9 @@ most = 2 ^ 32 - 1
 abbrev pub blank : State
 blank = record { buffers = map.empty; stars = map.empty }
 
--- The workspace of a new space.
+-- The workspace of a new space: undo keeps as many states as it can.
 abbrev pub start : Workspace
-start = record { current = blank; versions = map.empty; undo = []; redo = []; base = None }
+start = record { current = blank; versions = map.empty; undo = []; redo = []; history = most; base = None }
 
 -- ## A state
 
@@ -98,9 +99,17 @@ same_state one other =
 abbrev pub in_batch : Workspace → Bool
 in_batch work = is_some work.base
 
--- Whether no edit can be done, since it would have to put a state into a full undo.
-abbrev pub is_full : Workspace → Bool
-is_full work = not (in_batch work) && length work.undo == most
+-- The last so many of a list, which are all of it where it has no more.
+abbrev pub last_of : {X : Type 0} → ℕ → List X → List X
+last_of count xs = drop (length xs - count) xs
+
+-- Undo with one more state at its end: of all these states the last ones stay, as many as the bound says.
+abbrev pub undo_with : Workspace → State → List State
+undo_with work state = last_of work.history (work.undo ++ state ∷ [])
+
+-- Undo holds no more states than the bound says.
+abbrev pub HasBoundedUndo : Workspace → Type 0
+HasBoundedUndo work = length work.undo ≤ work.history
 
 -- The state of the version, if there is one of this name.
 abbrev pub version_of : Workspace → Bytes → Option State
@@ -111,4 +120,4 @@ abbrev pub with_current : Workspace → State → Workspace
 with_current work next =
     if in_batch work
     then record work { current = next }
-    else record work { current = next; undo = work.undo ++ work.current ∷ []; redo = [] }
+    else record work { current = next; undo = undo_with work work.current; redo = [] }

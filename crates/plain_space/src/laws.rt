@@ -1,14 +1,14 @@
 //! Laws of the plain answer: each function does nothing, and its contract is the law.
-ghost use Rattle.plain_space.specs.Laws.{UndoTakesBack, FullRefuses, FullLines, FullHistories, EditsInBatch, SameIsEqual};
+ghost use Rattle.plain_space.specs.Laws.{UndoTakesBack, UndoStaysBounded, FullLines, FullRedo, EditsInBatch, SameIsEqual};
 
 /// Outside a batch, an undo takes an edit back.
 pub fn undo_takes_back()
     ensures { UndoTakesBack }
 {}
 
-/// Where undo is full outside a batch, no edit is carried out.
-pub fn full_refuses()
-    ensures { FullRefuses }
+/// Undo stays within its bound, whatever the command.
+pub fn undo_stays_bounded()
+    ensures { UndoStaysBounded }
 {}
 
 /// A buffer with the most lines takes no further line.
@@ -16,12 +16,12 @@ pub fn full_lines()
     ensures { FullLines }
 {}
 
-/// What is refused where undo or redo is full.
-pub fn full_histories()
-    ensures { FullHistories }
+/// There is no undo where redo is full.
+pub fn full_redo()
+    ensures { FullRedo }
 {}
 
-/// In a batch an edit changes the current state alone, however full undo is.
+/// In a batch an edit changes the current state alone.
 pub fn edits_in_batch()
     ensures { EditsInBatch }
 {}

@@ -18,7 +18,7 @@ pub enum Refusal {
     /// There is no line at this index, or no such range of lines.
     #[error("there is no such line")]
     Range,
-    /// The buffer would have more lines than it may, or undo or redo holds as many states as it may.
+    /// The buffer would have more lines than it may, or redo holds as many states as it may.
     #[error("the list is full")]
     Limit,
     /// A batch is open, or none is where one has to be.

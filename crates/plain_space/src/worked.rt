@@ -1,5 +1,5 @@
 //! Worked commands with their replies, as facts: each function does nothing, and its contract is the fact.
-ghost use Rattle.plain_space.specs.Worked.{WorkedRanges, WorkedMissing, WorkedPut, WorkedCut, WorkedCutItself, WorkedCopy, WorkedFill, WorkedDoubling, WorkedDoubledEqual, WorkedStars, WorkedUndo, WorkedUndoStar, WorkedMarks, WorkedBack, WorkedBatch, WorkedAbort, WorkedInBatch, WorkedEqualLines, WorkedEqualVersions, WorkedElsewhere, WorkedCost, WorkedMemory};
+ghost use Rattle.plain_space.specs.Worked.{WorkedRanges, WorkedMissing, WorkedPut, WorkedCut, WorkedCutItself, WorkedCopy, WorkedFill, WorkedDoubling, WorkedDoubledEqual, WorkedStars, WorkedUndo, WorkedUndoStar, WorkedMarks, WorkedBack, WorkedBatch, WorkedAbort, WorkedInBatch, WorkedLast, WorkedHistory, WorkedRedoCut, WorkedNoHistory, WorkedHistoryStays, WorkedEqualLines, WorkedEqualVersions, WorkedElsewhere, WorkedCost, WorkedMemory};
 
 /// Lines that a buffer doesn't have, and a name that is taken.
 pub fn ranges()
@@ -84,6 +84,31 @@ pub fn abort()
 /// What a batch refuses, and what is refused where none is open.
 pub fn in_batch()
     ensures { WorkedInBatch }
+{}
+
+/// The last so many of a list.
+pub fn last()
+    ensures { WorkedLast }
+{}
+
+/// Undo keeps the last states, as many as the bound says.
+pub fn history()
+    ensures { WorkedHistory }
+{}
+
+/// A redo goes by the bound too.
+pub fn redo_cut()
+    ensures { WorkedRedoCut }
+{}
+
+/// A bound of none keeps no state.
+pub fn no_history()
+    ensures { WorkedNoHistory }
+{}
+
+/// No batch sets a bound, and no undo brings one back.
+pub fn history_stays()
+    ensures { WorkedHistoryStays }
 {}
 
 /// Buffers are the same by their lines alone.

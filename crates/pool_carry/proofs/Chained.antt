@@ -1,5 +1,5 @@
 -- The chain of entries, made from its end.
-use Rattle.std.proofs.Common.{◌≡◌, ℕ, ◌+◌, ◌<◌, ◌≤◌, refl, ap, sym, subst, ◌∙◌, arith, inl, inr, List, [], ◌∷◌, ◌++◌, length, map, Option, Some, None, append_assoc, append-nil}
+use Rattle.std.proofs.Common.{◌≡◌, ℕ, ◌<◌, ◌≤◌, refl, ap, sym, subst, ◌∙◌, arith, inl, inr, List, [], ◌∷◌, ◌++◌, length, map, Option, Some, None, append_assoc, append-nil}
 use Rattle.std.specs.Prelude.{slice_get, option_to_list, IfSome}
 use Rattle.std.specs.List.{All}
 use Rattle.std.specs.Ordering.{nat_cmp}
@@ -39,13 +39,13 @@ module _ (F : Forms Bytes) (rest : Option ℕ) (left new : List CodedEntry) (e :
       (subst (λ es. All (λ d. IsEntry F d) (map seen (es ++ chained.0))) is (all-same (λ d. IsEntry F d) E (map seen (left ++ chained.0)) (same-sym _ _ chained.1) all))
 
   -- once its row is made one fewer is left
-  pub chained-more : (G : Forms Bytes) (name : ℕ) → KeepsForms F G → G name ≡ Some (node chain (e.name ∷ option_to_list rest)) → IsEntry F (seen e) → IsChained G (Some name) new E
-  chained-more G name keeps row key =
+  pub chained-more : (G : Forms Bytes) (place : ℕ) → KeepsForms F G → G place ≡ Some (node chain (e.place ∷ option_to_list rest)) → IsEntry F (seen e) → IsChained G (Some place) new E
+  chained-more G place keeps row key =
       let whole : left ++ chained.0 ≡ new ++ e ∷ chained.0 = ap (λ es. es ++ chained.0) is ∙ append_assoc new (e ∷ []) chained.0 in (
         e ∷ chained.0,
         subst (λ es. SameSet (map seen es) E) whole chained.1,
         subst (λ es. IsRising (slice_cmp nat_cmp) (map seen es)) whole chained.2,
-        rows-over G name (seen e) rest (map seen chained.0) row (key-kept F G keeps e.name e.key.now key) (rows-kept F G keeps rest (map seen chained.0) chained.3),
+        rows-over G place (seen e) rest (map seen chained.0) row (key-kept F G keeps e.place e.key.now key) (rows-kept F G keeps rest (map seen chained.0) chained.3),
       )
 
 -- entries are rows
@@ -57,7 +57,7 @@ entry-within rows l key is = by_row (slice_get rows l) refl is
     by_row (Some row) at is = slice_get_within rows l row at
 
 -- the links of a chain row are below n
-pub links-within : (n x : ℕ) (rest : Option ℕ) → x < n → IfSome rest (λ name. name < n) → (k : ℕ) → 0 < count k (x ∷ option_to_list rest) → k < n
+pub links-within : (n x : ℕ) (rest : Option ℕ) → x < n → IfSome rest (λ place. place < n) → (k : ℕ) → 0 < count k (x ∷ option_to_list rest) → k < n
 links-within n x None low rest_low k there = omega (arith, low, in-one k x there)
 links-within n x (Some y) low rest_low k there = elim (in-two k x y there) as (λ _. k < n) [
   | inl same ↦ omega (arith, same, low)

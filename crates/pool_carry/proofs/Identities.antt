@@ -18,6 +18,7 @@ use Rattle.pool_text.specs.Rules.{Rules}
 use Rattle.pool_text.specs.Pool.{forms_in, row_count, place_in, relink, settings_by, pool}
 use Rattle.pool_text.specs.Renaming.{IsRenamed, IsRooted}
 use Rattle.pool_text.specs.declared.pool.Pool.{Pool}
+use Rattle.pool_text.specs.declared.rules.TheConstants.{MOST_HISTORY}
 use Rattle.pool_text.proofs.Placed.{place-is}
 use Rattle.pool_text.proofs.PoolRows.{order-of-pool, pool-length, pool-renamed, place-back, pool-ranked}
 use Rattle.pool_text.proofs.Renamed.{count-map, links-relink}
@@ -60,7 +61,7 @@ module _ (from to : Rules) (bits : ℕ) (P : Pool) (valid : IsValidBy from P) (f
   F = forms_in P
 
   abbrev Q : Pool
-  Q = pool many G tops (settings_by bits)
+  Q = pool many G tops (settings_by bits MOST_HISTORY)
 
   abbrev H : Forms Bytes
   H = forms_in Q
@@ -85,7 +86,7 @@ module _ (from to : Rules) (bits : ℕ) (P : Pool) (valid : IsValidBy from P) (f
   image-is l r is own = images.own l (get-low P.rows l r is) (ap is_of_trie is ∙ own) ∙ ap (option_map (relink f)) is
 
   placed : (l : ℕ) → IsSeen l → IsRenamed place G H (f l)
-  placed l seen = pool-renamed many G tops rooted (settings_by bits) seen.top (f l) seen.root seen.reached
+  placed l seen = pool-renamed many G tops rooted (settings_by bits MOST_HISTORY) seen.top (f l) seen.root seen.reached
 
   own-follows : (l : ℕ) (r : Form Bytes) → IsSeen l → F l ≡ Some r → is_of_trie (Some r) ≡ false → H (g l) ≡ Some (relink g r)
   own-follows l r seen is own =
@@ -121,12 +122,12 @@ module _ (from to : Rules) (bits : ℕ) (P : Pool) (valid : IsValidBy from P) (f
     place-low : g l < row_count Q
     place-low =
         let at = place-is listed (f l) ((order-of-pool many G tops rooted).all seen.top (f l) seen.root seen.reached) in
-        omega (arith, at.0, pool-length many G tops rooted (settings_by bits))
+        omega (arith, at.0, pool-length many G tops rooted (settings_by bits MOST_HISTORY))
 
     entries-follow : SameSet (map (moved g) E) (entries_below (row_count Q) H (g l))
     entries-follow =
         same-sym (entries_below (row_count Q) H (g l)) (map (moved g) E)
-        (entries-same H (pool-ranked many G tops rooted (settings_by bits)) (row_count Q) (code_by to.code_of bits) (to.deepest + 1) 0 (g l) (map (moved g) E) place-low place-canon.trie)
+        (entries-same H (pool-ranked many G tops rooted (settings_by bits MOST_HISTORY)) (row_count Q) (code_by to.code_of bits) (to.deepest + 1) 0 (g l) (map (moved g) E) place-low place-canon.trie)
 
     entry-seen : (e : Entry Bytes) → Among e E → IsSeen e.link
     entry-seen e there =
@@ -154,7 +155,7 @@ module _ (from to : Rules) (bits : ℕ) (P : Pool) (valid : IsValidBy from P) (f
   found-followed : (s : Spot) → Goes g (IsOwn F IsSeen) (found_in P s) (found_in Q s)
   unfolding found_in roots_are_of_kind
   found-followed s =
-      let roots : Q.roots ≡ map g P.roots = pool-roots many G tops rooted (settings_by bits) ∙ map-twice place f P.roots in
+      let roots : Q.roots ≡ map g P.roots = pool-roots many G tops rooted (settings_by bits MOST_HISTORY) ∙ map-twice place f P.roots in
       subst (λ ks. Goes g (IsOwn F IsSeen) (found (row_count P) F P.roots s) (found (row_count Q) H ks s)) (sym roots)
       (found-goes (row_count P) (row_count Q) F H g IsSeen follows P.roots (tops-are (row_count P) (row_count Q) F H g IsSeen follows P.roots valid.kinds roots-seen) s)
 

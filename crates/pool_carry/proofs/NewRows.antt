@@ -1,5 +1,5 @@
 -- What the rows of new tries are: their entries name their keys, rise, and come before the roots that they are of.
-use Rattle.std.proofs.Common.{◌≡◌, ℕ, zero, suc, ◌+◌, ◌<◌, refl, arith, Bool, true, false, cond, List, [], ◌∷◌, ◌++◌, map, fold, flat_map, Some}
+use Rattle.std.proofs.Common.{◌≡◌, ℕ, zero, suc, ◌<◌, refl, arith, Bool, true, false, cond, List, [], ◌∷◌, ◌++◌, map, fold, flat_map, Some}
 use Rattle.std.specs.Prelude.{nat_eq}
 use Rattle.std.specs.List.{filter, range_with_len}
 use Rattle.std.specs.Ordering.{nat_cmp, is_lt}

@@ -5,6 +5,7 @@ use Rattle.node_heap.specs.Forms.{links_in}
 use Rattle.pool_text.specs.Rules.{Rules}
 use Rattle.pool_text.specs.Pool.{forms_in, row_count, settings_by}
 use Rattle.pool_text.specs.declared.pool.Pool.{Pool}
+use Rattle.pool_text.specs.declared.rules.TheConstants.{MOST_HISTORY}
 use Rattle.pool_carry.specs.Carried.{is_of_trie, IsCarried}
 use Rattle.pool_carry.proofs.Related.{related-pools}
 use Rattle.pool_carry.proofs.Matched.{AreMatched, LeadsToOwn, match-one, turned-match}
@@ -16,6 +17,6 @@ carried-one to bits P Q R leads tops c d =
     c.same
     ∙ related-pools (AreMatched to bits P c.image c.forms d.image d.forms) (match-one to bits P c.image c.forms c.images d.image d.forms d.images)
     (λ x y z a b. match-one to bits P d.image d.forms d.images c.image c.forms c.images z x y (turned-match to bits P c.image c.forms d.image d.forms x z a) (turned-match to bits P c.image c.forms d.image d.forms y z b))
-    c.forms d.forms (match-alike to bits P c.image c.forms c.images d.image d.forms d.images leads) c.many d.many (map c.image P.roots) (map d.image P.roots) (settings_by bits) c.rooted d.rooted
+    c.forms d.forms (match-alike to bits P c.image c.forms c.images d.image d.forms d.images leads) c.many d.many (map c.image P.roots) (map d.image P.roots) (settings_by bits MOST_HISTORY) c.rooted d.rooted
     (zip-mapped (AreMatched to bits P c.image c.forms d.image d.forms) c.image d.image P.roots (λ k there. image-match to bits P c.image c.forms c.images d.image d.forms d.images k (tops k there)))
     ∙ sym d.same

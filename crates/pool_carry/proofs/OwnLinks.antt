@@ -20,7 +20,7 @@ use Rattle.pool_check.specs.Damages.{IsValidBy}
 use Rattle.pool_check.proofs.PoolLaws.{get-low}
 use Rattle.pool_check.proofs.TestLemmas.{leads-down, not-both}
 use Rattle.pool_check.proofs.VectorReadings.{all-at}
-use Rattle.plain_space.specs.Workspace.{Workspace}
+use Rattle.plain_space.specs.Workspace.{Workspace, HasBoundedUndo}
 use Rattle.state_rows.specs.Standing.{StandsForBy}
 use Rattle.state_rows.proofs.CoverRows.{is_loose, IsWhole, loose_row, trie_root, IsKnown, known_cell, known_vector, known_trie, known_chain, known_pair, known_state}
 use Rattle.state_rows.proofs.CoverSpace.{Covered, roots-known}
@@ -62,7 +62,7 @@ module _ (from to : Rules) (bits : ℕ) (P : Pool) (valid : IsValidBy from P) wh
   falls : LeadsDown (λ l. l) (links_in F)
   falls = leads-down P valid.lead_back
 
-  stands : (W : Workspace) × StandsForBy from P W
+  stands : (W : Workspace) × StandsForBy from P W × HasBoundedUndo W
   stands = valid-stands P valid
 
   loose-low : (k : ℕ) → is_loose (F k) ≡ true → k < row_count P
@@ -106,4 +106,4 @@ module _ (from to : Rules) (bits : ℕ) (P : Pool) (valid : IsValidBy from P) wh
 
   -- each root
   pub root-leads : (r : ℕ) → 0 < count r P.roots → LeadsToOwn to bits P r
-  root-leads r there = whole-leads r (all-at (Covered from F P.bits) P.roots (roots-known from F P.bits P.roots stands.0 stands.1) r there).0
+  root-leads r there = whole-leads r (all-at (Covered from F P.bits) P.roots (roots-known from F P.bits P.roots stands.0 stands.1.0) r there).0

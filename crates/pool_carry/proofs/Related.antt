@@ -129,7 +129,7 @@ module _ (R : ℕ → ℕ → Type 0) where
           pools (order n (links_in G) roots) (order m (links_in H) tops) orders
         where
           with : List (Form Bytes) → List ℕ → Pool
-          with rows is = record { bits = settings.bits; version = settings.version; rows = rows; roots = is }
+          with rows is = record { bits = settings.bits; version = settings.version; history = settings.history; rows = rows; roots = is }
 
           pools : (ks js : List ℕ) → AllZip R ks js
               → with (filter_map (λ k. option_map (relink (place_in ks)) (G k)) ks) (map (place_in ks) roots) ≡ with (filter_map (λ j. option_map (relink (place_in js)) (H j)) js) (map (place_in js) tops)

@@ -12,7 +12,7 @@ use Rattle.pool_text.specs.Rules.{Rules}
 use Rattle.pool_text.specs.Pool.{links_from, row_count, settings_by, pool}
 use Rattle.pool_text.specs.Renaming.{IsRooted}
 use Rattle.pool_text.specs.declared.pool.Pool.{Pool}
-use Rattle.pool_text.specs.declared.rules.TheConstants.{PRESENT_VERSION}
+use Rattle.pool_text.specs.declared.rules.TheConstants.{MOST_HISTORY, PRESENT_VERSION}
 use Rattle.pool_text.proofs.Renamed.{map-found}
 use Rattle.pool_carry.specs.Carried.{IsCarried}
 use Rattle.pool_carry.specs.Making.{AreKept, AreImagesOfFirst, AreCarriedRows}
@@ -43,7 +43,7 @@ module _ (rows : List (Form Bytes)) (linked : (l k : ℕ) → HasLink (links_fro
       let grounded = grounded-below (length rows) (links_from rows) linked-below in
       record { rank = grounded.rank; falls = grounded.falls; low = λ r root. grounded.low r (low r root); there = λ r l root reaches. some-within rows l (reached-within r l (low r root) reaches) }
 
-module _ (rules : Rules) (bits : ℕ) (P Q : Pool) (rows : List (Form Bytes)) (roots : List ℕ) (are : AreCarriedRows rules bits P rows roots) (made : Q ≡ pool (length rows) (slice_get rows) roots (settings_by bits)) where
+module _ (rules : Rules) (bits : ℕ) (P Q : Pool) (rows : List (Form Bytes)) (roots : List ℕ) (are : AreCarriedRows rules bits P rows roots) (made : Q ≡ pool (length rows) (slice_get rows) roots (settings_by bits MOST_HISTORY)) where
   pub carried-is : IsCarried rules bits P Q
   carried-is = record {
     image = are.image;
@@ -51,7 +51,7 @@ module _ (rules : Rules) (bits : ℕ) (P Q : Pool) (rows : List (Form Bytes)) (r
     many = length rows;
     images = are.images;
     rooted = subst (IsRooted (length rows) (slice_get rows)) are.tops (rooted-list rows are.linked roots are.low);
-    same = made ∙ ap (λ rs. pool (length rows) (slice_get rows) rs (settings_by bits)) are.tops;
+    same = made ∙ ap (λ rs. pool (length rows) (slice_get rows) rs (settings_by bits MOST_HISTORY)) are.tops;
   }
 
   pub carried-present : Q.version ≡ PRESENT_VERSION
@@ -62,16 +62,20 @@ module _ (rules : Rules) (bits : ℕ) (P Q : Pool) (rows : List (Form Bytes)) (r
   unfolding pool
   carried-bits = ap (λ (R : Pool). R.bits) made
 
+  pub carried-history : Q.history ≡ MOST_HISTORY
+  unfolding pool
+  carried-history = ap (λ (R : Pool). R.history) made
+
   pub carried-roots : length Q.roots ≡ length P.roots
   unfolding pool
   carried-roots = ap (λ (R : Pool). length R.roots) made ∙ length-map roots _ ∙ ap length are.tops ∙ length-map P.roots are.image
 
 -- the same, where what is known of each part is known by another name
 pub carried-as : (rules today : Rules) (bits : ℕ) (P old Q : Pool) (rows : List (Form Bytes)) (roots names : List ℕ) → AreCarriedRows rules bits P rows roots → rules ≡ today → P ≡ old → names ≡ roots
-    → Q ≡ pool (length rows) (slice_get rows) names (settings_by bits) → IsCarried today bits old Q
+    → Q ≡ pool (length rows) (slice_get rows) names (settings_by bits MOST_HISTORY) → IsCarried today bits old Q
 carried-as rules today bits P old Q rows roots names are same_rules same_pool same_roots made =
     subst (λ R. IsCarried R bits old Q) same_rules
-    (subst (λ O. IsCarried rules bits O Q) same_pool (carried-is rules bits P Q rows roots are (made ∙ ap (λ rs. pool (length rows) (slice_get rows) rs (settings_by bits)) same_roots)))
+    (subst (λ O. IsCarried rules bits O Q) same_pool (carried-is rules bits P Q rows roots are (made ∙ ap (λ rs. pool (length rows) (slice_get rows) rs (settings_by bits MOST_HISTORY)) same_roots)))
 
 -- once each of the pool's rows has its image, the rows are carried
 pub rows-carried : (rules : Rules) (bits : ℕ) (P : Pool) (rows : List (Form Bytes)) (named_in : TrieRow → Option ℕ) (images roots : List ℕ) → AreKept rows named_in → AreImagesOfFirst rules bits P rows images → length images ≡ row_count P

@@ -1,5 +1,5 @@
 -- What stands for the entries with one digit, which are in a slice.
-use Rattle.std.proofs.Common.{◌≡◌, ◌∙◌, ℕ, ◌+◌, ◌-◌, ◌<◌, ◌≤◌, refl, ap, sym, subst, arith, List, [], ◌∷◌, get_or, length, map, Vec, Global, Result, Ok, Err}
+use Rattle.std.proofs.Common.{◌≡◌, ◌∙◌, ℕ, ◌+◌, ◌<◌, ◌≤◌, refl, ap, sym, subst, arith, List, [], ◌∷◌, get_or, length, map, Vec, Global, Result, Ok, Err}
 use Rattle.std.specs.Prelude.{slice_get, IfSome, IfOk, OnOk, nat_eq}
 use Rattle.std.specs.List.{All}
 use Rattle.std.specs.Ordering.{nat_cmp}
@@ -51,11 +51,11 @@ slice-part depth p es slice parts v many each small read value =
 -- entries are named in all rows that are made later
 pub named-over : (old rows : List (Form Bytes)) (es : List CodedEntry) → IsBegun old rows → All (λ e. IsEntry (slice_get old) (seen e)) es → All (λ e. IsEntry (slice_get rows) (seen e)) es
 named-over old rows es begun named =
-    All-weaker (λ e. IsEntry (slice_get old) (seen e)) (λ e. IsEntry (slice_get rows) (seen e)) (λ e is. key-kept (slice_get old) (slice_get rows) (begun-keeps old rows begun) e.name e.key.now is) es named
+    All-weaker (λ e. IsEntry (slice_get old) (seen e)) (λ e. IsEntry (slice_get rows) (seen e)) (λ e is. key-kept (slice_get old) (slice_get rows) (begun-keeps old rows begun) e.place e.key.now is) es named
 
 -- the row of an entry stands there
-pub name-within : (rows : List (Form Bytes)) (e : CodedEntry) → IsEntry (slice_get rows) (seen e) → (k : ℕ) → 0 < count k (e.name ∷ []) → k < length rows
-name-within rows e key k there = omega (arith, entry-within rows e.name e.key.now key, in-one k e.name there)
+pub place-within : (rows : List (Form Bytes)) (e : CodedEntry) → IsEntry (slice_get rows) (seen e) → (k : ℕ) → 0 < count k (e.place ∷ []) → k < length rows
+place-within rows e key k there = omega (arith, entry-within rows e.place e.key.now key, in-one k e.place there)
 
 pub node-within : (many node : ℕ) → node < many → (k : ℕ) → 0 < count k (node ∷ []) → k < many
 node-within many node low k there = omega (arith, low, in-one k node there)
@@ -90,7 +90,7 @@ module _ (depth p : ℕ) (es slice : List CodedEntry) (is : slice ≡ with_digit
     none-left few = sym seen-slice ∙ ap (map seen) (nil_from_length slice (omega (arith, few)))
 
     module _ (left : ℕ) (F : Forms Bytes) where
-      pub one-stands : (d : CodedEntry) → 1 ≤ length slice → length slice < 2 → IsEntry F (seen (get_or slice 0 d)) → StandsFor code left depth (map seen es) F (At (get_or slice 0 d).name) p
+      pub one-stands : (d : CodedEntry) → 1 ≤ length slice → length slice < 2 → IsEntry F (seen (get_or slice 0 d)) → StandsFor code left depth (map seen es) F (At (get_or slice 0 d).place) p
       one-stands d some few key = ((get_or slice 0 d).key.now, sym seen-slice ∙ only slice d some few, key)
 
       pub more-stand : (node : ℕ) → 2 ≤ length slice → IsTrie (slice_cmp nat_cmp) code F left (depth + 1) node (map seen slice) → StandsFor code left depth (map seen es) F (Node node) p

@@ -9,6 +9,7 @@ use Rattle.pool_text.specs.Rules.{Rules}
 use Rattle.pool_text.specs.Pool.{forms_in, row_count, relink, settings_by, pool}
 use Rattle.pool_text.specs.Renaming.{IsRooted}
 use Rattle.pool_text.specs.declared.pool.Pool.{Pool}
+use Rattle.pool_text.specs.declared.rules.TheConstants.{MOST_HISTORY}
 use Rattle.pool_check.specs.Tries.{entries_below}
 use Rattle.pool_check.specs.Kinds.{is_trie_root}
 use Rattle.pool_check.specs.Readings.{moved}
@@ -28,11 +29,12 @@ pub record AreImages (rules : Rules) (bits : ℕ) (P : Pool) (image : ℕ → �
       → IsCanonTo (slice_cmp nat_cmp) (code_by rules.code_of bits) rules.deepest G (image l) (map (moved image) (entries_below (row_count P) (forms_in P) l))
   pub once : (k l : ℕ) → is_of_trie (G k) ≡ true → G k ≡ G l → k ≡ l
 
--- Q is P, carried over to these rules and so many code bits: the pool of the images from those of the roots.
+-- Q is P, carried over to these rules and so many code bits: the pool of the images from those of the roots. Undo may keep as many
+-- states as it can.
 pub record IsCarried (rules : Rules) (bits : ℕ) (P Q : Pool) : Type 0 where
   pub image : ℕ → ℕ
   pub forms : Forms Bytes
   pub many : ℕ
   pub images : AreImages rules bits P image forms
   pub rooted : IsRooted many forms (map image P.roots)
-  pub same : Q ≡ pool many forms (map image P.roots) (settings_by bits)
+  pub same : Q ≡ pool many forms (map image P.roots) (settings_by bits MOST_HISTORY)

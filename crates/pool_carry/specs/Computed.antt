@@ -11,6 +11,7 @@ use Rattle.pool_text.specs.Rows.{Bytes}
 use Rattle.pool_text.specs.Rules.{Rules}
 use Rattle.pool_text.specs.Pool.{forms_in, row_count, relink, settings_by, pool}
 use Rattle.pool_text.specs.declared.pool.Pool.{Pool}
+use Rattle.pool_text.specs.declared.rules.TheConstants.{MOST_HISTORY}
 use Rattle.pool_check.specs.Tries.{entries_below}
 use Rattle.pool_check.specs.Kinds.{is_trie_root}
 use Rattle.pool_carry.specs.Carried.{is_of_trie}
@@ -139,7 +140,7 @@ module _ (rules : Rules) (bits : ℕ) (P : Pool) where
 
   -- the pool of these rows from the images of the roots
   abbrev pub carried_by : List ℕ → List (Form Bytes) → Pool
-  carried_by fs rows = pool (length rows) (slice_get rows) (map (slice_index fs) P.roots) (settings_by bits)
+  carried_by fs rows = pool (length rows) (slice_get rows) (map (slice_index fs) P.roots) (settings_by bits MOST_HISTORY)
 
   abbrev pub carried_from : List TrieRow → List ℕ → Pool
   carried_from R fs = carried_by fs (rows_with R fs)

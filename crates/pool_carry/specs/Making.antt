@@ -18,7 +18,7 @@ use Rattle.pool_check.specs.Kinds.{is_trie_root}
 use Rattle.pool_check.specs.Readings.{moved}
 use Rattle.pool_carry.specs.Carried.{is_of_trie, AreImages}
 use Rattle.pool_carry.specs.declared.entries.Entry.{Entry as CodedEntry}
-use Rattle.pool_carry.specs.declared.made.Made.{Made}
+use Rattle.pool_carry.specs.declared.made.MadeRows.{MadeRows}
 use Rattle.pool_carry.specs.declared.made.TrieRow.{TrieRow}
 use Rattle.pool_carry.specs.declared.made.TrieRow.TheVariants.{Trie, Chain}
 use Rattle.pool_carry.specs.contracts.made.TrieRowPartialEq.TheImpl as same
@@ -26,7 +26,7 @@ use Rattle.pool_carry.specs.contracts.made.TrieRowPartialEq.TheImpl as same
 -- Rows.
 
 -- the forms of the rows so far
-abbrev pub forms_made : Made → List (Form Bytes)
+abbrev pub forms_made : MadeRows → List (Form Bytes)
 forms_made made = map row_form made.rows.items
 
 -- a row of a trie as a form
@@ -41,8 +41,8 @@ pub record AreKept (rows : List (Form Bytes)) (named_in : TrieRow → Option ℕ
   pub named : (l : ℕ) (row : TrieRow) → named_in row ≡ Some l → slice_get rows l ≡ Some (trie_row_form row)
   pub kept : (l : ℕ) (row : TrieRow) → slice_get rows l ≡ Some (trie_row_form row) → named_in row ≡ Some l
 
-abbrev pub AreMade : Made → Type 0
-AreMade made = AreKept (forms_made made) (get (same.ghosts).eq made.names)
+abbrev pub AreMade : MadeRows → Type 0
+AreMade made = AreKept (forms_made made) (get (same.ghosts).eq made.places)
 
 -- the second list begins with the first
 pub record IsBegun {X : Type 0} (xs ys : List X) : Type 0 where
@@ -53,7 +53,7 @@ pub record IsBegun {X : Type 0} (xs ys : List X) : Type 0 where
 
 -- an entry without its code
 abbrev pub seen : CodedEntry → Entry Bytes
-seen e = entry e.key.now e.name
+seen e = entry e.key.now e.place
 
 -- each has the code of its key
 abbrev pub AreCoded : (Bytes → ℕ) → List CodedEntry → Type 0

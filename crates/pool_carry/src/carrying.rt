@@ -5,32 +5,34 @@ ghost use Rattle.node_heap.specs.Forms.{links_of};
 ghost use Rattle.pool_text.specs.Rows.{row_form};
 ghost use Rattle.pool_text.specs.Rules.{Rules as VersionRules, present_rules, rules_named};
 ghost use Rattle.pool_text.specs.Pool.{row_count, relink};
-ghost use Rattle.pool_text.specs.declared.rules.TheConstants.{PRESENT_VERSION};
+ghost use Rattle.pool_text.specs.declared.rules.TheConstants.{MOST_HISTORY, PRESENT_VERSION};
 ghost use Rattle.pool_check.specs.Damages.{IsValidBy};
 ghost use Rattle.pool_carry.specs.Carried.{is_of_trie, IsCarried};
 ghost use Rattle.pool_carry.specs.Making.{forms_made, AreMade, IsBegun, AreImagesOfFirst, ImageIsMade, AreCarriedRows};
 
 use crate::entries::entries_below;
-use crate::made::Made;
+use crate::made::MadeRows;
 use crate::tries::trie_of;
 use elem_core::{CODE_BITS, NoMemory};
 use pool_check::Old;
-use pool_text::{Places, Pool, PoolText, Row, Rows, Rules, pool_of_rows};
+use pool_text::{MOST_HISTORY, Places, Pool, PoolText, Row, Rows, Rules, pool_of_rows};
 use std::alloc::Global;
 
-/// The pool of an older document, carried over to today's rules by so many code bits. It walks each trie once for each of its
-/// roots, and takes time and memory for the entries that it meets, and for the other rows, their links and their texts.
+/// The pool of an older document, carried over to today's rules by so many code bits; its undo may keep 4,294,967,295 states. It walks
+/// each trie once for each of its roots, and takes time and memory for the entries that it meets, and for the other rows, their links
+/// and their texts.
 pub fn carry(alloc: Global, old: Old, bits: u32) -> Result<Pool, NoMemory>
     requires bits { bits ≤ CODE_BITS }
     ensures carried { IfOk result (λ P. IsCarried present_rules bits old P) }
     ensures version { IfOk result (λ P. P.version ≡ PRESENT_VERSION) }
     ensures bits { IfOk result (λ P. P.bits ≡ bits) }
+    ensures history { IfOk result (λ P. P.history ≡ MOST_HISTORY) }
     ensures roots { IfOk result (λ P. length P.roots ≡ 4) }
 {
     let pool = old.into_pool();
     let (rows, roots) = carried_rows(alloc, &pool, Rules::present(), bits)?;
     drop(pool);
-    pool_of_rows(alloc, &rows, roots.as_slice(), bits)
+    pool_of_rows(alloc, &rows, roots.as_slice(), bits, MOST_HISTORY)
 }
 
 // The images of a pool's rows, and which of these are those of its roots.
@@ -45,7 +47,7 @@ fn carried_rows(
     ensures { IfOk result (λ r. AreCarriedRows (rules_named rules) bits pool.now r.0 r.1) }
 {
     let rows = pool.rows.as_slice();
-    let mut made = Made::with_capacity(alloc, rows.len())?;
+    let mut made = MadeRows::with_capacity(alloc, rows.len())?;
     let mut images = Vec::with_capacity(alloc, rows.len())?;
     for place in 0..rows.len() {
         let image = image_of(
@@ -72,7 +74,7 @@ fn image_of(
     place: usize,
     rules: Rules,
     bits: u32,
-    made: &mut Made,
+    made: &mut MadeRows,
 ) -> Result<u64, NoMemory>
     requires valid { (from : VersionRules) × IsValidBy from pool.now }
     requires bits { bits ≤ CODE_BITS }

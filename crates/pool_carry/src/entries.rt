@@ -1,4 +1,4 @@
-//! The entries of a pool's tries, under the names of their images.
+//! The entries of a pool's tries, with the places of their images.
 ghost use Rattle.std.specs.Prelude.{◌≡◌, ℕ, ◌<◌, ◌≤◌, ◌++◌, true, length, map, reverse, slice_index, Some, option_map, IsSome, IfOk, OnOk};
 ghost use Rattle.std.specs.List.{All, filter_map};
 ghost use Rattle.node_heap.specs.Forms.{links_of};
@@ -20,16 +20,16 @@ use elem_core::{CODE_BITS, Code, NoMemory, masked};
 use pool_text::{Pool, Row, Rules};
 use std::alloc::Global;
 
-// An entry of a trie: its key, the name of its row, and its key's masked code. Where the keys are different the order is that of
-// the keys.
+// An entry of a trie: its key, the place of its row among those that are made, and its key's masked code. Where the keys are
+// different the order is that of the keys.
 #[derive(Clone, Copy, PartialEq, Eq, PartialOrd, Ord)]
 pub(crate) struct Entry<'a> {
     pub(crate) key: &'a str,
-    pub(crate) name: u64,
+    pub(crate) place: u64,
     pub(crate) code: Code,
 }
 
-// The entries of the trie with this root in the order of the walk, under their images for names, with codes by these rules.
+// The entries of the trie with this root in the order of the walk, with their images for places, and with codes by these rules.
 pub(crate) fn entries_below<'a>(
     alloc: Global,
     pool: &'a Pool,
@@ -53,7 +53,7 @@ pub(crate) fn entries_below<'a>(
     while let Some(place) = waiting.pop() {
         let (own, below) = split_links(&rows[place as usize]);
         add_entries(rows, images, own, rules, bits, &mut entries)?;
-        add_turned(below, &mut waiting)?;
+        add_reversed(below, &mut waiting)?;
     }
     Ok(entries)
 }
@@ -80,7 +80,7 @@ fn add_entries<'a>(
 }
 
 // Adds these places, the last first.
-fn add_turned(places: &[u64], waiting: &mut Vec<u64>) -> Result<(), NoMemory>
+fn add_reversed(places: &[u64], waiting: &mut Vec<u64>) -> Result<(), NoMemory>
     ensures { OnOk result (waiting.new.items ≡ waiting.old.items ++ reverse places.now) }
 {
     for place in places.iter().rev() {
@@ -116,7 +116,7 @@ fn entry_at<'a>(rows: &'a [Row], images: &[u64], place: u64, rules: Rules, bits:
     let key = key_of(rows, place);
     Entry {
         key,
-        name: images[place as usize],
+        place: images[place as usize],
         code: masked(rules.code(key), bits),
     }
 }

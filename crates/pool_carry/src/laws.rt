@@ -12,7 +12,7 @@ pub fn carried_is_one()
     ensures { CarriedIsOne }
 {}
 
-/// It stands for the workspace that the pool stands for.
+/// It stands for the workspace that the pool stands for, where undo has the greatest bound.
 pub fn carried_stands()
     ensures { CarriedStands }
 {}

@@ -25,55 +25,55 @@ pub(crate) enum TrieRow {
     Chain(u64, Option<u64>),
 }
 
-// The rows that were made so far, each after those that it links to. A row is named by its place. No row of a trie stands twice:
-// the table tells where each stands.
+// The rows that were made so far, each after those that it links to. A link is the place of a row. No row of a trie stands
+// twice: the table tells where each stands.
 #[derive(Drop)]
-pub(crate) struct Made {
+pub(crate) struct MadeRows {
     rows: Vec<Row>,
-    names: IndexMap<TrieRow, u64>,
+    places: IndexMap<TrieRow, u64>,
 }
 
-impl Made {
+impl MadeRows {
     // No rows, with room for so many.
-    pub(crate) fn with_capacity(alloc: Global, count: usize) -> Result<Made, NoMemory>
+    pub(crate) fn with_capacity(alloc: Global, count: usize) -> Result<MadeRows, NoMemory>
         ensures made { IfOk result AreMade }
         ensures none { IfOk result (λ made. forms_made made ≡ []) }
     {
-        Ok(Made {
+        Ok(MadeRows {
             rows: Vec::with_capacity(alloc, count)?,
-            names: IndexMap::new(alloc),
+            places: IndexMap::new(alloc),
         })
     }
 
-    // Makes a row that is none of a trie, apart from all others, and answers its name.
+    // Makes a row that is none of a trie, apart from all others, and answers its place.
     pub(crate) fn add_own(&mut self, row: Row) -> Result<u64, NoMemory>
         requires own { is_of_trie (Some (row_form row)) ≡ false }
         requires linked { (k : ℕ) → 0 < count k (links_of (Some (row_form row))) → k < length (forms_made self.old) }
         requires made { AreMade self.old }
         ensures made { OnOk result (AreMade self.new) }
-        ensures name { IfOk result (λ name. name ≡ length (forms_made self.old)) }
+        ensures place { IfOk result (λ place. place ≡ length (forms_made self.old)) }
         ensures rows { OnOk result (forms_made self.new ≡ forms_made self.old ++ row_form row ∷ []) }
     {
-        let name = self.rows.len() as u64;
+        let place = self.rows.len() as u64;
         self.rows.push(row)?;
-        Ok(name)
+        Ok(place)
     }
 
-    // The name of a row of a trie, which is made where it isn't there yet.
+    // The place of a row of a trie, which is made where it isn't there yet.
     pub(crate) fn add_trie_row(&mut self, alloc: Global, row: TrieRow) -> Result<u64, NoMemory>
         requires linked { (k : ℕ) → 0 < count k (links_of (Some (trie_row_form row))) → k < length (forms_made self.old) }
         requires made { AreMade self.old }
         ensures made { OnOk result (AreMade self.new) }
         ensures more { OnOk result (IsBegun (forms_made self.old) (forms_made self.new)) }
-        ensures row { IfOk result (λ name. slice_get (forms_made self.new) name ≡ Some (trie_row_form row)) }
+        ensures row { IfOk result (λ place. slice_get (forms_made self.new) place ≡ Some (trie_row_form row)) }
     {
-        if let Some(name) = self.names.get(&row) {
-            return Ok(*name);
+        if let Some(place) = self.places.get(&row) {
+            return Ok(*place);
         }
-        let name = self.rows.len() as u64;
+        let place = self.rows.len() as u64;
         self.rows.push(row_of(alloc, &row)?)?;
-        self.names.insert(row, name)?;
-        Ok(name)
+        self.places.insert(row, place)?;
+        Ok(place)
     }
 
     // The rows, as a list.

@@ -10,16 +10,16 @@ ghost use Rattle.pool_text.specs.Rows.{Bytes};
 ghost use Rattle.pool_carry.specs.Making.{seen, forms_made, AreMade, IsBegun, AreNamed, with_digit};
 
 use crate::entries::Entry;
-use crate::made::{Made, TrieRow};
+use crate::made::{MadeRows, TrieRow};
 use crate::trie_row::Positions;
 use elem_core::{DEEPEST, NoMemory, digit};
 use std::alloc::Global;
 
-// The name of the canonical trie of these entries from a depth on, whose keys are different. Chains stand below the deepest
+// The place of the canonical trie of these entries from a depth on, whose keys are different. Chains stand below the deepest
 // depth, and there two entries or more.
 pub(crate) fn trie_of(
     alloc: Global,
-    made: &mut Made,
+    made: &mut MadeRows,
     deepest: u8,
     depth: u8,
     entries: &[Entry<'_>],
@@ -32,9 +32,9 @@ pub(crate) fn trie_of(
     requires made { AreMade made.old }
     ensures made { OnOk result (AreMade made.new) }
     ensures more { OnOk result (IsBegun (forms_made made.old) (forms_made made.new)) }
-    ensures low { IfOk result (λ name. name < length (forms_made made.new)) }
+    ensures low { IfOk result (λ place. place < length (forms_made made.new)) }
     ensures trie { (code : Bytes → ℕ) (left : ℕ) → AreNamed code (forms_made made.old) entries.now → depth + left ≡ deepest + 1
-        → IfOk result (λ name. IsTrie (slice_cmp nat_cmp) code (slice_get (forms_made made.new)) left depth name (map seen entries.now)) }
+        → IfOk result (λ place. IsTrie (slice_cmp nat_cmp) code (slice_get (forms_made made.new)) left depth place (map seen entries.now)) }
 {
     if depth > deepest {
         return chain_of(alloc, made, entries);
@@ -44,7 +44,7 @@ pub(crate) fn trie_of(
     for position in 0..32u32 {
         match parts[position as usize].as_slice() {
             [] => {}
-            [entry] => row.put_entry(position, entry.name)?,
+            [entry] => row.put_entry(position, entry.place)?,
             more => {
                 let node = trie_of(alloc, made, deepest, depth + 1, more)?;
                 row.put_node(position, node)?;
@@ -92,24 +92,24 @@ fn empty_parts<'a>(alloc: Global) -> Result<Vec<Vec<Entry<'a>>>, NoMemory>
     Ok(parts)
 }
 
-// The name of the chain of these entries, two or more with different keys. The last row is made first.
-fn chain_of(alloc: Global, made: &mut Made, entries: &[Entry<'_>]) -> Result<u64, NoMemory>
+// The place of the chain of these entries, two or more with different keys. The last row is made first.
+fn chain_of(alloc: Global, made: &mut MadeRows, entries: &[Entry<'_>]) -> Result<u64, NoMemory>
     requires two { 2 ≤ length entries.now }
     requires distinct { AreDistinct (slice_cmp nat_cmp) (map seen entries.now) }
     requires named { (code : Bytes → ℕ) × AreNamed code (forms_made made.old) entries.now }
     requires made { AreMade made.old }
     ensures made { OnOk result (AreMade made.new) }
     ensures more { OnOk result (IsBegun (forms_made made.old) (forms_made made.new)) }
-    ensures low { IfOk result (λ name. name < length (forms_made made.new)) }
-    ensures chain { IfOk result (λ name. IsChain (slice_cmp nat_cmp) (slice_get (forms_made made.new)) name (map seen entries.now)) }
+    ensures low { IfOk result (λ place. place < length (forms_made made.new)) }
+    ensures chain { IfOk result (λ place. IsChain (slice_cmp nat_cmp) (slice_get (forms_made made.new)) place (map seen entries.now)) }
 {
     let mut left = rising(alloc, entries)?;
     let mut rest = None;
     while let Some(entry) = left.pop() {
-        rest = Some(made.add_trie_row(alloc, TrieRow::Chain(entry.name, rest))?);
+        rest = Some(made.add_trie_row(alloc, TrieRow::Chain(entry.place, rest))?);
     }
     match rest {
-        Some(name) => Ok(name),
+        Some(place) => Ok(place),
         None => unreachable!(),
     }
 }

@@ -1,9 +1,11 @@
 -- A pool has no damage exactly where it is valid.
 use Rattle.std.proofs.Common.{◌≡◌, Bool, true, false, cond, ◌++◌, refl, ap, ◌∙◌}
 use Rattle.std.specs.Prelude.{Option, Some, None, List, [], ◌∷◌}
+use Rattle.std.proofs.lemmas.Bool.{and_parts}
 use Rattle.pool_text.specs.Rules.{Rules}
 use Rattle.pool_text.specs.declared.pool.Pool.{Pool}
 use Rattle.pool_check.specs.Rows.{rows_in_range_by, links_lead_back}
+use Rattle.pool_check.specs.Kinds.{roots_are_of_kind, undo_fits}
 use Rattle.pool_check.specs.Damages.{rows_in_order, first_failing, open_tests, tests_by, open_damage, damage_by, IsValidBy}
 use Rattle.pool_text.specs.declared.damage.Damage.{Damage}
 use Rattle.pool_text.specs.declared.damage.Damage.TheVariants.{Row, Order}
@@ -11,7 +13,7 @@ use Rattle.pool_text.specs.declared.damage.Damage.TheVariants.{Row, Order}
 -- no test fails where all pass
 pub valid-undamaged : {rules : Rules} (P : Pool) → IsValidBy rules P → damage_by rules P ≡ None
 unfolding damage_by
-valid-undamaged P v = rw (v.in_range, v.lead_back, v.lines, v.vectors, v.tries, v.kinds, v.in_order) refl
+valid-undamaged P v = rw (v.in_range, v.lead_back, v.lines, v.vectors, v.tries, v.kinds, v.fits, v.in_order) refl
 
 -- every test of the list is passed
 ArePassed : List (Bool × Damage) → Type 0
@@ -31,7 +33,8 @@ pub undamaged-valid : {rules : Rules} (P : Pool) → damage_by rules P ≡ None 
 unfolding damage_by ArePassed
 undamaged-valid {rules} P h =
     let a : ArePassed (tests_by rules P) = all-passed (tests_by rules P) h in
-    record { in_range = a.0; lead_back = a.1.0; lines = a.1.1.0; vectors = a.1.1.1.0; tries = a.1.1.1.1.0; kinds = a.1.1.1.1.1.0; in_order = a.1.1.1.1.1.1.0 }
+    let both = and_parts (roots_are_of_kind P) (undo_fits P) a.1.1.1.1.1.0 in
+    record { in_range = a.0; lead_back = a.1.0; lines = a.1.1.0; vectors = a.1.1.1.0; tries = a.1.1.1.1.0; kinds = both.0; fits = both.1; in_order = a.1.1.1.1.1.1.0 }
 
 -- Tests that are followed by others.
 

@@ -1,41 +1,30 @@
 -- Bytes without damage have the rows of a valid pool, and those that read as the document of a valid pool have none.
-use Rattle.std.proofs.Common.{◌≡◌, ◌≢◌, ℕ, Bool, true, false, cond, eqb, Option, Some, None, List, [], ◌∷◌, length, bytes_eq, refl, ap, sym, subst, ◌∙◌}
-use Rattle.std.specs.Prelude.{not, is_some, IsSomeAnd, option_and_then, option_map, codes}
+use Rattle.std.proofs.Common.{◌≡◌, ◌≢◌, ◌≤◌, ℕ, Bool, true, false, ◌&&◌, cond, eqb, Option, Some, None, List, [], ◌∷◌, length, refl, ap, sym, subst, ◌∙◌}
+use Rattle.std.specs.Prelude.{not, is_some, IsSomeAnd, option_and_then, option_map}
 use Rattle.std.specs.List.{list_all}
 use Rattle.std.specs.Option.{option_or}
 use Rattle.std.proofs.lemmas.Bool.{eqb-true}
-use Rattle.std.proofs.lemmas.Option.{none-some, same_Some}
-use Rattle.serde_json.specs.Data.{Data, string, object}
+use Rattle.std.proofs.lemmas.Option.{none-some, same_Some, option_and_then_some}
+use Rattle.serde_json.specs.Data.{Data, object}
 use Rattle.node_heap.specs.Forms.{Form}
 use Rattle.pool_text.specs.Rows.{Bytes, is_in_range}
 use Rattle.pool_text.specs.Rules.{Rules, rules_of, bits_by}
 use Rattle.pool_text.specs.Pool.{today}
-use Rattle.pool_text.specs.Document.{document, DocumentParts, four, values_at, document_keys, number_in, numbers_in, elements_in, parts_read, parts_from, parts_in, rows_in, pool_by, pool_from, pool_in, value_in, pool_in_bytes, parts_damage_by, parts_damage, value_damage, bytes_damage, or_damage}
+use Rattle.pool_text.specs.Document.{document, DocumentParts, four, values_at, document_keys, older_keys, number_in, numbers_in, elements_in, kept_if, history_in, fits_version, parts_read, parts_by_format, parts_from, parts_in, rows_in, pool_by, pool_from, pool_in, value_in, pool_in_bytes, parts_damage_by, parts_damage, value_damage, bytes_damage, or_damage, HasHistory}
 use Rattle.pool_text.specs.declared.pool.Pool.{Pool}
+use Rattle.pool_text.specs.declared.rules.TheConstants.{MOST_HISTORY}
 use Rattle.pool_text.specs.declared.damage.Damage.{Damage}
 use Rattle.pool_text.specs.declared.damage.Damage.TheVariants.{Json, Form as FormDamage, Version, Bits, Row, Link, Text, Vector, Trie, Kind, Order, Memory}
 use Rattle.pool_check.specs.Rows.{rows_in_range, rows_in_range_by, links_lead_back, texts_are_lines}
 use Rattle.pool_check.specs.Vectors.{vectors_stand}
 use Rattle.pool_check.specs.Tries.{tries_stand_by}
-use Rattle.pool_check.specs.Kinds.{roots_are_of_kind}
+use Rattle.pool_check.specs.Kinds.{roots_are_of_kind, undo_fits}
 use Rattle.pool_check.specs.Damages.{rows_in_order, damage_by, own_damage, document_damage, IsValid, IsValidBy}
 use Rattle.pool_check.specs.Laws.{IsReadAs, IsDocumentOf}
+use Rattle.pool_text.proofs.DocumentBack.{mapped, format-back}
+use Rattle.pool_text.proofs.HistoryRead.{pool-history}
 use Rattle.pool_text.proofs.ReadBack.{reads-back}
 use Rattle.pool_check.proofs.DamageLemmas.{undamaged-valid, valid-undamaged}
-
--- what is found in two steps
-pub and-then-found : {X Y : Type 0} (f : X → Option Y) (o : Option X) (y : Y) → option_and_then f o ≡ Some y → (x : X) × (o ≡ Some x) × (f x ≡ Some y)
-and-then-found f None y e = absurd (let none : None ≡ Some y = e in cc)
-and-then-found f (Some x) y e = (x, refl, e)
-
-map-found : {X Y : Type 0} (f : X → Y) (o : Option X) (y : Y) → option_map f o ≡ Some y → (x : X) × (f x ≡ y)
-map-found f None y e = absurd (let none : None ≡ Some y = e in cc)
-map-found f (Some x) y e = (x, let same : Some (f x) ≡ Some y = e in cc)
-
--- what is found where a test is passed
-kept : {X : Type 0} (t : Bool) (o : Option X) (x : X) → cond t o None ≡ Some x → o ≡ Some x
-kept true o x e = e
-kept false o x e = absurd (let none : None ≡ Some x = e in cc)
 
 four-are : (ns rs : List ℕ) → four ns ≡ Some rs → length rs ≡ 4
 four-are (a ∷ b ∷ c ∷ d ∷ []) rs e = let same : Some (a ∷ b ∷ c ∷ d ∷ []) ≡ Some rs = e in let is : rs ≡ a ∷ b ∷ c ∷ d ∷ [] = cc in ap length is
@@ -44,22 +33,31 @@ four-are _ rs e = absurd (let none : None ≡ Some rs = e in cc)
 as-four : (q p : DocumentParts) → q ≡ p → length q.roots ≡ 4 → length p.roots ≡ 4
 as-four q p same four = ap (λ (parts : DocumentParts). length parts.roots) (sym same) ∙ four
 
-read-four : (bits roots rows version : Data) (p : DocumentParts) → parts_read bits roots rows version ≡ Some p → length p.roots ≡ 4
-read-four bits roots rows version p e =
-    let by_bits = and-then-found (λ b. option_and_then (λ rs. option_and_then (λ ds. option_map (λ v. record { bits = b; roots = rs; rows = ds; version = v }) (number_in version)) (elements_in rows)) (option_and_then four (numbers_in roots))) (number_in bits) p e in
-    let by_roots = and-then-found (λ rs. option_and_then (λ ds. option_map (λ v. record { bits = by_bits.0; roots = rs; rows = ds; version = v }) (number_in version)) (elements_in rows)) (option_and_then four (numbers_in roots)) p by_bits.2 in
-    let by_rows = and-then-found (λ ds. option_map (λ v. record { bits = by_bits.0; roots = by_roots.0; rows = ds; version = v }) (number_in version)) (elements_in rows) p by_roots.2 in
-    let by_version = map-found (λ v. record { bits = by_bits.0; roots = by_roots.0; rows = by_rows.0; version = v }) (number_in version) p by_rows.2 in
-    let by_four = and-then-found four (numbers_in roots) by_roots.0 by_roots.1 in
-    as-four (record { bits = by_bits.0; roots = by_roots.0; rows = by_rows.0; version = by_version.0 }) p by_version.1 (four-are by_four.0 by_roots.0 by_four.2)
+read-four : (bits : Data) (history : Option Data) (roots rows version : Data) (p : DocumentParts) → parts_read bits history roots rows version ≡ Some p → length p.roots ≡ 4
+read-four bits history roots rows version p e =
+    option_and_then_some _ (number_in bits) p e (λ b _ after.
+    option_and_then_some _ (history_in history) p after (λ h _ then.
+    option_and_then_some _ (option_and_then four (numbers_in roots)) p then (λ rs are_four next.
+    option_and_then_some _ (elements_in rows) p next (λ ds _ last.
+    mapped (λ v. record { bits = b; history = h; roots = rs; rows = ds; version = v }) (kept_if (fits_version history) (number_in version)) p last (λ v _ made.
+    option_and_then_some four (numbers_in roots) rs are_four (λ ns _ four.
+    ap (λ (parts : DocumentParts). length parts.roots) (sym made) ∙ four-are ns rs four))))))
+
+format-four : (format bits : Data) (history : Option Data) (roots rows version : Data) (p : DocumentParts) → parts_by_format format (parts_read bits history roots rows version) ≡ Some p → length p.roots ≡ 4
+format-four format bits history roots rows version p e = format-back format (parts_read bits history roots rows version) p e (λ _ read. read-four bits history roots rows version p read)
 
 from-four : (ds : List Data) (p : DocumentParts) → parts_from ds ≡ Some p → length p.roots ≡ 4
-from-four (bits ∷ string format ∷ roots ∷ rows ∷ version ∷ []) p e =
-    read-four bits roots rows version p (kept (bytes_eq format (codes "ewig-pool")) (parts_read bits roots rows version) p e)
-from-four _ p e = absurd (let none : None ≡ Some p = e in cc)
+from-four [] p e = absurd (none-some p e)
+from-four (a ∷ []) p e = absurd (none-some p e)
+from-four (a ∷ f ∷ []) p e = absurd (none-some p e)
+from-four (a ∷ f ∷ c ∷ []) p e = absurd (none-some p e)
+from-four (a ∷ f ∷ c ∷ d ∷ []) p e = absurd (none-some p e)
+from-four (a ∷ f ∷ c ∷ d ∷ v ∷ []) p e = format-four f a None c d v p e
+from-four (a ∷ f ∷ h ∷ c ∷ d ∷ v ∷ []) p e = format-four f a (Some h) c d v p e
+from-four (a ∷ f ∷ h ∷ c ∷ d ∷ v ∷ x ∷ xs) p e = absurd (none-some p e)
 
 parts-four : (d : Data) (p : DocumentParts) → parts_in d ≡ Some p → length p.roots ≡ 4
-parts-four (object ms) p e = let found = and-then-found parts_from (values_at document_keys ms) p e in from-four found.0 p found.2
+parts-four (object ms) p e = option_and_then_some parts_from (option_or (values_at document_keys ms) (values_at older_keys ms)) p e (λ ds _ from. from-four ds p from)
 parts-four _ p e = absurd (let none : None ≡ Some p = e in cc)
 
 no-damage : {X : Type 0} (d : Damage) (next : X → Option Damage) (o : Option X) → or_damage d next o ≡ None → (x : X) × (o ≡ Some x) × (next x ≡ None)
@@ -78,7 +76,7 @@ both-passed true None e = absurd (let some : Some Row ≡ None = e in cc)
 both-passed true (Some found) e = (refl, found, refl)
 
 pool-stands : (bits : ℕ) (bytes : Bytes) → bytes_damage bits bytes ≡ None
-    → (P : Pool) × (pool_in_bytes bytes ≡ Some P) × (P.bits ≡ bits_by P.version bits) × (length P.roots ≡ 4) × (rules : Rules) × (rules_of P.version ≡ Some rules)
+    → (P : Pool) × (pool_in_bytes bytes ≡ Some P) × (P.bits ≡ bits_by P.version bits) × (length P.roots ≡ 4) × HasHistory P × (rules : Rules) × (rules_of P.version ≡ Some rules)
 unfolding bytes_damage value_damage pool_in
 pool-stands bits bytes e =
     let value = no-damage Json (value_damage bits) (value_in bytes) e in
@@ -87,13 +85,15 @@ pool-stands bits bytes e =
     let version = no-damage Version (parts_damage_by bits p) (rules_of p.version) parts.2 in
     let rules : Rules = version.0 in
     let passed = both-passed (eqb p.bits (bits_by p.version bits)) (rows_in p rules) version.2 in
-    let P : Pool = record { bits = p.bits; version = p.version; rows = passed.1; roots = p.roots } in
+    let P : Pool = record { bits = p.bits; version = p.version; history = p.history; rows = passed.1; roots = p.roots } in
     let from : pool_from p ≡ Some P =
-    ap (option_and_then (pool_by p)) version.1 ∙ ap (option_map (λ rows. record { bits = p.bits; version = p.version; rows = rows; roots = p.roots })) passed.2 in (
+    ap (option_and_then (pool_by p)) version.1 ∙ ap (option_map (λ rows. record { bits = p.bits; version = p.version; history = p.history; rows = rows; roots = p.roots })) passed.2 in
+    let stands : pool_in value.0 ≡ Some P = ap (option_and_then pool_from) parts.1 ∙ from in (
       P,
-      ap (option_and_then pool_in) value.1 ∙ ap (option_and_then pool_from) parts.1 ∙ from,
+      ap (option_and_then pool_in) value.1 ∙ stands,
       eqb-true p.bits (bits_by p.version bits) passed.0,
       parts-four value.0 p parts.1,
+      pool-history value.0 P stands,
       rules,
       version.1,
     )
@@ -104,15 +104,16 @@ undamaged-stands bits bytes whole =
     let none = both-none (bytes_damage bits bytes) (option_and_then own_damage (pool_in_bytes bytes)) whole in
     let stands = pool-stands bits bytes none.0 in
     let P : Pool = stands.0 in
-    let rules : Rules = stands.4 in
+    let rules : Rules = stands.5 in
     let own : damage_by rules P ≡ None =
-    sym (ap (option_and_then (λ r. damage_by r P)) stands.5) ∙ sym (ap (option_and_then own_damage) stands.1) ∙ none.1 in (
+    sym (ap (option_and_then (λ r. damage_by r P)) stands.6) ∙ sym (ap (option_and_then own_damage) stands.1) ∙ none.1 in (
       P,
       record {
         read = stands.1;
         kept = stands.2;
         roots = stands.3;
-        valid = subst (λ o. IsSomeAnd o (λ r. IsValidBy r P)) (sym stands.5) (undamaged-valid P own);
+        valid = subst (λ o. IsSomeAnd o (λ r. IsValidBy r P)) (sym stands.6) (undamaged-valid P own);
+        history = stands.4;
       },
     )
 
@@ -122,7 +123,7 @@ in-range-rows P h = h
 
 -- a pool's version is none of its tests
 pub valid-today : {rules : Rules} (P : Pool) → IsValidBy rules P → IsValidBy rules (today P)
-unfolding rows_in_range_by links_lead_back texts_are_lines vectors_stand tries_stand_by roots_are_of_kind rows_in_order
+unfolding rows_in_range_by links_lead_back texts_are_lines vectors_stand tries_stand_by roots_are_of_kind undo_fits rows_in_order
 valid-today P v = record {
   in_range = v.in_range;
   lead_back = v.lead_back;
@@ -130,13 +131,14 @@ valid-today P v = record {
   vectors = v.vectors;
   tries = v.tries;
   kinds = v.kinds;
+  fits = v.fits;
   in_order = v.in_order;
 }
 
-pub valid-document : (P : Pool) (bytes : Bytes) → value_in bytes ≡ Some (document P) → length P.roots ≡ 4 → IsValid P → IsDocumentOf P bytes
+pub valid-document : (P : Pool) (bytes : Bytes) → value_in bytes ≡ Some (document P) → P.history ≤ MOST_HISTORY → length P.roots ≡ 4 → IsValid P → IsDocumentOf P bytes
 unfolding document_damage bytes_damage
-valid-document P bytes value four valid =
-    let back = reads-back P four (in-range-rows P valid.in_range) in
+valid-document P bytes value within four valid =
+    let back = reads-back P within four (in-range-rows P valid.in_range) in
     let read : pool_in_bytes bytes ≡ Some (today P) = ap (option_and_then pool_in) value ∙ back.same in
     record {
       undamaged =
@@ -163,7 +165,7 @@ damage-is-test rules P =
     (test-failed (texts_are_lines P) Text _ (λ e. cc)
     (test-failed (vectors_stand P) Vector _ (λ e. cc)
     (test-failed (tries_stand_by rules P) Trie _ (λ e. cc)
-    (test-failed (roots_are_of_kind P) Kind _ (λ e. cc)
+    (test-failed (roots_are_of_kind P && undo_fits P) Kind _ (λ e. cc)
     (test-failed (rows_in_order P) Order _ (λ e. cc) (λ e. none-some Memory e)))))))
 
 -- or nothing is there, or what is there has this damage

@@ -12,8 +12,10 @@ pub mod TrieReadings
 pub mod PoolPasses
 pub mod OwnRows
 pub mod DocumentLaw
+pub mod Versions
 mod RowTests
 mod ShapeLemmas
+mod UndoLength
 mod EntryTests
 mod KeptRows
 mod FactLemmas

@@ -8,7 +8,7 @@ use Rattle.pool_text.specs.declared.damage.Damage.TheVariants.{Link, Text, Vecto
 use Rattle.pool_check.specs.Rows.{rows_in_range_by, links_lead_back, texts_are_lines}
 use Rattle.pool_check.specs.Vectors.{vectors_stand}
 use Rattle.pool_check.specs.Tries.{tries_stand_by}
-use Rattle.pool_check.specs.Kinds.{roots_are_of_kind}
+use Rattle.pool_check.specs.Kinds.{roots_are_of_kind, undo_fits}
 use Rattle.pool_check.specs.Damages.{open_damage}
 
 module _ (rules : Rules) (P : Pool) where
@@ -40,6 +40,11 @@ module _ (rules : Rules) (P : Pool) where
           unfolding open_damage
           fails-kind fails = rw (links, texts, vectors, tries, fails) refl
 
-          pub fails-none : roots_are_of_kind P ≡ true → open_damage rules P ≡ None
-          unfolding open_damage
-          fails-none kinds = rw (links, texts, vectors, tries, kinds) refl
+          module _ (kinds : roots_are_of_kind P ≡ true) where
+            pub fails-fits : undo_fits P ≡ false → open_damage rules P ≡ Some Kind
+            unfolding open_damage
+            fails-fits fails = rw (links, texts, vectors, tries, kinds, fails) refl
+
+            pub fails-none : undo_fits P ≡ true → open_damage rules P ≡ None
+            unfolding open_damage
+            fails-none fits = rw (links, texts, vectors, tries, kinds, fits) refl

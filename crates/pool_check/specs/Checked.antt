@@ -1,14 +1,17 @@
 -- Pools that `check` and `check_old` let through.
-use Rattle.std.specs.Prelude.{◌≡◌, ◌≤◌, length}
+use Rattle.std.specs.Prelude.{◌≡◌, ◌≤◌, length, Some}
 use Rattle.elem_core.specs.declared.codes.TheConstants.{CODE_BITS}
 use Rattle.pool_text.specs.declared.pool.Pool.{Pool}
-use Rattle.pool_text.specs.Rules.{first_rules}
-use Rattle.pool_text.specs.declared.rules.TheConstants.{FIRST_VERSION, PRESENT_VERSION, FIRST_CODE_BITS}
+use Rattle.pool_text.specs.Rules.{first_rules, present_rules, rules_of}
+use Rattle.pool_text.specs.Document.{HasHistory}
+use Rattle.pool_text.specs.declared.rules.TheConstants.{FIRST_VERSION, FIRST_CODE_BITS}
 use Rattle.pool_check.specs.Damages.{IsValid, IsValidBy}
 
--- a valid pool of four roots and of the present version, by no more bits than a code has
+-- a valid pool of four roots and of a version with today's rules, by no more bits than a code has. One of the second version, which
+-- says no history, has the greatest.
 pub record IsChecked (P : Pool) : Type 0 where
-  pub version : P.version ≡ PRESENT_VERSION
+  pub rules : rules_of P.version ≡ Some present_rules
+  pub history : HasHistory P
   pub bits : P.bits ≤ CODE_BITS
   pub roots : length P.roots ≡ 4
   pub valid : IsValid P

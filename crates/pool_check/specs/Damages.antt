@@ -1,5 +1,5 @@
 -- Damage: the first test that a pool fails.
-use Rattle.std.specs.Prelude.{◌≡◌, ℕ, Bool, true, List, [], ◌∷◌, ◌++◌, Option, Some, None, IsSomeAnd, option_and_then, if◌then◌else◌}
+use Rattle.std.specs.Prelude.{◌≡◌, ℕ, Bool, true, ◌&&◌, List, [], ◌∷◌, ◌++◌, Option, Some, None, IsSomeAnd, option_and_then, if◌then◌else◌}
 use Rattle.std.specs.List.{range_with_len}
 use Rattle.std.specs.Option.{option_or}
 use Rattle.std.specs.Str.{bytes_eq}
@@ -11,7 +11,7 @@ use Rattle.pool_text.specs.declared.pool.Pool.{Pool}
 use Rattle.pool_check.specs.Rows.{rows_in_range_by, links_lead_back, texts_are_lines}
 use Rattle.pool_check.specs.Vectors.{vectors_stand}
 use Rattle.pool_check.specs.Tries.{tries_stand_by}
-use Rattle.pool_check.specs.Kinds.{roots_are_of_kind}
+use Rattle.pool_check.specs.Kinds.{roots_are_of_kind, undo_fits}
 use Rattle.pool_text.specs.declared.damage.Damage.{Damage}
 use Rattle.pool_text.specs.declared.damage.Damage.TheVariants.{Row, Link, Text, Vector, Trie, Kind, Order}
 
@@ -28,7 +28,8 @@ module _ (rules : Rules) where
   -- the tests `Link` to `Kind`, which ask nothing of ranges and of the order
   abbrev pub open_tests : Pool → List (Bool × Damage)
   open_tests P =
-      (links_lead_back P, Link) ∷ (texts_are_lines P, Text) ∷ (vectors_stand P, Vector) ∷ (tries_stand_by rules P, Trie) ∷ (roots_are_of_kind P, Kind) ∷ []
+      (links_lead_back P, Link) ∷ (texts_are_lines P, Text) ∷ (vectors_stand P, Vector) ∷ (tries_stand_by rules P, Trie)
+      ∷ (roots_are_of_kind P && undo_fits P, Kind) ∷ []
 
   -- the tests of a pool in the order in which they are made
   abbrev pub tests_by : Pool → List (Bool × Damage)
@@ -50,6 +51,7 @@ module _ (rules : Rules) where
     pub vectors : vectors_stand P ≡ true
     pub tries : tries_stand_by rules P ≡ true
     pub kinds : roots_are_of_kind P ≡ true
+    pub fits : undo_fits P ≡ true
     pub in_order : rows_in_order P ≡ true
 
 -- the first test that the pool fails, if any, by the rules by which pools are made

@@ -7,6 +7,7 @@ use Rattle.rrb_core.specs.Seq.{height_in}
 use Rattle.pool_text.specs.Rows.{Bytes}
 use Rattle.pool_text.specs.Pool.{forms_in, row_count}
 use Rattle.pool_text.specs.declared.pool.Pool.{Pool}
+use Rattle.pool_check.specs.Vectors.{length_at}
 use Rattle.pool_check.specs.Tries.{entries_below}
 
 -- the test holds of both links of a pair, or of a state
@@ -81,3 +82,12 @@ module _ (n : ℕ) (F : Forms Bytes) where
 -- the roots are of their kinds
 unfoldable pub roots_are_of_kind : Pool → Bool
 roots_are_of_kind P = are_roots (row_count P) (forms_in P) P.roots
+
+-- the third root, which is undo, has no more elements than so many
+abbrev pub undo_is_within : Forms Bytes → ℕ → List ℕ → Bool
+undo_is_within F most (c ∷ v ∷ u ∷ rest) = nat_le (length_at F (height_in F u) u) most
+undo_is_within F most _ = false
+
+-- undo has no more states than the pool's history says
+unfoldable pub undo_fits : Pool → Bool
+undo_fits P = undo_is_within (forms_in P) P.history P.roots

@@ -1,5 +1,5 @@
 -- Laws of valid pools.
-use Rattle.std.specs.Prelude.{◌≡◌, ◌≢◌, ◌↔◌, ℕ, true, length, Some, None}
+use Rattle.std.specs.Prelude.{◌≡◌, ◌≢◌, ◌↔◌, ◌≤◌, ℕ, true, length, Some, None}
 use Rattle.std.specs.Ordering.{nat_cmp}
 use Rattle.std.specs.Cmp.Lexicographic.{slice_cmp}
 use Rattle.rrb_core.specs.Seq.{IsWellShaped}
@@ -7,7 +7,8 @@ use Rattle.champ_trie.specs.Trie.{IsCanonTo, code_by}
 use Rattle.pool_text.specs.Rows.{Bytes}
 use Rattle.pool_text.specs.Rules.{Rules, bits_by}
 use Rattle.pool_text.specs.Pool.{forms_in, row_count, today}
-use Rattle.pool_text.specs.Document.{document, value_in, pool_in_bytes}
+use Rattle.pool_text.specs.Document.{document, value_in, pool_in_bytes, HasHistory}
+use Rattle.pool_text.specs.declared.rules.TheConstants.{MOST_HISTORY}
 use Rattle.pool_text.specs.declared.damage.Damage.TheVariants.{Memory}
 use Rattle.pool_text.specs.Renaming.{IsOfItself}
 use Rattle.pool_text.specs.declared.pool.Pool.{Pool}
@@ -29,13 +30,14 @@ TrieRootsAreCanonical =
 abbrev pub UndamagedIsValid : Type 0
 UndamagedIsValid = (rules : Rules) (P : Pool) → (damage_by rules P ≡ None) ↔ IsValidBy rules P
 
--- the bytes have the pool's rows, and it is valid by the rules of its version, has four roots and keeps the bits of such a
--- document
+-- the bytes have the pool's rows, and it is valid by the rules of its version, has four roots and keeps the bits and the history of
+-- such a document
 pub record IsReadAs (bits : ℕ) (P : Pool) (bytes : Bytes) : Type 0 where
   pub read : pool_in_bytes bytes ≡ Some P
   pub kept : P.bits ≡ bits_by P.version bits
   pub roots : length P.roots ≡ 4
   pub valid : IsValidByVersion P
+  pub history : HasHistory P
 
 -- bytes without damage have the rows of a valid pool
 abbrev pub UndamagedDocumentsStand : Type 0
@@ -46,9 +48,10 @@ pub record IsDocumentOf (P : Pool) (bytes : Bytes) : Type 0 where
   pub undamaged : document_damage P.bits bytes ≡ None
   pub read : pool_in_bytes bytes ≡ Some (today P)
 
--- bytes that read as the document of a valid pool of four roots have no damage
+-- bytes that read as the document of a valid pool of four roots, whose history is within the greatest bound, have no damage
 abbrev pub ValidDocumentsAreUndamaged : Type 0
-ValidDocumentsAreUndamaged = (P : Pool) (bytes : Bytes) → value_in bytes ≡ Some (document P) → length P.roots ≡ 4 → IsValid P → IsDocumentOf P bytes
+ValidDocumentsAreUndamaged = (P : Pool) (bytes : Bytes) → value_in bytes ≡ Some (document P) → P.history ≤ MOST_HISTORY → length P.roots ≡ 4 → IsValid P
+    → IsDocumentOf P bytes
 
 -- the damage of bytes is a test that they fail, and no want of memory
 abbrev pub DamagesAreTests : Type 0

@@ -4,7 +4,7 @@ use Rattle.pool_text.specs.Documents.{start_pool, two_cells, shared_empties, sub
 use Rattle.pool_text.specs.Document.{text}
 use Rattle.pool_text.specs.Rules.{first_rules, present_rules}
 use Rattle.pool_text.specs.declared.damage.Damage.TheVariants.{Json, Form, Version, Bits, Row, Link, Text, Vector, Trie, Kind, Order}
-use Rattle.pool_check.specs.Documents.{chained, old_chained, full_history, tall_row, long_pair, forward_link, root_past_end, broken_text, empty_leaf_below, overfull_history, lone_below, two_at_one, wrong_position, turned_chain, trie_for_state, loose_row, turned_roots, turned_lines}
+use Rattle.pool_check.specs.Documents.{chained, old_chained, full_history, long_history, one_undone, tall_row, long_pair, forward_link, root_past_end, broken_text, empty_leaf_below, overfull_history, lone_below, two_at_one, wrong_position, turned_chain, trie_for_state, loose_row, turned_roots, turned_lines}
 use Rattle.pool_check.specs.Damages.{open_damage, damage_by, damage, document_damage}
 
 -- pools that pass every test
@@ -16,6 +16,7 @@ pub record UndamagedPools : Type 0 where
   pub is_one_line_twice : damage one_line_twice ≡ None
   pub is_chained : damage chained ≡ None
   pub is_full_history : damage full_history ≡ None
+  pub is_one_undone : damage (one_undone 1) ≡ None
   -- by the rules of the first version
   pub is_old_start : damage_by first_rules old_start_pool ≡ None
   pub is_old_two_cells : damage_by first_rules old_two_cells ≡ None
@@ -36,6 +37,9 @@ pub record DamagedPools : Type 0 where
   pub is_wrong_position : damage wrong_position ≡ Some Trie
   pub is_turned_chain : damage turned_chain ≡ Some Trie
   pub is_trie_for_state : damage trie_for_state ≡ Some Kind
+  -- undo is longer than the pool's history
+  pub is_one_undone_of_none : damage (one_undone 0) ≡ Some Kind
+  pub is_long_history : damage long_history ≡ Some Kind
   pub is_loose_row : damage loose_row ≡ Some Order
   pub is_turned_roots : damage turned_roots ≡ Some Order
   pub is_turned_lines : damage turned_lines ≡ Some Order
@@ -62,6 +66,7 @@ pub record WorkedDamages : Type 0 where
   pub is_empty_leaf_below : document_damage 64 (text empty_leaf_below) ≡ Some Vector
   pub is_lone_below : document_damage 64 (text lone_below) ≡ Some Trie
   pub is_trie_for_state : document_damage 64 (text trie_for_state) ≡ Some Kind
+  pub is_one_undone_of_none : document_damage 64 (text (one_undone 0)) ≡ Some Kind
   pub is_loose_row : document_damage 64 (text loose_row) ≡ Some Order
   pub is_turned_roots : document_damage 64 (text turned_roots) ≡ Some Order
   -- in documents of the first version, of which the bits are at most 32

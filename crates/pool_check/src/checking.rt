@@ -2,8 +2,9 @@
 ghost use Rattle.std.specs.Prelude.{◌≡◌, ◌≢◌, ◌≤◌, length, true, None, Some, IfOk, IfErr};
 ghost use Rattle.std.specs.List.{list_all};
 ghost use Rattle.pool_text.specs.Rows.{is_in_range};
-ghost use Rattle.pool_text.specs.Rules.{first_rules, rules_named};
-ghost use Rattle.pool_text.specs.declared.rules.TheConstants.{FIRST_VERSION, PRESENT_VERSION, FIRST_CODE_BITS};
+ghost use Rattle.pool_text.specs.Rules.{first_rules, present_rules, rules_of, rules_named};
+ghost use Rattle.pool_text.specs.Document.{HasHistory};
+ghost use Rattle.pool_text.specs.declared.rules.TheConstants.{FIRST_VERSION, FIRST_CODE_BITS};
 ghost use Rattle.pool_check.specs.Rows.{rows_in_range_by};
 ghost use Rattle.pool_check.specs.Damages.{IsValid, IsValidBy, damage, damage_by, open_damage};
 
@@ -11,14 +12,14 @@ use crate::kinds::roots_are_of_kind;
 use crate::order::rows_in_order;
 use crate::rows::{links_lead_back, texts_are_lines};
 use crate::tries::tries_stand;
-use crate::vectors::vectors_stand;
+use crate::vectors::{shapes_of, undo_length};
 use elem_core::{CODE_BITS, Stored};
 use pool_text::{Damage, FIRST_CODE_BITS, Pool, Rules};
 use std::alloc::Global;
 use std::marker::{Model, PhantomData};
 
-/// A pool of the present version, of four roots, that passes every test, to be loaded as rows over values of `T`. Contracts see
-/// the pool.
+/// A pool of a version with today's rules, of four roots, that passes every test, to be loaded as rows over values of `T`.
+/// Contracts see the pool.
 #[derive(Drop)]
 pub struct Checked<T: Stored> {
     pool: Pool,
@@ -41,7 +42,8 @@ impl<T: Stored> Checked<T> {
     pub fn pool(&self) -> &Pool
         ensures same { result.now ≡ self.now }
         ensures valid { IsValid result.now }
-        ensures version { result.now.version ≡ PRESENT_VERSION }
+        ensures rules { rules_of result.now.version ≡ Some present_rules }
+        ensures history { HasHistory result.now }
         ensures roots { length result.now.roots ≡ 4 }
         ensures bits { result.now.bits ≤ CODE_BITS }
     {
@@ -52,7 +54,8 @@ impl<T: Stored> Checked<T> {
     pub fn into_pool(self) -> Pool
         ensures same { result ≡ self }
         ensures valid { IsValid result }
-        ensures version { result.version ≡ PRESENT_VERSION }
+        ensures rules { rules_of result.version ≡ Some present_rules }
+        ensures history { HasHistory result }
         ensures roots { length result.roots ≡ 4 }
         ensures bits { result.bits ≤ CODE_BITS }
     {
@@ -101,11 +104,12 @@ impl Old {
     }
 }
 
-/// Makes the tests `Link` to `Order` of a pool of the present version, of four roots, whose rows are in range. Refused with the
-/// first that fails, and with `Memory` where memory runs out. It looks at each row once for each test, and takes time and memory
-/// for the rows and their links, however often a row is shared.
+/// Makes the tests `Link` to `Order` of a pool of the second or the third version, of four roots, whose rows are in range; one of
+/// the second has the greatest history. Refused with the first that fails, and with `Memory` where memory runs out. It looks at
+/// each row once for each test, and takes time and memory for the rows and their links, however often a row is shared.
 pub fn check<T: Stored>(alloc: Global, pool: Pool) -> Result<Checked<T>, Damage>
-    requires version { pool.version ≡ PRESENT_VERSION }
+    requires rules { rules_of pool.version ≡ Some present_rules }
+    requires history { HasHistory pool }
     requires bits { pool.bits ≤ CODE_BITS }
     requires roots { length pool.roots ≡ 4 }
     requires rows { list_all is_in_range pool.rows ≡ true }
@@ -164,13 +168,17 @@ fn make_open_tests(alloc: Global, pool: &Pool, rules: Rules) -> Result<(), Damag
     if !texts_are_lines(pool) {
         return Err(Damage::Text);
     }
-    if !vectors_stand(alloc, pool)? {
-        return Err(Damage::Vector);
-    }
+    let undo = match shapes_of(alloc, pool)? {
+        Some(shapes) => undo_length(shapes.as_slice(), pool.roots.as_slice()),
+        None => return Err(Damage::Vector),
+    };
     if !tries_stand(alloc, pool, rules)? {
         return Err(Damage::Trie);
     }
     if !roots_are_of_kind(alloc, pool)? {
+        return Err(Damage::Kind);
+    }
+    if undo > pool.history {
         return Err(Damage::Kind);
     }
     Ok(())

@@ -1,11 +1,14 @@
 //! The test of vector rows: each is looked at once, and its shape is kept for the rows above it.
-ghost use Rattle.std.specs.Prelude.{◌≡◌, ℕ, ◌<◌, ◌≤◌, ◌-◌, true, Some, None, nat_lt, length, IfOk, if◌then◌else◌};
+ghost use Rattle.std.specs.Prelude.{◌≡◌, ℕ, ◌<◌, ◌≤◌, ◌-◌, true, List, ◌∷◌, Some, None, is_some, nat_lt, length, IfOk, IfSome, if◌then◌else◌};
 ghost use Rattle.std.specs.List.{list_all};
 ghost use Rattle.node_heap.specs.Forms.{Forms, links_in, links_of};
 ghost use Rattle.pool_text.specs.Rows.{Bytes, is_in_range_to, row_form};
 ghost use Rattle.pool_text.specs.Rules.{Rules};
 ghost use Rattle.pool_check.specs.Rows.{rows_in_range_by, links_lead_back};
-ghost use Rattle.pool_check.specs.Vectors.{has_height, are_children, keeps_fill_rule, vectors_stand as all_stand};
+ghost use Rattle.pool_check.specs.Vectors.{has_height, length_at, are_children, keeps_fill_rule, vectors_stand};
+ghost use Rattle.rrb_core.specs.Seq.{height_in};
+ghost use Rattle.pool_text.specs.Pool.{forms_in, row_count};
+ghost use Rattle.pool_check.specs.Kinds.{is_vector_root};
 ghost use Rattle.pool_check.specs.Shapes.{shape_at, shape_of, AreShapes};
 
 use elem_core::NoMemory;
@@ -90,19 +93,36 @@ fn leaf_shape(elements: &[u64]) -> Shape
     }
 }
 
-// Whether every inner row keeps the fill rule.
-pub(crate) fn vectors_stand(alloc: Global, pool: &Pool) -> Result<bool, NoMemory>
+// The shapes of the rows, where every inner row keeps the fill rule, and None where one breaks it.
+pub(crate) fn shapes_of(alloc: Global, pool: &Pool) -> Result<Option<Vec<Option<Shape>>>, NoMemory>
     requires rows { (rules : Rules) × (rows_in_range_by rules pool.now ≡ true) }
     requires links { links_lead_back pool.now ≡ true }
-    ensures { IfOk result (λ stand. stand ≡ all_stand pool.now) }
+    ensures stand { IfOk result (λ found. is_some found ≡ vectors_stand pool.now) }
+    ensures shapes { IfOk result (λ found. IfSome found (λ shapes. AreShapes (forms_in pool.now) shapes.items)) }
+    ensures count { IfOk result (λ found. IfSome found (λ shapes. length shapes.items ≡ row_count pool.now)) }
 {
     let rows = pool.rows.as_slice();
     let mut shapes = Vec::with_capacity(alloc, rows.len())?;
     for row in rows {
         match row_shape(shapes.as_slice(), row) {
             Some(shape) => shapes.push(shape)?,
-            None => return Ok(false),
+            None => return Ok(None),
         }
     }
-    Ok(true)
+    Ok(Some(shapes))
+}
+
+// How long undo, the third root, is by these shapes, and 0 where it is no vector row or there are fewer roots.
+pub(crate) fn undo_length(shapes: &[Option<Shape>], roots: &[u64]) -> u32
+    requires { list_all (λ k. nat_lt k (length shapes.now)) roots.now ≡ true }
+    ensures { (F : Forms Bytes) (c v u : ℕ) (rest : List ℕ) → AreShapes F shapes.now → roots.now ≡ c ∷ v ∷ u ∷ rest → is_vector_root (F u) ≡ true
+        → result ≡ length_at F (height_in F u) u }
+{
+    let [_, _, undo, ..] = roots else {
+        return 0;
+    };
+    match shapes[*undo as usize] {
+        Some(shape) => shape.length,
+        None => 0,
+    }
 }

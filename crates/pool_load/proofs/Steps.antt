@@ -44,7 +44,7 @@ use Rattle.pool_load.proofs.Sums.{keeps-over, length-renamed}
 pub lead-low : (rows : List (Form Bytes)) → AreSound rows → (p k : ℕ) → 0 < count k (links_of (slice_get rows p)) → k < p
 unfolding links_lead_back
 lead-low rows sound p k has =
-    let P : Pool = record { bits = 0; version = 0; rows = rows; roots = [] } in
+    let P : Pool = record { bits = 0; version = 0; history = 0; rows = rows; roots = [] } in
     let passes : links_lead_back P ≡ true = ap (λ b. b && true) sound.lead_back in
     leads-down P passes p k has
 

@@ -3,7 +3,7 @@ use Rattle.std.specs.Prelude.{◌≡◌, ℕ, ◌<◌, Bool, true, List, map, sl
 use Rattle.std.specs.List.{AllZip, list_all}
 use Rattle.std.specs.declared.cmp.Ordering.{Ordering}
 use Rattle.node_heap.specs.Links.{count, Reaches}
-use Rattle.node_heap.specs.Heap.{Heap, form_at, links_at, IsGraph}
+use Rattle.node_heap.specs.Heap.{Heap, form_at, links_at}
 use Rattle.rrb_core.specs.Seq.{seq}
 use Rattle.rrb_core.specs.Vector.{IsVectorOf}
 use Rattle.champ_chain.specs.Entry.{Entry, entry}
@@ -12,8 +12,8 @@ use Rattle.champ_kinds.specs.Root.{Root}
 use Rattle.champ_kinds.specs.Kinds.{HasEntries, IsPair, IsSetOf, IsMapOf}
 use Rattle.pool_order.specs.Order.{order_of}
 use Rattle.pool_text.specs.Rows.{Bytes}
-use Rattle.pool_text.specs.Pool.{forms_in, row_count, place_in, text_forms, pool_at}
-use Rattle.pool_text.specs.Renaming.{AreLive, IsPoolOf}
+use Rattle.pool_text.specs.Pool.{forms_in, row_count, place_in, text_forms}
+use Rattle.pool_text.specs.Renaming.{IsPoolOf}
 use Rattle.pool_text.specs.declared.pool.Pool.{Pool}
 use Rattle.pool_check.specs.Tries.{entries_below}
 use Rattle.pool_check.specs.Kinds.{is_vector_root, is_trie_root, is_cell_of, is_pair_of}

@@ -1,5 +1,5 @@
 -- What holds of each element of a list holds of each link that it has.
-use Rattle.std.proofs.Common.{◌≡◌, ◌<◌, ℕ, List, [], ◌∷◌, subst, arith, inl, inr}
+use Rattle.std.proofs.Common.{◌<◌, ℕ, List, [], ◌∷◌, subst, arith, inl, inr}
 use Rattle.std.specs.List.{All}
 use Rattle.std.proofs.lemmas.Bool.{cases_eq}
 use Rattle.std.proofs.lemmas.List.Elements.{All-head, All-tail}

@@ -1,20 +1,22 @@
 //! Pools of documents of a version, for the tests.
-ghost use Rattle.std.specs.Prelude.{◌≡◌, ◌≤◌, length, true, IfOk};
+ghost use Rattle.std.specs.Prelude.{◌≡◌, ◌≤◌, length, true, Some, IfOk};
 ghost use Rattle.std.specs.List.{list_all};
 ghost use Rattle.elem_core.specs.declared.codes.TheConstants.{CODE_BITS};
 ghost use Rattle.pool_text.specs.Rows.{is_in_range};
-ghost use Rattle.pool_text.specs.Rules.{first_rules};
-ghost use Rattle.pool_text.specs.declared.rules.TheConstants.{FIRST_VERSION, PRESENT_VERSION, FIRST_CODE_BITS};
+ghost use Rattle.pool_text.specs.Rules.{first_rules, present_rules, rules_of};
+ghost use Rattle.pool_text.specs.Document.{HasHistory};
+ghost use Rattle.pool_text.specs.declared.rules.TheConstants.{FIRST_VERSION, FIRST_CODE_BITS};
 ghost use Rattle.pool_check.specs.Rows.{rows_in_range_by};
 
 use pool_text::{Damage, FIRST_VERSION, Pool, pool_from_bytes};
 use std::alloc::Global;
 
-/// The pool of the rows of a document of the present version, in a space of so many bits, or what is wrong with it: `Version` where
-/// it is one of version 1.
+/// The pool of the rows of a document of version 2 or 3, in a space of so many bits, or what is wrong with it: `Version` where it is
+/// one of version 1.
 pub fn present_pool(alloc: Global, bytes: &[u8], bits: u32) -> Result<Pool, Damage>
     requires { bits ≤ CODE_BITS }
-    ensures version { IfOk result (λ p. p.version ≡ PRESENT_VERSION) }
+    ensures rules { IfOk result (λ p. rules_of p.version ≡ Some present_rules) }
+    ensures history { IfOk result HasHistory }
     ensures bits { IfOk result (λ p. p.bits ≡ bits) }
     ensures roots { IfOk result (λ p. length p.roots ≡ 4) }
     ensures rows { IfOk result (λ p. list_all is_in_range p.rows ≡ true) }
@@ -27,7 +29,7 @@ pub fn present_pool(alloc: Global, bytes: &[u8], bits: u32) -> Result<Pool, Dama
     }
 }
 
-/// The same of a document of version 1: `Version` where it is one of the present version.
+/// The same of a document of version 1: `Version` where it is a later one.
 pub fn old_pool(alloc: Global, bytes: &[u8], bits: u32) -> Result<Pool, Damage>
     requires { bits ≤ CODE_BITS }
     ensures version { IfOk result (λ p. p.version ≡ FIRST_VERSION) }

@@ -8,7 +8,7 @@ use node_heap::Heap;
 use pool_check::{Checked, check};
 use pool_load::{load, loaded_rows_are_listed, loaded_tries_are_good, loaded_vectors_are_good};
 use pool_order::order;
-use pool_text::{Damage, pool_of, pool_of_rows, to_bytes};
+use pool_text::{Damage, MOST_HISTORY, pool_of, pool_of_rows, to_bytes};
 use std::alloc::Global;
 use std::process::Abort;
 use std::test::Fail;
@@ -22,23 +22,23 @@ fn checked(alloc: Global, bytes: &[u8]) -> Result<Checked<Text>, Damage> {
 // names in a sub-node; and how many rows each has.
 const WHOLE: [(&[u8], usize); 5] = [
     (
-        b"{\"bits\":64,\"format\":\"ewig-pool\",\"roots\":[2,3,4,5],\"rows\":[[\"m\",0,0,0,[]],[\"m\",0,0,0,[]],[\"s\",[0,1]],[\"m\",0,0,0,[]],[\"l\",[]],[\"l\",[]]],\"version\":2}",
+        b"{\"bits\":64,\"format\":\"ewig-pool\",\"history\":4294967295,\"roots\":[2,3,4,5],\"rows\":[[\"m\",0,0,0,[]],[\"m\",0,0,0,[]],[\"s\",[0,1]],[\"m\",0,0,0,[]],[\"l\",[]],[\"l\",[]]],\"version\":3}",
         6,
     ),
     (
-        b"{\"bits\":64,\"format\":\"ewig-pool\",\"roots\":[1,0,2,2],\"rows\":[[\"m\",0,0,0,[]],[\"s\",[0,0]],[\"l\",[]]],\"version\":2}",
+        b"{\"bits\":64,\"format\":\"ewig-pool\",\"history\":4294967295,\"roots\":[1,0,2,2],\"rows\":[[\"m\",0,0,0,[]],[\"s\",[0,0]],[\"l\",[]]],\"version\":3}",
         3,
     ),
     (
-        b"{\"bits\":64,\"format\":\"ewig-pool\",\"roots\":[7,8,9,10],\"rows\":[[\"c\",\"a\"],[\"c\",\"x\"],[\"c\",\"x\"],[\"l\",[1,2]],[\"p\",[0,3]],[\"m\",0,4096,0,[4]],[\"m\",0,0,0,[]],[\"s\",[5,6]],[\"m\",0,0,0,[]],[\"l\",[]],[\"l\",[]]],\"version\":2}",
+        b"{\"bits\":64,\"format\":\"ewig-pool\",\"history\":4294967295,\"roots\":[7,8,9,10],\"rows\":[[\"c\",\"a\"],[\"c\",\"x\"],[\"c\",\"x\"],[\"l\",[1,2]],[\"p\",[0,3]],[\"m\",0,4096,0,[4]],[\"m\",0,0,0,[]],[\"s\",[5,6]],[\"m\",0,0,0,[]],[\"l\",[]],[\"l\",[]]],\"version\":3}",
         11,
     ),
     (
-        b"{\"bits\":64,\"format\":\"ewig-pool\",\"roots\":[6,7,8,9],\"rows\":[[\"c\",\"a\"],[\"c\",\"x\"],[\"l\",[1,1]],[\"p\",[0,2]],[\"m\",0,4096,0,[3]],[\"m\",0,0,0,[]],[\"s\",[4,5]],[\"m\",0,0,0,[]],[\"l\",[]],[\"l\",[]]],\"version\":2}",
+        b"{\"bits\":64,\"format\":\"ewig-pool\",\"history\":4294967295,\"roots\":[6,7,8,9],\"rows\":[[\"c\",\"a\"],[\"c\",\"x\"],[\"l\",[1,1]],[\"p\",[0,2]],[\"m\",0,4096,0,[3]],[\"m\",0,0,0,[]],[\"s\",[4,5]],[\"m\",0,0,0,[]],[\"l\",[]],[\"l\",[]]],\"version\":3}",
         10,
     ),
     (
-        b"{\"bits\":64,\"format\":\"ewig-pool\",\"roots\":[9,10,11,12],\"rows\":[[\"c\",\"a\"],[\"l\",[]],[\"p\",[0,1]],[\"c\",\"A\"],[\"l\",[]],[\"p\",[3,4]],[\"m\",1,8388624,0,[2,5]],[\"m\",0,0,4096,[6]],[\"m\",0,0,0,[]],[\"s\",[7,8]],[\"m\",0,0,0,[]],[\"l\",[]],[\"l\",[]]],\"version\":2}",
+        b"{\"bits\":64,\"format\":\"ewig-pool\",\"history\":4294967295,\"roots\":[9,10,11,12],\"rows\":[[\"c\",\"a\"],[\"l\",[]],[\"p\",[0,1]],[\"c\",\"A\"],[\"l\",[]],[\"p\",[3,4]],[\"m\",1,8388624,0,[2,5]],[\"m\",0,0,4096,[6]],[\"m\",0,0,0,[]],[\"s\",[7,8]],[\"m\",0,0,0,[]],[\"l\",[]],[\"l\",[]]],\"version\":3}",
         13,
     ),
 ];
@@ -52,7 +52,7 @@ fn checks_and_loads_whole_documents(rt: HostRuntime) -> Result<(), Fail> {
         assert_eq!(rt; heap.live(), rows);
         assert_eq!(rt; heap.made(), rows as u64);
         let listed = order(rt.alloc(), &heap, &roots)?;
-        let pool = pool_of(rt.alloc(), &heap, &listed, &roots, CODE_BITS)?;
+        let pool = pool_of(rt.alloc(), &heap, &listed, &roots, CODE_BITS, MOST_HISTORY)?;
         assert_eq!(rt; to_bytes(rt.alloc(), &pool)?.as_slice(), bytes);
     }
     Ok(())
@@ -61,70 +61,70 @@ fn checks_and_loads_whole_documents(rt: HostRuntime) -> Result<(), Fail> {
 // Each document fails the test beside it, and those before it in the order of the tests not.
 const DAMAGED: [(&[u8], Damage); 16] = [
     (
-        b"{\"bits\":64,\"format\":\"ewig-pool\",\"roots\":[0,0,0,0],\"rows\":[[\"l\",[0]]],\"version\":2}",
+        b"{\"bits\":64,\"format\":\"ewig-pool\",\"history\":4294967295,\"roots\":[0,0,0,0],\"rows\":[[\"l\",[0]]],\"version\":3}",
         Damage::Link,
     ),
     (
-        b"{\"bits\":64,\"format\":\"ewig-pool\",\"roots\":[2,3,4,5],\"rows\":[[\"m\",0,0,0,[]],[\"m\",0,0,0,[]],[\"s\",[0,1]],[\"m\",0,0,0,[]],[\"l\",[]],[\"l\",[]],[\"c\",\"x\\ny\"]],\"version\":2}",
+        b"{\"bits\":64,\"format\":\"ewig-pool\",\"history\":4294967295,\"roots\":[2,3,4,5],\"rows\":[[\"m\",0,0,0,[]],[\"m\",0,0,0,[]],[\"s\",[0,1]],[\"m\",0,0,0,[]],[\"l\",[]],[\"l\",[]],[\"c\",\"x\\ny\"]],\"version\":3}",
         Damage::Text,
     ),
     (
-        b"{\"bits\":64,\"format\":\"ewig-pool\",\"roots\":[2,3,4,5],\"rows\":[[\"m\",0,0,0,[]],[\"m\",0,0,0,[]],[\"s\",[0,1]],[\"m\",0,0,0,[]],[\"l\",[]],[\"i\",1,[4]]],\"version\":2}",
+        b"{\"bits\":64,\"format\":\"ewig-pool\",\"history\":4294967295,\"roots\":[2,3,4,5],\"rows\":[[\"m\",0,0,0,[]],[\"m\",0,0,0,[]],[\"s\",[0,1]],[\"m\",0,0,0,[]],[\"l\",[]],[\"i\",1,[4]]],\"version\":3}",
         Damage::Vector,
     ),
     (
-        b"{\"bits\":64,\"format\":\"ewig-pool\",\"roots\":[1,1,1,1],\"rows\":[[\"c\",\"a\"],[\"m\",1,16,0,[0]]],\"version\":2}",
+        b"{\"bits\":64,\"format\":\"ewig-pool\",\"history\":4294967295,\"roots\":[1,1,1,1],\"rows\":[[\"c\",\"a\"],[\"m\",1,16,0,[0]]],\"version\":3}",
         Damage::Trie,
     ),
     (
-        b"{\"bits\":64,\"format\":\"ewig-pool\",\"roots\":[3,3,4,5],\"rows\":[[\"m\",0,0,0,[]],[\"m\",0,0,0,[]],[\"s\",[0,1]],[\"m\",0,0,0,[]],[\"l\",[]],[\"l\",[]]],\"version\":2}",
+        b"{\"bits\":64,\"format\":\"ewig-pool\",\"history\":4294967295,\"roots\":[3,3,4,5],\"rows\":[[\"m\",0,0,0,[]],[\"m\",0,0,0,[]],[\"s\",[0,1]],[\"m\",0,0,0,[]],[\"l\",[]],[\"l\",[]]],\"version\":3}",
         Damage::Kind,
     ),
     (
-        b"{\"bits\":64,\"format\":\"ewig-pool\",\"roots\":[2,3,4,5],\"rows\":[[\"m\",0,0,0,[]],[\"m\",0,0,0,[]],[\"s\",[0,1]],[\"m\",0,0,0,[]],[\"l\",[]],[\"l\",[]],[\"c\",\"z\"]],\"version\":2}",
+        b"{\"bits\":64,\"format\":\"ewig-pool\",\"history\":4294967295,\"roots\":[2,3,4,5],\"rows\":[[\"m\",0,0,0,[]],[\"m\",0,0,0,[]],[\"s\",[0,1]],[\"m\",0,0,0,[]],[\"l\",[]],[\"l\",[]],[\"c\",\"z\"]],\"version\":3}",
         Damage::Order,
     ),
     (
-        b"{\"bits\":64,\"format\":\"ewig-pool\",\"roots\":[2,3,5,4],\"rows\":[[\"m\",0,0,0,[]],[\"m\",0,0,0,[]],[\"s\",[0,1]],[\"m\",0,0,0,[]],[\"l\",[]],[\"l\",[]]],\"version\":2}",
+        b"{\"bits\":64,\"format\":\"ewig-pool\",\"history\":4294967295,\"roots\":[2,3,5,4],\"rows\":[[\"m\",0,0,0,[]],[\"m\",0,0,0,[]],[\"s\",[0,1]],[\"m\",0,0,0,[]],[\"l\",[]],[\"l\",[]]],\"version\":3}",
         Damage::Order,
     ),
     (
-        b"{\"bits\":64,\"format\":\"ewig-pool\",\"roots\":[2,3,4,5],\"rows\":[[\"m\",0,0,0,[]],[\"m\",0,0,0,[]],[\"s\",[0,1]],[\"m\",0,0,0,[]],[\"l\",[]],[\"q\",[]]],\"version\":2}",
+        b"{\"bits\":64,\"format\":\"ewig-pool\",\"history\":4294967295,\"roots\":[2,3,4,5],\"rows\":[[\"m\",0,0,0,[]],[\"m\",0,0,0,[]],[\"s\",[0,1]],[\"m\",0,0,0,[]],[\"l\",[]],[\"q\",[]]],\"version\":3}",
         Damage::Row,
     ),
     // A row of 15 links before the last one of its parent, and a row of height 2 over leaves.
     (
-        b"{\"bits\":64,\"format\":\"ewig-pool\",\"roots\":[2,3,6,7],\"rows\":[[\"m\",0,0,0,[]],[\"m\",0,0,0,[]],[\"s\",[0,1]],[\"m\",0,0,0,[]],[\"l\",[2,2,2,2,2,2,2,2,2,2,2,2,2,2,2]],[\"l\",[2]],[\"i\",1,[4,5]],[\"l\",[]]],\"version\":2}",
+        b"{\"bits\":64,\"format\":\"ewig-pool\",\"history\":4294967295,\"roots\":[2,3,6,7],\"rows\":[[\"m\",0,0,0,[]],[\"m\",0,0,0,[]],[\"s\",[0,1]],[\"m\",0,0,0,[]],[\"l\",[2,2,2,2,2,2,2,2,2,2,2,2,2,2,2]],[\"l\",[2]],[\"i\",1,[4,5]],[\"l\",[]]],\"version\":3}",
         Damage::Vector,
     ),
     (
-        b"{\"bits\":64,\"format\":\"ewig-pool\",\"roots\":[2,3,6,7],\"rows\":[[\"m\",0,0,0,[]],[\"m\",0,0,0,[]],[\"s\",[0,1]],[\"m\",0,0,0,[]],[\"l\",[2,2,2,2,2,2,2,2,2,2,2,2,2,2,2,2]],[\"l\",[2]],[\"i\",2,[4,5]],[\"l\",[]]],\"version\":2}",
+        b"{\"bits\":64,\"format\":\"ewig-pool\",\"history\":4294967295,\"roots\":[2,3,6,7],\"rows\":[[\"m\",0,0,0,[]],[\"m\",0,0,0,[]],[\"s\",[0,1]],[\"m\",0,0,0,[]],[\"l\",[2,2,2,2,2,2,2,2,2,2,2,2,2,2,2,2]],[\"l\",[2]],[\"i\",2,[4,5]],[\"l\",[]]],\"version\":3}",
         Damage::Vector,
     ),
     // A pair whose key is a leaf, and tries with a link more than they have positions, and with one fewer.
     (
-        b"{\"bits\":64,\"format\":\"ewig-pool\",\"roots\":[2,2,2,2],\"rows\":[[\"l\",[]],[\"p\",[0,0]],[\"m\",0,4096,0,[1]]],\"version\":2}",
+        b"{\"bits\":64,\"format\":\"ewig-pool\",\"history\":4294967295,\"roots\":[2,2,2,2],\"rows\":[[\"l\",[]],[\"p\",[0,0]],[\"m\",0,4096,0,[1]]],\"version\":3}",
         Damage::Trie,
     ),
     (
-        b"{\"bits\":64,\"format\":\"ewig-pool\",\"roots\":[1,1,1,1],\"rows\":[[\"c\",\"a\"],[\"m\",0,4096,0,[0,0]]],\"version\":2}",
+        b"{\"bits\":64,\"format\":\"ewig-pool\",\"history\":4294967295,\"roots\":[1,1,1,1],\"rows\":[[\"c\",\"a\"],[\"m\",0,4096,0,[0,0]]],\"version\":3}",
         Damage::Trie,
     ),
     (
-        b"{\"bits\":64,\"format\":\"ewig-pool\",\"roots\":[1,1,1,1],\"rows\":[[\"c\",\"a\"],[\"m\",0,4128,0,[0]]],\"version\":2}",
+        b"{\"bits\":64,\"format\":\"ewig-pool\",\"history\":4294967295,\"roots\":[1,1,1,1],\"rows\":[[\"c\",\"a\"],[\"m\",0,4128,0,[0]]],\"version\":3}",
         Damage::Trie,
     ),
     // A name with a space, a pair among lines, and an undo whose root has one child.
     (
-        b"{\"bits\":64,\"format\":\"ewig-pool\",\"roots\":[5,6,7,8],\"rows\":[[\"c\",\"a b\"],[\"l\",[]],[\"p\",[0,1]],[\"m\",0,262144,0,[2]],[\"m\",0,0,0,[]],[\"s\",[3,4]],[\"m\",0,0,0,[]],[\"l\",[]],[\"l\",[]]],\"version\":2}",
+        b"{\"bits\":64,\"format\":\"ewig-pool\",\"history\":4294967295,\"roots\":[5,6,7,8],\"rows\":[[\"c\",\"a b\"],[\"l\",[]],[\"p\",[0,1]],[\"m\",0,262144,0,[2]],[\"m\",0,0,0,[]],[\"s\",[3,4]],[\"m\",0,0,0,[]],[\"l\",[]],[\"l\",[]]],\"version\":3}",
         Damage::Kind,
     ),
     (
-        b"{\"bits\":64,\"format\":\"ewig-pool\",\"roots\":[7,8,9,10],\"rows\":[[\"c\",\"a\"],[\"l\",[]],[\"p\",[0,1]],[\"l\",[2]],[\"p\",[0,3]],[\"m\",0,4096,0,[4]],[\"m\",0,0,0,[]],[\"s\",[5,6]],[\"m\",0,0,0,[]],[\"l\",[]],[\"l\",[]]],\"version\":2}",
+        b"{\"bits\":64,\"format\":\"ewig-pool\",\"history\":4294967295,\"roots\":[7,8,9,10],\"rows\":[[\"c\",\"a\"],[\"l\",[]],[\"p\",[0,1]],[\"l\",[2]],[\"p\",[0,3]],[\"m\",0,4096,0,[4]],[\"m\",0,0,0,[]],[\"s\",[5,6]],[\"m\",0,0,0,[]],[\"l\",[]],[\"l\",[]]],\"version\":3}",
         Damage::Kind,
     ),
     (
-        b"{\"bits\":64,\"format\":\"ewig-pool\",\"roots\":[2,3,5,6],\"rows\":[[\"m\",0,0,0,[]],[\"m\",0,0,0,[]],[\"s\",[0,1]],[\"m\",0,0,0,[]],[\"l\",[2]],[\"i\",1,[4]],[\"l\",[]]],\"version\":2}",
+        b"{\"bits\":64,\"format\":\"ewig-pool\",\"history\":4294967295,\"roots\":[2,3,5,6],\"rows\":[[\"m\",0,0,0,[]],[\"m\",0,0,0,[]],[\"s\",[0,1]],[\"m\",0,0,0,[]],[\"l\",[2]],[\"i\",1,[4]],[\"l\",[]]],\"version\":3}",
         Damage::Kind,
     ),
 ];
@@ -141,7 +141,7 @@ fn tells_the_damage_of_others(rt: HostRuntime) -> Result<(), Fail> {
 #[test]
 fn tells_the_damage_of_a_chain_over_a_trie_row(rt: HostRuntime) -> Result<(), Fail> {
     let bytes =
-        b"{\"bits\":5,\"format\":\"ewig-pool\",\"roots\":[3,3,3,3],\"rows\":[[\"c\",\"A\"],[\"c\",\"a\"],[\"m\",0,4096,0,[1]],[\"k\",[0,2]]],\"version\":2}";
+        b"{\"bits\":5,\"format\":\"ewig-pool\",\"history\":4294967295,\"roots\":[3,3,3,3],\"rows\":[[\"c\",\"A\"],[\"c\",\"a\"],[\"m\",0,4096,0,[1]],[\"k\",[0,2]]],\"version\":3}";
     let pool = present_pool(rt.alloc(), bytes.as_slice(), 5)?;
     let answer: Result<Checked<Text>, Damage> = check(rt.alloc(), pool);
     assert_eq!(rt; answer.err(), Some(Damage::Trie));
@@ -152,7 +152,7 @@ fn tells_the_damage_of_a_chain_over_a_trie_row(rt: HostRuntime) -> Result<(), Fa
 #[test]
 fn loads_a_shared_state(rt: HostRuntime) -> Result<(), Fail> {
     let bytes =
-        b"{\"bits\":64,\"format\":\"ewig-pool\",\"roots\":[2,3,4,5],\"rows\":[[\"m\",0,0,0,[]],[\"m\",0,0,0,[]],[\"s\",[0,1]],[\"m\",0,0,0,[]],[\"l\",[2]],[\"l\",[]]],\"version\":2}";
+        b"{\"bits\":64,\"format\":\"ewig-pool\",\"history\":4294967295,\"roots\":[2,3,4,5],\"rows\":[[\"m\",0,0,0,[]],[\"m\",0,0,0,[]],[\"s\",[0,1]],[\"m\",0,0,0,[]],[\"l\",[2]],[\"l\",[]]],\"version\":3}";
     let mut heap: Heap<Text> = Heap::new(rt.alloc());
     let roots = load(
         rt.alloc(),
@@ -174,22 +174,22 @@ fn laws_of_loads(_rt: HostRuntime) {
 
 // Two buffers, `b` and `a`, over one leaf.
 const SHARED: &[u8] =
-    b"{\"bits\":64,\"format\":\"ewig-pool\",\"roots\":[8,9,10,11],\"rows\":[[\"c\",\"b\"],[\"c\",\"x\"],[\"l\",[1]],[\"p\",[0,2]],[\"c\",\"a\"],[\"p\",[4,2]],[\"m\",0,4128,0,[3,5]],[\"m\",0,0,0,[]],[\"s\",[6,7]],[\"m\",0,0,0,[]],[\"l\",[]],[\"l\",[]]],\"version\":2}";
+    b"{\"bits\":64,\"format\":\"ewig-pool\",\"history\":4294967295,\"roots\":[8,9,10,11],\"rows\":[[\"c\",\"b\"],[\"c\",\"x\"],[\"l\",[1]],[\"p\",[0,2]],[\"c\",\"a\"],[\"p\",[4,2]],[\"m\",0,4128,0,[3,5]],[\"m\",0,0,0,[]],[\"s\",[6,7]],[\"m\",0,0,0,[]],[\"l\",[]],[\"l\",[]]],\"version\":3}";
 
 // Places of its rows, and the text of the pool of these: none; both buffers, one of them twice, which share their leaf and reach no
 // state; and its roots, the last first.
 const GATHERED: [(&[u64], &[u8]); 3] = [
     (
         &[],
-        b"{\"bits\":64,\"format\":\"ewig-pool\",\"roots\":[],\"rows\":[],\"version\":2}",
+        b"{\"bits\":64,\"format\":\"ewig-pool\",\"history\":4294967295,\"roots\":[],\"rows\":[],\"version\":3}",
     ),
     (
         &[5, 3, 5],
-        b"{\"bits\":64,\"format\":\"ewig-pool\",\"roots\":[3,5,3],\"rows\":[[\"c\",\"a\"],[\"c\",\"x\"],[\"l\",[1]],[\"p\",[0,2]],[\"c\",\"b\"],[\"p\",[4,2]]],\"version\":2}",
+        b"{\"bits\":64,\"format\":\"ewig-pool\",\"history\":4294967295,\"roots\":[3,5,3],\"rows\":[[\"c\",\"a\"],[\"c\",\"x\"],[\"l\",[1]],[\"p\",[0,2]],[\"c\",\"b\"],[\"p\",[4,2]]],\"version\":3}",
     ),
     (
         &[11, 10, 9, 8],
-        b"{\"bits\":64,\"format\":\"ewig-pool\",\"roots\":[0,1,2,11],\"rows\":[[\"l\",[]],[\"l\",[]],[\"m\",0,0,0,[]],[\"c\",\"b\"],[\"c\",\"x\"],[\"l\",[4]],[\"p\",[3,5]],[\"c\",\"a\"],[\"p\",[7,5]],[\"m\",0,4128,0,[6,8]],[\"m\",0,0,0,[]],[\"s\",[9,10]]],\"version\":2}",
+        b"{\"bits\":64,\"format\":\"ewig-pool\",\"history\":4294967295,\"roots\":[0,1,2,11],\"rows\":[[\"l\",[]],[\"l\",[]],[\"m\",0,0,0,[]],[\"c\",\"b\"],[\"c\",\"x\"],[\"l\",[4]],[\"p\",[3,5]],[\"c\",\"a\"],[\"p\",[7,5]],[\"m\",0,4128,0,[6,8]],[\"m\",0,0,0,[]],[\"s\",[9,10]]],\"version\":3}",
     ),
 ];
 
@@ -211,7 +211,7 @@ fn gathers_rows_of_a_list(rt: HostRuntime) -> Result<(), Fail> {
     let rows = &shared.pool().rows;
     for (places, bytes) in GATHERED {
         let roots = places_below(&rt, rt.alloc(), places, rows.as_slice().len() as u64);
-        let pool = pool_of_rows(rt.alloc(), rows, &roots, CODE_BITS)?;
+        let pool = pool_of_rows(rt.alloc(), rows, &roots, CODE_BITS, MOST_HISTORY)?;
         assert_eq!(rt; to_bytes(rt.alloc(), &pool)?.as_slice(), bytes);
     }
     Ok(())

@@ -17,10 +17,10 @@ fn gathers_a_leaf_with_its_cell(rt: HostRuntime) -> Result<(), Fail> {
     let leaf = heap.node(Head::Leaf, &[cell]);
     let roots = [leaf, leaf];
     let listed = order(rt.alloc(), &heap, &roots)?;
-    let pool = pool_of(rt.alloc(), &heap, &listed, &roots, 5)?;
+    let pool = pool_of(rt.alloc(), &heap, &listed, &roots, 5, 7)?;
     let bytes = to_bytes(rt.alloc(), &pool)?;
     let expected =
-        b"{\"bits\":5,\"format\":\"ewig-pool\",\"roots\":[1,1],\"rows\":[[\"c\",\"x\"],[\"l\",[0]]],\"version\":2}";
+        b"{\"bits\":5,\"format\":\"ewig-pool\",\"history\":7,\"roots\":[1,1],\"rows\":[[\"c\",\"x\"],[\"l\",[0]]],\"version\":3}";
     assert_eq!(rt; bytes.as_slice(), expected.as_slice());
     Ok(())
 }
@@ -44,7 +44,8 @@ fn rows_of_each_kind(rt: &HostRuntime) -> Result<Pool, Fail> {
     rows.push(Row::State(3, 18446744073709551615))?;
     Ok(Pool {
         bits: 64,
-        version: 2,
+        version: 3,
+        history: 4294967295,
         rows: Rows::from_vec(rows),
         roots: Places::from_vec(vec![in alloc; 6, 3, 2, 1]?),
     })
@@ -55,7 +56,7 @@ fn writes_and_reads_rows_of_each_kind(rt: HostRuntime) -> Result<(), Fail> {
     let pool = rows_of_each_kind(&rt)?;
     let bytes = to_bytes(rt.alloc(), &pool)?;
     let expected =
-        "{\"bits\":64,\"format\":\"ewig-pool\",\"roots\":[6,3,2,1],\"rows\":[[\"c\",\"a\\\"b\\\\c\\td\\u0001\u{e9}\"],[\"l\",[]],[\"i\",1,[1]],[\"m\",0,4096,0,[0]],[\"k\",[0,10]],[\"p\",[0,1]],[\"s\",[3,18446744073709551615]]],\"version\":2}";
+        "{\"bits\":64,\"format\":\"ewig-pool\",\"history\":4294967295,\"roots\":[6,3,2,1],\"rows\":[[\"c\",\"a\\\"b\\\\c\\td\\u0001\u{e9}\"],[\"l\",[]],[\"i\",1,[1]],[\"m\",0,4096,0,[0]],[\"k\",[0,10]],[\"p\",[0,1]],[\"s\",[3,18446744073709551615]]],\"version\":3}";
     assert_eq!(rt; bytes.as_slice(), expected.as_bytes());
     assert_eq!(rt; text_length(&pool), bytes.len() as u64);
     let value = to_json(rt.alloc(), &pool)?;
@@ -83,7 +84,7 @@ fn reads_white_space_and_any_order_of_keys(rt: HostRuntime) -> Result<(), Fail> 
     let loose =
         b" {\"version\" : 2,\n\"rows\":[[\"m\",0,0,0,[]], [\"m\",0,0,0,[ ]],[\"s\",[0,1]],[\"m\",0,0,0,[]],[\"l\",[]],[\"l\",[]]],\t\"roots\":[2,3,4,5],\"format\":\"ewig-pool\",\"bits\":64}\r\n";
     let compact =
-        b"{\"bits\":64,\"format\":\"ewig-pool\",\"roots\":[2,3,4,5],\"rows\":[[\"m\",0,0,0,[]],[\"m\",0,0,0,[]],[\"s\",[0,1]],[\"m\",0,0,0,[]],[\"l\",[]],[\"l\",[]]],\"version\":2}";
+        b"{\"bits\":64,\"format\":\"ewig-pool\",\"history\":4294967295,\"roots\":[2,3,4,5],\"rows\":[[\"m\",0,0,0,[]],[\"m\",0,0,0,[]],[\"s\",[0,1]],[\"m\",0,0,0,[]],[\"l\",[]],[\"l\",[]]],\"version\":3}";
     let pool = pool_from_bytes(rt.alloc(), loose.as_slice(), 64)?;
     assert_eq!(rt; to_bytes(rt.alloc(), &pool)?.as_slice(), compact.as_slice());
     Ok(())
@@ -99,67 +100,87 @@ fn damage_in(rt: &HostRuntime, bytes: &[u8]) -> Option<Damage> {
 
 // Each document fails the test beside it, if there is one, and those before it in the order of the tests not. The last ones are of
 // version 1, whose tries are less deep and whose bits are at most 32, and of one that isn't read.
-const DOCUMENTS: [(&[u8], Option<Damage>); 22] = [
+const DOCUMENTS: [(&[u8], Option<Damage>); 27] = [
     (b"{\"bits\":64", Some(Damage::Json)),
     (b"[\"\xff\"]", Some(Damage::Json)),
     (
-        b"{\"bits\":64,\"format\":\"ewig-pool\",\"roots\":[2,3,4],\"rows\":[],\"version\":2}",
+        b"{\"bits\":64,\"format\":\"ewig-pool\",\"history\":4294967295,\"roots\":[2,3,4],\"rows\":[],\"version\":3}",
         Some(Damage::Form),
     ),
     (
-        b"{\"bits\":64,\"format\":\"ewig-pool\",\"more\":0,\"roots\":[2,3,4,5],\"rows\":[],\"version\":2}",
+        b"{\"bits\":64,\"format\":\"ewig-pool\",\"history\":1,\"more\":0,\"roots\":[2,3,4,5],\"rows\":[],\"version\":3}",
         Some(Damage::Form),
     ),
     (
-        b"{\"bits\":64,\"format\":\"ewig-pod\",\"roots\":[2,3,4,5],\"rows\":[],\"version\":2}",
+        b"{\"bits\":64,\"format\":\"ewig-pod\",\"history\":1,\"roots\":[2,3,4,5],\"rows\":[],\"version\":3}",
         Some(Damage::Form),
     ),
     (
-        b"{\"bits\":-1,\"format\":\"ewig-pool\",\"roots\":[2,3,4,5],\"rows\":[],\"version\":2}",
+        b"{\"bits\":-1,\"format\":\"ewig-pool\",\"history\":4294967295,\"roots\":[2,3,4,5],\"rows\":[],\"version\":3}",
         Some(Damage::Form),
+    ),
+    (
+        b"{\"bits\":64,\"format\":\"ewig-pool\",\"roots\":[2,3,4,5],\"rows\":[],\"version\":3}",
+        Some(Damage::Form),
+    ),
+    (
+        b"{\"bits\":64,\"format\":\"ewig-pool\",\"history\":4294967296,\"roots\":[2,3,4,5],\"rows\":[],\"version\":3}",
+        Some(Damage::Form),
+    ),
+    (
+        b"{\"bits\":64,\"format\":\"ewig-pool\",\"history\":1,\"roots\":[2,3,4,5],\"rows\":[],\"version\":2}",
+        Some(Damage::Form),
+    ),
+    (
+        b"{\"bits\":64,\"format\":\"ewig-pool\",\"history\":0,\"roots\":[2,3,4,5],\"rows\":[],\"version\":3}",
+        None,
+    ),
+    (
+        b"{\"bits\":64,\"format\":\"ewig-pool\",\"roots\":[2,3,4,5],\"rows\":[],\"version\":2}",
+        None,
     ),
     (
         b"{\"bits\":31,\"format\":\"ewig-pool\",\"roots\":[2,3,4,5],\"rows\":[[\"q\",[]]],\"version\":9}",
         Some(Damage::Version),
     ),
     (
-        b"{\"bits\":31,\"format\":\"ewig-pool\",\"roots\":[2,3,4,5],\"rows\":[[\"q\",[]]],\"version\":2}",
+        b"{\"bits\":31,\"format\":\"ewig-pool\",\"history\":4294967295,\"roots\":[2,3,4,5],\"rows\":[[\"q\",[]]],\"version\":3}",
         Some(Damage::Bits),
     ),
     (
-        b"{\"bits\":64,\"format\":\"ewig-pool\",\"roots\":[2,3,4,5],\"rows\":[[\"l\",[]],[\"q\",[]]],\"version\":2}",
+        b"{\"bits\":64,\"format\":\"ewig-pool\",\"history\":4294967295,\"roots\":[2,3,4,5],\"rows\":[[\"l\",[]],[\"q\",[]]],\"version\":3}",
         Some(Damage::Row),
     ),
     (
-        b"{\"bits\":64,\"format\":\"ewig-pool\",\"roots\":[2,3,4,5],\"rows\":[[\"i\",8,[0]]],\"version\":2}",
+        b"{\"bits\":64,\"format\":\"ewig-pool\",\"history\":4294967295,\"roots\":[2,3,4,5],\"rows\":[[\"i\",8,[0]]],\"version\":3}",
         Some(Damage::Row),
     ),
     (
-        b"{\"bits\":64,\"format\":\"ewig-pool\",\"roots\":[2,3,4,5],\"rows\":[[\"m\",0,4294967296,0,[0]]],\"version\":2}",
+        b"{\"bits\":64,\"format\":\"ewig-pool\",\"history\":4294967295,\"roots\":[2,3,4,5],\"rows\":[[\"m\",0,4294967296,0,[0]]],\"version\":3}",
         Some(Damage::Row),
     ),
     (
-        b"{\"bits\":64,\"format\":\"ewig-pool\",\"roots\":[2,3,4,5],\"rows\":[[\"k\",[0,1,2]]],\"version\":2}",
+        b"{\"bits\":64,\"format\":\"ewig-pool\",\"history\":4294967295,\"roots\":[2,3,4,5],\"rows\":[[\"k\",[0,1,2]]],\"version\":3}",
         Some(Damage::Row),
     ),
     (
-        b"{\"bits\":64,\"format\":\"ewig-pool\",\"roots\":[2,3,4,5],\"rows\":[[\"p\",[0]]],\"version\":2}",
+        b"{\"bits\":64,\"format\":\"ewig-pool\",\"history\":4294967295,\"roots\":[2,3,4,5],\"rows\":[[\"p\",[0]]],\"version\":3}",
         Some(Damage::Row),
     ),
     (
-        b"{\"bits\":64,\"format\":\"ewig-pool\",\"roots\":[0,0,0,0],\"rows\":[[\"l\",[0]]],\"version\":2}",
+        b"{\"bits\":64,\"format\":\"ewig-pool\",\"history\":4294967295,\"roots\":[0,0,0,0],\"rows\":[[\"l\",[0]]],\"version\":3}",
         None,
     ),
     (
-        b"{\"bits\":64,\"format\":\"ewig-pool\",\"roots\":[0,0,0,0],\"rows\":[[\"m\",12,0,0,[]]],\"version\":2}",
+        b"{\"bits\":64,\"format\":\"ewig-pool\",\"history\":4294967295,\"roots\":[0,0,0,0],\"rows\":[[\"m\",12,0,0,[]]],\"version\":3}",
         None,
     ),
     (
-        b"{\"bits\":64,\"format\":\"ewig-pool\",\"roots\":[0,0,0,0],\"rows\":[[\"m\",13,0,0,[]]],\"version\":2}",
+        b"{\"bits\":64,\"format\":\"ewig-pool\",\"history\":4294967295,\"roots\":[0,0,0,0],\"rows\":[[\"m\",13,0,0,[]]],\"version\":3}",
         Some(Damage::Row),
     ),
     (
-        b"{\"bits\":32,\"format\":\"ewig-pool\",\"roots\":[0,0,0,0],\"rows\":[[\"m\",6,0,0,[]]],\"version\":2}",
+        b"{\"bits\":32,\"format\":\"ewig-pool\",\"history\":4294967295,\"roots\":[0,0,0,0],\"rows\":[[\"m\",6,0,0,[]]],\"version\":3}",
         Some(Damage::Bits),
     ),
     (

@@ -1,18 +1,20 @@
 -- A value that stands for a pool, and has its version, is the pool's document.
-use Rattle.std.proofs.Common.{◌≡◌, ℕ, Bool, true, false, cond, List, [], ◌∷◌, map, Option, Some, None, option_map, bytes_eq, refl, ap, ap₂, sym, subst, ◌∙◌}
-use Rattle.std.specs.Prelude.{codes, option_and_then, IsSomeAnd}
+use Rattle.std.proofs.Common.{◌≡◌, ℕ, suc, Bool, true, false, cond, eqb, List, [], ◌∷◌, length, map, Option, Some, None, option_map, bytes_eq, refl, ap, ap₂, sym, subst, ◌∙◌, arith}
+use Rattle.std.specs.Prelude.{codes, not, option_and_then, IsSomeAnd}
+use Rattle.std.specs.Option.{option_or}
+use Rattle.std.proofs.lemmas.Bool.{both_ways}
 use Rattle.std.proofs.lemmas.Option.{none-some, same_Some, option_and_then_some}
 use Rattle.std.proofs.lemmas.Slice.Eq.{bytes_eq-Decides}
 use Rattle.node_heap.specs.Forms.{Form, Kind, cell, node, leaf, inner, trie, chain, pair, state}
 use Rattle.serde_json.specs.Data.{unsigned, negative, float, Data, null, boolean, number, string, array, object, Items, no_items, item, Members, no_members, member}
 use Rattle.serde_json.specs.View.{items_of}
 use Rattle.serde_json.specs.Written.{compact_text}
-use Rattle.pool_text.specs.Rows.{Bytes, is_in_range_to}
+use Rattle.pool_text.specs.Rows.{Bytes, is_between, is_in_range_to}
 use Rattle.pool_text.specs.Rules.{rules_of}
-use Rattle.pool_text.specs.Document.{list, natural, naturals, row_value, document, text, number_in, item_list, elements_in, all_of, numbers_in, cell_form, node_form, inner_form, trie_form, form_after, form_from, row_in, DocumentParts, four, document_keys, values_at, parts_read, parts_from, parts_in, value_in, rows_in, pool_by, pool_from, pool_in, pool_in_bytes}
+use Rattle.pool_text.specs.Document.{list, natural, naturals, row_value, document, text, number_in, item_list, elements_in, all_of, numbers_in, cell_form, node_form, inner_form, trie_form, form_after, form_from, kept_if, row_in, DocumentParts, four, document_keys, older_keys, values_at, history_in, fits_version, parts_read, parts_by_format, parts_from, parts_in, value_in, rows_in, pool_by, pool_from, pool_in, pool_in_bytes}
 use Rattle.pool_text.specs.Laws.{IsCompact}
 use Rattle.pool_text.specs.declared.pool.Pool.{Pool}
-use Rattle.pool_text.specs.declared.rules.TheConstants.{PRESENT_VERSION}
+use Rattle.pool_text.specs.declared.rules.TheConstants.{PRESENT_VERSION, MOST_HISTORY}
 use Rattle.pool_text.proofs.EachRead.{onto-some}
 
 -- either answer of a test
@@ -20,8 +22,13 @@ choice : {X P : Type 0} (b : Bool) (o p : Option X) (x : X) → cond b o p ≡ S
 choice true o p x e pass fail = pass refl e
 choice false o p x e pass fail = fail refl e
 
+-- the first of two that is there
+either-of : {X P : Type 0} (o p : Option X) (x : X) → option_or o p ≡ Some x → (o ≡ Some x → P) → (p ≡ Some x → P) → P
+either-of None p x e first second = second e
+either-of (Some y) p x e first second = first e
+
 -- what is mapped to something is something
-mapped : {X Y P : Type 0} (f : X → Y) (o : Option X) (y : Y) → option_map f o ≡ Some y → ((x : X) → o ≡ Some x → f x ≡ y → P) → P
+pub mapped : {X Y P : Type 0} (f : X → Y) (o : Option X) (y : Y) → option_map f o ≡ Some y → ((x : X) → o ≡ Some x → f x ≡ y → P) → P
 mapped f None y e k = absurd (none-some y e)
 mapped f (Some x) y e k = k x refl (same_Some (f x) y e)
 
@@ -155,9 +162,19 @@ members-back (k ∷ ks) (member l d ms) ds e =
     ap (members_with (k ∷ ks)) (sym made) ∙ ap₂ (λ key rest. member key d rest) (sym (same-bytes l k same)) (members-back ks ms es are)))
     (λ _ none. absurd (none-some ds none))
 
--- the values that the parts of a document are read from
+-- as many values as keys
+members-length : (ks : List Bytes) (ms : Members) (ds : List Data) → values_at ks ms ≡ Some ds → length ds ≡ length ks
+members-length [] no_members ds e = ap length (sym (same_Some [] ds e))
+members-length [] (member l d ms) ds e = absurd (none-some ds e)
+members-length (k ∷ ks) no_members ds e = absurd (none-some ds e)
+members-length (k ∷ ks) (member l d ms) ds e =
+    choice (bytes_eq l k) (option_map (λ es. d ∷ es) (values_at ks ms)) None ds e
+    (λ _ more. mapped (λ es. d ∷ es) (values_at ks ms) ds more (λ es are made. ap length (sym made) ∙ ap suc (members-length ks ms es are)))
+    (λ _ none. absurd (none-some ds none))
+
+-- the values that the parts of a document of the version that is written are read from
 abbrev values_of : DocumentParts → List Data
-values_of p = natural p.bits ∷ string (codes "ewig-pool") ∷ naturals p.roots ∷ list p.rows ∷ natural p.version ∷ []
+values_of p = natural p.bits ∷ string (codes "ewig-pool") ∷ natural p.history ∷ naturals p.roots ∷ list p.rows ∷ natural p.version ∷ []
 
 four-same : (ns ks : List ℕ) → four ns ≡ Some ks → ks ≡ ns
 four-same [] ks e = absurd (none-some ks e)
@@ -167,60 +184,109 @@ four-same (a ∷ b ∷ c ∷ []) ks e = absurd (none-some ks e)
 four-same (a ∷ b ∷ c ∷ d ∷ []) ks e = sym (same_Some (a ∷ b ∷ c ∷ d ∷ []) ks e)
 four-same (a ∷ b ∷ c ∷ d ∷ x ∷ ns) ks e = absurd (none-some ks e)
 
-read-back : (bits roots rows version : Data) (p : DocumentParts) → parts_read bits roots rows version ≡ Some p
-    → (natural p.bits ≡ bits) × (naturals p.roots ≡ roots) × (list p.rows ≡ rows) × (natural p.version ≡ version)
-read-back bits roots rows version p e =
-    option_and_then_some _ (number_in bits) p e (λ b is_bits after.
-    option_and_then_some _ (option_and_then four (numbers_in roots)) p after (λ rs are_four next.
-    option_and_then_some _ (elements_in rows) p next (λ ds are last.
-    mapped (λ v. record { bits = b; roots = rs; rows = ds; version = v }) (number_in version) p last (λ v is_version made.
-    option_and_then_some four (numbers_in roots) rs are_four (λ ns are_roots kept. (
-      ap (λ (q : DocumentParts). natural q.bits) (sym made) ∙ number-back bits b is_bits,
-      ap (λ (q : DocumentParts). naturals q.roots) (sym made) ∙ ap naturals (four-same ns rs kept) ∙ numbers-back roots ns are_roots,
-      ap (λ (q : DocumentParts). list q.rows) (sym made) ∙ elements-back rows ds are,
-      ap (λ (q : DocumentParts). natural q.version) (sym made) ∙ number-back version v is_version,
-    ))))))
+-- what passes a test is what was there
+pub kept-same : {X P : Type 0} (test : X → Bool) (o : Option X) (x : X) → kept_if test o ≡ Some x → (o ≡ Some x → test x ≡ true → P) → P
+kept-same test o x e k =
+    option_and_then_some (λ y. cond (test y) (Some y) None) o x e (λ y there kept.
+    choice (test y) (Some y) None x kept
+    (λ pass same. let is : y ≡ x = same_Some y x same in k (there ∙ ap (λ z. Some z) is) (ap test (sym is) ∙ pass))
+    (λ _ none. absurd (none-some x none)))
 
-from-back : (ds : List Data) (p : DocumentParts) → parts_from ds ≡ Some p → values_of p ≡ ds
-from-back [] p e = absurd (none-some p e)
-from-back (a ∷ []) p e = absurd (none-some p e)
-from-back (a ∷ null ∷ ds) p e = absurd (none-some p e)
-from-back (a ∷ boolean b ∷ ds) p e = absurd (none-some p e)
-from-back (a ∷ number n ∷ ds) p e = absurd (none-some p e)
-from-back (a ∷ array es ∷ ds) p e = absurd (none-some p e)
-from-back (a ∷ object ms ∷ ds) p e = absurd (none-some p e)
-from-back (a ∷ string s ∷ []) p e = absurd (none-some p e)
-from-back (a ∷ string s ∷ c ∷ []) p e = absurd (none-some p e)
-from-back (a ∷ string s ∷ c ∷ d ∷ []) p e = absurd (none-some p e)
-from-back (a ∷ string s ∷ c ∷ d ∷ v ∷ x ∷ xs) p e = absurd (none-some p e)
-from-back (a ∷ string s ∷ c ∷ d ∷ v ∷ []) p e =
-    choice (bytes_eq s (codes "ewig-pool")) (parts_read a c d v) None p e
-    (λ same read. let parts = read-back a c d v p read in
-    ap₂ (λ x xs. x ∷ xs) parts.0 (ap₂ (λ x xs. x ∷ xs) (ap string (sym (same-bytes s (codes "ewig-pool") same)))
-    (ap₂ (λ x xs. x ∷ xs) parts.1 (ap₂ (λ x xs. x ∷ xs) parts.2 (ap (λ x. x ∷ []) parts.3)))))
+-- what the parts say of the values that they were read from, of which that of the history may be missing
+pub record AreRead (bits : Data) (value : Option Data) (roots rows version : Data) (p : DocumentParts) : Type 0 where
+  pub bits_are : natural p.bits ≡ bits
+  pub history_is : history_in value ≡ Some p.history
+  pub roots_are : naturals p.roots ≡ roots
+  pub rows_are : list p.rows ≡ rows
+  pub version_is : natural p.version ≡ version
+  pub fits : fits_version value p.version ≡ true
+
+pub read-back : (bits : Data) (value : Option Data) (roots rows version : Data) (p : DocumentParts) → parts_read bits value roots rows version ≡ Some p → AreRead bits value roots rows version p
+read-back bits value roots rows version p e =
+    option_and_then_some _ (number_in bits) p e (λ b is_bits after.
+    option_and_then_some _ (history_in value) p after (λ h is_history then.
+    option_and_then_some _ (option_and_then four (numbers_in roots)) p then (λ rs are_four next.
+    option_and_then_some _ (elements_in rows) p next (λ ds are last.
+    mapped (λ v. record { bits = b; history = h; roots = rs; rows = ds; version = v }) (kept_if (fits_version value) (number_in version)) p last (λ v kept made.
+    kept-same (fits_version value) (number_in version) v kept (λ is_version pass.
+    option_and_then_some four (numbers_in roots) rs are_four (λ ns are_roots four_kept. record {
+      bits_are = ap (λ (q : DocumentParts). natural q.bits) (sym made) ∙ number-back bits b is_bits;
+      history_is = is_history ∙ ap (λ (q : DocumentParts). Some q.history) made;
+      roots_are = ap (λ (q : DocumentParts). naturals q.roots) (sym made) ∙ ap naturals (four-same ns rs four_kept) ∙ numbers-back roots ns are_roots;
+      rows_are = ap (λ (q : DocumentParts). list q.rows) (sym made) ∙ elements-back rows ds are;
+      version_is = ap (λ (q : DocumentParts). natural q.version) (sym made) ∙ number-back version v is_version;
+      fits = ap (λ (q : DocumentParts). fits_version value q.version) (sym made) ∙ pass;
+    })))))))
+
+-- parts of which the format is the pool's
+pub format-back : {P : Type 0} (format : Data) (parts : Option DocumentParts) (p : DocumentParts) → parts_by_format format parts ≡ Some p → (string (codes "ewig-pool") ≡ format → parts ≡ Some p → P) → P
+format-back null parts p e k = absurd (none-some p e)
+format-back (boolean b) parts p e k = absurd (none-some p e)
+format-back (number n) parts p e k = absurd (none-some p e)
+format-back (array es) parts p e k = absurd (none-some p e)
+format-back (object ms) parts p e k = absurd (none-some p e)
+format-back (string s) parts p e k =
+    choice (bytes_eq s (codes "ewig-pool")) parts None p e
+    (λ same is. k (ap string (sym (same-bytes s (codes "ewig-pool") same))) is)
     (λ _ none. absurd (none-some p none))
 
-parts-back : (d : Data) (p : DocumentParts) → parts_in d ≡ Some p → object (members_with document_keys (values_of p)) ≡ d
-parts-back null p e = absurd (none-some p e)
-parts-back (boolean b) p e = absurd (none-some p e)
-parts-back (number n) p e = absurd (none-some p e)
-parts-back (string s) p e = absurd (none-some p e)
-parts-back (array ds) p e = absurd (none-some p e)
-parts-back (object ms) p e =
-    option_and_then_some parts_from (values_at document_keys ms) p e (λ vs are from.
-    ap (λ ds. object (members_with document_keys ds)) (from-back vs p from) ∙ ap object (members-back document_keys ms vs are))
+-- the version that is written says its history
+from-back : (ds : List Data) (p : DocumentParts) → parts_from ds ≡ Some p → length ds ≡ 6 → values_of p ≡ ds
+from-back [] p e six = absurd (none-some p e)
+from-back (a ∷ []) p e six = absurd (none-some p e)
+from-back (a ∷ f ∷ []) p e six = absurd (none-some p e)
+from-back (a ∷ f ∷ c ∷ []) p e six = absurd (none-some p e)
+from-back (a ∷ f ∷ c ∷ d ∷ []) p e six = absurd (none-some p e)
+from-back (a ∷ f ∷ c ∷ d ∷ v ∷ []) p e six = absurd (omega (arith, six))
+from-back (a ∷ f ∷ h ∷ c ∷ d ∷ v ∷ x ∷ xs) p e six = absurd (none-some p e)
+from-back (a ∷ f ∷ h ∷ c ∷ d ∷ v ∷ []) p e six =
+    format-back f (parts_read a (Some h) c d v) p e (λ format read.
+    let are = read-back a (Some h) c d v p read in
+    ap₂ (λ x xs. x ∷ xs) are.bits_are (ap₂ (λ x xs. x ∷ xs) format
+    (ap₂ (λ x xs. x ∷ xs) (history-back h p.history are.history_is)
+    (ap₂ (λ x xs. x ∷ xs) are.roots_are (ap₂ (λ x xs. x ∷ xs) are.rows_are (ap (λ x. x ∷ []) are.version_is))))))
+  where
+    history-back : (h : Data) (n : ℕ) → history_in (Some h) ≡ Some n → natural n ≡ h
+    history-back h n e = kept-same (is_between 0 MOST_HISTORY) (number_in h) n e (λ is _. number-back h n is)
+
+-- an older document has another version
+older-version : (ds : List Data) (p : DocumentParts) → parts_from ds ≡ Some p → length ds ≡ 5 → p.version ≡ 3 → ⊥
+older-version [] p e five now = none-some p e
+older-version (a ∷ []) p e five now = none-some p e
+older-version (a ∷ f ∷ []) p e five now = none-some p e
+older-version (a ∷ f ∷ c ∷ []) p e five now = none-some p e
+older-version (a ∷ f ∷ c ∷ d ∷ []) p e five now = none-some p e
+older-version (a ∷ f ∷ h ∷ c ∷ d ∷ v ∷ []) p e five now = omega (arith, five)
+older-version (a ∷ f ∷ h ∷ c ∷ d ∷ v ∷ x ∷ xs) p e five now = none-some p e
+older-version (a ∷ f ∷ c ∷ d ∷ v ∷ []) p e five now =
+    format-back f (parts_read a None c d v) p e (λ _ read.
+    let other : not (eqb p.version 3) ≡ true = (read-back a None c d v p read).fits in
+    both_ways false refl (ap (λ n. not (eqb n 3)) (sym now) ∙ other))
+
+parts-back : (d : Data) (p : DocumentParts) → parts_in d ≡ Some p → p.version ≡ 3 → object (members_with document_keys (values_of p)) ≡ d
+parts-back null p e now = absurd (none-some p e)
+parts-back (boolean b) p e now = absurd (none-some p e)
+parts-back (number n) p e now = absurd (none-some p e)
+parts-back (string s) p e now = absurd (none-some p e)
+parts-back (array ds) p e now = absurd (none-some p e)
+parts-back (object ms) p e now =
+    option_and_then_some parts_from (option_or (values_at document_keys ms) (values_at older_keys ms)) p e (λ vs are from.
+    either-of (values_at document_keys ms) (values_at older_keys ms) vs are
+    (λ new. ap (λ ds. object (members_with document_keys ds)) (from-back vs p from (members-length document_keys ms vs new)) ∙ ap object (members-back document_keys ms vs new))
+    (λ old. absurd (older-version vs p from (members-length older_keys ms vs old) now)))
 
 pub document-back : (d : Data) (P : Pool) → pool_in d ≡ Some P → P.version ≡ PRESENT_VERSION → document P ≡ d
 unfolding pool_in document
 document-back d P is now =
     option_and_then_some pool_from (parts_in d) P is (λ p parts found.
     option_and_then_some (pool_by p) (rules_of p.version) P found (λ rules version pool_is.
-    mapped (λ rows. record { bits = p.bits; version = p.version; rows = rows; roots = p.roots }) (rows_in p rules) P pool_is (λ rows are made.
+    mapped (λ rows. record { bits = p.bits; version = p.version; history = p.history; rows = rows; roots = p.roots }) (rows_in p rules) P pool_is (λ rows are made.
     let v : p.version ≡ PRESENT_VERSION = ap (λ (Q : Pool). Q.version) made ∙ now in
     ap document (sym made)
-    ∙ ap₂ (λ ds n. object (member (codes "bits") (natural p.bits) (member (codes "format") (string (codes "ewig-pool")) (member (codes "roots") (naturals p.roots) (member (codes "rows") (list ds) (member (codes "version") (natural n) no_members))))))
+    ∙ ap₂ (λ ds n. object (member (codes "bits") (natural p.bits) (member (codes "format") (string (codes "ewig-pool")) (member (codes "history") (natural p.history)
+    (member (codes "roots") (naturals p.roots) (member (codes "rows") (list ds) (member (codes "version") (natural n) no_members)))))))
     (all_of-back (row_in rules.deepest) row_value (row-back rules.deepest) p.rows rows are) (sym v)
-    ∙ parts-back d p parts)))
+    ∙ parts-back d p parts v)))
 
 pub compact-stays : (bytes : Bytes) (P : Pool) → pool_in_bytes bytes ≡ Some P → P.version ≡ PRESENT_VERSION → IsCompact bytes → text P ≡ bytes
 compact-stays bytes P is now compact =

@@ -1,5 +1,5 @@
 -- The document of a pool from its parts, and the text that is written of it.
-use Rattle.std.proofs.Common.{◌≡◌, ◌≤◌, false, cond, None, Some, List, map, ap, sym, subst, ◌∙◌}
+use Rattle.std.proofs.Common.{◌≡◌, ◌≤◌, false, cond, None, Some, map, ap, sym, subst, ◌∙◌}
 use Rattle.std.proofs.lemmas.Str.{is_utf8-from_IsUtf8}
 use Rattle.std.specs.Prelude.{codes}
 use Rattle.std.specs.Str.{IsUtf8}
@@ -14,7 +14,7 @@ use Rattle.pool_text.proofs.DocumentRows.{document-no-float, document-shallow}
 
 -- the document with these roots and rows
 abbrev pub document_with : Pool → Data → Data → Data
-document_with P roots rows = object (member (codes "bits") (natural P.bits) (member (codes "format") (string (codes "ewig-pool")) (member (codes "roots") roots (member (codes "rows") rows (member (codes "version") (natural PRESENT_VERSION) no_members)))))
+document_with P roots rows = object (member (codes "bits") (natural P.bits) (member (codes "format") (string (codes "ewig-pool")) (member (codes "history") (natural P.history) (member (codes "roots") roots (member (codes "rows") rows (member (codes "version") (natural PRESENT_VERSION) no_members))))))
 
 pub document-from : (P : Pool) (roots rows : Data) → roots ≡ naturals P.roots → rows ≡ list (map row_value P.rows) → document_with P roots rows ≡ document P
 unfolding document

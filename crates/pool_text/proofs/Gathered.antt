@@ -23,7 +23,7 @@ fits-any K L pair links = refl
 fits-any K L state links = refl
 
 abbrev pub made : Settings → List (Form Bytes) → List ℕ → Pool
-made settings rows roots = record { bits = settings.bits; version = settings.version; rows = rows; roots = roots }
+made settings rows roots = record { bits = settings.bits; version = settings.version; history = settings.history; rows = rows; roots = roots }
 
 module _ {T : Type 0} where
   -- a row that fits is there

@@ -9,6 +9,7 @@ mod ListWalk
 pub mod ReadBack
 mod DocumentRows
 pub mod DocumentBack
+pub mod HistoryRead
 mod TextLengths
 mod EachRead
 mod NumbersRead

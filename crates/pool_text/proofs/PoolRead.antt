@@ -1,5 +1,5 @@
 -- The pool and the damage of a document, by its parts and its rows.
-use Rattle.std.proofs.Common.{◌≡◌, ◌≢◌, ℕ, ◌≤◌, Bool, true, false, cond, eqb, ◌&&◌, Option, Some, None, List, [], ◌∷◌, refl, ap, sym, ◌∙◌, arith, subst}
+use Rattle.std.proofs.Common.{◌≡◌, ◌≢◌, ℕ, ◌≤◌, Bool, true, false, cond, eqb, ◌&&◌, ◌||◌, Option, Some, None, List, [], ◌∷◌, refl, ap, sym, ◌∙◌, arith, subst}
 use Rattle.std.specs.Prelude.{not, is_some, option_map, option_and_then, IsSomeAnd}
 use Rattle.std.specs.List.{list_all}
 use Rattle.std.specs.Str.{is_utf8}
@@ -63,11 +63,11 @@ module _ (bits : ℕ) (p : DocumentParts) (rules : Rules) where
   no-damage rows kept are = from_bits kept ∙ ap (λ o. cond (is_some o) None (Some Row)) are
 
   pub pool-read : (rows : List (Form Bytes)) (b v : ℕ) → p.bits ≡ b → p.version ≡ v → rows_in p rules ≡ Some rows
-      → pool_by p rules ≡ Some (record { bits = b; version = v; rows = rows; roots = p.roots })
+      → pool_by p rules ≡ Some (record { bits = b; version = v; history = p.history; rows = rows; roots = p.roots })
   pool-read rows b v is_b is_v are =
-      ap (λ o. option_map (λ rs. record { bits = p.bits; version = p.version; rows = rs; roots = p.roots }) o) are
-      ∙ ap (λ n. Some (record { bits = n; version = p.version; rows = rows; roots = p.roots })) is_b
-      ∙ ap (λ n. Some (record { bits = b; version = n; rows = rows; roots = p.roots })) is_v
+      ap (λ o. option_map (λ rs. record { bits = p.bits; version = p.version; history = p.history; rows = rs; roots = p.roots }) o) are
+      ∙ ap (λ n. Some (record { bits = n; version = p.version; history = p.history; rows = rows; roots = p.roots })) is_b
+      ∙ ap (λ n. Some (record { bits = b; version = n; history = p.history; rows = rows; roots = p.roots })) is_v
 
 -- ## By the rules of the version
 
@@ -91,13 +91,14 @@ module _ (bits : ℕ) (d : Data) (p : DocumentParts) (is : parts_in d ≡ Some p
   pool-by-rules rules found = ap (option_and_then pool_from) is ∙ ap (option_and_then (pool_by p)) found
 
 -- a version that is read is small
-pub version-low : (v : ℕ) (rules : Rules) → rules_of v ≡ Some rules → v ≤ 2
-version-low v rules e = by (eqb v 1) (eqb v 2) refl refl e
+pub version-low : (v : ℕ) (rules : Rules) → rules_of v ≡ Some rules → v ≤ 3
+version-low v rules e = by (eqb v 1) (eqb v 2) (eqb v 3) refl refl refl e
   where
-    by : (first second : Bool) → eqb v 1 ≡ first → eqb v 2 ≡ second → cond first (Some first_rules) (cond second (Some second_rules) None) ≡ Some rules → v ≤ 2
-    by true second is _ _ = omega (arith, eqb-true v 1 is)
-    by false true _ is _ = omega (arith, eqb-true v 2 is)
-    by false false _ _ none = absurd (none-some rules none)
+    by : (first second third : Bool) → eqb v 1 ≡ first → eqb v 2 ≡ second → eqb v 3 ≡ third → cond first (Some first_rules) (cond (second || third) (Some second_rules) None) ≡ Some rules → v ≤ 3
+    by true _ _ is _ _ _ = omega (arith, eqb-true v 1 is)
+    by false true _ _ is _ _ = omega (arith, eqb-true v 2 is)
+    by false false true _ _ is _ = omega (arith, eqb-true v 3 is)
+    by false false false _ _ _ none = absurd (none-some rules none)
 
 -- bytes that are the text of a value
 pub value-read : (bytes : Bytes) (d : Data) → is_utf8 bytes ≡ true → read bytes ≡ Some d → value_in bytes ≡ Some d

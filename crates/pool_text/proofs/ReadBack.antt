@@ -1,5 +1,5 @@
 -- What the document of a pool reads back as.
-use Rattle.std.proofs.Common.{◌≡◌, ℕ, Bool, true, false, ◌&&◌, cond, eqb, List, [], ◌∷◌, length, map, Option, Some, None, refl, ap, ◌∙◌, arith}
+use Rattle.std.proofs.Common.{◌≡◌, ◌≤◌, ℕ, Bool, true, false, ◌&&◌, cond, eqb, List, [], ◌∷◌, length, map, Option, Some, None, refl, ap, ◌∙◌, arith}
 use Rattle.std.specs.Prelude.{not, is_some, option_map, option_and_then}
 use Rattle.std.specs.List.{list_all}
 use Rattle.std.proofs.lemmas.Bool.{both_ways}
@@ -7,12 +7,12 @@ use Rattle.std.proofs.lemmas.Bool.Decides.{nat_tests}
 use Rattle.node_heap.specs.Forms.{Form, cell, node, leaf, inner, trie, chain, pair, state}
 use Rattle.serde_json.specs.Data.{Data}
 use Rattle.serde_json.specs.View.{items_of as items}
-use Rattle.pool_text.specs.Rows.{Bytes, is_in_range, is_in_range_to}
+use Rattle.pool_text.specs.Rows.{Bytes, is_between, is_in_range, is_in_range_to}
 use Rattle.pool_text.specs.Rules.{present_rules}
-use Rattle.pool_text.specs.Document.{natural, naturals, row_value, document, number_in, item_list, elements_in, all_of, numbers_in, form_from, kept_if, row_in, DocumentParts, four, parts_in, pool_from, pool_in, parts_damage, or_damage, value_damage}
+use Rattle.pool_text.specs.Document.{natural, naturals, row_value, document, number_in, item_list, elements_in, all_of, numbers_in, form_from, kept_if, row_in, DocumentParts, four, history_in, parts_in, pool_from, pool_in, parts_damage, or_damage, value_damage}
 use Rattle.pool_text.specs.Laws.{ReadsBackAs}
 use Rattle.pool_text.specs.declared.pool.Pool.{Pool}
-use Rattle.pool_text.specs.declared.rules.TheConstants.{PRESENT_VERSION}
+use Rattle.pool_text.specs.declared.rules.TheConstants.{PRESENT_VERSION, MOST_HISTORY}
 use Rattle.pool_text.specs.declared.damage.Damage.TheVariants.{Form as FormDamage, Bits, Row}
 
 pub item_list-items : (ds : List Data) → item_list (items ds) ≡ ds
@@ -62,27 +62,36 @@ four-is (a ∷ b ∷ c ∷ []) h = absurd (omega (arith, h))
 four-is (a ∷ b ∷ c ∷ d ∷ []) h = refl
 four-is (a ∷ b ∷ c ∷ d ∷ e ∷ ks) h = absurd (omega (arith, h))
 
-abbrev parts_of : Pool → Option (List ℕ) → List Data → Option DocumentParts
-parts_of P o ds = option_and_then (λ ks. Some (record { bits = P.bits; roots = ks; rows = ds; version = PRESENT_VERSION })) o
+-- a number that is within the greatest bound
+history-is : (n : ℕ) → n ≤ MOST_HISTORY → history_in (Some (natural n)) ≡ Some n
+history-is n within = ap (λ b. cond b (Some n) None) (between n within)
+  where
+    between : (n : ℕ) → n ≤ MOST_HISTORY → is_between 0 MOST_HISTORY n ≡ true
+    between n within = grind (arith, nat_tests)
 
-parts_in-document : (P : Pool) → length P.roots ≡ 4 → parts_in (document P) ≡ Some (record { bits = P.bits; roots = P.roots; rows = map row_value P.rows; version = PRESENT_VERSION })
+abbrev parts_of : Pool → Option ℕ → Option (List ℕ) → List Data → Option DocumentParts
+parts_of P history o ds = option_and_then (λ h. option_and_then (λ ks. Some (record { bits = P.bits; history = h; roots = ks; rows = ds; version = PRESENT_VERSION })) o) history
+
+parts_in-document : (P : Pool) → P.history ≤ MOST_HISTORY → length P.roots ≡ 4
+    → parts_in (document P) ≡ Some (record { bits = P.bits; history = P.history; roots = P.roots; rows = map row_value P.rows; version = PRESENT_VERSION })
 unfolding document
-parts_in-document P h =
-    ap (λ o. parts_of P (option_and_then four o) (item_list (items (map row_value P.rows)))) (numbers_in-naturals P.roots)
-    ∙ ap (λ o. parts_of P o (item_list (items (map row_value P.rows)))) (four-is P.roots h)
-    ∙ ap (λ ds. parts_of P (Some P.roots) ds) (item_list-items (map row_value P.rows))
+parts_in-document P within h =
+    ap (λ n. parts_of P n (option_and_then four (numbers_in (naturals P.roots))) (item_list (items (map row_value P.rows)))) (history-is P.history within)
+    ∙ ap (λ o. parts_of P (Some P.history) (option_and_then four o) (item_list (items (map row_value P.rows)))) (numbers_in-naturals P.roots)
+    ∙ ap (λ o. parts_of P (Some P.history) o (item_list (items (map row_value P.rows)))) (four-is P.roots h)
+    ∙ ap (λ ds. parts_of P (Some P.history) (Some P.roots) ds) (item_list-items (map row_value P.rows))
 
 eqb-same : (n : ℕ) → eqb n n ≡ true
 eqb-same n = grind (arith, nat_tests)
 
-pub reads-back : (P : Pool) → length P.roots ≡ 4 → list_all is_in_range P.rows ≡ true → ReadsBackAs P
+pub reads-back : (P : Pool) → P.history ≤ MOST_HISTORY → length P.roots ≡ 4 → list_all is_in_range P.rows ≡ true → ReadsBackAs P
 unfolding pool_in value_damage
-reads-back P h range = record {
+reads-back P within h range = record {
   same =
-      ap (option_and_then pool_from) (parts_in-document P h)
-      ∙ ap (option_map (λ rs. record { bits = P.bits; version = PRESENT_VERSION; rows = rs; roots = P.roots })) (all_of-rows present_rules.deepest P.rows range);
+      ap (option_and_then pool_from) (parts_in-document P within h)
+      ∙ ap (option_map (λ rs. record { bits = P.bits; version = PRESENT_VERSION; history = P.history; rows = rs; roots = P.roots })) (all_of-rows present_rules.deepest P.rows range);
   whole =
-      ap (or_damage FormDamage (parts_damage P.bits)) (parts_in-document P h)
+      ap (or_damage FormDamage (parts_damage P.bits)) (parts_in-document P within h)
       ∙ ap (λ b. cond (not b) (Some Bits) (cond (is_some (all_of (row_in present_rules.deepest) (map row_value P.rows))) None (Some Row))) (eqb-same P.bits)
       ∙ ap (λ o. cond (is_some o) None (Some Row)) (all_of-rows present_rules.deepest P.rows range);
 }

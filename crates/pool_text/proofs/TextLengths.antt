@@ -73,16 +73,21 @@ cell-row-length bytes =
     omega (arith, whole, three, sum_by-cons item_length (string (codes "c")) (string bytes ∷ []), sum_by-cons item_length (string bytes) [])
 
 -- the text of a document in pieces
-pieces : (P : Pool) → text P ≡ codes "{\"bits\":" ++ (decimal P.bits ++ (codes ",\"format\":\"ewig-pool\",\"roots\":" ++ (compact_text (naturals P.roots) ++ (codes ",\"rows\":" ++ (compact_text (list (map row_value P.rows)) ++ codes ",\"version\":2}")))))
+pieces : (P : Pool)
+    → text P ≡ codes "{\"bits\":" ++ (decimal P.bits ++ (codes ",\"format\":\"ewig-pool\",\"history\":" ++ (decimal P.history ++ (codes ",\"roots\":" ++ (compact_text (naturals P.roots)
+    ++ (codes ",\"rows\":" ++ (compact_text (list (map row_value P.rows)) ++ codes ",\"version\":3}")))))))
 unfolding document digits serde_json_on_literals
 pieces P = refl
 
-seven : (a x b y c z d : List ℕ) → length (a ++ (x ++ (b ++ (y ++ (c ++ (z ++ d)))))) ≡ length a + (length x + (length b + (length y + (length c + (length z + length d)))))
-seven a x b y c z d = simp length-append
+nine : (a x b y c z d w e : List ℕ)
+    → length (a ++ (x ++ (b ++ (y ++ (c ++ (z ++ (d ++ (w ++ e)))))))) ≡ length a + (length x + (length b + (length y + (length c + (length z + (length d + (length w + length e)))))))
+nine a x b y c z d w e = simp length-append
 
-pub document-length : (P : Pool) → length (text P) ≡ 59 + (length (decimal P.bits) + (length (compact_text (naturals P.roots)) + length (compact_text (list (map row_value P.rows)))))
+pub document-length : (P : Pool) → length (text P) ≡ 70 + (length (decimal P.bits) + (length (decimal P.history) + (length (compact_text (naturals P.roots)) + length (compact_text (list (map row_value P.rows))))))
 document-length P =
-    let whole = ap length (pieces P) ∙ seven (codes "{\"bits\":") (decimal P.bits) (codes ",\"format\":\"ewig-pool\",\"roots\":") (compact_text (naturals P.roots)) (codes ",\"rows\":") (compact_text (list (map row_value P.rows))) (codes ",\"version\":2}") in
+    let whole = ap length (pieces P)
+    ∙ nine (codes "{\"bits\":") (decimal P.bits) (codes ",\"format\":\"ewig-pool\",\"history\":") (decimal P.history) (codes ",\"roots\":") (compact_text (naturals P.roots)) (codes ",\"rows\":")
+    (compact_text (list (map row_value P.rows))) (codes ",\"version\":3}") in
     omega (arith, whole)
 
 pub quoted-length : (bytes : List ℕ) → length (compact_text (string bytes)) ≡ 2 + sum_by (λ b. length (escape_byte b)) bytes

@@ -1,16 +1,17 @@
 -- The document of a pool, as a JSON value and as its compact text, and what a document stands for.
-use Rattle.std.specs.Prelude.{◌≡◌, ℕ, not, ◌==◌, List, [], ◌∷◌, map, Bool, true, Option, Some, None, is_some, IsSomeAnd, option_map, option_and_then, if◌then◌else◌, codes}
+use Rattle.std.specs.Prelude.{◌≡◌, ◌≤◌, ℕ, not, ◌==◌, List, [], ◌∷◌, map, Bool, true, Option, Some, None, is_some, IsSomeAnd, option_map, option_and_then, if◌then◌else◌, codes}
 use Rattle.std.specs.List.{list_all}
+use Rattle.std.specs.Option.{option_or}
 use Rattle.std.specs.Str.{bytes_eq, is_utf8}
 use Rattle.node_heap.specs.Forms.{Form, Kind, cell, node, leaf, inner, trie, chain, pair, state}
 use Rattle.serde_json.specs.Data.{unsigned, Data, number, string, array, object, Items, no_items, item, Members, no_members, member}
 use Rattle.serde_json.specs.Read.{read}
 use Rattle.serde_json.specs.View.{items_of}
 use Rattle.serde_json.specs.Written.{compact_text}
-use Rattle.pool_text.specs.Rows.{Bytes, is_in_range_to}
+use Rattle.pool_text.specs.Rows.{Bytes, is_between, is_in_range_to}
 use Rattle.pool_text.specs.Rules.{Rules, rules_of, bits_by}
 use Rattle.pool_text.specs.declared.pool.Pool.{Pool}
-use Rattle.pool_text.specs.declared.rules.TheConstants.{PRESENT_VERSION}
+use Rattle.pool_text.specs.declared.rules.TheConstants.{PRESENT_VERSION, MOST_HISTORY}
 use Rattle.pool_text.specs.declared.damage.Damage.{Damage}
 use Rattle.pool_text.specs.declared.damage.Damage.TheVariants.{Json, Form as FormDamage, Version, Bits, Row}
 
@@ -39,8 +40,8 @@ row_value (node state links) = list (string (codes "s") ∷ naturals links ∷ [
 -- the document of a pool; its keys are in byte order
 unfoldable pub document : Pool → Data
 document P =
-    object (member (codes "bits") (natural P.bits) (member (codes "format") (string (codes "ewig-pool")) (member (codes "roots") (naturals P.roots)
-    (member (codes "rows") (list (map row_value P.rows)) (member (codes "version") (natural PRESENT_VERSION) no_members)))))
+    object (member (codes "bits") (natural P.bits) (member (codes "format") (string (codes "ewig-pool")) (member (codes "history") (natural P.history)
+    (member (codes "roots") (naturals P.roots) (member (codes "rows") (list (map row_value P.rows)) (member (codes "version") (natural PRESENT_VERSION) no_members))))))
 
 -- the compact text of that document
 abbrev pub text : Pool → Bytes
@@ -108,9 +109,10 @@ kept_if test o = option_and_then (λ x. if test x then Some x else None) o
 abbrev pub row_in : ℕ → Data → Option (Form Bytes)
 row_in deepest d = kept_if (is_in_range_to deepest) (option_and_then form_from (elements_in d))
 
--- the five values of a document
+-- the values of a document beside its format; one without a history has the greatest
 pub record DocumentParts : Type 0 where
   pub bits : ℕ
+  pub history : ℕ
   pub roots : List ℕ
   pub rows : List Data
   pub version : ℕ
@@ -119,9 +121,12 @@ abbrev pub four : List ℕ → Option (List ℕ)
 four (a ∷ b ∷ c ∷ d ∷ []) = Some (a ∷ b ∷ c ∷ d ∷ [])
 four _ = None
 
--- the keys of a document, in byte order
+-- the keys of a document, in byte order: of one that says how many states undo keeps, and of an older one
 abbrev pub document_keys : List Bytes
-document_keys = codes "bits" ∷ codes "format" ∷ codes "roots" ∷ codes "rows" ∷ codes "version" ∷ []
+document_keys = codes "bits" ∷ codes "format" ∷ codes "history" ∷ codes "roots" ∷ codes "rows" ∷ codes "version" ∷ []
+
+abbrev pub older_keys : List Bytes
+older_keys = codes "bits" ∷ codes "format" ∷ codes "roots" ∷ codes "rows" ∷ codes "version" ∷ []
 
 -- the values of the members, if their keys are exactly these
 abbrev pub values_at : List Bytes → Members → Option (List Data)
@@ -129,18 +134,36 @@ values_at [] no_members = Some []
 values_at (k ∷ ks) (member l d ms) = if bytes_eq l k then option_map (λ ds. d ∷ ds) (values_at ks ms) else None
 values_at _ _ = None
 
--- the parts that the four values stand for beside the format
-abbrev pub parts_read : Data → Data → Data → Data → Option DocumentParts
-parts_read bits roots rows version =
-    option_and_then (λ b. option_and_then (λ rs. option_and_then (λ ds. option_map (λ v. record { bits = b; roots = rs; rows = ds; version = v }) (number_in version)) (elements_in rows)) (option_and_then four (numbers_in roots))) (number_in bits)
+-- the number of states that the value of `history` says, which is within the greatest bound; where no value is there, that bound
+abbrev pub history_in : Option Data → Option ℕ
+history_in (Some value) = kept_if (is_between 0 MOST_HISTORY) (number_in value)
+history_in None = Some MOST_HISTORY
 
--- the values of the five keys, of which the format is the pool's
+-- a document says its history exactly where it has the version that brought it
+abbrev pub fits_version : Option Data → ℕ → Bool
+fits_version (Some value) version = version == PRESENT_VERSION
+fits_version None version = not (version == PRESENT_VERSION)
+
+-- the parts that the values stand for beside the format
+abbrev pub parts_read : Data → Option Data → Data → Data → Data → Option DocumentParts
+parts_read bits value roots rows version =
+    option_and_then (λ b. option_and_then (λ h. option_and_then (λ rs. option_and_then (λ ds.
+    option_map (λ v. record { bits = b; history = h; roots = rs; rows = ds; version = v }) (kept_if (fits_version value) (number_in version)))
+    (elements_in rows)) (option_and_then four (numbers_in roots))) (history_in value)) (number_in bits)
+
+-- the parts of which the format is the pool's
+abbrev pub parts_by_format : Data → Option DocumentParts → Option DocumentParts
+parts_by_format (string format) parts = if bytes_eq format (codes "ewig-pool") then parts else None
+parts_by_format _ parts = None
+
+-- the values of a document's keys, or of an older one's
 abbrev pub parts_from : List Data → Option DocumentParts
-parts_from (bits ∷ string format ∷ roots ∷ rows ∷ version ∷ []) = if bytes_eq format (codes "ewig-pool") then parts_read bits roots rows version else None
+parts_from (bits ∷ format ∷ history ∷ roots ∷ rows ∷ version ∷ []) = parts_by_format format (parts_read bits (Some history) roots rows version)
+parts_from (bits ∷ format ∷ roots ∷ rows ∷ version ∷ []) = parts_by_format format (parts_read bits None roots rows version)
 parts_from _ = None
 
 abbrev pub parts_in : Data → Option DocumentParts
-parts_in (object ms) = option_and_then parts_from (values_at document_keys ms)
+parts_in (object ms) = option_and_then parts_from (option_or (values_at document_keys ms) (values_at older_keys ms))
 parts_in _ = None
 
 -- what the bytes read as
@@ -153,7 +176,7 @@ rows_in p rules = all_of (row_in rules.deepest) p.rows
 
 -- the pool that the parts of a document stand for by these rules
 abbrev pub pool_by : DocumentParts → Rules → Option Pool
-pool_by p rules = option_map (λ rows. record { bits = p.bits; version = p.version; rows = rows; roots = p.roots }) (rows_in p rules)
+pool_by p rules = option_map (λ rows. record { bits = p.bits; version = p.version; history = p.history; rows = rows; roots = p.roots }) (rows_in p rules)
 
 -- the pool that the parts of a document stand for by the rules of its version, if that is one that is read
 abbrev pub pool_from : DocumentParts → Option Pool
@@ -170,6 +193,11 @@ pool_in_bytes bytes = option_and_then pool_in (value_in bytes)
 -- the pool has a version that is read, and by its rules each row is in range
 abbrev pub IsInRange : Pool → Type 0
 IsInRange P = IsSomeAnd (rules_of P.version) (λ rules. list_all (is_in_range_to rules.deepest) P.rows ≡ true)
+
+-- the pool's history is within the greatest bound, and is that bound where its version says none
+pub record HasHistory (P : Pool) : Type 0 where
+  pub within : P.history ≤ MOST_HISTORY
+  pub older : (P.version ≡ PRESENT_VERSION → ⊥) → P.history ≡ MOST_HISTORY
 
 -- what the next test says of what is there, and the damage where nothing is
 abbrev pub or_damage : {X : Type 0} → Damage → (X → Option Damage) → Option X → Option Damage

@@ -1,5 +1,5 @@
 -- Laws of documents.
-use Rattle.std.specs.Prelude.{◌≡◌, ℕ, true, None, Some, length, IsSomeAnd}
+use Rattle.std.specs.Prelude.{◌≡◌, ◌≤◌, ℕ, true, None, Some, length, IsSomeAnd}
 use Rattle.std.specs.List.{list_all}
 use Rattle.serde_json.specs.Data.{Data}
 use Rattle.serde_json.specs.Written.{compact_text}
@@ -7,15 +7,16 @@ use Rattle.pool_text.specs.Rows.{Bytes, is_in_range}
 use Rattle.pool_text.specs.Pool.{today}
 use Rattle.pool_text.specs.Document.{document, text, value_in, pool_in, pool_in_bytes, value_damage, bytes_damage}
 use Rattle.pool_text.specs.declared.pool.Pool.{Pool}
-use Rattle.pool_text.specs.declared.rules.TheConstants.{PRESENT_VERSION}
+use Rattle.pool_text.specs.declared.rules.TheConstants.{PRESENT_VERSION, MOST_HISTORY}
 
--- a document reads back as its pool and has no damage, where there are four roots and every row is in range
+-- a document reads back as its pool and has no damage, where its history is within the greatest bound, there are four roots and every
+-- row is in range
 pub record ReadsBackAs (P : Pool) : Type 0 where
   pub same : pool_in (document P) ≡ Some (today P)
   pub whole : value_damage P.bits (document P) ≡ None
 
 abbrev pub ReadsBack : Type 0
-ReadsBack = (P : Pool) → length P.roots ≡ 4 → list_all is_in_range P.rows ≡ true → ReadsBackAs P
+ReadsBack = (P : Pool) → P.history ≤ MOST_HISTORY → length P.roots ≡ 4 → list_all is_in_range P.rows ≡ true → ReadsBackAs P
 
 -- a value without damage, of the version that is written, is the document of the pool that it stands for
 abbrev pub DocumentsAreExact : Type 0

@@ -13,6 +13,11 @@ abbrev pub Reads : {A X : Type 0} → (A → X) → Damage → Option X → Resu
 Reads seen d found (Ok a) = found ≡ Some (seen a)
 Reads seen d found (Err e) = e ≢ Memory → (e ≡ d) × (found ≡ None)
 
+-- the values that follow, with that of `history` before them where there is one
+abbrev pub with_history : Option Data → List Data → List Data
+with_history (Some value) values = value ∷ values
+with_history None values = values
+
 -- so many numbers
 abbrev pub numbers_between : ℕ → ℕ → Data → Option (List ℕ)
 numbers_between least most d = kept_if (λ ns. is_between least most (length ns)) (numbers_in d)
@@ -26,4 +31,4 @@ abbrev pub two_links : ℕ × ℕ → List ℕ
 two_links p = p.0 ∷ p.1 ∷ []
 
 abbrev pub parts_seen : Parts → DocumentParts
-parts_seen p = record { bits = p.bits; roots = p.roots; rows = map view p.rows.now; version = p.version }
+parts_seen p = record { bits = p.bits; history = p.history; roots = p.roots; rows = map view p.rows.now; version = p.version }

@@ -37,13 +37,14 @@ relink f (node kind links) = node kind (map f links)
 pub record Settings : Type 0 where
   pub bits : ℕ
   pub version : ℕ
+  pub history : ℕ
 
--- the settings that keep so many code bits, of the version of the pools that are made
-abbrev pub settings_by : ℕ → Settings
-settings_by bits = record { bits = bits; version = PRESENT_VERSION }
+-- the settings that keep so many code bits and so many states, of the version of the pools that are made
+abbrev pub settings_by : ℕ → ℕ → Settings
+settings_by bits history = record { bits = bits; version = PRESENT_VERSION; history = history }
 
 abbrev pub settings_of : Pool → Settings
-settings_of P = record { bits = P.bits; version = P.version }
+settings_of P = record { bits = P.bits; version = P.version; history = P.history }
 
 -- the pool, whatever its version, as one that is made: its version is no part of what it stands for
 abbrev pub today : Pool → Pool
@@ -56,6 +57,7 @@ pool n G roots settings =
     record {
       bits = settings.bits;
       version = settings.version;
+      history = settings.history;
       rows = filter_map (λ k. option_map (relink (place_in ks)) (G k)) ks;
       roots = map (place_in ks) roots;
     }

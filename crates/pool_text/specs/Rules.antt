@@ -1,9 +1,9 @@
 -- What tells the versions of a document apart: the codes of texts, how deep tries go, and how many bits are kept.
-use Rattle.std.specs.Prelude.{ℕ, min, ◌==◌, Option, Some, None, if◌then◌else◌}
+use Rattle.std.specs.Prelude.{ℕ, min, ◌==◌, ◌||◌, Option, Some, None, if◌then◌else◌}
 use Rattle.elem_core.specs.Codes.{text_code, old_text_code}
 use Rattle.elem_core.specs.declared.codes.TheConstants.{DEEPEST}
 use Rattle.pool_text.specs.Rows.{Bytes}
-use Rattle.pool_text.specs.declared.rules.TheConstants.{FIRST_CODE_BITS, FIRST_DEEPEST}
+use Rattle.pool_text.specs.declared.rules.TheConstants.{FIRST_VERSION, SECOND_VERSION, PRESENT_VERSION, FIRST_CODE_BITS, FIRST_DEEPEST}
 use Rattle.pool_text.specs.declared.rules.Rules.{Rules as RulesByName}
 use Rattle.pool_text.specs.declared.rules.Rules.TheVariants.{First, Second}
 
@@ -16,7 +16,7 @@ pub record Rules : Type 0 where
 abbrev pub first_rules : Rules
 first_rules = record { code_of = old_text_code; deepest = FIRST_DEEPEST }
 
--- the rules of the second version: the codes of elements
+-- the rules of the second version and of the third: the codes of elements
 abbrev pub second_rules : Rules
 second_rules = record { code_of = text_code; deepest = DEEPEST }
 
@@ -26,11 +26,11 @@ present_rules = second_rules
 
 -- the rules of each version that is read
 abbrev pub rules_of : ℕ → Option Rules
-rules_of version = if version == 1 then Some first_rules else if version == 2 then Some second_rules else None
+rules_of version = if version == FIRST_VERSION then Some first_rules else if version == SECOND_VERSION || version == PRESENT_VERSION then Some second_rules else None
 
 -- how many bits a document of this version keeps in a space of so many
 abbrev pub bits_by : ℕ → ℕ → ℕ
-bits_by version bits = if version == 1 then min FIRST_CODE_BITS bits else bits
+bits_by version bits = if version == FIRST_VERSION then min FIRST_CODE_BITS bits else bits
 
 -- the rules that the code names
 abbrev pub rules_named : RulesByName → Rules

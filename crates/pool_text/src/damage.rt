@@ -10,7 +10,7 @@ use std::alloc::{AllocError, AllocFailed};
 pub enum Damage {
     /// The bytes aren't the text of a JSON value.
     Json,
-    /// The value isn't an object of the five keys, with their values.
+    /// The value isn't an object of the keys of its version, with their values.
     Form,
     /// The version isn't one that is read.
     Version,
@@ -27,7 +27,7 @@ pub enum Damage {
     Vector,
     /// A trie row or a chain row isn't canonical.
     Trie,
-    /// A root isn't of its kind.
+    /// A root isn't of its kind, or undo has more states than it keeps.
     Kind,
     /// The rows don't stand in their order.
     Order,

@@ -15,18 +15,19 @@ use node_heap::{Head, Heap, Link};
 use pool_order::Order;
 use std::alloc::Global;
 
-/// The pool of the rows that these roots reach, whose order this is, with this number of code bits. A pair and a state among
-/// them have two links each. It takes time and memory for those rows, their links and their texts.
+/// The pool of the rows that these roots reach, whose order this is, with this number of code bits and this bound of undo. A pair
+/// and a state among them have two links each. It takes time and memory for those rows, their links and their texts.
 pub fn pool_of<T: Stored>(
     alloc: Global,
     heap: &Heap<T>,
     order: &Order,
     roots: &[Link],
     bits: u32,
+    history: u32,
 ) -> Result<Pool, NoMemory>
     requires order { order.now ≡ order_of heap.now roots.now }
     requires fits { (r l : ℕ) → 0 < count r roots.now → Reaches (links_at heap.now) r l → fits_pool (form_at heap.now l) ≡ true }
-    ensures value { IfOk result (λ p. p ≡ pool_at T.bytes_of heap.now roots.now (settings_by bits)) }
+    ensures value { IfOk result (λ p. p ≡ pool_at T.bytes_of heap.now roots.now (settings_by bits history)) }
 {
     heap.is_graph();
     let mut rows = Vec::with_capacity(alloc, order.len())?;
@@ -39,6 +40,7 @@ pub fn pool_of<T: Stored>(
     Ok(Pool {
         bits,
         version: PRESENT_VERSION,
+        history,
         rows: Rows::from_vec(rows),
         roots: places_of(alloc, order, roots)?,
     })

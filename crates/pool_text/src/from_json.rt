@@ -1,18 +1,20 @@
 //! The pool that a document stands for, or the first test that the document fails.
-ghost use Rattle.std.specs.Prelude.{◌≡◌, ◌≢◌, ◌≤◌, List, [], ◌∷◌, if◌then◌else◌, map, length, codes, None, Some, option_and_then, option_map, IfOk, IfErr};
+ghost use Rattle.std.specs.Prelude.{◌≡◌, ◌≢◌, ◌≤◌, List, [], ◌∷◌, if◌then◌else◌, map, length, codes, None, Some, option_and_then, option_map, IfOk, IfErr, IfSome};
+ghost use Rattle.std.specs.Option.{option_or};
 ghost use Rattle.std.specs.Str.{bytes_eq};
 ghost use Rattle.serde_json.specs.View.{view, members_view};
 ghost use Rattle.pool_text.specs.Rows.{Bytes};
 ghost use Rattle.pool_text.specs.Rules.{rules_of, rules_named, bits_by};
-ghost use Rattle.pool_text.specs.Document.{values_at, parts_read, parts_in, pool_by as pool_of_parts, pool_in, pool_in_bytes, IsInRange, parts_damage_by, value_damage, bytes_damage};
-ghost use Rattle.pool_text.specs.Parsing.{Reads, parts_seen};
+ghost use Rattle.pool_text.specs.declared.rules.TheConstants.{MOST_HISTORY};
+ghost use Rattle.pool_text.specs.Document.{values_at, number_in, history_in, fits_version, kept_if, parts_read, parts_in, pool_by as pool_of_parts, pool_in, pool_in_bytes, IsInRange, HasHistory, parts_damage_by, value_damage, bytes_damage};
+ghost use Rattle.pool_text.specs.Parsing.{Reads, parts_seen, with_history};
 
 use crate::damage::Damage;
-use crate::numbers::{elements_of, number_of, numbers_of};
+use crate::numbers::{elements_of, number_between, number_of, numbers_of};
 use crate::pool::Pool;
 use crate::row::Places;
 use crate::row_in::rows_of;
-use crate::rules::{FIRST_CODE_BITS, FIRST_VERSION, Rules};
+use crate::rules::{FIRST_CODE_BITS, FIRST_VERSION, MOST_HISTORY, PRESENT_VERSION, Rules};
 use elem_core::CODE_BITS;
 use serde_json::Value;
 use std::alloc::Global;
@@ -27,6 +29,7 @@ pub fn pool_from_bytes(alloc: Global, bytes: &[u8], bits: u32) -> Result<Pool, D
     ensures bits { IfOk result (λ p. p.bits ≡ bits_by p.version bits) }
     ensures roots { IfOk result (λ p. length p.roots ≡ 4) }
     ensures rows { IfOk result IsInRange }
+    ensures history { IfOk result HasHistory }
     ensures whole { IfOk result (λ _. bytes_damage bits bytes.now ≡ None) }
     ensures damage { IfErr result (λ d. d ≢ Damage.Memory → bytes_damage bits bytes.now ≡ Some d) }
 {
@@ -46,6 +49,7 @@ pub fn pool_from_json(alloc: Global, value: &Value, bits: u32) -> Result<Pool, D
     ensures bits { IfOk result (λ p. p.bits ≡ bits_by p.version bits) }
     ensures roots { IfOk result (λ p. length p.roots ≡ 4) }
     ensures rows { IfOk result IsInRange }
+    ensures history { IfOk result HasHistory }
     ensures whole { IfOk result (λ _. value_damage bits (view value.now) ≡ None) }
     ensures damage { IfErr result (λ d. d ≢ Damage.Memory → value_damage bits (view value.now) ≡ Some d) }
 {
@@ -76,6 +80,7 @@ fn pool_by(alloc: Global, parts: Parts<'_>, rules: Rules, bits: u32) -> Result<P
     Ok(Pool {
         bits: kept,
         version: parts.version as u32,
+        history: parts.history,
         rows,
         roots: parts.roots,
     })
@@ -96,6 +101,7 @@ fn kept_bits(version: u64, bits: u32) -> u32
 #[derive(Drop)]
 pub(crate) struct Parts<'a> {
     pub(crate) bits: u64,
+    pub(crate) history: u32,
     pub(crate) roots: Places,
     pub(crate) rows: &'a [Value],
     pub(crate) version: u64,
@@ -109,25 +115,54 @@ fn parts_of(alloc: Global, value: &Value) -> Result<Parts<'_>, Damage>
     let Some(values) = values_of(value) else {
         return Err(Damage::Form);
     };
-    let (Some(bits), Some(rows), Some(version)) = (
+    let (Some(bits), Some(history), Some(rows), Some(version)) = (
         number_of(values.bits),
+        history_of(values.history),
         elements_of(values.rows),
-        number_of(values.version),
+        version_of(values.version, values.history),
     ) else {
         return Err(Damage::Form);
     };
     Ok(Parts {
         bits,
+        history,
         roots: numbers_of(alloc, values.roots, 4, 4, Damage::Form)?,
         rows,
         version,
     })
 }
 
-// The values of a document's keys, but for its format.
+// How many states undo keeps in a document with this value of `history`, or with none.
+fn history_of(value: Option<&Value>) -> Option<u32>
+    ensures value { result ≡ history_in (option_map (λ v. view v.now) value.entry) }
+    ensures most { IfSome result (λ n. n ≤ MOST_HISTORY) }
+{
+    let Some(value) = value else {
+        return Some(MOST_HISTORY);
+    };
+    match number_between(value, 0, MOST_HISTORY as u64) {
+        Some(number) => Some(number as u32),
+        None => None,
+    }
+}
+
+// The version of a document, if it is one that says its history, or doesn't, as this one.
+fn version_of(value: &Value, history: Option<&Value>) -> Option<u64>
+    ensures { result ≡ kept_if (fits_version (option_map (λ v. view v.now) history.entry)) (number_in (view value.now)) }
+{
+    let version = number_of(value)?;
+    if history.is_some() == (version == PRESENT_VERSION as u64) {
+        Some(version)
+    } else {
+        None
+    }
+}
+
+// The values of a document's keys, but for its format. An older one has no history.
 #[derive(Clone, Copy)]
 struct DocumentValues<'a> {
     bits: &'a Value,
+    history: Option<&'a Value>,
     roots: &'a Value,
     rows: &'a Value,
     version: &'a Value,
@@ -135,12 +170,12 @@ struct DocumentValues<'a> {
 
 // The values of an object whose keys are a document's, and whose format is the pool's.
 fn values_of(value: &Value) -> Option<DocumentValues<'_>>
-    ensures { parts_in (view value.now) ≡ option_and_then (λ v. parts_read (view v.bits.now) (view v.roots.now) (view v.rows.now) (view v.version.now)) result }
+    ensures { parts_in (view value.now) ≡ option_and_then (λ v. parts_read (view v.bits.now) (option_map (λ h. view h.now) v.history) (view v.roots.now) (view v.rows.now) (view v.version.now)) result }
 {
     let mut members = value.as_object()?.iter();
     let bits = value_at(&mut members, "bits")?;
     let format = value_at(&mut members, "format")?;
-    let roots = value_at(&mut members, "roots")?;
+    let (history, roots) = history_and_roots(&mut members)?;
     let rows = value_at(&mut members, "rows")?;
     let version = value_at(&mut members, "version")?;
     if !is_over(&mut members) {
@@ -149,6 +184,7 @@ fn values_of(value: &Value) -> Option<DocumentValues<'_>>
     if is_pool(format.as_str()?) {
         Some(DocumentValues {
             bits,
+            history,
             roots,
             rows,
             version,
@@ -166,6 +202,24 @@ fn value_at<'a>(members: &mut Iter<'a, String, Value>, key: &str) -> Option<&'a 
     let (name, value) = members.next()?;
     if name.as_str() == key {
         Some(value)
+    } else {
+        None
+    }
+}
+
+// The value of `history`, if that is the next key, and then that of `roots`.
+fn history_and_roots<'a>(
+    members: &mut Iter<'a, String, Value>,
+) -> Option<(Option<&'a Value>, &'a Value)>
+    ensures { (keys : List Bytes) → option_or (values_at (codes "history" ∷ codes "roots" ∷ keys) (members_view members.old)) (values_at (codes "roots" ∷ keys) (members_view members.old))
+        ≡ option_and_then (λ v. option_map (λ ds. with_history (option_map (λ h. view h.now) v.0) (view v.1.now ∷ ds)) (values_at keys (members_view members.new))) result }
+{
+    let (name, value) = members.next()?;
+    if name.as_str() == "history" {
+        let roots = value_at(members, "roots")?;
+        Some((Some(value), roots))
+    } else if name.as_str() == "roots" {
+        Some((None, value))
     } else {
         None
     }

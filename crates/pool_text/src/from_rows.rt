@@ -16,12 +16,18 @@ use pool_order::Visit;
 use std::alloc::Global;
 use std::marker::Model;
 
-/// The pool of those rows of a list that these roots reach, with this number of code bits. Each link of the list names one of its
-/// rows, and leads down. It takes time and memory for the rows that are reached, their links and their texts.
-pub fn pool_of_rows(alloc: Global, rows: &Rows, roots: &[u64], bits: u32) -> Result<Pool, NoMemory>
+/// The pool of those rows of a list that these roots reach, with this number of code bits and this bound of undo. Each link of the
+/// list names one of its rows, and leads down. It takes time and memory for the rows that are reached, their links and their texts.
+pub fn pool_of_rows(
+    alloc: Global,
+    rows: &Rows,
+    roots: &[u64],
+    bits: u32,
+    history: u32,
+) -> Result<Pool, NoMemory>
     requires linked { AreLinkedBelow (length rows.now) (links_from rows.now) }
     requires roots { (r : ℕ) → 0 < count r roots.now → r < length rows.now }
-    ensures value { IfOk result (λ p. p ≡ pool_from (length rows.now) (slice_get rows.now) roots.now (settings_by bits)) }
+    ensures value { IfOk result (λ p. p ≡ pool_from (length rows.now) (slice_get rows.now) roots.now (settings_by bits history)) }
 {
     let items = rows.as_slice();
     let listed = list_rows(alloc, rows, roots)?;
@@ -35,6 +41,7 @@ pub fn pool_of_rows(alloc: Global, rows: &Rows, roots: &[u64], bits: u32) -> Res
     Ok(Pool {
         bits,
         version: PRESENT_VERSION,
+        history,
         rows: Rows::from_vec(made),
         roots: new_places(alloc, &listed, roots)?,
     })

@@ -3,7 +3,7 @@ ghost use Rattle.pool_text.specs.Laws.{ReadsBack, DocumentsAreExact, CompactDocu
 ghost use Rattle.pool_text.specs.Renaming.{RenamedReadsTheSame, RenamingTurnsBack, PoolsAreRenamed, RenamedHaveOnePool, HeapsAreRooted, NothingLeaks, PoolsStay, TextsAreForms};
 ghost use Rattle.pool_text.specs.Worked.{WorkedDocuments};
 
-/// The document of a pool in range stands for that pool.
+/// The document of a pool whose history, roots and rows are in range stands for that pool.
 pub fn reads_back()
     ensures { ReadsBack }
 {}

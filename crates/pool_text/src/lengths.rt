@@ -17,9 +17,10 @@ pub fn text_length(pool: &Pool) -> u64
     ensures value { result ≡ capped (length (text pool.now)) }
 {
     // The keys, the format, the version and what stands between them.
-    let frame: u64 = 59;
+    let frame: u64 = 70;
     frame
         .saturating_add(digits(pool.bits as u64))
+        .saturating_add(digits(pool.history as u64))
         .saturating_add(numbers_length(pool.roots.as_slice()))
         .saturating_add(rows_length(pool.rows.as_slice()))
 }

@@ -27,5 +27,8 @@ pub use laws::{
 pub use lengths::text_length;
 pub use pool::{Pool, Rows};
 pub use row::{Places, PoolText, Row, link_at};
-pub use rules::{FIRST_CODE_BITS, FIRST_DEEPEST, FIRST_VERSION, PRESENT_VERSION, Rules};
+pub use rules::{
+    FIRST_CODE_BITS, FIRST_DEEPEST, FIRST_VERSION, MOST_HISTORY, PRESENT_VERSION, Rules,
+    SECOND_VERSION,
+};
 pub use written::{into_bytes, to_bytes, to_json};

@@ -44,14 +44,16 @@ impl Rows {
     }
 }
 
-/// Rows whose links are places, the places of the roots, the number of code bits kept, and the version by whose rules they are
-/// kept.
+/// Rows whose links are places, the places of the roots, the number of code bits kept, the version by whose rules they are
+/// kept, and how many states undo keeps.
 #[derive(Drop)]
 pub struct Pool {
     /// How many low bits of the keys' codes its tries go by.
     pub bits: u32,
     /// The version by whose rules its tries stand, which is one that is read. It is no part of what the pool stands for.
     pub version: u32,
+    /// How many states undo keeps at most. A document of a version that doesn't say it has the greatest, 4,294,967,295.
+    pub history: u32,
     /// The rows, whose links are places in this list.
     pub rows: Rows,
     /// The places of the roots.

@@ -7,8 +7,14 @@ use elem_core::{Code, DEEPEST, fnv32, fnv64};
 /// The first version of documents.
 pub const FIRST_VERSION: u32 = 1;
 
+/// The second version, whose documents don't say how many states undo keeps.
+pub const SECOND_VERSION: u32 = 2;
+
 /// The version of the documents that are written, and of the pools that are made.
-pub const PRESENT_VERSION: u32 = 2;
+pub const PRESENT_VERSION: u32 = 3;
+
+/// The greatest bound of undo, which a document has that says none.
+pub const MOST_HISTORY: u32 = u32::MAX;
 
 /// The number of bits of a code by the rules of the first version, and so the most that a document of that version keeps.
 pub const FIRST_CODE_BITS: u32 = 32;
@@ -21,7 +27,7 @@ pub const FIRST_DEEPEST: u8 = 6;
 pub enum Rules {
     /// Codes of 32 bits, whose last digit is at depth 6.
     First,
-    /// Codes of 64 bits, whose last digit is at depth 12.
+    /// Codes of 64 bits, whose last digit is at depth 12: also the rules of the third version, which says how many states undo keeps.
     Second,
 }
 
@@ -30,9 +36,9 @@ impl Rules {
     pub fn of_version(version: u64) -> Option<Rules>
         ensures { option_map rules_named result ≡ rules_of version }
     {
-        if version == 1 {
+        if version == FIRST_VERSION as u64 {
             Some(Rules::First)
-        } else if version == 2 {
+        } else if version == SECOND_VERSION as u64 || version == PRESENT_VERSION as u64 {
             Some(Rules::Second)
         } else {
             None

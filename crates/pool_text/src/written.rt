@@ -19,7 +19,7 @@ pub fn to_json(alloc: Global, pool: &Pool) -> Result<Value, NoMemory>
 {
     let rows = rows_value(alloc, pool.rows.as_slice())?;
     let roots = numbers_value(alloc, pool.roots.as_slice())?;
-    Ok(document_value(alloc, pool.bits, roots, rows)?)
+    Ok(document_value(alloc, pool.bits, pool.history, roots, rows)?)
 }
 
 /// The compact text of that document, which reads as the document. Err where memory runs out.
@@ -44,17 +44,25 @@ fn into_json(alloc: Global, pool: Pool) -> Result<Value, NoMemory>
 {
     let rows = rows_into_value(alloc, pool.rows.into_vec())?;
     let roots = numbers_value(alloc, pool.roots.as_slice())?;
-    Ok(document_value(alloc, pool.bits, roots, rows)?)
+    Ok(document_value(alloc, pool.bits, pool.history, roots, rows)?)
 }
 
-// A document of these bits, roots and rows.
-fn document_value(alloc: Global, bits: u32, roots: Value, rows: Value) -> Result<Value, AllocError>
+// A document of these bits, this bound of undo, and these roots and rows.
+fn document_value(
+    alloc: Global,
+    bits: u32,
+    history: u32,
+    roots: Value,
+    rows: Value,
+) -> Result<Value, AllocError>
     ensures { IfOk result (λ v. view v ≡ object (member (codes "bits") (natural bits) (member (codes "format") (string (codes "ewig-pool"))
-        (member (codes "roots") (view roots) (member (codes "rows") (view rows) (member (codes "version") (natural PRESENT_VERSION) no_members)))))) }
+        (member (codes "history") (natural history) (member (codes "roots") (view roots) (member (codes "rows") (view rows)
+        (member (codes "version") (natural PRESENT_VERSION) no_members))))))) }
 {
     json!(in alloc; {
         "bits": bits,
         "format": "ewig-pool",
+        "history": history,
         "roots": roots,
         "rows": rows,
         "version": PRESENT_VERSION

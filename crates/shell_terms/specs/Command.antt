@@ -13,6 +13,7 @@ pub data PlainCommand : Type 0 where
   begin : PlainCommand
   «end» : PlainCommand
   abort : PlainCommand
+  history : (count : ℕ) → PlainCommand
   get : (name : Bytes) (index : ℕ) → PlainCommand
   len : (name : Bytes) → PlainCommand
   show : (name : Bytes) (from to : ℕ) → PlainCommand

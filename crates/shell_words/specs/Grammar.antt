@@ -7,7 +7,7 @@ use Rattle.std.specs.Map.{lookup}
 use Rattle.std.specs.Str.{is_utf8}
 use Rattle.elem_core.specs.Naming.{is_name}
 use Rattle.shell_terms.specs.Edit.{new, add, set, put, del, cat, cut, copy, drop, star, unstar}
-use Rattle.shell_terms.specs.Command.{PlainCommand, edit, mark, unmark, back, undo, redo, begin, «end», abort, get, len, show, list, stars, marks, same, eqv, stats, made, read, write, save, load, quit}
+use Rattle.shell_terms.specs.Command.{PlainCommand, edit, mark, unmark, back, undo, redo, begin, «end», abort, history, get, len, show, list, stars, marks, same, eqv, stats, made, read, write, save, load, quit}
 use Rattle.shell_words.specs.declared.BadLine.{BadLine}
 use Rattle.shell_words.specs.declared.BadLine.TheVariants as refused
 use Rattle.shell_words.specs.Number.{number_of}
@@ -76,6 +76,7 @@ commands =
     ∷ (codes "begin", the_end begin)
     ∷ (codes "end", the_end end)
     ∷ (codes "abort", the_end abort)
+    ∷ (codes "history", a_number (λ n. the_end (history n)))
     ∷ (codes "get", a_name (λ b. a_number (λ i. the_end (get b i))))
     ∷ (codes "len", a_name (λ b. the_end (len b)))
     ∷ (codes "show", a_name (λ b. a_number (λ i. a_number (λ j. the_end (show b i j)))))

@@ -1,10 +1,10 @@
 -- What the answer of `read_line` shows: the command with its names, numbers and texts as values.
 use Rattle.std.specs.Prelude.{Result, Ok, Err}
 use Rattle.shell_terms.specs.Edit.{new, add, set, put, del, cat, cut, copy, drop, star, unstar}
-use Rattle.shell_terms.specs.Command.{PlainCommand, edit, mark, unmark, back, undo, redo, begin, «end», abort, get, len, show, list, stars, marks, same, eqv, stats, made, read, write, save, load, quit}
+use Rattle.shell_terms.specs.Command.{PlainCommand, edit, mark, unmark, back, undo, redo, begin, «end», abort, history, get, len, show, list, stars, marks, same, eqv, stats, made, read, write, save, load, quit}
 use Rattle.elem_core.specs.Shown.{name_bytes, line_bytes}
 use Rattle.shell_words.specs.declared.Command.{Command}
-use Rattle.shell_words.specs.declared.Command.TheVariants.{New, Add, Set, Put, Del, Cat, Cut, Copy, Drop, Star, Unstar, Mark, Unmark, Back, Undo, Redo, Begin, End, Abort, Get, Len, Show, List, Stars, Marks, Same, Eqv, Stats, Made, Read, Write, Save, Load, Quit}
+use Rattle.shell_words.specs.declared.Command.TheVariants.{New, Add, Set, Put, Del, Cat, Cut, Copy, Drop, Star, Unstar, Mark, Unmark, Back, Undo, Redo, Begin, End, Abort, History, Get, Len, Show, List, Stars, Marks, Same, Eqv, Stats, Made, Read, Write, Save, Load, Quit}
 use Rattle.shell_words.specs.declared.BadLine.{BadLine}
 
 -- The command with its names and texts as their bytes.
@@ -28,6 +28,7 @@ plain_command Redo = redo
 plain_command Begin = begin
 plain_command End = end
 plain_command Abort = abort
+plain_command (History n) = history n
 plain_command (Get b i) = get (name_bytes b) i
 plain_command (Len b) = len (name_bytes b)
 plain_command (Show b i j) = show (name_bytes b) i j

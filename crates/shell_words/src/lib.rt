@@ -15,7 +15,7 @@ mod pieces;
 pub use numbers::read_number;
 use pieces::{
     name, name_and_number, name_and_range, name_and_text, name_number_and_text,
-    name_range_and_name, nothing, split_piece, two_names,
+    name_range_and_name, nothing, number, split_piece, two_names,
 };
 
 /// Why a line is no command: the first of these that holds.
@@ -73,6 +73,8 @@ pub enum Command<'a> {
     End,
     /// `abort`: the end of the batch, without its changes.
     Abort,
+    /// `history N`: the last N states alone in undo, from now on.
+    History(u32),
     /// `get B I`: line I of B.
     Get(Name<'a>, u32),
     /// `len B`: the number of lines of B.
@@ -152,6 +154,7 @@ fn read_text(text: &str) -> Result<Command<'_>, BadLine>
         "begin" => nothing(rest).map(|()| Command::Begin),
         "end" => nothing(rest).map(|()| Command::End),
         "abort" => nothing(rest).map(|()| Command::Abort),
+        "history" => number(rest).map(|count| Command::History(count)),
         "list" => nothing(rest).map(|()| Command::List),
         "stars" => nothing(rest).map(|()| Command::Stars),
         "marks" => nothing(rest).map(|()| Command::Marks),

@@ -58,6 +58,16 @@ pub(crate) fn name(rest: Option<&str>) -> Result<Name<'_>, BadLine>
     named(piece)
 }
 
+// The one piece of a command `WORD NUMBER`.
+pub(crate) fn number(rest: Option<&str>) -> Result<u32, BadLine>
+    ensures { (f : ℕ → PlainCommand) → a_number (λ n. the_end (f n)) (option_copied rest.entry)
+        ≡ go_on result (λ read. Ok (f read)) }
+{
+    let (number, rest) = next_number(rest)?;
+    nothing(rest)?;
+    Ok(number)
+}
+
 // The pieces of a command `WORD NAME NAME`.
 pub(crate) fn two_names(rest: Option<&str>) -> Result<(Name<'_>, Name<'_>), BadLine>
     ensures { (f : List ℕ → List ℕ → PlainCommand)

@@ -14,7 +14,7 @@ use Rattle.state_rows.specs.Standing.{IsBase}
 use Rattle.state_rows.proofs.Staying.{states-stay}
 use Rattle.space_state.specs.declared.roots.Batch.TheVariants.{Closed}
 use Rattle.space_state.specs.declared.roots.RootedHeap.{RootedHeap}
-use Rattle.space_state.specs.Roots.{base_of, Keeps}
+use Rattle.space_state.specs.Roots.{base_of, IsBounded, Keeps}
 use Rattle.space_state.proofs.Keeping.{roots-count, keeps-of}
 
 -- what a call gives is there
@@ -26,10 +26,10 @@ stays : {old new : Heap Bytes} {spent : List ℕ} {l c n : ℕ} → Answered old
 stays {old} {new} a bits k live = states-stay old new bits k (a.extends.kept k live)
 
 -- four calls from a heap without holds make the roots of a space that has nothing
-pub starts : (s : RootedHeap) (h0 h1 h2 h3 : Heap Bytes) → s.roots.batch ≡ Closed → s.bits ≤ CODE_BITS → ((k : ℕ) → holds_at h0 k ≡ 0) → hold_count h0 ≡ 0
+pub starts : (s : RootedHeap) (h0 h1 h2 h3 : Heap Bytes) → s.roots.batch ≡ Closed → s.bits ≤ CODE_BITS → IsBounded s.history start → ((k : ℕ) → holds_at h0 k ≡ 0) → hold_count h0 ≡ 0
     → Answered h0 h1 [] s.roots.current 0 3 → Answered h1 h2 [] s.roots.versions 0 1 → Answered h2 h3 [] s.roots.undo 0 1 → Answered h3 s.heap [] s.roots.redo 0 1
     → IsStateIn h1 s.bits s.roots.current blank → AreVersionsIn h2 s.bits s.roots.versions map.empty → IsHistoryIn h3 s.bits s.roots.undo [] → IsHistoryIn s.heap s.bits s.roots.redo [] → Keeps s [] start
-starts s h0 h1 h2 h3 closed small unheld none g1 g2 g3 g4 state versions undo redo =
+starts s h0 h1 h2 h3 closed small bounded unheld none g1 g2 g3 g4 state versions undo redo =
     let c : ℕ = s.roots.current in
     let v : ℕ = s.roots.versions in
     let u : ℕ = s.roots.undo in
@@ -42,7 +42,7 @@ starts s h0 h1 h2 h3 closed small unheld none g1 g2 g3 g4 state versions undo re
     let versions4 = (stays g4 s.bits v (g3.extends.live v (gained-there g2))).versions map.empty versions3 in
     let undo4 = (stays g4 s.bits u (gained-there g3)).history [] undo in
     let base : base_of s.roots.batch ≡ [] = ap base_of closed in
-    keeps-of s [] start g4.graph small (state4, versions4, undo4, redo, subst (λ (ls : List ℕ). IsBase (IsStateIn s.heap s.bits) ls None) (sym base) tt)
+    keeps-of s [] start g4.graph small bounded (state4, versions4, undo4, redo, subst (λ (ls : List ℕ). IsBase (IsStateIn s.heap s.bits) ls None) (sym base) tt)
     (λ k. omega (
       arith,
       unheld k,

@@ -2,7 +2,7 @@
 use Rattle.std.proofs.Common.{◌≡◌, ℕ, zero, suc, ◌+◌, ◌-◌, ◌<◌, ◌≤◌, List, [], ◌∷◌, ◌++◌, length, take, drop, set, map, Bool, true, false, cond, ◌&&◌, leb, ltb, Option, Some, None, is_some, IsSome, option_map, eqb, Result, Ok, Err, refl, sym, ap, subst, ◌∙◌, arith, ◌*◌}
 use Rattle.std.proofs.lemmas.Bool.Decides.{nat_tests}
 use Rattle.std.proofs.lemmas.List.{drop-take}
-use Rattle.std.specs.Prelude.{nat_le, nat_lt, IsSomeAnd, IsOk, IsErrAnd, MatchBool, MatchResult, count_by, slice_range}
+use Rattle.std.specs.Prelude.{nat_le, nat_lt, IsSomeAnd, IsOk, IsErrAnd, MatchResult, count_by, slice_range}
 use Rattle.std.specs.List.{AllZip, insert, remove_range}
 use Rattle.std.specs.declared.cmp.Ordering.{Ordering}
 use Rattle.std.specs.declared.cmp.Ordering.TheVariants.{Less, Equal, Greater}
@@ -31,7 +31,7 @@ use Rattle.shell_terms.specs.Edit.{Bytes, PlainEdit, new, add, set as set_line, 
 use Rattle.shell_terms.specs.Command.{PlainCommand, edit}
 use Rattle.plain_space.specs.declared.refusal.Refusal.{Refusal}
 use Rattle.plain_space.specs.declared.refusal.Refusal.TheVariants.{Absent, Exists, Range, Limit, Memory}
-use Rattle.plain_space.specs.Workspace.{State, Workspace, most, lines_of, with_lines, without_lines, is_starred, with_star, without_star, is_full, with_current}
+use Rattle.plain_space.specs.Workspace.{State, Workspace, most, lines_of, with_lines, without_lines, is_starred, with_star, without_star, with_current}
 use Rattle.plain_space.specs.Refusing.{needs, unless, given, on_lines, on_range, room}
 use Rattle.plain_space.specs.Edited.{edited}
 use Rattle.plain_space.specs.Answer.{answer, done, becomes}
@@ -42,7 +42,7 @@ use Rattle.state_rows.specs.InHeap.{AreLinesIn}
 use Rattle.state_rows.proofs.Staying.{states-stay}
 use Rattle.state_rows.proofs.Keys.{by_bytes}
 use Rattle.space_state.specs.declared.roots.RootedHeap.{RootedHeap}
-use Rattle.space_state.specs.declared.turning.TheConstants.{EDIT_NODES}
+use Rattle.space_state.specs.declared.turning.TheConstants.{EDIT_NODES, TURN_NODES}
 use Rattle.space_state.specs.Roots.{Keeps}
 use Rattle.space_state.specs.InPlace.{IsInPlace, new_key}
 use Rattle.space_state.specs.Turns.{IsDue, IsSame, RoomIsMade, RoomIsRefused, TurnsTo, IsCarriedOut, IsRefused}
@@ -294,33 +294,17 @@ module _ (W : Workspace) (change : PlainEdit) where
   refuses why is = ap (becomes W) is
 
   module _ (next : State) (is : edited W.current change ≡ Ok next) where
-    pub does : is_full W ≡ false → answer W (edit change) ≡ done (with_current W next)
+    pub does : answer W (edit change) ≡ done (with_current W next)
     unfolding answer
-    does free = ap (becomes W) is ∙ ap (λ t. unless t Limit (done (with_current W next))) free
-
-    pub stuffed : is_full W ≡ true → answer W (edit change) ≡ Err Limit
-    unfolding answer
-    stuffed full = ap (becomes W) is ∙ ap (λ t. unless t Limit (done (with_current W next))) full
-
-    -- where undo is full, nothing is done
-    pub limited : {s : RootedHeap} → is_full W ≡ true → IsRefused (edit change) s s W Limit
-    limited full = record { due = stuffed full; same = refl }
+    does = ap (becomes W) is
 
     -- memory may be refused to an edit that nothing else refuses
-    pub may-lack : is_full W ≡ false → MayLackMemory W (edit change)
-    may-lack free = record { wants = refl; granted = subst IsOk (sym (does free)) refl }
+    pub may-lack : MayLackMemory W (edit change)
+    may-lack = record { wants = refl; granted = subst IsOk (sym does) refl }
 
-    -- what refuses the room for it is due
-    room-due : (why : Refusal) → MatchBool (is_full W) (why ≡ Limit) (why ≡ Memory) → IsDue W (edit change) why
-    room-due why is_why = at (is_full W) refl is_why
-      where
-        at : (t : Bool) → is_full W ≡ t → MatchBool t (why ≡ Limit) (why ≡ Memory) → IsDue W (edit change) why
-        at true full by = subst (λ r. IsDue W (edit change) r) (sym by) (stuffed full)
-        at false free by = subst (λ r. IsDue W (edit change) r) (sym by) (may-lack free)
-
-    -- and so it refuses the edit
-    pub no-room : {s t : RootedHeap} {why : Refusal} → RoomIsRefused s t W why → IsRefused (edit change) s t W why
-    no-room {why = why} refused = record { due = room-due why refused.due; same = refused.same }
+    -- and so may the room for it
+    pub no-room : {s t : RootedHeap} {why : Refusal} → RoomIsRefused s t why → IsRefused (edit change) s t W why
+    no-room refused = record { due = subst (λ r. IsDue W (edit change) r) (sym refused.due) may-lack; same = refused.same }
 
 -- ## Texts and lines
 
@@ -354,7 +338,7 @@ lines-same {s} {t} {l} {xs} same are =
 
 -- there is room for an edit of the buffer
 abbrev pub HasBufferRoom : RootedHeap → RootedHeap → Bytes → Workspace → Type 0
-HasBufferRoom s t name W = RoomIsMade s t W (EDIT_NODES + alike_buffers s.bits W.current name)
+HasBufferRoom s t name W = RoomIsMade s t (EDIT_NODES + alike_buffers s.bits W.current name)
 
 -- the lines that a buffer was found to have are there still
 pub record HasLines (s t : RootedHeap) (l : ℕ) (name : Bytes) (W : Workspace) : Type 0 where
@@ -373,8 +357,8 @@ pub has-found : {s t : RootedHeap} {l : ℕ} {name : Bytes} {W : Workspace} → 
 has-found same lines = record { xs = lines.0; found = lines.1; before = lines.2; now = lines-same same lines.2 }
 
 -- room for so many names that are alike is room for an edit of the buffer
-pub has-room : {s t : RootedHeap} {W : Workspace} {alike : ℕ} (name : Bytes) → alike ≡ alike_buffers s.bits W.current name → RoomIsMade s t W (EDIT_NODES + alike) → HasBufferRoom s t name W
-has-room {s} {t} {W} name same made = subst (λ (n : ℕ). RoomIsMade s t W (EDIT_NODES + n)) same made
+pub has-room : {s t : RootedHeap} {alike : ℕ} (W : Workspace) (name : Bytes) → alike ≡ alike_buffers s.bits W.current name → RoomIsMade s t (EDIT_NODES + alike) → HasBufferRoom s t name W
+has-room {s} {t} W name same made = subst (λ (n : ℕ). RoomIsMade s t (EDIT_NODES + n)) same made
 
 -- a line's text is in a new cell, which is held, and the buffer's lines are there still
 pub record HasText (s t : RootedHeap) (mid : Heap Bytes) (k l : ℕ) (name text : Bytes) (W : Workspace) : Type 0 where
@@ -494,37 +478,37 @@ alike-same same now name = λ i. alike_buffers (same.bits i) now name
 
 -- room was made and so were the lines: all that it takes to put them into their buffer
 pub can-put : {s t : RootedHeap} {new : Heap Bytes} {l c n : ℕ} {xs : List Bytes} {W : Workspace} {key : Option Bytes} (name : Bytes) → HasBufferRoom s t name W → IsMade t new [] l xs W c n → key ≡ new_key (lines_of W.current name) name → c ≤ 1 → n ≤ 78
-    → (V : Workspace) × (ys : List Bytes) × Keeps (record t { heap = new }) (l ∷ []) V × AreLinesIn new t.bits l ys × (is_full V ≡ false) × (key ≡ new_key (lines_of V.current name) name) × HasSpares new 1 (DEEPEST + 15 + alike_buffers t.bits V.current name)
+    → (V : Workspace) × (ys : List Bytes) × Keeps (record t { heap = new }) (l ∷ []) V × AreLinesIn new t.bits l ys × (key ≡ new_key (lines_of V.current name) name) × HasSpares new 1 (DEEPEST + 4 + TURN_NODES + alike_buffers t.bits V.current name)
 can-put {s} {t} {xs = xs} {W = W} name room m key few_cells few_nodes =
-    (W, xs, m.keeps, m.lines, room.free, key, (omega (arith, m.cells, room.spares.0, few_cells), omega (arith, m.nodes, room.spares.1, few_nodes, alike-same room.same W.current name)))
+    (W, xs, m.keeps, m.lines, key, (omega (arith, m.cells, room.spares.0, few_cells), omega (arith, m.nodes, room.spares.1, few_nodes, alike-same room.same W.current name)))
 
 -- the lines were made where there was room for them, and the state turned to the one that has them
-pub lines-put : {s t u : RootedHeap} {new : Heap Bytes} {l c n : ℕ} {xs : List Bytes} {W : Workspace} (change : PlainEdit) (name : Bytes) → IsSame s t → is_full W ≡ false → IsMade t new [] l xs W c n
-    → edited W.current change ≡ Ok (with_lines W.current name xs) → TurnsTo (record t { heap = new }) u [] (DEEPEST + 16 + alike_buffers t.bits W.current name) (with_current W (with_lines W.current name xs))
-    → c + n + (DEEPEST + 16 + alike_buffers s.bits W.current name) ≤ edit_cost s.bits change W.current → (IsInPlace (edit change) → ⊥) → IsCarriedOut (edit change) s u W
-lines-put {s} {t} {u} {new} {l} {c} {n} {xs} {W} change name same free m made turn less apart =
-    let turned : TurnsTo (record t { heap = new }) u [] (DEEPEST + 16 + alike_buffers s.bits W.current name) (with_current W (with_lines W.current name xs)) =
-    subst (λ (k : ℕ). TurnsTo (record t { heap = new }) u [] (DEEPEST + 16 + alike_buffers k W.current name) (with_current W (with_lines W.current name xs))) same.bits turn in
+pub lines-put : {s t u : RootedHeap} {new : Heap Bytes} {l c n : ℕ} {xs : List Bytes} {W : Workspace} (change : PlainEdit) (name : Bytes) → IsSame s t → IsMade t new [] l xs W c n
+    → edited W.current change ≡ Ok (with_lines W.current name xs) → TurnsTo (record t { heap = new }) u [] (DEEPEST + 5 + TURN_NODES + alike_buffers t.bits W.current name) (with_current W (with_lines W.current name xs))
+    → c + n + (DEEPEST + 5 + TURN_NODES + alike_buffers s.bits W.current name) ≤ edit_cost s.bits change W.current → (IsInPlace (edit change) → ⊥) → IsCarriedOut (edit change) s u W
+lines-put {s} {t} {u} {new} {l} {c} {n} {xs} {W} change name same m made turn less apart =
+    let turned : TurnsTo (record t { heap = new }) u [] (DEEPEST + 5 + TURN_NODES + alike_buffers s.bits W.current name) (with_current W (with_lines W.current name xs)) =
+    subst (λ (k : ℕ). TurnsTo (record t { heap = new }) u [] (DEEPEST + 5 + TURN_NODES + alike_buffers k W.current name) (with_current W (with_lines W.current name xs))) same.bits turn in
     record {
       after = with_current W (with_lines W.current name xs);
-      told = does W change (with_lines W.current name xs) made free;
+      told = does W change (with_lines W.current name xs) made;
       turns = turns-after (0 + (c + n)) (cost s.bits (edit change) W) (rises-then (rises-same same.heap) m.rises) same.bits turned (omega (arith, less, cost-edit s.bits change W));
       few_made = λ placed inside. absurd (apart placed);
     }
 
 -- the same after room was made for an edit
 pub edit-done : {s t u : RootedHeap} {new : Heap Bytes} {l c n : ℕ} {xs : List Bytes} {W : Workspace} (change : PlainEdit) (name : Bytes) → HasBufferRoom s t name W → IsMade t new [] l xs W c n
-    → edited W.current change ≡ Ok (with_lines W.current name xs) → TurnsTo (record t { heap = new }) u [] (DEEPEST + 16 + alike_buffers t.bits W.current name) (with_current W (with_lines W.current name xs))
-    → c + n + (DEEPEST + 16 + alike_buffers s.bits W.current name) ≤ edit_cost s.bits change W.current → (IsInPlace (edit change) → ⊥) → IsCarriedOut (edit change) s u W
-edit-done change name room m made turn less apart = lines-put change name room.same room.free m made turn less apart
+    → edited W.current change ≡ Ok (with_lines W.current name xs) → TurnsTo (record t { heap = new }) u [] (DEEPEST + 5 + TURN_NODES + alike_buffers t.bits W.current name) (with_current W (with_lines W.current name xs))
+    → c + n + (DEEPEST + 5 + TURN_NODES + alike_buffers s.bits W.current name) ≤ edit_cost s.bits change W.current → (IsInPlace (edit change) → ⊥) → IsCarriedOut (edit change) s u W
+edit-done change name room m made turn less apart = lines-put change name room.same m made turn less apart
 
 -- room was made, and the state turned to the one in which the buffer is gone
 pub drop-done : {s t u : RootedHeap} {new : Heap Bytes} {spent : List ℕ} {l : ℕ} {W : Workspace} {name : Bytes} (xs : List Bytes) → IsSame s t → Answered t.heap new spent l 0 (LEVELS + 1 + alike_buffers t.bits W.current name)
-    → lines_of W.current name ≡ Some xs → is_full W ≡ false → TurnsTo (record t { heap = new }) u [] 11 (with_current W (without_lines W.current name)) → IsCarriedOut (edit (drop_buffer name)) s u W
-drop-done {s} {t} {u} {new} {W = W} {name = name} xs same g there free turn =
+    → lines_of W.current name ≡ Some xs → TurnsTo (record t { heap = new }) u [] TURN_NODES (with_current W (without_lines W.current name)) → IsCarriedOut (edit (drop_buffer name)) s u W
+drop-done {s} {t} {u} {new} {W = W} {name = name} xs same g there turn =
     record {
       after = with_current W (without_lines W.current name);
-      told = does W (drop_buffer name) (without_lines W.current name) (drop-made W.current name xs there) free;
+      told = does W (drop_buffer name) (without_lines W.current name) (drop-made W.current name xs there);
       turns = turns-after (0 + (0 + (LEVELS + 1 + alike_buffers t.bits W.current name))) (cost s.bits (edit (drop_buffer name)) W) (rises-then (rises-same same.heap) (rises-answered g)) same.bits turn
           (omega (arith, alike-same same W.current name, cost-edit s.bits (drop_buffer name) W));
       few_made = λ placed inside. absurd placed;
@@ -556,19 +540,19 @@ has-parts {t} {mid} {new} {v} {k} {l} {n} {m} {xs} {W} from to K are a good item
 
 -- spares are left to put both into their buffers
 pub both-spares-left : {s t : RootedHeap} {new : Heap Bytes} {k l n : ℕ} {xs ys : List Bytes} {W : Workspace} (name other : Bytes) → IsSame s t → HasParts t new k l xs ys W n
-    → HasSpares t.heap 2 (EDIT_NODES + (alike_buffers s.bits W.current name + alike_buffers s.bits W.current other)) → n ≤ 67 → HasSpares new 2 (2 * DEEPEST + 20 + alike_buffers t.bits W.current name + alike_buffers t.bits W.current other)
+    → HasSpares t.heap 2 (EDIT_NODES + (alike_buffers s.bits W.current name + alike_buffers s.bits W.current other)) → n ≤ 67 → HasSpares new 2 (2 * DEEPEST + 9 + TURN_NODES + alike_buffers t.bits W.current name + alike_buffers t.bits W.current other)
 both-spares-left {s} {t} {W = W} name other same p spares few =
     (omega (arith, p.cells, spares.0), omega (arith, p.nodes, spares.1, few, alike-same same W.current name, alike-same same W.current other))
 
 -- room was made, the parts were made, and the state turned to the one that has them
 pub cut-done : {s t u : RootedHeap} {new : Heap Bytes} {k l n : ℕ} {xs ys : List Bytes} {W : Workspace} {name other : Bytes} (from to : ℕ) → IsSame s t → HasParts t new k l xs ys W n
-    → is_full W ≡ false → edited W.current (cut name from to other) ≡ Ok (with_lines (with_lines W.current name xs) other ys)
-    → TurnsTo (record t { heap = new }) u [] (2 * DEEPEST + 22 + (alike_buffers t.bits W.current name + alike_buffers t.bits W.current other)) (with_current W (with_lines (with_lines W.current name xs) other ys))
+    → edited W.current (cut name from to other) ≡ Ok (with_lines (with_lines W.current name xs) other ys)
+    → TurnsTo (record t { heap = new }) u [] (2 * DEEPEST + 11 + TURN_NODES + (alike_buffers t.bits W.current name + alike_buffers t.bits W.current other)) (with_current W (with_lines (with_lines W.current name xs) other ys))
     → n ≤ 67 → IsCarriedOut (edit (cut name from to other)) s u W
-cut-done {s} {t} {u} {new} {n = n} {xs = xs} {ys = ys} {W = W} {name = name} {other = other} from to same p free made turn few =
+cut-done {s} {t} {u} {new} {n = n} {xs = xs} {ys = ys} {W = W} {name = name} {other = other} from to same p made turn few =
     record {
       after = with_current W (with_lines (with_lines W.current name xs) other ys);
-      told = does W (cut name from to other) (with_lines (with_lines W.current name xs) other ys) made free;
+      told = does W (cut name from to other) (with_lines (with_lines W.current name xs) other ys) made;
       turns =
           turns-after (0 + n) (cost s.bits (edit (cut name from to other)) W) (rises-then (rises-same same.heap) p.rises) same.bits turn
           (omega (arith, few, alike-same same W.current name, alike-same same W.current other, cost-edit s.bits (cut name from to other) W));

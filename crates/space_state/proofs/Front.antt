@@ -4,7 +4,9 @@ use Rattle.std.proofs.lemmas.List.{append-nil}
 use Rattle.node_heap.specs.Links.{count}
 use Rattle.node_heap.specs.Heap.{holds_at, live_count}
 use Rattle.node_heap.specs.Calls.{KeepsToNeed}
-use Rattle.pool_text.specs.Pool.{row_count, settings_by}
+use Rattle.rrb_core.specs.Seq.{IsWellShaped}
+use Rattle.pool_text.specs.Pool.{row_count, settings_by, forms_in, pool_at}
+use Rattle.pool_text.specs.declared.pool.Pool.{Pool}
 use Rattle.pool_text.specs.Pool as pools
 use Rattle.pool_text.proofs.Held.{nothing-leaks}
 use Rattle.pool_check.specs.Damages.{IsValid}
@@ -13,6 +15,7 @@ use Rattle.plain_space.specs.declared.refusal.Refusal.{Refusal}
 use Rattle.plain_space.specs.Workspace.{Workspace}
 use Rattle.state_rows.specs.Standing.{StandsFor}
 use Rattle.state_rows.proofs.HeapPools.{pool-stands}
+use Rattle.state_rows.proofs.OneSpace.{one-space}
 use Rattle.space_state.specs.declared.roots.RootedHeap.{RootedHeap}
 use Rattle.space_state.specs.Roots.{root_list, Keeps}
 use Rattle.space_state.specs.Turns.{IsCarriedOut, IsRefused, EndsOnRows}
@@ -24,18 +27,35 @@ pub bits-are : (s : RootedHeap) → (shown s).pool.bits ≡ s.bits
 unfolding pools.pool
 bits-are s = refl
 
+-- and its history is the bound of undo
+pub history-is : (s : RootedHeap) → (shown s).pool.history ≡ s.history
+unfolding pools.pool
+history-is s = refl
+
+one-work : (P : Pool) (V W : Workspace) → StandsFor P V → StandsFor P W → V ≡ W
+one-work P V W first second = one-space (forms_in P) (IsWellShaped (forms_in P)) P.bits P.roots V W (first.1 ∙ sym second.1) first.0 second.0
+
 module _ (s : RootedHeap) (W : Workspace) (K : Keeps s [] W) where
+  both : IsValid (shown s).pool × StandsFor (shown s).pool W
+  both =
+      subst (λ (n : ℕ). IsValid (pool_at (λ text. text) s.heap (root_list s.roots) (settings_by s.bits n)) × StandsFor (pool_at (λ text. text) s.heap (root_list s.roots) (settings_by s.bits n)) W) K.bounded.0
+      (pool-stands s.heap s.bits (root_list s.roots) W K.graph K.stands K.bits K.bounded.2)
+
   pub pool-valid : IsValid (shown s).pool
-  pool-valid = (pool-stands s.heap s.bits (root_list s.roots) W K.graph K.stands K.bits).0
+  pool-valid = both.0
 
   pub pool-is : StandsFor (shown s).pool W
-  pool-is = (pool-stands s.heap s.bits (root_list s.roots) W K.graph K.stands K.bits).1
+  pool-is = both.1
+
+  -- it stands for no other workspace
+  pub keeps-alone : (V : Workspace) → StandsFor (shown s).pool V → Keeps s [] V
+  keeps-alone V stands = subst (λ (work : Workspace). Keeps s [] work) (one-work (shown s).pool W V both.1 stands) K
 
   pub roots-held : (k : ℕ) → holds_at s.heap k ≡ count k (root_list s.roots)
   roots-held k = K.holds k ∙ ap (λ ks. count k ks) (append-nil (root_list s.roots))
 
   pub rows-are : row_count (shown s).pool ≡ live_count s.heap
-  rows-are = nothing-leaks (λ text. text) s.heap (root_list s.roots) (settings_by s.bits) K.graph roots-held
+  rows-are = nothing-leaks (λ text. text) s.heap (root_list s.roots) (settings_by s.bits s.history) K.graph roots-held
 
 -- what was not hoarded by the heap was not by the space
 pub room-kept : (old new : RootedHeap) {cells nodes : ℕ} → KeepsToNeed old.heap new.heap cells nodes → KeepsRoom (shown old) (shown new) cells nodes

@@ -1,9 +1,7 @@
 -- How what a rooted heap keeps follows from one call to the next: what calls answer, what is released, which root is another, and how
 -- far the rows rise.
-use Rattle.std.proofs.Common.{◌≡◌, ℕ, ◌+◌, ◌<◌, ◌≤◌, List, [], ◌∷◌, ◌++◌, length, Bool, true, false, eqb, Option, Some, None, IsSome, Result, Ok, Err, refl, sym, ap, subst, ◌∙◌, arith, length-append}
+use Rattle.std.proofs.Common.{◌≡◌, ℕ, ◌+◌, ◌<◌, ◌≤◌, List, [], ◌∷◌, ◌++◌, length, Bool, Option, Some, None, IsSome, Result, Ok, Err, refl, sym, ap, subst, ◌∙◌, arith, length-append}
 use Rattle.std.specs.Prelude.{◌↔◌, IsTrue, sum_by, OnErr}
-use Rattle.std.proofs.lemmas.Bool.{eq-eqb, ne_eqb, false≢true}
-use Rattle.std.proofs.lemmas.Bool.Decides.{nat_tests}
 use Rattle.elem_core.specs.declared.codes.TheConstants.{CODE_BITS}
 use Rattle.node_heap.specs.Links.{count}
 use Rattle.node_heap.specs.Forms.{cell, is_cell, is_node}
@@ -16,7 +14,7 @@ use Rattle.node_heap.proofs.BuildLemmas.{count-cons, count-append}
 use Rattle.rrb_core.specs.Vector.{IsGoodVector, elements}
 use Rattle.champ_kinds.proofs.ZipLemmas.{zip-length}
 use Rattle.shell_terms.specs.Edit.{Bytes}
-use Rattle.plain_space.specs.Workspace.{Named, State, Workspace, most, in_batch, is_full}
+use Rattle.plain_space.specs.Workspace.{Named, State, Workspace, most}
 use Rattle.state_rows.specs.Stay.{StandsOn}
 use Rattle.state_rows.specs.Reading.{IsText}
 use Rattle.state_rows.specs.InHeap.{AreLinesIn, IsStateIn, AreVersionsIn, IsHistoryIn}
@@ -26,7 +24,7 @@ use Rattle.space_state.specs.declared.roots.Batch.{Batch}
 use Rattle.space_state.specs.declared.roots.Batch.TheVariants.{Closed, Open}
 use Rattle.space_state.specs.declared.roots.Roots.{Roots}
 use Rattle.space_state.specs.declared.roots.RootedHeap.{RootedHeap}
-use Rattle.space_state.specs.Roots.{base_of, root_list, Keeps}
+use Rattle.space_state.specs.Roots.{base_of, root_list, IsBounded, Keeps}
 use Rattle.space_state.specs.Turns.{RowsRise, IsSame, TurnsTo, TurnsBeside}
 use Rattle.space_state.specs.View.{room_of}
 
@@ -73,11 +71,12 @@ roots-stay old new bits roots W stay stand =
 -- ## What is held
 
 -- the parts of a rooted heap that keeps a workspace, with the holds of roots and of others apart
-pub keeps-of : (s : RootedHeap) (b : List ℕ) (W : Workspace) → IsGraph s.heap → s.bits ≤ CODE_BITS → HeapStandsFor s.heap s.bits (root_list s.roots) W
+pub keeps-of : (s : RootedHeap) (b : List ℕ) (W : Workspace) → IsGraph s.heap → s.bits ≤ CODE_BITS → IsBounded s.history W → HeapStandsFor s.heap s.bits (root_list s.roots) W
     → ((k : ℕ) → holds_at s.heap k ≡ count k (root_list s.roots) + count k b) → hold_count s.heap ≡ 4 + length (base_of s.roots.batch) + length b → Keeps s b W
-keeps-of s b W graph bits stands holds total = record {
+keeps-of s b W graph bits bounded stands holds total = record {
   graph = graph;
   bits = bits;
+  bounded = bounded;
   stands = stands;
   holds = λ k. omega (arith, holds k, count-append k (root_list s.roots) b);
   total = omega (arith, total, length-append (root_list s.roots) b);
@@ -142,7 +141,7 @@ redo-stands K = K.stands.3
 -- what is held besides may be listed in any order
 pub keeps-besides : {s : RootedHeap} {b : List ℕ} {W : Workspace} (b' : List ℕ) → ((k : ℕ) → count k b' ≡ count k b) → length b' ≡ length b → Keeps s b W → Keeps s b' W
 keeps-besides {s} {b} {W} b' counts lengths K =
-    keeps-of s b' W K.graph K.bits K.stands (λ k. omega (arith, keeps-holds K k, counts k)) (omega (arith, keeps-total K, lengths))
+    keeps-of s b' W K.graph K.bits K.bounded K.stands (λ k. omega (arith, keeps-holds K k, counts k)) (omega (arith, keeps-total K, lengths))
 
 pub keeps-swapped : {s : RootedHeap} {b : List ℕ} {W : Workspace} {l k : ℕ} → Keeps s (l ∷ k ∷ b) W → Keeps s (k ∷ l ∷ b) W
 keeps-swapped {b = b} {l = l} {k = k} K =
@@ -185,7 +184,7 @@ held-stands {s} {new = new} K extends k some = states-stay s.heap new s.bits k (
 pub keeps-extended : {s : RootedHeap} {b : List ℕ} {W : Workspace} {new : Heap Bytes} (b' : List ℕ) → Keeps s b W → Extends s.heap new → IsGraph new
     → ((k : ℕ) → holds_at new k + count k b ≡ holds_at s.heap k + count k b') → hold_count new + length b ≡ hold_count s.heap + length b' → Keeps (record s { heap = new }) b' W
 keeps-extended {s} {b} {W} {new} b' K extends graph holds total =
-    keeps-of (record s { heap = new }) b' W graph K.bits
+    keeps-of (record s { heap = new }) b' W graph K.bits K.bounded
     (roots-stay s.heap new s.bits s.roots W (λ l some. held-stands K extends l (root-held K l some)) K.stands)
     (λ k. omega (arith, keeps-holds K k, holds k)) (omega (arith, keeps-total K, total))
 
@@ -222,7 +221,7 @@ unchanged-stands {old} {new} bits same k = states-stay old new bits k (λ m down
 
 pub keeps-same : {s s' : RootedHeap} {b : List ℕ} {W : Workspace} → IsSame s s' → Keeps s b W → Keeps s' b W
 keeps-same {s} {s'} {b} {W} same K =
-    keeps-of s' b W same.heap.graph (omega (arith, same.bits, K.bits))
+    keeps-of s' b W same.heap.graph (omega (arith, same.bits, K.bits)) (subst (λ (n : ℕ). IsBounded n W) (sym same.history) K.bounded)
     (subst (λ (r : Roots). HeapStandsFor s'.heap s'.bits (root_list r) W) (sym same.roots)
     (subst (λ (n : ℕ). HeapStandsFor s'.heap n (root_list s.roots) W) (sym same.bits) (roots-stay s.heap s'.heap s.bits s.roots W (λ l some. unchanged-stands s.bits same.heap l) K.stands)))
     (λ k. omega (arith, same.heap.holds k, keeps-holds K k, ap (λ (r : Roots). count k (root_list r)) same.roots))
@@ -230,7 +229,7 @@ keeps-same {s} {s'} {b} {W} same K =
 
 -- room is made
 pub same-heap : {s : RootedHeap} {new : Heap Bytes} → Unchanged s.heap new → IsSame s (record s { heap = new })
-same-heap same = record { roots = refl; bits = refl; heap = same }
+same-heap same = record { roots = refl; bits = refl; history = refl; heap = same }
 
 -- where room was refused, all is as it was
 pub heap-is : {s : RootedHeap} {new : Heap Bytes} → new ≡ s.heap → record s { heap = new } ≡ s
@@ -269,7 +268,7 @@ released-stands {s} {b} {new = new} {l = l} K rel graph k some =
 
 pub keeps-released : {s : RootedHeap} {b : List ℕ} {W : Workspace} {new : Heap Bytes} {l : ℕ} → Keeps s (l ∷ b) W → Releases s.heap new l → IsGraph new → Keeps (record s { heap = new }) b W
 keeps-released {s} {b} {W} {new} {l} K rel graph =
-    keeps-of (record s { heap = new }) b W graph K.bits
+    keeps-of (record s { heap = new }) b W graph K.bits K.bounded
     (roots-stay s.heap new s.bits s.roots W (λ k some. released-stands K rel graph k (omega (arith, some))) K.stands)
     (λ k. omega (arith, keeps-holds K k, count-cons k l b, rel.holds k)) (omega (arith, keeps-total K, rel.count))
 
@@ -279,27 +278,33 @@ pub keeps-current : {s : RootedHeap} {b : List ℕ} {W : Workspace} (next : ℕ)
     → Keeps (record s { roots = record s.roots { current = next } }) (s.roots.current ∷ b) (record W { current = x })
 keeps-current {s} {b} {W} next x K is =
     let roots : Roots = record s.roots { current = next } in
-    keeps-of (record s { roots = roots }) (s.roots.current ∷ b) (record W { current = x }) K.graph K.bits (is, K.stands.1, K.stands.2, K.stands.3, K.stands.4)
+    keeps-of (record s { roots = roots }) (s.roots.current ∷ b) (record W { current = x }) K.graph K.bits K.bounded (is, K.stands.1, K.stands.2, K.stands.3, K.stands.4)
     (λ k. omega (arith, keeps-holds K k, count-cons k next b, count-cons k s.roots.current b, roots-count s.roots k, roots-count roots k)) (omega (arith, keeps-total K))
 
 pub keeps-versions : {s : RootedHeap} {b : List ℕ} {W : Workspace} (next : ℕ) (m : Named State) → Keeps s (next ∷ b) W → AreVersionsIn s.heap s.bits next m
     → Keeps (record s { roots = record s.roots { versions = next } }) (s.roots.versions ∷ b) (record W { versions = m })
 keeps-versions {s} {b} {W} next m K are =
     let roots : Roots = record s.roots { versions = next } in
-    keeps-of (record s { roots = roots }) (s.roots.versions ∷ b) (record W { versions = m }) K.graph K.bits (K.stands.0, are, K.stands.2, K.stands.3, K.stands.4)
+    keeps-of (record s { roots = roots }) (s.roots.versions ∷ b) (record W { versions = m }) K.graph K.bits K.bounded (K.stands.0, are, K.stands.2, K.stands.3, K.stands.4)
     (λ k. omega (arith, keeps-holds K k, count-cons k next b, count-cons k s.roots.versions b, roots-count s.roots k, roots-count roots k)) (omega (arith, keeps-total K))
 
 -- ## Where a history is edited in place
 
+pub history-length : {h : Heap Bytes} {bits l : ℕ} {ss : List State} → IsHistoryIn h bits l ss → length (elements h l) ≡ length ss
+history-length {h} {bits} {l} {ss} is = zip-length (IsStateIn h bits) (elements h l) ss is.values
+
+pub history-short : {h : Heap Bytes} {bits l : ℕ} {ss : List State} → IsHistoryIn h bits l ss → length ss ≤ most
+history-short is = omega (arith, history-length is, is.vector.shape.short)
+
 -- undo is this vector, and these links are held besides in place of those
-pub keeps-undo : {s : RootedHeap} {W : Workspace} {new : Heap Bytes} {c n : ℕ} (u : ℕ) (us : List State) (spent gained : List ℕ) → Keeps s spent W → KeepsHeld (λ l. count l (s.roots.undo ∷ spent)) s.heap new
+pub keeps-undo : {s : RootedHeap} {W : Workspace} {new : Heap Bytes} {c n : ℕ} (u : ℕ) (us : List State) (spent gained : List ℕ) → IsBounded s.history (record W { undo = us }) → Keeps s spent W → KeepsHeld (λ l. count l (s.roots.undo ∷ spent)) s.heap new
     → Trades s.heap new (s.roots.undo ∷ spent) (u ∷ gained) c n → IsHistoryIn new s.bits u us → Keeps (record s { heap = new; roots = record s.roots { undo = u } }) gained (record W { undo = us })
-keeps-undo {s} {W} {new} u us spent gained K held trades is =
+keeps-undo {s} {W} {new} u us spent gained bounded K held trades is =
     let roots : Roots = record s.roots { undo = u } in
     let among = roots-count s.roots in
     let stay : (l : ℕ) → 0 < one_at s.roots.current l + one_at s.roots.versions l + one_at s.roots.redo l + count l (base_of s.roots.batch) → StandsOn s.heap new s.bits l =
     λ l some. states-stay s.heap new s.bits l (held.kept l (omega (arith, keeps-holds K l, among l, count-cons l s.roots.undo spent, some))) in
-    keeps-of (record s { heap = new; roots = roots }) gained (record W { undo = us }) trades.graph K.bits (
+    keeps-of (record s { heap = new; roots = roots }) gained (record W { undo = us }) trades.graph K.bits bounded (
       (stay s.roots.current (omega (arith, test_same s.roots.current s.roots.current refl))).state W.current K.stands.0,
       (stay s.roots.versions (omega (arith, test_same s.roots.versions s.roots.versions refl))).versions W.versions K.stands.1,
       is,
@@ -316,7 +321,7 @@ keeps-placed {s} {W} {new} k x spent gained K held trades is =
     let among = roots-count s.roots in
     let stay : (l : ℕ) → 0 < one_at s.roots.versions l + one_at s.roots.undo l + one_at s.roots.redo l + count l (base_of s.roots.batch) → StandsOn s.heap new s.bits l =
     λ l some. states-stay s.heap new s.bits l (held.kept l (omega (arith, keeps-holds K l, among l, count-cons l s.roots.current spent, some))) in
-    keeps-of (record s { heap = new; roots = roots }) gained (record W { current = x }) trades.graph K.bits (
+    keeps-of (record s { heap = new; roots = roots }) gained (record W { current = x }) trades.graph K.bits K.bounded (
       is,
       (stay s.roots.versions (omega (arith, test_same s.roots.versions s.roots.versions refl))).versions W.versions K.stands.1,
       (stay s.roots.undo (omega (arith, test_same s.roots.undo s.roots.undo refl))).history W.undo K.stands.2,
@@ -328,22 +333,31 @@ keeps-placed {s} {W} {new} k x spent gained K held trades is =
 pub current-holds : {s : RootedHeap} {b : List ℕ} {W : Workspace} → Keeps s b W → (k : ℕ) → count k (s.roots.current ∷ b) ≤ holds_at s.heap k
 current-holds {s} {b} K k = omega (arith, keeps-holds K k, roots-count s.roots k, count-cons k s.roots.current b)
 
--- undo and redo may be told the other way round
-abbrev turned : RootedHeap → RootedHeap
-turned s = record s { roots = record s.roots { undo = s.roots.redo; redo = s.roots.undo } }
+-- undo and redo may be told the other way round, with a bound that what is undo then fits
+abbrev turned : RootedHeap → ℕ → RootedHeap
+turned s bound = record s { roots = record s.roots { undo = s.roots.redo; redo = s.roots.undo }; history = bound }
 
-abbrev turned-work : Workspace → Workspace
-turned-work W = record W { undo = W.redo; redo = W.undo }
+abbrev turned-work : Workspace → ℕ → Workspace
+turned-work W bound = record W { undo = W.redo; redo = W.undo; history = bound }
 
-keeps-turned-round : {s : RootedHeap} {b : List ℕ} {W : Workspace} → Keeps s b W → Keeps (turned s) b (turned-work W)
-keeps-turned-round {s} {b} {W} K =
-    keeps-of (turned s) b (turned-work W) K.graph K.bits (K.stands.0, K.stands.1, K.stands.3, K.stands.2, K.stands.4)
+keeps-turned-round : {s : RootedHeap} {b : List ℕ} {W : Workspace} (bound : ℕ) → bound ≤ most → length W.redo ≤ bound → Keeps s b W → Keeps (turned s bound) b (turned-work W bound)
+keeps-turned-round {s} {b} {W} bound within fits K =
+    keeps-of (turned s bound) b (turned-work W bound) K.graph K.bits (refl, within, fits) (K.stands.0, K.stands.1, K.stands.3, K.stands.2, K.stands.4)
     (λ k. omega (arith, keeps-holds K k, roots-count s.roots k, roots-count (record s.roots { undo = s.roots.redo; redo = s.roots.undo }) k)) (keeps-total K)
+
+-- the bound is another, which undo fits
+pub keeps-history : {s : RootedHeap} {b : List ℕ} {W : Workspace} (bound : ℕ) → bound ≤ most → length W.undo ≤ bound → Keeps s b W → Keeps (record s { history = bound }) b (record W { history = bound })
+keeps-history {s} {b} {W} bound within fits K = keeps-of (record s { history = bound }) b (record W { history = bound }) K.graph K.bits (refl, within, fits) K.stands (keeps-holds K) (keeps-total K)
 
 -- and so redo is this vector
 pub keeps-redo : {s : RootedHeap} {W : Workspace} {new : Heap Bytes} {c n : ℕ} (r : ℕ) (rs : List State) (spent gained : List ℕ) → Keeps s spent W → KeepsHeld (λ l. count l (s.roots.redo ∷ spent)) s.heap new
     → Trades s.heap new (s.roots.redo ∷ spent) (r ∷ gained) c n → IsHistoryIn new s.bits r rs → Keeps (record s { heap = new; roots = record s.roots { redo = r } }) gained (record W { redo = rs })
-keeps-redo r rs spent gained K held trades is = keeps-turned-round (keeps-undo r rs spent gained (keeps-turned-round K) held trades is)
+keeps-redo {s} {W} {new} r rs spent gained K held trades is =
+    let there : Keeps (turned s most) spent (turned-work W most) = keeps-turned-round most (omega arith) (history-short K.stands.3) K in
+    let bounded : IsBounded most (record W { undo = rs; redo = W.undo; history = most }) = (refl, omega arith, history-short is) in
+    let done = keeps-undo r rs spent gained bounded there held trades is in
+    subst (λ (n : ℕ). Keeps (record s { heap = new; roots = record s.roots { redo = r }; history = n }) gained (record W { redo = rs })) K.bounded.0
+    (keeps-turned-round W.history K.bounded.1 K.bounded.2 done)
 
 -- there is a hold for undo and for what is held besides
 pub undo-holds : {s : RootedHeap} {b : List ℕ} {W : Workspace} → Keeps s b W → (k : ℕ) → count k (s.roots.undo ∷ b) ≤ holds_at s.heap k
@@ -359,7 +373,7 @@ pub keeps-open : {s : RootedHeap} {b : List ℕ} {W : Workspace} (l : ℕ) (x : 
     → Keeps (record s { roots = record s.roots { batch = Open l } }) b (record W { base = Some x })
 keeps-open {s} {b} {W} l x closed K is =
     let roots : Roots = record s.roots { batch = Open l } in
-    keeps-of (record s { roots = roots }) b (record W { base = Some x }) K.graph K.bits (K.stands.0, K.stands.1, K.stands.2, K.stands.3, is)
+    keeps-of (record s { roots = roots }) b (record W { base = Some x }) K.graph K.bits K.bounded (K.stands.0, K.stands.1, K.stands.2, K.stands.3, is)
     (λ k. omega (arith, keeps-holds K k, count-cons k l b, count-cons k l [], roots-count s.roots k, roots-count roots k, ap (λ (t : Batch). count k (base_of t)) closed))
     (omega (arith, keeps-total K, ap (λ (t : Batch). length (base_of t)) closed))
 
@@ -368,7 +382,7 @@ pub keeps-closed : {s : RootedHeap} {b : List ℕ} {W : Workspace} (l : ℕ) →
     → Keeps (record s { roots = record s.roots { batch = Closed } }) (l ∷ b) (record W { base = None })
 keeps-closed {s} {b} {W} l open_at K =
     let roots : Roots = record s.roots { batch = Closed } in
-    keeps-of (record s { roots = roots }) (l ∷ b) (record W { base = None }) K.graph K.bits (K.stands.0, K.stands.1, K.stands.2, K.stands.3, tt)
+    keeps-of (record s { roots = roots }) (l ∷ b) (record W { base = None }) K.graph K.bits K.bounded (K.stands.0, K.stands.1, K.stands.2, K.stands.3, tt)
     (λ k. omega (arith, keeps-holds K k, count-cons k l b, count-cons k l [], roots-count s.roots k, roots-count roots k, ap (λ (t : Batch). count k (base_of t)) open_at))
     (omega (arith, keeps-total K, ap (λ (t : Batch). length (base_of t)) open_at))
 
@@ -391,14 +405,8 @@ batch-closed {s} {b} {W} closed K =
 
 -- ## Lengths
 
-pub history-length : {h : Heap Bytes} {bits l : ℕ} {ss : List State} → IsHistoryIn h bits l ss → length (elements h l) ≡ length ss
-history-length {h} {bits} {l} {ss} is = zip-length (IsStateIn h bits) (elements h l) ss is.values
-
 pub lines-length : {h : Heap Bytes} {bits l : ℕ} {xs : List Bytes} → AreLinesIn h bits l xs → length (elements h l) ≡ length xs
 lines-length {h} {bits} {l} {xs} are = zip-length (IsText (form_at h) (IsGoodVector h) bits) (elements h l) xs are.values
-
-pub history-short : {h : Heap Bytes} {bits l : ℕ} {ss : List State} → IsHistoryIn h bits l ss → length ss ≤ most
-history-short is = omega (arith, history-length is, is.vector.shape.short)
 
 pub lines-short : {h : Heap Bytes} {bits l : ℕ} {xs : List Bytes} → AreLinesIn h bits l xs → length xs ≤ most
 lines-short are = omega (arith, lines-length are, are.vector.shape.short)
@@ -406,21 +414,6 @@ lines-short are = omega (arith, lines-length are, are.vector.shape.short)
 -- what a vector tells of a history's length
 pub count-told : {h : Heap Bytes} {bits l r m : ℕ} {ss : List State} {b : Bool} → IsHistoryIn h bits l ss → r ≡ l → (IsTrue b ↔ (length (elements h r) ≡ m)) → IsTrue b ↔ (length ss ≡ m)
 count-told {h} {m = m} {b = b} is same told = subst (λ n. IsTrue b ↔ (n ≡ m)) (ap (λ l. length (elements h l)) same ∙ history-length is) told
-
--- the answer of a test that holds just at the most
-pub most-told : (b : Bool) (n : ℕ) → (IsTrue b ↔ (n ≡ most)) → b ≡ eqb n most
-most-told true n told = sym (eq-eqb n most (told.0 refl))
-most-told false n told = sym (ne_eqb n most (λ e. false≢true (told.1 e)))
-
--- outside a batch, undo is full exactly where it has the most states
-pub full-outside : (W : Workspace) (n : ℕ) → in_batch W ≡ false → n ≡ length W.undo → eqb n most ≡ is_full W
-full-outside W n outside same = rw outside (ap (λ k. eqb k most) same)
-
--- and else it has room
-pub has-room : {h : Heap Bytes} {bits l : ℕ} (W : Workspace) → IsHistoryIn h bits l W.undo → in_batch W ≡ false → is_full W ≡ false → length W.undo < most
-has-room W is outside room =
-    let apart = full-outside W (length W.undo) outside refl ∙ room in
-    grind (arith, nat_tests, history-short is)
 
 -- ## How far the rows rise
 

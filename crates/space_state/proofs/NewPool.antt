@@ -35,7 +35,7 @@ use Rattle.pool_text.proofs.Held.{rooted-forms, texts-are-forms}
 use Rattle.pool_text.proofs.PoolRows.{pool-length}
 use Rattle.pool_text.proofs.Placed.{place-first, place-later}
 use Rattle.shell_terms.specs.Edit.{Bytes}
-use Rattle.plain_space.specs.Workspace.{State, start}
+use Rattle.plain_space.specs.Workspace.{State, most, start}
 use Rattle.state_rows.specs.Reading.{StandsIfThere, IsNamed, AreNames, AreLines, IsState}
 use Rattle.state_rows.specs.InHeap.{IsStateIn}
 use Rattle.state_rows.specs.Standing.{IsBase}
@@ -114,7 +114,7 @@ module _ (F : Forms Bytes) where
     ordered (suc zero) deep = absurd (omega arith)
     ordered (suc (suc d)) deep = ordered-deep d
 
-    pub six-pool : (N bits : ℕ) → 2 ≤ N → length (order N (links_in F) (c ∷ v ∷ u ∷ r ∷ [])) ≡ 6 → pool N F (c ∷ v ∷ u ∷ r ∷ []) (settings_by bits) ≡ record start_pool { bits = bits }
+    pub six-pool : (N bits : ℕ) → 2 ≤ N → length (order N (links_in F) (c ∷ v ∷ u ∷ r ∷ [])) ≡ 6 → pool N F (c ∷ v ∷ u ∷ r ∷ []) (settings_by bits most) ≡ record start_pool { bits = bits }
     unfolding pool
     six-pool N bits deep full =
         let all : firsts six ≡ six = none-out [] six (ap (λ (ks : List ℕ). length ks) (sym (ordered N deep)) ∙ full) in
@@ -136,7 +136,7 @@ module _ (F : Forms Bytes) where
         (next-row f c (v ∷ u ∷ r ∷ []) _ _ state_row
         (next-row f v (u ∷ r ∷ []) _ _ (ap (option_map (relink f)) at_v)
         (next-row f u (r ∷ []) _ _ (ap (option_map (relink f)) at_u) (next-row f r [] _ [] (ap (option_map (relink f)) at_r) refl))))) in
-        let made : List (Form Bytes) → List ℕ → Pool = λ rs tops. record { bits = bits; version = PRESENT_VERSION; rows = rs; roots = tops } in
+        let made : List (Form Bytes) → List ℕ → Pool = λ rs tops. record { bits = bits; version = PRESENT_VERSION; history = most; rows = rs; roots = tops } in
         ap (λ (ks : List ℕ). made (filter_map (λ k. option_map (relink (place_in ks)) (F k)) ks) (map (place_in ks) (c ∷ v ∷ u ∷ r ∷ []))) listed
         ∙ ap (λ rs. made rs (f c ∷ f v ∷ f u ∷ f r ∷ [])) rows ∙ ap (λ i. made start_pool.rows (i ∷ f v ∷ f u ∷ f r ∷ [])) fc
         ∙ ap (λ i. made start_pool.rows (2 ∷ i ∷ f u ∷ f r ∷ [])) fv ∙ ap (λ i. made start_pool.rows (2 ∷ 3 ∷ i ∷ f r ∷ [])) fu
@@ -239,10 +239,10 @@ new-pool s K six =
     let listed : root_list s.roots ≡ roots =
     ap (λ ks. s.roots.current ∷ s.roots.versions ∷ s.roots.undo ∷ s.roots.redo ∷ ks) (no-base (IsStateIn s.heap s.bits) (base_of s.roots.batch) K.stands.4) in
     let live : (r : ℕ) → 0 < count r roots → IsSome (row_at s.heap r) = λ r root. K.graph.held r (omega (arith, root, roots-held s start K r, ap (count r) listed)) in
-    let same : (shown s).pool ≡ pool N F roots (settings_by s.bits) = texts-are-forms s.heap (root_list s.roots) (settings_by s.bits) ∙ ap (λ rs. pool N F rs (settings_by s.bits)) listed in
+    let same : (shown s).pool ≡ pool N F roots (settings_by s.bits s.history) = texts-are-forms s.heap (root_list s.roots) (settings_by s.bits s.history) ∙ ap (λ rs. pool N F rs (settings_by s.bits s.history)) listed in
     let full : length (order N (links_in F) roots) ≡ 6 =
-    sym (pool-length N F roots (rooted-forms s.heap roots K.graph live) (settings_by s.bits)) ∙ sym (ap row_count same) ∙ rows-are s start K ∙ six in
-    same
+    sym (pool-length N F roots (rooted-forms s.heap roots K.graph live) (settings_by s.bits s.history)) ∙ sym (ap row_count same) ∙ rows-are s start K ∙ six in
+    same ∙ ap (λ n. pool N F roots (settings_by s.bits n)) (sym K.bounded.0)
     ∙ six-pool F state.buffers state.stars s.roots.current s.roots.versions s.roots.undo s.roots.redo state.row (named-row F V s.bits (AreLines F V s.bits) state.buffers state.buffers_are)
     (names-row F V s.bits state.stars state.stars_are) (named-row F V s.bits (IsState F V s.bits) s.roots.versions K.stands.1)
     (vector-row F s.roots.undo K.stands.2.vector.shape (history-length K.stands.2)) (vector-row F s.roots.redo K.stands.3.vector.shape (history-length K.stands.3)) N s.bits

@@ -1,6 +1,6 @@
 -- How an edit in place of the current state ends.
-use Rattle.std.proofs.Common.{◌≡◌, ℕ, ◌+◌, ◌≤◌, List, [], ◌∷◌, ◌++◌, Bool, true, false, cond, Option, Some, None, is_some, Result, Ok, Err, refl, sym, subst, ap, ◌∙◌, arith}
-use Rattle.std.specs.Prelude.{if◌then◌else◌, IsErrAnd, MatchBool, MatchResult, option_map}
+use Rattle.std.proofs.Common.{◌≡◌, ℕ, ◌+◌, ◌≤◌, List, [], ◌∷◌, Bool, true, false, cond, Option, Some, None, is_some, Result, Ok, Err, refl, sym, subst, ap, ◌∙◌, arith}
+use Rattle.std.specs.Prelude.{if◌then◌else◌, IsErrAnd, MatchResult, option_map}
 use Rattle.std.specs.Ordering.{is_eq}
 use Rattle.std.specs.Cmp.Lexicographic.{nat_list_cmp_total}
 use Rattle.std.specs.FinMap as finite
@@ -12,8 +12,8 @@ use Rattle.node_heap.specs.Calls.{Adds, Answered, Extends, KeepsHeld, Makes, Tra
 use Rattle.shell_terms.specs.Edit.{Bytes, PlainEdit}
 use Rattle.shell_terms.specs.Command.{edit}
 use Rattle.plain_space.specs.declared.refusal.Refusal.{Refusal}
-use Rattle.plain_space.specs.declared.refusal.Refusal.TheVariants.{Limit, Memory}
-use Rattle.plain_space.specs.Workspace.{State, Workspace, in_batch, lines_of, with_lines, is_full, with_current}
+use Rattle.plain_space.specs.declared.refusal.Refusal.TheVariants.{Memory}
+use Rattle.plain_space.specs.Workspace.{State, Workspace, in_batch, lines_of, with_lines, undo_with, with_current}
 use Rattle.plain_space.specs.Edited.{edited}
 use Rattle.plain_space.specs.Cost.{alike_buffers, edit_cost, cost}
 use Rattle.state_rows.specs.Reading.{StandsIfThere}
@@ -31,31 +31,30 @@ use Rattle.space_state.proofs.Editing.{does, cost-edit}
 -- ## The current state is kept
 
 abbrev kept_by : Bool → Workspace → Workspace
-kept_by inside W = record W { undo = if inside then W.undo else W.undo ++ W.current ∷ []; redo = if inside then W.redo else [] }
+kept_by inside W = record W { undo = if inside then W.undo else undo_with W W.current; redo = if inside then W.redo else [] }
 
 pub kept-inside : (W : Workspace) → in_batch W ≡ true → current_kept W ≡ W
 kept-inside W inside = ap (λ (b : Bool). kept_by b W) inside
 
-pub kept-outside : (W : Workspace) → in_batch W ≡ false → current_kept W ≡ record W { undo = W.undo ++ W.current ∷ []; redo = [] }
+pub kept-outside : (W : Workspace) → in_batch W ≡ false → current_kept W ≡ record W { undo = undo_with W W.current; redo = [] }
 kept-outside W outside = ap (λ (b : Bool). kept_by b W) outside
 
 -- with another current state then, it is the workspace with that state
 pub then-current : (W : Workspace) (x : State) → record (current_kept W) { current = x } ≡ with_current W x
 then-current W x = by_batch (in_batch W)
   where
-    by_batch : (b : Bool) → record (kept_by b W) { current = x } ≡ (if b then record W { current = x } else record W { current = x; undo = W.undo ++ W.current ∷ []; redo = [] })
+    by_batch : (b : Bool) → record (kept_by b W) { current = x } ≡ (if b then record W { current = x } else record W { current = x; undo = undo_with W W.current; redo = [] })
     by_batch true = refl
     by_batch false = refl
 
 -- memory was refused, which leaves all as it was
-pub ready-refused : {X : Type 0} (P : X → Type 0) {s t : RootedHeap} (W : Workspace) (result : Result X Refusal) → IsErrAnd result (λ why. why ≡ Memory) → is_full W ≡ false → t ≡ s → MatchResult result P (RoomIsRefused s t W)
-ready-refused P W (Ok x) is free same = absurd is
-ready-refused P W (Err why) is free same = record { same = same; due = subst (λ (b : Bool). MatchBool b (why ≡ Limit) (why ≡ Memory)) (sym free) is }
+pub ready-refused : {X : Type 0} (P : X → Type 0) {s t : RootedHeap} (result : Result X Refusal) → IsErrAnd result (λ why. why ≡ Memory) → t ≡ s → MatchResult result P (RoomIsRefused s t)
+ready-refused P (Ok x) is same = absurd is
+ready-refused P (Err why) is same = record { same = same; due = is }
 
 -- ## A row that came is held besides
 
 pub record IsBeside (s t : RootedHeap) (mid : Heap Bytes) (k : ℕ) (W : Workspace) : Type 0 where
-  pub free : is_full W ≡ false
   pub keeps : Keeps (record t { heap = mid }) (k ∷ []) (current_kept W)
   pub bits : t.bits ≡ s.bits
   pub rises : Rises s.heap mid (TURN_NODES + 1)
@@ -63,7 +62,6 @@ pub record IsBeside (s t : RootedHeap) (mid : Heap Bytes) (k : ℕ) (W : Workspa
 
 pub is-beside : {s t : RootedHeap} {mid : Heap Bytes} {k c n m : ℕ} {W : Workspace} → IsReadyInPlace s t W m → Answered t.heap mid [] k c n → c + n ≡ 1 → mid.made ≤ t.heap.made + 1 → live_count t.heap ≤ live_count mid → IsBeside s t mid k W
 is-beside {c = c} {n = n} ready a one made live = record {
-  free = ready.free;
   keeps = keeps-gained ready.turns.keeps a;
   bits = ready.turns.bits;
   rises = rises-more (TURN_NODES + 1) (rises-then (turns-of ready.turns) (rises-answered a)) (omega (arith, one));
@@ -90,7 +88,7 @@ pub placed : {s t : RootedHeap} {mid new : Heap Bytes} {k r c n : ℕ} {W : Work
     → IsCarriedOut (edit change) s (record t { heap = new; roots = record t.roots { current = r } }) W
 placed {s} {t} {new = new} {r = r} {W = W} {x = x} change beside made held trades is less few = record {
   after = with_current W x;
-  told = does W change x made beside.free;
+  told = does W change x made;
   turns =
       turns-by (cost s.bits (edit change) W) (subst (λ (V : Workspace). Keeps (record t { heap = new; roots = record t.roots { current = r } }) [] V) (then-current W x) (keeps-placed r x (_ ∷ []) [] beside.keeps held trades is)) beside.bits
       (rises-more (cost s.bits (edit change) W) (rises-then beside.rises (rises-trades trades)) (omega (arith, less, cost-edit s.bits change W)));

@@ -44,9 +44,9 @@ module _ (s : RootedHeap) (W : Workspace) (K : Keeps s [] W) where
 
   pub rows-fit : (r l : ℕ) → 0 < count r (root_list s.roots) → Reaches (links_at s.heap) r l → fits_pool (form_at s.heap l) ≡ true
   rows-fit r l root down =
-      let P : Pool = pool (length s.heap.rows) (form_at s.heap) (root_list s.roots) (settings_by s.bits) in
+      let P : Pool = pool (length s.heap.rows) (form_at s.heap) (root_list s.roots) (settings_by s.bits s.history) in
       let f : ℕ → ℕ = place_in (order (length s.heap.rows) (links_in (form_at s.heap)) (root_list s.roots)) in
       let below : Reaches (links_in (form_at s.heap)) r l = Reaches-by (links_at s.heap) (links_in (form_at s.heap)) (λ k. links_of-form (row_at s.heap k)) r l down in
-      let passes : rows_in_range P ≡ true = subst (λ (Q : Pool). rows_in_range Q ≡ true) (texts-are-forms s.heap (root_list s.roots) (settings_by s.bits)) (pool-valid s W K).in_range in
+      let passes : rows_in_range P ≡ true = subst (λ (Q : Pool). rows_in_range Q ≡ true) (texts-are-forms s.heap (root_list s.roots) (settings_by s.bits s.history)) (pool-valid s W K).in_range in
       fits-renamed P f (f l) (form_at s.heap l) passes (rooted.there r l root below)
-      (pool-renamed (length s.heap.rows) (form_at s.heap) (root_list s.roots) rooted (settings_by s.bits) r r root (here r) l below)
+      (pool-renamed (length s.heap.rows) (form_at s.heap) (root_list s.roots) rooted (settings_by s.bits s.history) r r root (here r) l below)

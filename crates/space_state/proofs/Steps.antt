@@ -1,19 +1,21 @@
 -- What the plain answer is to steps through histories, to batches, versions and stars, and how refusals end.
 use Rattle.std.proofs.Common.{◌≡◌, refl, sym, ◌∙◌, ap, subst, ℕ, zero, suc, ◌+◌, ◌-◌, ◌<◌, ◌≤◌, List, [], ◌∷◌, ◌++◌, length, take, arith, Bool, true, false, Option, Some, None, is_some, IsSome, Result, Ok, Err, slice_get, leb, IsTrue, IsOk, MatchOption}
-use Rattle.std.specs.Prelude.{◌↔◌, IsErrAnd, IsSomeAnd, MatchBool, MatchResult}
+use Rattle.std.specs.Prelude.{◌↔◌, IsErrAnd, IsSomeAnd, MatchResult}
 use Rattle.std.proofs.lemmas.Bool.{le-leb}
+use Rattle.std.proofs.lemmas.List.{length-take}
 use Rattle.std.specs.FinMap as map
 use Rattle.node_heap.specs.Links.{count}
 use Rattle.node_heap.specs.Heap.{Heap, holds_at, hold_count, one_at, HasSpares, IsGraph}
 use Rattle.node_heap.specs.Calls.{Answered, Extends, KeepsHeld, Makes, SameRows, Trades, Unchanged}
 use Rattle.rrb_core.specs.Vector.{elements}
 use Rattle.shell_terms.specs.Edit.{Bytes, star, unstar}
-use Rattle.shell_terms.specs.Command.{PlainCommand, edit, mark, unmark, back, undo, redo, begin, «end», abort}
+use Rattle.shell_terms.specs.Command.{PlainCommand, edit, mark, unmark, back, undo, redo, begin, «end», abort, history}
 use Rattle.plain_space.specs.declared.refusal.Refusal.{Refusal}
 use Rattle.plain_space.specs.declared.refusal.Refusal.TheVariants.{Absent, Exists, Range, Limit, Batch, Empty, Memory}
-use Rattle.plain_space.specs.Workspace.{State, Workspace, most, in_batch, is_full, is_starred, version_of, with_current}
+use Rattle.plain_space.specs.Workspace.{State, Workspace, most, in_batch, is_starred, last_of, undo_with, version_of, with_current}
+use Rattle.plain_space.specs.Refusing.{outside_batch, on_last, room}
 use Rattle.plain_space.specs.Edited.{edited}
-use Rattle.plain_space.specs.Answer.{answer, done, history_step, steps_to}
+use Rattle.plain_space.specs.Answer.{Answer, answer, done}
 use Rattle.plain_space.specs.Memory.{wants_memory, MayLackMemory}
 use Rattle.state_rows.specs.Reading.{StandsIfThere}
 use Rattle.state_rows.specs.InHeap.{IsStateIn, IsHistoryIn}
@@ -22,10 +24,10 @@ use Rattle.space_state.specs.declared.roots.RootedHeap.{RootedHeap}
 use Rattle.space_state.specs.declared.roots.Roots.{Roots}
 use Rattle.space_state.specs.declared.roots.Batch.{Batch as Batches}
 use Rattle.space_state.specs.declared.roots.Batch.TheVariants.{Closed, Open}
-use Rattle.space_state.specs.declared.turning.TheConstants.{EDIT_NODES}
-use Rattle.space_state.specs.Roots.{base_of, Keeps}
+use Rattle.space_state.specs.declared.turning.TheConstants.{EDIT_NODES, TURN_NODES}
+use Rattle.space_state.specs.Roots.{base_of, IsBounded, Keeps}
 use Rattle.space_state.specs.Turns.{IsDueBy, IsDue, RoomIsMade, RoomIsRefused, TurnsTo, IsCarriedOut, IsRefused}
-use Rattle.space_state.specs.Stepping.{HasStepRoom, IsStepRefused}
+use Rattle.space_state.specs.Stepping.{HasNoStep}
 use Rattle.state_rows.proofs.Staying.{states-stay}
 use Rattle.space_state.proofs.Keeping.{history-length, history-short, current-stands, same-heap, keeps-same, keeps-gained, keeps-current, keeps-undo, keeps-redo, answered-one, unchanged-stands, Rises, rises-answered, rises-more, rises-same, rises-then, turns-by}
 
@@ -64,13 +66,17 @@ module _ (W : Workspace) where
   unfolding answer
   end-refused closed = rw closed refl
 
-  pub end-limited : (base : State) → W.base ≡ Some base → length W.undo ≡ most → answer W «end» ≡ Err Limit
+  pub end-done : (base : State) → W.base ≡ Some base → answer W «end» ≡ done (record W { undo = undo_with W base; redo = []; base = None })
   unfolding answer
-  end-limited base opened full = rw (opened, full) refl
+  end-done base opened = rw opened refl
 
-  pub end-done : (base : State) → W.base ≡ Some base → length W.undo < most → answer W «end» ≡ done (record W { undo = W.undo ++ base ∷ []; redo = []; base = None })
+  pub history-refused : (count : ℕ) → in_batch W ≡ true → answer W (history count) ≡ Err Batch
   unfolding answer
-  end-done base opened room = rw (opened, fits-one (length W.undo) room) refl
+  history-refused count opened = rw opened refl
+
+  pub history-done : (count : ℕ) → in_batch W ≡ false → answer W (history count) ≡ done (record W { undo = last_of count W.undo; history = count })
+  unfolding answer
+  history-done count outside = rw outside refl
 
   module _ (name : Bytes) where
     pub mark-refused : in_batch W ≡ true → answer W (mark name) ≡ Err Batch
@@ -105,13 +111,9 @@ module _ (W : Workspace) where
     unfolding answer
     back-absent outside none = rw (outside, none) refl
 
-    pub back-limited : in_batch W ≡ false → (x : State) → version_of W name ≡ Some x → is_full W ≡ true → answer W (back name) ≡ Err Limit
+    pub back-done : in_batch W ≡ false → (x : State) → version_of W name ≡ Some x → answer W (back name) ≡ done (with_current W x)
     unfolding answer
-    back-limited outside x there full = rw (there, full, outside) refl
-
-    pub back-done : in_batch W ≡ false → (x : State) → version_of W name ≡ Some x → is_full W ≡ false → answer W (back name) ≡ done (with_current W x)
-    unfolding answer
-    back-done outside x there room = rw (there, room, outside) refl
+    back-done outside x there = rw (there, outside) refl
 
     pub star-taken : is_starred W.current name ≡ true → answer W (edit (star name)) ≡ Err Exists
     unfolding answer edited
@@ -123,62 +125,58 @@ module _ (W : Workspace) where
 
 -- ## A step through the histories, and the answers to undo and redo
 
-module _ (W : Workspace) (from to : List State) where
-  pub step-refused : in_batch W ≡ true → history_step W from to ≡ Err Batch
+module _ (W : Workspace) (from : List State) (next : State → List State → Answer) where
+  pub step-refused : in_batch W ≡ true → outside_batch W (on_last from next) ≡ Err Batch
   step-refused opened = rw opened refl
 
-  pub step-empty : in_batch W ≡ false → slice_get from (length from - 1) ≡ None → history_step W from to ≡ Err Empty
+  pub step-empty : in_batch W ≡ false → slice_get from (length from - 1) ≡ None → outside_batch W (on_last from next) ≡ Err Empty
   step-empty outside none = rw (outside, none) refl
 
-  pub step-limited : in_batch W ≡ false → (last : State) → slice_get from (length from - 1) ≡ Some last → length to ≡ most → history_step W from to ≡ Err Limit
-  step-limited outside last there full = rw (outside, there, full) refl
-
-  pub step-done : in_batch W ≡ false → (last : State) → slice_get from (length from - 1) ≡ Some last → length to < most
-      → history_step W from to ≡ Ok (last, take (length from - 1) from, to ++ W.current ∷ [])
-  step-done outside last there room = rw (outside, there, fits-one (length to) room) refl
-
-  module _ (after : State → List State → List State → Workspace) where
-    steps-ok : (plain : Result (State × List State × List State) Refusal) → IsOk plain → IsOk (steps_to after plain)
-    steps-ok (Ok made) ok = refl
-    steps-ok (Err why) ok = absurd (let h = ok in cc)
-
-    -- what refuses the step is due to the command
-    step-due : (command : PlainCommand) → IsTrue (wants_memory command) → answer W command ≡ steps_to after (history_step W from to) → (why : Refusal)
-        → IsDueBy (history_step W from to) (IsOk (history_step W from to)) why → IsDue W command why
-    step-due command wants is Memory may = record { wants = wants; granted = subst IsOk (sym is) (steps-ok (history_step W from to) may) }
-    step-due command wants is Absent due = is ∙ ap (steps_to after) due
-    step-due command wants is Exists due = is ∙ ap (steps_to after) due
-    step-due command wants is Range due = is ∙ ap (steps_to after) due
-    step-due command wants is Limit due = is ∙ ap (steps_to after) due
-    step-due command wants is Batch due = is ∙ ap (steps_to after) due
-    step-due command wants is Empty due = is ∙ ap (steps_to after) due
-
 module _ (W : Workspace) where
-  abbrev after_undo : State → List State → List State → Workspace
-  after_undo state before longer = record W { current = state; undo = before; redo = longer }
+  abbrev after_undo : State → List State → Answer
+  after_undo last before = room (length W.redo + 1) (done (record W { current = last; undo = before; redo = W.redo ++ W.current ∷ [] }))
 
-  abbrev after_redo : State → List State → List State → Workspace
-  after_redo state before longer = record W { current = state; undo = longer; redo = before }
+  abbrev after_redo : State → List State → Answer
+  after_redo last before = done (record W { current = last; undo = undo_with W W.current; redo = before })
 
-  undo-steps : answer W undo ≡ steps_to after_undo (history_step W W.undo W.redo)
+  undo-steps : answer W undo ≡ outside_batch W (on_last W.undo after_undo)
   unfolding answer
   undo-steps = refl
 
-  redo-steps : answer W redo ≡ steps_to after_redo (history_step W W.redo W.undo)
+  redo-steps : answer W redo ≡ outside_batch W (on_last W.redo after_redo)
   unfolding answer
   redo-steps = refl
 
-  pub undo-done : (state : State) (before longer : List State) → history_step W W.undo W.redo ≡ Ok (state, before, longer) → answer W undo ≡ done (record W { current = state; undo = before; redo = longer })
-  undo-done state before longer told = undo-steps ∙ ap (steps_to after_undo) told
+  -- what refuses the step is due to the command
+  step-due : (command : PlainCommand) (plain : Answer) → answer W command ≡ plain → (why : Refusal) → IsDueBy plain ⊥ why → IsDue W command why
+  step-due command plain is Memory due = absurd due
+  step-due command plain is Absent due = is ∙ due
+  step-due command plain is Exists due = is ∙ due
+  step-due command plain is Range due = is ∙ due
+  step-due command plain is Limit due = is ∙ due
+  step-due command plain is Batch due = is ∙ due
+  step-due command plain is Empty due = is ∙ due
 
-  pub redo-done : (state : State) (before longer : List State) → history_step W W.redo W.undo ≡ Ok (state, before, longer) → answer W redo ≡ done (record W { current = state; undo = longer; redo = before })
-  redo-done state before longer told = redo-steps ∙ ap (steps_to after_redo) told
+  pub undo-due : (why : Refusal) → HasNoStep W.undo W why → IsDue W undo why
+  undo-due why due = step-due undo (outside_batch W (on_last W.undo after_undo)) undo-steps why (due after_undo)
 
-  pub undo-due : (why : Refusal) → IsDueBy (history_step W W.undo W.redo) (IsOk (history_step W W.undo W.redo)) why → IsDue W undo why
-  undo-due why due = step-due W W.undo W.redo after_undo undo refl undo-steps why due
+  pub redo-due : (why : Refusal) → HasNoStep W.redo W why → IsDue W redo why
+  redo-due why due = step-due redo (outside_batch W (on_last W.redo after_redo)) redo-steps why (due after_redo)
 
-  pub redo-due : (why : Refusal) → IsDueBy (history_step W W.redo W.undo) (IsOk (history_step W W.redo W.undo)) why → IsDue W redo why
-  redo-due why due = step-due W W.redo W.undo after_redo redo refl redo-steps why due
+  pub undo-limited : in_batch W ≡ false → (last : State) → slice_get W.undo (length W.undo - 1) ≡ Some last → length W.redo ≡ most → answer W undo ≡ Err Limit
+  undo-limited outside last there full = undo-steps ∙ (rw (outside, there, full) refl)
+
+  pub undo-done : in_batch W ≡ false → (last : State) → slice_get W.undo (length W.undo - 1) ≡ Some last → length W.redo < most
+      → answer W undo ≡ done (record W { current = last; undo = take (length W.undo - 1) W.undo; redo = W.redo ++ W.current ∷ [] })
+  undo-done outside last there less = undo-steps ∙ (rw (outside, there, fits-one (length W.redo) less) refl)
+
+  pub redo-done : in_batch W ≡ false → (last : State) → slice_get W.redo (length W.redo - 1) ≡ Some last
+      → answer W redo ≡ done (record W { current = last; undo = undo_with W W.current; redo = take (length W.redo - 1) W.redo })
+  redo-done outside last there = redo-steps ∙ (rw (outside, there) refl)
+
+-- what refuses a step isn't want of memory
+pub step-wants-none : (from : List State) (W : Workspace) {why : Refusal} → HasNoStep from W why → why ≡ Memory → ⊥
+step-wants-none from W {why} due is = subst (λ (r : Refusal). HasNoStep from W r) is due (λ last before. Err Batch)
 
 -- ## Want of memory
 
@@ -191,17 +189,11 @@ pub memory-refused : {W : Workspace} {command : PlainCommand} {old new : RootedH
 memory-refused {W} {command} {old} {new} (Err why) is lack same = subst (λ why. IsRefused command old new W why) (sym is) (record { due = lack; same = same })
 memory-refused (Ok x) is lack same = absurd is
 
--- so may room for an edit, where undo is not full
-pub room-lacks-memory : (W : Workspace) {old new : RootedHeap} (nodes : ℕ) (result : Result (Unit {0}) Refusal) → IsErrAnd result (λ why. why ≡ Memory) → is_full W ≡ false → new ≡ old
-    → MatchResult result (λ _. RoomIsMade old new W nodes) (RoomIsRefused old new W)
-room-lacks-memory W nodes (Err why) is free same = record { same = same; due = subst (λ t. MatchBool t (why ≡ Limit) (why ≡ Memory)) (sym free) is }
-room-lacks-memory W nodes (Ok x) is free same = absurd is
-
--- so may a step through the histories where it would be made
-pub step-lacks-memory : (W : Workspace) (from to : List State) {s t : RootedHeap} {made : State × List State × List State} (result : Result (Unit {0}) Refusal) → IsErrAnd result (λ why. why ≡ Memory) → history_step W from to ≡ Ok made
-    → t ≡ s → MatchResult result (λ _. HasStepRoom from to s t W) (IsStepRefused from to s t W)
-step-lacks-memory W from to {s} {t} (Err why) is told same = subst (λ why. IsStepRefused from to s t W why) (sym is) (record { due = subst IsOk (sym told) refl; same = same })
-step-lacks-memory W from to (Ok made) is told same = absurd is
+-- so may room for an edit
+pub room-lacks-memory : {old new : RootedHeap} (nodes : ℕ) (result : Result (Unit {0}) Refusal) → IsErrAnd result (λ why. why ≡ Memory) → new ≡ old
+    → MatchResult result (λ _. RoomIsMade old new nodes) (RoomIsRefused old new)
+room-lacks-memory nodes (Err why) is same = record { same = same; due = is }
+room-lacks-memory nodes (Ok x) is same = absurd is
 
 -- ## The batch
 
@@ -323,7 +315,8 @@ module _ {s : RootedHeap} {new : Heap Bytes} {l state c n : ℕ} {W : Workspace}
       → IsSomeAnd (slice_get W.undo (length W.undo - 1)) (IsStateIn new s.bits state) → IsMoved s new (record s.roots { undo = l }) state W.undo (record W { undo = take (length W.undo - 1) W.undo })
   moved-undo held trades left last =
       let there = last-is (slice_get W.undo (length W.undo - 1)) last in
-      let popped = keeps-undo l (take (length W.undo - 1) W.undo) [] (state ∷ []) K held trades left in
+      let bounded : IsBounded s.history (record W { undo = take (length W.undo - 1) W.undo }) = (K.bounded.0, K.bounded.1, omega (arith, length-take (length W.undo - 1) W.undo, K.bounded.2)) in
+      let popped = keeps-undo l (take (length W.undo - 1) W.undo) [] (state ∷ []) bounded K held trades left in
       record { x = there.0; last = there.1; keeps = keeps-current state there.0 popped there.2; before = current-stands popped }
 
   pub moved-redo : KeepsHeld (λ k. count k (s.roots.redo ∷ [])) s.heap new → Trades s.heap new (s.roots.redo ∷ []) (l ∷ state ∷ []) c n → IsHistoryIn new s.bits l (take (length W.redo - 1) W.redo)
@@ -346,14 +339,12 @@ spares-suffice h c k n m spares cells nodes same = (omega (arith, spares.0, cell
 pub record HasNext (s t : RootedHeap) (next : ℕ) (x : State) (W : Workspace) (n : ℕ) : Type 0 where
   pub turns : TurnsTo s t (next ∷ []) (53 + n) W
   pub is : IsStateIn t.heap t.bits next x
-  pub spares : HasSpares t.heap 0 11
-  pub free : is_full W ≡ false
+  pub spares : HasSpares t.heap 0 TURN_NODES
 
-pub has-next : {s t : RootedHeap} {new : Heap Bytes} {next c : ℕ} {x : State} {W : Workspace} (k n m : ℕ) → Keeps s [] W → RoomIsMade s t W (EDIT_NODES + n) → Answered t.heap new [] next c (k + m) → IsStateIn new t.bits next x
+pub has-next : {s t : RootedHeap} {new : Heap Bytes} {next c : ℕ} {x : State} {W : Workspace} (k n m : ℕ) → Keeps s [] W → RoomIsMade s t (EDIT_NODES + n) → Answered t.heap new [] next c (k + m) → IsStateIn new t.bits next x
     → c + k ≤ 53 → m ≡ n → HasNext s (record t { heap = new }) next x W n
 has-next k n m K room answered is few alike = record {
   turns = turns-by (53 + n) (keeps-gained (keeps-same room.same K) answered) room.same.bits (rises-more (53 + n) (rises-then (rises-same room.same.heap) (rises-answered answered)) (omega (arith, few, alike)));
   is = is;
   spares = (omega arith, omega (arith, room.spares.1, answered.balance.spare_nodes, answered.nodes, few, alike));
-  free = room.free;
 }

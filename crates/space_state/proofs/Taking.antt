@@ -1,12 +1,12 @@
 -- How a checked pool takes the place of all rows.
-use Rattle.std.proofs.Common.{◌≡◌, ℕ, Bool, true, false, List, [], ◌∷◌, get_or, length, Result, Ok, Err, sym, ap, subst, ◌∙◌, arith, length-append}
+use Rattle.std.proofs.Common.{◌≡◌, ℕ, Bool, true, false, List, [], ◌∷◌, get_or, length, Result, Ok, Err, refl, sym, ap, subst, ◌∙◌, arith, length-append}
 use Rattle.std.specs.Prelude.{IsErrAnd, MatchBool, MatchResult}
 use Rattle.node_heap.specs.Links.{count}
 use Rattle.node_heap.specs.Heap.{Heap, IsGraph}
 use Rattle.node_heap.specs.Calls.{Releases}
 use Rattle.node_heap.proofs.Frames.{KeepsHeld-Releases}
 use Rattle.node_heap.proofs.BuildLemmas.{count-cons, count-append}
-use Rattle.pool_text.specs.Pool.{settings_by, pool_at}
+use Rattle.pool_text.specs.Pool.{Settings, settings_by, settings_of, pool_at, today, pool}
 use Rattle.pool_text.specs.declared.pool.Pool.{Pool}
 use Rattle.pool_text.proofs.Held.{pools-stay}
 use Rattle.pool_load.specs.Loads.{Loads, AreLoaded}
@@ -56,31 +56,41 @@ module _ (W : Workspace) (Done AsBefore : Type 0) where
 
 -- where a hold is given up besides, the roots have the same pool
 pub pool-released : {s : RootedHeap} {b : List ℕ} {W : Workspace} {new : Heap Bytes} {l : ℕ} → Keeps s (l ∷ b) W → Releases s.heap new l → IsGraph new
-    → pool_at (λ text. text) new (root_list s.roots) (settings_by s.bits) ≡ pool_at (λ text. text) s.heap (root_list s.roots) (settings_by s.bits)
+    → pool_at (λ text. text) new (root_list s.roots) (settings_by s.bits s.history) ≡ pool_at (λ text. text) s.heap (root_list s.roots) (settings_by s.bits s.history)
 pool-released {s} {b} {W} {new} {l} K rel graph =
-    pools-stay (λ text. text) s.heap new (root_list s.roots) (settings_by s.bits) K.graph graph (λ r root. held-live K r (root-held K r root))
+    pools-stay (λ text. text) s.heap new (root_list s.roots) (settings_by s.bits s.history) K.graph graph (λ r root. held-live K r (root-held K r root))
     (λ r root. (KeepsHeld-Releases s.heap new l rel graph).kept r (omega (arith, keeps-holds K r, count-cons r l b, root)))
 
-module _ (s : RootedHeap) (W : Workspace) (K : Keeps s [] W) (h : Heap Bytes) (P : Pool) (roots : Roots) (links : List ℕ) (loads : Loads s.heap h links P) (same : links ≡ root_list roots) (bits : P.bits ≡ s.bits)
-    (all : AreLoaded (λ text. text) h links P) where
-  abbrev pub loaded : RootedHeap
-  loaded = record s { heap = h; roots = roots }
+-- by the version of the pools that are made a pool is the same but for that
+pool-today : (h : Heap Bytes) (links : List ℕ) (settings : Settings) → pool_at (λ text. text) h links (settings_by settings.bits settings.history) ≡ today (pool_at (λ text. text) h links settings)
+unfolding pool
+pool-today h links settings = refl
 
-  pub pool-loaded : pool_at (λ text. text) h (root_list roots) (settings_by s.bits) ≡ P
+module _ (s : RootedHeap) (W : Workspace) (K : Keeps s [] W) (h : Heap Bytes) (P : Pool) (roots : Roots) (history : ℕ) (links : List ℕ) (loads : Loads s.heap h links P) (same : links ≡ root_list roots)
+    (bits : P.bits ≡ s.bits) (bound : history ≡ P.history) (all : AreLoaded (λ text. text) h links P) where
+  abbrev pub loaded : RootedHeap
+  loaded = record s { heap = h; roots = roots; history = history }
+
+  pub pool-loaded : pool_at (λ text. text) h (root_list roots) (settings_by s.bits history) ≡ today P
   pool-loaded =
-      sym (ap (λ (ks : List ℕ). pool_at (λ text. text) h ks (settings_by s.bits)) same)
-      ∙ sym (ap (λ b. pool_at (λ text. text) h links (settings_by b)) bits)
-      ∙ sym (ap (λ v. pool_at (λ text. text) h links (record { bits = P.bits; version = v })) all.checked.version) ∙ all.pool
+      sym (ap (λ (ks : List ℕ). pool_at (λ text. text) h ks (settings_by s.bits history)) same)
+      ∙ sym (ap (λ b. pool_at (λ text. text) h links (settings_by b history)) bits)
+      ∙ ap (λ n. pool_at (λ text. text) h links (settings_by P.bits n)) bound
+      ∙ pool-today h links (settings_of P) ∙ ap today all.pool
 
   -- the new roots stand for what the pool stands for, and the old roots are held besides
   pub keeps-loaded : (after : Workspace) × Keeps loaded (root_list s.roots) after
   keeps-loaded =
       let stands = valid-stands P all.checked.valid in
-      let there : StandsFor (pool_at (λ text. text) h (root_list roots) (settings_by s.bits)) stands.0 = subst (λ (Q : Pool). StandsFor Q stands.0) (sym pool-loaded) stands.1 in (
+      let same_bound : stands.0.history ≡ history = stands.1.1 ∙ sym bound in
+      let made : StandsFor (pool_at (λ text. text) h (root_list roots) (settings_by s.bits history)) stands.0 = subst (λ (Q : Pool). StandsFor Q stands.0) (sym pool-loaded) stands.1 in
+      let there : StandsFor (pool_at (λ text. text) h (root_list roots) (settings_by s.bits stands.0.history)) stands.0 =
+      subst (λ (n : ℕ). StandsFor (pool_at (λ text. text) h (root_list roots) (settings_by s.bits n)) stands.0) (sym same_bound) made in (
         stands.0,
         record {
           graph = loads.graph;
           bits = K.bits;
+          bounded = (same_bound, omega (arith, stands.1.1, all.checked.history.within), stands.2);
           stands = roots-stand h s.bits (root_list roots) stands.0 loads.graph (λ r root. all.live r (omega (arith, ap (count r) same, root))) (λ r l root down. all.sums r l (omega (arith, ap (count r) same, root)) down) there;
           holds = λ k. omega (arith, loads.holds k, K.holds k, count-append k (root_list s.roots) [], count-append k (root_list roots) (root_list s.roots), ap (count k) same);
           total = omega (arith, loads.count, K.total, length-append (root_list s.roots) [], length-append (root_list roots) (root_list s.roots), ap (λ (ks : List ℕ). length ks) same);

@@ -3,7 +3,7 @@ use Rattle.std.specs.Prelude.{ℕ, ◌+◌, ◌*◌, ◌/◌, [], length, Result
 use Rattle.elem_core.specs.declared.codes.TheConstants.{DEEPEST}
 use Rattle.node_heap.specs.Calls.{KeepsToNeed}
 use Rattle.shell_terms.specs.Edit.{PlainEdit, new, add, set, put, del, cat, cut, copy, drop, star, unstar, fill}
-use Rattle.shell_terms.specs.Command.{PlainCommand, edit, mark, unmark, back, undo, redo, «end»}
+use Rattle.shell_terms.specs.Command.{PlainCommand, edit, mark, unmark, back, undo, redo, «end», history}
 use Rattle.plain_space.specs.declared.refusal.Refusal.{Refusal}
 use Rattle.plain_space.specs.Workspace.{State, Workspace}
 use Rattle.plain_space.specs.Cost.{alike_buffers, alike_stars, alike_versions}
@@ -21,18 +21,18 @@ edit_cells _ = 2
 -- its nodes: a number for its kind, one for each name that is alike in what is written, and those of a vector of the lines that come
 -- from outside
 abbrev pub edit_nodes : ℕ → PlainEdit → State → ℕ
-edit_nodes bits (new name) now = DEEPEST + 23 + alike_buffers bits now name
-edit_nodes bits (add name text) now = DEEPEST + 23 + alike_buffers bits now name
-edit_nodes bits (set name index text) now = DEEPEST + 23 + alike_buffers bits now name
-edit_nodes bits (put name index text) now = 2 * DEEPEST + 87 + alike_buffers bits now name
-edit_nodes bits (del name from to) now = 2 * DEEPEST + 87 + alike_buffers bits now name
-edit_nodes bits (cat name other) now = 2 * DEEPEST + 87 + alike_buffers bits now name
-edit_nodes bits (cut name from to other) now = 2 * DEEPEST + 87 + (alike_buffers bits now name + alike_buffers bits now other)
-edit_nodes bits (copy name other) now = 2 * DEEPEST + 87 + alike_buffers bits now other
-edit_nodes bits (drop name) now = 2 * DEEPEST + 87 + alike_buffers bits now name
-edit_nodes bits (star name) now = 2 * DEEPEST + 87 + alike_stars bits now name
-edit_nodes bits (unstar name) now = 2 * DEEPEST + 87 + alike_stars bits now name
-edit_nodes bits (fill name lines) now = 2 * DEEPEST + 95 + length lines / 16 + alike_buffers bits now name
+edit_nodes bits (new name) now = DEEPEST + 40 + alike_buffers bits now name
+edit_nodes bits (add name text) now = DEEPEST + 40 + alike_buffers bits now name
+edit_nodes bits (set name index text) now = DEEPEST + 40 + alike_buffers bits now name
+edit_nodes bits (put name index text) now = 2 * DEEPEST + 104 + alike_buffers bits now name
+edit_nodes bits (del name from to) now = 2 * DEEPEST + 104 + alike_buffers bits now name
+edit_nodes bits (cat name other) now = 2 * DEEPEST + 104 + alike_buffers bits now name
+edit_nodes bits (cut name from to other) now = 2 * DEEPEST + 104 + (alike_buffers bits now name + alike_buffers bits now other)
+edit_nodes bits (copy name other) now = 2 * DEEPEST + 104 + alike_buffers bits now other
+edit_nodes bits (drop name) now = 2 * DEEPEST + 104 + alike_buffers bits now name
+edit_nodes bits (star name) now = 2 * DEEPEST + 104 + alike_stars bits now name
+edit_nodes bits (unstar name) now = 2 * DEEPEST + 104 + alike_stars bits now name
+edit_nodes bits (fill name lines) now = 2 * DEEPEST + 112 + length lines / 16 + alike_buffers bits now name
 
 -- the same of every command
 abbrev pub cells_needed : PlainCommand → ℕ
@@ -43,12 +43,13 @@ cells_needed _ = 0
 
 abbrev pub nodes_needed : ℕ → PlainCommand → Workspace → ℕ
 nodes_needed bits (edit change) work = edit_nodes bits change work.current
-nodes_needed bits (mark version) work = 2 * DEEPEST + 87 + alike_versions bits work version
-nodes_needed bits (unmark version) work = 2 * DEEPEST + 87 + alike_versions bits work version
-nodes_needed bits (back version) work = 11
+nodes_needed bits (mark version) work = 2 * DEEPEST + 104 + alike_versions bits work version
+nodes_needed bits (unmark version) work = 2 * DEEPEST + 104 + alike_versions bits work version
+nodes_needed bits (back version) work = 28
 nodes_needed bits undo work = 19
-nodes_needed bits redo work = 19
-nodes_needed bits end work = 11
+nodes_needed bits redo work = 36
+nodes_needed bits end work = 28
+nodes_needed bits (history count) work = 17
 nodes_needed bits _ work = 0
 
 -- on Ok a command hoards no room: the rows and the spares of each kind are together no more than the old rows and the old spares, or

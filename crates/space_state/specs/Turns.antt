@@ -1,5 +1,5 @@
 -- How a call on rooted rows ends.
-use Rattle.std.specs.Prelude.{◌≡◌, ℕ, ◌+◌, ◌-◌, ◌^◌, ◌<◌, ◌≤◌, List, [], length, false, min, Result, Err, true, MatchBool, MatchResult}
+use Rattle.std.specs.Prelude.{◌≡◌, ℕ, ◌+◌, ◌-◌, ◌^◌, ◌<◌, ◌≤◌, List, [], length, min, Result, Err, true, MatchResult}
 use Rattle.node_heap.specs.Links.{count}
 use Rattle.node_heap.specs.Heap.{Heap, live_count, HasSpares}
 use Rattle.node_heap.specs.Calls.{KeepsBelow, Unchanged}
@@ -7,7 +7,7 @@ use Rattle.shell_terms.specs.Edit.{PlainEdit, del, cat, drop, unstar, fill}
 use Rattle.shell_terms.specs.Command.{PlainCommand}
 use Rattle.plain_space.specs.declared.refusal.Refusal.{Refusal}
 use Rattle.plain_space.specs.declared.refusal.Refusal.TheVariants.{Absent, Exists, Range, Limit, Batch, Empty, Memory}
-use Rattle.plain_space.specs.Workspace.{Workspace, most, in_batch, is_full}
+use Rattle.plain_space.specs.Workspace.{Workspace, most, in_batch}
 use Rattle.plain_space.specs.Answer.{answer, done}
 use Rattle.plain_space.specs.Cost.{alike_buffers, alike_stars, cost}
 use Rattle.plain_space.specs.Memory.{MayLackMemory}
@@ -42,25 +42,23 @@ RowsRise old new = MadeRises (live_count old) old.made (live_count new) new.made
 pub record IsSame (old new : RootedHeap) : Type 0 where
   pub roots : new.roots ≡ old.roots
   pub bits : new.bits ≡ old.bits
+  pub history : new.history ≡ old.history
   pub heap : Unchanged old.heap new.heap
 
--- room was made for an edit: there are spares for two cells and so many nodes, undo can take a state or a batch is open, and
--- nothing else has changed
-pub record RoomIsMade (old new : RootedHeap) (W : Workspace) (nodes : ℕ) : Type 0 where
+-- room was made for an edit: there are spares for two cells and so many nodes, and nothing else has changed
+pub record RoomIsMade (old new : RootedHeap) (nodes : ℕ) : Type 0 where
   pub same : IsSame old new
-  pub free : is_full W ≡ false
   pub spares : HasSpares new.heap 2 nodes
 
--- room for an edit was refused, and nothing has changed: with Limit exactly where undo is full and no batch is open, and else with
--- Memory alone
-pub record RoomIsRefused (old new : RootedHeap) (W : Workspace) (why : Refusal) : Type 0 where
+-- room for an edit was refused, with Memory alone, and nothing has changed
+pub record RoomIsRefused (old new : RootedHeap) (why : Refusal) : Type 0 where
   pub same : new ≡ old
-  pub due : MatchBool (is_full W) (why ≡ Limit) (why ≡ Memory)
+  pub due : why ≡ Memory
 
 -- how a call ends that makes room for an edit, which makes so many nodes at most
 abbrev pub MakesRoom : {X : Type 0} → (Workspace → ℕ) → RootedHeap → Result X Refusal → RootedHeap → Type 0
 MakesRoom nodes old result new =
-    (W : Workspace) → Keeps old [] W → MatchResult result (λ _. RoomIsMade old new W (nodes W)) (RoomIsRefused old new W)
+    (W : Workspace) → Keeps old [] W → MatchResult result (λ _. RoomIsMade old new (nodes W)) (RoomIsRefused old new)
 
 -- the heap has the spares that an edit asks for which copies no text, and to which memory isn't refused then; an edit that copies a
 -- text never has enough
@@ -93,7 +91,6 @@ pub record TurnsBeside (old new : RootedHeap) (besides : List ℕ) (cells nodes 
 -- ready for an edit in place: there are spares for a cell and so many nodes; outside a batch the current state is the last of undo
 -- too, and redo is empty, and in a batch the number made rises by no more than the rows gain
 pub record IsReadyInPlace (old new : RootedHeap) (W : Workspace) (nodes : ℕ) : Type 0 where
-  pub free : is_full W ≡ false
   pub turns : TurnsTo old new [] TURN_NODES (current_kept W)
   pub few : in_batch W ≡ true → MakesAtMost old.heap new.heap 0
   pub spares : HasSpares new.heap 1 nodes

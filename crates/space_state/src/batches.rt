@@ -11,7 +11,6 @@ ghost use Rattle.space_state.specs.View.{room_of};
 use crate::roots::{Batch, RootedHeap};
 use crate::turning::TURN_NODES;
 use plain_space::Refusal;
-use rrb_core::FlexRef;
 
 impl RootedHeap {
     /// Opens a batch, whose base is the current state.
@@ -30,7 +29,7 @@ impl RootedHeap {
         Ok(())
     }
 
-    /// Closes the batch. Its base goes to the end of undo, and redo is emptied.
+    /// Closes the batch. Its base goes to the end of undo, which keeps as many states as its bound says, and redo is emptied.
     pub(crate) fn end(&mut self) -> Result<(), Refusal>
         requires { (W : Workspace) × Keeps self.old [] W }
         ensures ends { EndsOnRows «end» self.old result self.new }
@@ -40,9 +39,6 @@ impl RootedHeap {
         let Some(base) = self.roots.batch.base() else {
             return Err(Refusal::Batch);
         };
-        if FlexRef::at(self.roots.undo).is_longest(&self.heap) {
-            return Err(Refusal::Limit);
-        }
         self.heap.reserve(0, TURN_NODES)?;
         self.roots.batch = Batch::Closed;
         self.record(base);

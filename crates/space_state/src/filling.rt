@@ -34,9 +34,6 @@ impl RootedHeap {
         ensures ends { EndsOnRows (edit (fill (name_bytes name.entry) lines)) self.old result self.new }
         ensures spares { HoardsNone (edit (fill (name_bytes name.entry) lines)) self.old result self.new }
     {
-        if self.is_full() {
-            return Err(Refusal::Limit);
-        }
         let texts = lines.into_vec();
         let count = texts.len();
         let mut links = links_for(self.alloc, count)?;

@@ -1,24 +1,34 @@
 //! Undo and redo, which are edited in place: what nothing else holds of their rows is written, and only what a loaded document
-//! shares is copied.
+//! shares is copied. Undo keeps as many states as its bound says: where one more comes, the oldest goes first, by a cut that shares
+//! all rows but those along it.
 ghost use Rattle.std.specs.Prelude.{◌≡◌, ◌≢◌, ℕ, ◌+◌, ◌<◌, ◌≤◌, List, [], ◌∷◌, ◌++◌, length, Err, IfOk, MatchResult};
 ghost use Rattle.node_heap.specs.Heap.{HasSpares};
 ghost use Rattle.node_heap.specs.Calls.{KeepsToNeed};
-ghost use Rattle.shell_terms.specs.Command.{undo, redo};
-ghost use Rattle.plain_space.specs.Workspace.{State, Workspace, most};
+ghost use Rattle.shell_terms.specs.Command.{undo, redo, history};
+ghost use Rattle.plain_space.specs.Workspace.{State, Workspace, most, last_of, undo_with};
 ghost use Rattle.state_rows.specs.InHeap.{IsStateIn, IsHistoryIn};
 ghost use Rattle.space_state.specs.Roots.{Keeps};
 ghost use Rattle.space_state.specs.Turns.{EndsOnRows, TurnsTo, TurnsBeside};
 ghost use Rattle.space_state.specs.Needed.{HoardsNone};
-ghost use Rattle.space_state.specs.Stepping.{HasStepRoom, IsStepRefused};
+ghost use Rattle.space_state.specs.Stepping.{CanStep, HasNoStep};
 
 use crate::roots::RootedHeap;
 use node_heap::Link;
 use plain_space::Refusal;
 use rrb_core::{Flex, FlexRef};
-use state_rows::{POPPED_NODES, PUSHED_NODES, popped, pushed};
+use state_rows::{POPPED_NODES, PUSHED_NODES, SHORTENED_NODES, popped, pushed, shortened};
 
-/// The nodes of a step through the histories: a state less in the one, and one more in the other.
-pub(crate) const STEP_NODES: usize = POPPED_NODES + PUSHED_NODES;
+/// The nodes of a state that undo keeps: a cut where undo holds as many as its bound says, and a push.
+pub(crate) const KEPT_NODES: usize = SHORTENED_NODES + PUSHED_NODES;
+
+/// The nodes of an undo: a state less in undo, and one more in redo.
+pub(crate) const UNDO_NODES: usize = POPPED_NODES + PUSHED_NODES;
+
+/// The nodes of a redo: a state less in redo, and one that undo keeps.
+pub(crate) const REDO_NODES: usize = POPPED_NODES + KEPT_NODES;
+
+/// The nodes of another bound: a cut of undo.
+pub(crate) const HISTORY_NODES: usize = SHORTENED_NODES;
 
 impl RootedHeap {
     /// Goes back to the state before the last edit.
@@ -26,12 +36,14 @@ impl RootedHeap {
         requires { (W : Workspace) × Keeps self.old [] W }
         ensures ends { EndsOnRows undo self.old result self.new }
         ensures spares { HoardsNone undo self.old result self.new }
-        ensures ample { HasSpares self.old.heap 0 STEP_NODES → result ≢ Err Refusal.Memory }
-        ensures made { self.new.heap.made ≤ self.old.heap.made + STEP_NODES }
+        ensures ample { HasSpares self.old.heap 0 UNDO_NODES → result ≢ Err Refusal.Memory }
+        ensures made { self.new.heap.made ≤ self.old.heap.made + UNDO_NODES }
     {
-        let undo = FlexRef::at(self.roots.undo);
-        let redo = FlexRef::at(self.roots.redo);
-        self.make_step_room(undo, redo)?;
+        self.can_step(FlexRef::at(self.roots.undo))?;
+        if FlexRef::at(self.roots.redo).is_longest(&self.heap) {
+            return Err(Refusal::Limit);
+        }
+        self.heap.reserve(0, UNDO_NODES)?;
         let (undo, state) = popped(&mut self.heap, Flex::from_root(self.roots.undo));
         self.roots.undo = undo.into_root();
         let before = self.roots.current;
@@ -40,17 +52,17 @@ impl RootedHeap {
         Ok(())
     }
 
-    /// Goes forward to the state that the last undo left.
+    /// Goes forward to the state that the last undo left. Undo keeps as many states as its bound says.
     pub(crate) fn redo(&mut self) -> Result<(), Refusal>
         requires { (W : Workspace) × Keeps self.old [] W }
         ensures ends { EndsOnRows redo self.old result self.new }
         ensures spares { HoardsNone redo self.old result self.new }
-        ensures ample { HasSpares self.old.heap 0 STEP_NODES → result ≢ Err Refusal.Memory }
-        ensures made { self.new.heap.made ≤ self.old.heap.made + STEP_NODES }
+        ensures ample { HasSpares self.old.heap 0 REDO_NODES → result ≢ Err Refusal.Memory }
+        ensures made { self.new.heap.made ≤ self.old.heap.made + REDO_NODES }
+        ensures below { (W : Workspace) → Keeps self.old [] W → length W.undo < W.history → self.new.heap.made ≤ self.old.heap.made + UNDO_NODES }
     {
-        let undo = FlexRef::at(self.roots.undo);
-        let redo = FlexRef::at(self.roots.redo);
-        self.make_step_room(redo, undo)?;
+        self.can_step(FlexRef::at(self.roots.redo))?;
+        self.heap.reserve(0, REDO_NODES)?;
         let (redo, state) = popped(&mut self.heap, Flex::from_root(self.roots.redo));
         self.roots.redo = redo.into_root();
         let before = self.roots.current;
@@ -59,16 +71,28 @@ impl RootedHeap {
         Ok(())
     }
 
-    // Makes room for a step from the one history to the other. `Batch` in a batch, else `Empty` where the one is empty, else
-    // `Limit` where the other is full, and last `Memory`, but not where the spares are there already. Nothing but the heap's
-    // spares changes, and where it is refused nothing at all.
-    fn make_step_room(&mut self, from: FlexRef, to: FlexRef) -> Result<(), Refusal>
-        requires kept { (W : Workspace) × (xs ys : List State) × Keeps self.old [] W × IsHistoryIn self.old.heap self.old.bits from xs × IsHistoryIn self.old.heap self.old.bits to ys }
-        ensures ends { (W : Workspace) (xs ys : List State) → Keeps self.old [] W → IsHistoryIn self.old.heap self.old.bits from xs → IsHistoryIn self.old.heap self.old.bits to ys →
-            MatchResult result (λ _. HasStepRoom xs ys self.old self.new W) (IsStepRefused xs ys self.old self.new W) }
-        ensures spares { IfOk result (λ _. KeepsToNeed self.old.heap self.new.heap 0 STEP_NODES) }
-        ensures ample { HasSpares self.old.heap 0 STEP_NODES → result ≢ Err Refusal.Memory }
-        ensures made { self.new.heap.made ≡ self.old.heap.made }
+    /// Sets how many states undo keeps: the last ones stay. `Batch` in a batch, else `Memory` where memory runs out, but not where
+    /// the spares are there already.
+    pub(crate) fn set_history(&mut self, count: u32) -> Result<(), Refusal>
+        requires { (W : Workspace) × Keeps self.old [] W }
+        ensures ends { EndsOnRows (history count) self.old result self.new }
+        ensures spares { HoardsNone (history count) self.old result self.new }
+        ensures ample { HasSpares self.old.heap 0 HISTORY_NODES → result ≢ Err Refusal.Memory }
+        ensures made { self.new.heap.made ≤ self.old.heap.made + HISTORY_NODES }
+    {
+        if self.in_batch() {
+            return Err(Refusal::Batch);
+        }
+        self.heap.reserve(0, HISTORY_NODES)?;
+        self.shorten_undo(count);
+        self.history = count;
+        Ok(())
+    }
+
+    // Whether a step can be made from this history: `Batch` in a batch, else `Empty` where it is empty.
+    fn can_step(&self, from: FlexRef) -> Result<(), Refusal>
+        requires { (W : Workspace) × (xs : List State) × Keeps self.now [] W × IsHistoryIn self.now.heap self.now.bits from xs }
+        ensures { (W : Workspace) (xs : List State) → Keeps self.now [] W → IsHistoryIn self.now.heap self.now.bits from xs → MatchResult result (λ _. CanStep xs W) (HasNoStep xs W) }
     {
         if self.in_batch() {
             return Err(Refusal::Batch);
@@ -76,27 +100,50 @@ impl RootedHeap {
         if from.is_empty(&self.heap) {
             return Err(Refusal::Empty);
         }
-        if to.is_longest(&self.heap) {
-            return Err(Refusal::Limit);
-        }
-        self.heap.reserve(0, STEP_NODES)?;
         Ok(())
     }
 
-    /// Puts the state at the end of undo, which spends a hold of it.
-    pub(crate) fn push_undo(&mut self, state: Link)
-        requires spares { HasSpares self.old.heap 0 PUSHED_NODES }
-        requires kept { (b : List ℕ) × (W : Workspace) × (s : State) × Keeps self.old (state ∷ b) W × (length b ≤ 2) × IsStateIn self.old.heap self.old.bits state s × (length W.undo < most) }
-        ensures turns { (b : List ℕ) (W : Workspace) (s : State) → Keeps self.old (state ∷ b) W → IsStateIn self.old.heap self.old.bits state s →
-            TurnsBeside self.old self.new b 0 PUSHED_NODES (record W { undo = W.undo ++ s ∷ [] }) }
-        ensures made { self.new.heap.made ≤ self.old.heap.made + PUSHED_NODES }
+    // Keeps the last states of undo, at most so many, and gives the others up. Where there are no more, nothing changes.
+    fn shorten_undo(&mut self, count: u32)
+        requires spares { HasSpares self.old.heap 0 SHORTENED_NODES }
+        requires kept { (b : List ℕ) × (W : Workspace) × Keeps self.old b W × (length b ≤ 3) }
+        ensures turns { (b : List ℕ) (W : Workspace) → Keeps self.old b W →
+            TurnsBeside self.old self.new b 0 SHORTENED_NODES (record W { undo = last_of count W.undo }) }
+        ensures short { (b : List ℕ) (W : Workspace) → Keeps self.old b W → length W.undo ≤ count → self.new ≡ self.old }
+        ensures history { self.new.history ≡ self.old.history }
+        ensures made { self.new.heap.made ≤ self.old.heap.made + SHORTENED_NODES }
         ensures spares { KeepsToNeed self.old.heap self.new.heap 0 0 }
     {
+        let states = FlexRef::at(self.roots.undo).len(&self.heap);
+        if states <= count {
+            return;
+        }
+        let undo = Flex::from_root(self.roots.undo);
+        let undo = shortened(&mut self.heap, undo, states - count);
+        self.roots.undo = undo.into_root();
+    }
+
+    /// Puts the state at the end of undo, which spends a hold of it. Of undo the last states stay, as many as its bound says: where
+    /// it holds so many, the oldest goes before the new one comes, so that undo is never longer than a vector can be.
+    pub(crate) fn push_undo(&mut self, state: Link)
+        requires spares { HasSpares self.old.heap 0 KEPT_NODES }
+        requires kept { (b : List ℕ) × (W : Workspace) × (s : State) × Keeps self.old (state ∷ b) W × (length b ≤ 2) × IsStateIn self.old.heap self.old.bits state s }
+        ensures turns { (b : List ℕ) (W : Workspace) (s : State) → Keeps self.old (state ∷ b) W → IsStateIn self.old.heap self.old.bits state s →
+            TurnsBeside self.old self.new b 0 KEPT_NODES (record W { undo = undo_with W s }) }
+        ensures made { self.new.heap.made ≤ self.old.heap.made + KEPT_NODES }
+        ensures below { (b : List ℕ) (W : Workspace) → Keeps self.old (state ∷ b) W → length W.undo < W.history → self.new.heap.made ≤ self.old.heap.made + PUSHED_NODES }
+        ensures spares { KeepsToNeed self.old.heap self.new.heap 0 0 }
+    {
+        if self.history == 0 {
+            self.heap.release(state);
+            return;
+        }
+        self.shorten_undo(self.history - 1);
         let undo = pushed(&mut self.heap, Flex::from_root(self.roots.undo), state);
         self.roots.undo = undo.into_root();
     }
 
-    // The same at the end of redo.
+    // Puts the state at the end of redo, which spends a hold of it.
     fn push_redo(&mut self, state: Link)
         requires spares { HasSpares self.old.heap 0 PUSHED_NODES }
         requires kept { (W : Workspace) × (s : State) × Keeps self.old (state ∷ []) W × IsStateIn self.old.heap self.old.bits state s × (length W.redo < most) }

@@ -28,13 +28,10 @@ impl RootedHeap {
     fn ready(&mut self, line: Line<'_>, alike: usize) -> Result<Text, Refusal>
         requires kept { (W : Workspace) × Keeps self.old [] W }
         requires few { alike < row_limit }
-        ensures ready { (W : Workspace) → Keeps self.old [] W → MatchResult result (λ _. IsReadyInPlace self.old self.new W (IN_PLACE_NODES + alike)) (RoomIsRefused self.old self.new W) }
+        ensures ready { (W : Workspace) → Keeps self.old [] W → MatchResult result (λ _. IsReadyInPlace self.old self.new W (IN_PLACE_NODES + alike)) (RoomIsRefused self.old self.new) }
         ensures spares { IfOk result (λ _. KeepsToNeed self.old.heap self.new.heap 1 (IN_PLACE_NODES + TURN_NODES + alike)) }
         ensures text { IfOk result (λ text. text ≡ line_bytes line.entry) }
     {
-        if self.is_full() {
-            return Err(Refusal::Limit);
-        }
         let text = text_of(self.alloc, line)?;
         self.heap.reserve(1, IN_PLACE_NODES + TURN_NODES + alike)?;
         self.keep_current();

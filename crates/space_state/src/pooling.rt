@@ -21,7 +21,7 @@ impl RootedHeap {
     /// The pool of the rows that the roots reach.
     pub(crate) fn pool(&self, alloc: Global) -> Result<Pool, NoMemory>
         requires { (W : Workspace) × Keeps self.now [] W }
-        ensures { IfOk result (λ p. p ≡ pool_at (λ text. text) self.now.heap (root_list self.now.roots) (settings_by self.now.bits)) }
+        ensures { IfOk result (λ p. p ≡ pool_at (λ text. text) self.now.heap (root_list self.now.roots) (settings_by self.now.bits self.now.history)) }
     {
         match self.roots.batch.base() {
             None => self.pool_from(
@@ -50,13 +50,13 @@ impl RootedHeap {
     fn pool_from(&self, alloc: Global, roots: &[Link]) -> Result<Pool, NoMemory>
         requires keeps { (W : Workspace) × Keeps self.now [] W }
         requires roots { roots.now ≡ root_list self.now.roots }
-        ensures { IfOk result (λ p. p ≡ pool_at (λ text. text) self.now.heap (root_list self.now.roots) (settings_by self.now.bits)) }
+        ensures { IfOk result (λ p. p ≡ pool_at (λ text. text) self.now.heap (root_list self.now.roots) (settings_by self.now.bits self.now.history)) }
     {
         let order = order(alloc, &self.heap, roots)?;
-        pool_of(alloc, &self.heap, &order, roots, self.bits)
+        pool_of(alloc, &self.heap, &order, roots, self.bits, self.history)
     }
 
-    /// Puts the checked pool in place of all rows, as new rows, and gives the old ones up then.
+    /// Puts the checked pool in place of all rows, as new rows, and gives the old ones up then. Its history is the bound of undo.
     pub(crate) fn take_pool(&mut self, checked: Checked<Text>) -> Result<(), Refusal>
         requires keeps { (W : Workspace) × Keeps self.old [] W }
         requires bits { checked.bits ≡ self.old.bits }
@@ -65,6 +65,7 @@ impl RootedHeap {
         if self.in_batch() {
             return Err(Refusal::Batch);
         }
+        let history = checked.pool().history;
         let links = load(self.alloc, &mut self.heap, checked)?;
         let roots = Roots {
             current: links[0],
@@ -73,21 +74,22 @@ impl RootedHeap {
             redo: links[3],
             batch: Batch::Closed,
         };
-        self.turn_roots(roots);
+        self.turn_roots(roots, history);
         Ok(())
     }
 
-    // Puts these roots, of each of which the caller's hold is spent, in place of those that are there, which have no base.
-    fn turn_roots(&mut self, roots: Roots)
+    // Puts these roots, of each of which the caller's hold is spent, and this bound in place of those that are there, which have no base.
+    fn turn_roots(&mut self, roots: Roots, history: u32)
         requires closed { self.old.roots.batch ≡ Closed }
-        requires kept { (W : Workspace) × Keeps (record self.old { roots = roots }) (root_list self.old.roots) W }
-        ensures kept { (W : Workspace) → Keeps (record self.old { roots = roots }) (root_list self.old.roots) W → Keeps self.new [] W }
-        ensures pool { pool_at (λ text. text) self.new.heap (root_list self.new.roots) (settings_by self.new.bits) ≡ pool_at (λ text. text) self.old.heap (root_list roots) (settings_by self.old.bits) }
+        requires kept { (W : Workspace) × Keeps (record self.old { roots = roots; history = history }) (root_list self.old.roots) W }
+        ensures kept { (W : Workspace) → Keeps (record self.old { roots = roots; history = history }) (root_list self.old.roots) W → Keeps self.new [] W }
+        ensures pool { pool_at (λ text. text) self.new.heap (root_list self.new.roots) (settings_by self.new.bits self.new.history) ≡ pool_at (λ text. text) self.old.heap (root_list roots) (settings_by self.old.bits history) }
         ensures made { self.new.heap.made ≡ self.old.heap.made }
         ensures spares { KeepsToNeed self.old.heap self.new.heap 0 0 }
     {
         let before = self.roots;
         self.roots = roots;
+        self.history = history;
         self.heap.release(before.current);
         self.heap.release(before.versions);
         self.heap.release(before.undo);

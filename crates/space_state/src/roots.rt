@@ -37,11 +37,12 @@ pub(crate) struct Roots {
     pub(crate) batch: Batch,
 }
 
-/// A heap with the roots that are all that is held in it, by so many bits of the names' codes.
+/// A heap with the roots that are all that is held in it, by so many bits of the names' codes. Undo keeps so many states.
 #[derive(Drop)]
 pub(crate) struct RootedHeap {
     pub(crate) alloc: Global,
     pub(crate) heap: Heap<Text>,
     pub(crate) bits: u32,
+    pub(crate) history: u32,
     pub(crate) roots: Roots,
 }

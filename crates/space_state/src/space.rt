@@ -1,13 +1,13 @@
 //! The space and its calls.
-ghost use Rattle.std.specs.Prelude.{◌≡◌, ◌+◌, ◌≤◌, [], length, map as each, IfOk, Some, slice_get, slice_range};
+ghost use Rattle.std.specs.Prelude.{◌≡◌, ◌+◌, ◌<◌, ◌≤◌, [], length, map as each, IfOk, Some, slice_get, slice_range};
 ghost use Rattle.std.specs.FinMap as map;
 ghost use Rattle.std.specs.List.{sum_by};
 ghost use Rattle.elem_core.specs.Shown.{name_bytes};
 ghost use Rattle.pool_text.specs.Pool.{row_count};
 ghost use Rattle.pool_text.specs.declared.rules.TheConstants.{PRESENT_VERSION};
 ghost use Rattle.pool_check.specs.Damages.{IsValid};
-ghost use Rattle.shell_terms.specs.Command.{mark, unmark, back, undo, redo, begin, «end», abort};
-ghost use Rattle.plain_space.specs.Workspace.{Workspace, start, sizes, in_batch, is_full, lines_of, version_of};
+ghost use Rattle.shell_terms.specs.Command.{mark, unmark, back, undo, redo, begin, «end», abort, history};
+ghost use Rattle.plain_space.specs.Workspace.{Workspace, most, start, sizes, in_batch, lines_of, version_of};
 ghost use Rattle.plain_space.specs.Change.{plain_edit, edit_command};
 ghost use Rattle.state_rows.specs.Standing.{StandsFor};
 ghost use Rattle.space_state.specs.Asked.{OnLines, AreEqual};
@@ -75,11 +75,12 @@ impl Space {
         self.rows.undo()
     }
 
-    /// Goes forward to the state that the last undo left. `Batch` in a batch, else `Empty` where there is none, else `Limit`
-    /// where undo holds 2^32 - 1 states, and last `Memory` where memory runs out. It makes at most 19 rows.
+    /// Goes forward to the state that the last undo left. `Batch` in a batch, else `Empty` where there is none, and last `Memory`
+    /// where memory runs out. It makes at most 36 rows, and at most 19 where undo has fewer states than its bound.
     pub fn redo(&mut self) -> Result<(), Refusal>
         ensures ends { Ends redo self.old result self.new }
-        ensures made { self.new.made ≤ self.old.made + 19 }
+        ensures made { self.new.made ≤ self.old.made + 36 }
+        ensures below { (W : Workspace) → StandsFor self.old.pool W → length W.undo < W.history → self.new.made ≤ self.old.made + 19 }
     {
         self.rows.redo()
     }
@@ -101,7 +102,7 @@ impl Space {
     }
 
     /// Makes the version's state the current one, as an edit does. `Batch` in a batch, else `Absent` where there is none of
-    /// this name, else `Limit` where undo holds 2^32 - 1 states, and last `Memory` where memory runs out.
+    /// this name, and last `Memory` where memory runs out.
     pub fn back(&mut self, version: Name<'_>) -> Result<(), Refusal>
         ensures { Ends (back (name_bytes version.entry)) self.old result self.new }
     {
@@ -118,8 +119,8 @@ impl Space {
         self.rows.begin()
     }
 
-    /// Closes the batch, whose edits undo takes back together. `Batch` where none is open, else `Limit` where undo holds
-    /// 2^32 - 1 states, and last `Memory` where memory runs out.
+    /// Closes the batch, whose edits undo takes back together. `Batch` where none is open, and last `Memory` where memory runs
+    /// out.
     pub fn end(&mut self) -> Result<(), Refusal>
         ensures { Ends «end» self.old result self.new }
     {
@@ -136,6 +137,15 @@ impl Space {
         self.rows.abort()
     }
 
+    /// Sets how many states undo keeps. The last ones stay, now and after each edit. A new space keeps 4,294,967,295. `Batch` in a
+    /// batch, else `Memory` where memory runs out. It makes at most 17 rows.
+    pub fn history(&mut self, count: u32) -> Result<(), Refusal>
+        ensures ends { Ends (history count) self.old result self.new }
+        ensures made { self.new.made ≤ self.old.made + 17 }
+    {
+        self.rows.set_history(count)
+    }
+
     /// How many low bits of the names' codes the space goes by.
     pub fn bits(&self) -> u32
         ensures kept { result ≡ self.now.pool.bits }
@@ -149,13 +159,6 @@ impl Space {
         ensures { (W : Workspace) × StandsFor self.now.pool W × (result ≡ in_batch W) }
     {
         self.rows.in_batch()
-    }
-
-    /// Whether no edit can be done: undo holds 2^32 - 1 states, and no batch is open.
-    pub fn full(&self) -> bool
-        ensures { (W : Workspace) × StandsFor self.now.pool W × (result ≡ is_full W) }
-    {
-        self.rows.is_full()
     }
 
     /// The line of the buffer at the index, counted from 0. Absent exactly where there is no such buffer, else Range exactly
@@ -206,12 +209,13 @@ impl Space {
         ensures value { IfOk result (λ pool. pool ≡ self.now.pool) }
         ensures version { self.now.pool.version ≡ PRESENT_VERSION }
         ensures valid { IsValid self.now.pool }
+        ensures history { self.now.pool.history ≤ most }
     {
         self.rows.pool(alloc)
     }
 
-    /// Puts the checked pool in place of the space's; the number made rises by its rows, up to 2^64 - 1. The pool goes by as
-    /// many bits as the space. `Batch` in a batch, else `Memory` where memory runs out.
+    /// Puts the checked pool, whatever its version, in place of the space's; the number made rises by its rows, up to 2^64 - 1. The
+    /// pool goes by as many bits as the space. `Batch` in a batch, else `Memory` where memory runs out.
     pub fn take_pool(&mut self, checked: Checked<Text>) -> Result<(), Refusal>
         requires bits { checked.bits ≡ self.old.pool.bits }
         ensures { TakesPool checked self.old result self.new }

@@ -48,9 +48,6 @@ impl RootedHeap {
         if self.is_starred(name) {
             return Err(Refusal::Exists);
         }
-        if self.is_full() {
-            return Err(Refusal::Limit);
-        }
         let key = text_of(self.alloc, name.as_line())?;
         self.make_star_room(name)?;
         let next = with_star(&mut self.heap, self.bits, self.roots.current, key);

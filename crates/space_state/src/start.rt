@@ -2,13 +2,14 @@
 ghost use Rattle.std.specs.Prelude.{◌≡◌, ◌≤◌, [], IfOk};
 ghost use Rattle.elem_core.specs.declared.codes.TheConstants.{CODE_BITS};
 ghost use Rattle.node_heap.specs.Heap.{live_count};
-ghost use Rattle.plain_space.specs.Workspace.{start};
+ghost use Rattle.plain_space.specs.Workspace.{start, most};
 ghost use Rattle.space_state.specs.Roots.{Keeps};
 ghost use Rattle.space_state.specs.View.{room_of};
 
 use crate::roots::{Batch, RootedHeap, Roots};
 use elem_core::NoMemory;
 use node_heap::Heap;
+use pool_text::MOST_HISTORY;
 use state_rows::{empty_history, empty_state, empty_versions};
 use std::alloc::Global;
 
@@ -21,6 +22,7 @@ impl RootedHeap {
         requires { bits ≤ CODE_BITS }
         ensures keeps { IfOk result (λ s. Keeps s [] start) }
         ensures bits { IfOk result (λ s. s.bits ≡ bits) }
+        ensures history { IfOk result (λ s. s.history ≡ most) }
         ensures rows { IfOk result (λ s. live_count s.heap ≡ 6) }
         ensures made { IfOk result (λ s. s.heap.made ≡ 6) }
         ensures room { IfOk result (λ s. room_of s.heap ≡ record { cells = 0; nodes = 6 }) }
@@ -42,6 +44,7 @@ impl RootedHeap {
             alloc,
             heap,
             bits,
+            history: MOST_HISTORY,
             roots,
         })
     }

@@ -1,27 +1,28 @@
 //! What all edits share: room for an edit, the turn to another current state, and what is given up.
-ghost use Rattle.std.specs.Prelude.{◌≡◌, ◌≢◌, ℕ, ◌+◌, ◌*◌, ◌<◌, ◌≤◌, List, [], ◌∷◌, ◌++◌, ◌^◌, length, IfOk, Err, true, false};
+ghost use Rattle.std.specs.Prelude.{◌≡◌, ◌≢◌, ℕ, ◌+◌, ◌*◌, ◌<◌, ◌≤◌, List, [], ◌∷◌, ◌^◌, length, IfOk, Err, true};
 ghost use Rattle.elem_core.specs.Shown.{name_bytes, line_bytes};
 ghost use Rattle.node_heap.specs.Heap.{HasSpares, row_limit};
 ghost use Rattle.node_heap.specs.Calls.{KeepsToNeed};
-ghost use Rattle.plain_space.specs.Workspace.{State, Workspace, most, in_batch, is_full, with_current};
+ghost use Rattle.plain_space.specs.Workspace.{State, Workspace, in_batch, undo_with, with_current};
 ghost use Rattle.state_rows.specs.InHeap.{IsStateIn};
 ghost use Rattle.space_state.specs.Roots.{Keeps};
 ghost use Rattle.space_state.specs.InPlace.{new_key};
 ghost use Rattle.space_state.specs.Turns.{MakesRoom, TurnsTo, TurnsBeside};
 ghost use Rattle.space_state.specs.View.{room_of};
 
+use crate::histories::KEPT_NODES;
 use crate::roots::{Batch, RootedHeap};
 use elem_core::{DEEPEST, Line, Name, Text, text_of};
 use node_heap::Link;
 use plain_space::Refusal;
 use rrb_core::{Flex, FlexRef};
-use state_rows::{EMPTIED_NODES, PUSHED_NODES, emptied};
+use state_rows::{EMPTIED_NODES, emptied};
 
-/// The most states that undo or redo may hold, and the most lines of a buffer.
+/// The most lines of a buffer.
 pub(crate) const MOST_ITEMS: u32 = u32::MAX;
 
-/// The nodes of a turn to another state: a push to undo, and an empty redo.
-pub(crate) const TURN_NODES: usize = PUSHED_NODES + EMPTIED_NODES;
+/// The nodes of a turn to another state: a state that undo keeps, and an empty redo.
+pub(crate) const TURN_NODES: usize = KEPT_NODES + EMPTIED_NODES;
 
 /// The nodes for which room is made before an edit that makes new lines or stars, besides one for each name whose code is alike:
 /// those of the edit that makes most, which erases lines of a buffer (42), gives them to another as a slice (25), writes both
@@ -42,18 +43,9 @@ impl RootedHeap {
         }
     }
 
-    /// Whether no edit can be done, since undo is full and no batch is open.
-    pub(crate) fn is_full(&self) -> bool
-        requires { (W : Workspace) × Keeps self.now [] W }
-        ensures { (W : Workspace) → Keeps self.now [] W → result ≡ is_full W }
-    {
-        !self.in_batch() && FlexRef::at(self.roots.undo).is_longest(&self.heap)
-    }
-
     /// Makes room for an edit: for two cells, for `EDIT_NODES` nodes, and for one more for each of so many names with the
     /// masked code of one that it writes. Nothing but the heap's spares changes, and where it is refused nothing at all: with
-    /// `Limit` exactly where undo is full and no batch is open, and else with `Memory` alone, and not where the spares are
-    /// there already.
+    /// `Memory` alone, and not where the spares are there already.
     pub(crate) fn make_room_with(&mut self, alike: usize) -> Result<(), Refusal>
         requires kept { (W : Workspace) × Keeps self.old [] W }
         requires few { alike < 2 * row_limit }
@@ -61,9 +53,6 @@ impl RootedHeap {
         ensures spares { IfOk result (λ _. KeepsToNeed self.old.heap self.new.heap 2 (EDIT_NODES + alike)) }
         ensures ample { HasSpares self.old.heap 2 (EDIT_NODES + alike) → result ≢ Err Refusal.Memory }
     {
-        if self.is_full() {
-            return Err(Refusal::Limit);
-        }
         self.heap.reserve(2, EDIT_NODES + alike)?;
         Ok(())
     }
@@ -77,9 +66,6 @@ impl RootedHeap {
         ensures spares { IfOk result (λ _. KeepsToNeed self.old.heap self.new.heap 2 (EDIT_NODES + alike)) }
         ensures text { IfOk result (λ text. text ≡ line_bytes line.entry) }
     {
-        if self.is_full() {
-            return Err(Refusal::Limit);
-        }
         let text = text_of(self.alloc, line)?;
         self.make_room_with(alike)?;
         Ok(text)
@@ -98,20 +84,17 @@ impl RootedHeap {
         ensures spares { IfOk result (λ _. KeepsToNeed self.old.heap self.new.heap 2 (EDIT_NODES + alike)) }
         ensures key { IfOk result (λ key. key ≡ new_key found (name_bytes name.entry)) }
     {
-        if self.is_full() {
-            return Err(Refusal::Limit);
-        }
         let key = self.new_key(name, found)?;
         self.make_room_with(alike)?;
         Ok(key)
     }
 
-    /// Turns to the state, of which the caller's hold is spent. Outside a batch the old state goes to the end of undo, and
-    /// redo is emptied.
+    /// Turns to the state, of which the caller's hold is spent. Outside a batch the old state goes to the end of undo, which keeps as
+    /// many states as its bound says, and redo is emptied.
     pub(crate) fn turn_to(&mut self, next: Link)
         requires spares { HasSpares self.old.heap 0 TURN_NODES }
-        requires kept { (W : Workspace) × (s : State) × Keeps self.old (next ∷ []) W × IsStateIn self.old.heap self.old.bits next s × (is_full W ≡ false) }
-        ensures turns { (W : Workspace) (s : State) → Keeps self.old (next ∷ []) W → IsStateIn self.old.heap self.old.bits next s → is_full W ≡ false →
+        requires kept { (W : Workspace) × (s : State) × Keeps self.old (next ∷ []) W × IsStateIn self.old.heap self.old.bits next s }
+        ensures turns { (W : Workspace) (s : State) → Keeps self.old (next ∷ []) W → IsStateIn self.old.heap self.old.bits next s →
             TurnsTo self.old self.new [] TURN_NODES (with_current W s) }
         ensures spares { KeepsToNeed self.old.heap self.new.heap 0 0 }
     {
@@ -136,12 +119,12 @@ impl RootedHeap {
         self.heap.release(link);
     }
 
-    /// Puts the state at the end of undo, which spends a hold of it, and empties redo.
+    /// Puts the state at the end of undo, which spends a hold of it and keeps as many states as its bound says, and empties redo.
     pub(crate) fn record(&mut self, before: Link)
         requires spares { HasSpares self.old.heap 0 TURN_NODES }
-        requires kept { (b : List ℕ) × (W : Workspace) × (s : State) × Keeps self.old (before ∷ b) W × (length b ≤ 2) × IsStateIn self.old.heap self.old.bits before s × (length W.undo < most) }
-        ensures turns { (b : List ℕ) (W : Workspace) (s : State) → Keeps self.old (before ∷ b) W → IsStateIn self.old.heap self.old.bits before s → length W.undo < most →
-            TurnsBeside self.old self.new b 0 TURN_NODES (record W { undo = W.undo ++ s ∷ []; redo = [] }) }
+        requires kept { (b : List ℕ) × (W : Workspace) × (s : State) × Keeps self.old (before ∷ b) W × (length b ≤ 2) × IsStateIn self.old.heap self.old.bits before s }
+        ensures turns { (b : List ℕ) (W : Workspace) (s : State) → Keeps self.old (before ∷ b) W → IsStateIn self.old.heap self.old.bits before s →
+            TurnsBeside self.old self.new b 0 TURN_NODES (record W { undo = undo_with W s; redo = [] }) }
         ensures spares { KeepsToNeed self.old.heap self.new.heap 0 0 }
     {
         self.push_undo(before);

@@ -121,9 +121,6 @@ impl RootedHeap {
         let Some(state) = self.version(name) else {
             return Err(Refusal::Absent);
         };
-        if self.is_full() {
-            return Err(Refusal::Limit);
-        }
         self.heap.reserve(0, TURN_NODES)?;
         self.heap.hold(state);
         self.turn_to(state);

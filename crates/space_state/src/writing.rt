@@ -1,13 +1,13 @@
 //! How the current state is edited in place, as the edits of buffers do: a row with one owner is written, and one with more is
 //! copied. Outside a batch the current state is put at the end of undo first, so that it has a second owner and the whole way is
 //! copied. In a batch the way is copied once, where the base, a version or a history has it too, and written from then on.
-ghost use Rattle.std.specs.Prelude.{◌≡◌, ℕ, ◌+◌, ◌*◌, ◌<◌, ◌≤◌, ◌^◌, List, [], ◌∷◌, length, Option, None, IfOk, true, false};
+ghost use Rattle.std.specs.Prelude.{◌≡◌, ℕ, ◌+◌, ◌*◌, ◌<◌, ◌≤◌, ◌^◌, List, [], ◌∷◌, length, Option, None, IfOk, true};
 ghost use Rattle.elem_core.specs.declared.codes.TheConstants.{DEEPEST};
 ghost use Rattle.elem_core.specs.Shown.{name_bytes};
 ghost use Rattle.node_heap.specs.Heap.{HasSpares, row_limit};
 ghost use Rattle.node_heap.specs.Calls.{KeepsToNeed};
 ghost use Rattle.shell_terms.specs.Edit.{Bytes};
-ghost use Rattle.plain_space.specs.Workspace.{Workspace, in_batch, lines_of, with_lines, is_full, with_current};
+ghost use Rattle.plain_space.specs.Workspace.{Workspace, in_batch, lines_of, with_lines, with_current};
 ghost use Rattle.plain_space.specs.Cost.{alike_buffers};
 ghost use Rattle.state_rows.specs.Reading.{StandsIfThere};
 ghost use Rattle.state_rows.specs.InHeap.{AreLinesIn};
@@ -48,11 +48,12 @@ impl RootedHeap {
         Ok(Some(key))
     }
 
-    /// Outside a batch puts the current state at the end of undo, and empties redo. It stays current.
+    /// Outside a batch puts the current state at the end of undo, which keeps as many states as its bound says, and empties redo. It stays
+    /// current.
     pub(crate) fn keep_current(&mut self)
         requires spares { HasSpares self.old.heap 0 TURN_NODES }
-        requires kept { (b : List ℕ) × (W : Workspace) × Keeps self.old b W × (length b ≤ 2) × (is_full W ≡ false) }
-        ensures turns { (b : List ℕ) (W : Workspace) → Keeps self.old b W → is_full W ≡ false → TurnsBeside self.old self.new b 0 TURN_NODES (current_kept W) }
+        requires kept { (b : List ℕ) × (W : Workspace) × Keeps self.old b W × (length b ≤ 2) }
+        ensures turns { (b : List ℕ) (W : Workspace) → Keeps self.old b W → TurnsBeside self.old self.new b 0 TURN_NODES (current_kept W) }
         ensures spares { KeepsToNeed self.old.heap self.new.heap 0 0 }
         ensures inside { (W : Workspace) → Keeps self.old [] W → in_batch W ≡ true → self.new ≡ self.old }
     {
@@ -83,11 +84,11 @@ impl RootedHeap {
 
     /// Keeps the current state, and gives the buffer these lines, of which the caller's hold is spent: made by the key, or replaced.
     pub(crate) fn write_lines(&mut self, name: Name<'_>, key: Option<Text>, lines: Flex)
-        requires { (W : Workspace) × (xs : List Bytes) × Keeps self.old (lines ∷ []) W × AreLinesIn self.old.heap self.old.bits lines xs × (is_full W ≡ false)
-            × (key ≡ new_key (lines_of W.current (name_bytes name)) (name_bytes name)) × HasSpares self.old.heap 1 (DEEPEST + 15 + alike_buffers self.old.bits W.current (name_bytes name)) }
-        ensures turns { (W : Workspace) (xs : List Bytes) → Keeps self.old (lines ∷ []) W → AreLinesIn self.old.heap self.old.bits lines xs → is_full W ≡ false →
+        requires { (W : Workspace) × (xs : List Bytes) × Keeps self.old (lines ∷ []) W × AreLinesIn self.old.heap self.old.bits lines xs
+            × (key ≡ new_key (lines_of W.current (name_bytes name)) (name_bytes name)) × HasSpares self.old.heap 1 (DEEPEST + 4 + TURN_NODES + alike_buffers self.old.bits W.current (name_bytes name)) }
+        ensures turns { (W : Workspace) (xs : List Bytes) → Keeps self.old (lines ∷ []) W → AreLinesIn self.old.heap self.old.bits lines xs →
             key ≡ new_key (lines_of W.current (name_bytes name.entry)) (name_bytes name.entry) →
-            TurnsTo self.old self.new [] (DEEPEST + 16 + alike_buffers self.old.bits W.current (name_bytes name.entry)) (with_current W (with_lines W.current (name_bytes name.entry) xs)) }
+            TurnsTo self.old self.new [] (DEEPEST + 5 + TURN_NODES + alike_buffers self.old.bits W.current (name_bytes name.entry)) (with_current W (with_lines W.current (name_bytes name.entry) xs)) }
         ensures spares { KeepsToNeed self.old.heap self.new.heap 0 0 }
     {
         self.keep_current();
@@ -104,12 +105,12 @@ impl RootedHeap {
         key: Option<Text>,
         part: Flex,
     )
-        requires { (W : Workspace) × (xs ys : List Bytes) × Keeps self.old (rest ∷ part ∷ []) W × AreLinesIn self.old.heap self.old.bits rest xs × AreLinesIn self.old.heap self.old.bits part ys × (is_full W ≡ false)
+        requires { (W : Workspace) × (xs ys : List Bytes) × Keeps self.old (rest ∷ part ∷ []) W × AreLinesIn self.old.heap self.old.bits rest xs × AreLinesIn self.old.heap self.old.bits part ys
             × (None ≡ new_key (lines_of W.current (name_bytes name)) (name_bytes name)) × (key ≡ new_key (lines_of W.current (name_bytes other)) (name_bytes other))
-            × HasSpares self.old.heap 2 (2 * DEEPEST + 20 + alike_buffers self.old.bits W.current (name_bytes name) + alike_buffers self.old.bits W.current (name_bytes other)) }
-        ensures turns { (W : Workspace) (xs ys : List Bytes) → Keeps self.old (rest ∷ part ∷ []) W → AreLinesIn self.old.heap self.old.bits rest xs → AreLinesIn self.old.heap self.old.bits part ys → is_full W ≡ false →
+            × HasSpares self.old.heap 2 (2 * DEEPEST + 9 + TURN_NODES + alike_buffers self.old.bits W.current (name_bytes name) + alike_buffers self.old.bits W.current (name_bytes other)) }
+        ensures turns { (W : Workspace) (xs ys : List Bytes) → Keeps self.old (rest ∷ part ∷ []) W → AreLinesIn self.old.heap self.old.bits rest xs → AreLinesIn self.old.heap self.old.bits part ys →
             None ≡ new_key (lines_of W.current (name_bytes name.entry)) (name_bytes name.entry) → key ≡ new_key (lines_of W.current (name_bytes other.entry)) (name_bytes other.entry) →
-            TurnsTo self.old self.new [] (2 * DEEPEST + 22 + (alike_buffers self.old.bits W.current (name_bytes name.entry) + alike_buffers self.old.bits W.current (name_bytes other.entry)))
+            TurnsTo self.old self.new [] (2 * DEEPEST + 11 + TURN_NODES + (alike_buffers self.old.bits W.current (name_bytes name.entry) + alike_buffers self.old.bits W.current (name_bytes other.entry)))
             (with_current W (with_lines (with_lines W.current (name_bytes name.entry) xs) (name_bytes other.entry) ys)) }
         ensures spares { KeepsToNeed self.old.heap self.new.heap 0 0 }
     {

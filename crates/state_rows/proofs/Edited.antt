@@ -1,20 +1,20 @@
 -- How a history is edited in place: what its states stand for, what is held besides, and what is spent and gained.
-use Rattle.std.proofs.Common.{◌≡◌, ℕ, ◌+◌, ◌-◌, ◌<◌, ◌≤◌, List, [], ◌∷◌, ◌++◌, length, take, get_or, Option, Some, None, IsSome, ap, sym, subst, refl, ◌∙◌, arith}
+use Rattle.std.proofs.Common.{◌≡◌, ℕ, ◌+◌, ◌-◌, ◌<◌, ◌≤◌, List, [], ◌∷◌, ◌++◌, length, take, drop, get_or, Option, Some, None, IsSome, ap, sym, subst, refl, ◌∙◌, arith}
 use Rattle.std.specs.Prelude.{IsSomeAnd, slice_get, option_map}
 use Rattle.std.specs.List.{AllZip}
 use Rattle.node_heap.specs.Links.{count, here}
 use Rattle.node_heap.specs.Forms.{Row, form_of}
 use Rattle.node_heap.specs.Heap.{Heap, row_at, form_at, holds_at, one_at, IsGraph}
-use Rattle.node_heap.specs.Calls.{Answered, Extends, HasHolds, KeepsBelow, KeepsHeld, KeepsOwners, Trades}
+use Rattle.node_heap.specs.Calls.{Answered, Extends, HasHolds, KeepsBelow, KeepsHeld, KeepsOwners, MakesJust, Releases, Trades}
 use Rattle.node_heap.specs.Owner.{by_hold, alone}
 use Rattle.node_heap.proofs.AloneLemmas.{alone-same}
 use Rattle.node_heap.proofs.EditLaws.{owned-live}
-use Rattle.node_heap.proofs.GraphLemmas.{IsGraph-owned}
+use Rattle.node_heap.proofs.GraphLemmas.{IsGraph-kinds, IsGraph-owned}
 use Rattle.node_heap.proofs.Counts.{test_same, one_at-flip}
 use Rattle.node_heap.proofs.BuildLemmas.{count-cons}
 use Rattle.node_heap.proofs.Edited.{count-at}
-use Rattle.node_heap.proofs.Frames.{KeepsHeld-Extends, KeepsHeld-then}
-use Rattle.rrb_core.specs.Vector.{elements, height_at, IsVectorOf}
+use Rattle.node_heap.proofs.Frames.{KeepsHeld-Extends, KeepsHeld-then, Balances-trans, Balances-Releases}
+use Rattle.rrb_core.specs.Vector.{elements, height_at, IsGoodVector, IsVectorOf}
 use Rattle.rrb_core.proofs.LinkCounts.{count-split}
 use Rattle.rrb_core.proofs.Stays.{seq-live}
 use Rattle.pool_check.proofs.VectorReadings.{all-at}
@@ -25,7 +25,7 @@ use Rattle.champ_kinds.proofs.ZipLemmas.{zip-as, zip-length}
 use Rattle.shell_terms.specs.Edit.{Bytes}
 use Rattle.plain_space.specs.Workspace.{State}
 use Rattle.state_rows.specs.InHeap.{IsStateIn, IsHistoryIn}
-use Rattle.state_rows.proofs.Zips.{zip-at, zip-push, zip-take, zip-among}
+use Rattle.state_rows.proofs.Zips.{zip-at, zip-push, zip-take, zip-drop, zip-among}
 use Rattle.state_rows.proofs.Staying.{states-stay, grown}
 use Rattle.state_rows.proofs.Answering.{one-held}
 
@@ -145,14 +145,35 @@ state-held {old} {mid} {bits} {s} h x keeps held is =
 pub opened-held : {old mid : Heap Bytes} {h v c n : ℕ} → Trades old mid (h ∷ []) (v ∷ []) c n → 0 < holds_at old h → 0 < holds_at mid v
 opened-held {old} {h = h} {v = v} one held = omega (arith, one.holds v, count-cons v h [], count-cons v v [], test_same v v refl, one-held old h held v)
 
--- ## A history that is emptied: a new row, and then a hold that is given up
+-- ## A history that is emptied or cut: new rows, and then a hold that is given up
 
-module _ {old mid new : Heap Bytes} (h : ℕ) {r : ℕ} (answered : Answered old mid [] r 0 1) (keeps : KeepsHeld (one_at h) mid new) where
+module _ {old mid new : Heap Bytes} (h : ℕ) {r c n : ℕ} (answered : Answered old mid [] r c n) (keeps : KeepsHeld (one_at h) mid new) where
   pub emptied-keeps : IsGraph old → ((l : ℕ) → holds_at new l + one_at h l ≡ holds_at mid l) → KeepsHeld (λ l. count l (h ∷ [])) old new
   emptied-keeps graph released =
       KeepsHeld-then (λ l. count l (h ∷ [])) (KeepsHeld-Extends (λ _. 0) old mid graph answered.extends (λ l. omega (arith, answered.holds l))) keeps
       (λ l some. omega (arith, some)) (λ l some. omega (arith, some, answered.holds l, count-cons l h [])) (λ l. omega (arith, answered.holds l, released l, count-cons l h []))
 
-  pub emptied-history : (bits : ℕ) → 0 < holds_at old h → IsHistoryIn mid bits r [] → IsHistoryIn new bits r []
-  emptied-history bits held is =
-      (states-stay mid new bits r (keeps.kept r (omega (arith, answered.holds r, one-held old h held r, test_same r r refl)))).history [] is
+  pub emptied-history : (bits : ℕ) (ss : List State) → 0 < holds_at old h → IsHistoryIn mid bits r ss → IsHistoryIn new bits r ss
+  emptied-history bits ss held is =
+      (states-stay mid new bits r (keeps.kept r (omega (arith, answered.holds r, one-held old h held r, test_same r r refl)))).history ss is
+
+-- a vector of the elements of a history after so many, where every row stays
+pub cut-history : {old mid : Heap Bytes} {bits h v : ℕ} {ss : List State} (n : ℕ) → Extends old mid → IsGoodVector mid v → elements mid v ≡ drop n (elements old h) → IsHistoryIn old bits h ss → IsHistoryIn mid bits v (drop n ss)
+cut-history {old} {mid} {bits} {h} {v} {ss} n more good cut is = record {
+  vector = good;
+  values =
+      subst (λ (ks : List ℕ). AllZip (IsStateIn mid bits) ks (drop n ss)) (sym cut)
+      (zip-drop (IsStateIn mid bits) n (elements old h) ss (zip-as (IsStateIn old bits) (IsStateIn mid bits) (λ k s at. (grown old mid more bits k).state s at) (elements old h) ss is.values));
+}
+
+-- what is spent and gained, where no row is made in vain
+pub cut-trades : {old mid new : Heap Bytes} {r c n : ℕ} (h k : ℕ) → Answered old mid [] r c n → MakesJust old mid → Releases mid new h → IsGraph new → n ≤ k → Trades old new (h ∷ []) (r ∷ []) c k
+cut-trades {old} {mid} {r = r} h k answered just released graph' few = record {
+  graph = graph';
+  holds = λ l. omega (arith, answered.holds l, released.holds l, count-cons l h [], count-cons l r []);
+  total = omega (arith, answered.count, released.count);
+  cells = omega (arith, answered.cells, released.fewer_cells);
+  nodes = omega (arith, answered.nodes, released.fewer_nodes, few);
+  balance = Balances-trans answered.balance (Balances-Releases released);
+  made = omega (arith, just, released.made, answered.cells, answered.nodes, few, IsGraph-kinds old, IsGraph-kinds mid);
+}

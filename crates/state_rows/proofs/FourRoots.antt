@@ -26,7 +26,7 @@ four-stand F IsVector bits (c ∷ v ∷ u ∷ r ∷ base) W stand outside =
     ap (λ ls. length (c ∷ v ∷ u ∷ r ∷ ls)) (no-base (IsState F IsVector bits) base W.base outside stand.4)
 
 pub four-roots : (P : Pool) (W : Workspace) → StandsFor P W → in_batch W ≡ false → length P.roots ≡ 4
-four-roots P W stands outside = four-stand (forms_in P) (IsWellShaped (forms_in P)) P.bits P.roots W stands outside
+four-roots P W stands outside = four-stand (forms_in P) (IsWellShaped (forms_in P)) P.bits P.roots W stands.0 outside
 
 based : (IsIt : ℕ → State → Type 0) (base : Option State) → IsBase IsIt [] base → is_some base ≡ false
 based IsIt None is = refl
@@ -41,4 +41,4 @@ four-outside F IsVector bits (c ∷ v ∷ u ∷ r ∷ []) W stand four = based (
 four-outside F IsVector bits (c ∷ v ∷ u ∷ r ∷ l ∷ ls) W stand four = absurd (omega (arith, four))
 
 pub outside-batch : (P : Pool) (W : Workspace) → StandsFor P W → length P.roots ≡ 4 → in_batch W ≡ false
-outside-batch P W stands four = four-outside (forms_in P) (IsWellShaped (forms_in P)) P.bits P.roots W stands four
+outside-batch P W stands four = four-outside (forms_in P) (IsWellShaped (forms_in P)) P.bits P.roots W stands.0 four

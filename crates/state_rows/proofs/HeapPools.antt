@@ -24,7 +24,7 @@ use Rattle.pool_check.specs.Passing.{PassesAsMade}
 use Rattle.pool_check.proofs.VectorReadings.{all-at, vector-reads-the-same}
 use Rattle.pool_check.proofs.PoolPasses.{passes-as-made}
 use Rattle.shell_terms.specs.Edit.{Bytes}
-use Rattle.plain_space.specs.Workspace.{State, Workspace}
+use Rattle.plain_space.specs.Workspace.{State, Workspace, HasBoundedUndo}
 use Rattle.state_rows.specs.Reading.{IsTrieOfNames, IsState}
 use Rattle.state_rows.specs.Standing.{IsBase, StandFor, StandsFor, HeapStandsFor}
 use Rattle.state_rows.proofs.PassesSpace.{standing-valid}
@@ -62,9 +62,13 @@ unfolding IsWell
 well-there F zero l well = form-there F l _ well.kind
 well-there F (suc n) l well = form-there F l _ well.kind
 
-pub pool-bits : (n : ℕ) (G : Forms Bytes) (roots : List ℕ) (bits : ℕ) → (pool n G roots (settings_by bits)).bits ≡ bits
+pub pool-bits : (n : ℕ) (G : Forms Bytes) (roots : List ℕ) (bits history : ℕ) → (pool n G roots (settings_by bits history)).bits ≡ bits
 unfolding pool
-pool-bits n G roots bits = refl
+pool-bits n G roots bits history = refl
+
+pub pool-history : (n : ℕ) (G : Forms Bytes) (roots : List ℕ) (bits history : ℕ) → (pool n G roots (settings_by bits history)).history ≡ history
+unfolding pool
+pool-history n G roots bits history = refl
 
 module _ (h : Heap Bytes) (bits : ℕ) (roots : List ℕ) (W : Workspace) (graph : IsGraph h) (stands : HeapStandsFor h bits roots W) where
   row-some : (r : Option (Row Bytes)) → IsSome (option_map form_of r) → IsSome r
@@ -79,12 +83,12 @@ module _ (h : Heap Bytes) (bits : ℕ) (roots : List ℕ) (W : Workspace) (graph
   rooted = rooted-forms h roots graph live
 
   abbrev made : Pool
-  made = pool (length h.rows) (form_at h) roots (settings_by bits)
+  made = pool (length h.rows) (form_at h) roots (settings_by bits W.history)
 
   root-over : (r : ℕ) → 0 < count r roots → GoesOver (place_in (order (length h.rows) (links_in (form_at h)) roots)) (form_at h) (forms_in made) (IsGoodVector h) (IsWellShaped (forms_in made)) r
   root-over r root =
       let f : ℕ → ℕ = place_in (order (length h.rows) (links_in (form_at h)) roots) in
-      let image = pool-renamed (length h.rows) (form_at h) roots rooted (settings_by bits) r r root (here r) in
+      let image = pool-renamed (length h.rows) (form_at h) roots rooted (settings_by bits W.history) r r root (here r) in
       record {
         renamed = image;
         vectors = λ k down good. (vector-reads-the-same f (form_at h) (forms_in made) ℕ k (renamed-below f (form_at h) (forms_in made) r k down image)).shaped good.shape;
@@ -94,11 +98,13 @@ module _ (h : Heap Bytes) (bits : ℕ) (roots : List ℕ) (W : Workspace) (graph
   made-stands =
       let f : ℕ → ℕ = place_in (order (length h.rows) (links_in (form_at h)) roots) in
       let moved : StandFor (forms_in made) (IsWellShaped (forms_in made)) bits (map f roots) W = roots-over f (form_at h) (forms_in made) (IsGoodVector h) (IsWellShaped (forms_in made)) bits present_rules roots W root-over stands in
-      let placed : StandFor (forms_in made) (IsWellShaped (forms_in made)) bits made.roots W = subst (λ rs. StandFor (forms_in made) (IsWellShaped (forms_in made)) bits rs W) (sym (pool-roots (length h.rows) (form_at h) roots rooted (settings_by bits))) moved in
-      subst (λ b. StandFor (forms_in made) (IsWellShaped (forms_in made)) b made.roots W) (sym (pool-bits (length h.rows) (form_at h) roots bits)) placed
+      let placed : StandFor (forms_in made) (IsWellShaped (forms_in made)) bits made.roots W = subst (λ rs. StandFor (forms_in made) (IsWellShaped (forms_in made)) bits rs W) (sym (pool-roots (length h.rows) (form_at h) roots rooted (settings_by bits W.history))) moved in (
+        subst (λ b. StandFor (forms_in made) (IsWellShaped (forms_in made)) b made.roots W) (sym (pool-bits (length h.rows) (form_at h) roots bits W.history)) placed,
+        sym (pool-history (length h.rows) (form_at h) roots bits W.history),
+      )
 
-  pub pool-stands : bits ≤ CODE_BITS → IsValid (pool_at (λ text. text) h roots (settings_by bits)) × StandsFor (pool_at (λ text. text) h roots (settings_by bits)) W
-  pool-stands few =
-      let passes : PassesAsMade (form_at h) roots made = passes-as-made (length h.rows) (form_at h) roots rooted (settings_by bits) in
-      subst (λ (P : Pool). IsValid P × StandsFor P W) (sym (texts-are-forms h roots (settings_by bits)))
-      (standing-valid present_rules made W (omega (arith, few, pool-bits (length h.rows) (form_at h) roots bits)) made-stands passes.lead_back passes.in_order, made-stands)
+  pub pool-stands : bits ≤ CODE_BITS → HasBoundedUndo W → IsValid (pool_at (λ text. text) h roots (settings_by bits W.history)) × StandsFor (pool_at (λ text. text) h roots (settings_by bits W.history)) W
+  pool-stands few fits =
+      let passes : PassesAsMade (form_at h) roots made = passes-as-made (length h.rows) (form_at h) roots rooted (settings_by bits W.history) in
+      subst (λ (P : Pool). IsValid P × StandsFor P W) (sym (texts-are-forms h roots (settings_by bits W.history)))
+      (standing-valid present_rules made W (omega (arith, few, pool-bits (length h.rows) (form_at h) roots bits W.history)) made-stands fits passes.lead_back passes.in_order, made-stands)

@@ -32,9 +32,9 @@ reaches-renamed f G H a b (below l k m has down) image =
     (reaches-renamed f G H k m down (renamed-link f G H l k image has))
 
 module _ (h : Heap Bytes) (bits : ℕ) (roots : List ℕ) (W : Workspace) (graph : IsGraph h) (live : (r : ℕ) → 0 < count r roots → IsSome (row_at h r)) (sums : HaveSums h roots)
-    (stands : StandsFor (pool_at (λ text. text) h roots (settings_by bits)) W) where
+    (stands : StandsFor (pool_at (λ text. text) h roots (settings_by bits W.history)) W) where
   abbrev made : Pool
-  made = pool (length h.rows) (form_at h) roots (settings_by bits)
+  made = pool (length h.rows) (form_at h) roots (settings_by bits W.history)
 
   abbrev listed : List ℕ
   listed = order (length h.rows) (links_in (form_at h)) roots
@@ -46,7 +46,7 @@ module _ (h : Heap Bytes) (bits : ℕ) (roots : List ℕ) (W : Workspace) (graph
   place-over : (r : ℕ) → 0 < count r roots → GoesOver (slice_index listed) (forms_in made) (form_at h) (IsWellShaped (forms_in made)) (IsGoodVector h) (place_in listed r)
   place-over r root =
       let f : ℕ → ℕ = slice_index listed in
-      let image : IsRenamed f (forms_in made) (form_at h) (place_in listed r) = pool-back (length h.rows) (form_at h) roots rooted (settings_by bits) r r root (here r) in
+      let image : IsRenamed f (forms_in made) (form_at h) (place_in listed r) = pool-back (length h.rows) (form_at h) roots rooted (settings_by bits W.history) r r root (here r) in
       record {
         renamed = image;
         vectors = λ k down shaped.
@@ -60,15 +60,15 @@ module _ (h : Heap Bytes) (bits : ℕ) (roots : List ℕ) (W : Workspace) (graph
 
   each-over : (p : ℕ) → 0 < count p made.roots → GoesOver (slice_index listed) (forms_in made) (form_at h) (IsWellShaped (forms_in made)) (IsGoodVector h) p
   each-over p some =
-      let found = map-found (place_in listed) roots p (omega (arith, some, ap (count p) (pool-roots (length h.rows) (form_at h) roots rooted (settings_by bits)))) in
+      let found = map-found (place_in listed) roots p (omega (arith, some, ap (count p) (pool-roots (length h.rows) (form_at h) roots rooted (settings_by bits W.history)))) in
       subst (λ q. GoesOver (slice_index listed) (forms_in made) (form_at h) (IsWellShaped (forms_in made)) (IsGoodVector h) q) found.2 (place-over found.0 found.1)
 
   pub roots-stand : HeapStandsFor h bits roots W
   roots-stand =
-      let there : StandsFor made W = subst (λ (P : Pool). StandsFor P W) (texts-are-forms h roots (settings_by bits)) stands in
-      let by_bits : StandFor (forms_in made) (IsWellShaped (forms_in made)) bits made.roots W = subst (λ b. StandFor (forms_in made) (IsWellShaped (forms_in made)) b made.roots W) (pool-bits (length h.rows) (form_at h) roots bits) there in
+      let there : StandsFor made W = subst (λ (P : Pool). StandsFor P W) (texts-are-forms h roots (settings_by bits W.history)) stands in
+      let by_bits : StandFor (forms_in made) (IsWellShaped (forms_in made)) bits made.roots W = subst (λ b. StandFor (forms_in made) (IsWellShaped (forms_in made)) b made.roots W) (pool-bits (length h.rows) (form_at h) roots bits W.history) there.0 in
       let back : map (slice_index listed) made.roots ≡ roots =
-      ap (map (slice_index listed)) (pool-roots (length h.rows) (form_at h) roots rooted (settings_by bits))
+      ap (map (slice_index listed)) (pool-roots (length h.rows) (form_at h) roots rooted (settings_by bits W.history))
       ∙ map-back (place_in listed) (slice_index listed) roots (λ r root. place-back (length h.rows) (form_at h) roots rooted r r root (here r)) in
       subst (λ rs. StandFor (form_at h) (IsGoodVector h) bits rs W) back
       (roots-over (slice_index listed) (forms_in made) (form_at h) (IsWellShaped (forms_in made)) (IsGoodVector h) bits present_rules made.roots W each-over by_bits)

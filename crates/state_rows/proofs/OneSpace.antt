@@ -105,21 +105,22 @@ module _ (F : Forms Bytes) (V : ℕ → Type 0) (bits : ℕ) where
   one-base rules (l ∷ m ∷ ls) None b first second = absurd first
   one-base rules (l ∷ m ∷ ls) (Some x) b first second = absurd first
 
-  pub one-space-by : (rules : Rules) (roots : List ℕ) (x y : Workspace) → StandForBy rules F V bits roots x → StandForBy rules F V bits roots y → x ≡ y
-  one-space-by rules [] x y first second = absurd first
-  one-space-by rules (c ∷ []) x y first second = absurd first
-  one-space-by rules (c ∷ v ∷ []) x y first second = absurd first
-  one-space-by rules (c ∷ v ∷ u ∷ []) x y first second = absurd first
-  one-space-by rules (c ∷ v ∷ u ∷ r ∷ base) x y first second =
-      let made : State → Named State → List State → List State → Option State → Workspace = λ now kept back forth start. record { current = now; versions = kept; undo = back; redo = forth; base = start } in
+  pub one-space-by : (rules : Rules) (roots : List ℕ) (x y : Workspace) → x.history ≡ y.history → StandForBy rules F V bits roots x → StandForBy rules F V bits roots y → x ≡ y
+  one-space-by rules [] x y same first second = absurd first
+  one-space-by rules (c ∷ []) x y same first second = absurd first
+  one-space-by rules (c ∷ v ∷ []) x y same first second = absurd first
+  one-space-by rules (c ∷ v ∷ u ∷ []) x y same first second = absurd first
+  one-space-by rules (c ∷ v ∷ u ∷ r ∷ base) x y same first second =
+      let made : State → Named State → List State → List State → ℕ → Option State → Workspace = λ now kept back forth most start. record { current = now; versions = kept; undo = back; redo = forth; history = most; base = start } in
       let current = one-state c x.current y.current first.0 second.0 in
       let versions = one-named (IsStateBy rules F V bits) one-state v x.versions y.versions first.1 second.1 in
       let undo = one-vector (IsStateBy rules F V bits) one-state u x.undo y.undo first.2 second.2 in
       let redo = one-vector (IsStateBy rules F V bits) one-state r x.redo y.redo first.3 second.3 in
       let start = one-base rules base x.base y.base first.4 second.4 in
-      ap (λ s. made s x.versions x.undo x.redo x.base) current ∙ ap (λ s. made y.current s x.undo x.redo x.base) versions ∙ ap (λ s. made y.current y.versions s x.redo x.base) undo
-      ∙ ap (λ s. made y.current y.versions y.undo s x.base) redo ∙ ap (λ s. made y.current y.versions y.undo y.redo s) start
+      ap (λ s. made s x.versions x.undo x.redo x.history x.base) current ∙ ap (λ s. made y.current s x.undo x.redo x.history x.base) versions
+      ∙ ap (λ s. made y.current y.versions s x.redo x.history x.base) undo ∙ ap (λ s. made y.current y.versions y.undo s x.history x.base) redo
+      ∙ ap (λ n. made y.current y.versions y.undo y.redo n x.base) same ∙ ap (λ s. made y.current y.versions y.undo y.redo y.history s) start
 
   -- by the rules by which pools are made
-  pub one-space : (roots : List ℕ) (x y : Workspace) → StandFor F V bits roots x → StandFor F V bits roots y → x ≡ y
+  pub one-space : (roots : List ℕ) (x y : Workspace) → x.history ≡ y.history → StandFor F V bits roots x → StandFor F V bits roots y → x ≡ y
   one-space = one-space-by present_rules

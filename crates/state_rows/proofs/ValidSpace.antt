@@ -7,6 +7,7 @@ use Rattle.std.specs.Cmp.Lexicographic.{slice_cmp}
 use Rattle.std.specs.FinMap as map
 use Rattle.std.proofs.lemmas.Bool.{and_from, eq-eqb, leb-true}
 use Rattle.std.proofs.lemmas.Cmp.{nat_list_cmp_total}
+use Rattle.std.proofs.lemmas.Slice.Zip.{AllZip-long}
 use Rattle.std.proofs.lemmas.List.Elements.{All-nil, All-cons, All-head, All-tail}
 use Rattle.std.proofs.lemmas.List.Folds.{list_all-append}
 use Rattle.elem_core.specs.Cell.{IsCell}
@@ -23,13 +24,15 @@ use Rattle.pool_text.specs.Rules.{Rules}
 use Rattle.pool_text.specs.Pool.{forms_in, row_count}
 use Rattle.pool_text.specs.declared.pool.Pool.{Pool}
 use Rattle.pool_check.specs.Rows.{is_line_or_node, texts_are_lines}
+use Rattle.pool_check.specs.Vectors.{length_at}
 use Rattle.pool_check.specs.Tries.{entries_below}
-use Rattle.pool_check.specs.Kinds.{both_pass, is_vector_root, is_trie_root, is_pair_of, is_state_of, is_cell_of, elements_pass, is_vector_of, is_trie_of, is_name_cell, is_lines_vector, is_buffer_map, is_stars_set, is_state, is_versions_map, is_history, are_roots, roots_are_of_kind}
+use Rattle.pool_check.specs.Kinds.{both_pass, is_vector_root, is_trie_root, is_pair_of, is_state_of, is_cell_of, elements_pass, is_vector_of, is_trie_of, is_name_cell, is_lines_vector, is_buffer_map, is_stars_set, is_state, is_versions_map, is_history, are_roots, roots_are_of_kind, undo_is_within, undo_fits}
 use Rattle.pool_check.specs.Damages.{IsValidBy}
 use Rattle.pool_check.proofs.TestLemmas.{and-first, and-second, not-both, all-at}
+use Rattle.pool_check.proofs.VectorLaw.{length_at-is}
 use Rattle.pool_check.proofs.PoolLaws.{vector-roots-well, trie-roots-canonical}
 use Rattle.shell_terms.specs.Edit.{Bytes}
-use Rattle.plain_space.specs.Workspace.{Named, Names, State, Workspace}
+use Rattle.plain_space.specs.Workspace.{Named, Names, State, Workspace, HasBoundedUndo}
 use Rattle.state_rows.specs.Reading.{StandsIfThere, IsVectorOver, IsText, AreLines, IsNamedBy, AreNamesBy, IsStateBy, AreVersionsBy, IsHistoryBy}
 use Rattle.state_rows.specs.Standing.{StandForBy, StandsForBy}
 use Rattle.state_rows.proofs.TrieSets.{all-named}
@@ -276,7 +279,7 @@ module _ {rules : Rules} (P : Pool) (valid : IsValidBy rules P) where
       let forth = vector-from (is_state n F) (IsStateBy rules F V P.bits) state-from r (and-second (is_state n F c && is_versions_map n F v && is_history n F u) (is_history n F r) h) in
       (now.0, kept.0, back.0, forth.0, now.1, kept.1, back.1, forth.1)
 
-  roots-from : (roots : List ℕ) → are_roots n F roots ≡ true → (W : Workspace) × StandForBy rules F V P.bits roots W
+  roots-from : (roots : List ℕ) → are_roots n F roots ≡ true → (W : Workspace) × StandForBy rules F V P.bits roots W × (W.history ≡ P.history)
   unfolding are_roots
   roots-from [] h = absurd (not-both h)
   roots-from (c ∷ []) h = absurd (not-both h)
@@ -284,13 +287,24 @@ module _ {rules : Rules} (P : Pool) (valid : IsValidBy rules P) where
   roots-from (c ∷ v ∷ u ∷ []) h = absurd (not-both h)
   roots-from (c ∷ v ∷ u ∷ r ∷ []) h =
       let four = four-from c v u r h in
-      (record { current = four.0; versions = four.1; undo = four.2; redo = four.3; base = None }, (four.4, four.5, four.6, four.7, tt))
+      (record { current = four.0; versions = four.1; undo = four.2; redo = four.3; history = P.history; base = None }, (four.4, four.5, four.6, four.7, tt), refl)
   roots-from (c ∷ v ∷ u ∷ r ∷ b ∷ []) h =
       let four = four-from c v u r (and-first (is_state n F c && is_versions_map n F v && is_history n F u && is_history n F r) (is_state n F b) h) in
       let start = state-from b (and-second (is_state n F c && is_versions_map n F v && is_history n F u && is_history n F r) (is_state n F b) h) in
-      (record { current = four.0; versions = four.1; undo = four.2; redo = four.3; base = Some start.0 }, (four.4, four.5, four.6, four.7, start.1))
+      (record { current = four.0; versions = four.1; undo = four.2; redo = four.3; history = P.history; base = Some start.0 }, (four.4, four.5, four.6, four.7, start.1), refl)
   roots-from (c ∷ v ∷ u ∷ r ∷ b ∷ a ∷ rs) h = absurd (not-both h)
 
-  pub valid-stands : (W : Workspace) × StandsForBy rules P W
-  unfolding roots_are_of_kind
-  valid-stands = roots-from P.roots valid.kinds
+  bounded-from : (roots : List ℕ) (W : Workspace) → StandForBy rules F V P.bits roots W → W.history ≡ P.history → undo_is_within F P.history roots ≡ true → HasBoundedUndo W
+  bounded-from [] W is same h = absurd is
+  bounded-from (c ∷ []) W is same h = absurd is
+  bounded-from (c ∷ v ∷ []) W is same h = absurd is
+  bounded-from (c ∷ v ∷ u ∷ []) W is same h = absurd is
+  bounded-from (c ∷ v ∷ u ∷ r ∷ base) W is same h =
+      let many = AllZip-long (IsStateBy rules F V P.bits) (seq F u) W.undo is.2.values in
+      omega (arith, leb-true (length_at F (height_in F u) u) P.history h, length_at-is F (height_in F u) u, many, same)
+
+  pub valid-stands : (W : Workspace) × StandsForBy rules P W × HasBoundedUndo W
+  unfolding roots_are_of_kind undo_fits
+  valid-stands =
+      let from = roots-from P.roots valid.kinds in
+      (from.0, (from.1, from.2), bounded-from P.roots from.0 from.1 from.2 valid.fits)

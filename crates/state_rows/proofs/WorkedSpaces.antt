@@ -26,7 +26,7 @@ use Rattle.pool_check.specs.Documents.{chained}
 use Rattle.pool_check.specs.Rows.{rows_in_range_by, links_lead_back, texts_are_lines}
 use Rattle.pool_check.specs.Vectors.{is_thick, length_at, are_children, vectors_stand}
 use Rattle.pool_check.specs.Tries.{entries_below, are_branches, tries_stand_by}
-use Rattle.pool_check.specs.Kinds.{is_vector_root, is_trie_root, elements_pass, are_roots, roots_are_of_kind}
+use Rattle.pool_check.specs.Kinds.{is_vector_root, is_trie_root, elements_pass, are_roots, roots_are_of_kind, undo_fits}
 use Rattle.pool_check.specs.Damages.{rows_in_order, IsValid}
 use Rattle.pool_check.proofs.PoolLaws.{vector-roots-well, trie-roots-canonical}
 use Rattle.shell_terms.specs.Edit.{Bytes}
@@ -98,28 +98,28 @@ module _ (P : Pool) (valid : IsValid P) where
 -- the pools are valid
 
 start-valid : IsValid start_pool
-unfolding places order rows_in_range_by links_lead_back texts_are_lines is_thick length_at are_children vectors_stand entries_below are_branches tries_stand_by elements_pass are_roots roots_are_of_kind rows_in_order text_code is_name rows_from rank
-start-valid = record { in_range = refl; lead_back = refl; lines = refl; vectors = refl; tries = refl; kinds = refl; in_order = refl }
+unfolding places order rows_in_range_by links_lead_back texts_are_lines is_thick length_at are_children vectors_stand entries_below are_branches tries_stand_by elements_pass are_roots roots_are_of_kind undo_fits rows_in_order text_code is_name rows_from rank
+start-valid = record { in_range = refl; lead_back = refl; lines = refl; vectors = refl; tries = refl; kinds = refl; fits = refl; in_order = refl }
 
 shared-valid : IsValid shared_empties
-unfolding places order rows_in_range_by links_lead_back texts_are_lines is_thick length_at are_children vectors_stand entries_below are_branches tries_stand_by elements_pass are_roots roots_are_of_kind rows_in_order text_code is_name rows_from rank
-shared-valid = record { in_range = refl; lead_back = refl; lines = refl; vectors = refl; tries = refl; kinds = refl; in_order = refl }
+unfolding places order rows_in_range_by links_lead_back texts_are_lines is_thick length_at are_children vectors_stand entries_below are_branches tries_stand_by elements_pass are_roots roots_are_of_kind undo_fits rows_in_order text_code is_name rows_from rank
+shared-valid = record { in_range = refl; lead_back = refl; lines = refl; vectors = refl; tries = refl; kinds = refl; fits = refl; in_order = refl }
 
 two_cells-valid : IsValid two_cells
-unfolding places order rows_in_range_by links_lead_back texts_are_lines is_thick length_at are_children vectors_stand entries_below are_branches tries_stand_by elements_pass are_roots roots_are_of_kind rows_in_order text_code is_name rows_from rank
-two_cells-valid = record { in_range = refl; lead_back = refl; lines = refl; vectors = refl; tries = refl; kinds = refl; in_order = refl }
+unfolding places order rows_in_range_by links_lead_back texts_are_lines is_thick length_at are_children vectors_stand entries_below are_branches tries_stand_by elements_pass are_roots roots_are_of_kind undo_fits rows_in_order text_code is_name rows_from rank
+two_cells-valid = record { in_range = refl; lead_back = refl; lines = refl; vectors = refl; tries = refl; kinds = refl; fits = refl; in_order = refl }
 
 one_line-valid : IsValid one_line_twice
-unfolding places order rows_in_range_by links_lead_back texts_are_lines is_thick length_at are_children vectors_stand entries_below are_branches tries_stand_by elements_pass are_roots roots_are_of_kind rows_in_order text_code is_name rows_from rank
-one_line-valid = record { in_range = refl; lead_back = refl; lines = refl; vectors = refl; tries = refl; kinds = refl; in_order = refl }
+unfolding places order rows_in_range_by links_lead_back texts_are_lines is_thick length_at are_children vectors_stand entries_below are_branches tries_stand_by elements_pass are_roots roots_are_of_kind undo_fits rows_in_order text_code is_name rows_from rank
+one_line-valid = record { in_range = refl; lead_back = refl; lines = refl; vectors = refl; tries = refl; kinds = refl; fits = refl; in_order = refl }
 
 sub_node-valid : IsValid sub_node
-unfolding places order rows_in_range_by links_lead_back texts_are_lines is_thick length_at are_children vectors_stand entries_below are_branches tries_stand_by elements_pass are_roots roots_are_of_kind rows_in_order text_code is_name rows_from rank
-sub_node-valid = record { in_range = refl; lead_back = refl; lines = refl; vectors = refl; tries = refl; kinds = refl; in_order = refl }
+unfolding places order rows_in_range_by links_lead_back texts_are_lines is_thick length_at are_children vectors_stand entries_below are_branches tries_stand_by elements_pass are_roots roots_are_of_kind undo_fits rows_in_order text_code is_name rows_from rank
+sub_node-valid = record { in_range = refl; lead_back = refl; lines = refl; vectors = refl; tries = refl; kinds = refl; fits = refl; in_order = refl }
 
 chained-valid : IsValid chained
-unfolding places order rows_in_range_by links_lead_back texts_are_lines is_thick length_at are_children vectors_stand entries_below are_branches tries_stand_by elements_pass are_roots roots_are_of_kind rows_in_order text_code is_name rows_from rank
-chained-valid = record { in_range = refl; lead_back = refl; lines = refl; vectors = refl; tries = refl; kinds = refl; in_order = refl }
+unfolding places order rows_in_range_by links_lead_back texts_are_lines is_thick length_at are_children vectors_stand entries_below are_branches tries_stand_by elements_pass are_roots roots_are_of_kind undo_fits rows_in_order text_code is_name rows_from rank
+chained-valid = record { in_range = refl; lead_back = refl; lines = refl; vectors = refl; tries = refl; kinds = refl; fits = refl; in_order = refl }
 
 -- the names and the lines of these pools
 
@@ -147,102 +147,120 @@ x-cell = line-passed x_line refl
 pub start-stands : StandsFor start_pool start
 unfolding entries_below rows_from rank seq_at
 start-stands = (
-  record { buffers = 0; stars = 1; row = refl; buffers_are = nothing-named start_pool start-valid _ 0 refl refl; stars_are = no-names start_pool start-valid 1 refl refl },
-  nothing-named start_pool start-valid _ 3 refl refl,
-  vector-of start_pool start-valid _ 4 [] [] refl refl tt,
-  vector-of start_pool start-valid _ 5 [] [] refl refl tt,
-  tt,
+  (
+    record { buffers = 0; stars = 1; row = refl; buffers_are = nothing-named start_pool start-valid _ 0 refl refl; stars_are = no-names start_pool start-valid 1 refl refl },
+    nothing-named start_pool start-valid _ 3 refl refl,
+    vector-of start_pool start-valid _ 4 [] [] refl refl tt,
+    vector-of start_pool start-valid _ 5 [] [] refl refl tt,
+    tt,
+  ),
+  refl,
 )
 
 pub shared-stands : StandsFor shared_empties start
 unfolding entries_below rows_from rank seq_at
 shared-stands = (
-  record { buffers = 0; stars = 0; row = refl; buffers_are = nothing-named shared_empties shared-valid _ 0 refl refl; stars_are = no-names shared_empties shared-valid 0 refl refl },
-  nothing-named shared_empties shared-valid _ 0 refl refl,
-  vector-of shared_empties shared-valid _ 2 [] [] refl refl tt,
-  vector-of shared_empties shared-valid _ 2 [] [] refl refl tt,
-  tt,
+  (
+    record { buffers = 0; stars = 0; row = refl; buffers_are = nothing-named shared_empties shared-valid _ 0 refl refl; stars_are = no-names shared_empties shared-valid 0 refl refl },
+    nothing-named shared_empties shared-valid _ 0 refl refl,
+    vector-of shared_empties shared-valid _ 2 [] [] refl refl tt,
+    vector-of shared_empties shared-valid _ 2 [] [] refl refl tt,
+    tt,
+  ),
+  refl,
 )
 
 pub two_cells-stand : StandsFor two_cells (space_of two_lines)
 unfolding entries_below rows_from rank seq_at
 two_cells-stand = (
-  record {
-    buffers = 5;
-    stars = 6;
-    row = refl;
-    buffers_are =
-        named-of two_cells two_cells-valid _ 5 (entry a_key 4 ∷ []) (binding a_key 3 ∷ []) ((a_key, x_line ∷ x_line ∷ []) ∷ []) two_lines.buffers refl refl (All-cons (λ e. IsName e.key) (entry a_key 4) [] a-name (All-nil (λ e. IsName e.key)))
-        (record { key_cell = 0; cell = refl; row = refl; key = refl }, tt)
-        ((refl, vector-of two_cells two_cells-valid _ 3 (1 ∷ 2 ∷ []) (x_line ∷ x_line ∷ []) refl refl (record { row = refl; line = x-cell }, (record { row = refl; line = x-cell }, tt))), tt)
-        (λ name. get-one a_key (x_line ∷ x_line ∷ []) name);
-    stars_are = no-names two_cells two_cells-valid 6 refl refl;
-  },
-  nothing-named two_cells two_cells-valid _ 8 refl refl,
-  vector-of two_cells two_cells-valid _ 9 [] [] refl refl tt,
-  vector-of two_cells two_cells-valid _ 10 [] [] refl refl tt,
-  tt,
+  (
+    record {
+      buffers = 5;
+      stars = 6;
+      row = refl;
+      buffers_are =
+          named-of two_cells two_cells-valid _ 5 (entry a_key 4 ∷ []) (binding a_key 3 ∷ []) ((a_key, x_line ∷ x_line ∷ []) ∷ []) two_lines.buffers refl refl (All-cons (λ e. IsName e.key) (entry a_key 4) [] a-name (All-nil (λ e. IsName e.key)))
+          (record { key_cell = 0; cell = refl; row = refl; key = refl }, tt)
+          ((refl, vector-of two_cells two_cells-valid _ 3 (1 ∷ 2 ∷ []) (x_line ∷ x_line ∷ []) refl refl (record { row = refl; line = x-cell }, (record { row = refl; line = x-cell }, tt))), tt)
+          (λ name. get-one a_key (x_line ∷ x_line ∷ []) name);
+      stars_are = no-names two_cells two_cells-valid 6 refl refl;
+    },
+    nothing-named two_cells two_cells-valid _ 8 refl refl,
+    vector-of two_cells two_cells-valid _ 9 [] [] refl refl tt,
+    vector-of two_cells two_cells-valid _ 10 [] [] refl refl tt,
+    tt,
+  ),
+  refl,
 )
 
 pub one_line-stands : StandsFor one_line_twice (space_of two_lines)
 unfolding entries_below rows_from rank seq_at
 one_line-stands = (
-  record {
-    buffers = 4;
-    stars = 5;
-    row = refl;
-    buffers_are =
-        named-of one_line_twice one_line-valid _ 4 (entry a_key 3 ∷ []) (binding a_key 2 ∷ []) ((a_key, x_line ∷ x_line ∷ []) ∷ []) two_lines.buffers refl refl (All-cons (λ e. IsName e.key) (entry a_key 3) [] a-name (All-nil (λ e. IsName e.key)))
-        (record { key_cell = 0; cell = refl; row = refl; key = refl }, tt)
-        ((refl, vector-of one_line_twice one_line-valid _ 2 (1 ∷ 1 ∷ []) (x_line ∷ x_line ∷ []) refl refl (record { row = refl; line = x-cell }, (record { row = refl; line = x-cell }, tt))), tt)
-        (λ name. get-one a_key (x_line ∷ x_line ∷ []) name);
-    stars_are = no-names one_line_twice one_line-valid 5 refl refl;
-  },
-  nothing-named one_line_twice one_line-valid _ 7 refl refl,
-  vector-of one_line_twice one_line-valid _ 8 [] [] refl refl tt,
-  vector-of one_line_twice one_line-valid _ 9 [] [] refl refl tt,
-  tt,
+  (
+    record {
+      buffers = 4;
+      stars = 5;
+      row = refl;
+      buffers_are =
+          named-of one_line_twice one_line-valid _ 4 (entry a_key 3 ∷ []) (binding a_key 2 ∷ []) ((a_key, x_line ∷ x_line ∷ []) ∷ []) two_lines.buffers refl refl (All-cons (λ e. IsName e.key) (entry a_key 3) [] a-name (All-nil (λ e. IsName e.key)))
+          (record { key_cell = 0; cell = refl; row = refl; key = refl }, tt)
+          ((refl, vector-of one_line_twice one_line-valid _ 2 (1 ∷ 1 ∷ []) (x_line ∷ x_line ∷ []) refl refl (record { row = refl; line = x-cell }, (record { row = refl; line = x-cell }, tt))), tt)
+          (λ name. get-one a_key (x_line ∷ x_line ∷ []) name);
+      stars_are = no-names one_line_twice one_line-valid 5 refl refl;
+    },
+    nothing-named one_line_twice one_line-valid _ 7 refl refl,
+    vector-of one_line_twice one_line-valid _ 8 [] [] refl refl tt,
+    vector-of one_line_twice one_line-valid _ 9 [] [] refl refl tt,
+    tt,
+  ),
+  refl,
 )
 
 pub sub_node-stands : StandsFor sub_node (space_of two_buffers)
 unfolding entries_below rows_from rank seq_at
 sub_node-stands = (
-  record {
-    buffers = 7;
-    stars = 8;
-    row = refl;
-    buffers_are =
-        named-of sub_node sub_node-valid _ 7 (entry a_key 2 ∷ entry A_key 5 ∷ []) (binding a_key 1 ∷ binding A_key 4 ∷ []) ((a_key, []) ∷ (A_key, []) ∷ []) two_buffers.buffers refl refl
-        (All-cons (λ e. IsName e.key) (entry a_key 2) (entry A_key 5 ∷ []) a-name (All-cons (λ e. IsName e.key) (entry A_key 5) [] A-name (All-nil (λ e. IsName e.key))))
-        (record { key_cell = 0; cell = refl; row = refl; key = refl }, (record { key_cell = 3; cell = refl; row = refl; key = refl }, tt))
-        ((refl, vector-of sub_node sub_node-valid _ 1 [] [] refl refl tt), ((refl, vector-of sub_node sub_node-valid _ 4 [] [] refl refl tt), tt))
-        (λ name. get-two a_key A_key [] [] name);
-    stars_are = no-names sub_node sub_node-valid 8 refl refl;
-  },
-  nothing-named sub_node sub_node-valid _ 10 refl refl,
-  vector-of sub_node sub_node-valid _ 11 [] [] refl refl tt,
-  vector-of sub_node sub_node-valid _ 12 [] [] refl refl tt,
-  tt,
+  (
+    record {
+      buffers = 7;
+      stars = 8;
+      row = refl;
+      buffers_are =
+          named-of sub_node sub_node-valid _ 7 (entry a_key 2 ∷ entry A_key 5 ∷ []) (binding a_key 1 ∷ binding A_key 4 ∷ []) ((a_key, []) ∷ (A_key, []) ∷ []) two_buffers.buffers refl refl
+          (All-cons (λ e. IsName e.key) (entry a_key 2) (entry A_key 5 ∷ []) a-name (All-cons (λ e. IsName e.key) (entry A_key 5) [] A-name (All-nil (λ e. IsName e.key))))
+          (record { key_cell = 0; cell = refl; row = refl; key = refl }, (record { key_cell = 3; cell = refl; row = refl; key = refl }, tt))
+          ((refl, vector-of sub_node sub_node-valid _ 1 [] [] refl refl tt), ((refl, vector-of sub_node sub_node-valid _ 4 [] [] refl refl tt), tt))
+          (λ name. get-two a_key A_key [] [] name);
+      stars_are = no-names sub_node sub_node-valid 8 refl refl;
+    },
+    nothing-named sub_node sub_node-valid _ 10 refl refl,
+    vector-of sub_node sub_node-valid _ 11 [] [] refl refl tt,
+    vector-of sub_node sub_node-valid _ 12 [] [] refl refl tt,
+    tt,
+  ),
+  refl,
 )
 
 -- the keys of one code stand in rising order, the great letter first
 pub chained-stands : StandsFor chained (space_of two_buffers)
 unfolding entries_below rows_from rank seq_at
 chained-stands = (
-  record {
-    buffers = 20;
-    stars = 21;
-    row = refl;
-    buffers_are =
-        named-of chained chained-valid _ 20 (entry A_key 2 ∷ entry a_key 5 ∷ []) (binding A_key 1 ∷ binding a_key 4 ∷ []) ((A_key, []) ∷ (a_key, []) ∷ []) two_buffers.buffers refl refl
-        (All-cons (λ e. IsName e.key) (entry A_key 2) (entry a_key 5 ∷ []) A-name (All-cons (λ e. IsName e.key) (entry a_key 5) [] a-name (All-nil (λ e. IsName e.key))))
-        (record { key_cell = 0; cell = refl; row = refl; key = refl }, (record { key_cell = 3; cell = refl; row = refl; key = refl }, tt))
-        ((refl, vector-of chained chained-valid _ 1 [] [] refl refl tt), ((refl, vector-of chained chained-valid _ 4 [] [] refl refl tt), tt))
-        (λ name. get-two a_key A_key [] [] name ∙ either-first (eq_by_cmp (slice_cmp nat_cmp) name a_key) (eq_by_cmp (slice_cmp nat_cmp) name A_key) []);
-    stars_are = no-names chained chained-valid 21 refl refl;
-  },
-  nothing-named chained chained-valid _ 23 refl refl,
-  vector-of chained chained-valid _ 24 [] [] refl refl tt,
-  vector-of chained chained-valid _ 25 [] [] refl refl tt,
-  tt,
+  (
+    record {
+      buffers = 20;
+      stars = 21;
+      row = refl;
+      buffers_are =
+          named-of chained chained-valid _ 20 (entry A_key 2 ∷ entry a_key 5 ∷ []) (binding A_key 1 ∷ binding a_key 4 ∷ []) ((A_key, []) ∷ (a_key, []) ∷ []) two_buffers.buffers refl refl
+          (All-cons (λ e. IsName e.key) (entry A_key 2) (entry a_key 5 ∷ []) A-name (All-cons (λ e. IsName e.key) (entry a_key 5) [] a-name (All-nil (λ e. IsName e.key))))
+          (record { key_cell = 0; cell = refl; row = refl; key = refl }, (record { key_cell = 3; cell = refl; row = refl; key = refl }, tt))
+          ((refl, vector-of chained chained-valid _ 1 [] [] refl refl tt), ((refl, vector-of chained chained-valid _ 4 [] [] refl refl tt), tt))
+          (λ name. get-two a_key A_key [] [] name ∙ either-first (eq_by_cmp (slice_cmp nat_cmp) name a_key) (eq_by_cmp (slice_cmp nat_cmp) name A_key) []);
+      stars_are = no-names chained chained-valid 21 refl refl;
+    },
+    nothing-named chained chained-valid _ 23 refl refl,
+    vector-of chained chained-valid _ 24 [] [] refl refl tt,
+    vector-of chained chained-valid _ 25 [] [] refl refl tt,
+    tt,
+  ),
+  refl,
 )

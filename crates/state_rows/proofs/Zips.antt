@@ -1,5 +1,5 @@
 -- Lists whose elements stand for values one by one: a place, one more, a front, and another way of standing.
-use Rattle.std.proofs.Common.{ℕ, zero, suc, ◌<◌, List, [], ◌∷◌, ◌++◌, length, take, set, get_or, refl, arith}
+use Rattle.std.proofs.Common.{ℕ, zero, suc, ◌<◌, List, [], ◌∷◌, ◌++◌, length, take, drop, set, get_or, refl, arith}
 use Rattle.std.specs.Prelude.{IsSomeAnd}
 use Rattle.std.specs.List.{AllZip, slice_get}
 use Rattle.node_heap.specs.Links.{count}
@@ -37,6 +37,13 @@ module _ {X : Type 0} (R : ℕ → X → Type 0) where
   zip-take (suc n) [] (x ∷ xs) zip = absurd zip
   zip-take (suc n) (k ∷ ks) [] zip = absurd zip
   zip-take (suc n) (k ∷ ks) (x ∷ xs) zip = (zip.0, zip-take n ks xs zip.1)
+
+  pub zip-drop : (n : ℕ) (ks : List ℕ) (xs : List X) → AllZip R ks xs → AllZip R (drop n ks) (drop n xs)
+  zip-drop zero ks xs zip = zip
+  zip-drop (suc n) [] [] zip = tt
+  zip-drop (suc n) [] (x ∷ xs) zip = absurd zip
+  zip-drop (suc n) (k ∷ ks) [] zip = absurd zip
+  zip-drop (suc n) (k ∷ ks) (x ∷ xs) zip = zip-drop n ks xs zip.1
 
 -- what the links of a list stand for in one way they stand for in another
 pub zip-among : {X : Type 0} (R S : ℕ → X → Type 0) (ks : List ℕ) (xs : List X) → ((k : ℕ) → 0 < count k ks → (x : X) → R k x → S k x) → AllZip R ks xs → AllZip S ks xs

@@ -1,7 +1,7 @@
 //! Histories with a state more or less, edited in place: of the rows on the way to a history's end each one is written that
 //! has one owner, as long as all rows above it have one owner too, and each other one is copied. Each call takes the
 //! rows that it makes from spares, which its caller has reserved, and keeps what is held besides.
-ghost use Rattle.std.specs.Prelude.{◌≡◌, ℕ, ◌+◌, ◌-◌, ◌^◌, ◌<◌, ◌≤◌, List, [], ◌∷◌, ◌++◌, length, take, slice_get, IsSomeAnd};
+ghost use Rattle.std.specs.Prelude.{◌≡◌, ℕ, ◌+◌, ◌-◌, ◌^◌, ◌<◌, ◌≤◌, List, [], ◌∷◌, ◌++◌, length, take, drop, slice_get, IsSomeAnd};
 ghost use Rattle.node_heap.specs.Links.{count};
 ghost use Rattle.node_heap.specs.Heap.{form_at, holds_at, owners_at, hold_count, HasSpares, half_holds};
 ghost use Rattle.node_heap.specs.Calls.{HasHolds, KeepsHeld, KeepsOwners, KeepsToNeed, MakesJust, MakesWhatCame, SameRows, Trades};
@@ -15,6 +15,7 @@ use edit_vec::FlexEdit;
 use elem_core::Text;
 use node_heap::{Heap, Link};
 use rrb_core::Flex;
+use rrb_join::{SEAM_NODES, drop_front};
 
 /// The nodes of `pushed`: a root of one's own, and a row for each height and a new root.
 pub const PUSHED_NODES: usize = 10;
@@ -24,6 +25,9 @@ pub const POPPED_NODES: usize = 9;
 
 /// The nodes of `emptied`.
 pub const EMPTIED_NODES: usize = 1;
+
+/// The nodes for which `shortened` needs room.
+pub const SHORTENED_NODES: usize = SEAM_NODES;
 
 /// The history with the state after its last. It spends the holds of both. There is room for one more state. It makes
 /// at most 10 nodes, and none in vain.
@@ -86,6 +90,26 @@ fn opened(heap: &mut Heap<Text>, history: Flex) -> FlexEdit
         Ok(edit) => edit,
         Err(_fault) => unreachable!(),
     }
+}
+
+/// The history without its first `states` states. It spends the history's hold. It makes rows along the cut alone, at most 15 nodes, and
+/// shares the others, so that it takes the time of one path beside that of what goes.
+pub fn shortened(heap: &mut Heap<Text>, history: Flex, states: u32) -> Flex
+    requires few { hold_count heap.old < half_holds }
+    requires held { 0 < holds_at heap.old history }
+    requires history { (bits : ℕ) × (ss : List State) × IsHistoryIn heap.old bits history ss }
+    requires spares { HasSpares heap.old 0 17 }
+    ensures keeps { KeepsHeld (λ l. count l (history ∷ [])) heap.old heap.new }
+    ensures trades { Trades heap.old heap.new (history ∷ []) (result ∷ []) 0 15 }
+    ensures spares { KeepsToNeed heap.old heap.new 0 0 }
+    ensures history { (bits : ℕ) (ss : List State) → IsHistoryIn heap.old bits history ss → IsHistoryIn heap.new bits result (drop states ss) }
+{
+    heap.is_graph();
+    let Ok(rest) = drop_front(heap, history.view(), states) else {
+        unreachable!()
+    };
+    history.release(heap);
+    rest
 }
 
 /// A history without states in place of this one, of which it spends the hold: the same where it is empty, and else a new one.

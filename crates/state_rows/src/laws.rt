@@ -8,7 +8,7 @@ pub fn states_stay()
     ensures { StatesStay }
 {}
 
-/// Roots of a heap that stand for a workspace have a valid pool, which stands for it too.
+/// Roots of a heap that stand for a workspace, with undo within its bound, have a valid pool, which stands for it too.
 pub fn pools_stand()
     ensures { PoolsStand }
 {}

@@ -17,7 +17,9 @@ mod row;
 mod start;
 
 pub use fill::filled;
-pub use histories::{EMPTIED_NODES, POPPED_NODES, PUSHED_NODES, emptied, popped, pushed};
+pub use histories::{
+    EMPTIED_NODES, POPPED_NODES, PUSHED_NODES, SHORTENED_NODES, emptied, popped, pushed, shortened,
+};
 pub use in_place::{buffer_made, line_added, line_set, lines_put};
 pub use laws::{
     one_workspace, pools_stand, roots_stand, states_stay, valid_pools_stand, worked_spaces,

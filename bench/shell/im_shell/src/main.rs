@@ -101,14 +101,18 @@ impl Im {
         self.now.names.get(b).ok_or(Refusal::Absent)
     }
 
-    fn full(&self) -> bool {
-        self.base.is_none() && self.undo.len() == LENGTH_MOST
+    /// Puts a state at the end of undo, from which the oldest one goes where it has as many as it can.
+    fn keep(&mut self, state: State) {
+        if self.undo.len() == LENGTH_MOST {
+            self.undo.pop_front();
+        }
+        self.undo.push_back(state);
     }
 
     /// Keeps the old state of an edit and gives the one to write.
     fn edit(&mut self) -> &mut State {
         if self.base.is_none() {
-            self.undo.push_back(self.now.clone());
+            self.keep(self.now.clone());
             if !self.redo.is_empty() {
                 self.redo = Vector::new();
             }
@@ -135,13 +139,12 @@ impl Space for Im {
         if self.now.names.contains_key(b) {
             return Err(Refusal::Exists);
         }
-        self.room()?;
         self.edit().names.insert(Line::from(b), Rc::new(Vector::new()));
         Ok(())
     }
 
     fn add(&mut self, b: &str, text: &str) -> Done {
-        if self.lines(b)?.len() == LENGTH_MOST || self.full() {
+        if self.lines(b)?.len() == LENGTH_MOST {
             return Err(Refusal::Limit);
         }
         self.edit_lines(b).push_back(Line::from(text));
@@ -152,7 +155,6 @@ impl Space for Im {
         if i >= self.lines(b)?.len() {
             return Err(Refusal::Range);
         }
-        self.room()?;
         self.edit_lines(b).set(i, Line::from(text));
         Ok(())
     }
@@ -162,7 +164,7 @@ impl Space for Im {
         if i > length {
             return Err(Refusal::Range);
         }
-        if length == LENGTH_MOST || self.full() {
+        if length == LENGTH_MOST {
             return Err(Refusal::Limit);
         }
         self.edit_lines(b).insert(i, Line::from(text));
@@ -173,7 +175,6 @@ impl Space for Im {
         if !(i <= j && j <= self.lines(b)?.len()) {
             return Err(Refusal::Range);
         }
-        self.room()?;
         let lines = self.edit_lines(b);
         if j - i == 1 {
             lines.remove(i);
@@ -186,7 +187,7 @@ impl Space for Im {
     fn cat(&mut self, b: &str, c: &str) -> Done {
         let left = self.lines(b)?.len();
         let other = (**self.lines(c)?).clone();
-        if left + other.len() > LENGTH_MOST || self.full() {
+        if left + other.len() > LENGTH_MOST {
             return Err(Refusal::Limit);
         }
         self.edit_lines(b).append(other);
@@ -197,7 +198,6 @@ impl Space for Im {
         if !(i <= j && j <= self.lines(b)?.len()) {
             return Err(Refusal::Range);
         }
-        self.room()?;
         let part = self.edit_lines(b).slice(i..j);
         self.now.names.insert(Line::from(c), Rc::new(part));
         Ok(())
@@ -205,14 +205,12 @@ impl Space for Im {
 
     fn copy(&mut self, b: &str, c: &str) -> Done {
         let lines = self.lines(b)?.clone();
-        self.room()?;
         self.edit().names.insert(Line::from(c), lines);
         Ok(())
     }
 
     fn drop_buffer(&mut self, b: &str) -> Done {
         self.lines(b)?;
-        self.room()?;
         self.edit().names.remove(b);
         Ok(())
     }
@@ -221,7 +219,6 @@ impl Space for Im {
         if self.now.stars.contains(n) {
             return Err(Refusal::Exists);
         }
-        self.room()?;
         self.edit().stars.insert(Line::from(n));
         Ok(())
     }
@@ -230,13 +227,8 @@ impl Space for Im {
         if !self.now.stars.contains(n) {
             return Err(Refusal::Absent);
         }
-        self.room()?;
         self.edit().stars.remove(n);
         Ok(())
-    }
-
-    fn room(&self) -> Done {
-        if self.full() { Err(Refusal::Limit) } else { Ok(()) }
     }
 
     fn take_lines(&mut self, b: &str, lines: std::str::Split<'_, char>) {
@@ -261,7 +253,6 @@ impl Space for Im {
     fn back(&mut self, v: &str) -> Done {
         self.outside()?;
         let version = self.versions.get(v).ok_or(Refusal::Absent)?.clone();
-        self.room()?;
         *self.edit() = version;
         Ok(())
     }
@@ -284,9 +275,9 @@ impl Space for Im {
         if self.redo.is_empty() {
             return Err(Refusal::Empty);
         }
-        self.room()?;
         let after = self.redo.pop_back().expect("not empty");
-        self.undo.push_back(std::mem::replace(&mut self.now, after));
+        let before = std::mem::replace(&mut self.now, after);
+        self.keep(before);
         Ok(())
     }
 
@@ -297,12 +288,8 @@ impl Space for Im {
     }
 
     fn end(&mut self) -> Done {
-        let base = self.base.clone().ok_or(Refusal::Batch)?;
-        if self.undo.len() == LENGTH_MOST {
-            return Err(Refusal::Limit);
-        }
-        self.base = None;
-        self.undo.push_back(base);
+        let base = self.base.take().ok_or(Refusal::Batch)?;
+        self.keep(base);
         self.redo = Vector::new();
         Ok(())
     }

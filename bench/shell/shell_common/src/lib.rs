@@ -69,8 +69,6 @@ pub trait Space {
     fn drop_buffer(&mut self, b: &str) -> Done;
     fn star(&mut self, n: &str) -> Done;
     fn unstar(&mut self, n: &str) -> Done;
-    /// The one refusal of `read` that comes before the store is asked.
-    fn room(&self) -> Done;
     fn take_lines(&mut self, b: &str, lines: std::str::Split<'_, char>);
 
     fn mark(&mut self, v: &str) -> Done;
@@ -180,7 +178,6 @@ fn fetch(file: &str, most: usize) -> Result<Vec<u8>, Refusal> {
 }
 
 fn read_file<S: Space>(space: &mut S, b: &str, f: &str) -> Done {
-    space.room()?;
     let bytes = fetch(f, FILE_MOST)?;
     if bytes.split(|&b| b == b'\n').any(|line| line.len() > LINE_MOST) {
         return Err(Refusal::Long);

@@ -1,7 +1,7 @@
 use Rattle.std.proofs.Common.{◌≡◌, ◌∙◌, sym, refl, ap, None, bytes_eq, rules}
 use Rattle.std.specs.Map.{lookup}
 use Rattle.shell_terms.specs.Edit.{new, add, set, put, del, cat, cut, copy, drop, star, unstar}
-use Rattle.shell_terms.specs.Command.{edit, mark, unmark, back, undo, redo, begin, «end», abort, get, len, show, list, stars, marks, same, eqv, stats, made, read, write, save, load, quit}
+use Rattle.shell_terms.specs.Command.{edit, mark, unmark, back, undo, redo, begin, «end», abort, history, get, len, show, list, stars, marks, same, eqv, stats, made, read, write, save, load, quit}
 use Rattle.elem_core.specs.Shown.{name_bytes, line_bytes}
 use Rattle.shell_words.specs.Grammar.{commands}
 use Rattle.shell_words.specs.Shown.{plain_command}
@@ -14,6 +14,13 @@ returns-in-add c =
     answers_word c.args.text.now _ _ _ c.name_and_text.result c.map.result _ (λ x. edit (add (name_bytes x.0) (line_bytes x.1)))
     c.utf8.text (sym c.split_piece.ensures.piece ∙ c.in-add.is) refl c.split_piece.ensures.rest (c.name_and_text.ensures (λ b t. edit (add b t)))
     c.map.ensures.cases (λ x command is. search rules)
+
+pub returns-in-history : goal.returns-in-history
+unfolding commands
+returns-in-history c =
+    answers_word c.args.text.now _ _ _ c.number.result c.map-in-history.result _ (λ n. history n)
+    c.utf8.text (sym c.split_piece.ensures.piece ∙ c.in-history.is) refl c.split_piece.ensures.rest (c.number.ensures history)
+    c.map-in-history.ensures.cases (λ x command is. search rules)
 
 pub returns-in-get : goal.returns-in-get
 unfolding commands
@@ -268,6 +275,7 @@ returns-in_default c =
     let no_begin = other_word _ _ c.in_default.not-begin in
     let no_end = other_word _ _ c.in_default.not-end in
     let no_abort = other_word _ _ c.in_default.not-abort in
+    let no_history = other_word _ _ c.in_default.not-history in
     let no_get = other_word _ _ c.in_default.not-get in
     let no_len = other_word _ _ c.in_default.not-len in
     let no_show = other_word _ _ c.in_default.not-show in
@@ -283,5 +291,5 @@ returns-in_default c =
     let no_save = other_word _ _ c.in_default.not-save in
     let no_load = other_word _ _ c.in_default.not-load in
     let no_quit = other_word _ _ c.in_default.not-quit in
-    let none : lookup (bytes_eq c.split_piece.result.0.now) commands ≡ None = rw (no_new, no_add, no_set, no_put, no_del, no_cat, no_cut, no_copy, no_drop, no_star, no_unstar, no_mark, no_unmark, no_back, no_undo, no_redo, no_begin, no_end, no_abort, no_get, no_len, no_show, no_list, no_stars, no_marks, no_same, no_eqv, no_stats, no_made, no_read, no_write, no_save, no_load, no_quit) refl in
+    let none : lookup (bytes_eq c.split_piece.result.0.now) commands ≡ None = rw (no_new, no_add, no_set, no_put, no_del, no_cat, no_cut, no_copy, no_drop, no_star, no_unstar, no_mark, no_unmark, no_back, no_undo, no_redo, no_begin, no_end, no_abort, no_history, no_get, no_len, no_show, no_list, no_stars, no_marks, no_same, no_eqv, no_stats, no_made, no_read, no_write, no_save, no_load, no_quit) refl in
     sym (meaning-unknown c.args.text.now _ c.utf8.text (sym c.split_piece.ensures.piece) none)

@@ -1,7 +1,7 @@
 use Rattle.std.proofs.Common.{◌≡◌, ◌≢◌, Some, sym, ap, subst, ◌∙◌, arith}
 use Rattle.std.proofs.lemmas.Option.{none-some}
 use Rattle.std.proofs.lemmas.Result.{IfOk-weaker, IfErr-weaker}
-use Rattle.pool_text.specs.Rules.{first_rules, present_rules}
+use Rattle.pool_text.specs.Rules.{first_rules, present_rules, rules_of}
 use Rattle.pool_text.specs.declared.pool.Pool.{Pool}
 use Rattle.pool_text.specs.declared.damage.Damage.TheVariants.{Memory}
 use Rattle.pool_check.specs.Damages.{damage, IsValid}
@@ -10,8 +10,11 @@ use Rattle.pool_carry.specs.Carried.{IsCarried}
 use Rattle.ewig_shell.proofs.DocumentLemmas.{valid-range, no-test}
 use Rattle.ewig_shell.proofs.load.carried.Goals as goal
 
-pub check-requires-clause-version : goal.check-requires-clause-version
-check-requires-clause-version c = c.in_ok-pool.ensures.version
+pub check-requires-clause-rules : goal.check-requires-clause-rules
+check-requires-clause-rules c = ap rules_of c.in_ok-pool.ensures.version
+
+pub check-requires-clause-history : goal.check-requires-clause-history
+check-requires-clause-history c = record { within = omega (arith, c.in_ok-pool.ensures.history); older = λ _. c.in_ok-pool.ensures.history }
 
 pub check-requires-clause-bits : goal.check-requires-clause-bits
 check-requires-clause-bits c = omega (arith, c.in_ok-pool.ensures.bits, c.requires.bits)

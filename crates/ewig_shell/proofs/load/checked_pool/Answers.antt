@@ -1,13 +1,15 @@
 use Rattle.std.proofs.Common.{◌≡◌, ◌≢◌, Some, None, sym, ap, subst, ◌∙◌, arith}
 use Rattle.std.proofs.lemmas.Result.{IfOk-weaker, IfErr-weaker}
 use Rattle.pool_text.specs.Rules.{first_rules, present_rules}
+use Rattle.pool_text.specs.Pool.{today}
 use Rattle.pool_text.specs.declared.pool.Pool.{Pool}
 use Rattle.pool_text.specs.declared.damage.Damage.TheVariants.{Memory}
 use Rattle.pool_text.proofs.Refusals.{handed-on}
 use Rattle.pool_check.specs.Damages.{damage, document_damage, IsValid, IsValidBy}
+use Rattle.pool_check.proofs.Versions.{first-range, present-are, present-range, first-bits, present-bits}
 use Rattle.pool_carry.specs.Carried.{IsCarried}
 use Rattle.ewig_shell.specs.Step.{DocumentStandsFor}
-use Rattle.ewig_shell.proofs.DocumentLemmas.{own-first, own-present, first-range, present-version, present-range, first-bits, present-bits, both-ok, stands-carried, stands-present}
+use Rattle.ewig_shell.proofs.DocumentLemmas.{own-first, own-present, both-ok, stands-carried, stands-present}
 use Rattle.ewig_shell.proofs.LoadLemmas.{read_damage, pool_damage}
 use Rattle.ewig_shell.proofs.load.checked_pool.Goals as goal
 
@@ -35,7 +37,7 @@ carried-requires-clause-valid c = subst (IsValidBy first_rules) (sym c.in_ok-old
 
 pub returns-in_ok-old-clause-stands : goal.returns-in_ok-old-clause-stands
 returns-in_ok-old-clause-stands c =
-    IfOk-weaker c.carried.result (IsCarried present_rules c.args.bits c.in_ok-old.old) (DocumentStandsFor c.args.bits c.args.bytes.now)
+    IfOk-weaker c.carried.result (IsCarried present_rules c.args.bits c.in_ok-old.old) (λ P. DocumentStandsFor c.args.bits c.args.bytes.now (today P))
     (λ Q is. stands-carried c.args.bits c.args.bytes.now c.in_ok-pool.pool Q c.in_ok-pool.ensures.pool c.if-pool-eq-FIRST_VERSION.true
     (subst (λ (P : Pool). IsCarried present_rules c.args.bits P Q) c.in_ok-old.ensures.same is)) c.carried.ensures.carried
 
@@ -49,24 +51,24 @@ pub returns-in_ok-old-clause-damage : goal.returns-in_ok-old-clause-damage
 returns-in_ok-old-clause-damage c =
     IfErr-weaker c.carried.result (λ d. d ≡ Memory) (λ d. d ≢ Memory → document_damage c.args.bits c.args.bytes.now ≡ Some d) (λ d is other. absurd (other is)) c.carried.ensures.memory
 
--- ## The present version
+-- ## A later version
 
-pub check-requires-clause-version : goal.check-requires-clause-version
-check-requires-clause-version c = present-version c.in_ok-pool.pool c.in_ok-pool.ensures.rows c.if-pool-eq-FIRST_VERSION.false
+pub check-requires-clause-rules : goal.check-requires-clause-rules
+check-requires-clause-rules c = present-are c.in_ok-pool.pool c.in_ok-pool.ensures.rows c.if-pool-eq-FIRST_VERSION.false
 
 pub check-requires-clause-bits : goal.check-requires-clause-bits
-check-requires-clause-bits c =
-    let now = present-version c.in_ok-pool.pool c.in_ok-pool.ensures.rows c.if-pool-eq-FIRST_VERSION.false in
-    omega (arith, present-bits c.in_ok-pool.pool c.args.bits c.in_ok-pool.ensures.bits now, c.requires)
+check-requires-clause-bits c = omega (arith, present-bits c.in_ok-pool.pool c.args.bits c.in_ok-pool.ensures.bits c.if-pool-eq-FIRST_VERSION.false, c.requires)
+
+pub check-requires-clause-history : goal.check-requires-clause-history
+check-requires-clause-history c = c.in_ok-pool.ensures.history
 
 pub check-requires-clause-rows : goal.check-requires-clause-rows
 check-requires-clause-rows c = present-range c.in_ok-pool.pool c.in_ok-pool.ensures.rows c.if-pool-eq-FIRST_VERSION.false
 
 pub returns-else-pool-eq-FIRST_VERSION-clause-stands : goal.returns-else-pool-eq-FIRST_VERSION-clause-stands
 returns-else-pool-eq-FIRST_VERSION-clause-stands c =
-    let now = present-version c.in_ok-pool.pool c.in_ok-pool.ensures.rows c.if-pool-eq-FIRST_VERSION.false in
-    IfOk-weaker c.check.result (λ (P : Pool). P ≡ c.in_ok-pool.pool) (DocumentStandsFor c.args.bits c.args.bytes.now)
-    (λ Q same. stands-present c.args.bits c.args.bytes.now c.in_ok-pool.pool Q c.in_ok-pool.ensures.pool now same) c.check.ensures.same
+    IfOk-weaker c.check.result (λ (P : Pool). P ≡ c.in_ok-pool.pool) (λ P. DocumentStandsFor c.args.bits c.args.bytes.now (today P))
+    (λ Q same. stands-present c.args.bits c.args.bytes.now c.in_ok-pool.pool (today Q) c.in_ok-pool.ensures.pool c.if-pool-eq-FIRST_VERSION.false (ap today same)) c.check.ensures.same
 
 pub returns-else-pool-eq-FIRST_VERSION-clause-valid : goal.returns-else-pool-eq-FIRST_VERSION-clause-valid
 returns-else-pool-eq-FIRST_VERSION-clause-valid c =
@@ -74,18 +76,17 @@ returns-else-pool-eq-FIRST_VERSION-clause-valid c =
 
 pub returns-else-pool-eq-FIRST_VERSION-clause-bits : goal.returns-else-pool-eq-FIRST_VERSION-clause-bits
 returns-else-pool-eq-FIRST_VERSION-clause-bits c =
-    let now = present-version c.in_ok-pool.pool c.in_ok-pool.ensures.rows c.if-pool-eq-FIRST_VERSION.false in
     IfOk-weaker c.check.result (λ (P : Pool). P ≡ c.in_ok-pool.pool) (λ P. P.bits ≡ c.args.bits)
-    (λ Q same. ap (λ (R : Pool). R.bits) same ∙ present-bits c.in_ok-pool.pool c.args.bits c.in_ok-pool.ensures.bits now) c.check.ensures.same
+    (λ Q same. ap (λ (R : Pool). R.bits) same ∙ present-bits c.in_ok-pool.pool c.args.bits c.in_ok-pool.ensures.bits c.if-pool-eq-FIRST_VERSION.false) c.check.ensures.same
 
 pub returns-else-pool-eq-FIRST_VERSION-clause-whole : goal.returns-else-pool-eq-FIRST_VERSION-clause-whole
 returns-else-pool-eq-FIRST_VERSION-clause-whole c =
-    let now = present-version c.in_ok-pool.pool c.in_ok-pool.ensures.rows c.if-pool-eq-FIRST_VERSION.false in
+    let now = present-are c.in_ok-pool.pool c.in_ok-pool.ensures.rows c.if-pool-eq-FIRST_VERSION.false in
     IfOk-weaker c.check.result (λ _. damage c.in_ok-pool.pool ≡ None) (λ _. document_damage c.args.bits c.args.bytes.now ≡ None)
     (λ Q none. pool_damage c.args.bits c.args.bytes.now c.in_ok-pool.pool None c.in_ok-pool.ensures.whole c.in_ok-pool.ensures.pool (own-present c.in_ok-pool.pool None now none)) c.check.ensures.undamaged
 
 pub returns-else-pool-eq-FIRST_VERSION-clause-damage : goal.returns-else-pool-eq-FIRST_VERSION-clause-damage
 returns-else-pool-eq-FIRST_VERSION-clause-damage c =
-    let now = present-version c.in_ok-pool.pool c.in_ok-pool.ensures.rows c.if-pool-eq-FIRST_VERSION.false in
+    let now = present-are c.in_ok-pool.pool c.in_ok-pool.ensures.rows c.if-pool-eq-FIRST_VERSION.false in
     IfErr-weaker c.check.result (λ d. d ≢ Memory → damage c.in_ok-pool.pool ≡ Some d) (λ d. d ≢ Memory → document_damage c.args.bits c.args.bytes.now ≡ Some d)
     (λ d says other. pool_damage c.args.bits c.args.bytes.now c.in_ok-pool.pool (Some d) c.in_ok-pool.ensures.whole c.in_ok-pool.ensures.pool (own-present c.in_ok-pool.pool (Some d) now (says other))) c.check.ensures.damage

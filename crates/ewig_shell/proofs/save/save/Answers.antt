@@ -26,7 +26,7 @@ returns-in_err-keep g c =
     let free = sym c.in_batch.ensures.2 ∙ c.if-in_batch.false in
     Stores-kept (save-stores c.in_batch.ensures.0 (name_bytes c.args.file) c.in_batch.ensures.1 free) c.deref.result.now c.as_str.result.now c.keep.result c.from_residual-in_err-keep.result
     (counted-small _ c.text_length.result (c.text_length.ensures.value ∙ ap (λ (P : Pool). capped (length (text P))) c.in_ok-pool.ensures.value) c.if-text_length-gt-MOST_STORED.false)
-    (document-is c.in_batch.ensures.0 _ c.in_ok-pool.pool c.in_ok-bytes.bytes.items c.in_batch.ensures.1 free c.in_ok-pool.ensures.valid c.in_ok-pool.ensures.value c.in_ok-bytes.ensures.value c.in_ok-bytes.ensures.reads)
+    (document-is c.in_batch.ensures.0 _ c.in_ok-pool.pool c.in_ok-bytes.bytes.items c.in_batch.ensures.1 free c.in_ok-pool.ensures.valid c.in_ok-pool.ensures.history c.in_ok-pool.ensures.value c.in_ok-bytes.ensures.value c.in_ok-bytes.ensures.reads)
     (c.deref.ensures.value ∙ c.in_ok-bytes.ensures.value ∙ ap text c.in_ok-pool.ensures.value) c.as_str.ensures.shown c.keep.ensures.told c.keep.ensures.calls
     (ap saved_as c.in_err-keep.was ∙ sym (fault-is c.from_residual-in_err-keep.result _ c.from_residual-in_err-keep.ensures.1))
 
@@ -35,6 +35,6 @@ returns g c =
     let free = sym c.in_batch.ensures.2 ∙ c.if-in_batch.false in
     Stores-kept (save-stores c.in_batch.ensures.0 (name_bytes c.args.file) c.in_batch.ensures.1 free) c.deref.result.now c.as_str.result.now c.keep.result (Ok tt)
     (counted-small _ c.text_length.result (c.text_length.ensures.value ∙ ap (λ (P : Pool). capped (length (text P))) c.in_ok-pool.ensures.value) c.if-text_length-gt-MOST_STORED.false)
-    (document-is c.in_batch.ensures.0 _ c.in_ok-pool.pool c.in_ok-bytes.bytes.items c.in_batch.ensures.1 free c.in_ok-pool.ensures.valid c.in_ok-pool.ensures.value c.in_ok-bytes.ensures.value c.in_ok-bytes.ensures.reads)
+    (document-is c.in_batch.ensures.0 _ c.in_ok-pool.pool c.in_ok-bytes.bytes.items c.in_batch.ensures.1 free c.in_ok-pool.ensures.valid c.in_ok-pool.ensures.history c.in_ok-pool.ensures.value c.in_ok-bytes.ensures.value c.in_ok-bytes.ensures.reads)
     (c.deref.ensures.value ∙ c.in_ok-bytes.ensures.value ∙ ap text c.in_ok-pool.ensures.value) c.as_str.ensures.shown c.keep.ensures.told c.keep.ensures.calls
     (ap saved_as c.in_ok-keep.was)

@@ -1,17 +1,15 @@
-use Rattle.std.proofs.Common.{◌≡◌, ◌-◌, List, [], ◌∷◌, ◌++◌, Some, length, slice_get, refl, arith}
-use Rattle.std.proofs.lemmas.List.{length-append}
-use Rattle.std.proofs.Math.Seq.{take-append_seam}
+use Rattle.std.proofs.Common.{◌-◌, refl}
+use Rattle.plain_space.specs.Workspace.{last_of}
 use Rattle.plain_space.specs.Answer.{answer}
+use Rattle.plain_space.proofs.LastOf.{last-one-more, seam, shorter, before-last}
 use Rattle.plain_space.proofs.laws.undo_takes_back.Goals as goal
-
-seam : {X : Type 0} (xs : List X) (x : X) → slice_get (xs ++ x ∷ []) (length xs) ≡ Some x
-seam [] x = refl
-seam (y ∷ xs) x = seam xs x
 
 pub returns : goal.returns
 unfolding answer
-returns c = λ work next unbatched.
-    let shorter : length (work.undo ++ work.current ∷ []) - 1 ≡ length work.undo = let e = length-append work.undo (work.current ∷ []) in omega arith in
-    let last = seam work.undo work.current in
-    let before = take-append_seam work.undo (work.current ∷ []) in
-    rw unbatched (rw (shorter, last, before) refl)
+returns c = λ work next unbatched some.
+    let kept = last-one-more work.history work.undo work.current some in
+    let older = last_of (work.history - 1) work.undo in
+    let less = shorter older work.current in
+    let last = seam older work.current in
+    let before = before-last older work.current in
+    rw unbatched (rw kept (rw (less, last, before) refl))

@@ -1,13 +1,11 @@
-use Rattle.std.proofs.Common.{◌≡◌, ℕ, zero, suc, ◌+◌, ◌<◌, ◌≤◌, Bool, true, false, cond, List, [], ◌∷◌, ◌++◌, Option, Some, None, Ok, length, refl, sym, ap, ◌∙◌, arith, lit≤}
+use Rattle.std.proofs.Common.{◌≡◌, ℕ, zero, suc, Bool, true, false, cond, List, [], ◌∷◌, ◌++◌, Option, Some, None, Ok, refl, sym, ap, ◌∙◌, lit≤}
 use Rattle.std.specs.Prelude.{replicate}
 use Rattle.std.specs.Ordering.{nat_cmp, eq_by_cmp}
 use Rattle.std.specs.Cmp.Lexicographic.{slice_cmp, nat_list_cmp_total, bytes_decides, texts_ties}
 use Rattle.std.specs.FinMap.{get, insert, remove, same_map, nat_cmp-IsAntisymmetric, slice_cmp-IsAntisymmetric}
-use Rattle.std.proofs.lemmas.Bool.{ne_eqb}
-use Rattle.std.proofs.lemmas.List.{length-append}
 use Rattle.shell_terms.specs.Edit.{Bytes, PlainEdit, new, add, cat, copy, drop}
 use Rattle.shell_terms.specs.Command.{PlainCommand, edit, mark, same, eqv}
-use Rattle.plain_space.specs.Workspace.{Named, State, Workspace, start, most, same_texts, same_state, with_lines, without_lines}
+use Rattle.plain_space.specs.Workspace.{Named, State, Workspace, start, undo_with, same_texts, same_state, with_lines, without_lines}
 use Rattle.plain_space.specs.Edited.{edited}
 use Rattle.plain_space.specs.Answer.{answer, tells, done, ok_line, equal_line}
 use Rattle.plain_space.specs.Session.{replies}
@@ -35,13 +33,11 @@ yes = equal_line true
 
 -- the workspace after an edit outside a batch
 abbrev moved : Workspace → State → Workspace
-moved work next = record work { current = next; undo = work.undo ++ work.current ∷ []; redo = [] }
+moved work next = record work { current = next; undo = undo_with work work.current; redo = [] }
 
-edit-done : (work : Workspace) (change : PlainEdit) (next : State) → work.base ≡ None → length work.undo < most → edited work.current change ≡ Ok next → answer work (edit change) ≡ done (moved work next)
+edit-done : (work : Workspace) (change : PlainEdit) (next : State) → work.base ≡ None → edited work.current change ≡ Ok next → answer work (edit change) ≡ done (moved work next)
 unfolding answer
-edit-done work change next unbatched room e =
-    let no = ne_eqb (length work.undo) most (λ e. omega arith) in
-    rw (e, unbatched, no) refl
+edit-done work change next unbatched e = rw (e, unbatched) refl
 
 -- the workspace after a version of a new name
 abbrev marked : Workspace → Bytes → Workspace
@@ -84,7 +80,7 @@ put-back m k x none =
 beside-same : {X : Type 0} (m : Named X) (k : Bytes) (x : X) (q : Bytes) (found : Option X) → eq_by_cmp (slice_cmp nat_cmp) q k ≡ false → get m q ≡ found → get (insert m k x) q ≡ found
 beside-same m k x q found other e = get-with m k x q ∙ ap (λ tied. cond tied (Some x) (get m q)) other ∙ e
 
-module _ (work : Workspace) (ls : List Bytes) (unbatched : work.base ≡ None) (room : length work.undo + 4 ≤ most) (at_a : get work.current.buffers a ≡ Some ls) (at_b : get work.current.buffers b ≡ None) (at_c : get work.current.buffers c ≡ None) (at_v : get work.versions v ≡ None) (at_w : get work.versions w ≡ None) where
+module _ (work : Workspace) (ls : List Bytes) (unbatched : work.base ≡ None) (at_a : get work.current.buffers a ≡ Some ls) (at_b : get work.current.buffers b ≡ None) (at_c : get work.current.buffers c ≡ None) (at_v : get work.versions v ≡ None) (at_w : get work.versions w ≡ None) where
   abbrev both : Named (List Bytes)
   both = insert work.current.buffers b ls
 
@@ -114,9 +110,6 @@ module _ (work : Workspace) (ls : List Bytes) (unbatched : work.base ≡ None) (
 
   again : remove (insert both c []) c ≡ both
   again = put-back both c [] both_c
-
-  longer : (states : List State) (state : State) → length (states ++ state ∷ []) ≡ length states + 1
-  longer states state = length-append states (state ∷ [])
 
   does_copy : edited work.current (copy a b) ≡ Ok copied.current
   unfolding edited
@@ -149,17 +142,14 @@ module _ (work : Workspace) (ls : List Bytes) (unbatched : work.base ≡ None) (
   last : replies work (edit (copy a b) ∷ mark v ∷ edit (new c) ∷ edit (drop c) ∷ mark w ∷ replicate 100 (same a b) ++ replicate 100 (eqv v w))
       ≡ ok_line ∷ ok_line ∷ ok_line ∷ ok_line ∷ ok_line ∷ replicate 100 yes ++ replicate 100 yes
   last =
-      let one = longer work.undo work.current in
-      let two = longer with_new.undo with_new.current in
-      let three = longer first_marked.undo first_marked.current in
       let asks = replicate 100 (same a b) ++ replicate 100 (eqv v w) in
-      replies-done work copied (edit (copy a b)) _ (edit-done work (copy a b) copied.current unbatched (omega arith) does_copy)
+      replies-done work copied (edit (copy a b)) _ (edit-done work (copy a b) copied.current unbatched does_copy)
       ∙ ap (ok_line ∷◌) (
       replies-done copied first_marked (mark v) _ (mark-done copied v unbatched at_v)
       ∙ ap (ok_line ∷◌) (
-      replies-done first_marked with_new (edit (new c)) _ (edit-done first_marked (new c) with_new.current unbatched (omega arith) does_new)
+      replies-done first_marked with_new (edit (new c)) _ (edit-done first_marked (new c) with_new.current unbatched does_new)
       ∙ ap (ok_line ∷◌) (
-      replies-done with_new dropped (edit (drop c)) _ (edit-done with_new (drop c) dropped.current unbatched (omega arith) does_drop)
+      replies-done with_new dropped (edit (drop c)) _ (edit-done with_new (drop c) dropped.current unbatched does_drop)
       ∙ ap (ok_line ∷◌) (
       replies-done dropped second_marked (mark w) asks (mark-done dropped w unbatched (beside-same work.versions v copied.current w _ refl at_w))
       ∙ ap (ok_line ∷◌) (
@@ -169,11 +159,10 @@ module _ (work : Workspace) (ls : List Bytes) (unbatched : work.base ≡ None) (
 pub returns : goal.returns
 returns g =
     let tail : List PlainCommand = edit (copy a b) ∷ mark v ∷ edit (new c) ∷ edit (drop c) ∷ mark w ∷ replicate 100 (same a b) ++ replicate 100 (eqv v w) in
-    let d : Doubled (one_line a x) a (x ∷ []) 31 tail = doubled 31 (one_line a x) a (x ∷ []) tail there refl (lit≤ tt) (lit≤ tt) in
-    let steps = d.steps in
+    let d : Doubled (one_line a x) a (x ∷ []) 31 tail = doubled 31 (one_line a x) a (x ∷ []) tail there refl (lit≤ tt) in
     let no_versions : (q : Bytes) → get d.after.versions q ≡ None = λ q. ap (λ m. get m q) d.same_versions ∙ get-none q in
     first (replicate 31 (edit (cat a a)) ++ tail)
     ∙ ap (λ (l : List Bytes). ok_line ∷ ok_line ∷ l) (
     d.same_replies
     ∙ ap (replicate 31 ok_line ++◌) (
-    last d.after d.lines d.unbatched (omega arith) d.found (d.others b refl ∙ no_b) (d.others c refl ∙ no_c) (no_versions v) (no_versions w)))
+    last d.after d.lines d.unbatched d.found (d.others b refl ∙ no_b) (d.others c refl ∙ no_c) (no_versions v) (no_versions w)))

@@ -29,7 +29,7 @@ pub returns : goal.returns
 unfolding digits
 returns c =
     let rest : List PlainCommand = edit (cat a a) ∷ len a ∷ [] in
-    let d : Doubled (one_line a x) a (x ∷ []) 31 rest = doubled 31 (one_line a x) a (x ∷ []) rest there refl (lit≤ tt) (lit≤ tt) in
+    let d : Doubled (one_line a x) a (x ∷ []) 31 rest = doubled 31 (one_line a x) a (x ∷ []) rest there refl (lit≤ tt) in
     let long : length d.lines ≡ 2147483648 = d.long in
     let refused = cat-refused d.after a d.lines d.found (omega arith) in
     let last : replies d.after rest ≡ refusal_line Limit ∷ number_line 2147483648 ∷ [] =

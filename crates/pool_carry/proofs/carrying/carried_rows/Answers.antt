@@ -1,4 +1,4 @@
-use Rattle.std.proofs.Common.{◌≡◌, ◌<◌, ◌+◌, ℕ, List, [], ◌∷◌, ◌++◌, map, length, length-append, ap, sym, subst, ◌∙◌, arith}
+use Rattle.std.proofs.Common.{◌≡◌, ◌<◌, ℕ, List, [], ◌∷◌, ◌++◌, map, length, length-append, ap, sym, subst, ◌∙◌, arith}
 use Rattle.std.specs.Prelude.{slice_index}
 use Rattle.indexmap.specs.IndexMap.{get}
 use Rattle.node_heap.specs.Links.{count}
@@ -61,5 +61,5 @@ returns c =
     let rows = forms_made c.loop-place.made in
     let long : length c.loop-place.images.items ≡ length P.rows = omega (arith, c.loop-place.invariant.2, c.loop-place-test.false, count-same P.rows c.as_slice-rows.result.now c.as_slice-rows.ensures) in
     subst (λ made. AreCarriedRows (rules_named c.args.rules) c.args.bits P made c.in_ok-roots.roots) (sym c.into_rows.ensures)
-    (rows-carried (rules_named c.args.rules) c.args.bits P rows (get (same.ghosts).eq c.loop-place.made.names) c.loop-place.images.items c.in_ok-roots.roots c.loop-place.invariant.0 c.loop-place.invariant.1 long
+    (rows-carried (rules_named c.args.rules) c.args.bits P rows (get (same.ghosts).eq c.loop-place.made.places) c.loop-place.images.items c.in_ok-roots.roots c.loop-place.invariant.0 c.loop-place.invariant.1 long
     (roots-low P c.requires.valid.1.lead_back) (c.in_ok-roots.ensures ∙ ap (λ (ks : List ℕ). map (slice_index ks) c.as_slice-3.result.now) c.as_slice-2.ensures.value ∙ ap (map (slice_index c.loop-place.images.items)) c.as_slice-3.ensures))

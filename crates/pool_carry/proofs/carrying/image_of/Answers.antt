@@ -88,7 +88,7 @@ returns-in_ok-entries-in-Trie-clause-image c =
     ∙ ap (λ l. map (moved (slice_index c.args.images.now)) (entries_below (row_count c.args.pool.now) (forms_in c.args.pool.now) l)) (sym c.requires.place) in
     let named = coded-named (rules_named c.args.rules) c.args.bits c.args.pool.now c.requires.valid.0 c.requires.valid.1 (forms_made c.args.made.now) c.args.images.now c.requires.images (omega (arith, c.requires.place, c.requires.more)) c.as_slice.result.now same code (subst (AreCoded code) (sym c.as_slice.ensures.value) c.in_ok-entries-in-Trie.ensures.codes) in
     if-both c.trie_of.result c.trie_of.ensures.low (c.trie_of.ensures.trie code ((rules_named c.args.rules).deepest + 1) named (omega (arith, c.deepest.ensures.value)))
-    (λ name low is_trie. image-of-trie (rules_named c.args.rules) c.args.bits c.args.pool.now c.requires.valid.0 c.requires.valid.1 (forms_made c.args.made.now) c.args.images.now c.requires.images (omega (arith, c.requires.place, c.requires.more)) c.as_slice.result.now same root (forms_made c.trie_of.new.made) name low is_trie)
+    (λ place low is_trie. image-of-trie (rules_named c.args.rules) c.args.bits c.args.pool.now c.requires.valid.0 c.requires.valid.1 (forms_made c.args.made.now) c.args.images.now c.requires.images (omega (arith, c.requires.place, c.requires.more)) c.as_slice.result.now same root (forms_made c.trie_of.new.made) place low is_trie)
 
 -- a row of its own
 pub own_image-requires : goal.own_image-requires
@@ -120,9 +120,9 @@ returns-in_ok-image-in_default c =
     record {
       made = c.add_own.ensures.made;
       more = ok-then c.add_own.result c.add_own.ensures.rows (λ (rows : new ≡ old ++ row_form c.in_ok-image-in_default.image ∷ []). subst (IsBegun old) (sym rows) (begun-end old (row_form c.in_ok-image-in_default.image)));
-      image = ok-both c.add_own.result c.add_own.ensures.rows c.add_own.ensures.name (λ rows name at.
+      image = ok-both c.add_own.result c.add_own.ensures.rows c.add_own.ensures.place (λ rows place at.
           image-of-own (rules_named c.args.rules) c.args.bits c.args.pool.now c.requires.valid.0 c.requires.valid.1 (forms_made c.args.made.now) c.args.images.now c.requires.images (omega (arith, c.requires.place, c.requires.more)) row
           (row-here c.args.pool.now c.as_slice-rows.result.now c.as_slice-rows.ensures c.args.images.now c.args.place c.index-rows-place.result c.requires.place c.requires.more c.index-rows-place.is)
-          (own-row c.index-rows-place.result c.in_default.not-Trie c.in_default.not-Chain) new name at
+          (own-row c.index-rows-place.result c.in_default.not-Trie c.in_default.not-Chain) new place at
           (rows ∙ ap (λ (form : Form Bytes). old ++ form ∷ []) c.in_ok-image-in_default.ensures));
     }

@@ -62,10 +62,10 @@ loop-place-preserved c =
     let next =
     next-there c.requires.valid.0 c.args.pool.now c.requires.valid.1 rows c.as_slice-rows.ensures f (code_by (rules_named c.args.rules).code_of c.args.bits) c.args.root c.requires.there c.loop-place.entries.items c.loop-place.waiting.items
     c.pop.new.self.items c.in-Some.place c.in-Some.ensures.items c.loop-place.invariant c.index-rows-place.result c.index-rows-place.is in
-    next.steps c.add_entries.new.entries.items c.add_turned.new.waiting.items
+    next.steps c.add_entries.new.entries.items c.add_reversed.new.waiting.items
     (c.in_ok-add_entries.ensures.entries ∙ ap (λ ks. map seen c.loop-place.entries.items ++ map (moved f) (filter_map (entry_at (forms_at rows)) ks)) c.split_links.ensures.own)
     (c.in_ok-add_entries.ensures.codes c.loop-place.invariant.codes)
-    (c.in_ok-add_turned.ensures ∙ ap (λ (ks : List ℕ). c.pop.new.self.items ++ reverse ks) c.split_links.ensures.below)
+    (c.in_ok-add_reversed.ensures ∙ ap (λ (ks : List ℕ). c.pop.new.self.items ++ reverse ks) c.split_links.ensures.below)
 
 pub loop-place-smaller : goal.loop-place-smaller
 loop-place-smaller c =
@@ -73,7 +73,7 @@ loop-place-smaller c =
     let next =
     next-there c.requires.valid.0 c.args.pool.now c.requires.valid.1 rows c.as_slice-rows.ensures (slice_index c.args.images.now) (code_by (rules_named c.args.rules).code_of c.args.bits) c.args.root c.requires.there c.loop-place.entries.items c.loop-place.waiting.items
     c.pop.new.self.items c.in-Some.place c.in-Some.ensures.items c.loop-place.invariant c.index-rows-place.result c.index-rows-place.is in
-    next.fewer c.add_turned.new.waiting.items (c.in_ok-add_turned.ensures ∙ ap (λ (ks : List ℕ). c.pop.new.self.items ++ reverse ks) c.split_links.ensures.below)
+    next.fewer c.add_reversed.new.waiting.items (c.in_ok-add_reversed.ensures ∙ ap (λ (ks : List ℕ). c.pop.new.self.items ++ reverse ks) c.split_links.ensures.below)
 
 pub returns-clause-entries : goal.returns-clause-entries
 returns-clause-entries c =

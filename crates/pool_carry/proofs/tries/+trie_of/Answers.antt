@@ -1,4 +1,4 @@
-use Rattle.std.proofs.Common.{◌≡◌, suc, ◌+◌, ◌-◌, sym, subst, arith, get_or, length, map}
+use Rattle.std.proofs.Common.{◌≡◌, suc, ◌-◌, sym, subst, arith, get_or, length, map}
 use Rattle.std.specs.Prelude.{slice_get}
 use Rattle.std.specs.Ordering.{nat_cmp}
 use Rattle.std.specs.Cmp.Lexicographic.{slice_cmp}
@@ -9,13 +9,13 @@ use Rattle.champ_trie.proofs.WithLemmas.{chain-trie}
 use Rattle.pool_carry.specs.Making.{seen, forms_made, AreNamed}
 use Rattle.pool_carry.proofs.Rows.{begun-same, begun-trans, begun-keeps}
 use Rattle.pool_carry.proofs.Filled.{filled-none, filled-later, filled-skip, filled-more, filled-trie}
-use Rattle.pool_carry.proofs.Standing.{ok-both, ok-then, if-then, begun-longer, slice-part, named-over, name-within, node-within, first-of, slice-named, slice-coded, slice-distinct, none-left, one-stands, more-stand}
+use Rattle.pool_carry.proofs.Standing.{ok-both, ok-then, if-then, begun-longer, slice-part, named-over, place-within, node-within, first-of, slice-named, slice-coded, slice-distinct, none-left, one-stands, more-stand}
 use Rattle.pool_carry.proofs.tries.+trie_of.Goals as goal
 use Rattle.pool_carry.proofs.tries.+trie_of.Goals.{in-empty, in-len1+in_ok-put_entry-in-len1, in_default+in_ok-node-in_default+in_ok-put_node-in_default}
 
 pub returns-then-depth-deepest-clause-trie : goal.returns-then-depth-deepest-clause-trie
 returns-then-depth-deepest-clause-trie t c = λ code left named levels.
-    if-then c.chain_of.result c.chain_of.ensures.chain (λ name is. chain-trie (slice_cmp nat_cmp) code (slice_get (forms_made c.chain_of.new.made)) left c.args.depth name (map seen c.args.entries.now) (omega (arith, c.if-depth-deepest.true, levels)) is)
+    if-then c.chain_of.result c.chain_of.ensures.chain (λ place is. chain-trie (slice_cmp nat_cmp) code (slice_get (forms_made c.chain_of.new.made)) left c.args.depth place (map seen c.args.entries.now) (omega (arith, c.if-depth-deepest.true, levels)) is)
 
 pub loop-position-init : goal.loop-position-init
 loop-position-init t c = record {
@@ -97,7 +97,7 @@ loop-position-preserved t c =
             let put = w.in_ok-put_entry-in-len1.ensures in
             filled-more code left c.args.depth (map seen es) (slice_get rows) (length rows) p row.entries row.nodes row.links.items (inv.filled code left named levels) c.loop-position-test.true
             w.put_entry.new.self.entries w.put_entry.new.self.nodes w.put_entry.new.self.links.items _ put.sets put.here put.others put.links
-            (name-within rows (get_or slice 0 _) key) (one-stands c.args.depth p es slice is code named.codes left (slice_get rows) _ w.in-len1.len_at_least w.in-len1.len_below key);
+            (place-within rows (get_or slice 0 _) key) (one-stands c.args.depth p es slice is code named.codes left (slice_get rows) _ w.in-len1.len_at_least w.in-len1.len_below key);
       }
       | in_default+in_ok-node-in_default+in_ok-put_node-in_default w ↦
           let made = w.in_ok-node-in_default.ensures in
@@ -107,7 +107,7 @@ loop-position-preserved t c =
             more = begun-trans old rows next inv.more made.more;
             filled = λ code left named levels.
                 let put = w.in_ok-put_node-in_default.ensures in
-                let name = w.in_ok-node-in_default.node in
+                let place = w.in_ok-node-in_default.node in
                 let these : AreNamed code rows slice = record {
                   codes = slice-coded c.args.depth p es slice is code named.codes;
                   named = slice-named c.args.depth p es slice is rows (named-over old rows es inv.more named.named);
@@ -115,8 +115,8 @@ loop-position-preserved t c =
                 filled-more code left c.args.depth (map seen es) (slice_get next) (length next) p row.entries row.nodes row.links.items
                 (filled-later code left c.args.depth (map seen es) (slice_get rows) (slice_get next) (length rows) (length next) p row.entries row.nodes row.links.items (begun-keeps rows next made.more) (begun-longer rows next made.more) (inv.filled code left named levels))
                 c.loop-position-test.true w.put_node.new.self.entries w.put_node.new.self.nodes w.put_node.new.self.links.items _ put.sets put.here put.others put.links
-                (node-within (length next) name made.low)
-                (more-stand c.args.depth p es slice is code named.codes left (slice_get next) name w.in_default.len_at_least (made.trie code left these (omega (arith, levels))));
+                (node-within (length next) place made.low)
+                (more-stand c.args.depth p es slice is code named.codes left (slice_get next) place w.in_default.len_at_least (made.trie code left these (omega (arith, levels))));
           }
     ]
 
@@ -128,7 +128,7 @@ returns-clause-more t c =
     ok-then c.add_trie_row.result c.add_trie_row.ensures.more (λ more. begun-trans (forms_made c.args.made.now) (forms_made c.loop-position.made) (forms_made c.add_trie_row.new.self) c.loop-position.invariant.more more)
 
 pub returns-clause-low : goal.returns-clause-low
-returns-clause-low t c = if-then c.add_trie_row.result c.add_trie_row.ensures.row (λ name at. slice_get_within (forms_made c.add_trie_row.new.self) name _ at)
+returns-clause-low t c = if-then c.add_trie_row.result c.add_trie_row.ensures.row (λ place at. slice_get_within (forms_made c.add_trie_row.new.self) place _ at)
 
 pub returns-clause-trie : goal.returns-clause-trie
 returns-clause-trie t c = λ code left named levels.
@@ -138,7 +138,7 @@ returns-clause-trie t c = λ code left named levels.
     let row = c.loop-position.row in
     let below : left ≡ suc (left - 1) = omega (arith, c.if-depth-deepest.false, levels) in
     let filled = c.loop-position.invariant.filled code (left - 1) named (omega (arith, c.if-depth-deepest.false, levels)) in
-    ok-both c.add_trie_row.result c.add_trie_row.ensures.more c.add_trie_row.ensures.row (λ more name at.
-    subst (λ n. IsTrie (slice_cmp nat_cmp) code (slice_get next) n c.args.depth name E) (sym below)
-    (filled-trie code (left - 1) c.args.depth E (slice_get next) (length next) name c.loop-position.position row.entries row.nodes row.links.items (omega (arith, c.loop-position-test.false)) record { row = at; sets = filled.sets }
+    ok-both c.add_trie_row.result c.add_trie_row.ensures.more c.add_trie_row.ensures.row (λ more place at.
+    subst (λ n. IsTrie (slice_cmp nat_cmp) code (slice_get next) n c.args.depth place E) (sym below)
+    (filled-trie code (left - 1) c.args.depth E (slice_get next) (length next) place c.loop-position.position row.entries row.nodes row.links.items (omega (arith, c.loop-position-test.false)) record { row = at; sets = filled.sets }
     (filled-later code (left - 1) c.args.depth E (slice_get rows) (slice_get next) (length rows) (length next) c.loop-position.position row.entries row.nodes row.links.items (begun-keeps rows next more) (begun-longer rows next more) filled)))

@@ -18,7 +18,7 @@ use Rattle.pool_carry.proofs.tries.chain_of.Goals as goal
 named-later : (old rows : List (Form Bytes)) (es : List CodedEntry) → IsBegun old rows → All (λ e. IsEntry (slice_get old) (seen e)) es → All (λ (d : Entry Bytes). IsEntry (slice_get rows) d) (map seen es)
 named-later old rows es begun named =
     All-map (λ (d : Entry Bytes). IsEntry (slice_get rows) d) seen es
-    (All-weaker (λ e. IsEntry (slice_get old) (seen e)) (λ e. IsEntry (slice_get rows) (seen e)) (λ e is. key-kept (slice_get old) (slice_get rows) (begun-keeps old rows begun) e.name e.key.now is) es named)
+    (All-weaker (λ e. IsEntry (slice_get old) (seen e)) (λ e. IsEntry (slice_get rows) (seen e)) (λ e is. key-kept (slice_get old) (slice_get rows) (begun-keeps old rows begun) e.place e.key.now is) es named)
 
 pub loop-entry-init : goal.loop-entry-init
 loop-entry-init c = (c.requires.made, begun-same (forms_made c.args.made.now), tt, chained-none (slice_get (forms_made c.args.made.now)) c.in_ok-left.left.items (map seen c.args.entries.now) c.in_ok-left.ensures.same c.in_ok-left.ensures.rising)
@@ -28,7 +28,7 @@ add_trie_row-requires-clause-linked c =
     let rows = forms_made c.loop-entry.made in
     let key = last-entry (slice_get rows) c.loop-entry.rest c.loop-entry.left.items c.pop.new.self.items c.in-Some.entry (map seen c.args.entries.now) c.in-Some.ensures.items c.loop-entry.invariant.3
     (named-later (forms_made c.args.made.now) rows c.args.entries.now c.loop-entry.invariant.1 c.requires.named.1.named) in
-    links-within (length rows) c.in-Some.entry.name c.loop-entry.rest (entry-within rows c.in-Some.entry.name c.in-Some.entry.key.now key) c.loop-entry.invariant.2
+    links-within (length rows) c.in-Some.entry.place c.loop-entry.rest (entry-within rows c.in-Some.entry.place c.in-Some.entry.key.now key) c.loop-entry.invariant.2
 
 pub loop-entry-preserved : goal.loop-entry-preserved
 loop-entry-preserved c =

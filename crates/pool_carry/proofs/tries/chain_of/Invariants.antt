@@ -10,7 +10,7 @@ use Rattle.pool_carry.proofs.tries.chain_of.Given as goal
 
 abbrev pub invariant-loop-entry : goal.invariant-loop-entry
 invariant-loop-entry l =
-    AreMade l.made × IsBegun (forms_made l.fn.made) (forms_made l.made) × IfSome l.rest (λ name. name < length (forms_made l.made))
+    AreMade l.made × IsBegun (forms_made l.fn.made) (forms_made l.made) × IfSome l.rest (λ place. place < length (forms_made l.made))
     × ((done : List CodedEntry) × SameSet (map seen (l.left.items ++ done)) (map seen l.entries) × IsRising (slice_cmp nat_cmp) (map seen (l.left.items ++ done)) × AreChainRows (slice_get (forms_made l.made)) l.rest (map seen done))
 
 abbrev pub decreases-loop-entry : goal.decreases-loop-entry

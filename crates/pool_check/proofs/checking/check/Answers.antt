@@ -18,7 +18,8 @@ returns-in_err-make_tests-clause-damage g c =
 
 pub invariant_of-result : goal.invariant_of-result
 invariant_of-result g c = record {
-  version = c.requires.version;
+  rules = c.requires.rules;
+  history = c.requires.history;
   bits = c.requires.bits;
   roots = c.requires.roots;
   valid = undamaged-valid c.args.pool (subst (λ (r : Rules). damage_by r c.args.pool ≡ None) c.present.ensures c.in_ok-make_tests.ensures.passed);

@@ -7,13 +7,13 @@ use Rattle.pool_order.specs.Order.{places, order}
 use Rattle.pool_check.specs.Rows.{rows_in_range_by, links_lead_back, texts_are_lines}
 use Rattle.pool_check.specs.Vectors.{is_thick, length_at, are_children, vectors_stand}
 use Rattle.pool_check.specs.Tries.{entries_below, are_branches, tries_stand_by}
-use Rattle.pool_check.specs.Kinds.{elements_pass, are_roots, roots_are_of_kind}
+use Rattle.pool_check.specs.Kinds.{elements_pass, are_roots, roots_are_of_kind, undo_fits}
 use Rattle.pool_check.specs.Damages.{rows_in_order, open_damage, damage_by}
-use Rattle.pool_check.proofs.History.{overfull_history-damaged}
+use Rattle.pool_check.proofs.History.{overfull_history-damaged, long_history-damaged}
 use Rattle.pool_check.proofs.laws.damaged_pools.Goals as goal
 
 pub returns : goal.returns
-unfolding places order rows_in_range_by links_lead_back texts_are_lines is_thick length_at are_children vectors_stand entries_below are_branches tries_stand_by elements_pass are_roots roots_are_of_kind rows_in_order open_damage damage_by text_code old_text_code is_name rows_from rank
+unfolding places order rows_in_range_by links_lead_back texts_are_lines is_thick length_at are_children vectors_stand entries_below are_branches tries_stand_by elements_pass are_roots roots_are_of_kind undo_fits rows_in_order open_damage damage_by text_code old_text_code is_name rows_from rank
 returns c = record {
   is_tall_row = refl;
   is_long_pair = refl;
@@ -27,6 +27,8 @@ returns c = record {
   is_wrong_position = refl;
   is_turned_chain = refl;
   is_trie_for_state = refl;
+  is_one_undone_of_none = refl;
+  is_long_history = long_history-damaged;
   is_loose_row = refl;
   is_turned_roots = refl;
   is_turned_lines = refl;

@@ -1,10 +1,12 @@
-use Rattle.std.proofs.Common.{◌≡◌, ◌+◌, ℕ, List, [], map, length, ap, sym, subst, ◌∙◌, arith}
+use Rattle.std.proofs.Common.{◌≡◌, ◌+◌, ℕ, List, [], Some, map, length, ap, sym, subst, ◌∙◌, arith}
 use Rattle.std.specs.Prelude.{slice_index}
 use Rattle.std.proofs.lemmas.List.{length-map}
 use Rattle.node_heap.specs.Links.{count}
 use Rattle.node_heap.specs.Forms.{Form}
 use Rattle.node_heap.specs.Calls.{Builds}
+use Rattle.pool_text.specs.Document.{HasHistory}
 use Rattle.pool_text.specs.Rows.{Bytes, row_form}
+use Rattle.pool_text.specs.Rules.{present_rules, rules_of}
 use Rattle.pool_text.specs.declared.pool.Pool.{Pool}
 use Rattle.pool_text.specs.declared.row.Row.{Row}
 use Rattle.pool_check.specs.Damages.{IsValid}
@@ -143,7 +145,8 @@ returns g c =
           subst (λ (ks : List ℕ). AreLoaded g.T.Stored.bytes_of new ks P) (sym chosen)
           (are-loaded g.T.Stored.bytes_of new P is.valid links (rows-loaded is up)
           (record {
-            version = omega (arith, c.pool-pool.ensures.version, ap (λ (Q : Pool). Q.version) c.pool-pool.ensures.same);
+            rules = subst (λ (Q : Pool). rules_of Q.version ≡ Some present_rules) c.pool-pool.ensures.same c.pool-pool.ensures.rules;
+            history = subst (λ (Q : Pool). HasHistory Q) c.pool-pool.ensures.same c.pool-pool.ensures.history;
             bits = omega (arith, c.pool-pool.ensures.bits, ap (λ (Q : Pool). Q.bits) c.pool-pool.ensures.same);
             roots = four;
             valid = is.valid;

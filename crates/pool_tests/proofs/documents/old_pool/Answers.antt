@@ -1,4 +1,4 @@
-use Rattle.pool_tests.proofs.Versions.{first-range, first-bits}
+use Rattle.pool_check.proofs.Versions.{first-range, first-bits}
 use Rattle.pool_tests.proofs.documents.old_pool.Goals as goal
 
 pub returns-then-pool-eq-FIRST_VERSION-clause-bits : goal.returns-then-pool-eq-FIRST_VERSION-clause-bits

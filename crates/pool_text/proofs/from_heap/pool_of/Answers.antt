@@ -37,7 +37,7 @@ places_of-requires g c = record {
 pub returns : goal.returns
 returns g c = record {
   value =
-      pool-is g.T.Stored.bytes_of c.args.heap.now c.args.roots.now (settings_by c.args.bits) c.args.order.now c.from_vec.result c.in_ok-places_of.field-0 c.requires.order
+      pool-is g.T.Stored.bytes_of c.args.heap.now c.args.roots.now (settings_by c.args.bits c.args.history) c.args.order.now c.from_vec.result c.in_ok-places_of.field-0 c.requires.order
       (c.from_vec.ensures ∙ c.loop-place.invariant ∙ ap (filter_map (λ k. option_map (relink (place_in c.args.order.now)) (text_forms g.T.Stored.bytes_of c.args.heap.now k))) (take_all c.args.order.now c.loop-place.place (omega arith)))
       c.in_ok-places_of.ensures;
 }

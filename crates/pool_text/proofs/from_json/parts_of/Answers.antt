@@ -1,4 +1,4 @@
-use Rattle.std.proofs.Common.{map, sym, ◌∙◌}
+use Rattle.std.proofs.Common.{map, sym, ◌∙◌, option_map}
 use Rattle.serde_json.specs.View.{view}
 use Rattle.pool_text.specs.Document.{parts_in}
 use Rattle.pool_text.specs.Parsing.{parts_seen}
@@ -13,15 +13,15 @@ returns-in_err-numbers_of-clause-value c =
     let values = c.in-Some.values in
     reads-refused parts_seen Form (parts_in (view c.args.value.now)) c.from_residual.result c.in_err-numbers_of.field-0.0 c.from_residual.ensures.1
     (λ not_memory. let refused = c.in_err-numbers_of.ensures not_memory in
-    (refused.0, c.in-Some.ensures ∙ no-roots (view values.bits.now) (view values.roots.now) (view values.rows.now) (view values.version.now) refused.1))
+    (refused.0, c.in-Some.ensures ∙ no-roots (view values.bits.now) (option_map (λ h. view h.now) values.history) (view values.roots.now) (view values.rows.now) (view values.version.now) refused.1))
 
 pub returns-clause-value : goal.returns-clause-value
 returns-clause-value c =
     let values = c.in-Some.values in
-    let found = c.in-Some-Some-Some in
+    let found = c.in-Some-Some-Some-Some in
     c.in-Some.ensures
-    ∙ all-parts (view values.bits.now) (view values.roots.now) (view values.rows.now) (view values.version.now) found.bits found.version c.in_ok-numbers_of.field-0 (map view found.rows.now)
-    (sym found.ensures) c.in_ok-numbers_of.ensures (sym found.ensures') (sym found.ensures'')
+    ∙ all-parts (view values.bits.now) (option_map (λ h. view h.now) values.history) (view values.roots.now) (view values.rows.now) (view values.version.now) found.bits found.history found.version c.in_ok-numbers_of.field-0 (map view found.rows.now)
+    (sym found.ensures) (sym found.ensures'.value) c.in_ok-numbers_of.ensures (sym found.ensures'') (sym found.ensures''')
 
 pub returns-clause-roots : goal.returns-clause-roots
 returns-clause-roots c = four-of (view c.in-Some.values.roots.now) c.in_ok-numbers_of.field-0 c.in_ok-numbers_of.ensures

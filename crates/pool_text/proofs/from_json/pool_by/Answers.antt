@@ -7,7 +7,7 @@ use Rattle.pool_text.specs.Document.{all_of, row_in, parts_damage_by}
 use Rattle.pool_text.specs.Parsing.{parts_seen}
 use Rattle.pool_text.specs.declared.damage.Damage.{Damage}
 use Rattle.pool_text.proofs.Refusals.{handed-on}
-use Rattle.pool_text.proofs.PoolRead.{rows-in-range, bits-damage, row-damage, no-damage, pool-read, range-by-rules}
+use Rattle.pool_text.proofs.PoolRead.{bits-damage, row-damage, no-damage, pool-read, range-by-rules}
 use Rattle.pool_text.proofs.from_json.pool_by.Goals as goal
 
 -- the rows that are read where tries go so deep
@@ -33,7 +33,7 @@ returns-clause-pool c =
 
 pub returns-clause-rows : goal.returns-clause-rows
 returns-clause-rows c =
-    range-by-rules (record { bits = c.kept_bits-kept.result; version = c.args.parts.version; rows = c.in_ok-rows.rows; roots = c.args.parts.roots }) c.args.parts.version (rules_named c.args.rules)
+    range-by-rules (record { bits = c.kept_bits-kept.result; version = c.args.parts.version; history = c.args.parts.history; rows = c.in_ok-rows.rows; roots = c.args.parts.roots }) c.args.parts.version (rules_named c.args.rules)
     (parts_seen c.args.parts).rows refl c.requires.version (read (parts_seen c.args.parts).rows c.deepest.ensures.value c.in_ok-rows.ensures)
 
 pub returns-clause-whole : goal.returns-clause-whole

@@ -64,7 +64,7 @@ new_places-requires c = record {
 pub returns : goal.returns
 returns c = record {
   value =
-      pool-of-list c.args.rows.now c.requires.linked c.args.roots.now (settings_by c.args.bits) c.in_ok-listed.listed c.from_vec.result c.in_ok-new_places.field-0 c.in_ok-listed.ensures
+      pool-of-list c.args.rows.now c.requires.linked c.args.roots.now (settings_by c.args.bits c.args.history) c.in_ok-listed.listed c.from_vec.result c.in_ok-new_places.field-0 c.in_ok-listed.ensures
       (c.from_vec.ensures ∙ by-list c.args.rows.now _ _ _ _ c.listed.view_is c.loop-place.invariant
       ∙ ap (filter_map (λ k. option_map (relink (place_in c.in_ok-listed.listed)) (slice_get c.args.rows.now k))) (take_all c.in_ok-listed.listed c.loop-place.place (omega arith)))
       c.in_ok-new_places.ensures;

@@ -1,4 +1,4 @@
-use Rattle.std.proofs.Common.{◌≡◌, List, map, map-id, ap, sym, ◌∙◌}
+use Rattle.std.proofs.Common.{◌≡◌, map, map-id, ap, sym, ◌∙◌}
 use Rattle.std.proofs.lemmas.Iterator.Adapters.{YieldsList-from_vec}
 use Rattle.std.proofs.lemmas.Iterator.Consumers.{YieldsList-end}
 use Rattle.pool_text.specs.Rows.{row_form}

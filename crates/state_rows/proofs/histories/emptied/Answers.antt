@@ -1,4 +1,4 @@
-use Rattle.std.proofs.Common.{ap, length, ◌∙◌}
+use Rattle.std.proofs.Common.{[], ap, length, ◌∙◌}
 use Rattle.rrb_core.specs.Vector.{elements}
 use Rattle.rrb_core.proofs.Lists.{empty-list}
 use Rattle.state_rows.proofs.Edited.{emptied-keeps, emptied-history, vector-many}
@@ -12,7 +12,7 @@ pub returns-clause-spares : goal.returns-clause-spares
 returns-clause-spares c = room-then (room-made c.empty_history-empty.ensures.makes) (room-freed c.release.ensures.releases)
 
 pub returns-clause-history : goal.returns-clause-history
-returns-clause-history c = λ bits. emptied-history c.args.history c.empty_history-empty.ensures.answered c.release.ensures.keeps bits c.requires.held (c.empty_history-empty.ensures.history bits)
+returns-clause-history c = λ bits. emptied-history c.args.history c.empty_history-empty.ensures.answered c.release.ensures.keeps bits [] c.requires.held (c.empty_history-empty.ensures.history bits)
 
 pub returns-clause-same : goal.returns-clause-same
 returns-clause-same c = λ bits history.

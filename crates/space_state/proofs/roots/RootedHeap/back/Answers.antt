@@ -1,11 +1,11 @@
 use Rattle.std.proofs.Common.{◌≡◌, [], true, false, refl, sym, ◌∙◌, arith}
 use Rattle.shell_terms.specs.Command.{back}
-use Rattle.plain_space.specs.Workspace.{Workspace, in_batch, is_full}
+use Rattle.plain_space.specs.Workspace.{Workspace, in_batch}
 use Rattle.plain_space.specs.Cost.{cost}
 use Rattle.state_rows.specs.InHeap.{IsStateIn}
 use Rattle.space_state.specs.Roots.{Keeps}
 use Rattle.space_state.proofs.Keeping.{heap-is, turns-after}
-use Rattle.space_state.proofs.Steps.{back-refused, back-absent, back-limited, back-done, none-there, some-there, IsHeld, is-held, may-lack, memory-refused}
+use Rattle.space_state.proofs.Steps.{back-refused, back-absent, back-done, none-there, some-there, IsHeld, is-held, may-lack, memory-refused}
 use Rattle.state_rows.proofs.Room.{room-made, room-then}
 use Rattle.space_state.proofs.Hoarding.{room-reserved}
 use Rattle.space_state.proofs.roots.RootedHeap.back.Goals as goal
@@ -19,19 +19,11 @@ returns-in_default-clause-ends c = λ W K.
     let outside : in_batch W ≡ false = sym (c.in_batch.ensures [] W K) ∙ c.if-in_batch.false in
     record { due = back-absent W _ outside (none-there (IsStateIn c.args.self.now.heap c.args.self.now.bits) (c.version.ensures W K) c.in_default.is); same = refl }
 
-pub returns-then-is_full-clause-ends : goal.returns-then-is_full-clause-ends
-returns-then-is_full-clause-ends c = λ W K.
-    let outside : in_batch W ≡ false = sym (c.in_batch.ensures [] W K) ∙ c.if-in_batch.false in
-    let full : is_full W ≡ true = sym (c.is_full.ensures W K) ∙ c.if-is_full.true in
-    let there = some-there (IsStateIn c.args.self.now.heap c.args.self.now.bits) (c.version.ensures W K) c.in-Some.is in
-    record { due = back-limited W _ outside there.0 there.1 full; same = refl }
-
 pub returns-in_err-reserve-clause-ends : goal.returns-in_err-reserve-clause-ends
 returns-in_err-reserve-clause-ends c = λ W K.
     let outside : in_batch W ≡ false = sym (c.in_batch.ensures [] W K) ∙ c.if-in_batch.false in
-    let room : is_full W ≡ false = sym (c.is_full.ensures W K) ∙ c.if-is_full.false in
     let there = some-there (IsStateIn c.args.self.now.heap c.args.self.now.bits) (c.version.ensures W K) c.in-Some.is in
-    memory-refused c.from_residual.result c.from_residual.ensures.1 (may-lack (back _) refl (back-done W _ outside there.0 there.1 room)) (heap-is c.in_err-reserve.ensures.refused)
+    memory-refused c.from_residual.result c.from_residual.ensures.1 (may-lack (back _) refl (back-done W _ outside there.0 there.1)) (heap-is c.in_err-reserve.ensures.refused)
 
 -- the version's state, which is held besides
 held : (c : After-hold) (W : Workspace) (K : Keeps c.args.self.now [] W) → IsHeld c.args.self.now c.hold.new.self c.in-Some.state (some-there (IsStateIn c.args.self.now.heap c.args.self.now.bits) (c.version.ensures W K) c.in-Some.is).0 W
@@ -44,16 +36,15 @@ turn_to-requires-clause-kept c =
     let W = c.requires.0 in
     let K = c.requires.1 in
     let held = held (goal.at.turn_to-requires-clause-kept c).After-hold W K in
-    (W, _, held.keeps, held.is, sym (c.is_full.ensures W K) ∙ c.if-is_full.false)
+    (W, _, held.keeps, held.is)
 
 pub returns-clause-ends : goal.returns-clause-ends
 unfolding cost
 returns-clause-ends c = λ W K.
     let outside : in_batch W ≡ false = sym (c.in_batch.ensures [] W K) ∙ c.if-in_batch.false in
-    let room : is_full W ≡ false = sym (c.is_full.ensures W K) ∙ c.if-is_full.false in
     let there = some-there (IsStateIn c.args.self.now.heap c.args.self.now.bits) (c.version.ensures W K) c.in-Some.is in
     let held = held (goal.at.returns-clause-ends c).After-hold W K in
-    record { after = _; told = back-done W _ outside there.0 there.1 room; turns = turns-after 0 64 held.rises refl (c.turn_to.ensures.turns W there.0 held.keeps held.is room) (omega arith); few_made = λ placed inside. absurd placed }
+    record { after = _; told = back-done W _ outside there.0 there.1; turns = turns-after 0 256 held.rises refl (c.turn_to.ensures.turns W there.0 held.keeps held.is) (omega arith); few_made = λ placed inside. absurd placed }
 
 pub returns-clause-spares : goal.returns-clause-spares
 returns-clause-spares c = λ W K. room-then (room-then (room-reserved c.in_ok-reserve.ensures.greater c.reserve.ensures.rest) (room-made c.hold.ensures.makes)) c.turn_to.ensures.spares

@@ -60,7 +60,7 @@ returns-in_err-make_room_with-clause-ample c = λ W K spares.
 
 -- the lines of both buffers, once room was made
 roomy : (c : In_ok-make_room_with) (W : Workspace) → Keeps c.args.self.now [] W → HasBufferRoom c.args.self.now c.make_room_with.new.self (name_bytes c.args.name) W
-roomy c W K = has-room (name_bytes c.args.name) (c.find-found.ensures.alike W K) (c.in_ok-make_room_with.ensures.room W K)
+roomy c W K = has-room W (name_bytes c.args.name) (c.find-found.ensures.alike W K) (c.in_ok-make_room_with.ensures.room W K)
 
 there : (c : In_ok-make_room_with) (W : Workspace) → Keeps c.args.self.now [] W
     → HasLines c.args.self.now c.make_room_with.new.self c.in-Some.lines (name_bytes c.args.name) W × HasLines c.args.self.now c.make_room_with.new.self c.in_ok-more.more (name_bytes c.args.other) W
@@ -101,7 +101,7 @@ returns-clause-ends c = λ W K.
     let room = roomy path W K in
     let m = joined (keeps-same room.same K) lines.now c.in-Ok.ensures.answered c.in-Ok.ensures.good c.in_ok-more.more more.xs more.now c.in-Ok.ensures.items in
     let done = cat-made W.current name other lines.xs more.xs lines.found more.found (omega (arith, c.if-len.false, c.len.ensures.value, c.len-2.ensures.value, lines-length lines.before, lines-length more.before, lines-short more.before)) in
-    edit-done (cat name other) name room m done (c.write_lines.ensures.turns W _ m.keeps m.lines room.free (no-key name lines.found)) (omega (arith, lines.now.vector.shape.low, more.now.vector.shape.low)) (λ placed. placed)
+    edit-done (cat name other) name room m done (c.write_lines.ensures.turns W _ m.keeps m.lines (no-key name lines.found)) (omega (arith, lines.now.vector.shape.low, more.now.vector.shape.low)) (λ placed. placed)
 
 pub returns-clause-spares : goal.returns-clause-spares
 returns-clause-spares c = λ W K.

@@ -34,7 +34,7 @@ returns-in_err-key-clause-ends c = λ W K.
 
 -- the buffer's lines, once room was made
 roomy : (c : In_ok-key) (W : Workspace) → Keeps c.args.self.now [] W → HasBufferRoom c.args.self.now c.prepare_key.new.self (name_bytes c.args.other) W
-roomy c W K = has-room (name_bytes c.args.other) (c.find-target.ensures.alike W K) (c.in_ok-key.ensures.room W K)
+roomy c W K = has-room W (name_bytes c.args.other) (c.find-target.ensures.alike W K) (c.in_ok-key.ensures.room W K)
 
 there : (c : In_ok-key) (W : Workspace) → Keeps c.args.self.now [] W → HasLines c.args.self.now c.prepare_key.new.self c.in_ok-lines.lines (name_bytes c.args.name) W
 there c W K = has-lines (c.in_ok-key.ensures.room W K).same (c.in_ok-lines.ensures W K)
@@ -65,7 +65,7 @@ returns-clause-ends c = λ W K.
     let room = roomy path W K in
     let m = made-again (keeps-same room.same K) (Answered-Builds c.share-lines.ensures.shares.builds) c.share-lines.ensures.same lines.now in
     let done = copy-made W.current name other lines.xs lines.found in
-    edit-done (copy name other) other room m done (c.write_lines.ensures.turns W _ m.keeps m.lines room.free (key path W K)) (omega arith) (λ placed. placed)
+    edit-done (copy name other) other room m done (c.write_lines.ensures.turns W _ m.keeps m.lines (key path W K)) (omega arith) (λ placed. placed)
 
 pub returns-clause-spares : goal.returns-clause-spares
 returns-clause-spares c = λ W K.

@@ -51,9 +51,9 @@ returns-in_err-key-clause-ends c = λ W K.
 
 -- room was made for both buffers
 room : (c : In_ok-key) (W : Workspace) → Keeps c.args.self.now [] W
-    → RoomIsMade c.args.self.now c.prepare_key.new.self W (EDIT_NODES + (alike_buffers c.args.self.now.bits W.current (name_bytes c.args.name) + alike_buffers c.args.self.now.bits W.current (name_bytes c.args.other)))
+    → RoomIsMade c.args.self.now c.prepare_key.new.self (EDIT_NODES + (alike_buffers c.args.self.now.bits W.current (name_bytes c.args.name) + alike_buffers c.args.self.now.bits W.current (name_bytes c.args.other)))
 room c W K =
-    subst (λ (n : ℕ). RoomIsMade c.args.self.now c.prepare_key.new.self W (EDIT_NODES + n)) (omega (arith, c.find-found.ensures.alike W K, c.find-target.ensures.alike W K)) (c.in_ok-key.ensures.room W K)
+    subst (λ (n : ℕ). RoomIsMade c.args.self.now c.prepare_key.new.self (EDIT_NODES + n)) (omega (arith, c.find-found.ensures.alike W K, c.find-target.ensures.alike W K)) (c.in_ok-key.ensures.room W K)
 
 -- the first buffer's lines then
 there : (c : In_ok-key) (W : Workspace) → Keeps c.args.self.now [] W → HasLines c.args.self.now c.prepare_key.new.self c.in-Some.lines (name_bytes c.args.name) W
@@ -105,7 +105,6 @@ write_both-requires c =
       p.keeps,
       p.left,
       p.part,
-      room.free,
       no-key name lines.found,
       key path W K,
       both-spares-left name (name_bytes c.args.other) room.same p room.spares (omega (arith, lines.now.vector.shape.low, later.vector.shape.low)),
@@ -121,8 +120,8 @@ returns-clause-ends c = λ W K.
     let p = has-parts c.args.from c.args.to (keeps-same room.same K) lines.now c.in-Ok.ensures.answered c.in-Ok.ensures.good c.in-Ok.ensures.items c.in-Ok-slice.ensures.answered c.in-Ok-slice.ensures.good c.in-Ok-slice.ensures.items in
     let later = lines-stay c.in-Ok.ensures.answered.extends lines.now in
     let done = cut-made W.current name c.args.from c.args.to other lines.xs lines.found c.if-from-to.false (omega (arith, c.if-to-len.false, c.len.ensures.value, lines-length lines.before)) in
-    cut-done c.args.from c.args.to room.same p room.free done
-    (c.write_both.ensures.turns W (without_part lines.xs c.args.from c.args.to) (drop c.args.from (take c.args.to lines.xs)) p.keeps p.left p.part room.free (no-key name lines.found) (key path W K)) (omega (arith, lines.now.vector.shape.low, later.vector.shape.low))
+    cut-done c.args.from c.args.to room.same p done
+    (c.write_both.ensures.turns W (without_part lines.xs c.args.from c.args.to) (drop c.args.from (take c.args.to lines.xs)) p.keeps p.left p.part (no-key name lines.found) (key path W K)) (omega (arith, lines.now.vector.shape.low, later.vector.shape.low))
 
 pub returns-clause-spares : goal.returns-clause-spares
 returns-clause-spares c = λ W K.

@@ -48,7 +48,7 @@ returns-in_err-make_room_with-clause-ample c = λ W K spares.
 
 -- the buffer's lines, once room was made
 roomy : (c : In_ok-make_room_with) (W : Workspace) → Keeps c.args.self.now [] W → HasBufferRoom c.args.self.now c.make_room_with.new.self (name_bytes c.args.name) W
-roomy c W K = has-room (name_bytes c.args.name) (c.find-found.ensures.alike W K) (c.in_ok-make_room_with.ensures.room W K)
+roomy c W K = has-room W (name_bytes c.args.name) (c.find-found.ensures.alike W K) (c.in_ok-make_room_with.ensures.room W K)
 
 there : (c : In_ok-make_room_with) (W : Workspace) → Keeps c.args.self.now [] W → HasLines c.args.self.now c.make_room_with.new.self c.in-Some.lines (name_bytes c.args.name) W
 there c W K = has-found (roomy c W K).same (found (goal.at.In_ok-make_room_with c).In-Some W K)
@@ -81,7 +81,7 @@ returns-clause-ends c = λ W K.
     let room = roomy path W K in
     let m = erased (keeps-same room.same K) lines.now c.in-Ok.ensures.answered c.in-Ok.ensures.good c.args.from c.args.to c.in-Ok.ensures.items in
     let done = del-made W.current name c.args.from c.args.to lines.xs lines.found c.if-from-to.false (omega (arith, c.if-to-len.false, c.len.ensures.value, lines-length lines.before)) in
-    edit-done (del name c.args.from c.args.to) name room m done (c.write_lines.ensures.turns W _ m.keeps m.lines room.free (no-key name lines.found)) (omega (arith, lines.now.vector.shape.low)) (λ placed. placed)
+    edit-done (del name c.args.from c.args.to) name room m done (c.write_lines.ensures.turns W _ m.keeps m.lines (no-key name lines.found)) (omega (arith, lines.now.vector.shape.low)) (λ placed. placed)
 
 pub returns-clause-spares : goal.returns-clause-spares
 returns-clause-spares c = λ W K.

@@ -38,7 +38,7 @@ returns-in_err-make_room_with-clause-ample c = λ W K spares.
 
 -- room was made
 roomy : (c : In_ok-make_room_with) (W : Workspace) → Keeps c.args.self.now [] W → HasBufferRoom c.args.self.now c.make_room_with.new.self (name_bytes c.args.name) W
-roomy c W K = has-room (name_bytes c.args.name) (c.find-found.ensures.alike W K) (c.in_ok-make_room_with.ensures.room W K)
+roomy c W K = has-room W (name_bytes c.args.name) (c.find-found.ensures.alike W K) (c.in_ok-make_room_with.ensures.room W K)
 
 pub without_lines-next-requires-clause-state : goal.without_lines-next-requires-clause-state
 without_lines-next-requires-clause-state c =
@@ -70,7 +70,7 @@ turn_to-requires-clause-kept c =
     let name = name_bytes c.args.name in
     let room = roomy (goal.at.turn_to-requires-clause-kept c).In_ok-make_room_with W K in
     let made = keeps-same room.same K in
-    (W, without_lines W.current name, keeps-gained made (c.without_lines-next.ensures.answered W.current (current-stands made)), c.without_lines-next.ensures.state W.current (current-stands made), room.free)
+    (W, without_lines W.current name, keeps-gained made (c.without_lines-next.ensures.answered W.current (current-stands made)), c.without_lines-next.ensures.state W.current (current-stands made))
 
 pub returns-clause-ends : goal.returns-clause-ends
 returns-clause-ends c = λ W K.
@@ -79,7 +79,7 @@ returns-clause-ends c = λ W K.
     let room = roomy (goal.at.returns-clause-ends c).In_ok-make_room_with W K in
     let made = keeps-same room.same K in
     let g = c.without_lines-next.ensures.answered W.current (current-stands made) in
-    drop-done found.0 room.same g found.1 room.free (c.turn_to.ensures.turns W (without_lines W.current name) (keeps-gained made g) (c.without_lines-next.ensures.state W.current (current-stands made)) room.free)
+    drop-done found.0 room.same g found.1 (c.turn_to.ensures.turns W (without_lines W.current name) (keeps-gained made g) (c.without_lines-next.ensures.state W.current (current-stands made)))
 
 pub returns-clause-spares : goal.returns-clause-spares
 returns-clause-spares c = λ W K.

@@ -1,8 +1,8 @@
 use Rattle.std.proofs.Common.{[], refl, arith}
 use Rattle.shell_terms.specs.Command.{«end»}
 use Rattle.plain_space.specs.Cost.{cost}
-use Rattle.space_state.proofs.Keeping.{heap-is, same-heap, keeps-same, keeps-closed, undo-stands, count-told, batch-open, batch-closed, rises-same, turns-after}
-use Rattle.space_state.proofs.Steps.{end-refused, end-limited, end-done, base-told, base-none, has-below, may-lack, memory-refused}
+use Rattle.space_state.proofs.Keeping.{heap-is, same-heap, keeps-same, keeps-closed, batch-open, batch-closed, rises-same, turns-after}
+use Rattle.space_state.proofs.Steps.{end-refused, end-done, base-told, base-none, may-lack, memory-refused}
 use Rattle.state_rows.proofs.Room.{room-then}
 use Rattle.space_state.proofs.Hoarding.{room-reserved}
 use Rattle.space_state.proofs.roots.RootedHeap.end.Goals as goal
@@ -10,17 +10,10 @@ use Rattle.space_state.proofs.roots.RootedHeap.end.Goals as goal
 pub returns-in_default-clause-ends : goal.returns-in_default-clause-ends
 returns-in_default-clause-ends c = λ W K. record { due = end-refused W (batch-closed (base-none c.base.ensures c.in_default.is) K); same = refl }
 
-pub returns-then-is_longest-clause-ends : goal.returns-then-is_longest-clause-ends
-returns-then-is_longest-clause-ends c = λ W K.
-    let base = batch-open c.in-Some.base (base-told c.base.ensures c.in-Some.is) K in
-    let full = (count-told (undo-stands K) c.at.ensures c.is_longest.ensures).0 c.if-is_longest.true in
-    record { due = end-limited W base.0 base.1 full; same = refl }
-
 pub returns-in_err-reserve-clause-ends : goal.returns-in_err-reserve-clause-ends
 returns-in_err-reserve-clause-ends c = λ W K.
     let base = batch-open c.in-Some.base (base-told c.base.ensures c.in-Some.is) K in
-    let room = has-below (undo-stands K) (count-told (undo-stands K) c.at.ensures c.is_longest.ensures) c.if-is_longest.false in
-    memory-refused c.from_residual.result c.from_residual.ensures.1 (may-lack «end» refl (end-done W base.0 base.1 room)) (heap-is c.in_err-reserve.ensures.refused)
+    memory-refused c.from_residual.result c.from_residual.ensures.1 (may-lack «end» refl (end-done W base.0 base.1)) (heap-is c.in_err-reserve.ensures.refused)
 
 pub record-requires-clause-kept : goal.record-requires-clause-kept
 record-requires-clause-kept c =
@@ -29,8 +22,7 @@ record-requires-clause-kept c =
     let opened = base-told c.base.ensures c.in-Some.is in
     let now = keeps-same (same-heap c.reserve.ensures.rest) K in
     let base = batch-open c.in-Some.base opened now in
-    let room = has-below (undo-stands K) (count-told (undo-stands K) c.at.ensures c.is_longest.ensures) c.if-is_longest.false in
-    ([], _, base.0, keeps-closed c.in-Some.base opened now, omega arith, base.2, room)
+    ([], _, base.0, keeps-closed c.in-Some.base opened now, omega arith, base.2)
 
 pub returns-clause-ends : goal.returns-clause-ends
 unfolding cost
@@ -38,11 +30,10 @@ returns-clause-ends c = λ W K.
     let opened = base-told c.base.ensures c.in-Some.is in
     let now = keeps-same (same-heap c.reserve.ensures.rest) K in
     let base = batch-open c.in-Some.base opened now in
-    let room = has-below (undo-stands K) (count-told (undo-stands K) c.at.ensures c.is_longest.ensures) c.if-is_longest.false in
     record {
       after = _;
-      told = end-done W base.0 base.1 room;
-      turns = turns-after 0 64 (rises-same c.reserve.ensures.rest) refl (c.record.ensures.turns [] _ base.0 (keeps-closed c.in-Some.base opened now) base.2 room).turns (omega arith);
+      told = end-done W base.0 base.1;
+      turns = turns-after 0 256 (rises-same c.reserve.ensures.rest) refl (c.record.ensures.turns [] _ base.0 (keeps-closed c.in-Some.base opened now) base.2).turns (omega arith);
       few_made = λ placed inside. absurd placed;
     }
 

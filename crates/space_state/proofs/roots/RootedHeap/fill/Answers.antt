@@ -1,14 +1,14 @@
-use Rattle.std.proofs.Common.{◌≡◌, ◌+◌, ◌/◌, [], length, Ok, false, refl, sym, ap, ◌∙◌, arith}
+use Rattle.std.proofs.Common.{◌≡◌, ◌+◌, ◌/◌, [], length, Ok, refl, sym, ap, ◌∙◌, arith}
 use Rattle.space_state.specs.declared.turning.TheConstants.{EDIT_NODES}
 use Rattle.elem_core.specs.Shown.{name_bytes}
 use Rattle.shell_terms.specs.Edit.{fill}
-use Rattle.plain_space.specs.Workspace.{Workspace, lines_of, with_lines, is_full}
+use Rattle.plain_space.specs.Workspace.{Workspace, lines_of, with_lines}
 use Rattle.plain_space.specs.Edited.{edited}
 use Rattle.state_rows.specs.InHeap.{AreLinesIn}
 use Rattle.space_state.specs.Roots.{Keeps}
 use Rattle.space_state.specs.InPlace.{new_key}
 use Rattle.space_state.proofs.Keeping.{holds-few, heap-is, same-heap, keeps-same}
-use Rattle.space_state.proofs.Editing.{fill-made, limited, may-lack, IsMade, made-by, lines-put}
+use Rattle.space_state.proofs.Editing.{fill-made, may-lack, IsMade, made-by, lines-put}
 use Rattle.space_state.proofs.Placing.{key-told}
 use Rattle.space_state.proofs.Steps.{memory-refused}
 use Rattle.plain_space.specs.Cost.{alike_buffers}
@@ -17,28 +17,20 @@ use Rattle.space_state.proofs.Hoarding.{room-more, room-reserved}
 use Rattle.space_state.proofs.roots.RootedHeap.fill.Goals as goal
 use Rattle.space_state.proofs.roots.RootedHeap.fill.Goals.{In_ok-key, After-filled-lines}
 
-pub returns-then-is_full-clause-ends : goal.returns-then-is_full-clause-ends
-returns-then-is_full-clause-ends c = λ W K.
-    let name = name_bytes c.args.name in
-    limited W (fill name c.args.lines) _ (fill-made W.current name c.args.lines) (sym (c.is_full.ensures W K) ∙ c.if-is_full.true)
-
 pub returns-in_err-links-clause-ends : goal.returns-in_err-links-clause-ends
 returns-in_err-links-clause-ends c = λ W K.
     let name = name_bytes c.args.name in
-    let free : is_full W ≡ false = sym (c.is_full.ensures W K) ∙ c.if-is_full.false in
-    memory-refused c.from_residual.result c.from_residual.ensures.1 (may-lack W (fill name c.args.lines) _ (fill-made W.current name c.args.lines) free) refl
+    memory-refused c.from_residual.result c.from_residual.ensures.1 (may-lack W (fill name c.args.lines) _ (fill-made W.current name c.args.lines)) refl
 
 pub returns-in_err-key-clause-ends : goal.returns-in_err-key-clause-ends
 returns-in_err-key-clause-ends c = λ W K.
     let name = name_bytes c.args.name in
-    let free : is_full W ≡ false = sym (c.is_full.ensures W K) ∙ c.if-is_full.false in
-    memory-refused c.from_residual-in_err-key.result c.from_residual-in_err-key.ensures.1 (may-lack W (fill name c.args.lines) _ (fill-made W.current name c.args.lines) free) refl
+    memory-refused c.from_residual-in_err-key.result c.from_residual-in_err-key.ensures.1 (may-lack W (fill name c.args.lines) _ (fill-made W.current name c.args.lines)) refl
 
 pub returns-in_err-reserve-clause-ends : goal.returns-in_err-reserve-clause-ends
 returns-in_err-reserve-clause-ends c = λ W K.
     let name = name_bytes c.args.name in
-    let free : is_full W ≡ false = sym (c.is_full.ensures W K) ∙ c.if-is_full.false in
-    memory-refused c.from_residual-in_err-reserve.result c.from_residual-in_err-reserve.ensures.1 (may-lack W (fill name c.args.lines) _ (fill-made W.current name c.args.lines) free) (heap-is c.in_err-reserve.ensures.refused)
+    memory-refused c.from_residual-in_err-reserve.result c.from_residual-in_err-reserve.ensures.1 (may-lack W (fill name c.args.lines) _ (fill-made W.current name c.args.lines)) (heap-is c.in_err-reserve.ensures.refused)
 
 -- the lines are made, in the room that was made for them
 made : (c : After-filled-lines) (W : Workspace) → Keeps c.args.self.now [] W
@@ -72,7 +64,6 @@ write_lines-requires c =
       c.into_vec-texts.result.items,
       made.keeps,
       made.lines,
-      sym (c.is_full.ensures W K) ∙ c.if-is_full.false,
       key (goal.at.write_lines-requires c).In_ok-key W K,
       (omega (arith, spares.0, c.len-count.ensures, made.cells), omega (arith, spares.1, c.vector_nodes.ensures, c.len-count.ensures, made.nodes, c.find-found.ensures.alike W K)),
     )
@@ -82,9 +73,8 @@ returns-clause-ends c = λ W K.
     let name = name_bytes c.args.name in
     let xs = c.into_vec-texts.result.items in
     let made = made (goal.at.returns-clause-ends c).After-filled-lines W K in
-    let free : is_full W ≡ false = sym (c.is_full.ensures W K) ∙ c.if-is_full.false in
     let done : edited W.current (fill name c.args.lines) ≡ Ok (with_lines W.current name xs) = fill-made W.current name c.args.lines ∙ ap (λ ys. Ok (with_lines W.current name ys)) (sym c.into_vec-texts.ensures) in
-    lines-put (fill name c.args.lines) name (same-heap c.reserve.ensures.rest) free made done (c.write_lines.ensures.turns W xs made.keeps made.lines free (key (goal.at.returns-clause-ends c).In_ok-key W K))
+    lines-put (fill name c.args.lines) name (same-heap c.reserve.ensures.rest) made done (c.write_lines.ensures.turns W xs made.keeps made.lines (key (goal.at.returns-clause-ends c).In_ok-key W K))
     (omega (arith, ap length c.into_vec-texts.ensures)) (λ placed. placed)
 
 pub returns-clause-spares : goal.returns-clause-spares

@@ -6,7 +6,7 @@ use Rattle.space_state.specs.declared.turning.TheConstants.{TURN_NODES}
 use Rattle.space_state.specs.Roots.{Keeps}
 use Rattle.space_state.specs.Turns.{TurnsBeside}
 use Rattle.space_state.specs.InPlace.{current_kept}
-use Rattle.space_state.proofs.Keeping.{answered-one, keeps-gained, current-stands, undo-stands, besides-held, held-live, has-room, rises-answered, rises-refl, rises-more, turns-by, turns-after}
+use Rattle.space_state.proofs.Keeping.{answered-one, keeps-gained, current-stands, besides-held, held-live, rises-answered, rises-refl, rises-more, turns-by, turns-after}
 use Rattle.space_state.proofs.Placing.{kept-inside, kept-outside}
 use Rattle.state_rows.proofs.Room.{room-made, room-then}
 use Rattle.space_state.proofs.Hoarding.{room-same}
@@ -14,7 +14,7 @@ use Rattle.space_state.proofs.roots.RootedHeap.keep_current.Goals as goal
 use Rattle.space_state.proofs.roots.RootedHeap.keep_current.Goals.{After-hold}
 
 pub returns-then-in_batch-clause-turns : goal.returns-then-in_batch-clause-turns
-returns-then-in_batch-clause-turns c = λ b W K free.
+returns-then-in_batch-clause-turns c = λ b W K.
     let inside : in_batch W ≡ true = sym (c.in_batch.ensures b W K) ∙ c.if-in_batch.true in
     let s : RootedHeap = c.args.self.now in
     record {
@@ -32,18 +32,17 @@ pub record-requires-clause-kept : goal.record-requires-clause-kept
 record-requires-clause-kept c =
     let k = c.requires.kept in
     let W = k.1 in
-    let outside : in_batch W ≡ false = sym (c.in_batch.ensures k.0 W k.2) ∙ c.if-in_batch.false in
     let now = held (goal.at.record-requires-clause-kept c).After-hold k.0 W k.2 in
-    (k.0, W, W.current, now, k.3, current-stands now, has-room W (undo-stands now) outside k.4)
+    (k.0, W, W.current, now, k.3, current-stands now)
 
 pub returns-clause-turns : goal.returns-clause-turns
-returns-clause-turns c = λ b W K free.
+returns-clause-turns c = λ b W K.
     let outside : in_batch W ≡ false = sym (c.in_batch.ensures b W K) ∙ c.if-in_batch.false in
     let h = c.hold.ensures in
     let now = held (goal.at.returns-clause-turns c).After-hold b W K in
     let did : TurnsBeside (record c.args.self.now { heap = c.hold.new.self }) c.record.new.self b 0 TURN_NODES (current_kept W) =
     subst (λ (V : Workspace). TurnsBeside (record c.args.self.now { heap = c.hold.new.self }) c.record.new.self b 0 TURN_NODES V) (sym (kept-outside W outside))
-    (c.record.ensures.turns b W W.current now (current-stands now) (has-room W (undo-stands now) outside free)) in
+    (c.record.ensures.turns b W W.current now (current-stands now)) in
     record {
       turns = turns-after 0 TURN_NODES (rises-answered (answered-one h.extends h.graph h.holds h.count h.makes)) refl did.turns (omega arith);
       stays = λ l some. KeepsBelow-trans c.args.self.now.heap c.hold.new.self c.record.new.self.heap l (h.extends.kept l (held-live K l (besides-held K l some))) (did.stays l some);

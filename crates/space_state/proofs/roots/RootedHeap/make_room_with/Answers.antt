@@ -1,5 +1,3 @@
-use Rattle.std.proofs.Common.{◌≡◌, false, sym, ◌∙◌}
-use Rattle.plain_space.specs.Workspace.{is_full}
 use Rattle.space_state.proofs.Keeping.{heap-is}
 use Rattle.space_state.proofs.Steps.{room-lacks-memory}
 use Rattle.space_state.proofs.Hoarding.{room-reserved}
@@ -7,8 +5,7 @@ use Rattle.space_state.proofs.roots.RootedHeap.make_room_with.Goals as goal
 
 pub returns-in_err-reserve-clause-room : goal.returns-in_err-reserve-clause-room
 returns-in_err-reserve-clause-room c = λ W K.
-    let free : is_full W ≡ false = sym (c.is_full.ensures W K) ∙ c.if-is_full.false in
-    room-lacks-memory W _ c.from_residual.result c.from_residual.ensures.1 free (heap-is c.in_err-reserve.ensures.refused)
+    room-lacks-memory _ c.from_residual.result c.from_residual.ensures.1 (heap-is c.in_err-reserve.ensures.refused)
 
 pub returns-clause-spares : goal.returns-clause-spares
 returns-clause-spares c = room-reserved c.in_ok-reserve.ensures.greater c.reserve.ensures.rest

@@ -54,7 +54,7 @@ there : (c : After-cell-line) (W : Workspace) → Keeps c.args.self.now [] W
     → HasText c.args.self.now c.prepare_line.new.self c.cell-line.new.self c.cell-line.result c.in-Some.lines (name_bytes c.args.name) (line_bytes c.args.line) W
 there c W K =
     let e = c.cell-line.ensures in
-    let room = has-room (name_bytes c.args.name) (c.find-found.ensures.alike W K) (c.in_ok-text.ensures.room W K) in
+    let room = has-room W (name_bytes c.args.name) (c.find-found.ensures.alike W K) (c.in_ok-text.ensures.room W K) in
     has-text K room (has-found room.same (found (goal.at.After-cell-line c).In-Some W K)) c.args.line.cell c.in_ok-text.ensures.text e.adds e.makes e.count e.graph e.extends
 
 pub insert-requires-clause-good : goal.insert-requires-clause-good
@@ -82,7 +82,7 @@ returns-clause-ends c = λ W K.
     let has = there (goal.at.returns-clause-ends c).After-cell-line W K in
     let m = inserted has c.in-Ok.ensures.answered c.in-Ok.ensures.good c.args.index c.in-Ok.ensures.items in
     let done = put-made W.current name text c.args.index has.lines.xs has.lines.found (omega (arith, c.if-index-count.false, c.len-count.ensures.value, lines-length has.lines.before)) (grind (arith, c.if-count.false, c.len-count.ensures.value, lines-length has.lines.before, lines-short has.lines.before)) in
-    edit-done (put name c.args.index text) name has.room m done (c.write_lines.ensures.turns W _ m.keeps m.lines has.room.free (no-key name has.lines.found)) (omega (arith, has.lines.now.vector.shape.low)) (λ placed. placed)
+    edit-done (put name c.args.index text) name has.room m done (c.write_lines.ensures.turns W _ m.keeps m.lines (no-key name has.lines.found)) (omega (arith, has.lines.now.vector.shape.low)) (λ placed. placed)
 
 pub returns-clause-spares : goal.returns-clause-spares
 returns-clause-spares c = λ W K.

@@ -1,5 +1,4 @@
-use Rattle.std.proofs.Common.{◌≡◌, [], false, refl, sym, subst, ◌∙◌, arith}
-use Rattle.plain_space.specs.Workspace.{is_full}
+use Rattle.std.proofs.Common.{[], refl, sym, subst, arith}
 use Rattle.state_rows.specs.InPlace.{MakesAtMost}
 use Rattle.space_state.specs.declared.roots.RootedHeap.{RootedHeap}
 use Rattle.space_state.specs.declared.turning.TheConstants.{TURN_NODES}
@@ -11,25 +10,23 @@ use Rattle.space_state.proofs.roots.RootedHeap.ready.Goals as goal
 
 pub returns-in_err-reserve-clause-ready : goal.returns-in_err-reserve-clause-ready
 returns-in_err-reserve-clause-ready c = λ W K.
-    ready-refused _ W c.from_residual-in_err-reserve.result c.from_residual-in_err-reserve.ensures.1 (sym (c.is_full.ensures W K) ∙ c.if-is_full.false) (heap-is c.in_err-reserve.ensures.refused)
+    ready-refused _ c.from_residual-in_err-reserve.result c.from_residual-in_err-reserve.ensures.1 (heap-is c.in_err-reserve.ensures.refused)
 
 pub keep_current-requires-clause-kept : goal.keep_current-requires-clause-kept
 keep_current-requires-clause-kept c =
     let k = c.requires.kept in
-    ([], k.0, keeps-same (same-heap c.reserve.ensures.rest) k.1, omega arith, sym (c.is_full.ensures k.0 k.1) ∙ c.if-is_full.false)
+    ([], k.0, keeps-same (same-heap c.reserve.ensures.rest) k.1, omega arith)
 
 pub keep_current-requires-clause-spares : goal.keep_current-requires-clause-spares
 keep_current-requires-clause-spares c = let spares = c.in_ok-reserve.ensures.spares in (omega arith, omega (arith, spares.1))
 
 pub returns-clause-ready : goal.returns-clause-ready
 returns-clause-ready c = λ W K.
-    let free : is_full W ≡ false = sym (c.is_full.ensures W K) ∙ c.if-is_full.false in
     let rest = c.reserve.ensures.rest in
     let kept = keeps-same (same-heap rest) K in
     let spares = c.in_ok-reserve.ensures.spares in
-    let now = c.keep_current.ensures.turns [] W kept free in
+    let now = c.keep_current.ensures.turns [] W kept in
     record {
-      free = free;
       turns = turns-after 0 TURN_NODES (rises-same rest) refl now.turns (omega arith);
       few = λ inside. subst (λ (u : RootedHeap). MakesAtMost c.args.self.now.heap u.heap 0) (sym (c.keep_current.ensures.inside W kept inside)) (omega (arith, rest.made, rest.live));
       spares = (omega (arith, spares.0, now.spare_cells), omega (arith, spares.1, now.spare_nodes));

@@ -26,7 +26,7 @@ emptied-redo-requires-clause-spares c =
     (omega arith, omega (arith, c.requires.spares.1, (c.push_undo.ensures.turns k.0 k.1 k.2 k.3 k.5).spare_nodes))
 
 pub returns-clause-turns : goal.returns-clause-turns
-returns-clause-turns c = λ b W x K is room.
+returns-clause-turns c = λ b W x K is.
     let pushed = c.push_undo.ensures.turns b W x K is in
     let did = rw c.from_root.ensures at c.emptied-redo.ensures in
     let mid = c.push_undo.new.self in

@@ -6,7 +6,7 @@ use Rattle.plain_space.specs.Workspace.{Workspace, is_starred, with_current, wit
 use Rattle.plain_space.specs.Cost.{cost, alike_stars}
 use Rattle.space_state.specs.Roots.{Keeps}
 use Rattle.space_state.proofs.Keeping.{keeps-same, current-stands, turns-then}
-use Rattle.space_state.proofs.Editing.{star-made, does, may-lack, limited, no-room, fails}
+use Rattle.space_state.proofs.Editing.{star-made, does, may-lack, no-room, fails}
 use Rattle.space_state.proofs.Steps.{star-taken, memory-refused, spares-suffice, HasNext, has-next}
 use Rattle.state_rows.proofs.Room.{room-then}
 use Rattle.space_state.proofs.roots.RootedHeap.star.Goals as goal
@@ -15,15 +15,10 @@ use Rattle.space_state.proofs.roots.RootedHeap.star.Goals.{In_ok-make_star_room,
 pub returns-then-is_starred-clause-ends : goal.returns-then-is_starred-clause-ends
 returns-then-is_starred-clause-ends c = λ W K. record { due = star-taken W _ (sym (c.is_starred.ensures W K) ∙ c.if-is_starred.true); same = refl }
 
-pub returns-then-is_full-clause-ends : goal.returns-then-is_full-clause-ends
-returns-then-is_full-clause-ends c = λ W K.
-    let none : is_starred W.current (name_bytes c.args.name) ≡ false = sym (c.is_starred.ensures W K) ∙ c.if-is_starred.false in
-    limited W (star _) _ (star-made W.current _ none) (sym (c.is_full.ensures W K) ∙ c.if-is_full.true)
-
 pub returns-in_err-key-clause-ends : goal.returns-in_err-key-clause-ends
 returns-in_err-key-clause-ends c = λ W K.
     let none : is_starred W.current (name_bytes c.args.name) ≡ false = sym (c.is_starred.ensures W K) ∙ c.if-is_starred.false in
-    memory-refused c.from_residual.result c.from_residual.ensures.1 (may-lack W (star _) _ (star-made W.current _ none) (sym (c.is_full.ensures W K) ∙ c.if-is_full.false)) refl
+    memory-refused c.from_residual.result c.from_residual.ensures.1 (may-lack W (star _) _ (star-made W.current _ none)) refl
 
 pub returns-in_err-make_star_room-clause-ends : goal.returns-in_err-make_star_room-clause-ends
 returns-in_err-make_star_room-clause-ends c = λ W K.
@@ -57,7 +52,7 @@ turn_to-requires-clause-spares c = (next (goal.at.turn_to-requires-clause-spares
 pub turn_to-requires-clause-kept : goal.turn_to-requires-clause-kept
 turn_to-requires-clause-kept c =
     let made = next (goal.at.turn_to-requires-clause-kept c).After-with_star-next c.requires.0 c.requires.1 in
-    (c.requires.0, _, made.turns.keeps, made.is, made.free)
+    (c.requires.0, _, made.turns.keeps, made.is)
 
 pub returns-clause-ends : goal.returns-clause-ends
 unfolding cost
@@ -67,8 +62,8 @@ returns-clause-ends c = λ W K.
     let key : c.in_ok-key.key ≡ name_bytes c.args.name = c.in_ok-key.ensures.kept ∙ c.as_line.ensures in
     record {
       after = with_current W (with_star W.current c.in_ok-key.key);
-      told = rw key (does W (star (name_bytes c.args.name)) _ (star-made W.current (name_bytes c.args.name) none) made.free);
-      turns = turns-then (64 + alike_stars c.args.self.now.bits W.current (name_bytes c.args.name)) made.turns (c.turn_to.ensures.turns W _ made.turns.keeps made.is made.free) (omega arith);
+      told = rw key (does W (star (name_bytes c.args.name)) _ (star-made W.current (name_bytes c.args.name) none));
+      turns = turns-then (256 + alike_stars c.args.self.now.bits W.current (name_bytes c.args.name)) made.turns (c.turn_to.ensures.turns W _ made.turns.keeps made.is) (omega arith);
       few_made = λ placed inside. absurd placed;
     }
 

@@ -46,7 +46,7 @@ turn_to-requires-clause-spares c = (next (goal.at.turn_to-requires-clause-spares
 pub turn_to-requires-clause-kept : goal.turn_to-requires-clause-kept
 turn_to-requires-clause-kept c =
     let made = next (goal.at.turn_to-requires-clause-kept c).After-without_star-next c.requires.0 c.requires.1 in
-    (c.requires.0, _, made.turns.keeps, made.is, made.free)
+    (c.requires.0, _, made.turns.keeps, made.is)
 
 pub returns-clause-ends : goal.returns-clause-ends
 unfolding cost
@@ -55,8 +55,8 @@ returns-clause-ends c = λ W K.
     let made = next (goal.at.returns-clause-ends c).After-without_star-next W K in
     record {
       after = with_current W (without_star W.current (name_bytes c.args.name));
-      told = does W (unstar (name_bytes c.args.name)) _ (unstar-made W.current (name_bytes c.args.name) there) made.free;
-      turns = turns-then (64 + alike_stars c.args.self.now.bits W.current (name_bytes c.args.name)) made.turns (c.turn_to.ensures.turns W _ made.turns.keeps made.is made.free) (omega arith);
+      told = does W (unstar (name_bytes c.args.name)) _ (unstar-made W.current (name_bytes c.args.name) there);
+      turns = turns-then (256 + alike_stars c.args.self.now.bits W.current (name_bytes c.args.name)) made.turns (c.turn_to.ensures.turns W _ made.turns.keeps made.is) (omega arith);
       few_made = λ placed inside. absurd placed;
     }
 

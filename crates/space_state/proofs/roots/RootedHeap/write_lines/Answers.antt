@@ -3,6 +3,7 @@ use Rattle.elem_core.specs.declared.codes.TheConstants.{DEEPEST}
 use Rattle.elem_core.specs.Shown.{name_bytes}
 use Rattle.plain_space.specs.Workspace.{Workspace, with_lines}
 use Rattle.plain_space.specs.Cost.{alike_buffers}
+use Rattle.space_state.specs.declared.turning.TheConstants.{TURN_NODES}
 use Rattle.space_state.specs.InPlace.{current_kept}
 use Rattle.space_state.specs.Turns.{TurnsTo}
 use Rattle.space_state.proofs.Keeping.{first-counts, lines-beside, turns-then}
@@ -11,35 +12,35 @@ use Rattle.state_rows.proofs.Room.{room-then}
 use Rattle.space_state.proofs.roots.RootedHeap.write_lines.Goals as goal
 
 pub keep_current-requires-clause-spares : goal.keep_current-requires-clause-spares
-keep_current-requires-clause-spares c = (omega arith, omega (arith, c.requires.6.1))
+keep_current-requires-clause-spares c = (omega arith, omega (arith, c.requires.5.1))
 
 pub keep_current-requires-clause-kept : goal.keep_current-requires-clause-kept
-keep_current-requires-clause-kept c = (c.args.lines ∷ [], c.requires.0, c.requires.2, omega arith, c.requires.4)
+keep_current-requires-clause-kept c = (c.args.lines ∷ [], c.requires.0, c.requires.2, omega arith)
 
 pub place_lines-requires : goal.place_lines-requires
 place_lines-requires c =
     let W = c.requires.0 in
-    let spares = c.requires.6 in
+    let spares = c.requires.5 in
     let name = name_bytes c.args.name in
-    let kept = c.keep_current.ensures.turns (c.args.lines ∷ []) W c.requires.2 c.requires.4 in (
+    let kept = c.keep_current.ensures.turns (c.args.lines ∷ []) W c.requires.2 in (
       [],
       current_kept W,
       c.requires.1,
       kept.turns.keeps,
       omega arith,
       lines-beside kept (first-counts c.args.lines []) c.requires.3,
-      c.requires.5,
+      c.requires.4,
       (omega (arith, spares.0, kept.spare_cells), omega (arith, spares.1, kept.spare_nodes, alike-turned kept.turns W.current name)),
     )
 
 pub returns-clause-turns : goal.returns-clause-turns
-returns-clause-turns c = λ W xs K are free key.
+returns-clause-turns c = λ W xs K are key.
     let name = name_bytes c.args.name in
-    let kept = c.keep_current.ensures.turns (c.args.lines ∷ []) W K free in
+    let kept = c.keep_current.ensures.turns (c.args.lines ∷ []) W K in
     let alike : ℕ = alike_buffers c.keep_current.new.self.bits W.current name in
     let placed : TurnsTo c.keep_current.new.self c.place_lines.new.self [] (1 + (DEEPEST + 4 + alike)) (record (current_kept W) { current = with_lines W.current name xs }) =
     (c.place_lines.ensures.turns [] (current_kept W) xs kept.turns.keeps (lines-beside kept (first-counts c.args.lines []) are) key).turns in
-    turns-then (DEEPEST + 16 + alike_buffers c.args.self.now.bits W.current name) kept.turns
+    turns-then (DEEPEST + 5 + TURN_NODES + alike_buffers c.args.self.now.bits W.current name) kept.turns
     (subst (λ (V : Workspace). TurnsTo c.keep_current.new.self c.place_lines.new.self [] (1 + (DEEPEST + 4 + alike)) V) (then-current W (with_lines W.current name xs)) placed) (omega (arith, alike-turned kept.turns W.current name))
 
 pub returns-clause-spares : goal.returns-clause-spares

@@ -1,10 +1,11 @@
-use Rattle.std.proofs.Common.{◌≡◌, refl, subst}
+use Rattle.std.proofs.Common.{◌≡◌, ◌≤◌, refl, subst, arith}
 use Rattle.std.specs.Prelude.{IfOk}
 use Rattle.pool_text.specs.Pool.{pool}
 use Rattle.pool_text.specs.declared.rules.TheConstants.{PRESENT_VERSION}
 use Rattle.pool_check.specs.Damages.{IsValid}
 use Rattle.space_state.specs.View.{SpaceView}
-use Rattle.space_state.proofs.Front.{pool-valid}
+use Rattle.plain_space.specs.Workspace.{most}
+use Rattle.space_state.proofs.Front.{history-is, pool-valid}
 use Rattle.space_state.proofs.space.Space.pool.Goals as goal
 
 pub returns-clause-value : goal.returns-clause-value
@@ -16,3 +17,8 @@ returns-clause-valid c = subst (λ (v : SpaceView). IsValid v.pool) c.self.view_
 pub returns-clause-version : goal.returns-clause-version
 unfolding pool
 returns-clause-version c = subst (λ (v : SpaceView). v.pool.version ≡ PRESENT_VERSION) c.self.view_is refl
+
+pub returns-clause-history : goal.returns-clause-history
+returns-clause-history c =
+    let bounded = c.self.invariant.1.bounded in
+    subst (λ (v : SpaceView). v.pool.history ≤ most) c.self.view_is (omega (arith, history-is c.self.inside.rows, bounded.0, bounded.1))

@@ -1,0 +1,14 @@
+use Rattle.std.proofs.Common.{◌≡◌, true, take, length}
+use Rattle.std.specs.List.{list_all}
+use Rattle.pool_text.specs.Rows.{row_form}
+use Rattle.pool_text.specs.Pool.{forms_in}
+use Rattle.pool_check.specs.Vectors.{keeps_fill_rule}
+use Rattle.pool_check.specs.Shapes.{AreShapes}
+use Rattle.pool_check.proofs.vectors.shapes_of.Given as goal
+
+abbrev pub invariant-loop-row : goal.invariant-loop-row
+invariant-loop-row l = record {
+  shapes : AreShapes (forms_in l.fn.pool) l.shapes.items;
+  count : length l.shapes.items ≡ l.row-index;
+  stand : list_all (λ row. keeps_fill_rule (forms_in l.fn.pool) (row_form row)) (take l.row-index l.rows) ≡ true;
+}

@@ -1,0 +1,16 @@
+use Rattle.std.proofs.Common.{◌+◌, ◌≤◌, subst}
+use Rattle.shell_terms.specs.Command as command
+use Rattle.space_state.specs.View.{SpaceView, Ends, shown}
+use Rattle.space_state.proofs.Front.{ends-seen, kept-on}
+use Rattle.space_state.proofs.space.Space.history.Goals as goal
+
+pub invariant_of-self : goal.invariant_of-self
+invariant_of-self c = kept-on (command.history c.args.count) c.self.inside.rows c.set_history.result c.set_history.new.self c.self.invariant c.set_history.ensures.ends
+
+pub returns-clause-ends : goal.returns-clause-ends
+returns-clause-ends c =
+    subst (λ (v : SpaceView). Ends (command.history c.args.count) v c.set_history.result (shown c.set_history.new.self)) c.self.view_is
+    (ends-seen (command.history c.args.count) c.self.inside.rows c.set_history.result c.set_history.new.self c.self.invariant.0 c.self.invariant.1 c.set_history.ensures.ends c.set_history.ensures.spares)
+
+pub returns-clause-made : goal.returns-clause-made
+returns-clause-made c = subst (λ (v : SpaceView). c.set_history.new.self.heap.made ≤ v.made + 17) c.self.view_is c.set_history.ensures.made
