@@ -200,7 +200,7 @@ const DOCUMENTS: [(&[u8], Option<Damage>); 27] = [
         Some(Damage::Bits),
     ),
     (
-        b"{\"bits\":64,\"format\":\"ewig-pool\",\"roots\":[0,0,0,0],\"rows\":[[\"l\",[0]]],\"version\":3}",
+        b"{\"bits\":64,\"format\":\"ewig-pool\",\"roots\":[0,0,0,0],\"rows\":[[\"l\",[0]]],\"version\":4}",
         Some(Damage::Version),
     ),
 ];
