@@ -3,7 +3,7 @@ use Rattle.std.specs.Prelude.{◌≡◌, ℕ, ◌-◌, ◌<◌, ◌≤◌, List,
 use Rattle.std.specs.Bool.{Decides}
 use Rattle.plain_space.specs.declared.refusal.Refusal.TheVariants.{Range, Limit}
 use Rattle.shell_terms.specs.Edit.{Bytes, PlainEdit, add, put}
-use Rattle.shell_terms.specs.Command.{PlainCommand, edit, undo}
+use Rattle.shell_terms.specs.Command.{PlainCommand, edit, undo, history}
 use Rattle.plain_space.specs.Workspace.{State, Workspace, most, lines_of, same_texts, same_state, in_batch, last_of, HasBoundedUndo, with_current}
 use Rattle.plain_space.specs.Edited.{edited}
 use Rattle.plain_space.specs.Answer.{tells, answer, done}
@@ -20,6 +20,17 @@ abbrev pub UndoStaysBounded : Type 0
 UndoStaysBounded =
     (work after : Workspace) (command : PlainCommand) (reply : List Bytes) → HasBoundedUndo work
     → answer work command ≡ Ok (tells reply after) → HasBoundedUndo after
+
+-- The bound of undo after a command: the one that `history` names, and after any other command the one that was.
+abbrev pub bound_after : PlainCommand → ℕ → ℕ
+bound_after (history count) bound = count
+bound_after _ bound = bound
+
+-- What a command leaves has the bound that `history` names, or the one that was.
+abbrev pub HistoryAloneSetsBound : Type 0
+HistoryAloneSetsBound =
+    (work after : Workspace) (command : PlainCommand) (reply : List Bytes)
+    → answer work command ≡ Ok (tells reply after) → after.history ≡ bound_after command work.history
 
 -- What is answered of a buffer that has the most lines, where a line is to be added or put.
 pub record FullBuffer (now : State) (name text : Bytes) (index : ℕ) : Type 0 where

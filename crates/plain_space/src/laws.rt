@@ -1,5 +1,5 @@
 //! Laws of the plain answer: each function does nothing, and its contract is the law.
-ghost use Rattle.plain_space.specs.Laws.{UndoTakesBack, UndoStaysBounded, FullLines, FullRedo, EditsInBatch, SameIsEqual};
+ghost use Rattle.plain_space.specs.Laws.{UndoTakesBack, UndoStaysBounded, HistoryAloneSetsBound, FullLines, FullRedo, EditsInBatch, SameIsEqual};
 
 /// Outside a batch, an undo takes an edit back.
 pub fn undo_takes_back()
@@ -9,6 +9,11 @@ pub fn undo_takes_back()
 /// Undo stays within its bound, whatever the command.
 pub fn undo_stays_bounded()
     ensures { UndoStaysBounded }
+{}
+
+/// `history` alone sets the bound of undo: no other command changes it.
+pub fn history_alone_sets_the_bound()
+    ensures { HistoryAloneSetsBound }
 {}
 
 /// A buffer with the most lines takes no further line.
