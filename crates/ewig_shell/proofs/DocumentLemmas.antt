@@ -7,7 +7,7 @@ use Rattle.std.proofs.lemmas.Bool.{ne_eqb}
 use Rattle.shell_terms.specs.Edit.{Bytes}
 use Rattle.pool_text.specs.Rows.{is_in_range}
 use Rattle.pool_text.specs.Rules.{Rules, first_rules, present_rules, rules_of}
-use Rattle.pool_text.specs.Pool.{pool, today}
+use Rattle.pool_text.specs.Pool.{pool, at_present_version}
 use Rattle.pool_text.specs.Document.{pool_in_bytes}
 use Rattle.pool_text.specs.declared.pool.Pool.{Pool}
 use Rattle.pool_text.specs.declared.rules.TheConstants.{FIRST_VERSION, PRESENT_VERSION}
@@ -46,22 +46,22 @@ both-ok (Err e) P Q R both p q = tt
 -- ## What the bytes stand for
 
 abbrev by_version : ℕ → Pool → Pool → Type 0
-by_version bits Q P = MatchBool (eqb P.version FIRST_VERSION) (IsCarried present_rules bits P Q) (Q ≡ today P)
+by_version bits Q P = MatchBool (eqb P.version FIRST_VERSION) (IsCarried present_rules bits P Q) (Q ≡ at_present_version P)
 
 -- what is carried over has the present version
-pub carried-today : (bits : ℕ) (P Q : Pool) → IsCarried present_rules bits P Q → today Q ≡ Q
+pub carried-at-present : (bits : ℕ) (P Q : Pool) → IsCarried present_rules bits P Q → at_present_version Q ≡ Q
 unfolding pool
-carried-today bits P Q c = ap (λ v. record Q { version = v }) (sym (ap (λ (R : Pool). R.version) c.same))
+carried-at-present bits P Q c = ap (λ v. record Q { version = v }) (sym (ap (λ (R : Pool). R.version) c.same))
 
 module _ (bits : ℕ) (bytes : Bytes) (P Q : Pool) (read : pool_in_bytes bytes ≡ Some P) where
-  pub stands-carried : P.version ≡ FIRST_VERSION → IsCarried present_rules bits P Q → DocumentStandsFor bits bytes (today Q)
+  pub stands-carried : P.version ≡ FIRST_VERSION → IsCarried present_rules bits P Q → DocumentStandsFor bits bytes (at_present_version Q)
   stands-carried first is =
-      let carried : IsCarried present_rules bits P (today Q) = subst (IsCarried present_rules bits P) (sym (carried-today bits P Q is)) is in
-      subst (λ o. IsSomeAnd o (by_version bits (today Q))) (sym read) (subst (λ v. MatchBool (eqb v FIRST_VERSION) (IsCarried present_rules bits P (today Q)) (today Q ≡ today P)) (sym first) carried)
+      let carried : IsCarried present_rules bits P (at_present_version Q) = subst (IsCarried present_rules bits P) (sym (carried-at-present bits P Q is)) is in
+      subst (λ o. IsSomeAnd o (by_version bits (at_present_version Q))) (sym read) (subst (λ v. MatchBool (eqb v FIRST_VERSION) (IsCarried present_rules bits P (at_present_version Q)) (at_present_version Q ≡ at_present_version P)) (sym first) carried)
 
-  pub stands-present : P.version ≢ FIRST_VERSION → Q ≡ today P → DocumentStandsFor bits bytes Q
+  pub stands-present : P.version ≢ FIRST_VERSION → Q ≡ at_present_version P → DocumentStandsFor bits bytes Q
   stands-present other is =
-      subst (λ o. IsSomeAnd o (by_version bits Q)) (sym read) (subst (λ b. MatchBool b (IsCarried present_rules bits P Q) (Q ≡ today P)) (sym (ne_eqb P.version FIRST_VERSION other)) is)
+      subst (λ o. IsSomeAnd o (by_version bits Q)) (sym read) (subst (λ b. MatchBool b (IsCarried present_rules bits P Q) (Q ≡ at_present_version P)) (sym (ne_eqb P.version FIRST_VERSION other)) is)
 
 -- of the present version, for the pool of their rows
 pub present-stands : (bits : ℕ) (bytes : Bytes) (Q : Pool) → IsPresent bytes → DocumentStandsFor bits bytes Q → (pool_in_bytes bytes ≡ Some Q) × (Q.version ≡ PRESENT_VERSION)
@@ -70,8 +70,8 @@ present-stands bits bytes Q now stands = by (pool_in_bytes bytes) now stands
     by : (o : Option Pool) → IsSomeAnd o (λ P. P.version ≡ PRESENT_VERSION) → IsSomeAnd o (by_version bits Q) → (o ≡ Some Q) × (Q.version ≡ PRESENT_VERSION)
     by None now stands = absurd now
     by (Some P) now stands =
-        let same : Q ≡ today P = subst (λ v. MatchBool (eqb v FIRST_VERSION) (IsCarried present_rules bits P Q) (Q ≡ today P)) now stands in
-        let as_made : today P ≡ P = ap (λ v. record P { version = v }) (sym now) in
+        let same : Q ≡ at_present_version P = subst (λ v. MatchBool (eqb v FIRST_VERSION) (IsCarried present_rules bits P Q) (Q ≡ at_present_version P)) now stands in
+        let as_made : at_present_version P ≡ P = ap (λ v. record P { version = v }) (sym now) in
         (ap Some (sym (same ∙ as_made)), ap (λ (R : Pool). R.version) same)
 
 pub is-present : (bytes : Bytes) (P : Pool) → pool_in_bytes bytes ≡ Some P → P.version ≡ PRESENT_VERSION → IsPresent bytes

@@ -13,12 +13,12 @@ use Rattle.plain_space.specs.declared.refusal.Refusal.TheVariants as why
 use Rattle.plain_space.specs.Workspace.{Workspace, in_batch}
 use Rattle.plain_space.specs.Answer.{answer, elsewhere, ok_line}
 use Rattle.plain_space.specs.Memory.{wants_memory}
-use Rattle.pool_check.proofs.DocumentLaw.{valid-today}
+use Rattle.pool_check.proofs.DocumentLaw.{valid-at-present}
 use Rattle.state_rows.proofs.OneSpace.{one-space}
 use Rattle.shell_io.specs.Lines.{HasLines}
 use Rattle.shell_io.specs.declared.lines.LinesFault.{LinesFault}
 use Rattle.shell_io.specs.declared.lines.LinesFault.TheVariants as unread
-use Rattle.pool_text.specs.Pool.{row_count, today}
+use Rattle.pool_text.specs.Pool.{row_count, at_present_version}
 use Rattle.pool_text.specs.Document.{pool_in_bytes, bytes_damage}
 use Rattle.pool_text.specs.declared.pool.Pool.{Pool}
 use Rattle.pool_text.specs.declared.damage.Damage.{Damage}
@@ -80,12 +80,12 @@ module _ (bytes : Bytes) (old new : SpaceView) where
   TakesIn-damaged (Err fault) d e is same = subst (λ (f : LoadFault). TakesIn bytes old (Err f) new) (sym e) (by_fault d bytes old new is same)
 
   -- what it stands for is the space's now
-  pub TakesIn-ok : (P : Pool) → DocumentStandsFor old.pool.bits bytes (today P) → P.bits ≡ old.pool.bits → document_damage old.pool.bits bytes ≡ None → IsValid P → new.pool ≡ today P → new.made ≡ min (old.made + row_count P) (2 ^ 64 - 1) → TakesIn bytes old (Ok tt) new
+  pub TakesIn-ok : (P : Pool) → DocumentStandsFor old.pool.bits bytes (at_present_version P) → P.bits ≡ old.pool.bits → document_damage old.pool.bits bytes ≡ None → IsValid P → new.pool ≡ at_present_version P → new.made ≡ min (old.made + row_count P) (2 ^ 64 - 1) → TakesIn bytes old (Ok tt) new
   TakesIn-ok P is bits whole valid same made =
       inl (subst (λ (d : Option Damage). MatchOption d (IsLoaded bytes old (reply_of (ok_line ∷ [])) new) (λ (w : Damage). Refuses old (codes "damaged " ++ damage_word w) (reply_of (ok_line ∷ [])) new)) (sym whole) (record {
         reply_is = refl;
         pool = subst (DocumentStandsFor old.pool.bits bytes) (sym same) is;
-        valid = subst (λ (Q : Pool). IsValid Q) (sym same) (valid-today P valid);
+        valid = subst (λ (Q : Pool). IsValid Q) (sym same) (valid-at-present P valid);
         bits = ap (λ (Q : Pool). Q.bits) same ∙ bits;
         made = subst (λ (Q : Pool). new.made ≡ min (old.made + row_count Q) (2 ^ 64 - 1)) (sym same) made;
       }))

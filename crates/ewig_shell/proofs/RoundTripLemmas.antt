@@ -8,7 +8,7 @@ use Rattle.plain_space.specs.declared.refusal.Refusal.TheVariants as why
 use Rattle.plain_space.specs.Workspace.{Workspace, in_batch}
 use Rattle.plain_space.specs.Refusing.{unless}
 use Rattle.plain_space.specs.Answer.{Answer, elsewhere}
-use Rattle.pool_text.specs.Pool.{today}
+use Rattle.pool_text.specs.Pool.{at_present_version}
 use Rattle.pool_text.specs.Document.{text, pool_in_bytes}
 use Rattle.pool_text.specs.declared.pool.Pool.{Pool}
 use Rattle.pool_text.specs.declared.damage.Damage.{Damage}
@@ -147,8 +147,8 @@ save-then-load first saved later last files file other reply saves told there bi
             subst (λ (b : Bool). Makes (LoadsBytes later.space) (cond b large (given (text P))) later.space reply last.space) stored.0 (read-file other later last reply files (text P) told there reads) in
             let is : IsLoaded (text P) later.space reply last.space =
             subst (λ (o : Option Damage). MatchOption o (IsLoaded (text P) later.space reply last.space) (λ (d : Damage). Refuses later.space (codes "damaged " ++ damage_word d) reply last.space)) whole small in
-            let present = present-stands later.space.pool.bits (text P) last.space.pool (is-present (text P) (today P) stored.2.read refl) is.pool in
-            inl (is.reply_is, same_Some last.space.pool (today P) (sym present.0 ∙ stored.2.read))
+            let present = present-stands later.space.pool.bits (text P) last.space.pool (is-present (text P) (at_present_version P) stored.2.read refl) is.pool in
+            inl (is.reply_is, same_Some last.space.pool (at_present_version P) (sym present.0 ∙ stored.2.read))
         | inr fails ↦ inr (inr (inl fails.space))
       ]
       | inr keeps ↦ elim keeps [

@@ -6,20 +6,20 @@ use Rattle.std.proofs.lemmas.Option.{same_Some}
 use Rattle.elem_core.specs.declared.codes.TheConstants.{CODE_BITS}
 use Rattle.shell_terms.specs.Edit.{Bytes}
 use Rattle.pool_text.specs.Rules.{Rules, first_rules, second_rules, present_rules, rules_of}
-use Rattle.pool_text.specs.Pool.{pool, today}
+use Rattle.pool_text.specs.Pool.{pool, at_present_version}
 use Rattle.pool_text.specs.Document.{pool_in_bytes}
 use Rattle.pool_text.specs.declared.pool.Pool.{Pool}
 use Rattle.pool_text.specs.declared.rules.TheConstants.{FIRST_VERSION, PRESENT_VERSION, MOST_HISTORY}
 use Rattle.pool_check.specs.Damages.{IsValidBy, IsValid, IsValidByVersion}
 use Rattle.pool_check.specs.Laws.{IsReadAs}
-use Rattle.pool_check.proofs.DocumentLaw.{undamaged-stands, valid-today}
+use Rattle.pool_check.proofs.DocumentLaw.{undamaged-stands, valid-at-present}
 use Rattle.pool_check.proofs.Versions.{present-bits}
 use Rattle.pool_carry.specs.Carried.{IsCarried}
 use Rattle.pool_carry.specs.Computed.{carried}
 use Rattle.pool_carry.specs.Laws.{PoolsAreCarried, CarriedIsOne, CarriedIsValid, CarriedIsKept}
 use Rattle.ewig_shell.specs.Step.{DocumentStandsFor}
 use Rattle.ewig_shell.specs.Stands.{StandsForOne, DocumentsStand, OldDocumentsAreKept}
-use Rattle.ewig_shell.proofs.DocumentLemmas.{carried-today, stands-carried, stands-present}
+use Rattle.ewig_shell.proofs.DocumentLemmas.{carried-at-present, stands-carried, stands-present}
 
 -- ## Valid by the rules of its version
 
@@ -43,17 +43,17 @@ module _ (P : Pool) (valid : IsValidByVersion P) where
 -- ## The pool that bytes stand for
 
 abbrev by_version : ℕ → Pool → Pool → Type 0
-by_version bits Q P = MatchBool (eqb P.version FIRST_VERSION) (IsCarried present_rules bits P Q) (Q ≡ today P)
+by_version bits Q P = MatchBool (eqb P.version FIRST_VERSION) (IsCarried present_rules bits P Q) (Q ≡ at_present_version P)
 
 module _ (bits : ℕ) (bytes : Bytes) (P Q : Pool) (read : pool_in_bytes bytes ≡ Some P) (stands : DocumentStandsFor bits bytes Q) where
   stood : by_version bits Q P
   stood = subst (λ o. IsSomeAnd o (by_version bits Q)) read stands
 
   carried-stood : P.version ≡ FIRST_VERSION → IsCarried present_rules bits P Q
-  carried-stood first = subst (λ v. MatchBool (eqb v FIRST_VERSION) (IsCarried present_rules bits P Q) (Q ≡ today P)) first stood
+  carried-stood first = subst (λ v. MatchBool (eqb v FIRST_VERSION) (IsCarried present_rules bits P Q) (Q ≡ at_present_version P)) first stood
 
-  present-stood : P.version ≢ FIRST_VERSION → Q ≡ today P
-  present-stood other = subst (λ b. MatchBool b (IsCarried present_rules bits P Q) (Q ≡ today P)) (ne_eqb P.version FIRST_VERSION other) stood
+  present-stood : P.version ≢ FIRST_VERSION → Q ≡ at_present_version P
+  present-stood other = subst (λ b. MatchBool b (IsCarried present_rules bits P Q) (Q ≡ at_present_version P)) (ne_eqb P.version FIRST_VERSION other) stood
 
 carried-bits : (bits : ℕ) (P Q : Pool) → IsCarried present_rules bits P Q → Q.bits ≡ bits
 unfolding pool
@@ -67,7 +67,7 @@ module _ (bits : ℕ) (bytes : Bytes) (P : Pool) (is : IsReadAs bits P bytes) wh
       let comes : IsCarried present_rules bits P Q = pools-carried first_rules present_rules bits P valid in
       record {
         pool = Q;
-        stands = subst (DocumentStandsFor bits bytes) (carried-today bits P Q comes) (stands-carried bits bytes P Q is.read first comes);
+        stands = subst (DocumentStandsFor bits bytes) (carried-at-present bits P Q comes) (stands-carried bits bytes P Q is.read first comes);
         valid = carried-valid first_rules present_rules bits P Q (omega (arith, few)) valid comes;
         same_bits = carried-bits bits P Q comes;
         alone = λ R other. carried-alone first_rules present_rules bits P R Q valid (carried-stood bits bytes P R is.read other first) comes;
@@ -75,9 +75,9 @@ module _ (bits : ℕ) (bytes : Bytes) (P : Pool) (is : IsReadAs bits P bytes) wh
 
   present-one : P.version ≢ FIRST_VERSION → IsValid P → StandsForOne bits bytes
   present-one other valid = record {
-    pool = today P;
-    stands = stands-present bits bytes P (today P) is.read other refl;
-    valid = valid-today P valid;
+    pool = at_present_version P;
+    stands = stands-present bits bytes P (at_present_version P) is.read other refl;
+    valid = valid-at-present P valid;
     same_bits = present-bits P bits is.kept other;
     alone = λ R stands. present-stood bits bytes P R is.read stands other;
   }

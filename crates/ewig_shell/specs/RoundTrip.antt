@@ -3,7 +3,7 @@ use Rattle.std.specs.Prelude.{◌≡◌, ℕ, List, [], ◌∷◌, codes, Some, 
 use Rattle.std.specs.FinMap.{insert, get as get_file}
 use Rattle.shell_terms.specs.Command.{save, load}
 use Rattle.plain_space.specs.Answer.{ok_line}
-use Rattle.pool_text.specs.Pool.{today}
+use Rattle.pool_text.specs.Pool.{at_present_version}
 use Rattle.pool_text.specs.Document.{text, pool_in_bytes}
 use Rattle.pool_text.specs.Laws.{IsCompact}
 use Rattle.pool_text.specs.declared.rules.TheConstants.{PRESENT_VERSION}
@@ -36,5 +36,5 @@ abbrev pub SaveThenLoad : Type 0
 SaveThenLoad =
     (first saved later last : Machine) (files : Files) (file other reply : List ℕ) → Obeys (save file) first ok_reply saved
     → later.store.files ≡ Some files → get_file files other ≡ Some (text first.space.pool) → later.space.pool.bits ≡ first.space.pool.bits → Obeys (load other) later reply last
-    → (reply ≡ ok_reply) × (last.space.pool ≡ today first.space.pool)
+    → (reply ≡ ok_reply) × (last.space.pool ≡ at_present_version first.space.pool)
     ⊎ Refuses later.space (codes "batch") reply last.space ⊎ Refuses later.space (codes "fault") reply last.space ⊎ Refuses later.space (codes "memory") reply last.space

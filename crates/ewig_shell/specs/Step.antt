@@ -20,7 +20,7 @@ use Rattle.plain_space.specs.Answer.{Answer, tells, elsewhere, answer, ok_line, 
 use Rattle.plain_space.specs.Memory.{MayLackMemory}
 use Rattle.plain_space.specs.Session.{reason_of}
 use Rattle.pool_text.specs.Rules.{present_rules}
-use Rattle.pool_text.specs.Pool.{row_count, today}
+use Rattle.pool_text.specs.Pool.{row_count, at_present_version}
 use Rattle.pool_text.specs.Document.{text, pool_in_bytes}
 use Rattle.pool_text.specs.declared.pool.Pool.{Pool}
 use Rattle.pool_text.specs.declared.rules.TheConstants.{FIRST_VERSION}
@@ -218,7 +218,7 @@ Takes name old reply new ByBytes = TakesFile name old reply new ByBytes ⊎ Fail
 -- one of the first version for what that is carried to.
 abbrev pub DocumentStandsFor : ℕ → List ℕ → Pool → Type 0
 DocumentStandsFor bits bytes Q =
-    IsSomeAnd (pool_in_bytes bytes) (λ P. MatchBool (P.version == FIRST_VERSION) (IsCarried present_rules bits P Q) (Q ≡ today P))
+    IsSomeAnd (pool_in_bytes bytes) (λ P. MatchBool (P.version == FIRST_VERSION) (IsCarried present_rules bits P Q) (Q ≡ at_present_version P))
 
 -- The pool that the document stands for is the space's now, and the number made has risen by its rows, up to 2^64 - 1.
 pub record IsLoaded (bytes : List ℕ) (old : SpaceView) (reply : List ℕ) (new : SpaceView) : Type 0 where

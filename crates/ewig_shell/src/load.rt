@@ -3,7 +3,7 @@
 ghost use Rattle.std.specs.Prelude.{◌≡◌, ◌≢◌, ◌≤◌, length, None, Some, IfOk, IfErr};
 ghost use Rattle.elem_core.specs.Shown.{name_bytes};
 ghost use Rattle.pool_text.specs.Rules.{first_rules, present_rules};
-ghost use Rattle.pool_text.specs.Pool.{today};
+ghost use Rattle.pool_text.specs.Pool.{at_present_version};
 ghost use Rattle.pool_check.specs.Damages.{document_damage, IsValid, IsValidBy};
 ghost use Rattle.pool_carry.specs.Carried.{IsCarried};
 ghost use Rattle.shell_terms.specs.Command.{read as read_command, load as load_command};
@@ -102,7 +102,7 @@ pub fn load<D: Store>(
 // of the tests that they fail, and with `Memory` where memory runs out.
 fn checked_pool(alloc: Global, bytes: &[u8], bits: u32) -> Result<Checked<Text>, Damage>
     requires { bits ≤ CODE_BITS }
-    ensures stands { IfOk result (λ P. DocumentStandsFor bits bytes.now (today P)) }
+    ensures stands { IfOk result (λ P. DocumentStandsFor bits bytes.now (at_present_version P)) }
     ensures valid { IfOk result IsValid }
     ensures bits { IfOk result (λ P. P.bits ≡ bits) }
     ensures whole { IfOk result (λ _. document_damage bits bytes.now ≡ None) }

@@ -9,8 +9,8 @@ use Rattle.serde_json.specs.Data.{Data, object}
 use Rattle.node_heap.specs.Forms.{Form}
 use Rattle.pool_text.specs.Rows.{Bytes, is_in_range}
 use Rattle.pool_text.specs.Rules.{Rules, rules_of, bits_by}
-use Rattle.pool_text.specs.Pool.{today}
-use Rattle.pool_text.specs.Document.{document, DocumentParts, four, values_at, document_keys, older_keys, number_in, numbers_in, elements_in, kept_if, history_in, fits_version, parts_read, parts_by_format, parts_from, parts_in, rows_in, pool_by, pool_from, pool_in, value_in, pool_in_bytes, parts_damage_by, parts_damage, value_damage, bytes_damage, or_damage, HasHistory}
+use Rattle.pool_text.specs.Pool.{at_present_version}
+use Rattle.pool_text.specs.Document.{document, DocumentParts, four, values_at, document_keys, older_keys, number_in, numbers_in, elements_in, kept_if, history_in, fits_version, parts_read, parts_by_format, parts_from, parts_in, rows_in, pool_by, pool_from, pool_in, value_in, pool_in_bytes, parts_damage_by, parts_damage, value_damage, bytes_damage, or_damage, HistoryFitsVersion}
 use Rattle.pool_text.specs.declared.pool.Pool.{Pool}
 use Rattle.pool_text.specs.declared.rules.TheConstants.{MOST_HISTORY}
 use Rattle.pool_text.specs.declared.damage.Damage.{Damage}
@@ -76,7 +76,7 @@ both-passed true None e = absurd (let some : Some Row ≡ None = e in cc)
 both-passed true (Some found) e = (refl, found, refl)
 
 pool-stands : (bits : ℕ) (bytes : Bytes) → bytes_damage bits bytes ≡ None
-    → (P : Pool) × (pool_in_bytes bytes ≡ Some P) × (P.bits ≡ bits_by P.version bits) × (length P.roots ≡ 4) × HasHistory P × (rules : Rules) × (rules_of P.version ≡ Some rules)
+    → (P : Pool) × (pool_in_bytes bytes ≡ Some P) × (P.bits ≡ bits_by P.version bits) × (length P.roots ≡ 4) × HistoryFitsVersion P × (rules : Rules) × (rules_of P.version ≡ Some rules)
 unfolding bytes_damage value_damage pool_in
 pool-stands bits bytes e =
     let value = no-damage Json (value_damage bits) (value_in bytes) e in
@@ -122,9 +122,9 @@ unfolding rows_in_range_by
 in-range-rows P h = h
 
 -- a pool's version is none of its tests
-pub valid-today : {rules : Rules} (P : Pool) → IsValidBy rules P → IsValidBy rules (today P)
+pub valid-at-present : {rules : Rules} (P : Pool) → IsValidBy rules P → IsValidBy rules (at_present_version P)
 unfolding rows_in_range_by links_lead_back texts_are_lines vectors_stand tries_stand_by roots_are_of_kind undo_fits rows_in_order
-valid-today P v = record {
+valid-at-present P v = record {
   in_range = v.in_range;
   lead_back = v.lead_back;
   lines = v.lines;
@@ -139,11 +139,11 @@ pub valid-document : (P : Pool) (bytes : Bytes) → value_in bytes ≡ Some (doc
 unfolding document_damage bytes_damage
 valid-document P bytes value within four valid =
     let back = reads-back P within four (in-range-rows P valid.in_range) in
-    let read : pool_in_bytes bytes ≡ Some (today P) = ap (option_and_then pool_in) value ∙ back.same in
+    let read : pool_in_bytes bytes ≡ Some (at_present_version P) = ap (option_and_then pool_in) value ∙ back.same in
     record {
       undamaged =
           ap (λ o. option_or o (option_and_then own_damage (pool_in_bytes bytes))) (ap (or_damage Json (value_damage P.bits)) value ∙ back.whole)
-          ∙ ap (option_and_then own_damage) read ∙ valid-undamaged (today P) (valid-today P valid);
+          ∙ ap (option_and_then own_damage) read ∙ valid-undamaged (at_present_version P) (valid-at-present P valid);
       read = read;
     }
 

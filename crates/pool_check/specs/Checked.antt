@@ -3,7 +3,7 @@ use Rattle.std.specs.Prelude.{◌≡◌, ◌≤◌, length, Some}
 use Rattle.elem_core.specs.declared.codes.TheConstants.{CODE_BITS}
 use Rattle.pool_text.specs.declared.pool.Pool.{Pool}
 use Rattle.pool_text.specs.Rules.{first_rules, present_rules, rules_of}
-use Rattle.pool_text.specs.Document.{HasHistory}
+use Rattle.pool_text.specs.Document.{HistoryFitsVersion}
 use Rattle.pool_text.specs.declared.rules.TheConstants.{FIRST_VERSION, FIRST_CODE_BITS}
 use Rattle.pool_check.specs.Damages.{IsValid, IsValidBy}
 
@@ -11,7 +11,7 @@ use Rattle.pool_check.specs.Damages.{IsValid, IsValidBy}
 -- says no history, has the greatest.
 pub record IsChecked (P : Pool) : Type 0 where
   pub rules : rules_of P.version ≡ Some present_rules
-  pub history : HasHistory P
+  pub history : HistoryFitsVersion P
   pub bits : P.bits ≤ CODE_BITS
   pub roots : length P.roots ≡ 4
   pub valid : IsValid P

@@ -6,8 +6,8 @@ use Rattle.rrb_core.specs.Seq.{IsWellShaped}
 use Rattle.champ_trie.specs.Trie.{IsCanonTo, code_by}
 use Rattle.pool_text.specs.Rows.{Bytes}
 use Rattle.pool_text.specs.Rules.{Rules, bits_by}
-use Rattle.pool_text.specs.Pool.{forms_in, row_count, today}
-use Rattle.pool_text.specs.Document.{document, value_in, pool_in_bytes, HasHistory}
+use Rattle.pool_text.specs.Pool.{forms_in, row_count, at_present_version}
+use Rattle.pool_text.specs.Document.{document, value_in, pool_in_bytes, HistoryFitsVersion}
 use Rattle.pool_text.specs.declared.rules.TheConstants.{MOST_HISTORY}
 use Rattle.pool_text.specs.declared.damage.Damage.TheVariants.{Memory}
 use Rattle.pool_text.specs.Renaming.{IsOfItself}
@@ -37,7 +37,7 @@ pub record IsReadAs (bits : ℕ) (P : Pool) (bytes : Bytes) : Type 0 where
   pub kept : P.bits ≡ bits_by P.version bits
   pub roots : length P.roots ≡ 4
   pub valid : IsValidByVersion P
-  pub history : HasHistory P
+  pub history : HistoryFitsVersion P
 
 -- bytes without damage have the rows of a valid pool
 abbrev pub UndamagedDocumentsStand : Type 0
@@ -46,7 +46,7 @@ UndamagedDocumentsStand = (bits : ℕ) (bytes : Bytes) → document_damage bits 
 -- no test fails of the bytes, and this is the pool that they stand for, at the present version
 pub record IsDocumentOf (P : Pool) (bytes : Bytes) : Type 0 where
   pub undamaged : document_damage P.bits bytes ≡ None
-  pub read : pool_in_bytes bytes ≡ Some (today P)
+  pub read : pool_in_bytes bytes ≡ Some (at_present_version P)
 
 -- bytes that read as the document of a valid pool of four roots, whose history is within the greatest bound, have no damage
 abbrev pub ValidDocumentsAreUndamaged : Type 0

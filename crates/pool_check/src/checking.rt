@@ -3,7 +3,7 @@ ghost use Rattle.std.specs.Prelude.{◌≡◌, ◌≢◌, ◌≤◌, length, tru
 ghost use Rattle.std.specs.List.{list_all};
 ghost use Rattle.pool_text.specs.Rows.{is_in_range};
 ghost use Rattle.pool_text.specs.Rules.{first_rules, present_rules, rules_of, rules_named};
-ghost use Rattle.pool_text.specs.Document.{HasHistory};
+ghost use Rattle.pool_text.specs.Document.{HistoryFitsVersion};
 ghost use Rattle.pool_text.specs.declared.rules.TheConstants.{FIRST_VERSION, FIRST_CODE_BITS};
 ghost use Rattle.pool_check.specs.Rows.{rows_in_range_by};
 ghost use Rattle.pool_check.specs.Damages.{IsValid, IsValidBy, damage, damage_by, open_damage};
@@ -43,7 +43,7 @@ impl<T: Stored> Checked<T> {
         ensures same { result.now ≡ self.now }
         ensures valid { IsValid result.now }
         ensures rules { rules_of result.now.version ≡ Some present_rules }
-        ensures history { HasHistory result.now }
+        ensures history { HistoryFitsVersion result.now }
         ensures roots { length result.now.roots ≡ 4 }
         ensures bits { result.now.bits ≤ CODE_BITS }
     {
@@ -55,7 +55,7 @@ impl<T: Stored> Checked<T> {
         ensures same { result ≡ self }
         ensures valid { IsValid result }
         ensures rules { rules_of result.version ≡ Some present_rules }
-        ensures history { HasHistory result }
+        ensures history { HistoryFitsVersion result }
         ensures roots { length result.roots ≡ 4 }
         ensures bits { result.bits ≤ CODE_BITS }
     {
@@ -109,7 +109,7 @@ impl Old {
 /// each row once for each test, and takes time and memory for the rows and their links, however often a row is shared.
 pub fn check<T: Stored>(alloc: Global, pool: Pool) -> Result<Checked<T>, Damage>
     requires rules { rules_of pool.version ≡ Some present_rules }
-    requires history { HasHistory pool }
+    requires history { HistoryFitsVersion pool }
     requires bits { pool.bits ≤ CODE_BITS }
     requires roots { length pool.roots ≡ 4 }
     requires rows { list_all is_in_range pool.rows ≡ true }

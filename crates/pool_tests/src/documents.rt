@@ -4,7 +4,7 @@ ghost use Rattle.std.specs.List.{list_all};
 ghost use Rattle.elem_core.specs.declared.codes.TheConstants.{CODE_BITS};
 ghost use Rattle.pool_text.specs.Rows.{is_in_range};
 ghost use Rattle.pool_text.specs.Rules.{first_rules, present_rules, rules_of};
-ghost use Rattle.pool_text.specs.Document.{HasHistory};
+ghost use Rattle.pool_text.specs.Document.{HistoryFitsVersion};
 ghost use Rattle.pool_text.specs.declared.rules.TheConstants.{FIRST_VERSION, FIRST_CODE_BITS};
 ghost use Rattle.pool_check.specs.Rows.{rows_in_range_by};
 
@@ -16,7 +16,7 @@ use std::alloc::Global;
 pub fn present_pool(alloc: Global, bytes: &[u8], bits: u32) -> Result<Pool, Damage>
     requires { bits ≤ CODE_BITS }
     ensures rules { IfOk result (λ p. rules_of p.version ≡ Some present_rules) }
-    ensures history { IfOk result HasHistory }
+    ensures history { IfOk result HistoryFitsVersion }
     ensures bits { IfOk result (λ p. p.bits ≡ bits) }
     ensures roots { IfOk result (λ p. length p.roots ≡ 4) }
     ensures rows { IfOk result (λ p. list_all is_in_range p.rows ≡ true) }

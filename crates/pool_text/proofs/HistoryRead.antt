@@ -7,7 +7,7 @@ use Rattle.std.proofs.lemmas.Option.{none-some, same_Some, option_and_then_some}
 use Rattle.serde_json.specs.Data.{Data, null, boolean, number, string, array, object}
 use Rattle.pool_text.specs.Rows.{is_between}
 use Rattle.pool_text.specs.Rules.{rules_of}
-use Rattle.pool_text.specs.Document.{number_in, DocumentParts, document_keys, older_keys, values_at, history_in, fits_version, parts_read, parts_by_format, parts_from, parts_in, rows_in, pool_by, pool_from, pool_in, HasHistory}
+use Rattle.pool_text.specs.Document.{number_in, DocumentParts, document_keys, older_keys, values_at, history_in, fits_version, parts_read, parts_by_format, parts_from, parts_in, rows_in, pool_by, pool_from, pool_in, HistoryFitsVersion}
 use Rattle.pool_text.specs.declared.pool.Pool.{Pool}
 use Rattle.pool_text.specs.declared.rules.TheConstants.{MOST_HISTORY}
 use Rattle.pool_text.proofs.DocumentBack.{mapped, kept-same, read-back, format-back}
@@ -49,11 +49,11 @@ parts-history (string s) p e = absurd (none-some p e)
 parts-history (array ds) p e = absurd (none-some p e)
 parts-history (object ms) p e = option_and_then_some parts_from (option_or (values_at document_keys ms) (values_at older_keys ms)) p e (λ vs _ from. from-history vs p from)
 
-pub pool-history : (d : Data) (P : Pool) → pool_in d ≡ Some P → HasHistory P
+pub pool-history : (d : Data) (P : Pool) → pool_in d ≡ Some P → HistoryFitsVersion P
 unfolding pool_in
 pool-history d P is =
     option_and_then_some pool_from (parts_in d) P is (λ p parts found.
     option_and_then_some (pool_by p) (rules_of p.version) P found (λ rules _ pool_is.
     mapped (λ rows. record { bits = p.bits; version = p.version; history = p.history; rows = rows; roots = p.roots }) (rows_in p rules) P pool_is (λ rows _ made.
     let fits = parts-history d p parts in
-    subst HasHistory made (record { within = fits.0; older = fits.1 }))))
+    subst HistoryFitsVersion made (record { within = fits.0; older = fits.1 }))))

@@ -195,7 +195,7 @@ abbrev pub IsInRange : Pool → Type 0
 IsInRange P = IsSomeAnd (rules_of P.version) (λ rules. list_all (is_in_range_to rules.deepest) P.rows ≡ true)
 
 -- the pool's history is within the greatest bound, and is that bound where its version says none
-pub record HasHistory (P : Pool) : Type 0 where
+pub record HistoryFitsVersion (P : Pool) : Type 0 where
   pub within : P.history ≤ MOST_HISTORY
   pub older : (P.version ≡ PRESENT_VERSION → ⊥) → P.history ≡ MOST_HISTORY
 

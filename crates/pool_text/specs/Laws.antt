@@ -4,7 +4,7 @@ use Rattle.std.specs.List.{list_all}
 use Rattle.serde_json.specs.Data.{Data}
 use Rattle.serde_json.specs.Written.{compact_text}
 use Rattle.pool_text.specs.Rows.{Bytes, is_in_range}
-use Rattle.pool_text.specs.Pool.{today}
+use Rattle.pool_text.specs.Pool.{at_present_version}
 use Rattle.pool_text.specs.Document.{document, text, value_in, pool_in, pool_in_bytes, value_damage, bytes_damage}
 use Rattle.pool_text.specs.declared.pool.Pool.{Pool}
 use Rattle.pool_text.specs.declared.rules.TheConstants.{PRESENT_VERSION, MOST_HISTORY}
@@ -12,7 +12,7 @@ use Rattle.pool_text.specs.declared.rules.TheConstants.{PRESENT_VERSION, MOST_HI
 -- a document reads back as its pool and has no damage, where its history is within the greatest bound, there are four roots and every
 -- row is in range
 pub record ReadsBackAs (P : Pool) : Type 0 where
-  pub same : pool_in (document P) ≡ Some (today P)
+  pub same : pool_in (document P) ≡ Some (at_present_version P)
   pub whole : value_damage P.bits (document P) ≡ None
 
 abbrev pub ReadsBack : Type 0

@@ -47,8 +47,8 @@ abbrev pub settings_of : Pool → Settings
 settings_of P = record { bits = P.bits; version = P.version; history = P.history }
 
 -- the pool, whatever its version, as one that is made: its version is no part of what it stands for
-abbrev pub today : Pool → Pool
-today P = record P { version = PRESENT_VERSION }
+abbrev pub at_present_version : Pool → Pool
+at_present_version P = record P { version = PRESENT_VERSION }
 
 -- the pool of the rows that the roots reach, each way down at most n rows long
 unfoldable pub pool : ℕ → Forms Bytes → List ℕ → Settings → Pool

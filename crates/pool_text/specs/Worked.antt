@@ -1,6 +1,6 @@
 -- What the definitions say of small spaces.
 use Rattle.std.specs.Prelude.{◌≡◌, Some, None, codes, [], ◌∷◌}
-use Rattle.pool_text.specs.Pool.{settings_by, pool, forms_in, today}
+use Rattle.pool_text.specs.Pool.{settings_by, pool, forms_in, at_present_version}
 use Rattle.pool_text.specs.Document.{document, text, pool_in, pool_in_bytes, value_damage, bytes_damage}
 use Rattle.pool_text.specs.Documents.{start_pool, two_cells, shared_empties, sub_node, one_line_twice, old_start_pool}
 use Rattle.pool_text.specs.Renaming.{IsOfItself}
@@ -42,4 +42,4 @@ pub record WorkedDocuments : Type 0 where
   pub old_by_all_bits : bytes_damage 64 (codes "{\"bits\":64,\"format\":\"ewig-pool\",\"roots\":[0,0,0,0],\"rows\":[],\"version\":1}") ≡ Some Bits
   pub too_deep : bytes_damage 7 (codes "{\"bits\":7,\"format\":\"ewig-pool\",\"roots\":[0,0,0,0],\"rows\":[[\"m\",7,1,0,[]]],\"version\":1}") ≡ Some Row
   -- the version of a pool is no part of its document
-  pub old_written : pool_in (document old_start_pool) ≡ Some (today old_start_pool)
+  pub old_written : pool_in (document old_start_pool) ≡ Some (at_present_version old_start_pool)

@@ -6,7 +6,7 @@ ghost use Rattle.serde_json.specs.View.{view, members_view};
 ghost use Rattle.pool_text.specs.Rows.{Bytes};
 ghost use Rattle.pool_text.specs.Rules.{rules_of, rules_named, bits_by};
 ghost use Rattle.pool_text.specs.declared.rules.TheConstants.{MOST_HISTORY};
-ghost use Rattle.pool_text.specs.Document.{values_at, number_in, history_in, fits_version, kept_if, parts_read, parts_in, pool_by as pool_of_parts, pool_in, pool_in_bytes, IsInRange, HasHistory, parts_damage_by, value_damage, bytes_damage};
+ghost use Rattle.pool_text.specs.Document.{values_at, number_in, history_in, fits_version, kept_if, parts_read, parts_in, pool_by as pool_of_parts, pool_in, pool_in_bytes, IsInRange, HistoryFitsVersion, parts_damage_by, value_damage, bytes_damage};
 ghost use Rattle.pool_text.specs.Parsing.{Reads, parts_seen, with_history};
 
 use crate::damage::Damage;
@@ -29,7 +29,7 @@ pub fn pool_from_bytes(alloc: Global, bytes: &[u8], bits: u32) -> Result<Pool, D
     ensures bits { IfOk result (λ p. p.bits ≡ bits_by p.version bits) }
     ensures roots { IfOk result (λ p. length p.roots ≡ 4) }
     ensures rows { IfOk result IsInRange }
-    ensures history { IfOk result HasHistory }
+    ensures history { IfOk result HistoryFitsVersion }
     ensures whole { IfOk result (λ _. bytes_damage bits bytes.now ≡ None) }
     ensures damage { IfErr result (λ d. d ≢ Damage.Memory → bytes_damage bits bytes.now ≡ Some d) }
 {
@@ -49,7 +49,7 @@ pub fn pool_from_json(alloc: Global, value: &Value, bits: u32) -> Result<Pool, D
     ensures bits { IfOk result (λ p. p.bits ≡ bits_by p.version bits) }
     ensures roots { IfOk result (λ p. length p.roots ≡ 4) }
     ensures rows { IfOk result IsInRange }
-    ensures history { IfOk result HasHistory }
+    ensures history { IfOk result HistoryFitsVersion }
     ensures whole { IfOk result (λ _. value_damage bits (view value.now) ≡ None) }
     ensures damage { IfErr result (λ d. d ≢ Damage.Memory → value_damage bits (view value.now) ≡ Some d) }
 {

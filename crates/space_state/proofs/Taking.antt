@@ -6,7 +6,7 @@ use Rattle.node_heap.specs.Heap.{Heap, IsGraph}
 use Rattle.node_heap.specs.Calls.{Releases}
 use Rattle.node_heap.proofs.Frames.{KeepsHeld-Releases}
 use Rattle.node_heap.proofs.BuildLemmas.{count-cons, count-append}
-use Rattle.pool_text.specs.Pool.{Settings, settings_by, settings_of, pool_at, today, pool}
+use Rattle.pool_text.specs.Pool.{Settings, settings_by, settings_of, pool_at, at_present_version, pool}
 use Rattle.pool_text.specs.declared.pool.Pool.{Pool}
 use Rattle.pool_text.proofs.Held.{pools-stay}
 use Rattle.pool_load.specs.Loads.{Loads, AreLoaded}
@@ -62,21 +62,21 @@ pool-released {s} {b} {W} {new} {l} K rel graph =
     (λ r root. (KeepsHeld-Releases s.heap new l rel graph).kept r (omega (arith, keeps-holds K r, count-cons r l b, root)))
 
 -- by the version of the pools that are made a pool is the same but for that
-pool-today : (h : Heap Bytes) (links : List ℕ) (settings : Settings) → pool_at (λ text. text) h links (settings_by settings.bits settings.history) ≡ today (pool_at (λ text. text) h links settings)
+pool-at-present : (h : Heap Bytes) (links : List ℕ) (settings : Settings) → pool_at (λ text. text) h links (settings_by settings.bits settings.history) ≡ at_present_version (pool_at (λ text. text) h links settings)
 unfolding pool
-pool-today h links settings = refl
+pool-at-present h links settings = refl
 
 module _ (s : RootedHeap) (W : Workspace) (K : Keeps s [] W) (h : Heap Bytes) (P : Pool) (roots : Roots) (history : ℕ) (links : List ℕ) (loads : Loads s.heap h links P) (same : links ≡ root_list roots)
     (bits : P.bits ≡ s.bits) (bound : history ≡ P.history) (all : AreLoaded (λ text. text) h links P) where
   abbrev pub loaded : RootedHeap
   loaded = record s { heap = h; roots = roots; history = history }
 
-  pub pool-loaded : pool_at (λ text. text) h (root_list roots) (settings_by s.bits history) ≡ today P
+  pub pool-loaded : pool_at (λ text. text) h (root_list roots) (settings_by s.bits history) ≡ at_present_version P
   pool-loaded =
       sym (ap (λ (ks : List ℕ). pool_at (λ text. text) h ks (settings_by s.bits history)) same)
       ∙ sym (ap (λ b. pool_at (λ text. text) h links (settings_by b history)) bits)
       ∙ ap (λ n. pool_at (λ text. text) h links (settings_by P.bits n)) bound
-      ∙ pool-today h links (settings_of P) ∙ ap today all.pool
+      ∙ pool-at-present h links (settings_of P) ∙ ap at_present_version all.pool
 
   -- the new roots stand for what the pool stands for, and the old roots are held besides
   pub keeps-loaded : (after : Workspace) × Keeps loaded (root_list s.roots) after

@@ -2,7 +2,7 @@
 use Rattle.std.specs.Prelude.{◌≡◌, ℕ, ◌+◌, ◌-◌, ◌^◌, ◌≤◌, [], true, min, max, Result, Err, MatchBool, MatchResult}
 use Rattle.node_heap.specs.Heap.{Heap, live_count, cell_count, node_count}
 use Rattle.node_heap.specs.Calls.{KeepsToNeed}
-use Rattle.pool_text.specs.Pool.{row_count, settings_by, pool_at, today}
+use Rattle.pool_text.specs.Pool.{row_count, settings_by, pool_at, at_present_version}
 use Rattle.pool_text.specs.declared.pool.Pool.{Pool}
 use Rattle.pool_text.specs.Documents.{start_pool}
 use Rattle.pool_check.specs.Damages.{IsValid}
@@ -84,7 +84,7 @@ pub record Ends (command : PlainCommand) (old : SpaceView) (result : Result (Uni
 
 -- The pool, whatever its version, is the space's, the number made has risen by its rows, up to 2^64 - 1, and no more room is taken than they need.
 pub record IsTaken (P : Pool) (old new : SpaceView) : Type 0 where
-  pub pool : new.pool ≡ today P
+  pub pool : new.pool ≡ at_present_version P
   pub made : new.made ≡ min (old.made + row_count P) (2 ^ 64 - 1)
   pub room : KeepsRoom old new (cells_of P.rows) (nodes_of P.rows)
 
@@ -97,7 +97,7 @@ EndsTaking W result IsTurned IsAsBefore = MatchBool (in_batch W) ((result ≡ Er
 pub record TakesRows (P : Pool) (old new : RootedHeap) : Type 0 where
   pub after : Workspace
   pub keeps : Keeps new [] after
-  pub pool : (shown new).pool ≡ today P
+  pub pool : (shown new).pool ≡ at_present_version P
   pub made : new.heap.made ≡ min (old.heap.made + row_count P) (2 ^ 64 - 1)
   pub room : KeepsToNeed old.heap new.heap (cells_of P.rows) (nodes_of P.rows)
 

@@ -1,7 +1,7 @@
 use Rattle.std.proofs.Common.{◌≡◌, ◌≢◌, Some, None, sym, ap, subst, ◌∙◌, arith}
 use Rattle.std.proofs.lemmas.Result.{IfOk-weaker, IfErr-weaker}
 use Rattle.pool_text.specs.Rules.{first_rules, present_rules}
-use Rattle.pool_text.specs.Pool.{today}
+use Rattle.pool_text.specs.Pool.{at_present_version}
 use Rattle.pool_text.specs.declared.pool.Pool.{Pool}
 use Rattle.pool_text.specs.declared.damage.Damage.TheVariants.{Memory}
 use Rattle.pool_text.proofs.Refusals.{handed-on}
@@ -37,7 +37,7 @@ carried-requires-clause-valid c = subst (IsValidBy first_rules) (sym c.in_ok-old
 
 pub returns-in_ok-old-clause-stands : goal.returns-in_ok-old-clause-stands
 returns-in_ok-old-clause-stands c =
-    IfOk-weaker c.carried.result (IsCarried present_rules c.args.bits c.in_ok-old.old) (λ P. DocumentStandsFor c.args.bits c.args.bytes.now (today P))
+    IfOk-weaker c.carried.result (IsCarried present_rules c.args.bits c.in_ok-old.old) (λ P. DocumentStandsFor c.args.bits c.args.bytes.now (at_present_version P))
     (λ Q is. stands-carried c.args.bits c.args.bytes.now c.in_ok-pool.pool Q c.in_ok-pool.ensures.pool c.if-pool-eq-FIRST_VERSION.true
     (subst (λ (P : Pool). IsCarried present_rules c.args.bits P Q) c.in_ok-old.ensures.same is)) c.carried.ensures.carried
 
@@ -67,8 +67,8 @@ check-requires-clause-rows c = present-range c.in_ok-pool.pool c.in_ok-pool.ensu
 
 pub returns-else-pool-eq-FIRST_VERSION-clause-stands : goal.returns-else-pool-eq-FIRST_VERSION-clause-stands
 returns-else-pool-eq-FIRST_VERSION-clause-stands c =
-    IfOk-weaker c.check.result (λ (P : Pool). P ≡ c.in_ok-pool.pool) (λ P. DocumentStandsFor c.args.bits c.args.bytes.now (today P))
-    (λ Q same. stands-present c.args.bits c.args.bytes.now c.in_ok-pool.pool (today Q) c.in_ok-pool.ensures.pool c.if-pool-eq-FIRST_VERSION.false (ap today same)) c.check.ensures.same
+    IfOk-weaker c.check.result (λ (P : Pool). P ≡ c.in_ok-pool.pool) (λ P. DocumentStandsFor c.args.bits c.args.bytes.now (at_present_version P))
+    (λ Q same. stands-present c.args.bits c.args.bytes.now c.in_ok-pool.pool (at_present_version Q) c.in_ok-pool.ensures.pool c.if-pool-eq-FIRST_VERSION.false (ap at_present_version same)) c.check.ensures.same
 
 pub returns-else-pool-eq-FIRST_VERSION-clause-valid : goal.returns-else-pool-eq-FIRST_VERSION-clause-valid
 returns-else-pool-eq-FIRST_VERSION-clause-valid c =

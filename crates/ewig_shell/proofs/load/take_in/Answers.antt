@@ -1,5 +1,5 @@
 use Rattle.std.proofs.Common.{◌≡◌, ◌∙◌, subst, refl, inr, Some, None, ℕ, ◌-◌}
-use Rattle.pool_text.specs.Pool.{today}
+use Rattle.pool_text.specs.Pool.{at_present_version}
 use Rattle.pool_check.specs.Damages.{document_damage}
 use Rattle.ewig_shell.specs.Step.{DocumentStandsFor}
 use Rattle.ewig_shell.proofs.LoadLemmas.{TakesIn-damaged, TakesIn-ok, taken, untaken, document-damage}
@@ -18,7 +18,7 @@ pub returns-in-Ok-clause-takes : goal.returns-in-Ok-clause-takes
 returns-in-Ok-clause-takes c =
     let done = taken c.take_pool.ensures.work c.take_pool.result _ _ _ c.take_pool.ensures.ends c.in-Ok.is in
     TakesIn-ok c.args.bytes.now c.args.space.now c.take_pool.new.self c.in_ok-checked.checked
-    (subst (λ (b : ℕ). DocumentStandsFor b c.args.bytes.now (today c.in_ok-checked.checked)) c.bits.ensures.kept c.in_ok-checked.ensures.stands)
+    (subst (λ (b : ℕ). DocumentStandsFor b c.args.bytes.now (at_present_version c.in_ok-checked.checked)) c.bits.ensures.kept c.in_ok-checked.ensures.stands)
     (c.in_ok-checked.ensures.bits ∙ c.bits.ensures.kept)
     (subst (λ (b : ℕ). document_damage b c.args.bytes.now ≡ None) c.bits.ensures.kept c.in_ok-checked.ensures.whole)
     c.in_ok-checked.ensures.valid done.pool done.made

@@ -4,7 +4,7 @@ use Rattle.std.proofs.lemmas.List.{length-map}
 use Rattle.node_heap.specs.Links.{count}
 use Rattle.node_heap.specs.Forms.{Form}
 use Rattle.node_heap.specs.Calls.{Builds}
-use Rattle.pool_text.specs.Document.{HasHistory}
+use Rattle.pool_text.specs.Document.{HistoryFitsVersion}
 use Rattle.pool_text.specs.Rows.{Bytes, row_form}
 use Rattle.pool_text.specs.Rules.{present_rules, rules_of}
 use Rattle.pool_text.specs.declared.pool.Pool.{Pool}
@@ -146,7 +146,7 @@ returns g c =
           (are-loaded g.T.Stored.bytes_of new P is.valid links (rows-loaded is up)
           (record {
             rules = subst (λ (Q : Pool). rules_of Q.version ≡ Some present_rules) c.pool-pool.ensures.same c.pool-pool.ensures.rules;
-            history = subst (λ (Q : Pool). HasHistory Q) c.pool-pool.ensures.same c.pool-pool.ensures.history;
+            history = subst (λ (Q : Pool). HistoryFitsVersion Q) c.pool-pool.ensures.same c.pool-pool.ensures.history;
             bits = omega (arith, c.pool-pool.ensures.bits, ap (λ (Q : Pool). Q.bits) c.pool-pool.ensures.same);
             roots = four;
             valid = is.valid;

@@ -4,7 +4,7 @@ use Rattle.std.specs.Result.{IfOk, IfErr}
 use Rattle.serde_json.specs.Data.{Data}
 use Rattle.serde_json.specs.View.{view}
 use Rattle.pool_text.specs.Rules.{Rules, rules_of, rules_named}
-use Rattle.pool_text.specs.Document.{pool_in, value_damage, HasHistory}
+use Rattle.pool_text.specs.Document.{pool_in, value_damage, HistoryFitsVersion}
 use Rattle.pool_text.specs.Parsing.{parts_seen}
 use Rattle.pool_text.specs.declared.damage.Damage.{Damage}
 use Rattle.pool_text.specs.declared.damage.Damage.TheVariants.{Memory}
@@ -20,7 +20,7 @@ abbrev named : Option RulesByName → Option Rules
 named o = option_map rules_named o
 
 -- the pool of a value has a history
-has-history : (d : Data) (r : Result Pool Damage) → IfOk r (λ p. pool_in d ≡ Some p) → IfOk r HasHistory
+has-history : (d : Data) (r : Result Pool Damage) → IfOk r (λ p. pool_in d ≡ Some p) → IfOk r HistoryFitsVersion
 has-history d (Ok p) is = pool-history d p is
 has-history d (Err e) is = tt
 
