@@ -18,9 +18,9 @@ fn checked(alloc: Global, bytes: &[u8]) -> Result<Checked<Text>, Damage> {
     check(alloc, present_pool(alloc, bytes, CODE_BITS)?)
 }
 
-// Documents that fail no test: a new space, the same with its empty rows shared, two equal lines as two cells and as one, and two
-// names in a sub-node; and how many rows each has.
-const WHOLE: [(&[u8], usize); 5] = [
+// Documents that fail no test: a new space, the same with its empty rows shared, two equal lines as two cells and as one, two names in a
+// sub-node, and as many states in undo as it keeps; and how many rows each has.
+const WHOLE: [(&[u8], usize); 6] = [
     (
         b"{\"bits\":64,\"format\":\"ewig-pool\",\"history\":4294967295,\"roots\":[2,3,4,5],\"rows\":[[\"m\",0,0,0,[]],[\"m\",0,0,0,[]],[\"s\",[0,1]],[\"m\",0,0,0,[]],[\"l\",[]],[\"l\",[]]],\"version\":3}",
         6,
@@ -41,25 +41,46 @@ const WHOLE: [(&[u8], usize); 5] = [
         b"{\"bits\":64,\"format\":\"ewig-pool\",\"history\":4294967295,\"roots\":[9,10,11,12],\"rows\":[[\"c\",\"a\"],[\"l\",[]],[\"p\",[0,1]],[\"c\",\"A\"],[\"l\",[]],[\"p\",[3,4]],[\"m\",1,8388624,0,[2,5]],[\"m\",0,0,4096,[6]],[\"m\",0,0,0,[]],[\"s\",[7,8]],[\"m\",0,0,0,[]],[\"l\",[]],[\"l\",[]]],\"version\":3}",
         13,
     ),
+    (
+        b"{\"bits\":64,\"format\":\"ewig-pool\",\"history\":1,\"roots\":[2,3,4,5],\"rows\":[[\"m\",0,0,0,[]],[\"m\",0,0,0,[]],[\"s\",[0,1]],[\"m\",0,0,0,[]],[\"l\",[2]],[\"l\",[]]],\"version\":3}",
+        6,
+    ),
 ];
 
 #[test]
 fn checks_and_loads_whole_documents(rt: HostRuntime) -> Result<(), Fail> {
     for (bytes, rows) in WHOLE {
         let mut heap: Heap<Text> = Heap::new(rt.alloc());
-        let roots = load(rt.alloc(), &mut heap, checked(rt.alloc(), bytes)?)?;
+        let document = checked(rt.alloc(), bytes)?;
+        let history = document.pool().history;
+        let roots = load(rt.alloc(), &mut heap, document)?;
         assert_eq!(rt; roots.len(), 4);
         assert_eq!(rt; heap.live(), rows);
         assert_eq!(rt; heap.made(), rows as u64);
         let listed = order(rt.alloc(), &heap, &roots)?;
-        let pool = pool_of(rt.alloc(), &heap, &listed, &roots, CODE_BITS, MOST_HISTORY)?;
+        let pool = pool_of(rt.alloc(), &heap, &listed, &roots, CODE_BITS, history)?;
         assert_eq!(rt; to_bytes(rt.alloc(), &pool)?.as_slice(), bytes);
     }
     Ok(())
 }
 
+// A document of version 2, which says no history, is checked as it is, and written as one of version 3 with the greatest.
+#[test]
+fn checks_a_document_of_the_second_version(rt: HostRuntime) -> Result<(), Fail> {
+    let second =
+        b"{\"bits\":64,\"format\":\"ewig-pool\",\"roots\":[2,3,4,5],\"rows\":[[\"m\",0,0,0,[]],[\"m\",0,0,0,[]],[\"s\",[0,1]],[\"m\",0,0,0,[]],[\"l\",[2]],[\"l\",[]]],\"version\":2}";
+    let third =
+        b"{\"bits\":64,\"format\":\"ewig-pool\",\"history\":4294967295,\"roots\":[2,3,4,5],\"rows\":[[\"m\",0,0,0,[]],[\"m\",0,0,0,[]],[\"s\",[0,1]],[\"m\",0,0,0,[]],[\"l\",[2]],[\"l\",[]]],\"version\":3}";
+    let document = checked(rt.alloc(), second.as_slice())?;
+    let pool = document.pool();
+    assert_eq!(rt; pool.version, 2);
+    assert_eq!(rt; pool.history, MOST_HISTORY);
+    assert_eq!(rt; to_bytes(rt.alloc(), pool)?.as_slice(), third.as_slice());
+    Ok(())
+}
+
 // Each document fails the test beside it, and those before it in the order of the tests not.
-const DAMAGED: [(&[u8], Damage); 16] = [
+const DAMAGED: [(&[u8], Damage); 17] = [
     (
         b"{\"bits\":64,\"format\":\"ewig-pool\",\"history\":4294967295,\"roots\":[0,0,0,0],\"rows\":[[\"l\",[0]]],\"version\":3}",
         Damage::Link,
@@ -114,7 +135,7 @@ const DAMAGED: [(&[u8], Damage); 16] = [
         b"{\"bits\":64,\"format\":\"ewig-pool\",\"history\":4294967295,\"roots\":[1,1,1,1],\"rows\":[[\"c\",\"a\"],[\"m\",0,4128,0,[0]]],\"version\":3}",
         Damage::Trie,
     ),
-    // A name with a space, a pair among lines, and an undo whose root has one child.
+    // A name with a space, a pair among lines, an undo whose root has one child, and one of more states than it keeps.
     (
         b"{\"bits\":64,\"format\":\"ewig-pool\",\"history\":4294967295,\"roots\":[5,6,7,8],\"rows\":[[\"c\",\"a b\"],[\"l\",[]],[\"p\",[0,1]],[\"m\",0,262144,0,[2]],[\"m\",0,0,0,[]],[\"s\",[3,4]],[\"m\",0,0,0,[]],[\"l\",[]],[\"l\",[]]],\"version\":3}",
         Damage::Kind,
@@ -125,6 +146,10 @@ const DAMAGED: [(&[u8], Damage); 16] = [
     ),
     (
         b"{\"bits\":64,\"format\":\"ewig-pool\",\"history\":4294967295,\"roots\":[2,3,5,6],\"rows\":[[\"m\",0,0,0,[]],[\"m\",0,0,0,[]],[\"s\",[0,1]],[\"m\",0,0,0,[]],[\"l\",[2]],[\"i\",1,[4]],[\"l\",[]]],\"version\":3}",
+        Damage::Kind,
+    ),
+    (
+        b"{\"bits\":64,\"format\":\"ewig-pool\",\"history\":0,\"roots\":[2,3,4,5],\"rows\":[[\"m\",0,0,0,[]],[\"m\",0,0,0,[]],[\"s\",[0,1]],[\"m\",0,0,0,[]],[\"l\",[2]],[\"l\",[]]],\"version\":3}",
         Damage::Kind,
     ),
 ];

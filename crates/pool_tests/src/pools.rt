@@ -78,15 +78,20 @@ fn writes_and_reads_rows_of_each_kind(rt: HostRuntime) -> Result<(), Fail> {
     Ok(())
 }
 
-// The document of a new space, with white space and its keys in another order.
+// The document of a new space, with white space and its keys in another order, as one of version 2 and as one of version 3.
+const LOOSE: [&[u8]; 2] = [
+    b" {\"version\" : 2,\n\"rows\":[[\"m\",0,0,0,[]], [\"m\",0,0,0,[ ]],[\"s\",[0,1]],[\"m\",0,0,0,[]],[\"l\",[]],[\"l\",[]]],\t\"roots\":[2,3,4,5],\"format\":\"ewig-pool\",\"bits\":64}\r\n",
+    b"{\"history\" :4294967295,\n\"version\": 3 ,\"bits\":64,\"rows\":[[\"m\",0,0,0,[]],[\"m\",0,0,0,[]],[\"s\", [0,1]],[\"m\",0,0,0,[]],[\"l\",[]],[\"l\",[]]],\"format\":\"ewig-pool\",\"roots\":[2,3,4,5]}",
+];
+
 #[test]
 fn reads_white_space_and_any_order_of_keys(rt: HostRuntime) -> Result<(), Fail> {
-    let loose =
-        b" {\"version\" : 2,\n\"rows\":[[\"m\",0,0,0,[]], [\"m\",0,0,0,[ ]],[\"s\",[0,1]],[\"m\",0,0,0,[]],[\"l\",[]],[\"l\",[]]],\t\"roots\":[2,3,4,5],\"format\":\"ewig-pool\",\"bits\":64}\r\n";
     let compact =
         b"{\"bits\":64,\"format\":\"ewig-pool\",\"history\":4294967295,\"roots\":[2,3,4,5],\"rows\":[[\"m\",0,0,0,[]],[\"m\",0,0,0,[]],[\"s\",[0,1]],[\"m\",0,0,0,[]],[\"l\",[]],[\"l\",[]]],\"version\":3}";
-    let pool = pool_from_bytes(rt.alloc(), loose.as_slice(), 64)?;
-    assert_eq!(rt; to_bytes(rt.alloc(), &pool)?.as_slice(), compact.as_slice());
+    for loose in LOOSE {
+        let pool = pool_from_bytes(rt.alloc(), loose, 64)?;
+        assert_eq!(rt; to_bytes(rt.alloc(), &pool)?.as_slice(), compact.as_slice());
+    }
     Ok(())
 }
 
