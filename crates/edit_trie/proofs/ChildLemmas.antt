@@ -70,6 +70,26 @@ module _ {T : Type 0} where
     pub changes : Changes parent old new [] [] 0 1
     pub makes : Makes old new 0 (other_at (child_at old parent index) copy)
 
+  -- from the clauses of `own_child`
+  pub owns-child : {old new : Heap T} {parent index copy : ℕ} → index < length (links_at old parent) → (copy ≡ child_at old parent index) ↔ (owners_at old (child_at old parent index) ≡ 1) → row_at new copy ≡ row_at old (child_at old parent index) → owners_at new copy ≡ 1
+      → (copy ≢ child_at old parent index → row_at old copy ≡ None) → head_of (row_at new parent) ≡ head_of (row_at old parent) → links_at new parent ≡ set (links_at old parent) index copy → ((k : ℕ) → k ≢ parent → IsSome (row_at old k) → row_at new k ≡ row_at old k)
+      → ((k : ℕ) → k ≢ parent → k ≢ copy → row_at new k ≡ row_at old k) → ((k : ℕ) → owners_at new k + one_at (child_at old parent index) k ≡ owners_at old k + (one_at copy k + other_at (child_at old parent index) copy * count k (links_at old (child_at old parent index))))
+      → Changes parent old new [] [] 0 1 → Makes old new 0 (other_at (child_at old parent index) copy) → OwnsChild old new parent index copy
+  owns-child inside same row sole fresh head links stays others owners changes makes = record {
+    inside = inside;
+    same = same;
+    row = row;
+    sole = sole;
+    fresh = fresh;
+    head = head;
+    links = links;
+    stays = stays;
+    others = others;
+    owners = owners;
+    changes = changes;
+    makes = makes;
+  }
+
   module _ (old new : Heap T) (parent index copy : ℕ) where
     pub own-there : OwnsChild old new parent index copy → child_at new parent index ≡ copy
     own-there own = ap (λ ks. get_or ks index 0) own.links ∙ get_or-set_same (links_at old parent) index copy 0 own.inside

@@ -25,6 +25,7 @@ pub mod AfterLemmas
 pub mod BindLemmas
 pub mod RebindLemmas
 pub mod PutTop
+pub mod PlacedPairs
 pub mod WayTop
 pub mod KeepLemmas
 pub mod LawLemmas

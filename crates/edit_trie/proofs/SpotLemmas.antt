@@ -2,7 +2,6 @@
 use Rattle.std.proofs.Common.{◌≡◌, ◌≢◌, ℕ, ◌+◌, ◌<◌, List, [], ◌∷◌, length, get_or, set, ap, sym, ◌∙◌, arith, true, false, inl, inr}
 use Rattle.std.proofs.lemmas.Bool.{cases_Bool, cases_order}
 use Rattle.std.proofs.lemmas.List.{get_or-set_same, get_or-set_other, length-set}
-use Rattle.node_heap.specs.Links.{count}
 use Rattle.champ_trie.specs.Bits.{has, rank}
 use Rattle.champ_trie.specs.Trie.{AreSets, place_of, links_at_place}
 use Rattle.champ_trie.specs.declared.place.Place.TheVariants.{Entry as At, Node}

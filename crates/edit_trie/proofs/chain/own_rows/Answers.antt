@@ -4,7 +4,7 @@ use Rattle.node_heap.specs.Heap.{row_at}
 use Rattle.node_heap.specs.InPlace.{child_at}
 use Rattle.edit_trie.specs.Chains.{OwnsRows}
 use Rattle.edit_trie.proofs.RowLemmas.{node-form}
-use Rattle.edit_trie.proofs.ChildLemmas.{OwnsChild}
+use Rattle.edit_trie.proofs.ChildLemmas.{OwnsChild, owns-child}
 use Rattle.edit_trie.proofs.ChainLemmas.{next-row, owns-none, owns-more}
 use Rattle.edit_trie.proofs.chain.own_rows.Goals as goal
 
@@ -43,20 +43,8 @@ loop-passed-preserved g c = λ es rows le.
     let k = c.own_child-row.result in
     let inv = c.loop-passed.invariant es rows le in
     let at = next-row old now c.args.first.row c.args.first.index r i c.loop-passed._passed es c.requires.index (omega (arith, c.loop-passed-test.true, le)) inv rows in
-    let own : OwnsChild now mid r i k = record {
-      inside = at.inside;
-      same = c.own_child-row.ensures.same;
-      row = c.own_child-row.ensures.row;
-      sole = c.own_child-row.ensures.sole;
-      fresh = c.own_child-row.ensures.fresh;
-      head = c.own_child-row.ensures.parent_head;
-      links = c.own_child-row.ensures.parent_links;
-      stays = c.own_child-row.ensures.stays;
-      others = c.own_child-row.ensures.others;
-      owners = c.own_child-row.ensures.owners;
-      changes = c.own_child-row.ensures.changes;
-      makes = c.own_child-row.ensures.makes;
-    } in
+    let did_own = c.own_child-row.ensures in
+    let own : OwnsChild now mid r i k = owns-child at.inside did_own.same did_own.row did_own.sole did_own.fresh did_own.parent_head did_own.parent_links did_own.stays did_own.others did_own.owners did_own.changes did_own.makes in
     subst (λ xs. OwnsRows old mid c.args.first.row c.args.first.index xs k 1) (sym at.more)
     (owns-more old now mid c.args.first.row c.args.first.index r i k (take c.loop-passed._passed es) at.entry at.next c.requires.graph c.requires.index inv own at.form_old at.key_old)
 

@@ -1,132 +1,88 @@
-use Rattle.std.proofs.Common.{arith, ◌≡◌, ℕ, refl, sym, subst, ap, ◌∙◌, Some}
-use Rattle.node_heap.specs.Heap.{form_at, links_at}
+use Rattle.std.proofs.Common.{arith, ◌≡◌, ◌≤◌, ℕ, List, length, take, refl, sym, subst, ap, ◌∙◌, Some, None}
+use Rattle.node_heap.specs.Heap.{Heap, form_at, links_at}
 use Rattle.node_heap.specs.InPlace.{child_at}
-use Rattle.champ_chain.specs.Entry.{link_with}
-use Rattle.champ_chain.specs.Chain.{AreChainRows}
+use Rattle.champ_chain.specs.Entry.{Entry, key_at, link_with}
+use Rattle.champ_chain.specs.Chain.{AreChainRows, IsChain}
+use Rattle.champ_chain.specs.KeySpot.{IsKeySpot}
 use Rattle.champ_chain.proofs.SetLemmas.{same-length}
 use Rattle.champ_chain.proofs.SpotLemmas.{same-key}
 use Rattle.champ_chain.proofs.PartsLemmas.{take-before, before-le, found-chain}
 use Rattle.edit_trie.specs.Chains.{OwnsRows, PutsInChain}
 use Rattle.edit_trie.proofs.SplitLemmas.{not-linked}
 use Rattle.edit_trie.proofs.ChainPutLemmas.{child-is, one-at-most, few-smaller, held-cut, sole-made, node-made, index-made, room-made, held-made, apart-made, puts-in-chain}
+use Rattle.edit_trie.proofs.chain.put_in_chain.Given.{Over}
 use Rattle.edit_trie.proofs.chain.put_in_chain.Goals as goal
+use Rattle.edit_trie.proofs.chain.put_in_chain.Goals.{After-key_spot_of-spot}
+
+-- the spot of the key was found
+module _ (g : Over) (c : After-key_spot_of-spot g) where
+  abbrev key : g.row.T.Denot
+  key = c.key_of.result.now
+
+  abbrev old : Heap g.row.T.Denot
+  old = c.args.heap.now
+
+  abbrev row : ℕ
+  row = c.args.first.row
+
+  abbrev index : ℕ
+  index = c.args.first.index
+
+  key-is : {k : g.row.T.Denot} → key_at (form_at old) c.args.entry ≡ Some k → key ≡ k
+  key-is {k} keyed = same-key (form_at old) c.args.entry c.args.entry key k refl c.key_of.ensures keyed
+
+  module _ {E : List (Entry g.row.T.Denot)} (chain : IsChain g.T.Ord.cmp (form_at old) (child_at old row index) E) where
+    spot-is : IsKeySpot g.T.Ord.cmp (form_at old) chain.entries key c.key_spot_of-spot.result
+    spot-is =
+        let at = child-is c.links.result.now (links_at old row) index c.index-links-first.result c.index-links-first.is c.links.ensures.links c.requires.index in
+        c.key_spot_of-spot.ensures.spot chain.entries (subst (λ a. AreChainRows (form_at old) (Some a) chain.entries) (sym at) chain.rows) chain.rising
+
+    spot-in : c.key_spot_of-spot.result.before ≤ length chain.entries
+    spot-in = before-le g.T.Ord.cmp g.met.T.Ord.total (form_at old) chain.entries key c.key_spot_of-spot.result spot-is
+
+    owned : {now : Heap g.row.T.Denot} {r i : ℕ} → OwnsRows old now row index (take c.key_spot_of-spot.result.before chain.entries) r i → OwnsRows old now row index spot-is.parts.smaller r i
+    owned {now} {r} {i} = subst (λ xs. OwnsRows old now row index xs r i) (take-before g.T.Ord.cmp g.met.T.Ord.total (form_at old) chain.entries key c.key_spot_of-spot.result spot-is)
+
+    none-equal : {k : g.row.T.Denot} → key_at (form_at old) c.args.entry ≡ Some k → link_with g.T.Ord.cmp k E ≡ None → spot-is.parts.equal ≡ None
+    none-equal keyed absent = not-linked spot-is.parts.equal (spot-is.found ∙ found-chain g.T.Ord.cmp g.met.T.Ord.total (form_at old) (child_at old row index) E key chain c.key_spot_of-spot.result spot-is ∙ ap (λ j. link_with g.T.Ord.cmp j E) (key-is keyed) ∙ absent)
 
 pub own_rows-slot-requires-clause-rows : goal.own_rows-slot-requires-clause-rows
 own_rows-slot-requires-clause-rows g c =
-    let E = c.requires.chain.0 in
-    let k = c.requires.chain.1 in
     let chain = c.requires.chain.2 in
-    let keyed = c.requires.chain.3 in
-    let absent = c.requires.chain.4 in
-    let cmp = g.T.Ord.cmp in
-    let total = g.met.T.Ord.total in
-    let old = c.args.heap.now in
-    let row : ℕ = c.args.first.row in
-    let index : ℕ = c.args.first.index in
-    let x : ℕ = c.args.entry in
-    let spot = c.key_spot_of-spot.result in
-    let key = c.key_of.result.now in
-    let at = child-is c.links.result.now (links_at old row) index c.index-links-first.result c.index-links-first.is c.links.ensures.links c.requires.index in
-    let s = c.key_spot_of-spot.ensures.spot chain.entries (subst (λ a. AreChainRows (form_at old) (Some a) chain.entries) (sym at) chain.rows) chain.rising in
-    let le = before-le cmp total (form_at old) chain.entries key spot s in
-    (chain.entries, chain.rows, le)
+    let way = (goal.at.own_rows-slot-requires-clause-rows g c).After-key_spot_of-spot in
+    (chain.entries, chain.rows, spot-in g way chain)
 
 pub own_rows-slot-requires-clause-spare : goal.own_rows-slot-requires-clause-spare
 own_rows-slot-requires-clause-spare g c =
     let E = c.requires.chain.0 in
-    let k = c.requires.chain.1 in
     let chain = c.requires.chain.2 in
-    let keyed = c.requires.chain.3 in
-    let absent = c.requires.chain.4 in
-    let cmp = g.T.Ord.cmp in
-    let total = g.met.T.Ord.total in
-    let old = c.args.heap.now in
-    let row : ℕ = c.args.first.row in
-    let index : ℕ = c.args.first.index in
-    let x : ℕ = c.args.entry in
-    let spot = c.key_spot_of-spot.result in
-    let key = c.key_of.result.now in
-    let at = child-is c.links.result.now (links_at old row) index c.index-links-first.result c.index-links-first.is c.links.ensures.links c.requires.index in
-    let s = c.key_spot_of-spot.ensures.spot chain.entries (subst (λ a. AreChainRows (form_at old) (Some a) chain.entries) (sym at) chain.rows) chain.rising in
-    let le = before-le cmp total (form_at old) chain.entries key spot s in
-    omega (arith, le, same-length chain.entries E chain.same, c.requires.chain.5)
+    let way = (goal.at.own_rows-slot-requires-clause-spare g c).After-key_spot_of-spot in
+    omega (arith, spot-in g way chain, same-length chain.entries E chain.same, c.requires.chain.5)
 
 pub take_next-next-requires-clause-graph : goal.take_next-next-requires-clause-graph
 take_next-next-requires-clause-graph g c =
-    let E = c.requires.chain.0 in
-    let k = c.requires.chain.1 in
     let chain = c.requires.chain.2 in
-    let keyed = c.requires.chain.3 in
-    let absent = c.requires.chain.4 in
-    let cmp = g.T.Ord.cmp in
-    let total = g.met.T.Ord.total in
-    let old = c.args.heap.now in
-    let row : ℕ = c.args.first.row in
-    let index : ℕ = c.args.first.index in
-    let x : ℕ = c.args.entry in
-    let spot = c.key_spot_of-spot.result in
-    let key = c.key_of.result.now in
-    let at = child-is c.links.result.now (links_at old row) index c.index-links-first.result c.index-links-first.is c.links.ensures.links c.requires.index in
-    let s = c.key_spot_of-spot.ensures.spot chain.entries (subst (λ a. AreChainRows (form_at old) (Some a) chain.entries) (sym at) chain.rows) chain.rising in
-    let le = before-le cmp total (form_at old) chain.entries key spot s in
-    let now = c.own_rows-slot.new.heap in
-    let r : ℕ = c.own_rows-slot.result.row in
-    let i : ℕ = c.own_rows-slot.result.index in
-    let owns = subst (λ xs. OwnsRows old now row index xs r i) (take-before cmp total (form_at old) chain.entries key spot s) (c.own_rows-slot.ensures chain.entries chain.rows le) in
+    let way = (goal.at.take_next-next-requires-clause-graph g c).After-key_spot_of-spot in
+    let owns = owned g way chain (c.own_rows-slot.ensures chain.entries chain.rows (spot-in g way chain)) in
     owns.child.changes.trades.graph
 
 pub take_next-next-requires-clause-sole : goal.take_next-next-requires-clause-sole
 take_next-next-requires-clause-sole g c =
-    let E = c.requires.chain.0 in
-    let k = c.requires.chain.1 in
     let chain = c.requires.chain.2 in
-    let keyed = c.requires.chain.3 in
-    let absent = c.requires.chain.4 in
-    let cmp = g.T.Ord.cmp in
-    let total = g.met.T.Ord.total in
-    let old = c.args.heap.now in
-    let row : ℕ = c.args.first.row in
-    let index : ℕ = c.args.first.index in
-    let x : ℕ = c.args.entry in
-    let spot = c.key_spot_of-spot.result in
-    let key = c.key_of.result.now in
-    let at = child-is c.links.result.now (links_at old row) index c.index-links-first.result c.index-links-first.is c.links.ensures.links c.requires.index in
-    let s = c.key_spot_of-spot.ensures.spot chain.entries (subst (λ a. AreChainRows (form_at old) (Some a) chain.entries) (sym at) chain.rows) chain.rising in
-    let le = before-le cmp total (form_at old) chain.entries key spot s in
-    let now = c.own_rows-slot.new.heap in
-    let r : ℕ = c.own_rows-slot.result.row in
-    let i : ℕ = c.own_rows-slot.result.index in
-    let owns = subst (λ xs. OwnsRows old now row index xs r i) (take-before cmp total (form_at old) chain.entries key spot s) (c.own_rows-slot.ensures chain.entries chain.rows le) in
+    let way = (goal.at.take_next-next-requires-clause-sole g c).After-key_spot_of-spot in
+    let owns = owned g way chain (c.own_rows-slot.ensures chain.entries chain.rows (spot-in g way chain)) in
     owns.sole
 
 pub take_next-next-requires-clause-few : goal.take_next-next-requires-clause-few
 take_next-next-requires-clause-few g c =
-    let E = c.requires.chain.0 in
-    let k = c.requires.chain.1 in
     let chain = c.requires.chain.2 in
-    let keyed = c.requires.chain.3 in
-    let absent = c.requires.chain.4 in
-    let cmp = g.T.Ord.cmp in
-    let total = g.met.T.Ord.total in
-    let old = c.args.heap.now in
-    let row : ℕ = c.args.first.row in
-    let index : ℕ = c.args.first.index in
-    let x : ℕ = c.args.entry in
-    let spot = c.key_spot_of-spot.result in
-    let key = c.key_of.result.now in
-    let at = child-is c.links.result.now (links_at old row) index c.index-links-first.result c.index-links-first.is c.links.ensures.links c.requires.index in
-    let s = c.key_spot_of-spot.ensures.spot chain.entries (subst (λ a. AreChainRows (form_at old) (Some a) chain.entries) (sym at) chain.rows) chain.rising in
-    let le = before-le cmp total (form_at old) chain.entries key spot s in
-    let now = c.own_rows-slot.new.heap in
-    let r : ℕ = c.own_rows-slot.result.row in
-    let i : ℕ = c.own_rows-slot.result.index in
-    let owns = subst (λ xs. OwnsRows old now row index xs r i) (take-before cmp total (form_at old) chain.entries key spot s) (c.own_rows-slot.ensures chain.entries chain.rows le) in
+    let way = (goal.at.take_next-next-requires-clause-few g c).After-key_spot_of-spot in
+    let owns = owned g way chain (c.own_rows-slot.ensures chain.entries chain.rows (spot-in g way chain)) in
     omega (arith, c.requires.few, owns.child.changes.trades.total)
 
 pub row_over-row-requires-clause-spare : goal.row_over-row-requires-clause-spare
 row_over-row-requires-clause-spare g c =
     let E = c.requires.chain.0 in
-    let k = c.requires.chain.1 in
     let chain = c.requires.chain.2 in
     let keyed = c.requires.chain.3 in
     let absent = c.requires.chain.4 in
@@ -136,23 +92,18 @@ row_over-row-requires-clause-spare g c =
     let row : ℕ = c.args.first.row in
     let index : ℕ = c.args.first.index in
     let x : ℕ = c.args.entry in
-    let spot = c.key_spot_of-spot.result in
     let key = c.key_of.result.now in
-    let at = child-is c.links.result.now (links_at old row) index c.index-links-first.result c.index-links-first.is c.links.ensures.links c.requires.index in
-    let s = c.key_spot_of-spot.ensures.spot chain.entries (subst (λ a. AreChainRows (form_at old) (Some a) chain.entries) (sym at) chain.rows) chain.rising in
-    let le = before-le cmp total (form_at old) chain.entries key spot s in
+    let way = (goal.at.row_over-row-requires-clause-spare g c).After-key_spot_of-spot in
     let now = c.own_rows-slot.new.heap in
     let r : ℕ = c.own_rows-slot.result.row in
     let i : ℕ = c.own_rows-slot.result.index in
-    let owns = subst (λ xs. OwnsRows old now row index xs r i) (take-before cmp total (form_at old) chain.entries key spot s) (c.own_rows-slot.ensures chain.entries chain.rows le) in
-    let same : key ≡ k = same-key (form_at old) x x key k refl c.key_of.ensures keyed in
-    let equal = not-linked s.parts.equal (s.found ∙ found-chain cmp total (form_at old) (child_at old row index) E key chain spot s ∙ ap (λ j. link_with cmp j E) same ∙ absent) in
-    omega (arith, few-smaller cmp total old now row index r i E key x c.requires.graph c.requires.index c.requires.apart c.requires.held c.key_of.ensures chain s.parts equal owns, c.requires.chain.5, owns.child.changes.trades.balance.spare_nodes, owns.child.changes.trades.nodes, c.take_next-next.ensures.makes.spare_nodes)
+    let owns = owned g way chain (c.own_rows-slot.ensures chain.entries chain.rows (spot-in g way chain)) in
+    let equal = none-equal g way chain keyed absent in
+    omega (arith, few-smaller cmp total old now row index r i E key x c.requires.graph c.requires.index c.requires.apart c.requires.held c.key_of.ensures chain (spot-is g way chain).parts equal owns, c.requires.chain.5, owns.child.changes.trades.balance.spare_nodes, owns.child.changes.trades.nodes, c.take_next-next.ensures.makes.spare_nodes)
 
 pub row_over-row-requires-clause-held : goal.row_over-row-requires-clause-held
 row_over-row-requires-clause-held g c =
     let E = c.requires.chain.0 in
-    let k = c.requires.chain.1 in
     let chain = c.requires.chain.2 in
     let keyed = c.requires.chain.3 in
     let absent = c.requires.chain.4 in
@@ -162,47 +113,25 @@ row_over-row-requires-clause-held g c =
     let row : ℕ = c.args.first.row in
     let index : ℕ = c.args.first.index in
     let x : ℕ = c.args.entry in
-    let spot = c.key_spot_of-spot.result in
     let key = c.key_of.result.now in
-    let at = child-is c.links.result.now (links_at old row) index c.index-links-first.result c.index-links-first.is c.links.ensures.links c.requires.index in
-    let s = c.key_spot_of-spot.ensures.spot chain.entries (subst (λ a. AreChainRows (form_at old) (Some a) chain.entries) (sym at) chain.rows) chain.rising in
-    let le = before-le cmp total (form_at old) chain.entries key spot s in
+    let way = (goal.at.row_over-row-requires-clause-held g c).After-key_spot_of-spot in
     let now = c.own_rows-slot.new.heap in
     let r : ℕ = c.own_rows-slot.result.row in
     let i : ℕ = c.own_rows-slot.result.index in
-    let owns = subst (λ xs. OwnsRows old now row index xs r i) (take-before cmp total (form_at old) chain.entries key spot s) (c.own_rows-slot.ensures chain.entries chain.rows le) in
-    let same : key ≡ k = same-key (form_at old) x x key k refl c.key_of.ensures keyed in
-    let equal = not-linked s.parts.equal (s.found ∙ found-chain cmp total (form_at old) (child_at old row index) E key chain spot s ∙ ap (λ j. link_with cmp j E) same ∙ absent) in
-    held-cut cmp total old now row index r i E key x c.requires.graph c.requires.index c.requires.apart c.requires.held c.key_of.ensures chain s.parts equal owns c.take_next-next.new.heap c.take_next-next.result c.take_next-next.ensures.link c.take_next-next.ensures.writes c.take_next-next.ensures.owners c.take_next-next.ensures.changes c.take_next-next.ensures.makes
+    let owns = owned g way chain (c.own_rows-slot.ensures chain.entries chain.rows (spot-in g way chain)) in
+    let equal = none-equal g way chain keyed absent in
+    held-cut cmp total old now row index r i E key x c.requires.graph c.requires.index c.requires.apart c.requires.held c.key_of.ensures chain (spot-is g way chain).parts equal owns c.take_next-next.new.heap c.take_next-next.result c.take_next-next.ensures.link c.take_next-next.ensures.writes c.take_next-next.ensures.owners c.take_next-next.ensures.changes c.take_next-next.ensures.makes
 
 pub row_over-row-requires-clause-few : goal.row_over-row-requires-clause-few
 row_over-row-requires-clause-few g c =
-    let E = c.requires.chain.0 in
-    let k = c.requires.chain.1 in
     let chain = c.requires.chain.2 in
-    let keyed = c.requires.chain.3 in
-    let absent = c.requires.chain.4 in
-    let cmp = g.T.Ord.cmp in
-    let total = g.met.T.Ord.total in
-    let old = c.args.heap.now in
-    let row : ℕ = c.args.first.row in
-    let index : ℕ = c.args.first.index in
-    let x : ℕ = c.args.entry in
-    let spot = c.key_spot_of-spot.result in
-    let key = c.key_of.result.now in
-    let at = child-is c.links.result.now (links_at old row) index c.index-links-first.result c.index-links-first.is c.links.ensures.links c.requires.index in
-    let s = c.key_spot_of-spot.ensures.spot chain.entries (subst (λ a. AreChainRows (form_at old) (Some a) chain.entries) (sym at) chain.rows) chain.rising in
-    let le = before-le cmp total (form_at old) chain.entries key spot s in
-    let now = c.own_rows-slot.new.heap in
-    let r : ℕ = c.own_rows-slot.result.row in
-    let i : ℕ = c.own_rows-slot.result.index in
-    let owns = subst (λ xs. OwnsRows old now row index xs r i) (take-before cmp total (form_at old) chain.entries key spot s) (c.own_rows-slot.ensures chain.entries chain.rows le) in
+    let way = (goal.at.row_over-row-requires-clause-few g c).After-key_spot_of-spot in
+    let owns = owned g way chain (c.own_rows-slot.ensures chain.entries chain.rows (spot-in g way chain)) in
     omega (arith, c.requires.few, owns.child.changes.trades.total, c.take_next-next.ensures.changes.trades.total, one-at-most c.take_next-next.result)
 
 pub insert_link-requires-clause-sole : goal.insert_link-requires-clause-sole
 insert_link-requires-clause-sole g c =
     let E = c.requires.chain.0 in
-    let k = c.requires.chain.1 in
     let chain = c.requires.chain.2 in
     let keyed = c.requires.chain.3 in
     let absent = c.requires.chain.4 in
@@ -212,23 +141,18 @@ insert_link-requires-clause-sole g c =
     let row : ℕ = c.args.first.row in
     let index : ℕ = c.args.first.index in
     let x : ℕ = c.args.entry in
-    let spot = c.key_spot_of-spot.result in
     let key = c.key_of.result.now in
-    let at = child-is c.links.result.now (links_at old row) index c.index-links-first.result c.index-links-first.is c.links.ensures.links c.requires.index in
-    let s = c.key_spot_of-spot.ensures.spot chain.entries (subst (λ a. AreChainRows (form_at old) (Some a) chain.entries) (sym at) chain.rows) chain.rising in
-    let le = before-le cmp total (form_at old) chain.entries key spot s in
+    let way = (goal.at.insert_link-requires-clause-sole g c).After-key_spot_of-spot in
     let now = c.own_rows-slot.new.heap in
     let r : ℕ = c.own_rows-slot.result.row in
     let i : ℕ = c.own_rows-slot.result.index in
-    let owns = subst (λ xs. OwnsRows old now row index xs r i) (take-before cmp total (form_at old) chain.entries key spot s) (c.own_rows-slot.ensures chain.entries chain.rows le) in
-    let same : key ≡ k = same-key (form_at old) x x key k refl c.key_of.ensures keyed in
-    let equal = not-linked s.parts.equal (s.found ∙ found-chain cmp total (form_at old) (child_at old row index) E key chain spot s ∙ ap (λ j. link_with cmp j E) same ∙ absent) in
-    sole-made cmp total old now row index r i E key x c.requires.graph c.requires.index c.requires.apart c.requires.held c.key_of.ensures chain s.parts equal owns c.take_next-next.new.heap c.take_next-next.result c.take_next-next.ensures.link c.take_next-next.ensures.writes c.take_next-next.ensures.owners c.take_next-next.ensures.changes c.take_next-next.ensures.makes c.row_over-row.new.heap c.row_over-row.result c.row_over-row.ensures.row c.row_over-row.ensures.fresh c.row_over-row.ensures.owners c.row_over-row.ensures.builds
+    let owns = owned g way chain (c.own_rows-slot.ensures chain.entries chain.rows (spot-in g way chain)) in
+    let equal = none-equal g way chain keyed absent in
+    sole-made cmp total old now row index r i E key x c.requires.graph c.requires.index c.requires.apart c.requires.held c.key_of.ensures chain (spot-is g way chain).parts equal owns c.take_next-next.new.heap c.take_next-next.result c.take_next-next.ensures.link c.take_next-next.ensures.writes c.take_next-next.ensures.owners c.take_next-next.ensures.changes c.take_next-next.ensures.makes c.row_over-row.new.heap c.row_over-row.result c.row_over-row.ensures.row c.row_over-row.ensures.fresh c.row_over-row.ensures.owners c.row_over-row.ensures.builds
 
 pub insert_link-requires-clause-node : goal.insert_link-requires-clause-node
 insert_link-requires-clause-node g c =
     let E = c.requires.chain.0 in
-    let k = c.requires.chain.1 in
     let chain = c.requires.chain.2 in
     let keyed = c.requires.chain.3 in
     let absent = c.requires.chain.4 in
@@ -238,23 +162,18 @@ insert_link-requires-clause-node g c =
     let row : ℕ = c.args.first.row in
     let index : ℕ = c.args.first.index in
     let x : ℕ = c.args.entry in
-    let spot = c.key_spot_of-spot.result in
     let key = c.key_of.result.now in
-    let at = child-is c.links.result.now (links_at old row) index c.index-links-first.result c.index-links-first.is c.links.ensures.links c.requires.index in
-    let s = c.key_spot_of-spot.ensures.spot chain.entries (subst (λ a. AreChainRows (form_at old) (Some a) chain.entries) (sym at) chain.rows) chain.rising in
-    let le = before-le cmp total (form_at old) chain.entries key spot s in
+    let way = (goal.at.insert_link-requires-clause-node g c).After-key_spot_of-spot in
     let now = c.own_rows-slot.new.heap in
     let r : ℕ = c.own_rows-slot.result.row in
     let i : ℕ = c.own_rows-slot.result.index in
-    let owns = subst (λ xs. OwnsRows old now row index xs r i) (take-before cmp total (form_at old) chain.entries key spot s) (c.own_rows-slot.ensures chain.entries chain.rows le) in
-    let same : key ≡ k = same-key (form_at old) x x key k refl c.key_of.ensures keyed in
-    let equal = not-linked s.parts.equal (s.found ∙ found-chain cmp total (form_at old) (child_at old row index) E key chain spot s ∙ ap (λ j. link_with cmp j E) same ∙ absent) in
-    node-made cmp total old now row index r i E key x c.requires.graph c.requires.index c.requires.apart c.requires.held c.key_of.ensures chain s.parts equal owns c.take_next-next.new.heap c.take_next-next.result c.take_next-next.ensures.link c.take_next-next.ensures.writes c.take_next-next.ensures.owners c.take_next-next.ensures.changes c.take_next-next.ensures.makes c.row_over-row.new.heap c.row_over-row.result c.row_over-row.ensures.row c.row_over-row.ensures.fresh c.row_over-row.ensures.owners c.row_over-row.ensures.builds
+    let owns = owned g way chain (c.own_rows-slot.ensures chain.entries chain.rows (spot-in g way chain)) in
+    let equal = none-equal g way chain keyed absent in
+    node-made cmp total old now row index r i E key x c.requires.graph c.requires.index c.requires.apart c.requires.held c.key_of.ensures chain (spot-is g way chain).parts equal owns c.take_next-next.new.heap c.take_next-next.result c.take_next-next.ensures.link c.take_next-next.ensures.writes c.take_next-next.ensures.owners c.take_next-next.ensures.changes c.take_next-next.ensures.makes c.row_over-row.new.heap c.row_over-row.result c.row_over-row.ensures.row c.row_over-row.ensures.fresh c.row_over-row.ensures.owners c.row_over-row.ensures.builds
 
 pub insert_link-requires-clause-index : goal.insert_link-requires-clause-index
 insert_link-requires-clause-index g c =
     let E = c.requires.chain.0 in
-    let k = c.requires.chain.1 in
     let chain = c.requires.chain.2 in
     let keyed = c.requires.chain.3 in
     let absent = c.requires.chain.4 in
@@ -264,23 +183,18 @@ insert_link-requires-clause-index g c =
     let row : ℕ = c.args.first.row in
     let index : ℕ = c.args.first.index in
     let x : ℕ = c.args.entry in
-    let spot = c.key_spot_of-spot.result in
     let key = c.key_of.result.now in
-    let at = child-is c.links.result.now (links_at old row) index c.index-links-first.result c.index-links-first.is c.links.ensures.links c.requires.index in
-    let s = c.key_spot_of-spot.ensures.spot chain.entries (subst (λ a. AreChainRows (form_at old) (Some a) chain.entries) (sym at) chain.rows) chain.rising in
-    let le = before-le cmp total (form_at old) chain.entries key spot s in
+    let way = (goal.at.insert_link-requires-clause-index g c).After-key_spot_of-spot in
     let now = c.own_rows-slot.new.heap in
     let r : ℕ = c.own_rows-slot.result.row in
     let i : ℕ = c.own_rows-slot.result.index in
-    let owns = subst (λ xs. OwnsRows old now row index xs r i) (take-before cmp total (form_at old) chain.entries key spot s) (c.own_rows-slot.ensures chain.entries chain.rows le) in
-    let same : key ≡ k = same-key (form_at old) x x key k refl c.key_of.ensures keyed in
-    let equal = not-linked s.parts.equal (s.found ∙ found-chain cmp total (form_at old) (child_at old row index) E key chain spot s ∙ ap (λ j. link_with cmp j E) same ∙ absent) in
-    index-made cmp total old now row index r i E key x c.requires.graph c.requires.index c.requires.apart c.requires.held c.key_of.ensures chain s.parts equal owns c.take_next-next.new.heap c.take_next-next.result c.take_next-next.ensures.link c.take_next-next.ensures.writes c.take_next-next.ensures.owners c.take_next-next.ensures.changes c.take_next-next.ensures.makes c.row_over-row.new.heap c.row_over-row.result c.row_over-row.ensures.row c.row_over-row.ensures.fresh c.row_over-row.ensures.owners c.row_over-row.ensures.builds
+    let owns = owned g way chain (c.own_rows-slot.ensures chain.entries chain.rows (spot-in g way chain)) in
+    let equal = none-equal g way chain keyed absent in
+    index-made cmp total old now row index r i E key x c.requires.graph c.requires.index c.requires.apart c.requires.held c.key_of.ensures chain (spot-is g way chain).parts equal owns c.take_next-next.new.heap c.take_next-next.result c.take_next-next.ensures.link c.take_next-next.ensures.writes c.take_next-next.ensures.owners c.take_next-next.ensures.changes c.take_next-next.ensures.makes c.row_over-row.new.heap c.row_over-row.result c.row_over-row.ensures.row c.row_over-row.ensures.fresh c.row_over-row.ensures.owners c.row_over-row.ensures.builds
 
 pub insert_link-requires-clause-room : goal.insert_link-requires-clause-room
 insert_link-requires-clause-room g c =
     let E = c.requires.chain.0 in
-    let k = c.requires.chain.1 in
     let chain = c.requires.chain.2 in
     let keyed = c.requires.chain.3 in
     let absent = c.requires.chain.4 in
@@ -290,23 +204,18 @@ insert_link-requires-clause-room g c =
     let row : ℕ = c.args.first.row in
     let index : ℕ = c.args.first.index in
     let x : ℕ = c.args.entry in
-    let spot = c.key_spot_of-spot.result in
     let key = c.key_of.result.now in
-    let at = child-is c.links.result.now (links_at old row) index c.index-links-first.result c.index-links-first.is c.links.ensures.links c.requires.index in
-    let s = c.key_spot_of-spot.ensures.spot chain.entries (subst (λ a. AreChainRows (form_at old) (Some a) chain.entries) (sym at) chain.rows) chain.rising in
-    let le = before-le cmp total (form_at old) chain.entries key spot s in
+    let way = (goal.at.insert_link-requires-clause-room g c).After-key_spot_of-spot in
     let now = c.own_rows-slot.new.heap in
     let r : ℕ = c.own_rows-slot.result.row in
     let i : ℕ = c.own_rows-slot.result.index in
-    let owns = subst (λ xs. OwnsRows old now row index xs r i) (take-before cmp total (form_at old) chain.entries key spot s) (c.own_rows-slot.ensures chain.entries chain.rows le) in
-    let same : key ≡ k = same-key (form_at old) x x key k refl c.key_of.ensures keyed in
-    let equal = not-linked s.parts.equal (s.found ∙ found-chain cmp total (form_at old) (child_at old row index) E key chain spot s ∙ ap (λ j. link_with cmp j E) same ∙ absent) in
-    room-made cmp total old now row index r i E key x c.requires.graph c.requires.index c.requires.apart c.requires.held c.key_of.ensures chain s.parts equal owns c.take_next-next.new.heap c.take_next-next.result c.take_next-next.ensures.link c.take_next-next.ensures.writes c.take_next-next.ensures.owners c.take_next-next.ensures.changes c.take_next-next.ensures.makes c.row_over-row.new.heap c.row_over-row.result c.row_over-row.ensures.row c.row_over-row.ensures.fresh c.row_over-row.ensures.owners c.row_over-row.ensures.builds
+    let owns = owned g way chain (c.own_rows-slot.ensures chain.entries chain.rows (spot-in g way chain)) in
+    let equal = none-equal g way chain keyed absent in
+    room-made cmp total old now row index r i E key x c.requires.graph c.requires.index c.requires.apart c.requires.held c.key_of.ensures chain (spot-is g way chain).parts equal owns c.take_next-next.new.heap c.take_next-next.result c.take_next-next.ensures.link c.take_next-next.ensures.writes c.take_next-next.ensures.owners c.take_next-next.ensures.changes c.take_next-next.ensures.makes c.row_over-row.new.heap c.row_over-row.result c.row_over-row.ensures.row c.row_over-row.ensures.fresh c.row_over-row.ensures.owners c.row_over-row.ensures.builds
 
 pub insert_link-requires-clause-held : goal.insert_link-requires-clause-held
 insert_link-requires-clause-held g c =
     let E = c.requires.chain.0 in
-    let k = c.requires.chain.1 in
     let chain = c.requires.chain.2 in
     let keyed = c.requires.chain.3 in
     let absent = c.requires.chain.4 in
@@ -316,23 +225,18 @@ insert_link-requires-clause-held g c =
     let row : ℕ = c.args.first.row in
     let index : ℕ = c.args.first.index in
     let x : ℕ = c.args.entry in
-    let spot = c.key_spot_of-spot.result in
     let key = c.key_of.result.now in
-    let at = child-is c.links.result.now (links_at old row) index c.index-links-first.result c.index-links-first.is c.links.ensures.links c.requires.index in
-    let s = c.key_spot_of-spot.ensures.spot chain.entries (subst (λ a. AreChainRows (form_at old) (Some a) chain.entries) (sym at) chain.rows) chain.rising in
-    let le = before-le cmp total (form_at old) chain.entries key spot s in
+    let way = (goal.at.insert_link-requires-clause-held g c).After-key_spot_of-spot in
     let now = c.own_rows-slot.new.heap in
     let r : ℕ = c.own_rows-slot.result.row in
     let i : ℕ = c.own_rows-slot.result.index in
-    let owns = subst (λ xs. OwnsRows old now row index xs r i) (take-before cmp total (form_at old) chain.entries key spot s) (c.own_rows-slot.ensures chain.entries chain.rows le) in
-    let same : key ≡ k = same-key (form_at old) x x key k refl c.key_of.ensures keyed in
-    let equal = not-linked s.parts.equal (s.found ∙ found-chain cmp total (form_at old) (child_at old row index) E key chain spot s ∙ ap (λ j. link_with cmp j E) same ∙ absent) in
-    held-made cmp total old now row index r i E key x c.requires.graph c.requires.index c.requires.apart c.requires.held c.key_of.ensures chain s.parts equal owns c.take_next-next.new.heap c.take_next-next.result c.take_next-next.ensures.link c.take_next-next.ensures.writes c.take_next-next.ensures.owners c.take_next-next.ensures.changes c.take_next-next.ensures.makes c.row_over-row.new.heap c.row_over-row.result c.row_over-row.ensures.row c.row_over-row.ensures.fresh c.row_over-row.ensures.owners c.row_over-row.ensures.builds
+    let owns = owned g way chain (c.own_rows-slot.ensures chain.entries chain.rows (spot-in g way chain)) in
+    let equal = none-equal g way chain keyed absent in
+    held-made cmp total old now row index r i E key x c.requires.graph c.requires.index c.requires.apart c.requires.held c.key_of.ensures chain (spot-is g way chain).parts equal owns c.take_next-next.new.heap c.take_next-next.result c.take_next-next.ensures.link c.take_next-next.ensures.writes c.take_next-next.ensures.owners c.take_next-next.ensures.changes c.take_next-next.ensures.makes c.row_over-row.new.heap c.row_over-row.result c.row_over-row.ensures.row c.row_over-row.ensures.fresh c.row_over-row.ensures.owners c.row_over-row.ensures.builds
 
 pub insert_link-requires-clause-apart : goal.insert_link-requires-clause-apart
 insert_link-requires-clause-apart g c =
     let E = c.requires.chain.0 in
-    let k = c.requires.chain.1 in
     let chain = c.requires.chain.2 in
     let keyed = c.requires.chain.3 in
     let absent = c.requires.chain.4 in
@@ -342,18 +246,14 @@ insert_link-requires-clause-apart g c =
     let row : ℕ = c.args.first.row in
     let index : ℕ = c.args.first.index in
     let x : ℕ = c.args.entry in
-    let spot = c.key_spot_of-spot.result in
     let key = c.key_of.result.now in
-    let at = child-is c.links.result.now (links_at old row) index c.index-links-first.result c.index-links-first.is c.links.ensures.links c.requires.index in
-    let s = c.key_spot_of-spot.ensures.spot chain.entries (subst (λ a. AreChainRows (form_at old) (Some a) chain.entries) (sym at) chain.rows) chain.rising in
-    let le = before-le cmp total (form_at old) chain.entries key spot s in
+    let way = (goal.at.insert_link-requires-clause-apart g c).After-key_spot_of-spot in
     let now = c.own_rows-slot.new.heap in
     let r : ℕ = c.own_rows-slot.result.row in
     let i : ℕ = c.own_rows-slot.result.index in
-    let owns = subst (λ xs. OwnsRows old now row index xs r i) (take-before cmp total (form_at old) chain.entries key spot s) (c.own_rows-slot.ensures chain.entries chain.rows le) in
-    let same : key ≡ k = same-key (form_at old) x x key k refl c.key_of.ensures keyed in
-    let equal = not-linked s.parts.equal (s.found ∙ found-chain cmp total (form_at old) (child_at old row index) E key chain spot s ∙ ap (λ j. link_with cmp j E) same ∙ absent) in
-    apart-made cmp total old now row index r i E key x c.requires.graph c.requires.index c.requires.apart c.requires.held c.key_of.ensures chain s.parts equal owns c.take_next-next.new.heap c.take_next-next.result c.take_next-next.ensures.link c.take_next-next.ensures.writes c.take_next-next.ensures.owners c.take_next-next.ensures.changes c.take_next-next.ensures.makes c.row_over-row.new.heap c.row_over-row.result c.row_over-row.ensures.row c.row_over-row.ensures.fresh c.row_over-row.ensures.owners c.row_over-row.ensures.builds
+    let owns = owned g way chain (c.own_rows-slot.ensures chain.entries chain.rows (spot-in g way chain)) in
+    let equal = none-equal g way chain keyed absent in
+    apart-made cmp total old now row index r i E key x c.requires.graph c.requires.index c.requires.apart c.requires.held c.key_of.ensures chain (spot-is g way chain).parts equal owns c.take_next-next.new.heap c.take_next-next.result c.take_next-next.ensures.link c.take_next-next.ensures.writes c.take_next-next.ensures.owners c.take_next-next.ensures.changes c.take_next-next.ensures.makes c.row_over-row.new.heap c.row_over-row.result c.row_over-row.ensures.row c.row_over-row.ensures.fresh c.row_over-row.ensures.owners c.row_over-row.ensures.builds
 
 pub returns : goal.returns
 returns g c = λ E k chain keyed absent.
@@ -363,16 +263,12 @@ returns g c = λ E k chain keyed absent.
     let row : ℕ = c.args.first.row in
     let index : ℕ = c.args.first.index in
     let x : ℕ = c.args.entry in
-    let spot = c.key_spot_of-spot.result in
     let key = c.key_of.result.now in
-    let at = child-is c.links.result.now (links_at old row) index c.index-links-first.result c.index-links-first.is c.links.ensures.links c.requires.index in
-    let s = c.key_spot_of-spot.ensures.spot chain.entries (subst (λ a. AreChainRows (form_at old) (Some a) chain.entries) (sym at) chain.rows) chain.rising in
-    let le = before-le cmp total (form_at old) chain.entries key spot s in
+    let way = (goal.at.returns g c).After-key_spot_of-spot in
     let now = c.own_rows-slot.new.heap in
     let r : ℕ = c.own_rows-slot.result.row in
     let i : ℕ = c.own_rows-slot.result.index in
-    let owns = subst (λ xs. OwnsRows old now row index xs r i) (take-before cmp total (form_at old) chain.entries key spot s) (c.own_rows-slot.ensures chain.entries chain.rows le) in
-    let same : key ≡ k = same-key (form_at old) x x key k refl c.key_of.ensures keyed in
-    let equal = not-linked s.parts.equal (s.found ∙ found-chain cmp total (form_at old) (child_at old row index) E key chain spot s ∙ ap (λ j. link_with cmp j E) same ∙ absent) in
-    subst (λ j. PutsInChain cmp old c.insert_link.new.self row index E j x) same
-    (puts-in-chain cmp total old now row index r i E key x c.requires.graph c.requires.index c.requires.apart c.requires.held c.key_of.ensures chain s.parts equal owns c.take_next-next.new.heap c.take_next-next.result c.take_next-next.ensures.link c.take_next-next.ensures.writes c.take_next-next.ensures.owners c.take_next-next.ensures.changes c.take_next-next.ensures.makes c.row_over-row.new.heap c.row_over-row.result c.row_over-row.ensures.row c.row_over-row.ensures.fresh c.row_over-row.ensures.owners c.row_over-row.ensures.builds c.insert_link.new.self c.insert_link.ensures.writes c.insert_link.ensures.changes c.insert_link.ensures.makes)
+    let owns = owned g way chain (c.own_rows-slot.ensures chain.entries chain.rows (spot-in g way chain)) in
+    let equal = none-equal g way chain keyed absent in
+    subst (λ j. PutsInChain cmp old c.insert_link.new.self row index E j x) (key-is g way keyed)
+    (puts-in-chain cmp total old now row index r i E key x c.requires.graph c.requires.index c.requires.apart c.requires.held c.key_of.ensures chain (spot-is g way chain).parts equal owns c.take_next-next.new.heap c.take_next-next.result c.take_next-next.ensures.link c.take_next-next.ensures.writes c.take_next-next.ensures.owners c.take_next-next.ensures.changes c.take_next-next.ensures.makes c.row_over-row.new.heap c.row_over-row.result c.row_over-row.ensures.row c.row_over-row.ensures.fresh c.row_over-row.ensures.owners c.row_over-row.ensures.builds c.insert_link.new.self c.insert_link.ensures.writes c.insert_link.ensures.changes c.insert_link.ensures.makes)

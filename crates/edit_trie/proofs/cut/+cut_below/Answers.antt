@@ -9,7 +9,7 @@ use Rattle.champ_chain.specs.Entry.{others}
 use Rattle.champ_chain.proofs.FrameLemmas.{form-live}
 use Rattle.champ_chain.proofs.CopyLemmas.{key-live}
 use Rattle.champ_trie.proofs.LeftLemmas.{deepest-alike}
-use Rattle.edit_trie.proofs.ChildLemmas.{OwnsChild}
+use Rattle.edit_trie.proofs.ChildLemmas.{OwnsChild, owns-child}
 use Rattle.edit_trie.proofs.StepLemmas.{deeper, chain-at}
 use Rattle.edit_trie.proofs.LoneLemmas.{others-size}
 use Rattle.champ_trie.specs.Bits.{has}
@@ -30,12 +30,9 @@ spot_at-requires-clause-row g t c =
     let cmp = g.T.Ord.cmp in
     let code = code_by g.T.Element.code_of c.args.bits in
     let old = c.args.heap.now in
-    let equal = λ (i j : g.row.T.Denot) (same : cmp i j ≡ Equal). ap (λ n. masked_code n c.args.bits) (g.met.T.Element.equal_codes i j same) in
-    let key = g.P.Probe.stands_for c.args.key.now in
     let E = c.requires.row.0 in
     let left = c.requires.row.1 in
     let can = c.requires.row.2 in
-    let there = c.requires.row.3 in
     let at = row-at cmp code (form_at old) left c.args.depth c.args.row E can.below.trie in
     (c.args.depth, at.0, at.1, at.2, at.3)
 
@@ -59,12 +56,9 @@ take_entry-requires-clause-row g t c =
     let cmp = g.T.Ord.cmp in
     let code = code_by g.T.Element.code_of c.args.bits in
     let old = c.args.heap.now in
-    let equal = λ (i j : g.row.T.Denot) (same : cmp i j ≡ Equal). ap (λ n. masked_code n c.args.bits) (g.met.T.Element.equal_codes i j same) in
-    let key = g.P.Probe.stands_for c.args.key.now in
     let E = c.requires.row.0 in
     let left = c.requires.row.1 in
     let can = c.requires.row.2 in
-    let there = c.requires.row.3 in
     let at = row-at cmp code (form_at old) left c.args.depth c.args.row E can.below.trie in
     let spot = subst (λ p. IsSpot at.0 at.1 p (EntryAt c.in-Entry.field-0)) c.digit-position.ensures.read (c.in-Entry.ensures.spot c.args.depth at.0 at.1 at.2 at.3) in
     (at.0, at.1, at.2, at.3, ap (has at.0) c.digit-position.ensures.read ∙ spot.0)
@@ -74,12 +68,9 @@ links-requires g t c =
     let cmp = g.T.Ord.cmp in
     let code = code_by g.T.Element.code_of c.args.bits in
     let old = c.args.heap.now in
-    let equal = λ (i j : g.row.T.Denot) (same : cmp i j ≡ Equal). ap (λ n. masked_code n c.args.bits) (g.met.T.Element.equal_codes i j same) in
-    let key = g.P.Probe.stands_for c.args.key.now in
     let E = c.requires.row.0 in
     let left = c.requires.row.1 in
     let can = c.requires.row.2 in
-    let there = c.requires.row.3 in
     let at = row-at cmp code (form_at old) left c.args.depth c.args.row E can.below.trie in
     form-live old c.args.row _ at.3.row
 
@@ -106,12 +97,9 @@ bounds-links-index g t c =
     let cmp = g.T.Ord.cmp in
     let code = code_by g.T.Element.code_of c.args.bits in
     let old = c.args.heap.now in
-    let equal = λ (i j : g.row.T.Denot) (same : cmp i j ≡ Equal). ap (λ n. masked_code n c.args.bits) (g.met.T.Element.equal_codes i j same) in
-    let key = g.P.Probe.stands_for c.args.key.now in
     let E = c.requires.row.0 in
     let left = c.requires.row.1 in
     let can = c.requires.row.2 in
-    let there = c.requires.row.3 in
     let at = row-at cmp code (form_at old) left c.args.depth c.args.row E can.below.trie in
     let spot = subst (λ p. IsSpot at.0 at.1 p (NodeAt c.in-Node.index)) c.digit-position.ensures.read (c.in-Node.ensures.spot c.args.depth at.0 at.1 at.2 at.3) in
     let inside = node-inside old c.args.row c.args.depth at.0 at.1 at.2 at.3 (digit_at c.args.code c.args.depth) c.in-Node.index (omega arith) spot in
@@ -141,12 +129,9 @@ lift-requires-clause-row g t c =
     let cmp = g.T.Ord.cmp in
     let code = code_by g.T.Element.code_of c.args.bits in
     let old = c.args.heap.now in
-    let equal = λ (i j : g.row.T.Denot) (same : cmp i j ≡ Equal). ap (λ n. masked_code n c.args.bits) (g.met.T.Element.equal_codes i j same) in
-    let key = g.P.Probe.stands_for c.args.key.now in
     let E = c.requires.row.0 in
     let left = c.requires.row.1 in
     let can = c.requires.row.2 in
-    let there = c.requires.row.3 in
     let at = row-at cmp code (form_at old) left c.args.depth c.args.row E can.below.trie in
     let spot = subst (λ p. IsSpot at.0 at.1 p (NodeAt c.in-Node.index)) c.digit-position.ensures.read (c.in-Node.ensures.spot c.args.depth at.0 at.1 at.2 at.3) in
     (at.0, at.1, at.2, at.3, ap (has at.0) c.digit-position.ensures.read ∙ spot.0, ap (has at.1) c.digit-position.ensures.read ∙ spot.1)
@@ -217,12 +202,9 @@ cut_from_chain-requires-clause-keyless g t c =
     let cmp = g.T.Ord.cmp in
     let code = code_by g.T.Element.code_of c.args.bits in
     let old = c.args.heap.now in
-    let equal = λ (i j : g.row.T.Denot) (same : cmp i j ≡ Equal). ap (λ n. masked_code n c.args.bits) (g.met.T.Element.equal_codes i j same) in
-    let key = g.P.Probe.stands_for c.args.key.now in
     let E = c.requires.row.0 in
     let left = c.requires.row.1 in
     let can = c.requires.row.2 in
-    let there = c.requires.row.3 in
     let at = row-at cmp code (form_at old) left c.args.depth c.args.row E can.below.trie in
     row-keyless (form_at old) c.args.row c.args.depth at.0 at.1 at.2 at.3
 
@@ -231,19 +213,12 @@ cut_from_chain-requires-clause-index g t c =
     let cmp = g.T.Ord.cmp in
     let code = code_by g.T.Element.code_of c.args.bits in
     let old = c.args.heap.now in
-    let equal = λ (i j : g.row.T.Denot) (same : cmp i j ≡ Equal). ap (λ n. masked_code n c.args.bits) (g.met.T.Element.equal_codes i j same) in
-    let key = g.P.Probe.stands_for c.args.key.now in
     let E = c.requires.row.0 in
     let left = c.requires.row.1 in
     let can = c.requires.row.2 in
-    let there = c.requires.row.3 in
     let at = row-at cmp code (form_at old) left c.args.depth c.args.row E can.below.trie in
-    let P = part cmp code c.args.depth (digit_at c.args.code c.args.depth) E in
     let spot = subst (λ p. IsSpot at.0 at.1 p (NodeAt c.in-Node.index)) c.digit-position.ensures.read (c.in-Node.ensures.spot c.args.depth at.0 at.1 at.2 at.3) in
     let inside = node-inside old c.args.row c.args.depth at.0 at.1 at.2 at.3 (digit_at c.args.code c.args.depth) c.in-Node.index (omega arith) spot in
-    let child : c.index-links-index.result ≡ child_at old c.args.row c.in-Node.index = link-at c.links.result.now (links_at old c.args.row) c.in-Node.index c.index-links-index.result c.index-links-index.is c.links.ensures.links inside in
-    let below = cut-below-node cmp code equal old left c.args.depth c.args.row c.args.code E key c.requires.code can at.0 at.1 at.2 at.3 there c.in-Node.index c.index-links-index.result spot child in
-    let found = there-part cmp code equal old left c.args.depth c.args.row c.args.code E key c.requires.code can at.0 at.1 at.2 at.3 there in
     inside
 
 pub cut_from_chain-requires-clause-chain : goal.cut_from_chain-requires-clause-chain
@@ -297,19 +272,12 @@ own_child-child-requires-clause-index g t c =
     let cmp = g.T.Ord.cmp in
     let code = code_by g.T.Element.code_of c.args.bits in
     let old = c.args.heap.now in
-    let equal = λ (i j : g.row.T.Denot) (same : cmp i j ≡ Equal). ap (λ n. masked_code n c.args.bits) (g.met.T.Element.equal_codes i j same) in
-    let key = g.P.Probe.stands_for c.args.key.now in
     let E = c.requires.row.0 in
     let left = c.requires.row.1 in
     let can = c.requires.row.2 in
-    let there = c.requires.row.3 in
     let at = row-at cmp code (form_at old) left c.args.depth c.args.row E can.below.trie in
-    let P = part cmp code c.args.depth (digit_at c.args.code c.args.depth) E in
     let spot = subst (λ p. IsSpot at.0 at.1 p (NodeAt c.in-Node.index)) c.digit-position.ensures.read (c.in-Node.ensures.spot c.args.depth at.0 at.1 at.2 at.3) in
     let inside = node-inside old c.args.row c.args.depth at.0 at.1 at.2 at.3 (digit_at c.args.code c.args.depth) c.in-Node.index (omega arith) spot in
-    let child : c.index-links-index.result ≡ child_at old c.args.row c.in-Node.index = link-at c.links.result.now (links_at old c.args.row) c.in-Node.index c.index-links-index.result c.index-links-index.is c.links.ensures.links inside in
-    let below = cut-below-node cmp code equal old left c.args.depth c.args.row c.args.code E key c.requires.code can at.0 at.1 at.2 at.3 there c.in-Node.index c.index-links-index.result spot child in
-    let found = there-part cmp code equal old left c.args.depth c.args.row c.args.code E key c.requires.code can at.0 at.1 at.2 at.3 there in
     inside
 
 pub own_child-child-requires-clause-node : goal.own_child-child-requires-clause-node
@@ -317,19 +285,12 @@ own_child-child-requires-clause-node g t c =
     let cmp = g.T.Ord.cmp in
     let code = code_by g.T.Element.code_of c.args.bits in
     let old = c.args.heap.now in
-    let equal = λ (i j : g.row.T.Denot) (same : cmp i j ≡ Equal). ap (λ n. masked_code n c.args.bits) (g.met.T.Element.equal_codes i j same) in
-    let key = g.P.Probe.stands_for c.args.key.now in
     let E = c.requires.row.0 in
     let left = c.requires.row.1 in
     let can = c.requires.row.2 in
-    let there = c.requires.row.3 in
     let at = row-at cmp code (form_at old) left c.args.depth c.args.row E can.below.trie in
     let P = part cmp code c.args.depth (digit_at c.args.code c.args.depth) E in
     let spot = subst (λ p. IsSpot at.0 at.1 p (NodeAt c.in-Node.index)) c.digit-position.ensures.read (c.in-Node.ensures.spot c.args.depth at.0 at.1 at.2 at.3) in
-    let inside = node-inside old c.args.row c.args.depth at.0 at.1 at.2 at.3 (digit_at c.args.code c.args.depth) c.in-Node.index (omega arith) spot in
-    let child : c.index-links-index.result ≡ child_at old c.args.row c.in-Node.index = link-at c.links.result.now (links_at old c.args.row) c.in-Node.index c.index-links-index.result c.index-links-index.is c.links.ensures.links inside in
-    let below = cut-below-node cmp code equal old left c.args.depth c.args.row c.args.code E key c.requires.code can at.0 at.1 at.2 at.3 there c.in-Node.index c.index-links-index.result spot child in
-    let found = there-part cmp code equal old left c.args.depth c.args.row c.args.code E key c.requires.code can at.0 at.1 at.2 at.3 there in
     let less : c.args.depth < DEEPEST = omega (arith, c.if-depth-eq-DEEPEST.false, c.requires.depth) in
     let down = deeper cmp code old c.args.row c.args.depth left c.args.code E can.below at.0 at.1 at.2 at.3 c.in-Node.index spot less in
     let row = row-at cmp code (form_at old) down.m (c.args.depth + 1) (child_at old c.args.row c.in-Node.index) P down.below.trie in
@@ -353,20 +314,8 @@ returns-else-depth-eq-DEEPEST g t c =
     let more : 2 ≤ length (others cmp key P) = c.in_default.ensures.lone P left below.0 found below.1 in
     let less : c.args.depth < DEEPEST = omega (arith, c.if-depth-eq-DEEPEST.false, c.requires.depth) in
     let mid = c.own_child-child.new.self in
-    let own : OwnsChild old mid c.args.row c.in-Node.index c.own_child-child.result = record {
-      inside = inside;
-      same = c.own_child-child.ensures.same;
-      row = c.own_child-child.ensures.row;
-      sole = c.own_child-child.ensures.sole;
-      fresh = c.own_child-child.ensures.fresh;
-      head = c.own_child-child.ensures.parent_head;
-      links = c.own_child-child.ensures.parent_links;
-      stays = c.own_child-child.ensures.stays;
-      others = c.own_child-child.ensures.others;
-      owners = c.own_child-child.ensures.owners;
-      changes = c.own_child-child.ensures.changes;
-      makes = c.own_child-child.ensures.makes;
-    } in
+    let did_own = c.own_child-child.ensures in
+    let own : OwnsChild old mid c.args.row c.in-Node.index c.own_child-child.result = owns-child inside did_own.same did_own.row did_own.sole did_own.fresh did_own.parent_head did_own.parent_links did_own.stays did_own.others did_own.owners did_own.changes did_own.makes in
     let down = deeper cmp code old c.args.row c.args.depth left c.args.code E can.below at.0 at.1 at.2 at.3 c.in-Node.index spot less in
     let sub = can-below cmp code equal old left c.args.depth c.args.row c.args.code E key c.requires.code can at.0 at.1 at.2 at.3 there mid c.in-Node.index c.own_child-child.result spot less own in
     cuts-node cmp code equal old left c.args.depth c.args.row c.args.code E key c.requires.code can at.0 at.1 at.2 at.3 there mid c.in-Node.index c.own_child-child.result spot less own c.cut_below.new.heap c.cut_below.result more (c.cut_below.ensures P down.m sub found)
@@ -391,20 +340,8 @@ cut_below-requires g t c κs within =
     let found = there-part cmp code equal old left c.args.depth c.args.row c.args.code E key c.requires.code can at.0 at.1 at.2 at.3 there in
     let less : c.args.depth < DEEPEST = omega (arith, c.if-depth-eq-DEEPEST.false, c.requires.depth) in
     let mid = c.own_child-child.new.self in
-    let own : OwnsChild old mid c.args.row c.in-Node.index c.own_child-child.result = record {
-      inside = inside;
-      same = c.own_child-child.ensures.same;
-      row = c.own_child-child.ensures.row;
-      sole = c.own_child-child.ensures.sole;
-      fresh = c.own_child-child.ensures.fresh;
-      head = c.own_child-child.ensures.parent_head;
-      links = c.own_child-child.ensures.parent_links;
-      stays = c.own_child-child.ensures.stays;
-      others = c.own_child-child.ensures.others;
-      owners = c.own_child-child.ensures.owners;
-      changes = c.own_child-child.ensures.changes;
-      makes = c.own_child-child.ensures.makes;
-    } in
+    let did_own = c.own_child-child.ensures in
+    let own : OwnsChild old mid c.args.row c.in-Node.index c.own_child-child.result = owns-child inside did_own.same did_own.row did_own.sole did_own.fresh did_own.parent_head did_own.parent_links did_own.stays did_own.others did_own.owners did_own.changes did_own.makes in
     let down = deeper cmp code old c.args.row c.args.depth left c.args.code E can.below at.0 at.1 at.2 at.3 c.in-Node.index spot less in
     let sub = can-below cmp code equal old left c.args.depth c.args.row c.args.code E key c.requires.code can at.0 at.1 at.2 at.3 there mid c.in-Node.index c.own_child-child.result spot less own in
     let spare : down.m + alike_in code c.args.code P ≤ mid.spare_nodes = omega (arith, c.requires.row.4, own.changes.trades.balance.spare_nodes, own.changes.trades.nodes, down.is, part-alike cmp code c.args.depth c.args.code E) in

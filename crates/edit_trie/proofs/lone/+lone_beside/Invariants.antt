@@ -1,4 +1,4 @@
-use Rattle.std.proofs.Common.{◌+◌, ◌-◌}
+use Rattle.std.proofs.Common.{◌-◌}
 use Rattle.elem_core.specs.declared.codes.TheConstants.{LEVELS}
 use Rattle.edit_trie.proofs.lone.+lone_beside.Given as goal
 

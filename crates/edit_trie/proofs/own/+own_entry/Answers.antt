@@ -15,7 +15,7 @@ use Rattle.edit_trie.specs.Spot.{IsSpot}
 use Rattle.edit_trie.specs.Walk.{HasPair}
 use Rattle.edit_trie.specs.declared.row.Spot.TheVariants.{Entry as EntryAt, Node as NodeAt, Empty as NoneAt}
 use Rattle.edit_trie.proofs.RowLemmas.{row-keyless, node-form, entry-inside, node-inside}
-use Rattle.edit_trie.proofs.ChildLemmas.{OwnsChild}
+use Rattle.edit_trie.proofs.ChildLemmas.{OwnsChild, owns-child}
 use Rattle.edit_trie.proofs.StepLemmas.{deeper, chain-at, in-part, not-empty, entry-at}
 use Rattle.edit_trie.proofs.OwnLemmas.{owns-entry, owns-chain, owns-node, can-below, pair-below}
 use Rattle.edit_trie.proofs.own.+own_entry.Goals as goal
@@ -27,9 +27,7 @@ spot_at-requires-clause-row g t c =
     let old = c.args.heap.now in
     let E = c.requires.row.0 in
     let left = c.requires.row.1 in
-    let x = c.requires.row.2 in
     let can = c.requires.row.3 in
-    let pair = c.requires.row.4 in
     let at = row-at cmp code (form_at old) left c.args.depth c.args.row E can.below.trie in
     (c.args.depth, at.0, at.1, at.2, at.3)
 
@@ -60,9 +58,7 @@ own_child-requires-clause-index g t c =
     let old = c.args.heap.now in
     let E = c.requires.row.0 in
     let left = c.requires.row.1 in
-    let x = c.requires.row.2 in
     let can = c.requires.row.3 in
-    let pair = c.requires.row.4 in
     let at = row-at cmp code (form_at old) left c.args.depth c.args.row E can.below.trie in
     let spot = subst (λ p. IsSpot at.0 at.1 p (EntryAt c.in-Entry.index)) c.digit.ensures.read (c.in-Entry.ensures.spot c.args.depth at.0 at.1 at.2 at.3) in
     entry-inside old c.args.row c.args.depth at.0 at.1 at.2 at.3 (digit_at c.args.code c.args.depth) c.in-Entry.index (omega arith) spot
@@ -98,9 +94,7 @@ own_in_chain-requires-clause-index g t c =
     let old = c.args.heap.now in
     let E = c.requires.row.0 in
     let left = c.requires.row.1 in
-    let x = c.requires.row.2 in
     let can = c.requires.row.3 in
-    let pair = c.requires.row.4 in
     let at = row-at cmp code (form_at old) left c.args.depth c.args.row E can.below.trie in
     let spot = subst (λ p. IsSpot at.0 at.1 p (NodeAt c.in-Node.index)) c.digit.ensures.read (c.in-Node.ensures.spot c.args.depth at.0 at.1 at.2 at.3) in
     node-inside old c.args.row c.args.depth at.0 at.1 at.2 at.3 (digit_at c.args.code c.args.depth) c.in-Node.index (omega arith) spot
@@ -132,9 +126,7 @@ own_child-child-requires-clause-index g t c =
     let old = c.args.heap.now in
     let E = c.requires.row.0 in
     let left = c.requires.row.1 in
-    let x = c.requires.row.2 in
     let can = c.requires.row.3 in
-    let pair = c.requires.row.4 in
     let at = row-at cmp code (form_at old) left c.args.depth c.args.row E can.below.trie in
     let spot = subst (λ p. IsSpot at.0 at.1 p (NodeAt c.in-Node.index)) c.digit.ensures.read (c.in-Node.ensures.spot c.args.depth at.0 at.1 at.2 at.3) in
     node-inside old c.args.row c.args.depth at.0 at.1 at.2 at.3 (digit_at c.args.code c.args.depth) c.in-Node.index (omega arith) spot
@@ -146,9 +138,7 @@ own_child-child-requires-clause-node g t c =
     let old = c.args.heap.now in
     let E = c.requires.row.0 in
     let left = c.requires.row.1 in
-    let x = c.requires.row.2 in
     let can = c.requires.row.3 in
-    let pair = c.requires.row.4 in
     let at = row-at cmp code (form_at old) left c.args.depth c.args.row E can.below.trie in
     let spot = subst (λ p. IsSpot at.0 at.1 p (NodeAt c.in-Node.index)) c.digit.ensures.read (c.in-Node.ensures.spot c.args.depth at.0 at.1 at.2 at.3) in
     let P = part cmp code c.args.depth (digit_at c.args.code c.args.depth) E in
@@ -172,20 +162,8 @@ own_entry-requires g t c κs within =
     let at = row-at cmp code (form_at old) left c.args.depth c.args.row E can.below.trie in
     let spot = subst (λ p. IsSpot at.0 at.1 p (NodeAt c.in-Node.index)) c.digit.ensures.read (c.in-Node.ensures.spot c.args.depth at.0 at.1 at.2 at.3) in
     let less : c.args.depth < DEEPEST = omega (arith, c.if-depth-eq-DEEPEST.false, c.requires.depth) in
-    let own : OwnsChild old c.own_child-child.new.self c.args.row c.in-Node.index c.own_child-child.result = record {
-      inside = node-inside old c.args.row c.args.depth at.0 at.1 at.2 at.3 (digit_at c.args.code c.args.depth) c.in-Node.index (omega arith) spot;
-      same = c.own_child-child.ensures.same;
-      row = c.own_child-child.ensures.row;
-      sole = c.own_child-child.ensures.sole;
-      fresh = c.own_child-child.ensures.fresh;
-      head = c.own_child-child.ensures.parent_head;
-      links = c.own_child-child.ensures.parent_links;
-      stays = c.own_child-child.ensures.stays;
-      others = c.own_child-child.ensures.others;
-      owners = c.own_child-child.ensures.owners;
-      changes = c.own_child-child.ensures.changes;
-      makes = c.own_child-child.ensures.makes;
-    } in
+    let did_own = c.own_child-child.ensures in
+    let own : OwnsChild old c.own_child-child.new.self c.args.row c.in-Node.index c.own_child-child.result = owns-child (node-inside old c.args.row c.args.depth at.0 at.1 at.2 at.3 (digit_at c.args.code c.args.depth) c.in-Node.index (omega arith) spot) did_own.same did_own.row did_own.sole did_own.fresh did_own.parent_head did_own.parent_links did_own.stays did_own.others did_own.owners did_own.changes did_own.makes in
     let mid = c.own_child-child.new.self in
     let P = part cmp code c.args.depth (digit_at c.args.code c.args.depth) E in
     let down = deeper cmp code old c.args.row c.args.depth left c.args.code E can.below at.0 at.1 at.2 at.3 c.in-Node.index spot less in
@@ -203,20 +181,8 @@ returns-in-Entry g t c = λ E left x can pair.
     let key = g.P.Probe.stands_for c.args.key.now in
     let at = row-at cmp code (form_at old) left c.args.depth c.args.row E can.below.trie in
     let spot = subst (λ p. IsSpot at.0 at.1 p (EntryAt c.in-Entry.index)) c.digit.ensures.read (c.in-Entry.ensures.spot c.args.depth at.0 at.1 at.2 at.3) in
-    let own : OwnsChild old c.own_child.new.self c.args.row c.in-Entry.index c.own_child.result = record {
-      inside = entry-inside old c.args.row c.args.depth at.0 at.1 at.2 at.3 (digit_at c.args.code c.args.depth) c.in-Entry.index (omega arith) spot;
-      same = c.own_child.ensures.same;
-      row = c.own_child.ensures.row;
-      sole = c.own_child.ensures.sole;
-      fresh = c.own_child.ensures.fresh;
-      head = c.own_child.ensures.parent_head;
-      links = c.own_child.ensures.parent_links;
-      stays = c.own_child.ensures.stays;
-      others = c.own_child.ensures.others;
-      owners = c.own_child.ensures.owners;
-      changes = c.own_child.ensures.changes;
-      makes = c.own_child.ensures.makes;
-    } in
+    let did_own = c.own_child.ensures in
+    let own : OwnsChild old c.own_child.new.self c.args.row c.in-Entry.index c.own_child.result = owns-child (entry-inside old c.args.row c.args.depth at.0 at.1 at.2 at.3 (digit_at c.args.code c.args.depth) c.in-Entry.index (omega arith) spot) did_own.same did_own.row did_own.sole did_own.fresh did_own.parent_head did_own.parent_links did_own.stays did_own.others did_own.owners did_own.changes did_own.makes in
     owns-entry cmp code g.met.T.Ord.total equal old left c.args.depth c.args.row c.args.code E key x c.requires.code can pair at.0 at.1 at.2 at.3 c.in-Entry.index c.own_child.new.self c.own_child.result spot own
 
 pub returns-then-depth-eq-DEEPEST : goal.returns-then-depth-eq-DEEPEST
@@ -244,20 +210,8 @@ returns-else-depth-eq-DEEPEST g t c = λ E left x can pair.
     let at = row-at cmp code (form_at old) left c.args.depth c.args.row E can.below.trie in
     let spot = subst (λ p. IsSpot at.0 at.1 p (NodeAt c.in-Node.index)) c.digit.ensures.read (c.in-Node.ensures.spot c.args.depth at.0 at.1 at.2 at.3) in
     let less : c.args.depth < DEEPEST = omega (arith, c.if-depth-eq-DEEPEST.false, c.requires.depth) in
-    let own : OwnsChild old c.own_child-child.new.self c.args.row c.in-Node.index c.own_child-child.result = record {
-      inside = node-inside old c.args.row c.args.depth at.0 at.1 at.2 at.3 (digit_at c.args.code c.args.depth) c.in-Node.index (omega arith) spot;
-      same = c.own_child-child.ensures.same;
-      row = c.own_child-child.ensures.row;
-      sole = c.own_child-child.ensures.sole;
-      fresh = c.own_child-child.ensures.fresh;
-      head = c.own_child-child.ensures.parent_head;
-      links = c.own_child-child.ensures.parent_links;
-      stays = c.own_child-child.ensures.stays;
-      others = c.own_child-child.ensures.others;
-      owners = c.own_child-child.ensures.owners;
-      changes = c.own_child-child.ensures.changes;
-      makes = c.own_child-child.ensures.makes;
-    } in
+    let did_own = c.own_child-child.ensures in
+    let own : OwnsChild old c.own_child-child.new.self c.args.row c.in-Node.index c.own_child-child.result = owns-child (node-inside old c.args.row c.args.depth at.0 at.1 at.2 at.3 (digit_at c.args.code c.args.depth) c.in-Node.index (omega arith) spot) did_own.same did_own.row did_own.sole did_own.fresh did_own.parent_head did_own.parent_links did_own.stays did_own.others did_own.owners did_own.changes did_own.makes in
     let P = part cmp code c.args.depth (digit_at c.args.code c.args.depth) E in
     let mid = c.own_child-child.new.self in
     let down = deeper cmp code old c.args.row c.args.depth left c.args.code E can.below at.0 at.1 at.2 at.3 c.in-Node.index spot less in

@@ -16,7 +16,7 @@ use Rattle.champ_trie.proofs.ShareLemmas.{row-at}
 use Rattle.edit_trie.specs.Spot.{IsSpot, PutsAt}
 use Rattle.edit_trie.specs.declared.row.Spot.TheVariants.{Node as NodeAt, Empty as NoneAt}
 use Rattle.edit_trie.proofs.RowLemmas.{row-keyless, node-form, node-inside}
-use Rattle.edit_trie.proofs.ChildLemmas.{OwnsChild}
+use Rattle.edit_trie.proofs.ChildLemmas.{OwnsChild, owns-child}
 use Rattle.edit_trie.proofs.StepLemmas.{deeper, chain-at}
 use Rattle.edit_trie.proofs.PutLemmas.{absent-part, puts-none, puts-chain, puts-node, can-below, keyed-below, held-below, apart-below}
 use Rattle.edit_trie.proofs.put.+put_below.Goals as goal
@@ -28,11 +28,7 @@ spot_at-requires-clause-row g t c =
     let old = c.args.heap.now in
     let E = c.requires.row.0 in
     let left = c.requires.row.1 in
-    let key = c.requires.row.2 in
     let can = c.requires.row.3 in
-    let keyed = c.requires.row.4 in
-    let is_code = c.requires.row.5 in
-    let absent = c.requires.row.6 in
     let d : ℕ = c.args.depth in
     let at = row-at cmp code (form_at old) left d c.args.row E can.below.trie in
     (d, at.0, at.1, at.2, at.3)
@@ -44,11 +40,7 @@ put_entry-requires-clause-row g t c =
     let old = c.args.heap.now in
     let E = c.requires.row.0 in
     let left = c.requires.row.1 in
-    let key = c.requires.row.2 in
     let can = c.requires.row.3 in
-    let keyed = c.requires.row.4 in
-    let is_code = c.requires.row.5 in
-    let absent = c.requires.row.6 in
     let d : ℕ = c.args.depth in
     let at = row-at cmp code (form_at old) left d c.args.row E can.below.trie in
     let spot = subst (λ p. IsSpot at.0 at.1 p NoneAt) c.digit.ensures.read (c.in-Empty.ensures.spot d at.0 at.1 at.2 at.3) in
@@ -64,11 +56,7 @@ put_in_chain-requires-clause-keyless g t c =
     let old = c.args.heap.now in
     let E = c.requires.row.0 in
     let left = c.requires.row.1 in
-    let key = c.requires.row.2 in
     let can = c.requires.row.3 in
-    let keyed = c.requires.row.4 in
-    let is_code = c.requires.row.5 in
-    let absent = c.requires.row.6 in
     let d : ℕ = c.args.depth in
     let at = row-at cmp code (form_at old) left d c.args.row E can.below.trie in
     row-keyless (form_at old) c.args.row d at.0 at.1 at.2 at.3
@@ -80,11 +68,7 @@ put_in_chain-requires-clause-index g t c =
     let old = c.args.heap.now in
     let E = c.requires.row.0 in
     let left = c.requires.row.1 in
-    let key = c.requires.row.2 in
     let can = c.requires.row.3 in
-    let keyed = c.requires.row.4 in
-    let is_code = c.requires.row.5 in
-    let absent = c.requires.row.6 in
     let d : ℕ = c.args.depth in
     let at = row-at cmp code (form_at old) left d c.args.row E can.below.trie in
     let spot = subst (λ p. IsSpot at.0 at.1 p (NodeAt c.in-Node.index)) c.digit.ensures.read (c.in-Node.ensures.spot d at.0 at.1 at.2 at.3) in
@@ -120,11 +104,7 @@ own_child-child-requires-clause-index g t c =
     let old = c.args.heap.now in
     let E = c.requires.row.0 in
     let left = c.requires.row.1 in
-    let key = c.requires.row.2 in
     let can = c.requires.row.3 in
-    let keyed = c.requires.row.4 in
-    let is_code = c.requires.row.5 in
-    let absent = c.requires.row.6 in
     let d : ℕ = c.args.depth in
     let at = row-at cmp code (form_at old) left d c.args.row E can.below.trie in
     let spot = subst (λ p. IsSpot at.0 at.1 p (NodeAt c.in-Node.index)) c.digit.ensures.read (c.in-Node.ensures.spot d at.0 at.1 at.2 at.3) in
@@ -137,11 +117,7 @@ own_child-child-requires-clause-node g t c =
     let old = c.args.heap.now in
     let E = c.requires.row.0 in
     let left = c.requires.row.1 in
-    let key = c.requires.row.2 in
     let can = c.requires.row.3 in
-    let keyed = c.requires.row.4 in
-    let is_code = c.requires.row.5 in
-    let absent = c.requires.row.6 in
     let d : ℕ = c.args.depth in
     let at = row-at cmp code (form_at old) left d c.args.row E can.below.trie in
     let spot = subst (λ p. IsSpot at.0 at.1 p (NodeAt c.in-Node.index)) c.digit.ensures.read (c.in-Node.ensures.spot d at.0 at.1 at.2 at.3) in
@@ -171,20 +147,7 @@ put_below-requires g t c κs within =
     let less : c.args.depth < DEEPEST = omega (arith, c.if-depth-eq-DEEPEST.false, c.requires.depth) in
     let mid = c.own_child-child.new.self in
     let did = c.own_child-child.ensures in
-    let own : OwnsChild old mid c.args.row c.in-Node.index c.own_child-child.result = record {
-      inside = node-inside old c.args.row d at.0 at.1 at.2 at.3 (digit_at c.args.code d) c.in-Node.index (omega arith) spot;
-      same = did.same;
-      row = did.row;
-      sole = did.sole;
-      fresh = did.fresh;
-      head = did.parent_head;
-      links = did.parent_links;
-      stays = did.stays;
-      others = did.others;
-      owners = did.owners;
-      changes = did.changes;
-      makes = did.makes;
-    } in
+    let own : OwnsChild old mid c.args.row c.in-Node.index c.own_child-child.result = owns-child (node-inside old c.args.row d at.0 at.1 at.2 at.3 (digit_at c.args.code d) c.in-Node.index (omega arith) spot) did.same did.row did.sole did.fresh did.parent_head did.parent_links did.stays did.others did.owners did.changes did.makes in
     let down = deeper cmp code old c.args.row d left c.args.code E can.below at.0 at.1 at.2 at.3 c.in-Node.index spot less in
     let sub = can-below cmp code equal old left d c.args.row c.args.code E key c.args.entry is_code can at.0 at.1 at.2 at.3 mid c.in-Node.index c.own_child-child.result spot less own c.requires.held c.requires.apart in
     let keyed' = keyed-below cmp code equal old left d c.args.row c.args.code E key c.args.entry is_code can at.0 at.1 at.2 at.3 mid c.in-Node.index c.own_child-child.result spot less own c.requires.held c.requires.apart keyed in
@@ -234,19 +197,6 @@ returns-else-depth-eq-DEEPEST g t c = λ E left key can keyed is_code absent.
     let less : c.args.depth < DEEPEST = omega (arith, c.if-depth-eq-DEEPEST.false, c.requires.depth) in
     let mid = c.own_child-child.new.self in
     let did = c.own_child-child.ensures in
-    let own : OwnsChild old mid c.args.row c.in-Node.index c.own_child-child.result = record {
-      inside = node-inside old c.args.row d at.0 at.1 at.2 at.3 (digit_at c.args.code d) c.in-Node.index (omega arith) spot;
-      same = did.same;
-      row = did.row;
-      sole = did.sole;
-      fresh = did.fresh;
-      head = did.parent_head;
-      links = did.parent_links;
-      stays = did.stays;
-      others = did.others;
-      owners = did.owners;
-      changes = did.changes;
-      makes = did.makes;
-    } in
+    let own : OwnsChild old mid c.args.row c.in-Node.index c.own_child-child.result = owns-child (node-inside old c.args.row d at.0 at.1 at.2 at.3 (digit_at c.args.code d) c.in-Node.index (omega arith) spot) did.same did.row did.sole did.fresh did.parent_head did.parent_links did.stays did.others did.owners did.changes did.makes in
     let down = deeper cmp code old c.args.row d left c.args.code E can.below at.0 at.1 at.2 at.3 c.in-Node.index spot less in
     puts-node cmp code equal old left d c.args.row c.args.code E key c.args.entry is_code can at.0 at.1 at.2 at.3 mid c.in-Node.index c.own_child-child.result spot less own c.requires.held c.requires.apart c.put_below.new.heap (c.put_below.ensures P down.m key (can-below cmp code equal old left d c.args.row c.args.code E key c.args.entry is_code can at.0 at.1 at.2 at.3 mid c.in-Node.index c.own_child-child.result spot less own c.requires.held c.requires.apart) (keyed-below cmp code equal old left d c.args.row c.args.code E key c.args.entry is_code can at.0 at.1 at.2 at.3 mid c.in-Node.index c.own_child-child.result spot less own c.requires.held c.requires.apart keyed) is_code (absent-part cmp code equal old left d c.args.row c.args.code E key c.args.entry is_code can at.0 at.1 at.2 at.3 absent))

@@ -1,15 +1,31 @@
-use Rattle.std.proofs.Common.{arith, ◌≡◌, ℕ, ◌∙◌, ap, subst, get_or}
+use Rattle.std.proofs.Common.{arith, ◌≡◌, ℕ, List, ◌∙◌, ap, subst, get_or}
 use Rattle.std.specs.declared.cmp.Ordering.TheVariants.{Equal}
 use Rattle.elem_core.specs.Codes.{digit_at, masked_code}
 use Rattle.node_heap.specs.Heap.{form_at}
 use Rattle.champ_chain.proofs.WithLemmas.{key-some}
 use Rattle.champ_trie.specs.Bits.{has, rank}
-use Rattle.champ_trie.specs.Trie.{code_by, place_of}
+use Rattle.champ_trie.specs.Trie.{IsRow, code_by, place_of}
 use Rattle.champ_trie.specs.declared.place.Place.TheVariants.{Node, Empty}
 use Rattle.champ_trie.proofs.ShareLemmas.{row-at}
 use Rattle.edit_trie.specs.Spot.{PutsAt}
 use Rattle.edit_trie.proofs.SplitLemmas.{TakesEntry, al, keyed-cut, other-cut, keys-cut, other-key, codes-cut, spare-cut, is-built, sole-built, held-built, apart-built, puts-split}
+use Rattle.edit_trie.proofs.put.split.Given.{Over}
 use Rattle.edit_trie.proofs.put.split.Goals as goal
+use Rattle.edit_trie.proofs.put.split.Goals.{After-take_entry-old}
+
+-- the entry that stood there was taken out
+took-entry : (g : Over) (c : After-take_entry-old g) {e n : ℕ} {ls : List ℕ} → IsRow (form_at c.args.heap.now) c.args.row c.args.depth e n ls → TakesEntry c.args.heap.now c.take_entry-old.new.heap c.args.row c.args.depth e n ls (digit_at c.args.code c.args.depth) c.take_entry-old.result
+took-entry g c {e} {n} {ls} is =
+    let did = c.take_entry-old.ensures in
+    let read = c.digit-position.ensures.read in
+    record {
+      given = did.taken e n ls is ∙ ap (λ p. get_or ls (rank e p) 0) read;
+      puts = subst (λ p. PutsAt (form_at c.take_entry-old.new.heap) c.args.row c.args.depth e n ls p Empty) read (did.puts e n ls is);
+      others = did.others;
+      owners = did.owners;
+      changes = did.changes;
+      gains = did.gains;
+    }
 
 pub take_entry-old-requires-clause-row : goal.take_entry-old-requires-clause-row
 take_entry-old-requires-clause-row g c =
@@ -18,11 +34,7 @@ take_entry-old-requires-clause-row g c =
     let old = c.args.heap.now in
     let E = c.requires.row.0 in
     let left = c.requires.row.1 in
-    let key = c.requires.row.2 in
     let can = c.requires.row.3 in
-    let keyed = c.requires.row.4 in
-    let is_code = c.requires.row.5 in
-    let absent = c.requires.row.6 in
     let d : ℕ = c.args.depth in
     let at = row-at cmp code (form_at old) left d c.args.row E can.below.trie in
     (at.0, at.1, at.2, at.3, ap (λ p. has at.0 p) c.digit-position.ensures.read ∙ c.requires.spot d at.0 at.1 at.2 at.3)
@@ -45,16 +57,7 @@ key_of-requires g c =
     let y = c.take_entry-old.result in
     let cut = c.take_entry-old.new.heap in
     let had = c.requires.spot d at.0 at.1 at.2 at.3 in
-    let read = c.digit-position.ensures.read in
-    let did = c.take_entry-old.ensures in
-    let took : TakesEntry old cut c.args.row d at.0 at.1 at.2 (digit_at c.args.code d) y = record {
-      given = did.taken at.0 at.1 at.2 at.3 ∙ ap (λ p. get_or at.2 (rank at.0 p) 0) read;
-      puts = subst (λ p. PutsAt (form_at cut) c.args.row d at.0 at.1 at.2 p Empty) read (did.puts at.0 at.1 at.2 at.3);
-      others = did.others;
-      owners = did.owners;
-      changes = did.changes;
-      gains = did.gains;
-    } in
+    let took = took-entry g (goal.at.key_of-requires g c).After-take_entry-old at.3 in
     let one = al cmp code equal old left d c.args.row c.args.code E key c.args.entry is_code can keyed absent at.0 at.1 at.2 at.3 had cut y took in
     key-some cut y one.key (other-cut cmp code equal old left d c.args.row c.args.code E key c.args.entry is_code can keyed absent at.0 at.1 at.2 at.3 had cut y took)
 
@@ -76,16 +79,7 @@ node_of_two-node-requires-clause-keys g c =
     let y = c.take_entry-old.result in
     let cut = c.take_entry-old.new.heap in
     let had = c.requires.spot d at.0 at.1 at.2 at.3 in
-    let read = c.digit-position.ensures.read in
-    let did = c.take_entry-old.ensures in
-    let took : TakesEntry old cut c.args.row d at.0 at.1 at.2 (digit_at c.args.code d) y = record {
-      given = did.taken at.0 at.1 at.2 at.3 ∙ ap (λ p. get_or at.2 (rank at.0 p) 0) read;
-      puts = subst (λ p. PutsAt (form_at cut) c.args.row d at.0 at.1 at.2 p Empty) read (did.puts at.0 at.1 at.2 at.3);
-      others = did.others;
-      owners = did.owners;
-      changes = did.changes;
-      gains = did.gains;
-    } in
+    let took = took-entry g (goal.at.node_of_two-node-requires-clause-keys g c).After-take_entry-old at.3 in
     keys-cut cmp code equal old left d c.args.row c.args.code E key c.args.entry is_code can keyed absent at.0 at.1 at.2 at.3 had cut y took
 
 pub node_of_two-node-requires-clause-codes : goal.node_of_two-node-requires-clause-codes
@@ -106,16 +100,7 @@ node_of_two-node-requires-clause-codes g c =
     let y = c.take_entry-old.result in
     let cut = c.take_entry-old.new.heap in
     let had = c.requires.spot d at.0 at.1 at.2 at.3 in
-    let read = c.digit-position.ensures.read in
-    let did = c.take_entry-old.ensures in
-    let took : TakesEntry old cut c.args.row d at.0 at.1 at.2 (digit_at c.args.code d) y = record {
-      given = did.taken at.0 at.1 at.2 at.3 ∙ ap (λ p. get_or at.2 (rank at.0 p) 0) read;
-      puts = subst (λ p. PutsAt (form_at cut) c.args.row d at.0 at.1 at.2 p Empty) read (did.puts at.0 at.1 at.2 at.3);
-      others = did.others;
-      owners = did.owners;
-      changes = did.changes;
-      gains = did.gains;
-    } in
+    let took = took-entry g (goal.at.node_of_two-node-requires-clause-codes g c).After-take_entry-old at.3 in
     let one = al cmp code equal old left d c.args.row c.args.code E key c.args.entry is_code can keyed absent at.0 at.1 at.2 at.3 had cut y took in
     let old_code : c.masked-old_code.result ≡ code one.key = c.masked-old_code.ensures.kept ∙ ap (λ n. masked_code n c.args.bits) (c.code.ensures ∙ ap g.T.Element.code_of (other-key cmp code equal old left d c.args.row c.args.code E key c.args.entry is_code can keyed absent at.0 at.1 at.2 at.3 had cut y took c.key_of.result.now c.key_of.ensures)) in
     codes-cut cmp code equal old left d c.args.row c.args.code E key c.args.entry is_code can keyed absent at.0 at.1 at.2 at.3 had cut y took c.masked-old_code.result old_code
@@ -138,16 +123,7 @@ node_of_two-node-requires-clause-spare g c =
     let y = c.take_entry-old.result in
     let cut = c.take_entry-old.new.heap in
     let had = c.requires.spot d at.0 at.1 at.2 at.3 in
-    let read = c.digit-position.ensures.read in
-    let did = c.take_entry-old.ensures in
-    let took : TakesEntry old cut c.args.row d at.0 at.1 at.2 (digit_at c.args.code d) y = record {
-      given = did.taken at.0 at.1 at.2 at.3 ∙ ap (λ p. get_or at.2 (rank at.0 p) 0) read;
-      puts = subst (λ p. PutsAt (form_at cut) c.args.row d at.0 at.1 at.2 p Empty) read (did.puts at.0 at.1 at.2 at.3);
-      others = did.others;
-      owners = did.owners;
-      changes = did.changes;
-      gains = did.gains;
-    } in
+    let took = took-entry g (goal.at.node_of_two-node-requires-clause-spare g c).After-take_entry-old at.3 in
     let one = al cmp code equal old left d c.args.row c.args.code E key c.args.entry is_code can keyed absent at.0 at.1 at.2 at.3 had cut y took in
     let old_code : c.masked-old_code.result ≡ code one.key = c.masked-old_code.ensures.kept ∙ ap (λ n. masked_code n c.args.bits) (c.code.ensures ∙ ap g.T.Element.code_of (other-key cmp code equal old left d c.args.row c.args.code E key c.args.entry is_code can keyed absent at.0 at.1 at.2 at.3 had cut y took c.key_of.result.now c.key_of.ensures)) in
     spare-cut cmp code equal old left d c.args.row c.args.code E key c.args.entry is_code can keyed absent at.0 at.1 at.2 at.3 had cut y took c.masked-old_code.result old_code c.requires.row.7
@@ -171,15 +147,7 @@ put_node-requires-clause-row g c =
     let cut = c.take_entry-old.new.heap in
     let had = c.requires.spot d at.0 at.1 at.2 at.3 in
     let read = c.digit-position.ensures.read in
-    let did = c.take_entry-old.ensures in
-    let took : TakesEntry old cut c.args.row d at.0 at.1 at.2 (digit_at c.args.code d) y = record {
-      given = did.taken at.0 at.1 at.2 at.3 ∙ ap (λ p. get_or at.2 (rank at.0 p) 0) read;
-      puts = subst (λ p. PutsAt (form_at cut) c.args.row d at.0 at.1 at.2 p Empty) read (did.puts at.0 at.1 at.2 at.3);
-      others = did.others;
-      owners = did.owners;
-      changes = did.changes;
-      gains = did.gains;
-    } in
+    let took = took-entry g (goal.at.put_node-requires-clause-row g c).After-take_entry-old at.3 in
     let one = al cmp code equal old left d c.args.row c.args.code E key c.args.entry is_code can keyed absent at.0 at.1 at.2 at.3 had cut y took in
     let old_code : c.masked-old_code.result ≡ code one.key = c.masked-old_code.ensures.kept ∙ ap (λ n. masked_code n c.args.bits) (c.code.ensures ∙ ap g.T.Element.code_of (other-key cmp code equal old left d c.args.row c.args.code E key c.args.entry is_code can keyed absent at.0 at.1 at.2 at.3 had cut y took c.key_of.result.now c.key_of.ensures)) in
     let more = c.node_of_two-node.ensures in
@@ -204,16 +172,7 @@ put_node-requires-clause-sole g c =
     let y = c.take_entry-old.result in
     let cut = c.take_entry-old.new.heap in
     let had = c.requires.spot d at.0 at.1 at.2 at.3 in
-    let read = c.digit-position.ensures.read in
-    let did = c.take_entry-old.ensures in
-    let took : TakesEntry old cut c.args.row d at.0 at.1 at.2 (digit_at c.args.code d) y = record {
-      given = did.taken at.0 at.1 at.2 at.3 ∙ ap (λ p. get_or at.2 (rank at.0 p) 0) read;
-      puts = subst (λ p. PutsAt (form_at cut) c.args.row d at.0 at.1 at.2 p Empty) read (did.puts at.0 at.1 at.2 at.3);
-      others = did.others;
-      owners = did.owners;
-      changes = did.changes;
-      gains = did.gains;
-    } in
+    let took = took-entry g (goal.at.put_node-requires-clause-sole g c).After-take_entry-old at.3 in
     let one = al cmp code equal old left d c.args.row c.args.code E key c.args.entry is_code can keyed absent at.0 at.1 at.2 at.3 had cut y took in
     let old_code : c.masked-old_code.result ≡ code one.key = c.masked-old_code.ensures.kept ∙ ap (λ n. masked_code n c.args.bits) (c.code.ensures ∙ ap g.T.Element.code_of (other-key cmp code equal old left d c.args.row c.args.code E key c.args.entry is_code can keyed absent at.0 at.1 at.2 at.3 had cut y took c.key_of.result.now c.key_of.ensures)) in
     let more = c.node_of_two-node.ensures in
@@ -238,16 +197,7 @@ put_node-requires-clause-held g c =
     let y = c.take_entry-old.result in
     let cut = c.take_entry-old.new.heap in
     let had = c.requires.spot d at.0 at.1 at.2 at.3 in
-    let read = c.digit-position.ensures.read in
-    let did = c.take_entry-old.ensures in
-    let took : TakesEntry old cut c.args.row d at.0 at.1 at.2 (digit_at c.args.code d) y = record {
-      given = did.taken at.0 at.1 at.2 at.3 ∙ ap (λ p. get_or at.2 (rank at.0 p) 0) read;
-      puts = subst (λ p. PutsAt (form_at cut) c.args.row d at.0 at.1 at.2 p Empty) read (did.puts at.0 at.1 at.2 at.3);
-      others = did.others;
-      owners = did.owners;
-      changes = did.changes;
-      gains = did.gains;
-    } in
+    let took = took-entry g (goal.at.put_node-requires-clause-held g c).After-take_entry-old at.3 in
     let one = al cmp code equal old left d c.args.row c.args.code E key c.args.entry is_code can keyed absent at.0 at.1 at.2 at.3 had cut y took in
     let old_code : c.masked-old_code.result ≡ code one.key = c.masked-old_code.ensures.kept ∙ ap (λ n. masked_code n c.args.bits) (c.code.ensures ∙ ap g.T.Element.code_of (other-key cmp code equal old left d c.args.row c.args.code E key c.args.entry is_code can keyed absent at.0 at.1 at.2 at.3 had cut y took c.key_of.result.now c.key_of.ensures)) in
     let more = c.node_of_two-node.ensures in
@@ -272,16 +222,7 @@ put_node-requires-clause-apart g c =
     let y = c.take_entry-old.result in
     let cut = c.take_entry-old.new.heap in
     let had = c.requires.spot d at.0 at.1 at.2 at.3 in
-    let read = c.digit-position.ensures.read in
-    let did = c.take_entry-old.ensures in
-    let took : TakesEntry old cut c.args.row d at.0 at.1 at.2 (digit_at c.args.code d) y = record {
-      given = did.taken at.0 at.1 at.2 at.3 ∙ ap (λ p. get_or at.2 (rank at.0 p) 0) read;
-      puts = subst (λ p. PutsAt (form_at cut) c.args.row d at.0 at.1 at.2 p Empty) read (did.puts at.0 at.1 at.2 at.3);
-      others = did.others;
-      owners = did.owners;
-      changes = did.changes;
-      gains = did.gains;
-    } in
+    let took = took-entry g (goal.at.put_node-requires-clause-apart g c).After-take_entry-old at.3 in
     let one = al cmp code equal old left d c.args.row c.args.code E key c.args.entry is_code can keyed absent at.0 at.1 at.2 at.3 had cut y took in
     let old_code : c.masked-old_code.result ≡ code one.key = c.masked-old_code.ensures.kept ∙ ap (λ n. masked_code n c.args.bits) (c.code.ensures ∙ ap g.T.Element.code_of (other-key cmp code equal old left d c.args.row c.args.code E key c.args.entry is_code can keyed absent at.0 at.1 at.2 at.3 had cut y took c.key_of.result.now c.key_of.ensures)) in
     let more = c.node_of_two-node.ensures in
@@ -300,15 +241,7 @@ returns g c = λ E left key can keyed is_code absent.
     let cut = c.take_entry-old.new.heap in
     let had = c.requires.spot d at.0 at.1 at.2 at.3 in
     let read = c.digit-position.ensures.read in
-    let did = c.take_entry-old.ensures in
-    let took : TakesEntry old cut c.args.row d at.0 at.1 at.2 (digit_at c.args.code d) y = record {
-      given = did.taken at.0 at.1 at.2 at.3 ∙ ap (λ p. get_or at.2 (rank at.0 p) 0) read;
-      puts = subst (λ p. PutsAt (form_at cut) c.args.row d at.0 at.1 at.2 p Empty) read (did.puts at.0 at.1 at.2 at.3);
-      others = did.others;
-      owners = did.owners;
-      changes = did.changes;
-      gains = did.gains;
-    } in
+    let took = took-entry g (goal.at.returns g c).After-take_entry-old at.3 in
     let one = al cmp code equal old left d c.args.row c.args.code E key c.args.entry is_code can keyed absent at.0 at.1 at.2 at.3 had cut y took in
     let old_code : c.masked-old_code.result ≡ code one.key = c.masked-old_code.ensures.kept ∙ ap (λ n. masked_code n c.args.bits) (c.code.ensures ∙ ap g.T.Element.code_of (other-key cmp code equal old left d c.args.row c.args.code E key c.args.entry is_code can keyed absent at.0 at.1 at.2 at.3 had cut y took c.key_of.result.now c.key_of.ensures)) in
     let more = c.node_of_two-node.ensures in

@@ -1,7 +1,7 @@
-use Rattle.std.proofs.Common.{◌≡◌, ◌<◌, ap, sym, subst, ◌∙◌, arith}
+use Rattle.std.proofs.Common.{◌≡◌, ap, sym, subst, ◌∙◌, arith}
 use Rattle.elem_core.specs.declared.codes.TheConstants.{DEEPEST}
 use Rattle.node_heap.specs.Forms.{is_node}
-use Rattle.node_heap.specs.Heap.{row_at, form_at, holds_at}
+use Rattle.node_heap.specs.Heap.{row_at, form_at}
 use Rattle.node_heap.specs.Owner.{by_hold}
 use Rattle.node_heap.proofs.Frames.{Extends-trans}
 use Rattle.champ_trie.specs.Trie.{code_by}
@@ -13,7 +13,20 @@ use Rattle.edit_trie.proofs.RowLemmas.{node-form}
 use Rattle.node_heap.proofs.OwnedRows.{IsOwned, owns, owned-hold, after-room}
 use Rattle.edit_trie.proofs.OwnTop.{map-top, edits-top}
 use Rattle.edit_trie.proofs.MapLemmas.{entries-owned}
+use Rattle.edit_trie.proofs.edit.TrieEdit.open.Given.{Over}
 use Rattle.edit_trie.proofs.edit.TrieEdit.open.Goals as goal
+use Rattle.edit_trie.proofs.edit.TrieEdit.open.Goals.{After-own-root}
+
+-- the root was made the edit's own
+module _ (g : Over) (c : After-own-root g) where
+  own : IsOwned (by_hold c.args.map.root) c.args.heap.now c.own-root.new.self c.own-root.result
+  own =
+      let did = c.own-root.ensures in
+      let room = c.in-Ok.ensures.rest in
+      after-room room (owned-hold (owns c.into_root.ensures room.graph (omega (arith, c.requires.held, room.holds c.args.map.root)) did.same did.row did.sole did.fresh did.owners did.builds did.makes))
+
+  bits-same : c.bits-bits.result ≡ c.args.map.bits
+  bits-same = c.bits-bits.ensures ∙ ap (λ (q : Root). q.bits) c.view.ensures
 
 pub own-root-requires-clause-node : goal.own-root-requires-clause-node
 own-root-requires-clause-node g c =
@@ -23,34 +36,19 @@ own-root-requires-clause-node g c =
 
 pub returns-clause-contents : goal.returns-clause-contents
 returns-clause-contents g c = λ M is.
-    let did = c.own-root.ensures in
-    let room = c.in-Ok.ensures.rest in
-    let held : 0 < holds_at c.reserve.new.self c.args.map.root = omega (arith, c.requires.held, room.holds c.args.map.root) in
-    let own : IsOwned (by_hold c.args.map.root) c.args.heap.now c.own-root.new.self c.own-root.result =
-    after-room room (owned-hold (owns c.into_root.ensures room.graph held did.same did.row did.sole did.fresh did.owners did.builds did.makes)) in
-    let bits : c.bits-bits.result ≡ c.args.map.bits = c.bits-bits.ensures ∙ ap (λ (q : Root). q.bits) c.view.ensures in
-    subst (λ b. IsMapOf g.T.Ord.cmp g.T.Element.code_of c.own-root.new.self (by_bits b c.own-root.result) M) (sym bits)
-    (map-top g.T.Ord.cmp g.T.Element.code_of (by_hold c.args.map.root) c.args.map.bits c.args.heap.now c.own-root.new.self c.own-root.result own M is)
+    let at = (goal.at.returns-clause-contents g c).After-own-root in
+    subst (λ b. IsMapOf g.T.Ord.cmp g.T.Element.code_of c.own-root.new.self (by_bits b c.own-root.result) M) (sym (bits-same g at))
+    (map-top g.T.Ord.cmp g.T.Element.code_of (by_hold c.args.map.root) c.args.map.bits c.args.heap.now c.own-root.new.self c.own-root.result (own g at) M is)
 
 pub returns-clause-entries : goal.returns-clause-entries
 returns-clause-entries g c = λ E is.
-    let did = c.own-root.ensures in
-    let room = c.in-Ok.ensures.rest in
-    let held : 0 < holds_at c.reserve.new.self c.args.map.root = omega (arith, c.requires.held, room.holds c.args.map.root) in
-    let own : IsOwned (by_hold c.args.map.root) c.args.heap.now c.own-root.new.self c.own-root.result =
-    after-room room (owned-hold (owns c.into_root.ensures room.graph held did.same did.row did.sole did.fresh did.owners did.builds did.makes)) in
-    let bits : c.bits-bits.result ≡ c.args.map.bits = c.bits-bits.ensures ∙ ap (λ (q : Root). q.bits) c.view.ensures in
-    subst (λ b. HasEntries g.T.Ord.cmp g.T.Element.code_of c.own-root.new.self (by_bits b c.own-root.result) E) (sym bits)
-    (entries-owned g.T.Ord.cmp g.T.Element.code_of (by_hold c.args.map.root) c.args.map.bits c.args.heap.now c.own-root.new.self c.own-root.result own E is)
+    let at = (goal.at.returns-clause-entries g c).After-own-root in
+    subst (λ b. HasEntries g.T.Ord.cmp g.T.Element.code_of c.own-root.new.self (by_bits b c.own-root.result) E) (sym (bits-same g at))
+    (entries-owned g.T.Ord.cmp g.T.Element.code_of (by_hold c.args.map.root) c.args.map.bits c.args.heap.now c.own-root.new.self c.own-root.result (own g at) E is)
 
 pub returns-clause-edits : goal.returns-clause-edits
 returns-clause-edits g c =
-    let did = c.own-root.ensures in
-    let room = c.in-Ok.ensures.rest in
-    let held : 0 < holds_at c.reserve.new.self c.args.map.root = omega (arith, c.requires.held, room.holds c.args.map.root) in
-    let own : IsOwned (by_hold c.args.map.root) c.args.heap.now c.own-root.new.self c.own-root.result =
-    after-room room (owned-hold (owns c.into_root.ensures room.graph held did.same did.row did.sole did.fresh did.owners did.builds did.makes)) in
-    edits-top g.T.Ord.cmp g.T.Element.code_of (by_hold c.args.map.root) c.args.map.bits c.args.heap.now c.own-root.new.self c.own-root.result own did.builds.graph
+    edits-top g.T.Ord.cmp g.T.Element.code_of (by_hold c.args.map.root) c.args.map.bits c.args.heap.now c.own-root.new.self c.own-root.result (own g (goal.at.returns-clause-edits g c).After-own-root) c.own-root.ensures.builds.graph
 
 pub returns-clause-extends : goal.returns-clause-extends
 returns-clause-extends g c = Extends-trans c.in-Ok.ensures.extends c.own-root.ensures.builds.extends

@@ -1,9 +1,11 @@
-use Rattle.std.proofs.Common.{◌≡◌, ◌<◌, length, get_or, refl, ap, sym, subst, ◌∙◌, arith, not, Some, None}
+use Rattle.std.proofs.Common.{◌≡◌, ◌≢◌, ℕ, ◌<◌, List, length, get_or, refl, ap, sym, subst, ◌∙◌, arith, IsSome, not, Some, None}
+use Rattle.std.specs.declared.cmp.Ordering.{Ordering}
 use Rattle.elem_core.specs.Codes.{masked_code}
 use Rattle.elem_core.specs.declared.codes.TheConstants.{DEEPEST}
+use Rattle.node_heap.specs.Links.{Reaches}
 use Rattle.node_heap.specs.Forms.{is_node, links_of}
-use Rattle.node_heap.specs.Heap.{row_at, form_at, links_at, holds_at}
-use Rattle.node_heap.specs.Calls.{Gains}
+use Rattle.node_heap.specs.Heap.{Heap, row_at, form_at, links_at, holds_at, one_at}
+use Rattle.node_heap.specs.Calls.{SameRows, Gains}
 use Rattle.node_heap.specs.InPlace.{child_at}
 use Rattle.node_heap.specs.Owner.{by_hold}
 use Rattle.node_heap.proofs.EditLaws.{Gains-trans, Gains-Builds}
@@ -18,12 +20,13 @@ use Rattle.champ_trie.specs.Reach.{alike_in}
 use Rattle.champ_trie.proofs.CanonLemmas.{takes-any-order, has-one-set}
 use Rattle.champ_trie.proofs.ShareLemmas.{row-at}
 use Rattle.champ_kinds.specs.Root.{Root}
-use Rattle.champ_kinds.specs.Binding.{alike_keys}
+use Rattle.champ_kinds.specs.Binding.{Binding, alike_keys}
+use Rattle.champ_kinds.specs.Kinds.{IsMapOf}
 use Rattle.champ_kinds.proofs.EditLemmas.{pairs-kept}
-use Rattle.champ_kinds.proofs.PairLemmas.{found-pairs, alike-pairs, absent-map, absent-trie}
+use Rattle.champ_kinds.proofs.PairLemmas.{IsFound, found-pairs, alike-pairs, absent-map, absent-trie}
 use Rattle.champ_kinds.proofs.PairRows.{links-read, pair-live}
 use Rattle.champ_kinds.proofs.StayLemmas.{map-seen, entries-seen}
-use Rattle.edit_trie.specs.Edit.{CutsKey}
+use Rattle.edit_trie.specs.Edit.{by_bits, CutsKey}
 use Rattle.edit_trie.specs.Walk.{CanEdit, CutsIn}
 use Rattle.edit_trie.proofs.RowLemmas.{node-form}
 use Rattle.edit_trie.proofs.ChainLemmas.{read-child}
@@ -32,281 +35,173 @@ use Rattle.node_heap.proofs.OwnedRows.{Owns, IsOwned, owns, owned-hold, after-ro
 use Rattle.edit_trie.proofs.RootLemmas.{released-need}
 use Rattle.edit_trie.proofs.OwnTop.{can-top}
 use Rattle.edit_trie.proofs.CutTop.{value-off, value-live, cut-held, entries-new, cuts-key}
+use Rattle.edit_trie.proofs.edit.TrieEdit.remove.Given.{Over}
 use Rattle.edit_trie.proofs.edit.TrieEdit.remove.Goals as goal
+use Rattle.edit_trie.proofs.edit.TrieEdit.remove.Goals.{After-masked-code}
+
+-- the pair that was found, once room was made
+found-row : {T : Type 0} {cmp : T → T → Ordering} {code : T → ℕ} {old : Heap T} {root : Root} {key : T} {x : ℕ} {M : List (Binding T)} (one : Heap T) → SameRows old one → (is : IsMapOf cmp code old root M) → link_with cmp key is.entries ≡ Some x → IsFound (form_at one) cmp key is.entries M x
+found-row {cmp = cmp} {old = old} {key = key} {x = x} {M = M} one rows is found = found-pairs (form_at one) cmp key is.entries M x (pairs-kept (form_at old) (form_at one) (forms-same old one rows) is.entries M is.pairs) found
+
+-- the root was made the edit's own, and the key's code was counted
+module _ (g : Over) (c : After-masked-code g) where
+  abbrev key : g.row.T.Denot
+  key = g.P.Probe.stands_for c.args.key.now
+
+  abbrev root : ℕ
+  root = c.self.inside.root
+
+  abbrev x : ℕ
+  x = c.in-Some.pair
+
+  abbrev old : Heap g.row.T.Denot
+  old = c.args.heap.now
+
+  abbrev one : Heap g.row.T.Denot
+  one = c.reserve.new.self
+
+  abbrev mid : Heap g.row.T.Denot
+  mid = c.own-self-inside.new.self
+
+  abbrev r : ℕ
+  r = c.own-self-inside.result
+
+  hold : Owns one mid root r
+  hold =
+      let room = c.in_ok-reserve.ensures.rest in
+      let did = c.own-self-inside.ensures in
+      owns refl room.graph (omega (arith, c.requires.held, room.holds root, ap (λ (q : Root). holds_at old q.root) c.self.view_is)) did.same did.row did.sole did.fresh did.owners did.builds did.makes
+
+  own : IsOwned (by_hold root) old mid r
+  own = after-room c.in_ok-reserve.ensures.rest (owned-hold hold)
+
+  held : 0 < holds_at mid r
+  held = held-root hold.graph hold.held hold.sole hold.builds
+
+  code-is : c.masked-code.result ≡ code_by g.T.Element.code_of c.self.inside.bits key
+  code-is = c.masked-code.ensures.kept ∙ ap (λ n. masked_code n c.self.inside.bits) c.code.ensures
+
+  module _ {M : List (Binding g.row.T.Denot)} (is : IsMapOf g.T.Ord.cmp g.T.Element.code_of old (by_bits c.self.inside.bits root) M) where
+    found : link_with g.T.Ord.cmp key is.entries ≡ Some x
+    found = sym (c.look_up-found.ensures.entry is.entries is.rooted.trie) ∙ c.in-Some.is
+
+    there : link_with g.T.Ord.cmp key is.entries ≢ None
+    there none = let bad : None ≡ Some x = sym none ∙ found in cc
+
+    value-is : c.index-links-1.result ≡ child_at old x 1
+    value-is =
+        let rows = c.in_ok-reserve.ensures.rest.rows in
+        let long : 1 < length (links_at one x) = omega (arith, ap length c.links.ensures.links, ap length (links-read one (found-row one rows is found).pair c.links.result.now c.links.ensures.links)) in
+        read-child c.links.result.now (links_at one x) 1 c.index-links-1.result c.links.ensures.links long c.index-links-1.is ∙ ap (λ w. get_or (links_of w) 1 0) (rows x)
+
+    can : CanEdit g.T.Ord.cmp (code_by g.T.Element.code_of c.self.inside.bits) mid DEEPEST 0 r c.masked-code.result is.entries
+    can = subst (λ n. CanEdit g.T.Ord.cmp (code_by g.T.Element.code_of c.self.inside.bits) mid DEEPEST 0 r n is.entries) (sym code-is)
+        (can-top g.T.Ord.cmp g.T.Element.code_of g.met.T.Ord.total (by_hold root) c.self.inside.bits old mid r own M is key c.own-self-inside.ensures.builds.graph)
+
+    -- the key was taken out
+    module _ {four : Heap g.row.T.Denot} {cut : ℕ} (made : CutsIn g.T.Ord.cmp (code_by g.T.Element.code_of c.self.inside.bits) mid four DEEPEST 0 r c.masked-code.result is.entries key cut) where
+      did : CutsIn g.T.Ord.cmp (code_by g.T.Element.code_of c.self.inside.bits) mid four DEEPEST 0 r (code_by g.T.Element.code_of c.self.inside.bits key) is.entries key cut
+      did = subst (λ n. CutsIn g.T.Ord.cmp (code_by g.T.Element.code_of c.self.inside.bits) mid four DEEPEST 0 r n is.entries key cut) code-is made
+
+      live : IsSome (row_at four c.index-links-1.result)
+      live = value-live g.T.Ord.cmp g.T.Element.code_of g.met.T.Ord.total (by_hold root) c.self.inside.bits old mid four four four r cut c.index-links-1.result x own held M is key found value-is c.own-self-inside.ensures.builds.graph did
+
+      off : ¬ Reaches (links_at four) c.index-links-1.result r
+      off = value-off g.T.Ord.cmp g.T.Element.code_of g.met.T.Ord.total (by_hold root) c.self.inside.bits old mid four four four r cut c.index-links-1.result x own held M is key found value-is c.own-self-inside.ensures.builds.graph did
+
+      cut-more : one_at r cut < holds_at four cut
+      cut-more = cut-held g.T.Ord.cmp g.T.Element.code_of g.met.T.Ord.total (by_hold root) c.self.inside.bits old mid four four four r cut c.index-links-1.result x own held M is key found value-is c.own-self-inside.ensures.builds.graph did
 
 pub returns-in_default-clause-none : goal.returns-in_default-clause-none
 returns-in_default-clause-none g c = λ M here.
-    let cmp = g.T.Ord.cmp in
-    let code = g.T.Element.code_of in
-    let total = g.met.T.Ord.total in
-    let bits = c.self.inside.bits in
-    let key = g.P.Probe.stands_for c.args.key.now in
-    let old = c.args.heap.now in
     let is = map-seen c.self.view_is here in
     let look = c.look_up-found.ensures.entry is.entries is.rooted.trie in
-    (λ e. absent-map (form_at old) cmp key is.entries M is.pairs (sym look ∙ c.in_default.is), λ none. refl)
+    (λ e. absent-map (form_at c.args.heap.now) g.T.Ord.cmp (g.P.Probe.stands_for c.args.key.now) is.entries M is.pairs (sym look ∙ c.in_default.is), λ none. refl)
 
 pub returns-in_err-reserve-clause-none : goal.returns-in_err-reserve-clause-none
 returns-in_err-reserve-clause-none g c = λ M here.
-    let cmp = g.T.Ord.cmp in
-    let code = g.T.Element.code_of in
-    let total = g.met.T.Ord.total in
-    let bits = c.self.inside.bits in
-    let key = g.P.Probe.stands_for c.args.key.now in
-    let old = c.args.heap.now in
     let is = map-seen c.self.view_is here in
     let look = c.look_up-found.ensures.entry is.entries is.rooted.trie in (
       λ e. absurd (err-not-ok c.from_residual.result _ c.from_residual.ensures.0 e),
-      λ none. absurd (let bad : None ≡ Some c.in-Some.pair = sym (look ∙ absent-trie (form_at old) cmp key is.entries M is.pairs none) ∙ c.in-Some.is in cc),
+      λ none. absurd (let bad : None ≡ Some c.in-Some.pair = sym (look ∙ absent-trie (form_at c.args.heap.now) g.T.Ord.cmp (g.P.Probe.stands_for c.args.key.now) is.entries M is.pairs none) ∙ c.in-Some.is in cc),
     )
 
 pub returns-in_err-reserve-clause-ample : goal.returns-in_err-reserve-clause-ample
 returns-in_err-reserve-clause-ample g c = λ M here spares.
-    let cmp = g.T.Ord.cmp in
     let code = g.T.Element.code_of in
-    let total = g.met.T.Ord.total in
-    let bits = c.self.inside.bits in
     let key = g.P.Probe.stands_for c.args.key.now in
-    let old = c.args.heap.now in
     let is = map-seen c.self.view_is here in
-    let look = c.look_up-found.ensures.entry is.entries is.rooted.trie in
     let number = ap (λ (q : Root). alike_keys code q.bits key M) c.self.view_is in
-    let alike = alike-pairs (form_at old) code bits key is.entries M is.pairs in
+    let alike = alike-pairs (form_at c.args.heap.now) code c.self.inside.bits key is.entries M is.pairs in
     absurd (not-ok c.reserve.result _ c.in_err-reserve.was (c.reserve.ensures.ample (omega arith) (omega (arith, c.from.ensures, c.look_up-found.ensures.alike is.entries is.rooted.trie, alike, number, spares.1))))
 
 pub links-requires : goal.links-requires
 links-requires g c =
-    let cmp = g.T.Ord.cmp in
-    let code = g.T.Element.code_of in
-    let total = g.met.T.Ord.total in
-    let bits = c.self.inside.bits in
-    let key = g.P.Probe.stands_for c.args.key.now in
-    let old = c.args.heap.now in
-    let M = c.requires.contents.0 in
     let is = map-seen c.self.view_is c.requires.contents.1 in
     let look = c.look_up-found.ensures.entry is.entries is.rooted.trie in
-    let x = c.in-Some.pair in
-    let found : link_with cmp key is.entries ≡ Some x = sym look ∙ c.in-Some.is in
-    let room = c.in_ok-reserve.ensures.rest in
-    let one = c.reserve.new.self in
-    let pairs = pairs-kept (form_at old) (form_at one) (forms-same old one room.rows) is.entries M is.pairs in
-    let f = found-pairs (form_at one) cmp key is.entries M x pairs found in
-    pair-live one f.pair
+    pair-live c.reserve.new.self (found-row c.reserve.new.self c.in_ok-reserve.ensures.rest.rows is (sym look ∙ c.in-Some.is)).pair
 
 pub bounds-links-1 : goal.bounds-links-1
 bounds-links-1 g c =
-    let cmp = g.T.Ord.cmp in
-    let code = g.T.Element.code_of in
-    let total = g.met.T.Ord.total in
-    let bits = c.self.inside.bits in
-    let key = g.P.Probe.stands_for c.args.key.now in
-    let old = c.args.heap.now in
-    let M = c.requires.contents.0 in
     let is = map-seen c.self.view_is c.requires.contents.1 in
     let look = c.look_up-found.ensures.entry is.entries is.rooted.trie in
-    let x = c.in-Some.pair in
-    let found : link_with cmp key is.entries ≡ Some x = sym look ∙ c.in-Some.is in
-    let room = c.in_ok-reserve.ensures.rest in
-    let one = c.reserve.new.self in
-    let pairs = pairs-kept (form_at old) (form_at one) (forms-same old one room.rows) is.entries M is.pairs in
-    let f = found-pairs (form_at one) cmp key is.entries M x pairs found in
-    subst (λ xs. 1 < length xs) (sym (links-read one f.pair c.links.result.now c.links.ensures.links)) (omega arith)
+    let f = found-row c.reserve.new.self c.in_ok-reserve.ensures.rest.rows is (sym look ∙ c.in-Some.is) in
+    subst (λ xs. 1 < length xs) (sym (links-read c.reserve.new.self f.pair c.links.result.now c.links.ensures.links)) (omega arith)
 
 pub own-self-inside-requires-clause-node : goal.own-self-inside-requires-clause-node
 own-self-inside-requires-clause-node g c =
-    let cmp = g.T.Ord.cmp in
-    let code = g.T.Element.code_of in
-    let total = g.met.T.Ord.total in
-    let bits = c.self.inside.bits in
-    let key = g.P.Probe.stands_for c.args.key.now in
     let old = c.args.heap.now in
-    let M = c.requires.contents.0 in
     let is = map-seen c.self.view_is c.requires.contents.1 in
-    let look = c.look_up-found.ensures.entry is.entries is.rooted.trie in
-    let at = row-at cmp (code_by code bits) (form_at old) DEEPEST 0 c.self.inside.root is.entries is.rooted.trie.trie in
+    let at = row-at g.T.Ord.cmp (code_by g.T.Element.code_of c.self.inside.bits) (form_at old) DEEPEST 0 c.self.inside.root is.entries is.rooted.trie.trie in
     ap is_node (c.in_ok-reserve.ensures.rest.rows c.self.inside.root) ∙ node-form (row_at old c.self.inside.root) _ at.2 at.3.row
 
 pub cut_below-cut-requires-clause-row : goal.cut_below-cut-requires-clause-row
 cut_below-cut-requires-clause-row g c =
-    let cmp = g.T.Ord.cmp in
-    let code = g.T.Element.code_of in
-    let total = g.met.T.Ord.total in
-    let bits = c.self.inside.bits in
-    let key = g.P.Probe.stands_for c.args.key.now in
-    let old = c.args.heap.now in
-    let M = c.requires.contents.0 in
+    let way = (goal.at.cut_below-cut-requires-clause-row g c).After-masked-code in
     let is = map-seen c.self.view_is c.requires.contents.1 in
-    let look = c.look_up-found.ensures.entry is.entries is.rooted.trie in
-    let x = c.in-Some.pair in
-    let found : link_with cmp key is.entries ≡ Some x = sym look ∙ c.in-Some.is in
-    let room = c.in_ok-reserve.ensures.rest in
-    let one = c.reserve.new.self in
-    let pairs = pairs-kept (form_at old) (form_at one) (forms-same old one room.rows) is.entries M is.pairs in
-    let f = found-pairs (form_at one) cmp key is.entries M x pairs found in
-    let did_own = c.own-self-inside.ensures in
-    let mid = c.own-self-inside.new.self in
-    let r = c.own-self-inside.result in
-    let held : 0 < holds_at one c.self.inside.root = omega (arith, c.requires.held, room.holds c.self.inside.root, ap (λ (q : Root). holds_at old q.root) c.self.view_is) in
-    let hold : Owns one mid c.self.inside.root r = owns refl room.graph held did_own.same did_own.row did_own.sole did_own.fresh did_own.owners did_own.builds did_own.makes in
-    let own : IsOwned (by_hold c.self.inside.root) old mid r = after-room room (owned-hold hold) in
-    let code_is : c.masked-code.result ≡ code_by code bits key = c.masked-code.ensures.kept ∙ ap (λ n. masked_code n bits) c.code.ensures in
-    let can = can-top cmp code total (by_hold c.self.inside.root) bits old mid r own M is key did_own.builds.graph in
-    let can' = subst (λ n. CanEdit cmp (code_by code bits) mid DEEPEST 0 r n is.entries) (sym code_is) can in
-    let there : link_with cmp key is.entries ≡ None → ⊥ = λ none. let bad : None ≡ Some x = sym none ∙ found in cc in (
+    let builds = c.own-self-inside.ensures.builds in (
       is.entries,
       DEEPEST,
-      can',
-      there,
-      omega (arith, c.from.ensures, c.look_up-found.ensures.alike is.entries is.rooted.trie, ap (λ n. alike_in (code_by code bits) n is.entries) code_is, c.in_ok-reserve.ensures.spares.1, did_own.builds.makes.spare_nodes, did_own.builds.few_nodes),
+      can g way is,
+      there g way is,
+      omega (arith, c.from.ensures, c.look_up-found.ensures.alike is.entries is.rooted.trie, ap (λ n. alike_in (code_by g.T.Element.code_of c.self.inside.bits) n is.entries) (code-is g way), c.in_ok-reserve.ensures.spares.1, builds.makes.spare_nodes, builds.few_nodes),
     )
 
 pub hold-requires-clause-live : goal.hold-requires-clause-live
 hold-requires-clause-live g c =
-    let cmp = g.T.Ord.cmp in
-    let code = g.T.Element.code_of in
-    let total = g.met.T.Ord.total in
-    let bits = c.self.inside.bits in
-    let key = g.P.Probe.stands_for c.args.key.now in
-    let old = c.args.heap.now in
-    let M = c.requires.contents.0 in
+    let way = (goal.at.hold-requires-clause-live g c).After-masked-code in
     let is = map-seen c.self.view_is c.requires.contents.1 in
-    let look = c.look_up-found.ensures.entry is.entries is.rooted.trie in
-    let x = c.in-Some.pair in
-    let found : link_with cmp key is.entries ≡ Some x = sym look ∙ c.in-Some.is in
-    let room = c.in_ok-reserve.ensures.rest in
-    let one = c.reserve.new.self in
-    let pairs = pairs-kept (form_at old) (form_at one) (forms-same old one room.rows) is.entries M is.pairs in
-    let f = found-pairs (form_at one) cmp key is.entries M x pairs found in
-    let did_own = c.own-self-inside.ensures in
-    let mid = c.own-self-inside.new.self in
-    let r = c.own-self-inside.result in
-    let held : 0 < holds_at one c.self.inside.root = omega (arith, c.requires.held, room.holds c.self.inside.root, ap (λ (q : Root). holds_at old q.root) c.self.view_is) in
-    let hold : Owns one mid c.self.inside.root r = owns refl room.graph held did_own.same did_own.row did_own.sole did_own.fresh did_own.owners did_own.builds did_own.makes in
-    let own : IsOwned (by_hold c.self.inside.root) old mid r = after-room room (owned-hold hold) in
-    let code_is : c.masked-code.result ≡ code_by code bits key = c.masked-code.ensures.kept ∙ ap (λ n. masked_code n bits) c.code.ensures in
-    let can = can-top cmp code total (by_hold c.self.inside.root) bits old mid r own M is key did_own.builds.graph in
-    let can' = subst (λ n. CanEdit cmp (code_by code bits) mid DEEPEST 0 r n is.entries) (sym code_is) can in
-    let there : link_with cmp key is.entries ≡ None → ⊥ = λ none. let bad : None ≡ Some x = sym none ∙ found in cc in
-    let four = c.cut_below-cut.new.heap in
-    let cut = c.cut_below-cut.result in
-    let did : CutsIn cmp (code_by code bits) mid four DEEPEST 0 r (code_by code bits key) is.entries key cut =
-    subst (λ n. CutsIn cmp (code_by code bits) mid four DEEPEST 0 r n is.entries key cut) code_is (c.cut_below-cut.ensures is.entries DEEPEST can' there) in
-    let value = c.index-links-1.result in
-    let long : 1 < length (links_at one x) = omega (arith, ap length c.links.ensures.links, ap length (links-read one f.pair c.links.result.now c.links.ensures.links)) in
-    let value_is : value ≡ child_at old x 1 = read-child c.links.result.now (links_at one x) 1 value c.links.ensures.links long c.index-links-1.is ∙ ap (λ w. get_or (links_of w) 1 0) (room.rows x) in
-    value-live cmp code total (by_hold c.self.inside.root) bits old mid four four four r cut value x own (held-root hold.graph hold.held hold.sole hold.builds) M is key found value_is did_own.builds.graph did
+    live g way is (c.cut_below-cut.ensures is.entries DEEPEST (can g way is) (there g way is))
 
 pub hold-requires-clause-few : goal.hold-requires-clause-few
 hold-requires-clause-few g c =
-    let cmp = g.T.Ord.cmp in
-    let code = g.T.Element.code_of in
-    let total = g.met.T.Ord.total in
-    let bits = c.self.inside.bits in
-    let key = g.P.Probe.stands_for c.args.key.now in
-    let old = c.args.heap.now in
-    let M = c.requires.contents.0 in
+    let way = (goal.at.hold-requires-clause-few g c).After-masked-code in
     let is = map-seen c.self.view_is c.requires.contents.1 in
-    let look = c.look_up-found.ensures.entry is.entries is.rooted.trie in
-    let x = c.in-Some.pair in
-    let found : link_with cmp key is.entries ≡ Some x = sym look ∙ c.in-Some.is in
-    let room = c.in_ok-reserve.ensures.rest in
-    let one = c.reserve.new.self in
-    let pairs = pairs-kept (form_at old) (form_at one) (forms-same old one room.rows) is.entries M is.pairs in
-    let f = found-pairs (form_at one) cmp key is.entries M x pairs found in
-    let did_own = c.own-self-inside.ensures in
-    let mid = c.own-self-inside.new.self in
-    let r = c.own-self-inside.result in
-    let held : 0 < holds_at one c.self.inside.root = omega (arith, c.requires.held, room.holds c.self.inside.root, ap (λ (q : Root). holds_at old q.root) c.self.view_is) in
-    let hold : Owns one mid c.self.inside.root r = owns refl room.graph held did_own.same did_own.row did_own.sole did_own.fresh did_own.owners did_own.builds did_own.makes in
-    let own : IsOwned (by_hold c.self.inside.root) old mid r = after-room room (owned-hold hold) in
-    let code_is : c.masked-code.result ≡ code_by code bits key = c.masked-code.ensures.kept ∙ ap (λ n. masked_code n bits) c.code.ensures in
-    let can = can-top cmp code total (by_hold c.self.inside.root) bits old mid r own M is key did_own.builds.graph in
-    let can' = subst (λ n. CanEdit cmp (code_by code bits) mid DEEPEST 0 r n is.entries) (sym code_is) can in
-    let there : link_with cmp key is.entries ≡ None → ⊥ = λ none. let bad : None ≡ Some x = sym none ∙ found in cc in
-    let four = c.cut_below-cut.new.heap in
-    let cut = c.cut_below-cut.result in
-    let did : CutsIn cmp (code_by code bits) mid four DEEPEST 0 r (code_by code bits key) is.entries key cut =
-    subst (λ n. CutsIn cmp (code_by code bits) mid four DEEPEST 0 r n is.entries key cut) code_is (c.cut_below-cut.ensures is.entries DEEPEST can' there) in
-    let value = c.index-links-1.result in
-    let long : 1 < length (links_at one x) = omega (arith, ap length c.links.ensures.links, ap length (links-read one f.pair c.links.result.now c.links.ensures.links)) in
-    let value_is : value ≡ child_at old x 1 = read-child c.links.result.now (links_at one x) 1 value c.links.ensures.links long c.index-links-1.is ∙ ap (λ w. get_or (links_of w) 1 0) (room.rows x) in
-    omega (arith, c.requires.few, room.count, did_own.builds.total, did.changes.trades.total)
+    let made = c.cut_below-cut.ensures is.entries DEEPEST (can g way is) (there g way is) in
+    omega (arith, c.requires.few, c.in_ok-reserve.ensures.rest.count, c.own-self-inside.ensures.builds.total, made.changes.trades.total)
 
 pub release-requires : goal.release-requires
 release-requires g c =
-    let cmp = g.T.Ord.cmp in
-    let code = g.T.Element.code_of in
-    let total = g.met.T.Ord.total in
-    let bits = c.self.inside.bits in
-    let key = g.P.Probe.stands_for c.args.key.now in
-    let old = c.args.heap.now in
-    let M = c.requires.contents.0 in
+    let way = (goal.at.release-requires g c).After-masked-code in
     let is = map-seen c.self.view_is c.requires.contents.1 in
-    let look = c.look_up-found.ensures.entry is.entries is.rooted.trie in
-    let x = c.in-Some.pair in
-    let found : link_with cmp key is.entries ≡ Some x = sym look ∙ c.in-Some.is in
-    let room = c.in_ok-reserve.ensures.rest in
-    let one = c.reserve.new.self in
-    let pairs = pairs-kept (form_at old) (form_at one) (forms-same old one room.rows) is.entries M is.pairs in
-    let f = found-pairs (form_at one) cmp key is.entries M x pairs found in
-    let did_own = c.own-self-inside.ensures in
-    let mid = c.own-self-inside.new.self in
-    let r = c.own-self-inside.result in
-    let held : 0 < holds_at one c.self.inside.root = omega (arith, c.requires.held, room.holds c.self.inside.root, ap (λ (q : Root). holds_at old q.root) c.self.view_is) in
-    let hold : Owns one mid c.self.inside.root r = owns refl room.graph held did_own.same did_own.row did_own.sole did_own.fresh did_own.owners did_own.builds did_own.makes in
-    let own : IsOwned (by_hold c.self.inside.root) old mid r = after-room room (owned-hold hold) in
-    let code_is : c.masked-code.result ≡ code_by code bits key = c.masked-code.ensures.kept ∙ ap (λ n. masked_code n bits) c.code.ensures in
-    let can = can-top cmp code total (by_hold c.self.inside.root) bits old mid r own M is key did_own.builds.graph in
-    let can' = subst (λ n. CanEdit cmp (code_by code bits) mid DEEPEST 0 r n is.entries) (sym code_is) can in
-    let there : link_with cmp key is.entries ≡ None → ⊥ = λ none. let bad : None ≡ Some x = sym none ∙ found in cc in
-    let four = c.cut_below-cut.new.heap in
-    let cut = c.cut_below-cut.result in
-    let did : CutsIn cmp (code_by code bits) mid four DEEPEST 0 r (code_by code bits key) is.entries key cut =
-    subst (λ n. CutsIn cmp (code_by code bits) mid four DEEPEST 0 r n is.entries key cut) code_is (c.cut_below-cut.ensures is.entries DEEPEST can' there) in
-    let value = c.index-links-1.result in
-    let long : 1 < length (links_at one x) = omega (arith, ap length c.links.ensures.links, ap length (links-read one f.pair c.links.result.now c.links.ensures.links)) in
-    let value_is : value ≡ child_at old x 1 = read-child c.links.result.now (links_at one x) 1 value c.links.ensures.links long c.index-links-1.is ∙ ap (λ w. get_or (links_of w) 1 0) (room.rows x) in
-    omega (arith, c.hold.ensures.holds cut, cut-held cmp code total (by_hold c.self.inside.root) bits old mid four four four r cut value x own (held-root hold.graph hold.held hold.sole hold.builds) M is key found value_is did_own.builds.graph did)
+    omega (arith, c.hold.ensures.holds c.cut_below-cut.result, cut-more g way is (c.cut_below-cut.ensures is.entries DEEPEST (can g way is) (there g way is)))
 
 pub returns-clause-cuts : goal.returns-clause-cuts
 returns-clause-cuts g c = λ M here.
     let cmp = g.T.Ord.cmp in
     let code = g.T.Element.code_of in
-    let total = g.met.T.Ord.total in
-    let bits = c.self.inside.bits in
-    let key = g.P.Probe.stands_for c.args.key.now in
-    let old = c.args.heap.now in
+    let way = (goal.at.returns-clause-cuts g c).After-masked-code in
     let is = map-seen c.self.view_is here in
-    let look = c.look_up-found.ensures.entry is.entries is.rooted.trie in
-    let x = c.in-Some.pair in
-    let found : link_with cmp key is.entries ≡ Some x = sym look ∙ c.in-Some.is in
-    let room = c.in_ok-reserve.ensures.rest in
-    let one = c.reserve.new.self in
-    let pairs = pairs-kept (form_at old) (form_at one) (forms-same old one room.rows) is.entries M is.pairs in
-    let f = found-pairs (form_at one) cmp key is.entries M x pairs found in
-    let did_own = c.own-self-inside.ensures in
-    let mid = c.own-self-inside.new.self in
-    let r = c.own-self-inside.result in
-    let held : 0 < holds_at one c.self.inside.root = omega (arith, c.requires.held, room.holds c.self.inside.root, ap (λ (q : Root). holds_at old q.root) c.self.view_is) in
-    let hold : Owns one mid c.self.inside.root r = owns refl room.graph held did_own.same did_own.row did_own.sole did_own.fresh did_own.owners did_own.builds did_own.makes in
-    let own : IsOwned (by_hold c.self.inside.root) old mid r = after-room room (owned-hold hold) in
-    let code_is : c.masked-code.result ≡ code_by code bits key = c.masked-code.ensures.kept ∙ ap (λ n. masked_code n bits) c.code.ensures in
-    let can = can-top cmp code total (by_hold c.self.inside.root) bits old mid r own M is key did_own.builds.graph in
-    let can' = subst (λ n. CanEdit cmp (code_by code bits) mid DEEPEST 0 r n is.entries) (sym code_is) can in
-    let there : link_with cmp key is.entries ≡ None → ⊥ = λ none. let bad : None ≡ Some x = sym none ∙ found in cc in
     let four = c.cut_below-cut.new.heap in
-    let cut = c.cut_below-cut.result in
-    let did : CutsIn cmp (code_by code bits) mid four DEEPEST 0 r (code_by code bits key) is.entries key cut =
-    subst (λ n. CutsIn cmp (code_by code bits) mid four DEEPEST 0 r n is.entries key cut) code_is (c.cut_below-cut.ensures is.entries DEEPEST can' there) in
+    let new = c.release.new.self in
+    let r = c.own-self-inside.result in
     let value = c.index-links-1.result in
-    let long : 1 < length (links_at one x) = omega (arith, ap length c.links.ensures.links, ap length (links-read one f.pair c.links.result.now c.links.ensures.links)) in
-    let value_is : value ≡ child_at old x 1 = read-child c.links.result.now (links_at one x) 1 value c.links.ensures.links long c.index-links-1.is ∙ ap (λ w. get_or (links_of w) 1 0) (room.rows x) in
-    let five = c.hold.new.self in
-    let off = value-off cmp code total (by_hold c.self.inside.root) bits old mid four four four r cut value x own (held-root hold.graph hold.held hold.sole hold.builds) M is key found value_is did_own.builds.graph did in
-    let kept = hold-change r value did.changes.trades.graph c.hold.ensures.graph c.hold.ensures.rows c.hold.ensures.holds c.hold.ensures.owners c.hold.ensures.makes c.hold.ensures.count c.hold.ensures.extends off in
-    let makes = makes-came room (Gains-trans (Gains-Builds did_own.builds) did.gains) in
-    let made = cuts-key cmp code total (by_hold c.self.inside.root) bits old mid four five c.release.new.self r cut value x own (held-root hold.graph hold.held hold.sole hold.builds) M is key found value_is did_own.builds.graph did c.hold.ensures.rows c.hold.ensures.holds c.hold.ensures.owners kept c.release.ensures.releases c.release.ensures.graph c.release.ensures.below makes c.hold.ensures.makes in
-    subst (λ (q : Root). CutsKey cmp code (by_hold q.root) q.bits old c.release.new.self r M key value) c.self.view_is made
+    let made = c.cut_below-cut.ensures is.entries DEEPEST (can g way is) (there g way is) in
+    let kept = hold-change r value made.changes.trades.graph c.hold.ensures.graph c.hold.ensures.rows c.hold.ensures.holds c.hold.ensures.owners c.hold.ensures.makes c.hold.ensures.count c.hold.ensures.extends (off g way is made) in
+    let came = makes-came c.in_ok-reserve.ensures.rest (Gains-trans (Gains-Builds c.own-self-inside.ensures.builds) made.gains) in
+    let cuts = cuts-key cmp code g.met.T.Ord.total (by_hold c.self.inside.root) c.self.inside.bits c.args.heap.now c.own-self-inside.new.self four c.hold.new.self new r c.cut_below-cut.result value c.in-Some.pair (own g way) (held g way) M is (key g way) (found g way is) (value-is g way is) c.own-self-inside.ensures.builds.graph (did g way is made)
+    c.hold.ensures.rows c.hold.ensures.holds c.hold.ensures.owners kept c.release.ensures.releases c.release.ensures.graph c.release.ensures.below came c.hold.ensures.makes in
+    subst (λ (q : Root). CutsKey cmp code (by_hold q.root) q.bits c.args.heap.now new r M (key g way) value) c.self.view_is cuts
 
 pub returns-clause-entries : goal.returns-clause-entries
 returns-clause-entries g c = λ E here.
@@ -314,93 +209,39 @@ returns-clause-entries g c = λ E here.
     let code = g.T.Element.code_of in
     let total = g.met.T.Ord.total in
     let bits = c.self.inside.bits in
-    let key = g.P.Probe.stands_for c.args.key.now in
     let old = c.args.heap.now in
+    let way = (goal.at.returns-clause-entries g c).After-masked-code in
     let M = c.requires.contents.0 in
     let is = map-seen c.self.view_is c.requires.contents.1 in
-    let look = c.look_up-found.ensures.entry is.entries is.rooted.trie in
-    let x = c.in-Some.pair in
-    let found : link_with cmp key is.entries ≡ Some x = sym look ∙ c.in-Some.is in
-    let room = c.in_ok-reserve.ensures.rest in
-    let one = c.reserve.new.self in
-    let pairs = pairs-kept (form_at old) (form_at one) (forms-same old one room.rows) is.entries M is.pairs in
-    let f = found-pairs (form_at one) cmp key is.entries M x pairs found in
-    let did_own = c.own-self-inside.ensures in
-    let mid = c.own-self-inside.new.self in
+    let new = c.release.new.self in
     let r = c.own-self-inside.result in
-    let held : 0 < holds_at one c.self.inside.root = omega (arith, c.requires.held, room.holds c.self.inside.root, ap (λ (q : Root). holds_at old q.root) c.self.view_is) in
-    let hold : Owns one mid c.self.inside.root r = owns refl room.graph held did_own.same did_own.row did_own.sole did_own.fresh did_own.owners did_own.builds did_own.makes in
-    let own : IsOwned (by_hold c.self.inside.root) old mid r = after-room room (owned-hold hold) in
-    let code_is : c.masked-code.result ≡ code_by code bits key = c.masked-code.ensures.kept ∙ ap (λ n. masked_code n bits) c.code.ensures in
-    let can = can-top cmp code total (by_hold c.self.inside.root) bits old mid r own M is key did_own.builds.graph in
-    let can' = subst (λ n. CanEdit cmp (code_by code bits) mid DEEPEST 0 r n is.entries) (sym code_is) can in
-    let there : link_with cmp key is.entries ≡ None → ⊥ = λ none. let bad : None ≡ Some x = sym none ∙ found in cc in
-    let four = c.cut_below-cut.new.heap in
-    let cut = c.cut_below-cut.result in
-    let did : CutsIn cmp (code_by code bits) mid four DEEPEST 0 r (code_by code bits key) is.entries key cut =
-    subst (λ n. CutsIn cmp (code_by code bits) mid four DEEPEST 0 r n is.entries key cut) code_is (c.cut_below-cut.ensures is.entries DEEPEST can' there) in
     let value = c.index-links-1.result in
-    let long : 1 < length (links_at one x) = omega (arith, ap length c.links.ensures.links, ap length (links-read one f.pair c.links.result.now c.links.ensures.links)) in
-    let value_is : value ≡ child_at old x 1 = read-child c.links.result.now (links_at one x) 1 value c.links.ensures.links long c.index-links-1.is ∙ ap (λ w. get_or (links_of w) 1 0) (room.rows x) in
-    let five = c.hold.new.self in
-    let off = value-off cmp code total (by_hold c.self.inside.root) bits old mid four four four r cut value x own (held-root hold.graph hold.held hold.sole hold.builds) M is key found value_is did_own.builds.graph did in
-    let kept = hold-change r value did.changes.trades.graph c.hold.ensures.graph c.hold.ensures.rows c.hold.ensures.holds c.hold.ensures.owners c.hold.ensures.makes c.hold.ensures.count c.hold.ensures.extends off in
-    let made = entries-new cmp code total (by_hold c.self.inside.root) bits old mid four five c.release.new.self r cut value x own (held-root hold.graph hold.held hold.sole hold.builds) M is key found value_is did_own.builds.graph did c.hold.ensures.rows c.hold.ensures.holds c.hold.ensures.owners kept c.release.ensures.releases c.release.ensures.graph c.release.ensures.below in
+    let made = c.cut_below-cut.ensures is.entries DEEPEST (can g way is) (there g way is) in
+    let kept = hold-change r value made.changes.trades.graph c.hold.ensures.graph c.hold.ensures.rows c.hold.ensures.holds c.hold.ensures.owners c.hold.ensures.makes c.hold.ensures.count c.hold.ensures.extends (off g way is made) in
+    let cuts = entries-new cmp code total (by_hold c.self.inside.root) bits old c.own-self-inside.new.self c.cut_below-cut.new.heap c.hold.new.self new r c.cut_below-cut.result value c.in-Some.pair (own g way) (held g way) M is (key g way) (found g way is) (value-is g way is) c.own-self-inside.ensures.builds.graph (did g way is made)
+    c.hold.ensures.rows c.hold.ensures.holds c.hold.ensures.owners kept c.release.ensures.releases c.release.ensures.graph c.release.ensures.below in
     let mine = entries-seen c.self.view_is here in
     let same = has-one-set cmp (code_by code bits) total (form_at old) c.self.inside.root is.entries E is.rooted.trie mine.trie in
     record {
-      bits = made.bits;
-      trie = takes-any-order cmp (code_by code bits) total (form_at c.release.new.self) r (others cmp key is.entries) (others cmp key E) (same-filter (λ d. not (has_key cmp key d)) is.entries E same) made.trie;
+      bits = cuts.bits;
+      trie = takes-any-order cmp (code_by code bits) total (form_at new) r (others cmp (key g way) is.entries) (others cmp (key g way) E) (same-filter (λ d. not (has_key cmp (key g way) d)) is.entries E same) cuts.trie;
     }
 
 pub returns-clause-none : goal.returns-clause-none
 returns-clause-none g c = λ M here.
-    let cmp = g.T.Ord.cmp in
-    let code = g.T.Element.code_of in
-    let total = g.met.T.Ord.total in
-    let bits = c.self.inside.bits in
-    let key = g.P.Probe.stands_for c.args.key.now in
-    let old = c.args.heap.now in
     let is = map-seen c.self.view_is here in
     let look = c.look_up-found.ensures.entry is.entries is.rooted.trie in
-    (λ e. absurd cc, λ none. absurd (let bad : None ≡ Some c.in-Some.pair = sym (look ∙ absent-trie (form_at old) cmp key is.entries M is.pairs none) ∙ c.in-Some.is in cc))
+    (λ e. absurd cc, λ none. absurd (let bad : None ≡ Some c.in-Some.pair = sym (look ∙ absent-trie (form_at c.args.heap.now) g.T.Ord.cmp (g.P.Probe.stands_for c.args.key.now) is.entries M is.pairs none) ∙ c.in-Some.is in cc))
 
 pub returns-clause-spares : goal.returns-clause-spares
 returns-clause-spares g c = λ M here.
-    let cmp = g.T.Ord.cmp in
     let code = g.T.Element.code_of in
-    let total = g.met.T.Ord.total in
-    let bits = c.self.inside.bits in
-    let key = g.P.Probe.stands_for c.args.key.now in
-    let old = c.args.heap.now in
+    let way = (goal.at.returns-clause-spares g c).After-masked-code in
     let is = map-seen c.self.view_is here in
-    let look = c.look_up-found.ensures.entry is.entries is.rooted.trie in
-    let x = c.in-Some.pair in
-    let found : link_with cmp key is.entries ≡ Some x = sym look ∙ c.in-Some.is in
-    let room = c.in_ok-reserve.ensures.rest in
-    let one = c.reserve.new.self in
-    let pairs = pairs-kept (form_at old) (form_at one) (forms-same old one room.rows) is.entries M is.pairs in
-    let f = found-pairs (form_at one) cmp key is.entries M x pairs found in
-    let did_own = c.own-self-inside.ensures in
-    let mid = c.own-self-inside.new.self in
-    let r = c.own-self-inside.result in
-    let held : 0 < holds_at one c.self.inside.root = omega (arith, c.requires.held, room.holds c.self.inside.root, ap (λ (q : Root). holds_at old q.root) c.self.view_is) in
-    let hold : Owns one mid c.self.inside.root r = owns refl room.graph held did_own.same did_own.row did_own.sole did_own.fresh did_own.owners did_own.builds did_own.makes in
-    let own : IsOwned (by_hold c.self.inside.root) old mid r = after-room room (owned-hold hold) in
-    let code_is : c.masked-code.result ≡ code_by code bits key = c.masked-code.ensures.kept ∙ ap (λ n. masked_code n bits) c.code.ensures in
-    let can = can-top cmp code total (by_hold c.self.inside.root) bits old mid r own M is key did_own.builds.graph in
-    let can' = subst (λ n. CanEdit cmp (code_by code bits) mid DEEPEST 0 r n is.entries) (sym code_is) can in
-    let there : link_with cmp key is.entries ≡ None → ⊥ = λ none. let bad : None ≡ Some x = sym none ∙ found in cc in
-    let four = c.cut_below-cut.new.heap in
-    let cut = c.cut_below-cut.result in
-    let did : CutsIn cmp (code_by code bits) mid four DEEPEST 0 r (code_by code bits key) is.entries key cut =
-    subst (λ n. CutsIn cmp (code_by code bits) mid four DEEPEST 0 r n is.entries key cut) code_is (c.cut_below-cut.ensures is.entries DEEPEST can' there) in
-    let value = c.index-links-1.result in
-    let long : 1 < length (links_at one x) = omega (arith, ap length c.links.ensures.links, ap length (links-read one f.pair c.links.result.now c.links.ensures.links)) in
-    let value_is : value ≡ child_at old x 1 = read-child c.links.result.now (links_at one x) 1 value c.links.ensures.links long c.index-links-1.is ∙ ap (λ w. get_or (links_of w) 1 0) (room.rows x) in
-    let kept : Gains four c.hold.new.self = record { stays = c.hold.ensures.extends.live; cells = 0; nodes = 0; makes = c.hold.ensures.makes } in
-    let gains = Gains-trans (Gains-Builds did_own.builds) (Gains-trans did.gains kept) in
-    let all = released-need (to-need room gains c.in_ok-reserve.ensures.greater) c.release.ensures.releases in
-    let alike = alike-pairs (form_at old) code bits key is.entries M is.pairs in
-    let number = ap (λ (q : Root). alike_keys code q.bits key M) c.self.view_is in
+    let made = c.cut_below-cut.ensures is.entries DEEPEST (can g way is) (there g way is) in
+    let kept : Gains c.cut_below-cut.new.heap c.hold.new.self = record { stays = c.hold.ensures.extends.live; cells = 0; nodes = 0; makes = c.hold.ensures.makes } in
+    let gains = Gains-trans (Gains-Builds c.own-self-inside.ensures.builds) (Gains-trans made.gains kept) in
+    let all = released-need (to-need c.in_ok-reserve.ensures.rest gains c.in_ok-reserve.ensures.greater) c.release.ensures.releases in
+    let alike = alike-pairs (form_at c.args.heap.now) code c.self.inside.bits (key g way) is.entries M is.pairs in
+    let number = ap (λ (q : Root). alike_keys code q.bits (key g way) M) c.self.view_is in
     KeepsToNeed-more 0 _ (omega arith) (omega (arith, c.from.ensures, c.look_up-found.ensures.alike is.entries is.rooted.trie, alike, number)) all
