@@ -1,14 +1,16 @@
-use Rattle.std.proofs.Common.{rules, arith, ◌≡◌, ◌≢◌, ◌-◌, ◌+◌, ◌<◌, ◌≤◌, suc, refl, ap, length}
+use Rattle.std.proofs.Common.{rules, arith, ◌≡◌, ◌≢◌, ℕ, ◌-◌, ◌+◌, ◌<◌, ◌≤◌, suc, refl, ap, length}
 use Rattle.node_heap.specs.Heap.{form_at, links_at}
 use Rattle.node_heap.specs.InPlace.{child_at}
 use Rattle.rrb_core.specs.Seq.{seq_at}
 use Rattle.rrb_core.specs.Push.{last_in}
 use Rattle.rrb_core.proofs.Stays.{well-live}
 use Rattle.rrb_core.proofs.RowLists.{over, child-at, at-place}
-use Rattle.edit_vec.proofs.OwnLemmas.{owns-child}
+use Rattle.edit_vec.proofs.OwnLemmas.{OwnsChild, owns-child}
 use Rattle.edit_vec.proofs.StepLemmas.{well-node, row-moved}
 use Rattle.edit_vec.proofs.PopSteps.{pops-step, two-links, child-more, last-is, can-pop-child, not-both, sole-step, form-step, sums-few, sums-some}
+use Rattle.edit_vec.proofs.pop.+pop.Given.{Over}
 use Rattle.edit_vec.proofs.pop.+pop.Goals as goal
+use Rattle.edit_vec.proofs.pop.+pop.Goals.{pop_inner-After-own_child-child}
 
 pub pop_in-pop_leaf-requires-clause-row : goal.pop_in-pop_leaf-requires-clause-row
 pop_in-pop_leaf-requires-clause-row g t c = rw c.if-height-eq0.true at c.requires.row
@@ -90,83 +92,57 @@ pop_inner-own_child-child-requires-clause-node g t c =
     let at = child_at h c.args.row (length c.links.result.now - 1) in
     well-node h c.args.below at (child-at h c.args.below c.args.row (length c.links.result.now - 1) at under (omega (arith, under.some, ap length c.links.ensures.links)) refl).well
 
+-- the last child, of more than one element, was made the row's own
+module _ (g : Over) (t : ℕ) (c : pop_inner-After-own_child-child g t) where
+  wide : length c.links.result.now ≡ length (links_at c.args.heap.now c.args.row)
+  wide = ap length c.links.ensures.links
+
+  last : length c.links.result.now - 1 ≡ length (links_at c.args.heap.now c.args.row) - 1
+  last = omega (arith, wide)
+
+  some : 0 < length (links_at c.args.heap.now c.args.row)
+  some = (over c.args.heap.now c.args.below c.args.row c.requires.row.well c.requires.row.sums).some
+
+  more : length (seq_at (form_at c.args.heap.now) c.args.below (last_in (form_at c.args.heap.now) c.args.row)) ≢ 1
+  more = λ one.
+      let is = last-is c.args.heap.now c.args.row c.index-links-last.result c.links.result.now c.links-2.result.now c.index-links-last.is c.links.ensures.links c.links-2.ensures.links some in
+      not-both (c.is_single.ensures.1 (rw is one)) c.if-is_single.false
+
+  owns : OwnsChild c.args.heap.now c.own_child-child.new.self c.args.row (length c.links.result.now - 1) c.own_child-child.result
+  owns =
+      let did = c.own_child-child.ensures in
+      owns-child c.requires.row.graph (omega (arith, some, wide)) did.same did.row did.sole did.fresh did.parent_head did.parent_links did.stays did.others did.owners did.changes did.makes
+
 pub pop_inner-pop_in-given-requires : goal.pop_inner-pop_in-given-requires
 pop_inner-pop_in-given-requires g t c κs within =
-    let h = c.args.heap.now in
+    let own = (goal.at.pop_inner-pop_in-given-requires g t c).After-own_child-child in
     let did = c.own_child-child.ensures in
-    let under = over h c.args.below c.args.row c.requires.row.well c.requires.row.sums in
-    let wide = ap length c.links.ensures.links in
-    let is : length c.links.result.now - 1 ≡ length (links_at h c.args.row) - 1 = omega (arith, wide) in
-    let last = last-is h c.args.row c.index-links-last.result c.links.result.now c.links-2.result.now c.index-links-last.is c.links.ensures.links c.links-2.ensures.links under.some in
-    let other : length (seq_at (form_at h) c.args.below (last_in (form_at h) c.args.row)) ≢ 1 = λ one. not-both (c.is_single.ensures.1 (rw last one)) c.if-is_single.false in
-    let inside : length c.links.result.now - 1 < length (links_at h c.args.row) = omega (arith, under.some, wide) in
-    let owns = owns-child c.requires.row.graph inside did.same did.row did.sole did.fresh did.parent_head did.parent_links did.stays did.others did.owners did.changes did.makes in
-    let moved = row-moved c.args.below owns c.requires.row.well c.requires.row.sums in
-    let enough : 2 ≤ length (seq_at (form_at c.own_child-child.new.self) c.args.below c.own_child-child.result) = rw moved.items (child-more c.requires.row is other) in
-    (search rules, (search rules, (can-pop-child owns c.requires.row, (omega (arith, enough), ((λ _. enough), omega (arith, c.requires.spare, did.changes.trades.balance.spare_nodes, did.changes.trades.nodes))))))
+    let moved = row-moved c.args.below (owns g t own) c.requires.row.well c.requires.row.sums in
+    let enough : 2 ≤ length (seq_at (form_at c.own_child-child.new.self) c.args.below c.own_child-child.result) = rw moved.items (child-more c.requires.row (last g t own) (more g t own)) in
+    (search rules, (search rules, (can-pop-child (owns g t own) c.requires.row, (omega (arith, enough), ((λ _. enough), omega (arith, c.requires.spare, did.changes.trades.balance.spare_nodes, did.changes.trades.nodes))))))
 
 pub pop_inner-shrink_sums-requires-clause-sole : goal.pop_inner-shrink_sums-requires-clause-sole
 pop_inner-shrink_sums-requires-clause-sole g t c =
-    let h = c.args.heap.now in
-    let did = c.own_child-child.ensures in
-    let under = over h c.args.below c.args.row c.requires.row.well c.requires.row.sums in
-    let wide = ap length c.links.ensures.links in
-    let is : length c.links.result.now - 1 ≡ length (links_at h c.args.row) - 1 = omega (arith, wide) in
-    let last = last-is h c.args.row c.index-links-last.result c.links.result.now c.links-2.result.now c.index-links-last.is c.links.ensures.links c.links-2.ensures.links under.some in
-    let other : length (seq_at (form_at h) c.args.below (last_in (form_at h) c.args.row)) ≢ 1 = λ one. not-both (c.is_single.ensures.1 (rw last one)) c.if-is_single.false in
-    let inside : length c.links.result.now - 1 < length (links_at h c.args.row) = omega (arith, under.some, wide) in
-    let owns = owns-child c.requires.row.graph inside did.same did.row did.sole did.fresh did.parent_head did.parent_links did.stays did.others did.owners did.changes did.makes in
-    sole-step owns c.requires.row is other c.pop_in-given.ensures
+    let own = (goal.at.pop_inner-shrink_sums-requires-clause-sole g t c).After-own_child-child in
+    sole-step (owns g t own) c.requires.row (last g t own) (more g t own) c.pop_in-given.ensures
 
 pub pop_inner-shrink_sums-requires-clause-inner : goal.pop_inner-shrink_sums-requires-clause-inner
 pop_inner-shrink_sums-requires-clause-inner g t c =
-    let h = c.args.heap.now in
-    let did = c.own_child-child.ensures in
-    let under = over h c.args.below c.args.row c.requires.row.well c.requires.row.sums in
-    let wide = ap length c.links.ensures.links in
-    let is : length c.links.result.now - 1 ≡ length (links_at h c.args.row) - 1 = omega (arith, wide) in
-    let last = last-is h c.args.row c.index-links-last.result c.links.result.now c.links-2.result.now c.index-links-last.is c.links.ensures.links c.links-2.ensures.links under.some in
-    let other : length (seq_at (form_at h) c.args.below (last_in (form_at h) c.args.row)) ≢ 1 = λ one. not-both (c.is_single.ensures.1 (rw last one)) c.if-is_single.false in
-    let inside : length c.links.result.now - 1 < length (links_at h c.args.row) = omega (arith, under.some, wide) in
-    let owns = owns-child c.requires.row.graph inside did.same did.row did.sole did.fresh did.parent_head did.parent_links did.stays did.others did.owners did.changes did.makes in
+    let own = (goal.at.pop_inner-shrink_sums-requires-clause-inner g t c).After-own_child-child in
     let up : c.args.below + 1 ≡ suc c.args.below = omega arith in
-    rw up (form-step owns c.requires.row is other c.pop_in-given.ensures)
+    rw up (form-step (owns g t own) c.requires.row (last g t own) (more g t own) c.pop_in-given.ensures)
 
 pub pop_inner-shrink_sums-requires-clause-few : goal.pop_inner-shrink_sums-requires-clause-few
 pop_inner-shrink_sums-requires-clause-few g t c =
-    let h = c.args.heap.now in
-    let did = c.own_child-child.ensures in
-    let under = over h c.args.below c.args.row c.requires.row.well c.requires.row.sums in
-    let wide = ap length c.links.ensures.links in
-    let is : length c.links.result.now - 1 ≡ length (links_at h c.args.row) - 1 = omega (arith, wide) in
-    let last = last-is h c.args.row c.index-links-last.result c.links.result.now c.links-2.result.now c.index-links-last.is c.links.ensures.links c.links-2.ensures.links under.some in
-    let other : length (seq_at (form_at h) c.args.below (last_in (form_at h) c.args.row)) ≢ 1 = λ one. not-both (c.is_single.ensures.1 (rw last one)) c.if-is_single.false in
-    let inside : length c.links.result.now - 1 < length (links_at h c.args.row) = omega (arith, under.some, wide) in
-    let owns = owns-child c.requires.row.graph inside did.same did.row did.sole did.fresh did.parent_head did.parent_links did.stays did.others did.owners did.changes did.makes in
-    sums-few owns c.requires.row is other c.pop_in-given.ensures
+    let own = (goal.at.pop_inner-shrink_sums-requires-clause-few g t c).After-own_child-child in
+    sums-few (owns g t own) c.requires.row (last g t own) (more g t own) c.pop_in-given.ensures
 
 pub pop_inner-shrink_sums-requires-clause-some : goal.pop_inner-shrink_sums-requires-clause-some
 pop_inner-shrink_sums-requires-clause-some g t c =
-    let h = c.args.heap.now in
-    let did = c.own_child-child.ensures in
-    let under = over h c.args.below c.args.row c.requires.row.well c.requires.row.sums in
-    let wide = ap length c.links.ensures.links in
-    let is : length c.links.result.now - 1 ≡ length (links_at h c.args.row) - 1 = omega (arith, wide) in
-    let last = last-is h c.args.row c.index-links-last.result c.links.result.now c.links-2.result.now c.index-links-last.is c.links.ensures.links c.links-2.ensures.links under.some in
-    let other : length (seq_at (form_at h) c.args.below (last_in (form_at h) c.args.row)) ≢ 1 = λ one. not-both (c.is_single.ensures.1 (rw last one)) c.if-is_single.false in
-    let inside : length c.links.result.now - 1 < length (links_at h c.args.row) = omega (arith, under.some, wide) in
-    let owns = owns-child c.requires.row.graph inside did.same did.row did.sole did.fresh did.parent_head did.parent_links did.stays did.others did.owners did.changes did.makes in
-    sums-some owns c.requires.row is other c.pop_in-given.ensures
+    let own = (goal.at.pop_inner-shrink_sums-requires-clause-some g t c).After-own_child-child in
+    sums-some (owns g t own) c.requires.row (last g t own) (more g t own) c.pop_in-given.ensures
 
 pub pop_inner-returns : goal.pop_inner-returns
 pop_inner-returns g t c =
-    let h = c.args.heap.now in
-    let did = c.own_child-child.ensures in
-    let under = over h c.args.below c.args.row c.requires.row.well c.requires.row.sums in
-    let wide = ap length c.links.ensures.links in
-    let is : length c.links.result.now - 1 ≡ length (links_at h c.args.row) - 1 = omega (arith, wide) in
-    let last = last-is h c.args.row c.index-links-last.result c.links.result.now c.links-2.result.now c.index-links-last.is c.links.ensures.links c.links-2.ensures.links under.some in
-    let other : length (seq_at (form_at h) c.args.below (last_in (form_at h) c.args.row)) ≢ 1 = λ one. not-both (c.is_single.ensures.1 (rw last one)) c.if-is_single.false in
-    let inside : length c.links.result.now - 1 < length (links_at h c.args.row) = omega (arith, under.some, wide) in
-    let owns = owns-child c.requires.row.graph inside did.same did.row did.sole did.fresh did.parent_head did.parent_links did.stays did.others did.owners did.changes did.makes in
-    pops-step owns c.requires.row is other c.pop_in-given.ensures (omega arith) c.shrink_sums.ensures.writes c.shrink_sums.ensures.changes c.shrink_sums.ensures.makes
+    let own = (goal.at.pop_inner-returns g t c).After-own_child-child in
+    pops-step (owns g t own) c.requires.row (last g t own) (more g t own) c.pop_in-given.ensures (omega arith) c.shrink_sums.ensures.writes c.shrink_sums.ensures.changes c.shrink_sums.ensures.makes
