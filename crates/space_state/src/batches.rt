@@ -1,5 +1,5 @@
 //! Batches: edits that undo takes back together.
-ghost use Rattle.std.specs.Prelude.{◌≡◌, ◌≢◌, [], Err};
+ghost use Rattle.std.specs.Prelude.{◌≡◌, ◌≢◌, ◌+◌, ◌<◌, ◌≤◌, [], length, Err};
 ghost use Rattle.node_heap.specs.Heap.{HasSpares};
 ghost use Rattle.shell_terms.specs.Command.{begin, «end», abort};
 ghost use Rattle.plain_space.specs.Workspace.{Workspace};
@@ -11,6 +11,7 @@ ghost use Rattle.space_state.specs.View.{room_of};
 use crate::roots::{Batch, RootedHeap};
 use crate::turning::TURN_NODES;
 use plain_space::Refusal;
+use state_rows::{EMPTIED_NODES, PUSHED_NODES};
 
 impl RootedHeap {
     /// Opens a batch, whose base is the current state.
@@ -35,6 +36,8 @@ impl RootedHeap {
         ensures ends { EndsOnRows «end» self.old result self.new }
         ensures spares { HoardsNone «end» self.old result self.new }
         ensures ample { HasSpares self.old.heap 0 TURN_NODES → result ≢ Err Refusal.Memory }
+        ensures made { self.new.heap.made ≤ self.old.heap.made + TURN_NODES }
+        ensures below { (W : Workspace) → Keeps self.old [] W → length W.undo < W.history → self.new.heap.made ≤ self.old.heap.made + (PUSHED_NODES + EMPTIED_NODES) }
     {
         let Some(base) = self.roots.batch.base() else {
             return Err(Refusal::Batch);

@@ -79,6 +79,7 @@ impl RootedHeap {
         ensures spares { HoardsNone (history count) self.old result self.new }
         ensures ample { HasSpares self.old.heap 0 HISTORY_NODES → result ≢ Err Refusal.Memory }
         ensures made { self.new.heap.made ≤ self.old.heap.made + HISTORY_NODES }
+        ensures within { (W : Workspace) → Keeps self.old [] W → length W.undo ≤ count → self.new.heap.made ≡ self.old.heap.made }
     {
         if self.in_batch() {
             return Err(Refusal::Batch);

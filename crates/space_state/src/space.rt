@@ -102,9 +102,12 @@ impl Space {
     }
 
     /// Makes the version's state the current one, as an edit does. `Batch` in a batch, else `Absent` where there is none of
-    /// this name, and last `Memory` where memory runs out.
+    /// this name, and last `Memory` where memory runs out. It makes at most 28 rows, and at most 11 where undo has fewer states than
+    /// its bound.
     pub fn back(&mut self, version: Name<'_>) -> Result<(), Refusal>
-        ensures { Ends (back (name_bytes version.entry)) self.old result self.new }
+        ensures ends { Ends (back (name_bytes version.entry)) self.old result self.new }
+        ensures made { self.new.made ≤ self.old.made + 28 }
+        ensures below { (W : Workspace) → StandsFor self.old.pool W → length W.undo < W.history → self.new.made ≤ self.old.made + 11 }
     {
         self.rows.back(version)
     }
@@ -120,9 +123,11 @@ impl Space {
     }
 
     /// Closes the batch, whose edits undo takes back together. `Batch` where none is open, and last `Memory` where memory runs
-    /// out.
+    /// out. It makes at most 28 rows, and at most 11 where undo has fewer states than its bound.
     pub fn end(&mut self) -> Result<(), Refusal>
-        ensures { Ends «end» self.old result self.new }
+        ensures ends { Ends «end» self.old result self.new }
+        ensures made { self.new.made ≤ self.old.made + 28 }
+        ensures below { (W : Workspace) → StandsFor self.old.pool W → length W.undo < W.history → self.new.made ≤ self.old.made + 11 }
     {
         self.rows.end()
     }
@@ -138,10 +143,11 @@ impl Space {
     }
 
     /// Sets how many states undo keeps. The last ones stay, now and after each edit. A new space keeps 4,294,967,295. `Batch` in a
-    /// batch, else `Memory` where memory runs out. It makes at most 17 rows.
+    /// batch, else `Memory` where memory runs out. It makes at most 17 rows, and none where undo has no more states than this.
     pub fn history(&mut self, count: u32) -> Result<(), Refusal>
         ensures ends { Ends (history count) self.old result self.new }
         ensures made { self.new.made ≤ self.old.made + 17 }
+        ensures within { (W : Workspace) → StandsFor self.old.pool W → length W.undo ≤ count → self.new.made ≡ self.old.made }
     {
         self.rows.set_history(count)
     }

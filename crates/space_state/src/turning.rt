@@ -16,7 +16,7 @@ use elem_core::{DEEPEST, Line, Name, Text, text_of};
 use node_heap::Link;
 use plain_space::Refusal;
 use rrb_core::{Flex, FlexRef};
-use state_rows::{EMPTIED_NODES, emptied};
+use state_rows::{EMPTIED_NODES, PUSHED_NODES, emptied};
 
 /// The most lines of a buffer.
 pub(crate) const MOST_ITEMS: u32 = u32::MAX;
@@ -96,6 +96,9 @@ impl RootedHeap {
         requires kept { (W : Workspace) × (s : State) × Keeps self.old (next ∷ []) W × IsStateIn self.old.heap self.old.bits next s }
         ensures turns { (W : Workspace) (s : State) → Keeps self.old (next ∷ []) W → IsStateIn self.old.heap self.old.bits next s →
             TurnsTo self.old self.new [] TURN_NODES (with_current W s) }
+        ensures made { self.new.heap.made ≤ self.old.heap.made + TURN_NODES }
+        ensures below { (W : Workspace) (s : State) → Keeps self.old (next ∷ []) W → IsStateIn self.old.heap self.old.bits next s → length W.undo < W.history →
+            self.new.heap.made ≤ self.old.heap.made + (PUSHED_NODES + EMPTIED_NODES) }
         ensures spares { KeepsToNeed self.old.heap self.new.heap 0 0 }
     {
         let before = self.roots.current;
@@ -125,6 +128,9 @@ impl RootedHeap {
         requires kept { (b : List ℕ) × (W : Workspace) × (s : State) × Keeps self.old (before ∷ b) W × (length b ≤ 2) × IsStateIn self.old.heap self.old.bits before s }
         ensures turns { (b : List ℕ) (W : Workspace) (s : State) → Keeps self.old (before ∷ b) W → IsStateIn self.old.heap self.old.bits before s →
             TurnsBeside self.old self.new b 0 TURN_NODES (record W { undo = undo_with W s; redo = [] }) }
+        ensures made { self.new.heap.made ≤ self.old.heap.made + TURN_NODES }
+        ensures below { (b : List ℕ) (W : Workspace) (s : State) → Keeps self.old (before ∷ b) W → IsStateIn self.old.heap self.old.bits before s → length W.undo < W.history →
+            self.new.heap.made ≤ self.old.heap.made + (PUSHED_NODES + EMPTIED_NODES) }
         ensures spares { KeepsToNeed self.old.heap self.new.heap 0 0 }
     {
         self.push_undo(before);

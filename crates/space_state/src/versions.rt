@@ -1,5 +1,5 @@
 //! Versions: states that are kept by their names.
-ghost use Rattle.std.specs.Prelude.{◌≡◌, ◌≢◌, ◌+◌, [], ◌∷◌, IfOk, OnErr, IsOk, Err};
+ghost use Rattle.std.specs.Prelude.{◌≡◌, ◌≢◌, ◌+◌, ◌<◌, ◌≤◌, [], ◌∷◌, length, IfOk, OnErr, IsOk, Err};
 ghost use Rattle.elem_core.specs.Shown.{name_bytes};
 ghost use Rattle.node_heap.specs.Heap.{HasSpares};
 ghost use Rattle.node_heap.specs.Calls.{KeepsToNeed};
@@ -18,7 +18,9 @@ use champ_kinds::{Map, MapRef};
 use elem_core::{Name, NoMemory, text_of};
 use node_heap::Link;
 use plain_space::Refusal;
-use state_rows::{version, versions_alike, with_version, without_version};
+use state_rows::{
+    EMPTIED_NODES, PUSHED_NODES, version, versions_alike, with_version, without_version,
+};
 
 impl RootedHeap {
     /// The versions by their names.
@@ -114,6 +116,8 @@ impl RootedHeap {
         ensures ends { EndsOnRows (back (name_bytes name.entry)) self.old result self.new }
         ensures spares { HoardsNone (back (name_bytes name.entry)) self.old result self.new }
         ensures ample { HasSpares self.old.heap 0 TURN_NODES → result ≢ Err Refusal.Memory }
+        ensures made { self.new.heap.made ≤ self.old.heap.made + TURN_NODES }
+        ensures below { (W : Workspace) → Keeps self.old [] W → length W.undo < W.history → self.new.heap.made ≤ self.old.heap.made + (PUSHED_NODES + EMPTIED_NODES) }
     {
         if self.in_batch() {
             return Err(Refusal::Batch);

@@ -1,6 +1,7 @@
 //! How the current state is edited in place, as the edits of buffers do: a row with one owner is written, and one with more is
-//! copied. Outside a batch the current state is put at the end of undo first, so that it has a second owner and the whole way is
-//! copied. In a batch the way is copied once, where the base, a version or a history has it too, and written from then on.
+//! copied. Outside a batch the current state is put at the end of undo first, where undo keeps one at least, so that it has a second
+//! owner and the whole way is copied. In a batch, and where undo keeps none, the way is copied once, where the base, a version or a
+//! history has it too, and written from then on.
 ghost use Rattle.std.specs.Prelude.{◌≡◌, ℕ, ◌+◌, ◌*◌, ◌<◌, ◌≤◌, ◌^◌, List, [], ◌∷◌, length, Option, None, IfOk, true};
 ghost use Rattle.elem_core.specs.declared.codes.TheConstants.{DEEPEST};
 ghost use Rattle.elem_core.specs.Shown.{name_bytes};
@@ -19,7 +20,7 @@ use crate::roots::RootedHeap;
 use crate::turning::TURN_NODES;
 use elem_core::{Name, NoMemory, Text, text_of};
 use rrb_core::{Flex, FlexRef};
-use state_rows::{FoundBuffer, buffer_made, find_buffer, lines_put};
+use state_rows::{EMPTIED_NODES, FoundBuffer, PUSHED_NODES, buffer_made, find_buffer, lines_put};
 
 impl RootedHeap {
     /// The lines of the buffer, and the number of names that are alike.
@@ -54,6 +55,8 @@ impl RootedHeap {
         requires spares { HasSpares self.old.heap 0 TURN_NODES }
         requires kept { (b : List ℕ) × (W : Workspace) × Keeps self.old b W × (length b ≤ 2) }
         ensures turns { (b : List ℕ) (W : Workspace) → Keeps self.old b W → TurnsBeside self.old self.new b 0 TURN_NODES (current_kept W) }
+        ensures made { self.new.heap.made ≤ self.old.heap.made + TURN_NODES }
+        ensures below { (b : List ℕ) (W : Workspace) → Keeps self.old b W → length W.undo < W.history → self.new.heap.made ≤ self.old.heap.made + (PUSHED_NODES + EMPTIED_NODES) }
         ensures spares { KeepsToNeed self.old.heap self.new.heap 0 0 }
         ensures inside { (W : Workspace) → Keeps self.old [] W → in_batch W ≡ true → self.new ≡ self.old }
     {

@@ -1,11 +1,12 @@
 //! Histories with a state more or less, edited in place: of the rows on the way to a history's end each one is written that
 //! has one owner, as long as all rows above it have one owner too, and each other one is copied. Each call takes the
 //! rows that it makes from spares, which its caller has reserved, and keeps what is held besides.
-ghost use Rattle.std.specs.Prelude.{◌≡◌, ℕ, ◌+◌, ◌-◌, ◌^◌, ◌<◌, ◌≤◌, List, [], ◌∷◌, ◌++◌, length, take, drop, slice_get, IsSomeAnd};
+ghost use Rattle.std.specs.Prelude.{◌≡◌, ℕ, ◌+◌, ◌-◌, ◌*◌, ◌^◌, ◌<◌, ◌≤◌, List, [], ◌∷◌, ◌++◌, length, take, drop, slice_get, IsSomeAnd};
 ghost use Rattle.node_heap.specs.Links.{count};
 ghost use Rattle.node_heap.specs.Heap.{form_at, holds_at, owners_at, hold_count, HasSpares, half_holds};
 ghost use Rattle.node_heap.specs.Calls.{HasHolds, KeepsHeld, KeepsOwners, KeepsToNeed, MakesJust, MakesWhatCame, SameRows, Trades};
 ghost use Rattle.node_heap.specs.Owner.{alone};
+ghost use Rattle.rrb_core.specs.Vector.{height_at};
 ghost use Rattle.edit_vec.specs.Path.{pop_path};
 ghost use Rattle.plain_space.specs.Workspace.{State};
 ghost use Rattle.state_rows.specs.InHeap.{IsStateIn, IsHistoryIn};
@@ -92,8 +93,9 @@ fn opened(heap: &mut Heap<Text>, history: Flex) -> FlexEdit
     }
 }
 
-/// The history without its first `states` states. It spends the history's hold. It makes rows along the cut alone, at most 15 nodes, and
-/// shares the others, so that it takes the time of one path beside that of what goes.
+/// The history without its first `states` states. It spends the history's hold. It makes rows along the cut alone, at most twice the
+/// history's height and one more, so at most 15 nodes, and shares the others, so that it takes the time of one path beside that of what
+/// goes.
 pub fn shortened(heap: &mut Heap<Text>, history: Flex, states: u32) -> Flex
     requires few { hold_count heap.old < half_holds }
     requires held { 0 < holds_at heap.old history }
@@ -101,6 +103,7 @@ pub fn shortened(heap: &mut Heap<Text>, history: Flex, states: u32) -> Flex
     requires spares { HasSpares heap.old 0 17 }
     ensures keeps { KeepsHeld (λ l. count l (history ∷ [])) heap.old heap.new }
     ensures trades { Trades heap.old heap.new (history ∷ []) (result ∷ []) 0 15 }
+    ensures made { heap.new.made ≤ heap.old.made + (2 * height_at heap.old history + 1) }
     ensures spares { KeepsToNeed heap.old heap.new 0 0 }
     ensures history { (bits : ℕ) (ss : List State) → IsHistoryIn heap.old bits history ss → IsHistoryIn heap.new bits result (drop states ss) }
 {

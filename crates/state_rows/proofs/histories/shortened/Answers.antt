@@ -1,5 +1,5 @@
-use Rattle.std.proofs.Common.{◌≡◌, drop, subst, sym, arith}
-use Rattle.rrb_core.specs.Vector.{elements, IsGoodVector}
+use Rattle.std.proofs.Common.{◌≡◌, ◌+◌, ◌*◌, ◌≤◌, drop, subst, sym, arith}
+use Rattle.rrb_core.specs.Vector.{elements, height_at, IsGoodVector}
 use Rattle.state_rows.proofs.Edited.{emptied-keeps, emptied-history, cut-history, cut-trades}
 use Rattle.state_rows.proofs.Room.{room-spared, room-freed, room-then}
 use Rattle.state_rows.proofs.histories.shortened.Goals as goal
@@ -17,6 +17,13 @@ pub returns-clause-trades : goal.returns-clause-trades
 returns-clause-trades c =
     let done = c.in-Ok.ensures in
     cut-trades c.args.history 15 done.answered done.made c.release.ensures.releases c.release.ensures.graph (omega (arith, done.good.shape.low))
+
+pub returns-clause-made : goal.returns-clause-made
+returns-clause-made c =
+    let done = c.in-Ok.ensures in
+    let height = height_at c.args.heap.now c.args.history in
+    let low = subst (λ l. height_at c.drop_front.new.heap c.in-Ok.rest ≤ height_at c.args.heap.now l) c.view.ensures done.low in
+    omega (arith, (cut-trades c.args.history (2 * height + 1) done.answered done.made c.release.ensures.releases c.release.ensures.graph (omega (arith, low))).made)
 
 pub returns-clause-spares : goal.returns-clause-spares
 returns-clause-spares c = room-then (room-spared c.requires.spares c.in-Ok.ensures.spares) (room-freed c.release.ensures.releases)

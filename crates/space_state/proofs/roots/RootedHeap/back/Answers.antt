@@ -48,3 +48,13 @@ returns-clause-ends c = λ W K.
 
 pub returns-clause-spares : goal.returns-clause-spares
 returns-clause-spares c = λ W K. room-then (room-then (room-reserved c.in_ok-reserve.ensures.greater c.reserve.ensures.rest) (room-made c.hold.ensures.makes)) c.turn_to.ensures.spares
+
+pub returns-clause-made : goal.returns-clause-made
+returns-clause-made c = omega (arith, c.turn_to.ensures.made, c.hold.ensures.makes.made, c.reserve.ensures.rest.made)
+
+pub returns-clause-below : goal.returns-clause-below
+returns-clause-below c = λ W K fewer.
+    let there = some-there (IsStateIn c.args.self.now.heap c.args.self.now.bits) (c.version.ensures W K) c.in-Some.is in
+    let held = held (goal.at.returns-clause-below c).After-hold W K in
+    let made = c.turn_to.ensures.below W there.0 held.keeps held.is fewer in
+    omega (arith, made, c.hold.ensures.makes.made, c.reserve.ensures.rest.made)

@@ -39,3 +39,11 @@ returns-clause-ends c = λ W K.
 
 pub returns-clause-spares : goal.returns-clause-spares
 returns-clause-spares c = λ W K. room-then (room-reserved c.in_ok-reserve.ensures.greater c.reserve.ensures.rest) c.record.ensures.spares
+
+pub returns-clause-below : goal.returns-clause-below
+returns-clause-below c = λ W K fewer.
+    let opened = base-told c.base.ensures c.in-Some.is in
+    let now = keeps-same (same-heap c.reserve.ensures.rest) K in
+    let base = batch-open c.in-Some.base opened now in
+    let made = c.record.ensures.below [] _ base.0 (keeps-closed c.in-Some.base opened now) base.2 fewer in
+    omega (arith, made, c.reserve.ensures.rest.made)

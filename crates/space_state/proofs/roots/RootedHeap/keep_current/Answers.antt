@@ -58,3 +58,11 @@ returns-then-in_batch-clause-spares c = room-same c.args.self.now.heap
 
 pub returns-clause-spares : goal.returns-clause-spares
 returns-clause-spares c = room-then (room-made c.hold.ensures.makes) c.record.ensures.spares
+
+pub returns-clause-made : goal.returns-clause-made
+returns-clause-made c = omega (arith, c.record.ensures.made, c.hold.ensures.makes.made)
+
+pub returns-clause-below : goal.returns-clause-below
+returns-clause-below c = λ b W K fewer.
+    let now = held (goal.at.returns-clause-below c).After-hold b W K in
+    omega (arith, c.record.ensures.below b W W.current now (current-stands now) fewer, c.hold.ensures.makes.made)

@@ -41,3 +41,7 @@ returns-clause-turns c = λ b W x K is.
 
 pub returns-clause-spares : goal.returns-clause-spares
 returns-clause-spares c = room-then c.push_undo.ensures.spares c.emptied-redo.ensures.spares
+
+-- where undo has fewer states than its bound none goes from it
+pub returns-clause-below : goal.returns-clause-below
+returns-clause-below c = λ b W x K is fewer. omega (arith, c.push_undo.ensures.below b W K fewer, (rw c.from_root.ensures at c.emptied-redo.ensures.trades).made)

@@ -1,8 +1,9 @@
-use Rattle.std.proofs.Common.{◌≡◌, ◌≤◌, [], false, refl, sym, ◌∙◌, arith}
+use Rattle.std.proofs.Common.{◌≡◌, ◌≤◌, [], false, refl, sym, ap, ◌∙◌, arith}
 use Rattle.shell_terms.specs.Command.{history}
 use Rattle.plain_space.specs.Workspace.{most, in_batch}
 use Rattle.plain_space.specs.Cost.{cost}
 use Rattle.plain_space.proofs.LastOf.{last-few}
+use Rattle.space_state.specs.declared.roots.RootedHeap.{RootedHeap}
 use Rattle.space_state.proofs.Keeping.{heap-is, same-heap, keeps-same, keeps-history, rises-same, rises-then, rises-more, turns-of, turns-by}
 use Rattle.space_state.proofs.Steps.{history-refused, history-done, may-lack, memory-refused}
 use Rattle.state_rows.proofs.Room.{room-then}
@@ -36,3 +37,9 @@ returns-clause-ends c = λ W K.
 
 pub returns-clause-spares : goal.returns-clause-spares
 returns-clause-spares c = λ W K. room-then (room-reserved c.in_ok-reserve.ensures.greater c.reserve.ensures.rest) c.shorten_undo.ensures.spares
+
+-- where undo has no more states than the new bound nothing is cut
+pub returns-clause-within : goal.returns-clause-within
+returns-clause-within c = λ W K few.
+    let same = c.shorten_undo.ensures.short [] W (keeps-same (same-heap c.reserve.ensures.rest) K) few in
+    ap (λ (s : RootedHeap). s.heap.made) same ∙ c.reserve.ensures.rest.made

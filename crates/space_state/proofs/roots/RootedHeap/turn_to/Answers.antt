@@ -36,3 +36,9 @@ returns-then-in_batch-clause-spares c = c.give_up.ensures.spares
 
 pub returns-else-in_batch-clause-spares : goal.returns-else-in_batch-clause-spares
 returns-else-in_batch-clause-spares c = c.record.ensures.spares
+
+pub returns-then-in_batch-clause-below : goal.returns-then-in_batch-clause-below
+returns-then-in_batch-clause-below c = λ W x K is fewer. omega (arith, c.give_up.ensures.made)
+
+pub returns-else-in_batch-clause-below : goal.returns-else-in_batch-clause-below
+returns-else-in_batch-clause-below c = λ W x K is fewer. c.record.ensures.below [] (record W { current = x }) W.current (keeps-current c.args.next x K is) (current-stands K) fewer

@@ -1,14 +1,24 @@
-use Rattle.std.proofs.Common.{subst}
+use Rattle.std.proofs.Common.{◌+◌, ◌<◌, ◌≤◌, length, subst}
 use Rattle.elem_core.specs.Shown.{name_bytes}
 use Rattle.shell_terms.specs.Command as command
+use Rattle.plain_space.specs.Workspace.{Workspace}
+use Rattle.state_rows.specs.Standing.{StandsFor}
 use Rattle.space_state.specs.View.{SpaceView, Ends, shown}
-use Rattle.space_state.proofs.Front.{ends-seen, kept-on}
+use Rattle.space_state.proofs.Front.{keeps-alone, ends-seen, kept-on}
 use Rattle.space_state.proofs.space.Space.back.Goals as goal
 
 pub invariant_of-self : goal.invariant_of-self
 invariant_of-self c = kept-on (command.back (name_bytes c.args.version)) c.self.inside.rows c.back.result c.back.new.self c.self.invariant c.back.ensures.ends
 
-pub returns : goal.returns
-returns c =
+pub returns-clause-ends : goal.returns-clause-ends
+returns-clause-ends c =
     subst (λ (v : SpaceView). Ends (command.back (name_bytes c.args.version)) v c.back.result (shown c.back.new.self)) c.self.view_is
     (ends-seen (command.back (name_bytes c.args.version)) c.self.inside.rows c.back.result c.back.new.self c.self.invariant.0 c.self.invariant.1 c.back.ensures.ends c.back.ensures.spares)
+
+pub returns-clause-made : goal.returns-clause-made
+returns-clause-made c = subst (λ (v : SpaceView). c.back.new.self.heap.made ≤ v.made + 28) c.self.view_is c.back.ensures.made
+
+pub returns-clause-below : goal.returns-clause-below
+returns-clause-below c =
+    subst (λ (v : SpaceView). (W : Workspace) → StandsFor v.pool W → length W.undo < W.history → c.back.new.self.heap.made ≤ v.made + 11) c.self.view_is
+    (λ W stands fewer. c.back.ensures.below W (keeps-alone c.self.inside.rows c.self.invariant.0 c.self.invariant.1 W stands) fewer)

@@ -1,7 +1,9 @@
-use Rattle.std.proofs.Common.{◌+◌, ◌≤◌, subst}
+use Rattle.std.proofs.Common.{◌≡◌, ◌+◌, ◌≤◌, length, subst}
 use Rattle.shell_terms.specs.Command as command
+use Rattle.plain_space.specs.Workspace.{Workspace}
+use Rattle.state_rows.specs.Standing.{StandsFor}
 use Rattle.space_state.specs.View.{SpaceView, Ends, shown}
-use Rattle.space_state.proofs.Front.{ends-seen, kept-on}
+use Rattle.space_state.proofs.Front.{keeps-alone, ends-seen, kept-on}
 use Rattle.space_state.proofs.space.Space.history.Goals as goal
 
 pub invariant_of-self : goal.invariant_of-self
@@ -14,3 +16,8 @@ returns-clause-ends c =
 
 pub returns-clause-made : goal.returns-clause-made
 returns-clause-made c = subst (λ (v : SpaceView). c.set_history.new.self.heap.made ≤ v.made + 17) c.self.view_is c.set_history.ensures.made
+
+pub returns-clause-within : goal.returns-clause-within
+returns-clause-within c =
+    subst (λ (v : SpaceView). (W : Workspace) → StandsFor v.pool W → length W.undo ≤ c.args.count → c.set_history.new.self.heap.made ≡ v.made) c.self.view_is
+    (λ W stands few. c.set_history.ensures.within W (keeps-alone c.self.inside.rows c.self.invariant.0 c.self.invariant.1 W stands) few)
