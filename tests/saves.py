@@ -7,7 +7,7 @@ tests/pool_reader.py.
 Amid each script the program saves its space and loads what it saved, which mustn't change any reply, and tells by
 `stats` and `made` how many rows it has and how many it ever made: from one such pair to the next the second number
 doesn't fall, and rises at least by what the first one rises. After the script it saves once more: the document must be
-valid and stand for the states, versions, undo and redo of the plain shell, it must be the one compact text of its rows,
+valid and stand for the states, versions, undo with its bound, and redo of the plain shell, it must be the one compact text of its rows,
 and `stats` must count these. The first difference is printed with its script, and ends the run with status 1. It isn't
 part of the gate.
 """

@@ -257,7 +257,7 @@ const FAULTS: [(Words, &str, &[u8], &[Faulty]); 4] = [
     (
         &[],
         FULL_UNDO,
-        b"load d\nread n d\nundo\nread n d\nread n nothere\n",
+        b"load d\nread n d\nread n d\nundo\nread n nothere\n",
         &FULL_CUT_OFF,
     ),
 ];

@@ -21,12 +21,12 @@ UndoStaysBounded =
     (work after : Workspace) (command : PlainCommand) (reply : List Bytes) → HasBoundedUndo work
     → answer work command ≡ Ok (tells reply after) → HasBoundedUndo after
 
--- The bound of undo after a command: the one that `history` names, and after any other command the one that was.
+-- The bound of undo after a command that the workspace answers: the one that `history` names, and after any other the one that was.
 abbrev pub bound_after : PlainCommand → ℕ → ℕ
 bound_after (history count) bound = count
 bound_after _ bound = bound
 
--- What a command leaves has the bound that `history` names, or the one that was.
+-- `history` alone changes the bound, of all commands that the workspace answers. A `load`, which it doesn't, brings its document's.
 abbrev pub HistoryAloneSetsBound : Type 0
 HistoryAloneSetsBound =
     (work after : Workspace) (command : PlainCommand) (reply : List Bytes)

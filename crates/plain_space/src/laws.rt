@@ -6,12 +6,13 @@ pub fn undo_takes_back()
     ensures { UndoTakesBack }
 {}
 
-/// Undo stays within its bound, whatever the command.
+/// Undo stays within its bound, whatever the command that the workspace answers.
 pub fn undo_stays_bounded()
     ensures { UndoStaysBounded }
 {}
 
-/// `history` alone sets the bound of undo: no other command changes it.
+/// Of the commands that a workspace answers, `history` alone changes the bound of undo. A `load`, whose bound is its document's, isn't
+/// one of them.
 pub fn history_alone_sets_the_bound()
     ensures { HistoryAloneSetsBound }
 {}

@@ -104,7 +104,7 @@ fn damage_in(rt: &HostRuntime, bytes: &[u8]) -> Option<Damage> {
 }
 
 // Each document fails the test beside it, if there is one, and those before it in the order of the tests not. The last ones are of
-// version 1, whose tries are less deep and whose bits are at most 32, and of one that isn't read.
+// version 1, whose tries are less deep and whose bits are at most 32, and of versions that aren't read.
 const DOCUMENTS: [(&[u8], Option<Damage>); 27] = [
     (b"{\"bits\":64", Some(Damage::Json)),
     (b"[\"\xff\"]", Some(Damage::Json)),
