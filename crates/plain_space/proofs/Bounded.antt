@@ -1,13 +1,13 @@
 -- What a command leaves of undo and its bound: `history` alone changes the bound, and undo stays within it.
-use Rattle.std.proofs.Common.{◌≡◌, ℕ, ◌+◌, ◌-◌, ◌≤◌, Bool, true, false, List, [], ◌∷◌, ◌++◌, Option, None, Some, Result, Ok, Err, is_some, length, take, slice_get, refl, arith, subst}
+use Rattle.std.proofs.Common.{◌≡◌, ℕ, ◌+◌, ◌-◌, ◌≤◌, Bool, true, false, ◌&&◌, List, [], ◌∷◌, ◌++◌, Option, None, Some, Result, Ok, Err, is_some, length, take, slice_get, refl, arith, subst}
 use Rattle.std.specs.Prelude.{nat_le}
 use Rattle.std.proofs.lemmas.List.{length-take}
 use Rattle.plain_space.specs.declared.refusal.Refusal.{Refusal}
-use Rattle.plain_space.specs.declared.refusal.Refusal.TheVariants.{Absent, Exists, Limit, Batch, Empty}
+use Rattle.plain_space.specs.declared.refusal.Refusal.TheVariants.{Absent, Exists, Range, Limit, Batch, Empty}
 use Rattle.shell_terms.specs.Edit.{Bytes}
-use Rattle.shell_terms.specs.Command.{PlainCommand, edit, mark, unmark, back, undo, redo, begin, «end», abort, history, get, len, show, list, stars, marks, same, eqv, stats, made, read, write, save, load, quit}
-use Rattle.plain_space.specs.Workspace.{State, Workspace, HasBoundedUndo, most, lines_of, in_batch, version_of, with_current}
-use Rattle.plain_space.specs.Refusing.{needs, unless, given, room, outside_batch}
+use Rattle.shell_terms.specs.Command.{PlainCommand, edit, merge, mark, unmark, back, undo, redo, begin, «end», abort, history, get, len, show, list, stars, marks, same, eqv, stats, made, read, write, save, load, part, chain, indent, dedent, quit}
+use Rattle.plain_space.specs.Workspace.{State, Workspace, HasBoundedUndo, most, lines_of, merged_with, all_lines_pass, in_batch, version_of, with_current}
+use Rattle.plain_space.specs.Refusing.{needs, unless, given, has_room_for, room, outside_batch}
 use Rattle.plain_space.specs.Edited.{edited}
 use Rattle.plain_space.specs.Answer.{Answer, tells, elsewhere, answer, asked, becomes}
 use Rattle.plain_space.specs.Laws.{bound_after}
@@ -74,6 +74,7 @@ before-few states n few = let short = length-take (length states - 1) states in 
 of_answer : (work : Workspace) (command : PlainCommand) → IsBounded (bound_after command work.history) work (answer work command)
 unfolding answer IsBounded
 of_answer work (edit change) = of_becomes work (edited work.current change)
+of_answer work (merge kind version) = of_given work.history work (version_of work version) Absent _ (λ state. of_becomes work (Ok (merged_with kind work.current state)))
 of_answer work (mark version) = of_outside work.history work _ (of_unless work.history work (is_some (version_of work version)) Exists _ (record { same = refl; few = λ few. few }))
 of_answer work (unmark version) = of_outside work.history work _ (of_given work.history work (version_of work version) Absent _ (λ state. record { same = refl; few = λ few. few }))
 of_answer work (back version) = of_outside work.history work _ (of_given work.history work (version_of work version) Absent _ (λ state. of_becomes work (Ok state)))
@@ -98,6 +99,10 @@ of_answer work (read name file) = tt
 of_answer work (write name file) = of_given work.history work (lines_of work.current name) Absent _ (λ lines. tt)
 of_answer work (save file) = of_outside work.history work _ tt
 of_answer work (load file) = of_outside work.history work _ tt
+of_answer work (part file number) = of_outside work.history work _ (of_needs work.history work (nat_le 1 number && nat_le number 64) Range (Ok elsewhere) tt)
+of_answer work (chain file number) = of_outside work.history work _ (of_needs work.history work (nat_le 1 number && nat_le number 64) Range (Ok elsewhere) tt)
+of_answer work (indent count file) = of_outside work.history work _ (of_needs work.history work (nat_le count 80) Range _ (of_needs work.history work (all_lines_pass (has_room_for count) work) Limit (Ok elsewhere) tt))
+of_answer work (dedent count file) = of_outside work.history work _ (of_needs work.history work (nat_le count 80) Range (Ok elsewhere) tt)
 of_answer work quit = stays work
 
 module _ (work after : Workspace) (command : PlainCommand) (reply : List Bytes) where

@@ -4,11 +4,11 @@ use Rattle.std.specs.Fmt.{decimal}
 use lib.Chars.{codes}
 use Rattle.std.specs.FinMap as map
 use Rattle.plain_space.specs.declared.refusal.Refusal.{Refusal}
-use Rattle.plain_space.specs.declared.refusal.Refusal.TheVariants.{Absent, Exists, Range}
+use Rattle.plain_space.specs.declared.refusal.Refusal.TheVariants.{Absent, Exists, Range, Limit}
 use Rattle.shell_terms.specs.Edit.{Bytes}
-use Rattle.shell_terms.specs.Command.{PlainCommand, edit, mark, unmark, back, undo, redo, begin, «end», abort, history, get, len, show, list, stars, marks, same, eqv, stats, made, read, write, save, load, quit}
-use Rattle.plain_space.specs.Workspace.{State, Workspace, sizes, same_texts, same_state, version_of, undo_with, last_of, with_current}
-use Rattle.plain_space.specs.Refusing.{unless, given, on_lines, on_range, room, on_last, outside_batch, on_base}
+use Rattle.shell_terms.specs.Command.{PlainCommand, edit, merge, mark, unmark, back, undo, redo, begin, «end», abort, history, get, len, show, list, stars, marks, same, eqv, stats, made, read, write, save, load, part, chain, indent, dedent, quit}
+use Rattle.plain_space.specs.Workspace.{State, Workspace, sizes, same_texts, same_state, merged_with, all_lines_pass, version_of, undo_with, last_of, with_current}
+use Rattle.plain_space.specs.Refusing.{needs, unless, given, on_lines, on_range, on_number, on_count, has_room_for, room, on_last, outside_batch, on_base}
 use Rattle.plain_space.specs.Edited.{edited}
 
 -- What a command comes to that nothing in the workspace refuses: its reply lines, and the workspace afterwards; or what the
@@ -59,6 +59,8 @@ becomes work (Err reason) = Err reason
 -- The answer of each command: the first refusal that holds, else its reply and the workspace afterwards.
 unfoldable pub answer : Workspace → PlainCommand → Answer
 answer work (edit change) = becomes work (edited work.current change)
+answer work (merge kind version) =
+    given (version_of work version) Absent (λ state. becomes work (Ok (merged_with kind work.current state)))
 answer work (mark version) = outside_batch work (
     unless (is_some (version_of work version)) Exists (
     done (record work { versions = map.insert work.versions version work.current })))
@@ -101,4 +103,10 @@ answer work (read name file) = Ok elsewhere
 answer work (write name file) = on_lines work.current name (λ lines. Ok elsewhere)
 answer work (save file) = outside_batch work (Ok elsewhere)
 answer work (load file) = outside_batch work (Ok elsewhere)
+answer work (part file number) = outside_batch work (on_number number (Ok elsewhere))
+answer work (chain file number) = outside_batch work (on_number number (Ok elsewhere))
+answer work (indent count file) = outside_batch work (
+    on_count count (
+    needs (all_lines_pass (has_room_for count) work) Limit (Ok elsewhere)))
+answer work (dedent count file) = outside_batch work (on_count count (Ok elsewhere))
 answer work quit = done work

@@ -1,25 +1,25 @@
 -- Edits of the code as those of the definitions.
 use Rattle.elem_core.specs.Shown.{line_bytes, name_bytes}
-use Rattle.shell_terms.specs.Edit.{PlainEdit, new, add, set, put, del, cat, cut, copy, drop, star, unstar, fill}
-use Rattle.shell_terms.specs.Command.{PlainCommand, edit}
+use Rattle.shell_terms.specs.Edit.{new, add, set, put, del, cat, cut, copy, drop, star, unstar, fill}
+use Rattle.shell_terms.specs.Command.{PlainCommand, edit, merge, join_stars, common_stars, other_stars, join_buffers}
 use Rattle.plain_space.specs.declared.edit.Edit.{Edit}
-use Rattle.plain_space.specs.declared.edit.Edit.TheVariants.{New, Add, Set, Put, Del, Cat, Cut, Copy, Drop, Star, Unstar, Read}
+use Rattle.plain_space.specs.declared.edit.Edit.TheVariants.{New, Add, Set, Put, Del, Cat, Cut, Copy, Drop, Star, Unstar, StarMerge, StarBoth, StarLess, Merge, Read}
 
--- The edit with its names and texts as their bytes.
-abbrev pub plain_edit : Edit → PlainEdit
-plain_edit (New name) = new (name_bytes name)
-plain_edit (Add name text) = add (name_bytes name) (line_bytes text)
-plain_edit (Set name index text) = set (name_bytes name) index (line_bytes text)
-plain_edit (Put name index text) = put (name_bytes name) index (line_bytes text)
-plain_edit (Del name from to) = del (name_bytes name) from to
-plain_edit (Cat name other) = cat (name_bytes name) (name_bytes other)
-plain_edit (Cut name from to other) = cut (name_bytes name) from to (name_bytes other)
-plain_edit (Copy name other) = copy (name_bytes name) (name_bytes other)
-plain_edit (Drop name) = drop (name_bytes name)
-plain_edit (Star name) = star (name_bytes name)
-plain_edit (Unstar name) = unstar (name_bytes name)
-plain_edit (Read name lines) = fill (name_bytes name) lines
-
--- The command that carries out the edit.
+-- The command that carries out the edit, with its names and texts as their bytes.
 abbrev pub edit_command : Edit → PlainCommand
-edit_command change = edit (plain_edit change)
+edit_command (New name) = edit (new (name_bytes name))
+edit_command (Add name text) = edit (add (name_bytes name) (line_bytes text))
+edit_command (Set name index text) = edit (set (name_bytes name) index (line_bytes text))
+edit_command (Put name index text) = edit (put (name_bytes name) index (line_bytes text))
+edit_command (Del name from to) = edit (del (name_bytes name) from to)
+edit_command (Cat name other) = edit (cat (name_bytes name) (name_bytes other))
+edit_command (Cut name from to other) = edit (cut (name_bytes name) from to (name_bytes other))
+edit_command (Copy name other) = edit (copy (name_bytes name) (name_bytes other))
+edit_command (Drop name) = edit (drop (name_bytes name))
+edit_command (Star name) = edit (star (name_bytes name))
+edit_command (Unstar name) = edit (unstar (name_bytes name))
+edit_command (StarMerge version) = merge join_stars (name_bytes version)
+edit_command (StarBoth version) = merge common_stars (name_bytes version)
+edit_command (StarLess version) = merge other_stars (name_bytes version)
+edit_command (Merge version) = merge join_buffers (name_bytes version)
+edit_command (Read name lines) = edit (fill (name_bytes name) lines)

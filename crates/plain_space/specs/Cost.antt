@@ -1,11 +1,12 @@
 -- How many rows a command may add to the pool.
 use Rattle.std.specs.Prelude.{ℕ, ◌+◌, ◌*◌, ◌==◌, List, length}
 use Rattle.std.specs.List.{count_by}
+use Rattle.std.specs.Option.{option_map_or}
 use Rattle.std.specs.FinMap as map
 use Rattle.elem_core.specs.Codes.{text_code, masked_code}
 use Rattle.shell_terms.specs.Edit.{Bytes, PlainEdit, new, add, set, put, del, cat, cut, copy, drop, star, unstar, fill}
-use Rattle.shell_terms.specs.Command.{PlainCommand, edit, mark, unmark, back, undo, redo, «end», history}
-use Rattle.plain_space.specs.Workspace.{State, Workspace}
+use Rattle.shell_terms.specs.Command.{Merging, join_buffers, PlainCommand, edit, merge, mark, unmark, back, undo, redo, «end», history}
+use Rattle.plain_space.specs.Workspace.{State, Workspace, version_of}
 
 -- How many of the names have the masked code of this one, itself included where it is among them.
 abbrev pub alike : ℕ → List Bytes → Bytes → ℕ
@@ -39,10 +40,20 @@ edit_cost bits (star name) now = 256 + alike_stars bits now name
 edit_cost bits (unstar name) now = 256 + alike_stars bits now name
 edit_cost bits (fill name lines) now = 256 + 2 * length lines + alike_buffers bits now name
 
+-- How many stars two states have, or how many buffers, as a merge goes over them.
+abbrev pub merge_size : Merging → State → State → ℕ
+merge_size join_buffers now other = map.len now.buffers + map.len other.buffers
+merge_size _ now other = map.len now.stars + map.len other.stars
+
+-- The most rows that a merge adds: a number, and for each of these sixteen.
+abbrev pub merge_cost : Merging → State → State → ℕ
+merge_cost kind now other = 256 + 16 * merge_size kind now other
+
 -- The same of every command. What only asks, begins or aborts adds none. Of the line
 -- `read` the edit that it comes to is counted.
 unfoldable pub cost : ℕ → PlainCommand → Workspace → ℕ
 cost bits (edit change) work = edit_cost bits change work.current
+cost bits (merge kind version) work = option_map_or (merge_cost kind work.current) (version_of work version) 0
 cost bits (mark version) work = 64 + alike_versions bits work version
 cost bits (unmark version) work = 64 + alike_versions bits work version
 cost bits (back version) work = 256

@@ -1,12 +1,15 @@
 -- Laws of the plain answer.
-use Rattle.std.specs.Prelude.{◌≡◌, ℕ, ◌-◌, ◌<◌, ◌≤◌, List, [], ◌∷◌, None, Some, length, Ok, Err, IsTrue}
+use Rattle.std.specs.Prelude.{◌≡◌, ℕ, ◌+◌, ◌-◌, ◌<◌, ◌≤◌, Bool, List, [], ◌∷◌, None, Some, length, Ok, Err, IsTrue}
 use Rattle.std.specs.Bool.{Decides}
+use Rattle.std.specs.FinMap as map
+use Rattle.elem_core.specs.declared.TheConstants.{MAX_LINE}
 use Rattle.plain_space.specs.declared.refusal.Refusal.TheVariants.{Range, Limit}
 use Rattle.shell_terms.specs.Edit.{Bytes, PlainEdit, add, put}
-use Rattle.shell_terms.specs.Command.{PlainCommand, edit, undo, history}
-use Rattle.plain_space.specs.Workspace.{State, Workspace, most, lines_of, same_texts, same_state, in_batch, last_of, HasBoundedUndo, with_current}
+use Rattle.shell_terms.specs.Command.{Merging, join_stars, common_stars, other_stars, join_buffers, PlainCommand, edit, merge, undo, history, indent}
+use Rattle.plain_space.specs.Workspace.{State, Workspace, most, lines_of, same_texts, same_state, in_batch, version_of, merged_with, all_lines_pass, last_of, HasBoundedUndo, with_current}
+use Rattle.plain_space.specs.Lines.{IsLineIn}
 use Rattle.plain_space.specs.Edited.{edited}
-use Rattle.plain_space.specs.Answer.{tells, answer, done}
+use Rattle.plain_space.specs.Answer.{tells, elsewhere, answer, done}
 
 -- Outside a batch, where undo keeps a state at least, an undo takes an edit back: all is as it was but that redo has the edited
 -- state alone, and that undo has lost the state for which the edit's took the place.
@@ -48,11 +51,37 @@ FullLines =
 abbrev pub FullRedo : Type 0
 FullRedo = (work : Workspace) → work.base ≡ None → length work.redo ≡ most → 1 ≤ length work.undo → answer work undo ≡ Err Limit
 
--- In a batch an edit changes the current state alone.
-abbrev pub EditsInBatch : Type 0
-EditsInBatch =
-    (work : Workspace) (change : PlainEdit) (next : State) → IsTrue (in_batch work) → edited work.current change ≡ Ok next
-    → answer work (edit change) ≡ done (record work { current = next })
+-- In a batch an edit changes the current state alone, and so does a merge.
+pub record EditsInBatch : Type 0 where
+  pub edits :
+      (work : Workspace) (change : PlainEdit) (next : State) → IsTrue (in_batch work) → edited work.current change ≡ Ok next
+      → answer work (edit change) ≡ done (record work { current = next })
+  pub merges :
+      (work : Workspace) (kind : Merging) (version : Bytes) (state : State) → IsTrue (in_batch work) → version_of work version ≡ Some state
+      → answer work (merge kind version) ≡ done (record work { current = merged_with kind work.current state })
+
+-- A merge with a state's equal changes nothing, but that no star is left of those which the other hasn't.
+pub record MergesWithEqual : Type 0 where
+  pub stars_joined : (now : State) → merged_with join_stars now now ≡ now
+  pub stars_common : (now : State) → merged_with common_stars now now ≡ now
+  pub no_stars : (now : State) → merged_with other_stars now now ≡ record now { stars = map.empty }
+  pub buffers_joined : (now : State) → merged_with join_buffers now now ≡ now
+
+-- All lines pass a test exactly where each line of each state does.
+abbrev pub AllLinesPass : Type 0
+AllLinesPass =
+    (test : Bytes → Bool) (work : Workspace)
+    → Decides (all_lines_pass test work) ((text : Bytes) → IsLineIn work text → IsTrue (test text))
+
+-- Lines aren't moved by so many spaces where one of them, in whatever state, hasn't room for these. Else the store has the say.
+pub record IndentNeedsRoom : Type 0 where
+  pub too_long :
+      (work : Workspace) (count : ℕ) (file text : Bytes) → work.base ≡ None → count ≤ 80 → IsLineIn work text → MAX_LINE < length text + count
+      → answer work (indent count file) ≡ Err Limit
+  pub room :
+      (work : Workspace) (count : ℕ) (file : Bytes) → work.base ≡ None → count ≤ 80
+      → ((text : Bytes) → IsLineIn work text → length text + count ≤ MAX_LINE)
+      → answer work (indent count file) ≡ Ok elsewhere
 
 -- What is the same is equal, and what is equal is the same: of the lines of buffers, and of states.
 pub record SameIsEqual : Type 0 where

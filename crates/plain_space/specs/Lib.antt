@@ -1,4 +1,5 @@
 pub mod Workspace
+pub mod Lines
 pub mod Refusing
 pub mod Edited
 pub mod Answer

@@ -1,5 +1,6 @@
 -- Refusals, one after another: each word goes on to the next test, or refuses.
-use Rattle.std.specs.Prelude.{ℕ, ◌-◌, Bool, true, false, ◌&&◌, nat_le, List, Option, None, Some, length, take, slice_get, Result, Err}
+use Rattle.std.specs.Prelude.{ℕ, ◌+◌, ◌-◌, Bool, true, false, ◌&&◌, nat_le, List, Option, None, Some, length, take, slice_get, Result, Err}
+use Rattle.elem_core.specs.declared.TheConstants.{MAX_LINE}
 use Rattle.plain_space.specs.declared.refusal.Refusal.{Refusal}
 use Rattle.plain_space.specs.declared.refusal.Refusal.TheVariants.{Absent, Range, Limit, Batch, Empty}
 use Rattle.shell_terms.specs.Edit.{Bytes}
@@ -27,6 +28,18 @@ on_lines state name next = given (lines_of state name) Absent next
 -- Goes on where the lines have a range from the one index to the other; else Range.
 abbrev pub on_range : {X : Type 0} → ℕ → ℕ → List Bytes → Result X Refusal → Result X Refusal
 on_range from to lines next = needs (nat_le from to && nat_le to (length lines)) Range next
+
+-- Goes on where a partial document may have this number in its chain: 1 to 64; else Range.
+abbrev pub on_number : {X : Type 0} → ℕ → Result X Refusal → Result X Refusal
+on_number number next = needs (nat_le 1 number && nat_le number 64) Range next
+
+-- Goes on where lines may be moved by so many spaces: at most 80; else Range.
+abbrev pub on_count : {X : Type 0} → ℕ → Result X Refusal → Result X Refusal
+on_count count next = needs (nat_le count 80) Range next
+
+-- Whether a line is a line with so many bytes more.
+abbrev pub has_room_for : ℕ → Bytes → Bool
+has_room_for count line = nat_le (length line + count) MAX_LINE
 
 -- Goes on where so many lines, or states, may be in one list; else Limit.
 abbrev pub room : {X : Type 0} → ℕ → Result X Refusal → Result X Refusal

@@ -3,12 +3,12 @@ use Rattle.std.specs.Prelude.{◌≡◌, ℕ, Bool, true, false, List, [], ◌�
 use Prim.Native.String.{String}
 use lib.Chars.{codes}
 use Rattle.shell_terms.specs.Edit.{Bytes, new, add, set, put, del, cat, cut, copy, drop, star, unstar, fill}
-use Rattle.shell_terms.specs.Command.{PlainCommand, edit, mark, unmark, back, undo, redo, begin, «end», abort, history, get, len, show, list, stars, marks, same, eqv, stats, made, read, write, save, load, quit}
-use Rattle.plain_space.specs.declared.refusal.Refusal.TheVariants.{Absent, Batch}
+use Rattle.shell_terms.specs.Command.{PlainCommand, join_stars, common_stars, other_stars, join_buffers, edit, merge, mark, unmark, back, undo, redo, begin, «end», abort, history, get, len, show, list, stars, marks, same, eqv, stats, made, read, write, save, load, part, chain, indent, dedent, quit}
+use Rattle.plain_space.specs.declared.refusal.Refusal.TheVariants.{Absent, Range, Batch}
 use Rattle.plain_space.specs.Workspace.{start, last_of}
 use Rattle.plain_space.specs.Answer.{answer, elsewhere}
 use Rattle.plain_space.specs.Cost.{cost}
-use Rattle.plain_space.specs.Memory.{wants_memory}
+use Rattle.shell_terms.specs.Kinds.{wants_memory}
 use Rattle.plain_space.specs.Session.{replies, from}
 
 -- From a new space, the commands get these reply lines.
@@ -199,6 +199,30 @@ WorkedEqualVersions = GetReplies
     (edit (new a) ∷ edit (add a x) ∷ mark v ∷ edit (set a 0 y) ∷ mark p ∷ eqv v p ∷ edit (set a 0 x) ∷ mark w ∷ eqv v w ∷ edit (star z) ∷ mark z ∷ eqv v z ∷ edit (unstar z) ∷ edit (copy a b) ∷ edit (drop a) ∷ mark q ∷ eqv v q ∷ eqv v y ∷ eqv y v ∷ eqv v v ∷ [])
     (lines ("ok" ∷ "ok" ∷ "ok" ∷ "ok" ∷ "ok" ∷ "= no" ∷ "ok" ∷ "ok" ∷ "= yes" ∷ "ok" ∷ "ok" ∷ "= no" ∷ "ok" ∷ "ok" ∷ "ok" ∷ "ok" ∷ "= no" ∷ "! none" ∷ "! none" ∷ "= yes" ∷ []))
 
+-- The stars that a version has too, those of both, and those that a version that isn't there hasn't.
+abbrev pub WorkedStarMerges : Type 0
+WorkedStarMerges = GetReplies
+    (edit (star x) ∷ edit (star y) ∷ mark v ∷ edit (unstar x) ∷ edit (star z) ∷ merge common_stars v ∷ stars ∷ undo ∷ merge join_stars v ∷ stars ∷ merge other_stars w ∷ [])
+    (lines ("ok" ∷ "ok" ∷ "ok" ∷ "ok" ∷ "ok" ∷ "ok" ∷ "= y" ∷ "ok" ∷ "ok" ∷ "ok" ∷ "= x" ∷ "= y" ∷ "= z" ∷ "ok" ∷ "! none" ∷ []))
+
+-- The stars that a version hasn't; and three merges with a version that isn't there.
+abbrev pub WorkedStarLess : Type 0
+WorkedStarLess = GetReplies
+    (edit (star x) ∷ edit (star y) ∷ mark v ∷ edit (unstar x) ∷ edit (star z) ∷ merge other_stars v ∷ stars ∷ merge join_stars w ∷ merge common_stars w ∷ merge join_buffers w ∷ stars ∷ [])
+    (lines ("ok" ∷ "ok" ∷ "ok" ∷ "ok" ∷ "ok" ∷ "ok" ∷ "= z" ∷ "ok" ∷ "! none" ∷ "! none" ∷ "! none" ∷ "= z" ∷ "ok" ∷ []))
+
+-- A version's buffers come to those that are there, which keep their lines.
+abbrev pub WorkedMerge : Type 0
+WorkedMerge = GetReplies
+    (edit (new a) ∷ edit (add a p) ∷ edit (new b) ∷ mark v ∷ edit (drop b) ∷ edit (set a 0 q) ∷ merge join_buffers v ∷ get a 0 ∷ list ∷ [])
+    (lines ("ok" ∷ "ok" ∷ "ok" ∷ "ok" ∷ "ok" ∷ "ok" ∷ "ok" ∷ "= q" ∷ "= a 1" ∷ "= b 0" ∷ "ok" ∷ []))
+
+-- A merge is one step of undo. In a batch it goes with the batch, given up or undone.
+abbrev pub WorkedMergeSteps : Type 0
+WorkedMergeSteps = GetReplies
+    (edit (star x) ∷ mark v ∷ edit (unstar x) ∷ begin ∷ merge join_stars v ∷ stars ∷ abort ∷ stars ∷ begin ∷ edit (star y) ∷ merge join_stars v ∷ end ∷ stars ∷ undo ∷ stars ∷ merge join_stars v ∷ redo ∷ undo ∷ stars ∷ [])
+    (lines ("ok" ∷ "ok" ∷ "ok" ∷ "ok" ∷ "ok" ∷ "= x" ∷ "ok" ∷ "ok" ∷ "ok" ∷ "ok" ∷ "ok" ∷ "ok" ∷ "ok" ∷ "= x" ∷ "= y" ∷ "ok" ∷ "ok" ∷ "ok" ∷ "ok" ∷ "! empty" ∷ "ok" ∷ "ok" ∷ []))
+
 -- What the space or the store has to say something to.
 abbrev pub on_devices : List PlainCommand
 on_devices = stats ∷ made ∷ read a p ∷ write a p ∷ save p ∷ load p ∷ []
@@ -209,6 +233,20 @@ pub record WorkedElsewhere : Type 0 where
   pub in_batch :
       from start (edit (new a) ∷ begin ∷ []) (λ work. map (answer work) on_devices)
       ≡ Ok elsewhere ∷ Ok elsewhere ∷ Ok elsewhere ∷ Ok elsewhere ∷ Err Batch ∷ Err Batch ∷ []
+
+-- Chains of documents by the number of the last, and lines moved by so many spaces: the least and the most, and one past them.
+abbrev pub on_documents : List PlainCommand
+on_documents =
+    part p 0 ∷ part p 1 ∷ part p 64 ∷ part p 65 ∷ chain p 0 ∷ chain p 1 ∷ chain p 64 ∷ chain p 65
+    ∷ indent 80 p ∷ indent 81 p ∷ dedent 80 p ∷ dedent 81 p ∷ []
+
+-- What is refused of these: in a batch all, before their numbers are looked at.
+pub record WorkedDocuments : Type 0 where
+  pub outside :
+      map (answer start) on_documents
+      ≡ Err Range ∷ Ok elsewhere ∷ Ok elsewhere ∷ Err Range ∷ Err Range ∷ Ok elsewhere ∷ Ok elsewhere ∷ Err Range
+      ∷ Ok elsewhere ∷ Err Range ∷ Ok elsewhere ∷ Err Range ∷ []
+  pub in_batch : from start (begin ∷ []) (λ work. map (answer work) on_documents) ≡ replicate 12 (Err Batch)
 
 -- The costs of commands by so many bits, in a workspace with two buffers, a star and a version.
 abbrev pub costs : ℕ → List PlainCommand → List ℕ
@@ -226,6 +264,10 @@ on_buffers =
 abbrev pub on_names : List PlainCommand
 on_names = edit (star a) ∷ edit (unstar z) ∷ mark w ∷ unmark v ∷ []
 
+-- Merges with a version, and with one that isn't there.
+abbrev pub on_merges : List PlainCommand
+on_merges = merge join_stars v ∷ merge common_stars v ∷ merge other_stars v ∷ merge join_buffers v ∷ merge join_buffers w ∷ []
+
 -- Commands that write states or lists of states.
 abbrev pub on_states : List PlainCommand
 on_states = back v ∷ undo ∷ redo ∷ end ∷ history 1 ∷ []
@@ -233,16 +275,18 @@ on_states = back v ∷ undo ∷ redo ∷ end ∷ history 1 ∷ []
 -- Commands that write nothing.
 abbrev pub on_nothing : List PlainCommand
 on_nothing =
-    begin ∷ abort ∷ get a 0 ∷ len a ∷ show a 0 0 ∷ list ∷ stars ∷ marks ∷ same a b ∷ eqv v v ∷ stats ∷ made ∷ write a p ∷ save p ∷ quit ∷ []
+    begin ∷ abort ∷ get a 0 ∷ len a ∷ show a 0 0 ∷ list ∷ stars ∷ marks ∷ same a b ∷ eqv v v ∷ stats ∷ made ∷ write a p ∷ save p ∷ part p 1 ∷ chain p 1 ∷ indent 1 p ∷ dedent 1 p ∷ quit ∷ []
 
--- A cost counts the names of the written map whose codes are alike: all by no bits, and by all bits the name itself.
+-- A cost counts the names of the written map whose codes are alike: all by no bits, and by all bits the name itself. That of a merge
+-- counts the names of both.
 pub record WorkedCost : Type 0 where
   pub buffers_alike : costs 0 on_buffers ≡ 258 ∷ 258 ∷ 258 ∷ 770 ∷ 770 ∷ 322 ∷ 772 ∷ 772 ∷ 258 ∷ 258 ∷ 258 ∷ 262 ∷ 258 ∷ []
   pub buffers_apart : costs 64 on_buffers ≡ 256 ∷ 257 ∷ 257 ∷ 769 ∷ 769 ∷ 321 ∷ 770 ∷ 769 ∷ 257 ∷ 256 ∷ 257 ∷ 261 ∷ 256 ∷ []
   pub names_alike : costs 0 on_names ≡ 257 ∷ 257 ∷ 65 ∷ 65 ∷ []
   pub names_apart : costs 64 on_names ≡ 256 ∷ 257 ∷ 64 ∷ 65 ∷ []
+  pub merges : costs 0 on_merges ≡ 288 ∷ 288 ∷ 288 ∷ 320 ∷ 0 ∷ []
   pub states : costs 0 on_states ≡ 256 ∷ 64 ∷ 256 ∷ 256 ∷ 256 ∷ []
-  pub nothing : costs 0 on_nothing ≡ replicate 15 0
+  pub nothing : costs 0 on_nothing ≡ replicate 19 0
 
 -- Whether each of the commands may want memory.
 abbrev pub wants : List PlainCommand → List Bool
@@ -253,7 +297,8 @@ wants = map wants_memory
 pub record WorkedMemory : Type 0 where
   pub buffers : wants on_buffers ≡ replicate 13 true
   pub names : wants on_names ≡ replicate 4 true
+  pub merges : wants on_merges ≡ replicate 5 true
   pub states : wants on_states ≡ replicate 5 true
   pub sorting : wants (list ∷ stars ∷ marks ∷ []) ≡ replicate 3 true
-  pub files : wants (read a p ∷ write a p ∷ save p ∷ load p ∷ []) ≡ replicate 4 true
+  pub files : wants (read a p ∷ write a p ∷ save p ∷ load p ∷ on_documents) ≡ replicate 16 true
   pub looking : wants (begin ∷ abort ∷ get a 0 ∷ len a ∷ show a 0 0 ∷ same a b ∷ eqv v v ∷ stats ∷ made ∷ quit ∷ []) ≡ replicate 10 false

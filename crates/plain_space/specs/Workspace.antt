@@ -1,10 +1,12 @@
 -- The plain workspace: what a space stands for.
-use Rattle.std.specs.Prelude.{ℕ, ◌-◌, ◌^◌, ◌≤◌, Bool, ◌&&◌, if◌then◌else◌, List, [], ◌∷◌, ◌++◌, Option, None, is_some, length, drop, map as each, nat_eq}
+use Rattle.std.specs.Prelude.{ℕ, ◌-◌, ◌^◌, ◌≤◌, Bool, not, ◌&&◌, if◌then◌else◌, List, [], ◌∷◌, ◌++◌, Option, None, is_some, length, drop, map as each, nat_eq}
 use Rattle.std.specs.Ordering.{nat_cmp}
 use Rattle.std.specs.Cmp.Lexicographic.{slice_cmp}
 use Rattle.std.specs.FinMap as map
 use lib.Pointwise.{pointwise}
+use Rattle.std.specs.List.{list_all}
 use Rattle.shell_terms.specs.Edit.{Bytes}
+use Rattle.shell_terms.specs.Command.{Merging, join_stars, common_stars, other_stars, join_buffers}
 
 -- A finite map from names, in byte order.
 abbrev pub Named : Type 0 → Type 0
@@ -67,6 +69,25 @@ with_star state name = record state { stars = map.insert state.stars name tt }
 abbrev pub without_star : State → Bytes → State
 without_star state name = record state { stars = map.remove state.stars name }
 
+-- What the first has, and of the second what has other names.
+abbrev pub joined : {X : Type 0} → Named X → Named X → Named X
+joined one other = map.from_entries (map.entries one ++ map.entries other)
+
+-- What the first has with names that the second has too.
+abbrev pub in_common : {X Y : Type 0} → Named X → Named Y → Named X
+in_common one other = map.retain_keys one (λ name. map.contains_key other name)
+
+-- What the first has with names that the second hasn't.
+abbrev pub apart_from : {X Y : Type 0} → Named X → Named Y → Named X
+apart_from one other = map.retain_keys one (λ name. not (map.contains_key other name))
+
+-- The state merged with that of a version.
+abbrev pub merged_with : Merging → State → State → State
+merged_with join_stars state version = record state { stars = joined state.stars version.stars }
+merged_with common_stars state version = record state { stars = in_common state.stars version.stars }
+merged_with other_stars state version = record state { stars = apart_from state.stars version.stars }
+merged_with join_buffers state version = record state { buffers = joined state.buffers version.buffers }
+
 -- The name of a buffer with the number of its lines.
 abbrev pub size_of : Bytes × List Bytes → Bytes × ℕ
 size_of buffer = (buffer.0, length buffer.1)
@@ -110,6 +131,14 @@ undo_with work state = last_of work.history (work.undo ++ state ∷ [])
 -- Undo holds no more states than the bound says.
 abbrev pub HasBoundedUndo : Workspace → Type 0
 HasBoundedUndo work = length work.undo ≤ work.history
+
+-- The states that the workspace keeps, beside the base of a batch.
+abbrev pub states_of : Workspace → List State
+states_of work = work.current ∷ (map.values work.versions ++ (work.undo ++ work.redo))
+
+-- Whether each line of each of these states passes the test.
+abbrev pub all_lines_pass : (Bytes → Bool) → Workspace → Bool
+all_lines_pass test work = list_all (λ state. list_all (list_all test) (map.values state.buffers)) (states_of work)
 
 -- The state of the version, if there is one of this name.
 abbrev pub version_of : Workspace → Bytes → Option State

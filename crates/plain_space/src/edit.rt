@@ -28,6 +28,14 @@ pub enum Edit<'a> {
     Star(Name<'a>),
     /// Takes the star of the name away.
     Unstar(Name<'a>),
+    /// Adds the stars of the version.
+    StarMerge(Name<'a>),
+    /// Leaves the stars that the version has too.
+    StarBoth(Name<'a>),
+    /// Leaves the stars that the version hasn't.
+    StarLess(Name<'a>),
+    /// Adds the buffers of the version that have other names.
+    Merge(Name<'a>),
     /// Gives the buffer these lines, made or replaced. There are at most 4,294,967,295.
     Read(Name<'a>, Texts),
 }

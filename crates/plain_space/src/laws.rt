@@ -1,5 +1,5 @@
 //! Laws of the plain answer: each function does nothing, and its contract is the law.
-ghost use Rattle.plain_space.specs.Laws.{UndoTakesBack, UndoStaysBounded, HistoryAloneSetsBound, FullLines, FullRedo, EditsInBatch, SameIsEqual};
+ghost use Rattle.plain_space.specs.Laws.{UndoTakesBack, UndoStaysBounded, HistoryAloneSetsBound, FullLines, FullRedo, EditsInBatch, MergesWithEqual, AllLinesPass, IndentNeedsRoom, SameIsEqual};
 
 /// Outside a batch, an undo takes an edit back.
 pub fn undo_takes_back()
@@ -27,9 +27,24 @@ pub fn full_redo()
     ensures { FullRedo }
 {}
 
-/// In a batch an edit changes the current state alone.
+/// In a batch an edit changes the current state alone, and so does a merge.
 pub fn edits_in_batch()
     ensures { EditsInBatch }
+{}
+
+/// A merge with a state's equal changes nothing, or takes all stars away.
+pub fn merges_with_equal()
+    ensures { MergesWithEqual }
+{}
+
+/// All lines pass a test just where each line of each state does.
+pub fn all_lines_pass()
+    ensures { AllLinesPass }
+{}
+
+/// Lines aren't moved where one of them, in whatever state, would be too long.
+pub fn indent_needs_room()
+    ensures { IndentNeedsRoom }
 {}
 
 /// Buffers have the same lines, and states are the same, just where they are equal.

@@ -1,5 +1,5 @@
 //! Worked commands with their replies, as facts: each function does nothing, and its contract is the fact.
-ghost use Rattle.plain_space.specs.Worked.{WorkedRanges, WorkedMissing, WorkedPut, WorkedCut, WorkedCutItself, WorkedCopy, WorkedFill, WorkedDoubling, WorkedDoubledEqual, WorkedStars, WorkedUndo, WorkedUndoStar, WorkedMarks, WorkedBack, WorkedBatch, WorkedAbort, WorkedInBatch, WorkedLast, WorkedHistory, WorkedRedoCut, WorkedNoHistory, WorkedHistoryStays, WorkedEqualLines, WorkedEqualVersions, WorkedElsewhere, WorkedCost, WorkedMemory};
+ghost use Rattle.plain_space.specs.Worked.{WorkedRanges, WorkedMissing, WorkedPut, WorkedCut, WorkedCutItself, WorkedCopy, WorkedFill, WorkedDoubling, WorkedDoubledEqual, WorkedStars, WorkedUndo, WorkedUndoStar, WorkedMarks, WorkedBack, WorkedBatch, WorkedAbort, WorkedInBatch, WorkedLast, WorkedHistory, WorkedRedoCut, WorkedNoHistory, WorkedHistoryStays, WorkedEqualLines, WorkedEqualVersions, WorkedStarMerges, WorkedStarLess, WorkedMerge, WorkedMergeSteps, WorkedElsewhere, WorkedDocuments, WorkedCost, WorkedMemory};
 
 /// Lines that a buffer doesn't have, and a name that is taken.
 pub fn ranges()
@@ -121,9 +121,34 @@ pub fn equal_versions()
     ensures { WorkedEqualVersions }
 {}
 
+/// The stars that a version has too, and those of both.
+pub fn star_merges()
+    ensures { WorkedStarMerges }
+{}
+
+/// The stars that a version hasn't.
+pub fn star_less()
+    ensures { WorkedStarLess }
+{}
+
+/// A version's buffers come to those that are there.
+pub fn merge()
+    ensures { WorkedMerge }
+{}
+
+/// A merge is one step of undo, or goes with its batch.
+pub fn merge_steps()
+    ensures { WorkedMergeSteps }
+{}
+
 /// What the space or the store has to say, and the workspace doesn't refuse.
 pub fn elsewhere()
     ensures { WorkedElsewhere }
+{}
+
+/// What is refused of chains of documents and of moved lines.
+pub fn documents()
+    ensures { WorkedDocuments }
 {}
 
 /// A cost counts the names of the written map whose codes are alike.

@@ -2,9 +2,18 @@
 use Rattle.std.specs.Prelude.{ℕ}
 use Rattle.shell_terms.specs.Edit.{Bytes, PlainEdit}
 
+-- What a merge with a version makes of the current state: the stars of both, those that both have, or those that the version hasn't;
+-- or the buffers of both, by their names.
+pub data Merging : Type 0 where
+  join_stars : Merging
+  common_stars : Merging
+  other_stars : Merging
+  join_buffers : Merging
+
 -- What a line of the shell asks for: a command with its names, numbers and texts, in the order of the line.
 pub data PlainCommand : Type 0 where
   edit : (change : PlainEdit) → PlainCommand
+  merge : (kind : Merging) (version : Bytes) → PlainCommand
   mark : (version : Bytes) → PlainCommand
   unmark : (version : Bytes) → PlainCommand
   back : (version : Bytes) → PlainCommand
@@ -28,4 +37,8 @@ pub data PlainCommand : Type 0 where
   write : (name file : Bytes) → PlainCommand
   save : (file : Bytes) → PlainCommand
   load : (file : Bytes) → PlainCommand
+  part : (file : Bytes) (number : ℕ) → PlainCommand
+  chain : (file : Bytes) (number : ℕ) → PlainCommand
+  indent : (count : ℕ) (file : Bytes) → PlainCommand
+  dedent : (count : ℕ) (file : Bytes) → PlainCommand
   quit : PlainCommand

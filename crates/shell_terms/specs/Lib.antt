@@ -1,3 +1,3 @@
 pub mod Edit
 pub mod Command
-pub mod Changing
+pub mod Kinds

@@ -15,6 +15,7 @@ returns c = record {
   buffers_apart = simp computing refl;
   names_alike = simp computing refl;
   names_apart = simp computing refl;
+  merges = simp computing refl;
   states = simp computing refl;
   nothing = simp computing refl;
 }
