@@ -1,5 +1,6 @@
 -- Known bytes over calls of which the first were interrupted and left them as they were.
-use Rattle.std.proofs.Common.{◌≡◌, ℕ, List, ◌++◌, take, None, Some, sym, ap, ◌∙◌}
+use Rattle.std.proofs.Common.{◌≡◌, ℕ, ◌+◌, ◌<◌, List, ◌++◌, length, take, refl, None, Some, sym, ap, ◌∙◌, arith, IfSome, option_map, min}
+use Rattle.std.proofs.lemmas.List.{length-append, length-take, take_all}
 use Rattle.std.specs.declared.option.Option.{Option}
 use Rattle.std.specs.Io.KnownBytes.{Consumes, IsAtEnd, Keeps}
 
@@ -21,3 +22,15 @@ none-given None b c bs n none h k e = tt
 none-given (Some xs) None c bs n none h k e = absurd h
 none-given (Some xs) (Some ys) None bs n none h k e = absurd k
 none-given (Some xs) (Some ys) (Some zs) bs n none h k e = sym h ∙ k ∙ ap (λ m. take m bs ++ zs) none ∙ e
+
+-- a front that is shorter than was asked for is all
+front-all : (most : ℕ) (bytes got : List ℕ) → got ≡ take most bytes → length got < most → got ≡ bytes
+front-all most bytes got is short =
+    let number : length got ≡ min most (length bytes) = ap length is ∙ length-take most bytes in
+    is ∙ take_all most bytes (omega (arith, number, short))
+
+pub known-all : (known : Option (List ℕ)) (most : ℕ) (old got : List ℕ) → IfSome (option_map (take most) known) (λ xs. got ≡ old ++ xs) → length got < most → IfSome known (λ bytes. got ≡ old ++ bytes)
+known-all None most old got is short = tt
+known-all (Some bytes) most old got is short =
+    let number : length got ≡ length old + length (take most bytes) = ap length is ∙ length-append old (take most bytes) in
+    is ∙ ap (λ xs. old ++ xs) (front-all most bytes (take most bytes) refl (omega (arith, number, short)))

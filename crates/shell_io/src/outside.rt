@@ -3,7 +3,8 @@
 //! A source and a sink tell what their reader has left and what their writer holds, where that is known, as it is over
 //! memory; of the system's own streams it isn't. The folder tells nothing. Each call that fails raises their count.
 
-ghost use Rattle.std.specs.Prelude.{◌≡◌, ◌≤◌, length, None, Err, OnOk, ⊤};
+ghost use Rattle.std.specs.Prelude.{◌≡◌, ◌≢◌, ◌<◌, ◌≤◌, ◌++◌, length, None, Err, IfOk, OnOk, IfSome, ⊤, string_bytes};
+ghost use Rattle.std.specs.Io.KnownBytes.{Appends};
 ghost use Rattle.elem_core.specs.Naming.{IsName};
 ghost use Rattle.shell_io.specs.Fault.{one_more};
 
@@ -184,8 +185,22 @@ fn fetch_file<R: Files>(
         Err(error) if error.kind() == ErrorKind::NotFound => return Err(FetchFault::Missing),
         Err(_) => return Err(FetchFault::Failed),
     };
+    read_within(file, limit, into)
+}
+
+// Appends all that the reader has left, if the vector then has no more bytes than the limit. It reads at most one byte past that.
+pub(crate) fn read_within<F: Read + Drop>(
+    input: F,
+    limit: usize,
+    into: &mut Vec<u8>,
+) -> Result<(), FetchFault>
+    ensures within { OnOk result (length into.new.items ≤ limit) }
+    ensures all { OnOk result (IfSome (F.remaining input) (λ bytes. into.new.items ≡ into.old.items ++ bytes)) }
+    ensures large { result ≡ Err FetchFault.Large → IfSome (F.remaining input) (λ bytes. limit < length (into.old.items ++ bytes)) }
+    ensures found { result ≢ Err FetchFault.Missing }
+{
     let most = (limit as u64).saturating_add(1);
-    match file.take(most).read_to_end(into) {
+    match input.take(most).read_to_end(into) {
         Ok(_) if into.len() > limit => Err(FetchFault::Large),
         Ok(_) => Ok(()),
         Err(error) if is_want_of_memory(&error) => Err(FetchFault::Memory),
@@ -231,11 +246,13 @@ fn replaced<R: Files>(system: &R, name: &str) -> io::Result<Option<Permissions>>
     }
 }
 
-// A new file beside the one of this name, and its path.
+// A new file beside the one of this name, and its path, which is no name.
 fn file_beside<R: Files + AllocGlobal>(
     system: &R,
     name: &str,
-) -> Result<(R::File, String), KeepFault> {
+) -> Result<(R::File, String), KeepFault>
+    ensures { IfOk result (λ made. ¬ IsName (string_bytes made.1)) }
+{
     for left in 0..MOST_LEFT {
         // No name begins with a full stop, so this is no file that is kept.
         let path = format!(in system.alloc(); ".{name}.{left}")?;
@@ -248,13 +265,11 @@ fn file_beside<R: Files + AllocGlobal>(
     Err(KeepFault::Failed)
 }
 
-// Gives the new file the permissions of the old one before it holds anything, so that what was private
-// stays so.
-fn fill<F: Write + OpenFile + Drop>(
-    mut file: F,
-    old: Option<Permissions>,
-    bytes: &[u8],
-) -> io::Result<()> {
+// Writes the bytes behind what the new file holds, and gives it the permissions of the old one before, so that what was private stays
+// so.
+fn fill<F: Write + OpenFile>(file: &mut F, old: Option<Permissions>, bytes: &[u8]) -> io::Result<()>
+    ensures { OnOk result (Appends (F.contents file.old) (F.contents file.new) bytes.now) }
+{
     if let Some(permissions) = old {
         file.set_permissions(permissions)?;
     }
@@ -270,8 +285,8 @@ fn keep_file<R: Files + AllocGlobal>(
     let Ok(old) = replaced(system, name) else {
         return Err(KeepFault::Failed);
     };
-    let (file, path) = file_beside(system, name)?;
-    if fill(file, old, bytes).is_ok() && fs::rename(system, path.as_str(), name).is_ok() {
+    let (mut file, path) = file_beside(system, name)?;
+    if fill(&mut file, old, bytes).is_ok() && fs::rename(system, path.as_str(), name).is_ok() {
         return Ok(());
     }
     // The call has failed already, whatever becomes of this.
