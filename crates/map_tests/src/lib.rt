@@ -1,4 +1,4 @@
-//! The tests of chains, tries, maps and sets, and of the equality of maps and of sets.
+//! The tests of chains, tries, maps and sets, of the equality of maps and of sets, and of their merges.
 #![tactic(auto)]
 
 #[cfg(test)]
@@ -15,6 +15,8 @@ mod map_placed;
 mod map_versions;
 #[cfg(test)]
 mod maps;
+#[cfg(test)]
+mod merges;
 #[cfg(test)]
 mod samples;
 #[cfg(test)]

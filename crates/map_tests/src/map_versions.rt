@@ -1,7 +1,7 @@
 //! Maps of cells, of which a test keeps each version. Its tests name them by the turn in which they came, so that they need no
 //! contract.
 ghost use Rattle.std.specs.Prelude.{◌≡◌, ℕ, ◌+◌, ◌^◌, ◌<◌, ◌≤◌, IfOk, IsSome};
-ghost use Rattle.node_heap.specs.Heap.{row_at, holds_at, hold_count, one_at, program_holds};
+ghost use Rattle.node_heap.specs.Heap.{row_at, holds_at, hold_count, one_at, half_holds, program_holds};
 ghost use Rattle.champ_kinds.specs.Stands.{IsSomeMap};
 ghost use Rattle.map_tests.specs.Stands.{IsCellMap, Keeps, Holds};
 
@@ -11,6 +11,7 @@ use champ_kinds::{Map, MapRef, map_insert, map_remove};
 use elem_core::{CODE_BITS, Element, NoMemory, Probe};
 use node_heap::{Glass, Heap, Link, Steps};
 use same_value::{Values, equal_cells, equal_map};
+use set_merge::{map_union, map_union_need};
 use std::alloc::Global;
 use std::marker::{Brand, Model};
 use std::process::Abort;
@@ -93,6 +94,20 @@ pub fn unbound<T: Element, P: Probe<T>>(
     }
 }
 
+// The union of two maps by as many bits.
+fn united<T: Element>(heap: &mut Heap<T>, a: MapRef, b: MapRef) -> Result<MapRef, NoMemory>
+    requires first { IsCellMap T.cmp T.code_of heap.old a }
+    requires second { IsCellMap T.cmp T.code_of heap.old b }
+    requires bits { a.bits ≡ b.bits }
+    requires few { hold_count heap.old < half_holds }
+    ensures good { IfOk result (IsCellMap T.cmp T.code_of heap.new) }
+    ensures others { IfOk result (λ _. Keeps (IsCellMap T.cmp T.code_of) heap.old heap.new) }
+    ensures count { IfOk result (λ _. hold_count heap.new ≡ hold_count heap.old + 1) }
+{
+    let made = map_union(heap, a, b)?;
+    Ok(held(made))
+}
+
 // The map of this turn. No test makes nearly so many.
 fn map_at<T: Element>(rt: &impl Abort, heap: &Heap<T>, maps: &Vec<MapRef>, turn: usize) -> MapRef
     requires { Holds (IsCellMap T.cmp T.code_of) heap.now maps.now.items }
@@ -166,6 +181,23 @@ impl<T: Element> MapVersions<T> {
         let map = map_at(rt, &self.heap, &self.maps, turn);
         let made = unbound(&mut self.heap, map, key);
         kept(rt, &mut self.maps, made)
+    }
+
+    /// The union of two by as many bits.
+    pub fn unite(&mut self, rt: &impl Abort, left: usize, right: usize) -> usize {
+        let left = map_at(rt, &self.heap, &self.maps, left);
+        let right = map_at(rt, &self.heap, &self.maps, right);
+        assert!(rt; left.bits() == right.bits());
+        let made = united(&mut self.heap, left, right);
+        kept(rt, &mut self.maps, made)
+    }
+
+    /// How many rows that may make.
+    pub fn need(&self, rt: &impl Abort, left: usize, right: usize) -> usize {
+        let left = map_at(rt, &self.heap, &self.maps, left);
+        let right = map_at(rt, &self.heap, &self.maps, right);
+        assert!(rt; left.bits() == right.bits());
+        map_union_need(&self.heap, left, right)
     }
 
     /// By how many bits the one of this turn is.

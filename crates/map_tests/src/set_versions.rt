@@ -1,6 +1,6 @@
 //! Sets, of which a test keeps each version. Its tests name them by the turn in which they came, so that they need no contract.
 ghost use Rattle.std.specs.Prelude.{◌≡◌, ◌+◌, ◌^◌, ◌<◌, ◌≤◌, IfOk};
-ghost use Rattle.node_heap.specs.Heap.{hold_count, program_holds};
+ghost use Rattle.node_heap.specs.Heap.{hold_count, half_holds, program_holds};
 ghost use Rattle.champ_kinds.specs.Stands.{IsSomeSet, KeepsSets};
 ghost use Rattle.map_tests.specs.Stands.{Holds};
 
@@ -9,6 +9,7 @@ use champ_kinds::{Set, SetRef, set_insert, set_remove};
 use elem_core::{CODE_BITS, Element, NoMemory, Probe};
 use node_heap::{Glass, Heap, Steps};
 use same_value::equal_set;
+use set_merge::{set_both, set_both_need, set_less, set_less_need, set_union, set_union_need};
 use std::alloc::Global;
 use std::marker::{Brand, Model};
 use std::process::Abort;
@@ -78,6 +79,48 @@ fn lost<T: Element, P: Probe<T>>(heap: &mut Heap<T>, set: SetRef, key: &P) -> Re
     }
 }
 
+// The union of two sets by as many bits.
+fn united<T: Element>(heap: &mut Heap<T>, a: SetRef, b: SetRef) -> Result<SetRef, NoMemory>
+    requires first { IsSomeSet T.cmp T.code_of heap.old a }
+    requires second { IsSomeSet T.cmp T.code_of heap.old b }
+    requires bits { a.bits ≡ b.bits }
+    requires few { hold_count heap.old < half_holds }
+    ensures good { IfOk result (IsSomeSet T.cmp T.code_of heap.new) }
+    ensures others { IfOk result (λ _. KeepsSets T.cmp T.code_of heap.old heap.new) }
+    ensures count { IfOk result (λ _. hold_count heap.new ≡ hold_count heap.old + 1) }
+{
+    let made = set_union(heap, a, b)?;
+    Ok(held(made))
+}
+
+// The intersection of two sets by as many bits.
+fn common<T: Element>(heap: &mut Heap<T>, a: SetRef, b: SetRef) -> Result<SetRef, NoMemory>
+    requires first { IsSomeSet T.cmp T.code_of heap.old a }
+    requires second { IsSomeSet T.cmp T.code_of heap.old b }
+    requires bits { a.bits ≡ b.bits }
+    requires few { hold_count heap.old < half_holds }
+    ensures good { IfOk result (IsSomeSet T.cmp T.code_of heap.new) }
+    ensures others { IfOk result (λ _. KeepsSets T.cmp T.code_of heap.old heap.new) }
+    ensures count { IfOk result (λ _. hold_count heap.new ≡ hold_count heap.old + 1) }
+{
+    let made = set_both(heap, a, b)?;
+    Ok(held(made))
+}
+
+// The keys of the first of two sets by as many bits that aren't in the second.
+fn rest<T: Element>(heap: &mut Heap<T>, a: SetRef, b: SetRef) -> Result<SetRef, NoMemory>
+    requires first { IsSomeSet T.cmp T.code_of heap.old a }
+    requires second { IsSomeSet T.cmp T.code_of heap.old b }
+    requires bits { a.bits ≡ b.bits }
+    requires few { hold_count heap.old < half_holds }
+    ensures good { IfOk result (IsSomeSet T.cmp T.code_of heap.new) }
+    ensures others { IfOk result (λ _. KeepsSets T.cmp T.code_of heap.old heap.new) }
+    ensures count { IfOk result (λ _. hold_count heap.new ≡ hold_count heap.old + 1) }
+{
+    let made = set_less(heap, a, b)?;
+    Ok(held(made))
+}
+
 // The set of this turn. No test makes nearly so many.
 fn set_at<T: Element>(rt: &impl Abort, heap: &Heap<T>, sets: &Vec<SetRef>, turn: usize) -> SetRef
     requires { Holds (IsSomeSet T.cmp T.code_of) heap.now sets.now.items }
@@ -131,6 +174,62 @@ impl<T: Element> SetVersions<T> {
         let set = set_at(rt, &self.heap, &self.sets, turn);
         let made = lost(&mut self.heap, set, key);
         kept(rt, &mut self.sets, made)
+    }
+
+    /// The union of two by as many bits.
+    pub fn unite(&mut self, rt: &impl Abort, left: usize, right: usize) -> usize {
+        let left = set_at(rt, &self.heap, &self.sets, left);
+        let right = set_at(rt, &self.heap, &self.sets, right);
+        assert!(rt; left.bits() == right.bits());
+        let made = united(&mut self.heap, left, right);
+        kept(rt, &mut self.sets, made)
+    }
+
+    /// The intersection of two by as many bits.
+    pub fn meet(&mut self, rt: &impl Abort, left: usize, right: usize) -> usize {
+        let left = set_at(rt, &self.heap, &self.sets, left);
+        let right = set_at(rt, &self.heap, &self.sets, right);
+        assert!(rt; left.bits() == right.bits());
+        let made = common(&mut self.heap, left, right);
+        kept(rt, &mut self.sets, made)
+    }
+
+    /// The keys of the first of two by as many bits that aren't in the second.
+    pub fn lose(&mut self, rt: &impl Abort, left: usize, right: usize) -> usize {
+        let left = set_at(rt, &self.heap, &self.sets, left);
+        let right = set_at(rt, &self.heap, &self.sets, right);
+        assert!(rt; left.bits() == right.bits());
+        let made = rest(&mut self.heap, left, right);
+        kept(rt, &mut self.sets, made)
+    }
+
+    /// How many rows that of `unite` may make.
+    pub fn unite_need(&self, rt: &impl Abort, left: usize, right: usize) -> usize {
+        let left = set_at(rt, &self.heap, &self.sets, left);
+        let right = set_at(rt, &self.heap, &self.sets, right);
+        assert!(rt; left.bits() == right.bits());
+        set_union_need(&self.heap, left, right)
+    }
+
+    /// How many rows that of `meet` may make.
+    pub fn meet_need(&self, rt: &impl Abort, left: usize, right: usize) -> usize {
+        let left = set_at(rt, &self.heap, &self.sets, left);
+        let right = set_at(rt, &self.heap, &self.sets, right);
+        assert!(rt; left.bits() == right.bits());
+        set_both_need(&self.heap, left, right)
+    }
+
+    /// How many rows that of `lose` may make.
+    pub fn lose_need(&self, rt: &impl Abort, left: usize, right: usize) -> usize {
+        let left = set_at(rt, &self.heap, &self.sets, left);
+        let right = set_at(rt, &self.heap, &self.sets, right);
+        assert!(rt; left.bits() == right.bits());
+        set_less_need(&self.heap, left, right)
+    }
+
+    /// How many rows there are, those of all versions together.
+    pub fn rows(&self) -> usize {
+        self.heap.live()
     }
 
     /// How many keys the one of this turn has.

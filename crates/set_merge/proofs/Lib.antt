@@ -1,0 +1,16 @@
+pub mod MergeLemmas
+pub mod NeedLemmas
+pub mod ApartLemmas
+pub mod SpreadLemmas
+pub mod CountLemmas
+pub mod WalkLemmas
+pub mod NeedSteps
+pub mod RootLemmas
+pub mod KindLemmas
+pub mod RunLemmas
+pub mod CutLemmas
+pub mod FrontLemmas
+pub mod MeetingLemmas
+pub mod ChainLemmas
+pub mod BaseLemmas
+pub mod ClosingLemmas

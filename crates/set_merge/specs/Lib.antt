@@ -1,0 +1,6 @@
+pub mod Merge
+pub mod Side
+pub mod Need
+pub mod Spread
+pub mod Walk
+pub mod Chains

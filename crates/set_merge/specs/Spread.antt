@@ -1,0 +1,70 @@
+-- What a merge makes of two places, and of the positions of a row.
+use Rattle.std.specs.Prelude.{◌≡◌, ℕ, ◌+◌, ◌<◌, ◌≤◌, Bool, true, false, List, [], ◌∷◌, length, Option, Some, None, ◌⊎◌}
+use Rattle.std.specs.List.{flat_map}
+use Rattle.node_heap.specs.Links.{count}
+use Rattle.node_heap.specs.Heap.{Heap, form_at}
+use Rattle.node_heap.specs.Calls.{Builds}
+use Rattle.champ_trie.specs.Trie.{IsRowOfPlaces, links_at_place}
+use Rattle.champ_trie.specs.declared.place.Place.{Place}
+use Rattle.champ_trie.specs.declared.place.Place.TheVariants.{Empty, Entry as At, Node}
+use Rattle.set_merge.specs.declared.merged.Merged.{Merged}
+use Rattle.set_merge.specs.declared.merged.Merged.TheVariants.{Old, New}
+use Rattle.set_merge.specs.declared.spread.Spread.{Spread}
+
+-- the place, whether its node is new or not
+abbrev pub place_merged : Merged → Place
+place_merged (Old place) = place
+place_merged (New l) = Node l
+
+-- the link of a new node, which is held
+abbrev pub new_links : Merged → List ℕ
+new_links (Old place) = []
+new_links (New l) = l ∷ []
+
+-- the link of what stood before, which isn't
+abbrev pub old_links : Merged → List ℕ
+old_links (Old place) = links_at_place place
+old_links (New l) = []
+
+abbrev pub is_new : Merged → Bool
+is_new (Old place) = false
+is_new (New l) = true
+
+-- one place more beside what stands alone so far
+abbrev pub lone_with : Place → Place → Option Place
+lone_with Empty only = Some only
+lone_with (At x) Empty = Some (At x)
+lone_with (At x) (At y) = None
+lone_with (At x) (Node l) = None
+lone_with (Node l) only = None
+
+-- the same from some place on
+abbrev pub lone_from : Option Place → List Place → Option Place
+lone_from only [] = only
+lone_from None (place ∷ places) = None
+lone_from (Some only) (place ∷ places) = lone_from (lone_with place only) places
+
+-- nothing where nothing stands at the places, the entry where it is all that stands there, and else None
+abbrev pub lone_of : List Place → Option Place
+lone_of places = lone_from (Some Empty) places
+
+-- the place is the first or the second one, as all positions are, or what is all that stands there
+abbrev pub IsUnchanged : Spread → Place → Place → Place → Type 0
+IsUnchanged s a b place = ((s.as_first ≡ true) × (place ≡ a)) ⊎ ((s.as_second ≡ true) × (place ≡ b)) ⊎ (lone_of s.places ≡ Some place)
+
+-- a row is wanted: some node is new, or the positions are neither those of the first place nor those of the second, and more than one
+-- entry stands there
+abbrev pub WantsRow : Spread → Type 0
+WantsRow s = (s.made ≡ true) ⊎ (s.as_first ≡ false) × (s.as_second ≡ false) × (lone_of s.places ≡ None)
+
+module _ {T : Type 0} where
+  -- a row of the positions' places was made, and the holds of those that weren't there before were spent
+  pub record IsMade (old new : Heap T) (s : Spread) (depth l : ℕ) : Type 0 where
+    pub row : IsRowOfPlaces (form_at new) l depth s.places
+    pub builds : (news : List ℕ) → ((k : ℕ) → count k s.stood + count k news ≡ count k (flat_map links_at_place s.places)) → Builds old new news (l ∷ []) 0 1
+    pub more : WantsRow s
+
+  -- what stands for a row of these positions: where none is new, an old place, and else a row that was made
+  abbrev pub Closed : Heap T → Heap T → Spread → ℕ → Place → Place → Merged → Type 0
+  Closed old new s depth a b (Old place) = (new ≡ old) × (s.made ≡ false) × IsUnchanged s a b place
+  Closed old new s depth a b (New l) = IsMade old new s depth l

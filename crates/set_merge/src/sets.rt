@@ -1,0 +1,173 @@
+//! Union, intersection and difference of sets.
+ghost use Rattle.std.specs.Prelude.{◌≡◌, ℕ, ◌+◌, ◌*◌, ◌^◌, ◌<◌, ◌≤◌, List, [], ◌∷◌, length, IfOk, IsOk, OnOk, OnErr, Ok, true, if◌then◌else◌};
+ghost use Rattle.node_heap.specs.Heap.{form_at, hold_count, node_count, HasSpares, half_holds};
+ghost use Rattle.node_heap.specs.Calls.{Answered, Builds, KeepsToNeed, MakesJust, SameRows};
+ghost use Rattle.champ_chain.specs.Entry.{Entry};
+ghost use Rattle.champ_kinds.specs.Kinds.{IsSetOf};
+ghost use Rattle.champ_kinds.specs.Laws.{KeepsContainers};
+ghost use Rattle.same_value.specs.Apart.{HasApart};
+ghost use Rattle.set_merge.specs.Merge.{union, both, less, merged};
+ghost use Rattle.set_merge.specs.Need.{merge_need};
+ghost use Rattle.set_merge.specs.declared.keeps.TheConstants.{UNION, BOTH, LESS};
+
+use crate::keeps::{BOTH, Keeps, LESS, UNION};
+use crate::roots::{merge, need, roots_of};
+use champ_kinds::{Set, SetRef};
+use elem_core::{Element, NoMemory};
+use node_heap::Heap;
+
+/// The set of the keys of both sets, by as many bits. A key that is in both has the first one's cell. What the sets share is
+/// shared by the union too, and where both have one root it is that root. It makes at most `set_union_need` nodes. Err where
+/// memory runs out: it leaves the heap as it was.
+pub fn set_union<T: Element>(heap: &mut Heap<T>, a: SetRef, b: SetRef) -> Result<Set, NoMemory>
+    requires few { hold_count heap.old < half_holds }
+    requires bits { a.bits ≡ b.bits }
+    requires first { (E : List (Entry T)) × IsSetOf T.cmp T.code_of heap.old a E }
+    requires second { (D : List (Entry T)) × IsSetOf T.cmp T.code_of heap.old b D }
+    ensures contents { (E D : List (Entry T)) → IsSetOf T.cmp T.code_of heap.old a E → IsSetOf T.cmp T.code_of heap.old b D →
+        IfOk result (λ made. IsSetOf T.cmp T.code_of heap.new made (union T.cmp E D)) }
+    ensures bits { IfOk result (λ made. made.bits ≡ a.bits) }
+    ensures answered { IfOk result (λ made. Answered heap.old heap.new [] made.root 0 (merge_need T.cmp T.code_of UNION heap.old a.bits a.root b.root)) }
+    ensures apart { (rows others : List ℕ) → HasApart (form_at heap.old) a.root b.root rows → HasApart (form_at heap.old) b.root a.root others →
+        OnOk result (node_count heap.new ≤ node_count heap.old + 512 * (length rows + length others)) }
+    ensures few_nodes { (E D : List (Entry T)) → IsSetOf T.cmp T.code_of heap.old a E → IsSetOf T.cmp T.code_of heap.old b D →
+        OnOk result (node_count heap.new ≤ node_count heap.old + (13 * (length E + length D) + 1)) }
+    ensures same { a.root ≡ b.root → (result ≡ Ok a) × SameRows heap.old heap.new × Builds heap.old heap.new [] (a.root ∷ []) 0 0 }
+    ensures made { OnOk result (MakesJust heap.old heap.new) }
+    ensures containers { KeepsContainers heap.old heap.new }
+    ensures refused { OnErr result (heap.new ≡ heap.old) }
+    ensures spares { OnOk result (KeepsToNeed heap.old heap.new 0 (merge_need T.cmp T.code_of UNION heap.old a.bits a.root b.root)) }
+    ensures ample { HasSpares heap.old 0 (merge_need T.cmp T.code_of UNION heap.old a.bits a.root b.root) → IsOk result }
+{
+    merge_sets(heap, a, b, UNION)
+}
+
+/// The nodes that `set_union` may make. It takes no memory.
+pub fn set_union_need<T: Element>(heap: &Heap<T>, a: SetRef, b: SetRef) -> usize
+    requires bits { a.bits ≡ b.bits }
+    requires first { (E : List (Entry T)) × IsSetOf T.cmp T.code_of heap.now a E }
+    requires second { (D : List (Entry T)) × IsSetOf T.cmp T.code_of heap.now b D }
+    ensures need { result ≡ merge_need T.cmp T.code_of UNION heap.now a.bits a.root b.root }
+    ensures apart { (rows others : List ℕ) → HasApart (form_at heap.now) a.root b.root rows → HasApart (form_at heap.now) b.root a.root others →
+        result ≤ 512 * (length rows + length others) }
+    ensures entries { (E D : List (Entry T)) → IsSetOf T.cmp T.code_of heap.now a E → IsSetOf T.cmp T.code_of heap.now b D →
+        result ≤ 13 * (length E + length D) + 1 }
+    ensures few { result ≤ 2 ^ 62 }
+{
+    let roots = roots_of(a, b);
+    need(heap, &roots, UNION)
+}
+
+/// The set of the keys that are in both sets, by as many bits, each with the first one's cell. What it has in common with one
+/// of the sets is shared, and where both have one root it is that root. It makes at most `set_both_need` nodes. Err where
+/// memory runs out: it leaves the heap as it was.
+pub fn set_both<T: Element>(heap: &mut Heap<T>, a: SetRef, b: SetRef) -> Result<Set, NoMemory>
+    requires few { hold_count heap.old < half_holds }
+    requires bits { a.bits ≡ b.bits }
+    requires first { (E : List (Entry T)) × IsSetOf T.cmp T.code_of heap.old a E }
+    requires second { (D : List (Entry T)) × IsSetOf T.cmp T.code_of heap.old b D }
+    ensures contents { (E D : List (Entry T)) → IsSetOf T.cmp T.code_of heap.old a E → IsSetOf T.cmp T.code_of heap.old b D →
+        IfOk result (λ made. IsSetOf T.cmp T.code_of heap.new made (both T.cmp E D)) }
+    ensures bits { IfOk result (λ made. made.bits ≡ a.bits) }
+    ensures answered { IfOk result (λ made. Answered heap.old heap.new [] made.root 0 (merge_need T.cmp T.code_of BOTH heap.old a.bits a.root b.root)) }
+    ensures apart { (rows others : List ℕ) → HasApart (form_at heap.old) a.root b.root rows → HasApart (form_at heap.old) b.root a.root others →
+        OnOk result (node_count heap.new ≤ node_count heap.old + 512 * (length rows + length others)) }
+    ensures few_nodes { (E D : List (Entry T)) → IsSetOf T.cmp T.code_of heap.old a E → IsSetOf T.cmp T.code_of heap.old b D →
+        OnOk result (node_count heap.new ≤ node_count heap.old + (13 * (length E + length D) + 1)) }
+    ensures same { a.root ≡ b.root → (result ≡ Ok a) × SameRows heap.old heap.new × Builds heap.old heap.new [] (a.root ∷ []) 0 0 }
+    ensures made { OnOk result (MakesJust heap.old heap.new) }
+    ensures containers { KeepsContainers heap.old heap.new }
+    ensures refused { OnErr result (heap.new ≡ heap.old) }
+    ensures spares { OnOk result (KeepsToNeed heap.old heap.new 0 (merge_need T.cmp T.code_of BOTH heap.old a.bits a.root b.root)) }
+    ensures ample { HasSpares heap.old 0 (merge_need T.cmp T.code_of BOTH heap.old a.bits a.root b.root) → IsOk result }
+{
+    merge_sets(heap, a, b, BOTH)
+}
+
+/// The nodes that `set_both` may make. It takes no memory.
+pub fn set_both_need<T: Element>(heap: &Heap<T>, a: SetRef, b: SetRef) -> usize
+    requires bits { a.bits ≡ b.bits }
+    requires first { (E : List (Entry T)) × IsSetOf T.cmp T.code_of heap.now a E }
+    requires second { (D : List (Entry T)) × IsSetOf T.cmp T.code_of heap.now b D }
+    ensures need { result ≡ merge_need T.cmp T.code_of BOTH heap.now a.bits a.root b.root }
+    ensures apart { (rows others : List ℕ) → HasApart (form_at heap.now) a.root b.root rows → HasApart (form_at heap.now) b.root a.root others →
+        result ≤ 512 * (length rows + length others) }
+    ensures entries { (E D : List (Entry T)) → IsSetOf T.cmp T.code_of heap.now a E → IsSetOf T.cmp T.code_of heap.now b D →
+        result ≤ 13 * (length E + length D) + 1 }
+    ensures few { result ≤ 2 ^ 62 }
+{
+    let roots = roots_of(a, b);
+    need(heap, &roots, BOTH)
+}
+
+/// The set of the keys of the first set that aren't in the second, by as many bits, each with its cell. Where both have one
+/// root it makes the one row of the empty set. It makes at most `set_less_need` nodes. Err where memory runs out: it leaves
+/// the heap as it was.
+pub fn set_less<T: Element>(heap: &mut Heap<T>, a: SetRef, b: SetRef) -> Result<Set, NoMemory>
+    requires few { hold_count heap.old < half_holds }
+    requires bits { a.bits ≡ b.bits }
+    requires first { (E : List (Entry T)) × IsSetOf T.cmp T.code_of heap.old a E }
+    requires second { (D : List (Entry T)) × IsSetOf T.cmp T.code_of heap.old b D }
+    ensures contents { (E D : List (Entry T)) → IsSetOf T.cmp T.code_of heap.old a E → IsSetOf T.cmp T.code_of heap.old b D →
+        IfOk result (λ made. IsSetOf T.cmp T.code_of heap.new made (less T.cmp E D)) }
+    ensures bits { IfOk result (λ made. made.bits ≡ a.bits) }
+    ensures answered { IfOk result (λ made. Answered heap.old heap.new [] made.root 0 (merge_need T.cmp T.code_of LESS heap.old a.bits a.root b.root)) }
+    ensures apart { (rows others : List ℕ) → HasApart (form_at heap.old) a.root b.root rows → HasApart (form_at heap.old) b.root a.root others →
+        OnOk result (node_count heap.new ≤ node_count heap.old + (512 * (length rows + length others) + 1)) }
+    ensures few_nodes { (E D : List (Entry T)) → IsSetOf T.cmp T.code_of heap.old a E → IsSetOf T.cmp T.code_of heap.old b D →
+        OnOk result (node_count heap.new ≤ node_count heap.old + (13 * (length E + length D) + 1)) }
+    ensures made { OnOk result (MakesJust heap.old heap.new) }
+    ensures containers { KeepsContainers heap.old heap.new }
+    ensures refused { OnErr result (heap.new ≡ heap.old) }
+    ensures spares { OnOk result (KeepsToNeed heap.old heap.new 0 (merge_need T.cmp T.code_of LESS heap.old a.bits a.root b.root)) }
+    ensures ample { HasSpares heap.old 0 (merge_need T.cmp T.code_of LESS heap.old a.bits a.root b.root) → IsOk result }
+{
+    merge_sets(heap, a, b, LESS)
+}
+
+/// The nodes that `set_less` may make. It takes no memory.
+pub fn set_less_need<T: Element>(heap: &Heap<T>, a: SetRef, b: SetRef) -> usize
+    requires bits { a.bits ≡ b.bits }
+    requires first { (E : List (Entry T)) × IsSetOf T.cmp T.code_of heap.now a E }
+    requires second { (D : List (Entry T)) × IsSetOf T.cmp T.code_of heap.now b D }
+    ensures need { result ≡ merge_need T.cmp T.code_of LESS heap.now a.bits a.root b.root }
+    ensures apart { (rows others : List ℕ) → HasApart (form_at heap.now) a.root b.root rows → HasApart (form_at heap.now) b.root a.root others →
+        result ≤ 512 * (length rows + length others) + 1 }
+    ensures entries { (E D : List (Entry T)) → IsSetOf T.cmp T.code_of heap.now a E → IsSetOf T.cmp T.code_of heap.now b D →
+        result ≤ 13 * (length E + length D) + 1 }
+    ensures few { result ≤ 2 ^ 62 }
+{
+    let roots = roots_of(a, b);
+    need(heap, &roots, LESS)
+}
+
+// The merge of two sets that keeps these.
+fn merge_sets<T: Element>(
+    heap: &mut Heap<T>,
+    a: SetRef,
+    b: SetRef,
+    keeps: Keeps,
+) -> Result<Set, NoMemory>
+    requires few { hold_count heap.old < half_holds }
+    requires bits { a.bits ≡ b.bits }
+    requires first { (E : List (Entry T)) × IsSetOf T.cmp T.code_of heap.old a E }
+    requires second { (D : List (Entry T)) × IsSetOf T.cmp T.code_of heap.old b D }
+    ensures contents { (E D : List (Entry T)) → IsSetOf T.cmp T.code_of heap.old a E → IsSetOf T.cmp T.code_of heap.old b D →
+        IfOk result (λ made. IsSetOf T.cmp T.code_of heap.new made (merged T.cmp keeps E D)) }
+    ensures bits { IfOk result (λ made. made.bits ≡ a.bits) }
+    ensures answered { IfOk result (λ made. Answered heap.old heap.new [] made.root 0 (merge_need T.cmp T.code_of keeps heap.old a.bits a.root b.root)) }
+    ensures same { a.root ≡ b.root → keeps.both ≡ true → (result ≡ Ok a) × SameRows heap.old heap.new × Builds heap.old heap.new [] (a.root ∷ []) 0 0 }
+    ensures apart { (rows others : List ℕ) → HasApart (form_at heap.old) a.root b.root rows → HasApart (form_at heap.old) b.root a.root others →
+        OnOk result (node_count heap.new ≤ node_count heap.old + (512 * (length rows + length others) + (if keeps.both then 0 else 1))) }
+    ensures few_nodes { (E D : List (Entry T)) → IsSetOf T.cmp T.code_of heap.old a E → IsSetOf T.cmp T.code_of heap.old b D →
+        OnOk result (node_count heap.new ≤ node_count heap.old + (13 * (length E + length D) + 1)) }
+    ensures made { OnOk result (MakesJust heap.old heap.new) }
+    ensures containers { KeepsContainers heap.old heap.new }
+    ensures refused { OnErr result (heap.new ≡ heap.old) }
+    ensures spares { OnOk result (KeepsToNeed heap.old heap.new 0 (merge_need T.cmp T.code_of keeps heap.old a.bits a.root b.root)) }
+    ensures ample { HasSpares heap.old 0 (merge_need T.cmp T.code_of keeps heap.old a.bits a.root b.root) → IsOk result }
+{
+    let roots = roots_of(a, b);
+    let root = merge(heap, &roots, keeps)?;
+    Ok(Set::from_root(root, a.bits()))
+}
