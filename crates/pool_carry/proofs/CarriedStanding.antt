@@ -1,74 +1,29 @@
 -- A carried pool stands for the workspace of the pool that it was carried from, and is valid.
-use Rattle.std.proofs.Common.{◌≡◌, ℕ, ◌<◌, List, map, refl, sym, subst, ◌∙◌, arith}
-use Rattle.node_heap.specs.Links.{count, here}
-use Rattle.node_heap.specs.Forms.{Forms, links_in}
+use Rattle.std.proofs.Common.{List, map, refl, sym, subst, ◌∙◌}
 use Rattle.rrb_core.specs.Seq.{IsWellShaped}
-use Rattle.pool_order.specs.Order.{order}
 use Rattle.pool_text.specs.Rules.{Rules}
-use Rattle.pool_text.specs.Pool.{forms_in, place_in, settings_by, pool}
-use Rattle.pool_text.specs.Renaming.{IsRooted}
+use Rattle.pool_text.specs.Pool.{forms_in}
 use Rattle.pool_text.specs.declared.pool.Pool.{Pool}
 use Rattle.pool_text.specs.declared.rules.TheConstants.{MOST_HISTORY}
-use Rattle.pool_text.proofs.Renamed.{renamed-below}
-use Rattle.pool_text.proofs.Ordered.{pool-roots}
-use Rattle.pool_text.proofs.PoolRows.{pool-renamed}
 use Rattle.pool_check.specs.Damages.{IsValidBy}
-use Rattle.pool_check.specs.Passing.{PassesAsMade}
-use Rattle.pool_check.proofs.VectorReadings.{vector-reads-the-same}
-use Rattle.pool_check.proofs.PoolPasses.{passes-as-made}
-use Rattle.shell_terms.specs.Edit.{Bytes}
-use Rattle.plain_space.specs.Workspace.{Workspace, HasBoundedUndo}
-use Rattle.state_rows.specs.Standing.{StandForBy, StandsForBy}
-use Rattle.state_rows.proofs.HeapPools.{pool-bits, pool-history}
-use Rattle.state_rows.proofs.PassesSpace.{by-any-bound, standing-valid, undo-short}
-use Rattle.state_rows.proofs.Renamed.{GoesOver, roots-over}
+use Rattle.state_rows.specs.Standing.{StandsForBy}
+use Rattle.state_rows.proofs.PassesSpace.{by-any-bound, undo-short}
 use Rattle.state_rows.proofs.ValidSpace.{valid-stands}
-use Rattle.pool_carry.specs.Laws.{HasDigits, CarriedStands, CarriedIsValid}
+use Rattle.pool_carry.specs.Laws.{CarriedStands, CarriedIsValid}
+use Rattle.pool_carry.proofs.MadeSpace.{made-stands, made-valid}
 use Rattle.pool_carry.proofs.ImagesStand.{images-stand}
-
--- the pool of rooted rows stands for what their roots stand for
-module _ (rules : Rules) (bits many : ℕ) (G : Forms Bytes) (roots : List ℕ) (rooted : IsRooted many G roots) (space : Workspace) (most_kept : space.history ≡ MOST_HISTORY) (stands : StandForBy rules G (IsWellShaped G) bits roots space) where
-  abbrev made : Pool
-  made = pool many G roots (settings_by bits MOST_HISTORY)
-
-  abbrev place : ℕ → ℕ
-  place = place_in (order many (links_in G) roots)
-
-  root-over : (r : ℕ) → 0 < count r roots → GoesOver place G (forms_in made) (IsWellShaped G) (IsWellShaped (forms_in made)) r
-  root-over r root =
-      let image = pool-renamed many G roots rooted (settings_by bits MOST_HISTORY) r r root (here r) in
-      record {
-        renamed = image;
-        vectors = λ k down vector. (vector-reads-the-same place G (forms_in made) ℕ k (renamed-below place G (forms_in made) r k down image)).shaped vector;
-      }
-
-  made-stands : StandsForBy rules made space
-  made-stands =
-      let moved : StandForBy rules (forms_in made) (IsWellShaped (forms_in made)) bits (map place roots) space =
-      roots-over place G (forms_in made) (IsWellShaped G) (IsWellShaped (forms_in made)) bits rules roots space root-over stands in
-      let placed : StandForBy rules (forms_in made) (IsWellShaped (forms_in made)) bits made.roots space =
-      subst (λ rs. StandForBy rules (forms_in made) (IsWellShaped (forms_in made)) bits rs space) (sym (pool-roots many G roots rooted (settings_by bits MOST_HISTORY))) moved in (
-        subst (λ b. StandForBy rules (forms_in made) (IsWellShaped (forms_in made)) b made.roots space) (sym (pool-bits many G roots bits MOST_HISTORY)) placed,
-        most_kept ∙ sym (pool-history many G roots bits MOST_HISTORY),
-      )
-
-  -- and is valid, where all code bits are kept in the digits
-  made-valid : HasDigits rules bits → HasBoundedUndo space → IsValidBy rules made
-  made-valid few fits =
-      let passes : PassesAsMade G roots made = passes-as-made many G roots rooted (settings_by bits MOST_HISTORY) in
-      standing-valid rules made space (omega (arith, few, pool-bits many G roots bits MOST_HISTORY)) made-stands fits passes.lead_back passes.in_order
 
 pub carried-stands : CarriedStands
 carried-stands from to bits P Q space valid most_kept carried stands =
     subst (λ (R : Pool). StandsForBy to R space) (sym carried.same)
-    (made-stands to bits carried.many carried.forms (map carried.image P.roots) carried.rooted space (stands.1 ∙ most_kept)
+    (made-stands to bits MOST_HISTORY carried.many carried.forms (map carried.image P.roots) carried.rooted space (stands.1 ∙ most_kept)
     (images-stand from to bits P valid carried.image carried.forms carried.images P.roots space stands.0))
 
 pub carried-valid : CarriedIsValid
 carried-valid from to bits P Q few valid carried =
     let workspace = valid-stands P valid in
     subst (λ (R : Pool). IsValidBy to R) (sym carried.same)
-    (made-valid to bits carried.many carried.forms (map carried.image P.roots) carried.rooted (record workspace.0 { history = MOST_HISTORY }) refl
+    (made-valid to bits MOST_HISTORY carried.many carried.forms (map carried.image P.roots) carried.rooted (record workspace.0 { history = MOST_HISTORY }) refl
     (images-stand from to bits P valid carried.image carried.forms carried.images P.roots (record workspace.0 { history = MOST_HISTORY })
     (by-any-bound from (forms_in P) (IsWellShaped (forms_in P)) P.bits MOST_HISTORY P.roots workspace.0 workspace.1.0)) few
     (undo-short from (forms_in P) P.bits P.roots workspace.0 workspace.1.0))

@@ -1,11 +1,9 @@
 -- Rows by their places, and one entry more.
-use Rattle.std.proofs.Common.{◌≡◌, ℕ, ◌+◌, ◌<◌, refl, ap, sym, ◌∙◌, arith, true, List, [], ◌∷◌, ◌++◌, length, map, take, get_or, append_assoc, Option, Some, None, option_map}
-use Rattle.std.specs.Prelude.{slice_get}
+use Rattle.std.proofs.Common.{◌≡◌, ℕ, ◌+◌, ◌<◌, refl, ap, sym, ◌∙◌, true, List, [], ◌∷◌, ◌++◌, length, map, take, get_or, append_assoc, Option, Some, None, option_map}
 use Rattle.std.specs.List.{filter_map, cons_option}
-use Rattle.std.proofs.lemmas.List.{map-append, length-map, take_more}
+use Rattle.std.proofs.lemmas.List.{map-append, take_more}
 use Rattle.std.proofs.lemmas.List.Elements.{filter_map-append}
-use Rattle.std.proofs.lemmas.Option.{slice_get-map, slice_get_read}
-use Rattle.node_heap.specs.Forms.{Form, Forms}
+use Rattle.node_heap.specs.Forms.{Forms}
 use Rattle.champ_chain.specs.Entry.{Entry}
 use Rattle.pool_text.specs.Rows.{Bytes, row_form}
 use Rattle.pool_text.specs.declared.row.Row.{Row}
@@ -14,16 +12,6 @@ use Rattle.pool_check.specs.Tries.{entry_at}
 use Rattle.pool_check.specs.Readings.{moved}
 use Rattle.pool_check.proofs.TestLemmas.{not-both}
 use Rattle.pool_carry.specs.Carried.{is_of_trie}
-
--- these rows have these forms
-module _ (forms : List (Form Bytes)) (items : List Row) (are : map row_form items ≡ forms) where
-  pub count-same : length items ≡ length forms
-  count-same = sym (length-map items row_form) ∙ ap (λ (fs : List (Form Bytes)). length fs) are
-
-  pub form-read : (l : ℕ) (row : Row) → l < length forms → row ≡ get_or items l row → slice_get forms l ≡ Some (row_form row)
-  form-read l row low at =
-      let inside : l < length items = omega (arith, low, count-same) in
-      ap (λ (fs : List (Form Bytes)). slice_get fs l) (sym are) ∙ slice_get-map row_form items l ∙ ap (option_map row_form) (slice_get_read items (length items) l row refl inside at)
 
 -- the entry at the next place comes after those of the places before it
 pub entry-more : (F : Forms Bytes) (f : ℕ → ℕ) (places : List ℕ) (i : ℕ) → i < length places → (before now : List (Entry Bytes)) (e : Entry Bytes)

@@ -27,7 +27,7 @@ use Rattle.pool_check.proofs.TestLemmas.{leads-down, not-both}
 use Rattle.pool_carry.specs.Carried.{is_of_trie}
 use Rattle.pool_carry.specs.Making.{seen, AreCoded}
 use Rattle.pool_carry.specs.declared.entries.Entry.{Entry as CodedEntry}
-use Rattle.pool_carry.proofs.EntryRows.{count-same, form-read}
+use Rattle.pool_text.proofs.FormRows.{count-same, form-read}
 use Rattle.pool_carry.proofs.Walk.{entries_waiting, rows_waiting, waiting-last, waiting-turned, rows-fewer}
 use Rattle.pool_carry.proofs.WalkRows.{IsWalked, walked}
 

@@ -52,9 +52,16 @@ module _ (g : ℕ → ℕ) where
     goes-weaker each (Some l) None goes = absurd goes
     goes-weaker each (Some l) (Some k) goes = (each l goes.0, goes.1)
 
-    -- one step after another
-    pub goes-then : (p q : ℕ → Option ℕ) → ((l : ℕ) → A l → Goes B (p l) (q (g l))) → (x y : Option ℕ) → Goes A x y → Goes B (option_and_then p x) (option_and_then q y)
-    goes-then p q each None None goes = tt
-    goes-then p q each None (Some k) goes = absurd goes
-    goes-then p q each (Some l) None goes = absurd goes
-    goes-then p q each (Some l) (Some k) goes = subst (λ j. Goes B (p l) (q j)) (sym goes.1) (each l goes.0)
+-- one step after another
+pub goes-then : (g h : ℕ → ℕ) (A B : ℕ → Type 0) (p q : ℕ → Option ℕ) → ((l : ℕ) → A l → Goes h B (p l) (q (g l))) → (x y : Option ℕ) → Goes g A x y → Goes h B (option_and_then p x) (option_and_then q y)
+goes-then g h A B p q each None None goes = tt
+goes-then g h A B p q each None (Some k) goes = absurd goes
+goes-then g h A B p q each (Some l) None goes = absurd goes
+goes-then g h A B p q each (Some l) (Some k) goes = subst (λ j. Goes h B (p l) (q j)) (sym goes.1) (each l goes.0)
+
+-- by other images that are the same here
+pub goes-turned : (g h : ℕ → ℕ) (A B : ℕ → Type 0) → ((l : ℕ) → A l → (g l ≡ h l) × B l) → (x y : Option ℕ) → Goes g A x y → Goes h B x y
+goes-turned g h A B each None None goes = tt
+goes-turned g h A B each None (Some k) goes = absurd goes
+goes-turned g h A B each (Some l) None goes = absurd goes
+goes-turned g h A B each (Some l) (Some k) goes = (let one = each l goes.0 in (one.1, goes.1 ∙ one.0))

@@ -28,7 +28,7 @@ use Rattle.state_rows.specs.Standing.{IsBase, StandForBy}
 use Rattle.state_rows.proofs.Renamed.{moved_binding, zip-moved}
 use Rattle.state_rows.proofs.TrieSets.{one-set}
 use Rattle.pool_carry.specs.Carried.{AreImages}
-use Rattle.pool_carry.proofs.OwnVectors.{OwnStand, own-stand, elements-stand, shaped-stands}
+use Rattle.pool_carry.proofs.OwnVectors.{VectorsStand, OwnStand, own-vectors, own-stand, elements-stand, shaped-stands}
 use Rattle.pool_carry.proofs.CanonOrder.{canon-order, root-row}
 
 -- what stands for a value at a name has an image that stands for it
@@ -86,6 +86,9 @@ module _ (from to : Rules) (bits : ℕ) (P : Pool) (valid : IsValidBy from P) (f
   own : OwnStand f (forms_in P) G
   own = own-stand to bits P f G images
 
+  vectors : VectorsStand f (forms_in P) G
+  vectors = own-vectors f (forms_in P) G own
+
   -- the image of the root of a trie is that of the trie of the entries' images
   canon-stands : (l : ℕ) (E : List (Entry Bytes)) → IsCanonTo (slice_cmp nat_cmp) (code_by from.code_of P.bits) from.deepest F l E → IsCanonTo (slice_cmp nat_cmp) (code_by to.code_of bits) to.deepest G (f l) (map (moved f) E)
   canon-stands l E canon =
@@ -101,8 +104,8 @@ module _ (from to : Rules) (bits : ℕ) (P : Pool) (valid : IsValidBy from P) (f
 
   vector-stands : {X : Type 0} (R S : ℕ → X → Type 0) → ((k : ℕ) (x : X) → R k x → S (f k) x) → (l : ℕ) (xs : List X) → IsVectorOver F V P.bits R l xs → IsVectorOver G W bits S (f l) xs
   vector-stands R S so l xs is = record {
-    vector = shaped-stands f F G own l is.vector;
-    values = subst (λ (ks : List ℕ). AllZip S ks xs) (sym (elements-stand f F G own l is.vector)) (zip-moved f (λ _. Unit {0}) R S (λ k x _ is. so k x is) (seq F l) xs (λ i d low. tt) is.values);
+    vector = shaped-stands f F G vectors l is.vector;
+    values = subst (λ (ks : List ℕ). AllZip S ks xs) (sym (elements-stand f F G vectors l is.vector)) (zip-moved f (λ _. Unit {0}) R S (λ k x _ is. so k x is) (seq F l) xs (λ i d low. tt) is.values);
   }
 
   named-stands : {X : Type 0} (R S : ℕ → X → Type 0) → ((k : ℕ) (x : X) → R k x → S (f k) x) → (l : ℕ) (m : Named X) → IsNamedBy from F V P.bits R l m → IsNamedBy to G W bits S (f l) m

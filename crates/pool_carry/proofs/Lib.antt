@@ -25,19 +25,20 @@ mod RowEq
 mod Chained
 mod Parts
 mod Standing
-mod OwnVectors
+pub mod OwnVectors
 mod CanonOrder
 mod ImagesStand
+pub mod MadeSpace
 mod CarriedStanding
 mod RowsBelow
 mod ToldByForm
 mod AnyOrder
 mod Ranked
 mod NewForms
-mod RootedBelow
 mod NewPool
 mod EntriesSame
-mod Goes
-mod Followed
+pub mod PlacedTries
+pub mod Goes
+pub mod Followed
 mod Identities
 mod Kept

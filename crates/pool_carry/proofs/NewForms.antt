@@ -1,5 +1,5 @@
 -- Where the rows of new tries stand, after the rows before them, and that none stands twice.
-use Rattle.std.proofs.Common.{◌≡◌, ℕ, zero, suc, ◌+◌, ◌-◌, ◌<◌, ◌≤◌, refl, ap, sym, ◌∙◌, arith, inl, inr, true, false, List, [], ◌∷◌, ◌++◌, length, map, get_or, Some, None, option_map}
+use Rattle.std.proofs.Common.{◌≡◌, ℕ, ◌+◌, ◌-◌, ◌<◌, ◌≤◌, refl, ap, sym, ◌∙◌, arith, inl, inr, true, false, List, [], ◌∷◌, ◌++◌, length, map, get_or, Some, None, option_map}
 use Rattle.std.specs.Prelude.{slice_get}
 use Rattle.std.specs.List.{position_or_len}
 use Rattle.std.proofs.lemmas.Bool.{cases_lt}
@@ -7,6 +7,7 @@ use Rattle.std.proofs.lemmas.List.{length-map, length-append}
 use Rattle.std.proofs.lemmas.Option.{slice_get-map, slice_get_past, slice_get-get_or}
 use Rattle.node_heap.specs.Forms.{Form, Forms}
 use Rattle.pool_text.specs.Rows.{Bytes}
+use Rattle.pool_text.proofs.Behind.{get-before, get-after}
 use Rattle.pool_check.proofs.TestLemmas.{not-both}
 use Rattle.pool_carry.specs.Carried.{is_of_trie}
 use Rattle.pool_carry.specs.Computed.{TrieRow, same_row, form_of_row}
@@ -15,16 +16,6 @@ use Rattle.pool_carry.proofs.FirstRows.{AreAll, all-at, AreApart, position-passe
 use Rattle.pool_carry.proofs.NewRows.{IsNewRow}
 use Rattle.pool_carry.proofs.RowsBelow.{IsIn, name_in, HasBelow}
 use Rattle.pool_carry.proofs.ToldByForm.{row-told, form-told}
-
-pub get-before : {X : Type 0} (xs ys : List X) (i : ℕ) → i < length xs → slice_get (xs ++ ys) i ≡ slice_get xs i
-get-before [] ys i low = absurd (omega (arith, low))
-get-before (x ∷ xs) ys zero low = refl
-get-before (x ∷ xs) ys (suc i) low = get-before xs ys i (omega (arith, low))
-
-pub get-after : {X : Type 0} (xs ys : List X) (i k : ℕ) → k ≡ length xs + i → slice_get (xs ++ ys) k ≡ slice_get ys i
-get-after [] ys i k is = ap (slice_get ys) (omega (arith, is))
-get-after (x ∷ xs) ys i zero is = absurd (omega (arith, is))
-get-after (x ∷ xs) ys i (suc k) is = get-after xs ys i k (omega (arith, is))
 
 -- N rows that are none of tries, and then these of tries
 module _ (deepest : ℕ) (code : Bytes → ℕ) (N : ℕ) (R : List TrieRow) (F : Forms Bytes) (own : List (Form Bytes)) (many : length own ≡ N)

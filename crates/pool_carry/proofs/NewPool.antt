@@ -34,7 +34,7 @@ use Rattle.pool_carry.proofs.Moved.{entry-own, key-moved, IsLowEntry, entries-lo
 use Rattle.pool_carry.proofs.NewForms.{all-many, rows-named, rows-once, IsRowAt, at-own, at-rest}
 use Rattle.pool_carry.proofs.NewRows.{EachEntry, each-same, by_key-same, by_key-rising, IsEntryOf, IsNewRow, rows-are}
 use Rattle.pool_carry.proofs.Ranked.{EachLink, each-mapped, each-counted, counted-each, links_all, top_of, top-low, widest, row_rank, rank_in, rank-own, rank-row, IsRanked, rank-name, IsLower, row-lower}
-use Rattle.pool_carry.proofs.RootedBelow.{rooted-below}
+use Rattle.pool_text.proofs.RootedBelow.{rooted-below}
 use Rattle.pool_carry.proofs.RowsBelow.{IsIn, all-first, all-rest, name_in, HasBelow, flat-below, rows-below}
 
 -- Lists.

@@ -1,11 +1,11 @@
--- Vectors of own rows under their images: the elements, and the fill rule.
-use Rattle.std.proofs.Common.{◌≡◌, ℕ, zero, suc, ◌-◌, ◌<◌, ◌≤◌, false, List, Some, option_map, map, length, take, refl, ap, sym, subst, ◌∙◌, arith}
+-- Vectors whose rows stand under new links: the elements, and the fill rule.
+use Rattle.std.proofs.Common.{◌≡◌, ℕ, zero, suc, ◌-◌, ◌<◌, ◌≤◌, Bool, true, false, List, Some, option_map, map, length, take, refl, ap, sym, subst, ◌∙◌, arith}
 use Rattle.std.specs.List.{All, flat_map}
 use Rattle.std.proofs.lemmas.List.{length-map, take-map}
 use Rattle.std.proofs.lemmas.List.Elements.{All-map, All-take}
 use Rattle.std.proofs.lemmas.List.Folds.{flat_map-map}
 use Rattle.node_heap.specs.Links.{count}
-use Rattle.node_heap.specs.Forms.{Form, Forms, node, leaf, inner, links_of, links_in}
+use Rattle.node_heap.specs.Forms.{Form, Forms, cell, node, leaf, inner, trie, chain, pair, state, links_of, links_in}
 use Rattle.rrb_core.specs.Seq.{form_height, height_in, seq_at, seq, IsThick, IsWell, IsWellShaped}
 use Rattle.rrb_core.proofs.LinkCounts.{all-counted}
 use Rattle.pool_order.proofs.Places.{flat_map-same}
@@ -15,12 +15,41 @@ use Rattle.pool_text.specs.Pool.{forms_in, relink}
 use Rattle.pool_text.specs.declared.pool.Pool.{Pool}
 use Rattle.pool_text.proofs.Ordered.{map-flat}
 use Rattle.pool_check.proofs.PoolLaws.{get-low}
-use Rattle.pool_check.proofs.VectorReadings.{all-at}
+use Rattle.pool_check.proofs.VectorReadings.{map-twice, all-at}
 use Rattle.pool_carry.specs.Carried.{is_of_trie, AreImages}
+
+-- links changed twice
+pub relink-twice : (f h : ℕ → ℕ) (r : Form Bytes) → relink h (relink f r) ≡ relink (λ l. h (f l)) r
+relink-twice f h (cell x) = refl
+relink-twice f h (node kind links) = ap (node kind) (map-twice h f links)
+
+-- a row of a vector: a leaf or an inner row
+abbrev pub is_of_vector : {K : Type 0} → Form K → Bool
+is_of_vector (node leaf _) = true
+is_of_vector (node (inner _) _) = true
+is_of_vector _ = false
+
+-- each row of a vector of F stands in G under its new link, with new links
+abbrev pub VectorsStand : (ℕ → ℕ) → Forms Bytes → Forms Bytes → Type 0
+VectorsStand f F G = (l : ℕ) (row : Form Bytes) → F l ≡ Some row → is_of_vector row ≡ true → G (f l) ≡ Some (relink f row)
 
 -- each row of F that is none of a trie stands in G under its new link, with new links
 abbrev pub OwnStand : (ℕ → ℕ) → Forms Bytes → Forms Bytes → Type 0
 OwnStand f F G = (l : ℕ) (row : Form Bytes) → F l ≡ Some row → is_of_trie (Some row) ≡ false → G (f l) ≡ Some (relink f row)
+
+-- a row of a vector is none of a trie
+pub vector-own : (row : Form Bytes) → is_of_vector row ≡ true → is_of_trie (Some row) ≡ false
+vector-own (cell text) is = refl
+vector-own (node leaf links) is = refl
+vector-own (node (inner height) links) is = refl
+vector-own (node (trie d e n) links) is = cc
+vector-own (node chain links) is = cc
+vector-own (node pair links) is = refl
+vector-own (node state links) is = refl
+
+-- and then each row of a vector does
+pub own-vectors : (f : ℕ → ℕ) (F G : Forms Bytes) → OwnStand f F G → VectorsStand f F G
+own-vectors f F G own l row is vector = own l row is (vector-own row vector)
 
 -- so stand the images of a pool's own rows
 pub own-stand : (rules : Rules) (bits : ℕ) (P : Pool) (f : ℕ → ℕ) (G : Forms Bytes) → AreImages rules bits P f G → OwnStand f (forms_in P) G
@@ -33,7 +62,7 @@ all-image R S f ks each all = All-map S f ks (all-counted (λ k. S (f k)) ks (λ
 front-map : (f : ℕ → ℕ) (ks : List ℕ) → take (length (map f ks) - 1) (map f ks) ≡ map f (take (length ks - 1) ks)
 front-map f ks = ap (λ n. take (n - 1) (map f ks)) (length-map ks f) ∙ take-map f (length ks - 1) ks
 
-module _ (f : ℕ → ℕ) (F G : Forms Bytes) (own : OwnStand f F G) where
+module _ (f : ℕ → ℕ) (F G : Forms Bytes) (own : VectorsStand f F G) where
   -- the row of a vector at this height
   row-stands : (n l : ℕ) → IsWell F n l → G (f l) ≡ option_map (relink f) (F l)
   unfolding IsWell

@@ -20,7 +20,7 @@ use Rattle.pool_text.specs.Pool.{forms_in, row_count, relink}
 use Rattle.pool_text.specs.declared.pool.Pool.{Pool}
 use Rattle.pool_text.specs.declared.row.Row.{Row}
 use Rattle.pool_text.specs.declared.row.Row.TheVariants.{Cell, Leaf, Inner, Trie, Chain, Pair, State}
-use Rattle.pool_carry.proofs.EntryRows.{form-read}
+use Rattle.pool_text.proofs.FormRows.{form-read}
 use Rattle.pool_text.proofs.Renamed.{map-found, links-relink}
 use Rattle.pool_check.specs.Tries.{are_branches, agree_above, is_canonical, entries_below}
 use Rattle.pool_check.specs.Kinds.{is_trie_root}

@@ -1,13 +1,10 @@
 //! A pool, carried over.
-ghost use Rattle.std.specs.Prelude.{◌≡◌, ℕ, ◌+◌, ◌*◌, ◌<◌, ◌≤◌, length, map, slice_index, false, true, Some, IfOk, OnOk};
-ghost use Rattle.node_heap.specs.Links.{count};
-ghost use Rattle.node_heap.specs.Forms.{links_of};
-ghost use Rattle.pool_text.specs.Rows.{row_form};
+ghost use Rattle.std.specs.Prelude.{◌≡◌, ◌<◌, ◌≤◌, length, IfOk, OnOk};
 ghost use Rattle.pool_text.specs.Rules.{Rules as VersionRules, present_rules, rules_named};
-ghost use Rattle.pool_text.specs.Pool.{row_count, relink};
+ghost use Rattle.pool_text.specs.Pool.{row_count};
 ghost use Rattle.pool_text.specs.declared.rules.TheConstants.{MOST_HISTORY, PRESENT_VERSION};
 ghost use Rattle.pool_check.specs.Damages.{IsValidBy};
-ghost use Rattle.pool_carry.specs.Carried.{is_of_trie, IsCarried};
+ghost use Rattle.pool_carry.specs.Carried.{IsCarried};
 ghost use Rattle.pool_carry.specs.Making.{forms_made, AreMade, IsBegun, AreImagesOfFirst, ImageIsMade, AreCarriedRows};
 
 use crate::entries::entries_below;
@@ -15,7 +12,7 @@ use crate::made::MadeRows;
 use crate::tries::trie_of;
 use elem_core::{CODE_BITS, NoMemory};
 use pool_check::Old;
-use pool_text::{MOST_HISTORY, Places, Pool, PoolText, Row, Rows, Rules, pool_of_rows};
+use pool_text::{MOST_HISTORY, Places, Pool, Row, Rows, Rules, at_places, pool_of_rows, relinked};
 use std::alloc::Global;
 
 /// The pool of an older document, carried over to today's rules by so many code bits; its undo may keep 4,294,967,295 states. It walks
@@ -61,7 +58,7 @@ fn carried_rows(
         )?;
         images.push(image)?;
     }
-    let roots = images_of(alloc, images.as_slice(), pool.roots.as_slice())?;
+    let roots = at_places(alloc, images.as_slice(), pool.roots.as_slice())?;
     Ok((made.into_rows(), roots))
 }
 
@@ -97,43 +94,8 @@ fn image_of(
         }
         Row::Chain(_) => Ok(0),
         row => {
-            let image = own_image(alloc, images, row)?;
+            let image = relinked(alloc, images, row)?;
             made.add_own(image)
         }
     }
-}
-
-// The row, none of a trie, with the images of its links.
-fn own_image(alloc: Global, images: &[u64], row: &Row) -> Result<Row, NoMemory>
-    requires own { is_of_trie (Some (row_form row.now)) ≡ false }
-    requires low { (k : ℕ) → 0 < count k (links_of (Some (row_form row.now))) → k < length images.now }
-    ensures { IfOk result (λ image. row_form image ≡ relink (slice_index images.now) (row_form row.now)) }
-{
-    Ok(match row {
-        Row::Cell(text) => {
-            Row::Cell(PoolText::from_text(String::from_str(alloc, text.as_str())?))
-        }
-        Row::Leaf(links) => Row::Leaf(images_of(alloc, images, links.as_slice())?),
-        Row::Inner(height, links) => {
-            Row::Inner(*height, images_of(alloc, images, links.as_slice())?)
-        }
-        Row::Pair(key, value) => Row::Pair(images[*key as usize], images[*value as usize]),
-        Row::State(buffers, stars) => Row::State(
-            images[*buffers as usize],
-            images[*stars as usize],
-        ),
-        Row::Trie { .. } | Row::Chain(_) => unreachable!(),
-    })
-}
-
-// The images of the rows at these places.
-fn images_of(alloc: Global, images: &[u64], places: &[u64]) -> Result<Places, NoMemory>
-    requires low { (k : ℕ) → 0 < count k places.now → k < length images.now }
-    ensures { IfOk result (λ p. p ≡ map (slice_index images.now) places.now) }
-{
-    let mut found = Vec::with_capacity(alloc, places.len())?;
-    for place in places {
-        found.push(images[*place as usize])?;
-    }
-    Ok(Places::from_vec(found))
 }

@@ -42,7 +42,7 @@ either : (b : Bool) (o p q : Option Damage) (d : Damage) → cond b o q ≡ Some
 either true o p q d h more = more h
 either false o p q d h more = h
 
-fails-first : (ts us : List (Bool × Damage)) (d : Damage) → first_failing ts ≡ Some d → first_failing (ts ++ us) ≡ Some d
+pub fails-first : (ts us : List (Bool × Damage)) (d : Damage) → first_failing ts ≡ Some d → first_failing (ts ++ us) ≡ Some d
 fails-first [] us d h = absurd (let e : None ≡ Some d = h in cc)
 fails-first (t ∷ ts) us d h = either t.0 (first_failing ts) (first_failing (ts ++ us)) (Some t.1) d h (fails-first ts us d)
 

@@ -14,9 +14,9 @@ use Rattle.champ_trie.specs.Walk.{own_entries, rows_below}
 use Rattle.pool_text.specs.Rows.{Bytes}
 use Rattle.pool_check.specs.Vectors.{has_height}
 use Rattle.pool_check.specs.Tries.{entries_below}
-use Rattle.pool_check.specs.Kinds.{is_vector_root, is_trie_root, is_pair_of, is_state_of, is_cell_of, elements_pass, is_vector_of, is_trie_of, is_name_cell, is_lines_vector, is_buffer_map, is_stars_set, is_state}
+use Rattle.pool_check.specs.Kinds.{is_vector_root, is_trie_root, is_pair_of, is_state_of, is_cell_of, elements_pass, is_vector_of, is_trie_of, is_any_cell, is_name_cell, is_lines_vector, is_buffer_map, is_stars_set, is_state}
 use Rattle.pool_check.specs.declared.kinds.RowFacts.{RowFacts}
-use Rattle.pool_check.specs.Facts.{are_elements, are_entries, is_any_cell, is_named_lines, is_named_state, facts_at, no_facts, facts_over_entries, of_both, common_facts}
+use Rattle.pool_check.specs.Facts.{are_elements, are_entries, is_cell_pair, is_lines_pair, is_named_lines, is_named_state, facts_at, no_facts, facts_over_entries, of_both, common_facts}
 use Rattle.pool_check.proofs.TestLemmas.{not-both}
 use Rattle.pool_check.proofs.EntryTests.{list_all-same, is_entry_row, entries-pass, HasRows}
 
@@ -31,15 +31,20 @@ common-more facts links i low =
       more (λ k. (facts k).state),
       more (λ k. (facts k).named_lines),
       more (λ k. (facts k).named_state),
+      more (λ k. (facts k).cell_pair),
+      more (λ k. (facts k).lines_pair),
       more (λ k. (facts k).root),
       more (λ k. (facts k).over_cells),
       more (λ k. (facts k).over_states),
       more (λ k. (facts k).over_names),
       more (λ k. (facts k).over_named_lines),
       more (λ k. (facts k).over_named_states),
+      more (λ k. (facts k).over_keys),
+      more (λ k. (facts k).over_cell_pairs),
+      more (λ k. (facts k).over_lines_pairs),
     )
 
-and-false : (a : Bool) → (a && false) ≡ false
+pub and-false : (a : Bool) → (a && false) ≡ false
 and-false true = refl
 and-false false = refl
 
@@ -99,12 +104,17 @@ module _ (n : ℕ) (F : Forms Bytes) where
     state = is_state_of (is_buffer_map n F) (is_stars_set n F) r;
     named_lines = is_pair_of (is_name_cell n F) (is_lines_vector n F) r;
     named_state = is_pair_of (is_name_cell n F) (is_state n F) r;
+    cell_pair = is_pair_of (is_any_cell n F) (is_any_cell n F) r;
+    lines_pair = is_pair_of (is_any_cell n F) (is_lines_vector n F) r;
     root = is_vector_root r || is_trie_root r;
     over_cells = are_elements F (is_any_cell n F) l r;
     over_states = are_elements F (is_state n F) l r;
     over_names = are_entries n F (is_name_cell n F) l r;
     over_named_lines = are_entries n F (is_named_lines n F) l r;
     over_named_states = are_entries n F (is_named_state n F) l r;
+    over_keys = are_entries n F (is_any_cell n F) l r;
+    over_cell_pairs = are_entries n F (is_cell_pair n F) l r;
+    over_lines_pairs = are_entries n F (is_lines_pair n F) l r;
   }
 
   by-form : (l : ℕ) (r : Option (Form Bytes)) → F l ≡ r → facts_by l r ≡ facts_at n F l
@@ -138,16 +148,29 @@ module _ (n : ℕ) (F : Forms Bytes) where
       ∙ ap (λ b. record no_facts { root = b; over_cells = elements_pass F (is_any_cell n F) (suc height) l; over_states = elements_pass F (is_state n F) (suc height) l }) (sym (or-false wide))
       ∙ by-form l (Some (node (inner (suc height)) ks)) is
 
-  pub pair-facts : (l k v : ℕ) (key value : RowFacts) (lines version : Bool) → F l ≡ Some (node pair (k ∷ v ∷ [])) → key ≡ facts k → value ≡ facts v → lines ≡ (key.name && (value.root && value.over_cells)) → version ≡ (key.name && value.state)
-      → record no_facts { named_lines = lines; named_state = version } ≡ facts l
+  pub pair-facts : (l k v : ℕ) (key value given : RowFacts) → F l ≡ Some (node pair (k ∷ v ∷ [])) → key ≡ facts k → value ≡ facts v
+      → given ≡ record no_facts {
+        named_lines = key.name && (value.root && value.over_cells);
+        named_state = key.name && value.state;
+        cell_pair = key.cell && value.cell;
+        lines_pair = key.cell && (value.root && value.over_cells);
+      } → given ≡ facts l
   unfolding facts_at
-  pair-facts l k v key value lines version is key_is value_is lines_are version_is =
-      let lines_at : lines ≡ (is_name_cell n F k && is_lines_vector n F v) =
-      lines_are ∙ ap (λ (a : RowFacts). a.name && (value.root && value.over_cells)) key_is ∙ ap (λ (b : RowFacts). is_name_cell n F k && (b.root && b.over_cells)) value_is
-      ∙ ap (λ b. is_name_cell n F k && b) (vector-of F (is_any_cell n F) v) in
-      let version_at : version ≡ (is_name_cell n F k && is_state n F v) = version_is ∙ ap (λ (a : RowFacts). a.name && value.state) key_is ∙ ap (λ (b : RowFacts). is_name_cell n F k && b.state) value_is in
-      ap (λ b. record no_facts { named_lines = b; named_state = version }) lines_at
-      ∙ ap (λ b. record no_facts { named_lines = is_name_cell n F k && is_lines_vector n F v; named_state = b }) version_at
+  pair-facts l k v key value given is key_is value_is given_is =
+      let lines : Bool = (facts v).root && (facts v).over_cells in
+      let made : RowFacts → RowFacts → RowFacts = λ a b. record no_facts {
+        named_lines = a.name && (b.root && b.over_cells);
+        named_state = a.name && b.state;
+        cell_pair = a.cell && b.cell;
+        lines_pair = a.cell && (b.root && b.over_cells);
+      } in
+      given_is ∙ ap (λ (a : RowFacts). made a value) key_is ∙ ap (made (facts k)) value_is
+      ∙ ap (λ (t : Bool). record no_facts {
+        named_lines = is_name_cell n F k && t;
+        named_state = is_name_cell n F k && is_state n F v;
+        cell_pair = is_any_cell n F k && is_any_cell n F v;
+        lines_pair = is_any_cell n F k && t;
+      }) (vector-of F (is_any_cell n F) v)
       ∙ by-form l (Some (node pair (k ∷ v ∷ []))) is
 
   pub state-facts : (l k v : ℕ) (buffers stars : RowFacts) (found : Bool) → F l ≡ Some (node state (k ∷ v ∷ [])) → buffers ≡ facts k → stars ≡ facts v → found ≡ ((buffers.root && buffers.over_named_lines) && (stars.root && stars.over_names))
@@ -192,25 +215,24 @@ module _ (n : ℕ) (F : Forms Bytes) where
       over_names = list_all (λ e. is_name_cell n F e.link) (entries_below n F l);
       over_named_lines = list_all (λ e. is_named_lines n F e.link) (entries_below n F l);
       over_named_states = list_all (λ e. is_named_state n F e.link) (entries_below n F l);
+      over_keys = list_all (λ e. is_any_cell n F e.link) (entries_below n F l);
+      over_cell_pairs = list_all (λ e. is_cell_pair n F e.link) (entries_below n F l);
+      over_lines_pairs = list_all (λ e. is_lines_pair n F e.link) (entries_below n F l);
     }
 
     entries-facts : (l : ℕ) (root : Bool) (own below : List ℕ) → l < n → own_entries (F l) ≡ own → rows_below (F l) ≡ below → HasRows F falls n code own below
         → facts_over_entries root (common_facts facts own) (common_facts facts below) ≡ over l root
     unfolding facts_at common_facts
     entries-facts l root own below low own_are below_are has =
-        let names = over-entries (is_name_cell n F) l own below low own_are below_are has in
-        let lines = over-entries (is_named_lines n F) l own below low own_are below_are has in
-        let states = over-entries (is_named_state n F) l own below low own_are below_are has in
-        let second : Bool = list_all (is_named_lines n F) own && list_all (λ k. are_entries n F (is_named_lines n F) k (F k)) below in
-        let third : Bool = list_all (is_named_state n F) own && list_all (λ k. are_entries n F (is_named_state n F) k (F k)) below in
-        ap (λ b. record no_facts { root = root; over_names = b; over_named_lines = second; over_named_states = third }) names
-        ∙ ap (λ b. record no_facts { root = root; over_names = list_all (λ e. is_name_cell n F e.link) (entries_below n F l); over_named_lines = b; over_named_states = third }) lines
-        ∙ ap (λ b. record no_facts {
-          root = root;
-          over_names = list_all (λ e. is_name_cell n F e.link) (entries_below n F l);
-          over_named_lines = list_all (λ e. is_named_lines n F e.link) (entries_below n F l);
-          over_named_states = b;
-        }) states
+        let each = λ (test : ℕ → Bool). over-entries test l own below low own_are below_are has in
+        cc (
+          each (is_name_cell n F),
+          each (is_named_lines n F),
+          each (is_named_state n F),
+          each (is_any_cell n F),
+          each (is_cell_pair n F),
+          each (is_lines_pair n F),
+        )
 
     pub trie-facts : (l depth e d : ℕ) (ks : List ℕ) → l < n → F l ≡ Some (node (trie depth e d) ks) → HasRows F falls n code (take (rank e 32) ks) (drop (rank e 32) ks)
         → facts_over_entries (depth == 0) (common_facts facts (take (rank e 32) ks)) (common_facts facts (drop (rank e 32) ks)) ≡ facts l

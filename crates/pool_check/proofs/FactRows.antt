@@ -1,12 +1,12 @@
 -- What the tests before that of the roots' kinds say of a row, and the facts of roots.
-use Rattle.std.proofs.Common.{◌≡◌, ℕ, suc, ◌-◌, ◌<◌, ◌≤◌, ◌^◌, Bool, true, false, ◌&&◌, ◌||◌, ltb, leb, List, [], ◌∷◌, length, map, take, drop, get_or, refl, ap, sym, ◌∙◌, arith}
+use Rattle.std.proofs.Common.{◌≡◌, ℕ, suc, ◌-◌, ◌<◌, ◌≤◌, ◌^◌, Bool, true, false, ◌&&◌, ltb, leb, List, [], ◌∷◌, length, map, take, drop, get_or, refl, ap, sym, ◌∙◌, arith}
 use Rattle.std.specs.Prelude.{Some, IsTrue, ◌↔◌, ◌==◌, nat_lt, nat_le, count_ones, sum_by}
 use Rattle.std.specs.List.{list_all}
 use Rattle.std.proofs.lemmas.List.{length-map}
 use Rattle.std.proofs.lemmas.Bool.{and_parts, leb-true, ltb-true, false≢true}
 use Rattle.elem_core.specs.Naming.{IsName, is_name}
 use Rattle.elem_core.proofs.NamingLemmas.{is_name-yes, is_name-no}
-use Rattle.node_heap.specs.Forms.{Form, Forms, node, inner, trie, chain, links_of, links_in}
+use Rattle.node_heap.specs.Forms.{Form, node, inner, trie, chain, links_of, links_in}
 use Rattle.node_heap.specs.declared.row.TheConstants.{MOST_HEIGHT}
 use Rattle.champ_trie.specs.Bits.{rank}
 use Rattle.champ_trie.specs.Trie.{code_by}
@@ -18,14 +18,13 @@ use Rattle.pool_text.specs.declared.row.Row.{Row}
 use Rattle.pool_check.specs.Vectors.{has_height, is_thick, length_at, are_children, keeps_fill_rule, vectors_stand}
 use Rattle.pool_check.specs.Tries.{is_canonical}
 use Rattle.pool_check.specs.Rows.{rows_lead_back, links_lead_back}
-use Rattle.pool_check.specs.Kinds.{is_vector_root, is_trie_root, is_state, is_versions_map, is_history, are_roots}
 use Rattle.pool_check.specs.declared.kinds.RowFacts.{RowFacts}
-use Rattle.pool_check.specs.Facts.{are_elements, is_named_state, facts_at, facts_in, no_facts, facts_over_entries, common_facts, HasRowsThatStand}
+use Rattle.pool_check.specs.Facts.{facts_in, no_facts, facts_over_entries, common_facts, HasRowsThatStand}
 use Rattle.pool_check.proofs.TestLemmas.{all-at, leads-down}
 use Rattle.pool_check.proofs.PoolLaws.{canonical-at}
 use Rattle.pool_check.proofs.KeptRows.{form-is, range-is, links-are}
 use Rattle.pool_check.proofs.EntryTests.{trie-has, trie-long, chain-has}
-use Rattle.pool_check.proofs.FactLemmas.{vector-of, trie-of, inner-facts, trie-facts, chain-facts}
+use Rattle.pool_check.proofs.FactLemmas.{inner-facts, trie-facts, chain-facts}
 
 pub name-is : (found : Bool) (x : Bytes) → (IsTrue found ↔ IsName x) → found ≡ is_name x
 name-is true x h = sym (is_name-yes x (h.0 refl))
@@ -101,61 +100,6 @@ module _ (P : Pool) (stand : HasRowsThatStand P) (l : ℕ) (low : l < row_count 
       let falls = leads-down P stand.lead_back in
       let canonical = ap (is_canonical (row_count P) (forms_in P) (code_by stand.rules.code_of P.bits) stand.rules.deepest l) (sym is) ∙ canonical-at stand.rules P stand.tries l in
       over ∙ chain-facts (row_count P) (forms_in P) falls (code_by stand.rules.code_of P.bits) l ks low is (chain-has (forms_in P) falls (row_count P) (code_by stand.rules.code_of P.bits) stand.rules.deepest l ks canonical)
-
--- whether rows of these facts are the first four roots of a pool
-abbrev four_are : RowFacts → RowFacts → RowFacts → RowFacts → Bool
-four_are a b c d = a.state && (b.root && b.over_named_states) && (c.root && c.over_states) && (d.root && d.over_states)
-
-module _ (n : ℕ) (F : Forms Bytes) where
-  abbrev first_four : ℕ → ℕ → ℕ → ℕ → Bool
-  first_four x y z w = is_state n F x && is_versions_map n F y && is_history n F z && is_history n F w
-
-  four-is : (x y z w : ℕ) (a b c d : RowFacts) → a ≡ facts_at n F x → b ≡ facts_at n F y → c ≡ facts_at n F z → d ≡ facts_at n F w → four_are a b c d ≡ first_four x y z w
-  unfolding facts_at
-  four-is x y z w a b c d a_is b_is c_is d_is =
-      let history : ℕ → Bool = λ l. (is_vector_root (F l) || is_trie_root (F l)) && are_elements F (is_state n F) l (F l) in
-      ap (λ r. four_are r b c d) a_is ∙ ap (λ r. four_are (facts_at n F x) r c d) b_is ∙ ap (λ r. four_are (facts_at n F x) (facts_at n F y) r d) c_is
-      ∙ ap (λ r. four_are (facts_at n F x) (facts_at n F y) (facts_at n F z) r) d_is
-      ∙ ap (λ t. is_state n F x && t && history z && history w) (trie-of n F (is_named_state n F) y)
-      ∙ ap (λ t. is_state n F x && is_versions_map n F y && t && history w) (vector-of F (is_state n F) z)
-      ∙ ap (λ t. is_state n F x && is_versions_map n F y && is_history n F z && t) (vector-of F (is_state n F) w)
-
-  module _ (a b c d : RowFacts) where
-    pub record AreFirst (roots : List ℕ) : Type 0 where
-      pub first : a ≡ facts_at n F (get_or roots 0 0)
-      pub second : b ≡ facts_at n F (get_or roots 1 0)
-      pub third : c ≡ facts_at n F (get_or roots 2 0)
-      pub fourth : d ≡ facts_at n F (get_or roots 3 0)
-
-    pub four-roots : (roots : List ℕ) → length roots ≡ 4 → AreFirst roots → four_are a b c d ≡ are_roots n F roots
-    unfolding are_roots
-    four-roots [] count are = absurd (omega (arith, count))
-    four-roots (x ∷ []) count are = absurd (omega (arith, count))
-    four-roots (x ∷ y ∷ []) count are = absurd (omega (arith, count))
-    four-roots (x ∷ y ∷ z ∷ []) count are = absurd (omega (arith, count))
-    four-roots (x ∷ y ∷ z ∷ w ∷ []) count are = four-is x y z w a b c d are.first are.second are.third are.fourth
-    four-roots (x ∷ y ∷ z ∷ w ∷ v ∷ rest) count are = absurd (omega (arith, count))
-
-    pub five-roots : (roots : List ℕ) (batch : RowFacts) → length roots ≡ 5 → AreFirst roots → batch ≡ facts_at n F (get_or roots 4 0) → (four_are a b c d && batch.state) ≡ are_roots n F roots
-    unfolding are_roots facts_at
-    five-roots [] batch count are is = absurd (omega (arith, count))
-    five-roots (x ∷ []) batch count are is = absurd (omega (arith, count))
-    five-roots (x ∷ y ∷ []) batch count are is = absurd (omega (arith, count))
-    five-roots (x ∷ y ∷ z ∷ []) batch count are is = absurd (omega (arith, count))
-    five-roots (x ∷ y ∷ z ∷ w ∷ []) batch count are is = absurd (omega (arith, count))
-    five-roots (x ∷ y ∷ z ∷ w ∷ v ∷ []) batch count are is =
-        ap (λ (r : RowFacts). four_are a b c d && r.state) is ∙ ap (λ t. t && is_state n F v) (four-is x y z w a b c d are.first are.second are.third are.fourth)
-    five-roots (x ∷ y ∷ z ∷ w ∷ v ∷ u ∷ rest) batch count are is = absurd (omega (arith, count))
-
-  pub no-roots : (roots : List ℕ) → (length roots ≡ 4 → ⊥) → (length roots ≡ 5 → ⊥) → false ≡ are_roots n F roots
-  unfolding are_roots
-  no-roots [] four five = refl
-  no-roots (x ∷ []) four five = refl
-  no-roots (x ∷ y ∷ []) four five = refl
-  no-roots (x ∷ y ∷ z ∷ []) four five = refl
-  no-roots (x ∷ y ∷ z ∷ w ∷ []) four five = absurd (four (omega arith))
-  no-roots (x ∷ y ∷ z ∷ w ∷ v ∷ []) four five = absurd (five (omega arith))
-  no-roots (x ∷ y ∷ z ∷ w ∷ v ∷ u ∷ rest) four five = refl
 
 pub roots-low : (P : Pool) → links_lead_back P ≡ true → (bound : ℕ) → bound ≡ row_count P → (roots : List ℕ) → roots ≡ P.roots → list_all (λ k. nat_lt k bound) roots ≡ true
 unfolding links_lead_back

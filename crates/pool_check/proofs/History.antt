@@ -86,7 +86,7 @@ full_history-undamaged =
 pub long_history-damaged : damage long_history ≡ Some Kind
 long_history-damaged =
     let most = long_history.history in
-    open-fails present_rules long_history (in-range most) Kind (fails-fits present_rules long_history (links-back most) (lines most) (vectors most) (tries most) (kinds most) too_many)
+    open-fails present_rules long_history (in-range most) Kind (fails-fits present_rules long_history (record { lead_back = links-back most; lines = lines most; vectors = vectors most; tries = tries most }) (kinds most) too_many)
 
 too_long : vectors_stand overfull_history ≡ false
 unfolding vectors_stand are_children is_thick length_at

@@ -12,6 +12,8 @@ use Rattle.pool_check.specs.Rows.{rows_in_range_by, links_lead_back, texts_are_l
 use Rattle.pool_check.specs.Vectors.{vectors_stand}
 use Rattle.pool_check.specs.Tries.{tries_stand_by}
 use Rattle.pool_check.specs.Kinds.{roots_are_of_kind, undo_fits}
+use Rattle.pool_check.specs.Roots.{roots_are_of}
+use Rattle.pool_check.specs.declared.root.RootKind.{RootKind}
 use Rattle.pool_text.specs.declared.damage.Damage.{Damage}
 use Rattle.pool_text.specs.declared.damage.Damage.TheVariants.{Row, Link, Text, Vector, Trie, Kind, Order}
 
@@ -25,15 +27,32 @@ first_failing [] = None
 first_failing (t ∷ ts) = if t.0 then first_failing ts else Some t.1
 
 module _ (rules : Rules) where
+  -- the tests `Link` to `Trie`, which ask nothing of what the roots are
+  abbrev pub row_tests : Pool → List (Bool × Damage)
+  row_tests P = (links_lead_back P, Link) ∷ (texts_are_lines P, Text) ∷ (vectors_stand P, Vector) ∷ (tries_stand_by rules P, Trie) ∷ []
+
   -- the tests `Link` to `Kind`, which ask nothing of ranges and of the order
   abbrev pub open_tests : Pool → List (Bool × Damage)
-  open_tests P =
-      (links_lead_back P, Link) ∷ (texts_are_lines P, Text) ∷ (vectors_stand P, Vector) ∷ (tries_stand_by rules P, Trie)
-      ∷ (roots_are_of_kind P && undo_fits P, Kind) ∷ []
+  open_tests P = row_tests P ++ (roots_are_of_kind P && undo_fits P, Kind) ∷ []
 
   -- the tests of a pool in the order in which they are made
   abbrev pub tests_by : Pool → List (Bool × Damage)
   tests_by P = (rows_in_range_by rules P, Row) ∷ (open_tests P ++ (rows_in_order P, Order) ∷ [])
+
+  -- the first of the tests `Link` to `Trie` that the pool fails, if any
+  unfoldable pub row_damage : Pool → Option Damage
+  row_damage P = first_failing (row_tests P)
+
+  -- a pool that passes these
+  pub record RowsPass (P : Pool) : Type 0 where
+    pub lead_back : links_lead_back P ≡ true
+    pub lines : texts_are_lines P ≡ true
+    pub vectors : vectors_stand P ≡ true
+    pub tries : tries_stand_by rules P ≡ true
+
+  -- the first of the tests `Link` to `Order` that a pool fails whose roots have to be of these kinds, if any
+  unfoldable pub damage_with_roots : List RootKind → Pool → Option Damage
+  damage_with_roots kinds P = first_failing (row_tests P ++ (roots_are_of kinds P, Kind) ∷ (rows_in_order P, Order) ∷ [])
 
   -- the first of the tests `Link` to `Kind` that the pool fails, if any
   unfoldable pub open_damage : Pool → Option Damage

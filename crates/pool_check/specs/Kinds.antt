@@ -52,11 +52,24 @@ module _ (n : ℕ) (F : Forms Bytes) where
   abbrev pub is_trie_of : (ℕ → Bool) → ℕ → Bool
   is_trie_of test l = is_trie_root (F l) && list_all (λ e. test e.link) (entries_below n F l)
 
+  abbrev pub is_any_cell : ℕ → Bool
+  is_any_cell l = is_cell_of (λ _. true) (F l)
+
   abbrev pub is_name_cell : ℕ → Bool
   is_name_cell l = is_cell_of is_name (F l)
 
   abbrev pub is_lines_vector : ℕ → Bool
   is_lines_vector = is_vector_of F (λ k. is_cell_of (λ _. true) (F k))
+
+  -- a set of cells, a map from cells to cells, and one from cells to vectors of cells
+  abbrev pub is_cell_set : ℕ → Bool
+  is_cell_set = is_trie_of is_any_cell
+
+  abbrev pub is_cell_map : ℕ → Bool
+  is_cell_map = is_trie_of (λ e. is_pair_of is_any_cell is_any_cell (F e))
+
+  abbrev pub is_lines_map : ℕ → Bool
+  is_lines_map = is_trie_of (λ e. is_pair_of is_any_cell is_lines_vector (F e))
 
   abbrev pub is_buffer_map : ℕ → Bool
   is_buffer_map = is_trie_of (λ e. is_pair_of is_name_cell is_lines_vector (F e))

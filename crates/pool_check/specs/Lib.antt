@@ -4,6 +4,7 @@ pub mod Shapes
 pub mod Tries
 pub mod Keeping
 pub mod Kinds
+pub mod Roots
 pub mod Facts
 pub mod Damages
 pub mod Counted

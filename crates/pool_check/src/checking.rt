@@ -4,15 +4,18 @@ ghost use Rattle.std.specs.List.{list_all};
 ghost use Rattle.pool_text.specs.Rows.{is_in_range};
 ghost use Rattle.pool_text.specs.Rules.{first_rules, present_rules, rules_of, rules_named};
 ghost use Rattle.pool_text.specs.Document.{HistoryFitsVersion};
+ghost use Rattle.pool_text.specs.Pool.{forms_in, row_count};
 ghost use Rattle.pool_text.specs.declared.rules.TheConstants.{FIRST_VERSION, FIRST_CODE_BITS};
 ghost use Rattle.pool_check.specs.Rows.{rows_in_range_by};
-ghost use Rattle.pool_check.specs.Damages.{IsValid, IsValidBy, damage, damage_by, open_damage};
+ghost use Rattle.pool_check.specs.Damages.{IsValid, IsValidBy, damage, damage_by, open_damage, row_damage, damage_with_roots, RowsPass};
+ghost use Rattle.pool_check.specs.Shapes.{AreShapes};
 
-use crate::kinds::roots_are_of_kind;
+use crate::kinds::{roots_are_of, roots_are_of_kind};
 use crate::order::rows_in_order;
+use crate::root::RootKind;
 use crate::rows::{links_lead_back, texts_are_lines};
 use crate::tries::tries_stand;
-use crate::vectors::{shapes_of, undo_length};
+use crate::vectors::{Shape, shapes_of, undo_length};
 use elem_core::{CODE_BITS, Stored};
 use pool_text::{Damage, FIRST_CODE_BITS, Pool, Rules};
 use std::alloc::Global;
@@ -141,6 +144,40 @@ pub fn check_old<T: Stored>(alloc: Global, pool: Pool) -> Result<Old, Damage>
     Ok(Old { pool })
 }
 
+/// Makes the tests `Link` to `Kind` of a pool that `check` takes, which ask nothing of the order of its rows, and leaves the pool
+/// where it is. Refused with the first that fails, and with `Memory` where memory runs out. It takes what `check` takes.
+pub fn check_open<T: Stored>(alloc: Global, pool: &Pool) -> Result<(), Damage>
+    requires rules { rules_of pool.now.version ≡ Some present_rules }
+    requires history { HistoryFitsVersion pool.now }
+    requires bits { pool.now.bits ≤ CODE_BITS }
+    requires roots { length pool.now.roots ≡ 4 }
+    requires rows { list_all is_in_range pool.now.rows ≡ true }
+    ensures passed { IfOk result (λ _. open_damage present_rules pool.now ≡ None) }
+    ensures damage { IfErr result (λ d. d ≢ Damage.Memory → open_damage present_rules pool.now ≡ Some d) }
+{
+    make_open_tests(alloc, pool, Rules::present())
+}
+
+/// Makes the tests `Link` to `Order` of a pool of the second or the third version whose rows are in range and whose roots have to be
+/// of these kinds, one for each, which is the test `Kind`, and leaves the pool where it is. Refused with the first that fails, and
+/// with `Memory` where memory runs out. It takes what `check` takes.
+pub fn check_roots<T: Stored>(alloc: Global, pool: &Pool, kinds: &[RootKind]) -> Result<(), Damage>
+    requires rules { rules_of pool.now.version ≡ Some present_rules }
+    requires bits { pool.now.bits ≤ CODE_BITS }
+    requires rows { list_all is_in_range pool.now.rows ≡ true }
+    ensures passed { IfOk result (λ _. damage_with_roots present_rules kinds.now pool.now ≡ None) }
+    ensures damage { IfErr result (λ d. d ≢ Damage.Memory → damage_with_roots present_rules kinds.now pool.now ≡ Some d) }
+{
+    make_row_tests(alloc, pool, Rules::present())?;
+    if !roots_are_of(alloc, pool, kinds)? {
+        return Err(Damage::Kind);
+    }
+    if !rows_in_order(alloc, pool)? {
+        return Err(Damage::Order);
+    }
+    Ok(())
+}
+
 // Makes the tests `Link` to `Order` by these rules. Refused with the first that fails, and with `Memory` where memory runs out.
 fn make_tests(alloc: Global, pool: &Pool, rules: Rules) -> Result<(), Damage>
     requires bits { pool.now.bits ≤ CODE_BITS }
@@ -162,19 +199,8 @@ fn make_open_tests(alloc: Global, pool: &Pool, rules: Rules) -> Result<(), Damag
     ensures passed { IfOk result (λ _. open_damage (rules_named rules) pool.now ≡ None) }
     ensures damage { IfErr result (λ d. d ≢ Damage.Memory → open_damage (rules_named rules) pool.now ≡ Some d) }
 {
-    if !links_lead_back(pool) {
-        return Err(Damage::Link);
-    }
-    if !texts_are_lines(pool) {
-        return Err(Damage::Text);
-    }
-    let undo = match shapes_of(alloc, pool)? {
-        Some(shapes) => undo_length(shapes.as_slice(), pool.roots.as_slice()),
-        None => return Err(Damage::Vector),
-    };
-    if !tries_stand(alloc, pool, rules)? {
-        return Err(Damage::Trie);
-    }
+    let shapes = make_row_tests(alloc, pool, rules)?;
+    let undo = undo_length(shapes.as_slice(), pool.roots.as_slice());
     if !roots_are_of_kind(alloc, pool)? {
         return Err(Damage::Kind);
     }
@@ -182,4 +208,29 @@ fn make_open_tests(alloc: Global, pool: &Pool, rules: Rules) -> Result<(), Damag
         return Err(Damage::Kind);
     }
     Ok(())
+}
+
+// Makes the tests `Link` to `Trie` by these rules, and gives the shapes of the rows. Refused with the first that fails, and with
+// `Memory` where memory runs out.
+fn make_row_tests(alloc: Global, pool: &Pool, rules: Rules) -> Result<Vec<Option<Shape>>, Damage>
+    requires bits { pool.now.bits ≤ CODE_BITS }
+    requires rows { rows_in_range_by (rules_named rules) pool.now ≡ true }
+    ensures passed { IfOk result (λ _. RowsPass (rules_named rules) pool.now) }
+    ensures shapes { IfOk result (λ shapes. AreShapes (forms_in pool.now) shapes.items) }
+    ensures count { IfOk result (λ shapes. length shapes.items ≡ row_count pool.now) }
+    ensures damage { IfErr result (λ d. d ≢ Damage.Memory → row_damage (rules_named rules) pool.now ≡ Some d) }
+{
+    if !links_lead_back(pool) {
+        return Err(Damage::Link);
+    }
+    if !texts_are_lines(pool) {
+        return Err(Damage::Text);
+    }
+    let Some(shapes) = shapes_of(alloc, pool)? else {
+        return Err(Damage::Vector);
+    };
+    if !tries_stand(alloc, pool, rules)? {
+        return Err(Damage::Trie);
+    }
+    Ok(shapes)
 }

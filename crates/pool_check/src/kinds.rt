@@ -4,9 +4,11 @@ ghost use Rattle.std.specs.List.{list_all};
 ghost use Rattle.node_heap.specs.Forms.{Forms};
 ghost use Rattle.pool_text.specs.Rows.{Bytes};
 ghost use Rattle.pool_text.specs.Pool.{row_count};
-ghost use Rattle.pool_check.specs.Kinds.{are_roots as all_are_roots, roots_are_of_kind as all_are};
-ghost use Rattle.pool_check.specs.Facts.{facts_at, facts_in, no_facts, of_both, AreFacts, common_facts, facts_over_entries, HasRowsThatStand};
+ghost use Rattle.pool_check.specs.Kinds.{roots_are_of_kind as all_are};
+ghost use Rattle.pool_check.specs.Roots.{are_of, roots_are_of as are_of_kinds};
+ghost use Rattle.pool_check.specs.Facts.{facts_at, facts_in, no_facts, of_both, AreFacts, common_facts, facts_are, facts_over_entries, HasRowsThatStand};
 
+use crate::root::RootKind;
 use elem_core::{NoMemory, is_name};
 use pool_text::{Pool, Row};
 use std::alloc::Global;
@@ -23,6 +25,10 @@ pub(crate) struct RowFacts {
     pub(crate) named_lines: bool,
     // A pair of a name and a state.
     pub(crate) named_state: bool,
+    // A pair of two cells.
+    pub(crate) cell_pair: bool,
+    // A pair of a cell and a vector of cells.
+    pub(crate) lines_pair: bool,
     // A row that can be the root of a vector or of a trie.
     pub(crate) root: bool,
     pub(crate) over_cells: bool,
@@ -30,6 +36,9 @@ pub(crate) struct RowFacts {
     pub(crate) over_names: bool,
     pub(crate) over_named_lines: bool,
     pub(crate) over_named_states: bool,
+    pub(crate) over_keys: bool,
+    pub(crate) over_cell_pairs: bool,
+    pub(crate) over_lines_pairs: bool,
 }
 
 const NOTHING: RowFacts = RowFacts {
@@ -38,12 +47,17 @@ const NOTHING: RowFacts = RowFacts {
     state: false,
     named_lines: false,
     named_state: false,
+    cell_pair: false,
+    lines_pair: false,
     root: false,
     over_cells: false,
     over_states: false,
     over_names: false,
     over_named_lines: false,
     over_named_states: false,
+    over_keys: false,
+    over_cell_pairs: false,
+    over_lines_pairs: false,
 };
 
 const EVERYTHING: RowFacts = RowFacts {
@@ -52,69 +66,81 @@ const EVERYTHING: RowFacts = RowFacts {
     state: true,
     named_lines: true,
     named_state: true,
+    cell_pair: true,
+    lines_pair: true,
     root: true,
     over_cells: true,
     over_states: true,
     over_names: true,
     over_named_lines: true,
     over_named_states: true,
+    over_keys: true,
+    over_cell_pairs: true,
+    over_lines_pairs: true,
 };
 
-// Whether the roots are of their kinds.
+// Whether the roots are those of a space: a state, a versions map and two histories, and in a batch a further state.
 pub(crate) fn roots_are_of_kind(alloc: Global, pool: &Pool) -> Result<bool, NoMemory>
     requires stand { HasRowsThatStand pool.now }
     ensures { IfOk result (λ are. are ≡ all_are pool.now) }
+{
+    let kinds = [
+        RootKind::State,
+        RootKind::Versions,
+        RootKind::History,
+        RootKind::History,
+        RootKind::State,
+    ];
+    if pool.roots.as_slice().len() == kinds.len() {
+        return roots_are_of(alloc, pool, &kinds);
+    }
+    roots_are_of(alloc, pool, &kinds[..4])
+}
+
+// Whether the roots are of these kinds.
+pub(crate) fn roots_are_of(alloc: Global, pool: &Pool, kinds: &[RootKind]) -> Result<bool, NoMemory>
+    requires stand { HasRowsThatStand pool.now }
+    ensures { IfOk result (λ are. are ≡ are_of_kinds kinds.now pool.now) }
 {
     let count = pool.rows.as_slice().len();
     let mut kept = Vec::with_capacity(alloc, count)?;
     for _place in 0..count {
         kept.push(row_facts(pool, kept.as_slice()))?;
     }
-    Ok(are_roots(kept.as_slice(), pool.roots.as_slice()))
+    Ok(are_roots(kept.as_slice(), kinds, pool.roots.as_slice()))
 }
 
-// Whether these are the roots of a pool: a state, a versions map and two histories, and in a batch a further state.
-fn are_roots(kept: &[RowFacts], roots: &[u64]) -> bool
+// Whether there are as many roots as kinds, each of its own.
+fn are_roots(kept: &[RowFacts], kinds: &[RootKind], roots: &[u64]) -> bool
     requires { list_all (λ k. nat_lt k (length kept.now)) roots.now ≡ true }
-    ensures { (n : ℕ) (F : Forms Bytes) → AreFacts (facts_at n F) kept.now → result ≡ all_are_roots n F roots.now }
+    ensures { (n : ℕ) (F : Forms Bytes) → AreFacts (facts_at n F) kept.now → result ≡ are_of n F kinds.now roots.now }
 {
-    match roots {
-        [current, versions, undo, redo] => are_space(
-            facts_of(kept, *current),
-            facts_of(kept, *versions),
-            facts_of(kept, *undo),
-            facts_of(kept, *redo),
-        ),
-        [current, versions, undo, redo, batch] => are_space(
-            facts_of(kept, *current),
-            facts_of(kept, *versions),
-            facts_of(kept, *undo),
-            facts_of(kept, *redo),
-        ) && facts_of(kept, *batch).state,
-        _ => false,
+    if kinds.len() != roots.len() {
+        return false;
     }
+    for place in 0..roots.len() {
+        if !is_root(facts_of(kept, roots[place]), kinds[place]) {
+            return false;
+        }
+    }
+    true
 }
 
-// Whether rows of these facts are a state, a versions map and two histories.
-fn are_space(current: RowFacts, versions: RowFacts, undo: RowFacts, redo: RowFacts) -> bool
-    ensures { result ≡ (current.state && (versions.root && versions.over_named_states)
-        && (undo.root && undo.over_states) && (redo.root && redo.over_states)) }
+// Whether the row of these facts is the root of what the kind says.
+fn is_root(row: RowFacts, kind: RootKind) -> bool
+    ensures { result ≡ facts_are kind row }
 {
-    current.state && is_versions_map(versions) && is_history(undo) && is_history(redo)
-}
-
-// Whether the row of these facts is the root of a map from names to states.
-fn is_versions_map(root: RowFacts) -> bool
-    ensures { result ≡ (root.root && root.over_named_states) }
-{
-    root.root && root.over_named_states
-}
-
-// Whether the row of these facts is the root of a vector of states.
-fn is_history(root: RowFacts) -> bool
-    ensures { result ≡ (root.root && root.over_states) }
-{
-    root.root && root.over_states
+    match kind {
+        RootKind::Lines => row.root && row.over_cells,
+        RootKind::Cells => row.root && row.over_keys,
+        RootKind::CellMap => row.root && row.over_cell_pairs,
+        RootKind::LinesMap => row.root && row.over_lines_pairs,
+        RootKind::Names => row.root && row.over_names,
+        RootKind::NamedLines => row.root && row.over_named_lines,
+        RootKind::State => row.state,
+        RootKind::Versions => row.root && row.over_named_states,
+        RootKind::History => row.root && row.over_states,
+    }
 }
 
 // The facts of the first row of which none are kept.
@@ -185,6 +211,9 @@ fn trie_facts(kept: &[RowFacts], root: bool, count: usize, links: &[u64]) -> Row
         over_names: own.name & below.over_names,
         over_named_lines: own.named_lines & below.over_named_lines,
         over_named_states: own.named_state & below.over_named_states,
+        over_keys: own.cell & below.over_keys,
+        over_cell_pairs: own.cell_pair & below.over_cell_pairs,
+        over_lines_pairs: own.lines_pair & below.over_lines_pairs,
         ..NOTHING
     }
 }
@@ -194,11 +223,15 @@ fn pair_facts(key: RowFacts, value: RowFacts) -> RowFacts
     ensures { result ≡ record no_facts {
       named_lines = key.name && (value.root && value.over_cells);
       named_state = key.name && value.state;
+      cell_pair = key.cell && value.cell;
+      lines_pair = key.cell && (value.root && value.over_cells);
     } }
 {
     RowFacts {
         named_lines: key.name & value.root & value.over_cells,
         named_state: key.name & value.state,
+        cell_pair: key.cell & value.cell,
+        lines_pair: key.cell & value.root & value.over_cells,
         ..NOTHING
     }
 }
@@ -232,12 +265,17 @@ fn common_to(a: RowFacts, b: RowFacts) -> RowFacts
         state: a.state & b.state,
         named_lines: a.named_lines & b.named_lines,
         named_state: a.named_state & b.named_state,
+        cell_pair: a.cell_pair & b.cell_pair,
+        lines_pair: a.lines_pair & b.lines_pair,
         root: a.root & b.root,
         over_cells: a.over_cells & b.over_cells,
         over_states: a.over_states & b.over_states,
         over_names: a.over_names & b.over_names,
         over_named_lines: a.over_named_lines & b.over_named_lines,
         over_named_states: a.over_named_states & b.over_named_states,
+        over_keys: a.over_keys & b.over_keys,
+        over_cell_pairs: a.over_cell_pairs & b.over_cell_pairs,
+        over_lines_pairs: a.over_lines_pairs & b.over_lines_pairs,
     }
 }
 

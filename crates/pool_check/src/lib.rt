@@ -5,15 +5,17 @@ mod checking;
 mod kinds;
 mod laws;
 mod order;
+mod root;
 mod rows;
 mod trie_row;
 mod tries;
 mod vectors;
 
-pub use checking::{Checked, Old, check, check_old};
+pub use checking::{Checked, Old, check, check_old, check_open, check_roots};
 pub use laws::{
     damaged_pools, damages_are_tests, pools_pass_as_made, trie_roots_are_canonical,
     tries_read_the_same, undamaged_documents_stand, undamaged_is_valid, undamaged_pools,
     valid_documents_are_undamaged, valid_is_of_itself, vector_roots_are_good,
     vectors_read_the_same, worked_damages,
 };
+pub use root::RootKind;

@@ -15,7 +15,7 @@ pub map-forms : (rs : List Row) → map (λ row. row_value (row_form row)) rs �
 map-forms [] = refl
 map-forms (r ∷ rs) = ap (λ ys. row_value (row_form r) ∷ ys) (map-forms rs)
 
-naturals-no-float : (ns : List ℕ) → items_have_float (items_of (map natural ns)) ≡ false
+pub naturals-no-float : (ns : List ℕ) → items_have_float (items_of (map natural ns)) ≡ false
 naturals-no-float [] = refl
 naturals-no-float (n ∷ ns) = naturals-no-float ns
 
@@ -28,7 +28,7 @@ row-no-float (node chain links) = ap (λ b. b || false) (naturals-no-float links
 row-no-float (node pair links) = ap (λ b. b || false) (naturals-no-float links)
 row-no-float (node state links) = ap (λ b. b || false) (naturals-no-float links)
 
-rows-no-float : (rs : List (Form Bytes)) → items_have_float (items_of (map row_value rs)) ≡ false
+pub rows-no-float : (rs : List (Form Bytes)) → items_have_float (items_of (map row_value rs)) ≡ false
 rows-no-float [] = refl
 rows-no-float (r ∷ rs) = ap (λ b. b || items_have_float (items_of (map row_value rs))) (row-no-float r) ∙ rows-no-float rs
 
@@ -38,7 +38,7 @@ document-no-float P =
     ap (λ b. b || (items_have_float (items_of (map row_value P.rows)) || false)) (naturals-no-float P.roots)
     ∙ ap (λ b. b || false) (rows-no-float P.rows)
 
-naturals-depth : (ns : List ℕ) → items_depth (items_of (map natural ns)) ≤ 0
+pub naturals-depth : (ns : List ℕ) → items_depth (items_of (map natural ns)) ≤ 0
 naturals-depth [] = omega arith
 naturals-depth (n ∷ ns) = omega (arith, naturals-depth ns)
 
@@ -51,7 +51,7 @@ row-depth (node chain links) = omega (arith, naturals-depth links)
 row-depth (node pair links) = omega (arith, naturals-depth links)
 row-depth (node state links) = omega (arith, naturals-depth links)
 
-rows-depth : (rs : List (Form Bytes)) → items_depth (items_of (map row_value rs)) ≤ 2
+pub rows-depth : (rs : List (Form Bytes)) → items_depth (items_of (map row_value rs)) ≤ 2
 rows-depth [] = omega arith
 rows-depth (r ∷ rs) = omega (arith, row-depth r, rows-depth rs)
 

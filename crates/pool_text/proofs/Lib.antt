@@ -4,16 +4,19 @@ pub mod Renamed
 pub mod PoolRows
 pub mod Ordered
 pub mod Held
-mod OnePool
-mod ListWalk
+pub mod OnePool
+pub mod FormRows
+pub mod Behind
+pub mod RootedBelow
+pub mod ListWalk
 pub mod ReadBack
-mod DocumentRows
+pub mod DocumentRows
 pub mod DocumentBack
 pub mod HistoryRead
 mod TextLengths
-mod EachRead
-mod NumbersRead
+pub mod EachRead
+pub mod NumbersRead
 pub mod Refusals
-mod PartsRead
-mod PoolRead
+pub mod PartsRead
+pub mod PoolRead
 mod DocumentText

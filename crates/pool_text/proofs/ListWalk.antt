@@ -1,8 +1,7 @@
 -- A walk over the rows of a list, and the pool of the rows that it lists.
-use Rattle.std.proofs.Common.{◌≡◌, ℕ, ◌+◌, ◌<◌, ◌≤◌, Option, Some, None, option_map, slice_get, List, [], ◌∷◌, ◌++◌, map, length, get_or, refl, ap, sym, subst, ◌∙◌, arith}
+use Rattle.std.proofs.Common.{◌≡◌, ℕ, ◌+◌, ◌<◌, ◌≤◌, Option, Some, None, option_map, slice_get, List, [], ◌∷◌, ◌++◌, map, length, get_or, refl, ap, sym, subst, ◌∙◌}
 use Rattle.std.specs.List.{filter_map}
-use Rattle.std.proofs.lemmas.List.{length-map}
-use Rattle.std.proofs.lemmas.Option.{slice_get_within, slice_get_read, slice_get-map, get_or_from_slice_get}
+use Rattle.std.proofs.lemmas.Option.{slice_get_within, get_or_from_slice_get}
 use Rattle.node_heap.specs.Links.{count, HasLink, Reaches, here, below}
 use Rattle.node_heap.specs.Forms.{Form, links_of}
 use Rattle.node_heap.proofs.Reach.{Reaches-then}
@@ -16,23 +15,16 @@ use Rattle.pool_order.proofs.Walked.{IsTurn, live-last}
 use Rattle.pool_text.specs.Rows.{Bytes, row_form}
 use Rattle.pool_text.specs.Pool.{links_from, place_in, relink, Settings, pool}
 use Rattle.pool_text.specs.declared.row.Row.{Row}
+use Rattle.pool_text.proofs.FormRows.{form-read}
 use Rattle.pool_text.proofs.Gathered.{made}
 use Rattle.pool_text.proofs.Placed.{get-none}
 
 -- ## The rows as they are read
 
 module _ (forms : List (Form Bytes)) (items : List Row) (are : map row_form items ≡ forms) where
-  pub count-same : length items ≡ length forms
-  count-same = sym (length-map items row_form) ∙ ap (λ (fs : List (Form Bytes)). length fs) are
-
-  pub form-read : (l : ℕ) (row : Row) → l < length forms → row ≡ get_or items l row → slice_get forms l ≡ Some (row_form row)
-  form-read l row low at =
-      let inside : l < length items = omega (arith, low, count-same) in
-      ap (λ (fs : List (Form Bytes)). slice_get fs l) (sym are) ∙ slice_get-map row_form items l ∙ ap (option_map row_form) (slice_get_read items (length items) l row refl inside at)
-
   module _ (v : Visit ℕ) (row : Row) (low : v.link < length forms) (at : row ≡ get_or items v.link row) where
     link-read : (found : Option ℕ) → found ≡ slice_get (links_of (Some (row_form row))) v.next → found ≡ slice_get (links_from forms v.link) v.next
-    link-read found read = read ∙ ap (λ r. slice_get (links_of r) v.next) (sym (form-read v.link row low at))
+    link-read found read = read ∙ ap (λ r. slice_get (links_of r) v.next) (sym (form-read forms items are v.link row low at))
 
     -- the next link of the last visit is looked at
     pub turn-of : (old vs mid : List (Visit ℕ)) (child : ℕ) → old ≡ vs ++ v ∷ [] → mid ≡ vs ++ record { link = v.link; next = v.next + 1 } ∷ [] → Some child ≡ slice_get (links_of (Some (row_form row))) v.next

@@ -105,7 +105,7 @@ roots-between : (o : Option (List ℕ)) → option_and_then four o ≡ option_an
 roots-between None = refl
 roots-between (Some ns) = four-between ns
 
-roots-are : (d : Data) → option_and_then four (numbers_in d) ≡ numbers_between 4 4 d
+pub roots-are : (d : Data) → option_and_then four (numbers_in d) ≡ numbers_between 4 4 d
 roots-are d = roots-between (numbers_in d)
 
 module _ (bits : Data) (history : Option Data) (roots rows version : Data) where

@@ -11,8 +11,9 @@ use Rattle.node_heap.specs.Forms.{Form}
 use Rattle.serde_json.specs.Data.{Data}
 use Rattle.serde_json.specs.Read.{read}
 use Rattle.pool_text.specs.Rows.{Bytes, is_in_range_to}
-use Rattle.pool_text.specs.Rules.{Rules, first_rules, second_rules, rules_of, bits_by}
-use Rattle.pool_text.specs.Document.{form_from, elements_in, all_of, row_in, DocumentParts, parts_in, rows_in, pool_by, pool_from, pool_in, or_damage, parts_damage_by, parts_damage, value_damage, value_in, pool_in_bytes, bytes_damage, IsInRange}
+use Rattle.pool_text.specs.Rules.{Rules, first_rules, second_rules, present_rules, rules_of, bits_by}
+use Rattle.pool_text.specs.Document.{form_from, elements_in, all_of, row_in, DocumentParts, parts_in, rows_in, pool_by, pool_from, pool_in, or_damage, parts_damage_by, parts_damage, value_damage, value_in, pool_in_bytes, bytes_damage, present_parts_damage, present_value_damage, present_bytes_damage, IsInRange}
+use Rattle.pool_text.specs.declared.rules.TheConstants.{PRESENT_VERSION}
 use Rattle.pool_text.specs.declared.damage.Damage.{Damage}
 use Rattle.pool_text.specs.declared.damage.Damage.TheVariants.{Json, Form as FormDamage, Version, Bits, Row}
 use Rattle.pool_text.proofs.EachRead.{onto-some}
@@ -34,10 +35,10 @@ range-by-rules P v rules ds same found are =
 
 -- ## By rules
 
-other-numbers : (a b : ℕ) → a ≢ b → eqb a b ≡ false
+pub other-numbers : (a b : ℕ) → a ≢ b → eqb a b ≡ false
 other-numbers a b other = grind (arith, nat_tests)
 
-same-numbers : (a b : ℕ) → a ≡ b → eqb a b ≡ true
+pub same-numbers : (a b : ℕ) → a ≡ b → eqb a b ≡ true
 same-numbers a b same = grind (arith, nat_tests)
 
 module _ (bits : ℕ) (p : DocumentParts) (rules : Rules) where
@@ -122,3 +123,31 @@ damage-by-value bits bytes d is = ap (or_damage Json (value_damage bits)) is
 
 pub pool-by-value : (bytes : Bytes) (d : Data) → value_in bytes ≡ Some d → pool_in_bytes bytes ≡ pool_in d
 pool-by-value bytes d is = ap (option_and_then pool_in) is
+
+-- ## Of the version that is written alone
+
+module _ (bits : ℕ) (d : Data) where
+  pub present-form-damage : parts_in d ≡ None → present_value_damage bits d ≡ Some FormDamage
+  unfolding present_value_damage
+  present-form-damage none = ap (or_damage FormDamage (present_parts_damage bits)) none
+
+  module _ (p : DocumentParts) (is : parts_in d ≡ Some p) where
+    pub other-version : p.version ≢ PRESENT_VERSION → present_value_damage bits d ≡ Some Version
+    unfolding present_value_damage
+    other-version other =
+        ap (or_damage FormDamage (present_parts_damage bits)) is
+        ∙ ap (λ b. cond (not b) (Some Version) (parts_damage_by bits p present_rules)) (other-numbers p.version PRESENT_VERSION other)
+
+    pub present-by-parts : p.version ≡ PRESENT_VERSION → present_value_damage bits d ≡ parts_damage_by bits p present_rules
+    unfolding present_value_damage
+    present-by-parts same =
+        ap (or_damage FormDamage (present_parts_damage bits)) is
+        ∙ ap (λ b. cond (not b) (Some Version) (parts_damage_by bits p present_rules)) (same-numbers p.version PRESENT_VERSION same)
+
+pub present-json-damage : (bits : ℕ) (bytes : Bytes) → value_in bytes ≡ None → present_bytes_damage bits bytes ≡ Some Json
+unfolding present_bytes_damage
+present-json-damage bits bytes none = ap (or_damage Json (present_value_damage bits)) none
+
+pub present-damage-by-value : (bits : ℕ) (bytes : Bytes) (d : Data) → value_in bytes ≡ Some d → present_bytes_damage bits bytes ≡ present_value_damage bits d
+unfolding present_bytes_damage
+present-damage-by-value bits bytes d is = ap (or_damage Json (present_value_damage bits)) is

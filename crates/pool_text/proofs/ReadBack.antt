@@ -19,15 +19,15 @@ pub item_list-items : (ds : List Data) → item_list (items ds) ≡ ds
 item_list-items [] = refl
 item_list-items (d ∷ ds) = ap (λ es. d ∷ es) (item_list-items ds)
 
-all_of-naturals : (ns : List ℕ) → all_of number_in (map natural ns) ≡ Some ns
+pub all_of-naturals : (ns : List ℕ) → all_of number_in (map natural ns) ≡ Some ns
 all_of-naturals [] = refl
 all_of-naturals (n ∷ ns) = ap (λ o. option_map (λ ms. n ∷ ms) o) (all_of-naturals ns)
 
-numbers_in-naturals : (ns : List ℕ) → numbers_in (naturals ns) ≡ Some ns
+pub numbers_in-naturals : (ns : List ℕ) → numbers_in (naturals ns) ≡ Some ns
 numbers_in-naturals ns = ap (all_of number_in) (item_list-items (map natural ns)) ∙ all_of-naturals ns
 
 -- each row reads back as itself
-form_from-row : (r : Form Bytes) → option_and_then form_from (elements_in (row_value r)) ≡ Some r
+pub form_from-row : (r : Form Bytes) → option_and_then form_from (elements_in (row_value r)) ≡ Some r
 form_from-row (cell text) = refl
 form_from-row (node leaf links) = ap (option_map (node leaf)) (numbers_in-naturals links)
 form_from-row (node (inner n) links) = ap (option_map (node (inner n))) (numbers_in-naturals links)
@@ -40,21 +40,21 @@ module _ (deepest : ℕ) where
   kept_if-Some : (r : Form Bytes) → is_in_range_to deepest r ≡ true → kept_if (is_in_range_to deepest) (Some r) ≡ Some r
   kept_if-Some r h = ap (λ b. cond b (Some r) None) h
 
-  row_in-row : (r : Form Bytes) → is_in_range_to deepest r ≡ true → row_in deepest (row_value r) ≡ Some r
+  pub row_in-row : (r : Form Bytes) → is_in_range_to deepest r ≡ true → row_in deepest (row_value r) ≡ Some r
   row_in-row r h = ap (kept_if (is_in_range_to deepest)) (form_from-row r) ∙ kept_if-Some r h
 
 both : (a b : Bool) → (a && b) ≡ true → (a ≡ true) × (b ≡ true)
 both true b h = (refl, h)
 both false b h = absurd (both_ways false refl h)
 
-all_of-rows : (deepest : ℕ) (rs : List (Form Bytes)) → list_all (is_in_range_to deepest) rs ≡ true → all_of (row_in deepest) (map row_value rs) ≡ Some rs
+pub all_of-rows : (deepest : ℕ) (rs : List (Form Bytes)) → list_all (is_in_range_to deepest) rs ≡ true → all_of (row_in deepest) (map row_value rs) ≡ Some rs
 all_of-rows deepest [] h = refl
 all_of-rows deepest (r ∷ rs) h =
     let pass = both (is_in_range_to deepest r) (list_all (is_in_range_to deepest) rs) h in
     ap (option_and_then (λ y. option_map (λ ys. y ∷ ys) (all_of (row_in deepest) (map row_value rs)))) (row_in-row deepest r pass.0)
     ∙ ap (λ o. option_map (λ ys. r ∷ ys) o) (all_of-rows deepest rs pass.1)
 
-four-is : (ks : List ℕ) → length ks ≡ 4 → four ks ≡ Some ks
+pub four-is : (ks : List ℕ) → length ks ≡ 4 → four ks ≡ Some ks
 four-is [] h = absurd (omega (arith, h))
 four-is (a ∷ []) h = absurd (omega (arith, h))
 four-is (a ∷ b ∷ []) h = absurd (omega (arith, h))
@@ -63,7 +63,7 @@ four-is (a ∷ b ∷ c ∷ d ∷ []) h = refl
 four-is (a ∷ b ∷ c ∷ d ∷ e ∷ ks) h = absurd (omega (arith, h))
 
 -- a number that is within the greatest bound
-history-is : (n : ℕ) → n ≤ MOST_HISTORY → history_in (Some (natural n)) ≡ Some n
+pub history-is : (n : ℕ) → n ≤ MOST_HISTORY → history_in (Some (natural n)) ≡ Some n
 history-is n within = ap (λ b. cond b (Some n) None) (between n within)
   where
     between : (n : ℕ) → n ≤ MOST_HISTORY → is_between 0 MOST_HISTORY n ≡ true

@@ -9,7 +9,7 @@ use Rattle.serde_json.specs.Read.{read}
 use Rattle.serde_json.specs.View.{items_of}
 use Rattle.serde_json.specs.Written.{compact_text}
 use Rattle.pool_text.specs.Rows.{Bytes, is_between, is_in_range_to}
-use Rattle.pool_text.specs.Rules.{Rules, rules_of, bits_by}
+use Rattle.pool_text.specs.Rules.{Rules, present_rules, rules_of, bits_by}
 use Rattle.pool_text.specs.declared.pool.Pool.{Pool}
 use Rattle.pool_text.specs.declared.rules.TheConstants.{PRESENT_VERSION, MOST_HISTORY}
 use Rattle.pool_text.specs.declared.damage.Damage.{Damage}
@@ -221,3 +221,18 @@ value_damage bits d = or_damage FormDamage (parts_damage bits) (parts_in d)
 -- the first of the tests `Json` to `Row` that the bytes fail, if any
 unfoldable pub bytes_damage : ℕ → Bytes → Option Damage
 bytes_damage bits bytes = or_damage Json (value_damage bits) (value_in bytes)
+
+-- Of the version that is written alone.
+
+-- the first of the tests `Version`, `Bits` and `Row` that the parts fail, of which the first is that the version is the one that is
+-- written
+abbrev pub present_parts_damage : ℕ → DocumentParts → Option Damage
+present_parts_damage bits p = if not (p.version == PRESENT_VERSION) then Some Version else parts_damage_by bits p present_rules
+
+-- the first of the tests `Form` to `Row` that the value fails so, if any
+unfoldable pub present_value_damage : ℕ → Data → Option Damage
+present_value_damage bits d = or_damage FormDamage (present_parts_damage bits) (parts_in d)
+
+-- the first of the tests `Json` to `Row` that the bytes fail so, if any
+unfoldable pub present_bytes_damage : ℕ → Bytes → Option Damage
+present_bytes_damage bits bytes = or_damage Json (present_value_damage bits) (value_in bytes)

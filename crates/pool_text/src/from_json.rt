@@ -1,17 +1,19 @@
 //! The pool that a document stands for, or the first test that the document fails.
-ghost use Rattle.std.specs.Prelude.{◌≡◌, ◌≢◌, ◌≤◌, List, [], ◌∷◌, if◌then◌else◌, map, length, codes, None, Some, option_and_then, option_map, IfOk, IfErr, IfSome};
+ghost use Rattle.std.specs.Prelude.{◌≡◌, ◌≢◌, ◌≤◌, List, ◌∷◌, map, length, codes, true, None, Some, option_and_then, option_map, IfOk, IfErr, IfSome};
+ghost use Rattle.std.specs.List.{list_all};
 ghost use Rattle.std.specs.Option.{option_or};
 ghost use Rattle.std.specs.Str.{bytes_eq};
 ghost use Rattle.serde_json.specs.View.{view, members_view};
-ghost use Rattle.pool_text.specs.Rows.{Bytes};
+ghost use Rattle.pool_text.specs.Rows.{Bytes, is_in_range};
 ghost use Rattle.pool_text.specs.Rules.{rules_of, rules_named, bits_by};
-ghost use Rattle.pool_text.specs.declared.rules.TheConstants.{MOST_HISTORY};
-ghost use Rattle.pool_text.specs.Document.{values_at, number_in, history_in, fits_version, kept_if, parts_read, parts_in, pool_by as pool_of_parts, pool_in, pool_in_bytes, IsInRange, HistoryFitsVersion, parts_damage_by, value_damage, bytes_damage};
+ghost use Rattle.pool_text.specs.declared.rules.TheConstants.{PRESENT_VERSION, MOST_HISTORY};
+ghost use Rattle.pool_text.specs.Document.{values_at, number_in, history_in, fits_version, kept_if, parts_read, parts_in, pool_by as pool_of_parts, pool_in, pool_in_bytes, IsInRange, HistoryFitsVersion, parts_damage_by, value_damage, bytes_damage, present_value_damage, present_bytes_damage};
 ghost use Rattle.pool_text.specs.Parsing.{Reads, parts_seen, with_history};
 
 use crate::damage::Damage;
 use crate::numbers::{elements_of, number_between, number_of, numbers_of};
 use crate::pool::Pool;
+use crate::reading::{is_over, value_at, value_from_bytes};
 use crate::row::Places;
 use crate::row_in::rows_of;
 use crate::rules::{FIRST_CODE_BITS, FIRST_VERSION, MOST_HISTORY, PRESENT_VERSION, Rules};
@@ -33,11 +35,8 @@ pub fn pool_from_bytes(alloc: Global, bytes: &[u8], bits: u32) -> Result<Pool, D
     ensures whole { IfOk result (λ _. bytes_damage bits bytes.now ≡ None) }
     ensures damage { IfErr result (λ d. d ≢ Damage.Memory → bytes_damage bits bytes.now ≡ Some d) }
 {
-    match Value::from_slice(alloc, bytes) {
-        Ok(value) => pool_from_json(alloc, &value, bits),
-        Err(error) if error.is_memory() => Err(Damage::Memory),
-        Err(_) => Err(Damage::Json),
-    }
+    let value = value_from_bytes(alloc, bytes)?;
+    pool_from_json(alloc, &value, bits)
 }
 
 /// The pool of the rows that the value has, of the version of its document, in a space of so many code bits. Refused with the
@@ -60,12 +59,47 @@ pub fn pool_from_json(alloc: Global, value: &Value, bits: u32) -> Result<Pool, D
     }
 }
 
+/// The same of a document of the version that is written, and of no other: the test `Version` fails for an older one, whatever else
+/// is wrong with it. It takes what `pool_from_bytes` takes.
+pub fn present_pool_from_bytes(alloc: Global, bytes: &[u8], bits: u32) -> Result<Pool, Damage>
+    requires { bits ≤ CODE_BITS }
+    ensures pool { IfOk result (λ p. pool_in_bytes bytes.now ≡ Some p) }
+    ensures version { IfOk result (λ p. p.version ≡ PRESENT_VERSION) }
+    ensures bits { IfOk result (λ p. p.bits ≡ bits) }
+    ensures roots { IfOk result (λ p. length p.roots ≡ 4) }
+    ensures rows { IfOk result (λ p. list_all is_in_range p.rows ≡ true) }
+    ensures history { IfOk result (λ p. p.history ≤ MOST_HISTORY) }
+    ensures whole { IfOk result (λ _. present_bytes_damage bits bytes.now ≡ None) }
+    ensures damage { IfErr result (λ d. d ≢ Damage.Memory → present_bytes_damage bits bytes.now ≡ Some d) }
+{
+    let value = value_from_bytes(alloc, bytes)?;
+    present_pool_from_json(alloc, &value, bits)
+}
+
+// The same of a value.
+fn present_pool_from_json(alloc: Global, value: &Value, bits: u32) -> Result<Pool, Damage>
+    ensures pool { IfOk result (λ p. pool_in (view value.now) ≡ Some p) }
+    ensures version { IfOk result (λ p. p.version ≡ PRESENT_VERSION) }
+    ensures bits { IfOk result (λ p. p.bits ≡ bits) }
+    ensures roots { IfOk result (λ p. length p.roots ≡ 4) }
+    ensures rows { IfOk result (λ p. list_all is_in_range p.rows ≡ true) }
+    ensures whole { IfOk result (λ _. present_value_damage bits (view value.now) ≡ None) }
+    ensures damage { IfErr result (λ d. d ≢ Damage.Memory → present_value_damage bits (view value.now) ≡ Some d) }
+{
+    let parts = parts_of(alloc, value)?;
+    if parts.version != PRESENT_VERSION as u64 {
+        return Err(Damage::Version);
+    }
+    pool_by(alloc, parts, Rules::present(), bits)
+}
+
 // The pool of the rows of these parts, by the rules of their version. Refused with the first of the tests `Bits` and `Row` that
 // they fail.
 fn pool_by(alloc: Global, parts: Parts<'_>, rules: Rules, bits: u32) -> Result<Pool, Damage>
     requires roots { length parts.roots ≡ 4 }
     requires version { rules_of parts.version ≡ Some (rules_named rules) }
     ensures pool { IfOk result (λ p. pool_of_parts (parts_seen parts.entry) (rules_named rules) ≡ Some p) }
+    ensures version { IfOk result (λ p. p.version ≡ parts.entry.version) }
     ensures bits { IfOk result (λ p. p.bits ≡ bits_by p.version bits) }
     ensures roots { IfOk result (λ p. length p.roots ≡ 4) }
     ensures rows { IfOk result IsInRange }
@@ -194,19 +228,6 @@ fn values_of(value: &Value) -> Option<DocumentValues<'_>>
     }
 }
 
-// The value of the next member, if that is its key.
-fn value_at<'a>(members: &mut Iter<'a, String, Value>, key: &str) -> Option<&'a Value>
-    ensures { (keys : List Bytes) → values_at (key.now ∷ keys) (members_view members.old)
-        ≡ option_and_then (λ v. option_map (λ ds. view v.now ∷ ds) (values_at keys (members_view members.new))) result }
-{
-    let (name, value) = members.next()?;
-    if name.as_str() == key {
-        Some(value)
-    } else {
-        None
-    }
-}
-
 // The value of `history`, if that is the next key, and then that of `roots`.
 fn history_and_roots<'a>(
     members: &mut Iter<'a, String, Value>,
@@ -223,13 +244,6 @@ fn history_and_roots<'a>(
     } else {
         None
     }
-}
-
-// Whether no member is left.
-fn is_over(members: &mut Iter<'_, String, Value>) -> bool
-    ensures { values_at [] (members_view members.old) ≡ (if result then Some [] else None) }
-{
-    members.next().is_none()
 }
 
 // Whether the format is the pool's.

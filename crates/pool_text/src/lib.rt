@@ -10,6 +10,8 @@ mod laws;
 mod lengths;
 mod numbers;
 mod pool;
+mod reading;
+mod relink;
 mod row;
 mod row_in;
 mod rules;
@@ -17,7 +19,7 @@ mod written;
 
 pub use damage::Damage;
 pub use from_heap::pool_of;
-pub use from_json::{pool_from_bytes, pool_from_json};
+pub use from_json::{pool_from_bytes, pool_from_json, present_pool_from_bytes};
 pub use from_rows::pool_of_rows;
 pub use laws::{
     compact_documents_are_texts, documents_are_exact, heaps_are_rooted, nothing_leaks,
@@ -25,10 +27,14 @@ pub use laws::{
     renaming_turns_back, texts_are_forms, worked_documents,
 };
 pub use lengths::text_length;
+pub use numbers::{elements_of, number_between, number_of, numbers_of};
 pub use pool::{Pool, Rows};
+pub use reading::{is_over, value_at, value_from_bytes};
+pub use relink::{at_places, relinked};
 pub use row::{Places, PoolText, Row, link_at};
+pub use row_in::rows_of;
 pub use rules::{
     FIRST_CODE_BITS, FIRST_DEEPEST, FIRST_VERSION, MOST_HISTORY, PRESENT_VERSION, Rules,
     SECOND_VERSION,
 };
-pub use written::{into_bytes, to_bytes, to_json};
+pub use written::{into_bytes, numbers_value, rows_value, to_bytes, to_json};

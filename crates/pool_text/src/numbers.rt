@@ -10,8 +10,8 @@ use crate::row::Places;
 use serde_json::Value;
 use std::alloc::Global;
 
-// The elements of an array.
-pub(crate) fn elements_of(value: &Value) -> Option<&[Value]>
+/// The elements of an array, and none of another value.
+pub fn elements_of(value: &Value) -> Option<&[Value]>
     ensures { option_map (λ s. map view s.now) result ≡ elements_in (view value.now) }
 {
     match value.as_array() {
@@ -20,15 +20,15 @@ pub(crate) fn elements_of(value: &Value) -> Option<&[Value]>
     }
 }
 
-// A number of 64 bits without a sign.
-pub(crate) fn number_of(value: &Value) -> Option<u64>
+/// A number of 64 bits without a sign.
+pub fn number_of(value: &Value) -> Option<u64>
     ensures { result ≡ number_in (view value.now) }
 {
     value.as_u64()
 }
 
-// A number from the least to the most.
-pub(crate) fn number_between(value: &Value, least: u64, most: u64) -> Option<u64>
+/// A number from the least to the most.
+pub fn number_between(value: &Value, least: u64, most: u64) -> Option<u64>
     ensures value { result ≡ kept_if (is_between least most) (number_in (view value.now)) }
     ensures most { IfSome result (λ n. n ≤ most) }
 {
@@ -38,8 +38,8 @@ pub(crate) fn number_between(value: &Value, least: u64, most: u64) -> Option<u64
     }
 }
 
-// An array of numbers, of which there are from the least to the most. Another value is this damage.
-pub(crate) fn numbers_of(
+/// An array of numbers, of which there are from the least to the most. Another value is this damage. It takes memory for the numbers.
+pub fn numbers_of(
     alloc: Global,
     value: &Value,
     least: usize,

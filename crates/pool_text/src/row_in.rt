@@ -14,8 +14,9 @@ use node_heap::MOST_HEIGHT;
 use serde_json::Value;
 use std::alloc::Global;
 
-// The rows of these values, where tries go so deep.
-pub(crate) fn rows_of(alloc: Global, values: &[Value], deepest: u8) -> Result<Rows, Damage>
+/// The rows of these values, where tries go so deep. Refused with `Row` where one is none or is out of range, and with `Memory` where
+/// memory runs out. It takes time and memory for the rows, their links and their texts.
+pub fn rows_of(alloc: Global, values: &[Value], deepest: u8) -> Result<Rows, Damage>
     ensures { Reads (λ rows. rows) Damage.Row (all_of (row_in deepest) (map view values.now)) result }
 {
     let mut rows = Vec::with_capacity(alloc, values.len())?;

@@ -69,8 +69,8 @@ fn document_value(
     })
 }
 
-// An array of rows.
-fn rows_value(alloc: Global, rows: &[Row]) -> Result<Value, NoMemory>
+/// An array of rows, each in the form that a document has. It takes time and memory for the rows, their links and their texts.
+pub fn rows_value(alloc: Global, rows: &[Row]) -> Result<Value, NoMemory>
     ensures { IfOk result (λ v. view v ≡ list (map (λ row. value_of_row (row_form row)) rows.now)) }
 {
     let mut items = Vec::with_capacity(alloc, rows.len())?;
@@ -144,8 +144,8 @@ fn node_value(
     Ok(Value::from(parts))
 }
 
-// An array of numbers.
-fn numbers_value(alloc: Global, numbers: &[u64]) -> Result<Value, NoMemory>
+/// An array of numbers. It takes time and memory for them.
+pub fn numbers_value(alloc: Global, numbers: &[u64]) -> Result<Value, NoMemory>
     ensures { IfOk result (λ v. view v ≡ naturals numbers.now) }
 {
     let mut items = Vec::with_capacity(alloc, numbers.len())?;

@@ -3,7 +3,7 @@ use Rattle.std.specs.Prelude.{slice_index}
 use Rattle.indexmap.specs.IndexMap.{get}
 use Rattle.node_heap.specs.Links.{count}
 use Rattle.pool_text.specs.Rules.{rules_named}
-use Rattle.pool_carry.proofs.EntryRows.{count-same}
+use Rattle.pool_text.proofs.FormRows.{count-same}
 use Rattle.pool_check.proofs.TestLemmas.{leads-down, roots-low}
 use Rattle.pool_carry.specs.Making.{forms_made, AreImagesOfFirst, ImageIsMade, AreCarriedRows}
 use Rattle.pool_carry.specs.contracts.made.TrieRowPartialEq.TheImpl as same
@@ -46,8 +46,8 @@ loop-place-preserved c =
       omega (arith, ap length items, length-append images (image ∷ []), c.loop-place.invariant.2),
     )
 
-pub images_of-requires : goal.images_of-requires
-images_of-requires c =
+pub at_places-requires : goal.at_places-requires
+at_places-requires c =
     let P = c.args.pool.now in
     record {
       low = λ k has.

@@ -8,7 +8,7 @@ use Rattle.pool_text.specs.Rows.{Bytes, row_form}
 use Rattle.pool_text.specs.Rules.{rules_named}
 use Rattle.pool_text.specs.Pool.{forms_in, row_count}
 use Rattle.pool_text.specs.declared.row.Row.{Row}
-use Rattle.pool_carry.proofs.EntryRows.{count-same, form-read}
+use Rattle.pool_text.proofs.FormRows.{count-same, form-read}
 use Rattle.pool_check.specs.Tries.{entries_below}
 use Rattle.pool_check.specs.Kinds.{is_trie_root}
 use Rattle.pool_check.specs.Readings.{moved}
@@ -91,9 +91,8 @@ returns-in_ok-entries-in-Trie-clause-image c =
     (λ place low is_trie. image-of-trie (rules_named c.args.rules) c.args.bits c.args.pool.now c.requires.valid.0 c.requires.valid.1 (forms_made c.args.made.now) c.args.images.now c.requires.images (omega (arith, c.requires.place, c.requires.more)) c.as_slice.result.now same root (forms_made c.trie_of.new.made) place low is_trie)
 
 -- a row of its own
-pub own_image-requires : goal.own_image-requires
-own_image-requires c = record {
-  own = own-row c.index-rows-place.result c.in_default.not-Trie c.in_default.not-Chain;
+pub relinked-requires : goal.relinked-requires
+relinked-requires c = record {
   low = links-passed (rules_named c.args.rules) c.args.bits c.args.pool.now c.requires.valid.0 c.requires.valid.1 (forms_made c.args.made.now) c.args.images.now c.requires.images (omega (arith, c.requires.place, c.requires.more)) (row_form c.index-rows-place.result)
       (row-here c.args.pool.now c.as_slice-rows.result.now c.as_slice-rows.ensures c.args.images.now c.args.place c.index-rows-place.result c.requires.place c.requires.more c.index-rows-place.is);
 }

@@ -1,41 +1,32 @@
-use Rattle.std.proofs.Common.{◌≡◌, ◌&&◌, length, get_or, refl, ap, sym, ◌∙◌, arith}
+use Rattle.std.proofs.Common.{◌+◌, ◌&&◌, drop, ap, sym, ◌∙◌, refl, arith}
+use Rattle.pool_check.specs.Roots.{are_of}
+use Rattle.pool_check.specs.declared.root.RootKind.TheVariants.{Lines}
 use Rattle.pool_check.specs.Facts.{facts_at}
-use Rattle.pool_check.proofs.FactRows.{AreFirst, four-roots, five-roots, no-roots}
+use Rattle.pool_check.proofs.RootLemmas.{root-first, other-many}
 use Rattle.pool_check.proofs.kinds.are_roots.Goals as goal
 
-pub returns-in-len4 : goal.returns-in-len4
-returns-in-len4 c n F are =
+pub returns-then-kinds-roots : goal.returns-then-kinds-roots
+returns-then-kinds-roots c n F are = sym (other-many n F c.args.kinds.now c.args.roots.now c.if-kinds-roots.true)
+
+pub loop-place-init : goal.loop-place-init
+loop-place-init c = λ n F are. refl
+
+pub returns-then-not-is_root : goal.returns-then-not-is_root
+returns-then-not-is_root c n F are =
+    let kinds = c.args.kinds.now in
     let roots = c.args.roots.now in
-    let four : length roots ≡ 4 = omega arith in
-    let known = facts_at n F in
-    let first : AreFirst n F c.facts_of.result c.facts_of-in-len4.result c.facts_of-in-len4-2.result c.facts_of-in-len4-3.result roots =
-    record { first = c.facts_of.ensures known are; second = c.facts_of-in-len4.ensures known are; third = c.facts_of-in-len4-2.ensures known are; fourth = c.facts_of-in-len4-3.ensures known are } in
-    c.are_space.ensures ∙ four-roots n F c.facts_of.result c.facts_of-in-len4.result c.facts_of-in-len4-2.result c.facts_of-in-len4-3.result roots four first
+    let place = c.loop-place.place in
+    sym (
+    c.loop-place.invariant n F are
+    ∙ root-first n F kinds roots place Lines (omega (arith, c.if-kinds-roots.false, c.loop-place-test.true)) c.loop-place-test.true c.is_root.result c.facts_of.result (c.facts_of.ensures (facts_at n F) are) c.is_root.ensures
+    ∙ ap (λ b. b && are_of n F (drop (place + 1) kinds) (drop (place + 1) roots)) c.if-not-is_root.true
+    )
 
-pub returns-then-are_space : goal.returns-then-are_space
-returns-then-are_space c n F are =
+pub loop-place-preserved : goal.loop-place-preserved
+loop-place-preserved c = λ n F are.
+    let kinds = c.args.kinds.now in
     let roots = c.args.roots.now in
-    let five : length roots ≡ 5 = omega arith in
-    let known = facts_at n F in
-    let first : AreFirst n F c.facts_of-in-len5.result c.facts_of-in-len5-2.result c.facts_of-in-len5-3.result c.facts_of-in-len5-4.result roots =
-    record { first = c.facts_of-in-len5.ensures known are; second = c.facts_of-in-len5-2.ensures known are; third = c.facts_of-in-len5-3.ensures known are; fourth = c.facts_of-in-len5-4.ensures known are } in
-    let batch = c.facts_of-then-are_space.result in
-    ap (λ t. t && batch.state) (sym c.if-are_space.true ∙ c.are_space-in-len5.ensures)
-    ∙ five-roots n F c.facts_of-in-len5.result c.facts_of-in-len5-2.result c.facts_of-in-len5-3.result c.facts_of-in-len5-4.result roots batch five first (c.facts_of-then-are_space.ensures known are)
-
-pub returns-else-are_space : goal.returns-else-are_space
-returns-else-are_space c n F are =
-    let roots = c.args.roots.now in
-    let five : length roots ≡ 5 = omega arith in
-    let known = facts_at n F in
-    let first : AreFirst n F c.facts_of-in-len5.result c.facts_of-in-len5-2.result c.facts_of-in-len5-3.result c.facts_of-in-len5-4.result roots =
-    record { first = c.facts_of-in-len5.ensures known are; second = c.facts_of-in-len5-2.ensures known are; third = c.facts_of-in-len5-3.ensures known are; fourth = c.facts_of-in-len5-4.ensures known are } in
-    let batch = facts_at n F (get_or roots 4 0) in
-    c.if-are_space.false ∙ ap (λ t. t && batch.state) (sym c.if-are_space.false ∙ c.are_space-in-len5.ensures)
-    ∙ five-roots n F c.facts_of-in-len5.result c.facts_of-in-len5-2.result c.facts_of-in-len5-3.result c.facts_of-in-len5-4.result roots batch five first refl
-
-pub returns-in_default : goal.returns-in_default
-returns-in_default c n F are = no-roots n F c.args.roots.now (λ e. omega arith) (λ e. omega arith)
-
-pub returns-in_default-2 : goal.returns-in_default-2
-returns-in_default-2 c n F are = no-roots n F c.args.roots.now (λ e. omega arith) (λ e. omega arith)
+    let place = c.loop-place.place in
+    c.loop-place.invariant n F are
+    ∙ root-first n F kinds roots place Lines (omega (arith, c.if-kinds-roots.false, c.loop-place-test.true)) c.loop-place-test.true c.is_root.result c.facts_of.result (c.facts_of.ensures (facts_at n F) are) c.is_root.ensures
+    ∙ ap (λ b. b && are_of n F (drop (place + 1) kinds) (drop (place + 1) roots)) c.if-not-is_root.false

@@ -1,42 +1,13 @@
-use Rattle.std.proofs.Common.{◌≡◌, List, [], ◌∷◌, length, ap, sym, subst, ◌∙◌, arith, length-append}
-use Rattle.std.proofs.lemmas.List.{length-map}
-use Rattle.node_heap.specs.Forms.{Form}
-use Rattle.pool_text.specs.Rows.{Bytes, row_form}
-use Rattle.pool_text.specs.Pool.{forms_in, row_count}
-use Rattle.pool_check.specs.Kinds.{are_roots, roots_are_of_kind}
-use Rattle.pool_check.specs.declared.kinds.RowFacts.{RowFacts}
-use Rattle.pool_check.specs.Facts.{AreFacts, facts_in}
-use Rattle.pool_check.proofs.KeptRows.{kept-more}
-use Rattle.pool_check.proofs.FactRows.{roots-low}
+use Rattle.std.proofs.Common.{◌≡◌, Bool, List, ℕ, length, ap, sym, subst, ◌∙◌}
+use Rattle.std.specs.Result.{IfOk}
+use Rattle.pool_check.proofs.RootLemmas.{roots-outside, roots-in-batch}
 use Rattle.pool_check.proofs.kinds.roots_are_of_kind.Goals as goal
 
-pub row_facts-requires-clause-more : goal.row_facts-requires-clause-more
-row_facts-requires-clause-more c =
-    omega (arith, ap (λ (xs : List RowFacts). length xs) c.as_slice.ensures.value, c.loop-place.invariant.count, c.loop-place-test.true, length-map c.as_slice-count.result.now row_form, ap (λ (forms : List (Form Bytes)). length forms) c.as_slice-count.ensures)
-
-pub row_facts-requires-clause-kept : goal.row_facts-requires-clause-kept
-row_facts-requires-clause-kept c = subst (λ xs. AreFacts (facts_in c.args.pool.now) xs) (sym c.as_slice.ensures.value) c.loop-place.invariant.facts
-
-pub loop-place-preserved : goal.loop-place-preserved
-loop-place-preserved c =
-    let facts = facts_in c.args.pool.now in
-    let kept = c.loop-place.kept.items in
-    let pushed = c.in_ok-push.ensures.items in
-    let same : c.row_facts.result ≡ facts (length kept) = c.row_facts.ensures ∙ ap (λ (xs : List RowFacts). facts (length xs)) c.as_slice.ensures.value in
-    record {
-      facts = subst (λ xs. AreFacts facts xs) (sym pushed) (kept-more facts kept c.row_facts.result c.loop-place.invariant.facts same);
-      count = ap (λ (xs : List RowFacts). length xs) pushed ∙ length-append kept (c.row_facts.result ∷ []) ∙ omega (arith, c.loop-place.invariant.count);
-    }
-
-pub are_roots-requires : goal.are_roots-requires
-are_roots-requires c =
-    let length_is : length c.as_slice-2.result.now ≡ row_count c.args.pool.now =
-    omega (arith, ap (λ (xs : List RowFacts). length xs) c.as_slice-2.ensures.value, c.loop-place.invariant.count, c.loop-place-test.false, length-map c.as_slice-count.result.now row_form, ap (λ (forms : List (Form Bytes)). length forms) c.as_slice-count.ensures) in
-    roots-low c.args.pool.now c.requires.stand.lead_back (length c.as_slice-2.result.now) length_is c.as_slice-3.result.now c.as_slice-3.ensures
+pub returns-then-as_slice-eq5 : goal.returns-then-as_slice-eq5
+returns-then-as_slice-eq5 c =
+    let many : length c.args.pool.now.roots ≡ 5 = ap (λ (ks : List ℕ). length ks) (sym c.as_slice.ensures) ∙ c.if-as_slice-eq5.true in
+    subst (λ (b : Bool). IfOk c.roots_are_of.result (λ are. are ≡ b)) (roots-in-batch c.args.pool.now many) c.roots_are_of.ensures
 
 pub returns : goal.returns
-unfolding roots_are_of_kind
 returns c =
-    let P = c.args.pool.now in
-    let kept : AreFacts (facts_in P) c.as_slice-2.result.now = subst (λ xs. AreFacts (facts_in P) xs) (sym c.as_slice-2.ensures.value) c.loop-place.invariant.facts in
-    c.are_roots.ensures (row_count P) (forms_in P) kept ∙ ap (are_roots (row_count P) (forms_in P)) c.as_slice-3.ensures
+    subst (λ (b : Bool). IfOk c.roots_are_of-2.result (λ are. are ≡ b)) (roots-outside c.args.pool.now (λ many. c.if-as_slice-eq5.false (ap (λ (ks : List ℕ). length ks) c.as_slice.ensures ∙ many))) c.roots_are_of-2.ensures

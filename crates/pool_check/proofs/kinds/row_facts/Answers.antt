@@ -1,4 +1,4 @@
-use Rattle.std.proofs.Common.{◌≤◌, length, ltb, leb, take, drop, refl, ap, sym, subst, ◌∙◌, false}
+use Rattle.std.proofs.Common.{◌≤◌, length, ltb, leb, take, drop, ap, sym, subst, ◌∙◌, false}
 use Rattle.std.specs.Prelude.{◌==◌, count_ones, IsTrue, ◌↔◌}
 use Rattle.std.specs.List.{list_all}
 use Rattle.elem_core.specs.Naming.{IsName}
@@ -96,9 +96,8 @@ returns-in-Chain c =
 pub returns-in-Pair : goal.returns-in-Pair
 returns-in-Pair c =
     let at = read-at c.args.pool.now c.requires.stand (length c.args.kept.now) c.requires.more c.as_slice.result.now c.as_slice.ensures c.index-as_slice-kept.result c.index-as_slice-kept.is (Pair c.in-Pair.key c.in-Pair.value) c.in-Pair.is in
-    c.pair_facts.ensures
-    ∙ pair-facts (row_count c.args.pool.now) (forms_in c.args.pool.now) (length c.args.kept.now) c.in-Pair.key c.in-Pair.value c.facts_of.result c.facts_of-in-Pair.result _ _ at.form
-    (c.facts_of.ensures (facts_in c.args.pool.now) c.requires.kept) (c.facts_of-in-Pair.ensures (facts_in c.args.pool.now) c.requires.kept) refl refl
+    pair-facts (row_count c.args.pool.now) (forms_in c.args.pool.now) (length c.args.kept.now) c.in-Pair.key c.in-Pair.value c.facts_of.result c.facts_of-in-Pair.result c.pair_facts.result at.form
+    (c.facts_of.ensures (facts_in c.args.pool.now) c.requires.kept) (c.facts_of-in-Pair.ensures (facts_in c.args.pool.now) c.requires.kept) c.pair_facts.ensures
 
 pub returns-in-State : goal.returns-in-State
 returns-in-State c =

@@ -1,30 +1,27 @@
-use Rattle.std.proofs.Common.{◌≡◌, ◌≢◌, Option, Some, None, true, sym, subst}
-use Rattle.std.proofs.lemmas.Str.{IsUtf8-from_is_utf8, is_utf8-from_IsUtf8}
+use Rattle.std.proofs.Common.{◌≡◌, ◌≢◌, Option, Some, None, ap, sym, subst, ◌∙◌}
 use Rattle.std.specs.Result.{IfOk, IfErr}
 use Rattle.serde_json.specs.View.{view}
+use Rattle.pool_text.specs.Document.{bytes_damage}
 use Rattle.pool_text.specs.declared.damage.Damage.{Damage}
 use Rattle.pool_text.specs.declared.damage.Damage.TheVariants.{Memory}
 use Rattle.pool_text.specs.declared.pool.Pool.{Pool}
-use Rattle.pool_text.proofs.PoolRead.{value-read, no-value, json-damage, damage-by-value, pool-by-value}
+use Rattle.pool_text.proofs.Refusals.{handed-on}
+use Rattle.pool_text.proofs.PoolRead.{json-damage, damage-by-value, pool-by-value}
 use Rattle.pool_text.proofs.from_json.pool_from_bytes.Goals as goal
 
-pub returns-in-Ok-clause-pool : goal.returns-in-Ok-clause-pool
-returns-in-Ok-clause-pool c =
-    let is = value-read c.args.bytes.now (view c.in-Ok.value) (is_utf8-from_IsUtf8 c.args.bytes.now c.in-Ok.ensures.ok.0) c.in-Ok.ensures.ok.1 in
-    subst (λ (o : Option Pool). IfOk c.pool_from_json.result (λ p. o ≡ Some p)) (sym (pool-by-value c.args.bytes.now (view c.in-Ok.value) is)) c.pool_from_json.ensures.pool
+pub returns-in_err-value-clause-damage : goal.returns-in_err-value-clause-damage
+returns-in_err-value-clause-damage c =
+    handed-on c.from_residual.result c.in_err-value.field-0.0 (bytes_damage c.args.bits c.args.bytes.now) c.from_residual.ensures.1
+    (λ not_memory. let refused = c.in_err-value.ensures not_memory in json-damage c.args.bits c.args.bytes.now refused.1 ∙ ap (λ (d : Damage). Some d) (sym refused.0))
 
-pub returns-in-Ok-clause-whole : goal.returns-in-Ok-clause-whole
-returns-in-Ok-clause-whole c =
-    let is = value-read c.args.bytes.now (view c.in-Ok.value) (is_utf8-from_IsUtf8 c.args.bytes.now c.in-Ok.ensures.ok.0) c.in-Ok.ensures.ok.1 in
-    subst (λ (o : Option Damage). IfOk c.pool_from_json.result (λ p. o ≡ None)) (sym (damage-by-value c.args.bits c.args.bytes.now (view c.in-Ok.value) is)) c.pool_from_json.ensures.whole
+pub returns-clause-pool : goal.returns-clause-pool
+returns-clause-pool c =
+    subst (λ (o : Option Pool). IfOk c.pool_from_json.result (λ p. o ≡ Some p)) (sym (pool-by-value c.args.bytes.now (view c.in_ok-value.value) c.in_ok-value.ensures)) c.pool_from_json.ensures.pool
 
-pub returns-in-Ok-clause-damage : goal.returns-in-Ok-clause-damage
-returns-in-Ok-clause-damage c =
-    let is = value-read c.args.bytes.now (view c.in-Ok.value) (is_utf8-from_IsUtf8 c.args.bytes.now c.in-Ok.ensures.ok.0) c.in-Ok.ensures.ok.1 in
-    subst (λ (o : Option Damage). IfErr c.pool_from_json.result (λ d. d ≢ Memory → o ≡ Some d)) (sym (damage-by-value c.args.bits c.args.bytes.now (view c.in-Ok.value) is)) c.pool_from_json.ensures.damage
+pub returns-clause-whole : goal.returns-clause-whole
+returns-clause-whole c =
+    subst (λ (o : Option Damage). IfOk c.pool_from_json.result (λ p. o ≡ None)) (sym (damage-by-value c.args.bits c.args.bytes.now (view c.in_ok-value.value) c.in_ok-value.ensures)) c.pool_from_json.ensures.whole
 
-pub returns-in-Err-2-clause-damage : goal.returns-in-Err-2-clause-damage
-returns-in-Err-2-clause-damage c not_memory =
-    json-damage c.args.bits c.args.bytes.now
-    (no-value c.args.bytes.now
-    (λ utf8. c.in-Err.ensures.err (λ memory. let said : c.is_memory.result ≡ true = c.is_memory.ensures.1 memory in let denied = c.if-is_memory.false in cc) (IsUtf8-from_is_utf8 c.args.bytes.now utf8)))
+pub returns-clause-damage : goal.returns-clause-damage
+returns-clause-damage c =
+    subst (λ (o : Option Damage). IfErr c.pool_from_json.result (λ d. d ≢ Memory → o ≡ Some d)) (sym (damage-by-value c.args.bits c.args.bytes.now (view c.in_ok-value.value) c.in_ok-value.ensures)) c.pool_from_json.ensures.damage

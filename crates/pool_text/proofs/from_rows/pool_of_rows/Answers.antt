@@ -7,7 +7,8 @@ use Rattle.pool_text.specs.Rows.{Bytes, row_form}
 use Rattle.pool_text.specs.Pool.{place_in, relink, settings_by}
 use Rattle.pool_text.proofs.Placed.{item_in, get-some, get-none}
 use Rattle.pool_text.proofs.Gathered.{rows-next, take_all}
-use Rattle.pool_text.proofs.ListWalk.{count-same, form-read, listed-low, listed-links, listed-roots, pool-of-list}
+use Rattle.pool_text.proofs.FormRows.{count-same, form-read}
+use Rattle.pool_text.proofs.ListWalk.{listed-low, listed-links, listed-roots, pool-of-list}
 use Rattle.pool_text.proofs.from_rows.pool_of_rows.Goals as goal
 
 -- the rows that were made stay those of the list where it is named otherwise

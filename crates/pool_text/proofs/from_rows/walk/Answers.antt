@@ -6,7 +6,8 @@ use Rattle.pool_order.proofs.Firsts.{count-from_any}
 use Rattle.pool_order.proofs.Places.{ready-places}
 use Rattle.pool_order.proofs.Walked.{walk-start, walk-done, walk-list, steps-list, turn-skip, turn-enter, turn-skip-steps, turn-enter-steps}
 use Rattle.pool_text.specs.Pool.{links_from}
-use Rattle.pool_text.proofs.ListWalk.{count-same, turn-of, none-left, ground, visit-low}
+use Rattle.pool_text.proofs.FormRows.{count-same}
+use Rattle.pool_text.proofs.ListWalk.{turn-of, none-left, ground, visit-low}
 use Rattle.pool_text.proofs.from_rows.walk.Goals as goal
 
 pub loop-visit-init : goal.loop-visit-init

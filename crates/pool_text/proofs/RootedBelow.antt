@@ -1,5 +1,5 @@
 -- Rows in a list that lead down are rooted.
-use Rattle.std.proofs.Common.{ℕ, zero, suc, ◌<◌, refl, arith, List, [], ◌∷◌, length, IsSome}
+use Rattle.std.proofs.Common.{ℕ, ◌<◌, List, length}
 use Rattle.std.specs.Prelude.{slice_get}
 use Rattle.node_heap.specs.Links.{count, Reaches, here, below}
 use Rattle.node_heap.specs.Forms.{Form}
@@ -8,11 +8,7 @@ use Rattle.pool_order.proofs.Grounded.{grounded-below}
 use Rattle.pool_text.specs.Rows.{Bytes}
 use Rattle.pool_text.specs.Pool.{links_from}
 use Rattle.pool_text.specs.Renaming.{IsRooted}
-
-some-at : {X : Type 0} (xs : List X) (i : ℕ) → i < length xs → IsSome (slice_get xs i)
-some-at [] i low = absurd (omega (arith, low))
-some-at (x ∷ xs) zero low = refl
-some-at (x ∷ xs) (suc i) low = some-at xs i (omega (arith, low))
+use Rattle.pool_text.proofs.Behind.{some-at}
 
 module _ (rows : List (Form Bytes)) (linked : AreLinkedBelow (length rows) (links_from rows)) where
   reached-below : (r l : ℕ) → r < length rows → Reaches (links_from rows) r l → l < length rows
