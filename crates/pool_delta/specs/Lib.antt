@@ -1,0 +1,9 @@
+pub mod Forms
+pub mod Parts
+pub mod Chains
+pub mod Read
+pub mod Delta
+pub mod Free
+pub mod Laws
+pub mod Documents
+pub mod Worked
