@@ -1,5 +1,5 @@
 -- What the plain answer is to steps through histories, to batches, versions and stars, and how refusals end.
-use Rattle.std.proofs.Common.{◌≡◌, refl, sym, ◌∙◌, ap, subst, ℕ, zero, suc, ◌+◌, ◌-◌, ◌<◌, ◌≤◌, List, [], ◌∷◌, ◌++◌, length, take, arith, Bool, true, false, Option, Some, None, is_some, IsSome, Result, Ok, Err, slice_get, leb, IsTrue, IsOk, MatchOption}
+use Rattle.std.proofs.Common.{◌≡◌, refl, sym, ◌∙◌, ap, subst, ℕ, zero, suc, ◌+◌, ◌-◌, ◌*◌, ◌<◌, ◌≤◌, List, [], ◌∷◌, ◌++◌, length, take, arith, Bool, true, false, Option, Some, None, is_some, IsSome, Result, Ok, Err, slice_get, leb, IsTrue, IsOk, MatchOption}
 use Rattle.std.specs.Prelude.{◌↔◌, IsErrAnd, IsSomeAnd, MatchResult}
 use Rattle.std.proofs.lemmas.Bool.{le-leb}
 use Rattle.std.proofs.lemmas.List.{length-take}
@@ -9,14 +9,16 @@ use Rattle.node_heap.specs.Heap.{Heap, holds_at, hold_count, one_at, HasSpares, 
 use Rattle.node_heap.specs.Calls.{Answered, Extends, KeepsHeld, Makes, SameRows, Trades, Unchanged}
 use Rattle.rrb_core.specs.Vector.{elements}
 use Rattle.shell_terms.specs.Edit.{Bytes, star, unstar}
-use Rattle.shell_terms.specs.Command.{PlainCommand, edit, mark, unmark, back, undo, redo, begin, «end», abort, history}
+use Rattle.shell_terms.specs.Command.{Merging, PlainCommand, edit, merge, mark, unmark, back, undo, redo, begin, «end», abort, history}
 use Rattle.plain_space.specs.declared.refusal.Refusal.{Refusal}
 use Rattle.plain_space.specs.declared.refusal.Refusal.TheVariants.{Absent, Exists, Range, Limit, Batch, Empty, Memory}
-use Rattle.plain_space.specs.Workspace.{State, Workspace, most, in_batch, is_starred, last_of, undo_with, version_of, with_current}
+use Rattle.plain_space.specs.Workspace.{State, Workspace, most, in_batch, is_starred, merged_with, last_of, undo_with, version_of, with_current}
 use Rattle.plain_space.specs.Refusing.{outside_batch, on_last, room}
 use Rattle.plain_space.specs.Edited.{edited}
 use Rattle.plain_space.specs.Answer.{Answer, answer, done}
-use Rattle.plain_space.specs.Memory.{wants_memory, MayLackMemory}
+use Rattle.shell_terms.specs.Kinds.{wants_memory}
+use Rattle.plain_space.specs.Cost.{cost, merge_size}
+use Rattle.plain_space.specs.Memory.{MayLackMemory}
 use Rattle.state_rows.specs.Reading.{StandsIfThere}
 use Rattle.state_rows.specs.InHeap.{IsStateIn, IsHistoryIn}
 use Rattle.state_rows.specs.Standing.{IsBase}
@@ -27,6 +29,7 @@ use Rattle.space_state.specs.declared.roots.Batch.TheVariants.{Closed, Open}
 use Rattle.space_state.specs.declared.turning.TheConstants.{EDIT_NODES, TURN_NODES}
 use Rattle.space_state.specs.Roots.{base_of, IsBounded, Keeps}
 use Rattle.space_state.specs.Turns.{IsDueBy, IsDue, RoomIsMade, RoomIsRefused, TurnsTo, IsCarriedOut, IsRefused}
+use Rattle.space_state.specs.Needed.{merge_nodes}
 use Rattle.space_state.specs.Stepping.{HasNoStep}
 use Rattle.state_rows.proofs.Staying.{states-stay}
 use Rattle.space_state.proofs.Keeping.{history-length, history-short, current-stands, same-heap, keeps-same, keeps-gained, keeps-current, keeps-undo, keeps-redo, answered-one, unchanged-stands, Rises, rises-answered, rises-more, rises-same, rises-then, turns-by}
@@ -115,6 +118,14 @@ module _ (W : Workspace) where
     unfolding answer
     back-done outside x there = rw (there, outside) refl
 
+    pub merge-absent : (kind : Merging) → version_of W name ≡ None → answer W (merge kind name) ≡ Err Absent
+    unfolding answer
+    merge-absent kind none = rw none refl
+
+    pub merge-done : (kind : Merging) (x : State) → version_of W name ≡ Some x → answer W (merge kind name) ≡ done (with_current W (merged_with kind W.current x))
+    unfolding answer
+    merge-done kind x there = rw there refl
+
     pub star-taken : is_starred W.current name ≡ true → answer W (edit (star name)) ≡ Err Exists
     unfolding answer edited
     star-taken there = rw there refl
@@ -122,6 +133,15 @@ module _ (W : Workspace) where
     pub unstar-absent : is_starred W.current name ≡ false → answer W (edit (unstar name)) ≡ Err Absent
     unfolding answer edited
     unstar-absent none = rw none refl
+
+-- what a merge with a version that is there may add, and what it needs
+module _ (W : Workspace) (name : Bytes) (kind : Merging) (x : State) (there : version_of W name ≡ Some x) where
+  pub merge-costs : (bits : ℕ) → cost bits (merge kind name) W ≡ 256 + 16 * merge_size kind W.current x
+  unfolding cost
+  merge-costs bits = rw there refl
+
+  pub merge-needs : merge_nodes kind W name ≡ 13 * merge_size kind W.current x + 1
+  merge-needs = rw there refl
 
 -- ## A step through the histories, and the answers to undo and redo
 
@@ -188,6 +208,10 @@ pub memory-refused : {W : Workspace} {command : PlainCommand} {old new : RootedH
     → MatchResult result (λ _. IsCarriedOut command old new W) (IsRefused command old new W)
 memory-refused {W} {command} {old} {new} (Err why) is lack same = subst (λ why. IsRefused command old new W why) (sym is) (record { due = lack; same = same })
 memory-refused (Ok x) is lack same = absurd is
+
+-- where room is refused, so is the command
+pub room-refused : {W : Workspace} (command : PlainCommand) {s t : RootedHeap} {why : Refusal} → MayLackMemory W command → RoomIsRefused s t why → IsRefused command s t W why
+room-refused {W} command lack refused = record { due = subst (λ r. IsDue W command r) (sym refused.due) lack; same = refused.same }
 
 -- so may room for an edit
 pub room-lacks-memory : {old new : RootedHeap} (nodes : ℕ) (result : Result (Unit {0}) Refusal) → IsErrAnd result (λ why. why ≡ Memory) → new ≡ old

@@ -1,12 +1,13 @@
 -- For how many cells and how many nodes a command makes room, of which it makes no more.
 use Rattle.std.specs.Prelude.{ℕ, ◌+◌, ◌*◌, ◌/◌, [], length, Result, IfOk}
+use Rattle.std.specs.Option.{option_map_or}
 use Rattle.elem_core.specs.declared.codes.TheConstants.{DEEPEST}
 use Rattle.node_heap.specs.Calls.{KeepsToNeed}
-use Rattle.shell_terms.specs.Edit.{PlainEdit, new, add, set, put, del, cat, cut, copy, drop, star, unstar, fill}
-use Rattle.shell_terms.specs.Command.{PlainCommand, edit, mark, unmark, back, undo, redo, «end», history}
+use Rattle.shell_terms.specs.Edit.{Bytes, PlainEdit, new, add, set, put, del, cat, cut, copy, drop, star, unstar, fill}
+use Rattle.shell_terms.specs.Command.{Merging, PlainCommand, edit, merge, mark, unmark, back, undo, redo, «end», history}
 use Rattle.plain_space.specs.declared.refusal.Refusal.{Refusal}
-use Rattle.plain_space.specs.Workspace.{State, Workspace}
-use Rattle.plain_space.specs.Cost.{alike_buffers, alike_stars, alike_versions}
+use Rattle.plain_space.specs.Workspace.{State, Workspace, version_of}
+use Rattle.plain_space.specs.Cost.{alike_buffers, alike_stars, alike_versions, merge_size}
 use Rattle.space_state.specs.declared.roots.RootedHeap.{RootedHeap}
 use Rattle.space_state.specs.Roots.{Keeps}
 
@@ -34,15 +35,21 @@ edit_nodes bits (star name) now = 2 * DEEPEST + 104 + alike_stars bits now name
 edit_nodes bits (unstar name) now = 2 * DEEPEST + 104 + alike_stars bits now name
 edit_nodes bits (fill name lines) now = 2 * DEEPEST + 112 + length lines / 16 + alike_buffers bits now name
 
+-- the nodes of a merge with a version: thirteen for each star of the two states, or each buffer, and one
+abbrev pub merge_nodes : Merging → Workspace → Bytes → ℕ
+merge_nodes kind work version = option_map_or (λ other. 13 * merge_size kind work.current other + 1) (version_of work version) 0
+
 -- the same of every command
 abbrev pub cells_needed : PlainCommand → ℕ
 cells_needed (edit change) = edit_cells change
+cells_needed (merge kind version) = 2
 cells_needed (mark version) = 2
 cells_needed (unmark version) = 2
 cells_needed _ = 0
 
 abbrev pub nodes_needed : ℕ → PlainCommand → Workspace → ℕ
 nodes_needed bits (edit change) work = edit_nodes bits change work.current
+nodes_needed bits (merge kind version) work = 2 * DEEPEST + 104 + merge_nodes kind work version
 nodes_needed bits (mark version) work = 2 * DEEPEST + 104 + alike_versions bits work version
 nodes_needed bits (unmark version) work = 2 * DEEPEST + 104 + alike_versions bits work version
 nodes_needed bits (back version) work = 28

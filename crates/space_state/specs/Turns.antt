@@ -3,8 +3,8 @@ use Rattle.std.specs.Prelude.{◌≡◌, ℕ, ◌+◌, ◌-◌, ◌^◌, ◌<◌
 use Rattle.node_heap.specs.Links.{count}
 use Rattle.node_heap.specs.Heap.{Heap, live_count, HasSpares}
 use Rattle.node_heap.specs.Calls.{KeepsBelow, Unchanged}
-use Rattle.shell_terms.specs.Edit.{PlainEdit, del, cat, drop, unstar, fill}
-use Rattle.shell_terms.specs.Command.{PlainCommand}
+use Rattle.shell_terms.specs.Edit.{del, cat, drop, unstar, fill}
+use Rattle.shell_terms.specs.Command.{PlainCommand, edit, merge}
 use Rattle.plain_space.specs.declared.refusal.Refusal.{Refusal}
 use Rattle.plain_space.specs.declared.refusal.Refusal.TheVariants.{Absent, Exists, Range, Limit, Batch, Empty, Memory}
 use Rattle.plain_space.specs.Workspace.{Workspace, most, in_batch}
@@ -15,6 +15,7 @@ use Rattle.state_rows.specs.InPlace.{MakesAtMost}
 use Rattle.space_state.specs.declared.turning.TheConstants.{EDIT_NODES, TURN_NODES}
 use Rattle.space_state.specs.declared.roots.RootedHeap.{RootedHeap}
 use Rattle.space_state.specs.Roots.{Keeps}
+use Rattle.space_state.specs.Needed.{merge_nodes}
 use Rattle.space_state.specs.InPlace.{IsInPlace, current_kept}
 
 -- the refusal is due by this plain result: it is that, or memory was refused where that may be
@@ -62,16 +63,17 @@ MakesRoom nodes old result new =
 
 -- the heap has the spares that an edit asks for which copies no text, and to which memory isn't refused then; an edit that copies a
 -- text never has enough
-abbrev pub HasEditSpares : RootedHeap → Workspace → PlainEdit → Type 0
-HasEditSpares s W (del name from to) = HasSpares s.heap 2 (EDIT_NODES + alike_buffers s.bits W.current name)
-HasEditSpares s W (cat name other) = HasSpares s.heap 2 (EDIT_NODES + alike_buffers s.bits W.current name)
-HasEditSpares s W (drop name) = HasSpares s.heap 2 (EDIT_NODES + alike_buffers s.bits W.current name)
-HasEditSpares s W (unstar name) = HasSpares s.heap 2 (EDIT_NODES + alike_stars s.bits W.current name)
+abbrev pub HasEditSpares : RootedHeap → Workspace → PlainCommand → Type 0
+HasEditSpares s W (edit (del name from to)) = HasSpares s.heap 2 (EDIT_NODES + alike_buffers s.bits W.current name)
+HasEditSpares s W (edit (cat name other)) = HasSpares s.heap 2 (EDIT_NODES + alike_buffers s.bits W.current name)
+HasEditSpares s W (edit (drop name)) = HasSpares s.heap 2 (EDIT_NODES + alike_buffers s.bits W.current name)
+HasEditSpares s W (edit (unstar name)) = HasSpares s.heap 2 (EDIT_NODES + alike_stars s.bits W.current name)
+HasEditSpares s W (merge kind version) = HasSpares s.heap 2 (EDIT_NODES + merge_nodes kind W version)
 HasEditSpares s W _ = ⊥
 
 -- an edit that fills a buffer has no more lines than a buffer can have
-abbrev pub HasFewLines : PlainEdit → Type 0
-HasFewLines (fill name lines) = length lines ≤ most
+abbrev pub HasFewLines : PlainCommand → Type 0
+HasFewLines (edit (fill name lines)) = length lines ≤ most
 HasFewLines _ = Unit {0}
 
 -- the roots stand for this workspace now, with these links held besides, and so many rows more at most

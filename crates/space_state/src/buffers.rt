@@ -60,7 +60,7 @@ impl RootedHeap {
         requires { (W : Workspace) × Keeps self.old [] W }
         ensures ends { EndsOnRows (edit (del (name_bytes name.entry) from to)) self.old result self.new }
         ensures spares { HoardsNone (edit (del (name_bytes name.entry) from to)) self.old result self.new }
-        ensures ample { (W : Workspace) → Keeps self.old [] W → HasEditSpares self.old W (del (name_bytes name.entry) from to) → result ≢ Err Refusal.Memory }
+        ensures ample { (W : Workspace) → Keeps self.old [] W → HasEditSpares self.old W (edit (del (name_bytes name.entry) from to)) → result ≢ Err Refusal.Memory }
     {
         let found = self.find(name);
         let Some(lines) = found.lines else {
@@ -82,7 +82,7 @@ impl RootedHeap {
         requires { (W : Workspace) × Keeps self.old [] W }
         ensures ends { EndsOnRows (edit (cat (name_bytes name.entry) (name_bytes other.entry))) self.old result self.new }
         ensures spares { HoardsNone (edit (cat (name_bytes name.entry) (name_bytes other.entry))) self.old result self.new }
-        ensures ample { (W : Workspace) → Keeps self.old [] W → HasEditSpares self.old W (cat (name_bytes name.entry) (name_bytes other.entry)) → result ≢ Err Refusal.Memory }
+        ensures ample { (W : Workspace) → Keeps self.old [] W → HasEditSpares self.old W (edit (cat (name_bytes name.entry) (name_bytes other.entry))) → result ≢ Err Refusal.Memory }
     {
         let found = self.find(name);
         let Some(lines) = found.lines else {
@@ -150,7 +150,7 @@ impl RootedHeap {
         requires { (W : Workspace) × Keeps self.old [] W }
         ensures ends { EndsOnRows (edit (drop (name_bytes name.entry))) self.old result self.new }
         ensures spares { HoardsNone (edit (drop (name_bytes name.entry))) self.old result self.new }
-        ensures ample { (W : Workspace) → Keeps self.old [] W → HasEditSpares self.old W (drop (name_bytes name.entry)) → result ≢ Err Refusal.Memory }
+        ensures ample { (W : Workspace) → Keeps self.old [] W → HasEditSpares self.old W (edit (drop (name_bytes name.entry))) → result ≢ Err Refusal.Memory }
     {
         let found = self.find(name);
         if found.lines.is_none() {

@@ -10,6 +10,7 @@ mod filling;
 mod histories;
 mod in_place;
 mod lines;
+mod merges;
 mod names;
 mod pooling;
 mod roots;

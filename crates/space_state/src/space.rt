@@ -8,7 +8,7 @@ ghost use Rattle.pool_text.specs.declared.rules.TheConstants.{PRESENT_VERSION};
 ghost use Rattle.pool_check.specs.Damages.{IsValid};
 ghost use Rattle.shell_terms.specs.Command.{mark, unmark, back, undo, redo, begin, «end», abort, history};
 ghost use Rattle.plain_space.specs.Workspace.{Workspace, most, start, sizes, in_batch, lines_of, version_of};
-ghost use Rattle.plain_space.specs.Change.{plain_edit, edit_command};
+ghost use Rattle.plain_space.specs.Change.{edit_command};
 ghost use Rattle.state_rows.specs.Standing.{StandsFor};
 ghost use Rattle.space_state.specs.Asked.{OnLines, AreEqual};
 ghost use Rattle.space_state.specs.Turns.{HasFewLines};
@@ -60,7 +60,7 @@ impl Space {
     /// Carries out the edit, refused exactly as the row of its command says, want of memory last. A buffer is filled with at
     /// most 4,294,967,295 lines.
     pub fn edit(&mut self, change: Edit<'_>) -> Result<(), Refusal>
-        requires { HasFewLines (plain_edit change) }
+        requires { HasFewLines (edit_command change) }
         ensures { Ends (edit_command change.entry) self.old result self.new }
     {
         self.rows.edit(change)

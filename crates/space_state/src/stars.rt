@@ -60,7 +60,7 @@ impl RootedHeap {
         requires { (W : Workspace) × Keeps self.old [] W }
         ensures ends { EndsOnRows (edit (unstar (name_bytes name.entry))) self.old result self.new }
         ensures spares { HoardsNone (edit (unstar (name_bytes name.entry))) self.old result self.new }
-        ensures ample { (W : Workspace) → Keeps self.old [] W → HasEditSpares self.old W (unstar (name_bytes name.entry)) → result ≢ Err Refusal.Memory }
+        ensures ample { (W : Workspace) → Keeps self.old [] W → HasEditSpares self.old W (edit (unstar (name_bytes name.entry))) → result ≢ Err Refusal.Memory }
     {
         if !self.is_starred(name) {
             return Err(Refusal::Absent);

@@ -43,12 +43,12 @@ impl RootedHeap {
         }
     }
 
-    /// Makes room for an edit: for two cells, for `EDIT_NODES` nodes, and for one more for each of so many names with the
-    /// masked code of one that it writes. Nothing but the heap's spares changes, and where it is refused nothing at all: with
+    /// Makes room for an edit: for two cells, for `EDIT_NODES` nodes, and for so many more: one for each name with the masked code of
+    /// one that it writes, or those of a merge. Nothing but the heap's spares changes, and where it is refused nothing at all: with
     /// `Memory` alone, and not where the spares are there already.
     pub(crate) fn make_room_with(&mut self, alike: usize) -> Result<(), Refusal>
         requires kept { (W : Workspace) × Keeps self.old [] W }
-        requires few { alike < 2 * row_limit }
+        requires few { alike ≤ 2 ^ 62 }
         ensures room { MakesRoom (λ _. EDIT_NODES + alike) self.old result self.new }
         ensures spares { IfOk result (λ _. KeepsToNeed self.old.heap self.new.heap 2 (EDIT_NODES + alike)) }
         ensures ample { HasSpares self.old.heap 2 (EDIT_NODES + alike) → result ≢ Err Refusal.Memory }

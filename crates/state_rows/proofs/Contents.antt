@@ -37,7 +37,7 @@ stands-both R None (Some x) is = absurd is
 stands-both R (Some k) None is = absurd is
 stands-both R (Some k) (Some x) is = refl
 
-mapped : {X Y : Type 0} (f : X → Y) (o : Option X) → is_some (option_map f o) ≡ is_some o
+pub mapped : {X Y : Type 0} (f : X → Y) (o : Option X) → is_some (option_map f o) ≡ is_some o
 mapped f None = refl
 mapped f (Some x) = refl
 
@@ -59,7 +59,7 @@ module _ (F : Forms Bytes) where
   same-keys (e ∷ E) [] pairs = absurd pairs
   same-keys (e ∷ E) (b ∷ M) pairs = ap (λ k. k ∷ map (λ (b : Binding Bytes). b.key) M) pairs.0.key ∙ ap (λ ks. e.key ∷ ks) (same-keys E M pairs.1)
 
-  keys-named : (E : List (Entry Bytes)) (M : List (Binding Bytes)) → AllZip (IsPair F) E M → All (λ e. IsName e.key) E → All (λ b. IsName b.key) M
+  pub keys-named : (E : List (Entry Bytes)) (M : List (Binding Bytes)) → AllZip (IsPair F) E M → All (λ e. IsName e.key) E → All (λ b. IsName b.key) M
   keys-named [] [] pairs names = All-nil (λ (b : Binding Bytes). IsName b.key)
   keys-named [] (b ∷ M) pairs names = absurd pairs
   keys-named (e ∷ E) [] pairs names = absurd pairs
@@ -88,7 +88,7 @@ module _ {X : Type 0} (h : Heap Bytes) (V : ℕ → Type 0) (bits : ℕ) (R : �
       subst (λ (q : Root). IsMapOf by_bytes text_code h q is.bindings) (sym same) (as-map l m fits is)
 
   -- a map that has these bindings besides its names
-  from-map : (l : ℕ) (m : Named X) (M : List (Binding Bytes)) → IsMapOf by_bytes text_code h (record { root = l; bits = bits }) M → All (λ b. IsName b.key) M
+  pub from-map : (l : ℕ) (m : Named X) (M : List (Binding Bytes)) → IsMapOf by_bytes text_code h (record { root = l; bits = bits }) M → All (λ b. IsName b.key) M
       → ((name : Bytes) → StandsIfThere R (value_with by_bytes name M) (finite.get m name)) → IsNamed (form_at h) V bits R l m
   from-map l m M is names reads = record {
     entries = is.entries;
@@ -136,7 +136,7 @@ module _ {X : Type 0} (old new : Heap Bytes) (V W : ℕ → Type 0) (bits : ℕ)
           subst (λ (o : Option (Binding Bytes)). StandsIfThere S (option_map (λ (b : Binding Bytes). b.value) o) (finite.get m name)) (sym (found-beside (λ (b : Binding Bytes). b.key) name key other is.bindings))
           (stands-as R S so (value_with by_bytes name is.bindings) (finite.get m name) (is.reads name))
 
-  names-there : All (λ b. IsName b.key) is.bindings
+  pub names-there : All (λ b. IsName b.key) is.bindings
   names-there = keys-named (form_at old) is.entries is.bindings is.pairs is.trie.names
 
   -- the map with this value at the name

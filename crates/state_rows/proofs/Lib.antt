@@ -6,6 +6,7 @@ pub mod Room
 pub mod Keys
 pub mod Contents
 pub mod Zips
+pub mod TwoStates
 pub mod Edited
 pub mod Empty
 pub mod Steps

@@ -6,3 +6,4 @@ pub mod Listing
 pub mod Laws
 pub mod Worked
 pub mod InPlace
+pub mod Merging

@@ -13,6 +13,7 @@ mod laws;
 mod list;
 mod look_up;
 mod make;
+mod merge;
 mod row;
 mod start;
 
@@ -29,4 +30,5 @@ pub use look_up::{
     FoundBuffer, buffer, find_buffer, is_starred, stars_alike, version, versions_alike,
 };
 pub use make::{with_star, with_version, without_lines, without_star, without_version};
+pub use merge::{Merging, Stars, merge_need, merged};
 pub use start::{empty_history, empty_state, empty_versions};
