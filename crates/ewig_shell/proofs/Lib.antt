@@ -6,8 +6,11 @@ pub mod ReplyLemmas
 pub mod CommandLemmas
 pub mod StepLemmas
 pub mod SaveLemmas
+pub mod MapLemmas
+pub mod ChainLemmas
 pub mod DocumentLemmas
 pub mod LoadLemmas
+pub mod PartLemmas
 pub mod RoundTripLemmas
 pub mod StandsLemmas
 pub mod ReadLemmas

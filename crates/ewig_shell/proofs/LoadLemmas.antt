@@ -12,7 +12,7 @@ use Rattle.plain_space.specs.declared.refusal.Refusal.{Refusal}
 use Rattle.plain_space.specs.declared.refusal.Refusal.TheVariants as why
 use Rattle.plain_space.specs.Workspace.{Workspace, in_batch}
 use Rattle.plain_space.specs.Answer.{answer, elsewhere, ok_line}
-use Rattle.plain_space.specs.Memory.{wants_memory}
+use Rattle.shell_terms.specs.Kinds.{uses_store, wants_memory}
 use Rattle.pool_check.proofs.DocumentLaw.{valid-at-present}
 use Rattle.state_rows.proofs.OneSpace.{one-space}
 use Rattle.shell_io.specs.Lines.{HasLines}
@@ -32,10 +32,11 @@ use Rattle.shell_io.specs.Storing.{ChangesFiles, FetchesFile}
 use Rattle.shell_io.specs.declared.device.FetchFault.{FetchFault}
 use Rattle.shell_io.specs.declared.device.FetchFault.TheVariants as fetch
 use Rattle.shell_io.specs.declared.device.Store as store_trait
-use Rattle.ewig_shell.specs.declared.load.LoadFault.{LoadFault}
-use Rattle.ewig_shell.specs.declared.load.LoadFault.TheVariants as unloaded
-use Rattle.ewig_shell.specs.Step.{Machine, KeepsFiles, Refuses, Fetched, fetched, missing, large, given, Makes, Takes, DocumentStandsFor, IsLoaded, LoadsBytes, ReadsBytes, SaysElsewhere, ObeysOn, CountsStore, shown_store, machine_of, uses_store, most_stored, damage_word, reply_of, refusal_of, loaded_reply}
-use Rattle.ewig_shell.specs.Loading.{TakesIn, FillsIn, fault_of, load_fault, read_fault}
+use Rattle.ewig_shell.specs.declared.store_fault.StoreFault.{StoreFault}
+use Rattle.ewig_shell.specs.declared.store_fault.StoreFault.TheVariants as unloaded
+use Rattle.ewig_shell.specs.Step.{Machine, KeepsFiles, Refuses, Fetched, fetched, missing, large, given, Makes, Takes, DocumentStandsFor, IsLoaded, LoadsBytes, ReadsBytes, SaysElsewhere, ObeysOn, CountsStore, shown_store, machine_of, most_stored, damage_word, reply_of, refusal_of, stored_reply}
+use Rattle.ewig_shell.specs.Loading.{TakesIn, FillsIn}
+use Rattle.ewig_shell.specs.Faults.{fault_of, fetch_fault, lines_fault}
 use Rattle.ewig_shell.proofs.ReplyLemmas.{other-reply}
 use Rattle.ewig_shell.proofs.StepLemmas.{same_files, CountsStore-failed, CountsStore-succeeded, load-outside, answer-outside, Obeys-elsewhere, may_lack, fault-is}
 
@@ -53,9 +54,9 @@ module _ (bits : ℕ) (bytes : Bytes) where
   pool_damage P found none is e = rw none (rw is e)
 
 -- a document is refused with its damage
-damaged_as : (d : Damage) (bytes : Bytes) (old new : SpaceView) → document_damage old.pool.bits bytes ≡ Some d → new ≡ old → LoadsBytes old bytes (loaded_reply (Err (unloaded.Damaged d))) new
+damaged_as : (d : Damage) (bytes : Bytes) (old new : SpaceView) → document_damage old.pool.bits bytes ≡ Some d → new ≡ old → LoadsBytes old bytes (stored_reply (Err (unloaded.Damaged d))) new
 damaged_as d bytes old new is same =
-    subst (λ (o : Option Damage). MatchOption o (IsLoaded bytes old (loaded_reply (Err (unloaded.Damaged d))) new) (λ (w : Damage). Refuses old (codes "damaged " ++ damage_word w) (loaded_reply (Err (unloaded.Damaged d))) new)) (sym is)
+    subst (λ (o : Option Damage). MatchOption o (IsLoaded bytes old (stored_reply (Err (unloaded.Damaged d))) new) (λ (w : Damage). Refuses old (codes "damaged " ++ damage_word w) (stored_reply (Err (unloaded.Damaged d))) new)) (sym is)
     (record { reply_is = refl; same = same })
 
 -- but for want of memory
@@ -75,9 +76,9 @@ by_fault damage_is.Memory bytes old new is same = inr (refl, same)
 
 module _ (bytes : Bytes) (old new : SpaceView) where
   -- the document has a damage, or memory ran out
-  pub TakesIn-damaged : (result : Result (Unit {0}) LoadFault) (d : Damage) → IsErrAnd result (λ (fault : LoadFault). fault ≡ fault_of d) → (d ≢ damage_is.Memory → document_damage old.pool.bits bytes ≡ Some d) → new ≡ old → TakesIn bytes old result new
+  pub TakesIn-damaged : (result : Result (Unit {0}) StoreFault) (d : Damage) → IsErrAnd result (λ (fault : StoreFault). fault ≡ fault_of d) → (d ≢ damage_is.Memory → document_damage old.pool.bits bytes ≡ Some d) → new ≡ old → TakesIn bytes old result new
   TakesIn-damaged (Ok done) d e is same = absurd e
-  TakesIn-damaged (Err fault) d e is same = subst (λ (f : LoadFault). TakesIn bytes old (Err f) new) (sym e) (by_fault d bytes old new is same)
+  TakesIn-damaged (Err fault) d e is same = subst (λ (f : StoreFault). TakesIn bytes old (Err f) new) (sym e) (by_fault d bytes old new is same)
 
   -- what it stands for is the space's now
   pub TakesIn-ok : (P : Pool) → DocumentStandsFor old.pool.bits bytes (at_present_version P) → P.bits ≡ old.pool.bits → document_damage old.pool.bits bytes ≡ None → IsValid P → new.pool ≡ at_present_version P → new.made ≡ min (old.made + row_count P) (2 ^ 64 - 1) → TakesIn bytes old (Ok tt) new
@@ -96,21 +97,21 @@ no_memory : (d : Damage) → fault_of d ≢ unloaded.Damaged damage_is.Memory
 no_memory damage_is.Memory e = cc
 no_memory _ e = cc
 
-no_memory_fetched : (fault : FetchFault) → load_fault fault ≢ unloaded.Damaged damage_is.Memory
+no_memory_fetched : (fault : FetchFault) → fetch_fault fault ≢ unloaded.Damaged damage_is.Memory
 no_memory_fetched fetch.Missing e = cc
 no_memory_fetched fetch.Large e = cc
 no_memory_fetched fetch.Failed e = cc
 no_memory_fetched fetch.Memory e = cc
 
-module _ (result : Result (Unit {0}) LoadFault) where
-  other_fault : (fault other : LoadFault) → IsErrAnd result (λ (f : LoadFault). f ≡ fault) → fault ≢ other → result ≢ Err other
+module _ (result : Result (Unit {0}) StoreFault) where
+  other_fault : (fault other : StoreFault) → IsErrAnd result (λ (f : StoreFault). f ≡ fault) → fault ≢ other → result ≢ Err other
   other_fault fault other is differs e = differs (let both : Err fault ≡ Err other = sym (fault-is result fault is) ∙ e in cc)
 
-  pub document-damage : (d : Damage) → IsErrAnd result (λ (f : LoadFault). f ≡ fault_of d) → result ≢ Err (unloaded.Damaged damage_is.Memory)
+  pub document-damage : (d : Damage) → IsErrAnd result (λ (f : StoreFault). f ≡ fault_of d) → result ≢ Err (unloaded.Damaged damage_is.Memory)
   document-damage d is = other_fault (fault_of d) (unloaded.Damaged damage_is.Memory) is (no_memory d)
 
-  pub fetch-damage : (fault : FetchFault) → IsErrAnd result (λ (f : LoadFault). f ≡ load_fault fault) → result ≢ Err (unloaded.Damaged damage_is.Memory)
-  fetch-damage fault is = other_fault (load_fault fault) (unloaded.Damaged damage_is.Memory) is (no_memory_fetched fault)
+  pub fetch-damage : (fault : FetchFault) → IsErrAnd result (λ (f : StoreFault). f ≡ fetch_fault fault) → result ≢ Err (unloaded.Damaged damage_is.Memory)
+  fetch-damage fault is = other_fault (fetch_fault fault) (unloaded.Damaged damage_is.Memory) is (no_memory_fetched fault)
 
 -- ## A space that takes a pool
 
@@ -158,14 +159,14 @@ fetched_by files one name result result' bytes named ends told =
     (subst (λ (n : Bytes). IfSome files (λ (f : Files). FetchesFile (get f n) most_stored result bytes)) named told)
 
 -- a fetch leaves the files
-kept : {C : Type 0} (D : store_trait.Ghosts C) (store store' : C) → D.held store' ≡ D.held store → D.faults store ≤ D.faults store' → KeepsFiles (shown_store D store) (shown_store D store')
+pub kept : {C : Type 0} (D : store_trait.Ghosts C) (store store' : C) → D.held store' ≡ D.held store → D.faults store ≤ D.faults store' → KeepsFiles (shown_store D store) (shown_store D store')
 kept D store store' e counted = record {
   files = subst (λ (f : Option Files). ChangesFiles (D.held store) f (λ (before now : Files). now ≡ before)) (sym e) (same_files (D.held store));
   counted = counted;
 }
 
 -- what a file makes of a space gets another reply than `! fault`, where what its bytes make of it does
-makes-other : (ByBytes : List ℕ → List ℕ → SpaceView → Type 0) (file : Fetched) (old new : SpaceView) (reply : List ℕ) → ((bytes : Bytes) → ByBytes bytes reply new → reply ≢ refusal_of (codes "fault")) → Makes ByBytes file old reply new → reply ≢ refusal_of (codes "fault")
+makes-other : (ByBytes : List ℕ → List ℕ → SpaceView → Type 0) (file : Fetched (List ℕ)) (old new : SpaceView) (reply : List ℕ) → ((bytes : Bytes) → ByBytes bytes reply new → reply ≢ refusal_of (codes "fault")) → Makes ByBytes file old reply new → reply ≢ refusal_of (codes "fault")
 makes-other ByBytes missing old new reply by keeps = other-reply keeps.reply_is refl
 makes-other ByBytes large old new reply by keeps = other-reply keeps.reply_is refl
 makes-other ByBytes (given bytes) old new reply by makes = by bytes makes
@@ -188,7 +189,7 @@ module _ {command : PlainCommand} {W : Workspace} {name : Bytes} {ByBytes : List
       work = W;
       stands = takes.stands;
       gives = inr (record {
-        may = may_lack command W takes.wants takes.granted;
+        may = inl (may_lack command W takes.wants takes.granted);
         reply_is = refl;
         space = stays;
         store = subst (λ (b : Bool). MatchBool b (KeepsFiles (shown_store D store) (shown_store D store')) (shown_store D store' ≡ shown_store D store)) (sym takes.uses) (kept D store store' same calls.counts.counted);
@@ -211,33 +212,33 @@ module _ {command : PlainCommand} {W : Workspace} {name : Bytes} {ByBytes : List
       (CountsStore-failed fails calls)
 
   -- the file came to this
-  taken_as : {space' : SpaceView} {reply : List ℕ} (file : Fetched) → (failed → ⊥) → IfSome (D.held store) (λ (files : Files). file ≡ fetched (get files name)) → Makes ByBytes file space reply space' → ObeysOn command D space store reply space' store'
+  taken_as : {space' : SpaceView} {reply : List ℕ} (file : Fetched (List ℕ)) → (failed → ⊥) → IfSome (D.held store) (λ (files : Files). file ≡ fetched (get files name)) → Makes ByBytes file space reply space' → ObeysOn command D space store reply space' store'
   taken_as {space'} {reply} file succeeds held makes = took
       (inl (record { store = kept D store store' same calls.counts.counted; file = file; held = held; makes = makes }))
       (CountsStore-succeeded succeeds (makes-other ByBytes file space space' reply (λ bytes by. takes.other bytes reply space' by) makes) calls)
 
   -- the store gave no bytes
   Takes-refused : (fault : FetchFault) (bytes : Bytes) → (fault ≡ fetch.Failed → failed) → (failed → fault ≡ fetch.Failed) → IfSome (D.held store) (λ (files : Files). FetchesFile {A = Unit {0}} (get files name) most_stored (Err fault) bytes) →
-      ObeysOn command D space store (loaded_reply (Err (load_fault fault))) space store'
+      ObeysOn command D space store (stored_reply (Err (fetch_fault fault))) space store'
   Takes-refused fetch.Missing bytes into back told = taken_as missing (λ f. let never = back f in cc) (told_of (D.held store) _ _ (λ files h. is_missing (get files name) h) told) (record { reply_is = refl; same = refl })
   Takes-refused fetch.Large bytes into back told = taken_as large (λ f. let never = back f in cc) (told_of (D.held store) _ _ (λ files h. is_large_file (get files name) h) told) (record { reply_is = refl; same = refl })
   Takes-refused fetch.Failed bytes into back told = Takes-failed (into refl)
   Takes-refused fetch.Memory bytes into back told = Takes-lacks refl (λ f. let never = back f in cc)
 
   -- the store gave the bytes, and the space took them in, or memory ran out
-  pub Takes-given : {space' : SpaceView} (bytes : Bytes) (result : Result (Unit {0}) LoadFault) → (failed → ⊥) → length bytes ≤ most_stored → IfSome (D.held store) (λ (files : Files). get files name ≡ Some bytes) →
-      ByBytes bytes (loaded_reply result) space' ⊎ (result ≡ Err unloaded.Memory) × (space' ≡ space) → ObeysOn command D space store (loaded_reply result) space' store'
+  pub Takes-given : {space' : SpaceView} (bytes : Bytes) (result : Result (Unit {0}) StoreFault) → (failed → ⊥) → length bytes ≤ most_stored → IfSome (D.held store) (λ (files : Files). get files name ≡ Some bytes) →
+      ByBytes bytes (stored_reply result) space' ⊎ (result ≡ Err unloaded.Memory) × (space' ≡ space) → ObeysOn command D space store (stored_reply result) space' store'
   Takes-given {space'} bytes result succeeds few told ends = elim ends [
     | inl makes ↦ taken_as (given bytes) succeeds (told_of (D.held store) _ _ (λ files h. is_given (get files name) bytes h few) told) makes
-    | inr lacks ↦ subst (λ (r : Result (Unit {0}) LoadFault). ObeysOn command D space store (loaded_reply r) space' store') (sym lacks.0) (Takes-lacks lacks.1 succeeds)
+    | inr lacks ↦ subst (λ (r : Result (Unit {0}) StoreFault). ObeysOn command D space store (stored_reply r) space' store') (sym lacks.0) (Takes-lacks lacks.1 succeeds)
   ]
 
 -- how it ends where the fetch was refused
-pub Takes-fault : {command : PlainCommand} {W : Workspace} {ByBytes : List ℕ → List ℕ → SpaceView → Type 0} {C : Type 0} {D : store_trait.Ghosts C} {space : SpaceView} {store store' : C} (name one : Bytes) (result : Result (Unit {0}) FetchFault) (fault : FetchFault) (ended : Result (Unit {0}) LoadFault) (bytes : Bytes) →
+pub Takes-fault : {command : PlainCommand} {W : Workspace} {ByBytes : List ℕ → List ℕ → SpaceView → Type 0} {C : Type 0} {D : store_trait.Ghosts C} {space : SpaceView} {store store' : C} (name one : Bytes) (result : Result (Unit {0}) FetchFault) (fault : FetchFault) (ended : Result (Unit {0}) StoreFault) (bytes : Bytes) →
     TakesFrom command W space name ByBytes → D.held store' ≡ D.held store → Calls D.faults D.steady D.faultless store store' (result ≡ Err fetch.Failed) → one ≡ name →
-    IfSome (D.held store) (λ (files : Files). FetchesFile (get files one) most_stored result bytes) → result ≡ Err fault → ended ≡ Err (load_fault fault) → ObeysOn command D space store (loaded_reply ended) space store'
+    IfSome (D.held store) (λ (files : Files). FetchesFile (get files one) most_stored result bytes) → result ≡ Err fault → ended ≡ Err (fetch_fault fault) → ObeysOn command D space store (stored_reply ended) space store'
 Takes-fault {command} {D = D} {space} {store} {store'} name one result fault ended bytes takes same calls named told is ends =
-    subst (λ (r : Result (Unit {0}) LoadFault). ObeysOn command D space store (loaded_reply r) space store') (sym ends)
+    subst (λ (r : Result (Unit {0}) StoreFault). ObeysOn command D space store (stored_reply r) space store') (sym ends)
     (Takes-refused takes same calls fault bytes (λ failed. is ∙ ap Err failed) (λ failed. let both : Err fault ≡ Err fetch.Failed = sym is ∙ failed in cc)
     (fetched_by (D.held store) one name result (Err fault) bytes named is told))
 
@@ -295,18 +296,18 @@ pieces-short (byte ∷ bytes) =
     ]
 
 -- so a buffer may have the lines of a file
-pub few-lines : (name bytes : Bytes) (lines : List Bytes) → length bytes ≤ most_stored → HasLines bytes (Ok lines) → HasFewLines (fill name lines)
+pub few-lines : (name bytes : Bytes) (lines : List Bytes) → length bytes ≤ most_stored → HasLines bytes (Ok lines) → HasFewLines (edit (fill name lines))
 few-lines name bytes lines small are = omega (arith, ap length are.0, pieces-short bytes, small)
 
 -- the bytes have no lines, or memory ran out
-fills_by : (fault : LinesFault) (name bytes : Bytes) (old : SpaceView) → HasLines bytes (Err fault) → FillsIn name bytes old (Err (read_fault fault)) old
+fills_by : (fault : LinesFault) (name bytes : Bytes) (old : SpaceView) → HasLines bytes (Err fault) → FillsIn name bytes old (Err (lines_fault fault)) old
 fills_by unread.Long name bytes old none W stands = inl (inl (none, record { reply_is = refl; same = refl }))
 fills_by unread.Utf8 name bytes old none W stands = inl (inr (inl (none, record { reply_is = refl; same = refl })))
 fills_by unread.Memory name bytes old none W stands = inr (refl, refl)
 
-pub FillsIn-refused : (fault : LinesFault) (name bytes : Bytes) (old : SpaceView) (result : Result (Unit {0}) LoadFault) → HasLines bytes (Err fault) → IsErrAnd result (λ (f : LoadFault). f ≡ read_fault fault) → FillsIn name bytes old result old
+pub FillsIn-refused : (fault : LinesFault) (name bytes : Bytes) (old : SpaceView) (result : Result (Unit {0}) StoreFault) → HasLines bytes (Err fault) → IsErrAnd result (λ (f : StoreFault). f ≡ lines_fault fault) → FillsIn name bytes old result old
 FillsIn-refused fault name bytes old result none is =
-    subst (λ (r : Result (Unit {0}) LoadFault). FillsIn name bytes old r old) (sym (fault-is result (read_fault fault) is)) (fills_by fault name bytes old none)
+    subst (λ (r : Result (Unit {0}) StoreFault). FillsIn name bytes old r old) (sym (fault-is result (lines_fault fault) is)) (fills_by fault name bytes old none)
 
 -- the buffer has the lines
 pub FillsIn-ok : (name bytes : Bytes) (lines : List Bytes) (old new : SpaceView) (x : Unit {0}) → HasLines bytes (Ok lines) → Ends (edit (fill name lines)) old (Ok x) new → FillsIn name bytes old (Ok tt) new

@@ -13,8 +13,9 @@ use Rattle.elem_core.specs.Naming.{is_name}
 use Rattle.elem_core.specs.declared.TheConstants.{MAX_LINE}
 use Rattle.shell_io.specs.declared.device.Failed.{Failed}
 use Rattle.shell_terms.specs.Edit.{new, add, set, put, del, cat, cut, copy, drop, star, unstar}
-use Rattle.shell_terms.specs.Command.{PlainCommand, edit, mark, unmark, back as back_to, undo, redo, begin, «end», abort, history, get, len, show, list, stars, marks, same as same_lines, eqv, stats, made, read as read_file, write as write_file, save, load, quit}
-use Rattle.shell_words.specs.Grammar.{RestMeaning, is_space, first_piece, after_piece, if_named, the_end, a_name, a_number, the_text, commands, command_of, meaning}
+use Rattle.shell_terms.specs.Command.{PlainCommand, join_stars, common_stars, other_stars, join_buffers, edit, merge, mark, unmark, back as back_to, undo, redo, begin, «end», abort, history, get, len, show, list, stars, marks, same as same_lines, eqv, stats, made, read as read_file, write as write_file, save, load, part, chain, indent, dedent, quit}
+use Rattle.shell_words.specs.Files.{numbered as numbered_file}
+use Rattle.shell_words.specs.Grammar.{RestMeaning, is_space, first_piece, after_piece, if_named, the_end, the_chain_end, a_name, a_number, the_text, commands, command_of, meaning}
 use Rattle.shell_words.specs.Number.{number_of}
 use Rattle.shell_words.proofs.GrammarLemmas.{after_piece-spaced}
 use Rattle.shell_words.specs.declared.BadLine.{BadLine}
@@ -60,6 +61,10 @@ unfolding the_end
 ended command None other e = other (let same = e in cc)
 ended command (Some rest) other e = cc
 
+chain_ended : (file : List ℕ) (number : ℕ) (command : PlainCommand) (rest : Option (List ℕ)) → command ≢ quit → IsOther (the_chain_end file number command rest)
+unfolding the_chain_end
+chain_ended file number command rest other = named (numbered_file file number) (the_end command rest) (ended command rest other)
+
 text_last : (command : List ℕ → PlainCommand) (rest : Option (List ℕ)) → ((t : List ℕ) → command t ≢ quit) → IsOther (the_text command rest)
 unfolding the_text
 text_last command None other e = cc
@@ -100,15 +105,15 @@ at_quit true (Some rest) e = cc
 at_quit false rest e = cc
 
 -- no row of the table but the last reads as to quit
-others : (rest : Option (List ℕ)) → AreOthers (take 34 commands) rest
+others : (rest : Option (List ℕ)) → AreOthers (take 42 commands) rest
 unfolding commands
-others rest = (name_first _ rest (λ b r. ended (edit (new b)) r (λ h. cc)), (name_first _ rest (λ b r. text_last (λ t. edit (add b t)) r (λ t h. cc)), (name_first _ rest (λ b r. number_first _ r (λ i q. text_last (λ t. edit (set b i t)) q (λ t h. cc))), (name_first _ rest (λ b r. number_first _ r (λ i q. text_last (λ t. edit (put b i t)) q (λ t h. cc))), (name_first _ rest (λ b r. number_first _ r (λ i q. number_first _ q (λ j p. ended (edit (del b i j)) p (λ h. cc)))), (name_first _ rest (λ b r. name_first _ r (λ c q. ended (edit (cat b c)) q (λ h. cc))), (name_first _ rest (λ b r. number_first _ r (λ i q. number_first _ q (λ j p. name_first _ p (λ c o. ended (edit (cut b i j c)) o (λ h. cc))))), (name_first _ rest (λ b r. name_first _ r (λ c q. ended (edit (copy b c)) q (λ h. cc))), (name_first _ rest (λ b r. ended (edit (drop b)) r (λ h. cc)), (name_first _ rest (λ b r. ended (edit (star b)) r (λ h. cc)), (name_first _ rest (λ b r. ended (edit (unstar b)) r (λ h. cc)), (name_first _ rest (λ b r. ended (mark b) r (λ h. cc)), (name_first _ rest (λ b r. ended (unmark b) r (λ h. cc)), (name_first _ rest (λ b r. ended (back_to b) r (λ h. cc)), (ended undo rest (λ h. cc), (ended redo rest (λ h. cc), (ended begin rest (λ h. cc), (ended «end» rest (λ h. cc), (ended abort rest (λ h. cc), (number_first _ rest (λ n r. ended (history n) r (λ h. cc)), (name_first _ rest (λ b r. number_first _ r (λ i q. ended (get b i) q (λ h. cc))), (name_first _ rest (λ b r. ended (len b) r (λ h. cc)), (name_first _ rest (λ b r. number_first _ r (λ i q. number_first _ q (λ j p. ended (show b i j) p (λ h. cc)))), (ended list rest (λ h. cc), (ended stars rest (λ h. cc), (ended marks rest (λ h. cc), (name_first _ rest (λ b r. name_first _ r (λ c q. ended (same_lines b c) q (λ h. cc))), (name_first _ rest (λ b r. name_first _ r (λ c q. ended (eqv b c) q (λ h. cc))), (ended stats rest (λ h. cc), (ended made rest (λ h. cc), (name_first _ rest (λ b r. name_first _ r (λ f q. ended (read_file b f) q (λ h. cc))), (name_first _ rest (λ b r. name_first _ r (λ f q. ended (write_file b f) q (λ h. cc))), (name_first _ rest (λ b r. ended (save b) r (λ h. cc)), (name_first _ rest (λ b r. ended (load b) r (λ h. cc)), tt))))))))))))))))))))))))))))))))))
+others rest = (name_first _ rest (λ b r. ended (edit (new b)) r (λ h. cc)), (name_first _ rest (λ b r. text_last (λ t. edit (add b t)) r (λ t h. cc)), (name_first _ rest (λ b r. number_first _ r (λ i q. text_last (λ t. edit (set b i t)) q (λ t h. cc))), (name_first _ rest (λ b r. number_first _ r (λ i q. text_last (λ t. edit (put b i t)) q (λ t h. cc))), (name_first _ rest (λ b r. number_first _ r (λ i q. number_first _ q (λ j p. ended (edit (del b i j)) p (λ h. cc)))), (name_first _ rest (λ b r. name_first _ r (λ c q. ended (edit (cat b c)) q (λ h. cc))), (name_first _ rest (λ b r. number_first _ r (λ i q. number_first _ q (λ j p. name_first _ p (λ c o. ended (edit (cut b i j c)) o (λ h. cc))))), (name_first _ rest (λ b r. name_first _ r (λ c q. ended (edit (copy b c)) q (λ h. cc))), (name_first _ rest (λ b r. ended (edit (drop b)) r (λ h. cc)), (name_first _ rest (λ b r. ended (edit (star b)) r (λ h. cc)), (name_first _ rest (λ b r. ended (edit (unstar b)) r (λ h. cc)), (name_first _ rest (λ b r. ended (merge join_stars b) r (λ h. cc)), (name_first _ rest (λ b r. ended (merge common_stars b) r (λ h. cc)), (name_first _ rest (λ b r. ended (merge other_stars b) r (λ h. cc)), (name_first _ rest (λ b r. ended (merge join_buffers b) r (λ h. cc)), (name_first _ rest (λ b r. ended (mark b) r (λ h. cc)), (name_first _ rest (λ b r. ended (unmark b) r (λ h. cc)), (name_first _ rest (λ b r. ended (back_to b) r (λ h. cc)), (ended undo rest (λ h. cc), (ended redo rest (λ h. cc), (ended begin rest (λ h. cc), (ended «end» rest (λ h. cc), (ended abort rest (λ h. cc), (number_first _ rest (λ n r. ended (history n) r (λ h. cc)), (name_first _ rest (λ b r. number_first _ r (λ i q. ended (get b i) q (λ h. cc))), (name_first _ rest (λ b r. ended (len b) r (λ h. cc)), (name_first _ rest (λ b r. number_first _ r (λ i q. number_first _ q (λ j p. ended (show b i j) p (λ h. cc)))), (ended list rest (λ h. cc), (ended stars rest (λ h. cc), (ended marks rest (λ h. cc), (name_first _ rest (λ b r. name_first _ r (λ c q. ended (same_lines b c) q (λ h. cc))), (name_first _ rest (λ b r. name_first _ r (λ c q. ended (eqv b c) q (λ h. cc))), (ended stats rest (λ h. cc), (ended made rest (λ h. cc), (name_first _ rest (λ b r. name_first _ r (λ f q. ended (read_file b f) q (λ h. cc))), (name_first _ rest (λ b r. name_first _ r (λ f q. ended (write_file b f) q (λ h. cc))), (name_first _ rest (λ b r. ended (save b) r (λ h. cc)), (name_first _ rest (λ b r. ended (load b) r (λ h. cc)), (name_first _ rest (λ b r. number_first _ r (λ k q. chain_ended b k (part b k) q (λ h. cc))), (name_first _ rest (λ b r. number_first _ r (λ k q. chain_ended b k (chain b k) q (λ h. cc))), (number_first _ rest (λ n r. name_first _ r (λ b q. ended (indent n b) q (λ h. cc))), (number_first _ rest (λ n r. name_first _ r (λ b q. ended (dedent n b) q (λ h. cc))), tt))))))))))))))))))))))))))))))))))))))))))
 
 -- the word is `quit`, and nothing follows it
 word_quits : (word : List ℕ) (rest : Option (List ℕ)) → command_of word rest ≡ Ok quit → (word ≡ codes "quit") × (rest ≡ None)
 unfolding command_of commands
 word_quits word rest e =
-    let both = at_quit (bytes_eq word (codes "quit")) rest (past_others (take 34 commands) ((codes "quit", the_end quit) ∷ []) word rest (others rest) e) in
+    let both = at_quit (bytes_eq word (codes "quit")) rest (past_others (take 42 commands) ((codes "quit", the_end quit) ∷ []) word rest (others rest) e) in
     ((bytes_eq-Decides word (codes "quit")).0 both.0, both.1)
 
 -- a line that ends with its first word is that word

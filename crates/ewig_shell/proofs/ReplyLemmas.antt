@@ -3,17 +3,18 @@ use Rattle.std.proofs.Common.{◌≡◌, ◌≢◌, ℕ, ◌+◌, Bool, true, fa
 use Rattle.std.proofs.lemmas.Slice.Eq.{bytes_eq-Decides}
 use Rattle.std.specs.FinMap as map_of
 use Rattle.shell_terms.specs.Edit.{Bytes}
-use Rattle.shell_terms.specs.Command.{PlainCommand, edit, mark, unmark, back, undo, redo, begin, «end», abort, history, get, len, show, list, stars, marks, same as same_lines, eqv, stats, made, read, write, save, load, quit}
+use Rattle.shell_terms.specs.Command.{PlainCommand, edit, merge, mark, unmark, back, undo, redo, begin, «end», abort, history, get, len, show, list, stars, marks, same as same_lines, eqv, stats, made, read, write, save, load, part, chain, indent, dedent, quit}
 use Rattle.shell_words.specs.declared.BadLine.{BadLine}
 use Rattle.shell_words.specs.declared.BadLine.TheVariants as bad
 use Rattle.plain_space.specs.declared.refusal.Refusal.{Refusal}
 use Rattle.plain_space.specs.declared.refusal.Refusal.TheVariants as why
-use Rattle.plain_space.specs.Workspace.{State, Workspace, most, lines_of, version_of, sizes, same_texts, same_state, in_batch, undo_with}
-use Rattle.plain_space.specs.Refusing.{needs, unless, given, room, on_last, outside_batch}
+use Rattle.plain_space.specs.Workspace.{State, Workspace, most, lines_of, version_of, sizes, same_texts, same_state, merged_with, all_lines_pass, in_batch, undo_with}
+use Rattle.plain_space.specs.Refusing.{needs, unless, given, room, has_room_for, on_last, outside_batch}
 use Rattle.plain_space.specs.Edited.{edited}
 use Rattle.plain_space.specs.Answer.{Answer, Told, tells, elsewhere, answer, done, asked, becomes, ok_line, text_line, size_line, equal_line}
 use Rattle.plain_space.specs.Session.{reason_of}
-use Rattle.ewig_shell.specs.Step.{Machine, SaysElsewhere, Gives, Obeys, uses_store, line_reason, reply_of, refusal_of}
+use Rattle.shell_terms.specs.Kinds.{uses_store}
+use Rattle.ewig_shell.specs.Step.{Machine, SaysElsewhere, Gives, Obeys, line_reason, reply_of, refusal_of}
 
 -- the bytes are another reply than `! fault`
 abbrev pub IsOther : List ℕ → Type 0
@@ -105,6 +106,7 @@ module _ (W : Workspace) where
   answer-other : (command : PlainCommand) → IfOk (answer W command) TellsOther
   unfolding answer
   answer-other (edit change) = becoming (edited W.current change)
+  answer-other (merge kind version) = by_given TellsOther (version_of W version) why.Absent _ (λ state. becoming (Ok (merged_with kind W.current state)))
   answer-other (mark version) = outside _ (by_unless TellsOther (is_some (version_of W version)) why.Exists _ refl)
   answer-other (unmark version) = outside _ (by_given TellsOther (version_of W version) why.Absent _ (λ state. refl))
   answer-other (back version) = outside _ (by_given TellsOther (version_of W version) why.Absent _ (λ state. becoming (Ok state)))
@@ -129,6 +131,10 @@ module _ (W : Workspace) where
   answer-other (write name file) = by_given TellsOther (lines_of W.current name) why.Absent _ (λ lines. tt)
   answer-other (save file) = outside _ tt
   answer-other (load file) = outside _ tt
+  answer-other (part file number) = outside _ (by_needs TellsOther (nat_le 1 number && nat_le number 64) why.Range _ tt)
+  answer-other (chain file number) = outside _ (by_needs TellsOther (nat_le 1 number && nat_le number 64) why.Range _ tt)
+  answer-other (indent count file) = outside _ (by_needs TellsOther (nat_le count 80) why.Range _ (by_needs TellsOther (all_lines_pass (has_room_for count) W) why.Limit _ tt))
+  answer-other (dedent count file) = outside _ (by_needs TellsOther (nat_le count 80) why.Range _ tt)
   answer-other quit = refl
 
 -- ## Commands that use no store
@@ -140,6 +146,10 @@ says-other (read name file) old new W reply alone says = absurd (let never : tru
 says-other (write name file) old new W reply alone says = absurd (let never : true ≡ false = alone in cc)
 says-other (save file) old new W reply alone says = absurd (let never : true ≡ false = alone in cc)
 says-other (load file) old new W reply alone says = absurd (let never : true ≡ false = alone in cc)
+says-other (part file number) old new W reply alone says = absurd (let never : true ≡ false = alone in cc)
+says-other (chain file number) old new W reply alone says = absurd (let never : true ≡ false = alone in cc)
+says-other (indent count file) old new W reply alone says = absurd (let never : true ≡ false = alone in cc)
+says-other (dedent count file) old new W reply alone says = absurd (let never : true ≡ false = alone in cc)
 says-other _ old new W reply alone says = absurd says
 
 gives-other : (a : Answer) (command : PlainCommand) (old new : Machine) (W : Workspace) (reply : List ℕ) → uses_store command ≡ false → IfOk a TellsOther → Gives command old W a reply new → reply ≢ refusal_of (codes "fault")

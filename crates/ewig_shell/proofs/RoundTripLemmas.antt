@@ -78,7 +78,7 @@ read-file : (name : Bytes) (old new : Machine) (reply : List ℕ) (files : Files
     → Makes (LoadsBytes old.space) (fetched (Some bytes)) old.space reply new.space
 read-file name old new reply files bytes told there loads =
     let held : loads.file ≡ fetched (get files name) = subst (λ (o : Option Files). IfSome o (λ (f : Files). loads.file ≡ fetched (get f name))) told loads.held in
-    subst (λ (file : Fetched). Makes (LoadsBytes old.space) file old.space reply new.space) (held ∙ ap fetched there) loads.makes
+    subst (λ (file : Fetched (List ℕ)). Makes (LoadsBytes old.space) file old.space reply new.space) (held ∙ ap fetched there) loads.makes
 
 given-ok : (too_large : Bool) (bytes : Bytes) (old new : SpaceView) → Makes (LoadsBytes old) (cond too_large large (given bytes)) old ok_reply new → (too_large ≡ false) × LoadsBytes old bytes ok_reply new
 given-ok true bytes old new keeps = absurd (no-refusal (codes "large") keeps.reply_is)

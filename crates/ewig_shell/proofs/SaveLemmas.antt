@@ -13,7 +13,7 @@ use Rattle.std.specs.declared.vec.Vec.{Vec}
 use Rattle.plain_space.specs.Workspace.{Workspace, lines_of, in_batch}
 use Rattle.plain_space.specs.Refusing.{given, on_lines}
 use Rattle.plain_space.specs.Answer.{answer, elsewhere, ok_line}
-use Rattle.plain_space.specs.Memory.{wants_memory}
+use Rattle.shell_terms.specs.Kinds.{uses_store, wants_memory}
 use Rattle.pool_text.specs.Document.{document, text, value_in}
 use Rattle.pool_text.specs.Length.{capped}
 use Rattle.pool_text.specs.declared.pool.Pool.{Pool}
@@ -29,10 +29,10 @@ use Rattle.shell_io.specs.Storing.{ChangesFiles, KeepsFile, OthersStay}
 use Rattle.shell_io.specs.declared.device.KeepFault.{KeepFault}
 use Rattle.shell_io.specs.declared.device.KeepFault.TheVariants as kept
 use Rattle.shell_io.specs.declared.device.Store as store_trait
-use Rattle.ewig_shell.specs.declared.save.SaveFault.{SaveFault}
-use Rattle.ewig_shell.specs.declared.save.SaveFault.TheVariants as unsaved
-use Rattle.ewig_shell.specs.Saving.{Collects, save_fault}
-use Rattle.ewig_shell.specs.Step.{Machine, KeepsFiles, Refuses, IsStored, FailsToStore, Stores, SaysElsewhere, ObeysOn, CountsStore, shown_store, machine_of, uses_store, most_stored, ended_lines, reply_of, refusal_of, saved_reply}
+use Rattle.ewig_shell.specs.declared.store_fault.StoreFault.{StoreFault}
+use Rattle.ewig_shell.specs.declared.store_fault.StoreFault.TheVariants as unsaved
+use Rattle.ewig_shell.specs.Saving.{Collects, saved_as, CallsKeep, EndsKeeping}
+use Rattle.ewig_shell.specs.Step.{Machine, KeepsFiles, Refuses, IsStored, FailsToStore, Stores, SaysElsewhere, ObeysOn, CountsStore, shown_store, machine_of, most_stored, ended_lines, reply_of, refusal_of, stored_reply}
 use Rattle.pool_text.specs.declared.rules.TheConstants.{MOST_HISTORY}
 use Rattle.elem_core.specs.declared.TheConstants.{NEWLINE}
 use Rattle.std.proofs.lemmas.List.{append-nil, take_all}
@@ -47,13 +47,8 @@ document-is W pool made bytes stands e valid within same is reads =
     subst (λ (w : Bytes). IsDocumentOf pool w) (is ∙ ap text same)
     (valid-document pool bytes (reads ∙ ap (λ (P : Pool). Some (document P)) same) within (four-roots pool W stands e) valid)
 
--- how a space was stored where the store kept its file, or didn't
-abbrev pub saved_as : Result (Unit {0}) KeepFault → Result (Unit {0}) SaveFault
-saved_as (Ok done) = Ok done
-saved_as (Err fault) = Err (save_fault fault)
-
 -- a store was called for bytes that aren't too many
-called : (name bytes : Bytes) (old new : Machine) {reply : List ℕ} → new.space ≡ old.space → length bytes ≤ most_stored → IsStored name bytes old.store reply new.store ⊎ FailsToStore name old.store reply new.store → Stores name bytes old reply new
+pub called : (name bytes : Bytes) (old new : Machine) {reply : List ℕ} → new.space ≡ old.space → length bytes ≤ most_stored → IsStored name bytes old.store reply new.store ⊎ FailsToStore name old.store reply new.store → Stores name bytes old reply new
 called name bytes old new {reply} same few ends = record {
   space = same;
   ends = subst (λ (b : Bool). MatchBool b (Refuses old (codes "large") reply new) (IsStored name bytes old.store reply new.store ⊎ FailsToStore name old.store reply new.store)) (sym (le-ltb most_stored (length bytes) few)) ends;
@@ -68,10 +63,10 @@ pub record StoresAs (command : PlainCommand) (W : Workspace) (space : SpaceView)
   pub says : (old new : Machine) (reply : List ℕ) → old.space ≡ space → Stores name bytes old reply new → (reply ≡ reply_of (ok_line ∷ []) → IsFit) → SaysElsewhere command old W reply new
 
 -- memory ran out before the store was called
-pub Stores-lacks : {command : PlainCommand} (W : Workspace) {C : Type 0} {D : store_trait.Ghosts C} {space : SpaceView} {store : C} (result : Result (Unit {0}) SaveFault) → IsErrAnd result (λ (fault : SaveFault). fault ≡ unsaved.Memory) →
-    StandsFor space.pool W → answer W command ≡ Ok elsewhere → IsTrue (wants_memory command) → ObeysOn command D space store (saved_reply result) space store
+pub Stores-lacks : {command : PlainCommand} (W : Workspace) {C : Type 0} {D : store_trait.Ghosts C} {space : SpaceView} {store : C} (result : Result (Unit {0}) StoreFault) → IsErrAnd result (λ (fault : StoreFault). fault ≡ unsaved.Memory) →
+    StandsFor space.pool W → answer W command ≡ Ok elsewhere → IsTrue (wants_memory command) → ObeysOn command D space store (stored_reply result) space store
 Stores-lacks {command} W {D = D} {store = store} result lacks stands e wants =
-    let is : saved_reply result ≡ refusal_of (codes "memory") = ap saved_reply (fault-is result unsaved.Memory lacks) in
+    let is : stored_reply result ≡ refusal_of (codes "memory") = ap stored_reply (fault-is result unsaved.Memory lacks) in
     record {
       obeys = Obeys-lacks W stands (may_lack command W wants e) is refl (shown_store D store);
       counts = CountsStore-none (other-reply is refl);
@@ -114,7 +109,7 @@ module _ {command : PlainCommand} {W : Workspace} {name bytes : Bytes} {IsFit : 
         work = W;
         stands = stores.stands;
         gives = inr (record {
-          may = may_lack command W stores.wants stores.granted;
+          may = inl (may_lack command W stores.wants stores.granted);
           reply_is = refl;
           space = refl;
           store = subst (λ (b : Bool). MatchBool b (KeepsFiles (shown_store D store) (shown_store D store')) (shown_store D store' ≡ shown_store D store)) (sym stores.uses) (record { files = told; counted = calls.counts.counted });
@@ -125,19 +120,45 @@ module _ {command : PlainCommand} {W : Workspace} {name bytes : Bytes} {IsFit : 
 
   -- one of the three
   by_kept : {store store' : C} (result : Result (Unit {0}) KeepFault) → length bytes ≤ most_stored → IsFit →
-      ChangesFiles (D.held store) (D.held store') (λ (before now : Files). KeepsFile before now name bytes result) → Calls D.faults D.steady D.faultless store store' (result ≡ Err kept.Failed) → ObeysOn command D space store (saved_reply (saved_as result)) space store'
+      ChangesFiles (D.held store) (D.held store') (λ (before now : Files). KeepsFile before now name bytes result) → Calls D.faults D.steady D.faultless store store' (result ≡ Err kept.Failed) → ObeysOn command D space store (stored_reply (saved_as result)) space store'
   by_kept (Ok done) few fit told calls = stored few calls fit told (λ q. cc)
   by_kept (Err kept.Failed) few fit told calls = failed_to few calls told refl
   by_kept (Err kept.Memory) few fit told calls = lacked few calls told (λ q. cc)
 
   -- the bytes were handed to the store
-  pub Stores-kept : {store store' : C} (slice given : Bytes) (result : Result (Unit {0}) KeepFault) (ended : Result (Unit {0}) SaveFault) → length bytes ≤ most_stored → IsFit → slice ≡ bytes → given ≡ name →
-      ChangesFiles (D.held store) (D.held store') (λ (before now : Files). KeepsFile before now given slice result) → Calls D.faults D.steady D.faultless store store' (result ≡ Err kept.Failed) → saved_as result ≡ ended → ObeysOn command D space store (saved_reply ended) space store'
+  pub Stores-kept : {store store' : C} (slice given : Bytes) (result : Result (Unit {0}) KeepFault) (ended : Result (Unit {0}) StoreFault) → length bytes ≤ most_stored → IsFit → slice ≡ bytes → given ≡ name →
+      ChangesFiles (D.held store) (D.held store') (λ (before now : Files). KeepsFile before now given slice result) → Calls D.faults D.steady D.faultless store store' (result ≡ Err kept.Failed) → saved_as result ≡ ended → ObeysOn command D space store (stored_reply ended) space store'
   Stores-kept {store} {store'} slice given result ended few fit slice_is named told calls ends =
-      subst (λ (r : Result (Unit {0}) SaveFault). ObeysOn command D space store (saved_reply r) space store') ends
+      subst (λ (r : Result (Unit {0}) StoreFault). ObeysOn command D space store (stored_reply r) space store') ends
       (by_kept result few fit
       (subst (λ (n : Bytes). ChangesFiles (D.held store) (D.held store') (λ (before now : Files). KeepsFile before now n bytes result)) named
       (subst (λ (w : Bytes). ChangesFiles (D.held store) (D.held store') (λ (before now : Files). KeepsFile before now given w result)) slice_is told)) calls)
+
+-- a call of the store for these bytes
+pub CallsKeep-of : {name bytes : Bytes} {C : Type 0} {D : store_trait.Ghosts C} {store store' : C} (slice given : Bytes) (result : Result (Unit {0}) KeepFault) (ended : Result (Unit {0}) StoreFault) → length bytes ≤ most_stored → slice ≡ bytes → given ≡ name →
+    ChangesFiles (D.held store) (D.held store') (λ (before now : Files). KeepsFile before now given slice result) → Calls D.faults D.steady D.faultless store store' (result ≡ Err kept.Failed) → saved_as result ≡ ended → CallsKeep name bytes D store store' ended
+CallsKeep-of {name} {bytes} {D = D} {store} {store'} slice given result ended few slice_is named told calls ends = record {
+  few = few;
+  kept_as = result;
+  ends = ends;
+  told = subst (λ (n : Bytes). ChangesFiles (D.held store) (D.held store') (λ (before now : Files). KeepsFile before now n bytes result)) named
+      (subst (λ (w : Bytes). ChangesFiles (D.held store) (D.held store') (λ (before now : Files). KeepsFile before now given w result)) slice_is told);
+  calls = calls;
+}
+
+-- a command that stores the bytes ended as these were kept
+pub Stores-ended : {command : PlainCommand} {W : Workspace} {name bytes : Bytes} {IsFit : Type 0} {C : Type 0} {D : store_trait.Ghosts C} {space : SpaceView} {store store' : C} (result : Result (Unit {0}) StoreFault) →
+    StoresAs command W space name bytes IsFit → IsFit → EndsKeeping name bytes D store store' result → ObeysOn command D space store (stored_reply result) space store'
+Stores-ended {command} {W} {name} {bytes} {IsFit} {C} {D} {space} {store} {store'} result stores fit ends = elim ends [
+  | inl lacks ↦ subst (λ (s : C). ObeysOn command D space store (stored_reply result) space s) (sym lacks.1)
+      (subst (λ (r : Result (Unit {0}) StoreFault). ObeysOn command D space store (stored_reply r) space store) (sym lacks.0)
+      (Stores-lacks W (Err unsaved.Memory) refl stores.stands stores.granted stores.wants))
+  | inr more ↦ elim more [
+    | inl large ↦ subst (λ (s : C). ObeysOn command D space store (stored_reply result) space s) (sym large.2)
+        (subst (λ (r : Result (Unit {0}) StoreFault). ObeysOn command D space store (stored_reply r) space store) (sym large.0) (Stores-large stores large.1))
+    | inr called ↦ Stores-kept stores bytes name called.kept_as result called.few fit refl refl called.told called.calls called.ends
+  ]
+]
 
 -- ## A save
 
@@ -248,12 +269,12 @@ shown-again P V W U name IsPast count one other first second third counted part 
     a.2 ∙ same_Some a.0 b.0 (sym a.1 ∙ b.1) ∙ sym b.2
 
 -- what was collected
-pub collected-are : {A : Type 0} (lines : List Bytes) (result : Result (Vec ℕ A) SaveFault) (bytes : Vec ℕ A) → Collects lines result → result ≡ Ok bytes → bytes.items ≡ ended_lines lines
-collected-are {A} lines result bytes collects is = subst (λ (r : Result (Vec ℕ A) SaveFault). Collects lines r) is collects
+pub collected-are : {A : Type 0} (lines : List Bytes) (result : Result (Vec ℕ A) StoreFault) (bytes : Vec ℕ A) → Collects lines result → result ≡ Ok bytes → bytes.items ≡ ended_lines lines
+collected-are {A} lines result bytes collects is = subst (λ (r : Result (Vec ℕ A) StoreFault). Collects lines r) is collects
 
 -- or memory ran out
-pub collected-lacks : {A : Type 0} (lines : List Bytes) (result : Result (Vec ℕ A) SaveFault) (fault : SaveFault) → Collects lines result → result ≡ Err fault → fault ≡ unsaved.Memory
-collected-lacks {A} lines result fault collects is = subst (λ (r : Result (Vec ℕ A) SaveFault). Collects lines r) is collects
+pub collected-lacks : {A : Type 0} (lines : List Bytes) (result : Result (Vec ℕ A) StoreFault) (fault : StoreFault) → Collects lines result → result ≡ Err fault → fault ≡ unsaved.Memory
+collected-lacks {A} lines result fault collects is = subst (λ (r : Result (Vec ℕ A) StoreFault). Collects lines r) is collects
 
 -- ## Lines that are collected
 

@@ -1,5 +1,5 @@
 -- What shows that a command was obeyed.
-use Rattle.std.proofs.Common.{◌≡◌, ◌≢◌, ◌↔◌, ℕ, ◌&&◌, nat_le, List, [], ◌∷◌, ◌++◌, length, map, sym, ap, ◌∙◌, subst, refl, arith, codes, Bool, true, false, inl, inr, Ok, Err, None, Some, MatchBool, MatchOption, ◌<◌, ◌≤◌, IsSomeAnd, IsOk, IsTrue, IsErrAnd, slice_get, slice_range}
+use Rattle.std.proofs.Common.{◌≡◌, ◌≢◌, ◌↔◌, ℕ, ◌+◌, ◌&&◌, nat_le, List, [], ◌∷◌, ◌++◌, length, map, sym, ap, ◌∙◌, subst, refl, arith, codes, Bool, true, false, inl, inr, Ok, Err, None, Some, MatchBool, MatchOption, ◌<◌, ◌≤◌, IsSomeAnd, IsOk, IsTrue, IsErrAnd, slice_get, slice_range}
 use Rattle.std.proofs.lemmas.Bool.{le-ltb, lt-ltb, le-leb, leb-true}
 use Rattle.std.proofs.lemmas.Option.{slice_get_past}
 use Rattle.std.specs.Bool.{Decides}
@@ -9,7 +9,7 @@ use Rattle.std.specs.declared.option.Option.{Option}
 use Rattle.std.specs.declared.result.Result.{Result}
 use Rattle.elem_core.specs.declared.TheConstants.{MAX_LINE}
 use Rattle.shell_terms.specs.Edit.{Bytes}
-use Rattle.shell_terms.specs.Command.{PlainCommand, edit, mark, unmark, back, undo, redo, begin, «end», abort, history, get, len, show, list, stars, marks, same as same_lines, eqv, stats, made, read as read_file, write as write_file, save, load, quit}
+use Rattle.shell_terms.specs.Command.{PlainCommand, edit, merge, mark, unmark, back, undo, redo, begin, «end», abort, history, get, len, show, list, stars, marks, same as same_lines, eqv, stats, made, read as read_file, write as write_file, save, load, part, chain, indent, dedent, quit}
 use Rattle.shell_words.specs.Grammar.{meaning}
 use Rattle.shell_words.specs.declared.BadLine.{BadLine}
 use Rattle.plain_space.specs.declared.refusal.Refusal.{Refusal}
@@ -18,7 +18,8 @@ use Rattle.plain_space.specs.Workspace.{Workspace, lines_of, version_of, sizes, 
 use Rattle.plain_space.specs.Refusing.{given, unless}
 use Rattle.plain_space.proofs.Equality.{same_texts-Decides, same_state-Decides}
 use Rattle.plain_space.specs.Answer.{Answer, tells, elsewhere, answer, asked, ok_line, text_line, number_line, size_line, equal_line}
-use Rattle.plain_space.specs.Memory.{MayLackMemory, wants_memory}
+use Rattle.shell_terms.specs.Kinds.{only_asks, uses_store, wants_memory}
+use Rattle.plain_space.specs.Memory.{MayLackMemory}
 use Rattle.plain_space.specs.Session.{reason_of}
 use Rattle.state_rows.specs.Standing.{StandsFor}
 use Rattle.space_state.specs.Asked.{OnLines, AreEqual}
@@ -27,6 +28,9 @@ use Rattle.space_state.specs.Turns.{IsDue}
 use Rattle.shell_words.specs.Shown.{plain_command}
 use Rattle.shell_words.specs.declared.Command.{Command}
 use Rattle.pool_text.specs.Pool.{row_count}
+use Rattle.pool_text.specs.declared.pool.Pool.{Pool}
+use Rattle.pool_delta.specs.Chains.{chain_damage, chain_in}
+use Rattle.shell_words.specs.Files.{numbered as numbered_file}
 use Rattle.pool_text.specs.declared.damage.Damage.{Damage}
 use Rattle.pool_check.specs.Damages.{document_damage}
 use Rattle.shell_io.specs.Fault.{Calls}
@@ -38,7 +42,7 @@ use Rattle.shell_io.specs.declared.device.Failed.{Failed}
 use Rattle.shell_io.specs.declared.device.Sink as sink_trait
 use Rattle.shell_io.specs.declared.device.Store as store_trait
 use Rattle.ewig_shell.specs.Sending.{Replies}
-use Rattle.ewig_shell.specs.Step.{StoreView, Machine, KeepsFiles, Refuses, Fetched, missing, large, given as given_bytes, IsLoaded, LoadsBytes, ReadsBytes, Makes, Takes, Stores, ended_lines, damage_word, Step, Means, SaysElsewhere, Gives, Obeys, ObeysAlone, ObeysOn, StepsOn, CountsStore, shown_store, machine_of, uses_store, only_asks, reply_of, refusal_of, done_reply, equality_reply}
+use Rattle.ewig_shell.specs.Step.{StoreView, Machine, KeepsFiles, Refuses, Fetched, missing, large, given as given_bytes, IsLoaded, LoadsBytes, ReadsBytes, ByChain, ChainsFiles, StoresPart, LoadsChain, chain_names, Makes, Takes, TakesAll, Stores, ended_lines, damage_word, Step, Means, SaysElsewhere, Gives, MayLack, Obeys, ObeysAlone, ObeysOn, StepsOn, CountsStore, shown_store, machine_of, reply_of, refusal_of, done_reply, equality_reply}
 use Rattle.ewig_shell.proofs.ReplyLemmas.{other-reply, obeys-other, refusal-other}
 
 -- the files stay where the store does
@@ -75,12 +79,15 @@ module _ {command : PlainCommand} {old : SpaceView} (W : Workspace) where
   }
 
   -- memory was refused to it
-  pub Obeys-lacks : {new : SpaceView} {reply : List ℕ} → StandsFor old.pool W → MayLackMemory W command → reply ≡ refusal_of (codes "memory") → new ≡ old → ObeysAlone command old reply new
-  Obeys-lacks stands may is same = λ store. record {
+  pub Obeys-lacks_so : {new : SpaceView} {reply : List ℕ} → StandsFor old.pool W → MayLack W command → reply ≡ refusal_of (codes "memory") → new ≡ old → ObeysAlone command old reply new
+  Obeys-lacks_so stands may is same = λ store. record {
     work = W;
     stands = stands;
     gives = inr (record { may = may; reply_is = is; space = same; store = store_stays (uses_store command) store });
   }
+
+  pub Obeys-lacks : {new : SpaceView} {reply : List ℕ} → StandsFor old.pool W → MayLackMemory W command → reply ≡ refusal_of (codes "memory") → new ≡ old → ObeysAlone command old reply new
+  Obeys-lacks stands may is same = Obeys-lacks_so stands (inl may) is same
 
   -- a refusal that is due
   due : (reason : Refusal) {new : SpaceView} → StandsFor old.pool W → IsDue W command reason → new ≡ old → ObeysAlone command old (refusal_of (reason_of reason)) new
@@ -289,17 +296,38 @@ bits_read W name bytes old new reply reads = elim reads [
   | inr more ↦ elim more [ inl other ↦ bits_same other.1.same | inr is ↦ is.filled.bits ]
 ]
 
--- and so where each file whose bytes are given keeps them
-bits_made : (ByBytes : List ℕ → List ℕ → SpaceView → Type 0) (file : Fetched) (old new : SpaceView) (reply : List ℕ) → ((bytes : Bytes) → ByBytes bytes reply new → new.pool.bits ≡ old.pool.bits) →
-    Makes ByBytes file old reply new → new.pool.bits ≡ old.pool.bits
-bits_made ByBytes missing old new reply by keeps = bits_same keeps.same
-bits_made ByBytes large old new reply by keeps = bits_same keeps.same
-bits_made ByBytes (given_bytes bytes) old new reply by makes = by bytes makes
+-- what holds of each refusal, and of what is made of the bytes that are given
+made_by : {X S : Type 0} (ByBytes : X → List ℕ → S → Type 0) (found : Fetched X) (old new : S) (reply : List ℕ) (P : Type 0) → ((reason : List ℕ) → Refuses old reason reply new → P) → ((bytes : X) → ByBytes bytes reply new → P) → Makes ByBytes found old reply new → P
+made_by ByBytes missing old new reply P refused by makes = refused (codes "missing") makes
+made_by ByBytes large old new reply P refused by makes = refused (codes "large") makes
+made_by ByBytes (given_bytes bytes) old new reply P refused by makes = by bytes makes
 
 bits_taken : (name : Bytes) (ByBytes : List ℕ → List ℕ → SpaceView → Type 0) (old new : Machine) (reply : List ℕ) → ((bytes : Bytes) → ByBytes bytes reply new.space → new.space.pool.bits ≡ old.space.pool.bits) →
     Takes name old reply new ByBytes → new.space.pool.bits ≡ old.space.pool.bits
 bits_taken name ByBytes old new reply by takes = elim takes [
-  | inl file ↦ bits_made ByBytes file.file old.space new.space reply by file.makes
+  | inl file ↦ made_by ByBytes file.file old.space new.space reply (new.space.pool.bits ≡ old.space.pool.bits) (λ reason keeps. bits_same keeps.same) by file.makes
+  | inr fails ↦ bits_same fails.space.same
+]
+
+-- what holds of each chain, and of each damage
+chain_by : (found : Option Damage) (there : Option Pool) (ByPool : Pool → Type 0) (ByDamage : Damage → Type 0) (P : Type 0) → ((C : Pool) → ByPool C → P) → ((d : Damage) → ByDamage d → P) → MatchOption found (IsSomeAnd there ByPool) ByDamage → P
+chain_by None None ByPool ByDamage P by damaged h = absurd h
+chain_by None (Some C) ByPool ByDamage P by damaged h = by C h
+chain_by (Some d) there ByPool ByDamage P by damaged h = damaged d h
+
+pub by_chain : (bits : ℕ) (files : List Bytes) (ByPool : Pool → Type 0) (ByDamage : Damage → Type 0) (P : Type 0) → ((C : Pool) → ByPool C → P) → ((d : Damage) → ByDamage d → P) → ByChain bits files ByPool ByDamage → P
+by_chain bits [] ByPool ByDamage P by damaged h = absurd h
+by_chain bits (first ∷ more) ByPool ByDamage P by damaged h = chain_by (chain_damage bits first more) (chain_in first more) ByPool ByDamage P by damaged h
+
+bits_chained : (names : List Bytes) (ByPool : Pool → Machine → List ℕ → Machine → Type 0) (old new : Machine) (reply : List ℕ) → ((C : Pool) (mid : StoreView) → ByPool C (beside old.space mid) reply new → new.space.pool.bits ≡ old.space.pool.bits) →
+    TakesAll names old reply new (ChainsFiles ByPool) → new.space.pool.bits ≡ old.space.pool.bits
+bits_chained names ByPool old new reply by takes = elim takes [
+  | inl all ↦
+      let mid = beside old.space all.mid in
+      made_by (λ files. ChainsFiles ByPool files mid) all.files mid new reply (new.space.pool.bits ≡ old.space.pool.bits) (λ reason keeps. ap (λ (m : Machine). m.space.pool.bits) keeps.same)
+      (λ files chains. by_chain old.space.pool.bits files (λ C. ByPool C mid reply new) (λ d. Refuses mid (codes "damaged " ++ damage_word d) reply new) (new.space.pool.bits ≡ old.space.pool.bits)
+      (λ C done. by C all.mid done) (λ d keeps. ap (λ (m : Machine). m.space.pool.bits) keeps.same) chains)
+      all.makes
   | inr fails ↦ bits_same fails.space.same
 ]
 
@@ -310,6 +338,11 @@ bits_elsewhere (read_file name file) old new W reply says = bits_taken file (Rea
 bits_elsewhere (write_file name file) old new W reply says = let there = some_lines (lines_of W.current name) (λ (lines : List Bytes). Stores file (ended_lines lines) old reply new) says in bits_same there.2.space
 bits_elsewhere (save file) old new W reply says = bits_same says.stores.space
 bits_elsewhere (load file) old new W reply says = bits_taken file (LoadsBytes old.space) old new reply (λ bytes loads. bits_loaded (document_damage old.space.pool.bits bytes) bytes old.space new.space reply loads) says
+bits_elsewhere (part file number) old new W reply says = bits_chained (chain_names file number) (StoresPart (numbered_file file number)) old new reply (λ C mid stores. bits_same stores.stores.space) says
+bits_elsewhere (chain file number) old new W reply says = bits_chained (chain_names file (number + 1)) LoadsChain old new reply (λ C mid loads. loads.1.bits) says
+bits_elsewhere (indent count file) old new W reply says = bits_same says.space
+bits_elsewhere (dedent count file) old new W reply says = bits_same says.space
+bits_elsewhere (merge kind version) old new W reply says = absurd says
 bits_elsewhere (edit change) old new W reply says = absurd says
 bits_elsewhere (mark version) old new W reply says = absurd says
 bits_elsewhere (unmark version) old new W reply says = absurd says

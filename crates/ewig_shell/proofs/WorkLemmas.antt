@@ -7,8 +7,8 @@ use Rattle.std.proofs.lemmas.Bool.{eqb-false}
 use Rattle.std.proofs.lemmas.List.{append-nil, get_or_default}
 use Rattle.std.proofs.lemmas.List.Sums.{fails_before_first, sum_by-append}
 use Rattle.elem_core.specs.declared.TheConstants.{NEWLINE}
-use Rattle.shell_terms.specs.Command.{PlainCommand, edit, mark, unmark, back, undo, redo, begin, «end», abort, history}
-use Rattle.shell_terms.specs.Changing.{only_changes}
+use Rattle.shell_terms.specs.Command.{PlainCommand}
+use Rattle.shell_terms.specs.Kinds.{CommandKind, changes as changes_kind, batches as batches_kind, kind_of, is_changing, is_asking, is_storing, only_changes, only_asks, uses_store}
 use Rattle.plain_space.specs.declared.refusal.Refusal.{Refusal}
 use Rattle.plain_space.specs.declared.refusal.Refusal.TheVariants as why
 use Rattle.plain_space.specs.Answer.{ok_line}
@@ -24,38 +24,28 @@ use Rattle.ewig_shell.specs.declared.work.Tally.{Tally}
 use Rattle.plain_space.specs.Workspace.{sizes}
 use Rattle.ewig_shell.specs.declared.work.Summary.{Summary}
 use Rattle.ewig_shell.specs.Work.{SumsUp, summary, is_refusal, ok_count, refused_count, Works, IsSummary, StepsBeside, ChangesBy, StepsAlone, CountsOne, Counts}
-use Rattle.ewig_shell.specs.Step.{StepsOn, only_asks, uses_store, done_reply, shown_store, machine_of}
+use Rattle.ewig_shell.specs.Step.{StepsOn, done_reply, shown_store, machine_of}
 use Rattle.ewig_shell.proofs.ReplyLemmas.{obeys-other}
 use Rattle.ewig_shell.proofs.StepLemmas.{Obeys-ends, Step-line, CountsStore-none}
 
 -- ## Beside a store
 
 -- what only changes a space asks nothing, and uses no store
+kind-asks : (kind : CommandKind) → IsTrue (is_changing kind) → is_asking kind ≡ false
+kind-asks changes_kind e = refl
+kind-asks batches_kind e = refl
+kind-asks _ e = absurd (let never = e in cc)
+
+kind-alone : (kind : CommandKind) → IsTrue (is_changing kind) → is_storing kind ≡ false
+kind-alone changes_kind e = refl
+kind-alone batches_kind e = refl
+kind-alone _ e = absurd (let never = e in cc)
+
 pub changes-asks : (command : PlainCommand) → IsTrue (only_changes command) → only_asks command ≡ false
-changes-asks (edit change) e = refl
-changes-asks (mark version) e = refl
-changes-asks (unmark version) e = refl
-changes-asks (back version) e = refl
-changes-asks undo e = refl
-changes-asks redo e = refl
-changes-asks begin e = refl
-changes-asks «end» e = refl
-changes-asks abort e = refl
-changes-asks (history count) e = refl
-changes-asks _ e = absurd (let never = e in cc)
+changes-asks command e = kind-asks (kind_of command) e
 
 pub changes-alone : (command : PlainCommand) → IsTrue (only_changes command) → uses_store command ≡ false
-changes-alone (edit change) e = refl
-changes-alone (mark version) e = refl
-changes-alone (unmark version) e = refl
-changes-alone (back version) e = refl
-changes-alone undo e = refl
-changes-alone redo e = refl
-changes-alone begin e = refl
-changes-alone «end» e = refl
-changes-alone abort e = refl
-changes-alone (history count) e = refl
-changes-alone _ e = absurd (let never = e in cc)
+changes-alone command e = kind-alone (kind_of command) e
 
 module _ {C : Type 0} (D : store_trait.Ghosts C) (store : C) where
   -- a line that changes a space leaves the store beside it

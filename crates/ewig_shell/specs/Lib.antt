@@ -1,4 +1,5 @@
 pub mod Quits
+pub mod Faults
 pub mod Step
 pub mod Sending
 pub mod Work
@@ -6,5 +7,6 @@ pub mod Run
 pub mod Going
 pub mod Saving
 pub mod Loading
+pub mod Chaining
 pub mod RoundTrip
 pub mod Stands

@@ -1,10 +1,12 @@
 -- What one piece of the input makes of a space and a store, and the reply that it gets.
-use Rattle.std.specs.Prelude.{◌≡◌, ℕ, ◌+◌, ◌-◌, ◌*◌, ◌^◌, ◌≤◌, min, Bool, true, false, nat_lt, List, [], ◌∷◌, ◌++◌, length, codes, Result, Ok, Err, Option, Some, None, IfSome, IsSomeAnd, MatchBool, MatchOption, if◌then◌else◌, ◌⊎◌, ◌==◌}
+use Rattle.std.specs.Prelude.{◌≡◌, ℕ, zero, suc, ◌+◌, ◌-◌, ◌*◌, ◌^◌, ◌≤◌, min, Bool, nat_lt, List, [], ◌∷◌, ◌++◌, length, codes, Result, Ok, Err, Option, Some, None, IfSome, IsSomeAnd, IsTrue, MatchBool, MatchOption, if◌then◌else◌, ◌⊎◌, ◌==◌}
 use Rattle.std.specs.FinMap.{insert, get as get_file}
 use Rattle.std.specs.List.{flat_map}
 use Rattle.elem_core.specs.declared.TheConstants.{MAX_LINE, NEWLINE}
 use Rattle.shell_terms.specs.Edit.{Bytes, fill}
-use Rattle.shell_terms.specs.Command.{PlainCommand, edit, get, len, show, list, stars, marks, same, eqv, stats, made, read, write, save, load, quit}
+use Rattle.shell_terms.specs.Command.{PlainCommand, edit, stats, made, read, write, save, load, part, chain, indent, dedent}
+use Rattle.shell_terms.specs.Kinds.{only_asks, uses_store}
+use Rattle.shell_words.specs.Files.{numbered}
 use Rattle.shell_words.specs.Grammar.{meaning}
 use Rattle.shell_words.specs.declared.BadLine.{BadLine}
 use Rattle.shell_words.specs.declared.BadLine.TheVariants as bad
@@ -15,13 +17,14 @@ use Rattle.shell_io.specs.declared.lines.LinesFault.TheVariants as unread
 use Rattle.shell_io.specs.Storing.{ChangesFiles, OthersStay}
 use Rattle.shell_io.specs.declared.device.Store as store_trait
 use Rattle.plain_space.specs.declared.refusal.Refusal.{Refusal}
+use Rattle.plain_space.specs.declared.refusal.Refusal.TheVariants.{Limit}
 use Rattle.plain_space.specs.Workspace.{Workspace, lines_of}
 use Rattle.plain_space.specs.Answer.{Answer, tells, elsewhere, answer, ok_line, number_line, equal_line}
 use Rattle.plain_space.specs.Memory.{MayLackMemory}
 use Rattle.plain_space.specs.Session.{reason_of}
 use Rattle.pool_text.specs.Rules.{present_rules}
 use Rattle.pool_text.specs.Pool.{row_count, at_present_version}
-use Rattle.pool_text.specs.Document.{text, pool_in_bytes}
+use Rattle.pool_text.specs.Document.{text, value_in, pool_in_bytes}
 use Rattle.pool_text.specs.declared.pool.Pool.{Pool}
 use Rattle.pool_text.specs.declared.rules.TheConstants.{FIRST_VERSION}
 use Rattle.pool_text.specs.declared.damage.Damage.{Damage}
@@ -29,12 +32,15 @@ use Rattle.pool_text.specs.declared.damage.Damage.TheVariants as damage
 use Rattle.pool_check.specs.Damages.{document_damage, IsValid}
 use Rattle.pool_check.specs.Laws.{IsDocumentOf}
 use Rattle.pool_carry.specs.Carried.{IsCarried}
+use Rattle.pool_delta.specs.Parts.{part_document, part_text}
+use Rattle.pool_delta.specs.Chains.{chain_damage, chain_in, chain_pool}
+use Rattle.pool_delta.specs.Delta.{delta}
+use Rattle.pool_map.specs.Spaces.{indented, dedented}
+use Rattle.pool_map.specs.Mapped.{mapped}
 use Rattle.state_rows.specs.Standing.{StandsFor}
 use Rattle.space_state.specs.View.{SpaceView, CarriesOut}
-use Rattle.ewig_shell.specs.declared.load.LoadFault.{LoadFault}
-use Rattle.ewig_shell.specs.declared.load.LoadFault.TheVariants as unloaded
-use Rattle.ewig_shell.specs.declared.save.SaveFault.{SaveFault}
-use Rattle.ewig_shell.specs.declared.save.SaveFault.TheVariants as unsaved
+use Rattle.ewig_shell.specs.declared.store_fault.StoreFault.{StoreFault}
+use Rattle.ewig_shell.specs.declared.store_fault.StoreFault.TheVariants as fault
 
 -- What a step goes by of a store: its files, where they are told, and how often its calls have failed.
 pub record StoreView : Type 0 where
@@ -72,15 +78,6 @@ abbrev pub equality_reply : Result Bool Refusal → List ℕ
 equality_reply (Ok equal) = reply_of (equal_line equal ∷ [])
 equality_reply (Err reason) = refusal_of (reason_of reason)
 
--- The reply to `save` and to `write`.
-abbrev pub saved_reply : Result (Unit {0}) SaveFault → List ℕ
-saved_reply (Ok done) = reply_of (ok_line ∷ [])
-saved_reply (Err unsaved.Batch) = refusal_of (codes "batch")
-saved_reply (Err unsaved.Absent) = refusal_of (codes "none")
-saved_reply (Err unsaved.Large) = refusal_of (codes "large")
-saved_reply (Err unsaved.Failed) = refusal_of (codes "fault")
-saved_reply (Err unsaved.Memory) = refusal_of (codes "memory")
-
 -- The word for the first test that a document fails.
 abbrev pub damage_word : Damage → List ℕ
 damage_word damage.Json = codes "json"
@@ -96,17 +93,20 @@ damage_word damage.Kind = codes "kind"
 damage_word damage.Order = codes "order"
 damage_word damage.Memory = codes "memory"
 
--- The reply to `load` and to `read`.
-abbrev pub loaded_reply : Result (Unit {0}) LoadFault → List ℕ
-loaded_reply (Ok done) = reply_of (ok_line ∷ [])
-loaded_reply (Err unloaded.Batch) = refusal_of (codes "batch")
-loaded_reply (Err unloaded.Missing) = refusal_of (codes "missing")
-loaded_reply (Err unloaded.Large) = refusal_of (codes "large")
-loaded_reply (Err unloaded.Failed) = refusal_of (codes "fault")
-loaded_reply (Err (unloaded.Damaged d)) = refusal_of (codes "damaged " ++ damage_word d)
-loaded_reply (Err unloaded.Long) = refusal_of (codes "long")
-loaded_reply (Err unloaded.Utf8) = refusal_of (codes "utf8")
-loaded_reply (Err unloaded.Memory) = refusal_of (codes "memory")
+-- The reply to a command that uses the store.
+abbrev pub stored_reply : Result (Unit {0}) StoreFault → List ℕ
+stored_reply (Ok done) = reply_of (ok_line ∷ [])
+stored_reply (Err fault.Batch) = refusal_of (codes "batch")
+stored_reply (Err fault.Absent) = refusal_of (codes "none")
+stored_reply (Err fault.Range) = refusal_of (codes "range")
+stored_reply (Err fault.Limit) = refusal_of (codes "limit")
+stored_reply (Err fault.Missing) = refusal_of (codes "missing")
+stored_reply (Err fault.Large) = refusal_of (codes "large")
+stored_reply (Err fault.Failed) = refusal_of (codes "fault")
+stored_reply (Err (fault.Damaged d)) = refusal_of (codes "damaged " ++ damage_word d)
+stored_reply (Err fault.Long) = refusal_of (codes "long")
+stored_reply (Err fault.Utf8) = refusal_of (codes "utf8")
+stored_reply (Err fault.Memory) = refusal_of (codes "memory")
 
 -- The reply is this refusal, and what it was sent for stays: a machine, or the space alone.
 pub record Refuses {S : Type 0} (old : S) (reason reply : List ℕ) (new : S) : Type 0 where
@@ -118,19 +118,6 @@ abbrev pub line_reason : BadLine → List ℕ
 line_reason bad.Utf8 = codes "utf8"
 line_reason bad.Command = codes "command"
 line_reason bad.Name = codes "name"
-
--- Whether the command only asks.
-abbrev pub only_asks : PlainCommand → Bool
-only_asks (get name index) = true
-only_asks (len name) = true
-only_asks (show name from to) = true
-only_asks list = true
-only_asks stars = true
-only_asks marks = true
-only_asks (same name other) = true
-only_asks (eqv version other) = true
-only_asks quit = true
-only_asks _ = false
 
 -- ## Files
 
@@ -180,19 +167,19 @@ Writes work name file old reply new =
 
 -- ### What is taken from a file
 
--- What a file is to a command that takes its bytes: nothing, too many bytes, or these bytes.
-pub data Fetched : Type 0 where
-  missing : Fetched
-  large : Fetched
-  given : (bytes : List ℕ) → Fetched
+-- What a file, or several files, are to a command that takes their bytes: missing, too many bytes, or these.
+pub data Fetched (X : Type 0) : Type 0 where
+  missing : Fetched X
+  large : Fetched X
+  given : (bytes : X) → Fetched X
 
 -- The same of the file that is held.
-abbrev pub fetched : Option (List ℕ) → Fetched
+abbrev pub fetched : Option (List ℕ) → Fetched (List ℕ)
 fetched None = missing
 fetched (Some bytes) = if is_large bytes then large else given bytes
 
--- What a file makes of a space, by what its bytes make of it.
-abbrev pub Makes : (ByBytes : List ℕ → List ℕ → SpaceView → Type 0) → Fetched → SpaceView → List ℕ → SpaceView → Type 0
+-- What a file makes of a space, by what its bytes make of it, or files of a machine.
+abbrev pub Makes : {X S : Type 0} (ByBytes : X → List ℕ → S → Type 0) → Fetched X → S → List ℕ → S → Type 0
 Makes ByBytes missing old reply new = Refuses old (codes "missing") reply new
 Makes ByBytes large old reply new = Refuses old (codes "large") reply new
 Makes ByBytes (given bytes) old reply new = ByBytes bytes reply new
@@ -200,7 +187,7 @@ Makes ByBytes (given bytes) old reply new = ByBytes bytes reply new
 -- The files stay. The file is the one of this name, where the files are told.
 pub record TakesFile (name : List ℕ) (old : Machine) (reply : List ℕ) (new : Machine) (ByBytes : List ℕ → List ℕ → SpaceView → Type 0) : Type 0 where
   pub store : KeepsFiles old.store new.store
-  pub file : Fetched
+  pub file : Fetched (List ℕ)
   pub held : IfSome old.store.files (λ files. file ≡ fetched (get_file files name))
   pub makes : Makes ByBytes file old.space reply new.space
 
@@ -213,6 +200,48 @@ pub record FailsToTake (old : Machine) (reply : List ℕ) (new : Machine) : Type
 -- The file of this name was taken, or the store failed.
 abbrev pub Takes : (name : List ℕ) → Machine → List ℕ → Machine → (ByBytes : List ℕ → List ℕ → SpaceView → Type 0) → Type 0
 Takes name old reply new ByBytes = TakesFile name old reply new ByBytes ⊎ FailsToTake old reply new
+
+-- ### What is taken from several files
+
+-- The name of a file of a chain: the first is the whole document's, and the others are those of its partial documents.
+abbrev pub chain_name : List ℕ → ℕ → List ℕ
+chain_name file number = if number == 0 then file else numbered file number
+
+-- The names of the first so many.
+unfoldable pub chain_names : List ℕ → ℕ → List (List ℕ)
+chain_names file zero = []
+chain_names file (suc count) = chain_names file count ++ chain_name file count ∷ []
+
+-- The bytes of a file before those of others.
+abbrev pub with_file : List ℕ → Fetched (List (List ℕ)) → Fetched (List (List ℕ))
+with_file bytes missing = missing
+with_file bytes large = large
+with_file bytes (given files) = given (bytes ∷ files)
+
+-- What a file is where there is room for so many bytes, and then what comes next.
+abbrev pub fetched_within : ℕ → Option (List ℕ) → (List ℕ → Fetched (List (List ℕ))) → Fetched (List (List ℕ))
+fetched_within room None next = missing
+fetched_within room (Some bytes) next = if nat_lt room (length bytes) then large else next bytes
+
+-- What the files of these names are, one after another, where there is room for so many bytes in all.
+unfoldable pub fetched_all : Files → ℕ → List (List ℕ) → Fetched (List (List ℕ))
+fetched_all files room [] = given []
+fetched_all files room (name ∷ names) =
+    fetched_within room (get_file files name) (λ bytes. with_file bytes (fetched_all files (room - length bytes) names))
+
+-- The files stay, and are these, where the files are told. What they make is made of the machine as it is then.
+pub record TakesFiles (names : List (List ℕ)) (old : Machine) (reply : List ℕ) (new : Machine) (ByFiles : List (List ℕ) → Machine → List ℕ → Machine → Type 0) : Type 0 where
+  pub mid : StoreView
+  pub kept : KeepsFiles old.store mid
+  pub files : Fetched (List (List ℕ))
+  pub held : IfSome old.store.files (λ held. files ≡ fetched_all held most_stored names)
+  pub makes : Makes (λ given. ByFiles given (record old { store = mid })) files (record old { store = mid }) reply new
+
+-- The files of these names were taken, or the store failed before that.
+abbrev pub TakesAll : (names : List (List ℕ)) → Machine → List ℕ → Machine → (ByFiles : List (List ℕ) → Machine → List ℕ → Machine → Type 0) → Type 0
+TakesAll names old reply new ByFiles = TakesFiles names old reply new ByFiles ⊎ FailsToTake old reply new
+
+-- ### Documents
 
 -- In a space of so many bits the bytes stand for this pool: a document of the second or the third version for that of its rows, and
 -- one of the first version for what that is carried to.
@@ -233,6 +262,34 @@ abbrev pub LoadsBytes : SpaceView → List ℕ → List ℕ → SpaceView → Ty
 LoadsBytes old bytes reply new =
     MatchOption (document_damage old.pool.bits bytes) (IsLoaded bytes old reply new) (λ d. Refuses old (codes "damaged " ++ damage_word d) reply new)
 
+-- What the documents make as a chain in a space of so many bits: of the chain where none is damaged, and else of the first test that
+-- the first damaged one fails.
+abbrev pub ByChain : ℕ → List (List ℕ) → (Pool → Type 0) → (Damage → Type 0) → Type 0
+ByChain bits [] ByPool ByDamage = ⊥
+ByChain bits (first ∷ more) ByPool ByDamage = MatchOption (chain_damage bits first more) (IsSomeAnd (chain_in first more) ByPool) ByDamage
+
+-- The pool of the chain is the space's now, and the number made has risen by its rows, up to 2^64 - 1.
+pub record IsChained (C : Pool) (old : SpaceView) (reply : List ℕ) (new : SpaceView) : Type 0 where
+  pub reply_is : reply ≡ reply_of (ok_line ∷ [])
+  pub pool : new.pool ≡ chain_pool C
+  pub valid : IsValid new.pool
+  pub bits : new.pool.bits ≡ old.pool.bits
+  pub made : new.made ≡ min (old.made + row_count new.pool) (2 ^ 64 - 1)
+
+-- The same of a machine, whose store stays.
+abbrev pub LoadsChain : Pool → Machine → List ℕ → Machine → Type 0
+LoadsChain C old reply new = (new.store ≡ old.store) × IsChained C old.space reply new.space
+
+-- What the files of a chain make of a machine, by what the chain makes of it. A chain is refused with its damage.
+abbrev pub ChainsFiles : (ByPool : Pool → Machine → List ℕ → Machine → Type 0) → List (List ℕ) → Machine → List ℕ → Machine → Type 0
+ChainsFiles ByPool files old reply new =
+    ByChain old.space.pool.bits files (λ C. ByPool C old reply new) (λ d. Refuses old (codes "damaged " ++ damage_word d) reply new)
+
+-- What the space has more than the chain is stored, as a text that is read back as just that.
+pub record StoresPart (name : List ℕ) (C : Pool) (old : Machine) (reply : List ℕ) (new : Machine) : Type 0 where
+  pub stores : Stores name (part_text (delta C old.space.pool)) old reply new
+  pub reads : reply ≡ reply_of (ok_line ∷ []) → value_in (part_text (delta C old.space.pool)) ≡ Some (part_document (delta C old.space.pool))
+
 -- The lines of the bytes are the buffer's now, by an edit.
 pub record IsRead (work : Workspace) (name bytes : List ℕ) (old : SpaceView) (reply : List ℕ) (new : SpaceView) : Type 0 where
   pub lines : List Bytes
@@ -251,7 +308,8 @@ ReadsBytes work name old bytes reply new =
 -- ## Commands
 
 -- What the space or the store has to say: of `stats` the number of the pool's rows, of `made` the number of rows ever made, of
--- `write` and `save` what became of the file, and of `read` and `load` what the file made of the space.
+-- `write`, `save`, `part`, `indent` and `dedent` what became of the file, and of `read`, `load` and `chain` what the file or the files
+-- made of the space.
 abbrev pub SaysElsewhere : PlainCommand → Machine → Workspace → List ℕ → Machine → Type 0
 SaysElsewhere stats old work reply new = (reply ≡ reply_of (number_line (row_count old.space.pool) ∷ [])) × (new ≡ old)
 SaysElsewhere made old work reply new = (reply ≡ reply_of (number_line old.space.made ∷ [])) × (new ≡ old)
@@ -259,6 +317,11 @@ SaysElsewhere (read name file) old work reply new = Takes file old reply new (Re
 SaysElsewhere (write name file) old work reply new = Writes work name file old reply new
 SaysElsewhere (save file) old work reply new = Saves file old reply new
 SaysElsewhere (load file) old work reply new = Takes file old reply new (LoadsBytes old.space)
+SaysElsewhere (part file number) old work reply new =
+    TakesAll (chain_names file number) old reply new (ChainsFiles (StoresPart (numbered file number)))
+SaysElsewhere (chain file number) old work reply new = TakesAll (chain_names file (number + 1)) old reply new (ChainsFiles LoadsChain)
+SaysElsewhere (indent count file) old work reply new = Stores file (text (mapped (indented count) old.space.pool)) old reply new
+SaysElsewhere (dedent count file) old work reply new = Stores file (text (mapped (dedented count) old.space.pool)) old reply new
 SaysElsewhere _ old work reply new = ⊥
 
 -- From this machine, whose space stands for the workspace, the plain answer is this reply and leaves this machine. The store
@@ -270,18 +333,14 @@ Gives command old work (Ok (tells lines after)) reply new =
 Gives command old work (Ok elsewhere) reply new = SaysElsewhere command old work reply new
 Gives command old work (Err reason) reply new = Refuses old (reason_of reason) reply new
 
--- Whether the command uses the store.
-abbrev pub uses_store : PlainCommand → Bool
-uses_store (read name file) = true
-uses_store (write name file) = true
-uses_store (save file) = true
-uses_store (load file) = true
-uses_store _ = false
+-- Memory may be refused to a command that may want it, where nothing in the workspace refuses it; or before it is known that some
+-- line is too long for a command that stores the lines, which takes memory to find.
+abbrev pub MayLack : Workspace → PlainCommand → Type 0
+MayLack work command = MayLackMemory work command ⊎ IsTrue (uses_store command) × (answer work command ≡ Err Limit)
 
--- Memory was refused, which comes only to a command that may want it, where nothing in the workspace refuses it. The space stays,
--- and so does the store, but that a command that uses it may have counted faults.
+-- Memory was refused, as it may be. The space stays, and so does the store, but that a command that uses it may have counted faults.
 pub record LacksMemory (command : PlainCommand) (old : Machine) (work : Workspace) (reply : List ℕ) (new : Machine) : Type 0 where
-  pub may : MayLackMemory work command
+  pub may : MayLack work command
   pub reply_is : reply ≡ refusal_of (codes "memory")
   pub space : new.space ≡ old.space
   pub store : MatchBool (uses_store command) (KeepsFiles old.store new.store) (new.store ≡ old.store)

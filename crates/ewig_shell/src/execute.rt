@@ -4,18 +4,20 @@ ghost use Rattle.std.specs.Prelude.{◌≡◌, ◌↔◌, codes, IfOk, IsTrue};
 ghost use Rattle.elem_core.specs.Cell.{IsCell};
 ghost use Rattle.elem_core.specs.Shown.{name_bytes};
 ghost use Rattle.shell_terms.specs.Command.{get as get_command, len as len_command, show as show_command, list as list_command, stars as stars_command, marks as marks_command, same as same_command, eqv as eqv_command, stats as stats_command, made as made_command, quit as quit_command};
-ghost use Rattle.shell_terms.specs.Changing.{only_changes};
+ghost use Rattle.shell_terms.specs.Kinds.{only_changes};
 ghost use Rattle.shell_words.specs.Shown.{plain_command};
 ghost use Rattle.shell_io.specs.Sending.{Sends};
 ghost use Rattle.space_state.specs.View.{Ends};
 ghost use Rattle.ewig_shell.specs.Step.{ObeysAlone, ObeysOn, StepsOn, refusal_of};
 ghost use Rattle.ewig_shell.specs.Sending.{Replies, sent_then};
 
+use crate::chained::{chain, part};
 use crate::load::{load, read};
+use crate::mapped::{dedent, indent};
 use crate::page::Page;
 use crate::reply::{
-    equality, line_refusal, loaded, refusal, saved, send, send_done, send_lines, send_names,
-    send_number, send_sizes, send_text,
+    equality, line_refusal, refusal, send, send_done, send_lines, send_names, send_number,
+    send_sizes, send_text, stored,
 };
 use crate::save::{save, write};
 use elem_core::Name;
@@ -139,10 +141,26 @@ fn answer<K: Sink, D: Store>(
         Command::Eqv(version, other) => eqv(space, version, other, sink),
         Command::Stats => stats(space, page, sink),
         Command::Made => made(space, page, sink),
-        Command::Read(buffer, file) => send(loaded(read(alloc, space, buffer, file, store)), sink),
-        Command::Write(buffer, file) => send(saved(write(alloc, space, buffer, file, store)), sink),
-        Command::Save(file) => send(saved(save(alloc, space, file, store)), sink),
-        Command::Load(file) => send(loaded(load(alloc, space, file, store)), sink),
+        Command::Read(buffer, file) => send(stored(read(alloc, space, buffer, file, store)), sink),
+        Command::Write(buffer, file) => send(
+            stored(write(alloc, space, buffer, file, store)),
+            sink,
+        ),
+        Command::Save(file) => send(stored(save(alloc, space, file, store)), sink),
+        Command::Load(file) => send(stored(load(alloc, space, file, store)), sink),
+        Command::Part(file, number) => send(stored(part(alloc, space, file, number, store)), sink),
+        Command::Chain(file, number) => send(
+            stored(chain(alloc, space, file, number, store)),
+            sink,
+        ),
+        Command::Indent(count, file) => send(
+            stored(indent(alloc, space, count, file, store)),
+            sink,
+        ),
+        Command::Dedent(count, file) => send(
+            stored(dedent(alloc, space, count, file, store)),
+            sink,
+        ),
         Command::Quit => quit(space, sink),
         // The others change the space, and use no device.
         _ => send_done(change(space, command), sink),
@@ -167,6 +185,10 @@ pub fn change(space: &mut Space, command: Command<'_>) -> Result<(), Refusal>
         Command::Drop(buffer) => space.edit(Edit::Drop(buffer)),
         Command::Star(name) => space.edit(Edit::Star(name)),
         Command::Unstar(name) => space.edit(Edit::Unstar(name)),
+        Command::StarMerge(version) => space.edit(Edit::StarMerge(version)),
+        Command::StarBoth(version) => space.edit(Edit::StarBoth(version)),
+        Command::StarLess(version) => space.edit(Edit::StarLess(version)),
+        Command::Merge(version) => space.edit(Edit::Merge(version)),
         Command::Mark(version) => space.mark(version),
         Command::Unmark(version) => space.unmark(version),
         Command::Back(version) => space.back(version),

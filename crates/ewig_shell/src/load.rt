@@ -7,74 +7,18 @@ ghost use Rattle.pool_text.specs.Pool.{at_present_version};
 ghost use Rattle.pool_check.specs.Damages.{document_damage, IsValid, IsValidBy};
 ghost use Rattle.pool_carry.specs.Carried.{IsCarried};
 ghost use Rattle.shell_terms.specs.Command.{read as read_command, load as load_command};
-ghost use Rattle.ewig_shell.specs.Step.{ObeysOn, DocumentStandsFor, loaded_reply, most_stored};
-ghost use Rattle.ewig_shell.specs.Loading.{TakesIn, FillsIn, fault_of, load_fault, read_fault};
+ghost use Rattle.ewig_shell.specs.Step.{ObeysOn, DocumentStandsFor, stored_reply, most_stored};
+ghost use Rattle.ewig_shell.specs.Loading.{TakesIn, FillsIn};
 
 use crate::save::MOST_STORED;
+use crate::store_fault::StoreFault;
 use elem_core::{CODE_BITS, Name, Text};
 use pool_carry::{carried_is_valid, carry};
 use pool_check::{Checked, Old, check, check_old};
 use pool_text::{Damage, FIRST_VERSION, pool_from_bytes};
-use shell_io::{FetchFault, LinesFault, Store, lines_of};
+use shell_io::{Store, lines_of};
 use space_state::{Edit, Space};
 use std::alloc::Global;
-
-/// Why a file wasn't loaded, or read.
-#[derive(Clone, Copy, Debug, PartialEq, Eq)]
-pub enum LoadFault {
-    /// A batch is open: of a load alone.
-    Batch,
-    /// There is no such file.
-    Missing,
-    /// The file has more bytes than a file may.
-    Large,
-    /// The store failed.
-    Failed,
-    /// The file is no document of a space of so many bits: the first test that it fails, and never `Damage::Memory`.
-    Damaged(Damage),
-    /// A line of the file has more than 65,536 bytes: of a read alone.
-    Long,
-    /// The file isn't UTF-8: of a read alone.
-    Utf8,
-    /// Memory ran out.
-    Memory,
-}
-
-impl From<Damage> for LoadFault {
-    ghost from_gives = { λ damage fault. fault ≡ fault_of damage };
-
-    fn from(damage: Damage) -> LoadFault {
-        match damage {
-            Damage::Memory => LoadFault::Memory,
-            damage => LoadFault::Damaged(damage),
-        }
-    }
-}
-
-impl From<FetchFault> for LoadFault {
-    ghost from_gives = { λ fetch fault. fault ≡ load_fault fetch };
-
-    fn from(fetch: FetchFault) -> LoadFault {
-        match fetch {
-            FetchFault::Missing => LoadFault::Missing,
-            FetchFault::Large => LoadFault::Large,
-            FetchFault::Failed => LoadFault::Failed,
-            FetchFault::Memory => LoadFault::Memory,
-        }
-    }
-}
-
-impl From<LinesFault> for LoadFault {
-    ghost from_gives = { λ lines fault. fault ≡ read_fault lines };
-
-    fn from(lines: LinesFault) -> LoadFault {
-        match lines {
-            LinesFault::Long => LoadFault::Long,
-            LinesFault::Utf8 => LoadFault::Utf8,
-            LinesFault::Memory => LoadFault::Memory,
-        }
-    }
-}
 
 /// Makes the space the one that the document in the file stands for; one of the first version stands for what its pool is carried
 /// to. `Batch` exactly in a batch. Else, unless the store fails at this call (`Failed`) or memory runs out (`Memory`), and over a
@@ -86,12 +30,12 @@ pub fn load<D: Store>(
     space: &mut Space,
     file: Name<'_>,
     store: &mut D,
-) -> Result<(), LoadFault>
-    ensures obeys { ObeysOn (load_command (name_bytes file.entry)) D.Store space.old store.old (loaded_reply result) space.new store.new }
-    ensures damage { result ≢ Err (LoadFault.Damaged Damage.Memory) }
+) -> Result<(), StoreFault>
+    ensures obeys { ObeysOn (load_command (name_bytes file.entry)) D.Store space.old store.old (stored_reply result) space.new store.new }
+    ensures damage { result ≢ Err (StoreFault.Damaged Damage.Memory) }
 {
     if space.in_batch() {
-        return Err(LoadFault::Batch);
+        return Err(StoreFault::Batch);
     }
     let mut bytes = Vec::new(alloc);
     store.fetch(file.as_str(), MOST_STORED as usize, &mut bytes)?;
@@ -132,15 +76,15 @@ fn carried(alloc: Global, old: Old, bits: u32) -> Result<Checked<Text>, Damage>
 }
 
 // Makes the space the one that the bytes stand for.
-fn take_in(alloc: Global, space: &mut Space, bytes: &[u8]) -> Result<(), LoadFault>
+fn take_in(alloc: Global, space: &mut Space, bytes: &[u8]) -> Result<(), StoreFault>
     ensures takes { TakesIn bytes.now space.old result space.new }
-    ensures damage { result ≢ Err (LoadFault.Damaged Damage.Memory) }
+    ensures damage { result ≢ Err (StoreFault.Damaged Damage.Memory) }
 {
     let checked = checked_pool(alloc, bytes, space.bits())?;
     match space.take_pool(checked) {
         Ok(()) => Ok(()),
         // No batch is open where this is called.
-        Err(_) => Err(LoadFault::Memory),
+        Err(_) => Err(StoreFault::Memory),
     }
 }
 
@@ -154,8 +98,8 @@ pub fn read<D: Store>(
     buffer: Name<'_>,
     file: Name<'_>,
     store: &mut D,
-) -> Result<(), LoadFault>
-    ensures { ObeysOn (read_command (name_bytes buffer.entry) (name_bytes file.entry)) D.Store space.old store.old (loaded_reply result) space.new store.new }
+) -> Result<(), StoreFault>
+    ensures { ObeysOn (read_command (name_bytes buffer.entry) (name_bytes file.entry)) D.Store space.old store.old (stored_reply result) space.new store.new }
 {
     // Asked for its clause alone: that the space stands for a workspace.
     let _ = space.in_batch();
@@ -165,7 +109,12 @@ pub fn read<D: Store>(
 }
 
 // Gives the buffer the lines of the bytes, which are given up before the lines come into the heap.
-fn fill(alloc: Global, space: &mut Space, buffer: Name<'_>, bytes: Vec<u8>) -> Result<(), LoadFault>
+fn fill(
+    alloc: Global,
+    space: &mut Space,
+    buffer: Name<'_>,
+    bytes: Vec<u8>,
+) -> Result<(), StoreFault>
     requires { length bytes.items ≤ most_stored }
     ensures { FillsIn (name_bytes buffer.entry) bytes.items space.old result space.new }
 {
@@ -174,6 +123,6 @@ fn fill(alloc: Global, space: &mut Space, buffer: Name<'_>, bytes: Vec<u8>) -> R
     match space.edit(Edit::Read(buffer, lines)) {
         Ok(()) => Ok(()),
         // Nothing but want of memory refuses it.
-        Err(_) => Err(LoadFault::Memory),
+        Err(_) => Err(StoreFault::Memory),
     }
 }

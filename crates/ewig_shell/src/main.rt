@@ -5,17 +5,20 @@ ghost use Rattle.std.specs.Prelude.{◌≡◌, drop};
 ghost use Rattle.std.specs.Result.{IfErr};
 ghost use Rattle.ewig_shell.specs.Run.{IsEarly};
 
+mod chained;
 mod execute;
 #[cfg(test)]
 mod faults;
 mod laws;
 mod load;
+mod mapped;
 mod page;
 #[cfg(test)]
 mod refused;
 mod reply;
 mod run;
 mod save;
+mod store_fault;
 #[cfg(test)]
 mod tests;
 #[cfg(test)]
@@ -43,11 +46,23 @@ fn main(rt: HostRuntime) -> ExitCode {
             space: None,
         },
     };
-    if ended.status == Status::Usage {
+    if let Some(reason) = reason_of(ended.status) {
         // Nobody is left to be told of a failure.
-        let _ = rt.eprintln(USAGE);
+        let _ = rt.eprintln(reason);
     }
     ExitCode::from(exit_code_of(ended.status))
+}
+
+// What standard error is told of a run that ended so: one line for each status but 0.
+fn reason_of(status: Status) -> Option<&'static str> {
+    match status {
+        Status::Done => None,
+        Status::Memory => Some("ewig: memory ran out before the first line"),
+        Status::Usage => Some(USAGE),
+        Status::ReadFault => Some("ewig: standard input failed"),
+        Status::WriteFault => Some("ewig: standard output failed"),
+        Status::TooLong => Some("ewig: the input has more than 1,099,511,627,776 bytes"),
+    }
 }
 
 // The words after the program's name; the host tells which they are, and no clause can. A word that is no text can't be read, and

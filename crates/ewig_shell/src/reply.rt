@@ -5,11 +5,10 @@ ghost use Rattle.plain_space.specs.Answer.{ok_line, text_line, number_line, size
 ghost use Rattle.plain_space.specs.Session.{reason_of};
 ghost use Rattle.shell_io.specs.Sending.{Sends};
 ghost use Rattle.ewig_shell.specs.Work.{summary};
-ghost use Rattle.ewig_shell.specs.Step.{reply_of, refusal_of, done_reply, equality_reply, saved_reply, loaded_reply, line_reason};
+ghost use Rattle.ewig_shell.specs.Step.{reply_of, refusal_of, done_reply, equality_reply, stored_reply, line_reason};
 
-use crate::load::LoadFault;
 use crate::page::Page;
-use crate::save::SaveFault;
+use crate::store_fault::StoreFault;
 use crate::work::Summary;
 use elem_core::Text;
 use itoa::Buffer;
@@ -62,40 +61,29 @@ pub fn equality(answer: Result<bool, Refusal>) -> &'static [u8]
     }
 }
 
-/// The reply to `save` and to `write`.
-pub fn saved(saved: Result<(), SaveFault>) -> &'static [u8]
-    ensures { result.now ≡ saved_reply saved }
+/// The reply to a command that uses the store.
+pub fn stored(done: Result<(), StoreFault>) -> &'static [u8]
+    ensures { result.now ≡ stored_reply done }
 {
-    match saved {
+    match done {
         Ok(()) => b"ok\n",
-        Err(SaveFault::Batch) => b"! batch\n",
-        Err(SaveFault::Absent) => b"! none\n",
-        Err(SaveFault::Large) => b"! large\n",
-        Err(SaveFault::Failed) => b"! fault\n",
-        Err(SaveFault::Memory) => b"! memory\n",
+        Err(StoreFault::Batch) => b"! batch\n",
+        Err(StoreFault::Absent) => b"! none\n",
+        Err(StoreFault::Range) => b"! range\n",
+        Err(StoreFault::Limit) => b"! limit\n",
+        Err(StoreFault::Missing) => b"! missing\n",
+        Err(StoreFault::Large) => b"! large\n",
+        Err(StoreFault::Failed) => b"! fault\n",
+        Err(StoreFault::Damaged(damage)) => damaged(damage),
+        Err(StoreFault::Long) => b"! long\n",
+        Err(StoreFault::Utf8) => b"! utf8\n",
+        Err(StoreFault::Memory) => b"! memory\n",
     }
 }
 
-/// The reply to `load` and to `read`.
-pub fn loaded(loaded: Result<(), LoadFault>) -> &'static [u8]
-    ensures { result.now ≡ loaded_reply loaded }
-{
-    match loaded {
-        Ok(()) => b"ok\n",
-        Err(LoadFault::Batch) => b"! batch\n",
-        Err(LoadFault::Missing) => b"! missing\n",
-        Err(LoadFault::Large) => b"! large\n",
-        Err(LoadFault::Failed) => b"! fault\n",
-        Err(LoadFault::Damaged(damage)) => damaged(damage),
-        Err(LoadFault::Long) => b"! long\n",
-        Err(LoadFault::Utf8) => b"! utf8\n",
-        Err(LoadFault::Memory) => b"! memory\n",
-    }
-}
-
-// The reply to `load` of a file that fails this test.
+// The reply where a document fails this test.
 fn damaged(damage: Damage) -> &'static [u8]
-    ensures { result.now ≡ loaded_reply (Err (LoadFault.Damaged damage)) }
+    ensures { result.now ≡ stored_reply (Err (StoreFault.Damaged damage)) }
 {
     match damage {
         Damage::Json => b"! damaged json\n",

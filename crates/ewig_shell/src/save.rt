@@ -2,69 +2,20 @@
 
 ghost use Rattle.std.specs.Prelude.{◌≡◌, ◌<◌, ◌≤◌, length, MatchOption};
 ghost use Rattle.elem_core.specs.Shown.{name_bytes};
+ghost use Rattle.pool_text.specs.Document.{text};
 ghost use Rattle.shell_terms.specs.Command.{write as write_command, save as save_command};
-ghost use Rattle.ewig_shell.specs.declared.save.SaveFault.TheVariants.{Memory};
-ghost use Rattle.ewig_shell.specs.Saving.{Collects, save_fault};
-ghost use Rattle.ewig_shell.specs.Step.{ObeysOn, ended_lines, most_stored, saved_reply};
+ghost use Rattle.ewig_shell.specs.Saving.{Collects, EndsKeeping};
+ghost use Rattle.ewig_shell.specs.Step.{ObeysOn, ended_lines, most_stored, stored_reply};
 
-use elem_core::{NEWLINE, Name, NoMemory};
-use pool_text::{into_bytes, text_length};
-use shell_io::{KeepFault, Store};
+use crate::store_fault::StoreFault;
+use elem_core::{NEWLINE, Name};
+use pool_text::{Pool, into_bytes, text_length};
+use shell_io::Store;
 use space_state::{Space, SpaceLines};
-use std::alloc::{AllocError, AllocFailed, Global};
+use std::alloc::Global;
 
 /// The most bytes that a stored file may have: 64 times 2^20.
 pub const MOST_STORED: u64 = 67_108_864;
-
-/// Why a space, or the lines of a buffer, weren't stored.
-#[derive(Clone, Copy, Debug, PartialEq, Eq)]
-pub enum SaveFault {
-    /// A batch is open: of a save alone.
-    Batch,
-    /// There is no such buffer: of a write alone.
-    Absent,
-    /// There are more bytes than a file may have.
-    Large,
-    /// The store failed.
-    Failed,
-    /// Memory ran out.
-    Memory,
-}
-
-impl From<NoMemory> for SaveFault {
-    ghost from_gives = { λ _ fault. fault ≡ Memory };
-
-    fn from(_error: NoMemory) -> SaveFault {
-        SaveFault::Memory
-    }
-}
-
-impl From<AllocError> for SaveFault {
-    ghost from_gives = { λ _ fault. fault ≡ Memory };
-
-    fn from(_error: AllocError) -> SaveFault {
-        SaveFault::Memory
-    }
-}
-
-impl<T: Drop> From<AllocFailed<T>> for SaveFault {
-    ghost from_gives = { λ _ fault. fault ≡ Memory };
-
-    fn from(_error: AllocFailed<T>) -> SaveFault {
-        SaveFault::Memory
-    }
-}
-
-impl From<KeepFault> for SaveFault {
-    ghost from_gives = { λ kept fault. fault ≡ save_fault kept };
-
-    fn from(kept: KeepFault) -> SaveFault {
-        match kept {
-            KeepFault::Failed => SaveFault::Failed,
-            KeepFault::Memory => SaveFault::Memory,
-        }
-    }
-}
 
 /// Stores the document of the space's pool in the file. `Batch` exactly in a batch; else, unless memory runs out before
 /// (`Memory`), `Large` exactly where the document has more than 67,108,864 bytes, which is known before it is made. `Failed`
@@ -74,15 +25,33 @@ pub fn save<D: Store>(
     space: &Space,
     file: Name<'_>,
     store: &mut D,
-) -> Result<(), SaveFault>
-    ensures { ObeysOn (save_command (name_bytes file.entry)) D.Store space.now store.old (saved_reply result) space.now store.new }
+) -> Result<(), StoreFault>
+    ensures { ObeysOn (save_command (name_bytes file.entry)) D.Store space.now store.old (stored_reply result) space.now store.new }
 {
     if space.in_batch() {
-        return Err(SaveFault::Batch);
+        return Err(StoreFault::Batch);
     }
     let pool = space.pool(alloc)?;
     if text_length(&pool) > MOST_STORED {
-        return Err(SaveFault::Large);
+        return Err(StoreFault::Large);
+    }
+    let bytes = into_bytes(alloc, pool)?;
+    store.keep(file.as_str(), &bytes)?;
+    Ok(())
+}
+
+/// Stores the document of a pool in the file. `Memory` where memory runs out before, `Large` exactly where the document has more than
+/// 67,108,864 bytes, and else as the store keeps it.
+pub(crate) fn keep_pool<D: Store>(
+    alloc: Global,
+    pool: Pool,
+    file: Name<'_>,
+    store: &mut D,
+) -> Result<(), StoreFault>
+    ensures { EndsKeeping (name_bytes file.entry) (text pool) D.Store store.old store.new result }
+{
+    if text_length(&pool) > MOST_STORED {
+        return Err(StoreFault::Large);
     }
     let bytes = into_bytes(alloc, pool)?;
     store.keep(file.as_str(), &bytes)?;
@@ -98,17 +67,17 @@ pub fn write<D: Store>(
     buffer: Name<'_>,
     file: Name<'_>,
     store: &mut D,
-) -> Result<(), SaveFault>
-    ensures { ObeysOn (write_command (name_bytes buffer.entry) (name_bytes file.entry)) D.Store space.now store.old (saved_reply result) space.now store.new }
+) -> Result<(), StoreFault>
+    ensures { ObeysOn (write_command (name_bytes buffer.entry) (name_bytes file.entry)) D.Store space.now store.old (stored_reply result) space.now store.new }
 {
     let Ok(count) = space.count(buffer) else {
-        return Err(SaveFault::Absent);
+        return Err(StoreFault::Absent);
     };
     let Ok(counted) = space.lines(buffer, 0, count) else {
         unreachable!()
     };
     let Some(size) = file_size(counted) else {
-        return Err(SaveFault::Large);
+        return Err(StoreFault::Large);
     };
     let Ok(lines) = space.lines(buffer, 0, count) else {
         unreachable!()
@@ -135,7 +104,7 @@ fn file_size(lines: SpaceLines<'_>) -> Option<usize>
 }
 
 // The bytes of the lines, each with a newline, in memory for just so many.
-fn collected(alloc: Global, lines: SpaceLines<'_>, size: usize) -> Result<Vec<u8>, SaveFault>
+fn collected(alloc: Global, lines: SpaceLines<'_>, size: usize) -> Result<Vec<u8>, StoreFault>
     requires { size ≡ length (ended_lines lines) }
     ensures { Collects lines.entry result }
 {

@@ -43,6 +43,10 @@ fn parts<'a>(command: Command<'a>) -> CommandParts<'a> {
         Command::Drop(buffer) => ("drop", buffer.as_str(), "", 0, 0, ""),
         Command::Star(name) => ("star", name.as_str(), "", 0, 0, ""),
         Command::Unstar(name) => ("unstar", name.as_str(), "", 0, 0, ""),
+        Command::StarMerge(version) => ("starmerge", version.as_str(), "", 0, 0, ""),
+        Command::StarBoth(version) => ("starboth", version.as_str(), "", 0, 0, ""),
+        Command::StarLess(version) => ("starless", version.as_str(), "", 0, 0, ""),
+        Command::Merge(version) => ("merge", version.as_str(), "", 0, 0, ""),
         Command::Mark(version) => ("mark", version.as_str(), "", 0, 0, ""),
         Command::Unmark(version) => ("unmark", version.as_str(), "", 0, 0, ""),
         Command::Back(version) => ("back", version.as_str(), "", 0, 0, ""),
@@ -66,6 +70,10 @@ fn parts<'a>(command: Command<'a>) -> CommandParts<'a> {
         Command::Write(buffer, file) => ("write", buffer.as_str(), file.as_str(), 0, 0, ""),
         Command::Save(file) => ("save", file.as_str(), "", 0, 0, ""),
         Command::Load(file) => ("load", file.as_str(), "", 0, 0, ""),
+        Command::Part(file, number) => ("part", file.as_str(), "", number, 0, ""),
+        Command::Chain(file, number) => ("chain", file.as_str(), "", number, 0, ""),
+        Command::Indent(count, file) => ("indent", file.as_str(), "", count, 0, ""),
+        Command::Dedent(count, file) => ("dedent", file.as_str(), "", count, 0, ""),
         Command::Quit => ("quit", "", "", 0, 0, ""),
     }
 }
@@ -125,6 +133,10 @@ fn reads_edits(rt: HostRuntime) {
         ("drop a", ("drop", "a", "", 0, 0, "")),
         ("star z", ("star", "z", "", 0, 0, "")),
         ("unstar y", ("unstar", "y", "", 0, 0, "")),
+        ("starmerge v", ("starmerge", "v", "", 0, 0, "")),
+        ("starboth v", ("starboth", "v", "", 0, 0, "")),
+        ("starless v", ("starless", "v", "", 0, 0, "")),
+        ("merge v", ("merge", "v", "", 0, 0, "")),
     ];
     for (line, want) in rows {
         reads(&rt, line, want);
@@ -165,6 +177,40 @@ fn reads_other_commands(rt: HostRuntime) {
         ("write n out", ("write", "n", "out", 0, 0, "")),
         ("save s.json", ("save", "s.json", "", 0, 0, "")),
         ("load d", ("load", "d", "", 0, 0, "")),
+        ("part s 1", ("part", "s", "", 1, 0, "")),
+        (
+            "chain s 4294967295",
+            ("chain", "s", "", 4_294_967_295, 0, ""),
+        ),
+        // With its full stop and its number the file has a name of 64 bytes.
+        (
+            "part abcdefghijklmnopqrstuvwxyzABCDEFGHIJKLMNOPQRSTUVWXYZ0123456789 1",
+            (
+                "part",
+                "abcdefghijklmnopqrstuvwxyzABCDEFGHIJKLMNOPQRSTUVWXYZ0123456789",
+                "",
+                1,
+                0,
+                "",
+            ),
+        ),
+        (
+            "part abcdefghijklmnopqrstuvwxyzABCDEFGHIJKLMNOPQRSTUVWXYZ012345678 10",
+            (
+                "part",
+                "abcdefghijklmnopqrstuvwxyzABCDEFGHIJKLMNOPQRSTUVWXYZ012345678",
+                "",
+                10,
+                0,
+                "",
+            ),
+        ),
+        ("indent 2 u", ("indent", "u", "", 2, 0, "")),
+        (
+            "indent 4294967295 u",
+            ("indent", "u", "", 4_294_967_295, 0, ""),
+        ),
+        ("dedent 0 w", ("dedent", "w", "", 0, 0, "")),
         ("quit", ("quit", "", "", 0, 0, "")),
     ];
     for (line, want) in rows {
@@ -183,7 +229,7 @@ fn refuses(rt: &impl Abort, lines: [&str; 7], want: BadLine) {
 }
 
 // What lines must be refused as, and lines of that kind.
-const REFUSED: [(BadLine, [&str; 7]); 16] = [
+const REFUSED: [(BadLine, [&str; 7]); 20] = [
     // A word that is none, and a wrong number of pieces.
     (
         BadLine::Command,
@@ -284,7 +330,55 @@ const REFUSED: [(BadLine, [&str; 7]); 16] = [
             "set a  t",
         ],
     ),
+    (
+        BadLine::Command,
+        [
+            "merge",
+            "merge v w",
+            "starmerge v ",
+            "starless",
+            "indent u 2",
+            "indent 01 u",
+            "dedent 1",
+        ],
+    ),
+    (
+        BadLine::Command,
+        [
+            "part",
+            "part s",
+            "part s 01",
+            "chain s 1 ",
+            "chain .s x",
+            "chain 1 s",
+            "part s 4294967296",
+        ],
+    ),
     // A name that is none.
+    (
+        BadLine::Name,
+        [
+            "merge .v",
+            "starmerge ",
+            "starboth -v",
+            "starless é",
+            "indent 2 .u",
+            "dedent 2 ",
+            "indent 2 a/b",
+        ],
+    ),
+    (
+        BadLine::Name,
+        [
+            "part .s 1",
+            "chain -s 1",
+            "part abcdefghijklmnopqrstuvwxyzABCDEFGHIJKLMNOPQRSTUVWXYZ0123456789. 1",
+            "chain abcdefghijklmnopqrstuvwxyzABCDEFGHIJKLMNOPQRSTUVWXYZ0123456789 10",
+            "part abcdefghijklmnopqrstuvwxyzABCDEFGHIJKLMNOPQRSTUVWXYZ0123456789._ 1",
+            "chain abcdefghijklmnopqrstuvwxyzABCDEFGHIJKLMNOPQRSTUVWXYZ01234567 1000",
+            "part abcdefghijklmnopqrstuvwxyzABCDEFGHIJKLMNOPQRSTUVWXYZ012345678 100",
+        ],
+    ),
     (
         BadLine::Name,
         [

@@ -11,7 +11,7 @@ use Rattle.std.proofs.lemmas.List.Sums.{prefix_len-le-length}
 use Rattle.std.proofs.lemmas.Str.{IsCharBoundary-after_ascii}
 use Rattle.elem_core.specs.Cell.{IsCell}
 use Rattle.elem_core.specs.Naming.{IsName, is_name}
-use Rattle.shell_terms.specs.Command.{PlainCommand}
+use Rattle.shell_terms.specs.Command.{PlainCommand, len}
 use Rattle.shell_words.specs.declared.BadLine.{BadLine}
 use Rattle.shell_words.specs.declared.BadLine.TheVariants as refused
 use Rattle.elem_core.proofs.NamingLemmas.{is_name-yes, is_name-no}
@@ -110,3 +110,23 @@ named_first piece other false false x y bad p o e =
 
 pub if_named-first : (piece other : List ℕ) (x y : PlainCommand) (bad : BadLine) → if_named piece (Ok x) ≡ Err bad → if_named piece (if_named other (Ok y)) ≡ Err bad
 if_named-first piece other x y bad e = named_first piece other (is_name piece) (is_name other) x y bad refl refl e
+
+-- a name is no reason to refuse
+named_passes : (piece : List ℕ) (read : Result PlainCommand BadLine) → is_name piece ≡ true → if_named piece read ≡ read
+unfolding if_named
+named_passes piece (Ok command) e = rw e refl
+named_passes piece (Err bad) e = refl
+
+named_by : (piece name : List ℕ) (test : Bool) (read : List ℕ → Result PlainCommand BadLine) → is_name piece ≡ test → if_named piece (Ok (len piece)) ≡ Ok (len name) → if_named piece (read piece) ≡ read name
+unfolding if_named
+named_by piece name true read e gave =
+    let found : Ok (len piece) ≡ Ok (len name) = rw e at gave in
+    let same : piece ≡ name = cc in
+    named_passes piece (read piece) e ∙ ap read same
+named_by piece name false read e gave =
+    let wrong : Err refused.Name ≡ Ok (len name) = rw e at gave in
+    absurd (let never = wrong in cc)
+
+-- where the piece was taken as this name, what is read of the piece is read of the name
+pub named-then : (piece name : List ℕ) (read : List ℕ → Result PlainCommand BadLine) → if_named piece (Ok (len piece)) ≡ Ok (len name) → if_named piece (read piece) ≡ read name
+named-then piece name read gave = named_by piece name (is_name piece) read refl gave

@@ -6,8 +6,9 @@ use Rattle.std.specs.Option.{option_map_or}
 use Rattle.std.specs.Map.{lookup}
 use Rattle.std.specs.Str.{is_utf8}
 use Rattle.elem_core.specs.Naming.{is_name}
-use Rattle.shell_terms.specs.Edit.{new, add, set, put, del, cat, cut, copy, drop, star, unstar}
-use Rattle.shell_terms.specs.Command.{PlainCommand, edit, mark, unmark, back, undo, redo, begin, «end», abort, history, get, len, show, list, stars, marks, same, eqv, stats, made, read, write, save, load, quit}
+use Rattle.shell_terms.specs.Edit.{Bytes, new, add, set, put, del, cat, cut, copy, drop, star, unstar}
+use Rattle.shell_terms.specs.Command.{PlainCommand, join_stars, common_stars, other_stars, join_buffers, edit, merge, mark, unmark, back, undo, redo, begin, «end», abort, history, get, len, show, list, stars, marks, same, eqv, stats, made, read, write, save, load, part, chain, indent, dedent, quit}
+use Rattle.shell_words.specs.Files.{numbered}
 use Rattle.shell_words.specs.declared.BadLine.{BadLine}
 use Rattle.shell_words.specs.declared.BadLine.TheVariants as refused
 use Rattle.shell_words.specs.Number.{number_of}
@@ -37,6 +38,10 @@ if_named piece (Err bad) = Err bad
 unfoldable pub the_end : PlainCommand → RestMeaning
 the_end command None = Ok command
 the_end command (Some rest) = Err refused.Command
+
+-- The same of a command on a chain: the file of this number must have a name too.
+unfoldable pub the_chain_end : Bytes → ℕ → PlainCommand → RestMeaning
+the_chain_end file number command rest = if_named (numbered file number) (the_end command rest)
 
 -- Next comes a piece that is a name.
 unfoldable pub a_name : (List ℕ → RestMeaning) → RestMeaning
@@ -68,6 +73,10 @@ commands =
     ∷ (codes "drop", a_name (λ b. the_end (edit (drop b))))
     ∷ (codes "star", a_name (λ n. the_end (edit (star n))))
     ∷ (codes "unstar", a_name (λ n. the_end (edit (unstar n))))
+    ∷ (codes "starmerge", a_name (λ v. the_end (merge join_stars v)))
+    ∷ (codes "starboth", a_name (λ v. the_end (merge common_stars v)))
+    ∷ (codes "starless", a_name (λ v. the_end (merge other_stars v)))
+    ∷ (codes "merge", a_name (λ v. the_end (merge join_buffers v)))
     ∷ (codes "mark", a_name (λ v. the_end (mark v)))
     ∷ (codes "unmark", a_name (λ v. the_end (unmark v)))
     ∷ (codes "back", a_name (λ v. the_end (back v)))
@@ -91,6 +100,10 @@ commands =
     ∷ (codes "write", a_name (λ b. a_name (λ f. the_end (write b f))))
     ∷ (codes "save", a_name (λ f. the_end (save f)))
     ∷ (codes "load", a_name (λ f. the_end (load f)))
+    ∷ (codes "part", a_name (λ f. a_number (λ k. the_chain_end f k (part f k))))
+    ∷ (codes "chain", a_name (λ f. a_number (λ k. the_chain_end f k (chain f k))))
+    ∷ (codes "indent", a_number (λ n. a_name (λ f. the_end (indent n f))))
+    ∷ (codes "dedent", a_number (λ n. a_name (λ f. the_end (dedent n f))))
     ∷ (codes "quit", the_end quit)
     ∷ []
 

@@ -1,3 +1,4 @@
+pub mod Files
 pub mod Number
 pub mod Grammar
 pub mod Shown

@@ -1,10 +1,10 @@
 -- What the answer of `read_line` shows: the command with its names, numbers and texts as values.
 use Rattle.std.specs.Prelude.{Result, Ok, Err}
 use Rattle.shell_terms.specs.Edit.{new, add, set, put, del, cat, cut, copy, drop, star, unstar}
-use Rattle.shell_terms.specs.Command.{PlainCommand, edit, mark, unmark, back, undo, redo, begin, «end», abort, history, get, len, show, list, stars, marks, same, eqv, stats, made, read, write, save, load, quit}
+use Rattle.shell_terms.specs.Command.{PlainCommand, join_stars, common_stars, other_stars, join_buffers, edit, merge, mark, unmark, back, undo, redo, begin, «end», abort, history, get, len, show, list, stars, marks, same, eqv, stats, made, read, write, save, load, part, chain, indent, dedent, quit}
 use Rattle.elem_core.specs.Shown.{name_bytes, line_bytes}
 use Rattle.shell_words.specs.declared.Command.{Command}
-use Rattle.shell_words.specs.declared.Command.TheVariants.{New, Add, Set, Put, Del, Cat, Cut, Copy, Drop, Star, Unstar, Mark, Unmark, Back, Undo, Redo, Begin, End, Abort, History, Get, Len, Show, List, Stars, Marks, Same, Eqv, Stats, Made, Read, Write, Save, Load, Quit}
+use Rattle.shell_words.specs.declared.Command.TheVariants.{New, Add, Set, Put, Del, Cat, Cut, Copy, Drop, Star, Unstar, StarMerge, StarBoth, StarLess, Merge, Mark, Unmark, Back, Undo, Redo, Begin, End, Abort, History, Get, Len, Show, List, Stars, Marks, Same, Eqv, Stats, Made, Read, Write, Save, Load, Part, Chain, Indent, Dedent, Quit}
 use Rattle.shell_words.specs.declared.BadLine.{BadLine}
 
 -- The command with its names and texts as their bytes.
@@ -20,6 +20,10 @@ plain_command (Copy b c) = edit (copy (name_bytes b) (name_bytes c))
 plain_command (Drop b) = edit (drop (name_bytes b))
 plain_command (Star n) = edit (star (name_bytes n))
 plain_command (Unstar n) = edit (unstar (name_bytes n))
+plain_command (StarMerge v) = merge join_stars (name_bytes v)
+plain_command (StarBoth v) = merge common_stars (name_bytes v)
+plain_command (StarLess v) = merge other_stars (name_bytes v)
+plain_command (Merge v) = merge join_buffers (name_bytes v)
 plain_command (Mark v) = mark (name_bytes v)
 plain_command (Unmark v) = unmark (name_bytes v)
 plain_command (Back v) = back (name_bytes v)
@@ -43,6 +47,10 @@ plain_command (Read b f) = read (name_bytes b) (name_bytes f)
 plain_command (Write b f) = write (name_bytes b) (name_bytes f)
 plain_command (Save f) = save (name_bytes f)
 plain_command (Load f) = load (name_bytes f)
+plain_command (Part f k) = part (name_bytes f) k
+plain_command (Chain f k) = chain (name_bytes f) k
+plain_command (Indent n f) = indent n (name_bytes f)
+plain_command (Dedent n f) = dedent n (name_bytes f)
 plain_command Quit = quit
 
 -- Goes on with what was read, or stays with the refusal.

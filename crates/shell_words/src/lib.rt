@@ -13,9 +13,10 @@ mod numbers;
 mod pieces;
 
 pub use numbers::read_number;
+pub use pieces::{MOST_NUMBERED, numbered};
 use pieces::{
-    name, name_and_number, name_and_range, name_and_text, name_number_and_text,
-    name_range_and_name, nothing, number, split_piece, two_names,
+    chain, name, name_and_number, name_and_range, name_and_text, name_number_and_text,
+    name_range_and_name, nothing, number, number_and_name, split_piece, two_names,
 };
 
 /// Why a line is no command: the first of these that holds.
@@ -57,6 +58,14 @@ pub enum Command<'a> {
     Star(Name<'a>),
     /// `unstar N`: no star at N.
     Unstar(Name<'a>),
+    /// `starmerge V`: the stars of version V beside those that are there.
+    StarMerge(Name<'a>),
+    /// `starboth V`: the stars alone that version V has too.
+    StarBoth(Name<'a>),
+    /// `starless V`: the stars alone that version V hasn't.
+    StarLess(Name<'a>),
+    /// `merge V`: the buffers of version V with other names beside those that are there.
+    Merge(Name<'a>),
     /// `mark V`: the current state as version V.
     Mark(Name<'a>),
     /// `unmark V`: no version V.
@@ -103,6 +112,14 @@ pub enum Command<'a> {
     Save(Name<'a>),
     /// `load F`: the space that the document in the file F stands for.
     Load(Name<'a>),
+    /// `part F K`: in the file F.K what the space has beside the chain F, F.1 to F.(K-1). F.K is a name.
+    Part(Name<'a>, u32),
+    /// `chain F K`: the space that the chain F, F.1 to F.K stands for. F.K is a name.
+    Chain(Name<'a>, u32),
+    /// `indent N F`: the space as a document in the file F, with N spaces before each line.
+    Indent(u32, Name<'a>),
+    /// `dedent N F`: the same with up to N leading spaces fewer in each line.
+    Dedent(u32, Name<'a>),
     /// `quit`: the end of the run.
     Quit,
 }
@@ -148,6 +165,10 @@ fn read_text(text: &str) -> Result<Command<'_>, BadLine>
         "drop" => name(rest).map(Command::Drop),
         "star" => name(rest).map(Command::Star),
         "unstar" => name(rest).map(Command::Unstar),
+        "starmerge" => name(rest).map(Command::StarMerge),
+        "starboth" => name(rest).map(Command::StarBoth),
+        "starless" => name(rest).map(Command::StarLess),
+        "merge" => name(rest).map(Command::Merge),
         "mark" => name(rest).map(Command::Mark),
         "unmark" => name(rest).map(Command::Unmark),
         "back" => name(rest).map(Command::Back),
@@ -166,6 +187,10 @@ fn read_text(text: &str) -> Result<Command<'_>, BadLine>
         "write" => two_names(rest).map(|(buffer, file)| Command::Write(buffer, file)),
         "save" => name(rest).map(Command::Save),
         "load" => name(rest).map(Command::Load),
+        "part" => chain(rest).map(|(file, number)| Command::Part(file, number)),
+        "chain" => chain(rest).map(|(file, number)| Command::Chain(file, number)),
+        "indent" => number_and_name(rest).map(|(count, file)| Command::Indent(count, file)),
+        "dedent" => number_and_name(rest).map(|(count, file)| Command::Dedent(count, file)),
         "quit" => nothing(rest).map(|()| Command::Quit),
         _ => Err(BadLine::Command),
     }

@@ -8,15 +8,21 @@ ghost use Rattle.std.specs.List.{position};
 ghost use Rattle.std.specs.Option.{ForSome};
 ghost use Rattle.elem_core.specs.Cell.{IsCell};
 ghost use Rattle.shell_terms.specs.Command.{PlainCommand};
+ghost use Rattle.shell_words.specs.Files.{numbered};
 ghost use Rattle.elem_core.specs.Shown.{name_bytes, line_bytes};
 ghost use Rattle.shell_words.specs.Grammar.{RestMeaning, is_space, first_piece, after_piece, if_named};
-ghost use Rattle.shell_words.specs.Grammar.{the_end, a_name, a_number, the_text};
+ghost use Rattle.shell_words.specs.Grammar.{the_end, the_chain_end, a_name, a_number, the_text};
 ghost use Rattle.shell_words.specs.Number.{number_of};
 ghost use Rattle.shell_words.specs.Shown.{go_on};
 
 use crate::BadLine;
 use crate::numbers::read_number;
-use elem_core::{Line, Name};
+use arrayvec::ArrayString;
+use elem_core::{Line, MAX_NAME, Name};
+use itoa::Buffer;
+
+/// The most bytes of the name of a partial document: those of a name, a full stop, and the ten digits of a number.
+pub const MOST_NUMBERED: usize = MAX_NAME + 11;
 
 // The first piece of the text, and what stands behind the space that ends it.
 pub(crate) fn split_piece(text: &str) -> (&str, Option<&str>)
@@ -90,6 +96,43 @@ pub(crate) fn name_and_number(rest: Option<&str>) -> Result<(Name<'_>, u32), Bad
     nothing(rest)?;
     let name = named(piece)?;
     Ok((name, number))
+}
+
+// The pieces of a command `WORD FILE NUMBER` on a chain of files. The file of this number has a name too.
+pub(crate) fn chain(rest: Option<&str>) -> Result<(Name<'_>, u32), BadLine>
+    ensures { (f : List ℕ → ℕ → PlainCommand)
+        → a_name (λ b. a_number (λ i. the_chain_end b i (f b i))) (option_copied rest.entry)
+        ≡ go_on result (λ read. Ok (f (name_bytes read.0) read.1)) }
+{
+    let (piece, rest) = next_piece(rest)?;
+    let (number, rest) = next_number(rest)?;
+    nothing(rest)?;
+    let file = named(piece)?;
+    named(&numbered(file, number))?;
+    Ok((file, number))
+}
+
+/// The name of the partial document of this number behind the file. It may be too long for a name.
+pub fn numbered(file: Name<'_>, number: u32) -> ArrayString<MOST_NUMBERED>
+    ensures { result.bytes ≡ numbered (name_bytes file.entry) number }
+{
+    let mut digits = Buffer::new();
+    let mut name = ArrayString::new();
+    name.push_str(file.as_str());
+    name.push_str(".");
+    name.push_str(digits.format(number));
+    name
+}
+
+// The pieces of a command `WORD NUMBER NAME`.
+pub(crate) fn number_and_name(rest: Option<&str>) -> Result<(u32, Name<'_>), BadLine>
+    ensures { (f : ℕ → List ℕ → PlainCommand)
+        → a_number (λ i. a_name (λ b. the_end (f i b))) (option_copied rest.entry)
+        ≡ go_on result (λ read. Ok (f read.0 (name_bytes read.1))) }
+{
+    let (number, rest) = next_number(rest)?;
+    let name = name(rest)?;
+    Ok((number, name))
 }
 
 // The pieces of a command `WORD NAME NUMBER NUMBER`.

@@ -7,7 +7,7 @@ use Rattle.std.proofs.Math.Nat.{mod-lt}
 use Rattle.elem_core.specs.Naming.{IsName}
 use Rattle.shell_terms.specs.Edit.{new, add, set, put, del, cat, copy}
 use Rattle.shell_terms.specs.Command.{PlainCommand, edit, mark, undo, redo}
-use Rattle.shell_terms.specs.Changing.{only_changes}
+use Rattle.shell_terms.specs.Kinds.{only_changes}
 use Rattle.shell_words.specs.Grammar.{commands, a_name, a_number, the_end, the_text}
 use Rattle.work_lines.specs.Lines.{next_number, kind_in, buffer_in, other_in, size_in, line_by, line_of, lines_from, new_line}
 use Rattle.work_lines.specs.View.{last_new_lines}

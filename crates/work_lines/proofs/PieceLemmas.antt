@@ -18,7 +18,7 @@ use Rattle.std.proofs.lemmas.Bool.Decides.{nat_tests}
 use Rattle.elem_core.specs.Cell.{IsCell}
 use Rattle.elem_core.specs.Naming.{IsName, is_name_byte}
 use Rattle.shell_terms.specs.Command.{PlainCommand}
-use Rattle.shell_terms.specs.Changing.{only_changes}
+use Rattle.shell_terms.specs.Kinds.{only_changes}
 use Rattle.shell_words.specs.Grammar.{RestMeaning, is_space, first_piece, after_piece, if_named, a_name, a_number, commands}
 use Rattle.shell_words.proofs.NumberLemmas.{number_to-decimal}
 use Rattle.shell_words.proofs.GrammarLemmas.{if_named-yes}

@@ -4,7 +4,7 @@ use Rattle.std.specs.Fmt.{decimal}
 use Rattle.elem_core.specs.Cell.{IsCell}
 use Rattle.shell_terms.specs.Edit.{Bytes, new, add, set, put, del, cat, copy}
 use Rattle.shell_terms.specs.Command.{PlainCommand, edit, mark, undo, redo}
-use Rattle.shell_terms.specs.Changing.{only_changes}
+use Rattle.shell_terms.specs.Kinds.{only_changes}
 use Rattle.shell_words.specs.Grammar.{meaning}
 use Rattle.work_lines.specs.Lines.{line_by, new_line}
 

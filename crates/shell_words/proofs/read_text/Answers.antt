@@ -1,7 +1,7 @@
 use Rattle.std.proofs.Common.{◌≡◌, ◌∙◌, sym, refl, ap, None, bytes_eq, rules}
 use Rattle.std.specs.Map.{lookup}
 use Rattle.shell_terms.specs.Edit.{new, add, set, put, del, cat, cut, copy, drop, star, unstar}
-use Rattle.shell_terms.specs.Command.{edit, mark, unmark, back, undo, redo, begin, «end», abort, history, get, len, show, list, stars, marks, same, eqv, stats, made, read, write, save, load, quit}
+use Rattle.shell_terms.specs.Command.{edit, merge, join_stars, common_stars, other_stars, join_buffers, mark, unmark, back, undo, redo, begin, «end», abort, history, get, len, show, list, stars, marks, same, eqv, stats, made, read, write, save, load, part, chain, indent, dedent, quit}
 use Rattle.elem_core.specs.Shown.{name_bytes, line_bytes}
 use Rattle.shell_words.specs.Grammar.{commands}
 use Rattle.shell_words.specs.Shown.{plain_command}
@@ -127,6 +127,34 @@ returns-in-unstar c =
     c.utf8.text (sym c.split_piece.ensures.piece ∙ c.in-unstar.is) refl c.split_piece.ensures.rest (c.name-in-unstar.ensures (λ b. edit (unstar b)))
     c.map-in-unstar.ensures.cases (λ x command is. ap plain_command is)
 
+pub returns-in-starmerge : goal.returns-in-starmerge
+unfolding commands
+returns-in-starmerge c =
+    answers_word c.args.text.now _ _ _ c.name-in-starmerge.result c.map-in-starmerge.result _ (λ v. merge join_stars (name_bytes v))
+    c.utf8.text (sym c.split_piece.ensures.piece ∙ c.in-starmerge.is) refl c.split_piece.ensures.rest (c.name-in-starmerge.ensures (merge join_stars))
+    c.map-in-starmerge.ensures.cases (λ x command is. ap plain_command is)
+
+pub returns-in-starboth : goal.returns-in-starboth
+unfolding commands
+returns-in-starboth c =
+    answers_word c.args.text.now _ _ _ c.name-in-starboth.result c.map-in-starboth.result _ (λ v. merge common_stars (name_bytes v))
+    c.utf8.text (sym c.split_piece.ensures.piece ∙ c.in-starboth.is) refl c.split_piece.ensures.rest (c.name-in-starboth.ensures (merge common_stars))
+    c.map-in-starboth.ensures.cases (λ x command is. ap plain_command is)
+
+pub returns-in-starless : goal.returns-in-starless
+unfolding commands
+returns-in-starless c =
+    answers_word c.args.text.now _ _ _ c.name-in-starless.result c.map-in-starless.result _ (λ v. merge other_stars (name_bytes v))
+    c.utf8.text (sym c.split_piece.ensures.piece ∙ c.in-starless.is) refl c.split_piece.ensures.rest (c.name-in-starless.ensures (merge other_stars))
+    c.map-in-starless.ensures.cases (λ x command is. ap plain_command is)
+
+pub returns-in-merge : goal.returns-in-merge
+unfolding commands
+returns-in-merge c =
+    answers_word c.args.text.now _ _ _ c.name-in-merge.result c.map-in-merge.result _ (λ v. merge join_buffers (name_bytes v))
+    c.utf8.text (sym c.split_piece.ensures.piece ∙ c.in-merge.is) refl c.split_piece.ensures.rest (c.name-in-merge.ensures (merge join_buffers))
+    c.map-in-merge.ensures.cases (λ x command is. ap plain_command is)
+
 pub returns-in-mark : goal.returns-in-mark
 unfolding commands
 returns-in-mark c =
@@ -246,6 +274,34 @@ returns-in-load c =
     c.utf8.text (sym c.split_piece.ensures.piece ∙ c.in-load.is) refl c.split_piece.ensures.rest (c.name-in-load.ensures load)
     c.map-in-load.ensures.cases (λ x command is. ap plain_command is)
 
+pub returns-in-part : goal.returns-in-part
+unfolding commands
+returns-in-part c =
+    answers_word c.args.text.now _ _ _ c.chain.result c.map-in-part.result _ (λ x. part (name_bytes x.0) x.1)
+    c.utf8.text (sym c.split_piece.ensures.piece ∙ c.in-part.is) refl c.split_piece.ensures.rest (c.chain.ensures part)
+    c.map-in-part.ensures.cases (λ x command is. search rules)
+
+pub returns-in-chain : goal.returns-in-chain
+unfolding commands
+returns-in-chain c =
+    answers_word c.args.text.now _ _ _ c.chain-in-chain.result c.map-in-chain.result _ (λ x. chain (name_bytes x.0) x.1)
+    c.utf8.text (sym c.split_piece.ensures.piece ∙ c.in-chain.is) refl c.split_piece.ensures.rest (c.chain-in-chain.ensures chain)
+    c.map-in-chain.ensures.cases (λ x command is. search rules)
+
+pub returns-in-indent : goal.returns-in-indent
+unfolding commands
+returns-in-indent c =
+    answers_word c.args.text.now _ _ _ c.number_and_name.result c.map-in-indent.result _ (λ x. indent x.0 (name_bytes x.1))
+    c.utf8.text (sym c.split_piece.ensures.piece ∙ c.in-indent.is) refl c.split_piece.ensures.rest (c.number_and_name.ensures indent)
+    c.map-in-indent.ensures.cases (λ x command is. search rules)
+
+pub returns-in-dedent : goal.returns-in-dedent
+unfolding commands
+returns-in-dedent c =
+    answers_word c.args.text.now _ _ _ c.number_and_name-in-dedent.result c.map-in-dedent.result _ (λ x. dedent x.0 (name_bytes x.1))
+    c.utf8.text (sym c.split_piece.ensures.piece ∙ c.in-dedent.is) refl c.split_piece.ensures.rest (c.number_and_name-in-dedent.ensures dedent)
+    c.map-in-dedent.ensures.cases (λ x command is. search rules)
+
 pub returns-in-quit : goal.returns-in-quit
 unfolding commands
 returns-in-quit c =
@@ -267,6 +323,10 @@ returns-in_default c =
     let no_drop = other_word _ _ c.in_default.not-drop in
     let no_star = other_word _ _ c.in_default.not-star in
     let no_unstar = other_word _ _ c.in_default.not-unstar in
+    let no_starmerge = other_word _ _ c.in_default.not-starmerge in
+    let no_starboth = other_word _ _ c.in_default.not-starboth in
+    let no_starless = other_word _ _ c.in_default.not-starless in
+    let no_merge = other_word _ _ c.in_default.not-merge in
     let no_mark = other_word _ _ c.in_default.not-mark in
     let no_unmark = other_word _ _ c.in_default.not-unmark in
     let no_back = other_word _ _ c.in_default.not-back in
@@ -290,6 +350,10 @@ returns-in_default c =
     let no_write = other_word _ _ c.in_default.not-write in
     let no_save = other_word _ _ c.in_default.not-save in
     let no_load = other_word _ _ c.in_default.not-load in
+    let no_part = other_word _ _ c.in_default.not-part in
+    let no_chain = other_word _ _ c.in_default.not-chain in
+    let no_indent = other_word _ _ c.in_default.not-indent in
+    let no_dedent = other_word _ _ c.in_default.not-dedent in
     let no_quit = other_word _ _ c.in_default.not-quit in
-    let none : lookup (bytes_eq c.split_piece.result.0.now) commands ≡ None = rw (no_new, no_add, no_set, no_put, no_del, no_cat, no_cut, no_copy, no_drop, no_star, no_unstar, no_mark, no_unmark, no_back, no_undo, no_redo, no_begin, no_end, no_abort, no_history, no_get, no_len, no_show, no_list, no_stars, no_marks, no_same, no_eqv, no_stats, no_made, no_read, no_write, no_save, no_load, no_quit) refl in
+    let none : lookup (bytes_eq c.split_piece.result.0.now) commands ≡ None = rw (no_new, no_add, no_set, no_put, no_del, no_cat, no_cut, no_copy, no_drop, no_star, no_unstar, no_starmerge, no_starboth, no_starless, no_merge, no_mark, no_unmark, no_back, no_undo, no_redo, no_begin, no_end, no_abort, no_history, no_get, no_len, no_show, no_list, no_stars, no_marks, no_same, no_eqv, no_stats, no_made, no_read, no_write, no_save, no_load, no_part, no_chain, no_indent, no_dedent, no_quit) refl in
     sym (meaning-unknown c.args.text.now _ c.utf8.text (sym c.split_piece.ensures.piece) none)

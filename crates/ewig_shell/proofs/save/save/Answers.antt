@@ -5,7 +5,8 @@ use Rattle.pool_text.specs.Document.{text}
 use Rattle.pool_text.specs.Length.{capped}
 use Rattle.pool_text.specs.declared.pool.Pool.{Pool}
 use Rattle.ewig_shell.proofs.StepLemmas.{save-outside, answer-inside, answer-outside, ObeysOn-refused, fault-is}
-use Rattle.ewig_shell.proofs.SaveLemmas.{save-stores, counted-large, counted-small, document-is, Stores-lacks, Stores-large, Stores-kept, saved_as}
+use Rattle.ewig_shell.specs.Saving.{saved_as}
+use Rattle.ewig_shell.proofs.SaveLemmas.{save-stores, counted-large, counted-small, document-is, Stores-lacks, Stores-large, Stores-kept}
 use Rattle.ewig_shell.proofs.save.save.Goals as goal
 
 pub returns-then-in_batch : goal.returns-then-in_batch

@@ -1,9 +1,10 @@
 use Rattle.std.proofs.Common.{◌≡◌, ◌≤◌, ◌<◌, ◌∙◌, ap, sym, subst, refl, length, List, ℕ, Ok, IsErrAnd}
 use Rattle.elem_core.specs.Shown.{name_bytes}
-use Rattle.ewig_shell.specs.declared.save.SaveFault.{SaveFault}
+use Rattle.ewig_shell.specs.declared.store_fault.StoreFault.{StoreFault}
 use Rattle.ewig_shell.specs.Step.{ended_lines, most_stored}
 use Rattle.ewig_shell.proofs.StepLemmas.{fault-is}
-use Rattle.ewig_shell.proofs.SaveLemmas.{saved_as, count-absent, never-past, all-shown, shown-again, ObeysOn-absent, write-granted, write-stores, collected-are, collected-lacks, Stores-large, Stores-lacks, Stores-kept}
+use Rattle.ewig_shell.specs.Saving.{saved_as}
+use Rattle.ewig_shell.proofs.SaveLemmas.{count-absent, never-past, all-shown, shown-again, ObeysOn-absent, write-granted, write-stores, collected-are, collected-lacks, Stores-large, Stores-lacks, Stores-kept}
 use Rattle.ewig_shell.proofs.save.write.Goals as goal
 
 pub returns-in_default : goal.returns-in_default
@@ -31,7 +32,7 @@ pub returns-in_err-bytes : goal.returns-in_err-bytes
 returns-in_err-bytes g c =
     let all = all-shown c.args.space.now.pool c.in-Ok.ensures.0 c.in-Ok-lines-2.ensures.0 _ (λ lines. ⊥) c.in-Ok.count c.in-Ok-lines-2.lines c.in-Ok.ensures.1 c.in-Ok-lines-2.ensures.1 c.in-Ok.ensures.2 c.in-Ok-lines-2.ensures.2 in
     let lacks = collected-lacks _ c.collected.result c.in_err-bytes.field-0.0 c.collected.ensures c.in_err-bytes.was in
-    Stores-lacks c.in-Ok.ensures.0 c.from_residual.result (subst (λ (f : SaveFault). IsErrAnd c.from_residual.result (λ (e : SaveFault). e ≡ f)) lacks c.from_residual.ensures.1) c.in-Ok.ensures.1
+    Stores-lacks c.in-Ok.ensures.0 c.from_residual.result (subst (λ (f : StoreFault). IsErrAnd c.from_residual.result (λ (e : StoreFault). e ≡ f)) lacks c.from_residual.ensures.1) c.in-Ok.ensures.1
     (write-granted c.in-Ok.ensures.0 (name_bytes c.args.buffer) (name_bytes c.args.file) all.0 all.1) refl
 
 pub returns-in_err-keep : goal.returns-in_err-keep
