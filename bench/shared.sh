@@ -20,10 +20,14 @@ begin() {
 }
 
 # begin_shell COUNT: begins a bench of the shell, with so many turns, or as many as COUNT in the environment says. Where the shell
-# isn't proved and built yet, that is done first.
+# isn't proved and built yet, that is done first. With PROGRAM in the environment that program is run in its place.
 begin_shell() {
     count=${COUNT:-$1}
     begin
+    if [ -n "${PROGRAM:-}" ]; then
+        program=$(readlink -f -- "$PROGRAM")
+        return
+    fi
     program=$top/crates/ewig_shell/out/ewig_shell
     "$top/ewig" </dev/null >/dev/null
 }

@@ -2,9 +2,10 @@
 """The shell over plain lists and dictionaries: a second reading of docs/SHELL.md.
 
 It shares nothing with the program but the manual, so that tests/fuzz.py can compare the two. It copies whole
-dictionaries at each edit, and is meant for scripts with small buffers. It has no rows and no documents, and so it doesn't
-know `stats`, `made`, `save` and `load`; files of lines it reads and writes in a dictionary. Run alone, it answers its
-standard input, with its own words for the program's and no files.
+dictionaries at each edit, and is meant for scripts with small buffers. It has no rows, and so it doesn't know `stats` and
+`made`, and its files are a dictionary: a file of lines is bytes, a document is what it stands for (`Kept`). What becomes of
+a chain whose parts were made for others its rows alone tell: there it says that it can't tell (`Untold`), and nothing is
+changed. Run alone, it answers its standard input, with its own words for the program's and no files.
 """
 
 import re
@@ -13,6 +14,11 @@ import sys
 LONGEST_LINE = 65_536
 MOST = 2**32 - 1
 LARGEST_FILE = 67_108_864
+LONGEST_CHAIN = 64
+FARTHEST = 80
+CODE_BITS = 64
+# The version of the documents that are written, and the first one, of codes with fewer bits.
+TODAY, FIRST, FIRST_BITS = 3, 1, 32
 
 USAGE = "usage: ewig [--bits W] [--open F] [--work SEED --count N]"
 
@@ -22,9 +28,11 @@ SHAPES = {
     "drop": "N", "star": "N", "unstar": "N", "read": "NN", "write": "NN",
     "mark": "N", "unmark": "N", "back": "N", "undo": "", "redo": "", "begin": "", "end": "", "abort": "", "history": "I",
     "get": "NI", "len": "N", "show": "NII", "list": "", "stars": "", "marks": "", "same": "NN", "eqv": "NN",
-    "quit": "",
+    "starmerge": "N", "starboth": "N", "starless": "N", "merge": "N",
+    "save": "N", "load": "N", "part": "NI", "chain": "NI", "indent": "IN", "dedent": "IN", "quit": "",
 }
 EDITS = {"new", "add", "set", "put", "del", "cat", "cut", "copy", "drop", "star", "unstar"}
+MERGES = {"starmerge", "starboth", "starless", "merge"}
 
 NAME = re.compile(r"[A-Za-z0-9_][A-Za-z0-9._-]{0,63}\Z", re.ASCII)
 NUMBER = re.compile(r"(0|[1-9][0-9]*)\Z", re.ASCII)
@@ -32,6 +40,10 @@ NUMBER = re.compile(r"(0|[1-9][0-9]*)\Z", re.ASCII)
 
 class Refused(Exception):
     """A refusal, with its reason."""
+
+
+class Untold(Exception):
+    """The reply depends on rows."""
 
 
 def needs(test, reason):
@@ -65,7 +77,14 @@ def read_line(line):
         arguments.append(piece)
     for kind, piece in zip(shape, arguments):
         needs(kind != "N" or NAME.match(piece), "name")
+    if word in ("part", "chain"):
+        needs(NAME.match("{}.{}".format(*arguments)), "name")
     return word, arguments
+
+
+def numbered(file, number):
+    """The file of a chain that has this number: the first one at 0, and the partial documents from 1 on."""
+    return f"{file}.{number}" if number else file
 
 
 def yes_or_no(answer):
@@ -92,6 +111,14 @@ class State:
 
     def without(self, name):
         return State({other: lines for other, lines in self.buffers.items() if other != name}, self.stars)
+
+
+def merged(state, word, other):
+    """The state that a merge with another makes."""
+    if word == "merge":
+        return State({**other.buffers, **state.buffers}, state.stars)
+    stars = {"starmerge": frozenset.union, "starboth": frozenset.intersection, "starless": frozenset.difference}[word]
+    return State(state.buffers, stars(state.stars, other.stars))
 
 
 def edited(state, word, arguments):
@@ -132,12 +159,38 @@ def edited(state, word, arguments):
     return rest if word == "del" else rest.having(arguments[3], lines[first:past])
 
 
+class Kept:
+    """What a document stands for: the current state, the versions, undo, redo, and how many states undo keeps. A partial document
+    has the documents that it was made for before it. `bits` are those of the shell that wrote it, None of this one."""
+
+    def __init__(self, spaces, before=(), version=TODAY, bits=None):
+        current, versions, undo, redo, most = spaces
+        self.spaces = current, dict(versions), list(undo), list(redo), most
+        self.before, self.version, self.bits = before, version, bits
+
+
+def having_moved(spaces, change):
+    """The same with each line of each state changed. What was one state is one."""
+    images = {}
+
+    def of(state):
+        if id(state) not in images:
+            buffers = {name: [change(line) for line in lines] for name, lines in state.buffers.items()}
+            images[id(state)] = State(buffers, state.stars)
+        return images[id(state)]
+
+    current, versions, undo, redo, most = spaces
+    versions = {name: of(state) for name, state in versions.items()}
+    return of(current), versions, [of(state) for state in undo], [of(state) for state in redo], most
+
+
 class Shell:
     """A current state, versions, states to undo and to redo, how many of the former are kept, and in a batch the state at its
     begin; and the files."""
 
-    def __init__(self, files=None):
+    def __init__(self, files=None, bits=CODE_BITS):
         self.files = {} if files is None else files
+        self.bits = bits
         self.current = State()
         self.versions = {}
         self.undo = []
@@ -152,6 +205,10 @@ class Shell:
             word, arguments = read_line(line)
             if word in EDITS:
                 self.become(edited(self.current, word, arguments))
+                return ["ok"]
+            if word in MERGES:
+                needs(arguments[0] in self.versions, "none")
+                self.become(merged(self.current, word, self.versions[arguments[0]]))
                 return ["ok"]
             return getattr(self, "do_" + word)(*arguments) or ["ok"]
         except Refused as refusal:
@@ -225,9 +282,94 @@ class Shell:
         self.current = self.base
         self.base = None
 
+    def spaces(self):
+        """All that a document keeps."""
+        return self.current, self.versions, self.undo, self.redo, self.most
+
+    def take(self, kept):
+        """Puts what a document stands for in the place of all that there is."""
+        self.current, versions, undo, redo, self.most = kept.spaces
+        self.versions, self.undo, self.redo = dict(versions), list(undo), list(redo)
+
+    def fetched(self, names):
+        """What stands in these files."""
+        length, found = 0, []
+        for name in names:
+            needs(name in self.files, "missing")
+            found.append(self.files[name])
+            # No document that this shell keeps is nearly as large.
+            length += len(found[-1]) if isinstance(found[-1], bytes) else 0
+            needs(length <= LARGEST_FILE, "large")
+        return found
+
+    def test_whole(self, found, versions):
+        """Refuses what is no whole document of one of these versions. No bytes of these scripts are a document."""
+        needs(isinstance(found, Kept), "damaged json")
+        needs(not found.before, "damaged form")
+        needs(found.version in versions, "damaged version")
+        wanted = min(self.bits, FIRST_BITS) if found.version == FIRST else self.bits
+        needs(found.bits in (None, wanted), "damaged bits")
+
+    def chain_in(self, file, count):
+        """The documents of a chain with so many partial ones, as far as this shell can tell that they are one."""
+        found = self.fetched([numbered(file, number) for number in range(count + 1)])
+        self.test_whole(found[0], {TODAY})
+        for place, part in enumerate(found[1:], 1):
+            needs(isinstance(part, Kept), "damaged json")
+            needs(part.before, "damaged form")
+            if part.before != tuple(found[:place]):
+                raise Untold
+        return found
+
+    def do_save(self, file):
+        self.outside_batch()
+        self.files[file] = Kept(self.spaces())
+
+    def do_load(self, file):
+        self.outside_batch()
+        [found] = self.fetched([file])
+        self.test_whole(found, {TODAY, 2, FIRST})
+        self.take(found)
+
+    def do_part(self, file, number):
+        self.outside_batch()
+        needs(1 <= number <= LONGEST_CHAIN, "range")
+        chain = self.chain_in(file, number - 1)
+        self.files[numbered(file, number)] = Kept(self.spaces(), tuple(chain))
+
+    def do_chain(self, file, number):
+        self.outside_batch()
+        needs(1 <= number <= LONGEST_CHAIN, "range")
+        self.take(self.chain_in(file, number)[-1])
+
+    def lines(self):
+        """Each line of each state that is kept."""
+        current, versions, undo, redo, _most = self.spaces()
+        for state in (current, *versions.values(), *undo, *redo):
+            for lines in state.buffers.values():
+                yield from lines
+
+    def do_indent(self, count, file):
+        self.outside_batch()
+        needs(count <= FARTHEST, "range")
+        needs(all(len(line.encode("utf-8")) <= LONGEST_LINE - count for line in self.lines()), "limit")
+        self.files[file] = Kept(having_moved(self.spaces(), lambda line: " " * count + line))
+
+    def do_dedent(self, count, file):
+        self.outside_batch()
+        needs(count <= FARTHEST, "range")
+
+        def change(line):
+            spaces = len(line) - len(line.lstrip(" "))
+            return line[min(count, spaces):]
+
+        self.files[file] = Kept(having_moved(self.spaces(), change))
+
     def do_read(self, name, file):
         needs(file in self.files, "missing")
         data = self.files[file]
+        if isinstance(data, Kept):
+            raise Untold
         needs(len(data) <= LARGEST_FILE, "large")
         lines = pieces(data)
         needs(all(len(line) <= LONGEST_LINE for line in lines), "long")
@@ -346,11 +488,10 @@ def output(data, words=(), files=None):
     if "work" in options:
         written = work(options["work"], options["count"])
     else:
-        shell = Shell(files)
+        shell = Shell(files, options.get("bits", CODE_BITS))
         written = []
-        # No file of these scripts is a document.
         if "open" in options:
-            written.append("! damaged json" if options["open"] in shell.files else "! missing")
+            written += shell.answer(f"load {options['open']}".encode("ascii"))
         for piece in pieces(data):
             written += shell.answer(piece)
             if shell.over:

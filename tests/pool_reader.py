@@ -3,10 +3,12 @@
 
     tests/pool_reader.py [--bits W] FILE..     tells of each file what it stands for, or the first test that it fails
     tests/pool_reader.py --saved [--bits W] FILE   writes what a shell saves that has loaded the file
+    tests/pool_reader.py --chain [--bits W] FILE PART..   writes what a shell saves that has loaded this chain
     tests/pool_reader.py --self-test           reads documents whose answers are known
 
-It reads documents of all versions and carries those of version 1 over, as a shell does that loads them. It shares
-nothing with the program but that page, so that tests/hostile.py and tests/old_documents.py can compare the two. No shared
+It reads documents of all versions and carries those of version 1 over, as a shell does that loads them; it reads chains of
+documents, makes the partial document of a pool after a chain, and moves the lines of a pool. It shares nothing with the
+program but that page, so that tests/hostile.py, tests/saves.py and tests/old_documents.py can compare the two. No shared
 row is ever unfolded: each test keeps a fact for each row. It isn't part of the gate.
 """
 
@@ -22,6 +24,8 @@ from collections import namedtuple
 TESTS = ["json", "form", "version", "bits", "row", "link", "text", "vector", "trie", "kind", "order"]
 KEYS = ["bits", "format", "roots", "rows", "version"]
 BOUNDED_KEYS = sorted([*KEYS, "history"])
+PART_KEYS = sorted([*BOUNDED_KEYS, "after"])
+WHOLE_FORMAT, PART_FORMAT = "ewig-pool", "ewig-part"
 LONGEST_TEXT = 65_536
 LONGEST_VECTOR = 2**32 - 1
 
@@ -43,6 +47,9 @@ BITS = RULES[TODAY].code_bits
 # A row: its letter, the text of a cell, the numbers of the others, and the links.
 Row = namedtuple("Row", "letter text numbers links")
 Pool = namedtuple("Pool", "version bits rows roots history", defaults=[MOST_HISTORY])
+
+# A partial document: how many rows come before its own.
+Part = namedtuple("Part", "after bits rows roots history")
 
 
 def forms_by(rules):
@@ -193,21 +200,35 @@ def row_of(value, version):
     return Row(letter, None, numbers, links)
 
 
-def pool_of(value, bits):
-    """The pool of a JSON value, which passes the tests `form` to `row`."""
+def test_form(value, document_format, history):
+    """What the test `form` asks of whole and of partial documents, beside their keys."""
+    needs(is_number(history) and history <= MOST_HISTORY, "form")
+    needs(value["format"] == document_format and is_number(value["bits"]) and is_number(value["version"]), "form")
+    roots = value["roots"]
+    needs(type(roots) is list and len(roots) == 4 and all(map(is_number, roots)), "form")
+    needs(type(value["rows"]) is list, "form")
+
+
+def pool_of(value, bits, versions=tuple(RULES)):
+    """The pool of a JSON value, which passes the tests `form` to `row`, of one of these versions."""
     needs(type(value) is dict, "form")
     bounded = value.get("version") == TODAY
     needs(sorted(value) == (BOUNDED_KEYS if bounded else KEYS), "form")
     history = value["history"] if bounded else MOST_HISTORY
-    needs(is_number(history) and history <= MOST_HISTORY, "form")
-    needs(value["format"] == "ewig-pool" and is_number(value["bits"]) and is_number(value["version"]), "form")
-    roots = value["roots"]
-    needs(type(roots) is list and len(roots) == 4 and all(map(is_number, roots)), "form")
-    needs(type(value["rows"]) is list, "form")
+    test_form(value, WHOLE_FORMAT, history)
     version = value["version"]
-    needs(version in RULES, "version")
+    needs(version in versions, "version")
     needs(value["bits"] == bits_in(version, bits), "bits")
-    return Pool(version, value["bits"], [row_of(row, version) for row in value["rows"]], roots, history)
+    return Pool(version, value["bits"], [row_of(row, version) for row in value["rows"]], value["roots"], history)
+
+
+def part_of(value, bits):
+    """The partial document of a JSON value, which passes the tests `form` to `row`."""
+    needs(type(value) is dict and sorted(value) == PART_KEYS and is_number(value["after"]), "form")
+    test_form(value, PART_FORMAT, value["history"])
+    needs(value["version"] == TODAY, "version")
+    needs(value["bits"] == bits, "bits")
+    return Part(value["after"], bits, [row_of(row, TODAY) for row in value["rows"]], value["roots"], value["history"])
 
 
 def test_links(pool):
@@ -405,15 +426,22 @@ def test_order(pool):
     needs(order_of(pool.rows, pool.roots) == list(range(len(pool.rows))), "order")
 
 
-def read(data, bits=BITS):
-    """The workspace of a document, by its own rows. Raises `Damaged` with the first test that the bytes fail."""
-    pool = pool_of(value_of(data), bits)
+def test_open(pool):
+    """The tests from `link` to `kind`, and what is known of each vector row then."""
     test_links(pool)
     test_texts(pool)
     facts = test_vectors(pool)
     test_tries(pool)
     test_kinds(pool)
     test_bound(pool, facts)
+    return facts
+
+
+def read(data, bits=BITS, versions=tuple(RULES)):
+    """The workspace of a document of one of these versions, by its own rows. Raises `Damaged` with the first test that the bytes
+    fail."""
+    pool = pool_of(value_of(data), bits, versions)
+    facts = test_open(pool)
     test_order(pool)
     return Workspace(pool, facts)
 
@@ -427,6 +455,105 @@ def reply_to(data, bits=BITS):
     except LeftOpen:
         return None
     return "ok"
+
+
+# Chains: a whole document of today, and partial ones behind it
+
+
+def chain_start(data, bits=BITS):
+    """The chain of one document: all rows so far, and the roots and the bound of the last document."""
+    return read(data, bits, (TODAY,)).pool
+
+
+def chain_more(chain, data):
+    """The chain with a partial document behind it. Raises `Damaged` with the first test that this one fails."""
+    part = part_of(value_of(data), chain.bits)
+    needs(part.after == len(chain.rows), "link")
+    longer = chain._replace(rows=chain.rows + part.rows, roots=part.roots, history=part.history)
+    test_open(longer)
+    return longer
+
+
+def chain_of(documents, bits=BITS):
+    """The chain of these documents. Raises `Damaged` with the first test that the first damaged one fails."""
+    first, *parts = documents
+    return functools.reduce(chain_more, parts, chain_start(first, bits))
+
+
+def pool_of_chain(chain):
+    """The pool that a chain stands for."""
+    return in_order(chain)
+
+
+def chain_reply(documents, bits=BITS):
+    """What a shell by so many bits answers to `chain` where its files are these, or None where the format leaves that open."""
+    try:
+        chain_of(documents, bits)
+    except Damaged as damage:
+        return f"! damaged {damage}"
+    except LeftOpen:
+        return None
+    return "ok"
+
+
+def identity(row):
+    """What two rows have in common that look alike."""
+    return row.letter, row.text, tuple(row.numbers), tuple(row.links)
+
+
+def delta(chain, pool):
+    """The partial document by which the chain stands for the pool. Each row of the pool gets the first place of the chain where a
+    row looks like it, its links replaced by the places of what they lead to, and no earlier row got that place; else the next place
+    behind the chain."""
+    free = {}
+    for place, row in enumerate(chain.rows):
+        free.setdefault(identity(row), []).append(place)
+    for places in free.values():
+        places.reverse()
+    places, own = [], []
+    for row in pool.rows:
+        row = row._replace(links=[places[link] for link in row.links])
+        alike = free.get(identity(row))
+        if alike:
+            places.append(alike.pop())
+        else:
+            places.append(len(chain.rows) + len(own))
+            own.append(row)
+    return Part(len(chain.rows), pool.bits, own, [places[root] for root in pool.roots], pool.history)
+
+
+# Pools with their lines changed
+
+
+def line_cells(pool):
+    """The places of the cells that are lines, in the order in which leaves name them."""
+    return list(dict.fromkeys(
+        link for row in pool.rows if row.letter == "l" for link in row.links if pool.rows[link].letter == "c"
+    ))
+
+
+def mapped(pool, change):
+    """The pool with the text of each line changed, once for each cell: one that is a key or a star too stays one beside."""
+    lines = line_cells(pool)
+    new = {place: len(pool.rows) + index for index, place in enumerate(lines)}
+    rows = [
+        row._replace(links=[new.get(link, link) for link in row.links]) if row.letter in "li" else row for row in pool.rows
+    ]
+    rows += [Row("c", change(pool.rows[place].text), [], []) for place in lines]
+    return in_order(pool._replace(rows=rows))
+
+
+def indented(pool, count):
+    """The pool whose lines have so many spaces more before them, or None where one is too long for them."""
+    texts = (pool.rows[place].text for place in line_cells(pool))
+    if any(len(text.encode("utf-8")) > LONGEST_TEXT - count for text in texts):
+        return None
+    return mapped(pool, lambda text: " " * count + text)
+
+
+def dedented(pool, count):
+    """The pool whose lines have lost the spaces before them, at most so many."""
+    return mapped(pool, lambda text: text[min(count, len(text) - len(text.lstrip(" "))):])
 
 
 # Documents of version 1, carried over
@@ -584,9 +711,20 @@ def compact(value):
 def document(pool):
     """The JSON value of a pool as it stands, whether it is valid or not."""
     return {
-        "bits": pool.bits, "format": "ewig-pool", "roots": list(pool.roots), "rows": [form(row) for row in pool.rows],
+        "bits": pool.bits, "format": WHOLE_FORMAT, "roots": list(pool.roots), "rows": [form(row) for row in pool.rows],
         "version": pool.version, **bound_in(pool.version, pool.history),
     }
+
+
+def part_document(part):
+    """The JSON value of a partial document as it stands."""
+    value = document(Pool(TODAY, part.bits, part.rows, part.roots, part.history))
+    return {**value, "after": part.after, "format": PART_FORMAT}
+
+
+def part_written(chain, pool):
+    """The compact partial document by which the chain stands for the pool."""
+    return compact(part_document(delta(chain, pool)))
 
 
 def bound_in(version, history=MOST_HISTORY):
@@ -762,9 +900,104 @@ def carried_over():
     ]
 
 
+CELLS = [["c", "a"], ["c", "x"], ["c", "x"]]
+TWO_LINES = two_lines(CELLS[1:], [1, 2])
+TWO_MORE_ROWS = [*CELLS, ["l", [7, 8]], ["p", [6, 9]], ["m", 0, 4096, 0, [10]], ["s", [11, 0]]]
+# A cell that is the name of the buffer, and its line.
+NAME_AND_LINE = whole(
+    [["c", "a"], ["l", [0]], ["p", [0, 1]], ["m", 0, 4096, 0, [2]], EMPTY_MAP, ["s", [3, 4]], EMPTY_MAP, ["l", []], ["l", []]],
+    [5, 6, 7, 8],
+)
+
+
+def part_text(rows=(), roots=(12, 1, 4, 5), after=6, **others):
+    """A partial document, other keys in place of the usual ones, and none where it is None."""
+    value = {
+        "after": after, "bits": BITS, "format": PART_FORMAT, "history": MOST_HISTORY, "roots": list(roots), "rows": list(rows),
+        "version": TODAY, **others,
+    }
+    return compact({key: it for key, it in value.items() if it is not None})
+
+
+def two_more(rows=None, **others):
+    """The partial document after the start space by which it stands for a buffer with two lines."""
+    return part_text(TWO_MORE_ROWS if rows is None else rows, **others)
+
+
+def known_chains():
+    """Chains, and the replies to them."""
+    again = part_text(roots=[12, 1, 4, 5], after=13)
+    unused = two_more(rows=[*TWO_MORE_ROWS, ["c", "unused"]])
+    others = [*TWO_MORE_ROWS[3:], *CELLS]
+    return [
+        ([start()], "ok"), ([start(), two_more()], "ok"), ([start(), two_more(), again], "ok"), ([start(), unused], "ok"),
+        ([start(), part_text(roots=[2, 3, 4, 5])], "ok"), ([start(), part_text(roots=[2, 3, 5, 4])], "ok"),
+        ([start(), part_text(roots=[2, 0, 4, 4])], "ok"), ([start(), two_more(), part_text(roots=[2, 3, 4, 5], after=13)], "ok"),
+        ([start(), b"{}"], "! damaged form"), ([start(), b"{"], "! damaged json"), ([start(), start()], "! damaged form"),
+        ([two_more()], "! damaged form"), ([two_more(), start()], "! damaged form"), ([b"", two_more()], "! damaged json"),
+        ([start(version=SECOND)], "! damaged version"), ([start(version=OLD)], "! damaged version"),
+        ([start(version=OLD, bits=31)], "! damaged version"), ([start(version=SECOND, history=1)], "! damaged form"),
+        ([start(roots=[2, 3, 5, 4])], "! damaged order"), ([start(roots=[2, 3, 5, 4]), two_more()], "! damaged order"),
+        ([start(), two_more(history=None)], "! damaged form"), ([start(), two_more(history=2**32)], "! damaged form"),
+        ([start(), two_more(format=WHOLE_FORMAT)], "! damaged form"), ([start(), two_more(after=None)], "! damaged form"),
+        ([start(), two_more(after="6")], "! damaged form"), ([start(), two_more(after=-1)], "! damaged form"),
+        ([start(), two_more(z=0)], "! damaged form"), ([start(), two_more(roots=[12, 1, 4])], "! damaged form"),
+        ([start(), two_more(version=SECOND)], "! damaged version"), ([start(), two_more(version=4, bits=7)], "! damaged version"),
+        ([start(), two_more(bits=63)], "! damaged bits"), ([start(), two_more(bits=63, rows=[["q", []]])], "! damaged bits"),
+        ([start(), two_more(rows=[["q", []]], after=5)], "! damaged row"), ([start(), two_more(after=5)], "! damaged link"),
+        ([start(), two_more(after=7)], "! damaged link"), ([start(), two_more(after=0)], "! damaged link"),
+        ([start(), two_more(roots=[13, 1, 4, 5])], "! damaged link"), ([start(), two_more(rows=others)], "! damaged link"),
+        ([start(), two_more(rows=[*TWO_MORE_ROWS, ["l", [13]]])], "! damaged link"),
+        ([start(), two_more(rows=[*TWO_MORE_ROWS, ["l", [12]]])], "ok"),
+        ([start(), two_more(rows=[*TWO_MORE_ROWS, ["c", "x\ny"]])], "! damaged text"),
+        ([start(), two_more(rows=[*TWO_MORE_ROWS, ["i", 1, [4]]])], "! damaged vector"),
+        ([start(), two_more(rows=[*TWO_MORE_ROWS, ["m", 1, 16, 0, [6]]])], "! damaged trie"),
+        ([start(), two_more(roots=[0, 1, 4, 5])], "! damaged kind"), ([start(), two_more(history=0)], "ok"),
+        ([start(), part_text([["l", [2]]], roots=[2, 3, 6, 5])], "ok"),
+        ([start(), part_text([["l", [2]]], roots=[2, 3, 6, 5], history=0)], "! damaged kind"),
+        ([start(), part_text([["l", [2]]], roots=[2, 3, 6, 5], history=1)], "ok"),
+        ([start(), two_more(after=5), b"{"], "! damaged link"), ([start(), b"[" * 1000], None),
+        ([start(), two_more(), two_more()], "! damaged link"), ([start(), again], "! damaged link"),
+    ]
+
+
+def wrong_chains():
+    """How many known chains, partial documents and moved lines are otherwise than they should be."""
+    wrong = 0
+    for documents, reply in known_chains():
+        if chain_reply(documents) != reply:
+            print(f"{chain_reply(documents)}, and not {reply}: {documents!r}")
+            wrong += 1
+    pools = {name: read(data).pool for name, data in [("start", start()), ("two", TWO_LINES), ("named", NAME_AND_LINE)]}
+    twice = read(two_lines(CELLS[1:2], [1, 1])).pool
+    checks = [
+        (part_written(pools["start"], pools["two"]), two_more()),
+        (part_written(pools["two"], pools["two"]), part_text(roots=[7, 8, 9, 10], after=11)),
+        (part_written(pools["two"], pools["start"]), part_text(
+            [["s", [6, 8]], ["m", 0, 0, 0, []]], roots=[11, 12, 9, 10], after=11)),
+        (written(pool_of_chain(chain_of([start(), two_more()]))), TWO_LINES),
+        (written(pool_of_chain(chain_of([start(), two_more(), part_text(roots=[2, 3, 4, 5], after=13)]))), start()),
+        (written(pool_of_chain(chain_of([start(), part_text(roots=[2, 3, 5, 4])]))), start()),
+        (written(indented(pools["two"], 2)), two_lines([["c", "  x"], ["c", "  x"]], [1, 2])),
+        (written(indented(twice, 80)), two_lines([["c", " " * 80 + "x"]], [1, 1])),
+        (written(dedented(indented(pools["two"], 2), 5)), TWO_LINES), (written(dedented(pools["start"], 0)), start()),
+        (written(dedented(indented(pools["two"], 7), 5)), written(indented(pools["two"], 2))),
+        (str(len(indented(pools["named"], 1).rows)).encode(), b"10"),
+        (written(dedented(indented(pools["named"], 1), 1)), written(indented(pools["named"], 0))),
+        (repr(indented(read(two_lines([["c", "x" * 65_535]], [1, 1])).pool, 2)).encode(), b"None"),
+        (str(len(indented(read(two_lines([["c", "x" * 65_535]], [1, 1])).pool, 1).rows)).encode(), b"10"),
+    ]
+    for found, wanted in checks:
+        if found != wanted:
+            print(f"{found[:300]!r}, and not {wanted[:300]!r}")
+            wrong += 1
+    print(f"{len(known_chains())} known chains and {len(checks)} pools made of others: {wrong} read wrongly")
+    return wrong
+
+
 def self_test():
     """How many known documents are read otherwise than they should be."""
-    wrong = 0
+    wrong = wrong_chains()
     replies = [(data, BITS, reply) for data, reply in known()] + known_by_fewer()
     for data, bits, reply in replies:
         if reply_to(data, bits) != reply:
@@ -788,15 +1021,32 @@ def self_test():
     return wrong
 
 
+def tell_chain(paths, bits):
+    """Writes the document of the chain of these files, or says which test it fails."""
+    documents = []
+    for path in paths:
+        with open(path, "rb") as file:
+            documents.append(file.read())
+    reply = chain_reply(documents, bits)
+    if reply != "ok":
+        print(reply or "the format leaves it open", file=sys.stderr)
+        return 1
+    sys.stdout.buffer.write(written(pool_of_chain(chain_of(documents, bits))))
+    return 0
+
+
 def main():
     words = argparse.ArgumentParser(description="Reads pool documents.")
     words.add_argument("files", nargs="*")
     words.add_argument("--bits", type=int, default=BITS)
     words.add_argument("--saved", action="store_true")
+    words.add_argument("--chain", action="store_true")
     words.add_argument("--self-test", action="store_true")
     chosen = words.parse_args()
     if chosen.self_test:
         return 1 if self_test() else 0
+    if chosen.chain:
+        return tell_chain(chosen.files, chosen.bits)
     refused = 0
     for path in chosen.files:
         try:

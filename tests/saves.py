@@ -4,12 +4,16 @@ tests/pool_reader.py.
 
     tests/saves.py PROGRAM [--scripts N] [--seed S]
 
-Amid each script the program saves its space and loads what it saved, which mustn't change any reply, and tells by
-`stats` and `made` how many rows it has and how many it ever made: from one such pair to the next the second number
-doesn't fall, and rises at least by what the first one rises. After the script it saves once more: the document must be
-valid and stand for the states, versions, undo with its bound, and redo of the plain shell, it must be the one compact text of its rows,
-and `stats` must count these. The first difference is printed with its script, and ends the run with status 1. It isn't
-part of the gate.
+The script is given line by line, and each reply is compared with that of the plain shell, which takes from the files of the
+folder what the second reader of documents finds in them. Amid the script the program saves its space and loads what it
+saved, and saves a partial document and loads that chain, none of which may change any later reply; now and then a document
+in the folder is damaged, put in another's place, or saved again, so that the replies to `load`, `part` and `chain` depend on
+its bytes. Behind each command that stores or loads a document the space is saved once more, and that document must be valid,
+stand for the states, versions, undo with its bound, and redo of the plain shell, and be the one compact text of its rows;
+what was stored must be it, or its partial document, or its pool with the lines moved, and what was loaded must be what the
+files stand for, all to the byte. `stats` must count its rows; `made` doesn't fall, and rises at least by what `stats` does,
+and over a merge `stats` rises by no more than its cost. The first difference is printed with its script, and ends the run
+with status 1. It isn't part of the gate.
 """
 
 import argparse
@@ -24,95 +28,253 @@ import tempfile
 sys.dont_write_bytecode = True
 
 import pool_reader
-from fuzz import drawn_script
-from plain_shell import Shell, pieces
+from fuzz import FILES, drawn_script
+from hostile import VALUE_CHANGES, changed_value
+from kept import kept_in, whole_difference
+from plain_shell import LARGEST_FILE, LONGEST_CHAIN, MERGES, Refused, Shell, needs, numbered, pieces, read_line
 
-# What asks for the rows that there are and for those that were ever made, what replies, and both numbers of a new space.
-ROWS = [b"stats", b"made"]
 NUMBER = re.compile(r"= (0|[1-9][0-9]*)\Z", re.ASCII)
+# How many rows there are in a new space, and were made.
 START = (6, 6)
+# What a space is saved to that is compared, and what each script saves and loads of itself.
+CHECKED, OWN = "checked.space", "own"
+LISTING = {"list", "stars", "marks", "show"}
+# The commands behind which the space is compared.
+STORED, LOADED = {"save", "part", "indent", "dedent"}, {"load", "chain"}
 
 
-def told(workspace, place):
-    """The buffers and the stars of a state in a document."""
-    buffers = {name: workspace.lines(lines) for name, lines in workspace.buffers(place).items()}
-    return buffers, workspace.stars(place)
+class Different(Exception):
+    """A difference, in words."""
 
 
-def plain(state):
-    """The same of a state of the plain shell."""
-    return state.buffers, set(state.stars)
+class Folder(Shell):
+    """The plain shell over the files of a folder, whose documents tests/pool_reader.py reads."""
+
+    def __init__(self, room):
+        super().__init__()
+        self.room = room
+
+    def bytes_of(self, names):
+        """What stands in these files."""
+        found = []
+        for name in names:
+            needs(os.path.isfile(f"{self.room}/{name}"), "missing")
+            with open(f"{self.room}/{name}", "rb") as file:
+                found.append(file.read())
+            needs(sum(map(len, found)) <= LARGEST_FILE, "large")
+        return found
+
+    def documents_of(self, file, count):
+        """The documents of a chain with so many partial ones."""
+        return self.bytes_of([numbered(file, number) for number in range(count + 1)])
+
+    def do_save(self, _file):
+        self.outside_batch()
+
+    def do_load(self, file):
+        self.outside_batch()
+        [data] = self.bytes_of([file])
+        pool = read_or_refused(lambda: pool_reader.stands_for(pool_reader.read(data).pool))
+        self.take(kept_in(pool_reader.read(pool_reader.written(pool))))
+
+    def do_part(self, file, number):
+        self.outside_batch()
+        needs(1 <= number <= LONGEST_CHAIN, "range")
+        documents = self.documents_of(file, number - 1)
+        read_or_refused(lambda: pool_reader.chain_of(documents))
+
+    def do_chain(self, file, number):
+        self.outside_batch()
+        needs(1 <= number <= LONGEST_CHAIN, "range")
+        documents = self.documents_of(file, number)
+        pool = read_or_refused(lambda: pool_reader.pool_of_chain(pool_reader.chain_of(documents)))
+        self.take(kept_in(pool_reader.read(pool_reader.written(pool))))
+
+    def do_read(self, name, file):
+        self.files = {file: data for file, data in zip([file], self.bytes_of([file]))}
+        super().do_read(name, file)
 
 
-def with_loads(script, draw):
-    """The script with saves, loads and numbers of rows amid it, its replies, None for a number, and the plain shell then."""
-    shell, lines, due = Shell(), [], []
-    for line in [line for line in pieces(script) if line != b"quit"] + [b"end"]:
-        if shell.base is None and draw.random() < 0.1:
-            lines += [b"save s", b"load s"]
-            due += ["ok", "ok"]
-        if draw.random() < 0.1:
-            lines += ROWS
-            due += [None, None]
-        lines.append(line)
-        due += shell.answer(line)
-    return lines, due, shell
-
-
-def wrong_number(numbers):
-    """How the numbers of rows, and of rows ever made, go wrong from one pair to the next, or None."""
-    rows, made = START
-    for later, more in zip(numbers[::2], numbers[1::2]):
-        if more < made or more - made < later - rows:
-            return f"{made} rows were made and then {more}, while {rows} rows became {later}"
-        rows, made = later, more
-    return None
-
-
-def difference(shell, rows, data):
-    """How a saved document differs from what the plain shell has, or None."""
+def read_or_refused(read):
+    """What a reader of documents gives, or the refusal of a damaged one."""
     try:
-        workspace = pool_reader.read(data)
+        return read()
     except pool_reader.Damaged as damage:
-        return f"the document fails the test {damage}"
-    if workspace.pool.version != pool_reader.TODAY or pool_reader.written(workspace.pool) != data:
-        return "the document isn't the compact text of its rows"
-    if rows != len(workspace.pool.rows):
-        return f"the document has {len(workspace.pool.rows)} rows, and not {rows}"
-    if workspace.pool.history != shell.most:
-        return f"undo keeps {workspace.pool.history} states, and not {shell.most}"
-    if told(workspace, workspace.current) != plain(shell.current):
-        return "the current state differs"
-    versions = {name: told(workspace, place) for name, place in workspace.versions().items()}
-    if versions != {name: plain(state) for name, state in shell.versions.items()}:
-        return "the versions differ"
-    for name, places, states in [("undo", workspace.undo, shell.undo), ("redo", workspace.redo, shell.redo)]:
-        if [told(workspace, place) for place in places] != [plain(state) for state in states]:
-            return f"{name} differs"
-    return None
+        raise Refused(f"damaged {damage}") from None
+
+
+class Run:
+    """A run of the program in a folder with files, and the plain shell beside it."""
+
+    def __init__(self, program, room, draw):
+        self.room, self.draw, self.shell, self.rows, self.lines = room, draw, Folder(room), START, []
+        for name, data in FILES.items():
+            self.store(name, data)
+        self.process = subprocess.Popen([program], stdin=subprocess.PIPE, stdout=subprocess.PIPE, cwd=room)
+
+    def store(self, name, data):
+        with open(f"{self.room}/{name}", "wb") as file:
+            file.write(data)
+
+    def stored(self, name):
+        with open(f"{self.room}/{name}", "rb") as file:
+            return file.read()
+
+    def ask(self, line):
+        """The program's reply to a line."""
+        self.lines.append(line)
+        self.process.stdin.write(line + b"\n")
+        self.process.stdin.flush()
+        word, replies = line.split(b" ")[0].decode("utf-8", "replace"), []
+        while True:
+            reply = self.process.stdout.readline()
+            if not reply.endswith(b"\n"):
+                raise Different(f"the run ends at {line[:60]!r}")
+            replies.append(reply[:-1].decode("utf-8"))
+            if word not in LISTING or not replies[-1].startswith("= "):
+                return replies
+
+    def number(self, word):
+        [reply] = self.ask(word)
+        if not NUMBER.match(reply):
+            raise Different(f"{word!r} is answered {reply}")
+        return int(reply[2:])
+
+    def count(self):
+        """Asks for the rows, which may not go wrong since they were asked for last."""
+        (rows, made), self.rows = self.rows, (self.number(b"stats"), self.number(b"made"))
+        later, more = self.rows
+        if more < made or more - made < later - rows:
+            raise Different(f"{made} rows were made and then {more}, while {rows} rows became {later}")
+        return later
+
+    def give(self, line):
+        """Compares the reply to a line, and what it stored or loaded."""
+        try:
+            word, arguments = read_line(line)
+        except Refused:
+            word, arguments = "", []
+        before, size = None, 0
+        if word in MERGES:
+            before, size = self.count(), merge_size(self.shell, word, *arguments)
+        due, files = self.shell.answer(line), self.files_of(word, arguments)
+        got = self.ask(line)
+        if got != due:
+            raise Different(f"{line[:60]!r} is answered {got[-1][:60]}, and is due {due[-1][:60]}")
+        if word in MERGES and due == ["ok"] and self.count() > before + 256 + 16 * size:
+            raise Different(f"{line[:60]!r} of {size} entries made {before} rows {self.rows[0]}")
+        if word in STORED | LOADED and due == ["ok"]:
+            self.compare(word, arguments, files)
+        if word in STORED and due == ["ok"] and self.draw.random() < 0.3:
+            self.damage()
+
+    def files_of(self, word, arguments):
+        """The documents that a command takes."""
+        if word not in ("load", "part", "chain"):
+            return []
+        file, number = arguments[0], arguments[1] if word != "load" else 0
+        try:
+            return self.shell.documents_of(file, number - (word == "part"))
+        except Refused:
+            return []
+
+    def compare(self, word, arguments, files):
+        """Saves the space, and compares it with the plain shell's, and with what a command stored or loaded."""
+        if self.ask(f"save {CHECKED}".encode("ascii")) != ["ok"]:
+            raise Different("the space isn't saved")
+        data = self.stored(CHECKED)
+        found = whole_difference(self.shell.spaces(), data)
+        if found:
+            raise Different(f"behind {word}: {found}")
+        pool = pool_reader.read(data).pool
+        if self.count() != len(pool.rows):
+            raise Different(f"the document has {len(pool.rows)} rows, and not {self.rows[0]}")
+        if word == "load":
+            name, wanted = CHECKED, pool_reader.saved(files[0])
+        elif word == "chain":
+            name, wanted = CHECKED, pool_reader.written(pool_reader.pool_of_chain(pool_reader.chain_of(files)))
+        elif word == "save":
+            name, wanted = arguments[0], data
+        elif word == "part":
+            name, wanted = numbered(*arguments), pool_reader.part_written(pool_reader.chain_of(files), pool)
+        else:
+            move = pool_reader.indented if word == "indent" else pool_reader.dedented
+            name, wanted = arguments[1], pool_reader.written(move(pool, arguments[0]))
+        if self.stored(name) != wanted:
+            raise Different(f"{name} isn't what {word} had to store or to load")
+
+    def damage(self):
+        """Damages a document of the folder, or puts another one in its place, where the format says how that is read."""
+        names = sorted(name for name in os.listdir(self.room) if self.stored(name)[:1] == b"{" and name != CHECKED)
+        name = self.draw.choice(names)
+        data = self.stored(self.draw.choice(names)) if self.draw.random() < 0.3 else damaged(self.stored(name), self.draw)
+        try:
+            pool_reader.value_of(data)
+        except pool_reader.Damaged:
+            pass
+        except pool_reader.LeftOpen:
+            return
+        self.store(name, data)
+        self.lines.append(b"-- the harness stores %d other bytes in %s" % (len(data), name.encode("ascii")))
+
+    def own_documents(self):
+        """Saves and loads what there is, and the same as a chain."""
+        self.give(f"save {OWN}".encode("ascii"))
+        self.give(f"load {OWN}".encode("ascii"))
+        if self.draw.random() < 0.5:
+            number = self.draw.randint(1, 2)
+            self.give(f"part {OWN} {number}".encode("ascii"))
+            self.give(f"chain {OWN} {number}".encode("ascii"))
+
+    def go(self, script):
+        """Gives the lines of the script, with saves, loads and numbers of rows amid them."""
+        for line in [line for line in pieces(script) if line != b"quit"] + [b"end"]:
+            if self.shell.base is None and self.draw.random() < 0.1:
+                self.own_documents()
+            if self.draw.random() < 0.1:
+                self.count()
+            self.give(line)
+        self.give(b"save s")
+        self.process.stdin.close()
+        if self.process.wait() != 0:
+            raise Different(f"the run ends with status {self.process.returncode}")
+
+    def stop(self):
+        self.process.kill()
+        self.process.wait()
+        self.process.stdout.close()
+
+
+def merge_size(shell, word, version):
+    """How many entries a merge with this version goes over."""
+    if version not in shell.versions:
+        return 0
+    states = shell.current, shell.versions[version]
+    return sum(len(state.buffers if word == "merge" else state.stars) for state in states)
+
+
+def damaged(data, draw):
+    """The document with a small change, of its value or of its bytes."""
+    try:
+        value = pool_reader.value_of(data)
+    except (pool_reader.Damaged, pool_reader.LeftOpen):
+        return data
+    if type(value) is not dict or draw.random() < 0.1:
+        return data[:draw.randrange(len(data))]
+    return changed_value(value, draw, draw.choice(VALUE_CHANGES))
 
 
 def try_script(program, script, draw):
-    """How the replies to a script or the document after it differ, or None, and the document."""
-    lines, due, shell = with_loads(script, draw)
-    lines, due = lines + [b"save s"] + ROWS, due + ["ok", None, None]
+    """How the run of a script differs, or None, the lines that were given, and how many rows were saved at the end."""
     with tempfile.TemporaryDirectory() as room:
-        ran = subprocess.run(
-            [os.path.abspath(program)], input=b"\n".join(lines) + b"\n", capture_output=True, check=False, cwd=room
-        )
-        replies = ran.stdout.decode("utf-8").split("\n")[:-1]
-        if ran.returncode != 0 or not os.path.isfile(f"{room}/s"):
-            return f"the run ends with status {ran.returncode} and saves nothing", b""
-        with open(f"{room}/s", "rb") as file:
-            data = file.read()
-    for place, (reply, wanted) in enumerate(zip(replies, due)):
-        fits = NUMBER.match(reply) if wanted is None else reply == wanted
-        if not fits:
-            return f"reply {place} differs", data
-    if len(replies) != len(due):
-        return f"there are {len(replies)} replies, and not {len(due)}", data
-    numbers = [int(reply[2:]) for reply, wanted in zip(replies, due) if wanted is None]
-    return wrong_number(numbers) or difference(shell, numbers[-2], data), data
+        run = Run(os.path.abspath(program), room, draw)
+        try:
+            run.go(script)
+            return None, run.lines, run.rows[0]
+        except Different as found:
+            return str(found), run.lines, 0
+        finally:
+            run.stop()
 
 
 def main():
@@ -124,13 +286,12 @@ def main():
     rows = 0
     for number in range(chosen.scripts):
         draw = random.Random(f"{chosen.seed}/{number}")
-        script = drawn_script(draw)
-        found, data = try_script(chosen.program, script, draw)
+        found, lines, more = try_script(chosen.program, drawn_script(draw), draw)
         if found:
-            print(f"script {number} of seed {chosen.seed}: {found}")
-            sys.stdout.buffer.write(script + b"\n-- the document:\n" + data + b"\n")
+            print(f"script {number} of seed {chosen.seed}: {found}", flush=True)
+            sys.stdout.buffer.write(b"\n".join(lines) + b"\n")
             return 1
-        rows += data.count(b'["')
+        rows += more
     print(f"{chosen.scripts} scripts of seed {chosen.seed}, {rows} rows saved: no difference")
     return 0
 

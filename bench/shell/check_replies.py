@@ -68,6 +68,10 @@ def rows():
            ["ok", "! exists", "ok", "ok", "= no", "= v", "= w", "ok", "ok", "! none"])
     yield ("a cut into its own buffer", ["new a", "add a p", "add a q", "add a r", "cut a 1 3 a", "show a 0 2"],
            ["ok"] * 5 + ["= q", "= r", "ok"])
+    yield ("merges with a version", ["star x", "star y", "mark v", "unstar x", "star z", "starboth v", "stars", "undo", "starmerge v",
+                "stars", "starless w", "new a", "add a p", "new b", "mark w", "drop b", "set a 0 q", "merge w", "get a 0", "list"],
+           ["ok"] * 6 + ["= y", "ok", "ok", "ok", "= x", "= y", "= z", "ok", "! none"] + ["ok"] * 7
+           + ["= q", "= a 1", "= b 0", "ok"])
     yield ("a redo of a batch", ["new a", "begin", "add a x", "end", "undo", "redo", "len a"],
            ["ok"] * 6 + ["= 1"])
     yield ("the order of refusals", ["add x 1 2", "set x 01 a", "set .x 0 a", "set x 4294967296 a", "del x 0",
@@ -90,7 +94,7 @@ def sharing_rows():
 
 
 def random_script(seed, steps):
-    """All commands but stats and made, with refusals among them."""
+    """All commands that both have but stats and made, with refusals among them."""
     r = random.Random(seed)
     big = r.choice([8, 300, 5000])
     names = ["b%d" % i for i in range(r.choice([2, 6]))]
@@ -107,8 +111,10 @@ def random_script(seed, steps):
         x, y = sorted((r.randrange(big), r.randrange(big)))
         if r.random() < 0.6:
             y = min(y, x + r.randrange(70))
-        k = r.randrange(100)
-        if k < 14:
+        k = r.randrange(103)
+        if k >= 100:
+            out.append(r.choice(["starmerge ", "starboth ", "starless ", "merge "]) + v)
+        elif k < 14:
             out.append("put %s %d p%d" % (b, x, i))
         elif k < 24:
             out.append("del %s %d %d" % (b, x, y))

@@ -23,6 +23,7 @@ FEATURES = {
     "batches": "begin, end, abort",
     "store": "save, load",
     "equality": "same, eqv",
+    "merges": "starmerge, starboth, starless, merge",
     "files": "read, write",
 }
 
@@ -295,6 +296,39 @@ def random_get(size, folder):
         yield "get a %d" % dice.below(lines)
 
 
+def star_merges(size, folder):
+    """Twenty versions of the same stars but for a few, merged into one another
+    again and again."""
+    names, merges, versions = scaled(10_000, size, 50), scaled(600, size, 6), 20
+    dice = Dice(14)
+    now = set(range(names))
+    yield "begin"
+    for i in dice.shuffled(range(names)):
+        yield "star name.%d" % i
+    yield "end"
+    kept = []
+    for v in range(versions):
+        for i in sorted({dice.below(2 * names) for _ in range(10)}):
+            yield ("unstar name.%d" if i in now else "star name.%d") % i
+            now ^= {i}
+        yield "mark v%d" % v
+        kept.append(set(now))
+    for i in range(merges):
+        v = dice.below(versions)
+        kind = ["starmerge", "starmerge", "starboth", "starless"][dice.below(4)]
+        yield "%s v%d" % (kind, v)
+        now = now | kept[v] if kind == "starmerge" else now & kept[v] if kind == "starboth" else now - kept[v]
+        more = dice.below(2 * names)
+        yield ("unstar name.%d" if more in now else "star name.%d") % more
+        now ^= {more}
+        if dice.below(20) == 0:
+            yield "stars"
+        if dice.below(10) == 0:
+            yield "back v%d" % v
+            now = set(kept[v])
+    yield "stars"
+
+
 class Workload:
     def __init__(self, key, title, needs, lines, compare=()):
         self.key = key
@@ -322,6 +356,8 @@ WORKLOADS = {w.key: w for w in [
              ["plain", "edits", "batches", "versions", "store"], save_load),
     Workload("l", "random get, 100k lines", ["plain", "batches"], random_get),
     Workload("m", "random set in a batch", ["plain", "edits", "batches"], random_set_batch),
+    Workload("n", "10k stars merged between versions",
+             ["plain", "edits", "batches", "versions", "merges"], star_merges),
 ]}
 
 GROWTH = ["a", "b", "c", "d"]

@@ -124,6 +124,10 @@ impl Im {
         Rc::make_mut(self.edit().names.get_mut(b).expect("the name was looked up"))
     }
 
+    fn version(&self, v: &str) -> Result<&State, Refusal> {
+        self.versions.get(v).ok_or(Refusal::Absent)
+    }
+
     fn outside(&self) -> Done {
         if self.base.is_some() { Err(Refusal::Batch) } else { Ok(()) }
     }
@@ -254,6 +258,34 @@ impl Space for Im {
         self.outside()?;
         let version = self.versions.get(v).ok_or(Refusal::Absent)?.clone();
         *self.edit() = version;
+        Ok(())
+    }
+
+    fn star_merge(&mut self, v: &str) -> Done {
+        let other = self.version(v)?.stars.clone();
+        let state = self.edit();
+        state.stars = std::mem::take(&mut state.stars).union(other);
+        Ok(())
+    }
+
+    fn star_both(&mut self, v: &str) -> Done {
+        let other = self.version(v)?.stars.clone();
+        let state = self.edit();
+        state.stars = std::mem::take(&mut state.stars).intersection(other);
+        Ok(())
+    }
+
+    fn star_less(&mut self, v: &str) -> Done {
+        let other = self.version(v)?.stars.clone();
+        let state = self.edit();
+        state.stars = std::mem::take(&mut state.stars).relative_complement(other);
+        Ok(())
+    }
+
+    fn merge(&mut self, v: &str) -> Done {
+        let other = self.version(v)?.names.clone();
+        let state = self.edit();
+        state.names = std::mem::take(&mut state.names).union(other);
         Ok(())
     }
 

@@ -74,6 +74,10 @@ pub trait Space {
     fn mark(&mut self, v: &str) -> Done;
     fn unmark(&mut self, v: &str) -> Done;
     fn back(&mut self, v: &str) -> Done;
+    fn star_merge(&mut self, v: &str) -> Done;
+    fn star_both(&mut self, v: &str) -> Done;
+    fn star_less(&mut self, v: &str) -> Done;
+    fn merge(&mut self, v: &str) -> Done;
     fn undo(&mut self) -> Done;
     fn redo(&mut self) -> Done;
     fn begin(&mut self) -> Done;
@@ -334,6 +338,22 @@ fn execute<'s, S: Space, W: Write>(
         "back" => {
             let [v] = tri!(words(rest));
             space.back(tri!(name(v)))
+        }
+        "starmerge" => {
+            let [v] = tri!(words(rest));
+            space.star_merge(tri!(name(v)))
+        }
+        "starboth" => {
+            let [v] = tri!(words(rest));
+            space.star_both(tri!(name(v)))
+        }
+        "starless" => {
+            let [v] = tri!(words(rest));
+            space.star_less(tri!(name(v)))
+        }
+        "merge" => {
+            let [v] = tri!(words(rest));
+            space.merge(tri!(name(v)))
         }
         "undo" => {
             let [] = tri!(words(rest));
