@@ -97,18 +97,18 @@ module _ {K : Type 0} (cmp : K → K → Ordering) where
     pub whole-merge : (k : Keeps) (i j : ℕ) (es ds kept E D : List (Entry K)) → IsRising cmp es → IsRising cmp ds → drop i es ≡ drop j ds → SameSet kept (merged cmp k (take i es) (take j ds)) → SameSet es E → SameSet ds D
         → SameSet (kept ++ cond k.both (drop i es) []) (merged cmp k E D)
     whole-merge k i j es ds kept E D rising rising' meet same first second =
-        let E1 = take i es in
-        let D1 = take j ds in
+        let firsts = take i es in
+        let seconds = take j ds in
         let S = drop i es in
-        let left : E1 ++ S ≡ es = take-append-drop i es in
-        let right : D1 ++ S ≡ ds = ap (λ xs. D1 ++ xs) meet ∙ take-append-drop j ds in
-        let apart = apart-rising E1 S (subst (IsRising cmp) (sym left) rising) in
-        let apart' = apart-rising D1 S (subst (IsRising cmp) (sym right) rising') in
-        let parts : SameSet (kept ++ cond k.both S []) (merged cmp k E1 D1 ++ merged cmp k S S) =
-        same-both kept (merged cmp k E1 D1) (cond k.both S []) (merged cmp k S S) same (same-is _ _ (sym (merged-same cmp o k S S (same-refl S)))) in
-        let cut = merged-cut cmp o k E1 S D1 S apart (apart-back cmp o D1 S apart') in
-        let all : SameSet (kept ++ cond k.both S []) (merged cmp k (E1 ++ S) (D1 ++ S)) = same_through _ _ _ parts cut in
-        let all' : SameSet (kept ++ cond k.both S []) (merged cmp k es ds) = subst (λ xs. SameSet (kept ++ cond k.both S []) (merged cmp k xs ds)) left (subst (λ ys. SameSet (kept ++ cond k.both S []) (merged cmp k (E1 ++ S) ys)) right all) in
+        let left : firsts ++ S ≡ es = take-append-drop i es in
+        let right : seconds ++ S ≡ ds = ap (λ xs. seconds ++ xs) meet ∙ take-append-drop j ds in
+        let apart = apart-rising firsts S (subst (IsRising cmp) (sym left) rising) in
+        let apart' = apart-rising seconds S (subst (IsRising cmp) (sym right) rising') in
+        let parts : SameSet (kept ++ cond k.both S []) (merged cmp k firsts seconds ++ merged cmp k S S) =
+        same-both kept (merged cmp k firsts seconds) (cond k.both S []) (merged cmp k S S) same (same-is _ _ (sym (merged-same cmp o k S S (same-refl S)))) in
+        let cut = merged-cut cmp o k firsts S seconds S apart (apart-back cmp o seconds S apart') in
+        let all : SameSet (kept ++ cond k.both S []) (merged cmp k (firsts ++ S) (seconds ++ S)) = same_through _ _ _ parts cut in
+        let all' : SameSet (kept ++ cond k.both S []) (merged cmp k es ds) = subst (λ xs. SameSet (kept ++ cond k.both S []) (merged cmp k xs ds)) left (subst (λ ys. SameSet (kept ++ cond k.both S []) (merged cmp k (firsts ++ S) ys)) right all) in
         same_through _ _ _ all' (merged-sets cmp o k es E ds D first second)
 
     -- what the merge begins with

@@ -7,7 +7,7 @@ use Rattle.std.specs.Cmp.{IsTotalOrder, Equal-is}
 use Rattle.std.specs.declared.cmp.Ordering.{Ordering}
 use Rattle.std.specs.declared.cmp.Ordering.TheVariants.{Equal}
 use Rattle.std.proofs.lemmas.Bool.{cases_eq, cases_Bool, eq-eqb, ne_eqb}
-use Rattle.std.proofs.lemmas.List.{get_or-set_same, get_or-set_other}
+use Rattle.std.proofs.lemmas.List.{get_or-set_same, get_or-set_other, set-get_or}
 use Rattle.elem_core.specs.declared.codes.TheConstants.{LEVELS, DEEPEST}
 use Rattle.node_heap.specs.Links.{count}
 use Rattle.node_heap.specs.Forms.{Forms}
@@ -21,6 +21,9 @@ use Rattle.champ_chain.proofs.SetLemmas.{Among, same-sym, same-among}
 use Rattle.champ_chain.proofs.FrameLemmas.{KeepsForms, key-kept, form-live, forms-kept}
 use Rattle.champ_chain.proofs.CopyLemmas.{key-live}
 use Rattle.champ_chain.proofs.SpotLemmas.{first-row}
+use Rattle.elem_core.specs.Codes.{digit_at}
+use Rattle.champ_trie.specs.Bits.{has}
+use Rattle.champ_trie.proofs.PlaceLemmas.{place-empty}
 use Rattle.champ_trie.specs.Trie.{IsTrie, IsPlace, IsRow, IsRowOfPlaces, part, links_at_place}
 use Rattle.champ_trie.specs.declared.place.Place.{Place}
 use Rattle.champ_trie.specs.declared.place.Place.TheVariants.{Empty, Entry as At, Node}
@@ -33,7 +36,7 @@ use Rattle.set_merge.specs.declared.side.Side.{Side}
 use Rattle.set_merge.specs.declared.spread.Spread.{Spread}
 use Rattle.set_merge.specs.declared.merged.Merged.{Merged}
 use Rattle.set_merge.specs.declared.merged.Merged.TheVariants.{Old, New}
-use Rattle.set_merge.specs.Side.{place_in, lone_place, place_below, IsKept, HasRow, IsSide, same_key, settled_entries, settled}
+use Rattle.set_merge.specs.Side.{has_place, place_in, lone_place, place_below, IsKept, HasRow, IsSide, same_key, settled_entries, settled}
 use Rattle.set_merge.specs.Merge.{merged}
 use Rattle.set_merge.specs.Need.{sum_below, need_unless, chains_need, rows_need}
 use Rattle.set_merge.specs.Spread.{place_merged, new_links, old_links, is_new, lone_of, WantsRow, IsUnchanged, IsMade, Closed}
@@ -41,6 +44,10 @@ use Rattle.set_merge.specs.Walk.{HasBelow, AreSides, ArePlaces, place_need, posi
 use Rattle.set_merge.proofs.MergeLemmas.{merged-first, merged-second, merged-same, merged-equal, merged-differ, part-merged}
 use Rattle.set_merge.proofs.NeedLemmas.{below-place, place-has}
 use Rattle.set_merge.proofs.SpreadLemmas.{same-stands, none-stands, one-stands, node-two, entries-two, row-stands, lone-some, lone-none, NoneIn, OneIn, NodeIn, TwoIn}
+
+pub or-false : (a b : Bool) → (a || b) ≡ false → (a ≡ false) × (b ≡ false)
+or-false true b is = absurd cc
+or-false false b is = (refl, is)
 
 module _ {K : Type 0} (cmp : K → K → Ordering) (code : K → ℕ) where
   -- an entry of a place that stands for entries has a key
@@ -59,6 +66,16 @@ module _ {K : Type 0} (cmp : K → K → Ordering) (code : K → ℕ) where
   has-row F left depth Empty E has = tt
   has-row F left depth (At x) E has = tt
   has-row F left depth (Node l) E has = (has.entries, has.nodes, has.links, has.row)
+
+  -- where a side has nothing, nothing stands below the place
+  pub below-none : (F : Forms K) (depth : ℕ) (a : Place) (side : Side) (p : ℕ) → IsSide code F depth a side → has_place side p ≡ false → place_below code F depth a p ≡ Empty
+  below-none F depth Empty side p is none = refl
+  below-none F depth (At x) side p is none =
+      let off : nat_eq (digit_at (code is.0) depth) p ≡ false = sym (ap (λ s. has_place s p) is.2) ∙ none in
+      ap (λ o. lone_place code depth x o p) is.1 ∙ ap (λ b. cond b (At x) Empty) off
+  below-none F depth (Node l) side p is none =
+      let off = or-false (has is.0 p) (has is.1 p) (sym (ap (λ s. has_place s p) is.4) ∙ none) in
+      ap (λ f. place_in f p) is.3.row ∙ place-empty is.0 is.1 is.2 p off.0 off.1
 
   module _ (F G : Forms K) (keeps : KeepsForms F G) where
     key-same : (x : ℕ) → IsSome (key_at F x) → key_at F x ≡ key_at G x
@@ -81,7 +98,7 @@ module _ {K : Type 0} (cmp : K → K → Ordering) (code : K → ℕ) where
     pub side-kept : (depth : ℕ) (a : Place) (side : Side) → IsSide code F depth a side → IsSide code G depth a side
     side-kept depth Empty side is = is
     side-kept depth (At x) side is = (is.0, key-kept F G keeps x is.0 is.1, is.2)
-    side-kept depth (Node l) side is = is
+    side-kept depth (Node l) side is = (is.0, is.1, is.2, row-kept cmp code F G keeps l depth is.0 is.1 is.2 is.3, is.4)
 
     -- the same stands below a place, and is settled
     pub below-kept : (left depth : ℕ) (a : Place) (E : List (Entry K)) → HasBelow cmp code F (suc left) depth a E → (p : ℕ) → place_below code F depth a p ≡ place_below code G depth a p
@@ -238,10 +255,6 @@ merged-few (Old Empty) = omega arith
 merged-few (Old (At x)) = omega arith
 merged-few (Old (Node j)) = omega arith
 merged-few (New j) = omega arith
-
-or-false : (a b : Bool) → (a || b) ≡ false → (a ≡ false) × (b ≡ false)
-or-false true b is = absurd cc
-or-false false b is = (refl, is)
 
 or-true : (a b : Bool) → (a || b) ≡ true → (a ≡ true) ⊎ (b ≡ true)
 or-true true b is = inl refl
@@ -524,11 +537,11 @@ module _ {K : Type 0} (cmp : K → K → Ordering) (code : K → ℕ) (F : Forms
     both : KeepsForms F H
     both = record { kept = λ l f is. then.kept l f (first.kept l f is) }
 
-    pub side-first : (side : Side) → IsSide code G depth a side → IsSide code H depth a side × HasRow H depth a
-    side-first side is = (side-kept cmp code G H then depth a side is, has-row-kept cmp code F H both depth a (has-row cmp code F left depth a E are.first))
+    pub side-first : (side : Side) → IsSide code G depth a side → IsSide code H depth a side
+    side-first side is = side-kept cmp code G H then depth a side is
 
-    pub side-second : (side : Side) → IsSide code G depth b side → IsSide code H depth b side × HasRow H depth b
-    side-second side is = (side-kept cmp code G H then depth b side is, has-row-kept cmp code F H both depth b (has-row cmp code F left depth b D are.second))
+    pub side-second : (side : Side) → IsSide code G depth b side → IsSide code H depth b side
+    side-second side is = side-kept cmp code G H then depth b side is
 
     pub at-first : (p : ℕ) → place_below code H depth a p ≡ place_below code F depth a p
     at-first p = sym (below-kept cmp code F H both left depth a E are.first p)
@@ -547,3 +560,40 @@ module _ {T : Type 0} (cmp : T → T → Ordering) (code : T → ℕ) (most : �
       let puts' = subst (λ q. Puts s t n (place_below code F depth a n) q m) second (subst (λ q. Puts s t n q y m) first puts) in
       subst (λ i. IsSpread cmp code most k F old new left depth a b M t i) more
       (spread-more cmp code most k F old now new left depth a b M s t n m low is (forms-kept now new come.builds.extends) come' puts')
+
+-- one position at which nothing stands
+module _ {T : Type 0} (cmp : T → T → Ordering) (o : IsTotalOrder cmp) (code : T → ℕ) (most : ℕ) (k : Keeps) (F : Forms T) (old now : Heap T) (left depth : ℕ) (a b : Place) (E D : List (Entry T)) (s : Spread) (n : ℕ) (low : n < 32)
+    (is : IsSpread cmp code most k F old now left depth a b (merged cmp k E D) s n) where
+  kept-none : (b : Bool) → cond b Empty Empty ≡ Empty
+  kept-none true = refl
+  kept-none false = refl
+
+  append-none : (xs : List ℕ) → xs ++ [] ≡ xs
+  append-none [] = refl
+  append-none (x ∷ xs) = ap (λ ys. x ∷ ys) (append-none xs)
+
+  or-none : (c : Bool) → c ≡ (c || false)
+  or-none true = refl
+  or-none false = refl
+
+  pub spread-skip : AreSides cmp code F (suc left) depth a b E D → KeepsForms F (form_at now) → ((j k : T) → cmp j k ≡ Equal → code j ≡ code k) → IsGraph now
+      → place_below code F depth a n ≡ Empty → place_below code F depth b n ≡ Empty → IsSpread cmp code most k F old now left depth a b (merged cmp k E D) s (n + 1)
+  spread-skip are keeps agree graph first second =
+      let parts = places-at cmp code F left depth a b E D are n low Empty Empty (sym first) (sym second) in
+      let settle : settled cmp (form_at now) k Empty Empty ≡ Some Empty = ap Some (kept-none k.second) in
+      let come = come-settled cmp code most k F now keeps left depth Empty Empty (part cmp code depth n E) (part cmp code depth n D) parts o graph Empty settle in
+      spread-step cmp code most k F old now now left depth a b (merged cmp k E D) (merged cmp k (part cmp code depth n E) (part cmp code depth n D)) s s n (Old Empty) low is Empty Empty (sym first) (sym second) come
+      (part-merged cmp code agree k depth n E D)
+      (record {
+        places = sym (ap (λ q. set s.places n q) (sym (is.rest n (omega arith))) ∙ set-get_or s.places n Empty);
+        stood = sym (append-none s.stood);
+        made = or-none s.made;
+        as_first = λ so. (so, refl);
+        as_second = λ so. (so, refl);
+      })
+
+-- where nothing stands nothing is needed
+pub need-skip : {K : Type 0} (cmp : K → K → Ordering) (code : K → ℕ) (most : ℕ) (F : Forms K) (k : Keeps) (left depth : ℕ) (a b : Place) (p : ℕ)
+    → place_below code F depth a p ≡ Empty → place_below code F depth b p ≡ Empty → position_need cmp code most F k left depth a b p ≡ 0
+need-skip cmp code most F k left depth a b p first second =
+    ap (λ q. place_need cmp code most F k left depth q (place_below code F depth b p)) first ∙ ap (λ q. place_need cmp code most F k left depth Empty q) second

@@ -12,7 +12,7 @@ ghost use Rattle.set_merge.specs.Need.{merge_need};
 ghost use Rattle.set_merge.specs.declared.keeps.TheConstants.{UNION};
 
 use crate::keeps::UNION;
-use crate::roots::{merge, need, roots_of};
+use crate::roots::{merge, merge_there, need, roots_of};
 use champ_kinds::{Map, MapRef};
 use elem_core::{Element, NoMemory};
 use node_heap::Heap;
@@ -45,6 +45,27 @@ pub fn map_union<T: Element>(heap: &mut Heap<T>, a: MapRef, b: MapRef) -> Result
     let roots = roots_of(a, b);
     let root = merge(heap, &roots, UNION)?;
     Ok(Map::from_root(root, a.bits()))
+}
+
+/// `map_union` where there are spares. It takes the rows that it makes from spares, which its caller has reserved: as many as
+/// `map_union_need` says.
+pub fn map_union_there<T: Element>(heap: &mut Heap<T>, a: MapRef, b: MapRef) -> Map
+    requires few { hold_count heap.old < half_holds }
+    requires bits { a.bits ≡ b.bits }
+    requires first { (M : List (Binding T)) × IsMapOf T.cmp T.code_of heap.old a M }
+    requires second { (N : List (Binding T)) × IsMapOf T.cmp T.code_of heap.old b N }
+    requires ample { HasSpares heap.old 0 (merge_need T.cmp T.code_of UNION heap.old a.bits a.root b.root) }
+    ensures contents { (M N : List (Binding T)) → IsMapOf T.cmp T.code_of heap.old a M → IsMapOf T.cmp T.code_of heap.old b N →
+        IsMapOf T.cmp T.code_of heap.new result (map_union_of T.cmp M N) }
+    ensures bits { result.bits ≡ a.bits }
+    ensures answered { Answered heap.old heap.new [] result.root 0 (merge_need T.cmp T.code_of UNION heap.old a.bits a.root b.root) }
+    ensures made { MakesJust heap.old heap.new }
+    ensures containers { KeepsContainers heap.old heap.new }
+    ensures spares { KeepsToNeed heap.old heap.new 0 0 }
+{
+    let roots = roots_of(a, b);
+    let root = merge_there(heap, &roots, UNION);
+    Map::from_root(root, a.bits())
 }
 
 /// The nodes that `map_union` may make. It takes no memory.

@@ -39,9 +39,11 @@ pub(crate) fn rows_needed<T: Element>(
     let second = Side::of(heap, b, depth, bits);
     let mut rows = 1;
     for position in 0..32 {
-        let x = first.at(heap, position);
-        let y = second.at(heap, position);
-        rows += needed_at(heap, &x, &y, depth, bits, keeps);
+        if first.has(position) || second.has(position) {
+            let x = first.at(heap, position);
+            let y = second.at(heap, position);
+            rows += needed_at(heap, &x, &y, depth, bits, keeps);
+        }
     }
     rows
 }

@@ -87,6 +87,23 @@ pub(crate) fn merge<T: Element>(
 }
 
 // The same where the spares suffice.
+pub(crate) fn merge_there<T: Element>(heap: &mut Heap<T>, roots: &Roots, keeps: Keeps) -> Link
+    requires bits { roots.now.bits ≤ CODE_BITS }
+    requires few { hold_count heap.old < half_holds }
+    requires first { (E : List (Entry T)) × IsTrieOf T.cmp T.code_of roots.now.bits heap.old roots.now.a E }
+    requires second { (D : List (Entry T)) × IsTrieOf T.cmp T.code_of roots.now.bits heap.old roots.now.b D }
+    requires ample { HasSpares heap.old 0 (merge_need T.cmp T.code_of keeps heap.old roots.now.bits roots.now.a roots.now.b) }
+    ensures answered { Answered heap.old heap.new [] result 0 (merge_need T.cmp T.code_of keeps heap.old roots.now.bits roots.now.a roots.now.b) }
+    ensures entries { (E D : List (Entry T)) → IsTrieOf T.cmp T.code_of roots.now.bits heap.old roots.now.a E → IsTrieOf T.cmp T.code_of roots.now.bits heap.old roots.now.b D →
+        IsTrieOf T.cmp T.code_of roots.now.bits heap.new result (merged T.cmp keeps E D) }
+    ensures made { MakesJust heap.old heap.new }
+    ensures spares { KeepsToNeed heap.old heap.new 0 0 }
+{
+    heap.is_graph();
+    merged_root(heap, roots, keeps)
+}
+
+// The root of the merge, over the rows that it makes.
 fn merged_root<T: Element>(heap: &mut Heap<T>, roots: &Roots, keeps: Keeps) -> Link
     requires bits { roots.now.bits ≤ CODE_BITS }
     requires few { hold_count heap.old < half_holds }

@@ -11,7 +11,7 @@ ghost use Rattle.set_merge.specs.Need.{merge_need};
 ghost use Rattle.set_merge.specs.declared.keeps.TheConstants.{UNION, BOTH, LESS};
 
 use crate::keeps::{BOTH, Keeps, LESS, UNION};
-use crate::roots::{merge, need, roots_of};
+use crate::roots::{merge, merge_there, need, roots_of};
 use champ_kinds::{Set, SetRef};
 use elem_core::{Element, NoMemory};
 use node_heap::Heap;
@@ -40,6 +40,24 @@ pub fn set_union<T: Element>(heap: &mut Heap<T>, a: SetRef, b: SetRef) -> Result
     ensures ample { HasSpares heap.old 0 (merge_need T.cmp T.code_of UNION heap.old a.bits a.root b.root) → IsOk result }
 {
     merge_sets(heap, a, b, UNION)
+}
+
+/// `set_union` where there are spares. It takes the rows that it makes from spares, which its caller has reserved: as many as `set_union_need` says.
+pub fn set_union_there<T: Element>(heap: &mut Heap<T>, a: SetRef, b: SetRef) -> Set
+    requires few { hold_count heap.old < half_holds }
+    requires bits { a.bits ≡ b.bits }
+    requires first { (E : List (Entry T)) × IsSetOf T.cmp T.code_of heap.old a E }
+    requires second { (D : List (Entry T)) × IsSetOf T.cmp T.code_of heap.old b D }
+    requires ample { HasSpares heap.old 0 (merge_need T.cmp T.code_of UNION heap.old a.bits a.root b.root) }
+    ensures contents { (E D : List (Entry T)) → IsSetOf T.cmp T.code_of heap.old a E → IsSetOf T.cmp T.code_of heap.old b D →
+        IsSetOf T.cmp T.code_of heap.new result (union T.cmp E D) }
+    ensures bits { result.bits ≡ a.bits }
+    ensures answered { Answered heap.old heap.new [] result.root 0 (merge_need T.cmp T.code_of UNION heap.old a.bits a.root b.root) }
+    ensures made { MakesJust heap.old heap.new }
+    ensures containers { KeepsContainers heap.old heap.new }
+    ensures spares { KeepsToNeed heap.old heap.new 0 0 }
+{
+    merge_sets_there(heap, a, b, UNION)
 }
 
 /// The nodes that `set_union` may make. It takes no memory.
@@ -84,6 +102,24 @@ pub fn set_both<T: Element>(heap: &mut Heap<T>, a: SetRef, b: SetRef) -> Result<
     merge_sets(heap, a, b, BOTH)
 }
 
+/// `set_both` where there are spares. It takes the rows that it makes from spares, which its caller has reserved: as many as `set_both_need` says.
+pub fn set_both_there<T: Element>(heap: &mut Heap<T>, a: SetRef, b: SetRef) -> Set
+    requires few { hold_count heap.old < half_holds }
+    requires bits { a.bits ≡ b.bits }
+    requires first { (E : List (Entry T)) × IsSetOf T.cmp T.code_of heap.old a E }
+    requires second { (D : List (Entry T)) × IsSetOf T.cmp T.code_of heap.old b D }
+    requires ample { HasSpares heap.old 0 (merge_need T.cmp T.code_of BOTH heap.old a.bits a.root b.root) }
+    ensures contents { (E D : List (Entry T)) → IsSetOf T.cmp T.code_of heap.old a E → IsSetOf T.cmp T.code_of heap.old b D →
+        IsSetOf T.cmp T.code_of heap.new result (both T.cmp E D) }
+    ensures bits { result.bits ≡ a.bits }
+    ensures answered { Answered heap.old heap.new [] result.root 0 (merge_need T.cmp T.code_of BOTH heap.old a.bits a.root b.root) }
+    ensures made { MakesJust heap.old heap.new }
+    ensures containers { KeepsContainers heap.old heap.new }
+    ensures spares { KeepsToNeed heap.old heap.new 0 0 }
+{
+    merge_sets_there(heap, a, b, BOTH)
+}
+
 /// The nodes that `set_both` may make. It takes no memory.
 pub fn set_both_need<T: Element>(heap: &Heap<T>, a: SetRef, b: SetRef) -> usize
     requires bits { a.bits ≡ b.bits }
@@ -123,6 +159,24 @@ pub fn set_less<T: Element>(heap: &mut Heap<T>, a: SetRef, b: SetRef) -> Result<
     ensures ample { HasSpares heap.old 0 (merge_need T.cmp T.code_of LESS heap.old a.bits a.root b.root) → IsOk result }
 {
     merge_sets(heap, a, b, LESS)
+}
+
+/// `set_less` where there are spares. It takes the rows that it makes from spares, which its caller has reserved: as many as `set_less_need` says.
+pub fn set_less_there<T: Element>(heap: &mut Heap<T>, a: SetRef, b: SetRef) -> Set
+    requires few { hold_count heap.old < half_holds }
+    requires bits { a.bits ≡ b.bits }
+    requires first { (E : List (Entry T)) × IsSetOf T.cmp T.code_of heap.old a E }
+    requires second { (D : List (Entry T)) × IsSetOf T.cmp T.code_of heap.old b D }
+    requires ample { HasSpares heap.old 0 (merge_need T.cmp T.code_of LESS heap.old a.bits a.root b.root) }
+    ensures contents { (E D : List (Entry T)) → IsSetOf T.cmp T.code_of heap.old a E → IsSetOf T.cmp T.code_of heap.old b D →
+        IsSetOf T.cmp T.code_of heap.new result (less T.cmp E D) }
+    ensures bits { result.bits ≡ a.bits }
+    ensures answered { Answered heap.old heap.new [] result.root 0 (merge_need T.cmp T.code_of LESS heap.old a.bits a.root b.root) }
+    ensures made { MakesJust heap.old heap.new }
+    ensures containers { KeepsContainers heap.old heap.new }
+    ensures spares { KeepsToNeed heap.old heap.new 0 0 }
+{
+    merge_sets_there(heap, a, b, LESS)
 }
 
 /// The nodes that `set_less` may make. It takes no memory.
@@ -170,4 +224,24 @@ fn merge_sets<T: Element>(
     let roots = roots_of(a, b);
     let root = merge(heap, &roots, keeps)?;
     Ok(Set::from_root(root, a.bits()))
+}
+
+// The same where there are spares.
+fn merge_sets_there<T: Element>(heap: &mut Heap<T>, a: SetRef, b: SetRef, keeps: Keeps) -> Set
+    requires few { hold_count heap.old < half_holds }
+    requires bits { a.bits ≡ b.bits }
+    requires first { (E : List (Entry T)) × IsSetOf T.cmp T.code_of heap.old a E }
+    requires second { (D : List (Entry T)) × IsSetOf T.cmp T.code_of heap.old b D }
+    requires ample { HasSpares heap.old 0 (merge_need T.cmp T.code_of keeps heap.old a.bits a.root b.root) }
+    ensures contents { (E D : List (Entry T)) → IsSetOf T.cmp T.code_of heap.old a E → IsSetOf T.cmp T.code_of heap.old b D →
+        IsSetOf T.cmp T.code_of heap.new result (merged T.cmp keeps E D) }
+    ensures bits { result.bits ≡ a.bits }
+    ensures answered { Answered heap.old heap.new [] result.root 0 (merge_need T.cmp T.code_of keeps heap.old a.bits a.root b.root) }
+    ensures made { MakesJust heap.old heap.new }
+    ensures containers { KeepsContainers heap.old heap.new }
+    ensures spares { KeepsToNeed heap.old heap.new 0 0 }
+{
+    let roots = roots_of(a, b);
+    let root = merge_there(heap, &roots, keeps);
+    Set::from_root(root, a.bits())
 }

@@ -5,7 +5,7 @@ ghost use Rattle.champ_chain.specs.Entry.{key_at};
 ghost use Rattle.champ_trie.specs.Trie.{IsRow, place_of, code_by};
 ghost use Rattle.champ_trie.specs.declared.place.Place.{Place};
 ghost use Rattle.champ_trie.specs.declared.place.Place.TheVariants.{Empty, Entry as At};
-ghost use Rattle.set_merge.specs.Side.{place_below, settled, IsKept, HasRow, IsSide};
+ghost use Rattle.set_merge.specs.Side.{place_below, settled, has_place, IsKept, HasRow, IsSide};
 
 use crate::keeps::Keeps;
 use champ_chain::key_of;
@@ -21,8 +21,8 @@ pub(crate) enum Side {
     Empty,
     // An entry at its position.
     Lone(Link, u32),
-    // A trie row.
-    Row(Link),
+    // A trie row, with the positions of its entries and those of its nodes.
+    Row(Link, u32, u32),
 }
 
 impl Side {
@@ -31,6 +31,7 @@ impl Side {
         requires bits { bits ≤ CODE_BITS }
         requires deep { depth ≤ DEEPEST }
         requires place { IsKept (form_at heap.now) place.now }
+        requires row { HasRow (form_at heap.now) depth place.now }
         ensures { IsSide (code_by T.code_of bits) (form_at heap.now) depth place.now result }
     {
         match *place {
@@ -39,16 +40,33 @@ impl Side {
                 let code = masked(key_of(heap, entry).code(), bits);
                 Side::Lone(entry, digit(code, depth))
             }
-            Place::Node(row) => Side::Row(row),
+            Place::Node(row) => {
+                let (entries, nodes) = sets_of(heap, row);
+                Side::Row(row, entries, nodes)
+            }
+        }
+    }
+
+    // Whether something stands at a position of it.
+    #[inline]
+    pub(crate) fn has(&self, position: u32) -> bool
+        requires position { position < 32 }
+        ensures { result ≡ has_place self.now position }
+    {
+        match *self {
+            Side::Empty => false,
+            Side::Lone(_, at) => at == position,
+            Side::Row(_, entries, nodes) => contains(entries, position)
+                || contains(nodes, position),
         }
     }
 
     // What stands at a position of it.
     pub(crate) fn at<T: Element>(&self, heap: &Heap<T>, position: u32) -> Place
         requires position { position < 32 }
-        requires side { (code : T → ℕ) × (depth : ℕ) × (place : Place) × IsSide code (form_at heap.now) depth place self.now × HasRow (form_at heap.now) depth place }
+        requires side { (code : T → ℕ) × (depth : ℕ) × (place : Place) × IsSide code (form_at heap.now) depth place self.now }
         ensures graph { IsGraph heap.now }
-        ensures place { (code : T → ℕ) (depth : ℕ) (place : Place) → IsSide code (form_at heap.now) depth place self.now → HasRow (form_at heap.now) depth place →
+        ensures place { (code : T → ℕ) (depth : ℕ) (place : Place) → IsSide code (form_at heap.now) depth place self.now →
             result ≡ place_below code (form_at heap.now) depth place position }
     {
         heap.is_graph();
@@ -61,26 +79,24 @@ impl Side {
                     Place::Empty
                 }
             }
-            Side::Row(row) => place_at(heap, row, position),
+            Side::Row(row, entries, nodes) => place_at(heap, row, entries, nodes, position),
         }
     }
 }
 
-// What stands at the position of the trie row at a link.
-fn place_at<T>(heap: &Heap<T>, row: Link, position: u32) -> Place
-    requires row { (depth entries nodes : ℕ) × (links : List ℕ) × IsRow (form_at heap.now) row depth entries nodes links }
+// What stands at the position of the trie row at a link, which has these sets.
+fn place_at<T>(heap: &Heap<T>, row: Link, entries: u32, nodes: u32, position: u32) -> Place
+    requires row { (depth : ℕ) × (links : List ℕ) × IsRow (form_at heap.now) row depth entries nodes links }
     requires position { position < 32 }
-    ensures { (depth entries nodes : ℕ) (links : List ℕ) → IsRow (form_at heap.now) row depth entries nodes links →
+    ensures { (depth : ℕ) (links : List ℕ) → IsRow (form_at heap.now) row depth entries nodes links →
         result ≡ place_of entries nodes links position }
 {
-    let (entries, nodes) = sets_of(heap, row);
-    let links = heap.links(row);
     if contains(entries, position) {
-        return Place::Entry(links[rank_of(entries, position) as usize]);
+        return Place::Entry(heap.links(row)[rank_of(entries, position) as usize]);
     }
     if contains(nodes, position) {
         let place = entries.count_ones() + rank_of(nodes, position);
-        return Place::Node(links[place as usize]);
+        return Place::Node(heap.links(row)[place as usize]);
     }
     Place::Empty
 }

@@ -9,8 +9,9 @@ use Rattle.set_merge.specs.Side.{place_below}
 use Rattle.set_merge.specs.Need.{sum_below, rows_need}
 use Rattle.set_merge.specs.Walk.{position_need}
 use Rattle.set_merge.proofs.MergeLemmas.{filter-short}
-use Rattle.set_merge.proofs.WalkLemmas.{place-keyed, has-keyed, has-row, places-at, sum-none, sum-next, need-none, need-more}
+use Rattle.set_merge.proofs.WalkLemmas.{place-keyed, has-keyed, has-row, below-none, places-at, sum-none, sum-next, need-none, need-more, need-skip}
 use Rattle.set_merge.proofs.NeedSteps.{run-of, sides-below, sides-as, need-settled, need-looked, rows-fit, need-there}
+use Rattle.set_merge.proofs.need.+need.Goals.{rows_needed-then-has, rows_needed-else-has+else-has-2}
 use Rattle.set_merge.proofs.need.+need.Goals as goal
 
 pub needed_at-settled-requires-clause-first : goal.needed_at-settled-requires-clause-first
@@ -80,27 +81,37 @@ rows_needed-of-second-requires-clause-place g t c =
     let r = c.requires.sides in
     has-keyed g.T.Ord.cmp (code_by g.T.Element.code_of c.args.bits) (form_at c.args.heap.now) r.0 c.args.depth c.args.b.now r.2 r.3.second
 
+pub rows_needed-of-first-requires-clause-row : goal.rows_needed-of-first-requires-clause-row
+rows_needed-of-first-requires-clause-row g t c =
+    let r = c.requires.sides in
+    let code = code_by g.T.Element.code_of c.args.bits in
+    let F = form_at c.args.heap.now in
+    let more : r.0 ≡ suc (r.0 - 1) = omega (arith, r.3.levels, c.if-depth-gt-DEEPEST.false) in
+    let sides = sides-as g.T.Ord.cmp code F r.0 (suc (r.0 - 1)) c.args.depth c.args.a.now c.args.b.now r.1 r.2 more r.3 in
+    has-row g.T.Ord.cmp code F (r.0 - 1) c.args.depth c.args.a.now r.1 sides.first
+
+pub rows_needed-of-second-requires-clause-row : goal.rows_needed-of-second-requires-clause-row
+rows_needed-of-second-requires-clause-row g t c =
+    let r = c.requires.sides in
+    let code = code_by g.T.Element.code_of c.args.bits in
+    let F = form_at c.args.heap.now in
+    let more : r.0 ≡ suc (r.0 - 1) = omega (arith, r.3.levels, c.if-depth-gt-DEEPEST.false) in
+    let sides = sides-as g.T.Ord.cmp code F r.0 (suc (r.0 - 1)) c.args.depth c.args.a.now c.args.b.now r.1 r.2 more r.3 in
+    has-row g.T.Ord.cmp code F (r.0 - 1) c.args.depth c.args.b.now r.2 sides.second
+
 pub rows_needed-loop-position-init : goal.rows_needed-loop-position-init
 rows_needed-loop-position-init g t c = λ left levels.
     omega (arith, sum-none (position_need g.T.Ord.cmp (code_by g.T.Element.code_of c.args.bits) row_limit (form_at c.args.heap.now) c.args.keeps left c.args.depth c.args.a.now c.args.b.now))
 
 pub rows_needed-at-x-requires-clause-side : goal.rows_needed-at-x-requires-clause-side
 rows_needed-at-x-requires-clause-side g t c =
-    let r = c.requires.sides in
     let code = code_by g.T.Element.code_of c.args.bits in
-    let F = form_at c.args.heap.now in
-    let more : r.0 ≡ suc (r.0 - 1) = omega (arith, r.3.levels, c.if-depth-gt-DEEPEST.false) in
-    let sides = sides-as g.T.Ord.cmp code F r.0 (suc (r.0 - 1)) c.args.depth c.args.a.now c.args.b.now r.1 r.2 more r.3 in
-    (code, c.args.depth, c.args.a.now, c.of-first.ensures, has-row g.T.Ord.cmp code F (r.0 - 1) c.args.depth c.args.a.now r.1 sides.first)
+    (code, c.args.depth, c.args.a.now, c.of-first.ensures)
 
 pub rows_needed-at-y-requires-clause-side : goal.rows_needed-at-y-requires-clause-side
 rows_needed-at-y-requires-clause-side g t c =
-    let r = c.requires.sides in
     let code = code_by g.T.Element.code_of c.args.bits in
-    let F = form_at c.args.heap.now in
-    let more : r.0 ≡ suc (r.0 - 1) = omega (arith, r.3.levels, c.if-depth-gt-DEEPEST.false) in
-    let sides = sides-as g.T.Ord.cmp code F r.0 (suc (r.0 - 1)) c.args.depth c.args.a.now c.args.b.now r.1 r.2 more r.3 in
-    (code, c.args.depth, c.args.b.now, c.of-second.ensures, has-row g.T.Ord.cmp code F (r.0 - 1) c.args.depth c.args.b.now r.2 sides.second)
+    (code, c.args.depth, c.args.b.now, c.of-second.ensures)
 
 pub rows_needed-needed_at-rows-requires : goal.rows_needed-needed_at-rows-requires
 rows_needed-needed_at-rows-requires g t c = λ κs sub.
@@ -112,8 +123,8 @@ rows_needed-needed_at-rows-requires g t c = λ κs sub.
     let p = c.loop-position.position in
     let more : r.0 ≡ suc (r.0 - 1) = omega (arith, r.3.levels, c.if-depth-gt-DEEPEST.false) in
     let sides = sides-as cmp code F r.0 (suc (r.0 - 1)) d c.args.a.now c.args.b.now r.1 r.2 more r.3 in
-    let first : c.at-x.result ≡ place_below code F d c.args.a.now p = c.at-x.ensures.place code d c.args.a.now c.of-first.ensures (has-row cmp code F (r.0 - 1) d c.args.a.now r.1 sides.first) in
-    let second : c.at-y.result ≡ place_below code F d c.args.b.now p = c.at-y.ensures.place code d c.args.b.now c.of-second.ensures (has-row cmp code F (r.0 - 1) d c.args.b.now r.2 sides.second) in (
+    let first : c.at-x.result ≡ place_below code F d c.args.a.now p = c.at-x.ensures.place code d c.args.a.now c.of-first.ensures in
+    let second : c.at-y.result ≡ place_below code F d c.args.b.now p = c.at-y.ensures.place code d c.args.b.now c.of-second.ensures in (
       omega (arith, c.decreases),
       (
         sub,
@@ -145,8 +156,8 @@ rows_needed-overflow_add-rows g t c =
     let more : r.0 ≡ suc (r.0 - 1) = omega (arith, r.3.levels, c.if-depth-gt-DEEPEST.false) in
     let levels : d + suc (r.0 - 1) ≡ LEVELS = omega (arith, r.3.levels, more) in
     let sides = sides-as cmp code F r.0 (suc (r.0 - 1)) d c.args.a.now c.args.b.now r.1 r.2 more r.3 in
-    let first : c.at-x.result ≡ place_below code F d c.args.a.now p = c.at-x.ensures.place code d c.args.a.now c.of-first.ensures (has-row cmp code F (r.0 - 1) d c.args.a.now r.1 sides.first) in
-    let second : c.at-y.result ≡ place_below code F d c.args.b.now p = c.at-y.ensures.place code d c.args.b.now c.of-second.ensures (has-row cmp code F (r.0 - 1) d c.args.b.now r.2 sides.second) in
+    let first : c.at-x.result ≡ place_below code F d c.args.a.now p = c.at-x.ensures.place code d c.args.a.now c.of-first.ensures in
+    let second : c.at-y.result ≡ place_below code F d c.args.b.now p = c.at-y.ensures.place code d c.args.b.now c.of-second.ensures in
     omega (
       arith,
       c.loop-position.invariant (r.0 - 1) levels,
@@ -159,19 +170,25 @@ rows_needed-overflow_add-rows g t c =
 
 pub rows_needed-loop-position-preserved : goal.rows_needed-loop-position-preserved
 rows_needed-loop-position-preserved g t c = λ left levels.
-    let r = c.requires.sides in
     let cmp = g.T.Ord.cmp in
     let code = code_by g.T.Element.code_of c.args.bits in
     let F = form_at c.args.heap.now in
     let d = c.args.depth in
+    let a = c.args.a.now in
+    let b = c.args.b.now in
     let p = c.loop-position.position in
-    let more : r.0 ≡ suc (r.0 - 1) = omega (arith, r.3.levels, c.if-depth-gt-DEEPEST.false) in
-    let sides = sides-as cmp code F r.0 (suc (r.0 - 1)) d c.args.a.now c.args.b.now r.1 r.2 more r.3 in
-    let first : c.at-x.result ≡ place_below code F d c.args.a.now p = c.at-x.ensures.place code d c.args.a.now c.of-first.ensures (has-row cmp code F (r.0 - 1) d c.args.a.now r.1 sides.first) in
-    let second : c.at-y.result ≡ place_below code F d c.args.b.now p = c.at-y.ensures.place code d c.args.b.now c.of-second.ensures (has-row cmp code F (r.0 - 1) d c.args.b.now r.2 sides.second) in
-    let f : ℕ → ℕ = position_need cmp code row_limit F c.args.keeps left d c.args.a.now c.args.b.now in
+    let f : ℕ → ℕ = position_need cmp code row_limit F c.args.keeps left d a b in
     let step : sum_below (p + 1) f ≡ sum_below p f + f p = ap (λ i. sum_below i f) (let same : p + 1 ≡ suc p = omega arith in same) ∙ sum-next f p in
-    omega (arith, step, c.loop-position.invariant left levels, c.needed_at-rows.ensures left levels, need-there cmp code F row_limit c.args.keeps left d c.args.a.now c.args.b.now p c.at-x.result c.at-y.result first second)
+    elim c.if-has.branch [
+      | rows_needed-then-has w ↦
+          (let first : w.at-x.result ≡ place_below code F d a p = w.at-x.ensures.place code d a c.of-first.ensures in
+          let second : w.at-y.result ≡ place_below code F d b p = w.at-y.ensures.place code d b c.of-second.ensures in
+          omega (arith, w.rows-is, step, c.loop-position.invariant left levels, w.needed_at-rows.ensures left levels, need-there cmp code F row_limit c.args.keeps left d a b p w.at-x.result w.at-y.result first second))
+      | rows_needed-else-has+else-has-2 w ↦
+          (let first = below-none cmp code F d a c.of-first.result p c.of-first.ensures (sym c.has.ensures ∙ w.if-has.false) in
+          let second = below-none cmp code F d b c.of-second.result p c.of-second.ensures (sym w.has-else-has.ensures ∙ w.if-has-2.false) in
+          omega (arith, w.rows-is, step, c.loop-position.invariant left levels, need-skip cmp code row_limit F c.args.keeps left d a b p first second))
+    ]
 
 pub rows_needed-returns-clause-rows : goal.rows_needed-returns-clause-rows
 rows_needed-returns-clause-rows g t c = λ left levels.

@@ -12,7 +12,8 @@ use Rattle.set_merge.specs.Merge.{merged}
 use Rattle.set_merge.specs.Spread.{Closed}
 use Rattle.set_merge.specs.Walk.{IsSpread}
 use Rattle.set_merge.proofs.MergeLemmas.{part-merged}
-use Rattle.set_merge.proofs.WalkLemmas.{keyed-kept, has-keyed, first-keyed, second-keyed, come-settled, come-chain, chain-sides, chain-need, below-sides, below-need, more-need, come-closed, closed-kept, spread-live, spread-held, spread-none, spread-step, places-at, need-left, side-first, side-second, at-first, at-second}
+use Rattle.set_merge.proofs.WalkLemmas.{keyed-kept, has-keyed, has-row, has-row-kept, first-keyed, second-keyed, come-settled, come-chain, chain-sides, chain-need, below-sides, below-need, more-need, come-closed, closed-kept, spread-live, spread-held, spread-none, spread-step, places-at, need-left, side-first, side-second, at-first, at-second, below-none, spread-skip}
+use Rattle.set_merge.proofs.walk.+walk.Goals.{rows_merged-then-has, rows_merged-else-has+else-has-2}
 use Rattle.set_merge.proofs.walk.+walk.Goals as goal
 
 pub merged_at-settled-requires-clause-first : goal.merged_at-settled-requires-clause-first
@@ -58,72 +59,78 @@ merged_at-returns-then-depth-eq-DEEPEST g t c = record {
       c.chains_merged.new.heap c.chains_merged.result deep look (c.chains_merged.ensures.builds F code E D kept sides) (c.chains_merged.ensures.place F code E D kept sides);
 }
 
-pub merged_at-rows_merged-below-requires : goal.merged_at-rows_merged-below-requires
-merged_at-rows_merged-below-requires g t c = λ κs sub.
+pub merged_at-merged_below-requires : goal.merged_at-merged_below-requires
+merged_at-merged_below-requires g t c = λ κs sub. (
+  omega (arith, c.decreases, c.requires.deep, c.if-depth-eq-DEEPEST.false),
+  (sub, (c.requires.bits, (omega (arith, c.requires.deep, c.if-depth-eq-DEEPEST.false), (c.requires.few, (c.requires.graph, (sym c.settled.ensures ∙ c.in_default.is, c.requires.places)))))),
+)
+
+pub merged_below-rows_merged-below-requires : goal.merged_below-rows_merged-below-requires
+merged_below-rows_merged-below-requires g t c = λ κs sub.
     let r = c.requires.places in
     let code = code_by g.T.Element.code_of c.args.bits in
-    let more : r.1 ≡ suc (r.1 - 1) = omega (arith, r.5.levels, c.requires.deep, c.if-depth-eq-DEEPEST.false) in
+    let more : r.1 ≡ suc (r.1 - 1) = omega (arith, r.5.levels, c.requires.deep) in
     let sides = below-sides g.T.Ord.cmp code row_limit c.args.keeps r.0 c.args.heap.now (record { kept = r.4 }) r.1 c.args.depth c.args.x.now c.args.y.now r.2 r.3 r.5 (r.1 - 1) more (c.args.depth + 1) (omega arith) in
-    let need = below-need g.T.Ord.cmp code row_limit c.args.keeps r.0 c.args.heap.now (record { kept = r.4 }) r.1 c.args.depth c.args.x.now c.args.y.now r.2 r.3 r.5 (r.1 - 1) more (c.args.depth + 1) (omega arith) (sym c.settled.ensures ∙ c.in_default.is) in (
-      omega (arith, c.decreases, c.requires.deep, c.if-depth-eq-DEEPEST.false),
-      (sub, (c.requires.bits, (omega (arith, c.requires.deep, c.if-depth-eq-DEEPEST.false), (omega (arith, c.requires.few), (c.requires.graph, (r.0, r.1 - 1, r.2, r.3, r.4, sides, omega (arith, need, r.6))))))),
+    let need = below-need g.T.Ord.cmp code row_limit c.args.keeps r.0 c.args.heap.now (record { kept = r.4 }) r.1 c.args.depth c.args.x.now c.args.y.now r.2 r.3 r.5 (r.1 - 1) more (c.args.depth + 1) (omega arith) c.requires.look in (
+      omega (arith, c.decreases, c.requires.deep),
+      (sub, (c.requires.bits, (omega (arith, c.requires.deep), (omega (arith, c.requires.few), (c.requires.graph, (r.0, r.1 - 1, r.2, r.3, r.4, sides, omega (arith, need, r.6))))))),
     )
 
-pub merged_at-close-requires-clause-graph : goal.merged_at-close-requires-clause-graph
-merged_at-close-requires-clause-graph g t c =
+pub merged_below-close-requires-clause-graph : goal.merged_below-close-requires-clause-graph
+merged_below-close-requires-clause-graph g t c =
     let r = c.requires.places in
-    let more : r.1 ≡ suc (r.1 - 1) = omega (arith, r.5.levels, c.requires.deep, c.if-depth-eq-DEEPEST.false) in
+    let more : r.1 ≡ suc (r.1 - 1) = omega (arith, r.5.levels, c.requires.deep) in
     let sides = below-sides g.T.Ord.cmp (code_by g.T.Element.code_of c.args.bits) row_limit c.args.keeps r.0 c.args.heap.now (record { kept = r.4 }) r.1 c.args.depth c.args.x.now c.args.y.now r.2 r.3 r.5 (r.1 - 1) more (c.args.depth + 1) (omega arith) in
     (c.rows_merged-below.ensures.spread r.0 (r.1 - 1) r.2 r.3 r.4 sides).builds.graph
 
-pub merged_at-close-requires-clause-live : goal.merged_at-close-requires-clause-live
-merged_at-close-requires-clause-live g t c =
+pub merged_below-close-requires-clause-live : goal.merged_below-close-requires-clause-live
+merged_below-close-requires-clause-live g t c =
     let r = c.requires.places in
     let code = code_by g.T.Element.code_of c.args.bits in
-    let more : r.1 ≡ suc (r.1 - 1) = omega (arith, r.5.levels, c.requires.deep, c.if-depth-eq-DEEPEST.false) in
+    let more : r.1 ≡ suc (r.1 - 1) = omega (arith, r.5.levels, c.requires.deep) in
     let sides = below-sides g.T.Ord.cmp code row_limit c.args.keeps r.0 c.args.heap.now (record { kept = r.4 }) r.1 c.args.depth c.args.x.now c.args.y.now r.2 r.3 r.5 (r.1 - 1) more (c.args.depth + 1) (omega arith) in
     spread-live g.T.Ord.cmp code row_limit c.args.keeps r.0 c.args.heap.now c.rows_merged-below.new.heap (r.1 - 1) (c.args.depth + 1) c.args.x.now c.args.y.now (merged g.T.Ord.cmp c.args.keeps r.2 r.3) c.rows_merged-below.result
     (c.rows_merged-below.ensures.spread r.0 (r.1 - 1) r.2 r.3 r.4 sides)
 
-pub merged_at-close-requires-clause-held : goal.merged_at-close-requires-clause-held
-merged_at-close-requires-clause-held g t c =
+pub merged_below-close-requires-clause-held : goal.merged_below-close-requires-clause-held
+merged_below-close-requires-clause-held g t c =
     let r = c.requires.places in
     let code = code_by g.T.Element.code_of c.args.bits in
-    let more : r.1 ≡ suc (r.1 - 1) = omega (arith, r.5.levels, c.requires.deep, c.if-depth-eq-DEEPEST.false) in
+    let more : r.1 ≡ suc (r.1 - 1) = omega (arith, r.5.levels, c.requires.deep) in
     let sides = below-sides g.T.Ord.cmp code row_limit c.args.keeps r.0 c.args.heap.now (record { kept = r.4 }) r.1 c.args.depth c.args.x.now c.args.y.now r.2 r.3 r.5 (r.1 - 1) more (c.args.depth + 1) (omega arith) in
     spread-held g.T.Ord.cmp code row_limit c.args.keeps r.0 c.args.heap.now c.rows_merged-below.new.heap (r.1 - 1) (c.args.depth + 1) c.args.x.now c.args.y.now (merged g.T.Ord.cmp c.args.keeps r.2 r.3) c.rows_merged-below.result
     (c.rows_merged-below.ensures.spread r.0 (r.1 - 1) r.2 r.3 r.4 sides)
 
-pub merged_at-close-requires-clause-number : goal.merged_at-close-requires-clause-number
-merged_at-close-requires-clause-number g t c =
+pub merged_below-close-requires-clause-number : goal.merged_below-close-requires-clause-number
+merged_below-close-requires-clause-number g t c =
     let r = c.requires.places in
-    let more : r.1 ≡ suc (r.1 - 1) = omega (arith, r.5.levels, c.requires.deep, c.if-depth-eq-DEEPEST.false) in
+    let more : r.1 ≡ suc (r.1 - 1) = omega (arith, r.5.levels, c.requires.deep) in
     let sides = below-sides g.T.Ord.cmp (code_by g.T.Element.code_of c.args.bits) row_limit c.args.keeps r.0 c.args.heap.now (record { kept = r.4 }) r.1 c.args.depth c.args.x.now c.args.y.now r.2 r.3 r.5 (r.1 - 1) more (c.args.depth + 1) (omega arith) in
     (c.rows_merged-below.ensures.spread r.0 (r.1 - 1) r.2 r.3 r.4 sides).number
 
-pub merged_at-close-requires-clause-few : goal.merged_at-close-requires-clause-few
-merged_at-close-requires-clause-few g t c =
+pub merged_below-close-requires-clause-few : goal.merged_below-close-requires-clause-few
+merged_below-close-requires-clause-few g t c =
     let r = c.requires.places in
-    let more : r.1 ≡ suc (r.1 - 1) = omega (arith, r.5.levels, c.requires.deep, c.if-depth-eq-DEEPEST.false) in
+    let more : r.1 ≡ suc (r.1 - 1) = omega (arith, r.5.levels, c.requires.deep) in
     let sides = below-sides g.T.Ord.cmp (code_by g.T.Element.code_of c.args.bits) row_limit c.args.keeps r.0 c.args.heap.now (record { kept = r.4 }) r.1 c.args.depth c.args.x.now c.args.y.now r.2 r.3 r.5 (r.1 - 1) more (c.args.depth + 1) (omega arith) in
     let did = c.rows_merged-below.ensures.spread r.0 (r.1 - 1) r.2 r.3 r.4 sides in
-    omega (arith, c.requires.few, did.builds.total, did.few, c.requires.deep, c.if-depth-eq-DEEPEST.false)
+    omega (arith, c.requires.few, did.builds.total, did.few, c.requires.deep)
 
-pub merged_at-close-requires-clause-spare : goal.merged_at-close-requires-clause-spare
-merged_at-close-requires-clause-spare g t c =
+pub merged_below-close-requires-clause-spare : goal.merged_below-close-requires-clause-spare
+merged_below-close-requires-clause-spare g t c =
     let r = c.requires.places in
     let code = code_by g.T.Element.code_of c.args.bits in
-    let more : r.1 ≡ suc (r.1 - 1) = omega (arith, r.5.levels, c.requires.deep, c.if-depth-eq-DEEPEST.false) in
+    let more : r.1 ≡ suc (r.1 - 1) = omega (arith, r.5.levels, c.requires.deep) in
     let sides = below-sides g.T.Ord.cmp code row_limit c.args.keeps r.0 c.args.heap.now (record { kept = r.4 }) r.1 c.args.depth c.args.x.now c.args.y.now r.2 r.3 r.5 (r.1 - 1) more (c.args.depth + 1) (omega arith) in
     let did = c.rows_merged-below.ensures.spread r.0 (r.1 - 1) r.2 r.3 r.4 sides in
-    omega (arith, r.6, Builds-spare_nodes did.builds, more-need g.T.Ord.cmp code row_limit c.args.keeps r.0 c.args.heap.now (record { kept = r.4 }) r.1 c.args.depth c.args.x.now c.args.y.now r.2 r.3 r.5 (r.1 - 1) more (c.args.depth + 1) (omega arith) (sym c.settled.ensures ∙ c.in_default.is))
+    omega (arith, r.6, Builds-spare_nodes did.builds, more-need g.T.Ord.cmp code row_limit c.args.keeps r.0 c.args.heap.now (record { kept = r.4 }) r.1 c.args.depth c.args.x.now c.args.y.now r.2 r.3 r.5 (r.1 - 1) more (c.args.depth + 1) (omega arith) c.requires.look)
 
-pub merged_at-returns : goal.merged_at-returns
-merged_at-returns g t c = record {
+pub merged_below-returns : goal.merged_below-returns
+merged_below-returns g t c = record {
   come = λ F left E D kept are.
       let code = code_by g.T.Element.code_of c.args.bits in
       let n = left - 1 in
-      let more : left ≡ suc (left - 1) = omega (arith, are.levels, c.requires.deep, c.if-depth-eq-DEEPEST.false) in
+      let more : left ≡ suc (left - 1) = omega (arith, are.levels, c.requires.deep) in
       let down : c.args.depth + 1 ≡ suc c.args.depth = omega arith in
       let M = merged g.T.Ord.cmp c.args.keeps E D in
       let s = c.rows_merged-below.result in
@@ -137,7 +144,7 @@ merged_at-returns g t c = record {
       come-closed g.T.Ord.cmp code row_limit c.args.keeps F h (record { kept = kept }) left c.args.depth c.args.x.now c.args.y.now E D are (left - 1) more mid new s
       (forms-kept h mid did.builds.extends) later
       (subst (λ d. IsSpread g.T.Ord.cmp code row_limit c.args.keeps F h mid (left - 1) d c.args.x.now c.args.y.now M s 32) down did)
-      c.close.result (sym c.settled.ensures ∙ c.in_default.is) (subst (λ d. Closed mid new s d c.args.x.now c.args.y.now c.close.result) down closed);
+      c.close.result c.requires.look (subst (λ d. Closed mid new s d c.args.x.now c.args.y.now c.close.result) down closed);
 }
 
 pub rows_merged-of-first-requires-clause-place : goal.rows_merged-of-first-requires-clause-place
@@ -152,6 +159,18 @@ rows_merged-of-second-requires-clause-place g t c =
     let code = code_by g.T.Element.code_of c.args.bits in
     keyed-kept g.T.Ord.cmp code r.0 (form_at c.args.heap.now) (record { kept = r.4 }) c.args.b.now (has-keyed g.T.Ord.cmp code r.0 (suc r.1) c.args.depth c.args.b.now r.3 r.5.second)
 
+pub rows_merged-of-first-requires-clause-row : goal.rows_merged-of-first-requires-clause-row
+rows_merged-of-first-requires-clause-row g t c =
+    let r = c.requires.sides in
+    let code = code_by g.T.Element.code_of c.args.bits in
+    has-row-kept g.T.Ord.cmp code r.0 (form_at c.args.heap.now) (record { kept = r.4 }) c.args.depth c.args.a.now (has-row g.T.Ord.cmp code r.0 r.1 c.args.depth c.args.a.now r.2 r.5.first)
+
+pub rows_merged-of-second-requires-clause-row : goal.rows_merged-of-second-requires-clause-row
+rows_merged-of-second-requires-clause-row g t c =
+    let r = c.requires.sides in
+    let code = code_by g.T.Element.code_of c.args.bits in
+    has-row-kept g.T.Ord.cmp code r.0 (form_at c.args.heap.now) (record { kept = r.4 }) c.args.depth c.args.b.now (has-row g.T.Ord.cmp code r.0 r.1 c.args.depth c.args.b.now r.3 r.5.second)
+
 pub rows_merged-loop-position-init : goal.rows_merged-loop-position-init
 rows_merged-loop-position-init g t c = λ F left E D kept are.
     spread-none g.T.Ord.cmp (code_by g.T.Element.code_of c.args.bits) row_limit c.args.keeps F c.args.heap.now left c.args.depth c.args.a.now c.args.b.now (merged g.T.Ord.cmp c.args.keeps E D) c.empty-spread.result
@@ -164,7 +183,7 @@ rows_merged-at-x-requires-clause-side g t c =
     let now = c.loop-position.heap in
     let did = c.loop-position.invariant r.0 r.1 r.2 r.3 r.4 r.5 in
     let side = side-first g.T.Ord.cmp code r.0 r.1 c.args.depth c.args.a.now c.args.b.now r.2 r.3 r.5 (form_at c.args.heap.now) (form_at now) (record { kept = r.4 }) (forms-kept c.args.heap.now now did.builds.extends) c.of-first.result c.of-first.ensures in
-    (code, c.args.depth, c.args.a.now, side.0, side.1)
+    (code, c.args.depth, c.args.a.now, side)
 
 pub rows_merged-at-y-requires-clause-side : goal.rows_merged-at-y-requires-clause-side
 rows_merged-at-y-requires-clause-side g t c =
@@ -173,7 +192,7 @@ rows_merged-at-y-requires-clause-side g t c =
     let now = c.loop-position.heap in
     let did = c.loop-position.invariant r.0 r.1 r.2 r.3 r.4 r.5 in
     let side = side-second g.T.Ord.cmp code r.0 r.1 c.args.depth c.args.a.now c.args.b.now r.2 r.3 r.5 (form_at c.args.heap.now) (form_at now) (record { kept = r.4 }) (forms-kept c.args.heap.now now did.builds.extends) c.of-second.result c.of-second.ensures in
-    (code, c.args.depth, c.args.b.now, side.0, side.1)
+    (code, c.args.depth, c.args.b.now, side)
 
 pub rows_merged-merged_at-merged-requires : goal.rows_merged-merged_at-merged-requires
 rows_merged-merged_at-merged-requires g t c = λ κs sub.
@@ -188,8 +207,8 @@ rows_merged-merged_at-merged-requires g t c = λ κs sub.
     let then = forms-kept old now did.builds.extends in
     let side = side-first cmp code r.0 r.1 d c.args.a.now c.args.b.now r.2 r.3 r.5 (form_at old) (form_at now) (record { kept = r.4 }) then c.of-first.result c.of-first.ensures in
     let other = side-second cmp code r.0 r.1 d c.args.a.now c.args.b.now r.2 r.3 r.5 (form_at old) (form_at now) (record { kept = r.4 }) then c.of-second.result c.of-second.ensures in
-    let first : c.at-x.result ≡ place_below code r.0 d c.args.a.now p = c.at-x.ensures.place code d c.args.a.now side.0 side.1 ∙ at-first cmp code r.0 r.1 d c.args.a.now c.args.b.now r.2 r.3 r.5 (form_at old) (form_at now) (record { kept = r.4 }) then p in
-    let second : c.at-y.result ≡ place_below code r.0 d c.args.b.now p = c.at-y.ensures.place code d c.args.b.now other.0 other.1 ∙ at-second cmp code r.0 r.1 d c.args.a.now c.args.b.now r.2 r.3 r.5 (form_at old) (form_at now) (record { kept = r.4 }) then p in
+    let first : c.at-x.result ≡ place_below code r.0 d c.args.a.now p = c.at-x.ensures.place code d c.args.a.now side ∙ at-first cmp code r.0 r.1 d c.args.a.now c.args.b.now r.2 r.3 r.5 (form_at old) (form_at now) (record { kept = r.4 }) then p in
+    let second : c.at-y.result ≡ place_below code r.0 d c.args.b.now p = c.at-y.ensures.place code d c.args.b.now other ∙ at-second cmp code r.0 r.1 d c.args.a.now c.args.b.now r.2 r.3 r.5 (form_at old) (form_at now) (record { kept = r.4 }) then p in
     let places = places-at cmp code r.0 r.1 d c.args.a.now c.args.b.now r.2 r.3 r.5 p c.loop-position-test.true c.at-x.result c.at-y.result first second in
     let need = need-left cmp code r.0 r.1 d c.args.a.now c.args.b.now r.2 r.3 r.5 row_limit c.args.keeps p old.spare_nodes now.spare_nodes c.at-x.result c.at-y.result c.loop-position-test.true first second r.6 (Builds-spare_nodes did.builds) in (
       omega (arith, c.decreases),
@@ -228,19 +247,33 @@ rows_merged-loop-position-preserved g t c = λ F left E D kept are.
     let old = c.args.heap.now in
     let now = c.loop-position.heap in
     let d = c.args.depth in
+    let a = c.args.a.now in
+    let b = c.args.b.now in
     let p = c.loop-position.position in
     let did = c.loop-position.invariant F left E D kept are in
     let then = forms-kept old now did.builds.extends in
-    let side = side-first cmp code F left d c.args.a.now c.args.b.now E D are (form_at old) (form_at now) (record { kept = kept }) then c.of-first.result c.of-first.ensures in
-    let other = side-second cmp code F left d c.args.a.now c.args.b.now E D are (form_at old) (form_at now) (record { kept = kept }) then c.of-second.result c.of-second.ensures in
-    let first : c.at-x.result ≡ place_below code F d c.args.a.now p = c.at-x.ensures.place code d c.args.a.now side.0 side.1 ∙ at-first cmp code F left d c.args.a.now c.args.b.now E D are (form_at old) (form_at now) (record { kept = kept }) then p in
-    let second : c.at-y.result ≡ place_below code F d c.args.b.now p = c.at-y.ensures.place code d c.args.b.now other.0 other.1 ∙ at-second cmp code F left d c.args.a.now c.args.b.now E D are (form_at old) (form_at now) (record { kept = kept }) then p in
-    let places = places-at cmp code F left d c.args.a.now c.args.b.now E D are p c.loop-position-test.true c.at-x.result c.at-y.result first second in
-    let come = c.merged_at-merged.ensures.come F left (part cmp code d p E) (part cmp code d p D) (λ l f is. then.kept l f (kept l f is)) places in
-    spread-step cmp code row_limit c.args.keeps F old now c.merged_at-merged.new.heap left d c.args.a.now c.args.b.now (merged cmp c.args.keeps E D) (merged cmp c.args.keeps (part cmp code d p E) (part cmp code d p D))
-    c.loop-position.spread c.put.new.self p c.merged_at-merged.result c.loop-position-test.true did c.at-x.result c.at-y.result first second come
-    (part-merged cmp code (λ j k e. ap (λ n. masked_code n c.args.bits) (g.met.T.Element.equal_codes j k e)) c.args.keeps d p E D)
-    (record { places = c.put.ensures.places; stood = c.put.ensures.stood; made = c.put.ensures.made; as_first = c.put.ensures.as_first; as_second = c.put.ensures.as_second })
+    let side = side-first cmp code F left d a b E D are (form_at old) (form_at now) (record { kept = kept }) then c.of-first.result c.of-first.ensures in
+    let other = side-second cmp code F left d a b E D are (form_at old) (form_at now) (record { kept = kept }) then c.of-second.result c.of-second.ensures in
+    elim c.if-has.branch [
+      | rows_merged-then-has w ↦
+          (let first : w.at-x.result ≡ place_below code F d a p = w.at-x.ensures.place code d a side ∙ at-first cmp code F left d a b E D are (form_at old) (form_at now) (record { kept = kept }) then p in
+          let second : w.at-y.result ≡ place_below code F d b p = w.at-y.ensures.place code d b other ∙ at-second cmp code F left d a b E D are (form_at old) (form_at now) (record { kept = kept }) then p in
+          let places = places-at cmp code F left d a b E D are p c.loop-position-test.true w.at-x.result w.at-y.result first second in
+          let come = w.merged_at-merged.ensures.come F left (part cmp code d p E) (part cmp code d p D) (λ l f is. then.kept l f (kept l f is)) places in
+          subst (λ h. IsSpread cmp code row_limit c.args.keeps F old h left d a b (merged cmp c.args.keeps E D) c.if-has.spread (p + 1)) (sym w.heap-is)
+          (subst (λ s. IsSpread cmp code row_limit c.args.keeps F old w.merged_at-merged.new.heap left d a b (merged cmp c.args.keeps E D) s (p + 1)) (sym w.spread-is)
+          (spread-step cmp code row_limit c.args.keeps F old now w.merged_at-merged.new.heap left d a b (merged cmp c.args.keeps E D) (merged cmp c.args.keeps (part cmp code d p E) (part cmp code d p D))
+          c.loop-position.spread w.put.new.self p w.merged_at-merged.result c.loop-position-test.true did w.at-x.result w.at-y.result first second come
+          (part-merged cmp code (λ j k e. ap (λ n. masked_code n c.args.bits) (g.met.T.Element.equal_codes j k e)) c.args.keeps d p E D)
+          (record { places = w.put.ensures.places; stood = w.put.ensures.stood; made = w.put.ensures.made; as_first = w.put.ensures.as_first; as_second = w.put.ensures.as_second }))))
+      | rows_merged-else-has+else-has-2 w ↦
+          (let first = sym (at-first cmp code F left d a b E D are (form_at old) (form_at now) (record { kept = kept }) then p) ∙ below-none cmp code (form_at now) d a c.of-first.result p side (sym c.has.ensures ∙ w.if-has.false) in
+          let second = sym (at-second cmp code F left d a b E D are (form_at old) (form_at now) (record { kept = kept }) then p) ∙ below-none cmp code (form_at now) d b c.of-second.result p other (sym w.has-else-has.ensures ∙ w.if-has-2.false) in
+          subst (λ h. IsSpread cmp code row_limit c.args.keeps F old h left d a b (merged cmp c.args.keeps E D) c.if-has.spread (p + 1)) (sym w.heap-is)
+          (subst (λ s. IsSpread cmp code row_limit c.args.keeps F old now left d a b (merged cmp c.args.keeps E D) s (p + 1)) (sym w.spread-is)
+          (spread-skip cmp g.met.T.Ord.total code row_limit c.args.keeps F old now left d a b E D c.loop-position.spread p c.loop-position-test.true did are (record { kept = λ l f is. then.kept l f (kept l f is) })
+          (λ j k e. ap (λ n. masked_code n c.args.bits) (g.met.T.Element.equal_codes j k e)) did.builds.graph first second)))
+    ]
 
 pub rows_merged-returns : goal.rows_merged-returns
 rows_merged-returns g t c = record {

@@ -9,10 +9,13 @@ use Rattle.set_merge.specs.Walk.{AreKept, AreSides, IsSpread}
 use Rattle.set_merge.proofs.walk.+walk.Given as goal
 
 abbrev pub decreases-rows_merged : goal.decreases-rows_merged
-decreases-rows_merged g l = 2 * (DEEPEST - l.depth) + 1
+decreases-rows_merged g l = 3 * (DEEPEST - l.depth) + 2
 
 abbrev pub decreases-merged_at : goal.decreases-merged_at
-decreases-merged_at g l = 2 * (DEEPEST - l.depth)
+decreases-merged_at g l = 3 * (DEEPEST - l.depth) + 1
+
+abbrev pub decreases-merged_below : goal.decreases-merged_below
+decreases-merged_below g l = 3 * (DEEPEST - l.depth)
 
 abbrev pub invariant-rows_merged-loop-position : goal.invariant-rows_merged-loop-position
 invariant-rows_merged-loop-position g l =
