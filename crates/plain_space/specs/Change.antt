@@ -1,9 +1,9 @@
 -- Edits of the code as those of the definitions.
 use Rattle.elem_core.specs.Shown.{line_bytes, name_bytes}
-use Rattle.shell_terms.specs.Edit.{new, add, set, put, del, cat, cut, copy, drop, star, unstar, fill}
+use Rattle.shell_terms.specs.Edit.{new, add, set, put, del, cat, cut, copy, drop, star, unstar}
 use Rattle.shell_terms.specs.Command.{PlainCommand, edit, merge, join_stars, common_stars, other_stars, join_buffers}
 use Rattle.plain_space.specs.declared.edit.Edit.{Edit}
-use Rattle.plain_space.specs.declared.edit.Edit.TheVariants.{New, Add, Set, Put, Del, Cat, Cut, Copy, Drop, Star, Unstar, StarMerge, StarBoth, StarLess, Merge, Read}
+use Rattle.plain_space.specs.declared.edit.Edit.TheVariants.{New, Add, Set, Put, Del, Cat, Cut, Copy, Drop, Star, Unstar, StarMerge, StarBoth, StarLess, Merge}
 
 -- The command that carries out the edit, with its names and texts as their bytes.
 abbrev pub edit_command : Edit → PlainCommand
@@ -22,4 +22,3 @@ edit_command (StarMerge version) = merge join_stars (name_bytes version)
 edit_command (StarBoth version) = merge common_stars (name_bytes version)
 edit_command (StarLess version) = merge other_stars (name_bytes version)
 edit_command (Merge version) = merge join_buffers (name_bytes version)
-edit_command (Read name lines) = edit (fill (name_bytes name) lines)

@@ -1,10 +1,10 @@
 //! What changes a state.
 
-use elem_core::{Line, Name, Texts};
+use elem_core::{Line, Name};
 
 /// An edit of the current state, with its names, numbers and texts in the order of the command's words.
 /// Lines are counted from 0, and a range ends before its second number.
-#[derive(Debug, Drop)]
+#[derive(Clone, Copy, Debug, PartialEq, Eq)]
 pub enum Edit<'a> {
     /// Makes the buffer, without lines.
     New(Name<'a>),
@@ -36,6 +36,4 @@ pub enum Edit<'a> {
     StarLess(Name<'a>),
     /// Adds the buffers of the version that have other names.
     Merge(Name<'a>),
-    /// Gives the buffer these lines, made or replaced. There are at most 4,294,967,295.
-    Read(Name<'a>, Texts),
 }

@@ -2,3 +2,4 @@ pub mod Files
 pub mod Number
 pub mod Grammar
 pub mod Shown
+pub mod Worked

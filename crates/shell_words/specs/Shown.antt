@@ -1,29 +1,15 @@
 -- What the answer of `read_line` shows: the command with its names, numbers and texts as values.
 use Rattle.std.specs.Prelude.{Result, Ok, Err}
-use Rattle.shell_terms.specs.Edit.{new, add, set, put, del, cat, cut, copy, drop, star, unstar}
-use Rattle.shell_terms.specs.Command.{PlainCommand, join_stars, common_stars, other_stars, join_buffers, edit, merge, mark, unmark, back, undo, redo, begin, «end», abort, history, get, len, show, list, stars, marks, same, eqv, stats, made, read, write, save, load, part, chain, indent, dedent, quit}
-use Rattle.elem_core.specs.Shown.{name_bytes, line_bytes}
+use Rattle.shell_terms.specs.Command.{PlainCommand, mark, unmark, back, undo, redo, begin, «end», abort, history, get, len, show, list, stars, marks, same, eqv, stats, made, read, write, save, load, part, chain, indent, dedent, quit}
+use Rattle.elem_core.specs.Shown.{name_bytes}
+use Rattle.plain_space.specs.Change.{edit_command}
 use Rattle.shell_words.specs.declared.Command.{Command}
-use Rattle.shell_words.specs.declared.Command.TheVariants.{New, Add, Set, Put, Del, Cat, Cut, Copy, Drop, Star, Unstar, StarMerge, StarBoth, StarLess, Merge, Mark, Unmark, Back, Undo, Redo, Begin, End, Abort, History, Get, Len, Show, List, Stars, Marks, Same, Eqv, Stats, Made, Read, Write, Save, Load, Part, Chain, Indent, Dedent, Quit}
+use Rattle.shell_words.specs.declared.Command.TheVariants.{Edit, Mark, Unmark, Back, Undo, Redo, Begin, End, Abort, History, Get, Len, Show, List, Stars, Marks, Same, Eqv, Stats, Made, Read, Write, Save, Load, Part, Chain, Indent, Dedent, Quit}
 use Rattle.shell_words.specs.declared.BadLine.{BadLine}
 
 -- The command with its names and texts as their bytes.
 abbrev pub plain_command : Command → PlainCommand
-plain_command (New b) = edit (new (name_bytes b))
-plain_command (Add b t) = edit (add (name_bytes b) (line_bytes t))
-plain_command (Set b i t) = edit (set (name_bytes b) i (line_bytes t))
-plain_command (Put b i t) = edit (put (name_bytes b) i (line_bytes t))
-plain_command (Del b i j) = edit (del (name_bytes b) i j)
-plain_command (Cat b c) = edit (cat (name_bytes b) (name_bytes c))
-plain_command (Cut b i j c) = edit (cut (name_bytes b) i j (name_bytes c))
-plain_command (Copy b c) = edit (copy (name_bytes b) (name_bytes c))
-plain_command (Drop b) = edit (drop (name_bytes b))
-plain_command (Star n) = edit (star (name_bytes n))
-plain_command (Unstar n) = edit (unstar (name_bytes n))
-plain_command (StarMerge v) = merge join_stars (name_bytes v)
-plain_command (StarBoth v) = merge common_stars (name_bytes v)
-plain_command (StarLess v) = merge other_stars (name_bytes v)
-plain_command (Merge v) = merge join_buffers (name_bytes v)
+plain_command (Edit e) = edit_command e
 plain_command (Mark v) = mark (name_bytes v)
 plain_command (Unmark v) = unmark (name_bytes v)
 plain_command (Back v) = back (name_bytes v)

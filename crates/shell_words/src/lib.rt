@@ -6,11 +6,12 @@ ghost use Rattle.elem_core.specs.Cell.{IsCell};
 ghost use Rattle.shell_words.specs.Grammar.{meaning};
 ghost use Rattle.shell_words.specs.Shown.{plain_answer};
 
-use elem_core::{Line, Name};
+use elem_core::Name;
 use thiserror::Error;
 
 mod numbers;
 mod pieces;
+mod worked;
 
 pub use numbers::read_number;
 pub use pieces::{MOST_NUMBERED, numbered};
@@ -18,6 +19,8 @@ use pieces::{
     chain, name, name_and_number, name_and_range, name_and_text, name_number_and_text,
     name_range_and_name, nothing, number, number_and_name, split_piece, two_names,
 };
+pub use plain_space::Edit;
+pub use worked::names;
 
 /// Why a line is no command: the first of these that holds.
 #[derive(Clone, Copy, Debug, PartialEq, Eq, Error)]
@@ -36,36 +39,9 @@ pub enum BadLine {
 /// What one line asks for, over the bytes of that line. Lines of buffers are counted from 0.
 #[derive(Clone, Copy, Debug, PartialEq, Eq)]
 pub enum Command<'a> {
-    /// `new B`: an empty buffer B.
-    New(Name<'a>),
-    /// `add B TEXT`: TEXT as the last line of B.
-    Add(Name<'a>, Line<'a>),
-    /// `set B I TEXT`: TEXT in place of line I of B.
-    Set(Name<'a>, u32, Line<'a>),
-    /// `put B I TEXT`: TEXT before line I of B.
-    Put(Name<'a>, u32, Line<'a>),
-    /// `del B I J`: B without its lines I to J-1.
-    Del(Name<'a>, u32, u32),
-    /// `cat B C`: the lines of C at the end of B.
-    Cat(Name<'a>, Name<'a>),
-    /// `cut B I J C`: lines I to J-1 taken out of B; C is these lines, made or replaced.
-    Cut(Name<'a>, u32, u32, Name<'a>),
-    /// `copy B C`: C with the lines of B, made or replaced.
-    Copy(Name<'a>, Name<'a>),
-    /// `drop B`: no buffer B.
-    Drop(Name<'a>),
-    /// `star N`: a star at the name N.
-    Star(Name<'a>),
-    /// `unstar N`: no star at N.
-    Unstar(Name<'a>),
-    /// `starmerge V`: the stars of version V beside those that are there.
-    StarMerge(Name<'a>),
-    /// `starboth V`: the stars alone that version V has too.
-    StarBoth(Name<'a>),
-    /// `starless V`: the stars alone that version V hasn't.
-    StarLess(Name<'a>),
-    /// `merge V`: the buffers of version V with other names beside those that are there.
-    Merge(Name<'a>),
+    /// An edit of the current state: `new B`, `add B TEXT`, `set B I TEXT`, `put B I TEXT`, `del B I J`, `cat B C`, `cut B I J C`,
+    /// `copy B C`, `drop B`, `star N`, `unstar N`, `starmerge V`, `starboth V`, `starless V` or `merge V`.
+    Edit(Edit<'a>),
     /// `mark V`: the current state as version V.
     Mark(Name<'a>),
     /// `unmark V`: no version V.
@@ -143,32 +119,34 @@ fn read_text(text: &str) -> Result<Command<'_>, BadLine>
     let (word, rest) = split_piece(text);
     // The words are tested one after another, so those that long inputs repeat come first.
     match word {
-        "add" => name_and_text(rest).map(|(buffer, text)| Command::Add(buffer, text)),
+        "add" => name_and_text(rest).map(|(buffer, text)| Command::Edit(Edit::Add(buffer, text))),
         "get" => name_and_number(rest).map(|(buffer, index)| Command::Get(buffer, index)),
-        "set" => name_number_and_text(rest).map(|(buffer, index, text)| Command::Set(
+        "set" => name_number_and_text(rest).map(|(buffer, index, text)| Command::Edit(Edit::Set(
             buffer, index, text,
-        )),
-        "put" => name_number_and_text(rest).map(|(buffer, index, text)| Command::Put(
+        ))),
+        "put" => name_number_and_text(rest).map(|(buffer, index, text)| Command::Edit(Edit::Put(
             buffer, index, text,
-        )),
-        "del" => name_and_range(rest).map(|(buffer, from, to)| Command::Del(buffer, from, to)),
+        ))),
+        "del" => name_and_range(rest).map(|(buffer, from, to)| Command::Edit(Edit::Del(
+            buffer, from, to,
+        ))),
         "len" => name(rest).map(Command::Len),
         "show" => name_and_range(rest).map(|(buffer, from, to)| Command::Show(buffer, from, to)),
         "undo" => nothing(rest).map(|()| Command::Undo),
         "redo" => nothing(rest).map(|()| Command::Redo),
-        "new" => name(rest).map(Command::New),
-        "cat" => two_names(rest).map(|(buffer, other)| Command::Cat(buffer, other)),
-        "cut" => name_range_and_name(rest).map(|(buffer, from, to, other)| Command::Cut(
+        "new" => name(rest).map(|name| Command::Edit(Edit::New(name))),
+        "cat" => two_names(rest).map(|(buffer, other)| Command::Edit(Edit::Cat(buffer, other))),
+        "cut" => name_range_and_name(rest).map(|(buffer, from, to, other)| Command::Edit(Edit::Cut(
             buffer, from, to, other,
-        )),
-        "copy" => two_names(rest).map(|(buffer, other)| Command::Copy(buffer, other)),
-        "drop" => name(rest).map(Command::Drop),
-        "star" => name(rest).map(Command::Star),
-        "unstar" => name(rest).map(Command::Unstar),
-        "starmerge" => name(rest).map(Command::StarMerge),
-        "starboth" => name(rest).map(Command::StarBoth),
-        "starless" => name(rest).map(Command::StarLess),
-        "merge" => name(rest).map(Command::Merge),
+        ))),
+        "copy" => two_names(rest).map(|(buffer, other)| Command::Edit(Edit::Copy(buffer, other))),
+        "drop" => name(rest).map(|name| Command::Edit(Edit::Drop(name))),
+        "star" => name(rest).map(|name| Command::Edit(Edit::Star(name))),
+        "unstar" => name(rest).map(|name| Command::Edit(Edit::Unstar(name))),
+        "starmerge" => name(rest).map(|name| Command::Edit(Edit::StarMerge(name))),
+        "starboth" => name(rest).map(|name| Command::Edit(Edit::StarBoth(name))),
+        "starless" => name(rest).map(|name| Command::Edit(Edit::StarLess(name))),
+        "merge" => name(rest).map(|name| Command::Edit(Edit::Merge(name))),
         "mark" => name(rest).map(Command::Mark),
         "unmark" => name(rest).map(Command::Unmark),
         "back" => name(rest).map(Command::Back),

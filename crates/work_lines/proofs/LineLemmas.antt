@@ -7,11 +7,10 @@ use Rattle.std.proofs.Math.Nat.{mod-lt}
 use Rattle.elem_core.specs.Naming.{IsName}
 use Rattle.shell_terms.specs.Edit.{new, add, set, put, del, cat, copy}
 use Rattle.shell_terms.specs.Command.{PlainCommand, edit, mark, undo, redo}
-use Rattle.shell_terms.specs.Kinds.{only_changes}
 use Rattle.shell_words.specs.Grammar.{commands, a_name, a_number, the_end, the_text}
 use Rattle.work_lines.specs.Lines.{next_number, kind_in, buffer_in, other_in, size_in, line_by, line_of, lines_from, new_line}
 use Rattle.work_lines.specs.View.{last_new_lines}
-use Rattle.work_lines.specs.Commands.{IsLineOf, ChangesSpace, buffer, version, line_text, command_by}
+use Rattle.work_lines.specs.Commands.{is_made, IsLineOf, ChangesSpace, buffer, version, line_text, command_by}
 use Rattle.work_lines.proofs.PieceLemmas.{is_line_byte, Unspaced, name-then, name-last, number-then, number-last, lettered, lettered_unspaced, IsPart, part-number, part-letter, part-joined, word-line, word-alone}
 
 -- ## The lines as commands
@@ -44,7 +43,7 @@ module _ (a : ℕ) (few : a < 8) where
 
   -- a word and the names of two buffers
   two_buffers : (word : List ℕ) (make : List ℕ → List ℕ → PlainCommand) (b : ℕ) → b < 8 → Unspaced word → length word ≤ 10 → list_all is_line_byte word ≡ true
-      → lookup (bytes_eq word) commands ≡ Some (a_name (λ x. a_name (λ y. the_end (make x y)))) → IsTrue (only_changes (make (buffer a) (buffer b)))
+      → lookup (bytes_eq word) commands ≡ Some (a_name (λ x. a_name (λ y. the_end (make x y)))) → IsTrue (is_made (make (buffer a) (buffer b)))
       → IsLineOf (word ++ 32 ∷ (buffer a ++ 32 ∷ buffer b)) (make (buffer a) (buffer b))
   unfolding the_end
   two_buffers word make b few_too un short passes found changes =
@@ -73,7 +72,7 @@ module _ (a : ℕ) (few : a < 8) where
   module _ (i : ℕ) (low : i < 2 ^ 32) where
     -- a word, the name of a buffer, a number and a text
     numbered : (word : List ℕ) (make : List ℕ → ℕ → List ℕ → PlainCommand) (n : ℕ) → n < 2 ^ 22 → Unspaced word → length word ≤ 10 → list_all is_line_byte word ≡ true
-        → lookup (bytes_eq word) commands ≡ Some (a_name (λ x. a_number (λ k. the_text (λ t. make x k t)))) → IsTrue (only_changes (make (buffer a) i (line_text n)))
+        → lookup (bytes_eq word) commands ≡ Some (a_name (λ x. a_number (λ k. the_text (λ t. make x k t)))) → IsTrue (is_made (make (buffer a) i (line_text n)))
         → IsLineOf (word ++ 32 ∷ (buffer a ++ 32 ∷ (decimal i ++ 32 ∷ line_text n))) (make (buffer a) i (line_text n))
     unfolding the_text
     numbered word make n small un short passes found changes =

@@ -18,12 +18,11 @@ use Rattle.std.proofs.lemmas.Bool.Decides.{nat_tests}
 use Rattle.elem_core.specs.Cell.{IsCell}
 use Rattle.elem_core.specs.Naming.{IsName, is_name_byte}
 use Rattle.shell_terms.specs.Command.{PlainCommand}
-use Rattle.shell_terms.specs.Kinds.{only_changes}
 use Rattle.shell_words.specs.Grammar.{RestMeaning, is_space, first_piece, after_piece, if_named, a_name, a_number, commands}
 use Rattle.shell_words.proofs.NumberLemmas.{number_to-decimal}
 use Rattle.shell_words.proofs.GrammarLemmas.{if_named-yes}
 use Rattle.shell_words.proofs.CommandLemmas.{meaning-word}
-use Rattle.work_lines.specs.Commands.{IsLineOf}
+use Rattle.work_lines.specs.Commands.{is_made, IsLineOf}
 
 -- ## Pieces without a space
 
@@ -192,22 +191,22 @@ line_cell most bytes few part = record {
 
 -- A line of a word of the grammar, and of what the rest of the line means.
 pub line-of : (most : ℕ) (line word : List ℕ) (read : RestMeaning) (command : PlainCommand) → most ≤ 65536 → IsPart most line → first_piece line ≡ word
-    → lookup (bytes_eq word) commands ≡ Some read → read (after_piece line) ≡ Ok command → IsTrue (only_changes command) → IsLineOf line command
-line-of most line word read command few part first found reads changes = record {
+    → lookup (bytes_eq word) commands ≡ Some read → read (after_piece line) ≡ Ok command → IsTrue (is_made command) → IsLineOf line command
+line-of most line word read command few part first found reads made = record {
   cell = line_cell most line few part;
   means = meaning-word line word read (IsUtf8-from_ascii line (line_ascii line part.bytes_pass)) first found ∙ reads;
-  changes = changes;
+  made = made;
 }
 
 -- a word with more behind it
 pub word-line : (most : ℕ) (word rest : List ℕ) (read : RestMeaning) (command : PlainCommand) → Unspaced word → most ≤ 65525 → length word ≤ 10 → list_all is_line_byte word ≡ true
-    → IsPart most rest → lookup (bytes_eq word) commands ≡ Some read → read (Some rest) ≡ Ok command → IsTrue (only_changes command) → IsLineOf (word ++ 32 ∷ rest) command
-word-line most word rest read command un few short passes part found reads changes =
+    → IsPart most rest → lookup (bytes_eq word) commands ≡ Some read → read (Some rest) ≡ Ok command → IsTrue (is_made command) → IsLineOf (word ++ 32 ∷ rest) command
+word-line most word rest read command un few short passes part found reads made =
     line-of (10 + (1 + most)) (word ++ 32 ∷ rest) word read command (omega arith) (part-joined 10 most word rest (record { bytes_pass = passes; short = short }) part)
-    (first-spaced word un rest) found (ap read (after-spaced word un rest) ∙ reads) changes
+    (first-spaced word un rest) found (ap read (after-spaced word un rest) ∙ reads) made
 
 -- a word alone
 pub word-alone : (word : List ℕ) (read : RestMeaning) (command : PlainCommand) → Unspaced word → length word ≤ 10 → list_all is_line_byte word ≡ true
-    → lookup (bytes_eq word) commands ≡ Some read → read None ≡ Ok command → IsTrue (only_changes command) → IsLineOf word command
-word-alone word read command un short passes found reads changes =
-    line-of 10 word word read command (omega arith) (record { bytes_pass = passes; short = short }) (first-whole word un) found (ap read (after-whole word un) ∙ reads) changes
+    → lookup (bytes_eq word) commands ≡ Some read → read None ≡ Ok command → IsTrue (is_made command) → IsLineOf word command
+word-alone word read command un short passes found reads made =
+    line-of 10 word word read command (omega arith) (record { bytes_pass = passes; short = short }) (first-whole word un) found (ap read (after-whole word un) ∙ reads) made

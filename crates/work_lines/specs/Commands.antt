@@ -1,10 +1,9 @@
 -- Which commands the made lines are.
-use Rattle.std.specs.Prelude.{◌≡◌, ℕ, ◌+◌, ◌/◌, ◌%◌, ◌^◌, ◌<◌, nat_lt, ◌==◌, if◌then◌else◌, List, ◌++◌, Ok, IsTrue, codes}
+use Rattle.std.specs.Prelude.{◌≡◌, ℕ, ◌+◌, ◌/◌, ◌%◌, ◌^◌, ◌<◌, nat_lt, ◌==◌, if◌then◌else◌, List, ◌++◌, Ok, Bool, true, false, IsTrue, codes}
 use Rattle.std.specs.Fmt.{decimal}
 use Rattle.elem_core.specs.Cell.{IsCell}
 use Rattle.shell_terms.specs.Edit.{Bytes, new, add, set, put, del, cat, copy}
 use Rattle.shell_terms.specs.Command.{PlainCommand, edit, mark, undo, redo}
-use Rattle.shell_terms.specs.Kinds.{only_changes}
 use Rattle.shell_words.specs.Grammar.{meaning}
 use Rattle.work_lines.specs.Lines.{line_by, new_line}
 
@@ -31,11 +30,19 @@ command_by kind a b n =
     else if kind == 14 then edit (cat (buffer a) (buffer b))
     else mark (version n)
 
--- The line may stand on an input, and is this command, which changes the space and does nothing else.
+-- The sorts of commands that the made lines are: edits, versions, and steps back and forward. Each changes the space alone.
+abbrev pub is_made : PlainCommand → Bool
+is_made (edit change) = true
+is_made (mark version) = true
+is_made undo = true
+is_made redo = true
+is_made _ = false
+
+-- The line may stand on an input, and is this command, which is of these sorts.
 pub record IsLineOf (line : List ℕ) (command : PlainCommand) : Type 0 where
   pub cell : IsCell line
   pub means : meaning line ≡ Ok command
-  pub changes : IsTrue (only_changes command)
+  pub made : IsTrue (is_made command)
 
 -- Each made line is the command that its parts say.
 pub record LinesMean : Type 0 where

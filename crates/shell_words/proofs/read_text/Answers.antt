@@ -83,7 +83,7 @@ unfolding commands
 returns-in-new c =
     answers_word c.args.text.now _ _ _ c.name-in-new.result c.map-in-new.result _ (λ b. edit (new (name_bytes b)))
     c.utf8.text (sym c.split_piece.ensures.piece ∙ c.in-new.is) refl c.split_piece.ensures.rest (c.name-in-new.ensures (λ b. edit (new b)))
-    c.map-in-new.ensures.cases (λ x command is. ap plain_command is)
+    c.map-in-new.ensures.cases (λ x command is. search rules)
 
 pub returns-in-cat : goal.returns-in-cat
 unfolding commands
@@ -111,49 +111,49 @@ unfolding commands
 returns-in-drop c =
     answers_word c.args.text.now _ _ _ c.name-in-drop.result c.map-in-drop.result _ (λ b. edit (drop (name_bytes b)))
     c.utf8.text (sym c.split_piece.ensures.piece ∙ c.in-drop.is) refl c.split_piece.ensures.rest (c.name-in-drop.ensures (λ b. edit (drop b)))
-    c.map-in-drop.ensures.cases (λ x command is. ap plain_command is)
+    c.map-in-drop.ensures.cases (λ x command is. search rules)
 
 pub returns-in-star : goal.returns-in-star
 unfolding commands
 returns-in-star c =
     answers_word c.args.text.now _ _ _ c.name-in-star.result c.map-in-star.result _ (λ b. edit (star (name_bytes b)))
     c.utf8.text (sym c.split_piece.ensures.piece ∙ c.in-star.is) refl c.split_piece.ensures.rest (c.name-in-star.ensures (λ b. edit (star b)))
-    c.map-in-star.ensures.cases (λ x command is. ap plain_command is)
+    c.map-in-star.ensures.cases (λ x command is. search rules)
 
 pub returns-in-unstar : goal.returns-in-unstar
 unfolding commands
 returns-in-unstar c =
     answers_word c.args.text.now _ _ _ c.name-in-unstar.result c.map-in-unstar.result _ (λ b. edit (unstar (name_bytes b)))
     c.utf8.text (sym c.split_piece.ensures.piece ∙ c.in-unstar.is) refl c.split_piece.ensures.rest (c.name-in-unstar.ensures (λ b. edit (unstar b)))
-    c.map-in-unstar.ensures.cases (λ x command is. ap plain_command is)
+    c.map-in-unstar.ensures.cases (λ x command is. search rules)
 
 pub returns-in-starmerge : goal.returns-in-starmerge
 unfolding commands
 returns-in-starmerge c =
     answers_word c.args.text.now _ _ _ c.name-in-starmerge.result c.map-in-starmerge.result _ (λ v. merge join_stars (name_bytes v))
     c.utf8.text (sym c.split_piece.ensures.piece ∙ c.in-starmerge.is) refl c.split_piece.ensures.rest (c.name-in-starmerge.ensures (merge join_stars))
-    c.map-in-starmerge.ensures.cases (λ x command is. ap plain_command is)
+    c.map-in-starmerge.ensures.cases (λ x command is. search rules)
 
 pub returns-in-starboth : goal.returns-in-starboth
 unfolding commands
 returns-in-starboth c =
     answers_word c.args.text.now _ _ _ c.name-in-starboth.result c.map-in-starboth.result _ (λ v. merge common_stars (name_bytes v))
     c.utf8.text (sym c.split_piece.ensures.piece ∙ c.in-starboth.is) refl c.split_piece.ensures.rest (c.name-in-starboth.ensures (merge common_stars))
-    c.map-in-starboth.ensures.cases (λ x command is. ap plain_command is)
+    c.map-in-starboth.ensures.cases (λ x command is. search rules)
 
 pub returns-in-starless : goal.returns-in-starless
 unfolding commands
 returns-in-starless c =
     answers_word c.args.text.now _ _ _ c.name-in-starless.result c.map-in-starless.result _ (λ v. merge other_stars (name_bytes v))
     c.utf8.text (sym c.split_piece.ensures.piece ∙ c.in-starless.is) refl c.split_piece.ensures.rest (c.name-in-starless.ensures (merge other_stars))
-    c.map-in-starless.ensures.cases (λ x command is. ap plain_command is)
+    c.map-in-starless.ensures.cases (λ x command is. search rules)
 
 pub returns-in-merge : goal.returns-in-merge
 unfolding commands
 returns-in-merge c =
     answers_word c.args.text.now _ _ _ c.name-in-merge.result c.map-in-merge.result _ (λ v. merge join_buffers (name_bytes v))
     c.utf8.text (sym c.split_piece.ensures.piece ∙ c.in-merge.is) refl c.split_piece.ensures.rest (c.name-in-merge.ensures (merge join_buffers))
-    c.map-in-merge.ensures.cases (λ x command is. ap plain_command is)
+    c.map-in-merge.ensures.cases (λ x command is. search rules)
 
 pub returns-in-mark : goal.returns-in-mark
 unfolding commands
