@@ -6,7 +6,7 @@ use Rattle.pool_text.specs.Rules.{Rules}
 use Rattle.pool_text.specs.declared.pool.Pool.{Pool}
 use Rattle.pool_check.specs.Rows.{rows_in_range_by, links_lead_back}
 use Rattle.pool_check.specs.Kinds.{roots_are_of_kind, undo_fits}
-use Rattle.pool_check.specs.Damages.{rows_in_order, first_failing, open_tests, tests_by, open_damage, damage_by, IsValidBy}
+use Rattle.pool_check.specs.Damages.{rows_in_order, first_failing, open_tests, tests_by, open_damage, damage_by, RowsPass, IsValidBy}
 use Rattle.pool_text.specs.declared.damage.Damage.{Damage}
 use Rattle.pool_text.specs.declared.damage.Damage.TheVariants.{Row, Order}
 
@@ -35,6 +35,12 @@ undamaged-valid {rules} P h =
     let a : ArePassed (tests_by rules P) = all-passed (tests_by rules P) h in
     let both = and_parts (roots_are_of_kind P) (undo_fits P) a.1.1.1.1.1.0 in
     record { in_range = a.0; lead_back = a.1.0; lines = a.1.1.0; vectors = a.1.1.1.0; tries = a.1.1.1.1.0; kinds = both.0; fits = both.1; in_order = a.1.1.1.1.1.1.0 }
+
+pub open-rows-pass : (rules : Rules) (P : Pool) → open_damage rules P ≡ None → RowsPass rules P
+unfolding open_damage ArePassed
+open-rows-pass rules P h =
+    let a : ArePassed (open_tests rules P) = all-passed (open_tests rules P) h in
+    record { lead_back = a.0; lines = a.1.0; vectors = a.1.1.0; tries = a.1.1.1.0 }
 
 -- Tests that are followed by others.
 

@@ -34,6 +34,9 @@ leads-back-at place (r ∷ rows) h zero bound row same is =
 leads-back-at place (r ∷ rows) h (suc i) bound row same is =
     leads-back-at (suc place) rows (and_parts (list_all (λ k. ltb k place) (links_of (Some r))) (rows_lead_back (suc place) rows) h).1 i bound row (omega (arith, same)) is
 
+pub rows-many : (P : Pool) (rows : List Row) → map row_form rows ≡ P.rows → length rows ≡ row_count P
+rows-many P rows are = sym (length-map rows row_form) ∙ ap (λ (forms : List (Form (List ℕ))). length forms) are
+
 -- a row of a pool that was read at its place
 module _ (P : Pool) (rows : List Row) (are : map row_form rows ≡ P.rows) (i : ℕ) (row : Row) (low : i < length rows) (at : row ≡ get_or rows i row) where
   pub count-at : i < row_count P

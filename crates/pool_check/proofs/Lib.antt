@@ -31,3 +31,8 @@ mod CountedLemmas
 mod OrderWalk
 mod OrderTest
 mod Refused
+pub mod SameVectors
+pub mod SameTries
+pub mod SameKinds
+pub mod RowsStay
+mod TestedRows

@@ -1,4 +1,4 @@
--- A pool is the pool of the rows that stand for it, so a valid pool is the pool of its own rows.
+-- A pool is the pool of the rows that stand for it, so one of valid rows is the pool of its own rows.
 use Rattle.std.proofs.Common.{◌≡◌, ℕ, zero, suc, ◌<◌, ◌≤◌, true, Option, Some, None, IsSome, option_map, slice_get, List, [], ◌∷◌, map, length, get_or, refl, ap, sym, subst, ◌∙◌, arith, inl, inr}
 use Rattle.std.specs.Prelude.{slice_index}
 use Rattle.std.specs.List.{range_with_len}
@@ -25,7 +25,8 @@ use Rattle.pool_text.proofs.Placed.{place-first, place-later}
 use Rattle.pool_text.proofs.PoolRows.{AreThere, rows_of, length-rows, row-named}
 use Rattle.pool_text.proofs.Renamed.{map-back, relink-back}
 use Rattle.pool_check.specs.Rows.{links_lead_back}
-use Rattle.pool_check.specs.Damages.{rows_in_order, IsValidBy}
+use Rattle.pool_check.specs.Damages.{rows_in_order, HasValidRows, IsValidBy}
+use Rattle.pool_check.proofs.PoolLaws.{valid-rows}
 use Rattle.pool_check.proofs.TestLemmas.{leads-down, roots-low}
 
 -- ## Places
@@ -94,19 +95,19 @@ module _ (G : Forms Bytes) (links : List ℕ) (P : Pool) (is : HaveRows G links 
       ap (λ (ks : List ℕ). made (settings_of P) (rows_of G (place_in ks) ks) (map (place_in ks) roots)) listed
       ∙ ap (λ (rows : List (Form Bytes)). made (settings_of P) rows (map (place_in links) roots)) same-rows ∙ ap (made (settings_of P) P.rows) roots_back
 
--- ## Valid pools
+-- ## Pools of valid rows
 
-pub in-order : {rules : Rules} (P : Pool) → IsValidBy rules P → order_in P ≡ range_with_len 0 (row_count P)
+pub in-order : {rules : Rules} (P : Pool) → HasValidRows rules P → order_in P ≡ range_with_len 0 (row_count P)
 unfolding rows_in_order
 in-order P v = (bytes_eq-Decides (order_in P) (range_with_len 0 (row_count P))).0 v.in_order
 
-module _ {rules : Rules} (P : Pool) (v : IsValidBy rules P) where
+module _ {rules : Rules} (P : Pool) (v : HasValidRows rules P) where
   pub reached-low : (r p : ℕ) → Reaches (links_in (forms_in P)) r p → r < row_count P → p < row_count P
   reached-low a b (here l) low = low
-  reached-low a b (below l k m has down) low = reached-low k m down (omega (arith, low, leads-down P v.lead_back l k has))
+  reached-low a b (below l k m has down) low = reached-low k m down (omega (arith, low, leads-down P v.passed.lead_back l k has))
 
   pub own-order : IsOrder (links_in (forms_in P)) P.roots (order_in P)
-  own-order = order-is (λ l. l) (links_in (forms_in P)) (leads-down P v.lead_back) (row_count P) P.roots (roots-low P v.lead_back)
+  own-order = order-is (λ l. l) (links_in (forms_in P)) (leads-down P v.passed.lead_back) (row_count P) P.roots (roots-low P v.passed.lead_back)
 
   abbrev own_places : List ℕ
   own_places = range_with_len 0 (row_count P)
@@ -117,7 +118,7 @@ module _ {rules : Rules} (P : Pool) (v : IsValidBy rules P) where
   own-low : (p : ℕ) → 0 < count p own_places → p < row_count P
   own-low p has =
       let from = own-order.reached p (omega (arith, has, ap (count p) (in-order P v))) in
-      reached-low from.0 p from.2 (roots-low P v.lead_back from.0 from.1)
+      reached-low from.0 p from.2 (roots-low P v.passed.lead_back from.0 from.1)
 
   own-rows : HaveRows (forms_in P) own_places P
   own-rows = record {
@@ -125,13 +126,17 @@ module _ {rules : Rules} (P : Pool) (v : IsValidBy rules P) where
     forms = λ p inside.
         let low : p < row_count P = omega (arith, inside, length-range_with_len 0 (row_count P)) in
         ap (forms_in P) (own-place p low)
-        ∙ sym (relink-own (slice_index own_places) (forms_in P p) (λ k has. own-place k (omega (arith, low, leads-down P v.lead_back p k has))));
+        ∙ sym (relink-own (slice_index own_places) (forms_in P p) (λ k has. own-place k (omega (arith, low, leads-down P v.passed.lead_back p k has))));
     once = λ k. omega (arith, own-order.once k, ap (count k) (in-order P v));
     there = λ p has. subst IsSome (sym (slice_get-get_or P.rows p (cell []) (own-low p has))) refl;
   }
 
-  pub of-itself : IsOfItself P
-  of-itself =
-      let roots : map (slice_index own_places) P.roots ≡ P.roots = map-own (slice_index own_places) P.roots (λ r root. own-place r (roots-low P v.lead_back r root)) in
+  pub own-itself : IsOfItself P
+  own-itself =
+      let roots : map (slice_index own_places) P.roots ≡ P.roots = map-own (slice_index own_places) P.roots (λ r root. own-place r (roots-low P v.passed.lead_back r root)) in
       subst (λ (ks : List ℕ). pool (row_count P) (forms_in P) ks (settings_of P) ≡ P) roots
-      (pool-of-rows (forms_in P) own_places P own-rows v.lead_back (row_count P) (ap (order (row_count P) (links_in (forms_in P))) roots ∙ in-order P v))
+      (pool-of-rows (forms_in P) own_places P own-rows v.passed.lead_back (row_count P) (ap (order (row_count P) (links_in (forms_in P))) roots ∙ in-order P v))
+
+-- a valid pool is the pool of its own rows
+pub of-itself : {rules : Rules} (P : Pool) → IsValidBy rules P → IsOfItself P
+of-itself P v = own-itself P (valid-rows P v)

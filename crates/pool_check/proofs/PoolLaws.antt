@@ -1,4 +1,4 @@
--- Laws of valid pools.
+-- Laws of pools whose rows are valid.
 use Rattle.std.proofs.Common.{◌≡◌, ℕ, zero, suc, ◌<◌, true, [], ◌∷◌, refl, ap, arith, inl, inr}
 use Rattle.std.specs.Prelude.{Option, Some, None, List, length, slice_get}
 use Rattle.std.proofs.lemmas.Bool.{cases_lt, eqb-true}
@@ -18,14 +18,26 @@ use Rattle.pool_text.specs.Rules.{Rules}
 use Rattle.pool_check.specs.Rows.{rows_in_range_by}
 use Rattle.pool_check.specs.Vectors.{keeps_fill_rule, vectors_stand}
 use Rattle.pool_check.specs.Kinds.{is_vector_root}
-use Rattle.pool_check.specs.Damages.{IsValidBy}
+use Rattle.pool_check.specs.Damages.{RowsPass, HasValidRows, IsValidBy}
 use Rattle.pool_check.proofs.TestLemmas.{all-at}
 use Rattle.pool_check.proofs.VectorLaw.{well-shaped}
 
--- a vector root of a valid pool is the root of a good vector
-pub vector-roots-well : {rules : Rules} (P : Pool) → IsValidBy rules P → (l : ℕ) → is_vector_root (forms_in P l) ≡ true → IsWellShaped (forms_in P) l
+-- a valid pool has valid rows
+pub valid-rows : {rules : Rules} (P : Pool) → IsValidBy rules P → HasValidRows rules P
+valid-rows P v = record {
+  in_range = v.in_range;
+  passed = record { lead_back = v.lead_back; lines = v.lines; vectors = v.vectors; tries = v.tries };
+  in_order = v.in_order;
+}
+
+-- a vector root of a pool whose rows pass is the root of a good vector
+pub vector-roots-stand : (rules : Rules) (P : Pool) → rows_in_range_by rules P ≡ true → RowsPass rules P → (l : ℕ) → is_vector_root (forms_in P l) ≡ true → IsWellShaped (forms_in P) l
 unfolding rows_in_range_by vectors_stand
-vector-roots-well {rules} P v = well-shaped (forms_in P) rules.deepest (all-at (is_in_range_to rules.deepest) P.rows v.in_range) (all-at (keeps_fill_rule (forms_in P)) P.rows v.vectors)
+vector-roots-stand rules P in_range pass =
+    well-shaped (forms_in P) rules.deepest (all-at (is_in_range_to rules.deepest) P.rows in_range) (all-at (keeps_fill_rule (forms_in P)) P.rows pass.vectors)
+
+pub vector-roots-well : {rules : Rules} (P : Pool) → IsValidBy rules P → (l : ℕ) → is_vector_root (forms_in P l) ≡ true → IsWellShaped (forms_in P) l
+vector-roots-well {rules} P v = vector-roots-stand rules P v.in_range (valid-rows P v).passed
 
 pub get-low : {X : Type 0} (xs : List X) (i : ℕ) (x : X) → slice_get xs i ≡ Some x → i < length xs
 get-low [] i x is = absurd (let e : None ≡ Some x = is in cc)
@@ -44,10 +56,10 @@ canonical-at rules P h l = elim (cases_lt l (row_count P)) as (λ _. is_canonica
   | inr past ↦ ap (is_canonical (row_count P) (forms_in P) (code_by rules.code_of P.bits) rules.deepest l) (get-past P.rows l (λ low. absurd (omega (arith, low, past))))
 ]
 
--- a trie row of depth 0 of a valid pool is the canonical trie of the entries below it
-pub trie-roots-canonical : {rules : Rules} (P : Pool) → IsValidBy rules P → (l : ℕ) → is_trie_root (forms_in P l) ≡ true → IsCanonTo by_bytes (code_by rules.code_of P.bits) rules.deepest (forms_in P) l (entries_below (row_count P) (forms_in P) l)
+-- a trie row of depth 0 of such a pool is the canonical trie of the entries below it
+pub trie-roots-stand : (rules : Rules) (P : Pool) → rows_in_range_by rules P ≡ true → RowsPass rules P → (l : ℕ) → is_trie_root (forms_in P l) ≡ true → IsCanonTo by_bytes (code_by rules.code_of P.bits) rules.deepest (forms_in P) l (entries_below (row_count P) (forms_in P) l)
 unfolding rows_in_range_by
-trie-roots-canonical {rules} P v l h = by_row (forms_in P l) refl h
+trie-roots-stand rules P in_range pass l h = by_row (forms_in P l) refl h
   where
     by_row : (r : Option (Form Bytes)) → forms_in P l ≡ r → is_trie_root r ≡ true → IsCanonTo by_bytes (code_by rules.code_of P.bits) rules.deepest (forms_in P) l (entries_below (row_count P) (forms_in P) l)
     by_row None is h = absurd (not-both h)
@@ -55,8 +67,11 @@ trie-roots-canonical {rules} P v l h = by_row (forms_in P l) refl h
     by_row (Some (node leaf _)) is h = absurd (not-both h)
     by_row (Some (node (inner _) _)) is h = absurd (not-both h)
     by_row (Some (node (trie zero e d) ks)) is h =
-        canon-at (forms_in P) (leads-down P v.lead_back) (row_count P) (code_by rules.code_of P.bits) rules.deepest (canonical-at rules P v.tries) (all-at (is_in_range_to rules.deepest) P.rows v.in_range) l e d ks (get-low P.rows l (node (trie zero e d) ks) is) is
+        canon-at (forms_in P) (leads-down P pass.lead_back) (row_count P) (code_by rules.code_of P.bits) rules.deepest (canonical-at rules P pass.tries) (all-at (is_in_range_to rules.deepest) P.rows in_range) l e d ks (get-low P.rows l (node (trie zero e d) ks) is) is
     by_row (Some (node (trie (suc depth) e d) ks)) is h = absurd (omega (arith, eqb-true (suc depth) 0 h))
     by_row (Some (node chain _)) is h = absurd (not-both h)
     by_row (Some (node pair _)) is h = absurd (not-both h)
     by_row (Some (node state _)) is h = absurd (not-both h)
+
+pub trie-roots-canonical : {rules : Rules} (P : Pool) → IsValidBy rules P → (l : ℕ) → is_trie_root (forms_in P l) ≡ true → IsCanonTo by_bytes (code_by rules.code_of P.bits) rules.deepest (forms_in P) l (entries_below (row_count P) (forms_in P) l)
+trie-roots-canonical {rules} P v = trie-roots-stand rules P v.in_range (valid-rows P v).passed

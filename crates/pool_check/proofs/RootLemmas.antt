@@ -90,3 +90,8 @@ roots-outside P other = four-roots (row_count P) (forms_in P) P.roots other
 pub roots-in-batch : (P : Pool) → length P.roots ≡ 5 → roots_are_of (State ∷ Versions ∷ History ∷ History ∷ State ∷ []) P ≡ roots_are_of_kind P
 unfolding roots_are_of roots_are_of_kind
 roots-in-batch P many = five-roots (row_count P) (forms_in P) P.roots many
+
+pub four-kinds : (P : Pool) (roots : List ℕ) (found : Bool) → roots ≡ P.roots → length P.roots ≡ 4 → found ≡ are_of (row_count P) (forms_in P) (State ∷ Versions ∷ History ∷ History ∷ []) roots → found ≡ roots_are_of_kind P
+unfolding roots_are_of_kind
+four-kinds P roots found same many is =
+    is ∙ ap (are_of (row_count P) (forms_in P) (State ∷ Versions ∷ History ∷ History ∷ [])) same ∙ four-roots (row_count P) (forms_in P) P.roots (λ five. omega (arith, five, many))

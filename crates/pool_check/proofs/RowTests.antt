@@ -1,7 +1,9 @@
 -- The tests of single rows, made over one row after another.
 use Rattle.std.proofs.Common.{◌≡◌, ℕ, zero, suc, ◌+◌, ◌<◌, Bool, true, false, ◌&&◌, ltb, Some, List, [], ◌∷◌, map, length, get_or, take, refl, ap, sym, ◌∙◌, arith, add-one}
 use Rattle.std.specs.List.{list_all}
-use Rattle.std.proofs.lemmas.List.Folds.{list_all-map, list_all_at}
+use Rattle.std.proofs.lemmas.Bool.{and_from}
+use Rattle.std.proofs.lemmas.List.{take-map}
+use Rattle.std.proofs.lemmas.List.Folds.{list_all-map, list_all_at, list_all_more}
 use Rattle.node_heap.specs.Forms.{links_of}
 use Rattle.pool_text.specs.Rows.{row_form}
 use Rattle.pool_text.specs.Pool.{row_count}
@@ -41,7 +43,21 @@ lead_back-more (r ∷ rows) place (suc i) bound row low at is passes before =
     both true b h = (refl, h)
     both false b h = absurd cc
 
+pub more-lines : (rows : List Row) (i : ℕ) (row : Row) → i < length rows → row ≡ get_or rows i row → true ≡ is_line_or_node (row_form row) → list_all (λ r. is_line_or_node (row_form r)) (take i rows) ≡ true → list_all (λ r. is_line_or_node (row_form r)) (take (i + 1) rows) ≡ true
+more-lines rows i row low at passes before =
+    list_all_more (λ r. is_line_or_node (row_form r)) rows i row low
+    ∙ and_from (list_all (λ r. is_line_or_node (row_form r)) (take i rows)) (is_line_or_node (row_form (get_or rows i row))) before (ap (λ r. is_line_or_node (row_form r)) (sym at) ∙ sym passes)
+
 module _ (P : Pool) (rows : List Row) (are : map row_form rows ≡ P.rows) where
+  first-forms : (i : ℕ) → map row_form (take i rows) ≡ take i P.rows
+  first-forms i = sym (take-map row_form i rows) ∙ ap (take i) are
+
+  pub first-lead_back : (i : ℕ) → rows_lead_back 0 (take i P.rows) ≡ true → rows_lead_back 0 (map row_form (take i rows)) ≡ true
+  first-lead_back i before = ap (rows_lead_back 0) (first-forms i) ∙ before
+
+  pub first-lines : (i : ℕ) → list_all is_line_or_node (take i P.rows) ≡ true → list_all (λ row. is_line_or_node (row_form row)) (take i rows) ≡ true
+  first-lines i before = sym (list_all-map is_line_or_node row_form (take i rows)) ∙ ap (list_all is_line_or_node) (first-forms i) ∙ before
+
   pub no-lead_back : rows_lead_back 0 (map row_form rows) ≡ false → false ≡ links_lead_back P
   unfolding links_lead_back
   no-lead_back fails = sym (ap (λ b. b && list_all (λ k. ltb k (row_count P)) P.roots) (ap (rows_lead_back 0) (sym are) ∙ fails))

@@ -11,6 +11,7 @@ use Rattle.rrb_core.proofs.LinkCounts.{all-counted}
 use Rattle.champ_trie.specs.Trie.{code_by}
 use Rattle.pool_text.specs.Rows.{Bytes, row_form, is_in_range_to}
 use Rattle.pool_text.specs.Rules.{Rules}
+use Rattle.pool_text.specs.Pool.{forms_in, row_count}
 use Rattle.pool_text.specs.declared.pool.Pool.{Pool}
 use Rattle.pool_text.specs.declared.row.Row.{Row}
 use Rattle.pool_text.specs.declared.row.Row.TheVariants.{Leaf, Inner, State}
@@ -161,3 +162,12 @@ module _ (rules : Rules) (P : Pool) (rows : List Row) (are : map row_form rows �
   pub all-kept : (kept : List Kept) → AreKept (length rows) (forms_at rows) code deepest kept → length rows ≤ length kept → true ≡ tries_stand_by rules P
   all-kept kept a long =
       sym (all-stand ∙ all-below (length rows) (forms_at rows) code deepest (λ l. is_canonical (length rows) (forms_at rows) code deepest l (forms_at rows l)) 0 (length rows) (λ p low. a.canonical p (omega (arith, low, long))))
+
+  -- what is kept of the pool's rows, and of these
+  pub kept-in : (kept : List Kept) → AreKept (row_count P) (forms_in P) code deepest kept → AreKept (length rows) (forms_at rows) code deepest kept
+  kept-in kept a =
+      subst (λ m. AreKept m (forms_at rows) code deepest kept) (length-map rows row_form) (subst (λ (fs : List (Form Bytes)). AreKept (length fs) (λ l. slice_get fs l) code deepest kept) (sym are) a)
+
+  pub kept-out : (kept : List Kept) → AreKept (length rows) (forms_at rows) code deepest kept → AreKept (row_count P) (forms_in P) code deepest kept
+  kept-out kept a =
+      subst (λ (fs : List (Form Bytes)). AreKept (length fs) (λ l. slice_get fs l) code deepest kept) are (subst (λ m. AreKept m (forms_at rows) code deepest kept) (sym (length-map rows row_form)) a)

@@ -4,7 +4,7 @@ use Rattle.std.specs.Prelude.{◌==◌, sum_by}
 use Rattle.std.specs.List.{list_all}
 use Rattle.std.proofs.lemmas.Bool.{and_parts, and_from, and_left, and_right, cases_eq, eqb-true, eqb-false, lt-leb, le-leb, le-ltb, lt-ltb}
 use Rattle.std.proofs.lemmas.Bool.Decides.{nat_tests}
-use Rattle.std.proofs.lemmas.List.{length-take-le, take-take}
+use Rattle.std.proofs.lemmas.List.{length-take-le, take-take, take-map}
 use Rattle.std.proofs.lemmas.List.Folds.{list_all-map, list_all_more, list_all_kept, list_all_at}
 use Rattle.std.proofs.lemmas.List.Sums.{sum_by_more, sum_by_more_le}
 use Rattle.node_heap.specs.Forms.{Form, Forms, cell, node, leaf, inner, trie, chain, pair, state, links_in}
@@ -256,6 +256,10 @@ module _ (P : Pool) (rows : List Row) (are : map row_form rows ≡ P.rows) where
   keep : vectors_stand P ≡ list_all (λ row. keeps_fill_rule (forms_in P) (row_form row)) rows
   unfolding vectors_stand
   keep = ap (list_all (keeps_fill_rule (forms_in P))) (sym are) ∙ list_all-map (keeps_fill_rule (forms_in P)) row_form rows
+
+  pub first-keep : (i : ℕ) → list_all (keeps_fill_rule (forms_in P)) (take i P.rows) ≡ true → list_all (λ row. keeps_fill_rule (forms_in P) (row_form row)) (take i rows) ≡ true
+  first-keep i before =
+      sym (list_all-map (keeps_fill_rule (forms_in P)) row_form (take i rows)) ∙ ap (list_all (keeps_fill_rule (forms_in P))) (sym (take-map row_form i rows) ∙ ap (take i) are) ∙ before
 
   pub one-breaks : (i : ℕ) (row : Row) → i < length rows → row ≡ get_or rows i row → keeps_fill_rule (forms_in P) (row_form row) ≡ false → false ≡ vectors_stand P
   one-breaks i row low at fails =

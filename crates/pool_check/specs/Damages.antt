@@ -50,6 +50,12 @@ module _ (rules : Rules) where
     pub vectors : vectors_stand P ≡ true
     pub tries : tries_stand_by rules P ≡ true
 
+  -- a pool whose rows are in range, pass these and stand in their order, whatever its roots are
+  pub record HasValidRows (P : Pool) : Type 0 where
+    pub in_range : rows_in_range_by rules P ≡ true
+    pub passed : RowsPass P
+    pub in_order : rows_in_order P ≡ true
+
   -- the first of the tests `Link` to `Order` that a pool fails whose roots have to be of these kinds, if any
   unfoldable pub damage_with_roots : List RootKind → Pool → Option Damage
   damage_with_roots kinds P = first_failing (row_tests P ++ (roots_are_of kinds P, Kind) ∷ (rows_in_order P, Order) ∷ [])

@@ -14,16 +14,17 @@ use Rattle.pool_text.specs.Renaming.{IsOfItself}
 use Rattle.pool_text.specs.declared.pool.Pool.{Pool}
 use Rattle.pool_check.specs.Tries.{entries_below}
 use Rattle.pool_check.specs.Kinds.{is_vector_root, is_trie_root}
-use Rattle.pool_check.specs.Damages.{damage_by, document_damage, IsValidBy, IsValid, IsValidByVersion}
+use Rattle.pool_check.specs.Damages.{damage_by, document_damage, RowsPass, HasValidRows, IsValidBy, IsValid, IsValidByVersion}
+use Rattle.pool_check.specs.Rows.{rows_in_range_by}
 
--- a vector root of a valid pool is the root of a well-shaped vector
+-- a vector root of a pool whose rows pass their tests is the root of a well-shaped vector
 abbrev pub VectorRootsAreGood : Type 0
-VectorRootsAreGood = (rules : Rules) (P : Pool) (l : ℕ) → IsValidBy rules P → is_vector_root (forms_in P l) ≡ true → IsWellShaped (forms_in P) l
+VectorRootsAreGood = (rules : Rules) (P : Pool) (l : ℕ) → rows_in_range_by rules P ≡ true → RowsPass rules P → is_vector_root (forms_in P l) ≡ true → IsWellShaped (forms_in P) l
 
--- a trie row of depth 0 of a valid pool is the canonical trie of the entries below it
+-- a trie row of depth 0 of such a pool is the canonical trie of the entries below it
 abbrev pub TrieRootsAreCanonical : Type 0
 TrieRootsAreCanonical =
-    (rules : Rules) (P : Pool) (l : ℕ) → IsValidBy rules P → is_trie_root (forms_in P l) ≡ true
+    (rules : Rules) (P : Pool) (l : ℕ) → rows_in_range_by rules P ≡ true → RowsPass rules P → is_trie_root (forms_in P l) ≡ true
     → IsCanonTo (slice_cmp nat_cmp) (code_by rules.code_of P.bits) rules.deepest (forms_in P) l (entries_below (row_count P) (forms_in P) l)
 
 -- a pool has no damage exactly where it is valid
@@ -57,6 +58,10 @@ ValidDocumentsAreUndamaged = (P : Pool) (bytes : Bytes) → value_in bytes ≡ S
 abbrev pub DamagesAreTests : Type 0
 DamagesAreTests = (bits : ℕ) (bytes : Bytes) → document_damage bits bytes ≢ Some Memory
 
--- a valid pool is the pool of its own rows from its roots
+-- a pool of valid rows is the pool of its own rows from its roots
 abbrev pub ValidIsOfItself : Type 0
-ValidIsOfItself = (rules : Rules) (P : Pool) → IsValidBy rules P → IsOfItself P
+ValidIsOfItself = (rules : Rules) (P : Pool) → HasValidRows rules P → IsOfItself P
+
+-- a valid pool has valid rows
+abbrev pub ValidHasValidRows : Type 0
+ValidHasValidRows = (rules : Rules) (P : Pool) → IsValidBy rules P → HasValidRows rules P

@@ -14,3 +14,4 @@ pub mod Readings
 pub mod Laws
 pub mod Documents
 pub mod Worked
+pub mod Tested

@@ -1,7 +1,10 @@
 -- What is kept of a vector row, so that no row is looked at twice.
-use Rattle.std.specs.Prelude.{◌≡◌, ℕ, ◌<◌, ◌==◌, List, length, slice_get, Option, Some, None}
+use Rattle.std.specs.Prelude.{◌≡◌, ℕ, ◌<◌, ◌≤◌, ◌==◌, true, List, take, length, slice_get, Option, Some, None}
+use Rattle.std.specs.List.{list_all}
 use Rattle.node_heap.specs.Forms.{Form, Forms, node, leaf, inner, links_in}
-use Rattle.pool_check.specs.Vectors.{is_thick, length_at}
+use Rattle.pool_text.specs.Pool.{forms_in, row_count}
+use Rattle.pool_text.specs.declared.pool.Pool.{Pool}
+use Rattle.pool_check.specs.Vectors.{is_thick, length_at, keeps_fill_rule}
 use Rattle.pool_check.specs.declared.vectors.Shape.{Shape}
 
 module _ {K : Type 0} (F : Forms K) where
@@ -18,3 +21,9 @@ module _ {K : Type 0} (F : Forms K) where
   -- these are the shapes of the first rows
   abbrev pub AreShapes : List (Option Shape) → Type 0
   AreShapes shapes = (k : ℕ) → k < length shapes → slice_get shapes k ≡ Some (shape_of k (F k))
+
+-- the shapes of the first rows of a pool, all of which keep the fill rule
+pub record AreFirstShapes (P : Pool) (shapes : List (Option Shape)) : Type 0 where
+  pub few : length shapes ≤ row_count P
+  pub are : AreShapes (forms_in P) shapes
+  pub stand : list_all (keeps_fill_rule (forms_in P)) (take (length shapes) P.rows) ≡ true

@@ -8,13 +8,15 @@ ghost use Rattle.pool_text.specs.Pool.{forms_in, row_count};
 ghost use Rattle.pool_text.specs.declared.rules.TheConstants.{FIRST_VERSION, FIRST_CODE_BITS};
 ghost use Rattle.pool_check.specs.Rows.{rows_in_range_by};
 ghost use Rattle.pool_check.specs.Damages.{IsValid, IsValidBy, damage, damage_by, open_damage, row_damage, damage_with_roots, RowsPass};
+ghost use Rattle.pool_check.specs.Roots.{roots_are_of as are_of_kinds};
 ghost use Rattle.pool_check.specs.Shapes.{AreShapes};
 
+use crate::checked_roots::CheckedRoots;
 use crate::kinds::{roots_are_of, roots_are_of_kind};
 use crate::order::rows_in_order;
 use crate::root::RootKind;
 use crate::rows::{links_lead_back, texts_are_lines};
-use crate::tries::tries_stand;
+use crate::tries::kept_of;
 use crate::vectors::{Shape, shapes_of, undo_length};
 use elem_core::{CODE_BITS, Stored};
 use pool_text::{Damage, FIRST_CODE_BITS, Pool, Rules};
@@ -41,6 +43,21 @@ impl<T: Stored> Model for Checked<T> {
 }
 
 impl<T: Stored> Checked<T> {
+    /// A pool that is known to be valid. It takes no memory.
+    pub fn of_valid(pool: Pool) -> Self
+        requires valid { IsValid pool }
+        requires rules { rules_of pool.version ≡ Some present_rules }
+        requires history { HistoryFitsVersion pool }
+        requires roots { length pool.roots ≡ 4 }
+        requires bits { pool.bits ≤ CODE_BITS }
+        ensures same { result ≡ pool }
+    {
+        Checked {
+            pool,
+            of: PhantomData,
+        }
+    }
+
     /// The pool. It takes no memory.
     pub fn pool(&self) -> &Pool
         ensures same { result.now ≡ self.now }
@@ -144,38 +161,31 @@ pub fn check_old<T: Stored>(alloc: Global, pool: Pool) -> Result<Old, Damage>
     Ok(Old { pool })
 }
 
-/// Makes the tests `Link` to `Kind` of a pool that `check` takes, which ask nothing of the order of its rows, and leaves the pool
-/// where it is. Refused with the first that fails, and with `Memory` where memory runs out. It takes what `check` takes.
-pub fn check_open<T: Stored>(alloc: Global, pool: &Pool) -> Result<(), Damage>
-    requires rules { rules_of pool.now.version ≡ Some present_rules }
-    requires history { HistoryFitsVersion pool.now }
-    requires bits { pool.now.bits ≤ CODE_BITS }
-    requires roots { length pool.now.roots ≡ 4 }
-    requires rows { list_all is_in_range pool.now.rows ≡ true }
-    ensures passed { IfOk result (λ _. open_damage present_rules pool.now ≡ None) }
-    ensures damage { IfErr result (λ d. d ≢ Damage.Memory → open_damage present_rules pool.now ≡ Some d) }
-{
-    make_open_tests(alloc, pool, Rules::present())
-}
-
 /// Makes the tests `Link` to `Order` of a pool of the second or the third version whose rows are in range and whose roots have to be
-/// of these kinds, one for each, which is the test `Kind`, and leaves the pool where it is. Refused with the first that fails, and
-/// with `Memory` where memory runs out. It takes what `check` takes.
-pub fn check_roots<T: Stored>(alloc: Global, pool: &Pool, kinds: &[RootKind]) -> Result<(), Damage>
-    requires rules { rules_of pool.now.version ≡ Some present_rules }
-    requires bits { pool.now.bits ≤ CODE_BITS }
-    requires rows { list_all is_in_range pool.now.rows ≡ true }
-    ensures passed { IfOk result (λ _. damage_with_roots present_rules kinds.now pool.now ≡ None) }
-    ensures damage { IfErr result (λ d. d ≢ Damage.Memory → damage_with_roots present_rules kinds.now pool.now ≡ Some d) }
+/// of these kinds, one for each, which is the test `Kind`. Refused with the first that fails, and with `Memory` where memory runs
+/// out. It takes what `check` takes.
+pub fn check_roots<T: Stored>(
+    alloc: Global,
+    pool: Pool,
+    kinds: &[RootKind],
+) -> Result<CheckedRoots<T>, Damage>
+    requires rules { rules_of pool.version ≡ Some present_rules }
+    requires bits { pool.bits ≤ CODE_BITS }
+    requires rows { list_all is_in_range pool.rows ≡ true }
+    ensures same { IfOk result (λ checked. checked ≡ pool) }
+    ensures undamaged { IfOk result (λ _. damage_with_roots present_rules kinds.now pool ≡ None) }
+    ensures kinds { IfOk result (λ checked. are_of_kinds kinds.now checked ≡ true) }
+    ensures many { IfOk result (λ checked. length checked.roots ≡ length kinds.now) }
+    ensures damage { IfErr result (λ d. d ≢ Damage.Memory → damage_with_roots present_rules kinds.now pool ≡ Some d) }
 {
-    make_row_tests(alloc, pool, Rules::present())?;
-    if !roots_are_of(alloc, pool, kinds)? {
+    make_row_tests(alloc, &pool, Rules::present())?;
+    if !roots_are_of(alloc, &pool, kinds)? {
         return Err(Damage::Kind);
     }
-    if !rows_in_order(alloc, pool)? {
+    if !rows_in_order(alloc, &pool)? {
         return Err(Damage::Order);
     }
-    Ok(())
+    Ok(CheckedRoots::new(pool))
 }
 
 // Makes the tests `Link` to `Order` by these rules. Refused with the first that fails, and with `Memory` where memory runs out.
@@ -220,16 +230,19 @@ fn make_row_tests(alloc: Global, pool: &Pool, rules: Rules) -> Result<Vec<Option
     ensures count { IfOk result (λ shapes. length shapes.items ≡ row_count pool.now) }
     ensures damage { IfErr result (λ d. d ≢ Damage.Memory → row_damage (rules_named rules) pool.now ≡ Some d) }
 {
-    if !links_lead_back(pool) {
+    if !links_lead_back(pool, 0) {
         return Err(Damage::Link);
     }
-    if !texts_are_lines(pool) {
+    if !texts_are_lines(pool, 0) {
         return Err(Damage::Text);
     }
-    let Some(shapes) = shapes_of(alloc, pool)? else {
+    let count = pool.rows.as_slice().len();
+    let none = Vec::with_capacity(alloc, count)?;
+    let Some(shapes) = shapes_of(pool, none)? else {
         return Err(Damage::Vector);
     };
-    if !tries_stand(alloc, pool, rules)? {
+    let none_kept = Vec::with_capacity(alloc, count)?;
+    if kept_of(pool, rules, none_kept)?.is_none() {
         return Err(Damage::Trie);
     }
     Ok(shapes)

@@ -79,22 +79,31 @@ const EVERYTHING: RowFacts = RowFacts {
     over_lines_pairs: true,
 };
 
+// What the roots of a space are, and those of one in a batch.
+pub(crate) const SPACE: [RootKind; 4] = [
+    RootKind::State,
+    RootKind::Versions,
+    RootKind::History,
+    RootKind::History,
+];
+
+const IN_BATCH: [RootKind; 5] = [
+    RootKind::State,
+    RootKind::Versions,
+    RootKind::History,
+    RootKind::History,
+    RootKind::State,
+];
+
 // Whether the roots are those of a space: a state, a versions map and two histories, and in a batch a further state.
 pub(crate) fn roots_are_of_kind(alloc: Global, pool: &Pool) -> Result<bool, NoMemory>
     requires stand { HasRowsThatStand pool.now }
     ensures { IfOk result (λ are. are ≡ all_are pool.now) }
 {
-    let kinds = [
-        RootKind::State,
-        RootKind::Versions,
-        RootKind::History,
-        RootKind::History,
-        RootKind::State,
-    ];
-    if pool.roots.as_slice().len() == kinds.len() {
-        return roots_are_of(alloc, pool, &kinds);
+    if pool.roots.as_slice().len() == 5 {
+        return roots_are_of(alloc, pool, &IN_BATCH);
     }
-    roots_are_of(alloc, pool, &kinds[..4])
+    roots_are_of(alloc, pool, &SPACE)
 }
 
 // Whether the roots are of these kinds.
@@ -102,16 +111,31 @@ pub(crate) fn roots_are_of(alloc: Global, pool: &Pool, kinds: &[RootKind]) -> Re
     requires stand { HasRowsThatStand pool.now }
     ensures { IfOk result (λ are. are ≡ are_of_kinds kinds.now pool.now) }
 {
+    let none = Vec::with_capacity(alloc, pool.rows.as_slice().len())?;
+    let facts = facts_of_rows(pool, none)?;
+    Ok(are_roots(facts.as_slice(), kinds, pool.roots.as_slice()))
+}
+
+// The facts of the rows, of which those of the first are given.
+pub(crate) fn facts_of_rows(
+    pool: &Pool,
+    mut facts: Vec<RowFacts>,
+) -> Result<Vec<RowFacts>, NoMemory>
+    requires stand { HasRowsThatStand pool.now }
+    requires first { AreFacts (facts_in pool.now) facts.items }
+    requires few { length facts.items ≤ row_count pool.now }
+    ensures facts { IfOk result (λ facts. AreFacts (facts_in pool.now) facts.items) }
+    ensures count { IfOk result (λ facts. length facts.items ≡ row_count pool.now) }
+{
     let count = pool.rows.as_slice().len();
-    let mut kept = Vec::with_capacity(alloc, count)?;
-    for _place in 0..count {
-        kept.push(row_facts(pool, kept.as_slice()))?;
+    for _place in facts.len()..count {
+        facts.push(row_facts(pool, facts.as_slice()))?;
     }
-    Ok(are_roots(kept.as_slice(), kinds, pool.roots.as_slice()))
+    Ok(facts)
 }
 
 // Whether there are as many roots as kinds, each of its own.
-fn are_roots(kept: &[RowFacts], kinds: &[RootKind], roots: &[u64]) -> bool
+pub(crate) fn are_roots(kept: &[RowFacts], kinds: &[RootKind], roots: &[u64]) -> bool
     requires { list_all (λ k. nat_lt k (length kept.now)) roots.now ≡ true }
     ensures { (n : ℕ) (F : Forms Bytes) → AreFacts (facts_at n F) kept.now → result ≡ are_of n F kinds.now roots.now }
 {

@@ -1,15 +1,15 @@
 //! Laws of valid pools, as the clauses of functions that do nothing.
-ghost use Rattle.pool_check.specs.Laws.{VectorRootsAreGood, TrieRootsAreCanonical, UndamagedIsValid, UndamagedDocumentsStand, ValidDocumentsAreUndamaged, DamagesAreTests, ValidIsOfItself};
+ghost use Rattle.pool_check.specs.Laws.{VectorRootsAreGood, TrieRootsAreCanonical, UndamagedIsValid, UndamagedDocumentsStand, ValidDocumentsAreUndamaged, DamagesAreTests, ValidIsOfItself, ValidHasValidRows};
 ghost use Rattle.pool_check.specs.Passing.{PoolsPassAsMade};
 ghost use Rattle.pool_check.specs.Readings.{VectorsReadTheSame, TriesReadTheSame};
 ghost use Rattle.pool_check.specs.Worked.{UndamagedPools, DamagedPools, WorkedDamages};
 
-/// A vector root of a valid pool is the root of a well-shaped vector, whatever the rules.
+/// A vector root of a pool whose rows pass their tests is the root of a well-shaped vector, whatever the rules and the roots.
 pub fn vector_roots_are_good()
     ensures { VectorRootsAreGood }
 {}
 
-/// A trie row of depth 0 of a valid pool is the canonical trie of the entries below it.
+/// A trie row of depth 0 of such a pool is the canonical trie of the entries below it.
 pub fn trie_roots_are_canonical()
     ensures { TrieRootsAreCanonical }
 {}
@@ -65,7 +65,12 @@ pub fn pools_pass_as_made()
     ensures { PoolsPassAsMade }
 {}
 
-/// A valid pool is the pool of its own rows from its roots.
+/// A pool of valid rows, whatever its roots are, is the pool of its own rows from its roots.
 pub fn valid_is_of_itself()
     ensures { ValidIsOfItself }
+{}
+
+/// A valid pool has valid rows.
+pub fn valid_has_valid_rows()
+    ensures { ValidHasValidRows }
 {}

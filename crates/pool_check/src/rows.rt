@@ -1,19 +1,21 @@
 //! The tests of single rows: links and texts.
-ghost use Rattle.std.specs.Prelude.{◌≡◌, ◌&&◌, ◌==◌, not, Some, nat_lt, nat_le, length};
+ghost use Rattle.std.specs.Prelude.{◌≡◌, ◌&&◌, ◌==◌, not, true, Some, nat_lt, nat_le, length, take};
 ghost use Rattle.std.specs.List.{list_all, list_any};
 ghost use Rattle.node_heap.specs.Forms.{links_of};
 ghost use Rattle.pool_text.specs.Rows.{row_form};
-ghost use Rattle.pool_check.specs.Rows.{is_line_or_node, links_lead_back as all_lead_back, texts_are_lines as all_are_lines};
+ghost use Rattle.pool_check.specs.Rows.{is_line_or_node, rows_lead_back, links_lead_back as all_lead_back, texts_are_lines as all_are_lines};
 
 use elem_core::{MAX_LINE, NEWLINE};
 use pool_text::{Pool, Row};
 
-// Whether every link of a row is smaller than the row's place, and every root than the number of rows.
-pub(crate) fn links_lead_back(pool: &Pool) -> bool
+// Whether every link of a row is smaller than the row's place, and every root than the number of rows, where that is known of the
+// rows before a place.
+pub(crate) fn links_lead_back(pool: &Pool, from: usize) -> bool
+    requires { rows_lead_back 0 (take from pool.now.rows) ≡ true }
     ensures { result ≡ all_lead_back pool.now }
 {
     let rows = pool.rows.as_slice();
-    for place in 0..rows.len() {
+    for place in from..rows.len() {
         if !leads_below(&rows[place], place as u64) {
             return false;
         }
@@ -45,12 +47,14 @@ fn are_below(links: &[u64], bound: u64) -> bool
     true
 }
 
-// Whether every cell's text is a line.
-pub(crate) fn texts_are_lines(pool: &Pool) -> bool
+// Whether every cell's text is a line, where that is known of the rows before a place.
+pub(crate) fn texts_are_lines(pool: &Pool, from: usize) -> bool
+    requires { list_all is_line_or_node (take from pool.now.rows) ≡ true }
     ensures { result ≡ all_are_lines pool.now }
 {
-    for row in pool.rows.as_slice() {
-        if !is_line_or_node_row(row) {
+    let rows = pool.rows.as_slice();
+    for place in from..rows.len() {
+        if !is_line_or_node_row(&rows[place]) {
             return false;
         }
     }

@@ -1,10 +1,11 @@
 //! The test of trie rows and chain rows: each is looked at once, and what the rows above it ask of it is kept.
-ghost use Rattle.std.specs.Prelude.{◌≡◌, ℕ, ◌≤◌, ◌<◌, List, [], ◌∷◌, length, map, true, Some, IfOk, nat_lt};
+ghost use Rattle.std.specs.Prelude.{◌≡◌, ℕ, ◌≤◌, ◌<◌, List, [], ◌∷◌, length, map, true, Some, is_some, IfOk, IfSome, nat_lt};
 ghost use Rattle.std.specs.List.{list_all};
 ghost use Rattle.node_heap.specs.Forms.{value_of, node, chain};
 ghost use Rattle.champ_trie.specs.Trie.{code_by};
 ghost use Rattle.pool_text.specs.Rows.{Bytes, is_in_range_to, row_form};
 ghost use Rattle.pool_text.specs.Rules.{rules_named};
+ghost use Rattle.pool_text.specs.Pool.{forms_in, row_count};
 ghost use Rattle.pool_check.specs.Rows.{rows_in_range_by, links_lead_back};
 ghost use Rattle.pool_check.specs.Tries.{is_before, tries_stand_by};
 ghost use Rattle.pool_check.specs.Keeping.{forms_at, kept_entry, canonical_kept, AreKept};
@@ -12,24 +13,30 @@ ghost use Rattle.pool_check.specs.Keeping.{forms_at, kept_entry, canonical_kept,
 use crate::trie_row::{Kept, trie_row};
 use elem_core::{CODE_BITS, NoMemory, masked};
 use pool_text::{Pool, Row, Rules};
-use std::alloc::Global;
 
-// Whether every trie row and every chain row is canonical by these rules.
-pub(crate) fn tries_stand(alloc: Global, pool: &Pool, rules: Rules) -> Result<bool, NoMemory>
+// What is kept of the rows, of which that of the first is given, where every trie row and every chain row is canonical by these rules,
+// and None where one isn't.
+pub(crate) fn kept_of(
+    pool: &Pool,
+    rules: Rules,
+    mut kept: Vec<Kept>,
+) -> Result<Option<Vec<Kept>>, NoMemory>
+    requires first { AreKept (row_count pool.now) (forms_in pool.now) (code_by (rules_named rules).code_of pool.now.bits) (rules_named rules).deepest kept.items }
     requires bits { pool.now.bits ≤ CODE_BITS }
     requires rows { rows_in_range_by (rules_named rules) pool.now ≡ true }
     requires links { links_lead_back pool.now ≡ true }
-    ensures { IfOk result (λ stand. stand ≡ tries_stand_by (rules_named rules) pool.now) }
+    ensures stand { IfOk result (λ found. is_some found ≡ tries_stand_by (rules_named rules) pool.now) }
+    ensures kept { IfOk result (λ found. IfSome found (λ kept. AreKept (row_count pool.now) (forms_in pool.now) (code_by (rules_named rules).code_of pool.now.bits) (rules_named rules).deepest kept.items)) }
+    ensures count { IfOk result (λ found. IfSome found (λ kept. length kept.items ≡ row_count pool.now)) }
 {
     let rows = pool.rows.as_slice();
-    let mut kept = Vec::with_capacity(alloc, rows.len())?;
-    for place in 0..rows.len() {
+    for place in kept.len()..rows.len() {
         match kept_row(rows, &kept, rules, pool.bits) {
             Some(row) => kept.push(row)?,
-            None => return Ok(false),
+            None => return Ok(None),
         }
     }
-    Ok(true)
+    Ok(Some(kept))
 }
 
 // What is kept of the first row after those of which something was kept, if it is canonical.

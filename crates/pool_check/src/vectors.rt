@@ -9,11 +9,10 @@ ghost use Rattle.pool_check.specs.Vectors.{has_height, length_at, are_children, 
 ghost use Rattle.rrb_core.specs.Seq.{height_in};
 ghost use Rattle.pool_text.specs.Pool.{forms_in, row_count};
 ghost use Rattle.pool_check.specs.Kinds.{is_vector_root};
-ghost use Rattle.pool_check.specs.Shapes.{shape_at, shape_of, AreShapes};
+ghost use Rattle.pool_check.specs.Shapes.{shape_at, shape_of, AreShapes, AreFirstShapes};
 
 use elem_core::NoMemory;
 use pool_text::{Pool, Row};
-use std::alloc::Global;
 
 // What is kept of a vector row: its height, its length, whether it and all below it are thick, and whether it has no link.
 #[derive(Clone, Copy)]
@@ -93,8 +92,12 @@ fn leaf_shape(elements: &[u64]) -> Shape
     }
 }
 
-// The shapes of the rows, where every inner row keeps the fill rule, and None where one breaks it.
-pub(crate) fn shapes_of(alloc: Global, pool: &Pool) -> Result<Option<Vec<Option<Shape>>>, NoMemory>
+// The shapes of the rows, of which those of the first are given, where every inner row keeps the fill rule, and None where one breaks it.
+pub(crate) fn shapes_of(
+    pool: &Pool,
+    mut shapes: Vec<Option<Shape>>,
+) -> Result<Option<Vec<Option<Shape>>>, NoMemory>
+    requires first { AreFirstShapes pool.now shapes.items }
     requires rows { (rules : Rules) × (rows_in_range_by rules pool.now ≡ true) }
     requires links { links_lead_back pool.now ≡ true }
     ensures stand { IfOk result (λ found. is_some found ≡ vectors_stand pool.now) }
@@ -102,9 +105,8 @@ pub(crate) fn shapes_of(alloc: Global, pool: &Pool) -> Result<Option<Vec<Option<
     ensures count { IfOk result (λ found. IfSome found (λ shapes. length shapes.items ≡ row_count pool.now)) }
 {
     let rows = pool.rows.as_slice();
-    let mut shapes = Vec::with_capacity(alloc, rows.len())?;
-    for row in rows {
-        match row_shape(shapes.as_slice(), row) {
+    for place in shapes.len()..rows.len() {
+        match row_shape(shapes.as_slice(), &rows[place]) {
             Some(shape) => shapes.push(shape)?,
             None => return Ok(None),
         }

@@ -1,5 +1,5 @@
-use Rattle.pool_check.proofs.OwnRows.{of-itself}
+use Rattle.pool_check.proofs.OwnRows.{own-itself}
 use Rattle.pool_check.proofs.laws.valid_is_of_itself.Goals as goal
 
 pub returns : goal.returns
-returns c rules P valid = of-itself P valid
+returns c = λ rules P valid. own-itself P valid

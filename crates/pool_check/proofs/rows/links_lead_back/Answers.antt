@@ -5,8 +5,11 @@ use Rattle.pool_text.specs.Rows.{Bytes, row_form}
 use Rattle.pool_text.specs.declared.row.Row.{Row}
 use Rattle.pool_text.proofs.Gathered.{take_all}
 use Rattle.pool_check.specs.Rows.{rows_lead_back}
-use Rattle.pool_check.proofs.RowTests.{lead_back-fails, lead_back-more, no-lead_back, all-lead_back}
+use Rattle.pool_check.proofs.RowTests.{lead_back-fails, lead_back-more, first-lead_back, no-lead_back, all-lead_back}
 use Rattle.pool_check.proofs.rows.links_lead_back.Goals as goal
+
+pub loop-place-init : goal.loop-place-init
+loop-place-init c = first-lead_back c.args.pool.now c.as_slice-rows.result.now c.as_slice-rows.ensures c.args.from c.requires
 
 pub returns-then-not-leads_below : goal.returns-then-not-leads_below
 returns-then-not-leads_below c =

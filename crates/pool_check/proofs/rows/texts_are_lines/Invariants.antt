@@ -4,5 +4,5 @@ use Rattle.pool_text.specs.Rows.{row_form}
 use Rattle.pool_check.specs.Rows.{is_line_or_node}
 use Rattle.pool_check.proofs.rows.texts_are_lines.Given as goal
 
-abbrev pub invariant-loop-row : goal.invariant-loop-row
-invariant-loop-row l = list_all (λ row. is_line_or_node (row_form row)) (take l.row-index l.row-items) ≡ true
+abbrev pub invariant-loop-place : goal.invariant-loop-place
+invariant-loop-place l = list_all (λ row. is_line_or_node (row_form row)) (take l.place l.rows) ≡ true
