@@ -45,7 +45,7 @@ module _ {T : Type 0} (text : T → Bytes) (h : Heap T) where
     cell-is p e (Some (cell x)) row keyed test = cell-keyed (row_at h e.link) x e.key row keyed
     cell-is p e (Some (node kind links)) row keyed test = absurd (not-both test)
 
-    pair-at : (e : Entry T) (k m : ℕ) → text_forms text h e.link ≡ Some (node pair (f k ∷ f m ∷ [])) → IsEntry (form_at h) e → IsPair (form_at h) e (binding e.key (f m))
+    pub pair-at : (e : Entry T) (k m : ℕ) → text_forms text h e.link ≡ Some (node pair (f k ∷ f m ∷ [])) → IsEntry (form_at h) e → IsPair (form_at h) e (binding e.key (f m))
     pair-at e k m row keyed =
         let form : form_at h e.link ≡ Some (node pair (f k ∷ f m ∷ [])) = form-node text (row_at h e.link) pair (f k ∷ f m ∷ []) row in
         let key : value_of (form_at h (f k)) ≡ Some e.key = sym (ap (key_of (form_at h)) form) ∙ keyed in

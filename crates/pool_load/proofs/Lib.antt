@@ -9,3 +9,4 @@ pub mod TrieTexts
 pub mod EntryKinds
 pub mod LoadedRoots
 pub mod Fits
+pub mod RootKinds

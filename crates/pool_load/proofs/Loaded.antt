@@ -27,10 +27,11 @@ use Rattle.pool_text.proofs.Placed.{place-is}
 use Rattle.pool_text.proofs.Renamed.{map-found, count-map, links-relink}
 use Rattle.pool_check.specs.Rows.{rows_lead_back, rows_in_range_by, links_lead_back, texts_are_lines}
 use Rattle.pool_check.specs.Vectors.{has_height, vectors_stand}
-use Rattle.pool_check.specs.Damages.{IsValid}
-use Rattle.pool_check.specs.Checked.{IsChecked}
+use Rattle.pool_text.specs.Rules.{present_rules}
+use Rattle.pool_check.specs.Damages.{HasValidRows}
+use Rattle.pool_check.specs.Checked.{HasCheckedRows}
 use Rattle.pool_check.proofs.TestLemmas.{and-first, leads-down, roots-low}
-use Rattle.pool_load.specs.Loads.{cells_of, nodes_of, Loads, AreLoaded}
+use Rattle.pool_load.specs.Loads.{cells_of, nodes_of, Loads, AreRowsLoaded}
 use Rattle.pool_load.specs.Rows.{AreSound}
 use Rattle.pool_load.specs.Making.{ArePlacesBelow, AreMade, GivesUp, AreReachedWithout}
 use Rattle.pool_check.proofs.OwnRows.{in-order, reached-low, own-order, one-place, pool-of-rows}
@@ -38,16 +39,16 @@ use Rattle.pool_load.proofs.Places.{below-all}
 use Rattle.pool_text.proofs.Ordered.{order-renamed}
 use Rattle.pool_load.proofs.Steps.{links-made}
 
--- ## Valid pools
+-- ## Pools of valid rows
 
--- a valid pool's rows are sound
-pub sound-rows : (P : Pool) → IsValid P → AreSound P.rows
+-- they are sound
+pub sound-rows : (P : Pool) → HasValidRows present_rules P → AreSound P.rows
 unfolding rows_in_range_by links_lead_back texts_are_lines vectors_stand
 sound-rows P v = record {
   in_range = v.in_range;
-  lead_back = and-first (rows_lead_back 0 P.rows) (list_all (λ k. nat_lt k (row_count P)) P.roots) v.lead_back;
-  lines = v.lines;
-  filled = v.vectors;
+  lead_back = and-first (rows_lead_back 0 P.rows) (list_all (λ k. nat_lt k (row_count P)) P.roots) v.passed.lead_back;
+  lines = v.passed.lines;
+  filled = v.passed.vectors;
 }
 
 in-range : (n p : ℕ) → p < n → 0 < count p (range_with_len 0 n)
@@ -57,7 +58,7 @@ in-range n p low =
     let some : 0 < count (get_or ps p 0) ps = count-at ps p 0 (omega (arith, low, length-range_with_len 0 n)) in
     subst (λ k. 0 < count k ps) at some
 
-module _ (P : Pool) (v : IsValid P) where
+module _ (P : Pool) (v : HasValidRows present_rules P) where
   abbrev pub below_rows : Links
   below_rows = links_in (forms_in P)
 
@@ -66,8 +67,8 @@ module _ (P : Pool) (v : IsValid P) where
   place-reached p low = (own-order P v).reached p (omega (arith, in-range (row_count P) p low, ap (count p) (in-order P v)))
 
 -- the roots are places of rows
-pub roots-below : (P : Pool) → IsValid P → (n : ℕ) (ks : List ℕ) → n ≡ row_count P → ks ≡ P.roots → ArePlacesBelow n ks
-roots-below P v n ks many same = below-all n ks (λ k has. omega (arith, many, roots-low P v.lead_back k (omega (arith, has, ap (count k) same))))
+pub roots-below : (P : Pool) → HasValidRows present_rules P → (n : ℕ) (ks : List ℕ) → n ≡ row_count P → ks ≡ P.roots → ArePlacesBelow n ks
+roots-below P v n ks many same = below-all n ks (λ k has. omega (arith, many, roots-low P v.passed.lead_back k (omega (arith, has, ap (count k) same))))
 
 -- ## Loaded rows
 
@@ -117,12 +118,12 @@ some-map : {X Y : Type 0} (f : X → Y) (r : Option X) → IsSome r → IsSome (
 some-map f None live = absurd cc
 some-map f (Some x) live = refl
 
-module _ {T : Type 0} (text : T → Bytes) (h : Heap T) (P : Pool) (v : IsValid P) (links : List ℕ) (is : RowsStand text h P links) where
+module _ {T : Type 0} (text : T → Bytes) (h : Heap T) (P : Pool) (v : HasValidRows present_rules P) (links : List ℕ) (is : RowsStand text h P links) where
   abbrev pub root_links : List ℕ
   root_links = map (slice_index links) P.roots
 
   links-down : (p k : ℕ) → 0 < count k (links_in (forms_in P) p) → k < p
-  links-down p k has = leads-down P v.lead_back p k has
+  links-down p k has = leads-down P v.passed.lead_back p k has
 
   row-links : (p : ℕ) → p < row_count P → links_at h (slice_index links p) ≡ map (slice_index links) (links_in (forms_in P) p)
   row-links p low = links-made text (slice_index links) (row_at h (slice_index links p)) (forms_in P p) (is.forms p (omega (arith, low, is.many)))
@@ -147,7 +148,7 @@ module _ {T : Type 0} (text : T → Bytes) (h : Heap T) (P : Pool) (v : IsValid 
   pub below-roots : (r l : ℕ) → 0 < count r root_links → Reaches (links_at h) r l → 0 < count l links
   below-roots r l root down =
       let found = map-found (slice_index links) P.roots r root in
-      let at = ways-back r l down found.0 (roots-low P v.lead_back found.0 found.1) found.2 in
+      let at = ways-back r l down found.0 (roots-low P v.passed.lead_back found.0 found.1) found.2 in
       subst (λ k. 0 < count k links) at.2 (count-at links at.0 0 (omega (arith, at.1, is.many)))
 
   sums-at : (p : ℕ) → p < row_count P → HasSums h (height_at h (slice_index links p)) (slice_index links p)
@@ -171,7 +172,7 @@ module _ {T : Type 0} (text : T → Bytes) (h : Heap T) (P : Pool) (v : IsValid 
   sums-loaded : HaveSums h root_links
   sums-loaded r l root down =
       let found = map-found (slice_index links) P.roots r root in
-      let at = ways-back r l down found.0 (roots-low P v.lead_back found.0 found.1) found.2 in
+      let at = ways-back r l down found.0 (roots-low P v.passed.lead_back found.0 found.1) found.2 in
       subst (λ k. HasSums h (height_at h k) k) at.2 (sums-at at.0 at.1)
 
   abbrev G : Forms Bytes
@@ -179,13 +180,13 @@ module _ {T : Type 0} (text : T → Bytes) (h : Heap T) (P : Pool) (v : IsValid 
 
   linked : (r : ℕ) → 0 < count r P.roots → (m : ℕ) → Reaches (links_in (forms_in P)) r m → links_in G (slice_index links m) ≡ map (slice_index links) (links_in (forms_in P) m)
   linked r root m down =
-      let low : m < row_count P = reached-low P v r m down (roots-low P v.lead_back r root) in
+      let low : m < row_count P = reached-low P v r m down (roots-low P v.passed.lead_back r root) in
       ap links_of (is.forms m (omega (arith, low, is.many))) ∙ links-relink (slice_index links) (forms_in P m)
 
   root-live : (x : ℕ) → 0 < count x root_links → IsSome (row_at h x)
   root-live x root =
       let found = map-found (slice_index links) P.roots x root in
-      let low : found.0 < length links = omega (arith, roots-low P v.lead_back found.0 found.1, is.many) in
+      let low : found.0 < length links = omega (arith, roots-low P v.passed.lead_back found.0 found.1, is.many) in
       subst (λ k. IsSome (row_at h k)) found.2 (is.live (slice_index links found.0) (count-at links found.0 0 low))
 
   listed : order (length h.rows) (links_in G) root_links ≡ links
@@ -193,14 +194,14 @@ module _ {T : Type 0} (text : T → Bytes) (h : Heap T) (P : Pool) (v : IsValid 
       let n : ℕ = length h.rows + row_count P in
       let L : Links = links_in (forms_in P) in
       let rooted = rooted-heap text h root_links is.graph root-live in
-      let low : (r : ℕ) → 0 < count r P.roots → r < row_count P = roots-low P v.lead_back in
+      let low : (r : ℕ) → 0 < count r P.roots → r < row_count P = roots-low P v.passed.lead_back in
       let inside : (k : ℕ) → 0 < count k (flat_map (places n L) P.roots) → k < length links =
       λ k some.
       let found = flat_map-found (places n L) P.roots k some in
       omega (arith, reached-low P v found.0 k (places-reached n L found.0 k found.2) (low found.0 found.1), is.many) in
       order-deep rooted.rank (links_in G) rooted.falls (length h.rows) n root_links rooted.low (λ r root. omega (arith, rooted.low r root))
       ∙ order-renamed (slice_index links) L (links_in G) n P.roots linked (λ a b in_a in_b same. one-place links is.once a b (inside a in_a) (inside b in_b) same)
-      ∙ ap (map (slice_index links)) (order-deep (λ l. l) L (leads-down P v.lead_back) n (row_count P) P.roots (λ r root. omega (arith, low r root)) low ∙ in-order P v)
+      ∙ ap (map (slice_index links)) (order-deep (λ l. l) L (leads-down P v.passed.lead_back) n (row_count P) P.roots (λ r root. omega (arith, low r root)) low ∙ in-order P v)
       ∙ all-places links (row_count P) is.many
     where
       all-places : (ks : List ℕ) (n : ℕ) → length ks ≡ n → map (slice_index ks) (range_with_len 0 n) ≡ ks
@@ -213,17 +214,17 @@ module _ {T : Type 0} (text : T → Bytes) (h : Heap T) (P : Pool) (v : IsValid 
   pool-loaded : pool_at text h root_links (settings_of P) ≡ P
   pool-loaded =
       pool-of-rows G links P
-      (record { many = is.many; forms = is.forms; once = is.once; there = λ k has. some-map (text_form text) (row_at h k) (is.live k has) }) v.lead_back
+      (record { many = is.many; forms = is.forms; once = is.once; there = λ k has. some-map (text_form text) (row_at h k) (is.live k has) }) v.passed.lead_back
       (length h.rows) listed
 
-  pub are-loaded : IsChecked P → AreLoaded text h root_links P
+  pub are-loaded : HasCheckedRows P → AreRowsLoaded text h root_links P
   are-loaded checked = record { graph = is.graph; live = root-live; checked = checked; pool = pool-loaded; sums = sums-loaded }
 
 -- ## The holds that are given up
 
--- the rows of a valid pool were made, each held once, and those of its roots held once more
+-- the rows of such a pool were made, each held once, and those of its roots held once more
 pub record AreHeld {T : Type 0} (text : T → Bytes) (old mid new : Heap T) (P : Pool) (links : List ℕ) : Type 0 where
-  pub valid : IsValid P
+  pub valid : HasValidRows present_rules P
   pub graph : IsGraph old
   pub rows : AreMade text old mid P.rows links
   pub many : length links ≡ row_count P
@@ -250,7 +251,7 @@ module _ {T : Type 0} {text : T → Bytes} {old mid new : Heap T} {P : Pool} {li
       let at = place-is links l has in
       let p : ℕ = place_in links l in
       let from = place-reached P is.valid p (omega (arith, at.0, is.many)) in
-      let way : Reaches (links_at new) (f from.0) (f p) = ways-down text new P is.valid links held-stand from.0 p from.2 (roots-low P is.valid.lead_back from.0 from.1) in
+      let way : Reaches (links_at new) (f from.0) (f p) = ways-down text new P is.valid links held-stand from.0 p from.2 (roots-low P is.valid.passed.lead_back from.0 from.1) in
       (f from.0, omega (arith, count-map f from.0 P.roots from.1, is.rows.holds (f from.0), is.held.holds (f from.0)), subst (Reaches (links_at new) (f from.0)) at.1 way)
 
   pub reached-without : AreReachedWithout new links

@@ -1,4 +1,5 @@
 pub mod Loads
 pub mod Rows
 pub mod Making
+pub mod Kinds
 pub mod Laws

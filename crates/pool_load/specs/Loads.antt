@@ -8,7 +8,7 @@ use Rattle.pool_text.specs.Rows.{Bytes}
 use Rattle.pool_text.specs.Pool.{row_count, settings_of, pool_at}
 use Rattle.pool_text.specs.Renaming.{AreLive}
 use Rattle.pool_text.specs.declared.pool.Pool.{Pool}
-use Rattle.pool_check.specs.Checked.{IsChecked}
+use Rattle.pool_check.specs.Checked.{IsChecked, HasCheckedRows}
 use Rattle.rrb_core.specs.Vector.{HaveSums}
 
 -- how many of the rows are cells, and how many nodes
@@ -33,10 +33,18 @@ module _ {T : Type 0} where
     pub made : new.made ≡ min (old.made + row_count P) (2 ^ 64 - 1)
     pub balance : Balances old new
 
-  -- the pool of these roots is this one, which passed its tests, and the inner rows below them keep their sums
-  pub record AreLoaded (text : T → Bytes) (h : Heap T) (roots : List ℕ) (P : Pool) : Type 0 where
+  -- the pool of these roots is this one, which passed these tests, and the inner rows below them keep their sums
+  pub record AreLoadedBy (Passed : Pool → Type 0) (text : T → Bytes) (h : Heap T) (roots : List ℕ) (P : Pool) : Type 0 where
     pub graph : IsGraph h
     pub live : AreLive T h roots
-    pub checked : IsChecked P
+    pub checked : Passed P
     pub pool : pool_at text h roots (settings_of P) ≡ P
     pub sums : HaveSums h roots
+
+  -- it passed all tests, those of a space's roots too
+  abbrev pub AreLoaded : (T → Bytes) → Heap T → List ℕ → Pool → Type 0
+  AreLoaded text h roots P = AreLoadedBy IsChecked text h roots P
+
+  -- it passed those of its rows, whatever its roots are
+  abbrev pub AreRowsLoaded : (T → Bytes) → Heap T → List ℕ → Pool → Type 0
+  AreRowsLoaded text h roots P = AreLoadedBy HasCheckedRows text h roots P

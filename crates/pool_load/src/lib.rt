@@ -9,5 +9,8 @@ mod lengths;
 mod loading;
 mod rows;
 
-pub use laws::{loaded_rows_are_listed, loaded_tries_are_good, loaded_vectors_are_good};
-pub use loading::load;
+pub use laws::{
+    loaded_roots_are_of_kinds, loaded_roots_fit, loaded_roots_have_rows, loaded_rows_are_listed,
+    loaded_tries_are_good, loaded_vectors_are_good,
+};
+pub use loading::{load, load_roots};

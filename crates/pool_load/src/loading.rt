@@ -2,23 +2,22 @@
 ghost use Rattle.std.specs.Prelude.{◌≡◌, ℕ, ◌<◌, ◌≤◌, [], length, map, slice_index, IfOk, OnOk, OnErr};
 ghost use Rattle.std.specs.Prelude.{vec_capacity};
 ghost use Rattle.node_heap.specs.Links.{count};
-ghost use Rattle.node_heap.specs.Heap.{holds_at, hold_count, IsGraph, half_holds};
+ghost use Rattle.node_heap.specs.Heap.{holds_at, hold_count, IsGraph, half_holds, quarter_holds};
 ghost use Rattle.node_heap.specs.Calls.{KeepsToNeed};
 ghost use Rattle.pool_text.specs.Rows.{row_form};
-ghost use Rattle.pool_load.specs.Loads.{Loads, AreLoaded, cells_of, nodes_of};
+ghost use Rattle.pool_load.specs.Loads.{Loads, AreLoaded, AreRowsLoaded, cells_of, nodes_of};
 ghost use Rattle.pool_load.specs.Making.{ArePlacesBelow, AreReachedWithout, GivesUp};
 
 use crate::lengths::lengths_of;
 use crate::rows::{hold_places, make_rows};
 use elem_core::{NoMemory, Stored};
 use node_heap::{Heap, Link};
-use pool_check::Checked;
+use pool_check::{Checked, CheckedRoots};
 use pool_text::{Pool, Row};
 use std::alloc::Global;
 
-/// Makes new rows that stand for the pool, one for each of its rows, and gives the links of its roots, each held once for each
-/// of its places there. All memory is taken before the first row is made, so that a refused call changes nothing, and no more
-/// room than the pool needs. All holds together are below 2^59 before.
+/// Makes new rows that stand for the pool of a space, as `load_roots` does, and gives the links of its four roots. All holds together
+/// are below 2^59 before.
 pub fn load<T: Stored>(
     alloc: Global,
     heap: &mut Heap<T>,
@@ -28,6 +27,25 @@ pub fn load<T: Stored>(
     ensures loads { IfOk result (λ roots. Loads heap.old heap.new roots.items checked) }
     ensures loaded { IfOk result (λ roots. AreLoaded T.bytes_of heap.new roots.items checked) }
     ensures roots { IfOk result (λ roots. length roots.items ≡ 4) }
+    ensures spares { OnOk result (KeepsToNeed heap.old heap.new (cells_of checked.rows) (nodes_of checked.rows)) }
+    ensures refused { OnErr result (heap.new ≡ heap.old) }
+{
+    load_roots(alloc, heap, checked.into_roots())
+}
+
+/// Makes new rows that stand for the pool, one for each of its rows, and gives the links of its roots, each held once for each
+/// of its places there. All memory is taken before the first row is made, so that a refused call changes nothing, and no more
+/// room than the pool needs. All holds together are below 2^59 before, and the roots fewer than 2^58.
+pub fn load_roots<T: Stored>(
+    alloc: Global,
+    heap: &mut Heap<T>,
+    checked: CheckedRoots<T>,
+) -> Result<Vec<Link>, NoMemory>
+    requires few { hold_count heap.old < half_holds }
+    requires few_roots { length checked.roots < quarter_holds }
+    ensures loads { IfOk result (λ roots. Loads heap.old heap.new roots.items checked) }
+    ensures loaded { IfOk result (λ roots. AreRowsLoaded T.bytes_of heap.new roots.items checked) }
+    ensures roots { IfOk result (λ roots. length roots.items ≡ length checked.roots) }
     ensures spares { OnOk result (KeepsToNeed heap.old heap.new (cells_of checked.rows) (nodes_of checked.rows)) }
     ensures refused { OnErr result (heap.new ≡ heap.old) }
 {

@@ -1,159 +1,28 @@
-use Rattle.std.proofs.Common.{◌≡◌, ◌+◌, ℕ, List, [], Some, map, length, ap, sym, subst, ◌∙◌, arith}
-use Rattle.std.specs.Prelude.{slice_index}
-use Rattle.std.proofs.lemmas.List.{length-map}
-use Rattle.node_heap.specs.Links.{count}
-use Rattle.node_heap.specs.Forms.{Form}
-use Rattle.node_heap.specs.Calls.{Builds}
-use Rattle.pool_text.specs.Document.{HistoryFitsVersion}
-use Rattle.pool_text.specs.Rows.{Bytes, row_form}
-use Rattle.pool_text.specs.Rules.{present_rules, rules_of}
+use Rattle.std.proofs.Common.{◌≡◌, length, subst, ◌∙◌, arith}
+use Rattle.std.specs.Result.{IfOk, OnOk}
+use Rattle.std.proofs.lemmas.Result.{IfOk-weaker}
+use Rattle.node_heap.specs.Calls.{KeepsToNeed}
 use Rattle.pool_text.specs.declared.pool.Pool.{Pool}
-use Rattle.pool_text.specs.declared.row.Row.{Row}
-use Rattle.pool_check.specs.Damages.{IsValid}
-use Rattle.pool_load.specs.Loads.{Loads, AreLoaded, cells_of, nodes_of}
-use Rattle.pool_load.specs.Rows.{AreSound, HaveLengths}
-use Rattle.pool_load.specs.Making.{AreMade, GivesUp, AreReachedWithout}
-use Rattle.pool_load.proofs.Loaded.{sound-rows, roots-below, kinds-add-up, AreHeld, own-held, reached-without, are-loaded, all-loaded, rows-loaded, need-kept}
-use Rattle.pool_load.proofs.loading.load.Given.{Over}
+use Rattle.pool_load.specs.Loads.{Loads, AreLoaded, AreRowsLoaded, cells_of, nodes_of}
+use Rattle.pool_load.proofs.LoadedRoots.{all-of-loaded}
 use Rattle.pool_load.proofs.loading.load.Goals as goal
-use Rattle.pool_load.proofs.loading.load.Goals.{After-hold_places}
 
--- the rows are those of the valid pool
-record AreRowsOf (P : Pool) (rows : List Row) : Type 0 where
-  pub valid : IsValid P
-  pub forms : map row_form rows ≡ P.rows
-  pub many : length rows ≡ length P.rows
-  pub cells : cells_of (map row_form rows) ≡ cells_of P.rows
-  pub nodes : nodes_of (map row_form rows) ≡ nodes_of P.rows
-  pub kinds : cells_of P.rows + nodes_of P.rows ≡ length P.rows
+pub load_roots-requires-clause-few_roots : goal.load_roots-requires-clause-few_roots
+load_roots-requires-clause-few_roots g c = omega (arith, c.into_roots.ensures.checked.roots)
 
--- so they are, where they were read of a pool that is this one
-rows-of : {P Q : Pool} (rows : List Row) → Q ≡ P → IsValid Q → map row_form rows ≡ Q.rows → AreRowsOf P rows
-rows-of {P} rows same valid read =
-    let forms : map row_form rows ≡ P.rows = read ∙ ap (λ (Q : Pool). Q.rows) same in
-    record {
-      valid = subst IsValid same valid;
-      forms = forms;
-      many = sym (length-map rows row_form) ∙ ap length forms;
-      cells = ap (λ (rs : List (Form Bytes)). cells_of rs) forms;
-      nodes = ap (λ (rs : List (Form Bytes)). nodes_of rs) forms;
-      kinds = kinds-add-up P.rows;
-    }
+pub returns-clause-loads : goal.returns-clause-loads
+returns-clause-loads g c = subst (λ (P : Pool). IfOk c.load_roots.result (λ roots. Loads c.args.heap.now c.load_roots.new.heap roots.items P)) c.into_roots.ensures.same c.load_roots.ensures.loads
 
-roots-of : {P Q : Pool} {ks : List ℕ} → Q ≡ P → ks ≡ Q.roots → ks ≡ P.roots
-roots-of same read = read ∙ ap (λ (Q : Pool). Q.roots) same
+pub returns-clause-loaded : goal.returns-clause-loaded
+returns-clause-loaded g c =
+    subst (λ (P : Pool). IfOk c.load_roots.result (λ roots. AreLoaded g.T.Stored.bytes_of c.load_roots.new.heap roots.items P)) c.into_roots.ensures.same
+    (IfOk-weaker c.load_roots.result (λ roots. AreRowsLoaded g.T.Stored.bytes_of c.load_roots.new.heap roots.items c.into_roots.result) (λ roots. AreLoaded g.T.Stored.bytes_of c.load_roots.new.heap roots.items c.into_roots.result)
+    (λ roots loaded. all-of-loaded g.T.Stored.bytes_of c.load_roots.new.heap roots.items c.into_roots.result c.into_roots.ensures.checked loaded) c.load_roots.ensures.loaded)
 
--- the rows that were made, and the roots among them, each held once more
-held : (g : Over) (c : After-hold_places g) → AreHeld g.T.Stored.bytes_of c.reserve.new.self c.make_rows.new.heap c.hold_places.new.heap c.args.checked c.make_rows.new.links.items
-held g c =
-    let P : Pool = c.args.checked in
-    let rows = rows-of c.into_vec.result.items c.into_pool-rows.ensures.same c.into_pool-rows.ensures.valid c.into_vec.ensures in
-    let links : List ℕ = c.make_rows.new.links.items in
-    let roots = roots-of c.into_pool-rows.ensures.same c.as_slice-3.ensures in
-    let places : map (slice_index c.as_slice-2.result.now) c.as_slice-3.result.now ≡ map (slice_index links) P.roots =
-    ap (λ (ls : List ℕ). map (slice_index ls) c.as_slice-3.result.now) c.as_slice-2.ensures.value ∙ ap (map (slice_index links)) roots in
-    record {
-      valid = rows.valid;
-      graph = c.reserve.ensures.rest.graph;
-      rows = subst (λ (rs : List (Form Bytes)). AreMade g.T.Stored.bytes_of c.reserve.new.self c.make_rows.new.heap rs links) rows.forms c.make_rows.ensures.made;
-      many = c.make_rows.ensures.many ∙ rows.many;
-      same = c.hold_places.ensures.rows;
-      held = subst (λ (ks : List ℕ). Builds c.make_rows.new.heap c.hold_places.new.heap [] ks 0 0) places c.hold_places.ensures.builds;
-    }
+pub returns-clause-roots : goal.returns-clause-roots
+returns-clause-roots g c =
+    IfOk-weaker c.load_roots.result (λ roots. length roots.items ≡ length c.into_roots.result.roots) (λ roots. length roots.items ≡ 4) (λ roots many. many ∙ c.into_roots.ensures.checked.roots) c.load_roots.ensures.roots
 
-pub lengths_of-requires : goal.lengths_of-requires
-lengths_of-requires g c =
-    let rows = rows-of c.as_slice-rows.result.now c.pool-pool.ensures.same c.pool-pool.ensures.valid c.as_slice-rows.ensures in
-    record { sound = subst AreSound (sym rows.forms) (sound-rows c.args.checked rows.valid) }
-
-pub overflow_sub-rows : goal.overflow_sub-rows
-overflow_sub-rows g c =
-    let rows = c.as_slice-rows.result.now in
-    omega (arith, c.count_cells-cells.ensures, kinds-add-up (map row_form rows), length-map rows row_form)
-
-pub make_rows-requires : goal.make_rows-requires
-make_rows-requires g c =
-    let was = rows-of c.as_slice-rows.result.now c.pool-pool.ensures.same c.pool-pool.ensures.valid c.as_slice-rows.ensures in
-    let now = rows-of c.into_vec.result.items c.into_pool-rows.ensures.same c.into_pool-rows.ensures.valid c.into_vec.ensures in
-    let spares = c.in_ok-reserve.ensures.spares in
-    let rest = c.reserve.ensures.rest in
-    record {
-      sound = subst AreSound (sym now.forms) (sound-rows c.args.checked now.valid);
-      lengths =
-          subst (λ (rs : List (Form Bytes)). HaveLengths rs c.as_slice.result.now) (was.forms ∙ sym now.forms)
-          (subst (HaveLengths (map row_form c.as_slice-rows.result.now)) (sym c.as_slice.ensures.value) c.in_ok-lengths.ensures.lengths);
-      known = ap length c.as_slice.ensures.value ∙ c.in_ok-lengths.ensures.many ∙ was.many ∙ sym now.many;
-      empty = c.in_ok-links.ensures.items;
-      room = omega (arith, c.in_ok-links.ensures.capacity);
-      spares = (omega (arith, spares.0, c.count_cells-cells.ensures), omega (arith, spares.1, c.count_cells-cells.ensures));
-      few = omega (arith, c.requires.few, rest.count, spares.0, spares.1, c.count_cells-cells.ensures, rest.graph.few_rows);
-      graph = rest.graph;
-    }
-
-pub hold_places-requires : goal.hold_places-requires
-hold_places-requires g c =
-    let P : Pool = c.args.checked in
-    let was = rows-of c.as_slice-rows.result.now c.pool-pool.ensures.same c.pool-pool.ensures.valid c.as_slice-rows.ensures in
-    let now = rows-of c.into_vec.result.items c.into_pool-rows.ensures.same c.into_pool-rows.ensures.valid c.into_vec.ensures in
-    let roots = roots-of c.into_pool-rows.ensures.same c.as_slice-3.ensures in
-    let made = c.make_rows.ensures.made in
-    let many : length c.as_slice-2.result.now ≡ length P.rows = ap length c.as_slice-2.ensures.value ∙ c.make_rows.ensures.many ∙ now.many in
-    let spares = c.in_ok-reserve.ensures.spares in
-    let rest = c.reserve.ensures.rest in
-    record {
-      live = λ k has. made.graph.held k (omega (arith, made.holds k, has, ap (count k) c.as_slice-2.ensures.value));
-      places = roots-below P now.valid (length c.as_slice-2.result.now) c.as_slice-3.result.now many roots;
-      few = omega (arith, c.requires.few, rest.count, made.count, c.make_rows.ensures.many, spares.0, spares.1, c.count_cells-cells.ensures, rest.graph.few_rows, ap length c.as_slice-3.ensures, c.into_pool-rows.ensures.roots);
-      graph = made.graph;
-    }
-
-pub put_links-requires : goal.put_links-requires
-put_links-requires g c =
-    let rows = rows-of c.into_vec.result.items c.into_pool-rows.ensures.same c.into_pool-rows.ensures.valid c.into_vec.ensures in
-    let was = roots-of c.pool-pool.ensures.same c.as_slice-places.ensures in
-    let roots = roots-of c.into_pool-rows.ensures.same c.as_slice-5.ensures in
-    record {
-      empty = c.in_ok-roots.ensures.items;
-      room = omega (arith, c.in_ok-roots.ensures.capacity, ap length was, ap length roots);
-      places = roots-below c.args.checked rows.valid (length c.as_slice-4.result.now) c.as_slice-5.result.now (ap length c.as_slice-4.ensures.value ∙ c.make_rows.ensures.many ∙ rows.many) roots;
-    }
-
-pub release_all-requires : goal.release_all-requires
-release_all-requires g c =
-    let is = held g (goal.at.release_all-requires g c).After-hold_places in
-    record {
-      held = λ k. omega (arith, own-held is k, ap (count k) c.as_slice-6.ensures.value);
-      reached = subst (λ (ls : List ℕ). AreReachedWithout c.hold_places.new.heap ls) (sym c.as_slice-6.ensures.value) (reached-without is);
-      graph = c.hold_places.ensures.builds.graph;
-    }
-
-pub returns : goal.returns
-returns g c =
-    let P : Pool = c.args.checked in
-    let was = rows-of c.as_slice-rows.result.now c.pool-pool.ensures.same c.pool-pool.ensures.valid c.as_slice-rows.ensures in
-    let new = c.release_all.new.heap in
-    let is = held g (goal.at.returns g c).After-hold_places in
-    let links : List ℕ = c.make_rows.new.links.items in
-    let up = subst (λ (ls : List ℕ). GivesUp c.hold_places.new.heap new ls) c.as_slice-6.ensures.value c.release_all.ensures in
-    let roots = roots-of c.into_pool-rows.ensures.same c.as_slice-5.ensures in
-    let four : length P.roots ≡ 4 = sym (ap (λ (Q : Pool). length Q.roots) c.pool-pool.ensures.same) ∙ c.pool-pool.ensures.roots in
-    let chosen : c.put_links.new.chosen.items ≡ map (slice_index links) P.roots =
-    c.put_links.ensures ∙ ap (λ (ls : List ℕ). map (slice_index ls) c.as_slice-5.result.now) c.as_slice-4.ensures.value ∙ ap (map (slice_index links)) roots in
-    record {
-      loads = subst (λ (ks : List ℕ). Loads c.args.heap.now new ks P) (sym chosen) (all-loaded is up c.reserve.ensures.rest);
-      loaded =
-          subst (λ (ks : List ℕ). AreLoaded g.T.Stored.bytes_of new ks P) (sym chosen)
-          (are-loaded g.T.Stored.bytes_of new P is.valid links (rows-loaded is up)
-          (record {
-            rules = subst (λ (Q : Pool). rules_of Q.version ≡ Some present_rules) c.pool-pool.ensures.same c.pool-pool.ensures.rules;
-            history = subst (λ (Q : Pool). HistoryFitsVersion Q) c.pool-pool.ensures.same c.pool-pool.ensures.history;
-            bits = omega (arith, c.pool-pool.ensures.bits, ap (λ (Q : Pool). Q.bits) c.pool-pool.ensures.same);
-            roots = four;
-            valid = is.valid;
-          }));
-      roots = ap length chosen ∙ length-map P.roots (slice_index links) ∙ four;
-      spares =
-          need-kept is up c.in_ok-reserve.ensures.greater c.reserve.ensures.rest (c.count_cells-cells.ensures ∙ was.cells)
-          (omega (arith, c.count_cells-cells.ensures, was.cells, was.many, was.kinds));
-      refused = tt;
-    }
+pub returns-clause-spares : goal.returns-clause-spares
+returns-clause-spares g c =
+    subst (λ (P : Pool). OnOk c.load_roots.result (KeepsToNeed c.args.heap.now c.load_roots.new.heap (cells_of P.rows) (nodes_of P.rows))) c.into_roots.ensures.same c.load_roots.ensures.spares
