@@ -8,6 +8,7 @@ use Rattle.std.proofs.lemmas.Option.{slice_get_past}
 use Rattle.node_heap.specs.Links.{count}
 use Rattle.node_heap.specs.Forms.{links_of}
 use Rattle.pool_order.specs.Laws.{AreLinkedBelow}
+use Rattle.std.proofs.lemmas.List.{length-map}
 use Rattle.std.proofs.lemmas.List.Folds.{list_all-append}
 use Rattle.elem_core.specs.declared.codes.TheConstants.{CODE_BITS}
 use Rattle.pool_text.specs.Rows.{Bytes, is_in_range}
@@ -43,15 +44,8 @@ present-rules-are P v = ap rules_of v
 pub history-fits : (P : Pool) → P.version ≡ PRESENT_VERSION → P.history ≤ MOST_HISTORY → HistoryFitsVersion P
 history-fits P v within = record { within = within; older = λ other. absurd (other v) }
 
-pub start-chain : (P : Pool) → P.version ≡ PRESENT_VERSION → P.bits ≤ CODE_BITS → P.history ≤ MOST_HISTORY → length P.roots ≡ 4 → list_all is_in_range P.rows ≡ true → IsValid P → IsChain P
-start-chain P v bits history roots range valid = record {
-  version = v;
-  bits = bits;
-  history = history;
-  roots = roots;
-  in_range = range;
-  passes = passed-open present_rules P (record { lead_back = valid.lead_back; lines = valid.lines; vectors = valid.vectors; tries = valid.tries; kinds = valid.kinds; fits = valid.fits });
-}
+pub start-chain : (P : Pool) → P.version ≡ PRESENT_VERSION → P.bits ≤ CODE_BITS → P.history ≤ MOST_HISTORY → length P.roots ≡ 4 → list_all is_in_range P.rows ≡ true → open_damage present_rules P ≡ None → IsChain P
+start-chain P v bits history roots range passes = record { version = v; bits = bits; history = history; roots = roots; in_range = range; passes = passes }
 
 -- ## Those after it
 
@@ -100,10 +94,12 @@ pub record IsMade (C P : Pool) : Type 0 where
   pub valid : IsValid P
   pub version : P.version ≡ PRESENT_VERSION
   pub bits : P.bits ≡ C.bits
+  pub history : P.history ≡ C.history
+  pub roots : length P.roots ≡ length C.roots
 
-of-chain : (C : Pool) → IsChain C → IsMade C (chain_pool C)
+pub of-chain : (C : Pool) → IsChain C → IsMade C (chain_pool C)
 unfolding pool
-of-chain C is = record { valid = chain-stands-valid C is; version = refl; bits = refl }
+of-chain C is = record { valid = chain-stands-valid C is; version = refl; bits = refl; history = refl; roots = length-map C.roots _ }
 
 pub chain-made : (C P : Pool) (roots : List ℕ) → IsChain C → roots ≡ C.roots → P ≡ pool (row_count C) (forms_in C) roots (settings_by C.bits C.history) → IsMade C P
 chain-made C P roots is same made =

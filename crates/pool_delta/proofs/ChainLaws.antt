@@ -63,7 +63,7 @@ pub passed-open : (rules : Rules) (P : Pool) → PassesOpen rules P → open_dam
 unfolding open_damage
 passed-open rules P v = rw (v.lead_back, v.lines, v.vectors, v.tries, v.kinds, v.fits) refl
 
-range-of : (P : Pool) → list_all is_in_range P.rows ≡ true → rows_in_range_by present_rules P ≡ true
+pub range-of : (P : Pool) → list_all is_in_range P.rows ≡ true → rows_in_range_by present_rules P ≡ true
 unfolding rows_in_range_by
 range-of P h = h
 

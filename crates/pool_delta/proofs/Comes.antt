@@ -22,9 +22,9 @@ use Rattle.pool_check.specs.Kinds.{are_roots, roots_are_of_kind, undo_is_within,
 use Rattle.pool_check.proofs.TestLemmas.{all-at, leads-down, roots-low}
 use Rattle.pool_check.proofs.PoolLaws.{canonical-at}
 use Rattle.pool_delta.proofs.DeltaStands.{both-true}
-use Rattle.pool_delta.proofs.VectorTests.{fill-same}
-use Rattle.pool_delta.proofs.TrieTests.{canonical-same}
-use Rattle.pool_delta.proofs.KindTests.{IsAt, roots-same, undo-same}
+use Rattle.pool_check.proofs.SameVectors.{fill-same}
+use Rattle.pool_check.proofs.SameTries.{canonical-same}
+use Rattle.pool_check.proofs.SameKinds.{IsAt, roots-same, undo-same}
 
 -- ## Lists
 

@@ -2,9 +2,6 @@ pub mod SameForm
 pub mod FreePlace
 pub mod Placed
 pub mod DeltaStands
-pub mod VectorTests
-pub mod TrieTests
-pub mod KindTests
 pub mod Comes
 pub mod ChainLaws
 pub mod PartsBack
