@@ -1,5 +1,5 @@
 -- How the lines of a buffer are edited below a state row with one owner.
-use Rattle.std.proofs.Common.{◌≡◌, ◌≢◌, ℕ, ◌+◌, ◌*◌, ◌<◌, ◌≤◌, List, [], ◌∷◌, ◌++◌, length, remove, Bool, true, false, cond, eqb, Option, Some, None, inl, inr, refl, sym, subst, ap, ◌∙◌, arith}
+use Rattle.std.proofs.Common.{◌≡◌, ◌↔◌, ◌≢◌, ℕ, ◌+◌, ◌*◌, ◌<◌, ◌≤◌, List, [], ◌∷◌, ◌++◌, length, remove, Bool, true, false, cond, eqb, Option, Some, None, inl, inr, refl, sym, subst, ap, ◌∙◌, arith}
 use Rattle.champ_trie.specs.declared.TheConstants.{ADD_NODES}
 use Rattle.std.specs.Prelude.{option_map, IsSomeAnd, slice_get, slice_index, slice_set}
 use Rattle.std.specs.List.{AllZip}
@@ -11,7 +11,7 @@ use Rattle.node_heap.specs.Links.{count, HasLink, Reaches, here, below}
 use Rattle.node_heap.specs.declared.row.Head.{Head}
 use Rattle.node_heap.specs.Forms.{Row, Kind, cell, node, form_of, head_of, links_of, is_node}
 use Rattle.node_heap.specs.Heap.{Heap, row_at, form_at, links_at, holds_at, owners_at, live_count, one_at, IsGraph}
-use Rattle.node_heap.specs.Calls.{Extends, Builds, KeepsHeld, KeepsOwners, Makes, MakesWhatCame, Releases, Trades}
+use Rattle.node_heap.specs.Calls.{Extends, Builds, KeepsHeld, KeepsOwners, KeepsToNeed, Makes, MakesWhatCame, Releases, Trades}
 use Rattle.node_heap.specs.InPlace.{child_at, other_at, OwnsDown, Changes, Writes, path_start, path_then}
 use Rattle.node_heap.specs.Owner.{by_hold, by_place, alone, relinked, with_root, links_beside, KeepsBeside, EditsBy}
 use Rattle.node_heap.proofs.AloneLemmas.{alone-same}
@@ -20,7 +20,7 @@ use Rattle.node_heap.proofs.BuildLemmas.{count-cons, count-one}
 use Rattle.node_heap.proofs.EditLaws.{KeepsHeld-own, paths-off, roots-off}
 use Rattle.node_heap.proofs.Edited.{Changes-path, Changes-follow, Trades-both}
 use Rattle.node_heap.proofs.OwnerLemmas.{EditsBy-hold, KeepsHeld-EditsBy, held-root}
-use Rattle.node_heap.proofs.Frames.{Balances-Releases, KeepsHeld-Releases, KeepsHeld-then}
+use Rattle.node_heap.proofs.Frames.{Balances-Releases, KeepsBelow-trans, KeepsHeld-Releases, KeepsHeld-then}
 use Rattle.node_heap.proofs.GraphLemmas.{IsGraph-acyclic}
 use Rattle.node_heap.proofs.Reach.{Reaches-trans}
 use Rattle.rrb_core.specs.Vector.{elements}
@@ -30,13 +30,14 @@ use Rattle.champ_trie.specs.Trie.{code_by}
 use Rattle.champ_kinds.proofs.ZipLemmas.{zip-length}
 use Rattle.edit_trie.specs.Path.{pair_rows, MakesCopies}
 use Rattle.shell_terms.specs.Edit.{Bytes}
-use Rattle.plain_space.specs.Workspace.{State}
+use Rattle.plain_space.specs.Workspace.{State, with_lines}
 use Rattle.plain_space.specs.Cost.{alike_buffers}
 use Rattle.elem_core.specs.declared.codes.TheConstants.{LEVELS}
 use Rattle.elem_core.specs.Codes.{text_code}
 use Rattle.state_rows.specs.InHeap.{IsTextIn, AreLinesIn, IsStateIn}
-use Rattle.state_rows.specs.InPlace.{CopiesOfPath, OwnsLines, lines_path}
+use Rattle.state_rows.specs.InPlace.{CopiesOfPath, OwnsLines, StaysBeside, lines_path}
 use Rattle.state_rows.proofs.Edited.{same-rows}
+use Rattle.state_rows.proofs.Room.{room-made, room-then}
 use Rattle.state_rows.proofs.Zips.{zip-at, zip-push, zip-set, zip-among}
 use Rattle.state_rows.proofs.Staying.{buffers-grown, names-grown, states-stay}
 
@@ -81,7 +82,7 @@ module _ {T : Type 0} where
       Reaches-trans (links_beside h (by_place p index)) first l x (sole-way h p index graph first l path up) (below l x x link (here x))
 
 -- a text stays where its cell does
-text-stays : (old new : Heap Bytes) {bits k : ℕ} {x : Bytes} → row_at new k ≡ row_at old k → IsTextIn old bits k x → IsTextIn new bits k x
+pub text-stays : (old new : Heap Bytes) {bits k : ℕ} {x : Bytes} → row_at new k ≡ row_at old k → IsTextIn old bits k x → IsTextIn new bits k x
 text-stays old new same is = record { row = ap (option_map form_of) same ∙ is.row; line = is.line }
 
 module _ {old new : Heap Bytes} {bits row pair v line : ℕ} {xs : List Bytes} {text : Bytes} (graph : IsGraph old) (down : OwnsDown old row pair) (held : 0 < holds_at old row) (kept : KeepsBesideAndElements (by_place pair 1) old new v)
@@ -125,9 +126,22 @@ some-text : {P : Bytes → Type 0} (o : Option Bytes) → IsSomeAnd o P → (x :
 some-text None is = absurd is
 some-text (Some x) is = (x, is)
 
+-- below a state row with one owner the pair of a buffer's name and its lines has one owner too, and so has each row on the way to it
+pub record OwnsBelow (old new : Heap Bytes) (bits row : ℕ) (s : State) (name : Bytes) (xs : List Bytes) (pair : ℕ) : Type 0 where
+  pub sole : owners_at new pair ≡ 1
+  pub two : 1 < length (links_at new pair)
+  pub down : OwnsDown new row pair
+  pub lines : AreLinesIn new bits (child_at new pair 1) xs
+  pub changes : Changes row old new [] [] 0 (ADD_NODES + alike_buffers bits s name)
+  pub makes : MakesWhatCame old new
+  pub spares : KeepsToNeed old new 0 0
+  pub copies : MakesCopies old new (lines_path old bits row name)
+  pub later : (next : Heap Bytes) (v : ℕ) (ys : List Bytes) (spent gained : List ℕ) (c n : ℕ) → Changes pair new next spent gained c n → count row spent < holds_at new row → KeepsBeside (by_place pair 1) v (λ _. 0) new next
+      → AreLinesIn next bits v ys → IsStateIn next bits row (with_lines s name ys)
+
 -- the state's row is made one's own, and then the way to the lines
 module _ (line : ℕ) {h0 h1 h2 : Heap Bytes} {bits state st : ℕ} {s : State} {name : Bytes} {xs : List Bytes} {pair : ℕ} (graph : IsGraph h0) (held : (k : ℕ) → count k (state ∷ line ∷ []) ≤ holds_at h0 k) (sole : owners_at h1 st ≡ 1)
-    (builds : Builds h0 h1 (state ∷ []) (st ∷ []) 0 1) (owns : OwnsLines h1 h2 bits st s name xs pair) where
+    (builds : Builds h0 h1 (state ∷ []) (st ∷ []) 0 1) (owns : OwnsBelow h1 h2 bits st s name xs pair) where
   own-held : 0 < holds_at h1 st
   own-held = held-root graph (state-first state line (held state)) sole builds
 
@@ -135,39 +149,32 @@ module _ (line : ℕ) {h0 h1 h2 : Heap Bytes} {bits state st : ℕ} {s : State} 
   mid-line : one_at st line < holds_at h1 line
   mid-line = omega (arith, builds.holds line, held line, count-one line state, count-one line st, count-cons line state (line ∷ []), count-cons line line [], test_same line line refl)
 
-  pub line-left : 1 ≤ holds_at h2 line
+  line-left : 1 ≤ holds_at h2 line
   line-left = omega (arith, owns.changes.trades.holds line, mid-line)
 
-  pub row-left : count st (line ∷ []) < holds_at h2 st
+  row-left : count st (line ∷ []) < holds_at h2 st
   row-left = omega (arith, owns.changes.trades.holds st, builds.holds st, held st, count-one st state, count-one st st, count-one st line, count-cons st state (line ∷ []), test_same st st refl)
 
-  pub row-held : 0 < holds_at h2 st
+  row-held : 0 < holds_at h2 st
   row-held = omega (arith, row-left)
 
-  -- the line is still a cell of this text
-  pub line-there : {text : Bytes} → IsTextIn h0 bits line text → IsTextIn h2 bits line text
-  line-there is =
-      let keeps = KeepsHeld-own st own-held sole owns.changes in
-      text-stays h1 h2 (keeps.kept line (omega (arith, mid-line, count-cons line st [])) line (here line)) (text-stays h0 h1 (builds.extends.kept line (graph.held line (omega (arith, held line, count-cons line state (line ∷ []), count-cons line line [], test_same line line refl))) line (here line)) is)
-
-  pub line-apart : {text : Bytes} → IsTextIn h0 bits line text → ¬ Reaches (links_at h2) line pair
-  line-apart is = cell-ends h2 line pair (line-there is).row owns.two
-
   -- what is changed at the pair then is an edit by the state's hold
-  pub edits-state : {h3 : Heap Bytes} {gained : List ℕ} {c n : ℕ} → Changes pair h2 h3 (line ∷ []) gained c n → EditsBy (by_hold state) h0 h3 st (line ∷ []) gained (0 + c) (1 + (ADD_NODES + alike_buffers bits s name + n))
+  edits-state : {h3 : Heap Bytes} {gained : List ℕ} {c n : ℕ} → Changes pair h2 h3 (line ∷ []) gained c n → EditsBy (by_hold state) h0 h3 st (line ∷ []) gained (0 + c) (1 + (ADD_NODES + alike_buffers bits s name + n))
   edits-state {h3} {gained} {c} {n} change =
       let all : Changes st h1 h3 (line ∷ []) gained (0 + c) (ADD_NODES + alike_buffers bits s name + n) = Changes-follow [] [] [] (line ∷ []) gained owns.changes (Changes-path owns.down change) in
       EditsBy-hold graph (state-first state line (held state)) sole builds all
 
-  -- and where a vector of lines was handed in beside the state, it stays, and doesn't reach the pair
-  pub lines-there : {ys : List Bytes} → AreLinesIn h0 bits line ys → AreLinesIn h2 bits line ys
-  lines-there {ys} is =
+  pub stays-beside : StaysBeside h0 h2 bits state st s name pair line
+  stays-beside =
       let live = graph.held line (omega (arith, held line, count-cons line state (line ∷ []), count-cons line line [], test_same line line refl)) in
       let keeps = KeepsHeld-own st own-held sole owns.changes in
-      (states-stay h1 h2 bits line (keeps.kept line (omega (arith, mid-line, count-cons line st [])))).lines ys ((states-stay h0 h1 bits line (builds.extends.kept line live)).lines ys is)
-
-  pub lines-apart : ¬ Reaches (links_at h2) line pair
-  lines-apart = paths-off h2 st pair line owns.down line-left (roots-off h2 st line row-held (owns.changes.paths.soles st (here st) sole) (omega (arith, owns.changes.trades.holds line, mid-line)))
+      record {
+        held = line-left;
+        row_held = row-left;
+        below = KeepsBelow-trans h0 h1 h2 line (builds.extends.kept line live) (keeps.kept line (omega (arith, mid-line, count-cons line st [])));
+        apart = paths-off h2 st pair line owns.down line-left (roots-off h2 st line row-held (owns.changes.paths.soles st (here st) sole) (omega (arith, owns.changes.trades.holds line, mid-line)));
+        edits = λ h3 gained c n change. edits-state change;
+      }
 
 -- as many lines as elements
 pub lines-many : {h : Heap Bytes} {bits l : ℕ} {xs : List Bytes} → AreLinesIn h bits l xs → length (elements h l) ≡ length xs
@@ -260,8 +267,25 @@ module _ {old mid : Heap Bytes} {state st : ℕ} (graph : IsGraph old) (same : s
       (λ i. pair_rows (slice_cmp nat_cmp) (λ k. forms k i) name (live i) LEVELS 0 (code_by text_code bits name) (first i))
 
   -- and what is made is just those of them that aren't alone
-  pub path-made : (bits : ℕ) (name : Bytes) (now new : Heap Bytes) → MakesWhatCame mid now → MakesCopies mid now (lines_path mid bits st name) → new.made ≡ now.made → CopiesOfPath old new (lines_path old bits state name)
-  path-made bits name now new came copies made =
+  path-made : (bits : ℕ) (name : Bytes) (now : Heap Bytes) → MakesWhatCame mid now → MakesCopies mid now (lines_path mid bits st name) → CopiesOfPath old now (lines_path old bits state name)
+  path-made bits name now came copies =
       let path = same-path bits name in
       let rows : alone mid (lines_path mid bits st name) ≡ alone old (lines_path old bits state name) = alone-same mid old (lines_path mid bits st name) same-owners ∙ ap (alone old) path in
-      omega (arith, came.live, came.made, copies, made, rows, ap length path, makes.made, none-copied, graph.few_made)
+      omega (arith, came.live, came.made, copies, rows, ap length path, makes.made, none-copied, graph.few_made)
+
+-- the state's row was made one's own, and the way from it to a buffer's lines
+pub owns-way : {old mid new : Heap Bytes} {bits state st pair : ℕ} {s : State} {name : Bytes} {xs : List Bytes} → IsGraph old → 0 < holds_at old state → ((st ≡ state) ↔ (owners_at old state ≡ 1)) → owners_at mid st ≡ 1 → Builds old mid (state ∷ []) (st ∷ []) 0 1 → Makes old mid 0 (other_at state st)
+    → ((k : ℕ) → owners_at mid k + one_at state k ≡ owners_at old k + (one_at st k + other_at state st * count k (links_at old state))) → OwnsBelow mid new bits st s name xs pair → OwnsLines old new bits state st s name xs pair
+owns-way {bits = bits} {name = name} graph held same sole builds makes owners owns = record {
+  sole = owns.sole;
+  two = owns.two;
+  down = owns.down;
+  lines = owns.lines;
+  trades = (EditsBy-hold graph held sole builds owns.changes).trades;
+  live = omega (arith, makes.live, owns.makes.live);
+  made = omega (arith, makes.made, makes.live, owns.makes.made, owns.makes.live);
+  spares = room-then (room-made makes) owns.spares;
+  copies = λ one. path-made graph (same.1 one) builds makes owners bits name _ owns.makes owns.copies;
+  besides = λ l holds. stays-beside l graph holds sole builds owns;
+  later = owns.later;
+}

@@ -44,9 +44,8 @@ use Rattle.state_rows.specs.InHeap.{AreLinesIn, IsStateIn}
 use Rattle.state_rows.proofs.Keys.{by_bytes, same-name}
 use Rattle.state_rows.proofs.Contents.{map-at, bindings-alike}
 use Rattle.state_rows.proofs.Staying.{states-stay}
-use Rattle.state_rows.specs.InPlace.{OwnsLines}
 use Rattle.state_rows.proofs.Placed.{state-placed}
-use Rattle.state_rows.proofs.LinesPlaced.{at-owner, same-test, other-test, sole-way}
+use Rattle.state_rows.proofs.LinesPlaced.{OwnsBelow, at-owner, same-test, other-test, sole-way}
 
 second-counts : (a b : ℕ) → 0 < count b (a ∷ b ∷ [])
 second-counts a b = omega (arith, count-cons b a (b ∷ []), count-cons b b [], test_same b b refl)
@@ -205,7 +204,7 @@ module _ (keep : EditsKeepValues by_bytes text_code) {h1 h2 : Heap Bytes} {bits 
       placed3 {ys} lines =
           state-placed is st (child_at h2 st 0) v name ys named (ap (option_map form_of) same3 ∙ form2) map3 lines (λ other unlike k at. KeepsBelow-trans h1 h2 h3 k (values1 other k at) (values2 other unlike k at)) (KeepsBelow-trans h1 h2 h3 is.stars stars1 stars2)
 
-    pub owns-lines : (sole : owners_at h2 p ≡ 1) (makes : MakesWhatCame h1 h2) (spares : KeepsToNeed h1 h2 0 0) (few : n ≡ ADD_NODES + alike_buffers bits s name) → OwnsLines h1 h2 bits st s name xs p
+    pub owns-lines : (sole : owners_at h2 p ≡ 1) (makes : MakesWhatCame h1 h2) (spares : KeepsToNeed h1 h2 0 0) (few : n ≡ ADD_NODES + alike_buffers bits s name) → OwnsBelow h1 h2 bits st s name xs p
     owns-lines sole makes spares few = record {
       sole = sole;
       two = omega (arith, ap length pair-links);

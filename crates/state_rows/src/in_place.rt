@@ -39,13 +39,11 @@ pub fn line_added(heap: &mut Heap<Text>, bits: u32, state: Link, name: Name<'_>,
     ensures state { (s : State) (xs : List Bytes) (text : Bytes) → IsStateIn heap.old bits state s → lines_of s (name_bytes name.entry) ≡ Some xs → IsTextIn heap.old bits line text →
         IsStateIn heap.new bits result (has_lines s (name_bytes name.entry) (xs ++ text ∷ [])) }
 {
-    heap.is_graph();
-    let state = heap.own(state);
-    let pair = own_lines(heap, bits, state, name);
+    let (row, pair) = own_lines(heap, bits, state, name);
     let Ok(()) = push_at(heap, pair, 1, line) else {
         unreachable!()
     };
-    state
+    row
 }
 
 /// The state with the line at the index of the buffer, which is there and reaches so far. It spends the holds of the state and
@@ -72,14 +70,12 @@ pub fn line_set(
     ensures state { (s : State) (xs : List Bytes) (text : Bytes) → IsStateIn heap.old bits state s → lines_of s (name_bytes name.entry) ≡ Some xs → IsTextIn heap.old bits line text →
         IsStateIn heap.new bits result (has_lines s (name_bytes name.entry) (slice_set xs index text)) }
 {
-    heap.is_graph();
-    let state = heap.own(state);
-    let pair = own_lines(heap, bits, state, name);
+    let (row, pair) = own_lines(heap, bits, state, name);
     let Ok(before) = set_at(heap, pair, 1, index, line) else {
         unreachable!()
     };
     heap.release(before);
-    state
+    row
 }
 
 /// The state with these lines in place of those of the buffer, which is there. It spends the holds of the state and of the new
@@ -100,12 +96,10 @@ pub fn lines_put(heap: &mut Heap<Text>, bits: u32, state: Link, name: Name<'_>, 
     ensures state { (s : State) (xs ys : List Bytes) → IsStateIn heap.old bits state s → lines_of s (name_bytes name.entry) ≡ Some xs → AreLinesIn heap.old bits lines ys →
         IsStateIn heap.new bits result (has_lines s (name_bytes name.entry) ys) }
 {
-    heap.is_graph();
-    let state = heap.own(state);
-    let pair = own_lines(heap, bits, state, name);
+    let (row, pair) = own_lines(heap, bits, state, name);
     let replaced = heap.replace(pair, 1, lines.into_root());
     heap.release(replaced);
-    state
+    row
 }
 
 /// The state with a buffer of these lines, of which there is none of the name yet. It spends the holds of the state and of
@@ -131,16 +125,18 @@ pub fn buffer_made(heap: &mut Heap<Text>, bits: u32, state: Link, key: Text, lin
     state
 }
 
-// The pair of the buffer's name and its lines, below a state row with one owner: a row with one owner too, as is each on the way to it.
-fn own_lines(heap: &mut Heap<Text>, bits: u32, state: Link, name: Name<'_>) -> Link
+// The row of the state, of which the hold is spent, and the pair of the buffer's name and its lines below it: rows with one owner, as is
+// each on the way from the one to the other.
+fn own_lines(heap: &mut Heap<Text>, bits: u32, state: Link, name: Name<'_>) -> (Link, Link)
     requires few { hold_count heap.old < quarter_holds }
     requires bits { bits ≤ CODE_BITS }
     requires held { 0 < holds_at heap.old state }
-    requires sole { owners_at heap.old state ≡ 1 }
     requires state { (s : State) × (xs : List Bytes) × IsStateIn heap.old bits state s × (lines_of s (name_bytes name) ≡ Some xs)
-        × HasSpares heap.old 0 (ADD_NODES + alike_buffers bits s (name_bytes name)) }
-    ensures { (s : State) (xs : List Bytes) → IsStateIn heap.old bits state s → lines_of s (name_bytes name.entry) ≡ Some xs → OwnsLines heap.old heap.new bits state s (name_bytes name.entry) xs result }
+        × HasSpares heap.old 0 (ADD_NODES + 1 + alike_buffers bits s (name_bytes name)) }
+    ensures { (s : State) (xs : List Bytes) → IsStateIn heap.old bits state s → lines_of s (name_bytes name.entry) ≡ Some xs → OwnsLines heap.old heap.new bits state result.0 s (name_bytes name.entry) xs result.1 }
 {
     heap.is_graph();
-    own_value_there(heap, state, 0, bits, &name)
+    let row = heap.own(state);
+    let pair = own_value_there(heap, row, 0, bits, &name);
+    (row, pair)
 }

@@ -1,5 +1,5 @@
 //! Merges of two states: the stars of both, of one, or of what they share, or the buffers of both.
-ghost use Rattle.std.specs.Prelude.{◌≡◌, ℕ, ◌+◌, ◌*◌, ◌^◌, ◌<◌, ◌≤◌, List, [], length, IfOk, IsOk, OnOk};
+ghost use Rattle.std.specs.Prelude.{◌≡◌, ℕ, ◌+◌, ◌*◌, ◌^◌, ◌<◌, ◌≤◌, List, [], length};
 ghost use Rattle.std.specs.Ordering.{nat_cmp};
 ghost use Rattle.std.specs.Cmp.Lexicographic.{slice_cmp};
 ghost use Rattle.elem_core.specs.declared.codes.TheConstants.{CODE_BITS};
@@ -19,11 +19,11 @@ ghost use Rattle.state_rows.specs.Merging.{plain_kind, star_kind, entries_merged
 use crate::look_up::{buffers_of, stars_of};
 use crate::row::{over_buffers, over_stars};
 use champ_kinds::{Set, SetRef};
-use elem_core::{NoMemory, Text};
+use elem_core::Text;
 use node_heap::{Heap, Link};
 use set_merge::{
-    map_union, map_union_need, set_both, set_both_need, set_less, set_less_need, set_union,
-    set_union_need,
+    map_union_need, map_union_there, set_both_need, set_both_there, set_less_need, set_less_there,
+    set_union_need, set_union_there,
 };
 
 /// Which stars a merge leaves.
@@ -104,9 +104,7 @@ fn stars_merged(heap: &mut Heap<Text>, bits: u32, kind: Stars, state: Link, othe
     let buffers = buffers_of(heap, bits, state).root();
     let first = stars_of(heap, bits, state);
     let second = stars_of(heap, bits, other);
-    let Ok(stars) = set_merged(heap, kind, first, second) else {
-        unreachable!()
-    };
+    let stars = set_merged(heap, kind, first, second);
     over_buffers(heap, buffers, stars.into_root())
 }
 
@@ -125,32 +123,28 @@ fn buffers_joined(heap: &mut Heap<Text>, bits: u32, state: Link, other: Link) ->
     let stars = stars_of(heap, bits, state).root();
     let first = buffers_of(heap, bits, state);
     let second = buffers_of(heap, bits, other);
-    let Ok(buffers) = map_union(heap, first, second) else {
-        unreachable!()
-    };
+    let buffers = map_union_there(heap, first, second);
     over_stars(heap, buffers.into_root(), stars)
 }
 
-// The merge of two sets that leaves these.
-fn set_merged(heap: &mut Heap<Text>, kind: Stars, a: SetRef, b: SetRef) -> Result<Set, NoMemory>
+// The merge of two sets that leaves these, made of spares.
+fn set_merged(heap: &mut Heap<Text>, kind: Stars, a: SetRef, b: SetRef) -> Set
     requires few { hold_count heap.old < half_holds }
     requires bits { a.bits ≡ b.bits }
     requires first { (E : List (Entry Bytes)) × IsSetOf (slice_cmp nat_cmp) text_code heap.old a E }
     requires second { (D : List (Entry Bytes)) × IsSetOf (slice_cmp nat_cmp) text_code heap.old b D }
+    requires ample { HasSpares heap.old 0 (stars_need kind (form_at heap.old) a.bits a.root b.root) }
     ensures contents { (E D : List (Entry Bytes)) → IsSetOf (slice_cmp nat_cmp) text_code heap.old a E → IsSetOf (slice_cmp nat_cmp) text_code heap.old b D →
-        IfOk result (λ made. IsSetOf (slice_cmp nat_cmp) text_code heap.new made (entries_merged kind E D)) }
-    ensures bits { IfOk result (λ made. made.bits ≡ a.bits) }
-    ensures answered { IfOk result (λ made. Answered heap.old heap.new [] made.root 0
-        (stars_need kind (form_at heap.old) a.bits a.root b.root)) }
-    ensures made { OnOk result (MakesJust heap.old heap.new) }
-    ensures spares { OnOk result (KeepsToNeed heap.old heap.new 0
-        (stars_need kind (form_at heap.old) a.bits a.root b.root)) }
-    ensures ample { HasSpares heap.old 0 (stars_need kind (form_at heap.old) a.bits a.root b.root) → IsOk result }
+        IsSetOf (slice_cmp nat_cmp) text_code heap.new result (entries_merged kind E D) }
+    ensures bits { result.bits ≡ a.bits }
+    ensures answered { Answered heap.old heap.new [] result.root 0 (stars_need kind (form_at heap.old) a.bits a.root b.root) }
+    ensures made { MakesJust heap.old heap.new }
+    ensures spares { KeepsToNeed heap.old heap.new 0 0 }
 {
     match kind {
-        Stars::Joined => set_union(heap, a, b),
-        Stars::Common => set_both(heap, a, b),
-        Stars::Other => set_less(heap, a, b),
+        Stars::Joined => set_union_there(heap, a, b),
+        Stars::Common => set_both_there(heap, a, b),
+        Stars::Other => set_less_there(heap, a, b),
     }
 }
 
