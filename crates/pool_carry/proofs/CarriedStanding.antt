@@ -1,7 +1,6 @@
 -- A carried pool stands for the workspace of the pool that it was carried from, and is valid.
-use Rattle.std.proofs.Common.{List, map, refl, sym, subst, ◌∙◌}
+use Rattle.std.proofs.Common.{map, refl, sym, subst, ◌∙◌}
 use Rattle.rrb_core.specs.Seq.{IsWellShaped}
-use Rattle.pool_text.specs.Rules.{Rules}
 use Rattle.pool_text.specs.Pool.{forms_in}
 use Rattle.pool_text.specs.declared.pool.Pool.{Pool}
 use Rattle.pool_text.specs.declared.rules.TheConstants.{MOST_HISTORY}

@@ -6,7 +6,7 @@ use Rattle.std.proofs.lemmas.List.{map-append, nil_from_length}
 use Rattle.std.proofs.lemmas.List.Elements.{All-nil, All-push, All-pop, All-append, All-take, All-weaker}
 use Rattle.std.proofs.lemmas.List.Sorted.{All-permutation, IsPermutation-reverse}
 use Rattle.node_heap.specs.Links.{LeadsDown}
-use Rattle.node_heap.specs.Forms.{Form, Forms, cell, node, leaf, inner, trie, chain, pair, state, links_of, links_in}
+use Rattle.node_heap.specs.Forms.{Form, Forms, links_of, links_in}
 use Rattle.rrb_core.proofs.LinkCounts.{all-counted}
 use Rattle.champ_chain.specs.Entry.{Entry, key_at}
 use Rattle.champ_trie.specs.Trie.{code_by}
@@ -18,12 +18,11 @@ use Rattle.pool_text.specs.declared.pool.Pool.{Pool}
 use Rattle.pool_text.specs.declared.row.Row.{Row}
 use Rattle.pool_check.specs.Tries.{entry_at, entries_below}
 use Rattle.pool_check.specs.Keeping.{forms_at}
-use Rattle.pool_check.specs.Kinds.{is_trie_root}
 use Rattle.pool_check.specs.Readings.{moved}
 use Rattle.pool_check.specs.Damages.{IsValidBy}
 use Rattle.pool_check.proofs.EntriesBelow.{own, rows-low, entries-is}
 use Rattle.pool_check.proofs.PoolLaws.{canonical-at}
-use Rattle.pool_check.proofs.TestLemmas.{leads-down, not-both}
+use Rattle.pool_check.proofs.TestLemmas.{leads-down}
 use Rattle.pool_carry.specs.Carried.{is_of_trie}
 use Rattle.pool_carry.specs.Making.{seen, AreCoded}
 use Rattle.pool_carry.specs.declared.entries.Entry.{Entry as CodedEntry}
@@ -38,22 +37,11 @@ pub record IsWalk (n : ℕ) (F : Forms Bytes) (f : ℕ → ℕ) (code : Bytes �
   pub of_trie : All (λ k. is_of_trie (F k) ≡ true) ws
   pub low : All (λ k. k ≤ root) ws
 
--- the root is a row of a trie
-root-of-trie : (r : Option (Form Bytes)) → is_trie_root r ≡ true → is_of_trie r ≡ true
-root-of-trie None is = absurd (not-both is)
-root-of-trie (Some (cell x)) is = absurd (not-both is)
-root-of-trie (Some (node leaf links)) is = absurd (not-both is)
-root-of-trie (Some (node (inner height) links)) is = absurd (not-both is)
-root-of-trie (Some (node (trie depth e d) links)) is = refl
-root-of-trie (Some (node chain links)) is = absurd (not-both is)
-root-of-trie (Some (node pair links)) is = absurd (not-both is)
-root-of-trie (Some (node state links)) is = absurd (not-both is)
-
 all-turned : (P : ℕ → Type 0) (ks : List ℕ) → All P ks → All P (reverse ks)
 all-turned P ks all = All-permutation P ks (reverse ks) (IsPermutation-reverse ks) all
 
 -- an entry for each link that names one, in two ways
-own-same : (F : Forms Bytes) (ks : List ℕ) → flat_map (own F) ks ≡ filter_map (entry_at F) ks
+pub own-same : (F : Forms Bytes) (ks : List ℕ) → flat_map (own F) ks ≡ filter_map (entry_at F) ks
 own-same F [] = refl
 own-same F (k ∷ ks) = by_entry (entry_at F k) (own-same F ks)
   where
@@ -63,14 +51,14 @@ own-same F (k ∷ ks) = by_entry (entry_at F k) (own-same F ks)
 
 module _ (n : ℕ) (F : Forms Bytes) (f : ℕ → ℕ) (code : Bytes → ℕ) (root : ℕ) where
   -- at first the root waits
-  pub walk-begun : is_trie_root (F root) ≡ true → (es : List CodedEntry) (ws : List ℕ) → es ≡ [] → ws ≡ root ∷ [] → IsWalk n F f code root es ws
+  pub walk-begun : is_of_trie (F root) ≡ true → (es : List CodedEntry) (ws : List ℕ) → es ≡ [] → ws ≡ root ∷ [] → IsWalk n F f code root es ws
   walk-begun is es ws none one =
       subst (λ xs. IsWalk n F f code root xs ws) (sym none)
       (subst (λ ks. IsWalk n F f code root [] ks) (sym one)
       record {
         whole = ap (map (moved f)) (append-nil (entries_below n F root));
         codes = All-nil (λ (e : CodedEntry). e.code ≡ code e.key.now);
-        of_trie = All-push (λ k. is_of_trie (F k) ≡ true) [] root (All-nil (λ k. is_of_trie (F k) ≡ true)) (root-of-trie (F root) is);
+        of_trie = All-push (λ k. is_of_trie (F k) ≡ true) [] root (All-nil (λ k. is_of_trie (F k) ≡ true)) is;
         low = All-push (λ k. k ≤ root) [] root (All-nil (λ k. k ≤ root)) (omega arith);
       })
 

@@ -4,7 +4,7 @@ use Rattle.std.specs.Prelude.{slice_index}
 use Rattle.std.specs.Ordering.{nat_cmp}
 use Rattle.std.specs.Cmp.Lexicographic.{slice_cmp}
 use Rattle.node_heap.specs.Links.{count, here}
-use Rattle.node_heap.specs.Forms.{Form, Forms, cell, node, links_of, links_in}
+use Rattle.node_heap.specs.Forms.{Form, Forms, cell, links_of, links_in}
 use Rattle.champ_chain.specs.Entry.{Entry, SameSet}
 use Rattle.champ_chain.proofs.SetLemmas.{Among}
 use Rattle.champ_trie.specs.Trie.{IsCanonTo, code_by}

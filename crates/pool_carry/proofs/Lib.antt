@@ -42,3 +42,6 @@ pub mod Goes
 pub mod Followed
 mod Identities
 mod Kept
+mod Once
+mod RowsOver
+mod Joined

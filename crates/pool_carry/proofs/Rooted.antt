@@ -16,7 +16,7 @@ use Rattle.pool_text.specs.declared.rules.TheConstants.{MOST_HISTORY, PRESENT_VE
 use Rattle.pool_text.proofs.Renamed.{map-found}
 use Rattle.pool_carry.specs.Carried.{IsCarried}
 use Rattle.pool_carry.specs.Making.{AreKept, AreImagesOfFirst, AreCarriedRows}
-use Rattle.pool_carry.specs.declared.made.TrieRow.{TrieRow}
+use Rattle.pool_carry.specs.declared.made.MadeRow.{MadeRow}
 
 some-within : {X : Type 0} (xs : List X) (i : ℕ) → i < length xs → IsSome (slice_get xs i)
 some-within [] i low = absurd (omega (arith, low))
@@ -78,9 +78,9 @@ carried-as rules today bits P old Q rows roots names are same_rules same_pool sa
     (subst (λ O. IsCarried rules bits O Q) same_pool (carried-is rules bits P Q rows roots are (made ∙ ap (λ rs. pool (length rows) (slice_get rows) rs (settings_by bits MOST_HISTORY)) same_roots)))
 
 -- once each of the pool's rows has its image, the rows are carried
-pub rows-carried : (rules : Rules) (bits : ℕ) (P : Pool) (rows : List (Form Bytes)) (named_in : TrieRow → Option ℕ) (images roots : List ℕ) → AreKept rows named_in → AreImagesOfFirst rules bits P rows images → length images ≡ row_count P
+pub rows-carried : (rules : Rules) (bits : ℕ) (P : Pool) (rows : List (Form Bytes)) (table : MadeRow → Option ℕ) (images roots : List ℕ) → AreKept rows table → AreImagesOfFirst rules bits P rows images → length images ≡ row_count P
     → ((r : ℕ) → 0 < count r P.roots → r < row_count P) → roots ≡ map (slice_index images) P.roots → AreCarriedRows rules bits P rows roots
-rows-carried rules bits P rows named_in images roots kept are long inside same = record {
+rows-carried rules bits P rows table images roots kept are long inside same = record {
   image = slice_index images;
   images = record {
     own = λ l low own. are.own l (omega (arith, low, long)) own;

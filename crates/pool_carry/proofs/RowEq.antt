@@ -6,9 +6,9 @@ use Rattle.std.proofs.lemmas.Bool.{eqb-true, eq-eqb}
 use lib.Pointwise.{pointwise}
 use Rattle.pool_check.proofs.TestLemmas.{and-first, and-second, not-both}
 use Rattle.pool_carry.specs.Making.{trie_row_form}
-use Rattle.pool_carry.specs.declared.made.TrieRow.{TrieRow}
-use Rattle.pool_carry.specs.declared.made.TrieRow.TheVariants.{Trie, Chain}
-use Rattle.pool_carry.specs.contracts.made.TrieRowPartialEq.TheImpl as same
+use Rattle.pool_carry.specs.declared.made.MadeRow.{MadeRow}
+use Rattle.pool_carry.specs.declared.made.MadeRow.TheVariants.{Trie, Chain}
+use Rattle.pool_carry.specs.contracts.made.MadeRowPartialEq.TheImpl as same
 use Rattle.pool_carry.proofs.FirstRows.{same-numbers, numbers-same}
 
 both-true : (a b : Bool) → a ≡ true → b ≡ true → (a && b) ≡ true
@@ -26,7 +26,7 @@ same-option None (Some y) is = absurd cc
 same-option (Some x) None is = absurd cc
 same-option (Some x) (Some y) is = eq-eqb x y cc
 
-pub eq-is : (r s : TrieRow) → (same.ghosts).eq r s ≡ true → trie_row_form r ≡ trie_row_form s
+pub eq-is : (r s : MadeRow) → (same.ghosts).eq r s ≡ true → trie_row_form r ≡ trie_row_form s
 eq-is (Trie d e m ls) (Trie d' e' m' ls') is =
     let links = pointwise nat_eq ls.items ls'.items in
     let rest = and-second (nat_eq d d') (nat_eq e e' && (nat_eq m m' && links)) is in
@@ -43,7 +43,7 @@ eq-is (Chain k o) (Chain l p) is =
     let o-is : o ≡ p = option-same o p (and-second (nat_eq k l) (option_eq nat_eq o p) is) in
     cc
 
-pub is-eq : (r s : TrieRow) → trie_row_form r ≡ trie_row_form s → (same.ghosts).eq r s ≡ true
+pub is-eq : (r s : MadeRow) → trie_row_form r ≡ trie_row_form s → (same.ghosts).eq r s ≡ true
 is-eq (Trie d e m ls) (Trie d' e' m' ls') is =
     let d-is : d ≡ d' = cc in
     let e-is : e ≡ e' = cc in

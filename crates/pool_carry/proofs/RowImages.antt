@@ -29,7 +29,7 @@ use Rattle.pool_check.specs.Damages.{IsValidBy}
 use Rattle.pool_check.proofs.TestLemmas.{and-second, not-both, leads-down}
 use Rattle.pool_check.proofs.PoolLaws.{canonical-at, trie-roots-canonical}
 use Rattle.pool_carry.specs.Carried.{is_of_trie}
-use Rattle.pool_carry.specs.Making.{seen, AreCoded, AreNamed, ImageIsMade, AreImagesOfFirst}
+use Rattle.pool_carry.specs.Making.{seen, AreCoded, AreCodedEntries, ImageIsMade, AreImagesOfFirst, image_entries}
 use Rattle.pool_carry.specs.declared.entries.Entry.{Entry as CodedEntry}
 use Rattle.pool_carry.proofs.Rows.{get-end}
 use Rattle.pool_carry.proofs.Moved.{IsLowEntry, entries-low, key-moved}
@@ -128,53 +128,53 @@ distinct-moved f E distinct = record { once = λ key. omega (arith, distinct.onc
         counted (has_key (slice_cmp nat_cmp) key) (moved f e) (map (moved f) es) ∙ ap (λ n. cond (has_key (slice_cmp nat_cmp) key e) 1 0 + n) (same-count key es)
         ∙ sym (counted (has_key (slice_cmp nat_cmp) key) e es)
 
-all-back : {X Y : Type 0} (P : Y → Type 0) (f : X → Y) (xs : List X) → All P (map f xs) → All (λ x. P (f x)) xs
+pub all-back : {X Y : Type 0} (P : Y → Type 0) (f : X → Y) (xs : List X) → All P (map f xs) → All (λ x. P (f x)) xs
 all-back P f [] all = All-nil (λ x. P (f x))
 all-back P f (x ∷ xs) all = All-cons (λ y. P (f y)) x xs (All-head P (f x) (map f xs) all) (all-back P f xs (All-tail P (f x) (map f xs) all))
 
 -- ## The image of one row more
 
-module _ (rules : Rules) (bits : ℕ) (P : Pool) (from : Rules) (valid : IsValidBy from P) (old : List (Form Bytes)) (images : List ℕ) (are : AreImagesOfFirst rules bits P old images) (more : length images < row_count P) where
+module _ (rules : Rules) (bits : ℕ) (P : Pool) (from : Rules) (valid : IsValidBy from P) (old : List (Form Bytes)) (images : List ℕ) (are : AreImagesOfFirst rules bits P old images) where
   falls : LeadsDown (λ l. l) (links_in (forms_in P))
   falls = leads-down P valid.lead_back
 
-  abbrev own_entries : List (Entry Bytes)
-  own_entries = entries_below (row_count P) (forms_in P) (length images)
+  module _ (l : ℕ) (low : l ≤ length images) (there : l < row_count P) where
+    -- the entries of the row, under the names of their images, name rows with their keys
+    pub named-entries : All (λ e. IsEntry (slice_get old) e) (image_entries P images l)
+    named-entries =
+        All-map (λ e. IsEntry (slice_get old) e) (moved (slice_index images)) (entries_below (row_count P) (forms_in P) l)
+        (All-weaker (IsLowEntry (forms_in P) falls l) (λ e. IsEntry (slice_get old) (moved (slice_index images) e))
+        (λ e is. key-moved (forms_in P) falls (slice_get old) (slice_index images) (length images) are.own e.link e.key (omega (arith, is.low, low)) is.key) (entries_below (row_count P) (forms_in P) l)
+        (entries-low (forms_in P) falls (row_count P) l there))
 
-  -- the entries of the row, under the names of their images, name rows with their keys
-  named-entries : All (λ e. IsEntry (slice_get old) e) (map (moved (slice_index images)) own_entries)
-  named-entries =
-      All-map (λ e. IsEntry (slice_get old) e) (moved (slice_index images)) own_entries
-      (All-weaker (IsLowEntry (forms_in P) falls (length images)) (λ e. IsEntry (slice_get old) (moved (slice_index images) e))
-      (λ e is. key-moved (forms_in P) falls (slice_get old) (slice_index images) (length images) are.own e.link e.key is.low is.key) own_entries (entries-low (forms_in P) falls (row_count P) (length images) more))
+    module _ (es : List CodedEntry) (same : map seen es ≡ image_entries P images l) where
+      pub coded-named : (code : Bytes → ℕ) → AreCoded code es → AreCodedEntries code old es
+      coded-named code coded = record {
+        codes = coded;
+        named = all-back (λ e. IsEntry (slice_get old) e) seen es (All-same (λ e. IsEntry (slice_get old) e) (map seen es) (image_entries P images l) same named-entries);
+      }
 
-  module _ (es : List CodedEntry) (same : map seen es ≡ map (moved (slice_index images)) own_entries) where
-    pub coded-named : (code : Bytes → ℕ) → AreCoded code es → AreNamed code old es
-    coded-named code coded = record {
-      codes = coded;
-      named = all-back (λ e. IsEntry (slice_get old) e) seen es (All-same (λ e. IsEntry (slice_get old) e) (map seen es) (map (moved (slice_index images)) own_entries) same named-entries);
-    }
+      pub coded-distinct : AreDistinct (slice_cmp nat_cmp) (entries_below (row_count P) (forms_in P) l) → AreDistinct (slice_cmp nat_cmp) (map seen es)
+      coded-distinct distinct = subst (AreDistinct (slice_cmp nat_cmp)) (sym same) (distinct-moved (slice_index images) (entries_below (row_count P) (forms_in P) l) distinct)
 
-    pub coded-distinct : is_trie_root (forms_in P (length images)) ≡ true → AreDistinct (slice_cmp nat_cmp) (map seen es)
-    coded-distinct root = subst (AreDistinct (slice_cmp nat_cmp)) (sym same) (distinct-moved (slice_index images) own_entries (trie-roots-canonical P valid (length images) root).distinct)
+  -- a trie's image is the canonical trie of its entries' images
+  pub image-of-trie : is_trie_root (forms_in P (length images)) ≡ true → (new : List (Form Bytes)) (image : ℕ) → image < length new
+      → IsTrie (slice_cmp nat_cmp) (code_by rules.code_of bits) (slice_get new) (rules.deepest + 1) 0 image (image_entries P images (length images)) → ImageIsMade rules bits P old new images image
+  image-of-trie root new image low is_trie = record {
+    low = low;
+    own = λ own. absurd (not-both (sym own ∙ root-of-trie (forms_in P (length images)) root));
+    trie = λ _. record {
+      trie = is_trie;
+      distinct = distinct-moved (slice_index images) (entries_below (row_count P) (forms_in P) (length images)) (trie-roots-canonical P valid (length images) root).distinct;
+    };
+  }
 
-    -- a trie's image is the canonical trie of its entries' images
-    pub image-of-trie : is_trie_root (forms_in P (length images)) ≡ true → (new : List (Form Bytes)) (image : ℕ) → image < length new → IsTrie (slice_cmp nat_cmp) (code_by rules.code_of bits) (slice_get new) (rules.deepest + 1) 0 image (map seen es)
-        → ImageIsMade rules bits P old new images image
-    image-of-trie root new image low is_trie = record {
-      low = low;
-      own = λ own. absurd (not-both (sym own ∙ root-of-trie (forms_in P (length images)) root));
-      trie = λ _. record {
-        trie = subst (λ E. IsTrie (slice_cmp nat_cmp) (code_by rules.code_of bits) (slice_get new) (rules.deepest + 1) 0 image E) same is_trie;
-        distinct = subst (AreDistinct (slice_cmp nat_cmp)) same (coded-distinct root);
-      };
-    }
-
+module _ (rules : Rules) (bits : ℕ) (P : Pool) (from : Rules) (valid : IsValidBy from P) (old : List (Form Bytes)) (images : List ℕ) (are : AreImagesOfFirst rules bits P old images) (more : length images < row_count P) where
   -- a row inside a trie has none
   pub image-of-none : is_of_trie (forms_in P (length images)) ≡ true → is_trie_root (forms_in P (length images)) ≡ false → ImageIsMade rules bits P old old images 0
   image-of-none of_trie no_root = record {
     low = elim (cases_eq (length images) 0) as (λ _. 0 < length old) [
-      | inl first ↦ absurd (inside-later (forms_in P) falls (row_count P) (code_by from.code_of P.bits) from.deepest (length images) more of_trie no_root (canonical-at from P valid.tries (length images)) first)
+      | inl first ↦ absurd (inside-later (forms_in P) (leads-down P valid.lead_back) (row_count P) (code_by from.code_of P.bits) from.deepest (length images) more of_trie no_root (canonical-at from P valid.tries (length images)) first)
       | inr later ↦ omega (arith, are.low 0 (omega (arith, later)))
     ];
     own = λ own. absurd (not-both (sym own ∙ of_trie));
@@ -184,7 +184,7 @@ module _ (rules : Rules) (bits : ℕ) (P : Pool) (from : Rules) (valid : IsValid
   module _ (form : Form Bytes) (is : forms_in P (length images) ≡ Some form) where
     -- the links of the row have images
     pub links-passed : (k : ℕ) → 0 < count k (links_of (Some form)) → k < length images
-    links-passed k there = falls (length images) k (let has : 0 < count k (links_of (forms_in P (length images))) = subst (λ r. 0 < count k (links_of r)) (sym is) there in has)
+    links-passed k there = (leads-down P valid.lead_back) (length images) k (let has : 0 < count k (links_of (forms_in P (length images))) = subst (λ r. 0 < count k (links_of r)) (sym is) there in has)
 
     pub links-named : (k : ℕ) → 0 < count k (links_of (Some (relink (slice_index images) form))) → k < length old
     links-named k there =

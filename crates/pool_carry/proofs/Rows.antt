@@ -9,8 +9,8 @@ use Rattle.pool_text.specs.Rows.{Bytes}
 use Rattle.pool_text.specs.Pool.{links_from}
 use Rattle.pool_carry.specs.Carried.{is_of_trie}
 use Rattle.pool_carry.specs.Making.{trie_row_form, AreKept, IsBegun}
-use Rattle.pool_carry.specs.declared.made.TrieRow.{TrieRow}
-use Rattle.pool_carry.specs.declared.made.TrieRow.TheVariants.{Trie, Chain}
+use Rattle.pool_carry.specs.declared.made.MadeRow.{MadeRow}
+use Rattle.pool_carry.specs.declared.made.MadeRow.TheVariants.{Trie, Chain}
 
 module _ {X : Type 0} where
   pub get-front : (xs ys : List X) (i : ℕ) → i < length xs → slice_get (xs ++ ys) i ≡ slice_get xs i
@@ -47,7 +47,7 @@ pub begun-keeps : (xs ys : List (Form Bytes)) → IsBegun xs ys → KeepsForms (
 begun-keeps xs ys begun = record { kept = λ l f is. ap (λ zs. slice_get zs l) begun.whole ∙ get-front xs begun.more l (slice_get_within xs l f is) ∙ is }
 
 -- a row of a trie is one
-pub trie-row-of-trie : (row : TrieRow) → is_of_trie (Some (trie_row_form row)) ≡ true
+pub trie-row-of-trie : (row : MadeRow) → is_of_trie (Some (trie_row_form row)) ≡ true
 trie-row-of-trie (Trie depth entries nodes links) = refl
 trie-row-of-trie (Chain first rest) = refl
 
@@ -85,48 +85,48 @@ module _ (xs : List (Form Bytes)) (x : Form Bytes) where
       ]
 
 -- no rows, and an empty table
-pub kept-none : (rows : List (Form Bytes)) (named_in : TrieRow → Option ℕ) → rows ≡ [] → ((row : TrieRow) → named_in row ≡ None) → AreKept rows named_in
-kept-none rows named_in empty none = subst (λ xs. AreKept xs named_in) (sym empty) (record {
+pub kept-none : (rows : List (Form Bytes)) (table : MadeRow → Option ℕ) → rows ≡ [] → ((row : MadeRow) → table row ≡ None) → AreKept rows table
+kept-none rows table empty none = subst (λ xs. AreKept xs table) (sym empty) (record {
   linked = λ l k has. absurd (omega (arith, has));
   once = λ k l of_trie same. absurd (true-not-false (sym of_trie));
   named = λ l row is. absurd (let no : None ≡ Some l = sym (none row) ∙ is in cc);
   kept = λ l row is. absurd cc;
 })
 
-module _ (xs : List (Form Bytes)) (named_in : TrieRow → Option ℕ) (are : AreKept xs named_in) where
+module _ (xs : List (Form Bytes)) (table : MadeRow → Option ℕ) (are : AreKept xs table) where
   -- one row more that is none of a trie
-  pub kept-own : (x : Form Bytes) → is_of_trie (Some x) ≡ false → ((k : ℕ) → 0 < count k (links_of (Some x)) → k < length xs) → AreKept (xs ++ x ∷ []) named_in
+  pub kept-own : (x : Form Bytes) → is_of_trie (Some x) ≡ false → ((k : ℕ) → 0 < count k (links_of (Some x)) → k < length xs) → AreKept (xs ++ x ∷ []) table
   kept-own x own links = record {
     linked = linked-more xs x are.linked links;
     once = once-more xs x are.once (λ of_trie k there. true-not-false (sym of_trie ∙ own));
     named = λ l row is. (begun-keeps xs (xs ++ x ∷ []) (begun-end xs x)).kept l (trie_row_form row) (are.named l row is);
-    kept = λ l row is. elim (get-more xs x (trie_row_form row) l is) as (λ _. named_in row ≡ Some l) [
+    kept = λ l row is. elim (get-more xs x (trie_row_form row) l is) as (λ _. table row ≡ Some l) [
       | inl there ↦ are.kept l row there.1
       | inr last ↦ absurd (true-not-false (sym (trie-row-of-trie row) ∙ ap (λ z. is_of_trie (Some z)) (sym last.1) ∙ own))
     ];
   }
 
   -- one row of a trie more, of which the table knows nothing yet
-  module _ (same : TrieRow → TrieRow → Bool) (same-is : (r s : TrieRow) → same r s ≡ true → trie_row_form r ≡ trie_row_form s) (is-same : (r s : TrieRow) → trie_row_form r ≡ trie_row_form s → same r s ≡ true) where
-    pub kept-trie : (row : TrieRow) (next : TrieRow → Option ℕ) → ((k : ℕ) → 0 < count k (links_of (Some (trie_row_form row))) → k < length xs) → named_in row ≡ None
-        → ((q : TrieRow) → next q ≡ cond (same row q) (Some (length xs)) (named_in q)) → AreKept (xs ++ trie_row_form row ∷ []) next
+  module _ (same : MadeRow → MadeRow → Bool) (same-is : (r s : MadeRow) → same r s ≡ true → trie_row_form r ≡ trie_row_form s) (is-same : (r s : MadeRow) → trie_row_form r ≡ trie_row_form s → same r s ≡ true) where
+    pub kept-trie : (row : MadeRow) (next : MadeRow → Option ℕ) → ((k : ℕ) → 0 < count k (links_of (Some (trie_row_form row))) → k < length xs) → table row ≡ None
+        → ((q : MadeRow) → next q ≡ cond (same row q) (Some (length xs)) (table q)) → AreKept (xs ++ trie_row_form row ∷ []) next
     kept-trie row next links absent updates = record {
       linked = linked-more xs (trie_row_form row) are.linked links;
       once = once-more xs (trie_row_form row) are.once (λ of_trie k there. not-there k row there);
       named = λ l q is. named-by l q (same row q) refl (sym (updates q) ∙ is);
       kept = λ l q is. elim (get-more xs (trie_row_form row) (trie_row_form q) l is) as (λ _. next q ≡ Some l) [
         | inl there ↦ updates q ∙ kept-by l q there.1 (same row q) refl
-        | inr last ↦ updates q ∙ ap (λ b. cond b (Some (length xs)) (named_in q)) (is-same row q last.1) ∙ ap Some (sym last.0)
+        | inr last ↦ updates q ∙ ap (λ b. cond b (Some (length xs)) (table q)) (is-same row q last.1) ∙ ap Some (sym last.0)
       ];
     }
       where
-        not-there : (k : ℕ) (q : TrieRow) → slice_get xs k ≡ Some (trie_row_form row) → ⊥
+        not-there : (k : ℕ) (q : MadeRow) → slice_get xs k ≡ Some (trie_row_form row) → ⊥
         not-there k q there = absurd (let no : None ≡ Some k = sym absent ∙ are.kept k row there in cc)
 
-        named-by : (l : ℕ) (q : TrieRow) (b : Bool) → same row q ≡ b → cond b (Some (length xs)) (named_in q) ≡ Some l → slice_get (xs ++ trie_row_form row ∷ []) l ≡ Some (trie_row_form q)
+        named-by : (l : ℕ) (q : MadeRow) (b : Bool) → same row q ≡ b → cond b (Some (length xs)) (table q) ≡ Some l → slice_get (xs ++ trie_row_form row ∷ []) l ≡ Some (trie_row_form q)
         named-by l q true is at = (let last : length xs ≡ l = cc in ap (λ i. slice_get (xs ++ trie_row_form row ∷ []) i) (sym last) ∙ get-end xs (trie_row_form row) ∙ ap Some (same-is row q is))
         named-by l q false is at = (begun-keeps xs (xs ++ trie_row_form row ∷ []) (begun-end xs (trie_row_form row))).kept l (trie_row_form q) (are.named l q at)
 
-        kept-by : (l : ℕ) (q : TrieRow) → slice_get xs l ≡ Some (trie_row_form q) → (b : Bool) → same row q ≡ b → cond b (Some (length xs)) (named_in q) ≡ Some l
+        kept-by : (l : ℕ) (q : MadeRow) → slice_get xs l ≡ Some (trie_row_form q) → (b : Bool) → same row q ≡ b → cond b (Some (length xs)) (table q) ≡ Some l
         kept-by l q there true is = absurd (not-there l q (there ∙ ap Some (sym (same-is row q is))))
         kept-by l q there false is = are.kept l q there

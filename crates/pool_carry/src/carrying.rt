@@ -1,14 +1,16 @@
 //! A pool, carried over.
-ghost use Rattle.std.specs.Prelude.{◌≡◌, ◌<◌, ◌≤◌, length, IfOk, OnOk};
+ghost use Rattle.std.specs.Prelude.{◌≡◌, ◌<◌, ◌≤◌, true, length, IfOk, OnOk};
 ghost use Rattle.pool_text.specs.Rules.{Rules as VersionRules, present_rules, rules_named};
-ghost use Rattle.pool_text.specs.Pool.{row_count};
+ghost use Rattle.pool_text.specs.Pool.{forms_in, row_count};
 ghost use Rattle.pool_text.specs.declared.rules.TheConstants.{MOST_HISTORY, PRESENT_VERSION};
+ghost use Rattle.pool_check.specs.Kinds.{is_trie_root};
 ghost use Rattle.pool_check.specs.Damages.{IsValidBy};
 ghost use Rattle.pool_carry.specs.Carried.{IsCarried};
-ghost use Rattle.pool_carry.specs.Making.{forms_made, AreMade, IsBegun, AreImagesOfFirst, ImageIsMade, AreCarriedRows};
+ghost use Rattle.pool_carry.specs.Making.{forms_made, AreMade, IsBegun, AreImagesOfFirst, ArePartsOfFirst, ImageIsMade, AreCarriedRows};
 
 use crate::entries::entries_below;
-use crate::made::MadeRows;
+use crate::made::{MadeRow, MadeRows};
+use crate::shared_parts::{Part, joined, part_of};
 use crate::tries::trie_of;
 use elem_core::{CODE_BITS, NoMemory};
 use pool_check::Old;
@@ -16,8 +18,9 @@ use pool_text::{MOST_HISTORY, Places, Pool, Row, Rows, Rules, at_places, pool_of
 use std::alloc::Global;
 
 /// The pool of an older document, carried over to today's rules by so many code bits; its undo may keep 4,294,967,295 states. It walks
-/// each trie once for each of its roots, and takes time and memory for the entries that it meets, and for the other rows, their links
-/// and their texts.
+/// what stands below each trie row of depth 1 once, and takes time and memory for the entries that it meets, and for the other rows,
+/// their links and their texts. Where such a row's entries have no digit at depth 0 by the new codes for themselves, it walks the
+/// tries above it whole, each once.
 pub fn carry(alloc: Global, old: Old, bits: u32) -> Result<Pool, NoMemory>
     requires bits { bits ≤ CODE_BITS }
     ensures carried { IfOk result (λ P. IsCarried present_rules bits old P) }
@@ -46,8 +49,20 @@ fn carried_rows(
     let rows = pool.rows.as_slice();
     let mut made = MadeRows::with_capacity(alloc, rows.len())?;
     let mut images = Vec::with_capacity(alloc, rows.len())?;
+    let mut parts = Vec::with_capacity(alloc, rows.len())?;
     for place in 0..rows.len() {
         let image = image_of(
+            alloc,
+            pool,
+            images.as_slice(),
+            parts.as_slice(),
+            place,
+            rules,
+            bits,
+            &mut made,
+        )?;
+        images.push(image)?;
+        let part = part_of(
             alloc,
             pool,
             images.as_slice(),
@@ -56,10 +71,52 @@ fn carried_rows(
             bits,
             &mut made,
         )?;
-        images.push(image)?;
+        parts.push(part)?;
     }
     let roots = at_places(alloc, images.as_slice(), pool.roots.as_slice())?;
     Ok((made.into_rows(), roots))
+}
+
+// The image of the root of a trie at the place after those whose images these are: what its entries and the parts below it join
+// to, and where these don't, a trie of all its entries.
+fn root_of(
+    alloc: Global,
+    pool: &Pool,
+    images: &[u64],
+    parts: &[Option<Part>],
+    root: usize,
+    rules: Rules,
+    bits: u32,
+    made: &mut MadeRows,
+) -> Result<u64, NoMemory>
+    requires valid { (from : VersionRules) × IsValidBy from pool.now }
+    requires bits { bits ≤ CODE_BITS }
+    requires more { root < row_count pool.now }
+    requires root { is_trie_root (forms_in pool.now root) ≡ true }
+    requires place { length images.now ≡ root }
+    requires made { AreMade made.old }
+    requires images { AreImagesOfFirst (rules_named rules) bits pool.now (forms_made made.old) images.now }
+    requires parts { ArePartsOfFirst (rules_named rules) bits pool.now (forms_made made.old) images.now parts.now }
+    requires same { length parts.now ≡ root }
+    ensures made { OnOk result (AreMade made.new) }
+    ensures more { OnOk result (IsBegun (forms_made made.old) (forms_made made.new)) }
+    ensures image { IfOk result (λ image. ImageIsMade (rules_named rules) bits pool.now (forms_made made.old) (forms_made made.new) images.now image) }
+{
+    match joined(alloc, pool, images, parts, root, rules, bits)? {
+        Some(row) => made.add_trie_row(
+            alloc,
+            MadeRow::Trie {
+                depth: 0,
+                entries: row.entries,
+                nodes: row.nodes,
+                links: row.links,
+            },
+        ),
+        None => {
+            let entries = entries_below(alloc, pool, images, root, rules, bits)?;
+            trie_of(alloc, made, rules.deepest(), 0, entries.as_slice())
+        }
+    }
 }
 
 // The image of the row at the place after those whose images these are. A row inside a trie has none of its own, and no row
@@ -68,6 +125,7 @@ fn image_of(
     alloc: Global,
     pool: &Pool,
     images: &[u64],
+    parts: &[Option<Part>],
     place: usize,
     rules: Rules,
     bits: u32,
@@ -79,6 +137,8 @@ fn image_of(
     requires place { length images.now ≡ place }
     requires made { AreMade made.old }
     requires images { AreImagesOfFirst (rules_named rules) bits pool.now (forms_made made.old) images.now }
+    requires parts { ArePartsOfFirst (rules_named rules) bits pool.now (forms_made made.old) images.now parts.now }
+    requires same { length parts.now ≡ place }
     ensures made { OnOk result (AreMade made.new) }
     ensures more { OnOk result (IsBegun (forms_made made.old) (forms_made made.new)) }
     ensures image { IfOk result (λ image. ImageIsMade (rules_named rules) bits pool.now (forms_made made.old) (forms_made made.new) images.now image) }
@@ -89,8 +149,7 @@ fn image_of(
             if *depth > 0 {
                 return Ok(0);
             }
-            let entries = entries_below(alloc, pool, images, place, rules, bits)?;
-            trie_of(alloc, made, rules.deepest(), 0, entries.as_slice())
+            root_of(alloc, pool, images, parts, place, rules, bits, made)
         }
         Row::Chain(_) => Ok(0),
         row => {

@@ -10,7 +10,6 @@ ghost use Rattle.pool_text.specs.Rules.{Rules as VersionRules, rules_named};
 ghost use Rattle.pool_text.specs.Pool.{forms_in, row_count};
 ghost use Rattle.pool_check.specs.Tries.{entry_at as entry_in, entries_below as all_below};
 ghost use Rattle.pool_check.specs.Keeping.{forms_at};
-ghost use Rattle.pool_check.specs.Kinds.{is_trie_root};
 ghost use Rattle.pool_check.specs.Readings.{moved};
 ghost use Rattle.pool_check.specs.Damages.{IsValidBy};
 ghost use Rattle.pool_carry.specs.Carried.{is_of_trie};
@@ -29,7 +28,7 @@ pub(crate) struct Entry<'a> {
     pub(crate) code: Code,
 }
 
-// The entries of the trie with this root in the order of the walk, with their images for places, and with codes by these rules.
+// The entries in and below a row of a trie in the order of the walk, with their images for places, and with codes by these rules.
 pub(crate) fn entries_below<'a>(
     alloc: Global,
     pool: &'a Pool,
@@ -41,7 +40,7 @@ pub(crate) fn entries_below<'a>(
     requires valid { (from : VersionRules) × IsValidBy from pool.now }
     requires bits { bits ≤ CODE_BITS }
     requires there { root < row_count pool.now }
-    requires root { is_trie_root (forms_in pool.now root) ≡ true }
+    requires root { is_of_trie (forms_in pool.now root) ≡ true }
     requires images { root ≤ length images.now }
     ensures entries { IfOk result (λ es. map seen es.items ≡ map (moved (slice_index images.now)) (all_below (row_count pool.now) (forms_in pool.now) root)) }
     ensures codes { IfOk result (λ es. AreCoded (code_by (rules_named rules).code_of bits) es.items) }
@@ -59,7 +58,7 @@ pub(crate) fn entries_below<'a>(
 }
 
 // Adds the entries at these places.
-fn add_entries<'a>(
+pub(crate) fn add_entries<'a>(
     rows: &'a [Row],
     images: &[u64],
     places: &[u64],
@@ -90,7 +89,7 @@ fn add_reversed(places: &[u64], waiting: &mut Vec<u64>) -> Result<(), NoMemory>
 }
 
 // The links of a row of a trie: its entries, and the rows below it.
-fn split_links(row: &Row) -> (&[u64], &[u64])
+pub(crate) fn split_links(row: &Row) -> (&[u64], &[u64])
     requires trie { is_of_trie (Some (row_form row.now)) ≡ true }
     requires count { entry_count (Some (row_form row.now)) ≤ length (links_of (Some (row_form row.now))) }
     ensures own { result.0.now ≡ own_entries (Some (row_form row.now)) }

@@ -9,7 +9,8 @@ mod carrying;
 mod entries;
 mod laws;
 mod made;
-mod trie_row;
+mod sets_and_links;
+mod shared_parts;
 mod tries;
 
 pub use carrying::carry;

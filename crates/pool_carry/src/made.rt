@@ -13,7 +13,7 @@ use std::alloc::Global;
 
 // A row of a trie that is made.
 #[derive(PartialEq, Eq, Hash, Drop)]
-pub(crate) enum TrieRow {
+pub(crate) enum MadeRow {
     // Its two sets of positions, and its links: the entries, and then the rows below.
     Trie {
         depth: u8,
@@ -30,7 +30,7 @@ pub(crate) enum TrieRow {
 #[derive(Drop)]
 pub(crate) struct MadeRows {
     rows: Vec<Row>,
-    places: IndexMap<TrieRow, u64>,
+    places: IndexMap<MadeRow, u64>,
 }
 
 impl MadeRows {
@@ -60,7 +60,7 @@ impl MadeRows {
     }
 
     // The place of a row of a trie, which is made where it isn't there yet.
-    pub(crate) fn add_trie_row(&mut self, alloc: Global, row: TrieRow) -> Result<u64, NoMemory>
+    pub(crate) fn add_trie_row(&mut self, alloc: Global, row: MadeRow) -> Result<u64, NoMemory>
         requires linked { (k : ℕ) → 0 < count k (links_of (Some (trie_row_form row))) → k < length (forms_made self.old) }
         requires made { AreMade self.old }
         ensures made { OnOk result (AreMade self.new) }
@@ -85,11 +85,11 @@ impl MadeRows {
 }
 
 // The row of a trie as a pool's row.
-fn row_of(alloc: Global, row: &TrieRow) -> Result<Row, NoMemory>
+fn row_of(alloc: Global, row: &MadeRow) -> Result<Row, NoMemory>
     ensures { IfOk result (λ r. row_form r ≡ trie_row_form row.now) }
 {
     Ok(match row {
-        TrieRow::Trie {
+        MadeRow::Trie {
             depth,
             entries,
             nodes,
@@ -100,7 +100,7 @@ fn row_of(alloc: Global, row: &TrieRow) -> Result<Row, NoMemory>
             nodes: *nodes,
             links: Places::from_vec(Vec::from_slice(alloc, links.as_slice())?),
         },
-        TrieRow::Chain(entry, rest) => Row::Chain(chain_links(alloc, *entry, *rest)?),
+        MadeRow::Chain(entry, rest) => Row::Chain(chain_links(alloc, *entry, *rest)?),
     })
 }
 

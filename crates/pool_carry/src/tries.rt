@@ -7,11 +7,11 @@ ghost use Rattle.champ_chain.specs.Entry.{AreDistinct, SameSet};
 ghost use Rattle.champ_chain.specs.Chain.{IsChain, IsRising};
 ghost use Rattle.champ_trie.specs.Trie.{IsTrie};
 ghost use Rattle.pool_text.specs.Rows.{Bytes};
-ghost use Rattle.pool_carry.specs.Making.{seen, forms_made, AreMade, IsBegun, AreNamed, with_digit};
+ghost use Rattle.pool_carry.specs.Making.{seen, forms_made, AreMade, IsBegun, AreCodedEntries, with_digit};
 
 use crate::entries::Entry;
-use crate::made::{MadeRows, TrieRow};
-use crate::trie_row::Positions;
+use crate::made::{MadeRow, MadeRows};
+use crate::sets_and_links::SetsAndLinks;
 use elem_core::{DEEPEST, NoMemory, digit};
 use std::alloc::Global;
 
@@ -28,19 +28,19 @@ pub(crate) fn trie_of(
     requires depth { depth ≤ deepest + 1 }
     requires two { deepest < depth → 2 ≤ length entries.now }
     requires distinct { AreDistinct (slice_cmp nat_cmp) (map seen entries.now) }
-    requires named { (code : Bytes → ℕ) × AreNamed code (forms_made made.old) entries.now }
+    requires named { (code : Bytes → ℕ) × AreCodedEntries code (forms_made made.old) entries.now }
     requires made { AreMade made.old }
     ensures made { OnOk result (AreMade made.new) }
     ensures more { OnOk result (IsBegun (forms_made made.old) (forms_made made.new)) }
     ensures low { IfOk result (λ place. place < length (forms_made made.new)) }
-    ensures trie { (code : Bytes → ℕ) (left : ℕ) → AreNamed code (forms_made made.old) entries.now → depth + left ≡ deepest + 1
+    ensures trie { (code : Bytes → ℕ) (left : ℕ) → AreCodedEntries code (forms_made made.old) entries.now → depth + left ≡ deepest + 1
         → IfOk result (λ place. IsTrie (slice_cmp nat_cmp) code (slice_get (forms_made made.new)) left depth place (map seen entries.now)) }
 {
     if depth > deepest {
         return chain_of(alloc, made, entries);
     }
     let parts = parts_of(alloc, depth, entries)?;
-    let mut row = Positions::empty(alloc);
+    let mut row = SetsAndLinks::empty(alloc);
     for position in 0..32u32 {
         match parts[position as usize].as_slice() {
             [] => {}
@@ -53,7 +53,7 @@ pub(crate) fn trie_of(
     }
     made.add_trie_row(
         alloc,
-        TrieRow::Trie {
+        MadeRow::Trie {
             depth,
             entries: row.entries,
             nodes: row.nodes,
@@ -96,7 +96,7 @@ fn empty_parts<'a>(alloc: Global) -> Result<Vec<Vec<Entry<'a>>>, NoMemory>
 fn chain_of(alloc: Global, made: &mut MadeRows, entries: &[Entry<'_>]) -> Result<u64, NoMemory>
     requires two { 2 ≤ length entries.now }
     requires distinct { AreDistinct (slice_cmp nat_cmp) (map seen entries.now) }
-    requires named { (code : Bytes → ℕ) × AreNamed code (forms_made made.old) entries.now }
+    requires named { (code : Bytes → ℕ) × AreCodedEntries code (forms_made made.old) entries.now }
     requires made { AreMade made.old }
     ensures made { OnOk result (AreMade made.new) }
     ensures more { OnOk result (IsBegun (forms_made made.old) (forms_made made.new)) }
@@ -106,7 +106,7 @@ fn chain_of(alloc: Global, made: &mut MadeRows, entries: &[Entry<'_>]) -> Result
     let mut left = rising(alloc, entries)?;
     let mut rest = None;
     while let Some(entry) = left.pop() {
-        rest = Some(made.add_trie_row(alloc, TrieRow::Chain(entry.place, rest))?);
+        rest = Some(made.add_trie_row(alloc, MadeRow::Chain(entry.place, rest))?);
     }
     match rest {
         Some(place) => Ok(place),

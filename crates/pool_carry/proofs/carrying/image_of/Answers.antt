@@ -1,28 +1,18 @@
-use Rattle.std.proofs.Common.{◌≡◌, ◌<◌, ◌+◌, true, Some, List, [], ◌∷◌, ◌++◌, map, length, ap, sym, subst, ◌∙◌, arith, rules, Result, Ok, Err}
-use Rattle.std.specs.Prelude.{slice_index, IfOk}
-use Rattle.elem_core.specs.declared.NoMemory.{NoMemory}
+use Rattle.std.proofs.Common.{◌≡◌, ◌<◌, Some, List, [], ◌∷◌, ◌++◌, length, ap, sym, subst, ◌∙◌, arith, rules}
+use Rattle.std.specs.Prelude.{slice_index}
 use Rattle.node_heap.specs.Links.{count}
 use Rattle.node_heap.specs.Forms.{Form, links_of}
-use Rattle.champ_trie.specs.Trie.{code_by}
 use Rattle.pool_text.specs.Rows.{Bytes, row_form}
 use Rattle.pool_text.specs.Rules.{rules_named}
-use Rattle.pool_text.specs.Pool.{forms_in, row_count}
 use Rattle.pool_text.specs.declared.row.Row.{Row}
 use Rattle.pool_text.proofs.FormRows.{count-same, form-read}
-use Rattle.pool_check.specs.Tries.{entries_below}
 use Rattle.pool_check.specs.Kinds.{is_trie_root}
-use Rattle.pool_check.specs.Readings.{moved}
 use Rattle.pool_carry.specs.Carried.{is_of_trie}
-use Rattle.pool_carry.specs.Making.{seen, forms_made, IsBegun, AreCoded}
+use Rattle.pool_carry.specs.Making.{forms_made, IsBegun}
 use Rattle.pool_carry.proofs.Rows.{begun-same, begun-end}
 use Rattle.pool_carry.proofs.Standing.{ok-both, ok-then}
-use Rattle.pool_carry.proofs.RowImages.{own-row, trie-row, top-row, lower-row, relink-own, row-here, coded-named, coded-distinct, image-of-trie, image-of-none, links-passed, links-named, image-of-own}
+use Rattle.pool_carry.proofs.RowImages.{own-row, trie-row, top-row, lower-row, relink-own, row-here, image-of-none, links-passed, links-named, image-of-own}
 use Rattle.pool_carry.proofs.carrying.image_of.Goals as goal
-
--- what follows from two clauses about one result's value
-if-both : {X : Type 0} {P Q R : X → Type 0} → (r : Result X NoMemory) → IfOk r P → IfOk r Q → ((x : X) → P x → Q x → R x) → IfOk r R
-if-both (Ok x) p q both = both x p q
-if-both (Err e) p q both = tt
 
 pub bounds-rows-place : goal.bounds-rows-place
 bounds-rows-place c = omega (arith, c.requires.more, count-same c.args.pool.now.rows c.as_slice-rows.result.now c.as_slice-rows.ensures)
@@ -54,41 +44,10 @@ returns-in-Chain-clause-image c =
     (ap is_trie_root here ∙ ap (λ (row : Row). is_trie_root (Some (row_form row))) c.in-Chain.is)
 
 -- a trie
-pub entries_below-requires-clause-root : goal.entries_below-requires-clause-root
-entries_below-requires-clause-root c =
+pub root_of-requires-clause-root : goal.root_of-requires-clause-root
+root_of-requires-clause-root c =
     ap is_trie_root (form-read c.args.pool.now.rows c.as_slice-rows.result.now c.as_slice-rows.ensures c.args.place c.index-rows-place.result c.requires.more c.index-rows-place.is)
     ∙ top-row c.index-rows-place.result c.in-Trie.depth c.in-Trie.entries c.in-Trie.nodes c.in-Trie.links c.in-Trie.is (omega arith)
-
-pub trie_of-requires-clause-distinct : goal.trie_of-requires-clause-distinct
-trie_of-requires-clause-distinct c =
-    let root : is_trie_root (forms_in c.args.pool.now (length c.args.images.now)) ≡ true =
-    ap is_trie_root (row-here c.args.pool.now c.as_slice-rows.result.now c.as_slice-rows.ensures c.args.images.now c.args.place c.index-rows-place.result c.requires.place c.requires.more c.index-rows-place.is)
-    ∙ top-row c.index-rows-place.result c.in-Trie.depth c.in-Trie.entries c.in-Trie.nodes c.in-Trie.links c.in-Trie.is (omega arith) in
-    let same : map seen c.as_slice.result.now ≡ map (moved (slice_index c.args.images.now)) (entries_below (row_count c.args.pool.now) (forms_in c.args.pool.now) (length c.args.images.now)) =
-    ap (map seen) c.as_slice.ensures.value ∙ c.in_ok-entries-in-Trie.ensures.entries
-    ∙ ap (λ l. map (moved (slice_index c.args.images.now)) (entries_below (row_count c.args.pool.now) (forms_in c.args.pool.now) l)) (sym c.requires.place) in
-    coded-distinct (rules_named c.args.rules) c.args.bits c.args.pool.now c.requires.valid.0 c.requires.valid.1 (forms_made c.args.made.now) c.args.images.now c.requires.images (omega (arith, c.requires.place, c.requires.more)) c.as_slice.result.now same root
-
-pub trie_of-requires-clause-named : goal.trie_of-requires-clause-named
-trie_of-requires-clause-named c =
-    let code = code_by (rules_named c.args.rules).code_of c.args.bits in
-    let same : map seen c.as_slice.result.now ≡ map (moved (slice_index c.args.images.now)) (entries_below (row_count c.args.pool.now) (forms_in c.args.pool.now) (length c.args.images.now)) =
-    ap (map seen) c.as_slice.ensures.value ∙ c.in_ok-entries-in-Trie.ensures.entries
-    ∙ ap (λ l. map (moved (slice_index c.args.images.now)) (entries_below (row_count c.args.pool.now) (forms_in c.args.pool.now) l)) (sym c.requires.place) in
-    (code, coded-named (rules_named c.args.rules) c.args.bits c.args.pool.now c.requires.valid.0 c.requires.valid.1 (forms_made c.args.made.now) c.args.images.now c.requires.images (omega (arith, c.requires.place, c.requires.more)) c.as_slice.result.now same code (subst (AreCoded code) (sym c.as_slice.ensures.value) c.in_ok-entries-in-Trie.ensures.codes))
-
-pub returns-in_ok-entries-in-Trie-clause-image : goal.returns-in_ok-entries-in-Trie-clause-image
-returns-in_ok-entries-in-Trie-clause-image c =
-    let code = code_by (rules_named c.args.rules).code_of c.args.bits in
-    let root : is_trie_root (forms_in c.args.pool.now (length c.args.images.now)) ≡ true =
-    ap is_trie_root (row-here c.args.pool.now c.as_slice-rows.result.now c.as_slice-rows.ensures c.args.images.now c.args.place c.index-rows-place.result c.requires.place c.requires.more c.index-rows-place.is)
-    ∙ top-row c.index-rows-place.result c.in-Trie.depth c.in-Trie.entries c.in-Trie.nodes c.in-Trie.links c.in-Trie.is (omega arith) in
-    let same : map seen c.as_slice.result.now ≡ map (moved (slice_index c.args.images.now)) (entries_below (row_count c.args.pool.now) (forms_in c.args.pool.now) (length c.args.images.now)) =
-    ap (map seen) c.as_slice.ensures.value ∙ c.in_ok-entries-in-Trie.ensures.entries
-    ∙ ap (λ l. map (moved (slice_index c.args.images.now)) (entries_below (row_count c.args.pool.now) (forms_in c.args.pool.now) l)) (sym c.requires.place) in
-    let named = coded-named (rules_named c.args.rules) c.args.bits c.args.pool.now c.requires.valid.0 c.requires.valid.1 (forms_made c.args.made.now) c.args.images.now c.requires.images (omega (arith, c.requires.place, c.requires.more)) c.as_slice.result.now same code (subst (AreCoded code) (sym c.as_slice.ensures.value) c.in_ok-entries-in-Trie.ensures.codes) in
-    if-both c.trie_of.result c.trie_of.ensures.low (c.trie_of.ensures.trie code ((rules_named c.args.rules).deepest + 1) named (omega (arith, c.deepest.ensures.value)))
-    (λ place low is_trie. image-of-trie (rules_named c.args.rules) c.args.bits c.args.pool.now c.requires.valid.0 c.requires.valid.1 (forms_made c.args.made.now) c.args.images.now c.requires.images (omega (arith, c.requires.place, c.requires.more)) c.as_slice.result.now same root (forms_made c.trie_of.new.made) place low is_trie)
 
 -- a row of its own
 pub relinked-requires : goal.relinked-requires

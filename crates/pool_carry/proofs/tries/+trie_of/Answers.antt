@@ -6,7 +6,7 @@ use Rattle.std.proofs.lemmas.Option.{slice_get_within}
 use Rattle.champ_chain.specs.Entry.{IsEntry}
 use Rattle.champ_trie.specs.Trie.{IsTrie}
 use Rattle.champ_trie.proofs.WithLemmas.{chain-trie}
-use Rattle.pool_carry.specs.Making.{seen, forms_made, AreNamed}
+use Rattle.pool_carry.specs.Making.{seen, forms_made, AreCodedEntries}
 use Rattle.pool_carry.proofs.Rows.{begun-same, begun-trans, begun-keeps}
 use Rattle.pool_carry.proofs.Filled.{filled-none, filled-later, filled-skip, filled-more, filled-trie}
 use Rattle.pool_carry.proofs.Standing.{ok-both, ok-then, if-then, begun-longer, slice-part, named-over, place-within, node-within, first-of, slice-named, slice-coded, slice-distinct, none-left, one-stands, more-stand}
@@ -108,7 +108,7 @@ loop-position-preserved t c =
             filled = λ code left named levels.
                 let put = w.in_ok-put_node-in_default.ensures in
                 let place = w.in_ok-node-in_default.node in
-                let these : AreNamed code rows slice = record {
+                let these : AreCodedEntries code rows slice = record {
                   codes = slice-coded c.args.depth p es slice is code named.codes;
                   named = slice-named c.args.depth p es slice is rows (named-over old rows es inv.more named.named);
                 } in

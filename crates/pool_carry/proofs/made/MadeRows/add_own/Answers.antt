@@ -3,7 +3,7 @@ use Rattle.std.specs.HashMap.{get}
 use Rattle.std.proofs.lemmas.List.{map-append}
 use Rattle.pool_text.specs.Rows.{row_form}
 use Rattle.pool_carry.specs.Making.{forms_made, AreKept}
-use Rattle.pool_carry.specs.contracts.made.TrieRowPartialEq.TheImpl as same
+use Rattle.pool_carry.specs.contracts.made.MadeRowPartialEq.TheImpl as same
 use Rattle.pool_carry.proofs.Rows.{kept-own}
 use Rattle.pool_carry.proofs.made.MadeRows.add_own.Goals as goal
 

@@ -7,8 +7,8 @@ use Rattle.pool_text.specs.Rows.{Bytes, row_form}
 use Rattle.pool_text.specs.declared.row.Row.{Row}
 use Rattle.pool_carry.specs.Making.{forms_made, trie_row_form, AreKept}
 use Rattle.pool_carry.specs.declared.made.MadeRows.{MadeRows}
-use Rattle.pool_carry.specs.declared.made.TrieRow.{TrieRow}
-use Rattle.pool_carry.specs.contracts.made.TrieRowPartialEq.TheImpl as same
+use Rattle.pool_carry.specs.declared.made.MadeRow.{MadeRow}
+use Rattle.pool_carry.specs.contracts.made.MadeRowPartialEq.TheImpl as same
 use Rattle.pool_carry.proofs.Rows.{kept-trie, get-end}
 use Rattle.pool_carry.proofs.RowEq.{eq-is, is-eq}
 use Rattle.pool_carry.proofs.made.MadeRows.add_trie_row.Goals as goal
@@ -17,7 +17,7 @@ pub returns-in-Some-clause-row : goal.returns-in-Some-clause-row
 returns-in-Some-clause-row c = c.requires.made.named c.in-Some.place.now c.args.row (sym c.in-Some.ensures.value)
 
 -- the rows once one more is made
-rows-made : (old : MadeRows) (rows : List Row) (made : Row) (row : TrieRow) → rows ≡ old.rows.items ++ made ∷ [] → row_form made ≡ trie_row_form row → map row_form rows ≡ forms_made old ++ trie_row_form row ∷ []
+rows-made : (old : MadeRows) (rows : List Row) (made : Row) (row : MadeRow) → rows ≡ old.rows.items ++ made ∷ [] → row_form made ≡ trie_row_form row → map row_form rows ≡ forms_made old ++ trie_row_form row ∷ []
 rows-made old rows made row items same = ap (map row_form) items ∙ map-append row_form old.rows.items (made ∷ []) ∙ ap (λ (r : Form Bytes). forms_made old ++ r ∷ []) same
 
 pub returns-clause-made : goal.returns-clause-made

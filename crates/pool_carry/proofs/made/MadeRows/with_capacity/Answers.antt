@@ -1,7 +1,7 @@
 use Rattle.std.proofs.Common.{ap, map}
 use Rattle.std.specs.Map.{lookup}
 use Rattle.pool_text.specs.Rows.{row_form}
-use Rattle.pool_carry.specs.contracts.made.TrieRowPartialEq.TheImpl as same
+use Rattle.pool_carry.specs.contracts.made.MadeRowPartialEq.TheImpl as same
 use Rattle.pool_carry.proofs.Rows.{kept-none}
 use Rattle.pool_carry.proofs.made.MadeRows.with_capacity.Goals as goal
 

@@ -1,33 +1,42 @@
 //! The sets and links of a trie row, apart from its pool.
-ghost use Rattle.std.specs.Prelude.{◌≡◌, ◌≢◌, ℕ, ◌+◌, ◌<◌, OnOk};
+ghost use Rattle.std.specs.Prelude.{◌≡◌, ◌≢◌, ℕ, ◌+◌, ◌<◌, not, ◌&&◌, OnOk};
 ghost use Rattle.node_heap.specs.Links.{count};
+ghost use Rattle.champ_trie.specs.Bits.{has};
 ghost use Rattle.champ_trie.specs.Trie.{AreSets, place_of, links_at_place};
 ghost use Rattle.champ_trie.specs.declared.place.Place.TheVariants.{Empty, Entry as At, Node};
 
-use champ_trie::{rank_of, with_position};
+use champ_trie::{contains, rank_of, with_position};
 use elem_core::NoMemory;
 use std::alloc::Global;
 
 // The sets and links of a trie row, whose positions are filled one by one.
 #[derive(Drop)]
-pub(crate) struct Positions {
+pub(crate) struct SetsAndLinks {
     pub(crate) entries: u32,
     pub(crate) nodes: u32,
     pub(crate) links: Vec<u64>,
 }
 
-impl Positions {
+impl SetsAndLinks {
     // Nothing at any position.
-    pub(crate) fn empty(alloc: Global) -> Positions
+    pub(crate) fn empty(alloc: Global) -> SetsAndLinks
         ensures sets { AreSets result.entries result.nodes result.links.items }
         ensures none { (k : ℕ) → count k result.links.items ≡ 0 }
         ensures places { (p : ℕ) → place_of result.entries result.nodes result.links.items p ≡ Empty }
     {
-        Positions {
+        SetsAndLinks {
             entries: 0,
             nodes: 0,
             links: Vec::new(alloc),
         }
+    }
+
+    // Whether nothing stands at a position.
+    pub(crate) fn is_free(&self, position: u32) -> bool
+        requires { position < 32 }
+        ensures { result ≡ not (has self.now.entries position) && not (has self.now.nodes position) }
+    {
+        !contains(self.entries, position) && !contains(self.nodes, position)
     }
 
     // Puts an entry at a position where nothing stands.

@@ -1,6 +1,6 @@
 use Rattle.std.proofs.Common.{arith, ap, length}
 use Rattle.champ_trie.proofs.BitLemmas.{rank-none, has-none}
-use Rattle.pool_carry.proofs.trie_row.Positions.empty.Goals as goal
+use Rattle.pool_carry.proofs.sets_and_links.SetsAndLinks.empty.Goals as goal
 
 pub returns-clause-sets : goal.returns-clause-sets
 returns-clause-sets c = record {

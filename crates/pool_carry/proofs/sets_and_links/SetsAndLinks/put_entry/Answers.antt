@@ -4,7 +4,7 @@ use Rattle.champ_trie.specs.Bits.{rank}
 use Rattle.champ_trie.specs.Trie.{AreSets, place_of}
 use Rattle.champ_trie.proofs.BitLemmas.{rank-mono}
 use Rattle.champ_trie.proofs.PlaceLemmas.{place-free, put-entry}
-use Rattle.pool_carry.proofs.trie_row.Positions.put_entry.Goals as goal
+use Rattle.pool_carry.proofs.sets_and_links.SetsAndLinks.put_entry.Goals as goal
 
 pub insert-requires : goal.insert-requires
 insert-requires c = omega (arith, c.rank_of.ensures, c.requires.sets.count, rank-mono c.args.self.now.entries c.args.position 32 (omega (arith, c.requires.position)), c.args.self.now.links.ok.0)

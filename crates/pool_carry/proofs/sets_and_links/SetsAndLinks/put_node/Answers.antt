@@ -5,7 +5,7 @@ use Rattle.champ_trie.specs.Bits.{rank}
 use Rattle.champ_trie.specs.Trie.{AreSets, place_of}
 use Rattle.champ_trie.proofs.BitLemmas.{count-rank, rank-le, rank-mono}
 use Rattle.champ_trie.proofs.PlaceLemmas.{place-free, put-node}
-use Rattle.pool_carry.proofs.trie_row.Positions.put_node.Goals as goal
+use Rattle.pool_carry.proofs.sets_and_links.SetsAndLinks.put_node.Goals as goal
 
 pub overflow_add-index : goal.overflow_add-index
 overflow_add-index c = omega (arith, count-rank c.args.self.now.entries c.requires.sets.entries_small, rank-le c.args.self.now.entries 32, c.rank_of.ensures, rank-le c.args.self.now.nodes c.args.position, c.requires.position)
