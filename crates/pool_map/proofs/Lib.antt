@@ -3,6 +3,7 @@ mod TrieFrame
 mod PlainMaps
 mod ChangedStands
 mod MappedRows
+mod MappedRange
 pub mod MappedStanding
 mod CodeLists
 mod LineStates

@@ -1,14 +1,14 @@
 //! A pool with its lines changed.
 ghost use Rattle.std.specs.Prelude.{◌≡◌, ℕ, ◌+◌, ◌<◌, ◌≤◌, ◌^◌, ◌++◌, List, length, map, slice_get, position, nat_eq, true, IfSome, IfOk, IfErr, OnOk};
-ghost use Rattle.std.specs.List.{All};
+ghost use Rattle.std.specs.List.{All, list_all};
 ghost use Rattle.elem_core.specs.Cell.{IsCell};
 ghost use Rattle.node_heap.specs.Links.{count};
 ghost use Rattle.node_heap.specs.Forms.{cell, links_of};
 ghost use Rattle.pool_order.specs.Order.{with_all_new};
-ghost use Rattle.pool_text.specs.Rows.{row_form};
+ghost use Rattle.pool_text.specs.Rows.{is_in_range, row_form};
 ghost use Rattle.pool_text.specs.Pool.{forms_in, row_count};
 ghost use Rattle.pool_text.specs.declared.rules.TheConstants.{PRESENT_VERSION};
-ghost use Rattle.pool_check.specs.Damages.{IsValid};
+ghost use Rattle.pool_check.specs.Rows.{links_lead_back};
 ghost use Rattle.pool_map.specs.Lines.{is_cell, leaf_links, cells_in, text_in, line_cells as cells_of, line_texts};
 ghost use Rattle.pool_map.specs.Mapped.{image_among, image_of, with_images as form_with_images, mapped_rows as rows_of, mapped};
 ghost use Rattle.pool_map.specs.declared.fault.ChangeFault.TheVariants.{Long};
@@ -21,13 +21,16 @@ use pool_text::{Places, Pool, PoolText, Row, Rows, pool_of_rows};
 use std::alloc::Global;
 use std::marker::Model;
 
-/// The pool with each line changed: once for each cell that is a line, so that lines that were one cell are one. Keys and stars
-/// stay. Refused with `Long` exactly where some line becomes none, and with `Memory` where memory runs out, which may stand in
-/// place of it. It takes time and memory for the rows, their links and their texts.
+/// The pool, whatever its roots are, with each line changed: once for each cell that is a line, so that lines that were one cell are
+/// one. Keys and stars stay. Refused with `Long` exactly where some line becomes none, and with `Memory` where memory runs out, which
+/// may stand in place of it. It takes time and memory for the rows, their links and their texts.
 pub fn map_cells<C: Change>(alloc: Global, pool: &Pool, change: &mut C) -> Result<Pool, ChangeFault>
-    requires valid { IsValid pool.now }
+    requires links { links_lead_back pool.now ≡ true }
     requires few { C.asked change.old + length (cells_of pool.now) < 2 ^ 63 }
     ensures mapped { IfOk result (λ P. P ≡ mapped (C.image change.old) pool.now) }
+    ensures version { IfOk result (λ P. P.version ≡ PRESENT_VERSION) }
+    ensures bits { IfOk result (λ P. P.bits ≡ pool.now.bits) }
+    ensures range { IfOk result (λ P. list_all is_in_range pool.now.rows ≡ true → list_all is_in_range P.rows ≡ true) }
     ensures lines { IfOk result (λ _. All (λ text. IsCell (C.image change.old text)) (line_texts pool.now)) }
     ensures long { IfErr result (λ fault. fault ≡ Long → ¬ All (λ text. IsCell (C.image change.old text)) (line_texts pool.now)) }
     ensures asked { OnOk result (C.asked change.new ≡ C.asked change.old + length (cells_of pool.now)) }
