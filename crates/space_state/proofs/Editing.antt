@@ -1,5 +1,6 @@
 -- The edits of buffers: what each comes to at what was found, what the vector is that a call made, and how a call ends.
 use Rattle.std.proofs.Common.{◌≡◌, ℕ, zero, suc, ◌+◌, ◌-◌, ◌<◌, ◌≤◌, List, [], ◌∷◌, ◌++◌, length, take, drop, set, map, Bool, true, false, cond, ◌&&◌, leb, ltb, Option, Some, None, is_some, IsSome, option_map, eqb, Result, Ok, Err, refl, sym, ap, subst, ◌∙◌, arith, ◌*◌}
+use Rattle.std.proofs.lemmas.Bool.{leb-true, and_parts, false_from_ne_true}
 use Rattle.std.proofs.lemmas.Bool.Decides.{nat_tests}
 use Rattle.std.proofs.lemmas.List.{drop-take}
 use Rattle.std.specs.Prelude.{nat_le, nat_lt, IsSomeAnd, IsOk, IsErrAnd, MatchResult, count_by, slice_range}
@@ -42,7 +43,8 @@ use Rattle.state_rows.specs.InHeap.{AreLinesIn}
 use Rattle.state_rows.proofs.Staying.{states-stay}
 use Rattle.state_rows.proofs.Keys.{by_bytes}
 use Rattle.space_state.specs.declared.roots.RootedHeap.{RootedHeap}
-use Rattle.space_state.specs.declared.turning.TheConstants.{EDIT_NODES, TURN_NODES}
+use Rattle.space_state.specs.declared.room.TheConstants.{EDIT_NODES}
+use Rattle.space_state.specs.declared.undo_end.TheConstants.{TURN_NODES}
 use Rattle.space_state.specs.Roots.{Keeps}
 use Rattle.space_state.specs.InPlace.{IsInPlace, new_key}
 use Rattle.space_state.specs.Turns.{IsDue, IsSame, RoomIsMade, RoomIsRefused, TurnsTo, IsCarriedOut, IsRefused}
@@ -188,14 +190,16 @@ module _ (now : State) (name : Bytes) where
       put-made xs is inside short = put-inside xs is inside ∙ ap (λ t. needs t Limit (Ok (with_lines now name (insert xs index text)))) (le-true (length xs + 1) most (omega (arith, short)))
 
   module _ (from to : ℕ) where
-    range-true : (xs : List Bytes) → from ≤ to → to ≤ length xs → (nat_le from to && nat_le to (length xs)) ≡ true
-    range-true xs first second = both-true (nat_le from to) (nat_le to (length xs)) (le-true from to first) (le-true to (length xs) second)
+    -- these lines have the part
+    abbrev HasPart : List Bytes → Type 0
+    HasPart xs = (from ≤ to) × (to ≤ length xs)
 
-    range-late : (xs : List Bytes) → to < from → (nat_le from to && nat_le to (length xs)) ≡ false
-    range-late xs late = ap (λ t. t && nat_le to (length xs)) (le-false from to late)
+    range-true : (xs : List Bytes) → HasPart xs → (nat_le from to && nat_le to (length xs)) ≡ true
+    range-true xs part = both-true (nat_le from to) (nat_le to (length xs)) (le-true from to part.0) (le-true to (length xs) part.1)
 
-    range-past : (xs : List Bytes) → from ≤ to → length xs < to → (nat_le from to && nat_le to (length xs)) ≡ false
-    range-past xs first past = ap (λ t. t && nat_le to (length xs)) (le-true from to first) ∙ le-false to (length xs) past
+    range-false : (xs : List Bytes) → ¬ HasPart xs → (nat_le from to && nat_le to (length xs)) ≡ false
+    range-false xs none =
+        false_from_ne_true (nat_le from to && nat_le to (length xs)) (λ both. let parts = and_parts (nat_le from to) (nat_le to (length xs)) both in none (leb-true from to parts.0, leb-true to (length xs) parts.1))
 
     pub del-absent : lines_of now name ≡ None → edited now (del name from to) ≡ Err Absent
     unfolding edited
@@ -205,14 +209,11 @@ module _ (now : State) (name : Bytes) where
     unfolding edited
     del-found xs is = ap (λ o. given o Absent (λ lines. on_range from to lines (Ok (with_lines now name (remove_range lines from to))))) is
 
-    pub del-late : (xs : List Bytes) → lines_of now name ≡ Some xs → to < from → edited now (del name from to) ≡ Err Range
-    del-late xs is late = del-found xs is ∙ ap (λ t. needs t Range (Ok (with_lines now name (remove_range xs from to)))) (range-late xs late)
+    pub del-past : (xs : List Bytes) → lines_of now name ≡ Some xs → ¬ HasPart xs → edited now (del name from to) ≡ Err Range
+    del-past xs is none = del-found xs is ∙ ap (λ t. needs t Range (Ok (with_lines now name (remove_range xs from to)))) (range-false xs none)
 
-    pub del-past : (xs : List Bytes) → lines_of now name ≡ Some xs → from ≤ to → length xs < to → edited now (del name from to) ≡ Err Range
-    del-past xs is first past = del-found xs is ∙ ap (λ t. needs t Range (Ok (with_lines now name (remove_range xs from to)))) (range-past xs first past)
-
-    pub del-made : (xs : List Bytes) → lines_of now name ≡ Some xs → from ≤ to → to ≤ length xs → edited now (del name from to) ≡ Ok (with_lines now name (remove_range xs from to))
-    del-made xs is first second = del-found xs is ∙ ap (λ t. needs t Range (Ok (with_lines now name (remove_range xs from to)))) (range-true xs first second)
+    pub del-made : (xs : List Bytes) → lines_of now name ≡ Some xs → HasPart xs → edited now (del name from to) ≡ Ok (with_lines now name (remove_range xs from to))
+    del-made xs is part = del-found xs is ∙ ap (λ t. needs t Range (Ok (with_lines now name (remove_range xs from to)))) (range-true xs part)
 
     module _ (other : Bytes) where
       pub cut-absent : lines_of now name ≡ None → edited now (cut name from to other) ≡ Err Absent
@@ -224,17 +225,14 @@ module _ (now : State) (name : Bytes) where
       unfolding edited
       cut-found xs is = ap (λ o. given o Absent (λ lines. on_range from to lines (Ok (with_lines (with_lines now name (remove_range lines from to)) other (slice_range lines from to))))) is
 
-      pub cut-late : (xs : List Bytes) → lines_of now name ≡ Some xs → to < from → edited now (cut name from to other) ≡ Err Range
-      cut-late xs is late = cut-found xs is ∙ ap (λ t. needs t Range (Ok (with_lines (with_lines now name (remove_range xs from to)) other (slice_range xs from to)))) (range-late xs late)
+      pub cut-past : (xs : List Bytes) → lines_of now name ≡ Some xs → ¬ HasPart xs → edited now (cut name from to other) ≡ Err Range
+      cut-past xs is none = cut-found xs is ∙ ap (λ t. needs t Range (Ok (with_lines (with_lines now name (remove_range xs from to)) other (slice_range xs from to)))) (range-false xs none)
 
-      pub cut-past : (xs : List Bytes) → lines_of now name ≡ Some xs → from ≤ to → length xs < to → edited now (cut name from to other) ≡ Err Range
-      cut-past xs is first past = cut-found xs is ∙ ap (λ t. needs t Range (Ok (with_lines (with_lines now name (remove_range xs from to)) other (slice_range xs from to)))) (range-past xs first past)
-
-      pub cut-made : (xs : List Bytes) → lines_of now name ≡ Some xs → from ≤ to → to ≤ length xs
+      pub cut-made : (xs : List Bytes) → lines_of now name ≡ Some xs → HasPart xs
           → edited now (cut name from to other) ≡ Ok (with_lines (with_lines now name (remove_range xs from to)) other (drop from (take to xs)))
-      cut-made xs is first second =
-          cut-found xs is ∙ ap (λ t. needs t Range (Ok (with_lines (with_lines now name (remove_range xs from to)) other (slice_range xs from to)))) (range-true xs first second)
-          ∙ ap (λ ys. Ok (with_lines (with_lines now name (remove_range xs from to)) other ys)) (part-is from to xs first)
+      cut-made xs is part =
+          cut-found xs is ∙ ap (λ t. needs t Range (Ok (with_lines (with_lines now name (remove_range xs from to)) other (slice_range xs from to)))) (range-true xs part)
+          ∙ ap (λ ys. Ok (with_lines (with_lines now name (remove_range xs from to)) other ys)) (part-is from to xs part.0)
 
   module _ (other : Bytes) where
     pub cat-absent : lines_of now name ≡ None → edited now (cat name other) ≡ Err Absent

@@ -20,7 +20,7 @@ use Rattle.space_state.specs.declared.roots.RootedHeap.{RootedHeap}
 use Rattle.space_state.specs.Roots.{root_list, Keeps}
 use Rattle.space_state.specs.Turns.{IsCarriedOut, IsRefused, EndsOnRows}
 use Rattle.space_state.specs.Needed.{cells_needed, nodes_needed, HoardsNone}
-use Rattle.space_state.specs.View.{shown, CarriesOut, KeepsRoom, RefusesCommand, Ends}
+use Rattle.space_state.specs.View.{SpaceView, shown, CarriesOut, KeepsRoom, RefusesCommand, Ends}
 
 -- the pool's bits are those of the space
 pub bits-are : (s : RootedHeap) → (shown s).pool.bits ≡ s.bits
@@ -56,6 +56,10 @@ module _ (s : RootedHeap) (W : Workspace) (K : Keeps s [] W) where
 
   pub rows-are : row_count (shown s).pool ≡ live_count s.heap
   rows-are = nothing-leaks (λ text. text) s.heap (root_list s.roots) (settings_by s.bits s.history) K.graph roots-held
+
+-- what the rows answer of the workspace that they keep holds of one for which the pool that is seen stands
+pub asked : (s : RootedHeap) {v : SpaceView} {P : Workspace → Type 0} → shown s ≡ v → (W : Workspace) × Keeps s [] W → ((W : Workspace) → Keeps s [] W → P W) → (W : Workspace) × StandsFor v.pool W × P W
+asked s is kept told = (kept.0, subst (λ (v : SpaceView). StandsFor v.pool kept.0) is (pool-is s kept.0 kept.1), told kept.0 kept.1)
 
 -- what was not hoarded by the heap was not by the space
 pub room-kept : (old new : RootedHeap) {cells nodes : ℕ} → KeepsToNeed old.heap new.heap cells nodes → KeepsRoom (shown old) (shown new) cells nodes

@@ -21,7 +21,7 @@ use Rattle.state_rows.specs.InHeap.{IsTextIn, IsStateIn}
 use Rattle.state_rows.specs.InPlace.{MakesAtMost}
 use Rattle.state_rows.proofs.Keys.{by_bytes, same-name}
 use Rattle.space_state.specs.declared.roots.RootedHeap.{RootedHeap}
-use Rattle.space_state.specs.declared.turning.TheConstants.{TURN_NODES}
+use Rattle.space_state.specs.declared.undo_end.TheConstants.{TURN_NODES}
 use Rattle.space_state.specs.Roots.{Keeps}
 use Rattle.space_state.specs.InPlace.{current_kept, new_key}
 use Rattle.space_state.specs.Turns.{TurnsTo, TurnsBeside, IsReadyInPlace, IsCarriedOut, RoomIsRefused}

@@ -26,7 +26,8 @@ use Rattle.space_state.specs.declared.roots.RootedHeap.{RootedHeap}
 use Rattle.space_state.specs.declared.roots.Roots.{Roots}
 use Rattle.space_state.specs.declared.roots.Batch.{Batch as Batches}
 use Rattle.space_state.specs.declared.roots.Batch.TheVariants.{Closed, Open}
-use Rattle.space_state.specs.declared.turning.TheConstants.{EDIT_NODES, TURN_NODES}
+use Rattle.space_state.specs.declared.room.TheConstants.{EDIT_NODES}
+use Rattle.space_state.specs.declared.undo_end.TheConstants.{TURN_NODES}
 use Rattle.space_state.specs.Roots.{base_of, IsBounded, Keeps}
 use Rattle.space_state.specs.Turns.{IsDueBy, IsDue, RoomIsMade, RoomIsRefused, TurnsTo, IsCarriedOut, IsRefused}
 use Rattle.space_state.specs.Needed.{merge_nodes}

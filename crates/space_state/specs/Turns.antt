@@ -1,18 +1,19 @@
 -- How a call on rooted rows ends.
-use Rattle.std.specs.Prelude.{◌≡◌, ℕ, ◌+◌, ◌-◌, ◌^◌, ◌<◌, ◌≤◌, List, [], length, min, Result, Err, true, MatchResult}
+use Rattle.std.specs.Prelude.{◌≡◌, ℕ, ◌+◌, ◌-◌, ◌^◌, ◌<◌, ◌≤◌, List, [], min, Result, Err, true, MatchResult}
 use Rattle.node_heap.specs.Links.{count}
 use Rattle.node_heap.specs.Heap.{Heap, live_count, HasSpares}
 use Rattle.node_heap.specs.Calls.{KeepsBelow, Unchanged}
-use Rattle.shell_terms.specs.Edit.{del, cat, drop, unstar, fill}
+use Rattle.shell_terms.specs.Edit.{del, cat, drop, unstar}
 use Rattle.shell_terms.specs.Command.{PlainCommand, edit, merge}
 use Rattle.plain_space.specs.declared.refusal.Refusal.{Refusal}
 use Rattle.plain_space.specs.declared.refusal.Refusal.TheVariants.{Absent, Exists, Range, Limit, Batch, Empty, Memory}
-use Rattle.plain_space.specs.Workspace.{Workspace, most, in_batch}
+use Rattle.plain_space.specs.Workspace.{Workspace, in_batch}
 use Rattle.plain_space.specs.Answer.{answer, done}
 use Rattle.plain_space.specs.Cost.{alike_buffers, alike_stars, cost}
 use Rattle.plain_space.specs.Memory.{MayLackMemory}
 use Rattle.state_rows.specs.InPlace.{MakesAtMost}
-use Rattle.space_state.specs.declared.turning.TheConstants.{EDIT_NODES, TURN_NODES}
+use Rattle.space_state.specs.declared.room.TheConstants.{EDIT_NODES}
+use Rattle.space_state.specs.declared.undo_end.TheConstants.{TURN_NODES}
 use Rattle.space_state.specs.declared.roots.RootedHeap.{RootedHeap}
 use Rattle.space_state.specs.Roots.{Keeps}
 use Rattle.space_state.specs.Needed.{merge_nodes}
@@ -70,11 +71,6 @@ HasEditSpares s W (edit (drop name)) = HasSpares s.heap 2 (EDIT_NODES + alike_bu
 HasEditSpares s W (edit (unstar name)) = HasSpares s.heap 2 (EDIT_NODES + alike_stars s.bits W.current name)
 HasEditSpares s W (merge kind version) = HasSpares s.heap 2 (EDIT_NODES + merge_nodes kind W version)
 HasEditSpares s W _ = ⊥
-
--- an edit that fills a buffer has no more lines than a buffer can have
-abbrev pub HasFewLines : PlainCommand → Type 0
-HasFewLines (edit (fill name lines)) = length lines ≤ most
-HasFewLines _ = Unit {0}
 
 -- the roots stand for this workspace now, with these links held besides, and so many rows more at most
 pub record TurnsTo (old new : RootedHeap) (besides : List ℕ) (most : ℕ) (after : Workspace) : Type 0 where

@@ -1,19 +1,29 @@
 //! Batches: edits that undo takes back together.
-ghost use Rattle.std.specs.Prelude.{◌≡◌, ◌≢◌, ◌+◌, ◌<◌, ◌≤◌, [], length, Err};
+ghost use Rattle.std.specs.Prelude.{◌≡◌, ◌≢◌, ◌+◌, ◌<◌, ◌≤◌, List, [], length, Err, ℕ};
 ghost use Rattle.node_heap.specs.Heap.{HasSpares};
 ghost use Rattle.shell_terms.specs.Command.{begin, «end», abort};
-ghost use Rattle.plain_space.specs.Workspace.{Workspace};
+ghost use Rattle.plain_space.specs.Workspace.{Workspace, in_batch};
 ghost use Rattle.space_state.specs.Roots.{Keeps};
 ghost use Rattle.space_state.specs.Needed.{HoardsNone};
 ghost use Rattle.space_state.specs.Turns.{EndsOnRows};
 ghost use Rattle.space_state.specs.View.{room_of};
 
 use crate::roots::{Batch, RootedHeap};
-use crate::turning::TURN_NODES;
+use crate::undo_end::TURN_NODES;
 use plain_space::Refusal;
 use state_rows::{EMPTIED_NODES, PUSHED_NODES};
 
 impl RootedHeap {
+    /// Whether a batch is open.
+    pub(crate) fn in_batch(&self) -> bool
+        ensures { (besides : List ℕ) (W : Workspace) → Keeps self.now besides W → result ≡ in_batch W }
+    {
+        match self.roots.batch {
+            Batch::Closed => false,
+            Batch::Open(_) => true,
+        }
+    }
+
     /// Opens a batch, whose base is the current state.
     pub(crate) fn begin(&mut self) -> Result<(), Refusal>
         requires { (W : Workspace) × Keeps self.old [] W }

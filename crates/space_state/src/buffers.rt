@@ -10,13 +10,16 @@ ghost use Rattle.space_state.specs.Roots.{Keeps};
 ghost use Rattle.space_state.specs.Needed.{HoardsNone};
 ghost use Rattle.space_state.specs.Turns.{HasEditSpares, EndsOnRows};
 
+use crate::lines::has_part;
 use crate::roots::RootedHeap;
-use crate::turning::MOST_ITEMS;
 use elem_core::{Line, Name};
 use plain_space::Refusal;
 use rrb_core::FlexRef;
 use rrb_join::{concat, erase, insert, slice};
 use state_rows::{buffer, without_lines};
+
+/// The most lines of a buffer.
+const MOST_ITEMS: u32 = u32::MAX;
 
 impl RootedHeap {
     /// The lines of the buffer.
@@ -66,7 +69,7 @@ impl RootedHeap {
         let Some(lines) = found.lines else {
             return Err(Refusal::Absent);
         };
-        if from > to || to > lines.len(&self.heap) {
+        if !has_part(&self.heap, lines, from, to) {
             return Err(Refusal::Range);
         }
         self.make_room_with(found.alike)?;
@@ -116,7 +119,7 @@ impl RootedHeap {
         let Some(lines) = found.lines else {
             return Err(Refusal::Absent);
         };
-        if from > to || to > lines.len(&self.heap) {
+        if !has_part(&self.heap, lines, from, to) {
             return Err(Refusal::Range);
         }
         let target = self.find(other);

@@ -4,7 +4,7 @@ ghost use Rattle.plain_space.specs.Workspace.{Workspace};
 ghost use Rattle.plain_space.specs.Change.{edit_command};
 ghost use Rattle.space_state.specs.Roots.{Keeps};
 ghost use Rattle.space_state.specs.Needed.{HoardsNone};
-ghost use Rattle.space_state.specs.Turns.{HasEditSpares, HasFewLines, EndsOnRows};
+ghost use Rattle.space_state.specs.Turns.{HasEditSpares, EndsOnRows};
 
 use crate::roots::RootedHeap;
 use plain_space::{Edit, Refusal};
@@ -14,7 +14,6 @@ impl RootedHeap {
     /// Carries out the edit.
     pub(crate) fn edit(&mut self, change: Edit<'_>) -> Result<(), Refusal>
         requires kept { (W : Workspace) × Keeps self.old [] W }
-        requires lines { HasFewLines (edit_command change) }
         ensures ends { EndsOnRows (edit_command change.entry) self.old result self.new }
         ensures spares { HoardsNone (edit_command change.entry) self.old result self.new }
         ensures ample { (W : Workspace) → Keeps self.old [] W → HasEditSpares self.old W (edit_command change.entry) → result ≢ Err Refusal.Memory }
@@ -35,7 +34,6 @@ impl RootedHeap {
             Edit::StarBoth(version) => self.merge(Merging::Stars(Stars::Common), version),
             Edit::StarLess(version) => self.merge(Merging::Stars(Stars::Other), version),
             Edit::Merge(version) => self.merge(Merging::Buffers, version),
-            Edit::Read(name, lines) => self.fill(name, lines),
         }
     }
 }

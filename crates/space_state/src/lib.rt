@@ -1,26 +1,25 @@
 //! The space: buffers of lines, stars, versions, undo, redo and batches, over one heap of shared rows.
 #![tactic(auto)]
 
-mod asking;
 mod batches;
 mod buffers;
 mod edits;
-mod equality;
-mod filling;
-mod histories;
-mod in_place;
+mod filled_buffers;
+mod line_edits;
 mod lines;
 mod merges;
-mod names;
-mod pooling;
+mod new_space;
+mod placed_lines;
+mod pool;
+mod questions;
+mod room;
 mod roots;
 mod same;
 mod space;
 mod stars;
-mod start;
-mod turning;
+mod undo_end;
+mod undo_redo;
 mod versions;
-mod writing;
 
 pub use lines::SpaceLines;
 pub use plain_space::{Edit, Refusal};

@@ -1,10 +1,9 @@
 //! The lines of a part of a buffer, one by one.
-ghost use Rattle.std.specs.Prelude.{◌≡◌, ◌≤◌, ℕ, List, length, slice_range};
+ghost use Rattle.std.specs.Prelude.{◌≡◌, ◌≤◌, ◌↔◌, ℕ, List, length, slice_range, IsTrue};
 ghost use Rattle.std.specs.Iterator.{YieldsFirstRef, item_count};
-ghost use Rattle.node_heap.specs.Heap.{form_at};
 ghost use Rattle.rrb_core.specs.Vector.{IsGoodVector};
 ghost use Rattle.shell_terms.specs.Edit.{Bytes};
-ghost use Rattle.state_rows.specs.Reading.{AreLines};
+ghost use Rattle.state_rows.specs.InHeap.{AreLinesIn};
 
 use elem_core::Text;
 use node_heap::Heap;
@@ -36,14 +35,22 @@ impl<'h> Model for SpaceLines<'h> {
 impl<'h> SpaceLines<'h> {
     /// The lines of the vector from the one index to before the other.
     pub(crate) fn new(heap: &'h Heap<Text>, lines: FlexRef, from: u32, to: u32) -> SpaceLines<'h>
-        requires lines { (bits : ℕ) × (texts : List Bytes) × AreLines (form_at heap.now) (IsGoodVector heap.now) bits lines texts × (from ≤ to) × (to ≤ length texts) }
-        ensures { (bits : ℕ) (texts : List Bytes) → AreLines (form_at heap.now) (IsGoodVector heap.now) bits lines texts → result ≡ slice_range texts from to }
+        requires lines { (bits : ℕ) × (texts : List Bytes) × AreLinesIn heap.now bits lines texts × (from ≤ to) × (to ≤ length texts) }
+        ensures { (bits : ℕ) (texts : List Bytes) → AreLinesIn heap.now bits lines texts → result ≡ slice_range texts from to }
     {
         SpaceLines {
             heap,
             links: lines.lines(heap, from, to),
         }
     }
+}
+
+/// Whether the lines of the vector have a part from the one index to before the other.
+pub(crate) fn has_part(heap: &Heap<Text>, lines: FlexRef, from: u32, to: u32) -> bool
+    requires { IsGoodVector heap.now lines }
+    ensures { (bits : ℕ) (texts : List Bytes) → AreLinesIn heap.now bits lines texts → (IsTrue result ↔ ((from ≤ to) × (to ≤ length texts))) }
+{
+    from <= to && to <= lines.len(heap)
 }
 
 impl<'h> Iterator for SpaceLines<'h> {

@@ -6,17 +6,17 @@ ghost use Rattle.elem_core.specs.Shown.{name_bytes};
 ghost use Rattle.pool_text.specs.Pool.{row_count};
 ghost use Rattle.pool_text.specs.declared.rules.TheConstants.{PRESENT_VERSION};
 ghost use Rattle.pool_check.specs.Damages.{IsValid};
-ghost use Rattle.shell_terms.specs.Command.{mark, unmark, back, undo, redo, begin, «end», abort, history};
+ghost use Rattle.shell_terms.specs.Edit.{fill};
+ghost use Rattle.shell_terms.specs.Command.{edit, mark, unmark, back, undo, redo, begin, «end», abort, history};
 ghost use Rattle.plain_space.specs.Workspace.{Workspace, most, start, sizes, in_batch, lines_of, version_of};
 ghost use Rattle.plain_space.specs.Change.{edit_command};
 ghost use Rattle.state_rows.specs.Standing.{StandsFor};
 ghost use Rattle.space_state.specs.Asked.{OnLines, AreEqual};
-ghost use Rattle.space_state.specs.Turns.{HasFewLines};
 ghost use Rattle.space_state.specs.View.{Ends, TakesPool, start_view};
 
 use crate::lines::SpaceLines;
 use crate::roots::RootedHeap;
-use elem_core::{CODE_BITS, Name, NoMemory, Text};
+use elem_core::{CODE_BITS, Name, NoMemory, Text, Texts};
 use plain_space::{Edit, Refusal};
 use pool_check::Checked;
 use pool_text::Pool;
@@ -57,13 +57,19 @@ impl Space {
         Ok(Space { rows })
     }
 
-    /// Carries out the edit, refused exactly as the row of its command says, want of memory last. A buffer is filled with at
-    /// most 4,294,967,295 lines.
+    /// Carries out the edit, refused exactly as the row of its command says, want of memory last.
     pub fn edit(&mut self, change: Edit<'_>) -> Result<(), Refusal>
-        requires { HasFewLines (edit_command change) }
         ensures { Ends (edit_command change.entry) self.old result self.new }
     {
         self.rows.edit(change)
+    }
+
+    /// Gives the buffer these lines, made or replaced, at most 4,294,967,295, as one edit. It is refused only where memory runs out.
+    pub fn fill(&mut self, buffer: Name<'_>, lines: Texts) -> Result<(), Refusal>
+        requires { length lines ≤ most }
+        ensures { Ends (edit (fill (name_bytes buffer.entry) lines)) self.old result self.new }
+    {
+        self.rows.fill(buffer, lines)
     }
 
     /// Goes back to the state before the last edit. `Batch` in a batch, else `Empty` where there is none, else `Limit` where
@@ -150,6 +156,14 @@ impl Space {
         ensures within { (W : Workspace) → StandsFor self.old.pool W → length W.undo ≤ count → self.new.made ≡ self.old.made }
     {
         self.rows.set_history(count)
+    }
+
+    /// That the space stands for a workspace: a law, which does nothing.
+    pub fn stands(&self)
+        ensures { (W : Workspace) × StandsFor self.now.pool W }
+    {
+        // The fact is that of the field.
+        let _ = &self.rows;
     }
 
     /// How many low bits of the names' codes the space goes by.
@@ -249,27 +263,37 @@ impl Space {
     pub fn names(&self, alloc: Global) -> Result<Vec<(&Text, u32)>, NoMemory>
         ensures { (W : Workspace) × StandsFor self.now.pool W × IfOk result (λ listed. each (λ size. (size.0.now, size.1)) listed.items ≡ sizes W.current) }
     {
-        self.rows.names(alloc)
+        state_rows::names(
+            alloc,
+            &self.rows.heap,
+            self.rows.bits,
+            self.rows.roots.current,
+        )
     }
 
     /// The number of the buffers, and of the lines of all of them. It takes no memory.
     pub fn totals(&self) -> (usize, u128)
         ensures { (W : Workspace) × StandsFor self.now.pool W × (result.0 ≡ length (sizes W.current)) × (result.1 ≡ sum_by (λ size. size.1) (sizes W.current)) }
     {
-        self.rows.totals()
+        state_rows::totals(&self.rows.heap, self.rows.bits, self.rows.roots.current)
     }
 
     /// The starred names, in byte order. Err where memory runs out.
     pub fn stars(&self, alloc: Global) -> Result<Vec<&Text>, NoMemory>
         ensures { (W : Workspace) × StandsFor self.now.pool W × IfOk result (λ listed. each (λ name. name.now) listed.items ≡ map.keys W.current.stars) }
     {
-        self.rows.stars(alloc)
+        state_rows::stars(
+            alloc,
+            &self.rows.heap,
+            self.rows.bits,
+            self.rows.roots.current,
+        )
     }
 
     /// The names of the versions, in byte order. Err where memory runs out.
     pub fn marks(&self, alloc: Global) -> Result<Vec<&Text>, NoMemory>
         ensures { (W : Workspace) × StandsFor self.now.pool W × IfOk result (λ listed. each (λ name. name.now) listed.items ≡ map.keys W.versions) }
     {
-        self.rows.marks(alloc)
+        state_rows::marks(alloc, &self.rows.heap, self.rows.versions())
     }
 }

@@ -11,8 +11,8 @@ ghost use Rattle.space_state.specs.Roots.{Keeps};
 ghost use Rattle.space_state.specs.Needed.{HoardsNone};
 ghost use Rattle.space_state.specs.Turns.{MakesRoom, HasEditSpares, EndsOnRows};
 
+use crate::room::EDIT_NODES;
 use crate::roots::RootedHeap;
-use crate::turning::EDIT_NODES;
 use elem_core::{Name, text_of};
 use plain_space::Refusal;
 use state_rows::{is_starred, stars_alike, with_star, without_star};

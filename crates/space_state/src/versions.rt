@@ -12,8 +12,9 @@ ghost use Rattle.space_state.specs.Roots.{Keeps};
 ghost use Rattle.space_state.specs.Needed.{HoardsNone};
 ghost use Rattle.space_state.specs.Turns.{IsSame, EndsOnRows, TurnsTo};
 
+use crate::room::EDIT_NODES;
 use crate::roots::RootedHeap;
-use crate::turning::{EDIT_NODES, TURN_NODES};
+use crate::undo_end::TURN_NODES;
 use champ_kinds::{Map, MapRef};
 use elem_core::{Name, NoMemory, text_of};
 use node_heap::Link;

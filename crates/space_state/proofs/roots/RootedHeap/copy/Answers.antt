@@ -1,5 +1,5 @@
 use Rattle.std.proofs.Common.{◌+◌, ◌≡◌, [], ◌∙◌, refl, arith}
-use Rattle.space_state.specs.declared.turning.TheConstants.{EDIT_NODES}
+use Rattle.space_state.specs.declared.room.TheConstants.{EDIT_NODES}
 use Rattle.elem_core.specs.Shown.{name_bytes}
 use Rattle.node_heap.proofs.BuildLemmas.{Answered-Builds}
 use Rattle.shell_terms.specs.Edit.{copy}

@@ -1,5 +1,5 @@
 use Rattle.std.proofs.Common.{◌≡◌, ◌+◌, ◌/◌, [], length, Ok, refl, sym, ap, ◌∙◌, arith}
-use Rattle.space_state.specs.declared.turning.TheConstants.{EDIT_NODES}
+use Rattle.space_state.specs.declared.room.TheConstants.{EDIT_NODES}
 use Rattle.elem_core.specs.Shown.{name_bytes}
 use Rattle.shell_terms.specs.Edit.{fill}
 use Rattle.plain_space.specs.Workspace.{Workspace, lines_of, with_lines}
@@ -81,6 +81,6 @@ pub returns-clause-spares : goal.returns-clause-spares
 returns-clause-spares c = λ W K.
     let n = length c.args.lines in
     let roomy =
-    room-more (n + 1) (EDIT_NODES + 8 + n / 16 + alike_buffers c.args.self.now.bits W.current (name_bytes c.args.name)) (omega (arith, c.len-count.ensures, ap length c.into_vec-texts.ensures))
+    room-more (n + 1) (EDIT_NODES + (n / 16 + 8) + alike_buffers c.args.self.now.bits W.current (name_bytes c.args.name)) (omega (arith, c.len-count.ensures, ap length c.into_vec-texts.ensures))
     (omega (arith, c.vector_nodes.ensures, c.len-count.ensures, ap length c.into_vec-texts.ensures, c.find-found.ensures.alike W K)) (room-reserved c.in_ok-reserve.ensures.greater c.reserve.ensures.rest) in
     room-then (room-then roomy c.filled-lines.ensures.spares) c.write_lines.ensures.spares

@@ -2,7 +2,7 @@ use Rattle.std.proofs.Common.{◌≡◌, ℕ, List, [], ◌∷◌, true, false, 
 use Rattle.node_heap.proofs.Frames.{KeepsBelow-trans}
 use Rattle.plain_space.specs.Workspace.{Workspace, in_batch}
 use Rattle.space_state.specs.declared.roots.RootedHeap.{RootedHeap}
-use Rattle.space_state.specs.declared.turning.TheConstants.{TURN_NODES}
+use Rattle.space_state.specs.declared.undo_end.TheConstants.{TURN_NODES}
 use Rattle.space_state.specs.Roots.{Keeps}
 use Rattle.space_state.specs.Turns.{TurnsBeside}
 use Rattle.space_state.specs.InPlace.{current_kept}

@@ -1,6 +1,6 @@
 use Rattle.std.proofs.Common.{◌+◌, ◌≡◌, [], None, refl, sym, ◌∙◌, arith}
-use Rattle.space_state.specs.declared.turning.TheConstants.{TURN_NODES}
-use Rattle.space_state.specs.declared.in_place.TheConstants.{IN_PLACE_NODES}
+use Rattle.space_state.specs.declared.undo_end.TheConstants.{TURN_NODES}
+use Rattle.space_state.specs.declared.line_edits.TheConstants.{IN_PLACE_NODES}
 use Rattle.elem_core.specs.Shown.{name_bytes}
 use Rattle.node_heap.proofs.GraphLemmas.{IsGraph-kinds}
 use Rattle.shell_terms.specs.Edit.{new}

@@ -1,7 +1,7 @@
 use Rattle.std.proofs.Common.{ℕ, ◌+◌, ◌≤◌, sym, subst}
 use Rattle.std.specs.Prelude.{IfOk}
 use Rattle.node_heap.specs.Heap.{HasSpares}
-use Rattle.space_state.specs.declared.turning.TheConstants.{EDIT_NODES}
+use Rattle.space_state.specs.declared.room.TheConstants.{EDIT_NODES}
 use Rattle.space_state.proofs.Keeping.{heap-refused, versions-stand}
 use Rattle.node_heap.specs.Calls.{KeepsToNeed}
 use Rattle.space_state.proofs.Hoarding.{room-reserves}

@@ -1,5 +1,5 @@
 use Rattle.std.proofs.Common.{◌+◌, ◌≡◌, List, [], Some, refl, arith}
-use Rattle.space_state.specs.declared.turning.TheConstants.{EDIT_NODES}
+use Rattle.space_state.specs.declared.room.TheConstants.{EDIT_NODES}
 use Rattle.elem_core.specs.Shown.{name_bytes, line_bytes}
 use Rattle.shell_terms.specs.Edit.{Bytes, put}
 use Rattle.plain_space.specs.Workspace.{Workspace, lines_of}

@@ -1,7 +1,7 @@
 use Rattle.std.proofs.Common.{[], refl, sym, subst, arith}
 use Rattle.state_rows.specs.InPlace.{MakesAtMost}
 use Rattle.space_state.specs.declared.roots.RootedHeap.{RootedHeap}
-use Rattle.space_state.specs.declared.turning.TheConstants.{TURN_NODES}
+use Rattle.space_state.specs.declared.undo_end.TheConstants.{TURN_NODES}
 use Rattle.space_state.proofs.Keeping.{heap-is, same-heap, keeps-same, rises-same, turns-after}
 use Rattle.space_state.proofs.Placing.{ready-refused}
 use Rattle.state_rows.proofs.Room.{room-then}

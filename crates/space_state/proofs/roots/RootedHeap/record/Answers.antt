@@ -1,6 +1,6 @@
 use Rattle.std.proofs.Common.{ℕ, List, [], ◌∷◌, arith}
 use Rattle.node_heap.proofs.Frames.{KeepsBelow-trans}
-use Rattle.space_state.specs.declared.turning.TheConstants.{TURN_NODES}
+use Rattle.space_state.specs.declared.undo_end.TheConstants.{TURN_NODES}
 use Rattle.space_state.proofs.Keeping.{few-holds, redo-held, redo-holds, redo-stands, keeps-redo, left-over, held-beside, trades-beside, rises-trades, rises-then, turns-of, turns-by}
 use Rattle.state_rows.proofs.Room.{room-then}
 use Rattle.space_state.proofs.roots.RootedHeap.record.Goals as goal

@@ -1,6 +1,6 @@
 use Rattle.std.proofs.Common.{◌+◌, ◌≡◌, ◌<◌, ◌≤◌, List, [], length, Some, refl, arith}
-use Rattle.space_state.specs.declared.turning.TheConstants.{TURN_NODES}
-use Rattle.space_state.specs.declared.in_place.TheConstants.{IN_PLACE_NODES}
+use Rattle.space_state.specs.declared.undo_end.TheConstants.{TURN_NODES}
+use Rattle.space_state.specs.declared.line_edits.TheConstants.{IN_PLACE_NODES}
 use Rattle.elem_core.specs.Shown.{name_bytes, line_bytes}
 use Rattle.rrb_core.specs.Vector.{elements}
 use Rattle.shell_terms.specs.Edit.{Bytes, set}

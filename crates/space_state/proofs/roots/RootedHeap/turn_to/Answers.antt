@@ -1,6 +1,6 @@
 use Rattle.std.proofs.Common.{◌≡◌, [], ◌∷◌, true, false, refl, sym, ◌∙◌, arith}
 use Rattle.plain_space.specs.Workspace.{in_batch}
-use Rattle.space_state.specs.declared.turning.TheConstants.{TURN_NODES}
+use Rattle.space_state.specs.declared.undo_end.TheConstants.{TURN_NODES}
 use Rattle.space_state.proofs.Keeping.{current-stands, keeps-current, rises-refl, turns-after}
 use Rattle.space_state.proofs.roots.RootedHeap.turn_to.Goals as goal
 

@@ -6,7 +6,7 @@ use Rattle.plain_space.specs.Workspace.{State, Workspace, lines_of, with_lines}
 use Rattle.plain_space.specs.Cost.{alike_buffers}
 use Rattle.state_rows.specs.InHeap.{AreLinesIn}
 use Rattle.space_state.specs.Roots.{Keeps}
-use Rattle.space_state.specs.declared.turning.TheConstants.{TURN_NODES}
+use Rattle.space_state.specs.declared.undo_end.TheConstants.{TURN_NODES}
 use Rattle.space_state.specs.InPlace.{current_kept, new_key}
 use Rattle.space_state.specs.Turns.{TurnsTo, TurnsBeside}
 use Rattle.space_state.proofs.Keeping.{first-counts, second-counts, lines-beside, turns-then}

@@ -3,7 +3,7 @@ use Rattle.elem_core.specs.declared.codes.TheConstants.{DEEPEST}
 use Rattle.elem_core.specs.Shown.{name_bytes}
 use Rattle.plain_space.specs.Workspace.{Workspace, with_lines}
 use Rattle.plain_space.specs.Cost.{alike_buffers}
-use Rattle.space_state.specs.declared.turning.TheConstants.{TURN_NODES}
+use Rattle.space_state.specs.declared.undo_end.TheConstants.{TURN_NODES}
 use Rattle.space_state.specs.InPlace.{current_kept}
 use Rattle.space_state.specs.Turns.{TurnsTo}
 use Rattle.space_state.proofs.Keeping.{first-counts, lines-beside, turns-then}

@@ -1,12 +1,12 @@
-use Rattle.std.proofs.Common.{subst}
-use Rattle.state_rows.specs.Standing.{StandsFor}
-use Rattle.space_state.specs.View.{SpaceView}
-use Rattle.space_state.proofs.Front.{pool-is}
+use Rattle.space_state.proofs.Keeping.{current-stands}
+use Rattle.space_state.proofs.Front.{asked}
 use Rattle.space_state.proofs.space.Space.stars.Goals as goal
 
+pub stars-requires-clause-bits : goal.stars-requires-clause-bits
+stars-requires-clause-bits c = c.self.invariant.1.bits
+
+pub stars-requires-clause-state : goal.stars-requires-clause-state
+stars-requires-clause-state c = (c.self.invariant.0.current, current-stands c.self.invariant.1)
+
 pub returns : goal.returns
-returns c = (
-  c.self.invariant.0,
-  subst (λ (v : SpaceView). StandsFor v.pool c.self.invariant.0) c.self.view_is (pool-is c.self.inside.rows c.self.invariant.0 c.self.invariant.1),
-  c.stars.ensures c.self.invariant.0 c.self.invariant.1,
-)
+returns c = asked c.self.inside.rows c.self.view_is c.self.invariant (λ W K. c.stars.ensures W.current (current-stands K))

@@ -17,7 +17,7 @@ ghost use Rattle.space_state.specs.InPlace.{current_kept, new_key};
 ghost use Rattle.space_state.specs.Turns.{TurnsTo, TurnsBeside};
 
 use crate::roots::RootedHeap;
-use crate::turning::TURN_NODES;
+use crate::undo_end::TURN_NODES;
 use elem_core::{Name, NoMemory, Text, text_of};
 use rrb_core::{Flex, FlexRef};
 use state_rows::{EMPTIED_NODES, FoundBuffer, PUSHED_NODES, buffer_made, find_buffer, lines_put};
@@ -31,40 +31,6 @@ impl RootedHeap {
         ensures few { result.alike < row_limit }
     {
         find_buffer(&self.heap, self.bits, self.roots.current, name)
-    }
-
-    /// The text by which a buffer is made of which these lines were found: its name where there is no such buffer, and none where
-    /// there is one. Err where memory runs out.
-    pub(crate) fn new_key(
-        &self,
-        name: Name<'_>,
-        found: Option<FlexRef>,
-    ) -> Result<Option<Text>, NoMemory>
-        ensures { IfOk result (λ key. key ≡ new_key found (name_bytes name.entry)) }
-    {
-        if found.is_some() {
-            return Ok(None);
-        }
-        let key = text_of(self.alloc, name.as_line())?;
-        Ok(Some(key))
-    }
-
-    /// Outside a batch puts the current state at the end of undo, which keeps as many states as its bound says, and empties redo. It stays
-    /// current.
-    pub(crate) fn keep_current(&mut self)
-        requires spares { HasSpares self.old.heap 0 TURN_NODES }
-        requires kept { (b : List ℕ) × (W : Workspace) × Keeps self.old b W × (length b ≤ 2) }
-        ensures turns { (b : List ℕ) (W : Workspace) → Keeps self.old b W → TurnsBeside self.old self.new b 0 TURN_NODES (current_kept W) }
-        ensures made { self.new.heap.made ≤ self.old.heap.made + TURN_NODES }
-        ensures below { (b : List ℕ) (W : Workspace) → Keeps self.old b W → length W.undo < W.history → self.new.heap.made ≤ self.old.heap.made + (PUSHED_NODES + EMPTIED_NODES) }
-        ensures spares { KeepsToNeed self.old.heap self.new.heap 0 0 }
-        ensures inside { (W : Workspace) → Keeps self.old [] W → in_batch W ≡ true → self.new ≡ self.old }
-    {
-        if self.in_batch() {
-            return;
-        }
-        self.heap.hold(self.roots.current);
-        self.record(self.roots.current);
     }
 
     /// Gives the buffer of the current state these lines, of which the caller's hold is spent: made by the key, or replaced.

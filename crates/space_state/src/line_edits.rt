@@ -12,7 +12,7 @@ ghost use Rattle.space_state.specs.Needed.{HoardsNone};
 ghost use Rattle.space_state.specs.Turns.{RoomIsRefused, IsReadyInPlace, EndsOnRows};
 
 use crate::roots::RootedHeap;
-use crate::turning::TURN_NODES;
+use crate::undo_end::TURN_NODES;
 use elem_core::{DEEPEST, Line, Name, Text, text_of};
 use plain_space::Refusal;
 use rrb_core::Flex;

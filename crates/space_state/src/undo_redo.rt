@@ -1,6 +1,4 @@
-//! Undo and redo, which are edited in place: what nothing else holds of their rows is written, and only what a loaded document
-//! shares is copied. Undo keeps as many states as its bound says: where one more comes, the oldest goes first, by a cut that shares
-//! all rows but those along it.
+//! Steps through undo and redo, and how many states undo keeps.
 ghost use Rattle.std.specs.Prelude.{◌≡◌, ◌≢◌, ℕ, ◌+◌, ◌<◌, ◌≤◌, List, [], ◌∷◌, ◌++◌, length, Err, IfOk, MatchResult};
 ghost use Rattle.node_heap.specs.Heap.{HasSpares};
 ghost use Rattle.node_heap.specs.Calls.{KeepsToNeed};
@@ -13,13 +11,11 @@ ghost use Rattle.space_state.specs.Needed.{HoardsNone};
 ghost use Rattle.space_state.specs.Stepping.{CanStep, HasNoStep};
 
 use crate::roots::RootedHeap;
+use crate::undo_end::KEPT_NODES;
 use node_heap::Link;
 use plain_space::Refusal;
 use rrb_core::{Flex, FlexRef};
-use state_rows::{POPPED_NODES, PUSHED_NODES, SHORTENED_NODES, popped, pushed, shortened};
-
-/// The nodes of a state that undo keeps: a cut where undo holds as many as its bound says, and a push.
-pub(crate) const KEPT_NODES: usize = SHORTENED_NODES + PUSHED_NODES;
+use state_rows::{POPPED_NODES, PUSHED_NODES, SHORTENED_NODES, popped, pushed};
 
 /// The nodes of an undo: a state less in undo, and one more in redo.
 pub(crate) const UNDO_NODES: usize = POPPED_NODES + PUSHED_NODES;
@@ -102,46 +98,6 @@ impl RootedHeap {
             return Err(Refusal::Empty);
         }
         Ok(())
-    }
-
-    // Keeps the last states of undo, at most so many, and gives the others up. Where there are no more, nothing changes.
-    fn shorten_undo(&mut self, count: u32)
-        requires spares { HasSpares self.old.heap 0 SHORTENED_NODES }
-        requires kept { (b : List ℕ) × (W : Workspace) × Keeps self.old b W × (length b ≤ 3) }
-        ensures turns { (b : List ℕ) (W : Workspace) → Keeps self.old b W →
-            TurnsBeside self.old self.new b 0 SHORTENED_NODES (record W { undo = last_of count W.undo }) }
-        ensures short { (b : List ℕ) (W : Workspace) → Keeps self.old b W → length W.undo ≤ count → self.new ≡ self.old }
-        ensures history { self.new.history ≡ self.old.history }
-        ensures made { self.new.heap.made ≤ self.old.heap.made + SHORTENED_NODES }
-        ensures spares { KeepsToNeed self.old.heap self.new.heap 0 0 }
-    {
-        let states = FlexRef::at(self.roots.undo).len(&self.heap);
-        if states <= count {
-            return;
-        }
-        let undo = Flex::from_root(self.roots.undo);
-        let undo = shortened(&mut self.heap, undo, states - count);
-        self.roots.undo = undo.into_root();
-    }
-
-    /// Puts the state at the end of undo, which spends a hold of it. Of undo the last states stay, as many as its bound says: where
-    /// it holds so many, the oldest goes before the new one comes, so that undo is never longer than a vector can be.
-    pub(crate) fn push_undo(&mut self, state: Link)
-        requires spares { HasSpares self.old.heap 0 KEPT_NODES }
-        requires kept { (b : List ℕ) × (W : Workspace) × (s : State) × Keeps self.old (state ∷ b) W × (length b ≤ 2) × IsStateIn self.old.heap self.old.bits state s }
-        ensures turns { (b : List ℕ) (W : Workspace) (s : State) → Keeps self.old (state ∷ b) W → IsStateIn self.old.heap self.old.bits state s →
-            TurnsBeside self.old self.new b 0 KEPT_NODES (record W { undo = undo_with W s }) }
-        ensures made { self.new.heap.made ≤ self.old.heap.made + KEPT_NODES }
-        ensures below { (b : List ℕ) (W : Workspace) → Keeps self.old (state ∷ b) W → length W.undo < W.history → self.new.heap.made ≤ self.old.heap.made + PUSHED_NODES }
-        ensures spares { KeepsToNeed self.old.heap self.new.heap 0 0 }
-    {
-        if self.history == 0 {
-            self.heap.release(state);
-            return;
-        }
-        self.shorten_undo(self.history - 1);
-        let undo = pushed(&mut self.heap, Flex::from_root(self.roots.undo), state);
-        self.roots.undo = undo.into_root();
     }
 
     // Puts the state at the end of redo, which spends a hold of it.

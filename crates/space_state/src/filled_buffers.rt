@@ -8,8 +8,8 @@ ghost use Rattle.space_state.specs.Roots.{Keeps};
 ghost use Rattle.space_state.specs.Needed.{HoardsNone};
 ghost use Rattle.space_state.specs.Turns.{EndsOnRows};
 
+use crate::room::EDIT_NODES;
 use crate::roots::RootedHeap;
-use crate::turning::EDIT_NODES;
 use elem_core::{Name, NoMemory, Texts};
 use node_heap::Link;
 use plain_space::Refusal;
