@@ -1,5 +1,5 @@
 -- What files of a chain come to, one after another.
-use Rattle.std.proofs.Common.{◌≡◌, ◌≢◌, ℕ, zero, suc, ◌+◌, ◌-◌, ◌<◌, ◌≤◌, Bool, true, false, List, [], ◌∷◌, ◌++◌, length, nat_lt, sym, ap, ◌∙◌, subst, refl, arith, codes, inl, inr, ◌⊎◌, None, Some, IfSome, IfOk, IfErr, IsErrAnd, ◌↔◌, Result, Ok, Err, cond, append_assoc, if◌then◌else◌}
+use Rattle.std.proofs.Common.{◌≡◌, ◌≢◌, ℕ, zero, suc, ◌+◌, ◌-◌, ◌<◌, ◌≤◌, Bool, true, false, List, [], ◌∷◌, ◌++◌, length, nat_lt, sym, ap, ◌∙◌, subst, refl, arith, None, Some, IfSome, IfOk, IfErr, IsErrAnd, ◌↔◌, Result, Ok, Err, append_assoc, if◌then◌else◌}
 use Rattle.std.proofs.lemmas.Bool.{le-ltb, lt-ltb, ne_eqb}
 use Rattle.std.specs.Prelude.{◌==◌}
 use Rattle.shell_words.specs.Files.{numbered}
@@ -21,7 +21,7 @@ use Rattle.shell_io.specs.declared.device.FetchFault.{FetchFault}
 use Rattle.shell_io.specs.declared.device.FetchFault.TheVariants as fetch
 use Rattle.ewig_shell.specs.Faults.{fetch_fault}
 use Rattle.ewig_shell.specs.Step.{Fetched, missing, large, given, with_file, fetched_within, fetched_all, chain_name, chain_names, most_stored}
-use Rattle.ewig_shell.specs.Chaining.{IsReadAs, AreFetched, IsNotTaken, IsUntaken, TakesChain}
+use Rattle.ewig_shell.specs.Chaining.{IsReadAs, AreFetched, IsNotTaken, IsUntaken}
 
 -- ## Files one after another
 
@@ -157,10 +157,10 @@ module _ (bytes : Bytes) where
   pool-append (first ∷ more) C = step_in (chain_with C first) (λ D. chain_with_all D (more ++ bytes ∷ [])) (λ D. chain_with_all D more) (λ D. chain_with D bytes) (pool-append more)
 
   module _ (bits : ℕ) (first : Bytes) (more : List Bytes) where
-    chain-damage-append : chain_damage bits first (more ++ bytes ∷ []) ≡ option_or (chain_damage bits first more) (option_and_then (λ D. more_damage D bytes) (chain_in first more))
+    pub chain-damage-append : chain_damage bits first (more ++ bytes ∷ []) ≡ option_or (chain_damage bits first more) (option_and_then (λ D. more_damage D bytes) (chain_in first more))
     chain-damage-append = step (start_damage bits first) (pool_in_bytes first) (λ D. damage_with_all D (more ++ bytes ∷ [])) (λ D. damage_with_all D more) (λ D. chain_with_all D more) (λ D. more_damage D bytes) (damage-append more)
 
-    chain-in-append : chain_in first (more ++ bytes ∷ []) ≡ option_and_then (λ D. chain_with D bytes) (chain_in first more)
+    pub chain-in-append : chain_in first (more ++ bytes ∷ []) ≡ option_and_then (λ D. chain_with D bytes) (chain_in first more)
     chain-in-append = step_in (pool_in_bytes first) (λ D. chain_with_all D (more ++ bytes ∷ [])) (λ D. chain_with_all D more) (λ D. chain_with D bytes) (pool-append more)
 
   -- an undamaged document more

@@ -18,7 +18,7 @@ use Rattle.ewig_shell.specs.declared.run.Status.{Status}
 use Rattle.ewig_shell.specs.declared.run.Status.TheVariants as status
 use Rattle.ewig_shell.specs.Going.{GoesAs, Opens, Follows, EndsInput, status_of, status_by_words, unbegun_as}
 use Rattle.ewig_shell.specs.Step.{CountsStore}
-use Rattle.ewig_shell.specs.Run.{IsEarly, Run, Says, Runs, RunsInput, RunsOwn, RunsBy, RunsAs, KeepsSure, EndsInTime, IsComplete}
+use Rattle.ewig_shell.specs.Run.{HasAnswered, IsEarly, Run, Says, Runs, RunsInput, RunsOwn, RunsBy, RunsAs, KeepsSure, EndsInTime, IsComplete}
 use Rattle.ewig_shell.specs.Work.{Works, StepsAlone, StepsBeside, status_by}
 use Rattle.ewig_shell.specs.declared.run.Ended.{Ended}
 use Rattle.ewig_shell.specs.declared.execute.Went.{Went}
@@ -160,6 +160,7 @@ GoesAs-then before next = record {
 idle_runs : {A B C : Type 0} (S : source_trait.Ghosts A) (source : A) (K : sink_trait.Ghosts B) (sink : B) (D : store_trait.Ghosts C) (store : C) (most : ℕ) (asked : PlainOptions) (work : Option (ℕ × ℕ)) →
     MatchOption work (RunsInput most asked S source source K sink sink D store store (unbegun_as status.Memory)) (λ (w : ℕ × ℕ). RunsOwn asked w.0 w.1 source source K sink sink D store store (unbegun_as status.Memory))
 idle_runs S source K sink D store most asked None = record {
+  answers = tt;
   run = IfSome-from (S.left source) (λ (input : List ℕ). Runs most asked input (S.left source) K sink sink D store store status.Memory None) (λ input told. record {
     run = idle input status.Memory store;
     input_is = refl;
@@ -218,6 +219,7 @@ module _ {A B C : Type 0} {S : source_trait.Ghosts A} {source source' : A} {K : 
         runs = subst (λ (o : Option PlainOptions). IfSome o (λ (a : PlainOptions). RunsBy most a S source source' K sink sink' D store store' ended)) (sym reads) (record {
           bits = subst (λ (o : Option SpaceView). IfSome o (λ (w : SpaceView). w.pool.bits ≡ asked.bits)) (sym follows.last_is) goes.bits;
           does = subst (λ (o : Option (ℕ × ℕ)). MatchOption o (RunsInput most asked S source source' K sink sink' D store store' ended) (λ (w : ℕ × ℕ). RunsOwn asked w.0 w.1 source source' K sink sink' D store store' ended)) (sym none) (record {
+            answers = subst (λ (o : Option SpaceView). IfSome o (λ (w : SpaceView). HasAnswered asked K sink sink' D store store' w (Some ended.status))) (sym follows.last_is) follows.answers;
             run = IfSome-from (S.left source) (λ (input : List ℕ). Runs most asked input (S.left source') K sink sink' D store store' ended.status ended.space)
                 (λ input told. subst (λ (o : Option SpaceView). Runs most asked input (S.left source') K sink sink' D store store' ended.status o) (sym follows.last_is) (follows.told input told));
             complete = λ no_read no_write. IfSome-from (S.left source) (λ (input : List ℕ). IsComplete most input ended.status)

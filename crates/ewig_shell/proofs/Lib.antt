@@ -12,8 +12,11 @@ pub mod DocumentLemmas
 pub mod LoadLemmas
 pub mod PartLemmas
 pub mod RoundTripLemmas
+pub mod LeavesLemmas
+pub mod ChainTripLemmas
 pub mod StandsLemmas
 pub mod ReadLemmas
 pub mod WorkLemmas
 pub mod RunLemmas
+pub mod AnsweredLemmas
 pub mod EndLemmas

@@ -3,14 +3,13 @@ use Rattle.std.proofs.Common.{◌≡◌, ◌≢◌, ℕ, ◌<◌, ◌≤◌, ◌
 use Rattle.std.proofs.lemmas.Bool.{le-ltb, lt-ltb, cases_Bool}
 use Rattle.elem_core.specs.declared.TheConstants.{NEWLINE}
 use Rattle.shell_io.specs.Pieces.{at_front, pieces}
-use Rattle.space_state.specs.Turns.{HasFewLines}
 use Rattle.std.specs.declared.option.Option.{Option}
 use Rattle.std.specs.FinMap.{get}
 use Rattle.shell_terms.specs.Edit.{Bytes, fill}
 use Rattle.shell_terms.specs.Command.{PlainCommand, edit, read, load}
 use Rattle.plain_space.specs.declared.refusal.Refusal.{Refusal}
 use Rattle.plain_space.specs.declared.refusal.Refusal.TheVariants as why
-use Rattle.plain_space.specs.Workspace.{Workspace, in_batch}
+use Rattle.plain_space.specs.Workspace.{Workspace, in_batch, most}
 use Rattle.plain_space.specs.Answer.{answer, elsewhere, ok_line}
 use Rattle.shell_terms.specs.Kinds.{uses_store, wants_memory}
 use Rattle.pool_check.proofs.DocumentLaw.{valid-at-present}
@@ -296,8 +295,8 @@ pieces-short (byte ∷ bytes) =
     ]
 
 -- so a buffer may have the lines of a file
-pub few-lines : (name bytes : Bytes) (lines : List Bytes) → length bytes ≤ most_stored → HasLines bytes (Ok lines) → HasFewLines (edit (fill name lines))
-few-lines name bytes lines small are = omega (arith, ap length are.0, pieces-short bytes, small)
+pub few-lines : (bytes : Bytes) (lines : List Bytes) → length bytes ≤ most_stored → HasLines bytes (Ok lines) → length lines ≤ most
+few-lines bytes lines small are = omega (arith, ap length are.0, pieces-short bytes, small)
 
 -- the bytes have no lines, or memory ran out
 fills_by : (fault : LinesFault) (name bytes : Bytes) (old : SpaceView) → HasLines bytes (Err fault) → FillsIn name bytes old (Err (lines_fault fault)) old

@@ -1,18 +1,21 @@
 -- What shows that lines were moved, or why not.
-use Rattle.std.proofs.Common.{◌≡◌, ℕ, ◌<◌, ◌≤◌, ◌↔◌, true, false, nat_le, sym, ap, subst, refl, arith, codes, inl, inr, Result, Ok, Err, IsErrAnd}
+use Rattle.std.proofs.Common.{◌≡◌, ℕ, ◌<◌, ◌≤◌, ◌↔◌, ◌∙◌, length, true, false, nat_le, sym, ap, subst, refl, arith, codes, inl, inr, Result, Ok, Err, IsErrAnd}
 use Rattle.std.proofs.lemmas.Bool.{le-leb, cases_Bool}
 use Rattle.std.proofs.lemmas.Bool.Decides.{nat_tests}
+use Rattle.std.proofs.lemmas.List.{length-map}
 use Rattle.shell_terms.specs.Edit.{Bytes}
 use Rattle.shell_terms.specs.Command.{indent, dedent}
 use Rattle.plain_space.specs.declared.refusal.Refusal.TheVariants as why
 use Rattle.plain_space.specs.Workspace.{Workspace, all_lines_pass, in_batch}
 use Rattle.plain_space.specs.Refusing.{has_room_for}
 use Rattle.plain_space.specs.Answer.{answer, elsewhere}
-use Rattle.pool_text.specs.Document.{text}
+use Rattle.pool_text.specs.Pool.{pool}
 use Rattle.pool_text.specs.Rules.{present_rules}
+use Rattle.pool_text.specs.declared.pool.Pool.{Pool}
+use Rattle.pool_text.specs.declared.rules.TheConstants.{MOST_HISTORY}
 use Rattle.elem_core.specs.declared.codes.TheConstants.{CODE_BITS}
 use Rattle.pool_check.specs.Damages.{IsValid}
-use Rattle.pool_map.specs.Laws.{KeepsCells, IndentNeedsRoom}
+use Rattle.pool_map.specs.Laws.{KeepsCells, MappedIsValid, IndentNeedsRoom}
 use Rattle.pool_map.specs.Mapped.{mapped}
 use Rattle.pool_map.specs.Spaces.{indented, dedented}
 use Rattle.pool_map.specs.declared.fault.ChangeFault.{ChangeFault}
@@ -24,10 +27,10 @@ use Rattle.shell_io.specs.declared.device.Store as store_trait
 use Rattle.ewig_shell.specs.declared.store_fault.StoreFault.{StoreFault}
 use Rattle.ewig_shell.specs.declared.store_fault.StoreFault.TheVariants as fault
 use Rattle.ewig_shell.specs.Faults.{change_fault}
-use Rattle.ewig_shell.specs.Step.{MayLack, ObeysOn, Stores, shown_store, stored_reply, refusal_of}
+use Rattle.ewig_shell.specs.Step.{MayLack, ObeysOn, shown_store, stored_reply, refusal_of}
 use Rattle.ewig_shell.proofs.ReplyLemmas.{other-reply}
 use Rattle.ewig_shell.proofs.StepLemmas.{Obeys-lacks_so, ObeysOn-refused, CountsStore-none, may_lack, fault-is}
-use Rattle.ewig_shell.proofs.SaveLemmas.{StoresAs}
+use Rattle.ewig_shell.proofs.SaveLemmas.{IsStorable, StoresPool, says-saves}
 
 -- so many spaces are too many, or not
 many : (n : ℕ) → 80 < n → nat_le n 80 ≡ false
@@ -94,20 +97,39 @@ module _ (W : Workspace) (n : ℕ) (file : Bytes) where
           subst (λ (r : Result (Unit {0}) StoreFault). ObeysOn (indent n file) D space store (stored_reply r) space store) (sym (fault-is result (change_fault why_not) is)) (indent-fails why_not long)
 
       -- the pool with its lines moved is stored
-      pub indent-stores : KeepsCells (indented n) space.pool → StoresAs (indent n file) W space file (text (mapped (indented n) space.pool)) (Unit {0})
+      pub indent-stores : KeepsCells (indented n) space.pool → StoresPool (indent n file) W space file (mapped (indented n) space.pool)
       indent-stores lines = record {
         stands = stands;
         granted = indent-granted few (room-is.0 lines);
         wants = refl;
         uses = refl;
-        says = λ old new reply same stores fit. subst (λ (s : SpaceView). Stores file (text (mapped (indented n) s.pool)) old reply new) (sym same) stores;
+        says = says-saves (mapped (indented n)) file space;
       }
 
-pub dedent-stores : {space : SpaceView} (W : Workspace) (n : ℕ) (file : Bytes) → in_batch W ≡ false → n ≤ 80 → StandsFor space.pool W → StoresAs (dedent n file) W space file (text (mapped (dedented n) space.pool)) (Unit {0})
-dedent-stores W n file free few stands = record {
+pub dedent-stores : {space : SpaceView} (W : Workspace) (n : ℕ) (file : Bytes) → in_batch W ≡ false → n ≤ 80 → StandsFor space.pool W → StoresPool (dedent n file) W space file (mapped (dedented n) space.pool)
+dedent-stores {space} W n file free few stands = record {
   stands = stands;
   granted = dedent-granted W n file free few;
   wants = refl;
   uses = refl;
-  says = λ old new reply same stores fit. subst (λ (s : SpaceView). Stores file (text (mapped (dedented n) s.pool)) old reply new) (sym same) stores;
+  says = says-saves (mapped (dedented n)) file space;
+}
+
+-- ## The mapped pool
+
+module _ (change : Bytes → Bytes) (P : Pool) where
+  mapped-history : (mapped change P).history ≡ P.history
+  unfolding mapped pool
+  mapped-history = refl
+
+  mapped-four : length P.roots ≡ 4 → length (mapped change P).roots ≡ 4
+  unfolding mapped pool
+  mapped-four four = length-map P.roots _ ∙ four
+
+-- its document is one that a load takes, where each line stays one
+pub mapped-storable : (change : Bytes → Bytes) (P : Pool) (W : Workspace) → MappedIsValid → StandsFor P W → in_batch W ≡ false → P.bits ≤ CODE_BITS → IsValid P → P.history ≤ MOST_HISTORY → KeepsCells change P → IsStorable (mapped change P)
+mapped-storable change P W keeps-valid stands free bits valid within lines = record {
+  valid = keeps-valid present_rules change P (omega (arith, bits)) valid lines;
+  within = subst (λ (n : ℕ). n ≤ MOST_HISTORY) (sym (mapped-history change P)) within;
+  four = mapped-four change P (four-roots P W stands free);
 }

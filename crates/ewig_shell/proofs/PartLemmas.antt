@@ -1,10 +1,9 @@
 -- What shows that a chain of files was taken, or that what a space has more was stored behind it, or why not.
-use Rattle.std.proofs.Common.{◌≡◌, ◌≢◌, ℕ, zero, suc, ◌<◌, ◌≤◌, ◌+◌, ◌^◌, ◌&&◌, min, ◌∙◌, length, sym, ap, subst, refl, arith, nat_le, codes, Bool, true, false, inl, inr, Result, Ok, Err, IsTrue, IsErrAnd, ◌⊎◌, IfSome, IsSomeAnd, MatchBool, MatchOption, List, [], ◌∷◌, ◌++◌, None, Some}
-use Rattle.std.proofs.lemmas.Bool.{le-ltb, lt-ltb, le-leb}
+use Rattle.std.proofs.Common.{◌≡◌, ◌≢◌, ℕ, zero, suc, ◌<◌, ◌≤◌, ◌+◌, ◌&&◌, ◌∙◌, length, sym, ap, subst, refl, arith, nat_le, codes, Bool, true, false, inl, inr, Result, Ok, Err, IsTrue, IsErrAnd, ◌⊎◌, IfOk, IsSomeAnd, MatchBool, MatchOption, List, [], ◌∷◌, ◌++◌, Some}
+use Rattle.std.proofs.lemmas.Bool.{lt-ltb, le-leb}
 use Rattle.std.proofs.lemmas.Bool.Decides.{nat_tests}
-use Rattle.std.proofs.lemmas.List.{length-map}
 use Rattle.std.specs.declared.option.Option.{Option}
-use Rattle.std.specs.FinMap.{insert}
+use Rattle.std.specs.declared.vec.Vec.{Vec}
 use Rattle.shell_terms.specs.Edit.{Bytes}
 use Rattle.shell_terms.specs.Command.{PlainCommand, part, chain}
 use Rattle.shell_terms.specs.Kinds.{uses_store, wants_memory}
@@ -12,14 +11,16 @@ use Rattle.shell_words.specs.Files.{numbered}
 use Rattle.plain_space.specs.declared.refusal.Refusal.TheVariants as why
 use Rattle.plain_space.specs.Workspace.{Workspace, in_batch}
 use Rattle.plain_space.specs.Answer.{answer, elsewhere, ok_line}
-use Rattle.pool_text.specs.Pool.{pool}
+use Rattle.pool_text.specs.Rules.{present_rules}
 use Rattle.pool_text.specs.Document.{value_in}
 use Rattle.pool_text.specs.declared.pool.Pool.{Pool}
 use Rattle.pool_text.specs.declared.damage.Damage.{Damage}
 use Rattle.pool_text.specs.declared.damage.Damage.TheVariants as damage_is
 use Rattle.pool_delta.specs.Parts.{part_document, part_text}
 use Rattle.pool_delta.specs.Delta.{delta}
-use Rattle.pool_delta.specs.Chains.{IsChain, chain_damage, chain_in, chain_pool}
+use Rattle.pool_delta.specs.Chains.{IsChain, chain_in}
+use Rattle.pool_delta.specs.Laws.{CanFollow, DeltaStands, DeltasAreUndamaged}
+use Rattle.pool_delta.proofs.ChainLaws.{open-passed}
 use Rattle.state_rows.specs.Standing.{StandsFor}
 use Rattle.space_state.specs.View.{SpaceView}
 use Rattle.shell_io.specs.Fault.{Calls}
@@ -33,7 +34,7 @@ use Rattle.ewig_shell.specs.declared.store_fault.StoreFault.{StoreFault}
 use Rattle.ewig_shell.specs.declared.store_fault.StoreFault.TheVariants as fault
 use Rattle.ewig_shell.specs.Faults.{fault_of}
 use Rattle.ewig_shell.specs.Saving.{saved_as}
-use Rattle.ewig_shell.specs.Step.{Machine, StoreView, KeepsFiles, Refuses, Fetched, missing, large, given, fetched_all, chain_names, Makes, TakesAll, Stores, StoresPart, IsStored, FailsToStore, ByChain, ChainsFiles, IsChained, LoadsChain, SaysElsewhere, ObeysOn, CountsStore, shown_store, machine_of, most_stored, damage_word, reply_of, refusal_of, stored_reply}
+use Rattle.ewig_shell.specs.Step.{Machine, KeepsFiles, Refuses, Fetched, missing, large, given, chain_names, Makes, TakesAll, Stores, IsPartDocumentOf, StoresPart, IsStored, FailsToStore, ByChain, ChainsFiles, LoadsChain, SaysElsewhere, ObeysOn, CountsStore, shown_store, machine_of, most_stored, damage_word, reply_of, refusal_of, stored_reply}
 use Rattle.ewig_shell.specs.Chaining.{IsReadAs, AreFetched, TakesChain, IsUntaken, TakesChainIn}
 use Rattle.ewig_shell.proofs.ReplyLemmas.{other-reply, no-refusal}
 use Rattle.ewig_shell.proofs.StepLemmas.{CountsStore-failed, CountsStore-succeeded, Obeys-elsewhere, may_lack, fault-is}
@@ -287,30 +288,30 @@ Chain-ends {command} {D = D} {space} {space'} {store} {store'} Q ended takes sam
   | inr none ↦ subst (λ (r : Result (Unit {0}) StoreFault). ObeysOn command D space store (stored_reply r) space' store') (sym none.0) (Lacks-behind takes same calls succeeds none.1)
 ]
 
--- what a pool keeps of the chain that stands for it
-module _ (Q : Pool) where
-  chain-roots : length (chain_pool Q).roots ≡ length Q.roots
-  unfolding pool
-  chain-roots = length-map Q.roots _
-
-  module _ (P : Pool) (is : P ≡ chain_pool Q) (chained : IsChain Q) where
-    pub chained-roots : length P.roots ≡ 4
-    chained-roots = ap (λ (R : Pool). length R.roots) is ∙ chain-roots ∙ chained.roots
-
 -- ## A part
 
 abbrev pub part_of : Pool → Pool → Bytes
 part_of Q P = part_text (delta Q P)
 
-abbrev pub ReadsBack : Pool → Pool → Type 0
-ReadsBack Q P = value_in (part_text (delta Q P)) ≡ Some (part_document (delta Q P))
+-- a text that reads back is a partial document of the pool
+part-document : (Q P : Pool) (bytes : Bytes) → DeltaStands → DeltasAreUndamaged → IsChain Q → CanFollow Q P → value_in bytes ≡ Some (part_document (delta Q P)) → IsPartDocumentOf Q P bytes
+part-document Q P bytes stands undamaged is follows reads = record {
+  part = undamaged Q P bytes is follows reads;
+  stands = stands Q P (open-passed present_rules Q is.passes).lead_back follows.valid follows.bits;
+}
+
+pub part-documents : {A E : Type 0} (result : Result (Vec ℕ A) E) (Q P made : Pool) → made ≡ P → DeltaStands → DeltasAreUndamaged → IsChain Q → CanFollow Q P → IfOk result (λ (b : Vec ℕ A). value_in b.items ≡ Some (part_document (delta Q made))) →
+    IfOk result (λ (b : Vec ℕ A). IsPartDocumentOf Q P b.items)
+part-documents (Ok b) Q P made same stands undamaged is follows reads =
+    part-document Q P b.items stands undamaged is follows (subst (λ (R : Pool). value_in b.items ≡ Some (part_document (delta Q R))) same reads)
+part-documents (Err e) Q P made same stands undamaged is follows reads = tt
 
 module _ {command : PlainCommand} {W : Workspace} {names : List Bytes} {name : Bytes} {C : Type 0} {D : store_trait.Ghosts C} {space : SpaceView} {store store' : C} {failed : Type 0}
     (Q : Pool) (takes : TakesFrom command W space names (StoresPart name)) (same : D.held store' ≡ D.held store) (calls : Calls D.faults D.steady D.faultless store store' failed) (succeeds : failed → ⊥)
     (taken : TakesChain space.pool.bits (D.held store) names (Ok Q)) where
   -- the store had its say, or wasn't asked
-  stored_as : {store'' : C} {reply : List ℕ} → Stores name (part_of Q space.pool) (machine_of D space store') reply (machine_of D space store'') → (reply ≡ reply_of (ok_line ∷ []) → ReadsBack Q space.pool) → CountsStore D store store'' reply → ObeysOn command D space store reply space store''
-  stored_as stores reads counts = are-chain takes same calls succeeds Q taken (record { stores = stores; reads = reads }) counts
+  stored_as : {store'' : C} {reply : List ℕ} → Stores name (part_of Q space.pool) (machine_of D space store') reply (machine_of D space store'') → (reply ≡ reply_of (ok_line ∷ []) → IsPartDocumentOf Q space.pool (part_of Q space.pool)) → CountsStore D store store'' reply → ObeysOn command D space store reply space store''
+  stored_as stores document counts = are-chain takes same calls succeeds Q taken (record { stores = stores; document = document }) counts
 
   -- the partial document has too many bytes
   pub Part-large : most_stored < length (part_of Q space.pool) → ObeysOn command D space store (refusal_of (codes "large")) space store'
@@ -322,28 +323,28 @@ module _ {command : PlainCommand} {W : Workspace} {names : List Bytes} {name : B
   }) (λ ok. absurd (no-refusal (codes "large") (sym ok))) (CountsStore-succeeded succeeds (other-reply {due = refusal_of (codes "large")} refl refl) calls)
 
   -- it was handed to the store
-  by_kept : {store'' : C} (result : Result (Unit {0}) KeepFault) → length (part_of Q space.pool) ≤ most_stored → ReadsBack Q space.pool →
+  by_kept : {store'' : C} (result : Result (Unit {0}) KeepFault) → length (part_of Q space.pool) ≤ most_stored → IsPartDocumentOf Q space.pool (part_of Q space.pool) →
       ChangesFiles (D.held store') (D.held store'') (λ (before now : Files). KeepsFile before now name (part_of Q space.pool) result) → Calls D.faults D.steady D.faultless store' store'' (result ≡ Err unkept.Failed) → ObeysOn command D space store (stored_reply (saved_as result)) space store''
-  by_kept {store''} (Ok done) few reads told keeps = stored_as
+  by_kept {store''} (Ok done) few document told keeps = stored_as
       (called name (part_of Q space.pool) (machine_of D space store') (machine_of D space store'') refl few (inl (record { reply_is = refl; files = told; counted = keeps.counts.counted })))
-      (λ _. reads) (CountsStore-succeeded (λ q. cc) (other-reply {due = reply_of (ok_line ∷ [])} refl refl) (Calls-then calls succeeds keeps))
-  by_kept {store''} (Err unkept.Failed) few reads told keeps = stored_as
+      (λ _. document) (CountsStore-succeeded (λ q. cc) (other-reply {due = reply_of (ok_line ∷ [])} refl refl) (Calls-then calls succeeds keeps))
+  by_kept {store''} (Err unkept.Failed) few document told keeps = stored_as
       (called name (part_of Q space.pool) (machine_of D space store') (machine_of D space store'') refl few (inr (record { reply_is = refl; files = told; counted = keeps.counts.counted; cause = keeps.counts.cause refl })))
       (λ ok. absurd (no-refusal (codes "fault") (sym ok))) (CountsStore-failed refl (Calls-then calls succeeds keeps))
-  by_kept {store''} (Err unkept.Memory) few reads told keeps =
+  by_kept {store''} (Err unkept.Memory) few document told keeps =
       let all = Calls-then calls succeeds keeps in
       lacks takes (record {
         files = subst (λ (f : Option Files). ChangesFiles f (D.held store'') (λ (before now : Files). now ≡ before)) same told;
         counted = all.counts.counted;
       }) refl (λ q. cc) all
 
-  pub Part-kept : {store'' : C} (slice given_name : Bytes) (result : Result (Unit {0}) KeepFault) (ended : Result (Unit {0}) StoreFault) (bytes : Bytes) → length bytes ≤ most_stored → bytes ≡ part_of Q space.pool → value_in bytes ≡ Some (part_document (delta Q space.pool)) →
+  pub Part-kept : {store'' : C} (slice given_name : Bytes) (result : Result (Unit {0}) KeepFault) (ended : Result (Unit {0}) StoreFault) (bytes : Bytes) → length bytes ≤ most_stored → bytes ≡ part_of Q space.pool → IsPartDocumentOf Q space.pool bytes →
       slice ≡ bytes → given_name ≡ name →
       ChangesFiles (D.held store') (D.held store'') (λ (before now : Files). KeepsFile before now given_name slice result) → Calls D.faults D.steady D.faultless store' store'' (result ≡ Err unkept.Failed) → saved_as result ≡ ended →
       ObeysOn command D space store (stored_reply ended) space store''
-  Part-kept {store''} slice given_name result ended bytes few is reads slice_is named told keeps ends =
+  Part-kept {store''} slice given_name result ended bytes few is document slice_is named told keeps ends =
       subst (λ (r : Result (Unit {0}) StoreFault). ObeysOn command D space store (stored_reply r) space store'') ends
-      (by_kept result (subst (λ (w : Bytes). length w ≤ most_stored) is few) (subst (λ (w : Bytes). value_in w ≡ Some (part_document (delta Q space.pool))) is reads)
+      (by_kept result (subst (λ (w : Bytes). length w ≤ most_stored) is few) (subst (λ (w : Bytes). IsPartDocumentOf Q space.pool w) is document)
       (subst (λ (n : Bytes). ChangesFiles (D.held store') (D.held store'') (λ (before now : Files). KeepsFile before now n (part_of Q space.pool) result)) named
       (subst (λ (w : Bytes). ChangesFiles (D.held store') (D.held store'') (λ (before now : Files). KeepsFile before now given_name w result)) (slice_is ∙ is) told)) keeps)
 

@@ -1,8 +1,9 @@
 -- How a run goes on, and how it ends.
-use Rattle.std.proofs.Common.{◌≡◌, ℕ, ◌+◌, ◌-◌, ◌≤◌, List, [], ◌∷◌, ◌++◌, length, take, drop, codes, sym, ap, ◌∙◌, subst, refl, arith, append_assoc, length-append, ◌↔◌, None, Some, Ok, Err, IfOk, MatchOption, inl}
+use Rattle.std.proofs.Common.{◌≡◌, ℕ, ◌+◌, ◌-◌, ◌≤◌, List, [], ◌∷◌, ◌++◌, length, take, drop, codes, sym, ap, ◌∙◌, subst, refl, arith, append_assoc, length-append, ◌↔◌, None, Some, Ok, Err, IfOk, IsTrue, MatchOption, inl}
 use Rattle.std.proofs.lemmas.List.{append-nil, take-append-drop, length-take-le, take_all}
 use Rattle.std.proofs.KnownBytes.{Appends-nil, Appends-trans}
 use Rattle.std.specs.declared.option.Option.{Option}
+use Rattle.std.specs.List.{list_any}
 use Rattle.std.specs.declared.result.Result.{Result}
 use Rattle.std.specs.Io.KnownBytes.{Consumes}
 use Rattle.shell_io.specs.Sending.{Sends}
@@ -24,12 +25,11 @@ use Rattle.ewig_shell.specs.Step.{StepsOn, StepsThrough}
 use Rattle.ewig_shell.specs.Sending.{Replies}
 use Rattle.ewig_shell.specs.Run.{Run, Says, Runs, opening}
 use Rattle.ewig_shell.specs.Going.{IsGoing, TakesReplies, Opens, OpensFile, status_of}
-use Rattle.ewig_shell.proofs.QuitLemmas.{is_quit-true, is_quit-from, none-append, any-here, up_to-none, up_to-first}
-use Rattle.ewig_shell.proofs.ReplyLemmas.{first_byte}
+use Rattle.ewig_shell.proofs.QuitLemmas.{load-no_quit, neither, none-append, any-here, up_to-none, up_to-first}
 use Rattle.ewig_shell.proofs.ReadLemmas.{quit_read}
 
 -- one step more
-StepsThrough-append : {C : Type 0} {D : store_trait.Ghosts C} (W : SpaceView) (V : C) (xs : List (List ℕ)) (output : List ℕ) (W' : SpaceView) (V' : C) (piece reply : List ℕ) (last : SpaceView) (V'' : C) → StepsThrough xs D W V output W' V' → StepsOn piece D W' V' reply last V'' → StepsThrough (xs ++ piece ∷ []) D W V (output ++ reply) last V''
+pub StepsThrough-append : {C : Type 0} {D : store_trait.Ghosts C} (W : SpaceView) (V : C) (xs : List (List ℕ)) (output : List ℕ) (W' : SpaceView) (V' : C) (piece reply : List ℕ) (last : SpaceView) (V'' : C) → StepsThrough xs D W V output W' V' → StepsOn piece D W' V' reply last V'' → StepsThrough (xs ++ piece ∷ []) D W V (output ++ reply) last V''
 StepsThrough-append {C = C} {D} W V [] output W' V' piece reply last V'' h step = (
   reply,
   last,
@@ -48,14 +48,13 @@ given_then {input = input} {old} {piece = piece} next =
     next.in_time.1 ∙ ap (λ (w : List (List ℕ)). w ++ next.in_time.0) next.next ∙ append_assoc (pieces_given input old) (piece ∷ []) next.in_time.0
 
 -- one piece more behind the line that loads a document
-behind : (front given all : List (List ℕ)) (piece : List ℕ) → all ≡ given ++ piece ∷ [] → (front ++ given) ++ piece ∷ [] ≡ front ++ all
+pub behind : (front given all : List (List ℕ)) (piece : List ℕ) → all ≡ given ++ piece ∷ [] → (front ++ given) ++ piece ∷ [] ≡ front ++ all
 behind front given all piece e = append_assoc front given (piece ∷ []) ∙ ap (λ (w : List (List ℕ)). front ++ w) (sym e)
 
 -- that line isn't to quit
 opening-no_quit : (first : Option (List ℕ)) (pieces : List (List ℕ)) → (HasQuit pieces → ⊥) → HasQuit (opening first ++ pieces) → ⊥
-unfolding is_quit
 opening-no_quit None pieces goes_on quits = goes_on quits
-opening-no_quit (Some file) pieces goes_on quits = goes_on quits
+opening-no_quit (Some file) pieces goes_on quits = neither (is_quit (codes "load " ++ file)) (list_any is_quit pieces) (load-no_quit file) goes_on quits
 
 -- the same pieces were given as before
 given_same : (input : List ℕ) (old new : Reading) → new.given ≡ old.given → pieces_given input new ≡ pieces_given input old
@@ -121,14 +120,14 @@ module _ {B C : Type 0} {asked : PlainOptions} {K : sink_trait.Ghosts B} {begin 
       new.taken ≤ most + 1 →
       StepsOn piece D W V reply W' V' →
       Sends K.written K.faults K.steady K.has_room sink sink' result reply →
-      IfOk result (λ (w : Went). (w ≡ went.Quit) ↔ (piece ≡ codes "quit")) →
+      IfOk result (λ (w : Went). (w ≡ went.Quit) ↔ IsTrue (is_quit piece)) →
       MatchOption (status_of result) (IsGoing most asked input new left K begin sink' D first V' W') (λ (s : Status). Runs most asked input left K begin sink' D first V' s (Some W'))
   by_result {most = most} {input} {old} {new} {V = V} {V'} {W} {W'} {piece} {reply} (Ok went.On) going stands next few step sends quits = record {
     stands = stands;
     later = next.in_time.0;
     in_time = next.in_time.1;
     goes_on = subst (λ (w : List (List ℕ)). HasQuit w → ⊥) (sym next.next)
-        (none-append is_quit (pieces_given input old) piece going.goes_on (λ test. absurd (let never = quits.1 (is_quit-true piece test) in cc)));
+        (none-append is_quit (pieces_given input old) piece going.goes_on (λ test. absurd (let never = quits.1 test in cc)));
     replies = going.replies ++ reply;
     steps = subst (λ (w : List (List ℕ)). StepsThrough w D (start_view asked.bits) first (going.replies ++ reply) W' V') (behind (opening asked.first) (pieces_given input old) (pieces_given input new) piece next.next)
         (StepsThrough-append (start_view asked.bits) first _ going.replies W V piece reply W' V' going.steps step);
@@ -136,7 +135,7 @@ module _ {B C : Type 0} {asked : PlainOptions} {K : sink_trait.Ghosts B} {begin 
   }
   by_result {most = most} {input} {old} {new} {V = V} {V'} {W} {W'} {piece} {reply} (Ok went.Quit) going stands next few step sends quits =
       let these = given_then next in
-      let test = is_quit-from piece (quits.0 refl) in
+      let test = quits.0 refl in
       ends_there most input new (going.replies ++ reply) status.Done V' W' stands few (TakesReplies-append going.replies reply going.writes sends) (λ e. cc) (record {
         read = quit_read most input new left next.in_time.0 stands next.in_time.1
             (subst (λ (w : List (List ℕ)). HasQuit w) (sym next.next) (any-here is_quit (pieces_given input old) piece [] test));
@@ -189,7 +188,7 @@ module _ {B C : Type 0} {asked : PlainOptions} {K : sink_trait.Ghosts B} {begin 
       GivesNext most input old new piece →
       new.taken ≤ most + 1 →
       Replies K sink sink' result (λ (reply : List ℕ). StepsOn piece D W V reply W' V') →
-      IfOk result (λ (w : Went). (w ≡ went.Quit) ↔ (piece ≡ codes "quit")) →
+      IfOk result (λ (w : Went). (w ≡ went.Quit) ↔ IsTrue (is_quit piece)) →
       ends ≡ status_of result →
       MatchOption ends (IsGoing most asked input new left K begin sink' D first V' W') (λ (s : Status). Runs most asked input left K begin sink' D first V' s (Some W'))
   Going-next {most = most} {input} {new = new} {V' = V'} {W' = W'} {result = result} going stands next few replies quits e =
@@ -259,7 +258,7 @@ opened K sink sink' D store store' W W' (Some file) opens = (
 
 -- what the line made of the run
 pub OpensFile-by : {B C : Type 0} {K : sink_trait.Ghosts B} {sink sink' : B} {D : store_trait.Ghosts C} {store store' : C} {space space' : SpaceView} {ends : Option Status} (piece file : List ℕ) (result : Result Went Failed) → piece ≡ codes "load " ++ file → ends ≡ status_of result →
-    Replies K sink sink' result (λ (reply : List ℕ). StepsOn piece D space store reply space' store') → space'.pool.bits ≡ space.pool.bits → IfOk result (λ (w : Went). (w ≡ went.Quit) ↔ (piece ≡ codes "quit")) → OpensFile file K sink sink' D store store' space space' ends
+    Replies K sink sink' result (λ (reply : List ℕ). StepsOn piece D space store reply space' store') → space'.pool.bits ≡ space.pool.bits → IfOk result (λ (w : Went). (w ≡ went.Quit) ↔ IsTrue (is_quit piece)) → OpensFile file K sink sink' D store store' space space' ends
 OpensFile-by {K = K} {sink} {sink'} {D} {store} {store'} {space} {space'} piece file result is e replies bits quits = record {
   went = result;
   ends_so = e;
@@ -268,19 +267,19 @@ OpensFile-by {K = K} {sink} {sink'} {D} {store} {store'} {space} {space'} piece 
   bits = bits;
 }
   where
-    other : piece ≡ codes "quit" → ⊥
-    other same = let first : ◌≡◌ {A = ℕ} 108 113 = ap first_byte (sym is ∙ same) in omega arith
+    other : IsTrue (is_quit piece) → ⊥
+    other test = load-no_quit file (subst (λ (w : List ℕ). IsTrue (is_quit w)) is test)
 
-    stays : (r : Result Went Failed) → IfOk r (λ (w : Went). (w ≡ went.Quit) ↔ (piece ≡ codes "quit")) → IfOk r (λ (w : Went). w ≡ went.On)
+    stays : (r : Result Went Failed) → IfOk r (λ (w : Went). (w ≡ went.Quit) ↔ IsTrue (is_quit piece)) → IfOk r (λ (w : Went). w ≡ went.On)
     stays (Ok went.On) q = refl
     stays (Ok went.Quit) q = absurd (other (q.0 refl))
     stays (Err f) q = tt
 
 -- a run that has given nothing goes on behind it
-pub Going-start : {B C : Type 0} {asked : PlainOptions} {K : sink_trait.Ghosts B} {sink sink' : B} {D : store_trait.Ghosts C} (most : ℕ) {input : List ℕ} {reader : Reading} {left : Option (List ℕ)} {first V : C} {W W' : SpaceView} →
-    left ≡ Some input → ((all : List ℕ) → StandsIn all reader (Some all)) → reader.given ≡ 0 → W ≡ start_view asked.bits → Opens asked.first K sink sink' D first V W W' None → IsGoing most asked input reader left K sink sink' D first V W'
-Going-start {asked = asked} {K} {sink} {sink'} {D} most {input} {reader} {first = first} {V} {W} {W'} told stands none empty opens =
-    let begun = opened K sink sink' D first V W W' asked.first opens in
+pub Going-start : {B C : Type 0} {asked : PlainOptions} {K : sink_trait.Ghosts B} {sink sink' : B} {D : store_trait.Ghosts C} (most : ℕ) {input : List ℕ} {reader : Reading} {left : Option (List ℕ)} {first V : C} {W W' : SpaceView} (file : Option (List ℕ)) → asked.first ≡ file →
+    left ≡ Some input → ((all : List ℕ) → StandsIn all reader (Some all)) → reader.given ≡ 0 → W ≡ start_view asked.bits → Opens file K sink sink' D first V W W' None → IsGoing most asked input reader left K sink sink' D first V W'
+Going-start {asked = asked} {K} {sink} {sink'} {D} most {input} {reader} {first = first} {V} {W} {W'} file is told stands none empty opens =
+    let begun = opened K sink sink' D first V W W' file opens in
     record {
       stands = subst (λ (o : Option (List ℕ)). StandsIn input reader o) (sym told) (stands input);
       later = pieces_within most input;
@@ -289,7 +288,8 @@ Going-start {asked = asked} {K} {sink} {sink'} {D} most {input} {reader} {first 
       replies = begun.0;
       steps = subst (λ (w : List (List ℕ)). StepsThrough (opening asked.first ++ w) D (start_view asked.bits) first begun.0 W' V) (sym (nothing_given input reader none))
           (subst (λ (w : List (List ℕ)). StepsThrough w D (start_view asked.bits) first begun.0 W' V) (sym (append-nil (opening asked.first)))
-          (subst (λ (v : SpaceView). StepsThrough (opening asked.first) D v first begun.0 W' V) empty begun.1));
+          (subst (λ (v : SpaceView). StepsThrough (opening asked.first) D v first begun.0 W' V) empty
+          (subst (λ (o : Option (List ℕ)). StepsThrough (opening o) D W first begun.0 W' V) (sym is) begun.1)));
       writes = begun.2;
     }
 
@@ -338,9 +338,6 @@ module _ {B C : Type 0} {asked : PlainOptions} {K : sink_trait.Ghosts B} {sink s
       let same : status.WriteFault ≡ s = let both = e in cc in
       subst (λ (t : Status). Runs most asked input left K sink sink' D first V t (Some W')) same (cut_at file reply is step f sends)
 
-  ended_by : (file : Option (List ℕ)) (s : Status) → asked.first ≡ file → Opens file K sink sink' D first V W W' (Some s) → Runs most asked input left K sink sink' D first V s (Some W')
-  ended_by None s is opens = absurd (let never = opens.0 in cc)
-  ended_by (Some file) s is opens = by_went file opens.replies.reply s opens.went is opens.ends_so opens.goes_on opens.replies.due opens.replies.sends
-
-  pub Opens-ended : (s : Status) → Opens asked.first K sink sink' D first V W W' (Some s) → Runs most asked input left K sink sink' D first V s (Some W')
-  Opens-ended s opens = ended_by asked.first s refl opens
+  pub Opens-ended : (file : Option (List ℕ)) (s : Status) → asked.first ≡ file → Opens file K sink sink' D first V W W' (Some s) → Runs most asked input left K sink sink' D first V s (Some W')
+  Opens-ended None s is opens = absurd (let never = opens.0 in cc)
+  Opens-ended (Some file) s is opens = by_went file opens.replies.reply s opens.went is opens.ends_so opens.goes_on opens.replies.due opens.replies.sends

@@ -1,5 +1,5 @@
 -- What shows that a space was stored, or why not.
-use Rattle.std.proofs.Common.{◌≡◌, ℕ, ◌+◌, ◌<◌, ◌≤◌, ◌++◌, length, length-append, ◌-◌, drop, slice_range, sym, ap, ◌∙◌, subst, refl, arith, codes, Bool, true, false, inl, inr, Result, Ok, Err, None, Some, IsTrue, IsErrAnd, IsSomeAnd, MatchBool, List, [], ◌∷◌, ◌⊎◌}
+use Rattle.std.proofs.Common.{◌≡◌, ℕ, ◌+◌, ◌<◌, ◌≤◌, ◌++◌, length, length-append, ◌-◌, drop, slice_range, sym, ap, ◌∙◌, subst, refl, arith, codes, Bool, true, false, inl, inr, Result, Ok, Err, None, Some, IsTrue, IfOk, IsErrAnd, IsSomeAnd, MatchBool, List, [], ◌∷◌, ◌⊎◌}
 use Rattle.std.proofs.lemmas.Bool.{le-ltb, lt-ltb}
 use Rattle.std.specs.declared.option.Option.{Option}
 use Rattle.std.specs.FinMap.{insert}
@@ -32,7 +32,7 @@ use Rattle.shell_io.specs.declared.device.Store as store_trait
 use Rattle.ewig_shell.specs.declared.store_fault.StoreFault.{StoreFault}
 use Rattle.ewig_shell.specs.declared.store_fault.StoreFault.TheVariants as unsaved
 use Rattle.ewig_shell.specs.Saving.{Collects, saved_as, CallsKeep, EndsKeeping}
-use Rattle.ewig_shell.specs.Step.{Machine, KeepsFiles, Refuses, IsStored, FailsToStore, Stores, SaysElsewhere, ObeysOn, CountsStore, shown_store, machine_of, most_stored, ended_lines, reply_of, refusal_of, stored_reply}
+use Rattle.ewig_shell.specs.Step.{Machine, KeepsFiles, Refuses, IsStored, FailsToStore, Stores, Saves, SaysElsewhere, ObeysOn, CountsStore, shown_store, machine_of, most_stored, ended_lines, reply_of, refusal_of, stored_reply}
 use Rattle.pool_text.specs.declared.rules.TheConstants.{MOST_HISTORY}
 use Rattle.elem_core.specs.declared.TheConstants.{NEWLINE}
 use Rattle.std.proofs.lemmas.List.{append-nil, take_all}
@@ -40,12 +40,6 @@ use Rattle.std.proofs.lemmas.Option.{same_Some}
 use Rattle.ewig_shell.proofs.LinesLemmas.{reply_of-append}
 use Rattle.ewig_shell.proofs.ReplyLemmas.{other-reply, no-refusal}
 use Rattle.ewig_shell.proofs.StepLemmas.{some_lines, Obeys-lacks, CountsStore-none, CountsStore-failed, CountsStore-succeeded, save-outside, answer-outside, Obeys-elsewhere, ObeysOn-refused, may_lack, fault-is}
-
--- the text of a valid pool outside a batch is one that a load takes
-pub document-is : (W : Workspace) (pool made : Pool) (bytes : Bytes) → StandsFor pool W → in_batch W ≡ false → IsValid pool → pool.history ≤ MOST_HISTORY → made ≡ pool → bytes ≡ text made → value_in bytes ≡ Some (document made) → IsDocumentOf pool (text pool)
-document-is W pool made bytes stands e valid within same is reads =
-    subst (λ (w : Bytes). IsDocumentOf pool w) (is ∙ ap text same)
-    (valid-document pool bytes (reads ∙ ap (λ (P : Pool). Some (document P)) same) within (four-roots pool W stands e) valid)
 
 -- a store was called for bytes that aren't too many
 pub called : (name bytes : Bytes) (old new : Machine) {reply : List ℕ} → new.space ≡ old.space → length bytes ≤ most_stored → IsStored name bytes old.store reply new.store ⊎ FailsToStore name old.store reply new.store → Stores name bytes old reply new
@@ -119,18 +113,18 @@ module _ {command : PlainCommand} {W : Workspace} {name bytes : Bytes} {IsFit : 
     }
 
   -- one of the three
-  by_kept : {store store' : C} (result : Result (Unit {0}) KeepFault) → length bytes ≤ most_stored → IsFit →
+  by_kept : {store store' : C} (result : Result (Unit {0}) KeepFault) → length bytes ≤ most_stored → IfOk (saved_as result) (λ done. IsFit) →
       ChangesFiles (D.held store) (D.held store') (λ (before now : Files). KeepsFile before now name bytes result) → Calls D.faults D.steady D.faultless store store' (result ≡ Err kept.Failed) → ObeysOn command D space store (stored_reply (saved_as result)) space store'
   by_kept (Ok done) few fit told calls = stored few calls fit told (λ q. cc)
-  by_kept (Err kept.Failed) few fit told calls = failed_to few calls told refl
-  by_kept (Err kept.Memory) few fit told calls = lacked few calls told (λ q. cc)
+  by_kept (Err kept.Failed) few _ told calls = failed_to few calls told refl
+  by_kept (Err kept.Memory) few _ told calls = lacked few calls told (λ q. cc)
 
   -- the bytes were handed to the store
-  pub Stores-kept : {store store' : C} (slice given : Bytes) (result : Result (Unit {0}) KeepFault) (ended : Result (Unit {0}) StoreFault) → length bytes ≤ most_stored → IsFit → slice ≡ bytes → given ≡ name →
+  pub Stores-kept : {store store' : C} (slice given : Bytes) (result : Result (Unit {0}) KeepFault) (ended : Result (Unit {0}) StoreFault) → length bytes ≤ most_stored → IfOk ended (λ done. IsFit) → slice ≡ bytes → given ≡ name →
       ChangesFiles (D.held store) (D.held store') (λ (before now : Files). KeepsFile before now given slice result) → Calls D.faults D.steady D.faultless store store' (result ≡ Err kept.Failed) → saved_as result ≡ ended → ObeysOn command D space store (stored_reply ended) space store'
   Stores-kept {store} {store'} slice given result ended few fit slice_is named told calls ends =
       subst (λ (r : Result (Unit {0}) StoreFault). ObeysOn command D space store (stored_reply r) space store') ends
-      (by_kept result few fit
+      (by_kept result few (subst (λ (r : Result (Unit {0}) StoreFault). IfOk r (λ done. IsFit)) (sym ends) fit)
       (subst (λ (n : Bytes). ChangesFiles (D.held store) (D.held store') (λ (before now : Files). KeepsFile before now n bytes result)) named
       (subst (λ (w : Bytes). ChangesFiles (D.held store) (D.held store') (λ (before now : Files). KeepsFile before now given w result)) slice_is told)) calls)
 
@@ -148,7 +142,7 @@ CallsKeep-of {name} {bytes} {D = D} {store} {store'} slice given result ended fe
 
 -- a command that stores the bytes ended as these were kept
 pub Stores-ended : {command : PlainCommand} {W : Workspace} {name bytes : Bytes} {IsFit : Type 0} {C : Type 0} {D : store_trait.Ghosts C} {space : SpaceView} {store store' : C} (result : Result (Unit {0}) StoreFault) →
-    StoresAs command W space name bytes IsFit → IsFit → EndsKeeping name bytes D store store' result → ObeysOn command D space store (stored_reply result) space store'
+    StoresAs command W space name bytes IsFit → IfOk result (λ done. IsFit) → EndsKeeping name bytes D store store' result → ObeysOn command D space store (stored_reply result) space store'
 Stores-ended {command} {W} {name} {bytes} {IsFit} {C} {D} {space} {store} {store'} result stores fit ends = elim ends [
   | inl lacks ↦ subst (λ (s : C). ObeysOn command D space store (stored_reply result) space s) (sym lacks.1)
       (subst (λ (r : Result (Unit {0}) StoreFault). ObeysOn command D space store (stored_reply r) space store) (sym lacks.0)
@@ -160,19 +154,52 @@ Stores-ended {command} {W} {name} {bytes} {IsFit} {C} {D} {space} {store} {store
   ]
 ]
 
+-- bytes of which no more is said, as those of lines
+pub no-more : (result : Result (Unit {0}) StoreFault) → IfOk result (λ done. Unit {0})
+no-more (Ok done) = tt
+no-more (Err fault) = tt
+
+-- ## The document of a pool
+
+-- a command that stores the document of a pool, where nothing in the workspace refuses it
+abbrev pub StoresPool : (command : PlainCommand) (W : Workspace) (space : SpaceView) (name : Bytes) → Pool → Type 0
+StoresPool command W space name P = StoresAs command W space name (text P) (IsDocumentOf P (text P))
+
+-- a pool whose document a load takes: valid, of four roots
+pub record IsStorable (P : Pool) : Type 0 where
+  pub valid : IsValid P
+  pub within : P.history ≤ MOST_HISTORY
+  pub four : length P.roots ≡ 4
+
+document-kept : (P : Pool) (result : Result (Unit {0}) StoreFault) → IsStorable P → IfOk result (λ done. value_in (text P) ≡ Some (document P)) → IfOk result (λ done. IsDocumentOf P (text P))
+document-kept P (Ok done) is reads = valid-document P (text P) reads is.within is.four is.valid
+document-kept P (Err fault) is reads = tt
+
+-- it ended as the pool was kept that was made for this one
+pub Pool-ended : {command : PlainCommand} {W : Workspace} {name : Bytes} {C : Type 0} {D : store_trait.Ghosts C} {space : SpaceView} {store store' : C} (P made : Pool) (result : Result (Unit {0}) StoreFault) → made ≡ P → IsStorable P →
+    StoresPool command W space name P → EndsKeeping name (text made) D store store' result → IfOk result (λ done. value_in (text made) ≡ Some (document made)) → ObeysOn command D space store (stored_reply result) space store'
+Pool-ended {name = name} {D = D} {store = store} {store'} P made result same is stores ends reads =
+    Stores-ended result stores (document-kept P result is (subst (λ (Q : Pool). IfOk result (λ done. value_in (text Q) ≡ Some (document Q))) same reads))
+    (subst (λ (Q : Pool). EndsKeeping name (text Q) D store store' result) same ends)
+
+-- what a command says that stored the document of a pool of the space
+pub says-saves : (pool_of : Pool → Pool) (name : Bytes) (space : SpaceView) (old new : Machine) (reply : List ℕ) → old.space ≡ space → Stores name (text (pool_of space.pool)) old reply new →
+    (reply ≡ reply_of (ok_line ∷ []) → IsDocumentOf (pool_of space.pool) (text (pool_of space.pool))) → Saves (pool_of old.space.pool) name old reply new
+says-saves pool_of name space old new reply same stores fit = subst (λ (s : SpaceView). Saves (pool_of s.pool) name old reply new) (sym same) (record { stores = stores; document = fit })
+
 -- ## A save
 
-pub save-stores : {space : SpaceView} (W : Workspace) (name : Bytes) → StandsFor space.pool W → in_batch W ≡ false → StoresAs (save name) W space name (text space.pool) (IsDocumentOf space.pool (text space.pool))
+pub save-stores : {space : SpaceView} (W : Workspace) (name : Bytes) → StandsFor space.pool W → in_batch W ≡ false → StoresPool (save name) W space name space.pool
 save-stores {space} W name stands e = record {
   stands = stands;
   granted = answer-outside (save name) (save-outside name) W e;
   wants = refl;
   uses = refl;
-  says = λ old new reply same stores fit. record {
-    stores = subst (λ (s : SpaceView). Stores name (text s.pool) old reply new) (sym same) stores;
-    document = λ ok. subst (λ (s : SpaceView). IsDocumentOf s.pool (text s.pool)) (sym same) (fit ok);
-  };
+  says = says-saves (λ P. P) name space;
 }
+
+pub save-storable : (P : Pool) (W : Workspace) → StandsFor P W → in_batch W ≡ false → IsValid P → P.history ≤ MOST_HISTORY → IsStorable P
+save-storable P W stands e valid within = record { valid = valid; within = within; four = four-roots P W stands e }
 
 -- a length that is too large is so as it is counted
 pub counted-large : (bytes : List ℕ) (counted : ℕ) → counted ≡ capped (length bytes) → most_stored < counted → most_stored < length bytes

@@ -297,7 +297,7 @@ bits_read W name bytes old new reply reads = elim reads [
 ]
 
 -- what holds of each refusal, and of what is made of the bytes that are given
-made_by : {X S : Type 0} (ByBytes : X → List ℕ → S → Type 0) (found : Fetched X) (old new : S) (reply : List ℕ) (P : Type 0) → ((reason : List ℕ) → Refuses old reason reply new → P) → ((bytes : X) → ByBytes bytes reply new → P) → Makes ByBytes found old reply new → P
+pub made_by : {X S : Type 0} (ByBytes : X → List ℕ → S → Type 0) (found : Fetched X) (old new : S) (reply : List ℕ) (P : Type 0) → ((reason : List ℕ) → Refuses old reason reply new → P) → ((bytes : X) → ByBytes bytes reply new → P) → Makes ByBytes found old reply new → P
 made_by ByBytes missing old new reply P refused by makes = refused (codes "missing") makes
 made_by ByBytes large old new reply P refused by makes = refused (codes "large") makes
 made_by ByBytes (given_bytes bytes) old new reply P refused by makes = by bytes makes
@@ -340,8 +340,8 @@ bits_elsewhere (save file) old new W reply says = bits_same says.stores.space
 bits_elsewhere (load file) old new W reply says = bits_taken file (LoadsBytes old.space) old new reply (λ bytes loads. bits_loaded (document_damage old.space.pool.bits bytes) bytes old.space new.space reply loads) says
 bits_elsewhere (part file number) old new W reply says = bits_chained (chain_names file number) (StoresPart (numbered_file file number)) old new reply (λ C mid stores. bits_same stores.stores.space) says
 bits_elsewhere (chain file number) old new W reply says = bits_chained (chain_names file (number + 1)) LoadsChain old new reply (λ C mid loads. loads.1.bits) says
-bits_elsewhere (indent count file) old new W reply says = bits_same says.space
-bits_elsewhere (dedent count file) old new W reply says = bits_same says.space
+bits_elsewhere (indent count file) old new W reply says = bits_same says.stores.space
+bits_elsewhere (dedent count file) old new W reply says = bits_same says.stores.space
 bits_elsewhere (merge kind version) old new W reply says = absurd says
 bits_elsewhere (edit change) old new W reply says = absurd says
 bits_elsewhere (mark version) old new W reply says = absurd says

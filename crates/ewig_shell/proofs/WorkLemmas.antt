@@ -7,8 +7,8 @@ use Rattle.std.proofs.lemmas.Bool.{eqb-false}
 use Rattle.std.proofs.lemmas.List.{append-nil, get_or_default}
 use Rattle.std.proofs.lemmas.List.Sums.{fails_before_first, sum_by-append}
 use Rattle.elem_core.specs.declared.TheConstants.{NEWLINE}
-use Rattle.shell_terms.specs.Command.{PlainCommand}
-use Rattle.shell_terms.specs.Kinds.{CommandKind, changes as changes_kind, batches as batches_kind, kind_of, is_changing, is_asking, is_storing, only_changes, only_asks, uses_store}
+use Rattle.shell_terms.specs.Command.{PlainCommand, edit, mark, undo, redo}
+use Rattle.shell_terms.specs.Kinds.{only_asks, uses_store}
 use Rattle.plain_space.specs.declared.refusal.Refusal.{Refusal}
 use Rattle.plain_space.specs.declared.refusal.Refusal.TheVariants as why
 use Rattle.plain_space.specs.Answer.{ok_line}
@@ -19,6 +19,7 @@ use Rattle.shell_io.proofs.PiecesLemmas.{pieces-append_line, IsWhole-append_line
 use Rattle.shell_io.specs.declared.device.Sink as sink_trait
 use Rattle.shell_io.specs.declared.device.Store as store_trait
 use Rattle.work_lines.specs.Lines.{next_number, lines_from, work_lines}
+use Rattle.work_lines.specs.Commands.{is_made}
 use Rattle.ewig_shell.specs.declared.run.Ended.{Ended}
 use Rattle.ewig_shell.specs.declared.work.Tally.{Tally}
 use Rattle.plain_space.specs.Workspace.{sizes}
@@ -30,29 +31,27 @@ use Rattle.ewig_shell.proofs.StepLemmas.{Obeys-ends, Step-line, CountsStore-none
 
 -- ## Beside a store
 
--- what only changes a space asks nothing, and uses no store
-kind-asks : (kind : CommandKind) → IsTrue (is_changing kind) → is_asking kind ≡ false
-kind-asks changes_kind e = refl
-kind-asks batches_kind e = refl
-kind-asks _ e = absurd (let never = e in cc)
+-- a made line's command asks nothing, and uses no store
+made-asks : (command : PlainCommand) → IsTrue (is_made command) → only_asks command ≡ false
+made-asks (edit change) e = refl
+made-asks (mark version) e = refl
+made-asks undo e = refl
+made-asks redo e = refl
+made-asks _ e = absurd (let never = e in cc)
 
-kind-alone : (kind : CommandKind) → IsTrue (is_changing kind) → is_storing kind ≡ false
-kind-alone changes_kind e = refl
-kind-alone batches_kind e = refl
-kind-alone _ e = absurd (let never = e in cc)
-
-pub changes-asks : (command : PlainCommand) → IsTrue (only_changes command) → only_asks command ≡ false
-changes-asks command e = kind-asks (kind_of command) e
-
-pub changes-alone : (command : PlainCommand) → IsTrue (only_changes command) → uses_store command ≡ false
-changes-alone command e = kind-alone (kind_of command) e
+made-alone : (command : PlainCommand) → IsTrue (is_made command) → uses_store command ≡ false
+made-alone (edit change) e = refl
+made-alone (mark version) e = refl
+made-alone undo e = refl
+made-alone redo e = refl
+made-alone _ e = absurd (let never = e in cc)
 
 module _ {C : Type 0} (D : store_trait.Ghosts C) (store : C) where
   -- a line that changes a space leaves the store beside it
   step-beside : (line : List ℕ) (old : SpaceView) (reply : List ℕ) (new : SpaceView) → ChangesBy line old reply new → StepsOn line D old store reply new store
   step-beside line old reply new changes =
-      let alone = changes-alone changes.command changes.line_is.changes in
-      let obeys = Obeys-ends changes.command changes.done (changes-asks changes.command changes.line_is.changes) changes.ends (shown_store D store) in
+      let alone = made-alone changes.command changes.line_is.made in
+      let obeys = Obeys-ends changes.command changes.done (made-asks changes.command changes.line_is.made) changes.ends (shown_store D store) in
       subst (λ (w : List ℕ). StepsOn line D old store w new store) (sym changes.reply_is) (record {
         step = Step-line (machine_of D old store) (machine_of D new store) line (done_reply changes.done) (Ok changes.command) changes.line_is.cell.short (sym changes.line_is.means) obeys;
         counts = CountsStore-none (obeys-other changes.command (machine_of D old store) (machine_of D new store) (done_reply changes.done) alone obeys);

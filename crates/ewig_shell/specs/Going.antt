@@ -19,7 +19,7 @@ use Rattle.ewig_shell.specs.declared.run.Ended.{Ended}
 use Rattle.ewig_shell.specs.declared.run.Status.{Status}
 use Rattle.ewig_shell.specs.declared.run.Status.TheVariants.{Done, Memory, Usage, ReadFault, WriteFault}
 use Rattle.ewig_shell.specs.Quits.{HasQuit}
-use Rattle.ewig_shell.specs.Run.{IsEarly, KeepsSure, Runs, opening}
+use Rattle.ewig_shell.specs.Run.{IsEarly, HasAnswered, KeepsSure, Runs, opening}
 use Rattle.ewig_shell.specs.Step.{StepsOn, StepsThrough}
 use Rattle.ewig_shell.specs.Sending.{Replies}
 
@@ -94,6 +94,7 @@ pub record Follows {A B C : Type 0} (most : ℕ) (asked : PlainOptions) (S : sou
   pub last : SpaceView
   pub last_is : ended.space ≡ Some last
   pub goes : GoesAs S source source' K sink sink' D store store' (start_view asked.bits) last (Some ended.status)
+  pub answers : HasAnswered asked K sink sink' D store store' last (Some ended.status)
   pub told : (input : List ℕ) → S.left source ≡ Some input → Runs most asked input (S.left source') K sink sink' D store store' ended.status (Some last)
 
 -- The same, or the run did nothing for want of memory.

@@ -10,3 +10,4 @@ pub mod Loading
 pub mod Chaining
 pub mod RoundTrip
 pub mod Stands
+pub mod Worked

@@ -1,12 +1,21 @@
 -- Which pieces end a run.
-use Rattle.std.specs.Prelude.{ℕ, Bool, List, [], ◌∷◌, if◌then◌else◌, codes, bytes_eq, IsTrue}
+use Rattle.std.specs.Prelude.{ℕ, Bool, true, false, not, ◌&&◌, List, [], ◌∷◌, if◌then◌else◌, Result, Ok, IsTrue}
 use Rattle.std.specs.List.{list_any}
+use Rattle.shell_terms.specs.Command.{PlainCommand, quit}
+use Rattle.shell_words.specs.Grammar.{meaning}
+use Rattle.shell_words.specs.declared.BadLine.{BadLine}
+use Rattle.ewig_shell.specs.Step.{is_long}
 
--- Whether the piece is `quit`.
+-- Whether a line that reads so asks to quit.
+abbrev pub asks_to_quit : Result PlainCommand BadLine → Bool
+asks_to_quit (Ok quit) = true
+asks_to_quit _ = false
+
+-- Whether the piece is a line that asks to quit.
 unfoldable pub is_quit : List ℕ → Bool
-is_quit piece = bytes_eq piece (codes "quit")
+is_quit piece = not (is_long piece) && asks_to_quit (meaning piece)
 
--- One of the pieces is `quit`.
+-- One of the pieces is.
 abbrev pub HasQuit : List (List ℕ) → Type 0
 HasQuit pieces = IsTrue (list_any is_quit pieces)
 
@@ -15,6 +24,6 @@ abbrev pub up_to : {X : Type 0} → (X → Bool) → List X → List X
 up_to test [] = []
 up_to test (x ∷ xs) = if test x then x ∷ [] else x ∷ up_to test xs
 
--- The pieces up to the first `quit`, that piece included.
+-- The pieces up to the first that asks to quit, that piece included.
 abbrev pub until_quit : List (List ℕ) → List (List ℕ)
 until_quit pieces = up_to is_quit pieces

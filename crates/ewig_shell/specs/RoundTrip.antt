@@ -1,19 +1,32 @@
--- What a save and a load make of each other, over a store that tells its files.
-use Rattle.std.specs.Prelude.{◌≡◌, ℕ, List, [], ◌∷◌, codes, Some, IsSomeAnd, ◌⊎◌}
+-- What a save and a load make of each other, and a part and a chain, over a store that tells its files.
+use Rattle.std.specs.Prelude.{◌≡◌, ◌≢◌, ℕ, ◌+◌, List, [], ◌∷◌, map, codes, Option, Some, None, IfSome, IsSomeAnd, IfOk, ◌⊎◌}
+use Rattle.std.specs.List.{All}
 use Rattle.std.specs.FinMap.{insert, get as get_file}
-use Rattle.shell_terms.specs.Command.{save, load}
+use Rattle.shell_terms.specs.Command.{PlainCommand, write, save, load, part, chain, indent, dedent}
+use Rattle.shell_words.specs.Files.{numbered}
+use Rattle.shell_words.specs.Grammar.{meaning}
 use Rattle.plain_space.specs.Answer.{ok_line}
 use Rattle.pool_text.specs.Pool.{at_present_version}
 use Rattle.pool_text.specs.Document.{text, pool_in_bytes}
 use Rattle.pool_text.specs.Laws.{IsCompact}
+use Rattle.pool_text.specs.declared.pool.Pool.{Pool}
 use Rattle.pool_text.specs.declared.rules.TheConstants.{PRESENT_VERSION}
+use Rattle.pool_map.specs.Spaces.{indented, dedented}
+use Rattle.pool_map.specs.Mapped.{mapped}
 use Rattle.shell_io.specs.InMemory.{Files}
 use Rattle.shell_io.specs.Storing.{ChangesFiles}
-use Rattle.ewig_shell.specs.Step.{Machine, Refuses, Obeys, reply_of, refusal_of}
+use Rattle.space_state.specs.View.{SpaceView}
+use Rattle.ewig_shell.specs.Step.{Machine, Refuses, Obeys, Step, chain_names, reply_of, refusal_of}
 
 -- The reply to what was carried out.
 abbrev pub ok_reply : List ℕ
 ok_reply = reply_of (ok_line ∷ [])
+
+-- The space stays, for no fault of a file: a batch is open, the store failed, or memory ran out.
+abbrev pub IsHindered : SpaceView → List ℕ → SpaceView → Type 0
+IsHindered old reply new = Refuses old (codes "batch") reply new ⊎ Refuses old (codes "fault") reply new ⊎ Refuses old (codes "memory") reply new
+
+-- ## Whole documents
 
 -- The bytes read as a document of the version that is written.
 abbrev pub IsPresent : List ℕ → Type 0
@@ -30,11 +43,65 @@ LoadThenSave =
     → (reply ≡ ok_reply) × ChangesFiles later.store.files last.store.files (λ before now. now ≡ insert before other bytes)
     ⊎ (reply ≡ refusal_of (codes "fault")) ⊎ (reply ≡ refusal_of (codes "memory"))
 
--- Where a file has what a save stored, whatever its name, a load of it in a space of as many bits brings the pool back. Else the
--- space stays, and a batch is open, the store failed, or memory ran out: such a file is never missing, large or damaged.
+-- Where a file has what the command stored, the document of a pool that it makes of the space's, a load of it, whatever its name, in a
+-- space of as many bits brings that pool. Else the load is hindered: such a file is never missing, large or damaged.
+abbrev pub StoreThenLoad : (List ℕ → PlainCommand) → (Pool → Pool) → Type 0
+StoreThenLoad command pool_of =
+    (first stored later last : Machine) (files : Files) (file other reply : List ℕ) → Obeys (command file) first ok_reply stored
+    → later.store.files ≡ Some files → get_file files other ≡ Some (text (pool_of first.space.pool)) → later.space.pool.bits ≡ first.space.pool.bits → Obeys (load other) later reply last
+    → (reply ≡ ok_reply) × (last.space.pool ≡ at_present_version (pool_of first.space.pool)) ⊎ IsHindered later.space reply last.space
+
+-- A save stores the space's own pool.
 abbrev pub SaveThenLoad : Type 0
-SaveThenLoad =
-    (first saved later last : Machine) (files : Files) (file other reply : List ℕ) → Obeys (save file) first ok_reply saved
-    → later.store.files ≡ Some files → get_file files other ≡ Some (text first.space.pool) → later.space.pool.bits ≡ first.space.pool.bits → Obeys (load other) later reply last
-    → (reply ≡ ok_reply) × (last.space.pool ≡ at_present_version first.space.pool)
-    ⊎ Refuses later.space (codes "batch") reply last.space ⊎ Refuses later.space (codes "fault") reply last.space ⊎ Refuses later.space (codes "memory") reply last.space
+SaveThenLoad = StoreThenLoad save (λ P. P)
+
+-- `indent` and `dedent` store it with its lines moved.
+abbrev pub IndentThenLoad : Type 0
+IndentThenLoad = (count : ℕ) → StoreThenLoad (indent count) (mapped (indented count))
+
+abbrev pub DedentThenLoad : Type 0
+DedentThenLoad = (count : ℕ) → StoreThenLoad (dedent count) (mapped (dedented count))
+
+-- ## Chains
+
+-- Whatever came between: the files of these names are as they were, where the files were told, and the space goes by as many bits.
+pub record Leaves (names : List (List ℕ)) (old new : Machine) : Type 0 where
+  pub files : ChangesFiles old.store.files new.store.files (λ before now. map (get_file now) names ≡ map (get_file before) names)
+  pub bits : new.space.pool.bits ≡ old.space.pool.bits
+
+-- The file that a command writes, if it writes one.
+abbrev pub written : PlainCommand → Option (List ℕ)
+written (write name file) = Some file
+written (save file) = Some file
+written (part file number) = Some (numbered file number)
+written (indent count file) = Some file
+written (dedent count file) = Some file
+written _ = None
+
+-- The line is no command, or one that writes none of the files of these names.
+abbrev pub WritesElsewhere : List (List ℕ) → List ℕ → Type 0
+WritesElsewhere names line = IfOk (meaning line) (λ command. IfSome (written command) (λ file. All (λ name. name ≢ file) names))
+
+-- Such a line leaves them.
+abbrev pub LineLeaves : Type 0
+LineLeaves = (names : List (List ℕ)) (old new : Machine) (line reply : List ℕ) → WritesElsewhere names line → Step old line reply new → Leaves names old new
+
+-- And so do several lines.
+abbrev pub LinesLeave : Type 0
+LinesLeave = (names : List (List ℕ)) (old mid new : Machine) → Leaves names old mid → Leaves names mid new → Leaves names old new
+
+-- Once a part was stored, its chain stands for the pool of the space that it was stored from, whatever saves and parts wrote the files
+-- before it: where these files are left as they are, a chain of them brings that pool. Else it is hindered, or the files have too many
+-- bytes together: none of them is ever missing, and they are never damaged.
+abbrev pub PartThenChain : Type 0
+PartThenChain =
+    (first parted later last : Machine) (files : Files) (file reply : List ℕ) (number : ℕ) → first.store.files ≡ Some files → Obeys (part file number) first ok_reply parted
+    → Leaves (chain_names file (number + 1)) parted later → Obeys (chain file number) later reply last
+    → (reply ≡ ok_reply) × (last.space.pool ≡ at_present_version first.space.pool) ⊎ Refuses later.space (codes "large") reply last.space ⊎ IsHindered later.space reply last.space
+
+-- And so the next part is stored behind it. Else it is hindered, or there are 64 parts, or the files or its own text have too many bytes.
+abbrev pub PartThenPart : Type 0
+PartThenPart =
+    (first parted later last : Machine) (files : Files) (file reply : List ℕ) (number : ℕ) → first.store.files ≡ Some files → Obeys (part file number) first ok_reply parted
+    → Leaves (chain_names file (number + 1)) parted later → Obeys (part file (number + 1)) later reply last
+    → (reply ≡ ok_reply) ⊎ Refuses later.space (codes "range") reply last.space ⊎ Refuses later.space (codes "large") reply last.space ⊎ IsHindered later.space reply last.space

@@ -153,10 +153,26 @@ pub record KeepsSure {C : Type 0} (D : store_trait.Ghosts C) (store store' : C) 
   pub steady : D.steady store → D.steady store'
   pub sure : D.faultless store → D.faultless store' × (D.faults store' ≡ D.faults store)
 
--- What a run promises whose words ask for no lines of the program's own, where its source tells its bytes. Without a fault, the
--- bytes alone decide.
+-- Whatever the source tells: behind the line that loads the document, where the words name one, some pieces were executed one after
+-- another, on a new space by so many bits and the store. Their replies were written, all of them, or not all where the run ended with
+-- a fault of its sink.
+pub record HasAnswered {B C : Type 0} (asked : PlainOptions) (K : sink_trait.Ghosts B) (sink sink' : B) (D : store_trait.Ghosts C) (store store' : C)
+    (space : SpaceView) (ends : Option Status) : Type 0 where
+  pub pieces : List (List ℕ)
+  pub replies : List ℕ
+  pub steps : StepsThrough (opening asked.first ++ pieces) D (start_view asked.bits) store replies space store'
+  pub output : List ℕ
+  pub unwritten : List ℕ
+  pub parts : output ++ unwritten ≡ replies
+  pub writes : Appends (K.written sink) (K.written sink') output
+  pub whole : ends ≢ Some WriteFault → unwritten ≡ []
+  pub cut : ends ≡ Some WriteFault → unwritten ≢ []
+
+-- What a run promises whose words ask for no lines of the program's own. Where its source tells its bytes these are what it took and
+-- executed, and without a fault they alone decide.
 pub record RunsInput {A B C : Type 0} (most : ℕ) (asked : PlainOptions) (S : source_trait.Ghosts A) (source source' : A)
     (K : sink_trait.Ghosts B) (sink sink' : B) (D : store_trait.Ghosts C) (store store' : C) (ended : Ended) : Type 0 where
+  pub answers : IfSome ended.space (λ last. HasAnswered asked K sink sink' D store store' last (Some ended.status))
   pub run : IfSome (S.left source) (λ input. Runs most asked input (S.left source') K sink sink' D store store' ended.status ended.space)
   pub complete : ended.status ≢ ReadFault → ended.status ≢ WriteFault →
       IfSome (S.left source) (λ input. IsComplete most input ended.status)

@@ -24,7 +24,7 @@ use Rattle.plain_space.specs.Memory.{MayLackMemory}
 use Rattle.plain_space.specs.Session.{reason_of}
 use Rattle.pool_text.specs.Rules.{present_rules}
 use Rattle.pool_text.specs.Pool.{row_count, at_present_version}
-use Rattle.pool_text.specs.Document.{text, value_in, pool_in_bytes}
+use Rattle.pool_text.specs.Document.{text, pool_in_bytes}
 use Rattle.pool_text.specs.declared.pool.Pool.{Pool}
 use Rattle.pool_text.specs.declared.rules.TheConstants.{FIRST_VERSION}
 use Rattle.pool_text.specs.declared.damage.Damage.{Damage}
@@ -32,9 +32,10 @@ use Rattle.pool_text.specs.declared.damage.Damage.TheVariants as damage
 use Rattle.pool_check.specs.Damages.{document_damage, IsValid}
 use Rattle.pool_check.specs.Laws.{IsDocumentOf}
 use Rattle.pool_carry.specs.Carried.{IsCarried}
-use Rattle.pool_delta.specs.Parts.{part_document, part_text}
-use Rattle.pool_delta.specs.Chains.{chain_damage, chain_in, chain_pool}
+use Rattle.pool_delta.specs.Parts.{part_text}
+use Rattle.pool_delta.specs.Chains.{chain_damage, chain_in, chain_pool, with_part}
 use Rattle.pool_delta.specs.Delta.{delta}
+use Rattle.pool_delta.specs.Laws.{IsPartOf}
 use Rattle.pool_map.specs.Spaces.{indented, dedented}
 use Rattle.pool_map.specs.Mapped.{mapped}
 use Rattle.state_rows.specs.Standing.{StandsFor}
@@ -156,9 +157,9 @@ pub record Stores (name bytes : List ℕ) (old : Machine) (reply : List ℕ) (ne
       (IsStored name bytes old.store reply new.store ⊎ FailsToStore name old.store reply new.store)
 
 -- The text of the pool's document is stored. No test fails of a text that was stored so, and it stands for the pool.
-pub record Saves (name : List ℕ) (old : Machine) (reply : List ℕ) (new : Machine) : Type 0 where
-  pub stores : Stores name (text old.space.pool) old reply new
-  pub document : reply ≡ reply_of (ok_line ∷ []) → IsDocumentOf old.space.pool (text old.space.pool)
+pub record Saves (P : Pool) (name : List ℕ) (old : Machine) (reply : List ℕ) (new : Machine) : Type 0 where
+  pub stores : Stores name (text P) old reply new
+  pub document : reply ≡ reply_of (ok_line ∷ []) → IsDocumentOf P (text P)
 
 -- The lines of the buffer are stored, each with its newline.
 abbrev pub Writes : Workspace → (name file : List ℕ) → Machine → List ℕ → Machine → Type 0
@@ -285,10 +286,15 @@ abbrev pub ChainsFiles : (ByPool : Pool → Machine → List ℕ → Machine →
 ChainsFiles ByPool files old reply new =
     ByChain old.space.pool.bits files (λ C. ByPool C old reply new) (λ d. Refuses old (codes "damaged " ++ damage_word d) reply new)
 
--- What the space has more than the chain is stored, as a text that is read back as just that.
+-- No test fails of the bytes as a partial document behind the chain, and with it the chain stands for the pool.
+pub record IsPartDocumentOf (C P : Pool) (bytes : List ℕ) : Type 0 where
+  pub part : IsPartOf C P bytes
+  pub stands : chain_pool (with_part C (delta C P)) ≡ at_present_version P
+
+-- What the space has more than the chain is stored. A text that was stored so is a partial document of the space's pool.
 pub record StoresPart (name : List ℕ) (C : Pool) (old : Machine) (reply : List ℕ) (new : Machine) : Type 0 where
   pub stores : Stores name (part_text (delta C old.space.pool)) old reply new
-  pub reads : reply ≡ reply_of (ok_line ∷ []) → value_in (part_text (delta C old.space.pool)) ≡ Some (part_document (delta C old.space.pool))
+  pub document : reply ≡ reply_of (ok_line ∷ []) → IsPartDocumentOf C old.space.pool (part_text (delta C old.space.pool))
 
 -- The lines of the bytes are the buffer's now, by an edit.
 pub record IsRead (work : Workspace) (name bytes : List ℕ) (old : SpaceView) (reply : List ℕ) (new : SpaceView) : Type 0 where
@@ -315,13 +321,13 @@ SaysElsewhere stats old work reply new = (reply ≡ reply_of (number_line (row_c
 SaysElsewhere made old work reply new = (reply ≡ reply_of (number_line old.space.made ∷ [])) × (new ≡ old)
 SaysElsewhere (read name file) old work reply new = Takes file old reply new (ReadsBytes work name old.space)
 SaysElsewhere (write name file) old work reply new = Writes work name file old reply new
-SaysElsewhere (save file) old work reply new = Saves file old reply new
+SaysElsewhere (save file) old work reply new = Saves old.space.pool file old reply new
 SaysElsewhere (load file) old work reply new = Takes file old reply new (LoadsBytes old.space)
 SaysElsewhere (part file number) old work reply new =
     TakesAll (chain_names file number) old reply new (ChainsFiles (StoresPart (numbered file number)))
 SaysElsewhere (chain file number) old work reply new = TakesAll (chain_names file (number + 1)) old reply new (ChainsFiles LoadsChain)
-SaysElsewhere (indent count file) old work reply new = Stores file (text (mapped (indented count) old.space.pool)) old reply new
-SaysElsewhere (dedent count file) old work reply new = Stores file (text (mapped (dedented count) old.space.pool)) old reply new
+SaysElsewhere (indent count file) old work reply new = Saves (mapped (indented count) old.space.pool) file old reply new
+SaysElsewhere (dedent count file) old work reply new = Saves (mapped (dedented count) old.space.pool) file old reply new
 SaysElsewhere _ old work reply new = ⊥
 
 -- From this machine, whose space stands for the workspace, the plain answer is this reply and leaves this machine. The store

@@ -4,20 +4,20 @@ ghost use Rattle.std.specs.Prelude.{◌≡◌, ℕ, ◌≤◌, List, [], ◌∷�
 ghost use Rattle.std.specs.Option.{IfSome};
 ghost use Rattle.std.specs.FinMap.{get};
 ghost use Rattle.elem_core.specs.Shown.{name_bytes};
-ghost use Rattle.pool_delta.specs.Parts.{part_document, part_text};
+ghost use Rattle.pool_delta.specs.Parts.{part_text};
 ghost use Rattle.pool_delta.specs.Delta.{delta};
 ghost use Rattle.pool_delta.specs.Chains.{IsChain};
-ghost use Rattle.pool_text.specs.Document.{value_in};
 ghost use Rattle.shell_io.specs.Fault.{Calls};
 ghost use Rattle.shell_terms.specs.Command.{part as part_command, chain as chain_command};
-ghost use Rattle.ewig_shell.specs.Step.{ObeysOn, chain_names, stored_reply};
+ghost use Rattle.ewig_shell.specs.Step.{IsPartDocumentOf, ObeysOn, chain_names, stored_reply};
 ghost use Rattle.ewig_shell.specs.Chaining.{TakesChain, TakesChainIn, IsReadAs, IsNotTaken, IsUntaken};
 
 use crate::save::MOST_STORED;
 use crate::store_fault::StoreFault;
-use elem_core::{CODE_BITS, Name, NoMemory, Text};
-use pool_check::check;
-use pool_delta::{Chain, chain_more, chain_pool, chain_start, delta_bytes};
+use elem_core::{CODE_BITS, Name, NoMemory};
+use pool_delta::{
+    Chain, chain_checked, chain_more, chain_start, delta_bytes, delta_stands, deltas_are_undamaged,
+};
 use pool_text::Damage;
 use shell_io::Store;
 use shell_words::numbered;
@@ -80,11 +80,14 @@ pub fn part<D: Store>(
 
 // The partial document of what the space has more than the chain.
 fn part_bytes(alloc: Global, space: &Space, chain: &Chain) -> Result<Vec<u8>, NoMemory>
+    requires is_chain { IsChain chain.now }
     requires bits { chain.now.bits ≡ space.now.pool.bits }
     requires roots { length space.now.pool.roots ≡ 4 }
     ensures bytes { IfOk result (λ bytes. bytes.items ≡ part_text (delta chain.now space.now.pool)) }
-    ensures reads { IfOk result (λ bytes. value_in bytes.items ≡ Some (part_document (delta chain.now space.now.pool))) }
+    ensures document { IfOk result (λ bytes. IsPartDocumentOf chain.now space.now.pool bytes.items) }
 {
+    delta_stands();
+    deltas_are_undamaged();
     let pool = space.pool(alloc)?;
     delta_bytes(alloc, chain, &pool)
 }
@@ -153,12 +156,7 @@ fn take_chain(alloc: Global, space: &mut Space, chain: Chain) -> Result<(), Stor
     requires bits { chain.bits ≡ space.old.pool.bits }
     ensures { TakesChainIn chain space.old result space.new }
 {
-    let pool = chain_pool(alloc, chain)?;
-    let Ok(checked) = check::<Text>(alloc, pool) else {
-        // It is valid, so that nothing but want of memory refuses it.
-        return Err(StoreFault::Memory);
-    };
-    match space.take_pool(checked) {
+    match space.take_pool(chain_checked(alloc, chain)?) {
         Ok(()) => Ok(()),
         // No batch is open where this is called.
         Err(_) => Err(StoreFault::Memory),

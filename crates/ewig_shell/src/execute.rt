@@ -4,10 +4,9 @@ ghost use Rattle.std.specs.Prelude.{◌≡◌, ◌↔◌, codes, IfOk, IsTrue};
 ghost use Rattle.elem_core.specs.Cell.{IsCell};
 ghost use Rattle.elem_core.specs.Shown.{name_bytes};
 ghost use Rattle.shell_terms.specs.Command.{get as get_command, len as len_command, show as show_command, list as list_command, stars as stars_command, marks as marks_command, same as same_command, eqv as eqv_command, stats as stats_command, made as made_command, quit as quit_command};
-ghost use Rattle.shell_terms.specs.Kinds.{only_changes};
 ghost use Rattle.shell_words.specs.Shown.{plain_command};
 ghost use Rattle.shell_io.specs.Sending.{Sends};
-ghost use Rattle.space_state.specs.View.{Ends};
+ghost use Rattle.ewig_shell.specs.Quits.{is_quit};
 ghost use Rattle.ewig_shell.specs.Step.{ObeysAlone, ObeysOn, StepsOn, refusal_of};
 ghost use Rattle.ewig_shell.specs.Sending.{Replies, sent_then};
 
@@ -23,7 +22,7 @@ use crate::save::{save, write};
 use elem_core::Name;
 use shell_io::{Failed, Sink, Store};
 use shell_words::{Command, read_line};
-use space_state::{Edit, Refusal, Space};
+use space_state::{Refusal, Space};
 use std::alloc::Global;
 
 /// Whether more lines are to be read.
@@ -48,7 +47,7 @@ pub fn execute<K: Sink, D: Store>(
     ensures replies { Replies K.Sink sink.old sink.new result
         (λ reply. StepsOn piece.now D.Store space.old store.old reply space.new store.new) }
     ensures bits { space.new.pool.bits ≡ space.old.pool.bits }
-    ensures quits { IfOk result (λ went. (went ≡ Went.Quit) ↔ (piece.now ≡ codes "quit")) }
+    ensures quits { IfOk result (λ went. (went ≡ Went.Quit) ↔ IsTrue (is_quit piece.now)) }
 {
     execute_on(alloc, space, piece, &mut Page::new(), sink, store)
 }
@@ -66,7 +65,7 @@ pub(crate) fn execute_on<K: Sink, D: Store>(
     ensures replies { Replies K.Sink sink.old sink.new result
         (λ reply. StepsOn piece.now D.Store space.old store.old reply space.new store.new) }
     ensures bits { space.new.pool.bits ≡ space.old.pool.bits }
-    ensures quits { IfOk result (λ went. (went ≡ Went.Quit) ↔ (piece.now ≡ codes "quit")) }
+    ensures quits { IfOk result (λ went. (went ≡ Went.Quit) ↔ IsTrue (is_quit piece.now)) }
 {
     match read_line(piece) {
         Ok(command) => obey(alloc, space, command, page, sink, store),
@@ -131,6 +130,16 @@ fn answer<K: Sink, D: Store>(
         (λ reply. ObeysOn (plain_command command.entry) D.Store space.old store.old reply space.new store.new) }
 {
     match command {
+        Command::Edit(edit) => send_done(space.edit(edit), sink),
+        Command::Mark(version) => send_done(space.mark(version), sink),
+        Command::Unmark(version) => send_done(space.unmark(version), sink),
+        Command::Back(version) => send_done(space.back(version), sink),
+        Command::Undo => send_done(space.undo(), sink),
+        Command::Redo => send_done(space.redo(), sink),
+        Command::Begin => send_done(space.begin(), sink),
+        Command::End => send_done(space.end(), sink),
+        Command::Abort => send_done(space.abort(), sink),
+        Command::History(count) => send_done(space.history(count), sink),
         Command::Get(buffer, index) => get(space, buffer, index, page, sink),
         Command::Len(buffer) => len(space, buffer, page, sink),
         Command::Show(buffer, from, to) => show(space, buffer, from, to, page, sink),
@@ -162,43 +171,6 @@ fn answer<K: Sink, D: Store>(
             sink,
         ),
         Command::Quit => quit(space, sink),
-        // The others change the space, and use no device.
-        _ => send_done(change(space, command), sink),
-    }
-}
-
-/// Does a command that changes the space and uses neither the sink nor the store, refused exactly as its row says, want of memory
-/// last.
-pub fn change(space: &mut Space, command: Command<'_>) -> Result<(), Refusal>
-    requires { IsTrue (only_changes (plain_command command)) }
-    ensures { Ends (plain_command command.entry) space.old result space.new }
-{
-    match command {
-        Command::New(buffer) => space.edit(Edit::New(buffer)),
-        Command::Add(buffer, text) => space.edit(Edit::Add(buffer, text)),
-        Command::Set(buffer, index, text) => space.edit(Edit::Set(buffer, index, text)),
-        Command::Put(buffer, index, text) => space.edit(Edit::Put(buffer, index, text)),
-        Command::Del(buffer, from, to) => space.edit(Edit::Del(buffer, from, to)),
-        Command::Cat(buffer, other) => space.edit(Edit::Cat(buffer, other)),
-        Command::Cut(from, start, end, to) => space.edit(Edit::Cut(from, start, end, to)),
-        Command::Copy(buffer, other) => space.edit(Edit::Copy(buffer, other)),
-        Command::Drop(buffer) => space.edit(Edit::Drop(buffer)),
-        Command::Star(name) => space.edit(Edit::Star(name)),
-        Command::Unstar(name) => space.edit(Edit::Unstar(name)),
-        Command::StarMerge(version) => space.edit(Edit::StarMerge(version)),
-        Command::StarBoth(version) => space.edit(Edit::StarBoth(version)),
-        Command::StarLess(version) => space.edit(Edit::StarLess(version)),
-        Command::Merge(version) => space.edit(Edit::Merge(version)),
-        Command::Mark(version) => space.mark(version),
-        Command::Unmark(version) => space.unmark(version),
-        Command::Back(version) => space.back(version),
-        Command::Undo => space.undo(),
-        Command::Redo => space.redo(),
-        Command::Begin => space.begin(),
-        Command::End => space.end(),
-        Command::Abort => space.abort(),
-        Command::History(count) => space.history(count),
-        _ => unreachable!(),
     }
 }
 
@@ -308,8 +280,7 @@ fn stats<K: Sink>(space: &Space, page: &mut Page, sink: &mut K) -> Result<(), Fa
     ensures { Replies K.Sink sink.old sink.new result
         (λ reply. ObeysAlone stats_command space.now reply space.now) }
 {
-    // That the space stands for a workspace is known once it has answered.
-    let _ = space.in_batch();
+    space.stands();
     send_number(space.rows() as u64, page, sink)
 }
 
@@ -317,8 +288,7 @@ fn made<K: Sink>(space: &Space, page: &mut Page, sink: &mut K) -> Result<(), Fai
     ensures { Replies K.Sink sink.old sink.new result
         (λ reply. ObeysAlone made_command space.now reply space.now) }
 {
-    // That the space stands for a workspace is known once it has answered.
-    let _ = space.in_batch();
+    space.stands();
     send_number(space.made(), page, sink)
 }
 
@@ -326,7 +296,6 @@ fn quit<K: Sink>(space: &Space, sink: &mut K) -> Result<(), Failed>
     ensures { Replies K.Sink sink.old sink.new result
         (λ reply. ObeysAlone quit_command space.now reply space.now) }
 {
-    // That the space stands for a workspace is known once it has answered.
-    let _ = space.in_batch();
+    space.stands();
     send(b"ok\n", sink)
 }

@@ -8,8 +8,9 @@ use std::process::Abort;
 use std::test::Fail;
 
 // The lines of a script that is begun by opening a document. It reads a file and, in a batch, writes one, and saves twice under one
-// name, and once more.
-const LINES: [&str; 12] = [
+// name, and once more. Then it merges, stores its lines moved, and stores a part behind the document and loads their chain. Wherever a
+// call fails, those of later lines keep their numbers.
+const LINES: [&str; 23] = [
     "new b",
     "read b d",
     "begin",
@@ -22,6 +23,17 @@ const LINES: [&str; 12] = [
     "list",
     "marks",
     "save g",
+    "star s",
+    "mark w",
+    "starless w",
+    "starmerge w",
+    "starboth w",
+    "drop b",
+    "merge w",
+    "indent 2 h",
+    "dedent 2 i",
+    "part d 1",
+    "chain d 1",
 ];
 
 // The words that open the document.
@@ -52,7 +64,7 @@ fn opened(lines: &[u8]) -> Given<'_> {
 
 // The two runs left the same files, and spaces of as many rows, now and ever made.
 fn leave_the_same<R: Abort>(rt: &R, a: &Left, b: &Left) {
-    for name in ["d", "o", "f", "g"] {
+    for name in ["d", "o", "f", "g", "h", "i", "d.1"] {
         assert_eq!(rt; a.store.file(name), b.store.file(name), "{name}");
     }
     assert!(rt; a.rows.is_some());
@@ -127,14 +139,23 @@ fn a_fault_of_the_sink_ends_the_run_with_its_line(rt: HostRuntime) -> Result<(),
 type StoreCall = (&'static [u64], &'static [u64], usize);
 
 // The calls of the store in the script's order. The first keep puts the document there.
-const CALLS: [StoreCall; 6] = [
+const CALLS: [StoreCall; 12] = [
     (&[0], &[], LINES.len()),
     (&[1], &[], 1),
     (&[], &[1], 4),
     (&[], &[2], 6),
     (&[], &[3], 8),
     (&[], &[4], 11),
+    (&[], &[5], 19),
+    (&[], &[6], 20),
+    (&[2], &[], 21),
+    (&[], &[7], 21),
+    (&[3], &[], 22),
+    (&[4], &[], 22),
 ];
+
+// Of so many calls in a row each two fail together.
+const IN_A_ROW: usize = 4;
 
 // How many of the replies tell a fault. Behind those the others are these, in order.
 fn faults_among<R: Abort>(rt: &R, replies: &[u8], others: &[u8]) -> Result<u32, Fail> {
@@ -214,7 +235,7 @@ fn fails_at<R: Abort + AllocGlobal>(
 #[test]
 fn a_fault_of_the_store_refuses_its_line(rt: HostRuntime) -> Result<(), Fail> {
     for (before, &first) in CALLS.iter().enumerate() {
-        for &second in CALLS.iter().skip(before) {
+        for &second in CALLS.iter().skip(before).take(IN_A_ROW) {
             fails_at(&rt, first, second)?;
         }
     }

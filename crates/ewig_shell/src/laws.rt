@@ -1,6 +1,6 @@
-//! Laws of a save and a load, and of the bytes that are loaded, as the clauses of functions that do nothing: they
+//! Laws of what is stored and then loaded, and of the bytes that are loaded, as the clauses of functions that do nothing: they
 //! call at most the laws that theirs stand on.
-ghost use Rattle.ewig_shell.specs.RoundTrip.{LoadThenSave, SaveThenLoad};
+ghost use Rattle.ewig_shell.specs.RoundTrip.{LoadThenSave, SaveThenLoad, IndentThenLoad, DedentThenLoad, LineLeaves, LinesLeave, PartThenChain, PartThenPart};
 ghost use Rattle.ewig_shell.specs.Stands.{DocumentsStand, OldDocumentsAreKept};
 
 use pool_carry::{carried_is_kept, carried_is_one, carried_is_valid, pools_are_carried};
@@ -15,6 +15,26 @@ pub fn load_then_save()
 /// loaded there, where no batch is open, the store doesn't fail and memory doesn't run out.
 pub fn save_then_load()
     ensures { SaveThenLoad }
+{}
+
+/// The same of the pool with its lines moved, which `indent` and `dedent` stored.
+pub fn lines_moved_then_load()
+    ensures indented { IndentThenLoad }
+    ensures dedented { DedentThenLoad }
+{}
+
+/// Lines that write none of some files leave those as they are, and the bits of the space.
+pub fn lines_leave()
+    ensures line { LineLeaves }
+    ensures lines { LinesLeave }
+{}
+
+/// Over a store that tells its files: the pool of a space from which a part was stored is that of any space of as many bits once the
+/// chain up to it is taken there, where no batch is open, its files aren't too many bytes together, the store doesn't fail and memory
+/// doesn't run out. The next part is stored behind it, up to the 64th, where its own text isn't too many bytes either.
+pub fn part_then_chain()
+    ensures chain { PartThenChain }
+    ensures part { PartThenPart }
 {}
 
 /// Bytes that fail none of the tests stand for one pool, which is valid and goes by the bits of the space.

@@ -17,7 +17,7 @@ use pool_carry::{carried_is_valid, carry};
 use pool_check::{Checked, Old, check, check_old};
 use pool_text::{Damage, FIRST_VERSION, pool_from_bytes};
 use shell_io::{Store, lines_of};
-use space_state::{Edit, Space};
+use space_state::Space;
 use std::alloc::Global;
 
 /// Makes the space the one that the document in the file stands for; one of the first version stands for what its pool is carried
@@ -101,8 +101,7 @@ pub fn read<D: Store>(
 ) -> Result<(), StoreFault>
     ensures { ObeysOn (read_command (name_bytes buffer.entry) (name_bytes file.entry)) D.Store space.old store.old (stored_reply result) space.new store.new }
 {
-    // Asked for its clause alone: that the space stands for a workspace.
-    let _ = space.in_batch();
+    space.stands();
     let mut bytes = Vec::new(alloc);
     store.fetch(file.as_str(), MOST_STORED as usize, &mut bytes)?;
     fill(alloc, space, buffer, bytes)
@@ -120,7 +119,7 @@ fn fill(
 {
     let lines = lines_of(alloc, &bytes)?;
     drop(bytes);
-    match space.edit(Edit::Read(buffer, lines)) {
+    match space.fill(buffer, lines) {
         Ok(()) => Ok(()),
         // Nothing but want of memory refuses it.
         Err(_) => Err(StoreFault::Memory),

@@ -18,12 +18,14 @@ mod refused;
 mod reply;
 mod run;
 mod save;
+mod session;
 mod store_fault;
 #[cfg(test)]
 mod tests;
 #[cfg(test)]
 mod trial;
 mod work;
+mod worked;
 
 use run::{Ended, Status, exit_code_of, run};
 use shell_io::{DirStore, StdSink, StdSource};

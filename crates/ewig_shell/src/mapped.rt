@@ -1,5 +1,7 @@
 //! What a run stores with its lines moved.
 
+ghost use Rattle.std.specs.Prelude.{◌≤◌};
+ghost use Rattle.elem_core.specs.declared.codes.TheConstants.{CODE_BITS};
 ghost use Rattle.elem_core.specs.Shown.{name_bytes};
 ghost use Rattle.shell_terms.specs.Command.{indent as indent_command, dedent as dedent_command};
 ghost use Rattle.ewig_shell.specs.Step.{ObeysOn, stored_reply};
@@ -7,7 +9,7 @@ ghost use Rattle.ewig_shell.specs.Step.{ObeysOn, stored_reply};
 use crate::save::keep_pool;
 use crate::store_fault::StoreFault;
 use elem_core::Name;
-use pool_map::{dedented, indent_needs_room, indented};
+use pool_map::{dedent_keeps_lines, dedented, indent_needs_room, indented, mapped_is_valid};
 use shell_io::Store;
 use space_state::Space;
 use std::alloc::Global;
@@ -28,9 +30,9 @@ pub fn indent<D: Store>(
 ) -> Result<(), StoreFault>
     ensures { ObeysOn (indent_command count (name_bytes file.entry)) D.Store space.now store.old (stored_reply result) space.now store.new }
 {
-    // Asked for its clause alone: how many bits there are at most.
-    let _ = space.bits();
+    bits_are_few(space);
     indent_needs_room();
+    mapped_is_valid();
     if space.in_batch() {
         return Err(StoreFault::Batch);
     }
@@ -52,6 +54,9 @@ pub fn dedent<D: Store>(
 ) -> Result<(), StoreFault>
     ensures { ObeysOn (dedent_command count (name_bytes file.entry)) D.Store space.now store.old (stored_reply result) space.now store.new }
 {
+    bits_are_few(space);
+    dedent_keeps_lines();
+    mapped_is_valid();
     if space.in_batch() {
         return Err(StoreFault::Batch);
     }
@@ -61,4 +66,11 @@ pub fn dedent<D: Store>(
     let pool = space.pool(alloc)?;
     let moved = dedented(alloc, &pool, u64::from(count))?;
     keep_pool(alloc, moved, file, store)
+}
+
+// A space goes by at most 64 bits of its names' codes.
+fn bits_are_few(space: &Space)
+    ensures { space.now.pool.bits ≤ CODE_BITS }
+{
+    let _bits = space.bits();
 }

@@ -139,6 +139,28 @@ const STARRED: [(&str, &str); 11] = [
     ("list", "= B 0\n= b 0\nok\n"),
 ];
 
+// Merges with a version.
+const MERGED: [(&str, &str); 18] = [
+    ("star y", "ok\n"),
+    ("star z", "ok\n"),
+    ("new b", "ok\n"),
+    ("add b x", "ok\n"),
+    ("mark v", "ok\n"),
+    ("unstar y", "ok\n"),
+    ("star w", "ok\n"),
+    ("drop b", "ok\n"),
+    ("starmerge v", "ok\n"),
+    ("stars", "= w\n= y\n= z\nok\n"),
+    ("starless v", "ok\n"),
+    ("stars", "= w\nok\n"),
+    ("undo", "ok\n"),
+    ("starboth v", "ok\n"),
+    ("stars", "= y\n= z\nok\n"),
+    ("merge v", "ok\n"),
+    ("show b 0 1", "= x\nok\n"),
+    ("merge u", "! none\n"),
+];
+
 // Gives the lines to a machine whose store has this document as the file `d`, where there is one; the lines save it as `e`.
 fn follows<R: Abort + AllocGlobal>(rt: &R, held: &str, saved: &str, lines: &[(&str, &str)]) {
     let Some(mut machine) = machine_with(rt.alloc(), held.as_bytes()) else {
@@ -173,7 +195,7 @@ fn edits_in_place<R: Abort + AllocGlobal>(rt: &R) {
 
 #[test]
 fn refused_rows(rt: HostRuntime) -> Result<(), Fail> {
-    let rows: [&[(&str, &str)]; 3] = [&UNDONE, &CUT, &STARRED];
+    let rows: [&[(&str, &str)]; 4] = [&UNDONE, &CUT, &STARRED, &MERGED];
     for lines in rows {
         follows(&rt, "", "", lines);
     }
@@ -183,8 +205,9 @@ fn refused_rows(rt: HostRuntime) -> Result<(), Fail> {
 
 // Documents, what each is saved as, and lines with their replies that load it, ask, save it, and do an edit and take it back: of
 // version 1 a new space with its empty rows shared, two names in a sub-node and one line twice, two equal lines, and of version 1 an
-// undo with as many states as it may have.
-const DOCUMENTS: [(&str, &str, &[(&str, &str)]); 5] = [
+// undo with as many states as it may have. The two equal lines once more, in a chain whose second part takes back what the first one
+// adds, and moved there and back.
+const DOCUMENTS: [(&str, &str, &[(&str, &str)]); 6] = [
     (
         r#"{"bits":32,"format":"ewig-pool","roots":[1,0,2,2],"rows":[["m",0,0,0,[]],["s",[0,0]],["l",[]]],"version":1}"#,
         r#"{"bits":64,"format":"ewig-pool","history":4294967295,"roots":[1,0,2,2],"rows":[["m",0,0,0,[]],["s",[0,0]],["l",[]]],"version":3}"#,
@@ -247,6 +270,25 @@ const DOCUMENTS: [(&str, &str, &[(&str, &str)]); 5] = [
             ("new n", "ok\n"),
             ("undo", "ok\n"),
             ("len n", "! none\n"),
+        ],
+    ),
+    (
+        TWO_CELLS,
+        TWO_CELLS,
+        &[
+            ("load d", "ok\n"),
+            ("add a y", "ok\n"),
+            ("part d 1", "ok\n"),
+            ("load d", "ok\n"),
+            ("part d 2", "ok\n"),
+            ("chain d 1", "ok\n"),
+            ("show a 0 3", "= x\n= x\n= y\nok\n"),
+            ("chain d 2", "ok\n"),
+            ("len a", "= 2\n"),
+            ("indent 2 i", "ok\n"),
+            ("load i", "ok\n"),
+            ("show a 0 2", "=   x\n=   x\nok\n"),
+            ("dedent 80 e", "ok\n"),
         ],
     ),
 ];

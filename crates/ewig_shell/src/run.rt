@@ -9,12 +9,12 @@ ghost use Rattle.shell_options.specs.Options.{PlainOptions};
 ghost use Rattle.shell_options.specs.Shown.{plain_options};
 ghost use Rattle.space_state.specs.View.{start_view};
 ghost use Rattle.ewig_shell.specs.Going.{EndsInput, GoesAs, IsGoing, Opens, status_by_words, status_of, unbegun_as};
-ghost use Rattle.ewig_shell.specs.Run.{RunsAs, Runs, exit_code};
+ghost use Rattle.ewig_shell.specs.Run.{RunsAs, Runs, HasAnswered, exit_code};
 ghost use Rattle.ewig_shell.specs.Work.{StepsAlone, Works, status_by};
 
-use crate::execute::{Went, execute_on, refuse_long};
-use crate::page::Page;
+use crate::execute::{Went, refuse_long};
 use crate::reply::send_summary;
+use crate::session::Session;
 use crate::work::work;
 use arrayvec::ArrayVec;
 use elem_core::{CODE_BITS, NoMemory};
@@ -164,83 +164,50 @@ fn run_input<S: Source, K: Sink, D: Store>(
     requires bits { options.now.bits ≤ CODE_BITS }
     ensures { EndsInput most (plain_options options.now) S.Source source.old source.new K.Sink sink.old sink.new D.Store store.old store.new result }
 {
-    let Ok((mut reader, mut space)) = begun(alloc, options.bits) else {
+    let Ok((mut reader, mut session)) = begun(alloc, options.bits) else {
         return unbegun(Status::Memory);
     };
-    let mut page = Page::new();
-    let first = options.first.as_ref();
-    let status = execute_all(
-        alloc,
-        first,
-        most,
-        &mut reader,
-        source,
-        &mut space,
-        &mut page,
-        sink,
-        store,
-    );
-    Ended {
-        status,
-        space: Some(space),
-    }
-}
-
-// Executes the line that loads the document, if there is one, and then those of the source, until the run ends.
-fn execute_all<S: Source, K: Sink, D: Store>(
-    alloc: Global,
-    first: Option<&FileName>,
-    most: u64,
-    reader: &mut LineReader,
-    source: &mut S,
-    space: &mut Space,
-    page: &mut Page,
-    sink: &mut K,
-    store: &mut D,
-) -> Status
-    requires small { most < 2 ^ 63 }
-    requires same_most { ForSome reader.old.most (λ kept. kept ≡ most) }
-
-    ensures goes { GoesAs S.Source source.old source.new K.Sink sink.old sink.new D.Store store.old store.new space.old space.new (Some result) }
-    ensures told { (asked : PlainOptions) (input : List ℕ) →
-        asked.first ≡ option_copied first.entry → space.old ≡ start_view asked.bits → S.left source.old ≡ Some input →
-        reader.old.given ≡ 0 → ((all : List ℕ) → StandsIn all reader.old (Some all)) →
-        Runs most asked input (S.left source.new) K.Sink sink.old sink.new D.Store store.old store.new result (Some space.new) }
-{
-    match open(alloc, space, first, page, sink, store) {
-        Some(status) => status,
-        None => follow(alloc, most, reader, source, space, page, sink, store),
+    match open(&mut session, options.first.as_ref(), sink, store) {
+        Some(status) => Ended {
+            status,
+            space: Some(session.space),
+        },
+        None => {
+            let status = follow(most, &mut reader, source, &mut session, sink, store);
+            Ended {
+                status,
+                space: Some(session.space),
+            }
+        }
     }
 }
 
 // What a run over an input works with: all the memory that it takes before the first line.
-fn begun(alloc: Global, bits: u32) -> Result<(LineReader, Space), NoMemory>
+fn begun(alloc: Global, bits: u32) -> Result<(LineReader, Session), NoMemory>
     requires { bits ≤ CODE_BITS }
     ensures unread { IfOk result (λ begun. (begun.0.given ≡ 0) × (begun.0.most ≡ None)) }
     ensures start { IfOk result (λ begun. (input : List ℕ) → StandsIn input begun.0 (Some input)) }
-    ensures empty { IfOk result (λ begun. begun.1 ≡ start_view bits) }
+    ensures empty { IfOk result (λ begun. begun.1.space ≡ start_view bits) }
 {
     let reader = LineReader::new(alloc)?;
     let space = Space::new(alloc, bits)?;
-    Ok((reader, space))
+    Ok((reader, Session::new(alloc, space)))
 }
 
 // Executes the line that loads the document, if there is one. The status where the run ends with it.
 fn open<K: Sink, D: Store>(
-    alloc: Global,
-    space: &mut Space,
+    session: &mut Session,
     first: Option<&FileName>,
-    page: &mut Page,
     sink: &mut K,
     store: &mut D,
 ) -> Option<Status>
-    ensures { Opens (option_copied first.entry) K.Sink sink.old sink.new D.Store store.old store.new space.old space.new result }
+    ensures { Opens (option_copied first.entry) K.Sink sink.old sink.new D.Store store.old store.new session.old.space session.new.space result }
 {
     let Some(file) = first else {
         return None;
     };
     let line = load_line(file);
-    status_after(execute_on(alloc, space, line.as_slice(), page, sink, store))
+    status_after(session.execute(line.as_slice(), sink, store))
 }
 
 // The line that loads the file.
@@ -257,26 +224,27 @@ fn load_line(file: &FileName) -> ArrayVec<u8, LOAD_LINE>
 
 // Executes the lines, one after another, until the run ends.
 fn follow<S: Source, K: Sink, D: Store>(
-    alloc: Global,
     most: u64,
     reader: &mut LineReader,
     source: &mut S,
-    space: &mut Space,
-    page: &mut Page,
+    session: &mut Session,
     sink: &mut K,
     store: &mut D,
 ) -> Status
     requires small { most < 2 ^ 63 }
     requires same_most { ForSome reader.old.most (λ kept. kept ≡ most) }
 
-    ensures goes { GoesAs S.Source source.old source.new K.Sink sink.old sink.new D.Store store.old store.new space.old space.new (Some result) }
+    ensures goes { GoesAs S.Source source.old source.new K.Sink sink.old sink.new D.Store store.old store.new session.old.space session.new.space (Some result) }
+    ensures answers { (asked : PlainOptions) (begin : K) (first : D) →
+        HasAnswered asked K.Sink begin sink.old D.Store first store.old session.old.space None →
+        HasAnswered asked K.Sink begin sink.new D.Store first store.new session.new.space (Some result) }
     ensures told { (asked : PlainOptions) (input : List ℕ) (begin : K) (first : D) →
-        IsGoing most asked input reader.old (S.left source.old) K.Sink begin sink.old D.Store first store.old space.old →
-        Runs most asked input (S.left source.new) K.Sink begin sink.new D.Store first store.new result (Some space.new) }
+        IsGoing most asked input reader.old (S.left source.old) K.Sink begin sink.old D.Store first store.old session.old.space →
+        Runs most asked input (S.left source.new) K.Sink begin sink.new D.Store first store.new result (Some session.new.space) }
 {
     // The proof names the loop's invariant by this label.
     'lines: loop {
-        if let Some(status) = turn(alloc, most, reader, source, space, page, sink, store) {
+        if let Some(status) = turn(most, reader, source, session, sink, store) {
             return status;
         }
     }
@@ -284,12 +252,10 @@ fn follow<S: Source, K: Sink, D: Store>(
 
 // Executes the next line. The status where the run ends with it.
 fn turn<S: Source, K: Sink, D: Store>(
-    alloc: Global,
     most: u64,
     reader: &mut LineReader,
     source: &mut S,
-    space: &mut Space,
-    page: &mut Page,
+    session: &mut Session,
     sink: &mut K,
     store: &mut D,
 ) -> Option<Status>
@@ -300,15 +266,18 @@ fn turn<S: Source, K: Sink, D: Store>(
     ensures within { reader.new.given ≤ most + 1 }
     ensures progress { IfNone result (reader.old.given < reader.new.given) }
 
-    ensures goes { GoesAs S.Source source.old source.new K.Sink sink.old sink.new D.Store store.old store.new space.old space.new result }
+    ensures goes { GoesAs S.Source source.old source.new K.Sink sink.old sink.new D.Store store.old store.new session.old.space session.new.space result }
+    ensures answers { (asked : PlainOptions) (begin : K) (first : D) →
+        HasAnswered asked K.Sink begin sink.old D.Store first store.old session.old.space None →
+        HasAnswered asked K.Sink begin sink.new D.Store first store.new session.new.space result }
     ensures told { (asked : PlainOptions) (input : List ℕ) (begin : K) (first : D) →
-        IsGoing most asked input reader.old (S.left source.old) K.Sink begin sink.old D.Store first store.old space.old →
+        IsGoing most asked input reader.old (S.left source.old) K.Sink begin sink.old D.Store first store.old session.old.space →
         MatchOption result
-        (IsGoing most asked input reader.new (S.left source.new) K.Sink begin sink.new D.Store first store.new space.new)
-        (λ status. Runs most asked input (S.left source.new) K.Sink begin sink.new D.Store first store.new status (Some space.new)) }
+        (IsGoing most asked input reader.new (S.left source.new) K.Sink begin sink.new D.Store first store.new session.new.space)
+        (λ status. Runs most asked input (S.left source.new) K.Sink begin sink.new D.Store first store.new status (Some session.new.space)) }
 {
     match reader.next(source, most) {
-        Next::Line => status_after(execute_on(alloc, space, reader.line(), page, sink, store)),
+        Next::Line => status_after(session.execute(reader.line(), sink, store)),
         Next::Long => status_after(refuse_long(sink)),
         Next::End => Some(Status::Done),
         Next::Budget => Some(Status::TooLong),

@@ -1,8 +1,8 @@
 //! What a run stores.
 
-ghost use Rattle.std.specs.Prelude.{◌≡◌, ◌<◌, ◌≤◌, length, MatchOption};
+ghost use Rattle.std.specs.Prelude.{◌≡◌, ◌<◌, ◌≤◌, length, Some, IfOk, MatchOption};
 ghost use Rattle.elem_core.specs.Shown.{name_bytes};
-ghost use Rattle.pool_text.specs.Document.{text};
+ghost use Rattle.pool_text.specs.Document.{document, text, value_in};
 ghost use Rattle.shell_terms.specs.Command.{write as write_command, save as save_command};
 ghost use Rattle.ewig_shell.specs.Saving.{Collects, EndsKeeping};
 ghost use Rattle.ewig_shell.specs.Step.{ObeysOn, ended_lines, most_stored, stored_reply};
@@ -32,12 +32,7 @@ pub fn save<D: Store>(
         return Err(StoreFault::Batch);
     }
     let pool = space.pool(alloc)?;
-    if text_length(&pool) > MOST_STORED {
-        return Err(StoreFault::Large);
-    }
-    let bytes = into_bytes(alloc, pool)?;
-    store.keep(file.as_str(), &bytes)?;
-    Ok(())
+    keep_pool(alloc, pool, file, store)
 }
 
 /// Stores the document of a pool in the file. `Memory` where memory runs out before, `Large` exactly where the document has more than
@@ -48,7 +43,8 @@ pub(crate) fn keep_pool<D: Store>(
     file: Name<'_>,
     store: &mut D,
 ) -> Result<(), StoreFault>
-    ensures { EndsKeeping (name_bytes file.entry) (text pool) D.Store store.old store.new result }
+    ensures keeps { EndsKeeping (name_bytes file.entry) (text pool) D.Store store.old store.new result }
+    ensures reads { IfOk result (λ _. value_in (text pool) ≡ Some (document pool)) }
 {
     if text_length(&pool) > MOST_STORED {
         return Err(StoreFault::Large);

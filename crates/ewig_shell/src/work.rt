@@ -1,14 +1,14 @@
 //! A run of lines that the program makes by itself: what they come to.
 
-ghost use Rattle.std.specs.Prelude.{◌≡◌, ◌+◌, ◌^◌, ◌<◌, ◌≤◌};
+ghost use Rattle.std.specs.Prelude.{◌≡◌, ◌+◌, ◌^◌, ◌<◌, ◌≤◌, IsTrue};
 ghost use Rattle.shell_terms.specs.Command.{PlainCommand};
 ghost use Rattle.space_state.specs.View.{Ends};
 ghost use Rattle.work_lines.specs.Lines.{work_lines};
-ghost use Rattle.work_lines.specs.Commands.{ChangesSpace, IsLineOf};
+ghost use Rattle.shell_words.specs.Shown.{plain_command};
+ghost use Rattle.work_lines.specs.Commands.{ChangesSpace, IsLineOf, is_made};
 ghost use Rattle.ewig_shell.specs.Work.{Counts, CountsOne, SumsUp};
 
-use crate::execute::change;
-use shell_words::read_line;
+use shell_words::{Command, read_line};
 use space_state::{Refusal, Space};
 use work_lines::WorkLines;
 
@@ -89,5 +89,19 @@ fn obeyed(space: &mut Space, line: &[u8]) -> Result<(), Refusal>
     let Ok(command) = read_line(line) else {
         unreachable!()
     };
-    change(space, command)
+    carried_out(space, command)
+}
+
+// Carries out a command of the sorts that the lines are.
+fn carried_out(space: &mut Space, command: Command<'_>) -> Result<(), Refusal>
+    requires { IsTrue (is_made (plain_command command)) }
+    ensures { Ends (plain_command command.entry) space.old result space.new }
+{
+    match command {
+        Command::Edit(edit) => space.edit(edit),
+        Command::Mark(version) => space.mark(version),
+        Command::Undo => space.undo(),
+        Command::Redo => space.redo(),
+        _ => unreachable!(),
+    }
 }

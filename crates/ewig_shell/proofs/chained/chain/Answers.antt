@@ -1,4 +1,4 @@
-use Rattle.std.proofs.Common.{◌≡◌, ◌∙◌, sym}
+use Rattle.std.proofs.Common.{◌∙◌, sym}
 use Rattle.elem_core.specs.Shown.{name_bytes}
 use Rattle.plain_space.specs.declared.refusal.Refusal.TheVariants as why
 use Rattle.ewig_shell.proofs.StepLemmas.{ObeysOn-refused}

@@ -1,4 +1,4 @@
-use Rattle.std.proofs.Common.{rules, ◌≡◌, ℕ, suc, ◌≤◌, ◌<◌, ◌+◌, ◌-◌, List, [], ◌∷◌, ◌++◌, length, Some, sym, subst, ◌∙◌, refl, arith}
+use Rattle.std.proofs.Common.{rules, ◌≡◌, ℕ, suc, ◌+◌, ◌-◌, List, [], ◌∷◌, ◌++◌, length, sym, subst, ◌∙◌, refl, arith}
 use Rattle.elem_core.specs.Shown.{name_bytes}
 use Rattle.shell_io.proofs.FaultLemmas.{Calls-as, Calls-then}
 use Rattle.ewig_shell.specs.Step.{given, chain_name, chain_names, most_stored}

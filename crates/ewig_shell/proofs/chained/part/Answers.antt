@@ -49,7 +49,7 @@ returns-in_err-keep g c =
     let many : c.len.result ≡ length c.in_ok-bytes.bytes.items = search rules in
     Part-kept c.in_ok-found-2.field-0 takes c.chain_of.ensures.same c.chain_of.ensures.calls (λ failed. let both = sym c.in_ok-found.was ∙ failed in cc) taken
     c.deref-2.result.now c.deref.result.now c.keep.result c.from_residual-in_err-keep.result c.in_ok-bytes.bytes.items
-    (few-bytes c.in_ok-bytes.bytes.items c.len.result many c.if-len.false) c.in_ok-bytes.ensures.bytes c.in_ok-bytes.ensures.reads
+    (few-bytes c.in_ok-bytes.bytes.items c.len.result many c.if-len.false) c.in_ok-bytes.ensures.bytes c.in_ok-bytes.ensures.document
     c.deref-2.ensures.value (c.deref.ensures.0 ∙ c.numbered.ensures) c.keep.ensures.told c.keep.ensures.calls
     (ap saved_as c.in_err-keep.was ∙ sym (fault-is c.from_residual-in_err-keep.result _ c.from_residual-in_err-keep.ensures.1))
 
@@ -60,6 +60,6 @@ returns g c =
     let many : c.len.result ≡ length c.in_ok-bytes.bytes.items = search rules in
     Part-kept c.in_ok-found-2.field-0 takes c.chain_of.ensures.same c.chain_of.ensures.calls (λ failed. let both = sym c.in_ok-found.was ∙ failed in cc) taken
     c.deref-2.result.now c.deref.result.now c.keep.result (Ok tt) c.in_ok-bytes.bytes.items
-    (few-bytes c.in_ok-bytes.bytes.items c.len.result many c.if-len.false) c.in_ok-bytes.ensures.bytes c.in_ok-bytes.ensures.reads
+    (few-bytes c.in_ok-bytes.bytes.items c.len.result many c.if-len.false) c.in_ok-bytes.ensures.bytes c.in_ok-bytes.ensures.document
     c.deref-2.ensures.value (c.deref.ensures.0 ∙ c.numbered.ensures) c.keep.ensures.told c.keep.ensures.calls
     (ap saved_as c.in_ok-keep.was)

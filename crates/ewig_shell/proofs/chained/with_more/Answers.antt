@@ -1,4 +1,4 @@
-use Rattle.std.proofs.Common.{◌≡◌, subst, sym, Ok, Err, Result}
+use Rattle.std.proofs.Common.{subst, Result}
 use Rattle.pool_text.specs.declared.damage.Damage.{Damage}
 use Rattle.pool_text.specs.declared.pool.Pool.{Pool}
 use Rattle.ewig_shell.specs.Chaining.{IsReadAs}

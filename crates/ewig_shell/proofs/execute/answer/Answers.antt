@@ -1,14 +1,37 @@
 use Rattle.std.proofs.Common.{refl}
 use Rattle.ewig_shell.proofs.StepLemmas.{Replies-alone, Replies-ends, Replies-on}
-use Rattle.ewig_shell.proofs.WorkLemmas.{changes-asks, changes-alone}
-use Rattle.ewig_shell.proofs.CommandLemmas.{others-change}
+use Rattle.ewig_shell.proofs.CommandLemmas.{edit-asks, edit-alone}
 use Rattle.ewig_shell.proofs.execute.answer.Goals as goal
 
-pub returns-in_default : goal.returns-in_default
-returns-in_default g c =
-    let d = c.in_default in
-    let changes = others-change c.args.command d.not-Get d.not-Len d.not-Show d.not-List d.not-Stars d.not-Marks d.not-Same d.not-Eqv d.not-Stats d.not-Made d.not-Read d.not-Write d.not-Save d.not-Load d.not-Part d.not-Chain d.not-Indent d.not-Dedent d.not-Quit in
-    Replies-ends _ _ c.change.result refl (changes-alone _ changes) (changes-asks _ changes) c.change.ensures c.send_done.ensures
+pub returns-in-Edit : goal.returns-in-Edit
+returns-in-Edit g c = Replies-ends _ _ c.edit.result c.in-Edit.is (edit-alone c.in-Edit.edit) (edit-asks c.in-Edit.edit) c.edit.ensures c.send_done.ensures
+
+pub returns-in-Mark : goal.returns-in-Mark
+returns-in-Mark g c = Replies-ends _ _ c.mark.result c.in-Mark.is refl refl c.mark.ensures c.send_done-in-Mark.ensures
+
+pub returns-in-Unmark : goal.returns-in-Unmark
+returns-in-Unmark g c = Replies-ends _ _ c.unmark.result c.in-Unmark.is refl refl c.unmark.ensures c.send_done-in-Unmark.ensures
+
+pub returns-in-Back : goal.returns-in-Back
+returns-in-Back g c = Replies-ends _ _ c.back.result c.in-Back.is refl refl c.back.ensures.ends c.send_done-in-Back.ensures
+
+pub returns-in-Undo : goal.returns-in-Undo
+returns-in-Undo g c = Replies-ends _ _ c.undo.result c.in-Undo.is refl refl c.undo.ensures.ends c.send_done-in-Undo.ensures
+
+pub returns-in-Redo : goal.returns-in-Redo
+returns-in-Redo g c = Replies-ends _ _ c.redo.result c.in-Redo.is refl refl c.redo.ensures.ends c.send_done-in-Redo.ensures
+
+pub returns-in-Begin : goal.returns-in-Begin
+returns-in-Begin g c = Replies-ends _ _ c.begin.result c.in-Begin.is refl refl c.begin.ensures.ends c.send_done-in-Begin.ensures
+
+pub returns-in-End : goal.returns-in-End
+returns-in-End g c = Replies-ends _ _ c.end.result c.in-End.is refl refl c.end.ensures.ends c.send_done-in-End.ensures
+
+pub returns-in-Abort : goal.returns-in-Abort
+returns-in-Abort g c = Replies-ends _ _ c.abort.result c.in-Abort.is refl refl c.abort.ensures.ends c.send_done-in-Abort.ensures
+
+pub returns-in-History : goal.returns-in-History
+returns-in-History g c = Replies-ends _ _ c.history.result c.in-History.is refl refl c.history.ensures.ends c.send_done-in-History.ensures
 
 pub returns-in-Get : goal.returns-in-Get
 returns-in-Get g c = Replies-alone _ _ c.in-Get.is refl c.get.ensures

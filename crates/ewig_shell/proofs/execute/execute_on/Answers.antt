@@ -18,7 +18,7 @@ pub returns-in-Ok-clause-bits : goal.returns-in-Ok-clause-bits
 returns-in-Ok-clause-bits g c = bits-kept _ _ _ _ c.obey.ensures.replies.due.obeys
 
 pub returns-in-Ok-clause-quits : goal.returns-in-Ok-clause-quits
-returns-in-Ok-clause-quits g c = quits-command _ _ _ c.in-Ok.ensures c.obey.ensures.quits
+returns-in-Ok-clause-quits g c = quits-command _ _ _ c.requires.short c.in-Ok.ensures c.obey.ensures.quits
 
 pub returns-in-Err-clause-replies : goal.returns-in-Err-clause-replies
 returns-in-Err-clause-replies g c = record {
@@ -31,4 +31,4 @@ returns-in-Err-clause-replies g c = record {
 }
 
 pub returns-in-Err-clause-quits : goal.returns-in-Err-clause-quits
-returns-in-Err-clause-quits g c = quits-bad _ c.in-Err.bad c.send.result _ c.in-Err.ensures c.then.ensures
+returns-in-Err-clause-quits g c = quits-bad _ c.in-Err.bad c.send.result _ c.requires.short c.in-Err.ensures c.then.ensures

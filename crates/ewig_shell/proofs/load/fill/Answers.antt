@@ -10,12 +10,12 @@ returns-in_err-lines c =
     subst (λ (w : List ℕ). FillsIn (name_bytes c.args.buffer) w c.args.space.now c.from_residual.result c.args.space.now) c.deref.ensures.value
     (FillsIn-refused c.in_err-lines.field-0.0 _ _ _ c.from_residual.result c.in_err-lines.ensures c.from_residual.ensures.1)
 
-pub edit-requires : goal.edit-requires
-edit-requires c = few-lines (name_bytes c.args.buffer) _ _ (subst (λ (w : List ℕ). length w ≤ most_stored) (sym c.deref.ensures.value) c.requires) c.in_ok-lines.ensures
+pub fill-requires : goal.fill-requires
+fill-requires c = few-lines _ _ (subst (λ (w : List ℕ). length w ≤ most_stored) (sym c.deref.ensures.value) c.requires) c.in_ok-lines.ensures
 
 pub returns-in-Ok : goal.returns-in-Ok
 returns-in-Ok c =
-    subst (λ (w : List ℕ). FillsIn (name_bytes c.args.buffer) w c.args.space.now (Ok tt) c.edit.new.self) c.deref.ensures.value
+    subst (λ (w : List ℕ). FillsIn (name_bytes c.args.buffer) w c.args.space.now (Ok tt) c.fill.new.self) c.deref.ensures.value
     (FillsIn-ok _ _ c.in_ok-lines.lines _ _ tt c.in_ok-lines.ensures c.in-Ok.ensures)
 
 pub returns-in-Err : goal.returns-in-Err

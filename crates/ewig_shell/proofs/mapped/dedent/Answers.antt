@@ -1,14 +1,13 @@
-use Rattle.std.proofs.Common.{◌∙◌, sym, ap, subst, refl, List, ℕ}
+use Rattle.std.proofs.Common.{◌∙◌, sym, ap, refl, ℕ}
 use Rattle.elem_core.specs.Shown.{name_bytes}
 use Rattle.plain_space.specs.declared.refusal.Refusal.TheVariants as why
-use Rattle.pool_text.specs.Document.{text}
+use Rattle.pool_text.specs.Rules.{present_rules}
 use Rattle.pool_text.specs.declared.pool.Pool.{Pool}
 use Rattle.pool_map.specs.Mapped.{mapped}
 use Rattle.pool_map.specs.Spaces.{dedented}
-use Rattle.ewig_shell.specs.Saving.{EndsKeeping}
 use Rattle.ewig_shell.proofs.StepLemmas.{ObeysOn-refused}
-use Rattle.ewig_shell.proofs.SaveLemmas.{Stores-lacks, Stores-ended}
-use Rattle.ewig_shell.proofs.MapLemmas.{dedent-inside, dedent-past, dedent-granted, dedent-stores}
+use Rattle.ewig_shell.proofs.SaveLemmas.{Stores-lacks, Pool-ended}
+use Rattle.ewig_shell.proofs.MapLemmas.{dedent-inside, dedent-past, dedent-granted, dedent-stores, mapped-storable}
 use Rattle.ewig_shell.proofs.mapped.dedent.Goals as goal
 
 pub returns-then-in_batch : goal.returns-then-in_batch
@@ -24,7 +23,10 @@ pub returns-in_err-moved : goal.returns-in_err-moved
 returns-in_err-moved g c = Stores-lacks c.in_batch.ensures.0 c.from_residual-in_err-moved.result c.from_residual-in_err-moved.ensures.1 c.in_batch.ensures.1 (dedent-granted c.in_batch.ensures.0 c.args.count (name_bytes c.args.file) (sym c.in_batch.ensures.2 ∙ c.if-in_batch.false) c.if-count-gt-MOST_SPACES.false) refl
 
 pub returns : goal.returns
-returns g c = Stores-ended c.keep_pool.result
-    (dedent-stores c.in_batch.ensures.0 c.args.count (name_bytes c.args.file) (sym c.in_batch.ensures.2 ∙ c.if-in_batch.false) c.if-count-gt-MOST_SPACES.false c.in_batch.ensures.1) tt
-    (subst (λ (w : List ℕ). EndsKeeping (name_bytes c.args.file) w g.D.Store c.args.store.now c.keep_pool.new.store c.keep_pool.result)
-    (ap text (c.in_ok-moved.ensures ∙ ap (λ (P : Pool). mapped (dedented c.from.result) P) c.in_ok-pool.ensures.value ∙ ap (λ (n : ℕ). mapped (dedented n) c.args.space.now.pool) c.from.ensures)) c.keep_pool.ensures)
+returns g c =
+    let free = sym c.in_batch.ensures.2 ∙ c.if-in_batch.false in
+    let lines = c.dedent_keeps_lines.ensures present_rules c.args.space.now.pool c.args.count c.in_ok-pool.ensures.valid in
+    Pool-ended (mapped (dedented c.args.count) c.args.space.now.pool) c.in_ok-moved.moved c.keep_pool.result
+    (c.in_ok-moved.ensures ∙ ap (λ (P : Pool). mapped (dedented c.from.result) P) c.in_ok-pool.ensures.value ∙ ap (λ (n : ℕ). mapped (dedented n) c.args.space.now.pool) c.from.ensures)
+    (mapped-storable (dedented c.args.count) c.args.space.now.pool c.in_batch.ensures.0 c.mapped_is_valid.ensures c.in_batch.ensures.1 free c.bits_are_few.ensures c.in_ok-pool.ensures.valid c.in_ok-pool.ensures.history lines)
+    (dedent-stores c.in_batch.ensures.0 c.args.count (name_bytes c.args.file) free c.if-count-gt-MOST_SPACES.false c.in_batch.ensures.1) c.keep_pool.ensures.keeps c.keep_pool.ensures.reads

@@ -1,16 +1,13 @@
-use Rattle.std.proofs.Common.{◌≤◌, ◌∙◌, sym, ap, subst, List, ℕ}
+use Rattle.std.proofs.Common.{◌∙◌, sym, ap, subst, ℕ}
 use Rattle.elem_core.specs.Shown.{name_bytes}
-use Rattle.elem_core.specs.declared.codes.TheConstants.{CODE_BITS}
 use Rattle.plain_space.specs.declared.refusal.Refusal.TheVariants as why
-use Rattle.pool_text.specs.Document.{text}
 use Rattle.pool_text.specs.declared.pool.Pool.{Pool}
 use Rattle.pool_map.specs.Laws.{KeepsCells}
 use Rattle.pool_map.specs.Mapped.{mapped}
 use Rattle.pool_map.specs.Spaces.{indented}
-use Rattle.ewig_shell.specs.Saving.{EndsKeeping}
 use Rattle.ewig_shell.proofs.StepLemmas.{ObeysOn-refused}
-use Rattle.ewig_shell.proofs.SaveLemmas.{Stores-ended}
-use Rattle.ewig_shell.proofs.MapLemmas.{indent-inside, indent-past, indent-lacks, indent-refused, indent-stores}
+use Rattle.ewig_shell.proofs.SaveLemmas.{Pool-ended}
+use Rattle.ewig_shell.proofs.MapLemmas.{indent-inside, indent-past, indent-lacks, indent-refused, indent-stores, mapped-storable}
 use Rattle.ewig_shell.proofs.mapped.indent.Goals as goal
 
 pub returns-then-in_batch : goal.returns-then-in_batch
@@ -24,18 +21,18 @@ returns-in_err-pool g c = indent-lacks c.in_batch.ensures.0 c.args.count (name_b
 
 pub returns-in_err-moved : goal.returns-in_err-moved
 returns-in_err-moved g c =
-    let same = c.in_ok-pool.ensures.value in
-    let bits : c.args.space.now.pool.bits ≤ CODE_BITS = subst (λ (n : ℕ). n ≤ CODE_BITS) c.bits.ensures.kept c.bits.ensures.small in
     indent-refused c.in_batch.ensures.0 c.args.count (name_bytes c.args.file) (sym c.in_batch.ensures.2 ∙ c.if-in_batch.false) c.args.space.now c.if-count-gt-MOST_SPACES.false c.in_batch.ensures.1
-    c.indent_needs_room.ensures bits c.in_ok-pool.ensures.valid c.in_err-moved.field-0.0 c.from_residual-in_err-moved.result
-    (λ is lines. c.in_err-moved.ensures.long is (subst (λ (n : ℕ). KeepsCells (indented n) c.in_ok-pool.pool) (sym c.from.ensures) (subst (λ (P : Pool). KeepsCells (indented c.args.count) P) (sym same) lines))) c.from_residual-in_err-moved.ensures.1
+    c.indent_needs_room.ensures c.bits_are_few.ensures c.in_ok-pool.ensures.valid c.in_err-moved.field-0.0 c.from_residual-in_err-moved.result
+    (λ is lines. c.in_err-moved.ensures.long is (subst (λ (n : ℕ). KeepsCells (indented n) c.in_ok-pool.pool) (sym c.from.ensures) (subst (λ (P : Pool). KeepsCells (indented c.args.count) P) (sym c.in_ok-pool.ensures.value) lines))) c.from_residual-in_err-moved.ensures.1
 
 pub returns : goal.returns
 returns g c =
+    let free = sym c.in_batch.ensures.2 ∙ c.if-in_batch.false in
     let same = c.in_ok-pool.ensures.value in
-    let bits : c.args.space.now.pool.bits ≤ CODE_BITS = subst (λ (n : ℕ). n ≤ CODE_BITS) c.bits.ensures.kept c.bits.ensures.small in
-    Stores-ended c.keep_pool.result
-    (indent-stores c.in_batch.ensures.0 c.args.count (name_bytes c.args.file) (sym c.in_batch.ensures.2 ∙ c.if-in_batch.false) c.args.space.now c.if-count-gt-MOST_SPACES.false c.in_batch.ensures.1
-    c.indent_needs_room.ensures bits c.in_ok-pool.ensures.valid (subst (λ (P : Pool). KeepsCells (indented c.args.count) P) same (subst (λ (n : ℕ). KeepsCells (indented n) c.in_ok-pool.pool) c.from.ensures c.in_ok-moved.ensures.lines))) tt
-    (subst (λ (w : List ℕ). EndsKeeping (name_bytes c.args.file) w g.D.Store c.args.store.now c.keep_pool.new.store c.keep_pool.result)
-    (ap text (c.in_ok-moved.ensures.mapped ∙ ap (λ (P : Pool). mapped (indented c.from.result) P) same ∙ ap (λ (n : ℕ). mapped (indented n) c.args.space.now.pool) c.from.ensures)) c.keep_pool.ensures)
+    let lines : KeepsCells (indented c.args.count) c.args.space.now.pool =
+    subst (λ (P : Pool). KeepsCells (indented c.args.count) P) same (subst (λ (n : ℕ). KeepsCells (indented n) c.in_ok-pool.pool) c.from.ensures c.in_ok-moved.ensures.lines) in
+    Pool-ended (mapped (indented c.args.count) c.args.space.now.pool) c.in_ok-moved.moved c.keep_pool.result
+    (c.in_ok-moved.ensures.mapped ∙ ap (λ (P : Pool). mapped (indented c.from.result) P) same ∙ ap (λ (n : ℕ). mapped (indented n) c.args.space.now.pool) c.from.ensures)
+    (mapped-storable (indented c.args.count) c.args.space.now.pool c.in_batch.ensures.0 c.mapped_is_valid.ensures c.in_batch.ensures.1 free c.bits_are_few.ensures c.in_ok-pool.ensures.valid c.in_ok-pool.ensures.history lines)
+    (indent-stores c.in_batch.ensures.0 c.args.count (name_bytes c.args.file) free c.args.space.now c.if-count-gt-MOST_SPACES.false c.in_batch.ensures.1
+    c.indent_needs_room.ensures c.bits_are_few.ensures c.in_ok-pool.ensures.valid lines) c.keep_pool.ensures.keeps c.keep_pool.ensures.reads

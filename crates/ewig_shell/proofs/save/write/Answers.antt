@@ -4,7 +4,7 @@ use Rattle.ewig_shell.specs.declared.store_fault.StoreFault.{StoreFault}
 use Rattle.ewig_shell.specs.Step.{ended_lines, most_stored}
 use Rattle.ewig_shell.proofs.StepLemmas.{fault-is}
 use Rattle.ewig_shell.specs.Saving.{saved_as}
-use Rattle.ewig_shell.proofs.SaveLemmas.{count-absent, never-past, all-shown, shown-again, ObeysOn-absent, write-granted, write-stores, collected-are, collected-lacks, Stores-large, Stores-lacks, Stores-kept}
+use Rattle.ewig_shell.proofs.SaveLemmas.{count-absent, never-past, all-shown, shown-again, ObeysOn-absent, write-granted, write-stores, collected-are, collected-lacks, Stores-large, Stores-lacks, Stores-kept, no-more}
 use Rattle.ewig_shell.proofs.save.write.Goals as goal
 
 pub returns-in_default : goal.returns-in_default
@@ -42,7 +42,7 @@ returns-in_err-keep g c =
     let few : length (ended_lines all.0) ≤ most_stored
     = subst (λ (ls : List (List ℕ)). length (ended_lines ls) ≤ most_stored) (again ∙ all.2) (subst (λ (n : ℕ). n ≤ most_stored) c.in-Some.ensures.0 c.in-Some.ensures.1) in
     let are = collected-are _ c.collected.result c.in_ok-bytes.bytes c.collected.ensures c.in_ok-bytes.was in
-    Stores-kept (write-stores c.in-Ok.ensures.0 (name_bytes c.args.buffer) (name_bytes c.args.file) all.0 c.in-Ok.ensures.1 all.1) c.deref.result.now c.as_str.result.now c.keep.result c.from_residual-in_err-keep.result few tt
+    Stores-kept (write-stores c.in-Ok.ensures.0 (name_bytes c.args.buffer) (name_bytes c.args.file) all.0 c.in-Ok.ensures.1 all.1) c.deref.result.now c.as_str.result.now c.keep.result c.from_residual-in_err-keep.result few (no-more c.from_residual-in_err-keep.result)
     (c.deref.ensures.value ∙ are ∙ ap ended_lines all.2) c.as_str.ensures.shown c.keep.ensures.told c.keep.ensures.calls
     (ap saved_as c.in_err-keep.was ∙ sym (fault-is c.from_residual-in_err-keep.result _ c.from_residual-in_err-keep.ensures.1))
 

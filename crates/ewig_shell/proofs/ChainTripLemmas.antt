@@ -1,0 +1,308 @@
+-- What a part and a chain of the files behind it make of each other.
+use Rattle.std.proofs.Common.{◌≡◌, ◌≢◌, ℕ, zero, suc, ◌+◌, ◌-◌, ◌<◌, ◌≤◌, ◌&&◌, nat_le, nat_lt, List, [], ◌∷◌, ◌++◌, map, Bool, true, false, Option, None, Some, codes, length, length-append, refl, sym, ap, subst, ◌∙◌, inl, inr, ◌⊎◌, if◌then◌else◌, MatchBool, MatchOption, IfSome, IsSomeAnd, Ok, Err, arith}
+use Rattle.std.proofs.lemmas.Bool.{cases_lt, leb-true, and_parts}
+use Rattle.std.proofs.lemmas.List.{append_cancel_left, map-append}
+use Rattle.std.proofs.lemmas.Fmt.{decimal_injective}
+use Rattle.std.specs.Fmt.{decimal}
+use Rattle.std.specs.Option.{option_or, option_and_then}
+use Rattle.std.specs.FinMap.{get, insert}
+use Rattle.shell_terms.specs.Edit.{Bytes}
+use Rattle.shell_terms.specs.Command.{part, chain}
+use Rattle.shell_words.specs.Files.{numbered}
+use Rattle.plain_space.specs.declared.refusal.Refusal.TheVariants as why
+use Rattle.plain_space.specs.Workspace.{Workspace, in_batch}
+use Rattle.plain_space.specs.Refusing.{needs, unless}
+use Rattle.plain_space.specs.Answer.{Answer, elsewhere, answer}
+use Rattle.pool_text.specs.Pool.{at_present_version}
+use Rattle.pool_text.specs.declared.pool.Pool.{Pool}
+use Rattle.pool_text.specs.declared.damage.Damage.{Damage}
+use Rattle.pool_delta.specs.Parts.{part_text}
+use Rattle.pool_delta.specs.Delta.{delta}
+use Rattle.pool_delta.specs.Chains.{chain_damage, chain_in, chain_with, more_damage, with_part}
+use Rattle.space_state.specs.View.{SpaceView}
+use Rattle.shell_io.specs.InMemory.{Files}
+use Rattle.ewig_shell.specs.Step.{Machine, StoreView, KeepsFiles, Refuses, IsStored, Fetched, missing, large, given, with_file, fetched_within, fetched_all, chain_name, chain_names, most_stored, Makes, TakesFiles, IsPartDocumentOf, StoresPart, LoadsChain, ChainsFiles, Obeys, is_large, damage_word, FailsToStore, Gives}
+use Rattle.ewig_shell.specs.RoundTrip.{ok_reply, IsHindered, Leaves, PartThenChain, PartThenPart}
+use Rattle.ewig_shell.proofs.ChainLemmas.{total, next-given, next-large, names-one, chain-damage-append, chain-in-append}
+use Rattle.ewig_shell.proofs.LeavesLemmas.{get-stored, get-beside, then-told}
+use Rattle.ewig_shell.proofs.ReplyLemmas.{no-refusal}
+use Rattle.ewig_shell.proofs.RoundTripLemmas.{part-of-store, said-ok, stored-if, ended}
+use Rattle.ewig_shell.proofs.StepLemmas.{IsOutsideBatch}
+
+-- ## Names of the files of a chain
+
+-- a part has another name than each file before it
+name-apart : (file : Bytes) (j k : ℕ) → j < k → k ≤ 64 → chain_name file j ≢ numbered file k
+name-apart file zero k low few e =
+    let same : length file ≡ length (file ++ 46 ∷ decimal k) = ap length e in
+    let longer : length (file ++ 46 ∷ decimal k) ≡ length file + suc (length (decimal k)) = length-append file (46 ∷ decimal k) in
+    omega (arith, same, longer)
+name-apart file (suc n) k low few e =
+    let rests : 46 ∷ decimal (suc n) ≡ 46 ∷ decimal k = append_cancel_left file (46 ∷ decimal (suc n)) (46 ∷ decimal k) (sym (names-one file (suc n) (omega arith)) ∙ e) in
+    let digits : decimal (suc n) ≡ decimal k = cc in
+    omega (arith, decimal_injective (suc n) k (omega arith) (omega arith) digits)
+
+-- ## Files of these names
+
+-- the files before a part stay where it is stored
+others-stay : (fs : Files) (file bytes : Bytes) (number few : ℕ) → number ≤ 64 → few ≤ number → map (get (insert fs (numbered file number) bytes)) (chain_names file few) ≡ map (get fs) (chain_names file few)
+unfolding chain_names
+others-stay fs file bytes number zero small low = refl
+others-stay fs file bytes number (suc few) small low =
+    let now : Files = insert fs (numbered file number) bytes in
+    let last = chain_name file few in
+    map-append (get now) (chain_names file few) (last ∷ [])
+    ∙ ap (λ (o : Option Bytes). map (get now) (chain_names file few) ++ o ∷ []) (get-beside fs (numbered file number) bytes last (name-apart file few number low small))
+    ∙ ap (λ (os : List (Option Bytes)). os ++ get fs last ∷ []) (others-stay fs file bytes number few small (omega (arith, low)))
+    ∙ sym (map-append (get fs) (chain_names file few) (last ∷ []))
+
+-- where the same is found of them, the same is taken
+same-within : (fs gs : Files) (room : ℕ) (file : Option Bytes) (names : List Bytes) → ((left : ℕ) → fetched_all fs left names ≡ fetched_all gs left names) →
+    fetched_within room file (λ bytes. with_file bytes (fetched_all fs (room - length bytes) names)) ≡ fetched_within room file (λ bytes. with_file bytes (fetched_all gs (room - length bytes) names))
+same-within fs gs room None names each = refl
+same-within fs gs room (Some bytes) names each = ap (λ (found : Fetched (List Bytes)). if nat_lt room (length bytes) then large else with_file bytes found) (each (room - length bytes))
+
+same-fetched : (fs gs : Files) (names : List Bytes) (room : ℕ) → map (get fs) names ≡ map (get gs) names → fetched_all fs room names ≡ fetched_all gs room names
+unfolding fetched_all
+same-fetched fs gs [] room e = refl
+same-fetched fs gs (name ∷ names) room e =
+    let both : get fs name ∷ map (get fs) names ≡ get gs name ∷ map (get gs) names = e in
+    let here : get fs name ≡ get gs name = cc in
+    let others : map (get fs) names ≡ map (get gs) names = cc in
+    same-within fs gs room (get fs name) names (λ left. same-fetched fs gs names left others)
+    ∙ ap (λ (o : Option Bytes). fetched_within room o (λ bytes. with_file bytes (fetched_all gs (room - length bytes) names))) here
+
+-- the files of a chain, and the part that was stored behind them; or they have too many bytes together
+with-part : (fs : Files) (file bytes : Bytes) (number : ℕ) (front : List Bytes) → 1 ≤ number → number ≤ 64 → given front ≡ fetched_all fs most_stored (chain_names file number) →
+    (fetched_all (insert fs (numbered file number) bytes) most_stored (chain_names file (suc number)) ≡ given (front ++ bytes ∷ []))
+    ⊎ (fetched_all (insert fs (numbered file number) bytes) most_stored (chain_names file (suc number)) ≡ large)
+unfolding chain_names
+with-part fs file bytes number front some few so_far =
+    let now : Files = insert fs (numbered file number) bytes in
+    let before : given front ≡ fetched_all now most_stored (chain_names file number) = so_far ∙ sym (same-fetched now fs (chain_names file number) most_stored (others-stay fs file bytes number number few (omega arith))) in
+    let there : get now (chain_name file number) ≡ Some bytes = ap (get now) (names-one file number some) ∙ get-stored fs (numbered file number) bytes in
+    elim (cases_lt (most_stored - total front) (length bytes)) [
+      | inl many ↦ inr (sym (next-large now most_stored (chain_names file number) front before (chain_name file number) bytes there many))
+      | inr fits ↦ inl (sym (next-given now most_stored (chain_names file number) front before (chain_name file number) bytes there fits))
+    ]
+
+-- ## A part that was stored
+
+-- the number of a part
+abbrev in_chain : ℕ → Bool
+in_chain number = nat_le 1 number && nat_le number 64
+
+number-granted : (batch fits : Bool) → unless batch why.Batch (needs fits why.Range (Ok elsewhere)) ≡ Ok elsewhere → fits ≡ true
+number-granted true fits e = let never : ◌≡◌ {A = Answer} (Err why.Batch) (Ok elsewhere) = e in cc
+number-granted false true e = refl
+number-granted false false e = let never : ◌≡◌ {A = Answer} (Err why.Range) (Ok elsewhere) = e in cc
+
+part-numbered : (W : Workspace) (file : Bytes) (number : ℕ) → answer W (part file number) ≡ Ok elsewhere → in_chain number ≡ true
+unfolding answer
+part-numbered W file number e = number-granted (in_batch W) (in_chain number) e
+
+chain-outside : (file : Bytes) (number : ℕ) → in_chain number ≡ true → IsOutsideBatch (chain file number)
+unfolding answer
+chain-outside file number e W = ap (λ (b : Bool). unless (in_batch W) why.Batch (needs b why.Range (Ok elsewhere))) e
+
+-- the chain of files that the part was stored behind, which was read when the store had come to this
+pub record IsParted (file : Bytes) (number : ℕ) (first parted : Machine) : Type 0 where
+  pub numbered_so : in_chain number ≡ true
+  pub mid : StoreView
+  pub kept : KeepsFiles first.store mid
+  pub whole : Bytes
+  pub parts : List Bytes
+  pub held : IfSome first.store.files (λ files. given (whole ∷ parts) ≡ fetched_all files most_stored (chain_names file number))
+  pub before : Pool
+  pub undamaged : chain_damage first.space.pool.bits whole parts ≡ None
+  pub is_chain : chain_in whole parts ≡ Some before
+  pub same : parted.space ≡ first.space
+  pub stored : IsStored (numbered file number) (part_text (delta before first.space.pool)) mid ok_reply parted.store
+  pub document : IsPartDocumentOf before first.space.pool (part_text (delta before first.space.pool))
+
+-- a chain without damage, by what is made of it
+undamaged-chain : (found : Option Damage) (there : Option Pool) (ByPool : Pool → Type 0) (ByDamage : Damage → Type 0) → ((d : Damage) → ByDamage d → ⊥) → MatchOption found (IsSomeAnd there ByPool) ByDamage →
+    (found ≡ None) × (C : Pool) × (there ≡ Some C) × ByPool C
+undamaged-chain None None ByPool ByDamage never h = absurd h
+undamaged-chain None (Some C) ByPool ByDamage never h = (refl, C, refl, h)
+undamaged-chain (Some d) there ByPool ByDamage never h = absurd (never d h)
+
+module _ (file : Bytes) (number : ℕ) (first parted : Machine) (so : in_chain number ≡ true) (mid : StoreView) (kept : KeepsFiles first.store mid) where
+  abbrev here : Machine
+  here = record first { store = mid }
+
+  parted-by : (found : Fetched (List Bytes)) → IfSome first.store.files (λ files. found ≡ fetched_all files most_stored (chain_names file number)) →
+      Makes (λ files. ChainsFiles (StoresPart (numbered file number)) files here) found here ok_reply parted → IsParted file number first parted
+  parted-by missing held makes = absurd (no-refusal (codes "missing") makes.reply_is)
+  parted-by large held makes = absurd (no-refusal (codes "large") makes.reply_is)
+  parted-by (given []) held makes = absurd makes
+  parted-by (given (whole ∷ parts)) held makes =
+      let bits : ℕ = first.space.pool.bits in
+      let read = undamaged-chain (chain_damage bits whole parts) (chain_in whole parts) (λ C. StoresPart (numbered file number) C here ok_reply parted) (λ d. Refuses here (codes "damaged " ++ damage_word d) ok_reply parted)
+      (λ d refuses. no-refusal (codes "damaged " ++ damage_word d) refuses.reply_is) makes in
+      let C : Pool = read.1 in
+      let stores : StoresPart (numbered file number) C here ok_reply parted = read.3 in
+      let bytes : Bytes = part_text (delta C first.space.pool) in
+      record {
+        numbered_so = so;
+        mid = mid;
+        kept = kept;
+        whole = whole;
+        parts = parts;
+        held = held;
+        before = C;
+        undamaged = read.0;
+        is_chain = read.2;
+        same = stores.stores.space;
+        stored = (stored-if (is_large bytes) (numbered file number) bytes here parted stores.stores.ends).1;
+        document = stores.document refl;
+      }
+
+is-parted : (file : Bytes) (number : ℕ) (first parted : Machine) → Obeys (part file number) first ok_reply parted → IsParted file number first parted
+is-parted file number first parted obeys =
+    let said = said-ok (part file number) first parted (part-of-store file number) obeys in
+    let so : in_chain number ≡ true = part-numbered obeys.work file number said.0 in
+    elim (said.1) [
+      | inl takes ↦ parted-by file number first parted so takes.mid takes.kept takes.files takes.held takes.makes
+      | inr fails ↦ absurd (no-refusal (codes "fault") fails.space.reply_is)
+    ]
+
+-- ## The chain of its files
+
+module _ (file : Bytes) (number : ℕ) (first parted : Machine) (is : IsParted file number first parted) where
+  abbrev P : Pool
+  P = first.space.pool
+
+  abbrev bytes : Bytes
+  bytes = part_text (delta is.before P)
+
+  abbrev after : Pool
+  after = with_part is.before (delta is.before P)
+
+  some : 1 ≤ number
+  some = leb-true 1 number (and_parts (nat_le 1 number) (nat_le number 64) is.numbered_so).0
+
+  few : number ≤ 64
+  few = leb-true number 64 (and_parts (nat_le 1 number) (nat_le number 64) is.numbered_so).1
+
+  pub whole-chain : chain_damage P.bits is.whole (is.parts ++ bytes ∷ []) ≡ None
+  whole-chain =
+      chain-damage-append bytes P.bits is.whole is.parts
+      ∙ ap (λ (o : Option Damage). option_or o (option_and_then (λ D. more_damage D bytes) (chain_in is.whole is.parts))) is.undamaged
+      ∙ ap (λ (o : Option Pool). option_and_then (λ D. more_damage D bytes) o) is.is_chain ∙ is.document.part.undamaged
+
+  pub chain-after : chain_in is.whole (is.parts ++ bytes ∷ []) ≡ Some after
+  chain-after = chain-in-append bytes P.bits is.whole is.parts ∙ ap (λ (o : Option Pool). option_and_then (λ D. chain_with D bytes) o) is.is_chain ∙ is.document.part.with_it
+
+  module _ (fs : Files) (told : first.store.files ≡ Some fs) (later : Machine) (left : Leaves (chain_names file (number + 1)) parted later) where
+    -- what is taken of them then
+    pub taken-then : (ls : Files) × (later.store.files ≡ Some ls)
+        × ((fetched_all ls most_stored (chain_names file (number + 1)) ≡ given (is.whole ∷ (is.parts ++ bytes ∷ []))) ⊎ (fetched_all ls most_stored (chain_names file (number + 1)) ≡ large))
+    taken-then =
+        let mid = then-told first.store.files fs is.mid.files (λ before now. now ≡ before) told is.kept.files in
+        let now = then-told is.mid.files mid.0 parted.store.files (λ before changed. changed ≡ insert before (numbered file number) bytes) mid.1 is.stored.files in
+        let last = then-told parted.store.files now.0 later.store.files (λ before left_so. map (get left_so) (chain_names file (number + 1)) ≡ map (get before) (chain_names file (number + 1))) now.1 left.files in
+        let held : given (is.whole ∷ is.parts) ≡ fetched_all fs most_stored (chain_names file number)
+        = subst (λ (o : Option Files). IfSome o (λ files. given (is.whole ∷ is.parts) ≡ fetched_all files most_stored (chain_names file number))) told is.held in
+        let stored : now.0 ≡ insert fs (numbered file number) bytes = now.2 ∙ ap (λ (gs : Files). insert gs (numbered file number) bytes) mid.2 in
+        let one : suc number ≡ number + 1 = omega arith in
+        let same : fetched_all last.0 most_stored (chain_names file (number + 1)) ≡ fetched_all (insert fs (numbered file number) bytes) most_stored (chain_names file (suc number))
+        = same-fetched last.0 now.0 (chain_names file (number + 1)) most_stored last.2 ∙ ap (λ (gs : Files). fetched_all gs most_stored (chain_names file (number + 1))) stored
+        ∙ ap (λ (n : ℕ). fetched_all (insert fs (numbered file number) bytes) most_stored (chain_names file n)) (sym one) in (
+          last.0,
+          last.1,
+          elim (with-part fs file bytes number (is.whole ∷ is.parts) some few held) [ inl all ↦ inl (same ∙ all) | inr many ↦ inr (same ∙ many) ],
+        )
+
+    pub bits-then : later.space.pool.bits ≡ P.bits
+    bits-then = left.bits ∙ ap (λ (s : SpaceView). s.pool.bits) is.same
+
+-- what is made of them by a later command that takes them
+module _ (file : Bytes) (number : ℕ) (first parted : Machine) (is : IsParted file number first parted) (fs : Files) (told : first.store.files ≡ Some fs) (later last : Machine) (left : Leaves (chain_names file (number + 1)) parted later) (reply : List ℕ) where
+  -- from the machine as it is when the store has come to this
+  abbrev at_mid : StoreView → Machine
+  at_mid mid = record later { store = mid }
+
+  by-taken : (ByPool : Pool → Machine → List ℕ → Machine → Type 0) (End : Type 0) → ((mid : StoreView) → ByPool (with_part is.before (delta is.before first.space.pool)) (at_mid mid) reply last → End) →
+      (Refuses later.space (codes "large") reply last.space → End) → TakesFiles (chain_names file (number + 1)) later reply last (ChainsFiles ByPool) → End
+  by-taken ByPool End chained many takes =
+      let there = taken-then file number first parted is fs told later left in
+      let here : Machine = at_mid takes.mid in
+      let made : (found : Fetched (List Bytes)) → fetched_all there.0 most_stored (chain_names file (number + 1)) ≡ found → Makes (λ files. ChainsFiles ByPool files here) found here reply last
+      = λ found e. subst (λ (f : Fetched (List Bytes)). Makes (λ files. ChainsFiles ByPool files here) f here reply last)
+      (subst (λ (o : Option Files). IfSome o (λ files. takes.files ≡ fetched_all files most_stored (chain_names file (number + 1)))) there.1 takes.held ∙ e) takes.makes in
+      elim (there.2) [
+        | inl all ↦
+            let made_so = made (given (is.whole ∷ (is.parts ++ part_text (delta is.before first.space.pool) ∷ []))) all in
+            let ByDamage = λ (d : Damage). Refuses here (codes "damaged " ++ damage_word d) reply last in
+            let ByChainPool = λ (C : Pool). ByPool C here reply last in
+            let undamaged = ap (λ (b : ℕ). chain_damage b is.whole (is.parts ++ part_text (delta is.before first.space.pool) ∷ [])) (bits-then file number first parted is fs told later left) ∙ whole-chain file number first parted is in
+            chained takes.mid
+            (subst (λ (o : Option Pool). IsSomeAnd o ByChainPool) (chain-after file number first parted is)
+            (subst (λ (o : Option Damage). MatchOption o (IsSomeAnd (chain_in is.whole (is.parts ++ part_text (delta is.before first.space.pool) ∷ [])) ByChainPool) ByDamage) undamaged made_so))
+        | inr long ↦
+            let refuses = made large long in
+            many (record { reply_is = refuses.reply_is; same = ap (λ (m : Machine). m.space) refuses.same })
+      ]
+
+  -- a chain of them
+  abbrev Chained : Type 0
+  Chained = (reply ≡ ok_reply) × (last.space.pool ≡ at_present_version first.space.pool) ⊎ Refuses later.space (codes "large") reply last.space ⊎ IsHindered later.space reply last.space
+
+  by-chain : Obeys (chain file number) later reply last → Chained
+  by-chain obeys = elim (ended (chain file number) (chain-outside file number is.numbered_so) later last reply obeys) [
+    | inl says ↦ elim says [
+      | inl takes ↦ by-taken LoadsChain Chained (λ mid loads. inl (loads.1.reply_is, loads.1.pool ∙ is.document.stands)) (λ many. inr (inl many)) takes
+      | inr fails ↦ inr (inr (inr (inl fails.space)))
+    ]
+    | inr keeps ↦ elim keeps [
+      | inl batch ↦ inr (inr (inl batch))
+      | inr memory ↦ inr (inr (inr (inr memory)))
+    ]
+  ]
+
+  -- a part behind them
+  abbrev GoesOn : Type 0
+  GoesOn = (reply ≡ ok_reply) ⊎ Refuses later.space (codes "range") reply last.space ⊎ Refuses later.space (codes "large") reply last.space ⊎ IsHindered later.space reply last.space
+
+  refused-so : (reason : List ℕ) → Refuses later reason reply last → Refuses later.space reason reply last.space
+  refused-so reason refuses = record { reply_is = refuses.reply_is; same = ap (λ (m : Machine). m.space) refuses.same }
+
+  by-stored : (too_large : Bool) (name written : Bytes) (mid : StoreView) → last.space ≡ later.space →
+      MatchBool too_large (Refuses (at_mid mid) (codes "large") reply last) (IsStored name written mid reply last.store ⊎ FailsToStore name mid reply last.store) → GoesOn
+  by-stored true name written mid same refuses = inr (inr (inl (record { reply_is = refuses.reply_is; same = same })))
+  by-stored false name written mid same ends = elim ends [
+    | inl stored ↦ inl stored.reply_is
+    | inr fails ↦ inr (inr (inr (inr (inl (record { reply_is = fails.reply_is; same = same })))))
+  ]
+
+  -- its text
+  abbrev own : Bytes
+  own = part_text (delta (with_part is.before (delta is.before first.space.pool)) later.space.pool)
+
+  by-said : (batch fits : Bool) (W : Workspace) → Gives (part file (number + 1)) later W (unless batch why.Batch (needs fits why.Range (Ok elsewhere))) reply last → GoesOn
+  by-said true fits W refuses = inr (inr (inr (inl (refused-so (codes "batch") refuses))))
+  by-said false false W refuses = inr (inl (refused-so (codes "range") refuses))
+  by-said false true W says = elim says [
+    | inl takes ↦ by-taken (StoresPart (numbered file (number + 1))) GoesOn
+        (λ mid stores. by-stored (is_large own) (numbered file (number + 1)) own mid stores.stores.space stores.stores.ends) (λ many. inr (inr (inl many))) takes
+    | inr fails ↦ inr (inr (inr (inr (inl fails.space))))
+  ]
+
+  part-answer : (W : Workspace) → answer W (part file (number + 1)) ≡ unless (in_batch W) why.Batch (needs (in_chain (number + 1)) why.Range (Ok elsewhere))
+  unfolding answer
+  part-answer W = refl
+
+  by-part : Obeys (part file (number + 1)) later reply last → GoesOn
+  by-part obeys = elim obeys.gives [
+    | inl gives ↦ by-said (in_batch obeys.work) (in_chain (number + 1)) obeys.work (subst (λ (a : Answer). Gives (part file (number + 1)) later obeys.work a reply last) (part-answer obeys.work) gives)
+    | inr lacks ↦ inr (inr (inr (inr (inr (record { reply_is = lacks.reply_is; same = lacks.space })))))
+  ]
+
+pub part-then-chain : PartThenChain
+part-then-chain first parted later last files file reply number told parts left chains =
+    by-chain file number first parted (is-parted file number first parted parts) files told later last left reply chains
+
+pub part-then-part : PartThenPart
+part-then-part first parted later last files file reply number told parts left goes_on =
+    by-part file number first parted (is-parted file number first parted parts) files told later last left reply goes_on
