@@ -4,7 +4,7 @@ ghost use Rattle.std.specs.Prelude.{IsTrue};
 ghost use Rattle.elem_core.specs.Cell.{IsCell};
 
 use elem_core::{MAX_LINE, NEWLINE};
-use shell_words::{BadLine, Command, read_line};
+use shell_words::{BadLine, Command, Edit, read_line};
 use std::process::Abort;
 
 // Whether a line may be read: no newline, and not over-long.
@@ -23,15 +23,16 @@ fn read<'a>(rt: &impl Abort, line: &'a [u8]) -> Result<Command<'a>, BadLine> {
 // A command as its word, its names, its numbers and its text, with an empty one or 0 where it has none.
 type CommandParts<'a> = (&'static str, &'a str, &'a str, u32, u32, &'a str);
 
-fn parts<'a>(command: Command<'a>) -> CommandParts<'a> {
-    match command {
-        Command::New(buffer) => ("new", buffer.as_str(), "", 0, 0, ""),
-        Command::Add(buffer, text) => ("add", buffer.as_str(), "", 0, 0, text.as_str()),
-        Command::Set(buffer, index, text) => ("set", buffer.as_str(), "", index, 0, text.as_str()),
-        Command::Put(buffer, index, text) => ("put", buffer.as_str(), "", index, 0, text.as_str()),
-        Command::Del(buffer, from, to) => ("del", buffer.as_str(), "", from, to, ""),
-        Command::Cat(buffer, other) => ("cat", buffer.as_str(), other.as_str(), 0, 0, ""),
-        Command::Cut(buffer, from, to, other) => (
+// An edit as its word, its names, its numbers and its text.
+fn edit_parts<'a>(edit: Edit<'a>) -> CommandParts<'a> {
+    match edit {
+        Edit::New(buffer) => ("new", buffer.as_str(), "", 0, 0, ""),
+        Edit::Add(buffer, text) => ("add", buffer.as_str(), "", 0, 0, text.as_str()),
+        Edit::Set(buffer, index, text) => ("set", buffer.as_str(), "", index, 0, text.as_str()),
+        Edit::Put(buffer, index, text) => ("put", buffer.as_str(), "", index, 0, text.as_str()),
+        Edit::Del(buffer, from, to) => ("del", buffer.as_str(), "", from, to, ""),
+        Edit::Cat(buffer, other) => ("cat", buffer.as_str(), other.as_str(), 0, 0, ""),
+        Edit::Cut(buffer, from, to, other) => (
             "cut",
             buffer.as_str(),
             other.as_str(),
@@ -39,14 +40,20 @@ fn parts<'a>(command: Command<'a>) -> CommandParts<'a> {
             to,
             "",
         ),
-        Command::Copy(buffer, other) => ("copy", buffer.as_str(), other.as_str(), 0, 0, ""),
-        Command::Drop(buffer) => ("drop", buffer.as_str(), "", 0, 0, ""),
-        Command::Star(name) => ("star", name.as_str(), "", 0, 0, ""),
-        Command::Unstar(name) => ("unstar", name.as_str(), "", 0, 0, ""),
-        Command::StarMerge(version) => ("starmerge", version.as_str(), "", 0, 0, ""),
-        Command::StarBoth(version) => ("starboth", version.as_str(), "", 0, 0, ""),
-        Command::StarLess(version) => ("starless", version.as_str(), "", 0, 0, ""),
-        Command::Merge(version) => ("merge", version.as_str(), "", 0, 0, ""),
+        Edit::Copy(buffer, other) => ("copy", buffer.as_str(), other.as_str(), 0, 0, ""),
+        Edit::Drop(buffer) => ("drop", buffer.as_str(), "", 0, 0, ""),
+        Edit::Star(name) => ("star", name.as_str(), "", 0, 0, ""),
+        Edit::Unstar(name) => ("unstar", name.as_str(), "", 0, 0, ""),
+        Edit::StarMerge(version) => ("starmerge", version.as_str(), "", 0, 0, ""),
+        Edit::StarBoth(version) => ("starboth", version.as_str(), "", 0, 0, ""),
+        Edit::StarLess(version) => ("starless", version.as_str(), "", 0, 0, ""),
+        Edit::Merge(version) => ("merge", version.as_str(), "", 0, 0, ""),
+    }
+}
+
+fn parts<'a>(command: Command<'a>) -> CommandParts<'a> {
+    match command {
+        Command::Edit(edit) => edit_parts(edit),
         Command::Mark(version) => ("mark", version.as_str(), "", 0, 0, ""),
         Command::Unmark(version) => ("unmark", version.as_str(), "", 0, 0, ""),
         Command::Back(version) => ("back", version.as_str(), "", 0, 0, ""),
