@@ -44,13 +44,7 @@ kind_of (indent count file) = stores
 kind_of (dedent count file) = stores
 kind_of quit = looks
 
--- Whether commands of the kind change the space and do nothing else.
-abbrev pub is_changing : CommandKind → Bool
-is_changing changes = true
-is_changing batches = true
-is_changing _ = false
-
--- Whether they only ask.
+-- Whether commands of the kind only ask.
 abbrev pub is_asking : CommandKind → Bool
 is_asking looks = true
 is_asking lists = true
@@ -68,9 +62,6 @@ may_want_memory batches = false
 may_want_memory _ = true
 
 -- The same of a command.
-abbrev pub only_changes : PlainCommand → Bool
-only_changes command = is_changing (kind_of command)
-
 abbrev pub only_asks : PlainCommand → Bool
 only_asks command = is_asking (kind_of command)
 
