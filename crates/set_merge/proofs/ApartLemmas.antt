@@ -1,32 +1,31 @@
 -- How few rows a merge needs, by the rows apart.
-use Rattle.std.proofs.Common.{◌≡◌, ◌≢◌, ℕ, zero, suc, ◌+◌, ◌*◌, ◌<◌, ◌≤◌, List, [], ◌∷◌, ◌++◌, length, drop, refl, ap, sym, subst, ◌∙◌, arith, Bool, true, false, not, cond, Option, Some, None, IsSome, inl, inr, ◌⊎◌, length-append}
-use Rattle.std.specs.Prelude.{nat_eq, option_to_list, ◌==◌}
-use Rattle.std.specs.List.{filter, flat_map}
+use Rattle.std.proofs.Common.{◌≡◌, ◌≢◌, ℕ, zero, suc, ◌+◌, ◌*◌, ◌<◌, ◌≤◌, List, [], ◌∷◌, ◌++◌, length, drop, refl, ap, sym, subst, ◌∙◌, arith, Bool, true, false, cond, Option, Some, None, inl, inr, ◌⊎◌, length-append}
+use Rattle.std.specs.Prelude.{nat_eq, option_to_list}
+use Rattle.std.specs.List.{flat_map}
 use Rattle.std.specs.declared.cmp.Ordering.{Ordering}
-use Rattle.std.proofs.lemmas.Bool.{cases_Bool, cases_eq, eqb-true, eqb-false, eq-eqb, ne_eqb}
+use Rattle.std.proofs.lemmas.Bool.{cases_eq, eqb-true, eq-eqb, ne_eqb}
 use Rattle.elem_core.specs.Codes.{digit_at}
-use Rattle.node_heap.specs.Links.{count, HasLink, Reaches, LeadsDown, here, below}
-use Rattle.node_heap.specs.Forms.{Forms, node, trie, chain}
-use Rattle.node_heap.specs.Heap.{one_at}
+use Rattle.node_heap.specs.Links.{count, HasLink, LeadsDown, here, below}
+use Rattle.node_heap.specs.Forms.{Forms, node, chain}
 use Rattle.node_heap.proofs.BuildLemmas.{count-cons, count-append}
-use Rattle.champ_chain.specs.Entry.{Entry, entry, IsEntry, key_at}
+use Rattle.champ_chain.specs.Entry.{Entry, key_at}
 use Rattle.champ_chain.specs.Chain.{AreChainRows}
 use Rattle.champ_chain.proofs.CopyLemmas.{one_at-same}
 use Rattle.champ_chain.proofs.SetLemmas.{same-length}
 use Rattle.champ_chain.proofs.SpotLemmas.{first-row}
 use Rattle.champ_trie.specs.Bits.{rank}
-use Rattle.champ_trie.specs.Trie.{IsTrie, IsPlace, IsRow, part, place_of}
+use Rattle.champ_trie.specs.Trie.{IsTrie, IsPlace, part, place_of}
 use Rattle.champ_trie.specs.Walk.{rows_from, rows_below}
 use Rattle.champ_trie.specs.declared.place.Place.{Place}
 use Rattle.champ_trie.specs.declared.place.Place.TheVariants.{Empty, Entry as At, Node}
 use Rattle.champ_trie.proofs.GatherLemmas.{gather, node_links, nodes-gather}
-use Rattle.same_value.specs.Apart.{row_links, ReachesRow, IsApart, HasApart}
+use Rattle.same_value.specs.Apart.{row_links, ReachesRow, HasApart}
 use Rattle.same_value.proofs.MapContents.{once-fits}
 use Rattle.same_value.proofs.ChainRows.{one_at-other, one-counted}
 use Rattle.same_value.proofs.TrieRows.{rows-reached, stands-reach, trie-stands, stands-deeper, one-digit}
 use Rattle.set_merge.specs.declared.keeps.Keeps.{Keeps}
-use Rattle.set_merge.specs.Side.{place_in, lone_place, place_below, same_key, settled, settled_entries}
-use Rattle.set_merge.specs.Need.{without, sum_below, need_unless, run_rows, chains_need, rows_need}
+use Rattle.set_merge.specs.Side.{place_in, lone_place, place_below, settled}
+use Rattle.set_merge.specs.Need.{without, sum_below, need_unless, rows_need}
 use Rattle.set_merge.specs.Walk.{HasBelow, position_need}
 use Rattle.set_merge.proofs.MergeLemmas.{filter-short}
 use Rattle.set_merge.proofs.NeedLemmas.{sum-one, below-place, place-has}

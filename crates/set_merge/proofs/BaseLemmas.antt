@@ -1,12 +1,12 @@
 -- Fronts of one entry at most.
-use Rattle.std.proofs.Common.{◌≡◌, ◌≢◌, ℕ, zero, suc, ◌+◌, ◌<◌, ◌≤◌, List, [], ◌∷◌, ◌++◌, length, take, refl, ap, sym, subst, ◌∙◌, arith, Bool, true, false, cond, append_assoc}
+use Rattle.std.proofs.Common.{◌≡◌, ℕ, ◌<◌, ◌≤◌, List, [], ◌∷◌, ◌++◌, length, take, refl, ap, sym, subst, ◌∙◌, arith, Bool, true, false, cond, append_assoc}
 use Rattle.std.specs.Cmp.{IsTotalOrder}
 use Rattle.std.specs.declared.cmp.Ordering.{Ordering}
 use Rattle.std.specs.declared.cmp.Ordering.TheVariants.{Less, Equal, Greater}
 use Rattle.node_heap.specs.Forms.{Forms}
 use Rattle.champ_chain.specs.Entry.{Entry, SameSet}
-use Rattle.champ_chain.specs.Chain.{AreAbove, IsRising}
-use Rattle.champ_chain.proofs.RisingLemmas.{above-less, less_flip}
+use Rattle.champ_chain.specs.Chain.{IsRising}
+use Rattle.champ_chain.proofs.RisingLemmas.{less_flip}
 use Rattle.champ_trie.proofs.GatherLemmas.{same-is, same-swap}
 use Rattle.champ_trie.specs.declared.place.Place.{Place}
 use Rattle.set_merge.specs.declared.keeps.Keeps.{Keeps}

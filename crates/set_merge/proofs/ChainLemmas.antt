@@ -1,18 +1,15 @@
 -- The rows that are made before a run.
-use Rattle.std.proofs.Common.{◌≡◌, ◌≢◌, ℕ, zero, suc, ◌+◌, ◌-◌, ◌<◌, ◌≤◌, List, [], ◌∷◌, ◌++◌, length, take, drop, refl, ap, sym, subst, ◌∙◌, arith, Option, Some, None, Bool, true, false, cond}
+use Rattle.std.proofs.Common.{◌≡◌, ℕ, ◌+◌, ◌≤◌, List, ◌∷◌, length, refl, ap, arith, Some}
 use Rattle.node_heap.specs.Links.{count}
 use Rattle.node_heap.specs.Forms.{Forms}
-use Rattle.node_heap.specs.Heap.{Heap, form_at, holds_at, hold_count, IsGraph}
-use Rattle.node_heap.specs.Calls.{Builds, Extends}
-use Rattle.node_heap.proofs.BuildLemmas.{Builds-refl, Builds-then, Builds-more}
-use Rattle.champ_chain.specs.Entry.{Entry, entry, key_at}
+use Rattle.node_heap.specs.Heap.{Heap, holds_at, IsGraph}
+use Rattle.node_heap.proofs.BuildLemmas.{Builds-refl, Builds-then}
+use Rattle.champ_chain.specs.Entry.{Entry}
 use Rattle.champ_chain.specs.Chain.{AreChainRows}
 use Rattle.champ_chain.proofs.SpotLemmas.{first-row}
 use Rattle.set_merge.specs.declared.merged.Merged.{Merged}
-use Rattle.set_merge.specs.declared.merged.Merged.TheVariants.{Old, New}
 use Rattle.set_merge.specs.Spread.{new_links}
-use Rattle.set_merge.specs.Walk.{IsRun}
-use Rattle.set_merge.specs.Chains.{waiting, IsMergedRun, IsOver}
+use Rattle.set_merge.specs.Chains.{IsOver}
 
 module _ {T : Type 0} where
   -- nothing is made

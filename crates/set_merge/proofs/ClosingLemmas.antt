@@ -1,19 +1,19 @@
 -- The merge of two chains: what it begins with, and what comes of it.
-use Rattle.std.proofs.Common.{◌≡◌, ◌≢◌, ℕ, zero, suc, ◌+◌, ◌<◌, ◌≤◌, List, [], ◌∷◌, ◌++◌, length, take, drop, refl, ap, sym, subst, ◌∙◌, arith, Option, Some, None, Bool, true, false, cond, inl, inr, ◌⊎◌}
+use Rattle.std.proofs.Common.{◌≡◌, ℕ, zero, suc, ◌+◌, ◌<◌, ◌≤◌, List, [], ◌∷◌, ◌++◌, length, take, drop, refl, ap, sym, subst, ◌∙◌, arith, Option, Some, None, Bool, true, false, cond}
 use Rattle.std.specs.Prelude.{option_to_list}
 use Rattle.std.specs.List.{flat_map}
 use Rattle.std.specs.Cmp.{IsTotalOrder}
 use Rattle.std.specs.declared.cmp.Ordering.{Ordering}
 use Rattle.std.specs.declared.cmp.Ordering.TheVariants.{Less, Equal}
 use Rattle.std.proofs.lemmas.List.{take-append-drop}
-use Rattle.node_heap.specs.Forms.{Form, Forms, node, chain}
+use Rattle.node_heap.specs.Forms.{Forms}
 use Rattle.node_heap.specs.Heap.{Heap}
 use Rattle.node_heap.specs.Calls.{Builds}
 use Rattle.node_heap.proofs.BuildLemmas.{Builds-more}
 use Rattle.champ_chain.specs.Entry.{Entry, entry, SameSet, same_through}
-use Rattle.champ_chain.specs.Chain.{AreChainRows, IsChain, IsRising, AreAbove}
+use Rattle.champ_chain.specs.Chain.{AreChainRows, IsChain, IsRising}
 use Rattle.champ_chain.proofs.FrameLemmas.{KeepsForms}
-use Rattle.champ_chain.proofs.SetLemmas.{Among, same-refl, same-sym, same-length, same-one}
+use Rattle.champ_chain.proofs.SetLemmas.{same-refl, same-length, same-one}
 use Rattle.champ_chain.proofs.RisingLemmas.{rising-left}
 use Rattle.champ_chain.proofs.SpotLemmas.{first-row}
 use Rattle.champ_trie.specs.Trie.{IsTrie, IsPlace}
@@ -29,7 +29,7 @@ use Rattle.set_merge.specs.Merge.{merged}
 use Rattle.set_merge.specs.Need.{run_rows, without, chains_need}
 use Rattle.set_merge.specs.Spread.{new_links}
 use Rattle.set_merge.specs.Walk.{AreKept, HasBelow, IsRun, IsRisingRun}
-use Rattle.set_merge.specs.Chains.{waiting, IsMergedRun, AreFronts, IsBefore, IsOver}
+use Rattle.set_merge.specs.Chains.{waiting, AreFronts, IsOver}
 use Rattle.set_merge.proofs.MergeLemmas.{append-none, merged-same}
 use Rattle.set_merge.proofs.CutLemmas.{AreApart, apart-back, above-among, rising-across, merged-cut, merged-sets}
 use Rattle.set_merge.proofs.RunLemmas.{run-kept}

@@ -1,18 +1,15 @@
 -- Fronts that are cut at a key: their merge is the merges of the parts.
-use Rattle.std.proofs.Common.{◌≡◌, ◌≢◌, ℕ, zero, suc, ◌+◌, ◌-◌, ◌<◌, ◌≤◌, List, [], ◌∷◌, ◌++◌, length, take, drop, refl, ap, sym, subst, ◌∙◌, arith, Bool, true, false, cond, inl, inr, ◌⊎◌, append_assoc, length-drop}
+use Rattle.std.proofs.Common.{◌≡◌, ◌≢◌, List, [], ◌∷◌, ◌++◌, refl, ap, sym, subst, ◌∙◌, Bool, true, false, cond, inl, inr, ◌⊎◌, append_assoc}
 use Rattle.std.specs.List.{All, filter}
 use Rattle.std.proofs.lemmas.Bool.{cases_Bool}
-use Rattle.std.proofs.lemmas.List.{take-append-drop}
 use Rattle.std.proofs.lemmas.List.Elements.{filter-append, All-head, All-tail, All-nil, All-cons}
 use Rattle.std.specs.Cmp.{IsTotalOrder}
 use Rattle.std.specs.Ordering.{ordering_reverse}
 use Rattle.std.specs.declared.cmp.Ordering.{Ordering}
-use Rattle.std.specs.declared.cmp.Ordering.TheVariants.{Less, Equal, Greater}
-use Rattle.champ_chain.specs.Entry.{Entry, SameSet, same_through}
+use Rattle.std.specs.declared.cmp.Ordering.TheVariants.{Less, Equal}
+use Rattle.champ_chain.specs.Entry.{Entry, SameSet}
 use Rattle.champ_chain.specs.Chain.{AreAbove, AreBelow, IsRising}
-use Rattle.champ_chain.proofs.RisingLemmas.{cases_Ordering, greater_flip, less_flip, less_irrefl, rising-left, rising-right}
 use Rattle.champ_chain.proofs.SetLemmas.{Among, same-among, same-refl, same-sym, same-filter}
-use Rattle.champ_chain.proofs.CopyLemmas.{take-halves}
 use Rattle.champ_trie.proofs.GatherLemmas.{same-both, same-swap}
 use Rattle.set_merge.specs.declared.keeps.Keeps.{Keeps}
 use Rattle.set_merge.specs.Merge.{is_key, merged}

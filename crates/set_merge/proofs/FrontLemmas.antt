@@ -1,5 +1,5 @@
 -- Fronts of two runs: the halves of them, and what stands before a run.
-use Rattle.std.proofs.Common.{◌≡◌, ◌≢◌, ℕ, zero, suc, ◌+◌, ◌-◌, ◌<◌, ◌≤◌, List, [], ◌∷◌, ◌++◌, length, take, drop, refl, ap, sym, subst, ◌∙◌, arith, inl, inr, ◌⊎◌, append_assoc, length-drop}
+use Rattle.std.proofs.Common.{◌≡◌, ◌≢◌, ℕ, ◌+◌, ◌-◌, List, ◌++◌, take, drop, ap, sym, subst, ◌∙◌, arith, inl, inr, ◌⊎◌, append_assoc, length-drop}
 use Rattle.std.proofs.lemmas.List.{take-append-drop}
 use Rattle.std.specs.Cmp.{IsTotalOrder}
 use Rattle.std.specs.declared.cmp.Ordering.{Ordering}
@@ -16,9 +16,9 @@ use Rattle.set_merge.specs.declared.keeps.Keeps.{Keeps}
 use Rattle.set_merge.specs.declared.chains.Fronts.{Fronts}
 use Rattle.set_merge.specs.declared.merged.Merged.{Merged}
 use Rattle.set_merge.specs.Merge.{merged}
-use Rattle.set_merge.specs.Walk.{IsRun, IsRisingRun}
+use Rattle.set_merge.specs.Walk.{IsRun}
 use Rattle.set_merge.specs.Chains.{IsMergedRun, AreFrontsOf, AreFronts, AreHalves, IsBefore}
-use Rattle.set_merge.proofs.CutLemmas.{among-left, among-right, all-among, among-above, above-both, below-among, above-among, rising-across, rising-join, among-merged, apart-at, apart-back, merged-cut}
+use Rattle.set_merge.proofs.CutLemmas.{among-left, all-among, among-above, above-both, below-among, rising-across, rising-join, among-merged, apart-at, apart-back, merged-cut}
 use Rattle.set_merge.proofs.RunLemmas.{run-kept}
 
 module _ {X : Type 0} where

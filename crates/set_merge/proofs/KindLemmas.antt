@@ -1,5 +1,5 @@
 -- What merged sets and maps stand for.
-use Rattle.std.proofs.Common.{◌≡◌, ℕ, ◌+◌, ◌≤◌, List, [], ◌∷◌, ◌++◌, length, refl, ap, sym, subst, ◌∙◌, arith, Bool, true, false, not, cond, Option, Some, None}
+use Rattle.std.proofs.Common.{◌≡◌, ℕ, ◌≤◌, List, [], ◌∷◌, ◌++◌, length, refl, ap, sym, subst, ◌∙◌, Bool, true, false, not, cond, Option, Some, None}
 use Rattle.std.specs.Prelude.{is_some, Result, Ok, Err, OnOk}
 use Rattle.std.specs.List.{filter, AllZip}
 use Rattle.std.specs.declared.cmp.Ordering.{Ordering}
@@ -169,11 +169,16 @@ module _ {T : Type 0} (cmp : T → T → Ordering) (code : T → ℕ) (old : Hea
     answered-answer k did =
         subst (λ (r : Root). Answered old new [] r.root 0 (merge_need cmp code k old a.bits a.root b.root)) (sym made-whole) (subst (λ n. Answered old new [] l 0 n) (need-as k) did)
 
+    pub same-there : (l ≡ roots.a) × SameRows old new × Builds old new [] (roots.a ∷ []) 0 0 → (made ≡ a) × SameRows old new × Builds old new [] (a.root ∷ []) 0 0
+    same-there did =
+        let root : l ≡ a.root = did.0 ∙ ap (λ (r : Roots). r.a) are in
+        (made-whole ∙ ap (λ j. let r : Root = record { root = j; bits = a.bits } in r) root, did.1, subst (λ j. Builds old new [] (j ∷ []) 0 0) (ap (λ (r : Roots). r.a) are) did.2)
+
     pub same-answer : {E : Type 0} → ((let this : Result ℕ E = Ok l in this) ≡ Ok roots.a) × SameRows old new × Builds old new [] (roots.a ∷ []) 0 0 → ((let this : Result Root E = Ok made in this) ≡ Ok a) × SameRows old new × Builds old new [] (a.root ∷ []) 0 0
     same-answer {E} did =
         let at : l ≡ roots.a = (let both = did.0 in cc) in
-        let root : l ≡ a.root = at ∙ ap (λ (r : Roots). r.a) are in
-        (ap (λ r. Ok r) (made-whole ∙ ap (λ j. let r : Root = record { root = j; bits = a.bits } in r) root), did.1, subst (λ j. Builds old new [] (j ∷ []) 0 0) (ap (λ (r : Roots). r.a) are) did.2)
+        let is = same-there (at, did.1, did.2) in
+        (ap (λ r. Ok r) is.0, is.1, is.2)
 
 pub pairs-long : {T : Type 0} {cmp : T → T → Ordering} {code : T → ℕ} {h : Heap T} {r : Root} (M : List (Binding T)) (is : IsMapOf cmp code h r M) → length is.entries ≡ length M
 pairs-long {h = h} M is = zip-length (IsPair (form_at h)) is.entries M is.pairs

@@ -1,23 +1,23 @@
 -- Two runs that are passed side by side, up to the first row that both have.
-use Rattle.std.proofs.Common.{◌≡◌, ◌≢◌, ℕ, zero, suc, ◌+◌, ◌-◌, ◌<◌, ◌≤◌, ◌^◌, List, [], ◌∷◌, ◌++◌, length, take, drop, refl, ap, sym, subst, ◌∙◌, arith, Option, Some, None, IsSome, Bool, true, false, cond, inl, inr, ◌⊎◌, add-one, append_assoc}
+use Rattle.std.proofs.Common.{◌≡◌, ◌≢◌, ℕ, zero, suc, ◌+◌, ◌<◌, ◌≤◌, List, [], ◌∷◌, ◌++◌, length, take, drop, refl, ap, sym, subst, ◌∙◌, arith, Option, Some, None, Bool, true, false, inl, inr, ◌⊎◌, add-one}
 use Rattle.std.specs.Prelude.{option_to_list, nat_eq}
 use Rattle.std.specs.List.{filter, flat_map}
 use Rattle.std.specs.Cmp.{IsTotalOrder}
 use Rattle.std.specs.Ordering.{ordering_reverse}
 use Rattle.std.specs.declared.cmp.Ordering.{Ordering}
 use Rattle.std.specs.declared.cmp.Ordering.TheVariants.{Less, Equal, Greater}
-use Rattle.std.proofs.lemmas.Bool.{cases_eq, eq-eqb, ne_eqb}
+use Rattle.std.proofs.lemmas.Bool.{eq-eqb, ne_eqb}
 use Rattle.std.proofs.lemmas.List.{take-append-drop, length-take-le}
 use Rattle.std.proofs.lemmas.List.Elements.{filter-append}
 use Rattle.node_heap.specs.Links.{count}
-use Rattle.node_heap.specs.Forms.{Form, Forms, Kind, cell, node, leaf, inner, trie, chain, pair, state}
+use Rattle.node_heap.specs.Forms.{Form, Forms, cell, node, leaf, inner, trie, chain, pair, state}
 use Rattle.node_heap.specs.Heap.{Heap, form_at, one_at, IsGraph, row_limit}
 use Rattle.node_heap.proofs.BuildLemmas.{count-cons, count-append}
 use Rattle.champ_chain.specs.Entry.{Entry, entry, key_at, key_of, first_value}
 use Rattle.champ_chain.specs.Chain.{AreChainRows, AreAbove, AreBelow, IsRising}
 use Rattle.champ_chain.proofs.FrameLemmas.{rows-live}
 use Rattle.champ_chain.proofs.CopyLemmas.{one_at-same, one_at-other, drop-next}
-use Rattle.champ_chain.proofs.RisingLemmas.{greater_flip, less_flip, less_irrefl, below-push, above-less, above-same, rising-right}
+use Rattle.champ_chain.proofs.RisingLemmas.{less_flip, less_irrefl, below-push, above-less, above-same, rising-right}
 use Rattle.champ_chain.proofs.SetLemmas.{Among}
 use Rattle.champ_chain.proofs.SpotLemmas.{first-row, rows-none, row-next}
 use Rattle.champ_trie.specs.Walk.{rows_below, rows_from}
@@ -28,7 +28,6 @@ use Rattle.set_merge.specs.Need.{run_rows, without}
 use Rattle.set_merge.specs.Walk.{IsRun, IsRisingRun}
 use Rattle.set_merge.specs.Chains.{place_from, waiting, IsRest}
 use Rattle.set_merge.proofs.MergeLemmas.{append-none, filter-same, filter-all, filter-none}
-use Rattle.set_merge.proofs.CutLemmas.{rising-across}
 use Rattle.set_merge.proofs.RunLemmas.{run-only}
 
 module _ {K : Type 0} (F : Forms K) where

@@ -1,25 +1,24 @@
 -- How few rows a merge needs, by the number of its entries.
-use Rattle.std.proofs.Common.{◌≡◌, ◌≢◌, ℕ, zero, suc, ◌+◌, ◌*◌, ◌<◌, ◌≤◌, List, [], ◌∷◌, ◌++◌, length, drop, refl, ap, sym, subst, ◌∙◌, arith, Bool, true, false, not, cond, Option, Some, None, IsSome, inl, inr, ◌⊎◌, length-append}
-use Rattle.std.specs.Prelude.{nat_eq, option_to_list, ◌==◌}
-use Rattle.std.specs.List.{filter, flat_map}
+use Rattle.std.proofs.Common.{◌≡◌, ◌≢◌, ℕ, zero, suc, ◌+◌, ◌*◌, ◌<◌, ◌≤◌, List, [], ◌∷◌, length, refl, ap, sym, subst, ◌∙◌, arith, Bool, true, false, cond, Option, Some, None, inl, inr, ◌⊎◌, length-append}
+use Rattle.std.specs.Prelude.{nat_eq, option_to_list}
+use Rattle.std.specs.List.{flat_map}
 use Rattle.std.specs.declared.cmp.Ordering.{Ordering}
-use Rattle.std.proofs.lemmas.Bool.{cases_Bool, cases_eq, eqb-true, eq-eqb, ne_eqb}
+use Rattle.std.proofs.lemmas.Bool.{cases_eq}
 use Rattle.elem_core.specs.Codes.{digit_at}
-use Rattle.elem_core.specs.declared.codes.TheConstants.{LEVELS}
 use Rattle.node_heap.specs.Links.{count}
-use Rattle.node_heap.specs.Forms.{Forms, node, trie, chain}
-use Rattle.champ_chain.specs.Entry.{Entry, entry, IsEntry, key_at}
+use Rattle.node_heap.specs.Forms.{Forms}
+use Rattle.champ_chain.specs.Entry.{Entry, entry}
 use Rattle.champ_chain.specs.Chain.{AreChainRows}
 use Rattle.champ_chain.proofs.SetLemmas.{same-length}
 use Rattle.champ_chain.proofs.SpotLemmas.{first-row}
-use Rattle.champ_trie.specs.Trie.{IsTrie, IsPlace, part, place_of}
+use Rattle.champ_trie.specs.Trie.{IsTrie, IsPlace, part}
 use Rattle.champ_trie.specs.Walk.{rows_from, rows_below}
 use Rattle.champ_trie.specs.declared.place.Place.{Place}
 use Rattle.champ_trie.specs.declared.place.Place.TheVariants.{Empty, Entry as At, Node}
 use Rattle.champ_trie.proofs.GatherLemmas.{gather, parts-whole}
 use Rattle.set_merge.specs.declared.keeps.Keeps.{Keeps}
-use Rattle.set_merge.specs.Side.{place_in, lone_place, place_below, same_key, settled}
-use Rattle.set_merge.specs.Need.{without, sum_below, need_unless, run_rows, chains_need, rows_need}
+use Rattle.set_merge.specs.Side.{place_in, lone_place, place_below, settled}
+use Rattle.set_merge.specs.Need.{sum_below, need_unless, run_rows, rows_need}
 use Rattle.set_merge.specs.Walk.{HasBelow, position_need}
 use Rattle.set_merge.proofs.MergeLemmas.{filter-short}
 

@@ -1,16 +1,15 @@
 -- How the need of two places is counted.
-use Rattle.std.proofs.Common.{◌≡◌, ℕ, zero, suc, ◌+◌, ◌-◌, ◌*◌, ◌<◌, ◌≤◌, ◌^◌, List, [], ◌∷◌, length, refl, ap, sym, subst, ◌∙◌, arith, Some, None}
+use Rattle.std.proofs.Common.{◌≡◌, ℕ, zero, suc, ◌+◌, ◌-◌, ◌*◌, ◌<◌, ◌≤◌, List, [], ◌∷◌, length, refl, ap, sym, subst, ◌∙◌, arith, Some, None}
 use Rattle.std.specs.declared.cmp.Ordering.{Ordering}
-use Rattle.elem_core.specs.declared.codes.TheConstants.{LEVELS}
 use Rattle.node_heap.specs.Forms.{Forms}
 use Rattle.champ_chain.specs.Entry.{Entry, entry}
-use Rattle.champ_trie.specs.Trie.{IsTrie, IsPlace, part}
+use Rattle.champ_trie.specs.Trie.{IsTrie, IsPlace}
 use Rattle.champ_trie.specs.declared.place.Place.{Place}
 use Rattle.champ_trie.specs.declared.place.Place.TheVariants.{Empty, Entry as At, Node}
 use Rattle.set_merge.specs.declared.keeps.Keeps.{Keeps}
 use Rattle.set_merge.specs.Side.{place_below, settled}
 use Rattle.set_merge.specs.Need.{sum_below, need_unless, rows_need}
-use Rattle.set_merge.specs.Walk.{HasBelow, AreSides, ArePlaces, IsRun, IsRisingRun, place_need, position_need}
+use Rattle.set_merge.specs.Walk.{HasBelow, AreSides, ArePlaces, IsRisingRun, place_need, position_need}
 use Rattle.set_merge.proofs.NeedLemmas.{weigh, weigh-twelve, root-few, place-has}
 use Rattle.set_merge.proofs.WalkLemmas.{need-more, sum-within}
 

@@ -1,5 +1,5 @@
 -- The merge of two roots.
-use Rattle.std.proofs.Common.{◌≡◌, ◌≢◌, ℕ, zero, suc, ◌+◌, ◌*◌, ◌<◌, ◌≤◌, ◌^◌, List, [], ◌∷◌, length, drop, get_or, refl, ap, sym, subst, ◌∙◌, arith, Bool, true, false, cond, IsSome, Some, None, inl, inr, ◌⊎◌}
+use Rattle.std.proofs.Common.{◌≡◌, ◌≢◌, ℕ, zero, suc, ◌+◌, ◌*◌, ◌<◌, ◌≤◌, List, [], ◌∷◌, length, drop, get_or, refl, ap, sym, subst, ◌∙◌, arith, true, false, cond, IsSome, inl, inr, ◌⊎◌}
 use Rattle.std.specs.Prelude.{◌==◌}
 use Rattle.std.specs.List.{flat_map}
 use Rattle.std.specs.Option.{option_map}
@@ -8,30 +8,30 @@ use Rattle.std.specs.declared.cmp.Ordering.{Ordering}
 use Rattle.std.proofs.lemmas.Bool.{eq-eqb, ne_eqb}
 use Rattle.elem_core.specs.declared.codes.TheConstants.{LEVELS, DEEPEST}
 use Rattle.node_heap.specs.Links.{count, LeadsDown}
-use Rattle.node_heap.specs.Forms.{Forms, Form, form_of, links_of}
-use Rattle.node_heap.specs.Heap.{Heap, form_at, row_at, live_count, IsGraph, row_limit}
+use Rattle.node_heap.specs.Forms.{form_of, links_of}
+use Rattle.node_heap.specs.Heap.{Heap, form_at, row_at, IsGraph, row_limit}
 use Rattle.node_heap.specs.Calls.{SameRows, Extends, Unchanged, HasGreater, Builds}
 use Rattle.node_heap.proofs.Frames.{Extends-Unchanged}
 use Rattle.node_heap.proofs.BuildLemmas.{count-cons, count-append, Builds-made}
 use Rattle.champ_chain.specs.Entry.{Entry, AreDistinct}
 use Rattle.champ_chain.proofs.FrameLemmas.{KeepsForms, links-form}
-use Rattle.champ_trie.specs.Trie.{IsTrie, IsTrieOf, IsCanon, IsPlace, IsRow, IsRowOfPlaces, part, place_of, code_by, links_at_place}
+use Rattle.champ_trie.specs.Trie.{IsTrie, IsCanon, IsRowOfPlaces, part, code_by, links_at_place}
 use Rattle.champ_trie.specs.Walk.{entry_count}
 use Rattle.champ_trie.specs.declared.place.Place.{Place}
-use Rattle.champ_trie.specs.declared.place.Place.TheVariants.{Empty, Entry as At, Node}
+use Rattle.champ_trie.specs.declared.place.Place.TheVariants.{Empty, Node}
 use Rattle.champ_trie.proofs.PartLemmas.{place-kept, row-kept}
 use Rattle.champ_trie.proofs.WalkLemmas.{canon-fit}
 use Rattle.champ_trie.proofs.StayLemmas.{canon-live}
 use Rattle.same_value.specs.Apart.{row_links, HasApart}
 use Rattle.set_merge.specs.declared.keeps.Keeps.{Keeps}
 use Rattle.set_merge.specs.declared.spread.Spread.{Spread}
-use Rattle.set_merge.specs.Side.{place_in, place_below}
+use Rattle.set_merge.specs.Side.{place_in}
 use Rattle.set_merge.specs.Merge.{merged}
-use Rattle.set_merge.specs.Need.{sum_below, rows_need, merge_need}
-use Rattle.set_merge.specs.Walk.{HasBelow, AreSides, IsSpread, position_need}
+use Rattle.set_merge.specs.Need.{rows_need, merge_need}
+use Rattle.set_merge.specs.Walk.{AreSides, IsSpread}
 use Rattle.set_merge.proofs.MergeLemmas.{merged-same, merged-distinct}
 use Rattle.set_merge.proofs.NeedLemmas.{root-few, weigh-twelve}
-use Rattle.set_merge.proofs.ApartLemmas.{rows-charged, roots-few, AreBelow}
+use Rattle.set_merge.proofs.ApartLemmas.{rows-charged, roots-few}
 use Rattle.set_merge.proofs.SpreadLemmas.{row-stands}
 use Rattle.set_merge.proofs.WalkLemmas.{one-set}
 

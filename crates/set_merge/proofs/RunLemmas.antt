@@ -1,7 +1,7 @@
 -- Runs: how they are read, and what is left of them.
-use Rattle.std.proofs.Common.{◌≡◌, ◌≢◌, ℕ, zero, suc, ◌+◌, ◌-◌, ◌<◌, ◌≤◌, List, [], ◌∷◌, ◌++◌, length, take, drop, refl, ap, sym, subst, ◌∙◌, arith, Option, Some, None, IsSome, add-one, Bool, true, false}
+use Rattle.std.proofs.Common.{◌≡◌, ◌≢◌, ℕ, zero, suc, ◌+◌, ◌<◌, List, [], ◌∷◌, ◌++◌, length, take, drop, refl, ap, sym, subst, ◌∙◌, arith, Option, Some, None, IsSome, add-one, Bool, true, false}
 use Rattle.std.specs.Prelude.{option_to_list, IsTrue}
-use Rattle.node_heap.specs.Forms.{Form, Forms, node, chain}
+use Rattle.node_heap.specs.Forms.{Forms, node, chain}
 use Rattle.champ_chain.specs.Entry.{Entry, entry, key_at, IsEntry}
 use Rattle.champ_chain.specs.Chain.{AreChainRows}
 use Rattle.champ_chain.proofs.FrameLemmas.{KeepsForms, rows-kept, key-kept}

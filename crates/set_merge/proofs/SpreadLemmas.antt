@@ -1,17 +1,17 @@
 -- What stands for a row of merged positions.
-use Rattle.std.proofs.Common.{◌≡◌, ◌≢◌, ℕ, zero, suc, ◌+◌, ◌<◌, ◌≤◌, List, [], ◌∷◌, length, get_or, refl, ap, sym, subst, ◌∙◌, arith, Bool, true, false, cond, Option, Some, None, inl, inr, ◌⊎◌}
+use Rattle.std.proofs.Common.{◌≡◌, ◌≢◌, ℕ, zero, suc, ◌<◌, ◌≤◌, List, [], ◌∷◌, length, get_or, refl, ap, sym, subst, ◌∙◌, arith, Bool, true, false, cond, Some, None, inl, inr, ◌⊎◌}
 use Rattle.std.specs.Prelude.{nat_eq}
 use Rattle.std.specs.declared.cmp.Ordering.{Ordering}
-use Rattle.std.proofs.lemmas.Bool.{cases_eq, eq-eqb, eqb-true, ne_eqb}
+use Rattle.std.proofs.lemmas.Bool.{eq-eqb, eqb-true, ne_eqb}
 use Rattle.elem_core.specs.Codes.{digit_at}
 use Rattle.node_heap.specs.Forms.{Forms}
-use Rattle.champ_chain.specs.Entry.{Entry, entry}
+use Rattle.champ_chain.specs.Entry.{Entry}
 use Rattle.champ_trie.specs.Trie.{IsTrie, IsPlace, IsRow, part, place_of}
 use Rattle.champ_trie.specs.declared.place.Place.{Place}
 use Rattle.champ_trie.specs.declared.place.Place.TheVariants.{Empty, Entry as At, Node}
 use Rattle.champ_trie.proofs.LeftLemmas.{part-whole, lone-place, more-left}
 use Rattle.set_merge.specs.Side.{place_in, lone_place, place_below}
-use Rattle.set_merge.specs.Spread.{lone_with, lone_from, lone_of}
+use Rattle.set_merge.specs.Spread.{lone_from}
 use Rattle.set_merge.proofs.MergeLemmas.{filter-short}
 
 -- nothing stands at the places

@@ -1,6 +1,6 @@
 -- What a walk keeps and makes: at one position, and at all of them.
-use Rattle.std.proofs.Common.{◌≡◌, ◌≢◌, ℕ, zero, suc, ◌+◌, ◌-◌, ◌*◌, ◌<◌, ◌≤◌, List, [], ◌∷◌, ◌++◌, map, length, get_or, set, refl, ap, sym, subst, ◌∙◌, arith, Bool, true, false, cond, Option, Some, None, IsSome, inl, inr, ◌⊎◌, length-append, ◌||◌}
-use Rattle.std.specs.Prelude.{nat_eq, ◌==◌}
+use Rattle.std.proofs.Common.{◌≡◌, ◌≢◌, ℕ, zero, suc, ◌+◌, ◌<◌, ◌≤◌, List, [], ◌∷◌, ◌++◌, map, length, get_or, set, refl, ap, sym, subst, ◌∙◌, arith, Bool, true, false, cond, Option, Some, None, IsSome, inl, inr, ◌⊎◌, length-append, ◌||◌}
+use Rattle.std.specs.Prelude.{nat_eq}
 use Rattle.std.specs.List.{flat_map}
 use Rattle.std.specs.Ordering.{is_eq}
 use Rattle.std.specs.Cmp.{IsTotalOrder, Equal-is}
@@ -15,7 +15,7 @@ use Rattle.node_heap.specs.Heap.{Heap, form_at, row_at, holds_at, IsGraph}
 use Rattle.node_heap.specs.Calls.{Builds}
 use Rattle.node_heap.proofs.Counts.{test_other}
 use Rattle.node_heap.proofs.BuildLemmas.{Builds-refl, Builds-both, Builds-then, Builds-more, count-one, count-append}
-use Rattle.champ_chain.specs.Entry.{Entry, entry, IsEntry, key_at, AreDistinct, SameSet, same_through}
+use Rattle.champ_chain.specs.Entry.{Entry, entry, IsEntry, key_at, SameSet, same_through}
 use Rattle.champ_chain.specs.Chain.{IsChain}
 use Rattle.champ_chain.proofs.SetLemmas.{Among, same-sym, same-among}
 use Rattle.champ_chain.proofs.FrameLemmas.{KeepsForms, key-kept, form-live, forms-kept}
@@ -24,7 +24,7 @@ use Rattle.champ_chain.proofs.SpotLemmas.{first-row}
 use Rattle.elem_core.specs.Codes.{digit_at}
 use Rattle.champ_trie.specs.Bits.{has}
 use Rattle.champ_trie.proofs.PlaceLemmas.{place-empty}
-use Rattle.champ_trie.specs.Trie.{IsTrie, IsPlace, IsRow, IsRowOfPlaces, part, links_at_place}
+use Rattle.champ_trie.specs.Trie.{IsTrie, IsPlace, part, links_at_place}
 use Rattle.champ_trie.specs.declared.place.Place.{Place}
 use Rattle.champ_trie.specs.declared.place.Place.TheVariants.{Empty, Entry as At, Node}
 use Rattle.champ_trie.proofs.WalkLemmas.{trie-walk, trie-entries}
@@ -39,7 +39,7 @@ use Rattle.set_merge.specs.declared.merged.Merged.TheVariants.{Old, New}
 use Rattle.set_merge.specs.Side.{has_place, place_in, lone_place, place_below, IsKept, HasRow, IsSide, same_key, settled_entries, settled}
 use Rattle.set_merge.specs.Merge.{merged}
 use Rattle.set_merge.specs.Need.{sum_below, need_unless, chains_need, rows_need}
-use Rattle.set_merge.specs.Spread.{place_merged, new_links, old_links, is_new, lone_of, WantsRow, IsUnchanged, IsMade, Closed}
+use Rattle.set_merge.specs.Spread.{place_merged, new_links, old_links, is_new, WantsRow, IsUnchanged, Closed}
 use Rattle.set_merge.specs.Walk.{HasBelow, AreSides, ArePlaces, place_need, position_need, IsCome, IsSpread}
 use Rattle.set_merge.proofs.MergeLemmas.{merged-first, merged-second, merged-same, merged-equal, merged-differ, part-merged}
 use Rattle.set_merge.proofs.NeedLemmas.{below-place, place-has}

@@ -1,5 +1,5 @@
 -- What a merge makes of two places, and of the positions of a row.
-use Rattle.std.specs.Prelude.{◌≡◌, ℕ, ◌+◌, ◌<◌, ◌≤◌, Bool, true, false, List, [], ◌∷◌, length, Option, Some, None, ◌⊎◌}
+use Rattle.std.specs.Prelude.{◌≡◌, ℕ, ◌+◌, Bool, true, false, List, [], ◌∷◌, Option, Some, None, ◌⊎◌}
 use Rattle.std.specs.List.{flat_map}
 use Rattle.node_heap.specs.Links.{count}
 use Rattle.node_heap.specs.Heap.{Heap, form_at}

@@ -57,8 +57,11 @@ pub fn map_union_there<T: Element>(heap: &mut Heap<T>, a: MapRef, b: MapRef) -> 
     requires ample { HasSpares heap.old 0 (merge_need T.cmp T.code_of UNION heap.old a.bits a.root b.root) }
     ensures contents { (M N : List (Binding T)) → IsMapOf T.cmp T.code_of heap.old a M → IsMapOf T.cmp T.code_of heap.old b N →
         IsMapOf T.cmp T.code_of heap.new result (map_union_of T.cmp M N) }
+    ensures entries { (E D : List (Entry T)) → HasEntries T.cmp T.code_of heap.old a E → HasEntries T.cmp T.code_of heap.old b D →
+        HasEntries T.cmp T.code_of heap.new result (union T.cmp E D) }
     ensures bits { result.bits ≡ a.bits }
     ensures answered { Answered heap.old heap.new [] result.root 0 (merge_need T.cmp T.code_of UNION heap.old a.bits a.root b.root) }
+    ensures same { a.root ≡ b.root → (result ≡ a) × SameRows heap.old heap.new × Builds heap.old heap.new [] (a.root ∷ []) 0 0 }
     ensures made { MakesJust heap.old heap.new }
     ensures containers { KeepsContainers heap.old heap.new }
     ensures spares { KeepsToNeed heap.old heap.new 0 0 }

@@ -96,6 +96,7 @@ pub(crate) fn merge_there<T: Element>(heap: &mut Heap<T>, roots: &Roots, keeps: 
     ensures answered { Answered heap.old heap.new [] result 0 (merge_need T.cmp T.code_of keeps heap.old roots.now.bits roots.now.a roots.now.b) }
     ensures entries { (E D : List (Entry T)) → IsTrieOf T.cmp T.code_of roots.now.bits heap.old roots.now.a E → IsTrieOf T.cmp T.code_of roots.now.bits heap.old roots.now.b D →
         IsTrieOf T.cmp T.code_of roots.now.bits heap.new result (merged T.cmp keeps E D) }
+    ensures same { roots.now.a ≡ roots.now.b → keeps.both ≡ true → (result ≡ roots.now.a) × SameRows heap.old heap.new × Builds heap.old heap.new [] (roots.now.a ∷ []) 0 0 }
     ensures made { MakesJust heap.old heap.new }
     ensures spares { KeepsToNeed heap.old heap.new 0 0 }
 {

@@ -53,6 +53,7 @@ pub fn set_union_there<T: Element>(heap: &mut Heap<T>, a: SetRef, b: SetRef) -> 
         IsSetOf T.cmp T.code_of heap.new result (union T.cmp E D) }
     ensures bits { result.bits ≡ a.bits }
     ensures answered { Answered heap.old heap.new [] result.root 0 (merge_need T.cmp T.code_of UNION heap.old a.bits a.root b.root) }
+    ensures same { a.root ≡ b.root → (result ≡ a) × SameRows heap.old heap.new × Builds heap.old heap.new [] (a.root ∷ []) 0 0 }
     ensures made { MakesJust heap.old heap.new }
     ensures containers { KeepsContainers heap.old heap.new }
     ensures spares { KeepsToNeed heap.old heap.new 0 0 }
@@ -113,6 +114,7 @@ pub fn set_both_there<T: Element>(heap: &mut Heap<T>, a: SetRef, b: SetRef) -> S
         IsSetOf T.cmp T.code_of heap.new result (both T.cmp E D) }
     ensures bits { result.bits ≡ a.bits }
     ensures answered { Answered heap.old heap.new [] result.root 0 (merge_need T.cmp T.code_of BOTH heap.old a.bits a.root b.root) }
+    ensures same { a.root ≡ b.root → (result ≡ a) × SameRows heap.old heap.new × Builds heap.old heap.new [] (a.root ∷ []) 0 0 }
     ensures made { MakesJust heap.old heap.new }
     ensures containers { KeepsContainers heap.old heap.new }
     ensures spares { KeepsToNeed heap.old heap.new 0 0 }
@@ -237,6 +239,7 @@ fn merge_sets_there<T: Element>(heap: &mut Heap<T>, a: SetRef, b: SetRef, keeps:
         IsSetOf T.cmp T.code_of heap.new result (merged T.cmp keeps E D) }
     ensures bits { result.bits ≡ a.bits }
     ensures answered { Answered heap.old heap.new [] result.root 0 (merge_need T.cmp T.code_of keeps heap.old a.bits a.root b.root) }
+    ensures same { a.root ≡ b.root → keeps.both ≡ true → (result ≡ a) × SameRows heap.old heap.new × Builds heap.old heap.new [] (a.root ∷ []) 0 0 }
     ensures made { MakesJust heap.old heap.new }
     ensures containers { KeepsContainers heap.old heap.new }
     ensures spares { KeepsToNeed heap.old heap.new 0 0 }

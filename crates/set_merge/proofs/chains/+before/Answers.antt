@@ -1,4 +1,4 @@
-use Rattle.std.proofs.Common.{arith, ◌≡◌, ◌+◌, ◌<◌, ◌≤◌, ◌++◌, drop, length}
+use Rattle.std.proofs.Common.{arith, ◌+◌, ◌++◌, drop}
 use Rattle.node_heap.specs.Heap.{form_at}
 use Rattle.champ_chain.proofs.FrameLemmas.{forms-kept}
 use Rattle.set_merge.proofs.ChainLemmas.{IsOver-then, over-held}

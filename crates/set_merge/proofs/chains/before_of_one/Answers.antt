@@ -1,4 +1,4 @@
-use Rattle.std.proofs.Common.{◌≡◌, ℕ, ◌+◌, ◌<◌, ◌≤◌, ◌∙◌, sym, ap, subst, [], ◌∷◌, arith}
+use Rattle.std.proofs.Common.{◌<◌, subst, arith}
 use Rattle.node_heap.specs.Heap.{form_at}
 use Rattle.set_merge.specs.Walk.{IsRun}
 use Rattle.set_merge.proofs.BaseLemmas.{first-of, run-first, before-none, before-first, before-second}

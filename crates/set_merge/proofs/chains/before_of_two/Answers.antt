@@ -1,4 +1,4 @@
-use Rattle.std.proofs.Common.{◌≡◌, ℕ, ◌+◌, ◌<◌, ◌≤◌, ◌∙◌, sym, ap, subst, [], ◌∷◌, ◌++◌, arith, cond}
+use Rattle.std.proofs.Common.{◌+◌, ◌∙◌, sym, subst, [], ◌∷◌, ◌++◌, arith, cond}
 use Rattle.node_heap.specs.Heap.{form_at}
 use Rattle.champ_chain.proofs.FrameLemmas.{forms-kept}
 use Rattle.champ_chain.proofs.SpotLemmas.{same-order}

@@ -1,4 +1,4 @@
-use Rattle.std.proofs.Common.{◌≡◌, ℕ, ◌+◌, ◌<◌, ◌≤◌, ◌∙◌, sym, ap, subst, [], ◌∷◌, ◌++◌, arith, refl, cond, drop, length}
+use Rattle.std.proofs.Common.{◌≡◌, ◌+◌, [], ◌++◌, arith, refl, cond, drop}
 use Rattle.node_heap.specs.Heap.{form_at, row_limit}
 use Rattle.elem_core.specs.declared.codes.TheConstants.{LEVELS}
 use Rattle.set_merge.specs.Need.{chains_need}

@@ -1,6 +1,5 @@
-use Rattle.std.proofs.Common.{◌≡◌, ◌∙◌, sym, ap, subst, Some, None, [], ◌∷◌}
+use Rattle.std.proofs.Common.{subst}
 use Rattle.node_heap.specs.Heap.{form_at}
-use Rattle.champ_chain.specs.Entry.{entry}
 use Rattle.champ_chain.proofs.SpotLemmas.{first-row}
 use Rattle.champ_chain.proofs.CopyLemmas.{more-rows}
 use Rattle.set_merge.specs.Walk.{IsRun}

@@ -1,4 +1,4 @@
-use Rattle.std.proofs.Common.{◌≡◌, sym, subst}
+use Rattle.std.proofs.Common.{sym, subst}
 use Rattle.node_heap.specs.Heap.{form_at}
 use Rattle.set_merge.specs.Chains.{AreFrontsOf, AreHalves}
 use Rattle.set_merge.proofs.FrontLemmas.{turned_of, fronts-turned, halves-turned}

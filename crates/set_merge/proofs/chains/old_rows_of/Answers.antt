@@ -1,4 +1,4 @@
-use Rattle.std.proofs.Common.{◌≡◌, ◌∙◌, sym, ap, subst, Some, None, [], ◌∷◌, arith, refl}
+use Rattle.std.proofs.Common.{◌≡◌, sym, subst, Some, None, [], ◌∷◌, arith}
 use Rattle.node_heap.specs.Heap.{form_at}
 use Rattle.node_heap.specs.Calls.{Builds}
 use Rattle.node_heap.proofs.BuildLemmas.{Builds-hold, Builds-then, Builds-more}

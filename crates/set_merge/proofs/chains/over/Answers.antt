@@ -1,4 +1,4 @@
-use Rattle.std.proofs.Common.{◌≡◌, ◌∙◌, sym, ap, subst, Some, None, [], ◌∷◌, arith, refl}
+use Rattle.std.proofs.Common.{◌≡◌, ap, Some, [], ◌∷◌, arith}
 use Rattle.node_heap.specs.Heap.{form_at}
 use Rattle.node_heap.proofs.BuildLemmas.{Builds-hold, Builds-then}
 use Rattle.node_heap.proofs.Frames.{Extends-trans}
@@ -6,7 +6,6 @@ use Rattle.champ_chain.specs.Entry.{entry}
 use Rattle.champ_chain.proofs.FrameLemmas.{forms-kept, key-kept, rows-kept}
 use Rattle.champ_chain.proofs.SpotLemmas.{rows-none}
 use Rattle.champ_chain.proofs.CopyLemmas.{chain-form, rows-over, copy-one}
-use Rattle.set_merge.specs.Chains.{waiting}
 use Rattle.set_merge.proofs.ChainLemmas.{two-long}
 use Rattle.set_merge.proofs.chains.over.Goals as goal
 

@@ -1,4 +1,4 @@
-use Rattle.std.proofs.Common.{◌≡◌, ◌∙◌, sym, ap, subst, Some, None, [], ◌∷◌, ◌++◌, arith, refl, Bool, cond}
+use Rattle.std.proofs.Common.{◌≡◌, sym, ap, subst, Some, [], ◌∷◌, ◌++◌, cond}
 use Rattle.node_heap.specs.Heap.{form_at}
 use Rattle.champ_chain.specs.Entry.{Entry, entry, key_at}
 use Rattle.set_merge.specs.Chains.{IsMergedRun}

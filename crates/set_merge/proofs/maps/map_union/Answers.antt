@@ -1,11 +1,11 @@
-use Rattle.std.proofs.Common.{arith, [], sym, subst, refl, ap, ◌∙◌}
+use Rattle.std.proofs.Common.{arith, sym, subst, refl}
 use Rattle.node_heap.specs.Calls.{KeepsToNeed}
 use Rattle.champ_chain.proofs.WithLemmas.{not-ok}
 use Rattle.champ_kinds.specs.Laws.{KeepsContainers}
 use Rattle.champ_kinds.proofs.StayLemmas.{containers-extended}
 use Rattle.node_heap.proofs.Frames.{Extends-refl}
 use Rattle.set_merge.specs.declared.keeps.TheConstants.{UNION}
-use Rattle.set_merge.proofs.KindLemmas.{first-trie, second-trie, roots-bits, need-as, apart-first, apart-second, roots-one, set-answer, entries-answer, map-answer, bits-answer, answered-answer, same-answer, pairs-long}
+use Rattle.set_merge.proofs.KindLemmas.{first-trie, second-trie, roots-bits, need-as, apart-first, apart-second, roots-one, entries-answer, map-answer, bits-answer, answered-answer, same-answer, pairs-long}
 use Rattle.set_merge.proofs.maps.map_union.Goals as goal
 
 pub merge-requires-clause-bits : goal.merge-requires-clause-bits

@@ -1,11 +1,7 @@
-use Rattle.std.proofs.Common.{arith, [], sym, subst, refl, ap, ◌∙◌}
-use Rattle.node_heap.specs.Calls.{KeepsToNeed}
-use Rattle.champ_chain.proofs.WithLemmas.{not-ok}
-use Rattle.champ_kinds.specs.Laws.{KeepsContainers}
+use Rattle.std.proofs.Common.{arith, refl}
 use Rattle.champ_kinds.proofs.StayLemmas.{containers-extended}
-use Rattle.node_heap.proofs.Frames.{Extends-refl}
 use Rattle.set_merge.specs.declared.keeps.TheConstants.{UNION}
-use Rattle.set_merge.proofs.KindLemmas.{first-trie, second-trie, roots-bits, need-as, apart-first, apart-second, roots-one, set-answer, entries-answer, map-answer, bits-answer, answered-answer, same-answer, pairs-long}
+use Rattle.set_merge.proofs.KindLemmas.{first-trie, second-trie, roots-bits, need-as, roots-one, entries-answer, map-answer, bits-answer, answered-answer, same-there}
 use Rattle.set_merge.proofs.maps.map_union_there.Goals as goal
 
 pub merge_there-root-requires-clause-bits : goal.merge_there-root-requires-clause-bits
@@ -33,3 +29,10 @@ returns-clause-containers g c = containers-extended c.args.heap.now c.merge_ther
 
 pub merge_there-root-requires-clause-ample : goal.merge_there-root-requires-clause-ample
 merge_there-root-requires-clause-ample g c = (c.requires.ample.0, omega (arith, c.requires.ample.1, need-as g.T.Ord.cmp g.T.Element.code_of c.args.heap.now c.args.a c.args.b c.requires.bits c.roots_of-roots.result c.roots_of-roots.ensures UNION))
+
+pub returns-clause-entries : goal.returns-clause-entries
+returns-clause-entries g c = λ E D one two.
+    entries-answer g.T.Ord.cmp g.T.Element.code_of c.args.heap.now c.args.a c.args.b c.requires.bits c.roots_of-roots.result c.roots_of-roots.ensures c.merge_there-root.new.heap c.from_root.result _ c.bits.result c.from_root.ensures c.bits.ensures E D one (c.merge_there-root.ensures.entries E D (first-trie g.T.Ord.cmp g.T.Element.code_of c.args.heap.now c.args.a c.args.b c.requires.bits c.roots_of-roots.result c.roots_of-roots.ensures E one) (second-trie g.T.Ord.cmp g.T.Element.code_of c.args.heap.now c.args.a c.args.b c.requires.bits c.roots_of-roots.result c.roots_of-roots.ensures D two))
+
+pub returns-clause-same : goal.returns-clause-same
+returns-clause-same g c = λ one. same-there g.T.Ord.cmp g.T.Element.code_of c.args.heap.now c.args.a c.args.b c.requires.bits c.roots_of-roots.result c.roots_of-roots.ensures c.merge_there-root.new.heap c.from_root.result _ c.bits.result c.from_root.ensures c.bits.ensures (c.merge_there-root.ensures.same (roots-one g.T.Ord.cmp g.T.Element.code_of c.args.heap.now c.args.a c.args.b c.requires.bits c.roots_of-roots.result c.roots_of-roots.ensures one) refl)

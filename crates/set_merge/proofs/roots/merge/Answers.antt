@@ -1,4 +1,4 @@
-use Rattle.std.proofs.Common.{arith, sym, subst, [], ◌∷◌, ap, ℕ, Bool, cond, Ok, ◌∙◌}
+use Rattle.std.proofs.Common.{arith, subst, [], ◌∷◌, ap, ℕ, Bool, cond, Ok, ◌∙◌}
 use Rattle.node_heap.specs.Calls.{Builds}
 use Rattle.node_heap.proofs.BuildLemmas.{Builds-Answered, Builds-MakesJust, Builds-then}
 use Rattle.node_heap.proofs.RoomLemmas.{KeepsToNeed-more, Builds-KeepsToNeed}

@@ -1,4 +1,4 @@
-use Rattle.std.proofs.Common.{arith, ◌≡◌, ℕ, [], ◌∷◌, sym, ap, subst, cond, Bool, refl, ◌∙◌}
+use Rattle.std.proofs.Common.{arith, ℕ, [], ◌∷◌, sym, ap, subst, cond, Bool, refl, ◌∙◌}
 use Rattle.std.proofs.lemmas.Bool.{eqb-true, eqb-false}
 use Rattle.elem_core.specs.declared.codes.TheConstants.{DEEPEST}
 use Rattle.node_heap.specs.Heap.{form_at, row_limit}
@@ -11,7 +11,7 @@ use Rattle.champ_trie.specs.declared.place.Place.TheVariants.{Node}
 use Rattle.champ_trie.proofs.StayLemmas.{canon-live}
 use Rattle.champ_trie.proofs.LeftLemmas.{KeepsTries-same}
 use Rattle.set_merge.specs.Merge.{merged}
-use Rattle.set_merge.specs.Need.{sum_below, merge_need}
+use Rattle.set_merge.specs.Need.{sum_below}
 use Rattle.set_merge.specs.Walk.{position_need}
 use Rattle.set_merge.proofs.WalkLemmas.{need-more, spread-live, spread-held}
 use Rattle.set_merge.proofs.RootLemmas.{flat-empty, need-one, need-two, root-sides, root-alive, root-stood, root-made, root-empty, root-same}

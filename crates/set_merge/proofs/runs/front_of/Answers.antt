@@ -1,7 +1,6 @@
-use Rattle.std.proofs.Common.{◌≡◌, ◌∙◌, sym, ap, subst, Some, ◌∷◌}
+use Rattle.std.proofs.Common.{◌≡◌, ◌∙◌, sym, ap, subst, ◌∷◌}
 use Rattle.node_heap.specs.Heap.{form_at}
 use Rattle.champ_chain.proofs.SpotLemmas.{first-row}
-use Rattle.champ_trie.specs.declared.place.Place.{Place}
 use Rattle.set_merge.specs.Walk.{IsRun}
 use Rattle.set_merge.specs.Chains.{place_from, IsRest}
 use Rattle.set_merge.proofs.RunLemmas.{front-row}

@@ -1,7 +1,5 @@
-use Rattle.std.proofs.Common.{◌≡◌, ◌≢◌, ℕ, ◌+◌, ◌<◌, ◌≤◌, ◌∙◌, sym, ap, subst, arith, refl, drop, length, Bool, true, false, not, inl, inr}
+use Rattle.std.proofs.Common.{◌≡◌, ◌≢◌, arith, drop, true, inl, inr}
 use Rattle.std.proofs.lemmas.Bool.{cases_Bool}
-use Rattle.node_heap.specs.Heap.{form_at, row_limit}
-use Rattle.set_merge.specs.Need.{run_rows}
 use Rattle.set_merge.proofs.MeetingLemmas.{turn-none, less-run, less-room, less-shorter, less-more, greater-run, greater-room, greater-shorter, greater-more, equal-left_run, equal-right_run, equal-left_room, equal-right_room, equal-shorter, equal-shorter_right, equal-more, turn-end, turn-end_right, turn-few, turn-waits}
 use Rattle.set_merge.proofs.runs.meeting_of.Goals as goal
 

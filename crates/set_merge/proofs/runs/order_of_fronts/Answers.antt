@@ -1,5 +1,4 @@
-use Rattle.std.proofs.Common.{◌≡◌, ◌∙◌, sym, subst, Some}
-use Rattle.std.specs.Prelude.{IsTrue}
+use Rattle.std.proofs.Common.{◌∙◌, sym}
 use Rattle.node_heap.specs.Heap.{form_at}
 use Rattle.champ_chain.proofs.SpotLemmas.{same-order}
 use Rattle.set_merge.proofs.RunLemmas.{not-true, some-run, run-some, keyed, front-key}

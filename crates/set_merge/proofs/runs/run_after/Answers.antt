@@ -1,4 +1,4 @@
-use Rattle.std.proofs.Common.{arith, ◌≡◌, ◌∙◌, subst, sym, drop}
+use Rattle.std.proofs.Common.{arith, ◌≡◌, subst, sym, drop}
 use Rattle.node_heap.specs.Heap.{form_at}
 use Rattle.set_merge.specs.Walk.{IsRun}
 use Rattle.set_merge.proofs.RunLemmas.{split-at}

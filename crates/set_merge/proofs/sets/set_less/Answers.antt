@@ -1,4 +1,4 @@
-use Rattle.std.proofs.Common.{arith, subst, refl}
+use Rattle.std.proofs.Common.{arith, subst}
 use Rattle.std.specs.Prelude.{IfOk}
 use Rattle.champ_kinds.specs.Kinds.{IsSetOf}
 use Rattle.set_merge.proofs.KindLemmas.{on-ok, less-is}

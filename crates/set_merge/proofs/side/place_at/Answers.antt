@@ -1,14 +1,14 @@
-use Rattle.std.proofs.Common.{◌≡◌, ℕ, ◌+◌, ◌<◌, ◌∙◌, sym, ap, subst, arith, List, length, get_or}
+use Rattle.std.proofs.Common.{◌≡◌, ℕ, ◌+◌, ◌∙◌, sym, ap, arith, List, length, get_or}
 use Rattle.std.specs.Prelude.{count_ones}
 use Rattle.std.proofs.lemmas.List.{get_or_default}
 use Rattle.node_heap.specs.Forms.{links_of}
 use Rattle.node_heap.specs.Heap.{Heap, form_at, row_at}
 use Rattle.champ_chain.proofs.FrameLemmas.{links-form}
 use Rattle.champ_trie.specs.Bits.{rank}
-use Rattle.champ_trie.specs.Trie.{AreSets, IsRow, place_of}
+use Rattle.champ_trie.specs.Trie.{IsRow}
 use Rattle.champ_trie.specs.declared.place.Place.TheVariants.{Entry as At, Node}
 use Rattle.champ_trie.proofs.BitLemmas.{count-rank, rank-le}
-use Rattle.champ_trie.proofs.PlaceLemmas.{place-entry, place-node, place-empty, entry-in, node-in}
+use Rattle.champ_trie.proofs.PlaceLemmas.{place-entry, place-node, entry-in, node-in}
 use Rattle.set_merge.proofs.side.place_at.Goals as goal
 
 -- the links that the heap has for a row are the row's

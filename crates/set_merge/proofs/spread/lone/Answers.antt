@@ -1,7 +1,7 @@
-use Rattle.std.proofs.Common.{◌≡◌, ℕ, ◌+◌, ◌<◌, List, [], ◌∷◌, length, drop, get_or, refl, ap, sym, ◌∙◌, arith, Option, Some, None}
-use Rattle.std.proofs.lemmas.List.{at_drop_more, drop_all}
+use Rattle.std.proofs.Common.{◌≡◌, ℕ, ◌+◌, ◌<◌, List, [], ◌∷◌, length, drop, get_or, refl, ap, sym, ◌∙◌, Option, Some, None}
+use Rattle.std.proofs.lemmas.List.{at_drop_more}
 use Rattle.champ_trie.specs.declared.place.Place.{Place}
-use Rattle.set_merge.specs.Spread.{lone_with, lone_from, lone_of}
+use Rattle.set_merge.specs.Spread.{lone_with, lone_from}
 use Rattle.set_merge.proofs.spread.lone.Goals as goal
 
 -- where there is more than one entry, more changes nothing

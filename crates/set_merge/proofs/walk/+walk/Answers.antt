@@ -1,10 +1,7 @@
-use Rattle.std.proofs.Common.{arith, ◌≡◌, ◌≤◌, ℕ, suc, ◌+◌, ◌-◌, ◌∙◌, sym, ap, subst, List, length, None}
-use Rattle.std.specs.declared.cmp.Ordering.TheVariants.{Equal}
+use Rattle.std.proofs.Common.{arith, ◌≡◌, suc, ◌+◌, ◌-◌, ◌∙◌, sym, ap, subst}
 use Rattle.elem_core.specs.Codes.{masked_code}
-use Rattle.elem_core.specs.declared.codes.TheConstants.{DEEPEST}
 use Rattle.node_heap.specs.Heap.{form_at, row_limit}
 use Rattle.node_heap.proofs.BuildLemmas.{Builds-spare_nodes}
-use Rattle.champ_chain.specs.Entry.{Entry}
 use Rattle.champ_chain.proofs.FrameLemmas.{forms-kept}
 use Rattle.champ_trie.specs.Trie.{part, code_by}
 use Rattle.set_merge.specs.Side.{place_below}

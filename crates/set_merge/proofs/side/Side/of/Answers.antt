@@ -1,6 +1,5 @@
-use Rattle.std.proofs.Common.{sym, subst}
+use Rattle.std.proofs.Common.{subst}
 use Rattle.node_heap.specs.Heap.{form_at}
-use Rattle.champ_trie.specs.declared.place.Place.TheVariants.{Node}
 use Rattle.set_merge.specs.Side.{HasRow}
 use Rattle.set_merge.proofs.side.Side.of.Goals as goal
 

@@ -1,4 +1,4 @@
-use Rattle.std.proofs.Common.{◌∷◌, [], ◌++◌, ap, arith, length, sym}
+use Rattle.std.proofs.Common.{◌∷◌, [], ◌++◌, ap, arith, length}
 use Rattle.std.specs.List.{flat_map}
 use Rattle.node_heap.specs.Links.{count}
 use Rattle.node_heap.proofs.BuildLemmas.{Builds-made, Builds-both, count-append}
