@@ -9,6 +9,7 @@ pub mod FormRows
 pub mod Behind
 pub mod RootedBelow
 pub mod ListWalk
+pub mod ListPlaces
 pub mod ReadBack
 pub mod DocumentRows
 pub mod DocumentBack

@@ -17,7 +17,7 @@ use Rattle.pool_text.specs.Pool.{links_from, place_in, relink, Settings, pool}
 use Rattle.pool_text.specs.declared.row.Row.{Row}
 use Rattle.pool_text.proofs.FormRows.{form-read}
 use Rattle.pool_text.proofs.Gathered.{made}
-use Rattle.pool_text.proofs.Placed.{get-none}
+use Rattle.pool_text.proofs.Placed.{item_in, get-some, get-none}
 
 -- ## The rows as they are read
 
@@ -52,6 +52,12 @@ module _ (forms : List (Form Bytes)) (linked : AreLinkedBelow (length forms) (li
   pub visit-low : (seen whole : List ℕ) (old vs : List (Visit ℕ)) (v : Visit ℕ) → old ≡ vs ++ v ∷ [] → IsWalk (length forms) (links_from forms) (λ k. k < length forms) seen whole old → v.link < length forms
   visit-low seen whole old vs v popped walk =
       (live-last (length forms) (links_from forms) (λ k. k < length forms) ground vs v (subst (AreThere (λ k. k < length forms)) popped walk.live)).1
+
+  -- the next link of a row that is read names a row
+  pub child-low : (items : List Row) → map row_form items ≡ forms → (v : Visit ℕ) (row : Row) → v.link < length forms → row ≡ get_or items v.link row → (child : ℕ) → Some child ≡ slice_get (links_of (Some (row_form row))) v.next → child < length forms
+  child-low items are v row low at child read =
+      let there = get-some (links_from forms v.link) v.next child (link-read forms items are v row low at (Some child) read) in
+      linked.inside v.link child (item_in (links_from forms v.link) v.next child there.0 (sym there.1))
 
   reached-low : (a b : ℕ) → Reaches (links_from forms) a b → a < length forms → b < length forms
   reached-low a b (here l) low = low

@@ -1,7 +1,6 @@
 -- The order of renamed links is the order renamed, and a pool stands in its own order.
 use Rattle.std.proofs.Common.{◌≡◌, ℕ, zero, suc, ◌+◌, ◌<◌, ◌≤◌, List, [], ◌∷◌, ◌++◌, map, length, get_or, refl, ap, sym, ◌∙◌, arith, inl, inr, append_assoc}
 use Rattle.std.specs.List.{flat_map, range_with_len}
-use Rattle.std.proofs.lemmas.Bool.{cases_eq}
 use Rattle.std.proofs.lemmas.List.{map-append}
 use Rattle.std.proofs.lemmas.List.Folds.{flat_map-map}
 use Rattle.node_heap.specs.Links.{Links, count, Reaches, here, below}
@@ -14,7 +13,7 @@ use Rattle.pool_text.specs.Rows.{Bytes}
 use Rattle.pool_text.specs.Pool.{forms_in, row_count, order_in, place_in, Settings, pool}
 use Rattle.pool_text.specs.Renaming.{IsRooted}
 use Rattle.pool_text.specs.declared.pool.Pool.{Pool}
-use Rattle.pool_text.proofs.Placed.{place-is, place-first, place-later}
+use Rattle.pool_text.proofs.Placed.{place-is, place-after}
 use Rattle.pool_text.proofs.Renamed.{map-found, count-map, renamed-links, renamed-below}
 use Rattle.pool_text.proofs.PoolRows.{order-of-pool, pool-length, pool-renamed, pool-ranked}
 
@@ -71,13 +70,6 @@ order-renamed f L M n roots linked one =
     ap firsts
     (flat_map-map (places n M) f roots ∙ flat_map-same (λ k. places n M (f k)) (λ k. map f (places n L k)) roots (λ r root. places-renamed f L M n r (linked r root)) ∙ sym (map-flat f (places n L) roots))
     ∙ with_all-map f (flat_map (places n L) roots) one [] (flat_map (places n L) roots) (λ k some. absurd (omega (arith, some))) (λ k some. some)
-
-place-after : (front back : List ℕ) (x : ℕ) → count x front ≡ 0 → place_in (front ++ x ∷ back) x ≡ length front
-place-after [] back x none = place-first x x back refl
-place-after (k ∷ front) back x none = elim (cases_eq x k) as (λ _. place_in (k ∷ (front ++ x ∷ back)) x ≡ suc (length front)) [
-  | inl same ↦ absurd (omega (arith, none, count-cons x k front, test_same k x (sym same)))
-  | inr other ↦ omega (arith, place-later x k (front ++ x ∷ back) other, place-after front back x (omega (arith, none, count-cons x k front)))
-]
 
 -- the places of the links behind the front are the numbers from its length on
 places-rest : (front back : List ℕ) → ((j : ℕ) → count j (front ++ back) ≤ 1) → map (place_in (front ++ back)) back ≡ range_with_len (length front) (length back)

@@ -1,5 +1,5 @@
 -- Places of links in a list.
-use Rattle.std.proofs.Common.{◌≡◌, ◌≢◌, ℕ, zero, suc, ◌+◌, ◌<◌, ◌≤◌, true, false, eqb, ltb, Some, None, slice_get, List, [], ◌∷◌, length, get_or, take, refl, ap, sym, ◌∙◌, arith, inl, inr}
+use Rattle.std.proofs.Common.{◌≡◌, ◌≢◌, ℕ, zero, suc, ◌+◌, ◌<◌, ◌≤◌, true, false, eqb, ltb, Some, None, slice_get, List, [], ◌∷◌, ◌++◌, length, get_or, take, refl, ap, sym, ◌∙◌, arith, inl, inr}
 use Rattle.std.specs.List.{position}
 use Rattle.std.proofs.lemmas.Bool.{cases_eq}
 use Rattle.std.proofs.lemmas.Bool.Decides.{nat_tests}
@@ -34,6 +34,23 @@ place-is (k ∷ ks) l some = elim (cases_eq l k) as (λ _. (place_in (k ∷ ks) 
   where
     one_more : (n : ℕ) → 1 + n ≡ suc n
     one_more n = omega arith
+
+-- what is put behind a list has its length for a place, and what stands in it keeps its own
+pub place-after : (front back : List ℕ) (x : ℕ) → count x front ≡ 0 → place_in (front ++ x ∷ back) x ≡ length front
+place-after [] back x none = place-first x x back refl
+place-after (k ∷ front) back x none = elim (cases_eq x k) as (λ _. place_in (k ∷ (front ++ x ∷ back)) x ≡ suc (length front)) [
+  | inl same ↦ absurd (omega (arith, none, count-cons x k front, test_same k x (sym same)))
+  | inr other ↦ omega (arith, place-later x k (front ++ x ∷ back) other, place-after front back x (omega (arith, none, count-cons x k front)))
+]
+
+pub place-kept : (ks more : List ℕ) (l : ℕ) → 0 < count l ks → place_in (ks ++ more) l ≡ place_in ks l
+place-kept [] more l some = absurd (omega arith)
+place-kept (k ∷ ks) more l some = elim (cases_eq l k) as (λ _. place_in (k ∷ (ks ++ more)) l ≡ place_in (k ∷ ks) l) [
+  | inl same ↦ place-first l k (ks ++ more) same ∙ sym (place-first l k ks same)
+  | inr other ↦
+      place-later l k (ks ++ more) other ∙ ap (λ i. 1 + i) (place-kept ks more l (omega (arith, some, count-cons l k ks, test_other k l (λ e. other (sym e)))))
+      ∙ sym (place-later l k ks other)
+]
 
 -- a link among the first i has a place below i
 pub place-low : (ks : List ℕ) (l i : ℕ) → 0 < count l (take i ks) → place_in ks l < i

@@ -25,6 +25,12 @@ count-map f k (x ∷ xs) some = elim (cases_eq x k) as (λ _. 0 < count (f k) (f
   | inr other ↦ omega (arith, count-cons (f k) (f x) (map f xs), count-map f k xs (omega (arith, some, count-cons k x xs, test_other x k other)))
 ]
 
+-- links with the same new names have one new list
+pub map-same : (f g : ℕ → ℕ) (ks : List ℕ) → ((k : ℕ) → 0 < count k ks → f k ≡ g k) → map f ks ≡ map g ks
+map-same f g [] each = refl
+map-same f g (k ∷ ks) each =
+    ap (λ y. y ∷ map f ks) (each k (omega (arith, count-cons k k ks, test_same k k refl))) ∙ ap (λ ys. g k ∷ ys) (map-same f g ks (λ j some. each j (omega (arith, count-cons j k ks, some))))
+
 -- links that are turned and then turned back
 pub map-back : (f g : ℕ → ℕ) (ks : List ℕ) → ((k : ℕ) → 0 < count k ks → g (f k) ≡ k) → map g (map f ks) ≡ ks
 map-back f g [] each = refl
@@ -47,6 +53,10 @@ module _ {K : Type 0} where
   head-relink f None = refl
   head-relink f (Some (cell x)) = refl
   head-relink f (Some (node kind links)) = refl
+
+  pub relink-same : (f g : ℕ → ℕ) (r : Form K) → ((k : ℕ) → 0 < count k (links_of (Some r)) → f k ≡ g k) → relink f r ≡ relink g r
+  relink-same f g (cell x) each = refl
+  relink-same f g (node kind links) each = ap (node kind) (map-same f g links each)
 
   pub relink-back : (f g : ℕ → ℕ) (r : Option (Form K)) → ((k : ℕ) → 0 < count k (links_of r) → g (f k) ≡ k) → option_map (relink g) (option_map (relink f) r) ≡ r
   relink-back f g None each = refl

@@ -8,3 +8,4 @@ pub mod Laws
 pub mod Documents
 pub mod Worked
 pub mod Parsing
+pub mod Listed

@@ -17,10 +17,11 @@ loop-root-preserved c =
     let root : ℕ = get_or c.args.roots.now c.loop-root.root-index 0 in
     let low : c.loop-root.root-index < length c.args.roots.now = omega arith in
     let there = c.requires.roots root (count-get_or c.args.roots.now c.loop-root.root-index low) in (
-      firsts-more _ c.loop-root.seen.keys _ c.loop-root.root-index root c.args.roots.now c.loop-root.invariant.0 low (get_or-default c.args.roots.now c.loop-root.root-index 0 root low) c.in_ok-walk.ensures,
-      subst (IsReady (links_from c.args.rows.now)) (sym c.in_ok-walk.ensures) (ready-places grounded.rank _ grounded.falls _ root (grounded.low root there) _ c.loop-root.invariant.1),
+      firsts-more _ c.loop-root.listed.rows.items _ c.loop-root.root-index root c.args.roots.now c.loop-root.invariant.0 low (get_or-default c.args.roots.now c.loop-root.root-index 0 root low) c.in_ok-walk.ensures.rows,
+      subst (IsReady (links_from c.args.rows.now)) (sym c.in_ok-walk.ensures.rows) (ready-places grounded.rank _ grounded.falls _ root (grounded.low root there) _ c.loop-root.invariant.1),
+      c.in_ok-walk.ensures.places,
     )
 
-pub returns : goal.returns
+pub returns-clause-rows : goal.returns-clause-rows
 unfolding order
-returns c = c.loop-root.invariant.0 ∙ ap (λ xs. firsts (flat_map (places (length c.args.rows.now) (links_from c.args.rows.now)) xs)) (take_all c.args.roots.now c.loop-root.root-index (omega arith))
+returns-clause-rows c = c.loop-root.invariant.0 ∙ ap (λ xs. firsts (flat_map (places (length c.args.rows.now) (links_from c.args.rows.now)) xs)) (take_all c.args.roots.now c.loop-root.root-index (omega arith))
