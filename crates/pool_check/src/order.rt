@@ -10,6 +10,7 @@ ghost use Rattle.pool_check.specs.Damages.{rows_in_order as all_in_order};
 ghost use Rattle.pool_check.specs.Counted.{CountsOn};
 
 use elem_core::NoMemory;
+use pool_order::Visit;
 use pool_text::{Pool, Row, link_at};
 use std::alloc::Global;
 
@@ -29,13 +30,6 @@ pub(crate) fn rows_in_order(alloc: Global, pool: &Pool) -> Result<bool, NoMemory
     Ok(next == rows.len() as u64)
 }
 
-// A row that is being walked, and which of its links comes next.
-#[derive(Clone, Copy, Drop)]
-struct Visit {
-    row: u64,
-    link: usize,
-}
-
 // The row that comes next once the root is listed, where the rows before the next one are listed already. None where another
 // row would be listed in its place.
 fn next_after(
@@ -52,23 +46,26 @@ fn next_after(
         return Ok(Some(next));
     }
     let mut stack = Vec::new(alloc);
-    stack.push(Visit { row: root, link: 0 })?;
+    stack.push(Visit {
+        link: root,
+        next: 0,
+    })?;
     while let Some(visit) = stack.pop() {
-        match link_at(&rows[visit.row as usize], visit.link) {
+        match link_at(&rows[visit.link as usize], visit.next) {
             Some(child) => {
                 stack.push(Visit {
-                    row: visit.row,
-                    link: visit.link + 1,
+                    link: visit.link,
+                    next: visit.next + 1,
                 })?;
                 if next <= child {
                     stack.push(Visit {
-                        row: child,
-                        link: 0,
+                        link: child,
+                        next: 0,
                     })?;
                 }
             }
             None => {
-                if visit.row != next {
+                if visit.link != next {
                     return Ok(None);
                 }
                 next += 1;

@@ -9,7 +9,7 @@ pub loop-visit-init : goal.loop-visit-init
 loop-visit-init c = rw (c.in_ok-push.ensures.items, c.new-stack.ensures.items) (walk-from c.args.rows.now c.requires.links c.args.next c.args.root c.if-root-next.false c.requires.low)
 
 pub offset_bounds-rows-visit : goal.offset_bounds-rows-visit
-offset_bounds-rows-visit c = let low : c.in-Some.visit.row < length c.args.rows.now = visit-low c.args.rows.now c.loop-visit.next _ _ _ c.in-Some.visit c.in-Some.ensures.items c.loop-visit.invariant in search rules
+offset_bounds-rows-visit c = let low : c.in-Some.visit.link < length c.args.rows.now = visit-low c.args.rows.now c.loop-visit.next _ _ _ c.in-Some.visit c.in-Some.ensures.items c.loop-visit.invariant in search rules
 
 pub bounds-rows-visit : goal.bounds-rows-visit
 bounds-rows-visit c = visit-low c.args.rows.now c.loop-visit.next _ _ _ c.in-Some.visit c.in-Some.ensures.items c.loop-visit.invariant
@@ -39,7 +39,7 @@ returns-then-visit-next c =
     turn-stops c.args.rows.now c.loop-visit.next _ _ _ c.in-Some.visit c.index-rows-visit.result c.loop-visit.invariant (record { popped = c.in-Some.ensures.items; at = c.index-rows-visit.is; read = c.in-None.ensures.link }) c.if-visit-next.true
 
 pub overflow_add-next : goal.overflow_add-next
-overflow_add-next c = let low : c.in-Some.visit.row < length c.args.rows.now = visit-low c.args.rows.now c.loop-visit.next _ _ _ c.in-Some.visit c.in-Some.ensures.items c.loop-visit.invariant in search rules
+overflow_add-next c = let low : c.in-Some.visit.link < length c.args.rows.now = visit-low c.args.rows.now c.loop-visit.next _ _ _ c.in-Some.visit c.in-Some.ensures.items c.loop-visit.invariant in search rules
 
 pub loop-visit-smaller : goal.loop-visit-smaller
 loop-visit-smaller c =
