@@ -81,7 +81,7 @@ pub fn chain_more(alloc: Global, chain: Chain, bytes: &[u8]) -> Result<Chain, Da
 }
 
 /// The pool that the chain stands for, which needs no further test: the rows that its last document's roots reach, in their order. It
-/// takes time and memory for these rows, their links and their texts.
+/// takes time and memory for these rows, their links and their texts, and 8 bytes for each row of the chain.
 pub fn chain_checked<T: Stored>(alloc: Global, chain: Chain) -> Result<Checked<T>, NoMemory>
     ensures value { IfOk result (λ P. P ≡ pool_of_chain chain) }
     ensures bits { IfOk result (λ P. P.bits ≡ chain.bits) }
