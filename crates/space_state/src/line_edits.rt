@@ -1,6 +1,6 @@
 //! The edits that make a buffer, and those of lines in place. Each first looks for what refuses it and makes room for all that it will
 //! make.
-ghost use Rattle.std.specs.Prelude.{◌≡◌, ◌+◌, ◌<◌, ◌^◌, [], IfOk, MatchResult};
+ghost use Rattle.std.specs.Prelude.{◌≡◌, ◌+◌, ◌<◌, [], IfOk, MatchResult};
 ghost use Rattle.node_heap.specs.Heap.{row_limit};
 ghost use Rattle.elem_core.specs.Shown.{name_bytes, line_bytes};
 ghost use Rattle.node_heap.specs.Calls.{KeepsToNeed};

@@ -2,25 +2,25 @@
 //! copied. Outside a batch the current state is put at the end of undo first, where undo keeps one at least, so that it has a second
 //! owner and the whole way is copied. In a batch, and where undo keeps none, the way is copied once, where the base, a version or a
 //! history has it too, and written from then on.
-ghost use Rattle.std.specs.Prelude.{◌≡◌, ℕ, ◌+◌, ◌*◌, ◌<◌, ◌≤◌, ◌^◌, List, [], ◌∷◌, length, Option, None, IfOk, true};
+ghost use Rattle.std.specs.Prelude.{◌≡◌, ℕ, ◌+◌, ◌*◌, ◌<◌, ◌≤◌, List, [], ◌∷◌, length, Option, None};
 ghost use Rattle.elem_core.specs.declared.codes.TheConstants.{DEEPEST};
 ghost use Rattle.elem_core.specs.Shown.{name_bytes};
 ghost use Rattle.node_heap.specs.Heap.{HasSpares, row_limit};
 ghost use Rattle.node_heap.specs.Calls.{KeepsToNeed};
 ghost use Rattle.shell_terms.specs.Edit.{Bytes};
-ghost use Rattle.plain_space.specs.Workspace.{Workspace, in_batch, lines_of, with_lines, with_current};
+ghost use Rattle.plain_space.specs.Workspace.{Workspace, lines_of, with_lines, with_current};
 ghost use Rattle.plain_space.specs.Cost.{alike_buffers};
 ghost use Rattle.state_rows.specs.Reading.{StandsIfThere};
 ghost use Rattle.state_rows.specs.InHeap.{AreLinesIn};
 ghost use Rattle.space_state.specs.Roots.{Keeps};
-ghost use Rattle.space_state.specs.InPlace.{current_kept, new_key};
+ghost use Rattle.space_state.specs.InPlace.{new_key};
 ghost use Rattle.space_state.specs.Turns.{TurnsTo, TurnsBeside};
 
 use crate::roots::RootedHeap;
 use crate::undo_end::TURN_NODES;
-use elem_core::{Name, NoMemory, Text, text_of};
-use rrb_core::{Flex, FlexRef};
-use state_rows::{EMPTIED_NODES, FoundBuffer, PUSHED_NODES, buffer_made, find_buffer, lines_put};
+use elem_core::{Name, Text};
+use rrb_core::Flex;
+use state_rows::{FoundBuffer, buffer_made, find_buffer, lines_put};
 
 impl RootedHeap {
     /// The lines of the buffer, and the number of names that are alike.

@@ -1,12 +1,12 @@
 //! Steps through undo and redo, and how many states undo keeps.
-ghost use Rattle.std.specs.Prelude.{◌≡◌, ◌≢◌, ℕ, ◌+◌, ◌<◌, ◌≤◌, List, [], ◌∷◌, ◌++◌, length, Err, IfOk, MatchResult};
+ghost use Rattle.std.specs.Prelude.{◌≡◌, ◌≢◌, ◌+◌, ◌<◌, ◌≤◌, List, [], ◌∷◌, ◌++◌, length, Err, MatchResult};
 ghost use Rattle.node_heap.specs.Heap.{HasSpares};
 ghost use Rattle.node_heap.specs.Calls.{KeepsToNeed};
 ghost use Rattle.shell_terms.specs.Command.{undo, redo, history};
-ghost use Rattle.plain_space.specs.Workspace.{State, Workspace, most, last_of, undo_with};
+ghost use Rattle.plain_space.specs.Workspace.{State, Workspace, most};
 ghost use Rattle.state_rows.specs.InHeap.{IsStateIn, IsHistoryIn};
 ghost use Rattle.space_state.specs.Roots.{Keeps};
-ghost use Rattle.space_state.specs.Turns.{EndsOnRows, TurnsTo, TurnsBeside};
+ghost use Rattle.space_state.specs.Turns.{EndsOnRows, TurnsTo};
 ghost use Rattle.space_state.specs.Needed.{HoardsNone};
 ghost use Rattle.space_state.specs.Stepping.{CanStep, HasNoStep};
 

@@ -1,8 +1,7 @@
 -- What a merge of two maps or sets of names says at a name, and how many names they have.
-use Rattle.std.proofs.Common.{◌≡◌, ℕ, ◌+◌, Bool, true, false, cond, not, List, [], ◌∷◌, ◌++◌, Option, Some, None, option_map, is_some, map, length, refl, ap, sym, subst, ◌∙◌}
+use Rattle.std.proofs.Common.{◌≡◌, ℕ, ◌+◌, Bool, true, false, cond, not, List, [], ◌∷◌, Option, Some, None, option_map, is_some, length, refl, ap, sym, subst, ◌∙◌}
 use Rattle.std.specs.Option.{option_or}
 use Rattle.std.specs.List.{All, find, filter}
-use Rattle.std.specs.Ordering.{is_eq}
 use Rattle.std.specs.FinMap as finite
 use Rattle.std.proofs.lemmas.List.{length-map}
 use Rattle.std.proofs.lemmas.List.Folds.{find-append}
@@ -22,7 +21,6 @@ use Rattle.champ_chain.specs.Entry.{Entry, link_with, has_key}
 use Rattle.champ_chain.proofs.SetLemmas.{same-length}
 use Rattle.champ_kinds.specs.Binding.{Binding, binds, value_with}
 use Rattle.champ_kinds.specs.Kinds.{IsMapOf, IsSetOf}
-use Rattle.champ_kinds.proofs.ZipLemmas.{zip-length}
 use Rattle.set_merge.specs.Merge.{is_key, union, both, less, map_union}
 use Rattle.shell_terms.specs.Edit.{Bytes}
 use Rattle.plain_space.specs.Workspace.{Named, Names, State, joined, in_common, apart_from, merged_with}

@@ -1,6 +1,7 @@
 //! Lines that come from outside, all at once. Each call takes the rows that it makes from spares, which its caller has
 //! reserved, and keeps every row that is there.
 ghost use Rattle.std.specs.Prelude.{◌≡◌, ℕ, ◌+◌, ◌/◌, ◌^◌, ◌<◌, ◌≤◌, [], length, vec_capacity};
+ghost use Rattle.elem_core.specs.Cell.{IsCell};
 ghost use Rattle.node_heap.specs.Heap.{hold_count, HasSpares, IsGraph, most_holds, quarter_holds};
 ghost use Rattle.node_heap.specs.Calls.{Answered, KeepsToNeed, MakesJust, Builds};
 ghost use Rattle.state_rows.specs.InHeap.{AreTextsIn, AreLinesIn};
@@ -39,9 +40,15 @@ fn make_cells(heap: &mut Heap<Text>, texts: Vec<Text>, links: &mut Vec<Link>)
     ensures texts { (bits : ℕ) → AreTextsIn heap.new bits links.new.items texts.items }
 {
     for text in texts {
-        // The call tells the proof that the text is a cell's.
-        let _ = text.text();
+        is_cells(&text);
         let link = heap.cell(text);
         links.push_reserved(link);
     }
+}
+
+// That a text is a cell's: a law, which does nothing.
+fn is_cells(text: &Text)
+    ensures { IsCell text.now }
+{
+    text.text();
 }

@@ -24,10 +24,10 @@ pub const PUSHED_NODES: usize = 10;
 /// The nodes of `popped`: a root of one's own, and a row for each height.
 pub const POPPED_NODES: usize = 9;
 
-/// The nodes of `emptied`.
+/// The nodes of `emptied`: the row of a history without states.
 pub const EMPTIED_NODES: usize = 1;
 
-/// The nodes for which `shortened` needs room.
+/// The nodes for which `shortened` needs room: those of a cut, which makes fewer.
 pub const SHORTENED_NODES: usize = SEAM_NODES;
 
 /// The history with the state after its last. It spends the holds of both. There is room for one more state. It makes
@@ -36,9 +36,9 @@ pub fn pushed(heap: &mut Heap<Text>, history: Flex, state: Link) -> Flex
     requires few { hold_count heap.old < half_holds }
     requires held { HasHolds heap.old (history ∷ state ∷ []) }
     requires history { (bits : ℕ) × (ss : List State) × IsHistoryIn heap.old bits history ss × (length ss < 2 ^ 32 - 1) }
-    requires spares { HasSpares heap.old 0 10 }
+    requires spares { HasSpares heap.old 0 PUSHED_NODES }
     ensures keeps { KeepsHeld (λ l. count l (history ∷ state ∷ [])) heap.old heap.new }
-    ensures trades { Trades heap.old heap.new (history ∷ state ∷ []) (result ∷ []) 0 10 }
+    ensures trades { Trades heap.old heap.new (history ∷ state ∷ []) (result ∷ []) 0 PUSHED_NODES }
     ensures spares { KeepsToNeed heap.old heap.new 0 0 }
     ensures made { MakesJust heap.old heap.new }
     ensures history { (bits : ℕ) (ss : List State) (s : State) → IsHistoryIn heap.old bits history ss → IsStateIn heap.old bits state s → IsHistoryIn heap.new bits result (ss ++ s ∷ []) }
@@ -57,9 +57,9 @@ pub fn popped(heap: &mut Heap<Text>, history: Flex) -> (Flex, Link)
     requires few { hold_count heap.old < half_holds }
     requires held { 0 < holds_at heap.old history }
     requires history { (bits : ℕ) × (ss : List State) × IsHistoryIn heap.old bits history ss × (0 < length ss) }
-    requires spares { HasSpares heap.old 0 9 }
+    requires spares { HasSpares heap.old 0 POPPED_NODES }
     ensures keeps { KeepsHeld (λ l. count l (history ∷ [])) heap.old heap.new }
-    ensures trades { Trades heap.old heap.new (history ∷ []) (result.0 ∷ result.1 ∷ []) 0 9 }
+    ensures trades { Trades heap.old heap.new (history ∷ []) (result.0 ∷ result.1 ∷ []) 0 POPPED_NODES }
     ensures spares { KeepsToNeed heap.old heap.new 0 0 }
     ensures history { (bits : ℕ) (ss : List State) → IsHistoryIn heap.old bits history ss → IsHistoryIn heap.new bits result.0 (take (length ss - 1) ss) }
     ensures alone { owners_at heap.old history ≡ 1 → heap.new.made ≤ heap.old.made + (length (pop_path (form_at heap.old) history) - alone heap.old (pop_path (form_at heap.old) history)) }
@@ -100,7 +100,7 @@ pub fn shortened(heap: &mut Heap<Text>, history: Flex, states: u32) -> Flex
     requires few { hold_count heap.old < half_holds }
     requires held { 0 < holds_at heap.old history }
     requires history { (bits : ℕ) × (ss : List State) × IsHistoryIn heap.old bits history ss }
-    requires spares { HasSpares heap.old 0 17 }
+    requires spares { HasSpares heap.old 0 SHORTENED_NODES }
     ensures keeps { KeepsHeld (λ l. count l (history ∷ [])) heap.old heap.new }
     ensures trades { Trades heap.old heap.new (history ∷ []) (result ∷ []) 0 15 }
     ensures made { heap.new.made ≤ heap.old.made + (2 * height_at heap.old history + 1) }
@@ -120,9 +120,9 @@ pub fn emptied(heap: &mut Heap<Text>, history: Flex) -> Flex
     requires few { hold_count heap.old < half_holds }
     requires held { 0 < holds_at heap.old history }
     requires history { (bits : ℕ) × (ss : List State) × IsHistoryIn heap.old bits history ss }
-    requires spares { HasSpares heap.old 0 1 }
+    requires spares { HasSpares heap.old 0 EMPTIED_NODES }
     ensures keeps { KeepsHeld (λ l. count l (history ∷ [])) heap.old heap.new }
-    ensures trades { Trades heap.old heap.new (history ∷ []) (result ∷ []) 0 1 }
+    ensures trades { Trades heap.old heap.new (history ∷ []) (result ∷ []) 0 EMPTIED_NODES }
     ensures spares { KeepsToNeed heap.old heap.new 0 0 }
     ensures history { (bits : ℕ) → IsHistoryIn heap.new bits result [] }
     ensures same { (bits : ℕ) → IsHistoryIn heap.old bits history [] → (result ≡ history) × (heap.new ≡ heap.old) }

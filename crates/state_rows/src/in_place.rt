@@ -1,8 +1,7 @@
 //! States edited in place, as a batch does: the state row, the rows on the way to the buffer's name and those on the way to its
 //! line are written where each has one owner, and copied where it has more. Each call takes the rows that it makes from
 //! spares, which its caller has reserved, and keeps what is held besides.
-ghost use Rattle.std.specs.Prelude.{◌≡◌, ℕ, ◌+◌, ◌^◌, ◌<◌, ◌≤◌, List, [], ◌∷◌, ◌++◌, length, slice_set, Some, None};
-ghost use Rattle.champ_kinds.specs.declared.map.TheConstants.{INSERT_NODES};
+ghost use Rattle.std.specs.Prelude.{◌≡◌, ◌+◌, ◌<◌, ◌≤◌, List, [], ◌∷◌, ◌++◌, length, slice_set, Some, None};
 ghost use Rattle.champ_trie.specs.declared.TheConstants.{ADD_NODES};
 ghost use Rattle.elem_core.specs.declared.codes.TheConstants.{CODE_BITS, DEEPEST};
 ghost use Rattle.elem_core.specs.Naming.{IsName};

@@ -1,5 +1,5 @@
 //! What is asked of states, versions and histories. None of it takes memory.
-ghost use Rattle.std.specs.Prelude.{◌≡◌, ℕ, ◌-◌, ◌^◌, ◌<◌, ◌≤◌, List, length, slice_get};
+ghost use Rattle.std.specs.Prelude.{◌≡◌, ◌-◌, ◌<◌, ◌≤◌};
 ghost use Rattle.node_heap.specs.Heap.{row_limit};
 ghost use Rattle.std.specs.FinMap as map;
 ghost use Rattle.std.specs.Ordering.{nat_cmp};
@@ -7,11 +7,10 @@ ghost use Rattle.std.specs.Cmp.Lexicographic.{slice_cmp};
 ghost use Rattle.elem_core.specs.declared.codes.TheConstants.{CODE_BITS};
 ghost use Rattle.elem_core.specs.Shown.{name_bytes};
 ghost use Rattle.champ_chain.specs.Entry.{link_with};
-ghost use Rattle.shell_terms.specs.Edit.{Bytes};
 ghost use Rattle.plain_space.specs.Workspace.{Named, State, lines_of, is_starred as has_star};
 ghost use Rattle.plain_space.specs.Cost.{alike as alike_names, alike_buffers, alike_stars};
 ghost use Rattle.state_rows.specs.Reading.{StandsIfThere};
-ghost use Rattle.state_rows.specs.InHeap.{AreLinesIn, IsStateIn, AreVersionsIn, IsHistoryIn};
+ghost use Rattle.state_rows.specs.InHeap.{AreLinesIn, IsStateIn, AreVersionsIn};
 
 use champ_kinds::{MapRef, SetRef};
 use champ_trie::{alike, look_up};

@@ -1,6 +1,6 @@
 //! States and versions with one thing more or less. Each call takes the rows that it makes from spares, which its caller has
 //! reserved, and keeps every row that is there.
-ghost use Rattle.std.specs.Prelude.{◌≡◌, ℕ, ◌+◌, ◌^◌, ◌<◌, ◌≤◌, true, [], ◌∷◌, IsSome};
+ghost use Rattle.std.specs.Prelude.{◌≡◌, ◌+◌, ◌<◌, ◌≤◌, true, [], ◌∷◌, IsSome};
 ghost use Rattle.champ_trie.specs.declared.TheConstants.{ADD_NODES};
 ghost use Rattle.std.specs.FinMap as map;
 ghost use Rattle.elem_core.specs.declared.codes.TheConstants.{CODE_BITS};

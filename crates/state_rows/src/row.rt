@@ -1,5 +1,5 @@
 //! The rows of states.
-ghost use Rattle.std.specs.Prelude.{◌≡◌, ℕ, ◌+◌, ◌^◌, ◌<◌, ◌≤◌, [], ◌∷◌, IsSome};
+ghost use Rattle.std.specs.Prelude.{ℕ, ◌+◌, ◌<◌, ◌≤◌, [], ◌∷◌, IsSome};
 ghost use Rattle.node_heap.specs.Links.{count};
 ghost use Rattle.node_heap.specs.Heap.{row_at, holds_at, hold_count, HasSpares, most_holds};
 ghost use Rattle.node_heap.specs.Calls.{Answered, Makes};

@@ -1,11 +1,10 @@
 //! What a new space begins with. Each call takes its rows from spares, which its caller has reserved.
-ghost use Rattle.std.specs.Prelude.{◌≡◌, ℕ, ◌+◌, ◌^◌, ◌<◌, ◌≤◌, List, [], ◌∷◌};
+ghost use Rattle.std.specs.Prelude.{◌≡◌, ℕ, ◌<◌, []};
 ghost use Rattle.std.specs.Ordering.{nat_cmp};
 ghost use Rattle.std.specs.Cmp.Lexicographic.{slice_cmp};
 ghost use Rattle.std.specs.FinMap as map;
-ghost use Rattle.elem_core.specs.declared.codes.TheConstants.{CODE_BITS};
 ghost use Rattle.elem_core.specs.Codes.{text_code};
-ghost use Rattle.node_heap.specs.Heap.{hold_count, HasSpares, IsGraph, half_holds, most_holds};
+ghost use Rattle.node_heap.specs.Heap.{hold_count, HasSpares, half_holds, most_holds};
 ghost use Rattle.node_heap.specs.Calls.{Answered, Makes};
 ghost use Rattle.champ_trie.specs.Trie.{IsTrieOf};
 ghost use Rattle.plain_space.specs.Workspace.{blank};

@@ -44,7 +44,7 @@ loop-text-preserved c =
       builds = cells-more c.push_reserved.new.self.items _ longer (omega (arith, many)) c.loop-text.invariant.builds did.adds did.makes did.count did.graph did.extends;
       count = omega (arith, ap length longer, length-append c.loop-text.links.items (c.cell-link.result ∷ []), many, c.loop-text.invariant.count);
       room = omega (arith, c.loop-text.invariant.room, c.push_reserved.ensures.capacity);
-      texts = λ bits. texts-more bits c.loop-text.links.items c.push_reserved.new.self.items c.loop-text.yielded longer did.adds did.extends c.text.ensures.cell (c.loop-text.invariant.texts bits);
+      texts = λ bits. texts-more bits c.loop-text.links.items c.push_reserved.new.self.items c.loop-text.yielded longer did.adds did.extends c.is_cells.ensures (c.loop-text.invariant.texts bits);
     }
 
 pub returns : goal.returns

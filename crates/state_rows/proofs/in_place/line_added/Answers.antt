@@ -28,23 +28,12 @@ own_lines-row-requires-clause-held c = state-first c.args.state c.args.line (c.r
 pub own_lines-row-requires-clause-state : goal.own_lines-row-requires-clause-state
 own_lines-row-requires-clause-state c = let r = c.requires.state in (r.0, r.1, r.2, r.3, (omega arith, omega (arith, r.5.1)))
 
-pub push_at-requires-clause-sole : goal.push_at-requires-clause-sole
-push_at-requires-clause-sole c = (own (goal.at.push_at-requires-clause-sole c).After-own_lines-row).sole
-
-pub push_at-requires-clause-child : goal.push_at-requires-clause-child
-push_at-requires-clause-child c = (own (goal.at.push_at-requires-clause-child c).After-own_lines-row).two
-
-pub push_at-requires-clause-good : goal.push_at-requires-clause-good
-push_at-requires-clause-good c = (own (goal.at.push_at-requires-clause-good c).After-own_lines-row).lines.vector
-
-pub push_at-requires-clause-held : goal.push_at-requires-clause-held
-push_at-requires-clause-held c = (beside (goal.at.push_at-requires-clause-held c).After-own_lines-row).held
-
-pub push_at-requires-clause-apart : goal.push_at-requires-clause-apart
-push_at-requires-clause-apart c = (beside (goal.at.push_at-requires-clause-apart c).After-own_lines-row).apart
-
-pub push_at-requires-clause-few : goal.push_at-requires-clause-few
-push_at-requires-clause-few c = omega (arith, c.requires.few, (own (goal.at.push_at-requires-clause-few c).After-own_lines-row).trades.total)
+pub push_at-requires : goal.push_at-requires
+push_at-requires c =
+    let path = (goal.at.push_at-requires c).After-own_lines-row in
+    let own = own path in
+    let beside = beside path in
+    record { sole = own.sole; child = own.two; good = own.lines.vector; held = beside.held; apart = beside.apart; few = omega (arith, c.requires.few, own.trades.total) }
 
 pub unreachable-requires : goal.unreachable-requires
 unreachable-requires c = by_fault c.in_default.field-0 c.in_default.is

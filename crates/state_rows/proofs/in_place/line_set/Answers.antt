@@ -40,23 +40,12 @@ own_lines-row-requires-clause-held c = state-first c.args.state c.args.line (c.r
 pub own_lines-row-requires-clause-state : goal.own_lines-row-requires-clause-state
 own_lines-row-requires-clause-state c = let r = c.requires.state in (r.0, r.1, r.2, r.3, (omega arith, omega (arith, r.5.1)))
 
-pub set_at-requires-clause-sole : goal.set_at-requires-clause-sole
-set_at-requires-clause-sole c = (own (goal.at.set_at-requires-clause-sole c).After-own_lines-row).sole
-
-pub set_at-requires-clause-child : goal.set_at-requires-clause-child
-set_at-requires-clause-child c = (own (goal.at.set_at-requires-clause-child c).After-own_lines-row).two
-
-pub set_at-requires-clause-good : goal.set_at-requires-clause-good
-set_at-requires-clause-good c = (own (goal.at.set_at-requires-clause-good c).After-own_lines-row).lines.vector
-
-pub set_at-requires-clause-held : goal.set_at-requires-clause-held
-set_at-requires-clause-held c = (beside (goal.at.set_at-requires-clause-held c).After-own_lines-row).held
-
-pub set_at-requires-clause-apart : goal.set_at-requires-clause-apart
-set_at-requires-clause-apart c = (beside (goal.at.set_at-requires-clause-apart c).After-own_lines-row).apart
-
-pub set_at-requires-clause-few : goal.set_at-requires-clause-few
-set_at-requires-clause-few c = omega (arith, c.requires.few, (own (goal.at.set_at-requires-clause-few c).After-own_lines-row).trades.total)
+pub set_at-requires : goal.set_at-requires
+set_at-requires c =
+    let path = (goal.at.set_at-requires c).After-own_lines-row in
+    let own = own path in
+    let beside = beside path in
+    record { sole = own.sole; child = own.two; good = own.lines.vector; held = beside.held; apart = beside.apart; few = omega (arith, c.requires.few, own.trades.total) }
 
 pub unreachable-requires : goal.unreachable-requires
 unreachable-requires c = by_fault c.in_default.field-0 c.in_default.is

@@ -1,4 +1,4 @@
-use Rattle.std.proofs.Common.{◌≡◌, ℕ, ◌+◌, List, [], sym, subst, ◌∙◌, arith}
+use Rattle.std.proofs.Common.{ℕ, List, [], subst, ◌∙◌, arith}
 use Rattle.elem_core.specs.Codes.{text_code}
 use Rattle.node_heap.specs.Heap.{form_at}
 use Rattle.node_heap.specs.Calls.{Answered}
@@ -9,8 +9,8 @@ use Rattle.champ_kinds.specs.Kinds.{IsMapOf}
 use Rattle.set_merge.specs.Merge.{map_union}
 use Rattle.set_merge.specs.Need.{union_need}
 use Rattle.shell_terms.specs.Edit.{Bytes}
-use Rattle.plain_space.specs.Workspace.{State, joined}
-use Rattle.state_rows.specs.InHeap.{AreLinesIn, IsStateIn}
+use Rattle.plain_space.specs.Workspace.{joined}
+use Rattle.state_rows.specs.InHeap.{AreLinesIn}
 use Rattle.state_rows.proofs.Answering.{ready, answered-row, answered-more, just-row, answered-gives}
 use Rattle.state_rows.proofs.Keys.{by_bytes}
 use Rattle.state_rows.proofs.Staying.{grown, trie-there, stars-kept}

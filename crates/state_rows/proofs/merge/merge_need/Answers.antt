@@ -1,4 +1,4 @@
-use Rattle.std.proofs.Common.{◌≡◌, ◌+◌, ◌*◌, ap, arith}
+use Rattle.std.proofs.Common.{ap, arith}
 use Rattle.node_heap.specs.Heap.{form_at}
 use Rattle.rrb_core.specs.Vector.{IsGoodVector}
 use Rattle.plain_space.specs.Cost.{merge_size}

@@ -1,4 +1,4 @@
-use Rattle.std.proofs.Common.{◌≡◌, ℕ, ◌+◌, [], sym, subst, ◌∙◌, arith}
+use Rattle.std.proofs.Common.{[], subst, ◌∙◌, arith}
 use Rattle.elem_core.specs.Codes.{text_code}
 use Rattle.node_heap.specs.Heap.{form_at}
 use Rattle.node_heap.specs.Calls.{Answered}
@@ -6,7 +6,6 @@ use Rattle.node_heap.specs.InPlace.{child_at}
 use Rattle.rrb_core.specs.Vector.{IsGoodVector}
 use Rattle.champ_kinds.specs.Root.{Root}
 use Rattle.champ_kinds.specs.Kinds.{IsSetOf}
-use Rattle.plain_space.specs.Workspace.{State}
 use Rattle.state_rows.specs.InHeap.{IsStateIn}
 use Rattle.state_rows.specs.Merging.{entries_merged, stars_need}
 use Rattle.state_rows.proofs.Answering.{ready, answered-row, answered-more, just-row, answered-gives}

@@ -1,8 +1,8 @@
-use Rattle.std.proofs.Common.{◌≡◌, ℕ, ◌+◌, ◌*◌, ◌≤◌, [], refl, ap, sym, subst, ◌∙◌, arith}
+use Rattle.std.proofs.Common.{◌≡◌, ℕ, ◌+◌, ◌*◌, [], refl, ap, sym, subst, ◌∙◌, arith}
 use Rattle.elem_core.specs.Shown.{name_bytes}
 use Rattle.elem_core.specs.declared.codes.TheConstants.{DEEPEST}
 use Rattle.shell_terms.specs.Command.{merge}
-use Rattle.plain_space.specs.Workspace.{State, Workspace, version_of, merged_with, with_current}
+use Rattle.plain_space.specs.Workspace.{State, Workspace, merged_with, with_current}
 use Rattle.plain_space.specs.Cost.{merge_size}
 use Rattle.state_rows.specs.declared.merge.Merging.{Merging}
 use Rattle.state_rows.specs.InHeap.{IsStateIn}

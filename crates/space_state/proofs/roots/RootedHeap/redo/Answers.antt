@@ -52,17 +52,12 @@ returns-in_err-reserve-clause-ends c = λ W K.
     let last = there path W K in
     memory-refused c.from_residual-in_err-reserve.result c.from_residual-in_err-reserve.ensures.1 (may-lack redo refl (redo-done W (can path W K).outside last.0 last.1)) (heap-is c.in_err-reserve.ensures.refused)
 
-pub popped-redo-requires-clause-few : goal.popped-redo-requires-clause-few
-popped-redo-requires-clause-few c = few-holds (now (goal.at.popped-redo-requires-clause-few c).In_ok-reserve c.requires.0 c.requires.1) (omega arith)
-
-pub popped-redo-requires-clause-held : goal.popped-redo-requires-clause-held
-popped-redo-requires-clause-held c = rw c.from_root.ensures (redo-held (now (goal.at.popped-redo-requires-clause-held c).In_ok-reserve c.requires.0 c.requires.1))
-
-pub popped-redo-requires-clause-history : goal.popped-redo-requires-clause-history
-popped-redo-requires-clause-history c =
+pub popped-redo-requires : goal.popped-redo-requires
+popped-redo-requires c =
     let W = c.requires.0 in
-    let path = goal.at.popped-redo-requires-clause-history c in
-    rw c.from_root.ensures (c.args.self.now.bits, W.redo, redo-stands (now path.In_ok-reserve W c.requires.1), (can path.In_ok-can_step W c.requires.1).some)
+    let path = goal.at.popped-redo-requires c in
+    let now = now path.In_ok-reserve W c.requires.1 in
+    rw c.from_root.ensures (record { few = few-holds now (omega arith); held = redo-held now; history = (c.args.self.now.bits, W.redo, redo-stands now, (can path.In_ok-can_step W c.requires.1).some); spares = (omega arith, omega (arith, c.in_ok-reserve.ensures.spares.1)) })
 
 pub push_undo-requires-clause-spares : goal.push_undo-requires-clause-spares
 push_undo-requires-clause-spares c =

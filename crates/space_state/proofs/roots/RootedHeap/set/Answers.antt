@@ -55,33 +55,21 @@ there c W K =
     let e = c.cell-line.ensures in
     cell-beside (c.in_ok-text.ensures.ready W K) e.adds e.makes e.count e.graph e.extends
 
-pub line_set-state-requires-clause-few : goal.line_set-state-requires-clause-few
-line_set-state-requires-clause-few c = omega (arith, holds-few (there (goal.at.line_set-state-requires-clause-few c).After-cell-line c.requires.0 c.requires.1).keeps)
-
-pub line_set-state-requires-clause-bits : goal.line_set-state-requires-clause-bits
-line_set-state-requires-clause-bits c = (there (goal.at.line_set-state-requires-clause-bits c).After-cell-line c.requires.0 c.requires.1).keeps.bits
-
-pub line_set-state-requires-clause-held : goal.line_set-state-requires-clause-held
-line_set-state-requires-clause-held c = current-holds (there (goal.at.line_set-state-requires-clause-held c).After-cell-line c.requires.0 c.requires.1).keeps
-
-pub line_set-state-requires-clause-line : goal.line_set-state-requires-clause-line
-line_set-state-requires-clause-line c = (line_bytes c.args.line, cell-text c.ready.new.self.bits c.cell-line.ensures.adds c.in_ok-text.ensures.text c.args.line.cell)
-
-pub line_set-state-requires-clause-state : goal.line_set-state-requires-clause-state
-line_set-state-requires-clause-state c =
+pub line_set-state-requires : goal.line_set-state-requires
+line_set-state-requires c =
     let W = c.requires.0 in
     let K = c.requires.1 in
-    let name = name_bytes c.args.name in
-    let found = found (goal.at.line_set-state-requires-clause-state c).In-Some W K in
-    let beside = there (goal.at.line_set-state-requires-clause-state c).After-cell-line W K in
-    let spares = (c.in_ok-text.ensures.ready W K).spares in (
-      W.current,
-      found.0,
-      current-stands beside.keeps,
-      found.1,
-      fits (goal.at.line_set-state-requires-clause-state c).Else-is_past found.2,
-      (omega arith, omega (arith, spares.1, c.cell-line.ensures.makes.spare_nodes, c.find-found.ensures.alike W K, alike-beside beside W.current name)),
-    )
+    let path = goal.at.line_set-state-requires c in
+    let found = found path.In-Some W K in
+    let beside = there path.After-cell-line W K in
+    let spares = (c.in_ok-text.ensures.ready W K).spares in
+    record {
+      few = omega (arith, holds-few beside.keeps);
+      bits = beside.keeps.bits;
+      held = current-holds beside.keeps;
+      line = (line_bytes c.args.line, cell-text c.ready.new.self.bits c.cell-line.ensures.adds c.in_ok-text.ensures.text c.args.line.cell);
+      state = (W.current, found.0, current-stands beside.keeps, found.1, fits path.Else-is_past found.2, (omega arith, omega (arith, spares.1, c.cell-line.ensures.makes.spare_nodes, c.find-found.ensures.alike W K, alike-beside beside W.current (name_bytes c.args.name))));
+    }
 
 pub returns-clause-ends : goal.returns-clause-ends
 returns-clause-ends c = λ W K.

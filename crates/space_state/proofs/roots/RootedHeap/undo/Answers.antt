@@ -63,17 +63,12 @@ returns-in_err-reserve-clause-ends c = λ W K.
     let last = there path W K in
     memory-refused c.from_residual-in_err-reserve.result c.from_residual-in_err-reserve.ensures.1 (may-lack undo refl (undo-done W (can path W K).outside last.0 last.1 (roomy (goal.at.returns-in_err-reserve-clause-ends c).Else-is_longest W K))) (heap-is c.in_err-reserve.ensures.refused)
 
-pub popped-undo-requires-clause-few : goal.popped-undo-requires-clause-few
-popped-undo-requires-clause-few c = few-holds (now (goal.at.popped-undo-requires-clause-few c).In_ok-reserve c.requires.0 c.requires.1) (omega arith)
-
-pub popped-undo-requires-clause-held : goal.popped-undo-requires-clause-held
-popped-undo-requires-clause-held c = rw c.from_root.ensures (undo-held (now (goal.at.popped-undo-requires-clause-held c).In_ok-reserve c.requires.0 c.requires.1))
-
-pub popped-undo-requires-clause-history : goal.popped-undo-requires-clause-history
-popped-undo-requires-clause-history c =
+pub popped-undo-requires : goal.popped-undo-requires
+popped-undo-requires c =
     let W = c.requires.0 in
-    let path = goal.at.popped-undo-requires-clause-history c in
-    rw c.from_root.ensures (c.args.self.now.bits, W.undo, undo-stands (now path.In_ok-reserve W c.requires.1), (can path.In_ok-can_step W c.requires.1).some)
+    let path = goal.at.popped-undo-requires c in
+    let now = now path.In_ok-reserve W c.requires.1 in
+    rw c.from_root.ensures (record { few = few-holds now (omega arith); held = undo-held now; history = (c.args.self.now.bits, W.undo, undo-stands now, (can path.In_ok-can_step W c.requires.1).some); spares = (omega arith, omega (arith, c.in_ok-reserve.ensures.spares.1)) })
 
 pub push_redo-requires-clause-spares : goal.push_redo-requires-clause-spares
 push_redo-requires-clause-spares c =
