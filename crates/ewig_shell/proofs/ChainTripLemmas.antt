@@ -1,5 +1,5 @@
 -- What a part and a chain of the files behind it make of each other.
-use Rattle.std.proofs.Common.{◌≡◌, ◌≢◌, ℕ, zero, suc, ◌+◌, ◌-◌, ◌<◌, ◌≤◌, ◌&&◌, nat_le, nat_lt, List, [], ◌∷◌, ◌++◌, map, Bool, true, false, Option, None, Some, codes, length, length-append, refl, sym, ap, subst, ◌∙◌, inl, inr, ◌⊎◌, if◌then◌else◌, MatchBool, MatchOption, IfSome, IsSomeAnd, Ok, Err, arith}
+use Rattle.std.proofs.Common.{◌≡◌, ◌≢◌, ℕ, zero, suc, ◌+◌, ◌-◌, ◌<◌, ◌≤◌, ◌&&◌, nat_le, nat_lt, List, [], ◌∷◌, ◌++◌, map, Bool, true, false, Option, None, Some, codes, length, length-append, refl, sym, ap, subst, ◌∙◌, inl, inr, ◌⊎◌, if◌then◌else◌, cond, MatchBool, MatchOption, IfSome, IsSomeAnd, Ok, Err, arith}
 use Rattle.std.proofs.lemmas.Bool.{cases_lt, leb-true, and_parts}
 use Rattle.std.proofs.lemmas.List.{append_cancel_left, map-append}
 use Rattle.std.proofs.lemmas.Fmt.{decimal_injective}
@@ -7,26 +7,28 @@ use Rattle.std.specs.Fmt.{decimal}
 use Rattle.std.specs.Option.{option_or, option_and_then}
 use Rattle.std.specs.FinMap.{get, insert}
 use Rattle.shell_terms.specs.Edit.{Bytes}
-use Rattle.shell_terms.specs.Command.{part, chain}
+use Rattle.shell_terms.specs.Command.{save, part, chain}
 use Rattle.shell_words.specs.Files.{numbered}
 use Rattle.plain_space.specs.declared.refusal.Refusal.TheVariants as why
 use Rattle.plain_space.specs.Workspace.{Workspace, in_batch}
 use Rattle.plain_space.specs.Refusing.{needs, unless}
 use Rattle.plain_space.specs.Answer.{Answer, elsewhere, answer}
 use Rattle.pool_text.specs.Pool.{at_present_version}
+use Rattle.pool_text.specs.Document.{text, pool_in_bytes}
 use Rattle.pool_text.specs.declared.pool.Pool.{Pool}
 use Rattle.pool_text.specs.declared.damage.Damage.{Damage}
 use Rattle.pool_delta.specs.Parts.{part_text}
 use Rattle.pool_delta.specs.Delta.{delta}
-use Rattle.pool_delta.specs.Chains.{chain_damage, chain_in, chain_with, more_damage, with_part}
+use Rattle.pool_delta.specs.Chains.{chain_damage, chain_in, chain_pool, chain_with, chain_with_all, damage_with_all, more_damage, with_part}
 use Rattle.space_state.specs.View.{SpaceView}
 use Rattle.shell_io.specs.InMemory.{Files}
 use Rattle.ewig_shell.specs.Step.{Machine, StoreView, KeepsFiles, Refuses, IsStored, Fetched, missing, large, given, with_file, fetched_within, fetched_all, chain_name, chain_names, most_stored, Makes, TakesFiles, IsPartDocumentOf, StoresPart, LoadsChain, ChainsFiles, Obeys, is_large, damage_word, FailsToStore, Gives}
-use Rattle.ewig_shell.specs.RoundTrip.{ok_reply, IsHindered, Leaves, PartThenChain, PartThenPart}
+use Rattle.ewig_shell.specs.RoundTrip.{ok_reply, IsHindered, Leaves, SaveBegins, SaveThenPart, PartThenChain, PartThenPart}
 use Rattle.ewig_shell.proofs.ChainLemmas.{total, next-given, next-large, names-one, chain-damage-append, chain-in-append}
 use Rattle.ewig_shell.proofs.LeavesLemmas.{get-stored, get-beside, then-told}
 use Rattle.ewig_shell.proofs.ReplyLemmas.{no-refusal}
-use Rattle.ewig_shell.proofs.RoundTripLemmas.{part-of-store, said-ok, stored-if, ended}
+use Rattle.ewig_shell.proofs.DocumentLemmas.{begins-chain}
+use Rattle.ewig_shell.proofs.RoundTripLemmas.{save-stored, part-of-store, said-ok, stored-if, ended}
 use Rattle.ewig_shell.proofs.StepLemmas.{IsOutsideBatch}
 
 -- ## Names of the files of a chain
@@ -43,6 +45,16 @@ name-apart file (suc n) k low few e =
     omega (arith, decimal_injective (suc n) k (omega arith) (omega arith) digits)
 
 -- ## Files of these names
+
+-- documents that are this chain to a machine, where its files of these names haven't too many bytes together
+pub record HasChain (names : List Bytes) (later : Machine) (C : Pool) : Type 0 where
+  pub whole : Bytes
+  pub parts : List Bytes
+  pub undamaged : chain_damage later.space.pool.bits whole parts ≡ None
+  pub is_chain : chain_in whole parts ≡ Some C
+  pub files : Files
+  pub told : later.store.files ≡ Some files
+  pub taken : (fetched_all files most_stored names ≡ given (whole ∷ parts)) ⊎ (fetched_all files most_stored names ≡ large)
 
 -- the files before a part stay where it is stored
 others-stay : (fs : Files) (file bytes : Bytes) (number few : ℕ) → number ≤ 64 → few ≤ number → map (get (insert fs (numbered file number) bytes)) (chain_names file few) ≡ map (get fs) (chain_names file few)
@@ -194,65 +206,100 @@ module _ (file : Bytes) (number : ℕ) (first parted : Machine) (is : IsParted f
   pub chain-after : chain_in is.whole (is.parts ++ bytes ∷ []) ≡ Some after
   chain-after = chain-in-append bytes P.bits is.whole is.parts ∙ ap (λ (o : Option Pool). option_and_then (λ D. chain_with D bytes) o) is.is_chain ∙ is.document.part.with_it
 
-  module _ (fs : Files) (told : first.store.files ≡ Some fs) (later : Machine) (left : Leaves (chain_names file (number + 1)) parted later) where
-    -- what is taken of them then
-    pub taken-then : (ls : Files) × (later.store.files ≡ Some ls)
-        × ((fetched_all ls most_stored (chain_names file (number + 1)) ≡ given (is.whole ∷ (is.parts ++ bytes ∷ []))) ⊎ (fetched_all ls most_stored (chain_names file (number + 1)) ≡ large))
-    taken-then =
-        let mid = then-told first.store.files fs is.mid.files (λ before now. now ≡ before) told is.kept.files in
-        let now = then-told is.mid.files mid.0 parted.store.files (λ before changed. changed ≡ insert before (numbered file number) bytes) mid.1 is.stored.files in
-        let last = then-told parted.store.files now.0 later.store.files (λ before left_so. map (get left_so) (chain_names file (number + 1)) ≡ map (get before) (chain_names file (number + 1))) now.1 left.files in
-        let held : given (is.whole ∷ is.parts) ≡ fetched_all fs most_stored (chain_names file number)
-        = subst (λ (o : Option Files). IfSome o (λ files. given (is.whole ∷ is.parts) ≡ fetched_all files most_stored (chain_names file number))) told is.held in
-        let stored : now.0 ≡ insert fs (numbered file number) bytes = now.2 ∙ ap (λ (gs : Files). insert gs (numbered file number) bytes) mid.2 in
-        let one : suc number ≡ number + 1 = omega arith in
-        let same : fetched_all last.0 most_stored (chain_names file (number + 1)) ≡ fetched_all (insert fs (numbered file number) bytes) most_stored (chain_names file (suc number))
-        = same-fetched last.0 now.0 (chain_names file (number + 1)) most_stored last.2 ∙ ap (λ (gs : Files). fetched_all gs most_stored (chain_names file (number + 1))) stored
-        ∙ ap (λ (n : ℕ). fetched_all (insert fs (numbered file number) bytes) most_stored (chain_names file n)) (sym one) in (
-          last.0,
-          last.1,
-          elim (with-part fs file bytes number (is.whole ∷ is.parts) some few held) [ inl all ↦ inl (same ∙ all) | inr many ↦ inr (same ∙ many) ],
-        )
+  -- and it is there later
+  pub part-there : (fs : Files) → first.store.files ≡ Some fs → (later : Machine) → Leaves (chain_names file (number + 1)) parted later → HasChain (chain_names file (number + 1)) later after
+  part-there fs told later left =
+      let mid = then-told first.store.files fs is.mid.files (λ before now. now ≡ before) told is.kept.files in
+      let now = then-told is.mid.files mid.0 parted.store.files (λ before changed. changed ≡ insert before (numbered file number) bytes) mid.1 is.stored.files in
+      let last = then-told parted.store.files now.0 later.store.files (λ before left_so. map (get left_so) (chain_names file (number + 1)) ≡ map (get before) (chain_names file (number + 1))) now.1 left.files in
+      let held : given (is.whole ∷ is.parts) ≡ fetched_all fs most_stored (chain_names file number)
+      = subst (λ (o : Option Files). IfSome o (λ files. given (is.whole ∷ is.parts) ≡ fetched_all files most_stored (chain_names file number))) told is.held in
+      let stored : now.0 ≡ insert fs (numbered file number) bytes = now.2 ∙ ap (λ (gs : Files). insert gs (numbered file number) bytes) mid.2 in
+      let one : suc number ≡ number + 1 = omega arith in
+      let same : fetched_all last.0 most_stored (chain_names file (number + 1)) ≡ fetched_all (insert fs (numbered file number) bytes) most_stored (chain_names file (suc number))
+      = same-fetched last.0 now.0 (chain_names file (number + 1)) most_stored last.2 ∙ ap (λ (gs : Files). fetched_all gs most_stored (chain_names file (number + 1))) stored
+      ∙ ap (λ (n : ℕ). fetched_all (insert fs (numbered file number) bytes) most_stored (chain_names file n)) (sym one) in
+      let bits : later.space.pool.bits ≡ P.bits = left.bits ∙ ap (λ (s : SpaceView). s.pool.bits) is.same in
+      record {
+        whole = is.whole;
+        parts = is.parts ++ bytes ∷ [];
+        undamaged = ap (λ (b : ℕ). chain_damage b is.whole (is.parts ++ bytes ∷ [])) bits ∙ whole-chain;
+        is_chain = chain-after;
+        files = last.0;
+        told = last.1;
+        taken = elim (with-part fs file bytes number (is.whole ∷ is.parts) some few held) [ inl all ↦ inl (same ∙ all) | inr many ↦ inr (same ∙ many) ];
+      }
 
-    pub bits-then : later.space.pool.bits ≡ P.bits
-    bits-then = left.bits ∙ ap (λ (s : SpaceView). s.pool.bits) is.same
+-- ## A document that was saved
 
--- what is made of them by a later command that takes them
-module _ (file : Bytes) (number : ℕ) (first parted : Machine) (is : IsParted file number first parted) (fs : Files) (told : first.store.files ≡ Some fs) (later last : Machine) (left : Leaves (chain_names file (number + 1)) parted later) (reply : List ℕ) where
+pub save-begins : SaveBegins
+save-begins first saved file saves = begins-chain first.space.pool (text first.space.pool) (save-stored file first saved saves).document
+
+-- its file is taken
+one-taken : (fs : Files) (file bytes : Bytes) → is_large bytes ≡ false → fetched_all (insert fs file bytes) most_stored (chain_names file 1) ≡ given (bytes ∷ [])
+unfolding fetched_all chain_names
+one-taken fs file bytes small =
+    ap (λ (o : Option Bytes). fetched_within most_stored o (λ b. given (b ∷ []))) (get-stored fs file bytes)
+    ∙ ap (λ (b : Bool). cond b large (given (bytes ∷ []))) small
+
+-- and is a chain by itself later
+save-there : (file : Bytes) (first saved : Machine) → Obeys (save file) first ok_reply saved → (fs : Files) → first.store.files ≡ Some fs → (later : Machine) → Leaves (file ∷ []) saved later →
+    HasChain (chain_names file 1) later (at_present_version first.space.pool)
+unfolding chain_names
+save-there file first saved saves fs told later left =
+    let P : Pool = first.space.pool in
+    let bytes : Bytes = text P in
+    let is = save-stored file first saved saves in
+    let now = then-told first.store.files fs saved.store.files (λ before changed. changed ≡ insert before file bytes) told is.stored.files in
+    let last = then-told saved.store.files now.0 later.store.files (λ before left_so. map (get left_so) (file ∷ []) ≡ map (get before) (file ∷ [])) now.1 left.files in
+    let bits : later.space.pool.bits ≡ P.bits = left.bits ∙ ap (λ (s : SpaceView). s.pool.bits) is.same in
+    record {
+      whole = bytes;
+      parts = [];
+      undamaged =
+          ap (λ (b : ℕ). chain_damage b bytes []) bits
+          ∙ ap (λ (o : Option Damage). option_or o (option_and_then (λ C. damage_with_all C []) (pool_in_bytes bytes))) (save-begins first saved file saves)
+          ∙ ap (option_and_then (λ C. damage_with_all C [])) is.document.read;
+      is_chain = ap (option_and_then (λ C. chain_with_all C [])) is.document.read;
+      files = last.0;
+      told = last.1;
+      taken = inl (same-fetched last.0 now.0 (file ∷ []) most_stored last.2 ∙ ap (λ (gs : Files). fetched_all gs most_stored (file ∷ [])) now.2 ∙ one-taken fs file bytes is.small);
+    }
+
+-- ## What is made of a chain that is there
+
+module _ (file : Bytes) (number : ℕ) (C : Pool) (later last : Machine) (there : HasChain (chain_names file (number + 1)) later C) (reply : List ℕ) where
   -- from the machine as it is when the store has come to this
   abbrev at_mid : StoreView → Machine
   at_mid mid = record later { store = mid }
 
-  by-taken : (ByPool : Pool → Machine → List ℕ → Machine → Type 0) (End : Type 0) → ((mid : StoreView) → ByPool (with_part is.before (delta is.before first.space.pool)) (at_mid mid) reply last → End) →
+  by-taken : (ByPool : Pool → Machine → List ℕ → Machine → Type 0) (End : Type 0) → ((mid : StoreView) → ByPool C (at_mid mid) reply last → End) →
       (Refuses later.space (codes "large") reply last.space → End) → TakesFiles (chain_names file (number + 1)) later reply last (ChainsFiles ByPool) → End
   by-taken ByPool End chained many takes =
-      let there = taken-then file number first parted is fs told later left in
       let here : Machine = at_mid takes.mid in
-      let made : (found : Fetched (List Bytes)) → fetched_all there.0 most_stored (chain_names file (number + 1)) ≡ found → Makes (λ files. ChainsFiles ByPool files here) found here reply last
+      let made : (found : Fetched (List Bytes)) → fetched_all there.files most_stored (chain_names file (number + 1)) ≡ found → Makes (λ files. ChainsFiles ByPool files here) found here reply last
       = λ found e. subst (λ (f : Fetched (List Bytes)). Makes (λ files. ChainsFiles ByPool files here) f here reply last)
-      (subst (λ (o : Option Files). IfSome o (λ files. takes.files ≡ fetched_all files most_stored (chain_names file (number + 1)))) there.1 takes.held ∙ e) takes.makes in
-      elim (there.2) [
+      (subst (λ (o : Option Files). IfSome o (λ files. takes.files ≡ fetched_all files most_stored (chain_names file (number + 1)))) there.told takes.held ∙ e) takes.makes in
+      elim (there.taken) [
         | inl all ↦
-            let made_so = made (given (is.whole ∷ (is.parts ++ part_text (delta is.before first.space.pool) ∷ []))) all in
             let ByDamage = λ (d : Damage). Refuses here (codes "damaged " ++ damage_word d) reply last in
-            let ByChainPool = λ (C : Pool). ByPool C here reply last in
-            let undamaged = ap (λ (b : ℕ). chain_damage b is.whole (is.parts ++ part_text (delta is.before first.space.pool) ∷ [])) (bits-then file number first parted is fs told later left) ∙ whole-chain file number first parted is in
+            let ByChainPool = λ (D : Pool). ByPool D here reply last in
             chained takes.mid
-            (subst (λ (o : Option Pool). IsSomeAnd o ByChainPool) (chain-after file number first parted is)
-            (subst (λ (o : Option Damage). MatchOption o (IsSomeAnd (chain_in is.whole (is.parts ++ part_text (delta is.before first.space.pool) ∷ [])) ByChainPool) ByDamage) undamaged made_so))
+            (subst (λ (o : Option Pool). IsSomeAnd o ByChainPool) there.is_chain
+            (subst (λ (o : Option Damage). MatchOption o (IsSomeAnd (chain_in there.whole there.parts) ByChainPool) ByDamage) there.undamaged (made (given (there.whole ∷ there.parts)) all)))
         | inr long ↦
             let refuses = made large long in
             many (record { reply_is = refuses.reply_is; same = ap (λ (m : Machine). m.space) refuses.same })
       ]
 
   -- a chain of them
-  abbrev Chained : Type 0
-  Chained = (reply ≡ ok_reply) × (last.space.pool ≡ at_present_version first.space.pool) ⊎ Refuses later.space (codes "large") reply last.space ⊎ IsHindered later.space reply last.space
+  abbrev Chained : Pool → Type 0
+  Chained P = (reply ≡ ok_reply) × (last.space.pool ≡ P) ⊎ Refuses later.space (codes "large") reply last.space ⊎ IsHindered later.space reply last.space
 
-  by-chain : Obeys (chain file number) later reply last → Chained
-  by-chain obeys = elim (ended (chain file number) (chain-outside file number is.numbered_so) later last reply obeys) [
+  by-chain : (P : Pool) → chain_pool C ≡ P → in_chain number ≡ true → Obeys (chain file number) later reply last → Chained P
+  by-chain P stands so obeys = elim (ended (chain file number) (chain-outside file number so) later last reply obeys) [
     | inl says ↦ elim says [
-      | inl takes ↦ by-taken LoadsChain Chained (λ mid loads. inl (loads.1.reply_is, loads.1.pool ∙ is.document.stands)) (λ many. inr (inl many)) takes
+      | inl takes ↦ by-taken LoadsChain (Chained P) (λ mid loads. inl (loads.1.reply_is, loads.1.pool ∙ stands)) (λ many. inr (inl many)) takes
       | inr fails ↦ inr (inr (inr (inl fails.space)))
     ]
     | inr keeps ↦ elim keeps [
@@ -263,46 +310,65 @@ module _ (file : Bytes) (number : ℕ) (first parted : Machine) (is : IsParted f
 
   -- a part behind them
   abbrev GoesOn : Type 0
-  GoesOn = (reply ≡ ok_reply) ⊎ Refuses later.space (codes "range") reply last.space ⊎ Refuses later.space (codes "large") reply last.space ⊎ IsHindered later.space reply last.space
+  GoesOn = (reply ≡ ok_reply) ⊎ Refuses later.space (codes "large") reply last.space ⊎ IsHindered later.space reply last.space
 
   refused-so : (reason : List ℕ) → Refuses later reason reply last → Refuses later.space reason reply last.space
   refused-so reason refuses = record { reply_is = refuses.reply_is; same = ap (λ (m : Machine). m.space) refuses.same }
 
   by-stored : (too_large : Bool) (name written : Bytes) (mid : StoreView) → last.space ≡ later.space →
       MatchBool too_large (Refuses (at_mid mid) (codes "large") reply last) (IsStored name written mid reply last.store ⊎ FailsToStore name mid reply last.store) → GoesOn
-  by-stored true name written mid same refuses = inr (inr (inl (record { reply_is = refuses.reply_is; same = same })))
+  by-stored true name written mid same refuses = inr (inl (record { reply_is = refuses.reply_is; same = same }))
   by-stored false name written mid same ends = elim ends [
     | inl stored ↦ inl stored.reply_is
-    | inr fails ↦ inr (inr (inr (inr (inl (record { reply_is = fails.reply_is; same = same })))))
+    | inr fails ↦ inr (inr (inr (inl (record { reply_is = fails.reply_is; same = same }))))
   ]
 
   -- its text
   abbrev own : Bytes
-  own = part_text (delta (with_part is.before (delta is.before first.space.pool)) later.space.pool)
+  own = part_text (delta C later.space.pool)
 
-  by-said : (batch fits : Bool) (W : Workspace) → Gives (part file (number + 1)) later W (unless batch why.Batch (needs fits why.Range (Ok elsewhere))) reply last → GoesOn
-  by-said true fits W refuses = inr (inr (inr (inl (refused-so (codes "batch") refuses))))
-  by-said false false W refuses = inr (inl (refused-so (codes "range") refuses))
+  -- or there are as many parts as may be
+  abbrev GoesOnIf : Bool → Type 0
+  GoesOnIf fits = GoesOn ⊎ (fits ≡ false) × Refuses later.space (codes "range") reply last.space
+
+  by-said : (batch fits : Bool) (W : Workspace) → Gives (part file (number + 1)) later W (unless batch why.Batch (needs fits why.Range (Ok elsewhere))) reply last → GoesOnIf fits
+  by-said true fits W refuses = inl (inr (inr (inl (refused-so (codes "batch") refuses))))
+  by-said false false W refuses = inr (refl, refused-so (codes "range") refuses)
   by-said false true W says = elim says [
-    | inl takes ↦ by-taken (StoresPart (numbered file (number + 1))) GoesOn
-        (λ mid stores. by-stored (is_large own) (numbered file (number + 1)) own mid stores.stores.space stores.stores.ends) (λ many. inr (inr (inl many))) takes
-    | inr fails ↦ inr (inr (inr (inr (inl fails.space))))
+    | inl takes ↦ inl (by-taken (StoresPart (numbered file (number + 1))) GoesOn
+        (λ mid stores. by-stored (is_large own) (numbered file (number + 1)) own mid stores.stores.space stores.stores.ends) (λ many. inr (inl many)) takes)
+    | inr fails ↦ inl (inr (inr (inr (inl fails.space))))
   ]
 
   part-answer : (W : Workspace) → answer W (part file (number + 1)) ≡ unless (in_batch W) why.Batch (needs (in_chain (number + 1)) why.Range (Ok elsewhere))
   unfolding answer
   part-answer W = refl
 
-  by-part : Obeys (part file (number + 1)) later reply last → GoesOn
+  by-part : Obeys (part file (number + 1)) later reply last → GoesOnIf (in_chain (number + 1))
   by-part obeys = elim obeys.gives [
     | inl gives ↦ by-said (in_batch obeys.work) (in_chain (number + 1)) obeys.work (subst (λ (a : Answer). Gives (part file (number + 1)) later obeys.work a reply last) (part-answer obeys.work) gives)
-    | inr lacks ↦ inr (inr (inr (inr (inr (record { reply_is = lacks.reply_is; same = lacks.space })))))
+    | inr lacks ↦ inl (inr (inr (inr (inr (record { reply_is = lacks.reply_is; same = lacks.space })))))
   ]
+
+pub save-then-part : SaveThenPart
+save-then-part first saved later last files file reply told saves left goes_on =
+    elim (by-part file 0 (at_present_version first.space.pool) later last (save-there file first saved saves files told later left) reply goes_on) [
+      | inl goes ↦ goes
+      | inr over ↦ absurd (let never : true ≡ false = over.0 in cc)
+    ]
 
 pub part-then-chain : PartThenChain
 part-then-chain first parted later last files file reply number told parts left chains =
-    by-chain file number first parted (is-parted file number first parted parts) files told later last left reply chains
+    let is = is-parted file number first parted parts in
+    by-chain file number (after file number first parted is) later last (part-there file number first parted is files told later left) reply (at_present_version first.space.pool) is.document.stands is.numbered_so chains
 
 pub part-then-part : PartThenPart
 part-then-part first parted later last files file reply number told parts left goes_on =
-    by-part file number first parted (is-parted file number first parted parts) files told later last left reply goes_on
+    let is = is-parted file number first parted parts in
+    elim (by-part file number (after file number first parted is) later last (part-there file number first parted is files told later left) reply goes_on) [
+      | inl goes ↦ elim goes [
+        | inl done ↦ inl done
+        | inr ends ↦ inr (inr ends)
+      ]
+      | inr over ↦ inr (inl over.1)
+    ]

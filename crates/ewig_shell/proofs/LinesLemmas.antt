@@ -15,6 +15,10 @@ map-map : {X Y Z : Type 0} (f : Y → Z) (g : X → Y) (xs : List X) → map f (
 map-map f g [] = refl
 map-map {Z = Z} f g (x ∷ xs) = ap (λ (w : List Z). f (g x) ∷ w) (map-map f g xs)
 
+-- the lines of what is gone over are those of what it shows
+pub shown_as : {X Y Z : Type 0} (f : Y → Z) (g : X → Y) {xs items : List X} {ys : List Y} → xs ≡ items → map g items ≡ ys → map (λ (x : X). f (g x)) xs ≡ map f ys
+shown_as f g {xs} same are = sym (map-map f g xs) ∙ ap (map f) (ap (map g) same ∙ are)
+
 -- the next of those that are still to come
 pub next_of : {X : Type 0} (so_far : List X) (x : X) (old new all : List X) → so_far ++ old ≡ all → old ≡ x ∷ new → (so_far ++ x ∷ []) ++ new ≡ all
 next_of {X = X} so_far x old new all others e = append_assoc so_far (x ∷ []) new ∙ ap (λ (w : List X). so_far ++ w) (sym e) ∙ others
@@ -34,21 +38,18 @@ module _ {X : Type 0} (f : X → List ℕ) where
       ∙ ap reply_of (sym (append_assoc (map f so_far) (map f others) (ok_line ∷ [])))
       ∙ ap (λ (w : List (List ℕ)). reply_of (w ++ ok_line ∷ [])) (sym (map-append f so_far others) ∙ ap (map f) e)
 
--- the same of what is gone over by an index, and shown as something else
-module _ {X Y : Type 0} (f : Y → List ℕ) (g : X → Y) (xs : List X) (i : ℕ) where
-  pub one_more_at : (x : X) → i < length xs → x ≡ get_or xs i x → reply_of (map (λ (y : X). f (g y)) (take i xs)) ++ reply_of (f (g x) ∷ []) ≡ reply_of (map (λ (y : X). f (g y)) (take (i + 1) xs))
+-- the same of what is gone over by an index
+module _ {X : Type 0} (f : X → List ℕ) (xs : List X) (i : ℕ) where
+  pub one_more_at : (x : X) → i < length xs → x ≡ get_or xs i x → reply_of (map f (take i xs)) ++ reply_of (f x ∷ []) ≡ reply_of (map f (take (i + 1) xs))
   one_more_at x low item =
-      one_more (λ (y : X). f (g y)) (take i xs) x
-      ∙ ap (λ (w : List X). reply_of (map (λ (y : X). f (g y)) (take i xs ++ w))) (ap (λ (y : X). y ∷ []) item)
-      ∙ ap (λ (w : List X). reply_of (map (λ (y : X). f (g y)) w)) (sym (take_more xs i x low))
+      one_more f (take i xs) x
+      ∙ ap (λ (w : List X). reply_of (map f (take i xs ++ w))) (ap (λ (y : X). y ∷ []) item)
+      ∙ ap (λ (w : List X). reply_of (map f w)) (sym (take_more xs i x low))
 
   -- the lines so far, with the others and `ok`
-  pub all_others_at : reply_of (map (λ (y : X). f (g y)) (take i xs)) ++ reply_of (map (λ (y : X). f (g y)) (drop i xs) ++ ok_line ∷ []) ≡ reply_of (map f (map g xs) ++ ok_line ∷ [])
-  all_others_at = all_others (λ (y : X). f (g y)) (take i xs) (drop i xs) xs (take-append-drop i xs) ∙ ap (λ (w : List (List ℕ)). reply_of (w ++ ok_line ∷ [])) (sym (map-map f g xs))
+  pub all_others_at : reply_of (map f (take i xs)) ++ reply_of (map f (drop i xs) ++ ok_line ∷ []) ≡ reply_of (map f xs ++ ok_line ∷ [])
+  all_others_at = all_others f (take i xs) (drop i xs) xs (take-append-drop i xs)
 
   -- all lines, and `ok`
-  pub all_at : length xs ≤ i → reply_of (map (λ (y : X). f (g y)) (take i xs)) ++ reply_of (ok_line ∷ []) ≡ reply_of (map f (map g xs) ++ ok_line ∷ [])
-  all_at high =
-      ap (λ (w : List X). reply_of (map (λ (y : X). f (g y)) w) ++ reply_of (ok_line ∷ [])) (take_all i xs high)
-      ∙ all_others (λ (y : X). f (g y)) xs [] xs (append-nil xs)
-      ∙ ap (λ (w : List (List ℕ)). reply_of (w ++ ok_line ∷ [])) (sym (map-map f g xs))
+  pub all_at : length xs ≤ i → reply_of (map f (take i xs)) ++ reply_of (ok_line ∷ []) ≡ reply_of (map f xs ++ ok_line ∷ [])
+  all_at high = ap (λ (w : List X). reply_of (map f w) ++ reply_of (ok_line ∷ [])) (take_all i xs high) ∙ all_others f xs [] xs (append-nil xs)

@@ -24,7 +24,3 @@ size_put name size b d e is =
     ap (λ (w : List ℕ). (((codes "= " ++ w) ++ codes " ") ++ d) ++ codes "\n") e
     ∙ ap (λ (w : List ℕ). (((codes "= " ++ name) ++ codes " ") ++ w) ++ codes "\n") is
     ∙ sym (append-nil ((((codes "= " ++ name) ++ codes " ") ++ decimal size) ++ codes "\n"))
-
--- the same line
-pub size_as : {a b : List ℕ} {m n : ℕ} → a ≡ b → m ≡ n → reply_of (size_line (a, m) ∷ []) ≡ reply_of (size_line (b, n) ∷ [])
-size_as {b = b} {m} same number = ap (λ (w : List ℕ). reply_of (size_line (w, m) ∷ [])) same ∙ ap (λ (k : ℕ). reply_of (size_line (b, k) ∷ [])) number

@@ -223,6 +223,19 @@ module _ {command : Bytes → PlainCommand} {pool_of : Pool → Pool} (is : Stor
         ]
       ]
 
+-- what a save stored where the reply is `ok`
+pub record IsSaved (file : Bytes) (first saved : Machine) : Type 0 where
+  pub same : saved.space ≡ first.space
+  pub small : is_large (text first.space.pool) ≡ false
+  pub stored : IsStored file (text first.space.pool) first.store ok_reply saved.store
+  pub document : IsDocumentOf first.space.pool (text first.space.pool)
+
+pub save-stored : (file : Bytes) (first saved : Machine) → Obeys (save file) first ok_reply saved → IsSaved file first saved
+save-stored file first saved obeys =
+    let says : Saves first.space.pool file first ok_reply saved = (said-ok (save file) first saved (save-of-store file) obeys).1 in
+    let ends = stored-if (is_large (text first.space.pool)) file (text first.space.pool) first saved says.stores.ends in
+    record { same = says.stores.space; small = ends.0; stored = ends.1; document = says.document refl }
+
 pub save-then-load : SaveThenLoad
 save-then-load = store-then-load stores-own
 

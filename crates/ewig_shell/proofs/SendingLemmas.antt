@@ -11,8 +11,6 @@ use Rattle.shell_io.specs.declared.device.Failed.{Failed}
 use Rattle.shell_io.proofs.FaultLemmas.{CountsFaults-none, CountsFaults-then, CountsFaults-as}
 use Rattle.shell_io.specs.declared.device.Sink as sink_trait
 use Rattle.ewig_shell.specs.Sending.{sent_then, Puts}
-use Rattle.ewig_shell.specs.Step.{reply_of}
-use Rattle.ewig_shell.proofs.LinesLemmas.{reply_of-append}
 use Rattle.ewig_shell.specs.declared.execute.Went.{Went}
 
 -- a part of the second piece is a part of the two
@@ -168,11 +166,3 @@ module _ {B : Type 0} {K : sink_trait.Ghosts B} where
   Puts-failed {s = s} {s'} {p} {a = a} {r = r} h empty put =
       subst (λ (w : List ℕ). Sends K.written K.faults K.steady K.has_room s s' r w) (put.parts ∙ ap (λ (w : List ℕ). w ++ a) empty)
       (Sends-cut r put.sent put.kept h put.sends)
-
-  -- lines were put, and then others
-  pub Puts-lines : {s m s' : B} {p q p' : List ℕ} {x : Unit {0}} {r : Result (Unit {0}) Failed} (xs ys : List (List ℕ)) → Puts K s p m q (Ok x) (reply_of xs) → Puts K m q s' p' r (reply_of ys) → Puts K s p s' p' r (reply_of (xs ++ ys))
-  Puts-lines xs ys first second = Puts-as (sym (reply_of-append xs ys)) (Puts-then first second)
-
-  -- lines were put in part, and no others
-  pub Puts-lines_cut : {s s' : B} {p q : List ℕ} {x : Failed} (xs ys : List (List ℕ)) → Puts K s p s' q (Err x) (reply_of xs) → Puts K s p s' q (Err x) (reply_of (xs ++ ys))
-  Puts-lines_cut xs ys put = Puts-as (sym (reply_of-append xs ys)) (Puts-more (reply_of ys) put)

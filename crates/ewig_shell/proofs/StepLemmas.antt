@@ -217,17 +217,17 @@ module _ {old : SpaceView} where
   Obeys-show_refused W name from to reason IsAnswer stands h is = Obeys-refused W reason stands (on_refused W name (show name from to) reason IsAnswer (λ (lines : List Bytes). (from ≤ to) × (to ≤ length lines) → ⊥) (show-none W name from to) (show-past W name from to) h) is refl
 
   -- the replies to `list`, `stars` and `marks`
-  pub Obeys-list : (W : Workspace) (shown : List (Bytes × ℕ)) → StandsFor old.pool W → shown ≡ sizes W.current → ObeysAlone list old (reply_of (map size_line shown ++ ok_line ∷ [])) old
+  pub Obeys-list : (W : Workspace) (lines : List Bytes) → StandsFor old.pool W → lines ≡ map size_line (sizes W.current) → ObeysAlone list old (reply_of (lines ++ ok_line ∷ [])) old
   unfolding answer
-  Obeys-list W shown stands e = Obeys-asked W (map size_line shown ++ ok_line ∷ []) refl stands (rw e refl)
+  Obeys-list W lines stands e = Obeys-asked W (lines ++ ok_line ∷ []) refl stands (rw e refl)
 
-  pub Obeys-stars : (W : Workspace) (shown : List Bytes) → StandsFor old.pool W → shown ≡ map_of.keys W.current.stars → ObeysAlone stars old (reply_of (map text_line shown ++ ok_line ∷ [])) old
+  pub Obeys-stars : (W : Workspace) (lines : List Bytes) → StandsFor old.pool W → lines ≡ map text_line (map_of.keys W.current.stars) → ObeysAlone stars old (reply_of (lines ++ ok_line ∷ [])) old
   unfolding answer
-  Obeys-stars W shown stands e = Obeys-asked W (map text_line shown ++ ok_line ∷ []) refl stands (rw e refl)
+  Obeys-stars W lines stands e = Obeys-asked W (lines ++ ok_line ∷ []) refl stands (rw e refl)
 
-  pub Obeys-marks : (W : Workspace) (shown : List Bytes) → StandsFor old.pool W → shown ≡ map_of.keys W.versions → ObeysAlone marks old (reply_of (map text_line shown ++ ok_line ∷ [])) old
+  pub Obeys-marks : (W : Workspace) (lines : List Bytes) → StandsFor old.pool W → lines ≡ map text_line (map_of.keys W.versions) → ObeysAlone marks old (reply_of (lines ++ ok_line ∷ [])) old
   unfolding answer
-  Obeys-marks W shown stands e = Obeys-asked W (map text_line shown ++ ok_line ∷ []) refl stands (rw e refl)
+  Obeys-marks W lines stands e = Obeys-asked W (lines ++ ok_line ∷ []) refl stands (rw e refl)
 
   pub Obeys-list_lacks : (W : Workspace) {reply : List ℕ} → StandsFor old.pool W → reply ≡ refusal_of (codes "memory") → ObeysAlone list old reply old
   unfolding answer
@@ -418,11 +418,11 @@ module _ {B C : Type 0} {K : sink_trait.Ghosts B} {D : store_trait.Ghosts C} {si
       Replies-alone command it is alone (record { reply = done_reply done; due = Obeys-ends (plain_command it) done asks ends; sends = sends })
 
 -- a command that uses the store was obeyed, and its reply sent
-pub Replies-on : {B C : Type 0} {K : sink_trait.Ghosts B} {D : store_trait.Ghosts C} {sink sink' : B} {store store' : C} {result : Result (Unit {0}) Failed} {old new : SpaceView} {reply due : List ℕ} (command it : Command) → command ≡ it → reply ≡ due →
-    ObeysOn (plain_command it) D old store due new store' → Sends K.written K.faults K.steady K.has_room sink sink' result reply → Replies K sink sink' result (λ (w : List ℕ). ObeysOn (plain_command command) D old store w new store')
-Replies-on {D = D} {store = store} {store'} {old = old} {new} {reply} command it is same obeys sends = record {
+pub Replies-on : {B C : Type 0} {K : sink_trait.Ghosts B} {D : store_trait.Ghosts C} {sink sink' : B} {store store' : C} {result : Result (Unit {0}) Failed} {old new : SpaceView} {reply : List ℕ} (command it : Command) → command ≡ it →
+    ObeysOn (plain_command it) D old store reply new store' → Sends K.written K.faults K.steady K.has_room sink sink' result reply → Replies K sink sink' result (λ (w : List ℕ). ObeysOn (plain_command command) D old store w new store')
+Replies-on {D = D} {store = store} {store'} {old = old} {new} {reply} command it is obeys sends = record {
   reply = reply;
-  due = subst (λ (k : Command). ObeysOn (plain_command k) D old store reply new store') (sym is) (subst (λ (w : List ℕ). ObeysOn (plain_command it) D old store w new store') (sym same) obeys);
+  due = subst (λ (k : Command). ObeysOn (plain_command k) D old store reply new store') (sym is) obeys;
   sends = sends;
 }
 

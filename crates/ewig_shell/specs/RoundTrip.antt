@@ -11,6 +11,7 @@ use Rattle.pool_text.specs.Document.{text, pool_in_bytes}
 use Rattle.pool_text.specs.Laws.{IsCompact}
 use Rattle.pool_text.specs.declared.pool.Pool.{Pool}
 use Rattle.pool_text.specs.declared.rules.TheConstants.{PRESENT_VERSION}
+use Rattle.pool_delta.specs.Chains.{start_damage}
 use Rattle.pool_map.specs.Spaces.{indented, dedented}
 use Rattle.pool_map.specs.Mapped.{mapped}
 use Rattle.shell_io.specs.InMemory.{Files}
@@ -89,6 +90,18 @@ LineLeaves = (names : List (List ℕ)) (old new : Machine) (line reply : List �
 -- And so do several lines.
 abbrev pub LinesLeave : Type 0
 LinesLeave = (names : List (List ℕ)) (old mid new : Machine) → Leaves names old mid → Leaves names mid new → Leaves names old new
+
+-- What a save stored fails no test as the first document of a chain.
+abbrev pub SaveBegins : Type 0
+SaveBegins = (first saved : Machine) (file : List ℕ) → Obeys (save file) first ok_reply saved → start_damage first.space.pool.bits (text first.space.pool) ≡ None
+
+-- And so the first part is stored behind it, where the file is left as it is. Else it is hindered, or its own text has too many bytes:
+-- the file is never missing or damaged.
+abbrev pub SaveThenPart : Type 0
+SaveThenPart =
+    (first saved later last : Machine) (files : Files) (file reply : List ℕ) → first.store.files ≡ Some files → Obeys (save file) first ok_reply saved
+    → Leaves (file ∷ []) saved later → Obeys (part file 1) later reply last
+    → (reply ≡ ok_reply) ⊎ Refuses later.space (codes "large") reply last.space ⊎ IsHindered later.space reply last.space
 
 -- Once a part was stored, its chain stands for the pool of the space that it was stored from, whatever saves and parts wrote the files
 -- before it: where these files are left as they are, a chain of them brings that pool. Else it is hindered, or the files have too many

@@ -15,12 +15,12 @@ use crate::load::{load, read};
 use crate::mapped::{dedent, indent};
 use crate::page::Page;
 use crate::reply::{
-    equality, line_refusal, refusal, send, send_done, send_lines, send_names, send_number,
-    send_sizes, send_text, stored,
+    equality, line_refusal, refusal, send_done, send_each, send_lines, send_number, send_stored,
+    send_text,
 };
 use crate::save::{save, write};
 use elem_core::Name;
-use shell_io::{Failed, Sink, Store};
+use shell_io::{Failed, Sink, Store, write_all};
 use shell_words::{Command, read_line};
 use space_state::{Refusal, Space};
 use std::alloc::Global;
@@ -69,7 +69,7 @@ pub(crate) fn execute_on<K: Sink, D: Store>(
 {
     match read_line(piece) {
         Ok(command) => obey(alloc, space, command, page, sink, store),
-        Err(bad) => then(send(line_refusal(bad), sink), Went::On),
+        Err(bad) => then(write_all(sink, line_refusal(bad)), Went::On),
     }
 }
 
@@ -79,7 +79,7 @@ pub fn refuse_long<K: Sink>(sink: &mut K) -> Result<Went, Failed>
         (refusal_of (codes "long")) }
     ensures on { IfOk result (λ went. went ≡ Went.On) }
 {
-    then(send(b"! long\n", sink), Went::On)
+    then(write_all(sink, b"! long\n"), Went::On)
 }
 
 // Does a command, writes the reply, and says how the run goes on.
@@ -150,26 +150,14 @@ fn answer<K: Sink, D: Store>(
         Command::Eqv(version, other) => eqv(space, version, other, sink),
         Command::Stats => stats(space, page, sink),
         Command::Made => made(space, page, sink),
-        Command::Read(buffer, file) => send(stored(read(alloc, space, buffer, file, store)), sink),
-        Command::Write(buffer, file) => send(
-            stored(write(alloc, space, buffer, file, store)),
-            sink,
-        ),
-        Command::Save(file) => send(stored(save(alloc, space, file, store)), sink),
-        Command::Load(file) => send(stored(load(alloc, space, file, store)), sink),
-        Command::Part(file, number) => send(stored(part(alloc, space, file, number, store)), sink),
-        Command::Chain(file, number) => send(
-            stored(chain(alloc, space, file, number, store)),
-            sink,
-        ),
-        Command::Indent(count, file) => send(
-            stored(indent(alloc, space, count, file, store)),
-            sink,
-        ),
-        Command::Dedent(count, file) => send(
-            stored(dedent(alloc, space, count, file, store)),
-            sink,
-        ),
+        Command::Read(buffer, file) => send_stored(read(alloc, space, buffer, file, store), sink),
+        Command::Write(buffer, file) => send_stored(write(alloc, space, buffer, file, store), sink),
+        Command::Save(file) => send_stored(save(alloc, space, file, store), sink),
+        Command::Load(file) => send_stored(load(alloc, space, file, store), sink),
+        Command::Part(file, number) => send_stored(part(alloc, space, file, number, store), sink),
+        Command::Chain(file, number) => send_stored(chain(alloc, space, file, number, store), sink),
+        Command::Indent(count, file) => send_stored(indent(alloc, space, count, file, store), sink),
+        Command::Dedent(count, file) => send_stored(dedent(alloc, space, count, file, store), sink),
         Command::Quit => quit(space, sink),
     }
 }
@@ -186,7 +174,7 @@ fn get<K: Sink>(
 {
     match space.line(buffer, index) {
         Ok(text) => send_text(text, page, sink),
-        Err(reason) => send(refusal(reason), sink),
+        Err(reason) => write_all(sink, refusal(reason)),
     }
 }
 
@@ -201,7 +189,7 @@ fn len<K: Sink>(
 {
     match space.count(buffer) {
         Ok(count) => send_number(count as u64, page, sink),
-        Err(reason) => send(refusal(reason), sink),
+        Err(reason) => write_all(sink, refusal(reason)),
     }
 }
 
@@ -218,7 +206,7 @@ fn show<K: Sink>(
 {
     match space.lines(buffer, from, to) {
         Ok(lines) => send_lines(lines, page, sink),
-        Err(reason) => send(refusal(reason), sink),
+        Err(reason) => write_all(sink, refusal(reason)),
     }
 }
 
@@ -227,8 +215,8 @@ fn list<K: Sink>(alloc: Global, space: &Space, page: &mut Page, sink: &mut K) ->
         (λ reply. ObeysAlone list_command space.now reply space.now) }
 {
     match space.names(alloc) {
-        Ok(sizes) => send_sizes(&sizes, page, sink),
-        Err(_) => send(refusal(Refusal::Memory), sink),
+        Ok(sizes) => send_each(&sizes, page, sink),
+        Err(_) => write_all(sink, refusal(Refusal::Memory)),
     }
 }
 
@@ -237,8 +225,8 @@ fn stars<K: Sink>(alloc: Global, space: &Space, page: &mut Page, sink: &mut K) -
         (λ reply. ObeysAlone stars_command space.now reply space.now) }
 {
     match space.stars(alloc) {
-        Ok(names) => send_names(&names, page, sink),
-        Err(_) => send(refusal(Refusal::Memory), sink),
+        Ok(names) => send_each(&names, page, sink),
+        Err(_) => write_all(sink, refusal(Refusal::Memory)),
     }
 }
 
@@ -247,8 +235,8 @@ fn marks<K: Sink>(alloc: Global, space: &Space, page: &mut Page, sink: &mut K) -
         (λ reply. ObeysAlone marks_command space.now reply space.now) }
 {
     match space.marks(alloc) {
-        Ok(names) => send_names(&names, page, sink),
-        Err(_) => send(refusal(Refusal::Memory), sink),
+        Ok(names) => send_each(&names, page, sink),
+        Err(_) => write_all(sink, refusal(Refusal::Memory)),
     }
 }
 
@@ -261,7 +249,7 @@ fn same<K: Sink>(
     ensures { Replies K.Sink sink.old sink.new result
         (λ reply. ObeysAlone (same_command (name_bytes buffer.entry) (name_bytes other.entry)) space.now reply space.now) }
 {
-    send(equality(space.same(buffer, other)), sink)
+    write_all(sink, equality(space.same(buffer, other)))
 }
 
 fn eqv<K: Sink>(
@@ -273,7 +261,7 @@ fn eqv<K: Sink>(
     ensures { Replies K.Sink sink.old sink.new result
         (λ reply. ObeysAlone (eqv_command (name_bytes version.entry) (name_bytes other.entry)) space.now reply space.now) }
 {
-    send(equality(space.eqv(version, other)), sink)
+    write_all(sink, equality(space.eqv(version, other)))
 }
 
 fn stats<K: Sink>(space: &Space, page: &mut Page, sink: &mut K) -> Result<(), Failed>
@@ -297,5 +285,5 @@ fn quit<K: Sink>(space: &Space, sink: &mut K) -> Result<(), Failed>
         (λ reply. ObeysAlone quit_command space.now reply space.now) }
 {
     space.stands();
-    send(b"ok\n", sink)
+    write_all(sink, b"ok\n")
 }

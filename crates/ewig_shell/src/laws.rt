@@ -1,6 +1,6 @@
 //! Laws of what is stored and then loaded, and of the bytes that are loaded, as the clauses of functions that do nothing: they
 //! call at most the laws that theirs stand on.
-ghost use Rattle.ewig_shell.specs.RoundTrip.{LoadThenSave, SaveThenLoad, IndentThenLoad, DedentThenLoad, LineLeaves, LinesLeave, PartThenChain, PartThenPart};
+ghost use Rattle.ewig_shell.specs.RoundTrip.{LoadThenSave, SaveThenLoad, IndentThenLoad, DedentThenLoad, LineLeaves, LinesLeave, SaveBegins, SaveThenPart, PartThenChain, PartThenPart};
 ghost use Rattle.ewig_shell.specs.Stands.{DocumentsStand, OldDocumentsAreKept};
 
 use pool_carry::{carried_is_kept, carried_is_one, carried_is_valid, pools_are_carried};
@@ -27,6 +27,14 @@ pub fn lines_moved_then_load()
 pub fn lines_leave()
     ensures line { LineLeaves }
     ensures lines { LinesLeave }
+{}
+
+/// What a save stored fails no test as the first document of a chain. Over a store that tells its files: while that file is left, the
+/// first part by as many bits is stored behind it, where no batch is open, its own text isn't too many bytes, the store doesn't fail
+/// and memory doesn't run out.
+pub fn save_then_part()
+    ensures begins { SaveBegins }
+    ensures part { SaveThenPart }
 {}
 
 /// Over a store that tells its files: the pool of a space from which a part was stored is that of any space of as many bits once the

@@ -7,14 +7,10 @@ ghost use Rattle.ewig_shell.specs.Run.{IsEarly};
 
 mod chained;
 mod execute;
-#[cfg(test)]
-mod faults;
 mod laws;
 mod load;
 mod mapped;
 mod page;
-#[cfg(test)]
-mod refused;
 mod reply;
 mod run;
 mod save;
@@ -22,8 +18,6 @@ mod session;
 mod store_fault;
 #[cfg(test)]
 mod tests;
-#[cfg(test)]
-mod trial;
 mod work;
 mod worked;
 

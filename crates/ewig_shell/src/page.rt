@@ -99,14 +99,7 @@ impl Page {
         self.put("\n", sink)
     }
 
-    /// Puts a line that shows a name and a number.
-    pub fn put_size<K: Sink>(&mut self, name: &Text, size: u32, sink: &mut K) -> Result<(), Failed>
-        ensures { Puts K.Sink sink.old self.old sink.new self.new result (reply_of (size_line (name.now, size) ∷ [])) }
-    {
-        self.put_count(name.text(), u128::from(size), sink)
-    }
-
-    /// The same of a word and a number of any size.
+    /// Puts a line that shows a word and a number.
     pub fn put_count<K: Sink>(
         &mut self,
         word: &str,

@@ -1,9 +1,10 @@
 //! What is sent: replies that are ready, and lines of a reply one after another.
 
-ghost use Rattle.std.specs.Prelude.{◌≡◌, [], ◌∷◌, ◌++◌, map as each, Err};
+ghost use Rattle.std.specs.Prelude.{◌≡◌, ℕ, List, [], ◌∷◌, ◌++◌, map as each, Err};
 ghost use Rattle.plain_space.specs.Answer.{ok_line, text_line, number_line, size_line};
 ghost use Rattle.plain_space.specs.Session.{reason_of};
 ghost use Rattle.shell_io.specs.Sending.{Sends};
+ghost use Rattle.ewig_shell.specs.Sending.{Puts};
 ghost use Rattle.ewig_shell.specs.Work.{summary};
 ghost use Rattle.ewig_shell.specs.Step.{reply_of, refusal_of, done_reply, equality_reply, stored_reply, line_reason};
 
@@ -16,13 +17,6 @@ use pool_text::Damage;
 use shell_io::{Failed, Sink, write_all};
 use shell_words::BadLine;
 use space_state::{Refusal, SpaceLines};
-
-/// Sends a reply that is ready.
-pub fn send<K: Sink>(reply: &[u8], sink: &mut K) -> Result<(), Failed>
-    ensures { Sends K.written K.faults K.steady K.has_room sink.old sink.new result reply.now }
-{
-    write_all(sink, reply)
-}
 
 /// The reply to a line that is no command.
 pub fn line_refusal(bad: BadLine) -> &'static [u8]
@@ -61,8 +55,8 @@ pub fn equality(answer: Result<bool, Refusal>) -> &'static [u8]
     }
 }
 
-/// The reply to a command that uses the store.
-pub fn stored(done: Result<(), StoreFault>) -> &'static [u8]
+// The reply to a command that uses the store.
+fn stored(done: Result<(), StoreFault>) -> &'static [u8]
     ensures { result.now ≡ stored_reply done }
 {
     match done {
@@ -106,9 +100,16 @@ pub fn send_done<K: Sink>(done: Result<(), Refusal>, sink: &mut K) -> Result<(),
     ensures { Sends K.written K.faults K.steady K.has_room sink.old sink.new result (done_reply done) }
 {
     match done {
-        Ok(()) => send(b"ok\n", sink),
-        Err(reason) => send(refusal(reason), sink),
+        Ok(()) => write_all(sink, b"ok\n"),
+        Err(reason) => write_all(sink, refusal(reason)),
     }
+}
+
+/// Replies to a command that uses the store.
+pub fn send_stored<K: Sink>(done: Result<(), StoreFault>, sink: &mut K) -> Result<(), Failed>
+    ensures { Sends K.written K.faults K.steady K.has_room sink.old sink.new result (stored_reply done) }
+{
+    write_all(sink, stored(done))
 }
 
 /// Sends a line that shows the text.
@@ -132,18 +133,52 @@ pub fn send_number<K: Sink>(number: u64, page: &mut Page, sink: &mut K) -> Resul
     page.flush(sink)
 }
 
-/// Sends a line for each name with its number, then `ok`.
-pub fn send_sizes<K: Sink>(
-    sizes: &[(&Text, u32)],
+/// What one line of a reply shows.
+pub trait Shown {
+    // The line.
+    ghost line: { Self → List ℕ };
+
+    /// Puts the line at the end of the page.
+    fn put<K: Sink>(&self, page: &mut Page, sink: &mut K) -> Result<(), Failed>
+        ensures { Puts K.Sink sink.old page.old sink.new page.new result (reply_of (line self.now ∷ [])) };
+}
+
+impl Shown for &Text {
+    ghost line = { λ name. text_line name.now };
+
+    fn put<K: Sink>(&self, page: &mut Page, sink: &mut K) -> Result<(), Failed> {
+        page.put_text(self, sink)
+    }
+}
+
+impl Shown for (&Text, u32) {
+    ghost line = { λ size. size_line (size.0.now, size.1) };
+
+    fn put<K: Sink>(&self, page: &mut Page, sink: &mut K) -> Result<(), Failed> {
+        page.put_count(self.0.text(), u128::from(self.1), sink)
+    }
+}
+
+impl Shown for (&str, u128) {
+    ghost line = { λ size. size_line (size.0.now, size.1) };
+
+    fn put<K: Sink>(&self, page: &mut Page, sink: &mut K) -> Result<(), Failed> {
+        page.put_count(self.0, self.1, sink)
+    }
+}
+
+/// Sends a line for each of them, then `ok`.
+pub fn send_each<T: Shown, K: Sink>(
+    shown: &[T],
     page: &mut Page,
     sink: &mut K,
 ) -> Result<(), Failed>
     ensures { Sends K.written K.faults K.steady K.has_room sink.old sink.new result
-        (reply_of (each size_line (each (λ size. (size.0.now, size.1)) sizes.now) ++ ok_line ∷ [])) }
+        (reply_of (each T.line shown.now ++ ok_line ∷ [])) }
 {
     page.clear();
-    for (name, size) in sizes {
-        page.put_size(name, *size, sink)?;
+    for item in shown {
+        item.put(page, sink)?;
     }
     page.put("ok\n", sink)?;
     page.flush(sink)
@@ -154,27 +189,14 @@ pub fn send_summary<K: Sink>(sums: &Summary, sink: &mut K) -> Result<(), Failed>
     ensures { Sends K.written K.faults K.steady K.has_room sink.old sink.new result
         (summary sums.now.commands sums.now.ok sums.now.refused sums.now.buffers sums.now.lines) }
 {
-    let mut page = Page::new();
-    page.put_count("commands", sums.commands as u128, sink)?;
-    page.put_count("ok", sums.ok as u128, sink)?;
-    page.put_count("refused", sums.refused as u128, sink)?;
-    page.put_count("names", sums.buffers as u128, sink)?;
-    page.put_count("lines", sums.lines, sink)?;
-    page.put("ok\n", sink)?;
-    page.flush(sink)
-}
-
-/// Sends a line for each name, then `ok`.
-pub fn send_names<K: Sink>(names: &[&Text], page: &mut Page, sink: &mut K) -> Result<(), Failed>
-    ensures { Sends K.written K.faults K.steady K.has_room sink.old sink.new result
-        (reply_of (each text_line (each (λ name. name.now) names.now) ++ ok_line ∷ [])) }
-{
-    page.clear();
-    for name in names {
-        page.put_text(name, sink)?;
-    }
-    page.put("ok\n", sink)?;
-    page.flush(sink)
+    let counts = [
+        ("commands", sums.commands as u128),
+        ("ok", sums.ok as u128),
+        ("refused", sums.refused as u128),
+        ("names", sums.buffers as u128),
+        ("lines", sums.lines),
+    ];
+    send_each(&counts, &mut Page::new(), sink)
 }
 
 /// Sends a line for each text, then `ok`.

@@ -1,6 +1,6 @@
 //! A run of lines that the program makes by itself: what they come to.
 
-ghost use Rattle.std.specs.Prelude.{◌≡◌, ◌+◌, ◌^◌, ◌<◌, ◌≤◌, IsTrue};
+ghost use Rattle.std.specs.Prelude.{◌+◌, ◌^◌, ◌<◌, ◌≤◌, IsTrue};
 ghost use Rattle.shell_terms.specs.Command.{PlainCommand};
 ghost use Rattle.space_state.specs.View.{Ends};
 ghost use Rattle.work_lines.specs.Lines.{work_lines};

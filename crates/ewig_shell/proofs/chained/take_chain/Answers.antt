@@ -1,5 +1,5 @@
 -- What the space takes is the pool that the chain stands for.
-use Rattle.std.proofs.Common.{◌≡◌, ◌+◌, ℕ, ◌∙◌, refl, ap, subst, sym, inl, arith, Bool, true, false, Ok}
+use Rattle.std.proofs.Common.{◌≡◌, ◌∙◌, refl, ap, subst, sym, inl, arith, Bool, true, false, Ok}
 use Rattle.std.specs.Prelude.{MatchBool}
 use Rattle.plain_space.specs.Workspace.{in_batch}
 use Rattle.pool_text.specs.Pool.{row_count, pool, at_present_version}

@@ -67,25 +67,25 @@ pub returns-in-Quit : goal.returns-in-Quit
 returns-in-Quit g c = Replies-alone _ _ c.in-Quit.is refl c.quit.ensures
 
 pub returns-in-Read : goal.returns-in-Read
-returns-in-Read g c = Replies-on _ _ c.in-Read.is c.stored.ensures c.read.ensures c.send.ensures
+returns-in-Read g c = Replies-on _ _ c.in-Read.is c.read.ensures c.send_stored.ensures
 
 pub returns-in-Write : goal.returns-in-Write
-returns-in-Write g c = Replies-on _ _ c.in-Write.is c.stored-in-Write.ensures c.write.ensures c.send-in-Write.ensures
+returns-in-Write g c = Replies-on _ _ c.in-Write.is c.write.ensures c.send_stored-in-Write.ensures
 
 pub returns-in-Save : goal.returns-in-Save
-returns-in-Save g c = Replies-on _ _ c.in-Save.is c.stored-in-Save.ensures c.save.ensures c.send-in-Save.ensures
+returns-in-Save g c = Replies-on _ _ c.in-Save.is c.save.ensures c.send_stored-in-Save.ensures
 
 pub returns-in-Load : goal.returns-in-Load
-returns-in-Load g c = Replies-on _ _ c.in-Load.is c.stored-in-Load.ensures c.load.ensures.obeys c.send-in-Load.ensures
+returns-in-Load g c = Replies-on _ _ c.in-Load.is c.load.ensures.obeys c.send_stored-in-Load.ensures
 
 pub returns-in-Part : goal.returns-in-Part
-returns-in-Part g c = Replies-on _ _ c.in-Part.is c.stored-in-Part.ensures c.part.ensures c.send-in-Part.ensures
+returns-in-Part g c = Replies-on _ _ c.in-Part.is c.part.ensures c.send_stored-in-Part.ensures
 
 pub returns-in-Chain : goal.returns-in-Chain
-returns-in-Chain g c = Replies-on _ _ c.in-Chain.is c.stored-in-Chain.ensures c.chain.ensures c.send-in-Chain.ensures
+returns-in-Chain g c = Replies-on _ _ c.in-Chain.is c.chain.ensures c.send_stored-in-Chain.ensures
 
 pub returns-in-Indent : goal.returns-in-Indent
-returns-in-Indent g c = Replies-on _ _ c.in-Indent.is c.stored-in-Indent.ensures c.indent.ensures c.send-in-Indent.ensures
+returns-in-Indent g c = Replies-on _ _ c.in-Indent.is c.indent.ensures c.send_stored-in-Indent.ensures
 
 pub returns-in-Dedent : goal.returns-in-Dedent
-returns-in-Dedent g c = Replies-on _ _ c.in-Dedent.is c.stored-in-Dedent.ensures c.dedent.ensures c.send-in-Dedent.ensures
+returns-in-Dedent g c = Replies-on _ _ c.in-Dedent.is c.dedent.ensures c.send_stored-in-Dedent.ensures

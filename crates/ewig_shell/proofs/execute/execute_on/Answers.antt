@@ -27,8 +27,8 @@ returns-in-Err-clause-replies g c = record {
     step = Step-line _ _ _ _ (Err c.in-Err.bad) c.requires.short c.in-Err.ensures (record { reply_is = c.line_refusal.ensures; same = refl });
     counts = CountsStore-none (other-reply c.line_refusal.ensures (line-other c.in-Err.bad));
   };
-  sends = Sends-then _ _ c.then.ensures c.send.ensures;
+  sends = Sends-then _ _ c.then.ensures c.write_all.ensures;
 }
 
 pub returns-in-Err-clause-quits : goal.returns-in-Err-clause-quits
-returns-in-Err-clause-quits g c = quits-bad _ c.in-Err.bad c.send.result _ c.requires.short c.in-Err.ensures c.then.ensures
+returns-in-Err-clause-quits g c = quits-bad _ c.in-Err.bad c.write_all.result _ c.requires.short c.in-Err.ensures c.then.ensures

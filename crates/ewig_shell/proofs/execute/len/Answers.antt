@@ -8,5 +8,5 @@ pub returns-in-Err : goal.returns-in-Err
 returns-in-Err g c = record {
   reply = c.refusal.result.now;
   due = Obeys-len_refused c.in-Err.ensures.0 _ c.in-Err.reason _ c.in-Err.ensures.1 c.in-Err.ensures.2 c.refusal.ensures;
-  sends = c.send.ensures;
+  sends = c.write_all.ensures;
 }

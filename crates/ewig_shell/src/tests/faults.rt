@@ -1,7 +1,7 @@
 //! A fault at each call of each device. A run with a fault is the run without what the fault refused or cut off.
 
+use super::trial::{Given, Left, TWO_CELLS, WHOLE, run_given};
 use crate::run::Status;
-use crate::trial::{Given, Left, TWO_CELLS, WHOLE, run_given};
 use elem_core::NoMemory;
 use std::alloc::Global;
 use std::process::Abort;

@@ -1,11 +1,10 @@
 //! Scripts that can run while memory is refused: `rt try --test --fail-alloc N` refuses the Nth allocation of a test. With ample memory
-//! they pass as well; that memory is given then, `tests` and the examples show. Where the devices or the space get no memory, a test has
+//! they pass as well; that memory is given then, `inputs` and the examples show. Where the devices or the space get no memory, a test has
 //! nothing to show, and ends.
 
+use super::trial::{FULL_UNDO, Given, TWO_CELLS, WHOLE, run_given};
 use crate::execute::execute;
-use crate::page::Page;
 use crate::run::Status;
-use crate::trial::{FULL_UNDO, Given, TWO_CELLS, WHOLE, run_given};
 use elem_core::{CODE_BITS, Line};
 use shell_io::{MemSink, MemStore, Store};
 use space_state::Space;
