@@ -45,7 +45,7 @@ fn with_all(rt: &impl Abort, sets: &mut SetVersions<Num>, start: usize, numbers:
     turn
 }
 
-// That a merge of two small sets has just these of the numbers below 100, and makes no more rows than its need.
+// That a merge of two small sets has just these of the numbers below 200, and makes no more rows than its need.
 fn merges_to(
     rt: &impl Abort,
     sets: &mut SetVersions<Num>,
@@ -59,7 +59,7 @@ fn merges_to(
     assert!(rt; sets.rows().wrapping_sub(rows) <= need);
     assert!(rt; sets.len(rt, turn) == numbers.len());
     assert!(rt; sets.walked(rt, turn) == numbers.len());
-    for number in 0..100 {
+    for number in 0..200 {
         assert!(rt; sets.has(rt, turn, &Num(number)) == numbers.contains(&number));
     }
     // The same numbers put in one by one make an equal set.
@@ -67,10 +67,11 @@ fn merges_to(
     assert!(rt; sets.are_equal(rt, turn, plain));
 }
 
-// Unions, intersections and differences of two small sets, beside the plain answers.
+// Unions, intersections and differences of two small sets, beside the plain answers. By seven bits 1 and 129 make a chain, and 33
+// and 161.
 fn merge_small(rt: &impl Abort, sets: &mut SetVersions<Num>) {
-    let left = with_all(rt, sets, 0, &[1, 2, 33, 65, 7, 40]);
-    let right = with_all(rt, sets, left, &[3, 34]);
+    let left = with_all(rt, sets, 0, &[1, 2, 33, 65, 7, 40, 161]);
+    let right = with_all(rt, sets, left, &[3, 34, 129]);
     let right = sets.remove(rt, right, &Num(2));
     let right = sets.remove(rt, right, &Num(40));
     merges_to(
@@ -79,23 +80,23 @@ fn merge_small(rt: &impl Abort, sets: &mut SetVersions<Num>) {
         left,
         right,
         Merge::Union,
-        &[1, 2, 3, 7, 33, 34, 40, 65],
+        &[1, 2, 3, 7, 33, 34, 40, 65, 129, 161],
     );
-    merges_to(rt, sets, left, right, Merge::Both, &[1, 7, 33, 65]);
+    merges_to(rt, sets, left, right, Merge::Both, &[1, 7, 33, 65, 161]);
     merges_to(rt, sets, left, right, Merge::Less, &[2, 40]);
-    merges_to(rt, sets, right, left, Merge::Less, &[3, 34]);
-    let other = with_all(rt, sets, 0, &[65, 97, 8]);
+    merges_to(rt, sets, right, left, Merge::Less, &[3, 34, 129]);
+    let other = with_all(rt, sets, 0, &[65, 97, 8, 129, 161]);
     merges_to(
         rt,
         sets,
         left,
         other,
         Merge::Union,
-        &[1, 2, 7, 8, 33, 40, 65, 97],
+        &[1, 2, 7, 8, 33, 40, 65, 97, 129, 161],
     );
-    merges_to(rt, sets, left, other, Merge::Both, &[65]);
+    merges_to(rt, sets, left, other, Merge::Both, &[65, 161]);
     merges_to(rt, sets, left, other, Merge::Less, &[1, 2, 7, 33, 40]);
-    merges_to(rt, sets, left, 0, Merge::Union, &[1, 2, 7, 33, 40, 65]);
+    merges_to(rt, sets, left, 0, Merge::Union, &[1, 2, 7, 33, 40, 65, 161]);
     merges_to(rt, sets, 0, left, Merge::Both, &[]);
     merges_to(rt, sets, left, left, Merge::Less, &[]);
 }
@@ -118,7 +119,7 @@ fn merges_by_all_bits(rt: HostRuntime) {
     merge_small(&rt, &mut sets);
 }
 
-// A number taken out of one of two sets that share all else.
+// Numbers taken out of sets that share all else.
 #[test]
 fn merges_what_is_shared(rt: HostRuntime) {
     let mut sets: SetVersions<Num> = SetVersions::start(&rt, rt.alloc(), CODE_BITS);
@@ -127,25 +128,47 @@ fn merges_what_is_shared(rt: HostRuntime) {
         all = sets.insert(&rt, all, Num(number));
     }
     let less = sets.remove(&rt, all, &Num(500));
+    let other = sets.remove(&rt, all, &Num(7));
+    // Of the two rows that each of them has for itself one comes from the other, and the root is made.
     let rows = sets.rows();
-    let back = sets.unite(&rt, less, all);
-    assert!(rt; sets.rows().wrapping_sub(rows) <= 13_312);
+    let back = sets.unite(&rt, less, other);
+    assert!(rt; sets.rows().wrapping_sub(rows) == 1);
     assert!(rt; sets.are_equal(&rt, back, all));
-    // Rows are taken over whole where the result is one of the two.
+    // Rows are taken over whole where the result is one of the two, and one root is that root.
     let rows = sets.rows();
+    let whole = sets.unite(&rt, less, all);
+    assert!(rt; sets.are_one(&rt, whole, all));
     let whole = sets.unite(&rt, all, less);
     assert!(rt; sets.are_one(&rt, whole, all));
     let both = sets.meet(&rt, all, less);
     assert!(rt; sets.are_one(&rt, both, less));
-    // One root is that root, and what is left of it without itself is one row.
     let same = sets.unite(&rt, all, all);
     assert!(rt; sets.are_one(&rt, same, all));
     let same = sets.meet(&rt, all, all);
     assert!(rt; sets.are_one(&rt, same, all));
     assert!(rt; sets.rows() == rows);
+    // What is left of a set without itself is one row.
     let none = sets.lose(&rt, all, all);
     assert!(rt; sets.len(&rt, none) == 0);
     assert!(rt; sets.rows().wrapping_sub(rows) <= 1);
+}
+
+// An equal set made apart: each of its keys is the first one's, so the first one's rows are taken over.
+#[test]
+fn merges_equal_sets_made_apart(rt: HostRuntime) {
+    let mut sets: SetVersions<Num> = SetVersions::start(&rt, rt.alloc(), CODE_BITS);
+    let mut first = 0;
+    let mut apart = 0;
+    for number in 0..100 {
+        first = sets.insert(&rt, first, Num(number));
+        apart = sets.insert(&rt, apart, Num(99 - number));
+    }
+    let rows = sets.rows();
+    let all = sets.unite(&rt, first, apart);
+    assert!(rt; sets.are_one(&rt, all, first));
+    let both = sets.meet(&rt, apart, first);
+    assert!(rt; sets.are_one(&rt, both, apart));
+    assert!(rt; sets.rows() == rows);
 }
 
 // Where both maps have a key, the first one's value counts.

@@ -16,7 +16,7 @@ use pool_check::{CheckedRoots, RootKind, check_open, check_roots};
 use pool_load::{load_roots, loaded_roots_are_of_kinds, loaded_roots_fit};
 use pool_map::{Change, few_line_cells, map_cells};
 use pool_order::order;
-use pool_text::{Damage, MOST_HISTORY, pool_of, to_bytes};
+use pool_text::{Damage, MOST_HISTORY, Places, pool_of, to_bytes};
 use rrb_core::FlexRef;
 use std::alloc::Global;
 use std::test::Fail;
@@ -73,6 +73,56 @@ fn checks_roots_of_other_kinds(rt: HostRuntime) -> Result<(), Fail> {
     for (kinds, damage) in CHECKS {
         let pool = present_pool(rt.alloc(), CONTAINERS, CODE_BITS)?;
         let answer = check_roots::<Text>(rt.alloc(), pool, kinds);
+        assert_eq!(rt; answer.err(), damage);
+    }
+    Ok(())
+}
+
+// A space by its kinds: a state, versions, and two histories.
+#[test]
+fn checks_a_space_by_its_kinds(rt: HostRuntime) -> Result<(), Fail> {
+    let bytes =
+        b"{\"bits\":64,\"format\":\"ewig-pool\",\"history\":0,\"roots\":[20,28,29,30],\"rows\":[[\"c\",\"list\"],[\"l\",[]],[\"p\",[0,1]],[\"c\",\"letters\"],[\"l\",[]],[\"p\",[3,4]],[\"c\",\"notes\"],[\"l\",[]],[\"p\",[6,7]],[\"m\",1,536879104,0,[5,8]],[\"c\",\"draft\"],[\"c\",\"one\"],[\"l\",[11]],[\"p\",[10,12]],[\"c\",\"diary\"],[\"l\",[]],[\"p\",[14,15]],[\"m\",1,1048704,0,[13,16]],[\"m\",0,2,5120,[2,9,17]],[\"m\",0,0,0,[]],[\"s\",[18,19]],[\"c\",\"monday\"],[\"l\",[]],[\"p\",[10,22]],[\"m\",1,1048704,0,[23,16]],[\"m\",0,2,5120,[2,9,24]],[\"s\",[25,19]],[\"p\",[21,26]],[\"m\",0,33554432,0,[27]],[\"l\",[]],[\"l\",[]]],\"version\":3}";
+    let pool = present_pool(rt.alloc(), bytes.as_slice(), CODE_BITS)?;
+    let kinds = [
+        RootKind::State,
+        RootKind::Versions,
+        RootKind::History,
+        RootKind::History,
+    ];
+    let answer = check_roots::<Text>(rt.alloc(), pool, &kinds);
+    assert_eq!(rt; answer.err(), None);
+    Ok(())
+}
+
+// Five roots, and what fails where the last is of another kind.
+const FIVE: [(RootKind, Option<Damage>); 2] = [
+    (RootKind::Cells, None),
+    (RootKind::Lines, Some(Damage::Kind)),
+];
+
+// Places of these rows.
+fn places(alloc: Global, rows: &[u64]) -> Result<Places, NoMemory> {
+    let mut made = Vec::with_capacity(alloc, rows.len())?;
+    for row in rows {
+        made.push(*row)?;
+    }
+    Ok(Places::from_vec(made))
+}
+
+#[test]
+fn checks_five_roots(rt: HostRuntime) -> Result<(), Fail> {
+    for (last, damage) in FIVE {
+        let mut pool = present_pool(rt.alloc(), CONTAINERS, CODE_BITS)?;
+        pool.roots = places(rt.alloc(), &[2, 3, 5, 7, 3])?;
+        let kinds = [
+            RootKind::Lines,
+            RootKind::Cells,
+            RootKind::CellMap,
+            RootKind::LinesMap,
+            last,
+        ];
+        let answer = check_roots::<Text>(rt.alloc(), pool, &kinds);
         assert_eq!(rt; answer.err(), damage);
     }
     Ok(())
@@ -169,7 +219,7 @@ fn saves_roots_of_other_kinds(rt: HostRuntime) -> Result<(), Fail> {
     Ok(())
 }
 
-// The same document whose map's vector has a row for a line that is none.
+// The same document whose last map has the set where its vector was.
 #[test]
 fn tells_the_damage_of_containers(rt: HostRuntime) -> Result<(), Fail> {
     let damaged =
