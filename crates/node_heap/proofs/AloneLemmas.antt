@@ -1,5 +1,5 @@
 -- Which rows of a path are alone, and which are written.
-use Rattle.std.proofs.Common.{◌≡◌, ◌≢◌, ℕ, suc, zero, ◌+◌, ◌*◌, ◌<◌, ◌≤◌, List, [], ◌∷◌, length, take, get_or, refl, ap, sym, subst, ◌∙◌, arith, Bool, true, false, inl, inr}
+use Rattle.std.proofs.Common.{◌≡◌, ◌≢◌, ℕ, suc, zero, ◌+◌, ◌*◌, ◌-◌, ◌<◌, ◌≤◌, List, [], ◌∷◌, length, take, get_or, refl, ap, sym, subst, ◌∙◌, arith, Bool, true, false, inl, inr}
 use Rattle.std.specs.Prelude.{◌↔◌, ◌==◌, slice_index, if◌then◌else◌}
 use Rattle.std.proofs.lemmas.Bool.{cases_eq}
 use Rattle.std.proofs.lemmas.Bool.Decides.{nat_tests}
@@ -81,6 +81,17 @@ module _ {T : Type 0} where
             let apart : one_at x k ≡ 0 = test_other k x below in
             alone-no mid k ks (λ one. omega (arith, one, more, apart, ap (λ (m : ℕ). m * count k (links_at old x)) whole, has, owned))
 
+    -- such a path has one alone row more where that was copied, since none below it was
+    pub alone-own : alone mid (c ∷ rest) ≡ alone old (x ∷ rest) + other_at x c
+    alone-own = elim (cases_eq c x) as (λ _. alone mid (c ∷ rest) ≡ alone old (x ∷ rest) + other_at x c) [
+      | inl is ↦
+          let none : other_at x c ≡ 0 = grind (arith, nat_tests, is) in
+          omega (arith, none, alone-same mid old (c ∷ rest) (all-same is) ∙ ap (λ (j : ℕ). alone old (j ∷ rest)) is)
+      | inr off ↦
+          let one : other_at x c ≡ 1 = grind (arith, nat_tests, off) in
+          omega (arith, one, alone-yes mid c rest sole, none-alone off, alone-no old x rest (λ e. off (same.1 e)))
+    ]
+
     pub KeepsAlone-own : (path' : List ℕ) → KeepsAlone mid (c ∷ rest) path' → KeepsAlone old (x ∷ rest) path'
     KeepsAlone-own path' keep = elim (cases_eq (owners_at old x) 1) as (λ _. KeepsAlone old (x ∷ rest) path') [
       | inl one ↦ itself (same.1 one)
@@ -128,6 +139,21 @@ module _ {T : Type 0} where
           let rows : written mid (c ∷ rest) ≡ c ∷ [] = written-cons mid c rest sole ∙ ap (λ (k : ℕ). c ∷ take k rest) (none-alone other) in
           ap (count m) rows ∙ omega (arith, count-one m c, test_other m c (apart other))
     ]
+
+  -- a copy of a path's first row costs what makes up for the rows below it, which aren't alone then
+  pub alone-copied : (old mid : Heap T) (x c : ℕ) (rest : List ℕ) → (c ≡ x) ↔ (owners_at old x ≡ 1) → owners_at mid c ≡ 1
+      → ((k : ℕ) → owners_at mid k + one_at x k ≡ owners_at old k + (one_at c k + other_at x c * count k (links_at old x)))
+      → other_at x c + (length (c ∷ rest) - alone mid (c ∷ rest)) ≤ length (x ∷ rest) - alone old (x ∷ rest)
+  alone-copied old mid x c rest same sole owners = elim (cases_eq c x) as (λ _. other_at x c + (length (c ∷ rest) - alone mid (c ∷ rest)) ≤ length (x ∷ rest) - alone old (x ∷ rest)) [
+    | inl is ↦
+        let none : other_at x c ≡ 0 = grind (arith, nat_tests, is) in
+        let all : (k : ℕ) → owners_at mid k ≡ owners_at old k = λ k. omega (arith, owners k, ap (λ (j : ℕ). one_at j k) is, ap (λ (m : ℕ). m * count k (links_at old x)) none) in
+        let rows : alone mid (c ∷ rest) ≡ alone old (x ∷ rest) = alone-same mid old (c ∷ rest) all ∙ ap (λ (j : ℕ). alone old (j ∷ rest)) is in
+        omega (arith, none, rows)
+    | inr off ↦
+        let one : other_at x c ≡ 1 = grind (arith, nat_tests, off) in
+        omega (arith, one, alone-yes mid c rest sole, alone-no old x rest (λ e. off (same.1 e)))
+  ]
 
   -- a body that always copies, and one that writes a shared row, don't keep what is alone
   pub alone-stays : (h : Heap T) (x : ℕ) (path path' : List ℕ) → owners_at h x ≡ 1 → KeepsAlone h (x ∷ path) path' → slice_index path' 0 ≡ x

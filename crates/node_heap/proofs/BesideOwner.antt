@@ -3,22 +3,22 @@ use Rattle.std.proofs.Common.{◌≡◌, ◌≢◌, ℕ, ◌<◌, refl, ap, subs
 use Rattle.std.specs.Prelude.{◌==◌, remove, if◌then◌else◌}
 use Rattle.std.proofs.lemmas.Bool.{cases_eq}
 use Rattle.std.proofs.lemmas.Bool.Decides.{nat_tests}
-use Rattle.node_heap.specs.Links.{Links, count, HasLink, Reaches, here, below}
+use Rattle.node_heap.specs.Links.{Links, count, HasLink, Reaches}
 use Rattle.node_heap.specs.Forms.{Row, links_of}
 use Rattle.node_heap.specs.Heap.{Heap, row_at, links_at, holds_at, owners_at, one_at, IsGraph}
 use Rattle.node_heap.specs.InPlace.{child_at}
 use Rattle.node_heap.specs.Owner.{Owner, by_hold, by_place, owned, holds_beside, links_beside, relinked, with_root, IsOwner}
 use Rattle.node_heap.proofs.Counts.{test_same, le-sum_by}
 use Rattle.node_heap.proofs.Reach.{Reaches-then}
+use Rattle.node_heap.proofs.Frames.{Reaches-live}
 use Rattle.node_heap.proofs.Ways.{Reaches-last}
 use Rattle.node_heap.proofs.GraphLemmas.{linked-places}
 use Rattle.node_heap.proofs.Edited.{count-at, IsOwners-heap}
 use Rattle.node_heap.proofs.OwnerLemmas.{count-two, left-at}
 
--- all that a row reaches is there
+-- the name by which crates above cite it
 pub live-down : {T : Type 0} (h : Heap T) → IsGraph h → (k m : ℕ) → Reaches (links_at h) k m → IsSome (row_at h k) → IsSome (row_at h m)
-live-down h graph k m (here l) live = live
-live-down h graph k m (below l j n has way) live = live-down h graph j m way (graph.closed l j has)
+live-down = Reaches-live
 
 -- the ways beside the owner
 module _ {T : Type 0} (owner : Owner) (old : Heap T) (is : IsOwner old owner) where

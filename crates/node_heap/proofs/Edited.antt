@@ -5,13 +5,13 @@ use Rattle.std.proofs.lemmas.Bool.{cases_eq}
 use Rattle.std.proofs.lemmas.List.Sums.{sum_by-cons}
 use Rattle.std.proofs.lemmas.List.{length-set, get_or-set_same}
 use Rattle.node_heap.specs.Links.{Links, count, HasLink, Reaches, here, below}
-use Rattle.node_heap.specs.Forms.{Row, Tree, IsTree, links_of}
+use Rattle.node_heap.specs.Forms.{Row, cell, node, Tree, IsTree, links_of, is_node}
 use Rattle.node_heap.specs.Heap.{Heap, row_at, form_at, links_at, holds_at, owners_at, hold_count, one_at, IsGraph}
 use Rattle.node_heap.specs.Calls.{KeepsBelow, KeepsHeld, KeepsOwners, Extends, Makes, Unchanged, Builds, Trades}
 use Rattle.node_heap.specs.InPlace.{other_at, ReachesAround, IsSolePath, path_start, path_then, OwnsDown, KeepsApart, KeepsPaths, Changes, by_link}
 use Rattle.node_heap.proofs.Counts.{le-sum_by, count-cons, one_at-flip, test_same, test_other}
 use Rattle.node_heap.proofs.Reach.{HasLink-same, Reaches-trans}
-use Rattle.node_heap.proofs.Frames.{IsTree-KeepsBelow, Balances-trans, Balances-Makes, Balances-Unchanged}
+use Rattle.node_heap.proofs.Frames.{Reaches-live, IsTree-KeepsBelow, Balances-trans, Balances-Makes, Balances-Unchanged}
 use Rattle.node_heap.proofs.BuildLemmas.{count-append}
 use Rattle.node_heap.proofs.GraphLemmas.{linked-places, IsGraph-acyclic}
 use Rattle.node_heap.proofs.Ways.{IsOwners, ReachesAround-end, ReachesAround-Reaches, Reaches-around, ReachesAround-same, ReachesAround-path, ReachesAround-trans, Reaches-avoids, Reaches-last, IsSolePath-Reaches}
@@ -51,14 +51,16 @@ module _ {T : Type 0} where
     ];
   }
 
-  Reaches-live : (h : Heap T) → IsGraph h → (l m : ℕ) → Reaches (links_at h) l m → IsSome (row_at h l) → IsSome (row_at h m)
-  Reaches-live h graph a b (here l) live = live
-  Reaches-live h graph a b (below l k m has down) live = Reaches-live h graph k m down (graph.closed l k has)
-
   -- what has a link is a row
   pub linked_live : (r : Option (Row T)) (k : ℕ) → 0 < count k (links_of r) → IsSome r
   linked_live None k some = absurd (omega (arith, some))
   linked_live (Some x) k some = refl
+
+  -- and a node
+  pub linked-node : (r : Option (Row T)) (k : ℕ) → 0 < count k (links_of r) → is_node r ≡ 1
+  linked-node None k some = absurd (omega (arith, some))
+  linked-node (Some (cell x)) k some = absurd (omega (arith, some))
+  linked-node (Some (node h l)) k some = refl
 
   pub above_live : (h : Heap T) (x y : ℕ) → Reaches (links_at h) x y → IsSome (row_at h y) → IsSome (row_at h x)
   above_live h x y (here l) some = some

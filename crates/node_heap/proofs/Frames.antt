@@ -49,6 +49,11 @@ module _ {T : Type 0} where
   pub KeepsTrees-Extends : (old new : Heap T) → Extends old new → KeepsTrees old new
   KeepsTrees-Extends old new more l t held is = IsTree-Extends more is
 
+  -- all that a row reaches is there
+  pub Reaches-live : (h : Heap T) → IsGraph h → (l m : ℕ) → Reaches (links_at h) l m → IsSome (row_at h l) → IsSome (row_at h m)
+  Reaches-live h graph a b (here l) live = live
+  Reaches-live h graph a b (below l k m has down) live = Reaches-live h graph k m down (graph.closed l k has)
+
   pub Extends-Adds : (old new : Heap T) (link : ℕ) (row : Row T) → IsGraph old → Adds old new link row → Extends old new
   Extends-Adds old new link row graph adds =
       let apart : (l : ℕ) → IsSome (row_at old l) → row_at new l ≡ row_at old l =
@@ -57,10 +62,6 @@ module _ {T : Type 0} where
         live = λ l live. rw (apart l live) live;
         kept = λ l live m down. apart m (Reaches-live old graph l m down live);
       }
-    where
-      Reaches-live : (h : Heap T) → IsGraph h → (l m : ℕ) → Reaches (links_at h) l m → IsSome (row_at h l) → IsSome (row_at h m)
-      Reaches-live h graph a b (here l) live = live
-      Reaches-live h graph a b (below l k m has down) live = Reaches-live h graph k m down (graph.closed l k has)
 
   pub Extends-rows : (old new : Heap T) → ((k : ℕ) → row_at new k ≡ row_at old k) → Extends old new
   Extends-rows old new same = record {

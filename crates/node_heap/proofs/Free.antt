@@ -5,7 +5,7 @@ use Rattle.std.proofs.lemmas.List.{get_or-set_same, get_or-set_other, length-set
 use Rattle.std.proofs.lemmas.List.Sums.{sum_by-append, sum_by-set}
 use Rattle.node_heap.specs.Links.{count}
 use Rattle.node_heap.specs.Heap.{one_at}
-use Rattle.node_heap.specs.Inside.{IsFree}
+use Rattle.node_heap.specs.Inside.{IsFree, FillsSlot}
 use Rattle.node_heap.proofs.Counts.{count-cons, test_same, test_other}
 use Rattle.node_heap.proofs.Stored.{one_if_some}
 use Rattle.node_heap.proofs.Written.{count-written}
@@ -72,6 +72,21 @@ module _ {X : Type 0} where
     once = f.once;
     all_slots = omega (arith, f.all_slots, count-written xs i x (Some y) is, length-set xs i (Some y));
   }
+
+  -- the last free slot is filled
+  pub fills-free : (slots : List (Option X)) (free rest : List ℕ) (place : ℕ) (x : X) → free ≡ rest ++ place ∷ [] → IsFree slots free → FillsSlot slots free (set slots place (Some x)) rest place x
+  fills-free slots free rest place x is f =
+      let some = last-free slots free rest place is f in
+      let within = f.inside place some in
+      record {
+        was = f.vacant place some;
+        now = get_or-set_same slots place (Some x) None within;
+        others = λ k other. get_or-set_other slots place k (Some x) None other;
+        listed = IsFree-pop slots free rest place x is f;
+        one = omega (arith, ap length is, length-last place rest, length-set slots place (Some x));
+        fewer = omega (arith, ap length is, length-last place rest);
+        inside = omega (arith, within, length-set slots place (Some x));
+      }
 
   pub no_value : {x : X} → Some x ≡ None → ⊥
   no_value e = absurd cc

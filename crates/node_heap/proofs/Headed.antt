@@ -1,12 +1,12 @@
 -- What becomes of nodes whose full heads lie apart.
 use Rattle.std.proofs.Common.{◌≡◌, ◌≢◌, ℕ, zero, suc, ◌+◌, ◌-◌, ◌<◌, ◌≤◌, List, [], ◌∷◌, map, get_or, set, length, refl, sym, ap, ◌∙◌, arith, Option, Some, None, IsSome, is_some, count_by}
 use Rattle.std.specs.Prelude.{option_map}
-use Rattle.std.proofs.lemmas.List.{map-set, length-set}
+use Rattle.std.proofs.lemmas.List.{map-set}
 use Rattle.std.proofs.lemmas.List.Sums.{sum_by-cons}
-use Rattle.node_heap.specs.Nodes.{SameBut, NodeOf, NodesOf, Node, Nodes, node_at, node_owners, node_head, node_links, owned_by, Becomes}
-use Rattle.node_heap.specs.Inside.{IsFree}
+use Rattle.node_heap.specs.Nodes.{SameBut, NodeOf, RoomsOf, Node, node_at, node_owners, node_head, node_links, owned_by, Becomes}
+use Rattle.node_heap.specs.Inside.{IsFree, FillsSlot}
 use Rattle.node_heap.specs.Rooms.{Parts}
-use Rattle.node_heap.specs.Tags.{plain_head, place_of, place_in, head_by, full_node, headed, IsNodes}
+use Rattle.node_heap.specs.Tags.{plain_head, place_of, place_in, head_by, full_node, headed, IsHeaded}
 use Rattle.node_heap.specs.declared.row.Head.{Head}
 use Rattle.node_heap.specs.declared.tags.Tag.{Tag}
 use Rattle.node_heap.specs.declared.tags.Tag.TheVariants.{Leaf, Inner, Chain, Pair, State, Apart}
@@ -46,14 +46,6 @@ module _ (heads : List (Option Head)) where
   plain-by Pair head is = cc
   plain-by State head is = cc
   plain-by (Apart place) head is = absurd cc
-
-  pub plain-in : (t : Tag) → place_of t ≡ None → plain_head t ≡ Some (head_by heads t)
-  plain-in Leaf is = refl
-  plain-in (Inner height) is = refl
-  plain-in Chain is = refl
-  plain-in Pair is = refl
-  plain-in State is = refl
-  plain-in (Apart place) is = absurd cc
 
   pub full-by : (t : Tag) (place : ℕ) (head : Head) → place_of t ≡ Some place → get_or heads place None ≡ Some head → head_by heads t ≡ head
   full-by Leaf place head named is = absurd cc
@@ -99,7 +91,7 @@ module _ (heads : List (Option Head)) where
   at-headed slots i = get_or-map_default (full_node heads) slots i None
 
   -- nodes that are seen as their rooms and their heads
-  module _ (rooms : NodesOf Tag) {nodes : Nodes} (view_is : headed rooms heads ≡ nodes) where
+  module _ (rooms : RoomsOf Tag) {nodes : RoomsOf Head} (view_is : headed rooms heads ≡ nodes) where
     seen : (i : ℕ) → node_at nodes.slots i ≡ full_node heads (node_at rooms.slots i)
     seen i = rw (← view_is) (at-headed rooms.slots i)
 
@@ -122,10 +114,10 @@ module _ (heads : List (Option Head)) where
     pub head-headed : (i : ℕ) (t : Tag) (head : Head) → node_head (node_at rooms.slots i) ≡ Some t → head_by heads t ≡ head → node_head (node_at nodes.slots i) ≡ Some head
     head-headed i t head is by = ap node_head (seen i) ∙ head-told (node_at rooms.slots i) t is ∙ ap Some by
 
-    pub owned-headed : (i k : ℕ) → headed (record { slots = set rooms.slots i (owned_by k (node_at rooms.slots i)); spares = rooms.spares }) heads ≡ record { slots = set nodes.slots i (owned_by k (node_at nodes.slots i)); spares = nodes.spares }
+    pub owned-headed : (i k : ℕ) → headed (record { slots = set rooms.slots i (owned_by k (node_at rooms.slots i)); room = rooms.room }) heads ≡ record { slots = set nodes.slots i (owned_by k (node_at nodes.slots i)); room = nodes.room }
     owned-headed i k =
         rw (seen i, ← same-owned k (node_at rooms.slots i), ← view_is)
-        (ap (λ xs. record { slots = xs; spares = rooms.spares }) (map-set (full_node heads) rooms.slots i (owned_by k (node_at rooms.slots i))))
+        (ap (λ xs. record { slots = xs; room = rooms.room }) (map-set (full_node heads) rooms.slots i (owned_by k (node_at rooms.slots i))))
 
 -- a node whose head lies elsewhere is the same
 same-headed : (heads heads' : List (Option Head)) (place : ℕ) (o : Option (NodeOf Tag)) → SameBut heads heads' place → place_in o ≢ Some place → full_node heads' o ≡ full_node heads o
@@ -165,83 +157,80 @@ module _ (heads heads' : List (Option Head)) (slots slots' : List (Option (NodeO
     len = omega (arith, len, len-headed heads slots, len-headed heads' slots');
   }
 
-  pub becomes-headed : (spares spares' : ℕ) (f : Node → Node) (x y : NodeOf Tag) → node_at slots i ≡ Some x → node_at slots' i ≡ Some y → full_node heads' (Some y) ≡ option_map f (full_node heads (Some x))
-      → count_by is_some slots' ≡ count_by is_some slots → spares' ≡ spares → Becomes (headed (record { slots = slots; spares = spares }) heads) (headed (record { slots = slots'; spares = spares' }) heads') i f
-  becomes-headed spares spares' f x y was now seen len same = record {
+  pub becomes-headed : (f : Node → Node) (x y : NodeOf Tag) → node_at slots i ≡ Some x → node_at slots' i ≡ Some y → full_node heads' (Some y) ≡ option_map f (full_node heads (Some x)) → count_by is_some slots' ≡ count_by is_some slots
+      → Becomes (map (full_node heads) slots) (map (full_node heads') slots') i f
+  becomes-headed f x y was now seen len = record {
     here = at-headed heads' slots' i ∙ ap (full_node heads') now ∙ seen ∙ sym (ap (option_map f) (at-headed heads slots i ∙ ap (full_node heads) was));
     others = others;
     len = omega (arith, len, len-headed heads slots, len-headed heads' slots');
-    spares = same;
   }
 
 -- the links of a node are changed
-pub becomes-links : (heads : List (Option Head)) (rooms rooms' : NodesOf Tag) (i : ℕ) (F : List ℕ → List ℕ) → IsSome (node_at rooms.slots i) → Becomes rooms rooms' i (λ n. record { owners = n.owners; head = n.head; links = F n.links })
-    → Becomes (headed rooms heads) (headed rooms' heads) i (λ n. record { owners = n.owners; head = n.head; links = F n.links })
-becomes-links heads rooms rooms' i F live b =
-    let value = value_in (node_at rooms.slots i) live in
+pub becomes-links : (heads : List (Option Head)) (slots slots' : List (Option (NodeOf Tag))) (i : ℕ) (F : List ℕ → List ℕ) → IsSome (node_at slots i) → Becomes slots slots' i (λ n. record { owners = n.owners; head = n.head; links = F n.links })
+    → Becomes (map (full_node heads) slots) (map (full_node heads) slots') i (λ n. record { owners = n.owners; head = n.head; links = F n.links })
+becomes-links heads slots slots' i F live b =
+    let value = value_in (node_at slots i) live in
     let change : NodeOf Tag → NodeOf Tag = λ n. record { owners = n.owners; head = n.head; links = F n.links } in
-    becomes-headed heads heads rooms.slots rooms'.slots i (headed-same heads rooms.slots rooms'.slots i b.others) rooms.spares rooms'.spares _ value.0 (change value.0) value.1 (b.here ∙ ap (option_map change) value.1) refl b.len b.spares
+    becomes-headed heads heads slots slots' i (headed-same heads slots slots' i b.others) _ value.0 (change value.0) value.1 (b.here ∙ ap (option_map change) value.1) refl b.len
 
 -- the tag of a node is changed, and with it the head
-pub becomes-tagged : (heads heads' : List (Option Head)) (rooms rooms' : NodesOf Tag) (i : ℕ) (t : Tag) (head : Head) → SameBut (map (full_node heads) rooms.slots) (map (full_node heads') rooms'.slots) i → IsSome (node_at rooms.slots i) → head_by heads' t ≡ head
-    → Becomes rooms rooms' i (λ n. record { owners = n.owners; head = t; links = n.links })
-    → Becomes (headed rooms heads) (headed rooms' heads') i (λ n. record { owners = n.owners; head = head; links = n.links })
-becomes-tagged heads heads' rooms rooms' i t head others live by b =
-    let value = value_in (node_at rooms.slots i) live in
+pub becomes-tagged : (heads heads' : List (Option Head)) (slots slots' : List (Option (NodeOf Tag))) (i : ℕ) (t : Tag) (head : Head) → SameBut (map (full_node heads) slots) (map (full_node heads') slots') i → IsSome (node_at slots i) → head_by heads' t ≡ head
+    → Becomes slots slots' i (λ n. record { owners = n.owners; head = t; links = n.links })
+    → Becomes (map (full_node heads) slots) (map (full_node heads') slots') i (λ n. record { owners = n.owners; head = head; links = n.links })
+becomes-tagged heads heads' slots slots' i t head others live by b =
+    let value = value_in (node_at slots i) live in
     let change : NodeOf Tag → NodeOf Tag = λ n. record { owners = n.owners; head = t; links = n.links } in
-    becomes-headed heads heads' rooms.slots rooms'.slots i others rooms.spares rooms'.spares _ value.0 (change value.0) value.1 (b.here ∙ ap (option_map change) value.1) (rw by refl) b.len b.spares
+    becomes-headed heads heads' slots slots' i others _ value.0 (change value.0) value.1 (b.here ∙ ap (option_map change) value.1) (rw by refl) b.len
 
-module _ (rooms : NodesOf Tag) (heads : List (Option Head)) (free : List ℕ) (a b : ℕ) (nodes : IsNodes rooms heads free a b) where
+module _ (rooms : RoomsOf Tag) (heads : List (Option Head)) (free : List ℕ) (a b : ℕ) (nodes : IsHeaded rooms heads free a b) where
   -- a node is changed that has the same place for its head
-  pub IsNodes-kept : (rooms' : NodesOf Tag) (i : ℕ) → SameBut rooms.slots rooms'.slots i → place_in (node_at rooms'.slots i) ≡ place_in (node_at rooms.slots i) → count_by is_some rooms'.slots + rooms'.spares ≡ count_by is_some rooms.slots + rooms.spares
-      → IsNodes rooms' heads free a b
-  IsNodes-kept rooms' i same kept total = record {
-    of_heads = Covers-take heads heads free free a b a b _ _ refl refl total refl nodes.of_heads.listed nodes.of_heads;
+  pub IsHeaded-kept : (rooms' : RoomsOf Tag) (i : ℕ) → SameBut rooms.slots rooms'.slots i → place_in (node_at rooms'.slots i) ≡ place_in (node_at rooms.slots i) → count_by is_some rooms'.slots ≤ rooms.room → rooms'.room ≡ rooms.room → IsHeaded rooms' heads free a b
+  IsHeaded-kept rooms' i same kept within room = record {
+    of_heads = rw room nodes.of_heads;
     parts = Parts-kept place_in refl rooms.slots rooms'.slots i same heads kept nodes.parts;
-    few = omega (arith, total, nodes.few);
+    within = omega (arith, within, room);
   }
 
   -- the links of a node are changed
-  pub IsNodes-linked : (rooms' : NodesOf Tag) (i : ℕ) (F : List ℕ → List ℕ) → Becomes rooms rooms' i (λ n. record { owners = n.owners; head = n.head; links = F n.links }) → IsNodes rooms' heads free a b
-  IsNodes-linked rooms' i F b =
-      IsNodes-kept rooms' i b.others (ap place_in b.here ∙ same (node_at rooms.slots i)) (omega (arith, b.len, b.spares))
+  pub IsHeaded-linked : (rooms' : RoomsOf Tag) (i : ℕ) (F : List ℕ → List ℕ) → Becomes rooms.slots rooms'.slots i (λ n. record { owners = n.owners; head = n.head; links = F n.links }) → rooms'.room ≡ rooms.room → IsHeaded rooms' heads free a b
+  IsHeaded-linked rooms' i F b room =
+      IsHeaded-kept rooms' i b.others (ap place_in b.here ∙ same (node_at rooms.slots i)) (omega (arith, b.len, nodes.within)) room
     where
       same : (o : Option (NodeOf Tag)) → place_in (option_map (λ n. record { owners = n.owners; head = n.head; links = F n.links }) o) ≡ place_in o
       same None = refl
       same (Some n) = refl
 
   -- a node has a new place for its head
-  pub IsNodes-named : (rooms' : NodesOf Tag) (heads' : List (Option Head)) (free' : List ℕ) (a' b' i place : ℕ) (head : Head) → a' ≡ a → b' ≡ b → SameBut rooms.slots rooms'.slots i → place_in (node_at rooms.slots i) ≡ None → place_in (node_at rooms'.slots i) ≡ Some place
-      → count_by is_some rooms'.slots + rooms'.spares ≡ count_by is_some rooms.slots + rooms.spares → count_by is_some heads < count_by is_some rooms.slots + rooms.spares
-      → get_or heads place None ≡ None → get_or heads' place None ≡ Some head → SameBut heads heads' place → length heads' + length free ≡ length heads + length free' + 1 → length free' ≡ length free - 1 → IsFree heads' free'
-      → IsNodes rooms' heads' free' a' b'
-  IsNodes-named rooms' heads' free' a' b' i place head same_a same_b same was now total below was_free is same_heads one fewer listed = record {
-    of_heads = Covers-put heads heads' free free' a b a' b' _ _ same_a same_b total below one fewer listed nodes.of_heads;
-    parts = Parts-named place_in refl rooms.slots rooms'.slots i same heads heads' place same_heads nodes.parts was now was_free (rw is refl) (omega (arith, count-apart heads heads' place same_heads, ap one_if_some was_free, ap one_if_some is));
-    few = omega (arith, total, nodes.few);
+  pub IsHeaded-named : (rooms' : RoomsOf Tag) (heads' : List (Option Head)) (free' : List ℕ) (a' b' i place : ℕ) (head : Head) → a' ≡ a → b' ≡ b → SameBut rooms.slots rooms'.slots i → place_in (node_at rooms.slots i) ≡ None → place_in (node_at rooms'.slots i) ≡ Some place
+      → count_by is_some rooms'.slots ≤ rooms.room → rooms'.room ≡ rooms.room → count_by is_some heads < rooms.room → FillsSlot heads free heads' free' place head → IsHeaded rooms' heads' free' a' b'
+  IsHeaded-named rooms' heads' free' a' b' i place head same_a same_b same was now within room below fills = record {
+    of_heads = rw room (Covers-put heads heads' free free' a b a' b' rooms.room place head same_a same_b below fills nodes.of_heads);
+    parts = Parts-named place_in refl rooms.slots rooms'.slots i same heads heads' place fills.others nodes.parts was now fills.was (rw fills.now refl)
+        (omega (arith, count-apart heads heads' place fills.others, ap one_if_some fills.was, ap one_if_some fills.now));
+    within = omega (arith, within, room);
   }
 
   -- a node goes, and its head with it
-  pub IsNodes-left : (rooms' : NodesOf Tag) (heads' : List (Option Head)) (free' : List ℕ) (a' b' i place : ℕ) → a' ≡ a → b' ≡ b → SameBut rooms.slots rooms'.slots i → place_in (node_at rooms.slots i) ≡ Some place → node_at rooms'.slots i ≡ None
-      → count_by is_some rooms'.slots + rooms'.spares ≡ count_by is_some rooms.slots + rooms.spares → heads' ≡ set heads place None → IsFree heads' free' → IsNodes rooms' heads' free' a' b'
-  IsNodes-left rooms' heads' free' a' b' i place same_a same_b same was gone total left listed =
+  pub IsHeaded-left : (rooms' : RoomsOf Tag) (heads' : List (Option Head)) (free' : List ℕ) (a' b' i place : ℕ) → a' ≡ a → b' ≡ b → SameBut rooms.slots rooms'.slots i → place_in (node_at rooms.slots i) ≡ Some place → node_at rooms'.slots i ≡ None
+      → count_by is_some rooms'.slots ≤ rooms.room → rooms'.room ≡ rooms.room → heads' ≡ set heads place None → IsFree heads' free' → IsHeaded rooms' heads' free' a' b'
+  IsHeaded-left rooms' heads' free' a' b' i place same_a same_b same was gone within room left listed =
       let value = value_in (get_or heads place None) (nodes.parts.there i place was) in
       let same_heads : SameBut heads heads' place = rw left (set-apart heads place None) in
       let none : get_or heads' place None ≡ None = rw left (set-there heads place value.0 None value.1) in
       record {
-        of_heads = Covers-take heads heads' free free' a b a' b' _ _ same_a same_b total (ap length left ∙ length-set heads place None) listed nodes.of_heads;
+        of_heads = rw room (Covers-take heads heads' free free' a b a' b' rooms.room place same_a same_b left listed nodes.of_heads);
         parts = Parts-left place_in refl rooms.slots rooms'.slots i same heads heads' place same_heads nodes.parts was gone (omega (arith, count-apart heads heads' place same_heads, ap one_if_some value.1, ap one_if_some none));
-        few = omega (arith, total, nodes.few);
+        within = omega (arith, within, room);
       }
 
   -- a head is written where it lies
-  pub IsNodes-written : (i place : ℕ) (head : Head) → place_in (node_at rooms.slots i) ≡ Some place → IsNodes rooms (set heads place (Some head)) free a b
-  IsNodes-written i place head named =
+  pub IsHeaded-written : (i place : ℕ) (head : Head) → place_in (node_at rooms.slots i) ≡ Some place → IsHeaded rooms (set heads place (Some head)) free a b
+  IsHeaded-written i place head named =
       let value = value_in (get_or heads place None) (nodes.parts.there i place named) in
       record {
-        of_heads = Covers-set heads free a b _ place value.0 head value.1 nodes.of_heads;
+        of_heads = Covers-set heads free a b rooms.room place value.0 head value.1 nodes.of_heads;
         parts = Parts-written place_in rooms.slots heads place value.0 head value.1 nodes.parts;
-        few = nodes.few;
+        within = nodes.within;
       }
 
 -- at most so many heads are in use as there are nodes
@@ -273,19 +262,18 @@ pub alone-named : (slots : List (Option (NodeOf Tag))) (heads : List (Option Hea
 alone-named slots heads i place p named j other also = other (p.apart j i place also named)
 
 -- the place of a changed tag
-pub tagged-place : (rooms rooms' : NodesOf Tag) (i : ℕ) (t : Tag) → IsSome (node_at rooms.slots i) → Becomes rooms rooms' i (λ n. record { owners = n.owners; head = t; links = n.links }) → place_in (node_at rooms'.slots i) ≡ place_of t
-tagged-place rooms rooms' i t live b =
-    let value = value_in (node_at rooms.slots i) live in
+pub tagged-place : (slots slots' : List (Option (NodeOf Tag))) (i : ℕ) (t : Tag) → IsSome (node_at slots i) → Becomes slots slots' i (λ n. record { owners = n.owners; head = t; links = n.links }) → place_in (node_at slots' i) ≡ place_of t
+tagged-place slots slots' i t live b =
+    let value = value_in (node_at slots i) live in
     let change : NodeOf Tag → NodeOf Tag = λ n. record { owners = n.owners; head = t; links = n.links } in
     ap place_in (b.here ∙ ap (option_map change) value.1)
 
 -- a full head is written where it lies
-pub becomes-full : (heads : List (Option Head)) (rooms : NodesOf Tag) (i place : ℕ) (head : Head) → IsSome (node_at rooms.slots i) → Parts place_in rooms.slots heads → place_in (node_at rooms.slots i) ≡ Some place
-    → Becomes (headed rooms heads) (headed rooms (set heads place (Some head))) i (λ n. record { owners = n.owners; head = head; links = n.links })
-becomes-full heads rooms i place head live p named =
+pub becomes-full : (heads : List (Option Head)) (slots : List (Option (NodeOf Tag))) (i place : ℕ) (head : Head) → IsSome (node_at slots i) → Parts place_in slots heads → place_in (node_at slots i) ≡ Some place
+    → Becomes (map (full_node heads) slots) (map (full_node (set heads place (Some head))) slots) i (λ n. record { owners = n.owners; head = head; links = n.links })
+becomes-full heads slots i place head live p named =
     let heads' = set heads place (Some head) in
-    let value = value_in (node_at rooms.slots i) live in
+    let value = value_in (node_at slots i) live in
     let was = value_in (get_or heads place None) (p.there i place named) in
     let by : head_by heads' value.0.head ≡ head = full-by heads' value.0.head place head (sym (ap place_in value.1) ∙ named) (set-there heads place was.0 (Some head) was.1) in
-    becomes-headed heads heads' rooms.slots rooms.slots i
-    (headed-apart heads heads' place rooms.slots rooms.slots i (λ k other. refl) (set-apart heads place (Some head)) (alone-named rooms.slots heads i place p named)) rooms.spares rooms.spares _ value.0 value.0 value.1 value.1 (rw by refl) refl refl
+    becomes-headed heads heads' slots slots i (headed-apart heads heads' place slots slots i (λ k other. refl) (set-apart heads place (Some head)) (alone-named slots heads i place p named)) _ value.0 value.0 value.1 value.1 (rw by refl) refl

@@ -9,7 +9,10 @@ pub mod Written
 pub mod Housed
 pub mod Parting
 pub mod Rooming
+pub mod Lodging
 pub mod Headed
+pub mod Telling
+pub mod Weaving
 pub mod Placed
 pub mod Dying
 pub mod Reached
@@ -26,7 +29,9 @@ pub mod AloneLemmas
 pub mod OwnerLemmas
 pub mod OwnedRows
 pub mod BesideOwner
+pub mod BesidePath
 pub mod Rewritten
 pub mod Copied
 pub mod Owned
 pub mod Freed
+pub mod CallerLemmas

@@ -1,6 +1,6 @@
 -- Edits by an owner, and what stays beside it.
 use Rattle.std.proofs.Common.{◌≡◌, ◌≢◌, ℕ, suc, zero, ◌+◌, ◌-◌, ◌<◌, ◌≤◌, List, [], ◌∷◌, ◌++◌, length, take, drop, get_or, set, refl, ap, sym, subst, ◌∙◌, arith, length-set, length-drop, Bool, true, false, Option, Some, None, inl, inr}
-use Rattle.std.specs.Prelude.{◌==◌, remove, if◌then◌else◌}
+use Rattle.std.specs.Prelude.{◌==◌, insert, remove, if◌then◌else◌}
 use Rattle.std.proofs.lemmas.Bool.{cases_eq, cases_lt}
 use Rattle.std.proofs.lemmas.Bool.Decides.{nat_tests}
 use Rattle.std.proofs.lemmas.List.{get_or-set_same, get_or-set_other, get_or-take, get_or-drop, length-take}
@@ -19,7 +19,7 @@ use Rattle.node_heap.proofs.Edited.{count-at, IsOwners-heap, Trades-Builds, Trad
 use Rattle.node_heap.proofs.EditLaws.{KeepsHeld-own}
 
 -- a node by its head and its links
-relinked-is : {T : Type 0} (r s : Option (Row T)) (index link : ℕ) → 0 < length (links_of r) → head_of s ≡ head_of r → links_of s ≡ set (links_of r) index link → s ≡ relinked index link r
+pub relinked-is : {T : Type 0} (r s : Option (Row T)) (index link : ℕ) → 0 < length (links_of r) → head_of s ≡ head_of r → links_of s ≡ set (links_of r) index link → s ≡ relinked index link r
 relinked-is None s index link some heads links = absurd (omega (arith, some))
 relinked-is (Some (cell x)) s index link some heads links = absurd (omega (arith, some))
 relinked-is (Some (node h l)) None index link some heads links = absurd cc
@@ -34,8 +34,14 @@ count-two (y ∷ ys) zero (suc j) x other at_i at_j found found' = omega (arith,
 count-two (y ∷ ys) (suc i) zero x other at_i at_j found found' = omega (arith, count-cons x y ys, test_same y x found', count-at ys i x (omega (arith, at_i)) found)
 count-two (y ∷ ys) (suc i) (suc j) x other at_i at_j found found' = omega (arith, count-cons x y ys, count-two ys i j x (λ e. other (ap suc e)) (omega (arith, at_i)) (omega (arith, at_j)) found found')
 
+-- a list of which a place was taken out and filled again
+pub insert-removed : (xs : List ℕ) (i x : ℕ) → i < length xs → insert (remove xs i) i x ≡ set xs i x
+insert-removed [] i x lt = absurd (omega (arith, lt))
+insert-removed (y ∷ ys) zero x lt = refl
+insert-removed (y ∷ ys) (suc i) x lt = ap (λ (zs : List ℕ). y ∷ zs) (insert-removed ys i x (omega (arith, lt)))
+
 -- what is counted stands at a place
-found-at : (xs : List ℕ) (y : ℕ) → 0 < count y xs → (j : ℕ) × (j < length xs) × (get_or xs j 0 ≡ y)
+pub found-at : (xs : List ℕ) (y : ℕ) → 0 < count y xs → (j : ℕ) × (j < length xs) × (get_or xs j 0 ≡ y)
 found-at [] y some = absurd (omega (arith, some))
 found-at (x ∷ xs) y some = elim (cases_eq y x) as (λ _. (j : ℕ) × (j < length (x ∷ xs)) × (get_or (x ∷ xs) j 0 ≡ y)) [
   | inl same ↦ (0, omega arith, sym same)

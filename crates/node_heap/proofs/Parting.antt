@@ -1,12 +1,11 @@
 -- What becomes of rooms apart, and of what is seen, where lists of nodes are written.
-use Rattle.std.proofs.Common.{◌≡◌, ◌≢◌, ℕ, ◌+◌, ◌-◌, ◌<◌, ◌/◌, ◌%◌, List, map, get_or, set, length, refl, sym, ap, subst, ◌∙◌, arith, Option, Some, None, IsSome, is_some, count_by, inl, inr}
+use Rattle.std.proofs.Common.{◌≡◌, ◌≢◌, ℕ, ◌+◌, ◌-◌, ◌<◌, ◌≤◌, ◌/◌, ◌%◌, List, map, get_or, set, length, refl, sym, ap, subst, ◌∙◌, arith, Option, Some, None, IsSome, is_some, count_by, inl, inr}
 use Rattle.std.proofs.lemmas.Bool.{cases_eq}
 use Rattle.std.proofs.lemmas.List.{get_or-set_same, get_or-set_other, length-set}
-use Rattle.node_heap.specs.Nodes.{SameBut}
-use Rattle.node_heap.specs.Inside.{IsFree}
-use Rattle.node_heap.specs.Rooms.{large_node, small_node, room_in, nodes_in, Covers, Parts}
-use Rattle.node_heap.specs.declared.entry.NodeSlot.{NodeSlot}
-use Rattle.node_heap.specs.declared.entry.SmallSlot.{SmallSlot}
+use Rattle.node_heap.specs.Nodes.{SameBut, NodeOf}
+use Rattle.node_heap.specs.Small.{Lies, room_in}
+use Rattle.node_heap.specs.Inside.{IsFree, FillsSlot, Covers}
+use Rattle.node_heap.specs.Rooms.{small_node, nodes_in, Parts}
 use Rattle.node_heap.proofs.Counts.{get_or-map_default, sum_by-apart}
 use Rattle.node_heap.proofs.Free.{IsFree-set}
 use Rattle.node_heap.proofs.Stored.{one_if_some}
@@ -34,24 +33,30 @@ module _ {X : Type 0} where
   }
 
   -- one more is in use
-  pub Covers-put : (xs xs' : List (Option X)) (free free' : List ℕ) (a b a' b' t t' : ℕ) → a' ≡ a → b' ≡ b → t' ≡ t → count_by is_some xs < t → length xs' + length free ≡ length xs + length free' + 1 → length free' ≡ length free - 1
-      → IsFree xs' free' → Covers xs free a b t → Covers xs' free' a' b' t'
-  Covers-put xs xs' free free' a b a' b' t t' same_a same_b same below one fewer listed c = record {
-    listed = listed;
-    short = omega (arith, same, below, one, fewer, c.short, c.listed.all_slots);
-    room = omega (arith, same, same_a, c.room);
-    free_room = omega (arith, same, same_b, c.free_room);
+  pub Covers-put : (xs xs' : List (Option X)) (free free' : List ℕ) (a b a' b' t i : ℕ) (x : X) → a' ≡ a → b' ≡ b → count_by is_some xs < t → FillsSlot xs free xs' free' i x → Covers xs free a b t → Covers xs' free' a' b' t
+  Covers-put xs xs' free free' a b a' b' t i x same_a same_b below fills c = record {
+    listed = fills.listed;
+    short = omega (arith, below, fills.one, fills.fewer, c.short, c.listed.all_slots);
+    room = omega (arith, same_a, c.room);
+    free_room = omega (arith, same_b, c.free_room);
   }
 
   -- one fewer is in use
-  pub Covers-take : (xs xs' : List (Option X)) (free free' : List ℕ) (a b a' b' t t' : ℕ) → a' ≡ a → b' ≡ b → t' ≡ t → length xs' ≡ length xs
-      → IsFree xs' free' → Covers xs free a b t → Covers xs' free' a' b' t'
-  Covers-take xs xs' free free' a b a' b' t t' same_a same_b same len listed c = record {
+  pub Covers-take : (xs xs' : List (Option X)) (free free' : List ℕ) (a b a' b' t i : ℕ) → a' ≡ a → b' ≡ b → xs' ≡ set xs i None → IsFree xs' free' → Covers xs free a b t → Covers xs' free' a' b' t
+  Covers-take xs xs' free free' a b a' b' t i same_a same_b gone listed c = record {
     listed = listed;
-    short = omega (arith, same, len, c.short);
-    room = omega (arith, same, same_a, c.room);
-    free_room = omega (arith, same, same_b, c.free_room);
+    short = omega (arith, ap length gone, length-set xs i None, c.short);
+    room = omega (arith, same_a, c.room);
+    free_room = omega (arith, same_b, c.free_room);
   }
+
+  -- so many more, where there is room
+  pub Covers-grow : (xs : List (Option X)) (free : List ℕ) (a b t a' b' t' : ℕ) → t ≤ t' → t' ≤ a' → t' ≤ b' → Covers xs free a b t → Covers xs free a' b' t'
+  Covers-grow xs free a b t a' b' t' more room free_room c = record { listed = c.listed; short = omega (arith, c.short, more); room = room; free_room = free_room }
+
+  -- one more has room among the slots
+  pub Covers-room : (xs : List (Option X)) (free : List ℕ) (a b t : ℕ) → count_by is_some xs < t → Covers xs free a b t → length xs < a + length free
+  Covers-room xs free a b t below c = omega (arith, below, c.room, c.listed.all_slots)
 
   -- room for one more of those in use
   pub Covers-free : (xs : List (Option X)) (free : List ℕ) (a b t i : ℕ) → IsSome (get_or xs i None) → Covers xs free a b t → length free < b
@@ -164,34 +169,32 @@ Parts-written place_in slots places place x y is p = record {
         ]
 
 -- a small slot is written
-module _ (small small' : List (Option SmallSlot)) (i : ℕ) (same : SameBut small small' i) where
-  module _ (large moved moved' : List (Option NodeSlot)) (room : ℕ) (same_rooms : SameBut moved moved' room) (p : Parts room_in small moved) where
+module _ {S L : Type 0} (full : S → L) (unread : L) (small small' : List (Option (NodeOf (Lies S)))) (large : List (Option (NodeOf L))) where
+  module _ (rooms rooms' : List (Option (NodeOf L))) (index room : ℕ) (e : index % 2 ≡ 0) (same : SameBut small small' (index / 2)) (same_rooms : SameBut rooms rooms' room) (p : Parts room_in small rooms) where
     -- other nodes are seen as before
-    seen-apart : (index : ℕ) → index % 2 ≡ 0 → i ≡ index / 2 → ((j : ℕ) → j ≢ i → room_in (get_or small j None) ≢ Some room) → SameBut (nodes_in small large moved) (nodes_in small' large moved') index
-    seen-apart index e at unnamed k other =
-        apart-even (map (small_node moved) small) (map (small_node moved') small') (map large_node large) (index / 2) each k (λ is. other (is ∙ sym (even index e)))
+    seen-apart : ((j : ℕ) → j ≢ index / 2 → room_in (get_or small j None) ≢ Some room) → SameBut (nodes_in full unread small large rooms) (nodes_in full unread small' large rooms') index
+    seen-apart unnamed k other =
+        apart-even (map (small_node full unread rooms) small) (map (small_node full unread rooms') small') large (index / 2) each k (λ is. other (is ∙ sym (even index e)))
       where
-        each : SameBut (map (small_node moved) small) (map (small_node moved') small') (index / 2)
+        each : SameBut (map (small_node full unread rooms) small) (map (small_node full unread rooms') small') (index / 2)
         each j apart_j =
-            let apart_i : j ≢ i = λ is. apart_j (is ∙ at) in
-            get_or-map_default (small_node moved') small' j None ∙ ap (small_node moved') (same j apart_i) ∙ same-node moved moved' room (get_or small j None) same_rooms (unnamed j apart_i) ∙ sym (get_or-map_default (small_node moved) small j None)
+            get_or-map_default (small_node full unread rooms') small' j None ∙ ap (small_node full unread rooms') (same j apart_j) ∙ same-node full unread rooms rooms' room (get_or small j None) same_rooms (unnamed j apart_j)
+            ∙ sym (get_or-map_default (small_node full unread rooms) small j None)
 
-    pub seen-moved : (index : ℕ) → index % 2 ≡ 0 → i ≡ index / 2 → get_or moved room None ≡ None → SameBut (nodes_in small large moved) (nodes_in small' large moved') index
-    seen-moved index e at free = seen-apart index e at (λ j other. none-names room_in refl small small' i same moved moved' room same_rooms p free j)
+    pub seen-moved : get_or rooms room None ≡ None → SameBut (nodes_in full unread small large rooms) (nodes_in full unread small' large rooms') index
+    seen-moved free = seen-apart (λ j other. none-names room_in refl small small' (index / 2) same rooms rooms' room same_rooms p free j)
 
-    pub seen-left : (index : ℕ) → index % 2 ≡ 0 → i ≡ index / 2 → room_in (get_or small i None) ≡ Some room → SameBut (nodes_in small large moved) (nodes_in small' large moved') index
-    seen-left index e at was = seen-apart index e at (others-name room_in refl small small' i same moved moved' room same_rooms p was)
+    pub seen-left : room_in (get_or small (index / 2) None) ≡ Some room → SameBut (nodes_in full unread small large rooms) (nodes_in full unread small' large rooms') index
+    seen-left was = seen-apart (others-name room_in refl small small' (index / 2) same rooms rooms' room same_rooms p was)
 
-  pub seen-small : (large moved : List (Option NodeSlot)) (index : ℕ) → index % 2 ≡ 0 → i ≡ index / 2 → SameBut (nodes_in small large moved) (nodes_in small' large moved) index
-  seen-small large moved index e at k other =
-      apart-even (map (small_node moved) small) (map (small_node moved) small') (map large_node large) (index / 2) each k (λ is. other (is ∙ sym (even index e)))
+  pub seen-small : (rooms : List (Option (NodeOf L))) (index : ℕ) → index % 2 ≡ 0 → SameBut small small' (index / 2) → SameBut (nodes_in full unread small large rooms) (nodes_in full unread small' large rooms) index
+  seen-small rooms index e same k other =
+      apart-even (map (small_node full unread rooms) small) (map (small_node full unread rooms) small') large (index / 2) each k (λ is. other (is ∙ sym (even index e)))
     where
-      each : SameBut (map (small_node moved) small) (map (small_node moved) small') (index / 2)
-      each j apart_j = get_or-map_default (small_node moved) small' j None ∙ ap (small_node moved) (same j (λ is. apart_j (is ∙ at))) ∙ sym (get_or-map_default (small_node moved) small j None)
+      each : SameBut (map (small_node full unread rooms) small) (map (small_node full unread rooms) small') (index / 2)
+      each j apart_j = get_or-map_default (small_node full unread rooms) small' j None ∙ ap (small_node full unread rooms) (same j apart_j) ∙ sym (get_or-map_default (small_node full unread rooms) small j None)
 
-pub seen-large : (small : List (Option SmallSlot)) (large large' moved : List (Option NodeSlot)) (index : ℕ) → SameBut large large' (index / 2) → index % 2 ≢ 0 → SameBut (nodes_in small large moved) (nodes_in small large' moved) index
-seen-large small large large' moved index same e k other =
-    apart-odd (map (small_node moved) small) (map large_node large) (map large_node large') (index / 2) each k (λ is. other (is ∙ sym (odd index e)))
-  where
-    each : SameBut (map large_node large) (map large_node large') (index / 2)
-    each j apart_j = get_or-map_default large_node large' j None ∙ ap large_node (same j apart_j) ∙ sym (get_or-map_default large_node large j None)
+pub seen-large : {S L : Type 0} (full : S → L) (unread : L) (small : List (Option (NodeOf (Lies S)))) (large large' rooms : List (Option (NodeOf L))) (index : ℕ) → index % 2 ≢ 0 → SameBut large large' (index / 2)
+    → SameBut (nodes_in full unread small large rooms) (nodes_in full unread small large' rooms) index
+seen-large full unread small large large' rooms index e same k other =
+    apart-odd (map (small_node full unread rooms) small) large large' (index / 2) same k (λ is. other (is ∙ sym (odd index e)))

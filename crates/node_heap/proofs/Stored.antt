@@ -1,13 +1,15 @@
 -- What the fields of a heap say of the heap that contracts see.
 use Rattle.std.proofs.Common.{◌≡◌, ℕ, ◌+◌, ◌-◌, ◌^◌, ◌<◌, ◌≤◌, List, [], ◌∷◌, length, get_or, refl, sym, ap, ◌∙◌, arith, Option, Some, None, IsSome, is_some, count_by, cond, min}
-use Rattle.std.specs.Prelude.{sum_by, sum}
+use Rattle.std.specs.Prelude.{option_map, sum_by, sum}
 use Rattle.std.proofs.lemmas.List.Sums.{sum_by-cons}
 use Rattle.node_heap.specs.Links.{count, HasLink}
-use Rattle.node_heap.specs.Forms.{Row, cell, node, links_of, links_in, is_cell, is_node}
+use Rattle.node_heap.specs.Forms.{Row, cell, node, trie, links_of, links_in, head_of, kind_of, form_of, is_cell, is_node}
 use Rattle.node_heap.specs.Layout.{row_of_slot, owners_in, rows_of_slots, holds_in, slot_at, places_at, graph_of, cells_in, nodes_in, IsCounted, IsHeap, seen}
 use Rattle.node_heap.specs.Heap.{Heap, row_at, links_at, holds_at, owners_at, IsGraph, row_limit}
 use Rattle.node_heap.specs.Calls.{Makes, Unchanged}
 use Rattle.node_heap.specs.Layout.{Slot}
+use Rattle.node_heap.specs.declared.row.Head.{Head}
+use Rattle.node_heap.specs.declared.row.Head.TheVariants.{Leaf, Inner, Trie, Chain, Pair, State}
 use Rattle.node_heap.proofs.Slots.{row_at-slots, holds_at-slots, owners_at-slots, placed, live-owned}
 use Rattle.node_heap.proofs.Reached.{under-held}
 use Rattle.node_heap.proofs.Reach.{Reaches-by}
@@ -17,7 +19,21 @@ use Rattle.node_heap.proofs.GraphLemmas.{rows-kinds}
 abbrev pub one_if_some : {X : Type 0} → Option X → ℕ
 one_if_some o = cond (is_some o) 1 0
 
+-- the head of a row of a trie, by its kind
+trie-head : (head : Head) (d e n : ℕ) → kind_of head ≡ trie d e n → head ≡ Trie d e n
+trie-head Leaf d e n is = absurd cc
+trie-head (Inner height sums) d e n is = absurd cc
+trie-head (Trie depth entries nodes) d e n is = cc
+trie-head Chain d e n is = absurd cc
+trie-head Pair d e n is = absurd cc
+trie-head State d e n is = absurd cc
+
 module _ {T : Type 0} where
+  pub trie-headed : (r : Option (Row T)) (d e n : ℕ) (links : List ℕ) → option_map form_of r ≡ Some (node (trie d e n) links) → head_of r ≡ Some (Trie d e n)
+  trie-headed None d e n links is = absurd cc
+  trie-headed (Some (cell x)) d e n links is = absurd cc
+  trie-headed (Some (node head items)) d e n links is = let kind : kind_of head ≡ trie d e n = cc in ap Some (trie-head head d e n kind)
+
   pub live_slot : (e : Option (Slot T)) → IsSome (row_of_slot e) → IsSome e
   live_slot None some = cc
   live_slot (Some e) some = refl

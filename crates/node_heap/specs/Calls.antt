@@ -17,6 +17,10 @@ module _ {T : Type 0} where
   abbrev pub KeepsOwners : Heap T → Heap T → Type 0
   KeepsOwners old new = (k : ℕ) → owners_at new k ≡ owners_at old k
 
+  -- each row that was there has as many owners as before
+  abbrev pub KeepsOldOwners : Heap T → Heap T → Type 0
+  KeepsOldOwners old new = (k : ℕ) → IsSome (row_at old k) → owners_at new k ≡ owners_at old k
+
   -- the link has one owner more, and every other link as many as before
   abbrev pub AddsOwner : Heap T → Heap T → ℕ → Type 0
   AddsOwner old new link = (k : ℕ) → owners_at new k ≡ owners_at old k + one_at link k

@@ -1,26 +1,22 @@
--- What a list of slots ends as, where what one of them holds is lent.
-use Rattle.std.specs.Prelude.{ℕ, Some}
-use Rattle.std.specs.Borrow.{Lends, Fml, RattleType, MutBor}
-use Rattle.std.specs.Vec.{with_item}
-use Rattle.std.specs.contracts.alloc.Global as global
-use Rattle.std.specs.contracts.option.Option as option
-use Rattle.std.specs.contracts.vec.Vec as vec
-use Rattle.std.specs.contracts.impls.GlobalAllocator.TheImpl.{ghosts}
-use Rattle.node_heap.specs.declared.entry.NodeSlot.{NodeSlot}
-use Rattle.node_heap.specs.contracts.entry.NodeSlot as node
-use Rattle.node_heap.specs.contracts.entry.NodeRoom as room
+-- What slots end as, where their owners are lent.
+use Rattle.std.specs.Prelude.{ℕ, Option}
+use Rattle.std.specs.Mem.{FitsInMemory}
+use Rattle.std.specs.Borrow.{Lends, Fml, RattleType, MutBor, usize}
+use Rattle.node_heap.specs.Nodes.{NodeOf, owned_by}
+use Rattle.node_heap.specs.Small.{CellOf, Lies, cell_owned_by}
+use Rattle.node_heap.specs.contracts.slot_kinds.CellSlot as cell
+use Rattle.node_heap.specs.contracts.slot_kinds.SmallSlot as small
+use Rattle.node_heap.specs.contracts.slot_kinds.LargeSlot as large
 
-module _ (X : RattleType) where
-  abbrev pub slots_row : RattleType
-  slots_row = vec.the_row (option.the_row X) global.the_row ghosts
+abbrev pub LendsCellOwners : (T : RattleType) → MutBor (Option (CellOf T.Denot)) → MutBor ℕ → Fml
+LendsCellOwners T slot r = Lends (cell.the_row T) usize slot r (λ n. cell_owned_by n slot.now)
 
-  -- the slot at the place holds the last value behind r
-  abbrev pub LendsSlot : MutBor slots_row.Denot → ℕ → MutBor X.Denot → Fml
-  LendsSlot slots place r = Lends slots_row X slots r (λ x. with_item slots.now place (Some x))
+abbrev pub LendsSmallOwners : (S N : RattleType) → MutBor (Option (NodeOf (Lies S.Denot))) → MutBor ℕ → Fml
+LendsSmallOwners S N slot r = Lends (small.the_row S N) usize slot r (λ n. owned_by n slot.now)
 
-abbrev pub rooms_row : RattleType
-rooms_row = vec.the_row room.the_row global.the_row ghosts
+abbrev pub LendsLargeOwners : (L : RattleType) → MutBor (Option (NodeOf L.Denot)) → MutBor ℕ → Fml
+LendsLargeOwners L slot r = Lends (large.the_row L) usize slot r (λ n. owned_by n slot.now)
 
--- the room at the place has the last node behind r
-abbrev pub LendsNodeIn : MutBor rooms_row.Denot → ℕ → MutBor NodeSlot → Fml
-LendsNodeIn rooms place r = Lends rooms_row node.the_row rooms r (λ n. with_item rooms.now place (Some n))
+-- a small slot isn't too large for a pointer to tell its places apart
+abbrev pub SmallSlotFits : (S N : RattleType) → Type 0
+SmallSlotFits S N = FitsInMemory (small.the_row S N)

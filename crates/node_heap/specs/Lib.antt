@@ -5,12 +5,16 @@ pub mod Calls
 pub mod Layout
 pub mod Nodes
 pub mod Small
+pub mod Held
 pub mod Rooms
 pub mod Tags
+pub mod Sets
+pub mod Tries
 pub mod Inside
 pub mod InPlace
 pub mod Owner
 pub mod Glass
+pub mod Reads
 pub mod LendsSlot
 pub mod LendsRoom
 pub mod LendsNode

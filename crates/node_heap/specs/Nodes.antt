@@ -16,6 +16,11 @@ pub record NodesOf (H : Type 0) : Type 0 where
   pub slots : List (Option (NodeOf H))
   pub spares : ℕ
 
+-- nodes, and for how many in all there is room
+pub record RoomsOf (H : Type 0) : Type 0 where
+  pub slots : List (Option (NodeOf H))
+  pub room : ℕ
+
 abbrev pub Node : Type 0
 Node = NodeOf Head
 
@@ -43,9 +48,13 @@ module _ {H : Type 0} where
   owned_by owners None = None
   owned_by owners (Some n) = Some (record { owners = owners; head = n.head; links = n.links })
 
+  -- the same node with these links
+  abbrev pub with_links : List ℕ → Option (NodeOf H) → Option (NodeOf H)
+  with_links links None = None
+  with_links links (Some n) = Some (record { owners = n.owners; head = n.head; links = links })
+
   -- the node at the index is changed by the function, and the others are the same
-  pub record Becomes (old new : NodesOf H) (index : ℕ) (f : NodeOf H → NodeOf H) : Type 0 where
-    pub here : node_at new.slots index ≡ option_map f (node_at old.slots index)
-    pub others : SameBut old.slots new.slots index
-    pub len : count_by is_some new.slots ≡ count_by is_some old.slots
-    pub spares : new.spares ≡ old.spares
+  pub record Becomes (old new : List (Option (NodeOf H))) (index : ℕ) (f : NodeOf H → NodeOf H) : Type 0 where
+    pub here : node_at new index ≡ option_map f (node_at old index)
+    pub others : SameBut old new index
+    pub len : count_by is_some new ≡ count_by is_some old

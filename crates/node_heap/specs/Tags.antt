@@ -1,10 +1,12 @@
 -- What a tag says of a head, and how full heads lie apart.
-use Rattle.std.specs.Prelude.{◌≡◌, ℕ, ◌+◌, ◌<◌, List, [], ◌∷◌, Option, Some, None, count_by, is_some, map, slice_index_or}
-use Rattle.node_heap.specs.Heap.{row_limit}
-use Rattle.node_heap.specs.Nodes.{NodeOf, NodesOf, Node, Nodes}
-use Rattle.node_heap.specs.Rooms.{Covers, Parts}
+use Rattle.std.specs.Prelude.{◌≡◌, ℕ, ◌≤◌, List, [], ◌∷◌, Option, Some, None, count_by, is_some, map, slice_index_or}
+use Rattle.node_heap.specs.Nodes.{NodeOf, RoomsOf, Node}
+use Rattle.node_heap.specs.Inside.{Covers}
+use Rattle.node_heap.specs.Rooms.{Parts}
 use Rattle.node_heap.specs.declared.row.Head.{Head}
 use Rattle.node_heap.specs.declared.row.Head.TheVariants as lent_head
+use Rattle.node_heap.specs.declared.tags.FewHead.{FewHead}
+use Rattle.node_heap.specs.declared.tags.FewHead.TheVariants as few
 use Rattle.node_heap.specs.declared.tags.Tag.{Tag}
 use Rattle.node_heap.specs.declared.tags.Tag.TheVariants.{Leaf, Inner, Chain, Pair, State, Apart}
 
@@ -16,6 +18,12 @@ plain_head Chain = Some lent_head.Chain
 plain_head Pair = Some lent_head.Pair
 plain_head State = Some lent_head.State
 plain_head (Apart _) = None
+
+-- the tag of a head that lies in a small slot
+abbrev pub few_tag : FewHead → Tag
+few_tag few.Chain = Chain
+few_tag few.Pair = Pair
+few_tag few.State = State
 
 -- the heads that are lent
 pub record AreHeads (leaf : Head) (inner : List Head) (chain pair state : Head) : Type 0 where
@@ -56,11 +64,11 @@ module _ (heads : List (Option Head)) where
   full_node (Some n) = Some (record { owners = n.owners; head = head_by n.head; links = n.links })
 
 -- what contracts see of nodes whose full heads lie apart
-abbrev pub headed : NodesOf Tag → List (Option Head) → Nodes
-headed rooms heads = record { slots = map (full_node heads) rooms.slots; spares = rooms.spares }
+abbrev pub headed : RoomsOf Tag → List (Option Head) → RoomsOf Head
+headed rooms heads = record { slots = map (full_node heads) rooms.slots; room = rooms.room }
 
--- what is true of the fields of all nodes
-pub record IsNodes (rooms : NodesOf Tag) (heads : List (Option Head)) (free : List ℕ) (capacity free_capacity : ℕ) : Type 0 where
-  pub of_heads : Covers heads free capacity free_capacity (count_by is_some rooms.slots + rooms.spares)
+-- what is true of the fields of these nodes
+pub record IsHeaded (rooms : RoomsOf Tag) (heads : List (Option Head)) (free : List ℕ) (capacity free_capacity : ℕ) : Type 0 where
+  pub of_heads : Covers heads free capacity free_capacity rooms.room
   pub parts : Parts place_in rooms.slots heads
-  pub few : count_by is_some rooms.slots + rooms.spares < row_limit
+  pub within : count_by is_some rooms.slots ≤ rooms.room

@@ -1,14 +1,16 @@
 //! The heap and its calls.
-ghost use Rattle.std.specs.Prelude.{◌≡◌, ◌≢◌, ℕ, ◌+◌, ◌*◌, ◌∷◌, None, ◌-◌, ◌^◌, ◌<◌, ◌≤◌, ◌↔◌, [], length, Some, IsSome, OnOk, OnErr, IsOk, option_copied, slice_index, slice_set, insert, remove};
+ghost use Rattle.std.specs.Prelude.{◌≡◌, ◌≢◌, ℕ, ◌+◌, ◌*◌, ◌∷◌, None, ◌-◌, ◌^◌, ◌<◌, ◌≤◌, ◌↔◌, [], length, Some, IsSome, OnOk, OnErr, IsOk, option_copied, option_map, List, slice_index, slice_set, insert, remove};
 ghost use Rattle.node_heap.specs.Links.{count, Reaches};
 ghost use Rattle.node_heap.specs.Forms.{cell, node, links_of, value_of, head_of, is_cell, is_node};
-ghost use Rattle.node_heap.specs.Heap.{row_at, links_at, holds_at, owners_at, live_count, hold_count, one_at, HasSpares, IsGraph, most_holds};
+ghost use Rattle.node_heap.specs.Reads.{kind_said, sums_in, IsTrieForm};
+ghost use Rattle.node_heap.specs.Heap.{row_at, form_at, links_at, holds_at, owners_at, live_count, hold_count, one_at, HasSpares, IsGraph, most_holds};
 ghost use Rattle.node_heap.specs.Calls.{KeepsBelow, SameRows, Adds, AddsOwner, KeepsOwners, Makes, Releases, Extends, KeepsHeld, KeepsTrees, Unchanged, HasGreater, Builds};
 ghost use Rattle.node_heap.specs.InPlace.{child_at, other_at, Writes, Changes};
 ghost use Rattle.node_heap.specs.Layout.{graph_of, slot_at, owners_in, filled_count, Copies, rows_of_slots, IsCounted, IsDying, IsLow, KeepsRoom, Thins, cells_in, nodes_in};
 
 use crate::entry::RowLinks;
-use crate::row::{Head, Link};
+use crate::lists::ROWS;
+use crate::row::{Head, Kind, Link, TrieRef};
 use crate::table::Table;
 use elem_core::NoMemory;
 use std::alloc::Global;
@@ -206,6 +208,33 @@ impl<T> Heap<T> {
         self.table.head(link.place)
     }
 
+    /// What a live link's node is, without its sums, and none for a cell.
+    #[inline]
+    pub fn kind(&self, link: Link) -> Option<Kind>
+        requires { IsSome (row_at self.now link) }
+        ensures { option_map kind_said result ≡ head_of (form_at self.now link) }
+    {
+        self.table.kind(link.place)
+    }
+
+    /// The sums of a live link's row, and none where it keeps none.
+    #[inline]
+    pub fn sums(&self, link: Link) -> &[u32]
+        requires { IsSome (row_at self.now link) }
+        ensures { result.now ≡ sums_in (row_at self.now link) }
+    {
+        self.table.sums(link.place)
+    }
+
+    /// The sets and the links of a row of a trie.
+    #[inline]
+    pub fn trie(&self, link: Link) -> TrieRef<'_>
+        requires { (entries nodes : ℕ) × (links : List ℕ) × IsTrieForm (form_at self.now link) entries nodes links }
+        ensures { IsTrieForm (form_at self.now link) result.entries result.nodes result.links.now }
+    {
+        self.table.trie(link.place)
+    }
+
     /// The links of a live link's row, at most 32. A cell has none.
     pub fn links(&self, link: Link) -> &[Link]
         requires { IsSome (row_at self.now link) }
@@ -349,9 +378,6 @@ impl<T: Drop> Heap<T> {
         free_waiting(&mut self.table, first);
     }
 }
-
-// One more than the greatest number of rows, spares among them.
-const ROWS: usize = 0x0100_0000_0000_0000;
 
 // What the last row that waits names.
 const END: usize = usize::MAX;

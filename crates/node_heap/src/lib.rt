@@ -13,8 +13,12 @@ mod lists;
 mod nodes;
 mod rooms;
 mod row;
+mod rows;
+mod sets;
+mod slot_kinds;
 mod table;
 mod tags;
+mod tries;
 
 pub use entry::RowLinks;
 pub use glass::{Glass, Steps};
@@ -23,4 +27,4 @@ pub use laws::{
     alone_rows_stay, changes_add_up, changes_keep_the_rest, edits_by_an_owner, gains_add_up,
     owned_rows_keep_off, rows_are_owned, rows_come_and_go, unfolds_to_one_tree,
 };
-pub use row::{Head, Link, MOST_HEIGHT, Sums};
+pub use row::{Head, Kind, Link, MOST_HEIGHT, Sums, TrieRef};

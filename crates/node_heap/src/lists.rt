@@ -1,14 +1,11 @@
-//! Lists of slots and of rooms, with their free ones on a stack.
-ghost use Rattle.std.specs.Prelude.{vec_len, vec_capacity, ◌≡◌, ℕ, ◌+◌, ◌*◌, ◌-◌, ◌<◌, ◌≤◌, [], ◌∷◌, ◌++◌, length, Some, None, IsSome, OnOk, IsOk, slice_index_or, slice_set};
+//! Lists of slots, with their free ones on a stack.
+ghost use Rattle.std.specs.Prelude.{vec_len, vec_capacity, ◌≡◌, ◌+◌, ◌<◌, ◌≤◌, [], ◌∷◌, ◌++◌, length, Some, None, IsSome, OnOk, IsOk, slice_index_or, slice_set};
 ghost use Rattle.node_heap.specs.Heap.{row_limit};
-ghost use Rattle.std.specs.Borrow.{sem};
-ghost use Rattle.node_heap.specs.LendsSlot.{LendsSlot, LendsNodeIn};
-ghost use Rattle.node_heap.specs.Inside.{IsFree};
-ghost use Rattle.node_heap.specs.Nodes.{SameBut};
+ghost use Rattle.node_heap.specs.Inside.{IsFree, FillsSlot, Covers};
+ghost use Rattle.node_heap.specs.Small.{here};
 
-use crate::entry::{NodeRoom, NodeSlot};
 use crate::row::Link;
-use crate::tags::Tag;
+use crate::slot_kinds::{CellSlot, LargeSlot, SmallSlot};
 use std::alloc::AllocError;
 use std::mem;
 
@@ -23,56 +20,18 @@ pub(crate) fn slot<X>(slots: &Vec<Option<X>>, place: usize) -> &X
     }
 }
 
-// What the slot holds, for writing.
-pub(crate) fn slot_mut<X>(slots: &mut Vec<Option<X>>, place: usize) -> &mut X
-    requires { IsSome (slice_index_or slots.old.items place None) }
-    ensures* writes_back { sem 𝓛 (LendsSlot X.row slots.entry place result) }
-    ensures value { slice_index_or slots.old.items place None ≡ Some result.now }
+// Room for so many in all, and for twice as many as there was room for, so that it seldom grows.
+pub(crate) fn roomier(total: usize, room: usize) -> usize
+    requires few { total < row_limit }
+    requires old { room < row_limit }
+    ensures suffices { total ≤ result }
+    ensures few { result < row_limit }
 {
-    match &mut slots[place] {
-        Some(value) => value,
-        None => unreachable!(),
-    }
+    total.max((2 * room).min(ROWS - 1))
 }
 
-// The node in the room.
-pub(crate) fn node_in(rooms: &Vec<NodeRoom>, place: usize) -> &NodeSlot
-    requires { IsSome (slice_index_or rooms.now.items place None) }
-    ensures { slice_index_or rooms.now.items place None ≡ Some result.now }
-{
-    rooms[place].node()
-}
-
-// The node in the room, for writing.
-pub(crate) fn node_in_mut(rooms: &mut Vec<NodeRoom>, place: usize) -> &mut NodeSlot
-    requires { IsSome (slice_index_or rooms.old.items place None) }
-    ensures* writes_back { sem 𝓛 (LendsNodeIn rooms.entry place result) }
-    ensures value { slice_index_or rooms.old.items place None ≡ Some result.now }
-{
-    &mut rooms[place].node
-}
-
-// Makes room for so many spares, of which the free slots are some.
-pub(crate) fn make_room<X>(
-    slots: &mut Vec<X>,
-    free: &mut Vec<usize>,
-    spares: usize,
-) -> Result<(), AllocError>
-    requires few { vec_len slots.old + spares < 2 * row_limit }
-    requires more { vec_len free.old ≤ spares }
-    requires inside { vec_len free.old ≤ vec_len slots.old }
-    ensures slots { slots.new.items ≡ slots.old.items }
-    ensures free { free.new.items ≡ free.old.items }
-    ensures room { OnOk result (vec_len slots.old + spares ≤ vec_capacity slots.new + vec_len free.old) }
-    ensures free_room { OnOk result (vec_len slots.old + spares ≤ vec_capacity free.new + vec_len free.old) }
-    ensures grows { vec_capacity slots.old ≤ vec_capacity slots.new }
-    ensures free_grows { vec_capacity free.old ≤ vec_capacity free.new }
-    ensures ample { vec_len slots.old + spares ≤ vec_capacity slots.old + vec_len free.old → vec_len slots.old + spares ≤ vec_capacity free.old + vec_len free.old → IsOk result }
-{
-    slots.reserve(spares - free.len())?;
-    free.reserve(slots.len() - free.len() + (spares - free.len()))?;
-    Ok(())
-}
+// One more than the greatest number of rows, spares among them.
+pub(crate) const ROWS: usize = 0x0100_0000_0000_0000;
 
 // Makes room, so that the list has so many slots in all, of which no more are in use.
 pub(crate) fn cover<X>(
@@ -89,23 +48,44 @@ pub(crate) fn cover<X>(
     ensures free_room { OnOk result (total ≤ vec_capacity free.new) }
     ensures grows { vec_capacity slots.old ≤ vec_capacity slots.new }
     ensures free_grows { vec_capacity free.old ≤ vec_capacity free.new }
-    ensures ample { total ≤ vec_capacity slots.old → total ≤ vec_capacity free.old → IsOk result }
 {
-    let used = slots.len() - free.len();
-    make_room(slots, free, total - used)
+    slots.reserve(total - slots.len())?;
+    free.reserve(total - free.len())?;
+    Ok(())
+}
+
+// Makes room for so many cells in all, where there is less, and mostly for more.
+pub(crate) fn reserve_cells<T>(
+    cells: &mut Vec<CellSlot<T>>,
+    free: &mut Vec<usize>,
+    room: &mut usize,
+    total: usize,
+) -> Result<(), AllocError>
+    requires few { total < row_limit }
+    requires old { room.old < row_limit }
+    requires covers { Covers cells.old.items free.old.items (vec_capacity cells.old) (vec_capacity free.old) room.old }
+    ensures cells { cells.new.items ≡ cells.old.items }
+    ensures free { free.new.items ≡ free.old.items }
+    ensures few { room.new < row_limit }
+    ensures grows { room.old ≤ room.new }
+    ensures covers { Covers cells.new.items free.new.items (vec_capacity cells.new) (vec_capacity free.new) room.new }
+    ensures suffices { OnOk result (total ≤ room.new) }
+    ensures ample { total ≤ room.old → IsOk result }
+{
+    if total <= *room {
+        return Ok(());
+    }
+    let more = roomier(total, *room);
+    cover(cells, free, more)?;
+    *room = more;
+    Ok(())
 }
 
 // Puts the value in a free slot, or in a new one where none is free. Answers which.
 pub(crate) fn put<X>(slots: &mut Vec<Option<X>>, free: &mut Vec<usize>, value: X) -> usize
     requires free { IsFree slots.old.items free.old.items }
     requires room { vec_len slots.old < vec_capacity slots.old + vec_len free.old }
-    ensures was { slice_index_or slots.old.items result None ≡ None }
-    ensures now { slice_index_or slots.new.items result None ≡ Some value }
-    ensures others { SameBut slots.old.items slots.new.items result }
-    ensures free { IsFree slots.new.items free.new.items }
-    ensures one { vec_len slots.new + vec_len free.old ≡ vec_len slots.old + vec_len free.new + 1 }
-    ensures inside { result < vec_len slots.new }
-    ensures fewer { vec_len free.new ≡ vec_len free.old - 1 }
+    ensures fills { FillsSlot slots.old.items free.old.items slots.new.items free.new.items result value }
     ensures capacity { vec_capacity slots.new ≡ vec_capacity slots.old }
     ensures free_capacity { vec_capacity free.new ≡ vec_capacity free.old }
 {
@@ -122,86 +102,143 @@ pub(crate) fn put<X>(slots: &mut Vec<Option<X>>, free: &mut Vec<usize>, value: X
     }
 }
 
-// Takes the value out of the slot, which is free then.
-pub(crate) fn take_out<X>(slots: &mut Vec<Option<X>>, free: &mut Vec<usize>, place: usize) -> X
-    requires some { IsSome (slice_index_or slots.old.items place None) }
-    requires free { IsFree slots.old.items free.old.items }
-    requires room { vec_len free.old < vec_capacity free.old }
-    ensures value { slice_index_or slots.old.items place None ≡ Some result }
-    ensures slots { slots.new.items ≡ slice_set slots.old.items place None }
-    ensures free { IsFree slots.new.items free.new.items }
-    ensures one { vec_len free.new ≡ vec_len free.old + 1 }
-    ensures capacity { vec_capacity slots.new ≡ vec_capacity slots.old }
-    ensures free_capacity { vec_capacity free.new ≡ vec_capacity free.old }
-{
-    match mem::replace(&mut slots[place], None) {
-        Some(value) => {
-            free.push_reserved(place);
-            value
-        }
-        None => unreachable!(),
-    }
-}
-
-// Puts a room with this node, which has one owner, behind the others.
-fn push_filled(rooms: &mut Vec<NodeRoom>, head: Tag, links: &[Link])
-    requires room { vec_len rooms.old < vec_capacity rooms.old }
-    requires short { length links.now ≤ 32 }
-    ensures items { rooms.new.items ≡ rooms.old.items ++ Some (record { owners = 1; head = head; links = links.now }) ∷ [] }
-    ensures len { vec_len rooms.new ≡ vec_len rooms.old + 1 }
-    ensures capacity { vec_capacity rooms.new ≡ vec_capacity rooms.old }
-{
-    let place = rooms.len();
-    // The node is written where it is to lie, which spares a copy of its links.
-    rooms.push_reserved(NodeRoom::blank());
-    rooms[place].fill(head, links);
-}
-
-// Writes a node with one owner and these links in a free room, or in a new one where none is free. Answers which.
-pub(crate) fn fill(
-    rooms: &mut Vec<NodeRoom>,
-    free: &mut Vec<usize>,
-    head: Tag,
-    links: &[Link],
-) -> usize
-    requires free { IsFree rooms.old.items free.old.items }
-    requires room { vec_len rooms.old < vec_capacity rooms.old + vec_len free.old }
-    requires short { length links.now ≤ 32 }
-    ensures was { slice_index_or rooms.old.items result None ≡ None }
-    ensures now { slice_index_or rooms.new.items result None ≡ Some (record { owners = 1; head = head; links = links.now }) }
-    ensures others { SameBut rooms.old.items rooms.new.items result }
-    ensures free { IsFree rooms.new.items free.new.items }
-    ensures one { vec_len rooms.new + vec_len free.old ≡ vec_len rooms.old + vec_len free.new + 1 }
-    ensures inside { result < vec_len rooms.new }
-    ensures fewer { vec_len free.new ≡ vec_len free.old - 1 }
-    ensures capacity { vec_capacity rooms.new ≡ vec_capacity rooms.old }
+// Puts a cell with this value and one owner in a free slot, or in a new one where none is free. Answers which.
+pub(crate) fn put_cell<T>(cells: &mut Vec<CellSlot<T>>, free: &mut Vec<usize>, value: T) -> usize
+    requires free { IsFree cells.old.items free.old.items }
+    requires room { vec_len cells.old < vec_capacity cells.old + vec_len free.old }
+    ensures fills { FillsSlot cells.old.items free.old.items cells.new.items free.new.items result (record { owners = 1; value = value }) }
+    ensures capacity { vec_capacity cells.new ≡ vec_capacity cells.old }
     ensures free_capacity { vec_capacity free.new ≡ vec_capacity free.old }
 {
     match free.pop() {
         Some(place) => {
-            rooms[place].fill(head, links);
+            cells[place].fill(value);
             place
         }
         None => {
-            let place = rooms.len();
-            push_filled(rooms, head, links);
+            let place = cells.len();
+            cells.push_reserved(CellSlot::of(value));
             place
         }
     }
 }
 
-// Gives up the node in the room, which is free then.
-pub(crate) fn empty(rooms: &mut Vec<NodeRoom>, free: &mut Vec<usize>, place: usize)
-    requires some { IsSome (slice_index_or rooms.old.items place None) }
-    requires free { IsFree rooms.old.items free.old.items }
+// Gives up the cell in the slot, which is free then.
+pub(crate) fn empty_cell<T: Drop>(cells: &mut Vec<CellSlot<T>>, free: &mut Vec<usize>, place: usize)
+    requires some { IsSome (slice_index_or cells.old.items place None) }
+    requires free { IsFree cells.old.items free.old.items }
     requires room { vec_len free.old < vec_capacity free.old }
-    ensures slots { rooms.new.items ≡ slice_set rooms.old.items place None }
-    ensures free { IsFree rooms.new.items free.new.items }
-    ensures one { vec_len free.new ≡ vec_len free.old + 1 }
-    ensures capacity { vec_capacity rooms.new ≡ vec_capacity rooms.old }
+    ensures slots { cells.new.items ≡ slice_set cells.old.items place None }
+    ensures free { IsFree cells.new.items free.new.items }
+    ensures capacity { vec_capacity cells.new ≡ vec_capacity cells.old }
     ensures free_capacity { vec_capacity free.new ≡ vec_capacity free.old }
 {
-    rooms[place].empty();
+    cells[place].empty();
+    free.push_reserved(place);
+}
+
+// Puts a node with one owner and these links in a free slot, or in a new one where none is free. Answers which.
+pub(crate) fn put_small<S: Copy, const N: usize>(
+    small: &mut Vec<SmallSlot<S, N>>,
+    free: &mut Vec<usize>,
+    head: S,
+    links: &[Link],
+) -> usize
+    requires free { IsFree small.old.items free.old.items }
+    requires room { vec_len small.old < vec_capacity small.old + vec_len free.old }
+    requires few { length links.now ≤ N }
+    requires fits { N < 256 }
+    ensures fills { FillsSlot small.old.items free.old.items small.new.items free.new.items result (record { owners = 1; head = here head; links = links.now }) }
+    ensures capacity { vec_capacity small.new ≡ vec_capacity small.old }
+    ensures free_capacity { vec_capacity free.new ≡ vec_capacity free.old }
+{
+    match free.pop() {
+        Some(place) => {
+            small[place].fill(1, head, links);
+            place
+        }
+        None => {
+            let place = small.len();
+            small.push_reserved(SmallSlot::of(1, head, links));
+            place
+        }
+    }
+}
+
+// Gives up the node in the slot, which is free then.
+pub(crate) fn empty_small<S: Copy, const N: usize>(
+    small: &mut Vec<SmallSlot<S, N>>,
+    free: &mut Vec<usize>,
+    place: usize,
+)
+    requires some { IsSome (slice_index_or small.old.items place None) }
+    requires free { IsFree small.old.items free.old.items }
+    requires room { vec_len free.old < vec_capacity free.old }
+    ensures slots { small.new.items ≡ slice_set small.old.items place None }
+    ensures free { IsFree small.new.items free.new.items }
+    ensures capacity { vec_capacity small.new ≡ vec_capacity small.old }
+    ensures free_capacity { vec_capacity free.new ≡ vec_capacity free.old }
+{
+    small[place].empty();
+    free.push_reserved(place);
+}
+
+// Puts a slot with this node, which has one owner, behind the others.
+fn push_large<L: Copy>(large: &mut Vec<LargeSlot<L>>, head: L, links: &[Link])
+    requires room { vec_len large.old < vec_capacity large.old }
+    requires short { length links.now ≤ 32 }
+    ensures items { large.new.items ≡ large.old.items ++ Some (record { owners = 1; head = head; links = links.now }) ∷ [] }
+    ensures len { vec_len large.new ≡ vec_len large.old + 1 }
+    ensures capacity { vec_capacity large.new ≡ vec_capacity large.old }
+{
+    let place = large.len();
+    // The node is written where it is to lie, which spares a copy of its links.
+    large.push_reserved(LargeSlot::blank(head));
+    large[place].fill(head, links);
+}
+
+// Puts a node with one owner and these links in a free slot, or in a new one where none is free. Answers which.
+pub(crate) fn put_large<L: Copy>(
+    large: &mut Vec<LargeSlot<L>>,
+    free: &mut Vec<usize>,
+    head: L,
+    links: &[Link],
+) -> usize
+    requires free { IsFree large.old.items free.old.items }
+    requires room { vec_len large.old < vec_capacity large.old + vec_len free.old }
+    requires short { length links.now ≤ 32 }
+    ensures fills { FillsSlot large.old.items free.old.items large.new.items free.new.items result (record { owners = 1; head = head; links = links.now }) }
+    ensures capacity { vec_capacity large.new ≡ vec_capacity large.old }
+    ensures free_capacity { vec_capacity free.new ≡ vec_capacity free.old }
+{
+    match free.pop() {
+        Some(place) => {
+            large[place].fill(head, links);
+            place
+        }
+        None => {
+            let place = large.len();
+            push_large(large, head, links);
+            place
+        }
+    }
+}
+
+// Gives up the node in the slot, which is free then.
+pub(crate) fn empty_large<L: Copy>(
+    large: &mut Vec<LargeSlot<L>>,
+    free: &mut Vec<usize>,
+    place: usize,
+)
+    requires some { IsSome (slice_index_or large.old.items place None) }
+    requires free { IsFree large.old.items free.old.items }
+    requires room { vec_len free.old < vec_capacity free.old }
+    ensures slots { large.new.items ≡ slice_set large.old.items place None }
+    ensures free { IsFree large.new.items free.new.items }
+    ensures capacity { vec_capacity large.new ≡ vec_capacity large.old }
+    ensures free_capacity { vec_capacity free.new ≡ vec_capacity free.old }
+{
+    large[place].empty();
     free.push_reserved(place);
 }
 
@@ -212,16 +249,6 @@ pub(crate) fn set_slot<X: Drop>(slots: &mut Vec<Option<X>>, place: usize, value:
     ensures capacity { vec_capacity slots.new ≡ vec_capacity slots.old }
 {
     slots[place] = Some(value);
-}
-
-// Writes a node with one owner over what lies in the room.
-pub(crate) fn write_room(rooms: &mut Vec<NodeRoom>, place: usize, head: Tag, links: &[Link])
-    requires inside { place < vec_len rooms.old }
-    requires short { length links.now ≤ 32 }
-    ensures rooms { rooms.new.items ≡ slice_set rooms.old.items place (Some (record { owners = 1; head = head; links = links.now })) }
-    ensures capacity { vec_capacity rooms.new ≡ vec_capacity rooms.old }
-{
-    rooms[place].fill(head, links);
 }
 
 // Gives up what the slot holds, which is free then.

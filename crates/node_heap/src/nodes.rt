@@ -1,38 +1,41 @@
-//! The nodes of a heap: their rooms, and apart from these the heads that say more than a tag does.
-ghost use Rattle.std.specs.Prelude.{◌≡◌, ℕ, ◌+◌, ◌*◌, ◌<◌, ◌≤◌, [], length, Some, None, IsSome, OnOk, OnErr, IsOk, count_by, is_some, slice_index, slice_set, insert, remove};
+//! The nodes of a heap: index 2i is index i of those that are made as no row of a trie, and index 2i + 1 index i of the rows of tries.
+ghost use Rattle.std.specs.Prelude.{◌≡◌, ℕ, ◌+◌, ◌*◌, ◌<◌, ◌≤◌, [], length, Some, None, IsSome, OnOk, OnErr, IsOk, option_map, count_by, is_some, slice_index, slice_set, insert, remove};
 ghost use Rattle.node_heap.specs.Heap.{row_limit};
 ghost use Rattle.std.specs.Borrow.{sem};
+ghost use Rattle.node_heap.specs.Forms.{kind_of, sums_of};
+ghost use Rattle.node_heap.specs.Reads.{kind_said};
+ghost use Rattle.node_heap.specs.declared.row.Head.TheVariants.{Trie};
 ghost use Rattle.node_heap.specs.Nodes.{SameBut, node_at, node_owners, node_head, node_links, Becomes};
 
 use crate::entry::RowLinks;
-use crate::lists::{cover, put, set_slot, slot, vacate};
-use crate::rooms::Rooms;
-use crate::row::{Head, Link};
-use crate::tags::{Heads, Tag, tag_of};
+use crate::lists::roomier;
+use crate::row::{Head, Kind, Link, TrieRef};
+use crate::rows::Rows;
+use crate::sets::Sets;
+use crate::tries::Tries;
 use std::alloc::{AllocError, Global};
 use std::marker::Model;
 
-/// A room for each node, and spares.
+/// The nodes, and spares of which either kind is made.
 #[derive(Drop)]
 pub(crate) struct Nodes {
-    rooms: Rooms,
-    // The heads apart, which tags name.
-    heads: Vec<Option<Head>>,
-    free_heads: Vec<usize>,
-    lent: Heads,
+    rows: Rows,
+    tries: Tries,
+    len: usize,
+    spares: usize,
+    // Of each kind there is room for so many.
+    room: usize,
 }
 
 impl Model for Nodes {
     ghost use Rattle.node_heap.specs.Nodes.{Nodes as Seen};
+    ghost use Rattle.node_heap.specs.Inside.{nodes_of, AreNodes};
 
     ghost Value = { Seen };
 
-    ghost use Rattle.std.specs.Vec.{vec_capacity};
-    ghost use Rattle.node_heap.specs.Tags.{headed, IsNodes};
+    ghost view = { λ n. nodes_of n.rows n.tries n.spares };
 
-    ghost view = { λ n. headed n.rooms n.heads.items };
-
-    ghost invariant = { λ n. IsNodes n.rooms n.heads.items n.free_heads.items (vec_capacity n.heads) (vec_capacity n.free_heads) };
+    ghost invariant = { λ n. AreNodes n.rows n.tries n.len n.spares n.room };
 }
 
 impl Nodes {
@@ -44,10 +47,11 @@ impl Nodes {
         ensures spares { result.spares ≡ 0 }
     {
         Nodes {
-            rooms: Rooms::new(alloc),
-            heads: Vec::new(alloc),
-            free_heads: Vec::new(alloc),
-            lent: Heads::new(),
+            rows: Rows::new(alloc),
+            tries: Tries::new(alloc),
+            len: 0,
+            spares: 0,
+            room: 0,
         }
     }
 
@@ -55,13 +59,13 @@ impl Nodes {
     pub(crate) fn len(&self) -> usize
         ensures { result ≡ count_by is_some self.now.slots }
     {
-        self.rooms.len()
+        self.len
     }
 
     pub(crate) fn spares(&self) -> usize
         ensures { result ≡ self.now.spares }
     {
-        self.rooms.spares()
+        self.spares
     }
 
     // Makes just so many spares, no fewer than there are. Refused, it leaves the nodes as they were.
@@ -73,14 +77,17 @@ impl Nodes {
         ensures refused { OnErr result (self.new ≡ self.old) }
         ensures ample { self.old.spares ≡ spares → IsOk result }
     {
-        // Often there are enough.
-        if spares == self.rooms.spares() {
+        let total = self.len + spares;
+        if total <= self.room {
+            self.spares = spares;
             return Ok(());
         }
-        // Any node may have a head apart.
-        let total = self.rooms.len() + spares;
-        cover(&mut self.heads, &mut self.free_heads, total)?;
-        self.rooms.reserve(spares)?;
+        // A spare may become a node of either kind.
+        let room = roomier(total, self.room);
+        self.rows.reserve(room)?;
+        self.tries.reserve(room)?;
+        self.room = room;
+        self.spares = spares;
         Ok(())
     }
 
@@ -93,53 +100,123 @@ impl Nodes {
         ensures others { SameBut self.old.slots self.new.slots result }
         ensures len { count_by is_some self.new.slots ≡ count_by is_some self.old.slots + 1 }
         ensures spares { self.new.spares + 1 ≡ self.old.spares }
-        ensures low { result < 2 * row_limit }
+        ensures low { result < 8 * row_limit }
     {
-        match tag_of(&head) {
-            Some(tag) => self.rooms.put(tag, links),
-            None => {
-                let place = put(&mut self.heads, &mut self.free_heads, head);
-                self.rooms.put(Tag::Apart { place }, links)
-            }
+        self.spares -= 1;
+        self.len += 1;
+        match &head {
+            Head::Trie { .. } => 2 * self.tries.put(head, links) + 1,
+            _ => 2 * self.rows.put(head, links),
         }
     }
 
     // The owners of the node at the index.
+    #[inline]
     pub(crate) fn owners(&self, index: usize) -> usize
         requires { IsSome (node_at self.now.slots index) }
         ensures { result ≡ node_owners (node_at self.now.slots index) }
     {
-        self.rooms.owners(index)
+        if index % 2 == 0 {
+            self.rows.owners(index / 2)
+        } else {
+            self.tries.owners(index / 2)
+        }
     }
 
     // The owners of the node at the index, for writing.
+    #[inline]
     pub(crate) fn owners_mut(&mut self, index: usize) -> &mut usize
         requires { IsSome (node_at self.old.slots index) }
         ensures* writes_back { sem 𝓛 (LendsNodeOwners self.entry index result) }
         ensures value { result.now ≡ node_owners (node_at self.old.slots index) }
     {
-        self.rooms.owners_mut(index)
+        if index % 2 == 0 {
+            self.rows.owners_mut(index / 2)
+        } else {
+            self.tries.owners_mut(index / 2)
+        }
     }
 
     // The head of the node at the index.
+    #[inline]
     pub(crate) fn head(&self, index: usize) -> &Head
         requires { IsSome (node_at self.now.slots index) }
         ensures { node_head (node_at self.now.slots index) ≡ Some result.now }
     {
-        let tag = self.rooms.tag(index);
-        match tag.place() {
-            Some(place) => slot(&self.heads, place),
-            None => self.lent.lend(&tag),
+        if index % 2 == 0 {
+            self.rows.head(index / 2)
+        } else {
+            self.tries.head(index / 2)
+        }
+    }
+
+    // What the node at the index is.
+    #[inline]
+    pub(crate) fn kind(&self, index: usize) -> Kind
+        requires { IsSome (node_at self.now.slots index) }
+        ensures { option_map kind_of (node_head (node_at self.now.slots index)) ≡ Some (kind_said result) }
+    {
+        if index % 2 == 0 {
+            self.rows.kind(index / 2)
+        } else {
+            self.tries.kind(index / 2)
+        }
+    }
+
+    // The sums of the node at the index, if any.
+    #[inline]
+    pub(crate) fn sums(&self, index: usize) -> &[u32]
+        requires { IsSome (node_at self.now.slots index) }
+        ensures { option_map sums_of (node_head (node_at self.now.slots index)) ≡ Some result.now }
+    {
+        if index % 2 == 0 {
+            self.rows.sums(index / 2)
+        } else {
+            self.tries.sums(index / 2)
+        }
+    }
+
+    // The sets and the links of a row of a trie.
+    #[inline]
+    pub(crate) fn trie(&self, index: usize) -> TrieRef<'_>
+        requires { (depth entries nodes : ℕ) × (node_head (node_at self.now.slots index) ≡ Some (Trie depth entries nodes)) }
+        ensures sets { (depth : ℕ) × (node_head (node_at self.now.slots index) ≡ Some (Trie depth result.entries result.nodes)) }
+        ensures links { result.links.now ≡ node_links (node_at self.now.slots index) }
+    {
+        let half = index / 2;
+        if index % 2 != 0 {
+            return match self.tries.sets_of(half) {
+                Sets::Trie { entries, nodes, .. } => TrieRef {
+                    entries,
+                    nodes,
+                    links: self.tries.links(half),
+                },
+                Sets::Odd => unreachable!(),
+            };
+        }
+        // A node that was made as another one and has the head of a trie's row.
+        match self.rows.head(half) {
+            Head::Trie { entries, nodes, .. } => TrieRef {
+                entries: *entries,
+                nodes: *nodes,
+                links: self.rows.links(half),
+            },
+            _ => unreachable!(),
         }
     }
 
     // The links of the node at the index.
+    #[inline]
     pub(crate) fn links(&self, index: usize) -> &[Link]
         requires { IsSome (node_at self.now.slots index) }
         ensures value { result.now ≡ node_links (node_at self.now.slots index) }
         ensures short { length result.now ≤ 32 }
     {
-        self.rooms.links(index)
+        if index % 2 == 0 {
+            self.rows.links(index / 2)
+        } else {
+            self.tries.links(index / 2)
+        }
     }
 
     // The head of the node at the index, whose links it puts in the list.
@@ -156,9 +233,14 @@ impl Nodes {
     pub(crate) fn replace_link(&mut self, index: usize, position: usize, link: Link) -> Link
         requires { position < length (node_links (node_at self.old.slots index)) }
         ensures old { result ≡ slice_index (node_links (node_at self.old.slots index)) position }
-        ensures becomes { Becomes self.old self.new index (λ n. record { owners = n.owners; head = n.head; links = slice_set n.links position link }) }
+        ensures becomes { Becomes self.old.slots self.new.slots index (λ n. record { owners = n.owners; head = n.head; links = slice_set n.links position link }) }
+        ensures spares { self.new.spares ≡ self.old.spares }
     {
-        self.rooms.replace_link(index, position, link)
+        if index % 2 == 0 {
+            self.rows.replace_link(index / 2, position, link)
+        } else {
+            self.tries.replace_link(index / 2, position, link)
+        }
     }
 
     // Puts the link at the position, before those that stand there and after.
@@ -166,35 +248,40 @@ impl Nodes {
         requires live { IsSome (node_at self.old.slots index) }
         requires position { position ≤ length (node_links (node_at self.old.slots index)) }
         requires room { length (node_links (node_at self.old.slots index)) < 32 }
-        ensures { Becomes self.old self.new index (λ n. record { owners = n.owners; head = n.head; links = insert n.links position link }) }
+        ensures becomes { Becomes self.old.slots self.new.slots index (λ n. record { owners = n.owners; head = n.head; links = insert n.links position link }) }
+        ensures spares { self.new.spares ≡ self.old.spares }
     {
-        self.rooms.insert_link(index, position, link);
+        if index % 2 == 0 {
+            self.rows.insert_link(index / 2, position, link);
+        } else {
+            self.tries.insert_link(index / 2, position, link);
+        }
     }
 
     // Takes the link at the position out.
     pub(crate) fn remove_link(&mut self, index: usize, position: usize) -> Link
         requires { position < length (node_links (node_at self.old.slots index)) }
         ensures old { result ≡ slice_index (node_links (node_at self.old.slots index)) position }
-        ensures becomes { Becomes self.old self.new index (λ n. record { owners = n.owners; head = n.head; links = remove n.links position }) }
+        ensures becomes { Becomes self.old.slots self.new.slots index (λ n. record { owners = n.owners; head = n.head; links = remove n.links position }) }
+        ensures spares { self.new.spares ≡ self.old.spares }
     {
-        self.rooms.remove_link(index, position)
+        if index % 2 == 0 {
+            self.rows.remove_link(index / 2, position)
+        } else {
+            self.tries.remove_link(index / 2, position)
+        }
     }
 
     // Puts the head in place of the node's.
     pub(crate) fn set_head(&mut self, index: usize, head: Head)
         requires { IsSome (node_at self.old.slots index) }
-        ensures { Becomes self.old self.new index (λ n. record { owners = n.owners; head = head; links = n.links }) }
+        ensures becomes { Becomes self.old.slots self.new.slots index (λ n. record { owners = n.owners; head = head; links = n.links }) }
+        ensures spares { self.new.spares ≡ self.old.spares }
     {
-        let tag = self.rooms.tag(index);
-        match tag.place() {
-            Some(place) => set_slot(&mut self.heads, place, head),
-            None => match tag_of(&head) {
-                Some(tag) => self.rooms.set_tag(index, tag),
-                None => {
-                    let place = put(&mut self.heads, &mut self.free_heads, head);
-                    self.rooms.set_tag(index, Tag::Apart { place });
-                }
-            },
+        if index % 2 == 0 {
+            self.rows.set_head(index / 2, head);
+        } else {
+            self.tries.set_head(index / 2, head);
         }
     }
 
@@ -206,11 +293,12 @@ impl Nodes {
         ensures len { count_by is_some self.new.slots + 1 ≡ count_by is_some self.old.slots }
         ensures spares { self.new.spares ≡ self.old.spares + 1 }
     {
-        let tag = self.rooms.tag(index);
-        self.rooms.free(index);
-        match tag.place() {
-            Some(place) => vacate(&mut self.heads, &mut self.free_heads, place),
-            None => {}
+        self.len -= 1;
+        self.spares += 1;
+        if index % 2 == 0 {
+            self.rows.free(index / 2);
+        } else {
+            self.tries.free(index / 2);
         }
     }
 }

@@ -1,57 +1,63 @@
-//! Where nodes lie with their links: index 2i is small slot i, and index 2i + 1 large room i. A node of few links is made in a
-//! small slot, but for leaves and inner rows without sums, which mostly grow. What it is later given and doesn't fit there lies
-//! in a room apart, which the small slot names, so that the node keeps its index. Of its head a tag lies there.
-ghost use Rattle.std.specs.Prelude.{◌≡◌, ◌≢◌, ℕ, ◌+◌, ◌-◌, ◌*◌, ◌%◌, ◌<◌, ◌≤◌, [], length, Some, None, IsSome, OnOk, OnErr, IsOk, option_map, count_by, is_some, slice_index, slice_index_or, slice_set, insert, remove};
+//! Where nodes lie with their links: index 2i is small slot i, and index 2i + 1 large slot i. What a node in a small slot is later
+//! given and doesn't fit there lies in a room apart, which the small slot names, so that the node keeps its index.
+ghost use Rattle.std.specs.Prelude.{◌≡◌, ◌≢◌, ℕ, ◌+◌, ◌*◌, ◌%◌, ◌<◌, ◌≤◌, [], length, Some, None, IsSome, OnOk, OnErr, count_by, is_some, slice_index, slice_set, insert, remove};
 ghost use Rattle.node_heap.specs.Heap.{row_limit};
 ghost use Rattle.std.specs.Borrow.{sem};
 ghost use Rattle.node_heap.specs.Nodes.{SameBut, node_at, node_owners, node_head, node_links, Becomes};
-ghost use Rattle.node_heap.specs.Rooms.{large_node};
 
-use crate::entry::{NodeRoom, NodeSlot, RowLinks, SmallSlot, small_head};
-use crate::lists::{
-    cover, empty, fill, node_in, node_in_mut, put, set_slot, slot, slot_mut, take_out, write_room,
-};
+use crate::entry::RowLinks;
+use crate::lists::{cover, empty_large, empty_small, put_large, put_small};
 use crate::row::Link;
-use crate::tags::Tag;
+use crate::slot_kinds::{LargeSlot, SmallSlot};
 use std::alloc::{AllocError, Global};
 use std::marker::Model;
 
-/// A slot or a room for each node, and spares.
+// What lies of a head in a small slot, which may be less than what lies in a large one.
+pub(crate) trait SmallHead<L>: Copy {
+    ghost stands_for: { Self → L };
+    // What is read of a room that isn't there.
+    ghost unread: { L };
+
+    // What a large slot has in its place.
+    fn widen(&self) -> L
+        ensures { result ≡ stands_for self.now };
+}
+
+/// A slot for each node, and room for so many in all.
 #[derive(Drop)]
-pub(crate) struct Rooms {
-    small: Vec<Option<SmallSlot>>,
+pub(crate) struct Rooms<S: SmallHead<L>, L: Copy, const N: usize> {
+    small: Vec<SmallSlot<S, N>>,
     // The small slots that no node is in, each once.
     free_small: Vec<usize>,
-    large: Vec<NodeRoom>,
+    large: Vec<LargeSlot<L>>,
     free_large: Vec<usize>,
     // What small slots name.
-    moved: Vec<NodeRoom>,
+    moved: Vec<LargeSlot<L>>,
     free_moved: Vec<usize>,
-    len: usize,
-    spares: usize,
+    room: usize,
 }
 
-impl Model for Rooms {
-    ghost use Rattle.node_heap.specs.Nodes.{NodesOf};
-    ghost use Rattle.node_heap.specs.declared.tags.Tag.{Tag as Told};
+impl<S: SmallHead<L>, L: Copy, const N: usize> Model for Rooms<S, L, N> {
+    ghost use Rattle.node_heap.specs.Nodes.{RoomsOf};
 
-    ghost Value = { NodesOf Told };
+    ghost Value = { RoomsOf L };
 
     ghost use Rattle.std.specs.Vec.{vec_capacity};
-    ghost use Rattle.node_heap.specs.Rooms.{nodes_of, AreRooms};
+    ghost use Rattle.node_heap.specs.Rooms.{nodes_in, AreRooms};
 
-    ghost view = { λ n. nodes_of n.small.items n.large.items n.moved.items n.spares };
+    ghost view = { λ n. record { slots = nodes_in S.stands_for S.unread n.small.items n.large.items n.moved.items; room = n.room } };
 
-    ghost invariant = { λ n. AreRooms n.small.items n.free_small.items (vec_capacity n.small) (vec_capacity n.free_small) n.large.items n.free_large.items (vec_capacity n.large) (vec_capacity n.free_large) n.moved.items n.free_moved.items (vec_capacity n.moved) (vec_capacity n.free_moved) n.len n.spares };
+    ghost invariant = { λ n. AreRooms n.small.items n.free_small.items (vec_capacity n.small) (vec_capacity n.free_small) n.large.items n.free_large.items (vec_capacity n.large) (vec_capacity n.free_large) n.moved.items n.free_moved.items (vec_capacity n.moved) (vec_capacity n.free_moved) n.room };
 }
 
-impl Rooms {
-    ghost use Rattle.node_heap.specs.LendsRoom.{LendsRoomOwners, LendsLarge};
+impl<S: SmallHead<L>, L: Copy, const N: usize> Rooms<S, L, N> {
+    ghost use Rattle.node_heap.specs.LendsRoom.{LendsRoomOwners};
+    ghost use Rattle.node_heap.specs.LendsSlot.{SmallSlotFits};
 
-    // No nodes and no spares.
-    pub(crate) fn new(alloc: Global) -> Rooms
+    // No nodes, and no room.
+    pub(crate) fn new(alloc: Global) -> Rooms<S, L, N>
         ensures slots { result.slots ≡ [] }
-        ensures spares { result.spares ≡ 0 }
+        ensures room { result.room ≡ 0 }
     {
         Rooms {
             small: Vec::new(alloc),
@@ -60,263 +66,263 @@ impl Rooms {
             free_large: Vec::new(alloc),
             moved: Vec::new(alloc),
             free_moved: Vec::new(alloc),
-            len: 0,
-            spares: 0,
+            room: 0,
         }
     }
 
-    // The number of nodes.
-    pub(crate) fn len(&self) -> usize
-        ensures { result ≡ count_by is_some self.now.slots }
+    // For how many nodes in all there is room.
+    pub(crate) fn room(&self) -> usize
+        ensures { result ≡ self.now.room }
     {
-        self.len
+        self.room
     }
 
-    pub(crate) fn spares(&self) -> usize
-        ensures { result ≡ self.now.spares }
-    {
-        self.spares
-    }
-
-    // Makes just so many spares, no fewer than there are. Refused, it leaves the nodes as they were.
-    pub(crate) fn reserve(&mut self, spares: usize) -> Result<(), AllocError>
-        requires more { self.old.spares ≤ spares }
-        requires few { count_by is_some self.old.slots + spares < row_limit }
+    // Makes room for so many nodes in all. Refused, it leaves the nodes as they were.
+    pub(crate) fn reserve(&mut self, total: usize) -> Result<(), AllocError>
+        requires more { self.old.room ≤ total }
+        requires few { total < row_limit }
         ensures slots { self.new.slots ≡ self.old.slots }
-        ensures spares { OnOk result (self.new.spares ≡ spares) }
+        ensures room { OnOk result (self.new.room ≡ total) }
         ensures refused { OnErr result (self.new ≡ self.old) }
-        ensures ample { self.old.spares ≡ spares → IsOk result }
     {
         // Any node may be large, and any small one may outgrow its slot, so each list has room for all.
-        let total = self.len + spares;
         cover(&mut self.small, &mut self.free_small, total)?;
         cover(&mut self.large, &mut self.free_large, total)?;
         cover(&mut self.moved, &mut self.free_moved, total)?;
-        self.spares = spares;
+        self.room = total;
         Ok(())
     }
 
-    // Makes a node of a spare, with one owner and these links, at most 32. Answers its index.
-    pub(crate) fn put(&mut self, tag: Tag, links: &[Link]) -> usize
-        requires spare { 0 < self.old.spares }
+    // Makes a node with one owner and these links, at most 32, in a small slot where it fits. Answers its index.
+    pub(crate) fn put(&mut self, head: L, fit: Option<S>, links: &[Link]) -> usize
+        requires memory { SmallSlotFits S.row N.row }
+        requires room { count_by is_some self.old.slots < self.old.room }
         requires short { length links.now ≤ 32 }
+        requires few { (s : S) → fit ≡ Some s → length links.now ≤ N }
+        requires fits { (s : S) → fit ≡ Some s → S.stands_for s ≡ head }
+        requires width { N ≤ 32 }
         ensures was { node_at self.old.slots result ≡ None }
-        ensures now { node_at self.new.slots result ≡ Some (record { owners = 1; head = tag; links = links.now }) }
+        ensures now { node_at self.new.slots result ≡ Some (record { owners = 1; head = head; links = links.now }) }
         ensures others { SameBut self.old.slots self.new.slots result }
         ensures len { count_by is_some self.new.slots ≡ count_by is_some self.old.slots + 1 }
-        ensures spares { self.new.spares + 1 ≡ self.old.spares }
-        ensures low { result < 2 * row_limit }
+        ensures room { self.new.room ≡ self.old.room }
+        ensures low { result < 2 * self.old.room }
     {
-        self.spares -= 1;
-        self.len += 1;
-        match small_head(&tag, links) {
-            Some(head) => {
-                let slot = SmallSlot::with_links(1, head, links);
-                2 * put(&mut self.small, &mut self.free_small, slot)
-            }
-            None => 2 * fill(&mut self.large, &mut self.free_large, tag, links) + 1,
+        match fit {
+            Some(head) => 2 * put_small(&mut self.small, &mut self.free_small, head, links),
+            None => 2 * put_large(&mut self.large, &mut self.free_large, head, links) + 1,
         }
     }
 
     // The owners of the node at the index.
+    #[inline]
     pub(crate) fn owners(&self, index: usize) -> usize
-        requires { IsSome (node_at self.now.slots index) }
+        requires memory { SmallSlotFits S.row N.row }
+        requires live { IsSome (node_at self.now.slots index) }
         ensures { result ≡ node_owners (node_at self.now.slots index) }
     {
         if index % 2 == 0 {
-            slot(&self.small, index / 2).owners
+            self.small[index / 2].owners()
         } else {
-            node_in(&self.large, index / 2).owners
+            self.large[index / 2].owners()
         }
     }
 
     // The owners of the node at the index, for writing.
+    #[inline]
     pub(crate) fn owners_mut(&mut self, index: usize) -> &mut usize
-        requires { IsSome (node_at self.old.slots index) }
-        ensures* writes_back { sem 𝓛 (LendsRoomOwners self.entry index result) }
+        requires memory { SmallSlotFits S.row N.row }
+        requires live { IsSome (node_at self.old.slots index) }
+        ensures* writes_back { sem 𝓛 (LendsRoomOwners S.row L.row N.row S.SmallHead self.entry index result) }
         ensures value { result.now ≡ node_owners (node_at self.old.slots index) }
     {
         if index % 2 == 0 {
-            let slot = slot_mut(&mut self.small, index / 2);
-            &mut slot.owners
+            self.small[index / 2].owners_mut()
         } else {
-            let node = node_in_mut(&mut self.large, index / 2);
-            &mut node.owners
+            self.large[index / 2].owners_mut()
         }
     }
 
-    // The tag of the node at the index.
-    pub(crate) fn tag(&self, index: usize) -> Tag
-        requires { IsSome (node_at self.now.slots index) }
+    // The head of the node at the index.
+    #[inline]
+    pub(crate) fn head(&self, index: usize) -> L
+        requires memory { SmallSlotFits S.row N.row }
+        requires live { IsSome (node_at self.now.slots index) }
         ensures { node_head (node_at self.now.slots index) ≡ Some result }
     {
         if index % 2 != 0 {
-            return node_in(&self.large, index / 2).head;
+            return self.large[index / 2].head();
         }
-        let small = slot(&self.small, index / 2);
+        let small = &self.small[index / 2];
         match small.room() {
-            Some(room) => node_in(&self.moved, room).head,
-            None => small.tag(),
+            Some(room) => self.moved[room].head(),
+            None => small.head().widen(),
         }
     }
 
     // The links of the node at the index.
+    #[inline]
     pub(crate) fn links(&self, index: usize) -> &[Link]
-        requires { IsSome (node_at self.now.slots index) }
+        requires memory { SmallSlotFits S.row N.row }
+        requires width { N ≤ 32 }
+        requires live { IsSome (node_at self.now.slots index) }
         ensures value { result.now ≡ node_links (node_at self.now.slots index) }
         ensures short { length result.now ≤ 32 }
     {
         if index % 2 != 0 {
-            return node_in(&self.large, index / 2).links.as_slice();
+            return self.large[index / 2].links();
         }
-        let small = slot(&self.small, index / 2);
+        let small = &self.small[index / 2];
         match small.room() {
-            Some(room) => node_in(&self.moved, room).links.as_slice(),
-            None => small.links.as_slice(),
+            Some(room) => self.moved[room].links(),
+            None => small.links(),
         }
-    }
-
-    // Gives the node in a small slot this tag and these links, at most 32.
-    fn rewrite_small(&mut self, index: usize, tag: Tag, links: &[Link])
-        requires small { index % 2 ≡ 0 }
-        requires live { IsSome (node_at self.old.slots index) }
-        requires short { length links.now ≤ 32 }
-        ensures { Becomes self.old self.new index (λ n. record { owners = n.owners; head = tag; links = links.now }) }
-    {
-        let place = index / 2;
-        let small = slot(&self.small, place);
-        let owners = small.owners;
-        match small.room() {
-            Some(room) => write_room(&mut self.moved, room, tag, links),
-            None => match small_head(&tag, links) {
-                Some(head) => {
-                    let slot = SmallSlot::with_links(owners, head, links);
-                    set_slot(&mut self.small, place, slot);
-                }
-                None => {
-                    let room = fill(&mut self.moved, &mut self.free_moved, tag, links);
-                    let slot = SmallSlot::moved(owners, room);
-                    set_slot(&mut self.small, place, slot);
-                }
-            },
-        }
-    }
-
-    // The node in a large room, for writing.
-    fn large_mut(&mut self, index: usize) -> &mut NodeSlot
-        requires large { index % 2 ≢ 0 }
-        requires live { IsSome (node_at self.old.slots index) }
-        ensures* writes_back { sem 𝓛 (LendsLarge self.entry index result) }
-        ensures value { node_at self.old.slots index ≡ large_node (Some result.now) }
-    {
-        node_in_mut(&mut self.large, index / 2)
     }
 
     // Puts the link in place of the one at the position, which it answers.
     pub(crate) fn replace_link(&mut self, index: usize, position: usize, link: Link) -> Link
-        requires { position < length (node_links (node_at self.old.slots index)) }
+        requires memory { SmallSlotFits S.row N.row }
+        requires position { position < length (node_links (node_at self.old.slots index)) }
         ensures old { result ≡ slice_index (node_links (node_at self.old.slots index)) position }
-        ensures becomes { Becomes self.old self.new index (λ n. record { owners = n.owners; head = n.head; links = slice_set n.links position link }) }
+        ensures becomes { Becomes self.old.slots self.new.slots index (λ n. record { owners = n.owners; head = n.head; links = slice_set n.links position link }) }
+        ensures room { self.new.room ≡ self.old.room }
     {
-        if index % 2 != 0 {
-            return self.large_mut(index).links.replace(position, link);
-        }
         let place = index / 2;
-        match slot(&self.small, place).room() {
-            Some(room) => node_in_mut(&mut self.moved, room)
-                .links
-                .replace(position, link),
-            None => slot_mut(&mut self.small, place).replace(position, link),
+        if index % 2 != 0 {
+            return self.large[place].replace(position, link);
+        }
+        match self.small[place].room() {
+            Some(room) => self.moved[room].replace(position, link),
+            None => self.small[place].replace(position, link),
         }
     }
 
     // Puts the link at the position, before those that stand there and after.
     pub(crate) fn insert_link(&mut self, index: usize, position: usize, link: Link)
+        requires memory { SmallSlotFits S.row N.row }
         requires live { IsSome (node_at self.old.slots index) }
         requires position { position ≤ length (node_links (node_at self.old.slots index)) }
         requires room { length (node_links (node_at self.old.slots index)) < 32 }
-        ensures { Becomes self.old self.new index (λ n. record { owners = n.owners; head = n.head; links = insert n.links position link }) }
+        requires width { N ≤ 32 }
+        ensures becomes { Becomes self.old.slots self.new.slots index (λ n. record { owners = n.owners; head = n.head; links = insert n.links position link }) }
+        ensures room { self.new.room ≡ self.old.room }
     {
+        let place = index / 2;
         if index % 2 != 0 {
-            self.large_mut(index).links.insert(position, link);
+            self.large[place].insert(position, link);
             return;
         }
-        let place = index / 2;
-        let small = slot(&self.small, place);
-        match small.room() {
-            Some(room) => node_in_mut(&mut self.moved, room)
-                .links
-                .insert(position, link),
+        match self.small[place].room() {
+            Some(room) => self.moved[room].insert(position, link),
             None => {
-                if small.has_no_room() {
+                if self.small[place].is_full() {
                     self.outgrow(index, position, link);
                 } else {
-                    slot_mut(&mut self.small, place).insert(position, link);
+                    self.small[place].insert(position, link);
                 }
             }
         }
     }
 
-    // The same for a node that has no room left in its small slot, so that it is written anew.
+    // The same for a node whose small slot is full.
+    #[inline(never)]
     fn outgrow(&mut self, index: usize, position: usize, link: Link)
+        requires memory { SmallSlotFits S.row N.row }
+        requires width { N ≤ 32 }
         requires small { index % 2 ≡ 0 }
         requires live { IsSome (node_at self.old.slots index) }
         requires position { position ≤ length (node_links (node_at self.old.slots index)) }
         requires room { length (node_links (node_at self.old.slots index)) < 32 }
-        ensures { Becomes self.old self.new index (λ n. record { owners = n.owners; head = n.head; links = insert n.links position link }) }
+        ensures becomes { Becomes self.old.slots self.new.slots index (λ n. record { owners = n.owners; head = n.head; links = insert n.links position link }) }
+        ensures room { self.new.room ≡ self.old.room }
     {
-        let tag = self.tag(index);
+        let head = self.head(index);
         let mut links = RowLinks::from_slice(self.links(index));
         links.insert(position, link);
-        self.rewrite_small(index, tag, links.as_slice());
+        self.rewrite_apart(index, head, links.as_slice());
+    }
+
+    // Gives the node in a small slot this head and these links, at most 32, in a room apart.
+    fn rewrite_apart(&mut self, index: usize, head: L, links: &[Link])
+        requires memory { SmallSlotFits S.row N.row }
+        requires small { index % 2 ≡ 0 }
+        requires live { IsSome (node_at self.old.slots index) }
+        requires short { length links.now ≤ 32 }
+        ensures becomes { Becomes self.old.slots self.new.slots index (λ n. record { owners = n.owners; head = head; links = links.now }) }
+        ensures room { self.new.room ≡ self.old.room }
+    {
+        let place = index / 2;
+        match self.small[place].room() {
+            Some(room) => self.moved[room].fill(head, links),
+            None => {
+                let room = put_large(&mut self.moved, &mut self.free_moved, head, links);
+                self.small[place].set_room(room);
+            }
+        }
     }
 
     // Takes the link at the position out.
     pub(crate) fn remove_link(&mut self, index: usize, position: usize) -> Link
-        requires { position < length (node_links (node_at self.old.slots index)) }
+        requires memory { SmallSlotFits S.row N.row }
+        requires position { position < length (node_links (node_at self.old.slots index)) }
         ensures old { result ≡ slice_index (node_links (node_at self.old.slots index)) position }
-        ensures becomes { Becomes self.old self.new index (λ n. record { owners = n.owners; head = n.head; links = remove n.links position }) }
+        ensures becomes { Becomes self.old.slots self.new.slots index (λ n. record { owners = n.owners; head = n.head; links = remove n.links position }) }
+        ensures room { self.new.room ≡ self.old.room }
     {
-        if index % 2 != 0 {
-            return self.large_mut(index).links.remove(position);
-        }
         let place = index / 2;
-        match slot(&self.small, place).room() {
-            Some(room) => node_in_mut(&mut self.moved, room).links.remove(position),
-            None => slot_mut(&mut self.small, place).remove(position),
+        if index % 2 != 0 {
+            return self.large[place].remove(position);
+        }
+        match self.small[place].room() {
+            Some(room) => self.moved[room].remove(position),
+            None => self.small[place].remove(position),
         }
     }
 
-    // Puts the tag in place of the node's.
-    pub(crate) fn set_tag(&mut self, index: usize, tag: Tag)
-        requires { IsSome (node_at self.old.slots index) }
-        ensures { Becomes self.old self.new index (λ n. record { owners = n.owners; head = tag; links = n.links }) }
+    // Puts the head in place of the node's, which lies in a small slot yet where it fits.
+    pub(crate) fn set_head(&mut self, index: usize, head: L, fit: Option<S>)
+        requires memory { SmallSlotFits S.row N.row }
+        requires width { N ≤ 32 }
+        requires live { IsSome (node_at self.old.slots index) }
+        requires fits { (s : S) → fit ≡ Some s → S.stands_for s ≡ head }
+        ensures becomes { Becomes self.old.slots self.new.slots index (λ n. record { owners = n.owners; head = head; links = n.links }) }
+        ensures room { self.new.room ≡ self.old.room }
     {
+        let place = index / 2;
         if index % 2 != 0 {
-            self.large_mut(index).head = tag;
+            self.large[place].set_head(head);
             return;
         }
-        let links = RowLinks::from_slice(self.links(index));
-        self.rewrite_small(index, tag, links.as_slice());
+        match self.small[place].room() {
+            Some(room) => self.moved[room].set_head(head),
+            None => match fit {
+                Some(small) => self.small[place].set_head(small),
+                None => {
+                    let links = RowLinks::from_slice(self.links(index));
+                    self.rewrite_apart(index, head, links.as_slice());
+                }
+            },
+        }
     }
 
-    // Gives up the node at the index, which is a spare then.
+    // Gives up the node at the index.
     pub(crate) fn free(&mut self, index: usize)
-        requires { IsSome (node_at self.old.slots index) }
+        requires memory { SmallSlotFits S.row N.row }
+        requires live { IsSome (node_at self.old.slots index) }
         ensures gone { node_at self.new.slots index ≡ None }
         ensures others { SameBut self.old.slots self.new.slots index }
         ensures len { count_by is_some self.new.slots + 1 ≡ count_by is_some self.old.slots }
-        ensures spares { self.new.spares ≡ self.old.spares + 1 }
+        ensures room { self.new.room ≡ self.old.room }
     {
-        self.len -= 1;
-        self.spares += 1;
+        let place = index / 2;
         if index % 2 != 0 {
-            empty(&mut self.large, &mut self.free_large, index / 2);
+            empty_large(&mut self.large, &mut self.free_large, place);
             return;
         }
-        let small = take_out(&mut self.small, &mut self.free_small, index / 2);
-        match small.room() {
-            Some(room) => empty(&mut self.moved, &mut self.free_moved, room),
+        let room = self.small[place].room();
+        empty_small(&mut self.small, &mut self.free_small, place);
+        match room {
+            Some(room) => empty_large(&mut self.moved, &mut self.free_moved, room),
             None => {}
         }
     }

@@ -92,7 +92,67 @@ pub enum Head {
     State,
 }
 
+/// What a node is, by value and without its sums.
+#[derive(Clone, Copy, PartialEq, Eq, Debug)]
+pub enum Kind {
+    /// A row of a vector at height 0.
+    Leaf,
+    /// A row of a vector at a height of 1 to `MOST_HEIGHT`.
+    Inner { height: u8 },
+    /// A row of a trie at a depth, with its two sets.
+    Trie { depth: u8, entries: u32, nodes: u32 },
+    /// An entry among those with one code.
+    Chain,
+    /// A key cell and a value.
+    Pair,
+    /// Two parts of a state.
+    State,
+}
+
+/// The sets and the links of a row of a trie.
+#[derive(Clone, Copy)]
+pub struct TrieRef<'h> {
+    pub entries: u32,
+    pub nodes: u32,
+    pub links: &'h [Link],
+}
+
 impl Head {
+    ghost use Rattle.node_heap.specs.Forms.{kind_of, sums_of};
+    ghost use Rattle.node_heap.specs.Reads.{kind_said};
+
+    // The head without its sums.
+    pub(crate) fn kind(&self) -> Kind
+        ensures { kind_said result ≡ kind_of self.now }
+    {
+        match self {
+            Head::Leaf => Kind::Leaf,
+            Head::Inner { height, .. } => Kind::Inner { height: *height },
+            Head::Trie {
+                depth,
+                entries,
+                nodes,
+            } => Kind::Trie {
+                depth: *depth,
+                entries: *entries,
+                nodes: *nodes,
+            },
+            Head::Chain => Kind::Chain,
+            Head::Pair => Kind::Pair,
+            Head::State => Kind::State,
+        }
+    }
+
+    // The sums of an inner row, and none of any other.
+    pub(crate) fn sums(&self) -> &[u32]
+        ensures { result.now ≡ sums_of self.now }
+    {
+        match self {
+            Head::Inner { sums, .. } => sums.as_slice(),
+            _ => &[],
+        }
+    }
+
     // The same head.
     pub(crate) fn copy(&self) -> Head
         ensures { result ≡ self.now }

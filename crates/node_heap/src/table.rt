@@ -1,25 +1,30 @@
 //! Where the rows of a heap lie: cells in a list of slots, and nodes apart. Place 2i is slot i of the cells, and place
 //! 2i + 1 index i of the nodes.
-ghost use Rattle.std.specs.Prelude.{vec_len, vec_capacity, ◌≡◌, ◌≢◌, ℕ, ◌+◌, ◌-◌, ◌<◌, ◌≤◌, [], length, Some, None, IsSome, OnOk, OnErr, IsOk, option_copied, slice_index, slice_index_or, slice_set, insert, remove};
+ghost use Rattle.std.specs.Prelude.{vec_len, vec_capacity, ◌≡◌, ◌≢◌, ℕ, ◌+◌, ◌-◌, ◌<◌, ◌≤◌, [], length, Some, None, IsSome, OnOk, OnErr, IsOk, option_copied, option_map, slice_index, slice_index_or, slice_set, insert, remove};
 ghost use Rattle.node_heap.specs.Heap.{row_limit};
 ghost use Rattle.std.specs.Borrow.{sem};
-ghost use Rattle.node_heap.specs.Forms.{cell, node, links_of, value_of, head_of, is_node};
+ghost use Rattle.node_heap.specs.Forms.{cell, node, links_of, value_of, head_of, kind_of, is_node};
+ghost use Rattle.node_heap.specs.Reads.{kind_said, sums_in};
+ghost use Rattle.node_heap.specs.declared.row.Head.TheVariants.{Trie};
 ghost use Rattle.node_heap.specs.Layout.{graph_of, slot_at, owners_in, rows_of_slots, filled_count, SetsOwners, Rewrites, PutsIn, TakesOut, KeepsRoom};
 
-use crate::entry::{CellSlot, RowLinks};
-use crate::lists::{make_room, put, slot, slot_mut, take_out};
+use crate::entry::RowLinks;
+use crate::lists::{empty_cell, put_cell, reserve_cells};
 use crate::nodes::Nodes;
-use crate::row::{Head, Link};
+use crate::row::{Head, Kind, Link, TrieRef};
+use crate::slot_kinds::CellSlot;
 use std::alloc::{AllocError, Global};
 use std::marker::Model;
 
 /// A slot for each row, and room for spares of each kind.
 #[derive(Drop)]
 pub(crate) struct Table<T> {
-    cells: Vec<Option<CellSlot<T>>>,
+    cells: Vec<CellSlot<T>>,
     // The slots of the cells that no row is in, each once.
     free_cells: Vec<usize>,
     spare_cells: usize,
+    // There is room for so many cells.
+    cell_room: usize,
     nodes: Nodes,
 }
 
@@ -33,7 +38,7 @@ impl<T> Model for Table<T> {
 
     ghost view = { λ t. table_of t.cells.items t.nodes t.spare_cells };
 
-    ghost invariant = { λ t. IsTable t.cells.items t.free_cells.items (vec_capacity t.cells) (vec_capacity t.free_cells) t.spare_cells t.nodes };
+    ghost invariant = { λ t. IsTable t.cells.items t.free_cells.items (vec_capacity t.cells) (vec_capacity t.free_cells) t.spare_cells t.cell_room t.nodes };
 }
 
 impl<T> Table<T> {
@@ -49,6 +54,7 @@ impl<T> Table<T> {
             cells: Vec::new(alloc),
             free_cells: Vec::new(alloc),
             spare_cells: 0,
+            cell_room: 0,
             nodes: Nodes::new(alloc),
         }
     }
@@ -83,7 +89,13 @@ impl<T> Table<T> {
         ensures refused { OnErr result (self.new ≡ self.old) }
         ensures ample { self.old.spare_cells ≡ cells → self.old.spare_nodes ≡ nodes → IsOk result }
     {
-        make_room(&mut self.cells, &mut self.free_cells, cells)?;
+        let total = self.cells.len() - self.free_cells.len() + cells;
+        reserve_cells(
+            &mut self.cells,
+            &mut self.free_cells,
+            &mut self.cell_room,
+            total,
+        )?;
         self.nodes.reserve(nodes)?;
         self.spare_cells = cells;
         Ok(())
@@ -97,11 +109,7 @@ impl<T> Table<T> {
         ensures spare_nodes { self.new.spare_nodes ≡ self.old.spare_nodes }
     {
         self.spare_cells -= 1;
-        2 * put(
-            &mut self.cells,
-            &mut self.free_cells,
-            CellSlot { owners: 1, value },
-        )
+        2 * put_cell(&mut self.cells, &mut self.free_cells, value)
     }
 
     // Makes a node of a spare, with one owner and these links, at most 32. Answers its place.
@@ -121,7 +129,7 @@ impl<T> Table<T> {
         ensures { result ≡ owners_in (slot_at self.now.slots place) }
     {
         if place % 2 == 0 {
-            slot(&self.cells, place / 2).owners
+            self.cells[place / 2].owners()
         } else {
             self.nodes.owners(place / 2)
         }
@@ -134,8 +142,7 @@ impl<T> Table<T> {
         ensures value { result.now ≡ owners_in (slot_at self.old.slots place) }
     {
         if place % 2 == 0 {
-            let slot = slot_mut(&mut self.cells, place / 2);
-            &mut slot.owners
+            self.cells[place / 2].owners_mut()
         } else {
             self.nodes.owners_mut(place / 2)
         }
@@ -150,7 +157,7 @@ impl<T> Table<T> {
         if place % 2 != 0 {
             return None;
         }
-        Some(&slot(cells, place / 2).value)
+        Some(cells[place / 2].value())
     }
 
     // The head of the node at the place, and none for a cell.
@@ -163,6 +170,42 @@ impl<T> Table<T> {
             return None;
         }
         Some(nodes.head(place / 2))
+    }
+
+    // What the node at the place is, and none for a cell.
+    #[inline]
+    pub(crate) fn kind(&self, place: usize) -> Option<Kind>
+        requires { IsSome (slot_at self.now.slots place) }
+        ensures { option_map kind_said result ≡ option_map kind_of (head_of (graph_of self.now.slots place)) }
+    {
+        let nodes = &self.nodes;
+        if place % 2 == 0 {
+            return None;
+        }
+        Some(nodes.kind(place / 2))
+    }
+
+    // The sums of the node at the place, if any.
+    #[inline]
+    pub(crate) fn sums(&self, place: usize) -> &[u32]
+        requires { IsSome (slot_at self.now.slots place) }
+        ensures { result.now ≡ sums_in (graph_of self.now.slots place) }
+    {
+        let nodes = &self.nodes;
+        if place % 2 == 0 {
+            return &[];
+        }
+        nodes.sums(place / 2)
+    }
+
+    // The sets and the links of a row of a trie.
+    #[inline]
+    pub(crate) fn trie(&self, place: usize) -> TrieRef<'_>
+        requires { (depth entries nodes : ℕ) × (head_of (graph_of self.now.slots place) ≡ Some (Trie depth entries nodes)) }
+        ensures sets { (depth : ℕ) × (head_of (graph_of self.now.slots place) ≡ Some (Trie depth result.entries result.nodes)) }
+        ensures links { result.links.now ≡ links_of (graph_of self.now.slots place) }
+    {
+        self.nodes.trie(place / 2)
     }
 
     // The links of the row at the place. A cell has none.
@@ -246,9 +289,10 @@ impl<T: Drop> Table<T> {
     {
         if place % 2 == 0 {
             links.clear();
-            let slot = take_out(&mut self.cells, &mut self.free_cells, place / 2);
+            let owners = self.cells[place / 2].owners();
+            empty_cell(&mut self.cells, &mut self.free_cells, place / 2);
             self.spare_cells += 1;
-            return slot.owners;
+            return owners;
         }
         let owners = self.nodes.owners(place / 2);
         links.rewrite(self.nodes.links(place / 2));

@@ -1,10 +1,13 @@
 //! What lies of a node's head with its links: the whole of a head that says little, or where the head lies apart.
 ghost use Rattle.std.specs.Prelude.{◌≡◌, ◌<◌, ℕ, [], Some, None};
-ghost use Rattle.node_heap.specs.Tags.{plain_head, place_of};
+ghost use Rattle.node_heap.specs.Tags.{plain_head, place_of, few_tag};
 ghost use Rattle.node_heap.specs.declared.row.Head.TheVariants.{Inner};
 
+use crate::rooms::SmallHead;
 use crate::row::{Head, Sums};
+use crate::slot_kinds::{LargeSlot, SmallSlot};
 use std::marker::Model;
+use std::mem::size_of;
 
 // The height of an inner row, at most seven.
 #[derive(Clone, Copy)]
@@ -32,6 +35,12 @@ impl Height {
             return Some(Height { rows });
         }
         None
+    }
+
+    pub(crate) fn rows(&self) -> u8
+        ensures { result ≡ self.now }
+    {
+        self.rows
     }
 
     fn index(&self) -> usize
@@ -87,6 +96,51 @@ pub(crate) fn tag_of(head: &Head) -> Option<Tag>
         Head::State => Some(Tag::State),
     }
 }
+
+// The head of a node that is made with few links, and seldom gets more.
+#[derive(Clone, Copy)]
+pub(crate) enum FewHead {
+    Chain,
+    Pair,
+    State,
+}
+
+impl SmallHead<Tag> for FewHead {
+    ghost use Rattle.node_heap.specs.Tags.{few_tag};
+    ghost use Rattle.node_heap.specs.declared.tags.Tag.TheVariants.{Leaf};
+
+    ghost stands_for = { few_tag };
+
+    ghost unread = { Leaf };
+
+    fn widen(&self) -> Tag {
+        match self {
+            FewHead::Chain => Tag::Chain,
+            FewHead::Pair => Tag::Pair,
+            FewHead::State => Tag::State,
+        }
+    }
+}
+
+// The tag in a small slot, and none for one that lies in a large slot alone.
+pub(crate) fn few_head(tag: &Tag) -> Option<FewHead>
+    ensures { (f : FewHead) → result ≡ Some f → few_tag f ≡ tag.now }
+{
+    match tag {
+        Tag::Chain => Some(FewHead::Chain),
+        Tag::Pair => Some(FewHead::Pair),
+        Tag::State => Some(FewHead::State),
+        _ => None,
+    }
+}
+
+// So many links fit in a small slot with such a head.
+pub(crate) const FEW_LINKS: usize = 2;
+
+const _: () = prove!(size_of::<SmallSlot<FewHead, FEW_LINKS>>() <= 32);
+
+// A head apart isn't in it.
+const _: () = prove!(size_of::<LargeSlot<Tag>>() <= 288);
 
 // The heads that are lent for tags that say all.
 #[derive(Drop)]

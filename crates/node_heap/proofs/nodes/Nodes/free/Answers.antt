@@ -1,58 +1,67 @@
-use Rattle.std.proofs.Common.{◌≡◌, Some, None, map, sym, ap, ◌∙◌, arith}
-use Rattle.node_heap.specs.Nodes.{node_at}
-use Rattle.node_heap.specs.Tags.{place_in, full_node}
-use Rattle.node_heap.proofs.Parting.{set-apart}
-use Rattle.node_heap.proofs.Rooming.{Frees}
-use Rattle.node_heap.proofs.Headed.{place-told, headed-same, headed-apart, frees-headed, alone-named, IsNodes-kept, IsNodes-left}
+use Rattle.std.proofs.Common.{subst, arith, IsSome}
+use Rattle.node_heap.proofs.Rooming.{some-counted}
+use Rattle.node_heap.proofs.Weaving.{at-row, at-trie, len-kinds, frees-row, frees-trie, AreNodes-rows, AreNodes-tries}
 use Rattle.node_heap.proofs.nodes.Nodes.free.Goals as goal
 
-named : (c : goal.After-vacate) → place_in (node_at c.self.inside.rooms.slots c.args.index) ≡ Some c.in-Some.place
-named c = place-told _ c.tag-tag.result c.tag-tag.ensures ∙ sym c.place.ensures ∙ c.in-Some.is
+pub overflow_sub-self : goal.overflow_sub-self
+overflow_sub-self c =
+    let i = c.self.inside in
+    omega (arith, some-counted _ c.args.index (rw (← c.self.view_is) at c.requires), len-kinds i.rows.slots i.tries.slots, c.self.invariant.both_kinds)
+
+pub free-requires : goal.free-requires
+free-requires c = let i = c.self.inside in subst IsSome (at-row i.rows.slots i.tries.slots c.args.index c.if-index-eq0.true) (rw (← c.self.view_is) at c.requires)
 
 pub invariant_of-self : goal.invariant_of-self
 invariant_of-self c =
     let i = c.self.inside in
-    let freed = c.free.ensures in
-    let out = c.vacate.ensures in
-    IsNodes-left i.rooms i.heads.items i.free_heads.items _ _ c.self.invariant c.free.new.self c.vacate.new.slots.items c.vacate.new.free.items _ _ c.args.index c.in-Some.place out.capacity out.free_capacity freed.others (named c) freed.gone
-    (omega (arith, freed.len, freed.spares)) out.slots out.free
+    let done = c.free.ensures in
+    AreNodes-rows i.rows _ i.tries _ _ _ _ _ c.self.invariant done.room
+    (omega (arith, done.len, some-counted _ c.args.index (rw (← c.self.view_is) at c.requires), len-kinds i.rows.slots i.tries.slots, c.self.invariant.both_kinds))
+    (omega (arith, some-counted _ c.args.index (rw (← c.self.view_is) at c.requires), len-kinds i.rows.slots i.tries.slots, c.self.invariant.both_kinds))
 
-pub invariant_of-self-in-None : goal.invariant_of-self-in-None
-invariant_of-self-in-None c =
-    let freed = c.free.ensures in
-    let none = place-told _ c.tag-tag.result c.tag-tag.ensures ∙ sym c.place.ensures ∙ c.in-None.is in
-    IsNodes-kept _ _ _ _ _ c.self.invariant c.free.new.self c.args.index freed.others (ap place_in freed.gone ∙ sym none) (omega (arith, freed.len, freed.spares))
+pub returns-then-index-eq0-clause-gone : goal.returns-then-index-eq0-clause-gone
+returns-then-index-eq0-clause-gone c =
+    let i = c.self.inside in
+    let done = c.free.ensures in
+    (frees-row i.rows.slots _ i.tries.slots c.args.index c.if-index-eq0.true (record { gone = done.gone; others = done.others; len = done.len })).gone
 
-left : (c : goal.After-vacate) → Frees (map (full_node c.self.inside.heads.items) c.self.inside.rooms.slots) (map (full_node c.vacate.new.slots.items) c.free.new.self.slots) c.args.index
-left c =
-    let heads = c.self.inside.heads.items in
-    let heads' = c.vacate.new.slots.items in
-    let rooms = c.self.inside.rooms in
-    let freed = c.free.ensures in
-    frees-headed heads heads' rooms.slots c.free.new.self.slots c.args.index
-    (headed-apart heads heads' c.in-Some.place rooms.slots c.free.new.self.slots c.args.index freed.others (rw c.vacate.ensures.slots (set-apart heads c.in-Some.place None)) (alone-named rooms.slots heads c.args.index c.in-Some.place c.self.invariant.parts (named c))) freed.gone freed.len
+pub returns-then-index-eq0-clause-others : goal.returns-then-index-eq0-clause-others
+returns-then-index-eq0-clause-others c =
+    let i = c.self.inside in
+    let done = c.free.ensures in
+    rw (← c.self.view_is) (frees-row i.rows.slots _ i.tries.slots c.args.index c.if-index-eq0.true (record { gone = done.gone; others = done.others; len = done.len })).others
 
-pub returns-in-Some-clause-gone : goal.returns-in-Some-clause-gone
-returns-in-Some-clause-gone c = (left c).gone
+pub returns-then-index-eq0-clause-len : goal.returns-then-index-eq0-clause-len
+returns-then-index-eq0-clause-len c =
+    let i = c.self.inside in
+    let done = c.free.ensures in
+    rw (← c.self.view_is) (frees-row i.rows.slots _ i.tries.slots c.args.index c.if-index-eq0.true (record { gone = done.gone; others = done.others; len = done.len })).len
 
-pub returns-in-Some-clause-others : goal.returns-in-Some-clause-others
-returns-in-Some-clause-others c = rw (← c.self.view_is) (left c).others
+pub free-requires-else-index-eq0 : goal.free-requires-else-index-eq0
+free-requires-else-index-eq0 c = let i = c.self.inside in subst IsSome (at-trie i.rows.slots i.tries.slots c.args.index c.if-index-eq0.false) (rw (← c.self.view_is) at c.requires)
 
-pub returns-in-Some-clause-len : goal.returns-in-Some-clause-len
-returns-in-Some-clause-len c = rw (← c.self.view_is) (left c).len
+pub invariant_of-self-else-index-eq0 : goal.invariant_of-self-else-index-eq0
+invariant_of-self-else-index-eq0 c =
+    let i = c.self.inside in
+    let done = c.free-else-index-eq0.ensures in
+    AreNodes-tries i.rows i.tries _ _ _ _ _ _ c.self.invariant done.room
+    (omega (arith, done.len, some-counted _ c.args.index (rw (← c.self.view_is) at c.requires), len-kinds i.rows.slots i.tries.slots, c.self.invariant.both_kinds))
+    (omega (arith, some-counted _ c.args.index (rw (← c.self.view_is) at c.requires), len-kinds i.rows.slots i.tries.slots, c.self.invariant.both_kinds))
 
-plain : (c : goal.In-None) → Frees (map (full_node c.self.inside.heads.items) c.self.inside.rooms.slots) (map (full_node c.self.inside.heads.items) c.free.new.self.slots) c.args.index
-plain c =
-    let heads = c.self.inside.heads.items in
-    let rooms = c.self.inside.rooms in
-    let freed = c.free.ensures in
-    frees-headed heads heads rooms.slots c.free.new.self.slots c.args.index (headed-same heads rooms.slots c.free.new.self.slots c.args.index freed.others) freed.gone freed.len
+pub returns-else-index-eq0-clause-gone : goal.returns-else-index-eq0-clause-gone
+returns-else-index-eq0-clause-gone c =
+    let i = c.self.inside in
+    let done = c.free-else-index-eq0.ensures in
+    (frees-trie i.rows.slots i.tries.slots _ c.args.index c.if-index-eq0.false (record { gone = done.gone; others = done.others; len = done.len })).gone
 
-pub returns-in-None-clause-gone : goal.returns-in-None-clause-gone
-returns-in-None-clause-gone c = (plain c).gone
+pub returns-else-index-eq0-clause-others : goal.returns-else-index-eq0-clause-others
+returns-else-index-eq0-clause-others c =
+    let i = c.self.inside in
+    let done = c.free-else-index-eq0.ensures in
+    rw (← c.self.view_is) (frees-trie i.rows.slots i.tries.slots _ c.args.index c.if-index-eq0.false (record { gone = done.gone; others = done.others; len = done.len })).others
 
-pub returns-in-None-clause-others : goal.returns-in-None-clause-others
-returns-in-None-clause-others c = rw (← c.self.view_is) (plain c).others
-
-pub returns-in-None-clause-len : goal.returns-in-None-clause-len
-returns-in-None-clause-len c = rw (← c.self.view_is) (plain c).len
+pub returns-else-index-eq0-clause-len : goal.returns-else-index-eq0-clause-len
+returns-else-index-eq0-clause-len c =
+    let i = c.self.inside in
+    let done = c.free-else-index-eq0.ensures in
+    rw (← c.self.view_is) (frees-trie i.rows.slots i.tries.slots _ c.args.index c.if-index-eq0.false (record { gone = done.gone; others = done.others; len = done.len })).len

@@ -1,69 +1,78 @@
-use Rattle.std.proofs.Common.{map, refl, sym, ap, ◌∙◌, arith}
-use Rattle.node_heap.specs.Tags.{place_in, full_node}
+use Rattle.std.proofs.Common.{◌*◌, ◌+◌, subst, arith}
 use Rattle.node_heap.proofs.Rooming.{Puts}
-use Rattle.node_heap.proofs.Headed.{plain-by, plain-place, headed-same, headed-apart, puts-headed, none-named, le-named, IsNodes-kept, IsNodes-named}
+use Rattle.node_heap.proofs.Weaving.{puts-row, puts-trie, twice-even, twice-half, next-odd, next-half, AreNodes-rows, AreNodes-tries}
 use Rattle.node_heap.proofs.nodes.Nodes.put.Goals as goal
 
-plain : (c : goal.After-put) → Puts (map (full_node c.self.inside.heads.items) c.self.inside.rooms.slots) (map (full_node c.self.inside.heads.items) c.put.new.self.slots) c.put.result (record { owners = 1; head = c.args.head; links = c.args.links.now })
-plain c =
-    let heads = c.self.inside.heads.items in
-    let rooms = c.self.inside.rooms in
-    let put = c.put.ensures in
-    puts-headed heads heads rooms.slots c.put.new.self.slots c.put.result (headed-same heads rooms.slots c.put.new.self.slots c.put.result put.others) _ _ put.was put.now
-    (rw (plain-by heads c.in-Some.tag c.args.head (c.tag_of.ensures c.in-Some.tag c.in-Some.is)) refl) put.len
+pub put-requires-clause-room : goal.put-requires-clause-room
+put-requires-clause-room c =
+    let inv = c.self.invariant in
+    let spare = rw (← c.self.view_is) at c.requires.spare in
+    omega (arith, inv.within, inv.both_kinds, inv.of_rows, inv.of_tries, spare)
 
 pub invariant_of-self : goal.invariant_of-self
 invariant_of-self c =
-    let put = c.put.ensures in
-    let place = plain-place c.in-Some.tag c.args.head (c.tag_of.ensures c.in-Some.tag c.in-Some.is) in
-    IsNodes-kept _ _ _ _ _ c.self.invariant c.put.new.self c.put.result put.others (ap place_in put.now ∙ place ∙ ap place_in (sym put.was)) (omega (arith, put.len, put.spares))
-
-pub returns-in-Some-clause-was : goal.returns-in-Some-clause-was
-returns-in-Some-clause-was c = rw (← c.self.view_is) (plain c).was
-
-pub returns-in-Some-clause-now : goal.returns-in-Some-clause-now
-returns-in-Some-clause-now c = (plain c).now
-
-pub returns-in-Some-clause-others : goal.returns-in-Some-clause-others
-returns-in-Some-clause-others c = rw (← c.self.view_is) (plain c).others
-
-pub put-place-requires-clause-room : goal.put-place-requires-clause-room
-put-place-requires-clause-room c =
     let i = c.self.inside in
+    let done = c.put.ensures in
+    let spare = rw (← c.self.view_is) at c.requires.spare in
+    AreNodes-tries i.rows i.tries _ _ _ _ _ _ c.self.invariant done.room (omega (arith, done.len)) (omega (arith, spare))
+
+pub returns-in-Trie-clause-was : goal.returns-in-Trie-clause-was
+returns-in-Trie-clause-was c =
+    let i = c.self.inside in
+    let done = c.put.ensures in
+    rw (← c.self.view_is) (puts-trie i.rows.slots i.tries.slots _ (2 * c.put.result + 1) (next-odd c.put.result) (record { owners = 1; head = c.args.head; links = c.args.links.now }) (subst (λ k. Puts i.tries.slots c.put.new.self.slots k (record { owners = 1; head = c.args.head; links = c.args.links.now })) (next-half c.put.result) (record { was = done.was; now = done.now; others = done.others; len = done.len }))).was
+
+pub returns-in-Trie-clause-now : goal.returns-in-Trie-clause-now
+returns-in-Trie-clause-now c =
+    let i = c.self.inside in
+    let done = c.put.ensures in
+    (puts-trie i.rows.slots i.tries.slots _ (2 * c.put.result + 1) (next-odd c.put.result) (record { owners = 1; head = c.args.head; links = c.args.links.now }) (subst (λ k. Puts i.tries.slots c.put.new.self.slots k (record { owners = 1; head = c.args.head; links = c.args.links.now })) (next-half c.put.result) (record { was = done.was; now = done.now; others = done.others; len = done.len }))).now
+
+pub returns-in-Trie-clause-others : goal.returns-in-Trie-clause-others
+returns-in-Trie-clause-others c =
+    let i = c.self.inside in
+    let done = c.put.ensures in
+    rw (← c.self.view_is) (puts-trie i.rows.slots i.tries.slots _ (2 * c.put.result + 1) (next-odd c.put.result) (record { owners = 1; head = c.args.head; links = c.args.links.now }) (subst (λ k. Puts i.tries.slots c.put.new.self.slots k (record { owners = 1; head = c.args.head; links = c.args.links.now })) (next-half c.put.result) (record { was = done.was; now = done.now; others = done.others; len = done.len }))).others
+
+pub returns-in-Trie-clause-len : goal.returns-in-Trie-clause-len
+returns-in-Trie-clause-len c =
+    let i = c.self.inside in
+    let done = c.put.ensures in
+    rw (← c.self.view_is) (puts-trie i.rows.slots i.tries.slots _ (2 * c.put.result + 1) (next-odd c.put.result) (record { owners = 1; head = c.args.head; links = c.args.links.now }) (subst (λ k. Puts i.tries.slots c.put.new.self.slots k (record { owners = 1; head = c.args.head; links = c.args.links.now })) (next-half c.put.result) (record { was = done.was; now = done.now; others = done.others; len = done.len }))).len
+
+pub put-requires-in_default-clause-room : goal.put-requires-in_default-clause-room
+put-requires-in_default-clause-room c =
     let inv = c.self.invariant in
     let spare = rw (← c.self.view_is) at c.requires.spare in
-    omega (arith, spare, le-named i.rooms.slots, inv.parts.used, inv.of_heads.listed.all_slots, inv.of_heads.room, i.heads.ok.0, i.free_heads.ok.0)
+    omega (arith, inv.within, inv.both_kinds, inv.of_rows, inv.of_tries, spare)
 
-pub invariant_of-self-in-None : goal.invariant_of-self-in-None
-invariant_of-self-in-None c =
+pub invariant_of-self-in_default : goal.invariant_of-self-in_default
+invariant_of-self-in_default c =
     let i = c.self.inside in
-    let inv = c.self.invariant in
+    let done = c.put-in_default.ensures in
     let spare = rw (← c.self.view_is) at c.requires.spare in
-    let place = c.put-place.ensures in
-    let put = c.put-in-None.ensures in
-    IsNodes-named i.rooms i.heads.items i.free_heads.items _ _ inv c.put-in-None.new.self c.put-place.new.slots.items c.put-place.new.free.items _ _ c.put-in-None.result c.put-place.result c.args.head place.capacity place.free_capacity put.others
-    (ap place_in put.was) (ap place_in put.now) (omega (arith, put.len, put.spares)) (omega (arith, spare, le-named i.rooms.slots, inv.parts.used)) place.was place.now place.others
-    (omega (arith, place.one, i.heads.ok.0, i.free_heads.ok.0, c.put-place.new.slots.ok.0, c.put-place.new.free.ok.0)) (omega (arith, place.fewer, i.free_heads.ok.0, c.put-place.new.free.ok.0)) place.free
+    AreNodes-rows i.rows _ i.tries _ _ _ _ _ c.self.invariant done.room (omega (arith, done.len)) (omega (arith, spare))
 
-whole : (c : goal.After-put-in-None) → Puts (map (full_node c.self.inside.heads.items) c.self.inside.rooms.slots) (map (full_node c.put-place.new.slots.items) c.put-in-None.new.self.slots) c.put-in-None.result (record { owners = 1; head = c.args.head; links = c.args.links.now })
-whole c =
-    let heads = c.self.inside.heads.items in
-    let heads' = c.put-place.new.slots.items in
-    let rooms = c.self.inside.rooms in
-    let place = c.put-place.ensures in
-    let put = c.put-in-None.ensures in
-    puts-headed heads heads' rooms.slots c.put-in-None.new.self.slots c.put-in-None.result
-    (headed-apart heads heads' c.put-place.result rooms.slots c.put-in-None.new.self.slots c.put-in-None.result put.others place.others (λ j other. none-named rooms.slots heads c.put-place.result c.self.invariant.parts place.was j)) _ _ put.was put.now
-    (rw place.now refl) put.len
+pub returns-in_default-clause-was : goal.returns-in_default-clause-was
+returns-in_default-clause-was c =
+    let i = c.self.inside in
+    let done = c.put-in_default.ensures in
+    rw (← c.self.view_is) (puts-row i.rows.slots _ i.tries.slots (2 * c.put-in_default.result) (twice-even c.put-in_default.result) (record { owners = 1; head = c.args.head; links = c.args.links.now }) (subst (λ k. Puts i.rows.slots c.put-in_default.new.self.slots k (record { owners = 1; head = c.args.head; links = c.args.links.now })) (twice-half c.put-in_default.result) (record { was = done.was; now = done.now; others = done.others; len = done.len }))).was
 
-pub returns-in-None-clause-was : goal.returns-in-None-clause-was
-returns-in-None-clause-was c = rw (← c.self.view_is) (whole c).was
+pub returns-in_default-clause-now : goal.returns-in_default-clause-now
+returns-in_default-clause-now c =
+    let i = c.self.inside in
+    let done = c.put-in_default.ensures in
+    (puts-row i.rows.slots _ i.tries.slots (2 * c.put-in_default.result) (twice-even c.put-in_default.result) (record { owners = 1; head = c.args.head; links = c.args.links.now }) (subst (λ k. Puts i.rows.slots c.put-in_default.new.self.slots k (record { owners = 1; head = c.args.head; links = c.args.links.now })) (twice-half c.put-in_default.result) (record { was = done.was; now = done.now; others = done.others; len = done.len }))).now
 
-pub returns-in-None-clause-now : goal.returns-in-None-clause-now
-returns-in-None-clause-now c = (whole c).now
+pub returns-in_default-clause-others : goal.returns-in_default-clause-others
+returns-in_default-clause-others c =
+    let i = c.self.inside in
+    let done = c.put-in_default.ensures in
+    rw (← c.self.view_is) (puts-row i.rows.slots _ i.tries.slots (2 * c.put-in_default.result) (twice-even c.put-in_default.result) (record { owners = 1; head = c.args.head; links = c.args.links.now }) (subst (λ k. Puts i.rows.slots c.put-in_default.new.self.slots k (record { owners = 1; head = c.args.head; links = c.args.links.now })) (twice-half c.put-in_default.result) (record { was = done.was; now = done.now; others = done.others; len = done.len }))).others
 
-pub returns-in-None-clause-others : goal.returns-in-None-clause-others
-returns-in-None-clause-others c = rw (← c.self.view_is) (whole c).others
-
-pub returns-in-None-clause-len : goal.returns-in-None-clause-len
-returns-in-None-clause-len c = rw (← c.self.view_is) (whole c).len
+pub returns-in_default-clause-len : goal.returns-in_default-clause-len
+returns-in_default-clause-len c =
+    let i = c.self.inside in
+    let done = c.put-in_default.ensures in
+    rw (← c.self.view_is) (puts-row i.rows.slots _ i.tries.slots (2 * c.put-in_default.result) (twice-even c.put-in_default.result) (record { owners = 1; head = c.args.head; links = c.args.links.now }) (subst (λ k. Puts i.rows.slots c.put-in_default.new.self.slots k (record { owners = 1; head = c.args.head; links = c.args.links.now })) (twice-half c.put-in_default.result) (record { was = done.was; now = done.now; others = done.others; len = done.len }))).len

@@ -1,72 +1,31 @@
-use Rattle.std.proofs.Common.{◌≡◌, Some, refl, sym, ◌∙◌, arith}
-use Rattle.node_heap.specs.Nodes.{node_at}
-use Rattle.node_heap.specs.Tags.{place_in}
-use Rattle.node_heap.specs.declared.tags.Tag.TheVariants.{Apart}
-use Rattle.node_heap.proofs.Headed.{live-room, place-told, plain-by, plain-place, headed-same, headed-apart, none-named, few-named, becomes-tagged, becomes-full, tagged-place, IsNodes-kept, IsNodes-named, IsNodes-written}
+use Rattle.std.proofs.Common.{refl, subst, arith, IsSome}
+use Rattle.node_heap.proofs.Weaving.{at-row, at-trie, becomes-row, becomes-trie, AreNodes-rows, AreNodes-tries}
 use Rattle.node_heap.proofs.nodes.Nodes.set_head.Goals as goal
 
-named : (c : goal.After-set_slot) → place_in (node_at c.self.inside.rooms.slots c.args.index) ≡ Some c.in-Some.place
-named c = place-told _ c.tag-tag.result c.tag-tag.ensures ∙ sym c.place.ensures ∙ c.in-Some.is
+pub set_head-requires : goal.set_head-requires
+set_head-requires c = let i = c.self.inside in subst IsSome (at-row i.rows.slots i.tries.slots c.args.index c.if-index-eq0.true) (rw (← c.self.view_is) at c.requires)
 
 pub invariant_of-self : goal.invariant_of-self
 invariant_of-self c =
     let i = c.self.inside in
-    rw (c.set_slot.ensures.slots, c.set_slot.ensures.capacity) (IsNodes-written i.rooms i.heads.items i.free_heads.items _ _ c.self.invariant c.args.index c.in-Some.place c.args.head (named c))
+    let done = c.set_head.ensures in
+    AreNodes-rows i.rows _ i.tries _ _ _ _ _ c.self.invariant done.room (omega (arith, done.becomes.len)) refl
 
-pub returns-in-Some : goal.returns-in-Some
-returns-in-Some c =
+pub returns-then-index-eq0-clause-becomes : goal.returns-then-index-eq0-clause-becomes
+returns-then-index-eq0-clause-becomes c =
     let i = c.self.inside in
-    let live = live-room i.heads.items i.rooms c.self.view_is c.args.index c.requires in
-    rw (← c.self.view_is, c.set_slot.ensures.slots) (becomes-full i.heads.items i.rooms c.args.index c.in-Some.place c.args.head live c.self.invariant.parts (named c))
+    rw (← c.self.view_is) (becomes-row i.rows.slots _ i.tries.slots c.args.index c.if-index-eq0.true _ c.set_head.ensures.becomes)
 
-pub invariant_of-self-in-Some-tag_of : goal.invariant_of-self-in-Some-tag_of
-invariant_of-self-in-Some-tag_of c =
-    let i = c.self.inside in
-    let live = live-room i.heads.items i.rooms c.self.view_is c.args.index c.requires in
-    let set = c.set_tag.ensures in
-    let was = place-told _ c.tag-tag.result c.tag-tag.ensures ∙ sym c.place.ensures ∙ c.in-None.is in
-    let place = plain-place c.in-Some-tag_of.tag c.args.head (c.tag_of.ensures c.in-Some-tag_of.tag c.in-Some-tag_of.is) in
-    IsNodes-kept _ _ _ _ _ c.self.invariant c.set_tag.new.self c.args.index set.others (tagged-place i.rooms c.set_tag.new.self c.args.index c.in-Some-tag_of.tag live set ∙ place ∙ sym was) (omega (arith, set.len, set.spares))
+pub set_head-requires-else-index-eq0 : goal.set_head-requires-else-index-eq0
+set_head-requires-else-index-eq0 c = let i = c.self.inside in subst IsSome (at-trie i.rows.slots i.tries.slots c.args.index c.if-index-eq0.false) (rw (← c.self.view_is) at c.requires)
 
-pub returns-in-Some-tag_of : goal.returns-in-Some-tag_of
-returns-in-Some-tag_of c =
+pub invariant_of-self-else-index-eq0 : goal.invariant_of-self-else-index-eq0
+invariant_of-self-else-index-eq0 c =
     let i = c.self.inside in
-    let live = live-room i.heads.items i.rooms c.self.view_is c.args.index c.requires in
-    let set = c.set_tag.ensures in
-    rw (← c.self.view_is)
-    (becomes-tagged i.heads.items i.heads.items i.rooms c.set_tag.new.self c.args.index c.in-Some-tag_of.tag c.args.head (headed-same i.heads.items i.rooms.slots c.set_tag.new.self.slots c.args.index set.others) live
-    (plain-by i.heads.items c.in-Some-tag_of.tag c.args.head (c.tag_of.ensures c.in-Some-tag_of.tag c.in-Some-tag_of.is)) set)
+    let done = c.set_head-else-index-eq0.ensures in
+    AreNodes-tries i.rows i.tries _ _ _ _ _ _ c.self.invariant done.room (omega (arith, done.becomes.len)) refl
 
-pub put-place-requires-clause-room : goal.put-place-requires-clause-room
-put-place-requires-clause-room c =
+pub returns-else-index-eq0-clause-becomes : goal.returns-else-index-eq0-clause-becomes
+returns-else-index-eq0-clause-becomes c =
     let i = c.self.inside in
-    let inv = c.self.invariant in
-    let live = live-room i.heads.items i.rooms c.self.view_is c.args.index c.requires in
-    let was = place-told _ c.tag-tag.result c.tag-tag.ensures ∙ sym c.place.ensures ∙ c.in-None.is in
-    omega (arith, few-named i.rooms.slots c.args.index live was, inv.parts.used, inv.of_heads.listed.all_slots, inv.of_heads.room, i.heads.ok.0, i.free_heads.ok.0)
-
-pub invariant_of-self-in-None-tag_of : goal.invariant_of-self-in-None-tag_of
-invariant_of-self-in-None-tag_of c =
-    let i = c.self.inside in
-    let inv = c.self.invariant in
-    let live = live-room i.heads.items i.rooms c.self.view_is c.args.index c.requires in
-    let was = place-told _ c.tag-tag.result c.tag-tag.ensures ∙ sym c.place.ensures ∙ c.in-None.is in
-    let place = c.put-place.ensures in
-    let new = c.set_tag-in-None-tag_of.new.self in
-    let set = c.set_tag-in-None-tag_of.ensures in
-    IsNodes-named i.rooms i.heads.items i.free_heads.items _ _ inv new c.put-place.new.slots.items c.put-place.new.free.items _ _ c.args.index c.put-place.result c.args.head place.capacity place.free_capacity set.others
-    was (tagged-place i.rooms new c.args.index (Apart c.put-place.result) live set) (omega (arith, set.len, set.spares)) (omega (arith, few-named i.rooms.slots c.args.index live was, inv.parts.used)) place.was place.now place.others
-    (omega (arith, place.one, i.heads.ok.0, i.free_heads.ok.0, c.put-place.new.slots.ok.0, c.put-place.new.free.ok.0)) (omega (arith, place.fewer, i.free_heads.ok.0, c.put-place.new.free.ok.0)) place.free
-
-pub returns-in-None-tag_of : goal.returns-in-None-tag_of
-returns-in-None-tag_of c =
-    let i = c.self.inside in
-    let live = live-room i.heads.items i.rooms c.self.view_is c.args.index c.requires in
-    let heads' = c.put-place.new.slots.items in
-    let place = c.put-place.ensures in
-    let new = c.set_tag-in-None-tag_of.new.self in
-    let set = c.set_tag-in-None-tag_of.ensures in
-    rw (← c.self.view_is)
-    (becomes-tagged i.heads.items heads' i.rooms new c.args.index (Apart c.put-place.result) c.args.head
-    (headed-apart i.heads.items heads' c.put-place.result i.rooms.slots new.slots c.args.index set.others place.others (λ j other. none-named i.rooms.slots i.heads.items c.put-place.result c.self.invariant.parts place.was j)) live
-    (rw place.now refl) set)
+    rw (← c.self.view_is) (becomes-trie i.rows.slots i.tries.slots _ c.args.index c.if-index-eq0.false _ c.set_head-else-index-eq0.ensures.becomes)

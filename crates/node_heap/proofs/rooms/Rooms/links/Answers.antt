@@ -1,33 +1,75 @@
-use Rattle.std.proofs.Common.{sym, ap, ◌∙◌}
+use Rattle.std.proofs.Common.{◌/◌, ◌∙◌, sym, ap, subst, arith, IsSome}
 use Rattle.node_heap.specs.Nodes.{node_links}
-use Rattle.node_heap.proofs.Housed.{live-small, live-large, read-small, read-large, moved-node, lent-links}
+use Rattle.node_heap.specs.Small.{room_in}
+use Rattle.node_heap.proofs.Free.{found}
+use Rattle.node_heap.proofs.Woven.{slot-inside}
+use Rattle.node_heap.proofs.Housed.{live-small, live-large}
+use Rattle.node_heap.proofs.Lodging.{read-large, links-here, links-far}
 use Rattle.node_heap.proofs.rooms.Rooms.links.Goals as goal
 
-pub node_in-requires : goal.node_in-requires
-node_in-requires c =
+pub index-requires : goal.index-requires
+index-requires g c =
     let i = c.self.inside in
-    live-large i.small.items i.large.items i.moved.items c.args.index c.if-index-ne0.true (rw (← c.self.view_is) at c.requires)
+    omega (arith, slot-inside i.large.items (c.args.index / 2) (live-large g.S.SmallHead.stands_for g.S.SmallHead.unread i.small.items i.large.items i.moved.items c.args.index c.if-index-ne0.true (rw (← c.self.view_is) at c.requires.live)), i.large.ok.0)
+
+pub links-requires : goal.links-requires
+links-requires g c =
+    let i = c.self.inside in
+    let live = live-large g.S.SmallHead.stands_for g.S.SmallHead.unread i.small.items i.large.items i.moved.items c.args.index c.if-index-ne0.true (rw (← c.self.view_is) at c.requires.live) in
+    subst IsSome (found i.large.items (c.args.index / 2) _ _ live c.index.ensures) live
 
 pub returns-then-index-ne0-clause-value : goal.returns-then-index-ne0-clause-value
-returns-then-index-ne0-clause-value c =
+returns-then-index-ne0-clause-value g c =
     let i = c.self.inside in
-    rw (← c.self.view_is) (c.as_slice.ensures.value ∙ sym (ap node_links (read-large i.small.items i.large.items i.moved.items c.args.index _ c.if-index-ne0.true c.node_in.ensures)))
+    let live = live-large g.S.SmallHead.stands_for g.S.SmallHead.unread i.small.items i.large.items i.moved.items c.args.index c.if-index-ne0.true (rw (← c.self.view_is) at c.requires.live) in
+    rw (← c.self.view_is) (c.links.ensures.value ∙ sym (ap node_links (read-large g.S.SmallHead.stands_for g.S.SmallHead.unread i.small.items i.large.items i.moved.items c.args.index c.if-index-ne0.true _ (found i.large.items (c.args.index / 2) _ _ live c.index.ensures))))
 
-pub slot-small-requires : goal.slot-small-requires
-slot-small-requires c =
+pub index-small-requires : goal.index-small-requires
+index-small-requires g c =
     let i = c.self.inside in
-    live-small i.small.items i.large.items i.moved.items c.args.index c.if-index-ne0.false (rw (← c.self.view_is) at c.requires)
+    omega (arith, slot-inside i.small.items (c.args.index / 2) (live-small g.S.SmallHead.stands_for g.S.SmallHead.unread i.small.items i.large.items i.moved.items c.args.index c.if-index-ne0.false (rw (← c.self.view_is) at c.requires.live)), i.small.ok.0)
+
+pub index-requires-in-Some : goal.index-requires-in-Some
+index-requires-in-Some g c =
+    let i = c.self.inside in
+    let live = live-small g.S.SmallHead.stands_for g.S.SmallHead.unread i.small.items i.large.items i.moved.items c.args.index c.if-index-ne0.false (rw (← c.self.view_is) at c.requires.live) in
+    let is = found i.small.items (c.args.index / 2) _ _ live c.index-small.ensures in
+    omega (arith, slot-inside i.moved.items c.in-Some.room (c.self.invariant.parts.there (c.args.index / 2) c.in-Some.room (ap room_in is ∙ sym c.room.ensures ∙ c.in-Some.is)), i.moved.ok.0)
+
+pub links-requires-in-Some : goal.links-requires-in-Some
+links-requires-in-Some g c =
+    let i = c.self.inside in
+    let live = live-small g.S.SmallHead.stands_for g.S.SmallHead.unread i.small.items i.large.items i.moved.items c.args.index c.if-index-ne0.false (rw (← c.self.view_is) at c.requires.live) in
+    let is = found i.small.items (c.args.index / 2) _ _ live c.index-small.ensures in
+    let there = c.self.invariant.parts.there (c.args.index / 2) c.in-Some.room (ap room_in is ∙ sym c.room.ensures ∙ c.in-Some.is) in
+    subst IsSome (found i.moved.items c.in-Some.room _ _ there c.index-in-Some.ensures) there
 
 pub returns-in-Some-clause-value : goal.returns-in-Some-clause-value
-returns-in-Some-clause-value c =
+returns-in-Some-clause-value g c =
     let i = c.self.inside in
-    let s = c.slot-small.result.now in
+    let live = live-small g.S.SmallHead.stands_for g.S.SmallHead.unread i.small.items i.large.items i.moved.items c.args.index c.if-index-ne0.false (rw (← c.self.view_is) at c.requires.live) in
+    let is = found i.small.items (c.args.index / 2) _ _ live c.index-small.ensures in
     let named = sym c.room.ensures ∙ c.in-Some.is in
-    rw (← c.self.view_is) (c.as_slice-in-Some.ensures.value ∙ sym (ap node_links (read-small i.small.items i.large.items i.moved.items c.args.index s c.if-index-ne0.false c.slot-small.ensures ∙ moved-node i.moved.items s c.in-Some.room _ named c.node_in-in-Some.ensures)))
+    let there = c.self.invariant.parts.there (c.args.index / 2) c.in-Some.room (ap room_in is ∙ named) in
+    let at = found i.moved.items c.in-Some.room _ _ there c.index-in-Some.ensures in
+    rw (← c.self.view_is) (c.links-in-Some.ensures.value ∙ sym (links-far g.S.SmallHead.stands_for g.S.SmallHead.unread i.small.items i.large.items i.moved.items c.args.index c.if-index-ne0.false _ is c.in-Some.room named _ at (subst IsSome at there)))
+
+pub room-requires : goal.room-requires
+room-requires g c = c.requires.memory
+
+pub links-requires-in-None : goal.links-requires-in-None
+links-requires-in-None g c =
+    let i = c.self.inside in
+    let live = live-small g.S.SmallHead.stands_for g.S.SmallHead.unread i.small.items i.large.items i.moved.items c.args.index c.if-index-ne0.false (rw (← c.self.view_is) at c.requires.live) in
+    (c.requires.memory, (subst IsSome (found i.small.items (c.args.index / 2) _ _ live c.index-small.ensures) live, sym c.room.ensures ∙ c.in-None.is))
 
 pub returns-in-None-clause-value : goal.returns-in-None-clause-value
-returns-in-None-clause-value c =
+returns-in-None-clause-value g c =
     let i = c.self.inside in
-    let s = c.slot-small.result.now in
+    let live = live-small g.S.SmallHead.stands_for g.S.SmallHead.unread i.small.items i.large.items i.moved.items c.args.index c.if-index-ne0.false (rw (← c.self.view_is) at c.requires.live) in
+    let is = found i.small.items (c.args.index / 2) _ _ live c.index-small.ensures in
     let none = sym c.room.ensures ∙ c.in-None.is in
-    rw (← c.self.view_is) (c.as_slice-in-None.ensures.value ∙ sym (ap node_links (read-small i.small.items i.large.items i.moved.items c.args.index s c.if-index-ne0.false c.slot-small.ensures) ∙ lent-links i.moved.items s.head s.links.items none))
+    rw (← c.self.view_is) (c.links-in-None.ensures.value ∙ sym (links-here g.S.SmallHead.stands_for g.S.SmallHead.unread i.small.items i.large.items i.moved.items c.args.index c.if-index-ne0.false _ is none))
+
+pub returns-in-None-clause-short : goal.returns-in-None-clause-short
+returns-in-None-clause-short g c = omega (arith, c.links-in-None.ensures.few, c.requires.width)

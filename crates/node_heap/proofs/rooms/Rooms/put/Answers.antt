@@ -1,53 +1,90 @@
-use Rattle.std.proofs.Common.{◌+◌, ◌*◌, ap, ◌∙◌, arith}
-use Rattle.node_heap.specs.Small.{tag_in}
-use Rattle.node_heap.specs.Rooms.{nodes_in}
-use Rattle.node_heap.proofs.Housed.{full-room}
-use Rattle.node_heap.proofs.Rooming.{Puts, puts-small, puts-large, AreRooms-put}
+use Rattle.std.proofs.Common.{refl, arith}
+use Rattle.node_heap.proofs.Housed.{len-nodes}
+use Rattle.node_heap.proofs.Parting.{Covers-room}
+use Rattle.node_heap.proofs.Rooming.{puts-small, puts-large, AreRooms-put, AreRooms-put-large}
 use Rattle.node_heap.proofs.rooms.Rooms.put.Goals as goal
 
-small : (c : goal.After-put) → Puts (nodes_in c.self.inside.small.items c.self.inside.large.items c.self.inside.moved.items) (nodes_in c.put.new.slots.items c.self.inside.large.items c.self.inside.moved.items) (2 * c.put.result) (record { owners = 1; head = c.args.tag; links = c.args.links.now })
-small c =
+pub put_small-requires : goal.put_small-requires
+put_small-requires g c =
     let i = c.self.inside in
-    let put = c.put.ensures in
-    let made = c.with_links-slot.ensures in
-    puts-small i.small.items c.put.new.slots.items i.large.items i.moved.items c.put.result put.others c.with_links-slot.result c.args.tag c.args.links.now put.was put.now
-    (ap (λ x. x.owners) made) (ap (λ x. tag_in x.head) made ∙ c.small_head.ensures.head c.in-Some.head c.in-Some.is) (ap (λ x. x.links.items) made)
-
-large : (c : goal.After-fill) → Puts (nodes_in c.self.inside.small.items c.self.inside.large.items c.self.inside.moved.items) (nodes_in c.self.inside.small.items c.fill.new.rooms.items c.self.inside.moved.items) (2 * c.fill.result + 1) (record { owners = 1; head = c.args.tag; links = c.args.links.now })
-large c =
-    let i = c.self.inside in
-    let put = c.fill.ensures in
-    puts-large i.small.items i.large.items c.fill.new.rooms.items i.moved.items c.fill.result put.others _ put.was put.now
+    let below = rw (← c.self.view_is) at c.requires.room in
+    let inv = c.self.invariant in
+    let room = Covers-room _ _ _ _ _ (omega (arith, below, len-nodes g.S.SmallHead.stands_for g.S.SmallHead.unread i.small.items i.large.items i.moved.items)) inv.of_small in
+    (c.requires.memory, (inv.of_small.listed, (omega (arith, room, i.small.ok.0, i.free_small.ok.0), (c.requires.few c.in-Some.head c.in-Some.is, omega (arith, c.requires.width)))))
 
 pub invariant_of-self : goal.invariant_of-self
-invariant_of-self c =
+invariant_of-self g c =
     let i = c.self.inside in
-    let put = c.put.ensures in
-    let spare = rw (← c.self.view_is) at c.requires.spare in
-    let whole = ap (λ x. tag_in x.head) c.with_links-slot.ensures ∙ c.small_head.ensures.head c.in-Some.head c.in-Some.is in
-    AreRooms-put _ _ _ _ _ _ _ _ _ _ _ _ _ _ c.self.invariant c.put.new.slots.items c.put.new.free.items c.put.result _ _ _ put.capacity put.free_capacity spare put.others put.was put.now (full-room _ _ whole)
-    (omega (arith, put.one, i.small.ok.0, i.free_small.ok.0, c.put.new.slots.ok.0, c.put.new.free.ok.0)) (omega (arith, put.fewer, i.free_small.ok.0, c.put.new.free.ok.0)) put.free
+    let below = rw (← c.self.view_is) at c.requires.room in
+    let put = c.put_small.ensures in
+    AreRooms-put c.self.invariant _ _ c.put_small.result _ _ _ put.capacity put.free_capacity (omega (arith, below, len-nodes g.S.SmallHead.stands_for g.S.SmallHead.unread i.small.items i.large.items i.moved.items)) put.fills refl
 
 pub returns-in-Some-clause-was : goal.returns-in-Some-clause-was
-returns-in-Some-clause-was c = rw (← c.self.view_is) (small c).was
+returns-in-Some-clause-was g c =
+    let i = c.self.inside in
+    rw (← c.self.view_is) (puts-small g.S.SmallHead.stands_for g.S.SmallHead.unread i.small.items i.large.items i.moved.items _ _ _ c.put_small.result _ _ c.put_small.ensures.fills refl).was
 
 pub returns-in-Some-clause-now : goal.returns-in-Some-clause-now
-returns-in-Some-clause-now c = (small c).now
+returns-in-Some-clause-now g c =
+    let i = c.self.inside in
+    rw (← c.requires.fits c.in-Some.head c.in-Some.is) (puts-small g.S.SmallHead.stands_for g.S.SmallHead.unread i.small.items i.large.items i.moved.items _ _ _ c.put_small.result _ _ c.put_small.ensures.fills refl).now
 
 pub returns-in-Some-clause-others : goal.returns-in-Some-clause-others
-returns-in-Some-clause-others c = rw (← c.self.view_is) (small c).others
+returns-in-Some-clause-others g c =
+    let i = c.self.inside in
+    rw (← c.self.view_is) (puts-small g.S.SmallHead.stands_for g.S.SmallHead.unread i.small.items i.large.items i.moved.items _ _ _ c.put_small.result _ _ c.put_small.ensures.fills refl).others
 
 pub returns-in-Some-clause-len : goal.returns-in-Some-clause-len
-returns-in-Some-clause-len c = rw (← c.self.view_is) (small c).len
+returns-in-Some-clause-len g c =
+    let i = c.self.inside in
+    rw (← c.self.view_is) (puts-small g.S.SmallHead.stands_for g.S.SmallHead.unread i.small.items i.large.items i.moved.items _ _ _ c.put_small.result _ _ c.put_small.ensures.fills refl).len
+
+pub returns-in-Some-clause-low : goal.returns-in-Some-clause-low
+returns-in-Some-clause-low g c =
+    let i = c.self.inside in
+    let below = rw (← c.self.view_is) at c.requires.room in
+    let inv = c.self.invariant in
+    let fills = c.put_small.ensures.fills in
+    rw (← c.self.view_is) (omega (arith, fills.inside, fills.one, fills.fewer, inv.of_small.short, inv.of_small.listed.all_slots, below, len-nodes g.S.SmallHead.stands_for g.S.SmallHead.unread i.small.items i.large.items i.moved.items))
+
+pub put_large-requires-clause-room : goal.put_large-requires-clause-room
+put_large-requires-clause-room g c =
+    let i = c.self.inside in
+    let below = rw (← c.self.view_is) at c.requires.room in
+    let inv = c.self.invariant in
+    omega (arith, Covers-room _ _ _ _ _ (omega (arith, below, len-nodes g.S.SmallHead.stands_for g.S.SmallHead.unread i.small.items i.large.items i.moved.items)) inv.of_large, i.large.ok.0, i.free_large.ok.0)
+
+pub invariant_of-self-in-None : goal.invariant_of-self-in-None
+invariant_of-self-in-None g c =
+    let i = c.self.inside in
+    let below = rw (← c.self.view_is) at c.requires.room in
+    let put = c.put_large.ensures in
+    AreRooms-put-large c.self.invariant _ _ c.put_large.result _ _ _ put.capacity put.free_capacity (omega (arith, below, len-nodes g.S.SmallHead.stands_for g.S.SmallHead.unread i.small.items i.large.items i.moved.items)) put.fills
 
 pub returns-in-None-clause-was : goal.returns-in-None-clause-was
-returns-in-None-clause-was c = rw (← c.self.view_is) (large c).was
+returns-in-None-clause-was g c =
+    let i = c.self.inside in
+    rw (← c.self.view_is) (puts-large g.S.SmallHead.stands_for g.S.SmallHead.unread i.small.items i.large.items i.moved.items _ _ _ c.put_large.result _ c.put_large.ensures.fills).was
 
 pub returns-in-None-clause-now : goal.returns-in-None-clause-now
-returns-in-None-clause-now c = (large c).now
+returns-in-None-clause-now g c =
+    let i = c.self.inside in
+    (puts-large g.S.SmallHead.stands_for g.S.SmallHead.unread i.small.items i.large.items i.moved.items _ _ _ c.put_large.result _ c.put_large.ensures.fills).now
 
 pub returns-in-None-clause-others : goal.returns-in-None-clause-others
-returns-in-None-clause-others c = rw (← c.self.view_is) (large c).others
+returns-in-None-clause-others g c =
+    let i = c.self.inside in
+    rw (← c.self.view_is) (puts-large g.S.SmallHead.stands_for g.S.SmallHead.unread i.small.items i.large.items i.moved.items _ _ _ c.put_large.result _ c.put_large.ensures.fills).others
 
 pub returns-in-None-clause-len : goal.returns-in-None-clause-len
-returns-in-None-clause-len c = rw (← c.self.view_is) (large c).len
+returns-in-None-clause-len g c =
+    let i = c.self.inside in
+    rw (← c.self.view_is) (puts-large g.S.SmallHead.stands_for g.S.SmallHead.unread i.small.items i.large.items i.moved.items _ _ _ c.put_large.result _ c.put_large.ensures.fills).len
+
+pub returns-in-None-clause-low : goal.returns-in-None-clause-low
+returns-in-None-clause-low g c =
+    let i = c.self.inside in
+    let below = rw (← c.self.view_is) at c.requires.room in
+    let inv = c.self.invariant in
+    let fills = c.put_large.ensures.fills in
+    rw (← c.self.view_is) (omega (arith, fills.inside, fills.one, fills.fewer, inv.of_large.short, inv.of_large.listed.all_slots, below, len-nodes g.S.SmallHead.stands_for g.S.SmallHead.unread i.small.items i.large.items i.moved.items))

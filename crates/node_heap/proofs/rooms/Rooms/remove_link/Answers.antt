@@ -1,67 +1,155 @@
-use Rattle.std.proofs.Common.{◌/◌, length, refl, sym, ap, ◌∙◌, arith}
+use Rattle.std.proofs.Common.{◌/◌, ◌∙◌, refl, sym, ap, subst, length, arith, IsSome}
 use Rattle.std.specs.Prelude.{slice_index, remove}
-use Rattle.node_heap.specs.Rooms.{room_in}
-use Rattle.node_heap.specs.Small.{room_of}
-use Rattle.node_heap.proofs.Housed.{live-small}
-use Rattle.node_heap.proofs.Rooming.{linked-some, AreRooms-small, AreRooms-room, few-links, far-links, becomes-few, becomes-far}
+use Rattle.node_heap.specs.Nodes.{node_links}
+use Rattle.node_heap.specs.Small.{room_in}
+use Rattle.node_heap.proofs.Free.{found, value_in}
+use Rattle.node_heap.proofs.Woven.{slot-inside}
+use Rattle.node_heap.proofs.Housed.{live-small, live-large}
+use Rattle.node_heap.proofs.Rooming.{linked-some}
+use Rattle.node_heap.proofs.Lodging.{read-large, links-here, links-far, becomes-here, becomes-far, becomes-wide, linked-as, linked-here, linked-live, linked-room, says-here, AreRooms-wrote, AreRooms-wrote-large, AreRooms-wrote-room}
 use Rattle.node_heap.proofs.rooms.Rooms.remove_link.Goals as goal
 
-pub slot-requires : goal.slot-requires
-slot-requires c =
+pub index_mut-requires : goal.index_mut-requires
+index_mut-requires g c =
     let i = c.self.inside in
-    live-small i.small.items i.large.items i.moved.items c.args.index c.if-index-ne0.false (linked-some _ _ (rw (← c.self.view_is) at c.requires))
+    omega (arith, slot-inside i.large.items (c.args.index / 2) (live-large g.S.SmallHead.stands_for g.S.SmallHead.unread i.small.items i.large.items i.moved.items c.args.index c.if-index-ne0.true (linked-some _ _ (rw (← c.self.view_is) at c.requires.position))), i.large.ok.0)
 
-pub node_in_mut-requires : goal.node_in_mut-requires
-node_in_mut-requires c =
-    c.self.invariant.parts.there (c.args.index / 2) c.in-Some.room (ap room_in c.slot.ensures ∙ sym c.room.ensures ∙ c.in-Some.is)
-
-pub remove-requires-in-Some : goal.remove-requires-in-Some
-remove-requires-in-Some c =
+pub remove-requires : goal.remove-requires
+remove-requires g c =
     let i = c.self.inside in
-    let named = sym c.room.ensures ∙ c.in-Some.is in
-    let inside = rw (← c.self.view_is) at c.requires in
-    omega (arith, inside, ap length (far-links i.small.items i.large.items i.moved.items c.args.index c.if-index-ne0.false c.slot.result.now c.slot.ensures c.in-Some.room c.node_in_mut.result.now named c.node_in_mut.ensures.value))
+    let live = live-large g.S.SmallHead.stands_for g.S.SmallHead.unread i.small.items i.large.items i.moved.items c.args.index c.if-index-ne0.true (linked-some _ _ (rw (← c.self.view_is) at c.requires.position)) in
+    let is = found i.large.items (c.args.index / 2) _ _ live c.index_mut.ensures.value in
+    let some = subst IsSome is live in
+    let inside = rw (← c.self.view_is) at c.requires.position in
+    omega (arith, inside, ap length (ap node_links (read-large g.S.SmallHead.stands_for g.S.SmallHead.unread i.small.items i.large.items i.moved.items c.args.index c.if-index-ne0.true _ is)))
 
 pub invariant_of-self : goal.invariant_of-self
-invariant_of-self c =
-    AreRooms-room _ _ _ _ _ _ _ _ _ _ _ _ _ _ c.self.invariant c.in-Some.room _ _ c.node_in_mut.ensures.value
+invariant_of-self g c =
+    let i = c.self.inside in
+    let live = live-large g.S.SmallHead.stands_for g.S.SmallHead.unread i.small.items i.large.items i.moved.items c.args.index c.if-index-ne0.true (linked-some _ _ (rw (← c.self.view_is) at c.requires.position)) in
+    let is = found i.large.items (c.args.index / 2) _ _ live c.index_mut.ensures.value in
+    let some = subst IsSome is live in
+    rw c.remove.ensures.links (AreRooms-wrote-large c.self.invariant (c.args.index / 2) _ _ is some (linked-live _ _ some))
+
+pub returns-then-index-ne0-clause-old : goal.returns-then-index-ne0-clause-old
+returns-then-index-ne0-clause-old g c =
+    let i = c.self.inside in
+    let live = live-large g.S.SmallHead.stands_for g.S.SmallHead.unread i.small.items i.large.items i.moved.items c.args.index c.if-index-ne0.true (linked-some _ _ (rw (← c.self.view_is) at c.requires.position)) in
+    let is = found i.large.items (c.args.index / 2) _ _ live c.index_mut.ensures.value in
+    let some = subst IsSome is live in
+    rw (← c.self.view_is) (c.remove.ensures.old ∙ sym (ap (λ xs. slice_index (node_links xs) c.args.position) (read-large g.S.SmallHead.stands_for g.S.SmallHead.unread i.small.items i.large.items i.moved.items c.args.index c.if-index-ne0.true _ is)))
+
+pub returns-then-index-ne0-clause-becomes : goal.returns-then-index-ne0-clause-becomes
+returns-then-index-ne0-clause-becomes g c =
+    let i = c.self.inside in
+    let live = live-large g.S.SmallHead.stands_for g.S.SmallHead.unread i.small.items i.large.items i.moved.items c.args.index c.if-index-ne0.true (linked-some _ _ (rw (← c.self.view_is) at c.requires.position)) in
+    let is = found i.large.items (c.args.index / 2) _ _ live c.index_mut.ensures.value in
+    let some = subst IsSome is live in
+    let x = value_in _ some in
+    rw (← c.self.view_is) (becomes-wide g.S.SmallHead.stands_for g.S.SmallHead.unread i.small.items i.large.items i.moved.items c.args.index c.if-index-ne0.true _ is _ x.0 _ _ x.1 (linked-as _ _ (λ xs. remove xs c.args.position) x.0 x.1 c.remove.ensures.links) refl)
+
+pub index-requires : goal.index-requires
+index-requires g c =
+    let i = c.self.inside in
+    omega (arith, slot-inside i.small.items (c.args.index / 2) (live-small g.S.SmallHead.stands_for g.S.SmallHead.unread i.small.items i.large.items i.moved.items c.args.index c.if-index-ne0.false (linked-some _ _ (rw (← c.self.view_is) at c.requires.position))), i.small.ok.0)
+
+pub index_mut-requires-in-Some : goal.index_mut-requires-in-Some
+index_mut-requires-in-Some g c =
+    let i = c.self.inside in
+    let live = live-small g.S.SmallHead.stands_for g.S.SmallHead.unread i.small.items i.large.items i.moved.items c.args.index c.if-index-ne0.false (linked-some _ _ (rw (← c.self.view_is) at c.requires.position)) in
+    let is = found i.small.items (c.args.index / 2) _ _ live c.index.ensures in
+    let there = c.self.invariant.parts.there (c.args.index / 2) c.in-Some.room (ap room_in is ∙ sym c.room.ensures ∙ c.in-Some.is) in
+    omega (arith, slot-inside i.moved.items c.in-Some.room there, i.moved.ok.0)
+
+pub remove-requires-in-Some : goal.remove-requires-in-Some
+remove-requires-in-Some g c =
+    let i = c.self.inside in
+    let live = live-small g.S.SmallHead.stands_for g.S.SmallHead.unread i.small.items i.large.items i.moved.items c.args.index c.if-index-ne0.false (linked-some _ _ (rw (← c.self.view_is) at c.requires.position)) in
+    let is = found i.small.items (c.args.index / 2) _ _ live c.index.ensures in
+    let named = sym c.room.ensures ∙ c.in-Some.is in
+    let there = c.self.invariant.parts.there (c.args.index / 2) c.in-Some.room (ap room_in is ∙ named) in
+    let at = found i.moved.items c.in-Some.room _ _ there c.index_mut-in-Some.ensures.value in
+    let some = subst IsSome at there in
+    let inside = rw (← c.self.view_is) at c.requires.position in
+    omega (arith, inside, ap length (links-far g.S.SmallHead.stands_for g.S.SmallHead.unread i.small.items i.large.items i.moved.items c.args.index c.if-index-ne0.false _ is c.in-Some.room named _ at some))
+
+pub invariant_of-self-in-Some : goal.invariant_of-self-in-Some
+invariant_of-self-in-Some g c =
+    let i = c.self.inside in
+    let live = live-small g.S.SmallHead.stands_for g.S.SmallHead.unread i.small.items i.large.items i.moved.items c.args.index c.if-index-ne0.false (linked-some _ _ (rw (← c.self.view_is) at c.requires.position)) in
+    let is = found i.small.items (c.args.index / 2) _ _ live c.index.ensures in
+    let named = sym c.room.ensures ∙ c.in-Some.is in
+    let there = c.self.invariant.parts.there (c.args.index / 2) c.in-Some.room (ap room_in is ∙ named) in
+    let at = found i.moved.items c.in-Some.room _ _ there c.index_mut-in-Some.ensures.value in
+    let some = subst IsSome at there in
+    rw c.remove-in-Some.ensures.links (AreRooms-wrote-room c.self.invariant c.in-Some.room _ _ at some (linked-live _ _ some))
 
 pub returns-in-Some-clause-old : goal.returns-in-Some-clause-old
-returns-in-Some-clause-old c =
+returns-in-Some-clause-old g c =
     let i = c.self.inside in
+    let live = live-small g.S.SmallHead.stands_for g.S.SmallHead.unread i.small.items i.large.items i.moved.items c.args.index c.if-index-ne0.false (linked-some _ _ (rw (← c.self.view_is) at c.requires.position)) in
+    let is = found i.small.items (c.args.index / 2) _ _ live c.index.ensures in
     let named = sym c.room.ensures ∙ c.in-Some.is in
-    rw (← c.self.view_is) (c.remove-in-Some.ensures.old ∙ sym (ap (λ xs. slice_index xs c.args.position) (far-links i.small.items i.large.items i.moved.items c.args.index c.if-index-ne0.false c.slot.result.now c.slot.ensures c.in-Some.room c.node_in_mut.result.now named c.node_in_mut.ensures.value)))
+    let there = c.self.invariant.parts.there (c.args.index / 2) c.in-Some.room (ap room_in is ∙ named) in
+    let at = found i.moved.items c.in-Some.room _ _ there c.index_mut-in-Some.ensures.value in
+    let some = subst IsSome at there in
+    rw (← c.self.view_is) (c.remove-in-Some.ensures.old ∙ sym (ap (λ xs. slice_index xs c.args.position) (links-far g.S.SmallHead.stands_for g.S.SmallHead.unread i.small.items i.large.items i.moved.items c.args.index c.if-index-ne0.false _ is c.in-Some.room named _ at some)))
 
 pub returns-in-Some-clause-becomes : goal.returns-in-Some-clause-becomes
-returns-in-Some-clause-becomes c =
+returns-in-Some-clause-becomes g c =
     let i = c.self.inside in
+    let live = live-small g.S.SmallHead.stands_for g.S.SmallHead.unread i.small.items i.large.items i.moved.items c.args.index c.if-index-ne0.false (linked-some _ _ (rw (← c.self.view_is) at c.requires.position)) in
+    let is = found i.small.items (c.args.index / 2) _ _ live c.index.ensures in
     let named = sym c.room.ensures ∙ c.in-Some.is in
-    rw (← c.self.view_is) (becomes-far i.small.items i.large.items i.moved.items c.args.index c.if-index-ne0.false c.slot.result.now c.slot.ensures c.in-Some.room c.node_in_mut.result.now named c.node_in_mut.ensures.value i.spares _ (λ xs. remove xs c.args.position) c.self.invariant.parts refl c.remove-in-Some.ensures.links)
+    let there = c.self.invariant.parts.there (c.args.index / 2) c.in-Some.room (ap room_in is ∙ named) in
+    let at = found i.moved.items c.in-Some.room _ _ there c.index_mut-in-Some.ensures.value in
+    let some = subst IsSome at there in
+    let x = value_in _ some in
+    rw (← c.self.view_is) (becomes-far g.S.SmallHead.stands_for g.S.SmallHead.unread i.small.items i.large.items i.moved.items c.args.index c.if-index-ne0.false _ is c.in-Some.room named _ at some _ x.0 _ _ c.self.invariant.parts x.1
+    (linked-as _ _ (λ xs. remove xs c.args.position) x.0 x.1 c.remove-in-Some.ensures.links) refl)
 
-pub slot_mut-requires : goal.slot_mut-requires
-slot_mut-requires c =
+pub index_mut-requires-in-None : goal.index_mut-requires-in-None
+index_mut-requires-in-None g c =
     let i = c.self.inside in
-    live-small i.small.items i.large.items i.moved.items c.args.index c.if-index-ne0.false (linked-some _ _ (rw (← c.self.view_is) at c.requires))
+    omega (arith, slot-inside i.small.items (c.args.index / 2) (live-small g.S.SmallHead.stands_for g.S.SmallHead.unread i.small.items i.large.items i.moved.items c.args.index c.if-index-ne0.false (linked-some _ _ (rw (← c.self.view_is) at c.requires.position))), i.small.ok.0)
+
+pub room-requires : goal.room-requires
+room-requires g c = c.requires.memory
 
 pub remove-requires-in-None : goal.remove-requires-in-None
-remove-requires-in-None c =
+remove-requires-in-None g c =
     let i = c.self.inside in
-    let none = ap room_in (sym c.slot_mut.ensures.value ∙ c.slot.ensures) ∙ sym c.room.ensures ∙ c.in-None.is in
-    let inside = rw (← c.self.view_is) at c.requires in
-    omega (arith, inside, ap length (few-links i.small.items i.large.items i.moved.items c.args.index c.if-index-ne0.false c.slot_mut.result.now c.slot_mut.ensures.value none))
+    let live = live-small g.S.SmallHead.stands_for g.S.SmallHead.unread i.small.items i.large.items i.moved.items c.args.index c.if-index-ne0.false (linked-some _ _ (rw (← c.self.view_is) at c.requires.position)) in
+    let is = found i.small.items (c.args.index / 2) _ _ live c.index_mut-in-None.ensures.value in
+    let none = ap room_in (sym is ∙ found i.small.items (c.args.index / 2) _ _ live c.index.ensures) ∙ sym c.room.ensures ∙ c.in-None.is in
+    let some = subst IsSome is live in
+    let inside = rw (← c.self.view_is) at c.requires.position in
+    (c.requires.memory, (none, omega (arith, inside, ap length (links-here g.S.SmallHead.stands_for g.S.SmallHead.unread i.small.items i.large.items i.moved.items c.args.index c.if-index-ne0.false _ is none))))
 
 pub invariant_of-self-in-None : goal.invariant_of-self-in-None
-invariant_of-self-in-None c =
-    AreRooms-small _ _ _ _ _ _ _ _ _ _ _ _ _ _ c.self.invariant (c.args.index / 2) _ _ c.slot_mut.ensures.value (ap room_of c.remove-in-None.ensures.head)
+invariant_of-self-in-None g c =
+    let i = c.self.inside in
+    let live = live-small g.S.SmallHead.stands_for g.S.SmallHead.unread i.small.items i.large.items i.moved.items c.args.index c.if-index-ne0.false (linked-some _ _ (rw (← c.self.view_is) at c.requires.position)) in
+    let is = found i.small.items (c.args.index / 2) _ _ live c.index_mut-in-None.ensures.value in
+    let none = ap room_in (sym is ∙ found i.small.items (c.args.index / 2) _ _ live c.index.ensures) ∙ sym c.room.ensures ∙ c.in-None.is in
+    let some = subst IsSome is live in
+    rw c.remove-in-None.ensures.links (AreRooms-wrote c.self.invariant (c.args.index / 2) _ _ is some (linked-live _ _ some) (linked-room _ _))
 
 pub returns-in-None-clause-old : goal.returns-in-None-clause-old
-returns-in-None-clause-old c =
+returns-in-None-clause-old g c =
     let i = c.self.inside in
-    let none = ap room_in (sym c.slot_mut.ensures.value ∙ c.slot.ensures) ∙ sym c.room.ensures ∙ c.in-None.is in
-    rw (← c.self.view_is) (c.remove-in-None.ensures.old ∙ sym (ap (λ xs. slice_index xs c.args.position) (few-links i.small.items i.large.items i.moved.items c.args.index c.if-index-ne0.false c.slot_mut.result.now c.slot_mut.ensures.value none)))
+    let live = live-small g.S.SmallHead.stands_for g.S.SmallHead.unread i.small.items i.large.items i.moved.items c.args.index c.if-index-ne0.false (linked-some _ _ (rw (← c.self.view_is) at c.requires.position)) in
+    let is = found i.small.items (c.args.index / 2) _ _ live c.index_mut-in-None.ensures.value in
+    let none = ap room_in (sym is ∙ found i.small.items (c.args.index / 2) _ _ live c.index.ensures) ∙ sym c.room.ensures ∙ c.in-None.is in
+    let some = subst IsSome is live in
+    rw (← c.self.view_is) (c.remove-in-None.ensures.old ∙ sym (ap (λ xs. slice_index xs c.args.position) (links-here g.S.SmallHead.stands_for g.S.SmallHead.unread i.small.items i.large.items i.moved.items c.args.index c.if-index-ne0.false _ is none)))
 
 pub returns-in-None-clause-becomes : goal.returns-in-None-clause-becomes
-returns-in-None-clause-becomes c =
+returns-in-None-clause-becomes g c =
     let i = c.self.inside in
-    let none = ap room_in (sym c.slot_mut.ensures.value ∙ c.slot.ensures) ∙ sym c.room.ensures ∙ c.in-None.is in
-    rw (← c.self.view_is) (becomes-few i.small.items i.large.items i.moved.items c.args.index c.if-index-ne0.false c.slot_mut.result.now c.slot_mut.ensures.value i.spares _ (λ xs. remove xs c.args.position) none c.remove-in-None.ensures.owners c.remove-in-None.ensures.head c.remove-in-None.ensures.links)
+    let live = live-small g.S.SmallHead.stands_for g.S.SmallHead.unread i.small.items i.large.items i.moved.items c.args.index c.if-index-ne0.false (linked-some _ _ (rw (← c.self.view_is) at c.requires.position)) in
+    let is = found i.small.items (c.args.index / 2) _ _ live c.index_mut-in-None.ensures.value in
+    let none = ap room_in (sym is ∙ found i.small.items (c.args.index / 2) _ _ live c.index.ensures) ∙ sym c.room.ensures ∙ c.in-None.is in
+    let some = subst IsSome is live in
+    let h = says-here _ some none in
+    rw (← c.self.view_is) (becomes-here g.S.SmallHead.stands_for g.S.SmallHead.unread i.small.items i.large.items i.moved.items c.args.index c.if-index-ne0.false _ is _ h.0 h.0 _ _ h.1 (c.remove-in-None.ensures.links ∙ linked-here _ _ h.0 h.1) refl)

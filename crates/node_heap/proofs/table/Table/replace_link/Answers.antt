@@ -1,6 +1,6 @@
 use Rattle.std.proofs.Common.{◌∙◌, sym, ap, refl, arith, length, slice_index}
 use Rattle.node_heap.proofs.Free.{value_in}
-use Rattle.node_heap.proofs.Placed.{linked-odd, linked-live, read-node, node-links, rewrites, rewrites-room}
+use Rattle.node_heap.proofs.Placed.{linked-odd, linked-live, read-node, node-links, rewrites, rewrites-room, IsTable-node}
 use Rattle.node_heap.proofs.table.Table.replace_link.Goals as goal
 
 pub replace_link-requires : goal.replace_link-requires
@@ -15,7 +15,10 @@ pub returns-clause-rewrites : goal.returns-clause-rewrites
 returns-clause-rewrites g c =
     let odd = linked-odd c.self.inside.cells.items c.self.inside.nodes c.self.view_is c.args.place _ c.requires in
     let value = value_in _ (linked-live c.self.inside.cells.items c.self.inside.nodes c.self.view_is c.args.place _ c.requires) in
-    rw (read-node c.self.inside.cells.items c.self.inside.nodes c.self.view_is c.args.place value.0 odd value.1) (rewrites c.self.inside.cells.items c.self.inside.nodes c.self.view_is _ c.args.place _ value.0 odd value.1 refl c.replace_link.ensures.becomes)
+    rw (read-node c.self.inside.cells.items c.self.inside.nodes c.self.view_is c.args.place value.0 odd value.1) (rewrites c.self.inside.cells.items c.self.inside.nodes c.self.view_is c.replace_link.new.self c.args.place _ value.0 odd value.1 refl c.replace_link.ensures.becomes)
 
 pub returns-clause-room : goal.returns-clause-room
-returns-clause-room g c = rewrites-room c.self.inside.cells.items c.self.inside.nodes c.self.view_is _ _ _ c.replace_link.ensures.becomes
+returns-clause-room g c = rewrites-room c.self.inside.cells.items c.self.inside.nodes c.self.view_is _ _ _ c.replace_link.ensures.becomes c.replace_link.ensures.spares
+
+pub invariant_of-self : goal.invariant_of-self
+invariant_of-self g c = IsTable-node c.self.invariant _ (omega (arith, c.replace_link.ensures.becomes.len, c.replace_link.ensures.spares))

@@ -1,34 +1,50 @@
-use Rattle.std.proofs.Common.{◌/◌, None, refl, sym, ap, ◌∙◌, arith}
+use Rattle.std.proofs.Common.{◌/◌, ◌+◌, refl, sym, ap, subst, ◌∙◌, arith, IsSome}
 use Rattle.node_heap.specs.Layout.{owners_in}
-use Rattle.node_heap.proofs.Free.{value_in}
-use Rattle.node_heap.proofs.Placed.{live-cell, live-node, read-cell, cell-links, set-cell, node-owned, node-links, takes-node, HasRoom-free}
-use Rattle.node_heap.proofs.Written.{taken}
+use Rattle.node_heap.specs.Small.{cell_owners}
+use Rattle.node_heap.proofs.Free.{found, value_in}
+use Rattle.node_heap.proofs.Parting.{Covers-free}
+use Rattle.node_heap.proofs.Woven.{slot-inside}
+use Rattle.node_heap.proofs.Placed.{live-cell, live-node, read-cell, cell-links, node-owned, node-links, takes-cell, takes-node, IsTable-gone, IsTable-node}
 use Rattle.node_heap.proofs.table.Table.take.Goals as goal
 
-pub take_out-slot-requires-clause-some : goal.take_out-slot-requires-clause-some
-take_out-slot-requires-clause-some g c = live-cell _ _ c.self.view_is c.args.place c.if-place-eq0.true c.requires
+pub index-requires : goal.index-requires
+index-requires g c = omega (arith, slot-inside c.self.inside.cells.items (c.args.place / 2) (live-cell _ _ c.self.view_is c.args.place c.if-place-eq0.true c.requires), c.self.inside.cells.ok.0)
 
-pub take_out-slot-requires-clause-room : goal.take_out-slot-requires-clause-room
-take_out-slot-requires-clause-room g c =
+pub owners-owners-requires : goal.owners-owners-requires
+owners-owners-requires g c =
     let live = live-cell _ _ c.self.view_is c.args.place c.if-place-eq0.true c.requires in
-    omega (arith, HasRoom-free _ _ (c.args.place / 2) _ _ _ live c.self.invariant.of_cells, c.self.inside.free_cells.ok.0)
+    subst IsSome (found c.self.inside.cells.items (c.args.place / 2) _ _ live c.index.ensures) live
+
+pub empty_cell-requires-clause-some : goal.empty_cell-requires-clause-some
+empty_cell-requires-clause-some g c = live-cell _ _ c.self.view_is c.args.place c.if-place-eq0.true c.requires
+
+pub empty_cell-requires-clause-room : goal.empty_cell-requires-clause-room
+empty_cell-requires-clause-room g c =
+    let live = live-cell _ _ c.self.view_is c.args.place c.if-place-eq0.true c.requires in
+    omega (arith, Covers-free _ _ _ _ _ (c.args.place / 2) live c.self.invariant.of_cells, c.self.inside.free_cells.ok.0)
+
+pub invariant_of-self : goal.invariant_of-self
+invariant_of-self g c =
+    let x = value_in _ (live-cell _ _ c.self.view_is c.args.place c.if-place-eq0.true c.requires) in
+    let out = c.empty_cell.ensures in
+    IsTable-gone c.self.invariant _ _ _ _ (c.args.place / 2) x.0 out.capacity out.free_capacity x.1 out.slots out.free
 
 pub returns-then-place-eq0-clause-owners : goal.returns-then-place-eq0-clause-owners
 returns-then-place-eq0-clause-owners g c =
-    sym (ap owners_in (read-cell _ _ c.self.view_is c.args.place _ c.if-place-eq0.true c.take_out-slot.ensures.value))
+    let live = live-cell _ _ c.self.view_is c.args.place c.if-place-eq0.true c.requires in
+    let x = value_in _ live in
+    c.owners-owners.ensures ∙ ap cell_owners (sym (found c.self.inside.cells.items (c.args.place / 2) _ _ live c.index.ensures) ∙ x.1) ∙ sym (ap owners_in (read-cell _ _ c.self.view_is c.args.place x.0 c.if-place-eq0.true x.1))
 
 pub returns-then-place-eq0-clause-links : goal.returns-then-place-eq0-clause-links
 returns-then-place-eq0-clause-links g c = c.clear.ensures ∙ cell-links _ _ c.self.view_is c.args.place c.if-place-eq0.true
 
 pub returns-then-place-eq0-clause-takes : goal.returns-then-place-eq0-clause-takes
 returns-then-place-eq0-clause-takes g c =
-    let i = c.self.inside in
-    let live = live-cell _ _ c.self.view_is c.args.place c.if-place-eq0.true c.requires in
-    rw (← c.self.view_is, c.take_out-slot.ensures.slots, set-cell i.cells.items i.nodes.slots c.args.place None c.if-place-eq0.true live)
-    (taken _ c.args.place _ _ _ _ _ (rw (← c.self.view_is) at (read-cell _ _ c.self.view_is c.args.place _ c.if-place-eq0.true c.take_out-slot.ensures.value)) refl (omega arith))
+    let x = value_in _ (live-cell _ _ c.self.view_is c.args.place c.if-place-eq0.true c.requires) in
+    takes-cell c.self.inside.cells.items c.self.inside.nodes c.self.view_is c.empty_cell.new.cells.items c.args.place (c.self.inside.spare_cells + 1) x.0 c.if-place-eq0.true x.1 c.empty_cell.ensures.slots refl
 
-pub owners-owners-requires : goal.owners-owners-requires
-owners-owners-requires g c = live-node _ _ c.self.view_is c.args.place c.if-place-eq0.false c.requires
+pub owners-owners-requires-2 : goal.owners-owners-requires-2
+owners-owners-requires-2 g c = live-node _ _ c.self.view_is c.args.place c.if-place-eq0.false c.requires
 
 pub links-requires : goal.links-requires
 links-requires g c = live-node _ _ c.self.view_is c.args.place c.if-place-eq0.false c.requires
@@ -36,8 +52,11 @@ links-requires g c = live-node _ _ c.self.view_is c.args.place c.if-place-eq0.fa
 pub free-requires : goal.free-requires
 free-requires g c = live-node _ _ c.self.view_is c.args.place c.if-place-eq0.false c.requires
 
+pub invariant_of-self-2 : goal.invariant_of-self-2
+invariant_of-self-2 g c = IsTable-node c.self.invariant _ (omega (arith, c.free.ensures.len, c.free.ensures.spares))
+
 pub returns-clause-owners : goal.returns-clause-owners
-returns-clause-owners g c = c.owners-owners.ensures ∙ sym (node-owned _ _ c.self.view_is c.args.place c.if-place-eq0.false)
+returns-clause-owners g c = c.owners-owners-2.ensures ∙ sym (node-owned _ _ c.self.view_is c.args.place c.if-place-eq0.false)
 
 pub returns-clause-links : goal.returns-clause-links
 returns-clause-links g c = c.rewrite.ensures ∙ c.links.ensures.value ∙ sym (node-links _ _ c.self.view_is c.args.place c.if-place-eq0.false)
