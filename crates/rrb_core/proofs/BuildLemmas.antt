@@ -4,11 +4,11 @@ use Rattle.std.specs.Prelude.{Result, Ok, Err, IsOk, OnOk, option_map}
 use Rattle.node_heap.specs.Links.{count}
 use Rattle.node_heap.specs.Forms.{Row, form_of}
 use Rattle.node_heap.specs.Heap.{Heap, row_at, form_at, holds_at, IsGraph}
-use Rattle.node_heap.specs.Calls.{SameRows, Adds, AddsOwner, Extends, Unchanged, Answered, Builds, MakesJust}
+use Rattle.node_heap.specs.Calls.{SameRows, Adds, AddsOwner, Extends, Unchanged, Answered, Builds, MakesJust, KeepsOldOwners}
 use Rattle.node_heap.proofs.BuildLemmas.{count-cons, count-one, count-append, Builds-as, Builds-beside, Builds-MakesJust}
 use Rattle.rrb_core.specs.Seq.{form_height}
 use Rattle.rrb_core.specs.Vector.{height_at, IsSameVector}
-use Rattle.rrb_core.specs.Build.{Shares, RowsKeepOwners}
+use Rattle.rrb_core.specs.Build.{Shares}
 use Rattle.rrb_core.proofs.LinkCounts.{one-held, one-same, one-other}
 use Rattle.rrb_core.proofs.Stays.{live-stays-by, good-stays, well-live, extended-same}
 
@@ -61,7 +61,7 @@ module _ {T : Type 0} where
   shares-just {old} graph s = Builds-MakesJust (unchanged-refl old graph) s.builds
 
   -- a new row leaves the owners of those that were there
-  pub added-keeps-owners : {old new : Heap T} {link : ℕ} {r : Row T} → Adds old new link r → AddsOwner old new link → RowsKeepOwners old new
+  pub added-keeps-owners : {old new : Heap T} {link : ℕ} {r : Row T} → Adds old new link r → AddsOwner old new link → KeepsOldOwners old new
   added-keeps-owners {old} {link = link} a o = λ k live. omega (arith, o k, one-other k link (λ same. let gone : row_at old k ≡ None = ap (row_at old) same ∙ a.fresh in absurd cc))
 
   -- a row that is new later wasn't there before

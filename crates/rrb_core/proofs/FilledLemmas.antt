@@ -1,6 +1,6 @@
 -- Rows that have as many elements as they can, and rows over given elements that are made one after the other.
 use Rattle.std.proofs.Common.{◌≡◌, ℕ, suc, zero, ◌-◌, ◌+◌, ◌*◌, ◌/◌, ◌<◌, ◌≤◌, ◌^◌, List, [], ◌∷◌, ◌++◌, length, take, drop, get_or, min, refl, ap, sym, ◌∙◌, arith, length-append, length-drop, ◌⊎◌, inl, inr}
-use Rattle.std.specs.List.{All, flat_map, sum_by}
+use Rattle.std.specs.List.{All, flat_map}
 use Rattle.std.proofs.lemmas.List.{take_all, length-take-le}
 use Rattle.std.proofs.Math.Seq.{take-add}
 use Rattle.std.proofs.lemmas.List.Concat.{length-flat_map, flat_map-append}
@@ -10,11 +10,12 @@ use Rattle.std.proofs.Math.Nat.{pow-suc, le_of_mul-le-mul_right, mul-le-mul_righ
 use Rattle.node_heap.specs.Links.{count}
 use Rattle.node_heap.specs.Forms.{Forms, links_in}
 use Rattle.node_heap.specs.Heap.{Heap, form_at, links_at, holds_at, node_count, IsGraph}
-use Rattle.node_heap.specs.Calls.{Extends, Builds}
+use Rattle.node_heap.specs.declared.row.TheConstants.{MOST_HEIGHT}
+use Rattle.node_heap.specs.Calls.{Builds}
 use Rattle.node_heap.proofs.BuildLemmas.{count-append, Builds-refl, Builds-then, Builds-beside}
 use Rattle.rrb_core.specs.Seq.{seq_at, IsThick, IsWell}
 use Rattle.rrb_core.specs.Vector.{IsVectorOf}
-use Rattle.rrb_core.specs.Build.{IsRowOf, AreRows}
+use Rattle.rrb_core.specs.Build.{IsRowOf}
 use Rattle.rrb_core.specs.Filled.{MakesFilled, MakesRows}
 use Rattle.rrb_core.proofs.Lists.{sum_by-full, pow-pos}
 use Rattle.rrb_core.proofs.FillRule.{seq-le}
@@ -165,7 +166,7 @@ filled-over {old = old} {mid = mid} {new = new} {links = links} {ks = ks} {n = n
     }
 
 -- the root of a vector
-pub filled-vector : {T : Type 0} {old new : Heap T} {links : List ℕ} {n k : ℕ} → MakesFilled old new links n k → n ≤ 6 → (1 ≤ n → 32 ^ n < length links) → length links < 2 ^ 32 → IsVectorOf new k links
+pub filled-vector : {T : Type 0} {old new : Heap T} {links : List ℕ} {n k : ℕ} → MakesFilled old new links n k → n < MOST_HEIGHT → (1 ≤ n → 32 ^ n < length links) → length links < 2 ^ 32 → IsVectorOf new k links
 filled-vector {new = new} {links = links} {n = n} {k = k} made low more short =
     good-row new n k links made.row (omega arith) (λ some. two n made.row.well some (rw (ap length made.row.items) (more some))) short
   where

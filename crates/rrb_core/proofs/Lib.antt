@@ -3,6 +3,7 @@ pub mod Lists
 pub mod FillRule
 pub mod LinkCounts
 pub mod Stays
+pub mod ElementLemmas
 pub mod SameRows
 pub mod BuildLemmas
 pub mod LevelLemmas
@@ -12,3 +13,4 @@ pub mod GetLemmas
 pub mod PushLemmas
 pub mod EditLemmas
 pub mod FilledLemmas
+pub mod CallerLemmas

@@ -300,13 +300,6 @@ sums-push f ks ss i child total size lt is count sum here each =
         cases : (i n : ℕ) → (i < n) ⊎ (n ≤ i)
         cases i n = grind arith
 
--- the first of the elements from an index on is the one at the index
-pub front-first : (leaf all : List ℕ) (index x : ℕ) → leaf ≡ take (length leaf) (drop index all) → 1 ≤ length leaf → x ≡ get_or leaf 0 x → x ≡ get_or all index x
-front-first leaf all index x front some is =
-    let whole : index + 0 ≡ index = omega arith in
-    let at : get_or (drop index all) 0 x ≡ get_or all index x = rw whole at (get_or-drop index all 0 x) in
-    is ∙ ap (λ (xs : List ℕ). get_or xs 0 x) front ∙ get_or-take (length leaf) (drop index all) 0 x some ∙ at
-
 -- what holds of all but the last holds of all but the last of the later ones
 pub front-drop : (P : ℕ → Type 0) (i : ℕ) (ks : List ℕ) → All P (take (length ks - 1) ks) → All P (take (length (drop i ks) - 1) (drop i ks))
 front-drop P i ks all = λ k d b. back k d (omega (arith, length-take-le (length (drop i ks) - 1) (drop i ks) (omega arith), length-drop i ks))

@@ -5,11 +5,12 @@ use Rattle.std.specs.List.{All, flat_map}
 use Rattle.std.proofs.lemmas.List.Elements.{All-take}
 use Rattle.node_heap.specs.Links.{Reaches, here, below as step}
 use Rattle.node_heap.specs.Forms.{Row, Form, cell, node, leaf, form_of, links_of, links_in}
+use Rattle.node_heap.specs.Reads.{sums_in}
 use Rattle.node_heap.specs.Heap.{Heap, row_at, form_at, links_at, IsGraph}
 use Rattle.node_heap.specs.Calls.{KeepsBelow, Extends}
 use Rattle.node_heap.proofs.Reach.{Reaches-trans}
 use Rattle.rrb_core.specs.Seq.{seq_at, IsThick, IsWell}
-use Rattle.rrb_core.specs.Vector.{IsRegular, KeepsSums, HasSums, sums_at, height_at, elements, IsGoodVector, IsSameVector, VectorsStay}
+use Rattle.rrb_core.specs.Vector.{IsRegular, KeepsSums, HasSums, row_sums, sums_at, height_at, elements, IsGoodVector, IsSameVector, VectorsStay}
 use Rattle.rrb_core.proofs.ClosedRows.{Stays}
 use Rattle.rrb_core.specs.Build.{IsRowOf, AreRows}
 use Rattle.rrb_core.proofs.LinkCounts.{all-counted}
@@ -24,6 +25,12 @@ form-links (Some (node head links)) = refl
 
 pub links-form : {T : Type 0} (h : Heap T) (l : ℕ) → links_in (form_at h) l ≡ links_at h l
 links-form h l = form-links (row_at h l)
+
+-- the sums that a row keeps, by its head
+pub sums-row : {T : Type 0} (r : Option (Row T)) → sums_in r ≡ row_sums r
+sums-row None = refl
+sums-row (Some (cell x)) = refl
+sums-row (Some (node head links)) = refl
 
 -- a link that has a form is live
 pub form-live : {T : Type 0} (r : Option (Row T)) (f : Form T) → option_map form_of r ≡ Some f → IsSome r

@@ -1,8 +1,8 @@
 -- Rows on the way to a vector, and a vector that is shared.
-use Rattle.std.specs.Prelude.{◌≡◌, ℕ, ◌-◌, ◌≤◌, List, [], ◌∷◌, length, take, IsSome}
+use Rattle.std.specs.Prelude.{◌≡◌, ℕ, ◌-◌, ◌≤◌, List, [], ◌∷◌, length, take}
 use Rattle.std.specs.List.{All}
-use Rattle.node_heap.specs.Heap.{Heap, row_at, form_at, links_at, owners_at}
-use Rattle.node_heap.specs.Calls.{Builds, SameRows}
+use Rattle.node_heap.specs.Heap.{Heap, row_at, form_at, links_at}
+use Rattle.node_heap.specs.Calls.{Builds, SameRows, KeepsOldOwners}
 use Rattle.rrb_core.specs.Seq.{seq_at, IsThick, IsWell}
 use Rattle.rrb_core.specs.Vector.{HasSums}
 
@@ -20,9 +20,9 @@ module _ {T : Type 0} where
     pub not_empty : All (λ k. 1 ≤ length (links_at h k)) ks
     pub sums : All (HasSums h n) ks
 
-  -- each row that was there has as many owners as before
+  -- KeepsOldOwners, under the name by which callers know it
   abbrev pub RowsKeepOwners : Heap T → Heap T → Type 0
-  RowsKeepOwners old new = (k : ℕ) → IsSome (row_at old k) → owners_at new k ≡ owners_at old k
+  RowsKeepOwners old new = KeepsOldOwners old new
 
   -- one hold more of the root, and nothing else has changed
   pub record Shares (old new : Heap T) (l : ℕ) : Type 0 where

@@ -1,5 +1,5 @@
 -- Vectors in a heap: the fill rule with the sums of inner rows.
-use Rattle.std.specs.Prelude.{◌≡◌, ◌↔◌, ℕ, zero, suc, ◌+◌, ◌-◌, ◌^◌, ◌<◌, List, [], length, take, Option, Some, None, slice_index}
+use Rattle.std.specs.Prelude.{◌≡◌, ◌↔◌, ℕ, zero, suc, ◌+◌, ◌-◌, ◌^◌, ◌<◌, List, [], length, map, take, Option, Some, None, slice_index}
 use Rattle.std.specs.List.{All, flat_map}
 use Rattle.node_heap.specs.Links.{count, Reaches}
 use Rattle.node_heap.specs.Forms.{Forms, Row, cell, node, sums_of}
@@ -62,6 +62,24 @@ module _ {T : Type 0} where
   abbrev pub IsSameVector : Heap T → Heap T → ℕ → Type 0
   IsSameVector old new l = IsGoodVector old l → IsVectorOf new l (elements old l)
 
+  -- the root of a vector whose elements are roots of vectors with these elements
+  pub record IsVectorOfVectors (h : Heap T) (l : ℕ) (lists : List (List ℕ)) : Type 0 where
+    pub good : IsGoodVector h l
+    pub each : All (IsGoodVector h) (elements h l)
+    pub items : map (elements h) (elements h l) ≡ lists
+
 -- a vector stays wherever all that its root reaches is the same
 abbrev pub VectorsStay : Type 0 → Type 0
 VectorsStay T = (old new : Heap T) (l : ℕ) → KeepsBelow old new l → IsSameVector old new l
+
+-- all that an element of a vector reaches is the same wherever all that its root reaches is
+abbrev pub ElementsStay : Type 0 → Type 0
+ElementsStay T = (old new : Heap T) (l : ℕ) → KeepsBelow old new l → All (KeepsBelow old new) (elements old l)
+
+-- a vector of vectors stays wherever all that its root reaches is the same
+abbrev pub VectorsOfVectorsStay : Type 0 → Type 0
+VectorsOfVectorsStay T = (old new : Heap T) (l : ℕ) (lists : List (List ℕ)) → KeepsBelow old new l → IsVectorOfVectors old l lists → IsVectorOfVectors new l lists
+
+-- a vector that stays in one step and then in the next stays in both
+abbrev pub SameVectorsFollow : Type 0 → Type 0
+SameVectorsFollow T = (a b c : Heap T) (l : ℕ) → IsSameVector a b l → IsSameVector b c l → IsSameVector a c l

@@ -10,7 +10,7 @@ use crate::flex::Flex;
 use crate::rows::{ROW_LINKS, full_size, inner_over, leaf_over};
 use arrayvec::ArrayVec;
 use elem_core::NoMemory;
-use node_heap::{Heap, Link};
+use node_heap::{Heap, Link, MOST_HEIGHT};
 
 /// The most nodes that a vector of so many elements made at once has.
 pub fn vector_nodes(count: usize) -> usize
@@ -62,7 +62,7 @@ fn lowest_height(count: usize) -> u8
     requires { count < 2 ^ 32 }
     ensures room { count ≤ 32 ^ suc result }
     ensures lowest { 1 ≤ result → 32 ^ result < count }
-    ensures low { result ≤ 6 }
+    ensures low { result < MOST_HEIGHT }
 {
     let mut height = 0;
     while full_size(1, height + 1) < count as u64 {
@@ -78,7 +78,7 @@ fn row_of<T>(heap: &mut Heap<T>, links: &[Link], height: u8) -> Link
     requires some { 1 ≤ height → 1 ≤ length links.now }
     requires room { length links.now ≤ 32 ^ suc height }
     requires short { length links.now < 2 ^ 32 }
-    requires low { height ≤ 6 }
+    requires low { height < MOST_HEIGHT }
     requires spare { length links.now / 16 + (height + 1) ≤ heap.old.spare_nodes }
     requires few { hold_count heap.old < most_holds }
     ensures { MakesFilled heap.old heap.new links.now height result }

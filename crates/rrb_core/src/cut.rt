@@ -47,7 +47,7 @@ pub fn take<T>(heap: &mut Heap<T>, vector: FlexRef, count: u32) -> Result<Flex, 
 // The root of the vector of the first `count` elements: the lowest row along the left edge that has them, cut where it has
 // more.
 fn front_root<T>(heap: &mut Heap<T>, root: Link, count: u32) -> Link
-    requires root { CanEditRoot heap.old root 8 }
+    requires root { CanEditRoot heap.old root TAKE_NODES }
     requires inside { count < length (elements heap.old root) }
     ensures vector { IsVectorOf heap.new result (take count (elements heap.old root)) }
     ensures low { height_at heap.new result ≤ height_at heap.old root }

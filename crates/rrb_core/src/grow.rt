@@ -1,11 +1,10 @@
 //! A vector with one more element.
 ghost use Rattle.std.specs.Prelude.{◌≡◌, ℕ, suc, ◌+◌, ◌-◌, ◌^◌, ◌<◌, ◌≤◌, ◌↔◌, ◌≢◌, [], ◌∷◌, ◌++◌, length, slice_index, IfOk, OnErr, None, IfSome, IfNone, Err};
 ghost use Rattle.node_heap.specs.Heap.{row_at, form_at, links_at, holds_at, hold_count, IsGraph, HasSpares, half_holds, most_holds};
-ghost use Rattle.node_heap.specs.Calls.{Answered, Builds, MakesJust, KeepsToNeed};
+ghost use Rattle.node_heap.specs.Calls.{Answered, Builds, MakesJust, KeepsToNeed, KeepsOldOwners};
 ghost use Rattle.rrb_core.specs.Seq.{seq_at, IsWell};
 ghost use Rattle.rrb_core.specs.Push.{last_in, IsPacked, IsPushedRoot};
 ghost use Rattle.rrb_core.specs.Vector.{HasSums, elements, height_at, IsGoodVector, IsSameVector, IsVectorOf};
-ghost use Rattle.rrb_core.specs.Build.{RowsKeepOwners};
 ghost use Rattle.rrb_core.specs.Edit.{CanEdit, CanEditRoot, MakesRow, Pushes};
 
 use crate::flex::{Flex, FlexRef};
@@ -35,8 +34,8 @@ impl From<NoMemory> for PushFault {
     }
 }
 
-// The most nodes that a push makes: one for each height, and a root.
-const PUSH_NODES: usize = MOST_HEIGHT as usize + 2;
+/// The most nodes that a push makes: one for each height, and a root.
+pub const PUSH_NODES: usize = MOST_HEIGHT as usize + 2;
 
 /// The vector with `element` after its last element. The element goes into the lowest row of the right spine that has
 /// fewer than 32 links; only where each of them has 32 comes a new root. It spends the element's hold on Ok alone, and
@@ -68,7 +67,7 @@ pub fn push<T>(heap: &mut Heap<T>, vector: FlexRef, element: Link) -> Result<Fle
 
 // The root of the vector with `element` after its last.
 fn push_root<T>(heap: &mut Heap<T>, root: Link, element: Link) -> Link
-    requires root { CanEditRoot heap.old root 9 }
+    requires root { CanEditRoot heap.old root PUSH_NODES }
     requires short { length (elements heap.old root) + 1 < 2 ^ 32 }
     requires held { 1 ≤ holds_at heap.old element }
     ensures vector { IsVectorOf heap.new result (elements heap.old root ++ element ∷ []) }
@@ -84,7 +83,7 @@ fn push_root<T>(heap: &mut Heap<T>, root: Link, element: Link) -> Link
 
 // The root over a packed root and one element beside it.
 fn root_beside<T>(heap: &mut Heap<T>, root: Link, height: u8, element: Link) -> Link
-    requires root { CanEditRoot heap.old root 9 }
+    requires root { CanEditRoot heap.old root PUSH_NODES }
     requires height { height ≡ height_at heap.old root }
     requires packed { IsPacked (form_at heap.old) height root }
     requires short { length (elements heap.old root) + 1 < 2 ^ 32 }
@@ -183,7 +182,7 @@ pub fn spine<T>(heap: &mut Heap<T>, height: u8, element: Link) -> Link
     requires holds { hold_count heap.old < most_holds }
     ensures made { MakesRow heap.old heap.new (element ∷ []) height result (element ∷ []) }
     ensures fresh { row_at heap.old result ≡ None }
-    ensures owners { RowsKeepOwners heap.old heap.new }
+    ensures owners { KeepsOldOwners heap.old heap.new }
 {
     if height == 0 {
         return leaf_over(heap, &[element]);

@@ -20,10 +20,10 @@ mod search;
 pub use build::{vector_nodes, vector_of, vector_of_spares};
 pub use cut::{TAKE_NODES, take};
 pub use flex::{Flex, FlexRef};
-pub use grow::{PushFault, push, spine};
-pub use laws::{same_row_is_as_good, vectors_stay};
+pub use grow::{PUSH_NODES, PushFault, push, spine};
+pub use laws::{same_row_is_as_good, same_vectors_follow, vectors_of_vectors_stay, vectors_stay};
 pub use lines::Lines;
-pub use replace::{SetFault, set};
+pub use replace::{SET_NODES, SetFault, set};
 pub use rows::{
     Gathered, ROW_LINKS, full_size, gathered, height_of, inner_over, leaf_over, size, sums_of,
     sums_over,

@@ -34,8 +34,8 @@ impl From<NoMemory> for SetFault {
     }
 }
 
-// The most nodes that a set makes: one for each height.
-const SET_NODES: usize = MOST_HEIGHT as usize + 1;
+/// The most nodes that a set makes: one for each height.
+pub const SET_NODES: usize = MOST_HEIGHT as usize + 1;
 
 /// The vector with `element` at `index`. It copies the rows from the root to that place, at most as many as the height and
 /// 1, so 8, and shares all others. It spends the element's hold on Ok alone. Refused with `Range` where the index is the
@@ -69,7 +69,7 @@ pub fn set<T>(
 
 // The root of the vector with `element` at `index`.
 fn set_root<T>(heap: &mut Heap<T>, root: Link, index: u32, element: Link) -> Link
-    requires root { CanEditRoot heap.old root 8 }
+    requires root { CanEditRoot heap.old root SET_NODES }
     requires inside { index < length (elements heap.old root) }
     requires held { 1 ≤ holds_at heap.old element }
     ensures vector { IsVectorOf heap.new result (slice_set (elements heap.old root) index element) }

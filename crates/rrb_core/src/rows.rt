@@ -3,15 +3,15 @@ ghost use Rattle.std.specs.Prelude.{◌≡◌, ℕ, suc, ◌+◌, ◌-◌, ◌*�
 ghost use Rattle.std.specs.List.{flat_map};
 ghost use Rattle.node_heap.specs.Links.{count};
 ghost use Rattle.node_heap.specs.Heap.{row_at, form_at, links_at, holds_at, hold_count, IsGraph, most_holds};
-ghost use Rattle.node_heap.specs.Calls.{Makes, Builds};
+ghost use Rattle.node_heap.specs.Calls.{Makes, Builds, KeepsOldOwners};
 ghost use Rattle.rrb_core.specs.Seq.{seq_at, IsWell};
 ghost use Rattle.rrb_core.specs.Vector.{IsRegular, KeepsSums, HasSums, height_at, sums_at};
-ghost use Rattle.rrb_core.specs.Build.{IsRowOf, AreRows, RowsKeepOwners};
+ghost use Rattle.rrb_core.specs.Build.{IsRowOf, AreRows};
 ghost use Rattle.rrb_core.specs.Edit.{CanEdit, CanPlace, MakesRow, PlacesChild, links_with};
 
 use crate::search::sum_before;
 use arrayvec::ArrayVec;
-use node_heap::{Head, Heap, Link, MOST_HEIGHT, Sums};
+use node_heap::{Head, Heap, Kind, Link, MOST_HEIGHT, Sums};
 
 /// The most links that a row holds.
 pub const ROW_LINKS: usize = 32;
@@ -20,28 +20,28 @@ pub const ROW_LINKS: usize = 32;
 pub type Gathered = ArrayVec<Link, 64>;
 
 /// The height that an inner row states, and 0 for every other row.
+#[inline]
 pub fn height_of<T>(heap: &Heap<T>, link: Link) -> u8
     requires { IsSome (row_at heap.now link) }
     ensures { result ≡ height_at heap.now link }
 {
-    match heap.head(link) {
-        Some(Head::Inner { height, .. }) => *height,
+    match heap.kind(link) {
+        Some(Kind::Inner { height }) => height,
         _ => 0,
     }
 }
 
 /// The running sums of its children's lengths that an inner row keeps; none where it keeps none, and for every other row.
+#[inline]
 pub fn sums_of<T>(heap: &Heap<T>, link: Link) -> &[u32]
     requires { IsSome (row_at heap.now link) }
     ensures { result.now ≡ sums_at heap.now link }
 {
-    match heap.head(link) {
-        Some(Head::Inner { sums, .. }) => sums.as_slice(),
-        _ => &[],
-    }
+    heap.sums(link)
 }
 
 /// How many elements so many full children of an inner row of this height have.
+#[inline]
 pub fn full_size(count: usize, height: u8) -> u64
     requires few { count ≤ 32 }
     requires low { height ≤ MOST_HEIGHT }
@@ -140,7 +140,7 @@ pub fn gathered<T>(
 }
 
 // Writes these links behind the first `count`. Answers how many there are then.
-fn put_links(room: &mut [Link], count: usize, links: &[Link]) -> usize
+fn write_links(room: &mut [Link], count: usize, links: &[Link]) -> usize
     requires { count + length links.now ≤ length room.old }
     ensures many { result ≡ count + length links.now }
     ensures links { take result room.new ≡ take count room.old ++ links.now }
@@ -152,7 +152,7 @@ fn put_links(room: &mut [Link], count: usize, links: &[Link]) -> usize
 
 // Writes the links of a row from the place `from` to the place `to` behind the first `count`, with a hold of each. Answers
 // how many there are then.
-fn hold_part<T>(
+fn write_part<T>(
     heap: &mut Heap<T>,
     room: &mut [Link],
     count: usize,
@@ -170,14 +170,14 @@ fn hold_part<T>(
     ensures links { take result room.new ≡ take count room.old ++ take (to - from) (drop from (links_at heap.old link)) }
     ensures builds { Builds heap.old heap.new (take count room.old) (take result room.new) 0 0 }
 {
-    let end = put_links(room, count, &heap.links(link)[from..to]);
+    let end = write_links(room, count, &heap.links(link)[from..to]);
     heap.hold_all(&room[count..end]);
     end
 }
 
 // Writes the first `keep` links of a row, then `middle`, then its links from the place `skip` on. Each link of the row comes
 // with a hold; `middle` keeps the hold that it has. Answers how many there are.
-fn gather<T>(
+fn write_links_with<T>(
     heap: &mut Heap<T>,
     room: &mut [Link],
     link: Link,
@@ -197,9 +197,9 @@ fn gather<T>(
     ensures builds { Builds heap.old heap.new (middle ∷ []) (take result room.new) 0 0 }
 {
     let stop = heap.links(link).len();
-    let front = hold_part(heap, room, 0, link, 0, keep);
-    let middle_end = put_links(room, front, &[middle]);
-    hold_part(heap, room, middle_end, link, skip, stop)
+    let front = write_part(heap, room, 0, link, 0, keep);
+    let middle_end = write_links(room, front, &[middle]);
+    write_part(heap, room, middle_end, link, skip, stop)
 }
 
 /// The leaf over these elements, a new row; it spends a hold for each place.
@@ -212,7 +212,7 @@ pub fn leaf_over<T>(heap: &mut Heap<T>, elements: &[Link]) -> Link
     ensures row { IsRowOf heap.new 0 result elements.now }
     ensures links { links_at heap.new result ≡ elements.now }
     ensures fresh { row_at heap.old result ≡ None }
-    ensures owners { RowsKeepOwners heap.old heap.new }
+    ensures owners { KeepsOldOwners heap.old heap.new }
     ensures builds { Builds heap.old heap.new elements.now (result ∷ []) 0 1 }
     ensures makes { Makes heap.old heap.new 0 1 }
 {
@@ -234,7 +234,7 @@ pub fn inner_over<T>(heap: &mut Heap<T>, children: &[Link], below: u8) -> Link
     ensures row { IsRowOf heap.new (suc below) result (flat_map (seq_at (form_at heap.old) below) children.now) }
     ensures links { links_at heap.new result ≡ children.now }
     ensures fresh { row_at heap.old result ≡ None }
-    ensures owners { RowsKeepOwners heap.old heap.new }
+    ensures owners { KeepsOldOwners heap.old heap.new }
     ensures builds { Builds heap.old heap.new children.now (result ∷ []) 0 1 }
 {
     let sums = sums_over(heap, children, below);
@@ -255,7 +255,7 @@ fn inner_of<T>(heap: &mut Heap<T>, children: &[Link], below: u8, sums: Sums) -> 
     ensures row { IsRowOf heap.new (suc below) result (flat_map (seq_at (form_at heap.old) below) children.now) }
     ensures links { links_at heap.new result ≡ children.now }
     ensures fresh { row_at heap.old result ≡ None }
-    ensures owners { RowsKeepOwners heap.old heap.new }
+    ensures owners { KeepsOldOwners heap.old heap.new }
     ensures builds { Builds heap.old heap.new children.now (result ∷ []) 0 1 }
 {
     let height = below + 1;
@@ -272,7 +272,7 @@ pub fn sums_over<T>(heap: &Heap<T>, children: &[Link], below: u8) -> Sums
     requires short { length (flat_map (seq_at (form_at heap.now) below) children.now) < 2 ^ 32 }
     ensures { KeepsSums (form_at heap.now) below children.now result }
 {
-    let mut sums: ArrayVec<u32, 32> = ArrayVec::new();
+    let mut sums: ArrayVec<u32, ROW_LINKS> = ArrayVec::new();
     let mut total = 0u32;
     for child in children {
         total += size(heap, *child, below);
@@ -354,7 +354,7 @@ fn sums_beside<T>(
     let old = sums_of(heap, link);
     let gone = sum_before(old, skip);
     let until = sum_before(old, keep) + size(heap, child, below);
-    let mut sums: ArrayVec<u32, 32> = ArrayVec::new();
+    let mut sums: ArrayVec<u32, ROW_LINKS> = ArrayVec::new();
     // There is room for 32, so that this refuses nothing.
     let _ = sums.try_extend_from_slice(&old[..keep]);
     sums.push(until);
@@ -374,9 +374,7 @@ pub(crate) fn inner_with<T>(
     skip: usize,
 ) -> Link
     requires { CanPlace heap.old below link keep child skip }
-    ensures row { IsRowOf heap.new (suc below) result (flat_map (seq_at (form_at heap.old) below) (links_with (links_at heap.old link) keep child skip)) }
-    ensures links { links_at heap.new result ≡ links_with (links_at heap.old link) keep child skip }
-    ensures builds { Builds heap.old heap.new (child ∷ []) (result ∷ []) 0 1 }
+    ensures { PlacesChild heap.old heap.new below link keep child skip result }
 {
     if stays_regular(heap, link, below, keep, child, skip) {
         return regular_with(heap, link, below, keep, child, skip);
@@ -401,7 +399,7 @@ fn regular_with<T>(
     ensures { PlacesChild heap.old heap.new below link keep child skip result }
 {
     let mut room = [Link::default(); ROW_LINKS];
-    let count = gather(heap, &mut room[..], link, keep, child, skip);
+    let count = write_links_with(heap, &mut room[..], link, keep, child, skip);
     inner_of(heap, &room[..count], below, Sums::from_slice(&[]))
 }
 
@@ -420,7 +418,7 @@ fn summed_with<T>(
 {
     let sums = sums_beside(heap, link, below, keep, child, skip);
     let mut room = [Link::default(); ROW_LINKS];
-    let count = gather(heap, &mut room[..], link, keep, child, skip);
+    let count = write_links_with(heap, &mut room[..], link, keep, child, skip);
     inner_of(heap, &room[..count], below, sums)
 }
 
@@ -437,7 +435,7 @@ fn read_with<T>(
     ensures { PlacesChild heap.old heap.new below link keep child skip result }
 {
     let mut room = [Link::default(); ROW_LINKS];
-    let count = gather(heap, &mut room[..], link, keep, child, skip);
+    let count = write_links_with(heap, &mut room[..], link, keep, child, skip);
     inner_over(heap, &room[..count], below)
 }
 
@@ -458,6 +456,6 @@ pub(crate) fn leaf_with<T>(
     ensures links { links_at heap.new result ≡ links_with (links_at heap.old link) keep element skip }
 {
     let mut room = [Link::default(); ROW_LINKS];
-    let count = gather(heap, &mut room[..], link, keep, element, skip);
+    let count = write_links_with(heap, &mut room[..], link, keep, element, skip);
     leaf_over(heap, &room[..count])
 }

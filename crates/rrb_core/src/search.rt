@@ -34,6 +34,7 @@ fn place_of(sums: &[u32], index: u32, from: usize) -> usize
 }
 
 // How many elements stand before the child at `place`.
+#[inline]
 pub(crate) fn sum_before(sums: &[u32], place: usize) -> u32
     requires { place ≤ length sums.now }
     ensures first { place ≡ 0 → result ≡ 0 }
@@ -77,6 +78,8 @@ struct ChildSpot {
 
 // The child of an inner row below which the element at `index` is, if the row has one; the children have the height `below`.
 // Where the row keeps no sums, an index past its elements may give its last child, and an index past the elements of that one.
+// It is the body of the loop of each look-up, which keeps what it answers in registers.
+#[inline(always)]
 fn child_spot_of<T>(heap: &Heap<T>, link: Link, below: u8, index: u32) -> Option<ChildSpot>
     requires well { IsWell (form_at heap.now) (suc below) link }
     requires sums { HasSums heap.now (suc below) link }
@@ -102,7 +105,8 @@ fn child_spot_of<T>(heap: &Heap<T>, link: Link, below: u8, index: u32) -> Option
     })
 }
 
-// The same for a row that keeps these sums.
+// The same for a row that keeps these sums, which most rows don't.
+#[inline(never)]
 fn child_spot_by<T>(
     heap: &Heap<T>,
     link: Link,

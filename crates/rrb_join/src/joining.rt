@@ -38,7 +38,7 @@ impl From<NoMemory> for JoinFault {
 
 /// The most nodes that a join, a cut or an insert makes along its seam: two for each height, and a root over
 /// two.
-pub const SEAM_NODES: usize = 2 * MOST_HEIGHT as usize + 3;
+pub const SEAM_NODES: usize = 2 * (MOST_HEIGHT as usize + 1) + 1;
 
 /// The elements of `left` and then those of `right`. It makes rows along the seam alone, at most twice the height of
 /// the higher vector and three more, so at most 17 nodes, and shares all others. Where one is empty it gives the other

@@ -1,8 +1,9 @@
-use Rattle.std.proofs.Common.{arith, ◌≡◌, ◌+◌, ◌<◌, ◌≤◌, ◌^◌, ℕ, suc}
+use Rattle.std.proofs.Common.{arith, ◌≡◌, ◌+◌, ◌<◌, ◌^◌, ℕ}
+use Rattle.node_heap.specs.declared.row.TheConstants.{MOST_HEIGHT}
 use Rattle.rrb_core.proofs.build.lowest_height.Goals as goal
 
--- the height stays below 7, since 32 ^ 7 is past 2 ^ 32
-stays-low : (height count : ℕ) → height ≤ 6 → 32 ^ (height + 1) < count → count < 2 ^ 32 → height + 1 ≤ 6
+-- the height stays below the greatest, since 32 ^ 7 is past 2 ^ 32
+stays-low : (height count : ℕ) → height < MOST_HEIGHT → 32 ^ (height + 1) < count → count < 2 ^ 32 → height + 1 < MOST_HEIGHT
 stays-low height count low lt short = let ne = not_six in omega (arith, low, ne)
   where
     not_six : height ≡ 6 → ⊥

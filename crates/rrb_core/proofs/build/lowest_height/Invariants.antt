@@ -6,7 +6,7 @@ abbrev pub invariant-loop-height : goal.invariant-loop-height
 invariant-loop-height l =
     record {
       lowest : 1 ≤ l.height → 32 ^ l.height < l.count;
-      low : l.height ≤ 6;
+      low : l.height < MOST_HEIGHT;
     }
 
 abbrev pub decreases-loop-height : goal.decreases-loop-height
