@@ -1,6 +1,7 @@
 -- What stays where a heap keeps its rows.
-use Rattle.std.proofs.Common.{◌≡◌, ℕ, zero, suc, ◌<◌, ◌≤◌, ◌≢◌, Bool, cond, List, [], ◌∷◌, length, refl, ap, sym, subst, ◌∙◌, arith, Option, Some, None, IsSome, is_some, get_or, set, get_or-set_other, eq-eqb}
+use Rattle.std.proofs.Common.{◌≡◌, ℕ, zero, suc, ◌<◌, ◌≤◌, ◌≢◌, Bool, true, false, cond, List, [], ◌∷◌, length, refl, ap, sym, subst, ◌∙◌, arith, Option, Some, None, IsSome, is_some, get_or, set, get_or-set_other, eq-eqb}
 use Rattle.std.specs.Prelude.{option_to_list, option_map, count_by}
+use Rattle.std.specs.declared.cmp.Ordering.{Ordering}
 use Rattle.std.proofs.lemmas.List.Sums.{sum_by-set}
 use Rattle.node_heap.specs.Links.{count, HasLink}
 use Rattle.node_heap.specs.Forms.{Row, Form, Forms, cell, node, leaf, inner, trie, chain, pair, state, links_of, value_of, form_of}
@@ -9,49 +10,75 @@ use Rattle.node_heap.specs.Calls.{Extends, SameRows}
 use Rattle.node_heap.proofs.Frames.{Extends-row}
 use Rattle.node_heap.proofs.BuildLemmas.{count-cons, count-one}
 use Rattle.champ_chain.specs.Entry.{Entry, key_at, key_of, first_value}
-use Rattle.champ_chain.specs.Chain.{AreChainRows, KeepsChains}
+use Rattle.champ_chain.specs.Chain.{AreChainRows, IsChain, KeepsChains}
 
 -- every form that was there is there
 pub record KeepsForms {K : Type 0} (F G : Forms K) : Type 0 where
   pub kept : (l : ℕ) (f : Form K) → F l ≡ Some f → G l ≡ Some f
 
+abbrev pub is_of_vector : {K : Type 0} → Form K → Bool
+is_of_vector (cell _) = false
+is_of_vector (node leaf _) = true
+is_of_vector (node (inner _) _) = true
+is_of_vector (node (trie _ _ _) _) = false
+is_of_vector (node chain _) = false
+is_of_vector (node pair _) = false
+is_of_vector (node state _) = false
+
+-- every form that was there is there, but for rows of vectors, which entries and chains don't read
+pub record KeepsOthers {K : Type 0} (F G : Forms K) : Type 0 where
+  pub kept : (l : ℕ) (f : Form K) → F l ≡ Some f → is_of_vector f ≡ false → G l ≡ Some f
+
 module _ {K : Type 0} where
-  pub value-kept : (F G : Forms K) → KeepsForms F G → (l : ℕ) (x : K) → value_of (F l) ≡ Some x → value_of (G l) ≡ Some x
-  value-kept F G keeps l x is = by_form (F l) refl is
-    where
-      by_form : (r : Option (Form K)) → F l ≡ r → value_of r ≡ Some x → value_of (G l) ≡ Some x
-      by_form None e is = cc
-      by_form (Some (cell y)) e is = ap value_of (keeps.kept l (cell y) e) ∙ is
-      by_form (Some (node kind links)) e is = cc
+  pub others-kept : (F G : Forms K) → KeepsForms F G → KeepsOthers F G
+  others-kept F G keeps = record { kept = λ l f is none. keeps.kept l f is }
+
+  module _ (F G : Forms K) (keeps : KeepsOthers F G) where
+    value-beside : (l : ℕ) (x : K) → value_of (F l) ≡ Some x → value_of (G l) ≡ Some x
+    value-beside l x is = by_form (F l) refl is
+      where
+        by_form : (r : Option (Form K)) → F l ≡ r → value_of r ≡ Some x → value_of (G l) ≡ Some x
+        by_form None e is = cc
+        by_form (Some (cell y)) e is = ap value_of (keeps.kept l (cell y) e refl) ∙ is
+        by_form (Some (node kind links)) e is = cc
+
+    pub key-beside : (l : ℕ) (k : K) → key_at F l ≡ Some k → key_at G l ≡ Some k
+    key-beside l k is = by_form (F l) refl is
+      where
+        by_links : (links : List ℕ) → first_value F links ≡ Some k → first_value G links ≡ Some k
+        by_links [] is = cc
+        by_links (j ∷ js) is = value-beside j k is
+
+        by_form : (r : Option (Form K)) → F l ≡ r → key_of F r ≡ Some k → key_of G (G l) ≡ Some k
+        by_form None e is = cc
+        by_form (Some (cell y)) e is = ap (key_of G) (keeps.kept l (cell y) e refl) ∙ is
+        by_form (Some (node leaf links)) e is = cc
+        by_form (Some (node (inner height) links)) e is = cc
+        by_form (Some (node (trie d s n) links)) e is = cc
+        by_form (Some (node chain links)) e is = cc
+        by_form (Some (node pair links)) e is = ap (key_of G) (keeps.kept l (node pair links) e refl) ∙ by_links links is
+        by_form (Some (node state links)) e is = cc
+
+    pub rows-beside : (l : Option ℕ) (es : List (Entry K)) → AreChainRows F l es → AreChainRows G l es
+    unfolding AreChainRows
+    rows-beside l [] rows = rows
+    rows-beside l (e ∷ es) rows = record {
+      link = rows.link;
+      next = rows.next;
+      here = rows.here;
+      row = keeps.kept rows.link _ rows.row refl;
+      key = key-beside e.link e.key rows.key;
+      rest = rows-beside rows.next es rows.rest;
+    }
+
+    pub chain-beside : (cmp : K → K → Ordering) (l : ℕ) (E : List (Entry K)) → IsChain cmp F l E → IsChain cmp G l E
+    chain-beside cmp l E c = record { entries = c.entries; rows = rows-beside (Some l) c.entries c.rows; rising = c.rising; same = c.same; two = c.two }
 
   pub key-kept : (F G : Forms K) → KeepsForms F G → (l : ℕ) (k : K) → key_at F l ≡ Some k → key_at G l ≡ Some k
-  key-kept F G keeps l k is = by_form (F l) refl is
-    where
-      by_links : (links : List ℕ) → first_value F links ≡ Some k → first_value G links ≡ Some k
-      by_links [] is = cc
-      by_links (j ∷ js) is = value-kept F G keeps j k is
-
-      by_form : (r : Option (Form K)) → F l ≡ r → key_of F r ≡ Some k → key_of G (G l) ≡ Some k
-      by_form None e is = cc
-      by_form (Some (cell y)) e is = ap (key_of G) (keeps.kept l (cell y) e) ∙ is
-      by_form (Some (node leaf links)) e is = cc
-      by_form (Some (node (inner height) links)) e is = cc
-      by_form (Some (node (trie d s n) links)) e is = cc
-      by_form (Some (node chain links)) e is = cc
-      by_form (Some (node pair links)) e is = ap (key_of G) (keeps.kept l (node pair links) e) ∙ by_links links is
-      by_form (Some (node state links)) e is = cc
+  key-kept F G keeps = key-beside F G (others-kept F G keeps)
 
   pub rows-kept : (F G : Forms K) → KeepsForms F G → (l : Option ℕ) (es : List (Entry K)) → AreChainRows F l es → AreChainRows G l es
-  unfolding AreChainRows
-  rows-kept F G keeps l [] rows = rows
-  rows-kept F G keeps l (e ∷ es) rows = record {
-    link = rows.link;
-    next = rows.next;
-    here = rows.here;
-    row = keeps.kept rows.link _ rows.row;
-    key = key-kept F G keeps e.link e.key rows.key;
-    rest = rows-kept F G keeps rows.next es rows.rest;
-  }
+  rows-kept F G keeps = rows-beside F G (others-kept F G keeps)
 
 module _ {X : Type 0} where
   abbrev one : Option X → ℕ

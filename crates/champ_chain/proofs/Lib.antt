@@ -7,3 +7,4 @@ pub mod PartsLemmas
 pub mod WithLemmas
 pub mod RowLemmas
 pub mod OldLemmas
+pub mod CallerLemmas

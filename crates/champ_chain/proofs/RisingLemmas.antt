@@ -1,5 +1,5 @@
 -- Lists of entries in rising order.
-use Rattle.std.proofs.Common.{◌≡◌, ℕ, ◌≤◌, Bool, true, false, not, cond, List, [], ◌∷◌, ◌++◌, refl, ap, sym, ◌∙◌, arith, inl, inr, ◌⊎◌, Some, None, subst}
+use Rattle.std.proofs.Common.{◌≡◌, ℕ, zero, suc, ◌≤◌, drop, Bool, true, false, not, cond, List, [], ◌∷◌, ◌++◌, refl, ap, sym, ◌∙◌, arith, inl, inr, ◌⊎◌, Some, None, subst}
 use Rattle.std.specs.Prelude.{count_by}
 use Rattle.std.specs.List.{find}
 use Rattle.std.specs.Cmp.{IsTotalOrder, tied_itself}
@@ -140,3 +140,27 @@ module _ {K : Type 0} (cmp : K → K → Ordering) (o : IsTotalOrder cmp) where
   -- putting an entry into the same set
   pub same-put : (xs ys : List (Entry K)) (e : Entry K) → SameSet xs ys → SameSet (put cmp xs e) (put cmp ys e)
   same-put xs ys e s = same_first e _ _ (same-filter (λ d. not (has_key cmp e.key d)) xs ys s)
+
+  -- what stands further on in a list above a key is above it
+  pub above-drop : (k : K) (es : List (Entry K)) (n : ℕ) (d : Entry K) (ds : List (Entry K)) → AreAbove cmp k es → drop n es ≡ d ∷ ds → cmp k d.key ≡ Less
+  above-drop k [] zero d ds above is = absurd cc
+  above-drop k [] (suc n) d ds above is = absurd cc
+  above-drop k (e ∷ es) zero d ds above is = let same : e ≡ d = cc in subst (λ (x : Entry K). cmp k x.key ≡ Less) same above.0
+  above-drop k (e ∷ es) (suc n) d ds above is = above-drop k es n d ds above.1 is
+
+  -- equal keys stand at one place of a rising list
+  pub rising-once : (es : List (Entry K)) (i j : ℕ) (e d : Entry K) (us vs : List (Entry K)) → IsRising cmp es → drop i es ≡ e ∷ us → drop j es ≡ d ∷ vs → cmp e.key d.key ≡ Equal → i ≡ j
+  rising-once [] zero j e d us vs rising first second equal = absurd cc
+  rising-once [] (suc i) j e d us vs rising first second equal = absurd cc
+  rising-once (x ∷ xs) zero zero e d us vs rising first second equal = refl
+  rising-once (x ∷ xs) zero (suc j) e d us vs rising first second equal =
+      let less = above-drop x.key xs j d vs rising.0 second in
+      let same : x ≡ e = cc in
+      let less' : cmp e.key d.key ≡ Less = subst (λ (y : Entry K). cmp y.key d.key ≡ Less) same less in
+      absurd (let bad : Less ≡ Equal = sym less' ∙ equal in cc)
+  rising-once (x ∷ xs) (suc i) zero e d us vs rising first second equal =
+      let less = above-drop x.key xs i e us rising.0 first in
+      let same : x ≡ d = cc in
+      let less' : cmp d.key e.key ≡ Less = subst (λ (y : Entry K). cmp y.key e.key ≡ Less) same less in
+      absurd (let bad : Greater ≡ Equal = sym (greater_flip d.key e.key less') ∙ equal in cc)
+  rising-once (x ∷ xs) (suc i) (suc j) e d us vs rising first second equal = ap suc (rising-once xs i j e d us vs rising.1 first second equal)

@@ -11,10 +11,10 @@ ghost use Rattle.std.specs.Prelude.{◌≡◌, ◌↔◌, ℕ, ◌+◌, ◌<◌,
 ghost use Rattle.std.specs.declared.cmp.Ordering.TheVariants.{Equal};
 ghost use Rattle.node_heap.specs.Links.{count};
 ghost use Rattle.node_heap.specs.Heap.{form_at, holds_at, hold_count, HasSpares, IsGraph, half_holds, most_holds, row_limit};
-ghost use Rattle.node_heap.specs.Calls.{Answered, Builds, KeepsToNeed, MakesJust};
+ghost use Rattle.node_heap.specs.Calls.{Answered, Builds, KeepsToNeed, MakesJust, KeepsOldOwners};
 ghost use Rattle.champ_chain.specs.Entry.{Entry, entry as entry_of, key_at, link_with, others, put};
 ghost use Rattle.champ_chain.specs.Chain.{IsChain, IsEntryOrChain, KeepsChains};
-ghost use Rattle.champ_chain.specs.Old.{KeepsOldOwners, ReachesOldBy};
+ghost use Rattle.champ_chain.specs.Old.{ReachesOldBy};
 
 mod laws;
 mod rows;

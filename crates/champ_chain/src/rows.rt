@@ -3,11 +3,11 @@ ghost use Rattle.std.specs.Prelude.{◌≡◌, ℕ, ◌+◌, ◌<◌, ◌≤◌,
 ghost use Rattle.node_heap.specs.Links.{count};
 ghost use Rattle.node_heap.specs.Forms.{node, chain as chain_kind};
 ghost use Rattle.node_heap.specs.Heap.{row_at, form_at, holds_at, hold_count, IsGraph, half_holds, most_holds, row_limit};
-ghost use Rattle.node_heap.specs.Calls.{AddsOwner, SameRows, Builds};
+ghost use Rattle.node_heap.specs.Calls.{AddsOwner, SameRows, Builds, KeepsOldOwners};
 ghost use Rattle.node_heap.specs.declared.row.Head.TheVariants.{Chain};
 ghost use Rattle.champ_chain.specs.Entry.{Entry, entry as entry_of, key_at};
 ghost use Rattle.champ_chain.specs.Chain.{AreChainRows, IsEntryOrRows};
-ghost use Rattle.champ_chain.specs.Old.{KeepsOldOwners, ReachesOldBy};
+ghost use Rattle.champ_chain.specs.Old.{ReachesOldBy};
 
 use node_heap::{Head, Heap, Link};
 
@@ -21,6 +21,7 @@ pub struct ChainRow {
 }
 
 /// The key of an entry: a cell's value, or that of a pair's first link.
+#[inline]
 pub fn key_of<T>(heap: &Heap<T>, entry: Link) -> &T
     requires { IsSome (key_at (form_at heap.now) entry) }
     ensures { key_at (form_at heap.now) entry ≡ Some result.now }
@@ -38,6 +39,7 @@ pub fn key_of<T>(heap: &Heap<T>, entry: Link) -> &T
 }
 
 /// What the chain row at a link has.
+#[inline]
 pub fn row_of<T>(heap: &Heap<T>, row: Link) -> ChainRow
     requires { (entry : ℕ) × (next : Option ℕ) × (form_at heap.now row ≡ Some (node chain_kind (entry ∷ option_to_list next))) }
     ensures { form_at heap.now row ≡ Some (node chain_kind (result.entry ∷ option_to_list result.next)) }

@@ -4,3 +4,6 @@ pub mod PairRows
 pub mod StayLemmas
 pub mod LawLemmas
 pub mod EditLemmas
+pub mod FindLemmas
+pub mod SaysLemmas
+pub mod CallerLemmas

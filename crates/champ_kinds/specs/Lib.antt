@@ -4,3 +4,4 @@ pub mod Kinds
 pub mod Stands
 pub mod Edit
 pub mod Laws
+pub mod Says

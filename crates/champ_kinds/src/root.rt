@@ -74,8 +74,7 @@ impl<K> Rooted<K> {
         ensures builds { Builds heap.old heap.new [] (result.root ∷ []) 0 0 }
         ensures containers { KeepsContainers heap.old heap.new }
     {
-        heap.hold(self.root);
-        Rooted::from_root(self.root, self.bits)
+        self.view().share(heap)
     }
 
     /// Gives it up: rows that nothing else keeps are freed.
@@ -145,5 +144,18 @@ impl<K> RootRef<K> {
         ensures { result ≡ self.now.bits }
     {
         self.bits
+    }
+
+    /// The same with a hold of its own: one more hold of the root.
+    pub fn share<T>(&self, heap: &mut Heap<T>) -> Rooted<K>
+        requires live { IsSome (row_at heap.old self.now.root) }
+        requires few { hold_count heap.old < half_holds }
+        ensures same { result ≡ self.now }
+        ensures rows { SameRows heap.old heap.new }
+        ensures builds { Builds heap.old heap.new [] (result.root ∷ []) 0 0 }
+        ensures containers { KeepsContainers heap.old heap.new }
+    {
+        heap.hold(self.root);
+        Rooted::from_root(self.root, self.bits)
     }
 }

@@ -9,9 +9,11 @@ use Rattle.std.proofs.lemmas.List.Filters.{length-filter_both}
 use Rattle.std.proofs.lemmas.List.Sums.{length-filter}
 use Rattle.elem_core.specs.Codes.{digit_at}
 use Rattle.elem_core.specs.declared.codes.TheConstants.{CODE_BITS, DEEPEST, LEVELS}
-use Rattle.node_heap.specs.Forms.{Forms, Row, cell, node, chain, head_of, form_of, kind_of}
-use Rattle.node_heap.specs.Heap.{Heap, row_at, form_at}
-use Rattle.node_heap.specs.declared.row.Head.TheVariants.{Leaf, Inner, Trie, Chain, Pair, State}
+use Rattle.node_heap.specs.Forms.{Form, Forms, cell, node, chain, head_of}
+use Rattle.node_heap.specs.Reads.{kind_said}
+use Rattle.node_heap.specs.declared.row.Kind.{Kind}
+use Rattle.node_heap.specs.Heap.{Heap, form_at}
+use Rattle.node_heap.specs.declared.row.Kind.TheVariants.{Leaf, Inner, Trie, Chain, Pair, State}
 use Rattle.champ_chain.specs.Entry.{Entry, entry, has_key, link_with, others, AreDistinct, key_of, key_at}
 use Rattle.champ_chain.specs.Chain.{IsChain, IsEntryOrChain}
 use Rattle.champ_chain.proofs.FrameLemmas.{KeepsForms, forms-kept, forms-same}
@@ -29,38 +31,36 @@ use Rattle.node_heap.specs.Calls.{Builds, Extends, SameRows}
 use Rattle.node_heap.proofs.BuildLemmas.{Builds-then, Builds-more}
 use Rattle.champ_trie.proofs.PartLemmas.{part-others, part-agreeing, part-link, others-elsewhere, place-kept, stands-at, below-part, row-trie, trie-kept}
 
+-- only a chain is said to be one
+pub chain-said : (k : Kind) → kind_said k ≡ chain → k ≡ Chain
+chain-said Leaf is = cc
+chain-said (Inner height) is = cc
+chain-said (Trie depth entries nodes) is = cc
+chain-said Chain is = refl
+chain-said Pair is = cc
+chain-said State is = cc
+
 module _ {T : Type 0} where
-  -- a row with a chain's head is no entry
-  no-entry : (F : Forms T) (r : Option (Row T)) (k : T) → head_of r ≡ Some Chain → key_of F (option_map form_of r) ≡ Some k → ⊥
+  -- a chain's row is no entry
+  no-entry : (F : Forms T) (r : Option (Form T)) (k : T) → head_of r ≡ Some chain → key_of F r ≡ Some k → ⊥
   no-entry F None k head key = cc
   no-entry F (Some (cell x)) k head key = cc
-  no-entry F (Some (node h links)) k head key = let same : h ≡ Chain = cc in let bad : key_of F (Some (node chain links)) ≡ Some k = ap (λ g. key_of F (Some (node (kind_of g) links))) (sym same) ∙ key in cc
-
-  -- a chain's row has a chain's head
-  chain-head : (r : Option (Row T)) (links : List ℕ) → option_map form_of r ≡ Some (node chain links) → head_of r ≡ Some Chain
-  chain-head None links form = cc
-  chain-head (Some (cell x)) links form = cc
-  chain-head (Some (node Leaf ks)) links form = cc
-  chain-head (Some (node (Inner height sums) ks)) links form = cc
-  chain-head (Some (node (Trie depth entries nodes) ks)) links form = cc
-  chain-head (Some (node Chain ks)) links form = refl
-  chain-head (Some (node Pair ks)) links form = cc
-  chain-head (Some (node State ks)) links form = cc
+  no-entry F (Some (node h links)) k head key = let same : h ≡ chain = cc in let bad : key_of F (Some (node chain links)) ≡ Some k = ap (λ g. key_of F (Some (node g links))) (sym same) ∙ key in cc
 
   module _ (cmp : T → T → Ordering) where
     -- what is left of a chain is a chain again
-    pub chain-stands : (h : Heap T) (l : ℕ) (Q : List (Entry T)) → head_of (row_at h l) ≡ Some Chain → IsEntryOrChain cmp (form_at h) l Q
+    pub chain-stands : (h : Heap T) (l : ℕ) (Q : List (Entry T)) → head_of (form_at h l) ≡ Some chain → IsEntryOrChain cmp (form_at h) l Q
         → IsPlace (form_at h) (λ k P. IsChain cmp (form_at h) k P) (Node l) Q
     chain-stands h l [] head is = absurd is
-    chain-stands h l (e ∷ []) head is = absurd (no-entry (form_at h) (row_at h l) e.key head (ap (key_at (form_at h)) is.0 ∙ is.1))
+    chain-stands h l (e ∷ []) head is = absurd (no-entry (form_at h) (form_at h l) e.key head (ap (key_at (form_at h)) is.0 ∙ is.1))
     chain-stands h l (e ∷ d ∷ es) head is = (is.two, is)
 
     -- or an entry
-    pub entry-stands : (h : Heap T) (l : ℕ) (Q : List (Entry T)) → (head_of (row_at h l) ≡ Some Chain → ⊥) → IsEntryOrChain cmp (form_at h) l Q
+    pub entry-stands : (h : Heap T) (l : ℕ) (Q : List (Entry T)) → (head_of (form_at h l) ≡ Some chain → ⊥) → IsEntryOrChain cmp (form_at h) l Q
         → IsPlace (form_at h) (λ k P. IsChain cmp (form_at h) k P) (At l) Q
     entry-stands h l [] head is = absurd is
     entry-stands h l (e ∷ []) head is = (e.key, ap (λ k. entry e.key k ∷ []) (sym is.0), ap (key_at (form_at h)) is.0 ∙ is.1)
-    entry-stands h l (e ∷ d ∷ es) head is = let at = first-row (form_at h) l is.entries is.rows in absurd (head (chain-head (row_at h l) _ at.row))
+    entry-stands h l (e ∷ d ∷ es) head is = let at = first-row (form_at h) l is.entries is.rows in absurd (head (ap head_of at.row))
 
 -- the positions of sets of which only one has something
 module _ (e n p : ℕ) (ls : List ℕ) (sets : AreSets e n ls) (low : p < 32) where

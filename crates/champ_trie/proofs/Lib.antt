@@ -15,3 +15,5 @@ pub mod ShareLemmas
 pub mod BesideLemmas
 pub mod RowLemmas
 pub mod FillLemmas
+pub mod BelowLemmas
+pub mod CallerLemmas

@@ -1,5 +1,5 @@
 -- The entries with a digit of their code, when an entry is put in or taken out.
-use Rattle.std.proofs.Common.{◌≡◌, ◌≢◌, ℕ, suc, zero, ◌+◌, ◌<◌, ◌≤◌, List, [], ◌∷◌, refl, ap, sym, subst, ◌∙◌, arith, cond, true, false, not, Bool, Some, option_map}
+use Rattle.std.proofs.Common.{◌≡◌, ◌≢◌, ℕ, suc, zero, ◌+◌, ◌<◌, ◌≤◌, List, [], ◌∷◌, refl, ap, sym, subst, ◌∙◌, arith, cond, true, false, not, Bool, option_map}
 use Rattle.std.specs.Prelude.{nat_eq, count_by}
 use Rattle.std.specs.List.{filter}
 use Rattle.std.specs.Cmp.{Equal-is}
@@ -9,10 +9,9 @@ use Rattle.std.proofs.lemmas.Bool.{eq-eqb, eqb-true, ne_eqb}
 use Rattle.elem_core.specs.Codes.{digit_at}
 use Rattle.node_heap.specs.Forms.{Forms}
 use Rattle.champ_chain.specs.Entry.{Entry, has_key, link_with, others, put, AreDistinct}
-use Rattle.champ_chain.specs.Chain.{IsChain}
 use Rattle.champ_chain.proofs.SetLemmas.{count-cons}
-use Rattle.champ_chain.proofs.FrameLemmas.{KeepsForms, rows-kept, key-kept}
-use Rattle.champ_trie.specs.Trie.{IsTrie, IsPlace, IsRow, part, place_of}
+use Rattle.champ_chain.proofs.FrameLemmas.{KeepsForms, KeepsOthers, others-kept, key-beside, chain-beside}
+use Rattle.champ_trie.specs.Trie.{IsCanonTo, IsTrie, IsPlace, IsRow, part, place_of}
 use Rattle.champ_trie.specs.Reach.{agreeing, Agrees, alike_in}
 use Rattle.champ_trie.specs.Edit.{IsBelow}
 use Rattle.champ_trie.specs.declared.place.Place.{Place}
@@ -95,32 +94,38 @@ module _ {K : Type 0} (cmp : K → K → Ordering) (code : K → ℕ) where
         ap (option_map (λ (e : Entry K). e.link))
         (find-kept (has_key cmp k) _ (λ e is. eq-eqb (digit_at (code e.key) d) (digit_at (code k) d) (ap (λ n. digit_at n d) (sym (equal_codes k e.key ((Equal-is (cmp k e.key)).0 is))))) E)
 
-  -- what reads the same in more forms
-  pub chain-kept : (F G : Forms K) → KeepsForms F G → (l : ℕ) (E : List (Entry K)) → IsChain cmp F l E → IsChain cmp G l E
-  chain-kept F G keeps l E c = record { entries = c.entries; rows = rows-kept F G keeps (Some l) c.entries c.rows; rising = c.rising; same = c.same; two = c.two }
-
-  pub place-over : (F G : Forms K) (B C : ℕ → List (Entry K) → Type 0) → KeepsForms F G → ((l : ℕ) (P : List (Entry K)) → B l P → C l P) → (place : Place) (E : List (Entry K)) → IsPlace F B place E → IsPlace G C place E
+  -- what reads the same in more forms, and where rows of vectors change
+  place-over : (F G : Forms K) (B C : ℕ → List (Entry K) → Type 0) → KeepsOthers F G → ((l : ℕ) (P : List (Entry K)) → B l P → C l P) → (place : Place) (E : List (Entry K)) → IsPlace F B place E → IsPlace G C place E
   place-over F G B C keeps below Empty E is = is
-  place-over F G B C keeps below (At x) E is = (is.0, is.1, key-kept F G keeps x is.0 is.2)
+  place-over F G B C keeps below (At x) E is = (is.0, is.1, key-beside F G keeps x is.0 is.2)
   place-over F G B C keeps below (Node l) E is = (is.0, below l E is.1)
 
-  pub row-kept : (F G : Forms K) → KeepsForms F G → (l d e n : ℕ) (ls : List ℕ) → IsRow F l d e n ls → IsRow G l d e n ls
-  row-kept F G keeps l d e n ls row = record { row = keeps.kept l _ row.row; sets = row.sets }
+  pub row-beside : (F G : Forms K) → KeepsOthers F G → (l d e n : ℕ) (ls : List ℕ) → IsRow F l d e n ls → IsRow G l d e n ls
+  row-beside F G keeps l d e n ls row = record { row = keeps.kept l _ row.row refl; sets = row.sets }
 
-  pub trie-kept : (F G : Forms K) → KeepsForms F G → (left d l : ℕ) (E : List (Entry K)) → IsTrie cmp code F left d l E → IsTrie cmp code G left d l E
+  pub trie-beside : (F G : Forms K) → KeepsOthers F G → (left d l : ℕ) (E : List (Entry K)) → IsTrie cmp code F left d l E → IsTrie cmp code G left d l E
   unfolding IsTrie
-  trie-kept F G keeps zero d l E trie = chain-kept F G keeps l E trie
-  trie-kept F G keeps (suc left) d l E trie = record {
+  trie-beside F G keeps zero d l E trie = chain-beside F G keeps cmp l E trie
+  trie-beside F G keeps (suc left) d l E trie = record {
     entries = trie.entries;
     nodes = trie.nodes;
     links = trie.links;
-    row = row-kept F G keeps l d trie.entries trie.nodes trie.links trie.row;
-    places = λ p low. place-over F G (λ k P. IsTrie cmp code F left (suc d) k P) (λ k P. IsTrie cmp code G left (suc d) k P) keeps (λ k P below. trie-kept F G keeps left (suc d) k P below)
+    row = row-beside F G keeps l d trie.entries trie.nodes trie.links trie.row;
+    places = λ p low. place-over F G (λ k P. IsTrie cmp code F left (suc d) k P) (λ k P. IsTrie cmp code G left (suc d) k P) keeps (λ k P below. trie-beside F G keeps left (suc d) k P below)
         (place_of trie.entries trie.nodes trie.links p) (part cmp code d p E) (trie.places p low);
   }
 
+  pub canon-beside : (F G : Forms K) → KeepsOthers F G → (deepest root : ℕ) (E : List (Entry K)) → IsCanonTo cmp code deepest F root E → IsCanonTo cmp code deepest G root E
+  canon-beside F G keeps deepest root E canon = record { trie = trie-beside F G keeps (deepest + 1) 0 root E canon.trie; distinct = canon.distinct }
+
+  pub row-kept : (F G : Forms K) → KeepsForms F G → (l d e n : ℕ) (ls : List ℕ) → IsRow F l d e n ls → IsRow G l d e n ls
+  row-kept F G keeps = row-beside F G (others-kept F G keeps)
+
+  pub trie-kept : (F G : Forms K) → KeepsForms F G → (left d l : ℕ) (E : List (Entry K)) → IsTrie cmp code F left d l E → IsTrie cmp code G left d l E
+  trie-kept F G keeps = trie-beside F G (others-kept F G keeps)
+
   pub place-kept : (F G : Forms K) → KeepsForms F G → (left d : ℕ) (place : Place) (E : List (Entry K)) → IsPlace F (λ k P. IsTrie cmp code F left d k P) place E → IsPlace G (λ k P. IsTrie cmp code G left d k P) place E
-  place-kept F G keeps left d place E is = place-over F G (λ k P. IsTrie cmp code F left d k P) (λ k P. IsTrie cmp code G left d k P) keeps (λ k P below. trie-kept F G keeps left d k P below) place E is
+  place-kept F G keeps left d place E is = place-over F G (λ k P. IsTrie cmp code F left d k P) (λ k P. IsTrie cmp code G left d k P) (others-kept F G keeps) (λ k P below. trie-kept F G keeps left d k P below) place E is
 
   -- what stands at a position of a trie's row
   pub stands-at : (F : Forms K) (left d l p : ℕ) (E : List (Entry K)) (place : Place) → IsTrie cmp code F (suc left) d l E

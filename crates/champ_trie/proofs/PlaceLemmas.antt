@@ -60,6 +60,13 @@ module _ (e n : ℕ) (ls : List ℕ) (p : ℕ) (small : p < 32) (sets : AreSets 
   pub node-in : has n p ≡ true → rank e 32 + rank n p < length ls
   node-in here = omega (arith, sets.count, rank-lt n p 32 small here)
 
+  -- where a node stands no entry does
+  pub node-alone : has n p ≡ true → has e p ≡ false
+  node-alone here = elim (cases_Bool (has e p)) [
+    | inl both ↦ absurd (let bad = sym here ∙ sets.apart p small both in cc)
+    | inr none ↦ none
+  ]
+
   -- an entry is taken out
   pub clear-entry : (e' : ℕ) → e' < 2 ^ 32 → has e p ≡ true → Gains e' e p → Changes e n ls e' n (remove ls (rank e p)) p Empty
   clear-entry e' low had lost =

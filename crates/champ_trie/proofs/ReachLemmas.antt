@@ -5,7 +5,7 @@ use Rattle.std.specs.List.{filter, find}
 use Rattle.std.specs.Cmp.{Equal-is}
 use Rattle.std.specs.Ordering.{is_eq}
 use Rattle.std.specs.declared.cmp.Ordering.{Ordering}
-use Rattle.std.specs.declared.cmp.Ordering.TheVariants.{Equal}
+use Rattle.std.specs.declared.cmp.Ordering.TheVariants.{Less, Equal, Greater}
 use Rattle.std.proofs.lemmas.Bool.{cases_eq, cases_order, eq-eqb, eqb-true, ne_eqb}
 use Rattle.std.proofs.lemmas.Nat.{pow_pos}
 use Rattle.std.proofs.Math.Nat.{mul-le-mul_right}
@@ -106,6 +106,14 @@ module _ {K : Type 0} (cmp : K → K → Ordering) where
       by_test true e = sym (ap (λ b. option_map (λ (e : Entry K). e.link) (cond b (Some (entry k x)) None)) e)
       by_test false e = sym (ap (λ b. option_map (λ (e : Entry K). e.link) (cond b (Some (entry k x)) None)) e)
 
+  pub link-differs : (key k : K) (x : ℕ) → (cmp key k ≡ Equal → ⊥) → None ≡ link_with cmp key (entry k x ∷ [])
+  link-differs key k x other = by_order (cmp key k) refl
+    where
+      by_order : (o : Ordering) → cmp key k ≡ o → None ≡ link_with cmp key (entry k x ∷ [])
+      by_order Less is = link-alone key k x Less is
+      by_order Equal is = absurd (other is)
+      by_order Greater is = link-alone key k x Greater is
+
 module _ {K : Type 0} (cmp : K → K → Ordering) (code : K → ℕ) where
   pub agreeing-none : (c : ℕ) (E : List (Entry K)) → agreeing code 0 c E ≡ E
   agreeing-none c E = filter-all _ (λ e. eq-eqb (code e.key % 1) (c % 1) (omega arith)) E
@@ -172,8 +180,12 @@ module _ {K : Type 0} (cmp : K → K → Ordering) (code : K → ℕ) where
   pub alike-none : (d c : ℕ) (E : List (Entry K)) → agreeing code d c E ≡ [] → 0 ≡ alike_in code c E
   alike-none d c E none = sym (ap (alike_in code c) none) ∙ alike-agreeing d c E
 
-  pub alike-one : (d c : ℕ) (E : List (Entry K)) (k : K) (x : ℕ) → agreeing code d c E ≡ entry k x ∷ [] → (let n : ℕ = cond (nat_eq (code k) c) 1 0 in n) ≡ alike_in code c E
-  alike-one d c E k x one = omega (arith, count-cons (λ (e : Entry K). nat_eq (code e.key) c) (entry k x) [], ap (alike_in code c) one, alike-agreeing d c E)
+  pub alike-one : (d c : ℕ) (E : List (Entry K)) (k : K) (x : ℕ) → agreeing code d c E ≡ entry k x ∷ [] → alike_in code c (entry k x ∷ []) ≡ alike_in code c E
+  alike-one d c E k x one = sym (ap (alike_in code c) one) ∙ alike-agreeing d c E
+
+  -- one entry counts where it has the code
+  pub alike-alone : (c : ℕ) (k : K) (x : ℕ) → (let n : ℕ = cond (nat_eq (code k) c) 1 0 in n) ≡ alike_in code c (entry k x ∷ [])
+  alike-alone c k x = omega (arith, count-cons (λ (e : Entry K). nat_eq (code e.key) c) (entry k x) [])
 
   -- so deep that the whole code is seen
   pub alike-all : (d c : ℕ) (E : List (Entry K)) → d ≡ LEVELS → c < 2 ^ CODE_BITS → ((k : K) → code k < 2 ^ CODE_BITS) → length (agreeing code d c E) ≡ alike_in code c E

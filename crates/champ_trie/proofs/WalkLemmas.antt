@@ -1,6 +1,6 @@
 -- The walk over a trie's entries.
 use Rattle.std.proofs.Common.{◌≡◌, ◌≢◌, ℕ, zero, suc, ◌+◌, ◌<◌, ◌≤◌, List, [], ◌∷◌, ◌++◌, length, drop, get_or, map, refl, ap, sym, subst, ◌∙◌, arith, cond, true, false, Bool, inl, inr, ◌⊎◌, append_assoc, append-nil, length-append, length-drop, Option, Some, None, IsSome, is_some, set, get_or-set_other, eq-eqb}
-use Rattle.std.specs.Prelude.{option_map, option_to_list, count_ones, count_by, nat_eq, not}
+use Rattle.std.specs.Prelude.{option_to_list, count_ones, count_by, nat_eq, not}
 use Rattle.std.specs.List.{All, flat_map, filter}
 use Rattle.std.specs.Cmp.{IsTotalOrder, tied_itself}
 use Rattle.std.specs.Ordering.{is_eq}
@@ -13,13 +13,12 @@ use Rattle.std.proofs.lemmas.List.Filters.{length-filter_both}
 use Rattle.std.proofs.lemmas.List.Elements.{All-head, All-tail, All-from_get_or}
 use Rattle.std.specs.declared.cmp.Ordering.{Ordering}
 use Rattle.elem_core.specs.declared.codes.TheConstants.{LEVELS}
-use Rattle.node_heap.specs.Forms.{Row, Form, Forms, cell, node, leaf, inner, trie, chain, pair, state, links_of, head_of, form_of, kind_of}
-use Rattle.node_heap.specs.declared.row.Head.{Head}
-use Rattle.node_heap.specs.declared.row.Head.TheVariants.{Leaf, Inner, Trie, Chain, Pair, State}
-use Rattle.node_heap.specs.Heap.{Heap, row_at, form_at, live_count}
-use Rattle.champ_chain.specs.Entry.{Entry, entry, key_of, key_at, has_key, IsEntry, AreDistinct, SameSet, same_none, same_through}
+use Rattle.node_heap.specs.Forms.{Form, Forms, cell, node, leaf, inner, trie, chain, pair, state, links_of, head_of}
+use Rattle.node_heap.specs.Heap.{Heap, form_at, live_count}
+use Rattle.champ_chain.specs.Entry.{Entry, entry, key_at, has_key, IsEntry, AreDistinct, SameSet, same_none, same_through}
 use Rattle.champ_chain.specs.Chain.{AreChainRows}
 use Rattle.champ_chain.proofs.SetLemmas.{same-refl, same-sym, same-length, count-cons, Among, same-among}
+use Rattle.champ_chain.proofs.CopyLemmas.{key-live}
 use Rattle.champ_chain.proofs.SpotLemmas.{FirstRow, first-row}
 use Rattle.champ_trie.specs.Bits.{has, rank}
 use Rattle.champ_trie.specs.Trie.{IsRow, IsPlace, IsTrie, IsTrieRow, IsCanon, place_of, part}
@@ -31,37 +30,17 @@ use Rattle.champ_trie.proofs.BitLemmas.{rank-onto, count-rank}
 use Rattle.champ_trie.proofs.PlaceLemmas.{place-node}
 use Rattle.champ_trie.proofs.GatherLemmas.{gather, gather-set, gather-both, flat_map-gather, map-gather, same-map, entry_links, node_links, entries-gather, nodes-gather, parts-whole}
 
--- a row's head tells how many of its links are entries
-module _ {T : Type 0} where
-  pub head-trie : (r : Option (Row T)) (d e n : ℕ) → head_of r ≡ Some (Trie d e n) → IsWalkRow (option_map form_of r) → count_ones e ≡ entry_count (option_map form_of r)
-  head-trie None d e n is walk = absurd walk
-  head-trie (Some (cell x)) d e n is walk = absurd walk
-  head-trie (Some (node head links)) d e n is walk =
-      let same : head ≡ Trie d e n = cc in
-      by_head head same walk
-    where
-      by_head : (head : Head) → head ≡ Trie d e n → IsWalkRow {K = T} (Some (node (kind_of head) links)) → count_ones e ≡ entry_count {K = T} (Some (node (kind_of head) links))
-      by_head Leaf same walk = absurd walk
-      by_head (Inner height sums) same walk = absurd walk
-      by_head (Trie d' e' n') same walk = (let at : e' ≡ e = cc in ap count_ones (sym at) ∙ count-rank e' walk.entries_small)
-      by_head Chain same walk = cc
-      by_head Pair same walk = absurd walk
-      by_head State same walk = absurd walk
-
-  pub head-chain : (r : Option (Row T)) → head_of r ≡ Some Chain → 1 ≡ entry_count (option_map form_of r)
-  head-chain None is = cc
-  head-chain (Some (cell x)) is = cc
-  head-chain (Some (node head links)) is = let same : head ≡ Chain = cc in let P : Head → Type 0 = λ x. 1 ≡ entry_count {K = T} (Some (node (kind_of x) links)) in subst P (sym same) refl
-
-  pub head-walk : (r : Option (Row T)) → IsWalkRow (option_map form_of r) → ((d : ℕ) × (e : ℕ) × (n : ℕ) × (head_of r ≡ Some (Trie d e n))) ⊎ (head_of r ≡ Some Chain)
-  head-walk None walk = absurd walk
-  head-walk (Some (cell x)) walk = absurd walk
-  head-walk (Some (node Leaf links)) walk = absurd walk
-  head-walk (Some (node (Inner height sums) links)) walk = absurd walk
-  head-walk (Some (node (Trie d e n) links)) walk = inl (d, e, n, refl)
-  head-walk (Some (node Chain links)) walk = inr refl
-  head-walk (Some (node Pair links)) walk = absurd walk
-  head-walk (Some (node State links)) walk = absurd walk
+-- a row's kind tells how many of its links are entries
+module _ {K : Type 0} where
+  pub kind-trie : (r : Option (Form K)) (d e n : ℕ) → head_of r ≡ Some (trie d e n) → IsWalkRow r → count_ones e ≡ entry_count r
+  kind-trie None d e n is walk = absurd walk
+  kind-trie (Some (cell x)) d e n is walk = absurd walk
+  kind-trie (Some (node leaf links)) d e n is walk = absurd walk
+  kind-trie (Some (node (inner height) links)) d e n is walk = absurd walk
+  kind-trie (Some (node (trie d' e' n') links)) d e n is walk = (let at : e' ≡ e = cc in ap count_ones (sym at) ∙ count-rank e' walk.entries_small)
+  kind-trie (Some (node chain links)) d e n is walk = cc
+  kind-trie (Some (node pair links)) d e n is walk = absurd walk
+  kind-trie (Some (node state links)) d e n is walk = absurd walk
 
 module _ {K : Type 0} where
   pub count-fits : (r : Option (Form K)) → IsWalkRow r → entry_count r ≤ length (links_of r)
@@ -426,13 +405,6 @@ module _ {K : Type 0} (cmp : K → K → Ordering) (code : K → ℕ) (F : Forms
         omega (arith, rest, sum_by-set (λ (r : Option R). cond (is_some r) 1 0) rows e.link empty empty (low-row rows e.link here), some-one (get_or rows e.link empty) here)
 
 module _ {T : Type 0} (cmp : T → T → Ordering) (code : T → ℕ) (o : IsTotalOrder cmp) where
-  key-live : (h : Heap T) (l : ℕ) (k : T) → key_at (form_at h) l ≡ Some k → IsSome (row_at h l)
-  key-live h l k is = by_row (row_at h l) refl is
-    where
-      by_row : (r : Option (Row T)) → row_at h l ≡ r → key_of (form_at h) (option_map form_of r) ≡ Some k → IsSome r
-      by_row None e is = absurd cc
-      by_row (Some r) e is = refl
-
   -- a trie has no more entries than the heap has rows
   pub canon-fit : (h : Heap T) (root : ℕ) (E : List (Entry T)) → IsCanon cmp code (form_at h) root E → length E ≤ live_count h
   canon-fit h root E canon =

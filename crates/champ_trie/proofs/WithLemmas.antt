@@ -107,7 +107,7 @@ module _ {K : Type 0} (cmp : K → K → Ordering) (code : K → ℕ) where
             (subst (λ at. IsPlace F (λ k P. IsTrie cmp code F left (d + 1) k P) at []) (sym (none q low other another)) refl)
 
   -- the entries stay two or more
-  put-two : (E : List (Entry K)) (e : Entry K) → AreDistinct cmp E → 2 ≤ length E → 2 ≤ length (put cmp E e)
+  pub put-two : (E : List (Entry K)) (e : Entry K) → AreDistinct cmp E → 2 ≤ length E → 2 ≤ length (put cmp E e)
   put-two E e distinct two =
       omega (arith, length-filter_both (has_key cmp e.key) (λ (d : Entry K). not (has_key cmp e.key d)) (λ _. refl) E, length-filter (has_key cmp e.key) E, distinct.once e.key)
 

@@ -2,6 +2,7 @@
 use Rattle.std.specs.Prelude.{ℕ, zero, suc, ◌+◌, List, [], ◌∷◌, ◌++◌, take, drop, Option, Some, None}
 use Rattle.std.specs.List.{flat_map}
 use Rattle.elem_core.specs.declared.codes.TheConstants.{LEVELS}
+use Rattle.node_heap.specs.Links.{Links, Reaches}
 use Rattle.node_heap.specs.Forms.{Form, Forms, Kind, cell, node, leaf, inner, trie, chain, pair, state, links_of, Tree, Trees, cut, tree_cell, tree_node, no_trees, tree_then}
 use Rattle.node_heap.specs.Heap.{Heap, form_at, live_count}
 use Rattle.champ_trie.specs.Bits.{rank}
@@ -43,6 +44,14 @@ module _ {K : Type 0} where
 
   abbrev pub rows_below : Option (Form K) → List ℕ
   rows_below r = drop (entry_count r) (links_of r)
+
+  -- the trie and chain rows right below a trie or chain row
+  abbrev pub row_links : Forms K → Links
+  row_links F l = rows_below (F l)
+
+  -- the root reaches this trie or chain row through trie and chain rows
+  abbrev pub ReachesRow : Forms K → ℕ → ℕ → Type 0
+  ReachesRow F root l = Reaches (row_links F) root l
 
   -- a row, and then those below it in turn, each before the rows below it, down to so many
   unfoldable pub rows_from : ℕ → Forms K → ℕ → List ℕ

@@ -4,24 +4,24 @@ ghost use Rattle.std.specs.declared.cmp.Ordering.TheVariants.{Equal};
 ghost use Rattle.elem_core.specs.Codes.{digit_at};
 ghost use Rattle.node_heap.specs.Links.{count};
 ghost use Rattle.node_heap.specs.Heap.{form_at, holds_at, hold_count, IsGraph, half_holds, most_holds};
-ghost use Rattle.node_heap.specs.Calls.{Builds};
+ghost use Rattle.node_heap.specs.Calls.{Builds, KeepsOldOwners};
 ghost use Rattle.champ_chain.specs.Entry.{Entry, entry as entry_of, key_at, link_with, others, put};
 ghost use Rattle.champ_chain.specs.Chain.{IsChain};
-ghost use Rattle.champ_chain.specs.Old.{KeepsOldOwners, ReachesOldBy};
+ghost use Rattle.champ_chain.specs.Old.{ReachesOldBy};
 ghost use Rattle.champ_trie.specs.Trie.{AreSets, IsRow, IsTrie, IsPlace, place_of, links_at_place, part, code_by};
 ghost use Rattle.champ_trie.specs.declared.place.Place.TheVariants.{Empty, Node};
 ghost use Rattle.champ_trie.specs.Reach.{alike_in};
 ghost use Rattle.champ_trie.specs.Edit.{IsBelow, chain_nodes, SharesBeside};
 
 use crate::place::Place;
-use crate::row::{TrieRow, edited, place_at};
+use crate::row::{DraftRow, edited, place_at};
 use champ_chain::{added, joined, key_of, removed};
 use elem_core::{CODE_BITS, Code, DEEPEST, Element, LEVELS, Probe, digit, masked};
-use node_heap::{Head, Heap, Link};
+use node_heap::{Heap, Kind, Link};
 use std::cmp::Ordering;
 
 // The trie at a link with the entry added, or in the place of the one with its key. The spares suffice, and the entry's
-// hold is spent.
+// hold is spent. All rows are written in the one that is lent, whatever it was.
 pub(crate) fn with_at<T: Element>(
     heap: &mut Heap<T>,
     link: Link,
@@ -29,6 +29,7 @@ pub(crate) fn with_at<T: Element>(
     entry: Link,
     code: Code,
     bits: u32,
+    row: &mut DraftRow,
 ) -> Link
     requires bits { bits ≤ CODE_BITS }
     requires few { hold_count heap.old ≤ half_holds }
@@ -51,10 +52,9 @@ pub(crate) fn with_at<T: Element>(
     let place = match place_at(heap, link, position) {
         Place::Empty => Place::Entry(entry),
         Place::Entry(old) => beside(heap, old, depth, entry, code, bits),
-        Place::Node(child) => Place::Node(with_at(heap, child, depth + 1, entry, code, bits)),
+        Place::Node(child) => Place::Node(with_at(heap, child, depth + 1, entry, code, bits, row)),
     };
-    let mut row = TrieRow::empty();
-    edited(heap, link, position, place, &mut row);
+    edited(heap, link, position, place, row);
     row.make(heap, depth)
 }
 
@@ -129,7 +129,7 @@ pub fn node_of_two<T: Element>(
 }
 
 // A row with something at one position.
-fn lone_row(position: u32, place: Place) -> TrieRow
+fn lone_row(position: u32, place: Place) -> DraftRow
     requires { position < 32 }
     ensures sets { AreSets result.entries result.nodes result.links }
     ensures here { place_of result.entries result.nodes result.links position ≡ place }
@@ -137,12 +137,13 @@ fn lone_row(position: u32, place: Place) -> TrieRow
     ensures links { (k : ℕ) → count k result.links ≡ count k (links_at_place place) }
     ensures number { length result.links ≡ length (links_at_place place) }
 {
-    let mut row = TrieRow::empty();
+    let mut row = DraftRow::empty();
     row.put(position, place);
     row
 }
 
 // What stands at the key's position in the row at a link once the key is gone. The key is there, and the spares suffice.
+// All rows are written in the one that is lent, whatever it was.
 pub(crate) fn place_without<T: Element, P: Probe<T>>(
     heap: &mut Heap<T>,
     link: Link,
@@ -150,6 +151,7 @@ pub(crate) fn place_without<T: Element, P: Probe<T>>(
     key: &P,
     code: Code,
     bits: u32,
+    row: &mut DraftRow,
 ) -> Place
     requires bits { bits ≤ CODE_BITS }
     requires depth { depth ≤ DEEPEST }
@@ -175,9 +177,8 @@ pub(crate) fn place_without<T: Element, P: Probe<T>>(
             if depth == DEEPEST {
                 return chain_place_without(heap, child, key);
             }
-            let left = place_without(heap, child, depth + 1, key, code, bits);
-            let mut row = TrieRow::empty();
-            edited(heap, child, digit(code, depth + 1), left, &mut row);
+            let left = place_without(heap, child, depth + 1, key, code, bits, row);
+            edited(heap, child, digit(code, depth + 1), left, row);
             row.close(heap, depth + 1)
         }
     }
@@ -193,9 +194,9 @@ fn chain_place_without<T: Element, P: Probe<T>>(heap: &mut Heap<T>, chain: Link,
         IsPlace (form_at heap.new) (λ l P. IsChain T.cmp (form_at heap.new) l P) result (others T.cmp (P.stands_for key.now) E) }
 {
     let left = removed(heap, chain, key);
-    match heap.head(left) {
-        Some(head) => match head {
-            Head::Chain => Place::Node(left),
+    match heap.kind(left) {
+        Some(kind) => match kind {
+            Kind::Chain => Place::Node(left),
             _ => Place::Entry(left),
         },
         None => Place::Entry(left),

@@ -14,7 +14,7 @@ ghost use Rattle.node_heap.specs.Calls.{Answered, Builds, KeepsToNeed, MakesJust
 ghost use Rattle.champ_chain.specs.Entry.{SameSet, Entry, entry as entry_of, key_at, link_with, others, put};
 ghost use Rattle.champ_trie.specs.Trie.{IsTrieOf, KeepsTries, code_by};
 ghost use Rattle.champ_trie.specs.Edit.{SharesBeside};
-ghost use Rattle.champ_trie.specs.Reach.{alike_to};
+ghost use Rattle.champ_trie.specs.Reach.{alike_in, alike_to};
 ghost use Rattle.champ_trie.specs.Walk.{walk, tree_entries};
 
 mod edit;
@@ -28,13 +28,13 @@ pub use champ_chain::Found;
 use champ_chain::{find as find_in_chain, key_of, look_up as look_up_in_chain};
 pub use edit::node_of_two;
 use edit::{place_without, with_at};
-use elem_core::{CODE_BITS, Element, LEVELS, NoMemory, Probe, digit, masked};
+use elem_core::{CODE_BITS, Code, Element, LEVELS, NoMemory, Probe, digit, masked};
 pub use laws::{depends_on_entries, rows_are_told_by_places, tries_stay};
 use node_heap::{Heap, Link};
-pub use place::{Place, cleared, contains, rank_of, with_position};
+pub use place::{Place, cleared, contains, node_index, rank_of, with_position};
 use reach::reached;
 pub use row::{row_of_places, sets_of};
-use row::{TrieRow, edited};
+use row::{DraftRow, edited};
 use std::cmp::Ordering;
 pub use walk::Entries;
 
@@ -55,7 +55,7 @@ pub fn empty<T: Element>(heap: &mut Heap<T>) -> Result<Link, NoMemory>
     ensures ample { HasSpares heap.old 0 1 → IsOk result }
 {
     heap.reserve(0, 1)?;
-    Ok(TrieRow::empty().make(heap, 0))
+    Ok(DraftRow::empty().make(heap, 0))
 }
 
 /// The entry with this key, None exactly where the key is absent.
@@ -74,6 +74,7 @@ pub fn find<T: Element, P: Probe<T>>(heap: &Heap<T>, root: Link, key: &P, bits: 
 }
 
 // The entry itself where it has the key.
+#[inline]
 fn same_key<T: Element, P: Probe<T>>(heap: &Heap<T>, entry: Link, key: &P) -> Option<Link>
     requires { IsSome (key_at (form_at heap.now) entry) }
     ensures { (k : T) → key_at (form_at heap.now) entry ≡ Some k → result ≡ link_with T.cmp (P.stands_for key.now) (entry_of k entry ∷ []) }
@@ -103,11 +104,37 @@ pub fn look_up<T: Element, P: Probe<T>>(heap: &Heap<T>, root: Link, key: &P, bit
             entry: None,
             alike: 0,
         },
-        Place::Entry(entry) => Found {
-            entry: same_key(heap, entry, key),
-            alike: usize::from(masked(Element::code(key_of(heap, entry)), bits) == code),
-        },
+        Place::Entry(entry) => found_alone(heap, entry, key, code, bits),
         Place::Node(chain) => look_up_in_chain(heap, chain, key),
+    }
+}
+
+// What a look-up finds where one entry stands. Equal keys have equal codes, so the entry's is worked out only where they differ.
+#[inline]
+fn found_alone<T: Element, P: Probe<T>>(
+    heap: &Heap<T>,
+    entry: Link,
+    key: &P,
+    code: Code,
+    bits: u32,
+) -> Found
+    requires bits { bits ≤ CODE_BITS }
+    requires keyed { IsSome (key_at (form_at heap.now) entry) }
+    requires code { code ≡ code_by T.code_of bits (P.stands_for key.now) }
+    ensures entry { (k : T) → key_at (form_at heap.now) entry ≡ Some k → result.entry ≡ link_with T.cmp (P.stands_for key.now) (entry_of k entry ∷ []) }
+    ensures alike { (k : T) → key_at (form_at heap.now) entry ≡ Some k → result.alike ≡ alike_in (code_by T.code_of bits) code (entry_of k entry ∷ []) }
+    ensures few { result.alike ≤ 1 }
+{
+    let stored = key_of(heap, entry);
+    match key.order(stored) {
+        Ordering::Equal => Found {
+            entry: Some(entry),
+            alike: 1,
+        },
+        _ => Found {
+            entry: None,
+            alike: usize::from(masked(Element::code(stored), bits) == code),
+        },
     }
 }
 
@@ -196,7 +223,7 @@ pub fn added<T: Element>(heap: &mut Heap<T>, root: Link, entry: Link, bits: u32)
     ensures tries { KeepsTries heap.old heap.new }
 {
     let code = masked(Element::code(key_of(heap, entry)), bits);
-    with_at(heap, root, 0, entry, code, bits)
+    with_at(heap, root, 0, entry, code, bits, &mut DraftRow::empty())
 }
 
 /// The trie without the entry with this key: None exactly where the key is absent, and then nothing has changed. The
@@ -253,8 +280,8 @@ pub fn removed<T: Element, P: Probe<T>>(heap: &mut Heap<T>, root: Link, key: &P,
     ensures tries { KeepsTries heap.old heap.new }
 {
     let code = masked(key.code(), bits);
-    let left = place_without(heap, root, 0, key, code, bits);
-    let mut row = TrieRow::empty();
+    let mut row = DraftRow::empty();
+    let left = place_without(heap, root, 0, key, code, bits, &mut row);
     edited(heap, root, digit(code, 0), left, &mut row);
     row.make(heap, 0)
 }

@@ -1,5 +1,5 @@
 //! Positions of a trie row.
-ghost use Rattle.std.specs.Prelude.{◌≡◌, ◌<◌, true, false};
+ghost use Rattle.std.specs.Prelude.{◌≡◌, ◌+◌, ◌<◌, true, false};
 ghost use Rattle.champ_trie.specs.Bits.{has, rank, Gains};
 ghost use Rattle.champ_trie.specs.Trie.{AreSets, place_of};
 
@@ -17,6 +17,7 @@ pub enum Place {
 }
 
 /// Whether the position, below 32, is in the set, a number whose bits are its positions.
+#[inline(always)]
 pub fn contains(set: u32, position: u32) -> bool
     requires { position < 32 }
     ensures { result ≡ has set position }
@@ -25,6 +26,7 @@ pub fn contains(set: u32, position: u32) -> bool
 }
 
 /// How many positions of the set are below this one, which is below 32.
+#[inline(always)]
 pub fn rank_of(set: u32, position: u32) -> u32
     requires { position < 32 }
     ensures { result ≡ rank set position }
@@ -50,18 +52,28 @@ pub fn cleared(set: u32, position: u32) -> u32
     set & !(1 << position)
 }
 
+/// Where the node at a position, below 32, stands among the links of a row with these sets: after all entries.
+#[inline(always)]
+pub fn node_index(entries: u32, nodes: u32, position: u32) -> usize
+    requires { position < 32 }
+    ensures { result ≡ rank entries 32 + rank nodes position }
+{
+    (entries.count_ones() + rank_of(nodes, position)) as usize
+}
+
 // What stands at the position of a row with these sets and links.
+#[inline(always)]
 pub(crate) fn place_among(entries: u32, nodes: u32, links: &[Link], position: u32) -> Place
     requires sets { AreSets entries nodes links.now }
     requires position { position < 32 }
     ensures { result ≡ place_of entries nodes links.now position }
 {
+    // A way down has more nodes than entries.
+    if contains(nodes, position) {
+        return Place::Node(links[node_index(entries, nodes, position)]);
+    }
     if contains(entries, position) {
         return Place::Entry(links[rank_of(entries, position) as usize]);
-    }
-    if contains(nodes, position) {
-        let place = entries.count_ones() + rank_of(nodes, position);
-        return Place::Node(links[place as usize]);
     }
     Place::Empty
 }

@@ -10,25 +10,25 @@ ghost use Rattle.champ_trie.specs.Trie.{AreSets, IsRow, IsRowOfPlaces, place_of,
 ghost use Rattle.champ_trie.specs.Edit.{Closes};
 ghost use Rattle.champ_trie.specs.declared.place.Place.TheVariants.{Empty, Entry as At, Node};
 
-use crate::place::{Place, cleared, contains, place_among, rank_of, with_position};
+use crate::place::{Place, cleared, contains, node_index, place_among, rank_of, with_position};
 use node_heap::{Head, Heap, Link, RowLinks};
 
 // The sets and links of a trie row.
 #[derive(Drop)]
-pub(crate) struct TrieRow {
+pub(crate) struct DraftRow {
     pub(crate) entries: u32,
     pub(crate) nodes: u32,
     pub(crate) links: RowLinks,
 }
 
-impl TrieRow {
+impl DraftRow {
     // A row with nothing at any position.
-    pub(crate) fn empty() -> TrieRow
+    pub(crate) fn empty() -> DraftRow
         ensures sets { AreSets result.entries result.nodes result.links }
         ensures none { result.links ≡ [] }
         ensures places { (p : ℕ) → place_of result.entries result.nodes result.links p ≡ Empty }
     {
-        TrieRow {
+        DraftRow {
             entries: 0,
             nodes: 0,
             links: RowLinks::new(),
@@ -41,10 +41,10 @@ impl TrieRow {
         ensures { (depth entries nodes : ℕ) (links : List ℕ) → IsRow (form_at heap.now) link depth entries nodes links →
             (self.new.entries ≡ entries) × (self.new.nodes ≡ nodes) × (self.new.links ≡ links) }
     {
-        let (entries, nodes) = sets_of(heap, link);
-        self.entries = entries;
-        self.nodes = nodes;
-        self.links.rewrite(heap.links(link));
+        let row = heap.trie(link);
+        self.entries = row.entries;
+        self.nodes = row.nodes;
+        self.links.rewrite(row.links);
     }
 
     // Takes out what stands at the position.
@@ -61,13 +61,14 @@ impl TrieRow {
             self.links.remove(rank_of(self.entries, position) as usize);
             self.entries = cleared(self.entries, position);
         } else if contains(self.nodes, position) {
-            let place = self.entries.count_ones() + rank_of(self.nodes, position);
-            self.links.remove(place as usize);
+            let index = node_index(self.entries, self.nodes, position);
+            self.links.remove(index);
             self.nodes = cleared(self.nodes, position);
         }
     }
 
     // Puts something at a position where nothing stands.
+    #[inline]
     pub(crate) fn put(&mut self, position: u32, place: Place)
         requires sets { AreSets self.old.entries self.old.nodes self.old.links }
         requires position { position < 32 }
@@ -87,8 +88,8 @@ impl TrieRow {
                 self.entries = with_position(self.entries, position);
             }
             Place::Node(node) => {
-                let index = self.entries.count_ones() + rank_of(self.nodes, position);
-                self.links.insert(index as usize, node);
+                let index = node_index(self.entries, self.nodes, position);
+                self.links.insert(index, node);
                 self.nodes = with_position(self.nodes, position);
             }
         }
@@ -135,14 +136,14 @@ impl TrieRow {
 }
 
 // The row at whose positions stand these places in turn.
-fn filled(places: &[Place]) -> TrieRow
+fn filled(places: &[Place]) -> DraftRow
     requires { length places.now ≡ 32 }
     ensures sets { AreSets result.entries result.nodes result.links }
     ensures places { (p : ℕ) → p < 32 → place_of result.entries result.nodes result.links p ≡ slice_index_or places.now p Empty }
     ensures links { (k : ℕ) → count k result.links ≡ count k (flat_map links_at_place places.now) }
     ensures number { length result.links ≡ length (flat_map links_at_place places.now) }
 {
-    let mut row = TrieRow::empty();
+    let mut row = DraftRow::empty();
     for position in 0..32 {
         row.put(position, places[position as usize]);
     }
@@ -165,27 +166,26 @@ pub fn row_of_places<T>(heap: &mut Heap<T>, depth: u8, places: &[Place]) -> Link
 }
 
 /// The sets of the trie row at a link: the positions of its entries, and those of its nodes.
+#[inline(always)]
 pub fn sets_of<T>(heap: &Heap<T>, link: Link) -> (u32, u32)
     requires { (depth entries nodes : ℕ) × (links : List ℕ) × (form_at heap.now link ≡ Some (node (trie depth entries nodes) links)) }
     ensures { (depth entries nodes : ℕ) (links : List ℕ) → form_at heap.now link ≡ Some (node (trie depth entries nodes) links) →
         (result.0 ≡ entries) × (result.1 ≡ nodes) }
 {
-    match heap.head(link) {
-        Some(Head::Trie { entries, nodes, .. }) => (*entries, *nodes),
-        _ => unreachable!(),
-    }
+    let row = heap.trie(link);
+    (row.entries, row.nodes)
 }
 
 // What stands at the position of the trie row at a link.
+#[inline(always)]
 pub(crate) fn place_at<T>(heap: &Heap<T>, link: Link, position: u32) -> Place
     requires row { (depth entries nodes : ℕ) × (links : List ℕ) × IsRow (form_at heap.now) link depth entries nodes links }
     requires position { position < 32 }
-    ensures graph { IsGraph heap.now }
     ensures place { (depth entries nodes : ℕ) (links : List ℕ) → IsRow (form_at heap.now) link depth entries nodes links →
         result ≡ place_of entries nodes links position }
 {
-    let (entries, nodes) = sets_of(heap, link);
-    place_among(entries, nodes, heap.links(link), position)
+    let row = heap.trie(link);
+    place_among(row.entries, row.nodes, row.links, position)
 }
 
 // Makes the row the one at a link with another place at the position, whatever it was. A hold of each other link is gained.
@@ -194,7 +194,7 @@ pub(crate) fn edited<T>(
     link: Link,
     position: u32,
     place: Place,
-    row: &mut TrieRow,
+    row: &mut DraftRow,
 )
     requires row { (depth entries nodes : ℕ) × (links : List ℕ) × IsRow (form_at heap.old) link depth entries nodes links }
     requires graph { IsGraph heap.old }

@@ -7,7 +7,7 @@ ghost use Rattle.champ_trie.specs.Stack.{IsWalkRow, IsLayer, IsStack, stacked, n
 
 use arrayvec::ArrayVec;
 use elem_core::LEVELS;
-use node_heap::{Head, Heap, Link};
+use node_heap::{Heap, Kind, Link};
 use std::marker::Model;
 
 // How many lists of rows wait at most: those below a trie row of each depth, and the rest of a chain.
@@ -95,9 +95,9 @@ fn entries_in<T>(heap: &Heap<T>, row: Link) -> usize
     requires { IsWalkRow (form_at heap.now row) }
     ensures { result ≡ entry_count (form_at heap.now row) }
 {
-    match heap.head(row) {
-        Some(Head::Trie { entries, .. }) => entries.count_ones() as usize,
-        Some(Head::Chain) => 1,
+    match heap.kind(row) {
+        Some(Kind::Trie { entries, .. }) => entries.count_ones() as usize,
+        Some(Kind::Chain) => 1,
         _ => unreachable!(),
     }
 }

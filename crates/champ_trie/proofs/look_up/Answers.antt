@@ -1,30 +1,20 @@
-use Rattle.std.proofs.Common.{◌≡◌, ◌<◌, ◌^◌, ◌∙◌, sym, ap, subst, refl, cond, Bool, true, false, ℕ}
-use Rattle.std.specs.Prelude.{nat_eq}
-use Rattle.std.specs.Int.{from_bool}
+use Rattle.std.proofs.Common.{◌<◌, ◌^◌, ◌∙◌, sym, ap, subst, refl}
 use Rattle.elem_core.specs.Codes.{masked_code}
 use Rattle.elem_core.specs.declared.codes.TheConstants.{CODE_BITS}
 use Rattle.elem_core.proofs.CodeLemmas.{masked-small}
-use Rattle.node_heap.specs.Heap.{form_at}
-use Rattle.champ_chain.proofs.SpotLemmas.{same-key}
 use Rattle.champ_chain.proofs.WithLemmas.{key-some}
 use Rattle.champ_trie.specs.Trie.{code_by}
 use Rattle.champ_trie.specs.Reach.{agreeing, alike_in}
 use Rattle.champ_trie.proofs.ReachLemmas.{link-there, link-empty, link-one, alike-none, alike-one, alike-all}
 use Rattle.champ_trie.proofs.look_up.Goals as goal
 
-as_number : (b : Bool) → from_bool b ≡ cond b 1 0
-as_number true = refl
-as_number false = refl
-
-pub same_key-requires : goal.same_key-requires
-same_key-requires g c =
+pub found_alone-requires-clause-keyed : goal.found_alone-requires-clause-keyed
+found_alone-requires-clause-keyed g c =
     let r = c.in-Entry.ensures.place c.requires.trie.0 c.requires.trie.1 in
     key-some c.args.heap.now c.in-Entry.entry r.stands.0 r.stands.2
 
-pub key_of-requires : goal.key_of-requires
-key_of-requires g c =
-    let r = c.in-Entry.ensures.place c.requires.trie.0 c.requires.trie.1 in
-    key-some c.args.heap.now c.in-Entry.entry r.stands.0 r.stands.2
+pub found_alone-requires-clause-code : goal.found_alone-requires-clause-code
+found_alone-requires-clause-code g c = c.masked-code.ensures.kept ∙ ap (λ n. masked_code n c.args.bits) c.code.ensures
 
 pub look_up-requires : goal.look_up-requires
 look_up-requires g c =
@@ -44,16 +34,13 @@ returns-in-Empty-clause-alike g c = λ E canon.
 pub returns-in-Entry-clause-entry : goal.returns-in-Entry-clause-entry
 returns-in-Entry-clause-entry g c = λ E canon.
     let r = c.in-Entry.ensures.place E canon in
-    c.same_key.ensures r.stands.0 r.stands.2
+    c.found_alone.ensures.entry r.stands.0 r.stands.2
     ∙ link-one g.T.Ord.cmp (code_by g.T.Element.code_of c.args.bits) (λ j k e. ap (λ n. masked_code n c.args.bits) (g.met.T.Element.equal_codes j k e)) (g.P.Probe.stands_for c.args.key.now) c.masked-code.result r.depth E (c.masked-code.ensures.kept ∙ ap (λ n. masked_code n c.args.bits) c.code.ensures) r.stands.0 c.in-Entry.entry r.stands.1
 
 pub returns-in-Entry-clause-alike : goal.returns-in-Entry-clause-alike
 returns-in-Entry-clause-alike g c = λ E canon.
     let r = c.in-Entry.ensures.place E canon in
-    let key = same-key (form_at c.args.heap.now) c.in-Entry.entry c.in-Entry.entry r.stands.0 c.key_of.result.now refl r.stands.2 c.key_of.ensures in
-    let there : c.masked.result ≡ masked_code (g.T.Element.code_of r.stands.0) c.args.bits = c.masked.ensures.kept ∙ ap (λ n. masked_code n c.args.bits) (c.code-in-Entry.ensures ∙ ap g.T.Element.code_of (sym key)) in
-    let one : Bool → ℕ = λ b. cond b 1 0 in
-    c.from.ensures ∙ as_number (nat_eq c.masked.result c.masked-code.result) ∙ ap (λ n. one (nat_eq n c.masked-code.result)) there
+    c.found_alone.ensures.alike r.stands.0 r.stands.2
     ∙ alike-one g.T.Ord.cmp (code_by g.T.Element.code_of c.args.bits) r.depth c.masked-code.result E r.stands.0 c.in-Entry.entry r.stands.1 ∙ ap (λ n. alike_in (code_by g.T.Element.code_of c.args.bits) n E) (c.masked-code.ensures.kept ∙ ap (λ n. masked_code n c.args.bits) c.code.ensures)
 
 pub returns-in-Node-clause-entry : goal.returns-in-Node-clause-entry

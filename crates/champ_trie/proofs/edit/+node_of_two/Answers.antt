@@ -2,7 +2,7 @@ use Rattle.std.proofs.Common.{arith, ◌≡◌, IsSome, suc, ◌+◌, ◌-◌, �
 use Rattle.elem_core.specs.Codes.{digit_at}
 use Rattle.node_heap.specs.Heap.{form_at}
 use Rattle.node_heap.proofs.BuildLemmas.{count-cons, count-one, Builds-as, Builds-then}
-use Rattle.elem_core.specs.declared.codes.TheConstants.{CODE_BITS, DEEPEST, LEVELS}
+use Rattle.elem_core.specs.declared.codes.TheConstants.{CODE_BITS, LEVELS}
 use Rattle.champ_chain.specs.Entry.{entry}
 use Rattle.champ_chain.proofs.FrameLemmas.{forms-kept, key-kept}
 use Rattle.champ_trie.specs.Trie.{IsTrie}

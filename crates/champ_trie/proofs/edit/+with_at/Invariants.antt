@@ -1,4 +1,4 @@
-use Rattle.std.specs.Prelude.{◌+◌, ◌-◌}
+use Rattle.std.specs.Prelude.{◌-◌}
 use Rattle.elem_core.specs.declared.codes.TheConstants.{LEVELS}
 use Rattle.champ_trie.proofs.edit.+with_at.Given as goal
 

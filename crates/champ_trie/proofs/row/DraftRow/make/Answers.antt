@@ -1,7 +1,7 @@
 use Rattle.std.proofs.Common.{◌∷◌, [], subst}
 use Rattle.node_heap.specs.Calls.{Builds}
 use Rattle.node_heap.proofs.BuildLemmas.{Builds-node}
-use Rattle.champ_trie.proofs.row.TrieRow.make.Goals as goal
+use Rattle.champ_trie.proofs.row.DraftRow.make.Goals as goal
 
 pub returns-clause-builds : goal.returns-clause-builds
 returns-clause-builds g c =

@@ -1,7 +1,7 @@
 use Rattle.std.proofs.Common.{◌≡◌, ℕ, ◌∷◌, [], ◌∙◌, List, length, get_or, sym, ap, subst, arith}
 use Rattle.node_heap.specs.Calls.{Builds}
 use Rattle.node_heap.proofs.BuildLemmas.{Builds-refl}
-use Rattle.champ_trie.proofs.row.TrieRow.close.Goals as goal
+use Rattle.champ_trie.proofs.row.DraftRow.close.Goals as goal
 
 -- a list of one link
 lone-list : (xs : List ℕ) (x y : ℕ) → length xs ≡ 1 → x ≡ get_or xs 0 y → xs ≡ x ∷ []

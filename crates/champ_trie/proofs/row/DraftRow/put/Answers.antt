@@ -1,11 +1,10 @@
 use Rattle.std.proofs.Common.{◌≡◌, ◌+◌, ◌∙◌, sym, ap, subst, arith}
-use Rattle.std.specs.Prelude.{count_ones}
 use Rattle.std.specs.List.{insert}
 use Rattle.champ_trie.specs.Bits.{rank}
 use Rattle.champ_trie.specs.Trie.{AreSets, place_of}
-use Rattle.champ_trie.proofs.BitLemmas.{count-rank, rank-le, rank-mono}
+use Rattle.champ_trie.proofs.BitLemmas.{rank-mono}
 use Rattle.champ_trie.proofs.PlaceLemmas.{place-free, put-entry, put-node, room}
-use Rattle.champ_trie.proofs.row.TrieRow.put.Goals as goal
+use Rattle.champ_trie.proofs.row.DraftRow.put.Goals as goal
 
 pub insert-requires-clause-index : goal.insert-requires-clause-index
 insert-requires-clause-index c = omega (arith, c.rank_of.ensures, c.requires.sets.count, rank-mono c.args.self.now.entries c.args.position 32 (omega arith))
@@ -15,12 +14,9 @@ insert-requires-clause-room c =
     let free = place-free c.args.self.now.entries c.args.self.now.nodes c.args.self.now.links c.args.position c.requires.free in
     room c.args.self.now.entries c.args.self.now.nodes c.args.self.now.links c.args.position c.requires.position c.requires.sets free.0 free.1
 
-pub overflow_add-index : goal.overflow_add-index
-overflow_add-index c = omega (arith, count-rank c.args.self.now.entries c.requires.sets.entries_small, rank-le c.args.self.now.entries 32, c.rank_of-in-Node.ensures, rank-le c.args.self.now.nodes c.args.position, c.requires.position)
-
 pub insert-requires-in-Node-clause-index : goal.insert-requires-in-Node-clause-index
 insert-requires-in-Node-clause-index c =
-    omega (arith, count-rank c.args.self.now.entries c.requires.sets.entries_small, c.rank_of-in-Node.ensures, c.requires.sets.count, rank-mono c.args.self.now.nodes c.args.position 32 (omega arith))
+    omega (arith, c.node_index-index.ensures, c.requires.sets.count, rank-mono c.args.self.now.nodes c.args.position 32 (omega arith))
 
 pub insert-requires-in-Node-clause-room : goal.insert-requires-in-Node-clause-room
 insert-requires-in-Node-clause-room c =
@@ -58,22 +54,19 @@ pub returns-in-Node-clause-sets : goal.returns-in-Node-clause-sets
 returns-in-Node-clause-sets c =
     let free = place-free c.args.self.now.entries c.args.self.now.nodes c.args.self.now.links c.args.position c.requires.free in
     let changed = put-node c.args.self.now.entries c.args.self.now.nodes c.args.self.now.links c.args.position c.requires.position c.requires.sets c.with_position-self-in-Node.result c.in-Node.node c.with_position-self-in-Node.type_inv free.0 free.1 c.with_position-self-in-Node.ensures in
-    let at : count_ones c.args.self.now.entries + c.rank_of-in-Node.result ≡ rank c.args.self.now.entries 32 + rank c.args.self.now.nodes c.args.position = omega (arith, count-rank c.args.self.now.entries c.requires.sets.entries_small, c.rank_of-in-Node.ensures) in
-    let items : c.insert-in-Node.new.self ≡ insert c.args.self.now.links (rank c.args.self.now.entries 32 + rank c.args.self.now.nodes c.args.position) c.in-Node.node = c.insert-in-Node.ensures ∙ ap (λ i. insert c.args.self.now.links i c.in-Node.node) at in
+    let items : c.insert-in-Node.new.self ≡ insert c.args.self.now.links (rank c.args.self.now.entries 32 + rank c.args.self.now.nodes c.args.position) c.in-Node.node = c.insert-in-Node.ensures ∙ ap (λ i. insert c.args.self.now.links i c.in-Node.node) c.node_index-index.ensures in
     subst (AreSets c.args.self.now.entries c.with_position-self-in-Node.result) (sym items) changed.sets
 
 pub returns-in-Node-clause-here : goal.returns-in-Node-clause-here
 returns-in-Node-clause-here c =
     let free = place-free c.args.self.now.entries c.args.self.now.nodes c.args.self.now.links c.args.position c.requires.free in
     let changed = put-node c.args.self.now.entries c.args.self.now.nodes c.args.self.now.links c.args.position c.requires.position c.requires.sets c.with_position-self-in-Node.result c.in-Node.node c.with_position-self-in-Node.type_inv free.0 free.1 c.with_position-self-in-Node.ensures in
-    let at : count_ones c.args.self.now.entries + c.rank_of-in-Node.result ≡ rank c.args.self.now.entries 32 + rank c.args.self.now.nodes c.args.position = omega (arith, count-rank c.args.self.now.entries c.requires.sets.entries_small, c.rank_of-in-Node.ensures) in
-    let items : c.insert-in-Node.new.self ≡ insert c.args.self.now.links (rank c.args.self.now.entries 32 + rank c.args.self.now.nodes c.args.position) c.in-Node.node = c.insert-in-Node.ensures ∙ ap (λ i. insert c.args.self.now.links i c.in-Node.node) at in
+    let items : c.insert-in-Node.new.self ≡ insert c.args.self.now.links (rank c.args.self.now.entries 32 + rank c.args.self.now.nodes c.args.position) c.in-Node.node = c.insert-in-Node.ensures ∙ ap (λ i. insert c.args.self.now.links i c.in-Node.node) c.node_index-index.ensures in
     ap (λ xs. place_of c.args.self.now.entries c.with_position-self-in-Node.result xs c.args.position) items ∙ changed.here ∙ sym c.in-Node.is
 
 pub returns-in-Node-clause-others : goal.returns-in-Node-clause-others
 returns-in-Node-clause-others c =
     let free = place-free c.args.self.now.entries c.args.self.now.nodes c.args.self.now.links c.args.position c.requires.free in
     let changed = put-node c.args.self.now.entries c.args.self.now.nodes c.args.self.now.links c.args.position c.requires.position c.requires.sets c.with_position-self-in-Node.result c.in-Node.node c.with_position-self-in-Node.type_inv free.0 free.1 c.with_position-self-in-Node.ensures in
-    let at : count_ones c.args.self.now.entries + c.rank_of-in-Node.result ≡ rank c.args.self.now.entries 32 + rank c.args.self.now.nodes c.args.position = omega (arith, count-rank c.args.self.now.entries c.requires.sets.entries_small, c.rank_of-in-Node.ensures) in
-    let items : c.insert-in-Node.new.self ≡ insert c.args.self.now.links (rank c.args.self.now.entries 32 + rank c.args.self.now.nodes c.args.position) c.in-Node.node = c.insert-in-Node.ensures ∙ ap (λ i. insert c.args.self.now.links i c.in-Node.node) at in
+    let items : c.insert-in-Node.new.self ≡ insert c.args.self.now.links (rank c.args.self.now.entries 32 + rank c.args.self.now.nodes c.args.position) c.in-Node.node = c.insert-in-Node.ensures ∙ ap (λ i. insert c.args.self.now.links i c.in-Node.node) c.node_index-index.ensures in
     λ p lt other. ap (λ xs. place_of c.args.self.now.entries c.with_position-self-in-Node.result xs p) items ∙ changed.others p lt other

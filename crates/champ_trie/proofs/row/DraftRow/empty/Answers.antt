@@ -1,6 +1,6 @@
 use Rattle.std.proofs.Common.{arith, ap, length}
 use Rattle.champ_trie.proofs.BitLemmas.{rank-none, has-none}
-use Rattle.champ_trie.proofs.row.TrieRow.empty.Goals as goal
+use Rattle.champ_trie.proofs.row.DraftRow.empty.Goals as goal
 
 pub returns-clause-sets : goal.returns-clause-sets
 returns-clause-sets c = record {
