@@ -21,7 +21,7 @@ use Rattle.rrb_core.proofs.LinkCounts.{all-counted}
 use Rattle.rrb_core.proofs.Lists.{empty-list, last-sum, front-last, each-push}
 use Rattle.rrb_core.proofs.RowLists.{at-place, keeps-some}
 use Rattle.rrb_core.proofs.Stays.{links-form, items-stay, rows-stay}
-use Rattle.edit_vec.specs.Walk.{with_last, grown}
+use Rattle.edit_vec.specs.Steps.{with_last, grown}
 
 -- a node by its head
 pub form-headed : {T : Type 0} (r : Option (Row T)) (height : ℕ) (ss : List ℕ) → head_of r ≡ Some (Inner height ss) → option_map form_of r ≡ Some (node (inner height) (links_of r))

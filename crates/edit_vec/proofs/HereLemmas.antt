@@ -5,7 +5,7 @@ use Rattle.std.specs.List.{All, flat_map}
 use Rattle.std.proofs.lemmas.Bool.{cases_eq}
 use Rattle.std.proofs.lemmas.List.{take_all, drop_all, get_or_at}
 use Rattle.std.proofs.Math.Seq.{take-append_seam}
-use Rattle.node_heap.specs.Links.{count, Reaches, here, below}
+use Rattle.node_heap.specs.Links.{count, Reaches, here, below, HasLink}
 use Rattle.node_heap.specs.Forms.{node, inner, links_of, links_in, head_of, is_node}
 use Rattle.node_heap.specs.Heap.{Heap, row_at, form_at, links_at, holds_at, owners_at, live_count}
 use Rattle.node_heap.specs.declared.row.Head.TheVariants.{Inner}
@@ -15,12 +15,12 @@ use Rattle.node_heap.proofs.Counts.{test_same, test_other}
 use Rattle.node_heap.proofs.BuildLemmas.{count-cons}
 use Rattle.node_heap.proofs.GraphLemmas.{IsGraph-acyclic}
 use Rattle.node_heap.proofs.EditLaws.{Changes-Builds, Gains-trans, Gains-Builds, Gains-Changes}
-use Rattle.node_heap.proofs.Edited.{above_live, Reaches-back, Changes-then, Changes-beside, Changes-more}
+use Rattle.node_heap.proofs.Edited.{above_live, Reaches-back, Changes-then, Changes-beside, Changes-more, count-at}
 use Rattle.node_heap.specs.Owner.{alone}
 use Rattle.node_heap.proofs.AloneLemmas.{alone-yes, KeepsAlone-none, KeepsAlone-cons, written-cons}
 use Rattle.rrb_core.specs.Seq.{seq_at, IsThick, IsWell}
 use Rattle.rrb_core.specs.Vector.{KeepsSums, sums_at}
-use Rattle.rrb_core.specs.Push.{last_in, IsPacked}
+use Rattle.rrb_core.specs.Push.{last_in, IsPacked, into_new}
 use Rattle.rrb_core.specs.Build.{IsRowOf, AreRows}
 use Rattle.rrb_core.specs.Edit.{MakesRow}
 use Rattle.rrb_core.proofs.ClosedRows.{Stays}
@@ -29,9 +29,9 @@ use Rattle.std.proofs.lemmas.List.Concat.{flat_map-append}
 use Rattle.rrb_core.proofs.FillRule.{height-is}
 use Rattle.rrb_core.proofs.BuildLemmas.{gained-held}
 use Rattle.rrb_core.proofs.PushLemmas.{all-last, packed-thick}
-use Rattle.rrb_core.proofs.Stays.{links-form, live-stays, well-live, well-stays, items-stay, all-thick-stay, rows-stay, row-stays, keeps-stay}
+use Rattle.rrb_core.proofs.Stays.{links-form, live-stays, well-live, well-stays, items-stay, all-thick-stay, rows-stay, row-stays, keeps-stay, seq-stays}
 use Rattle.rrb_core.proofs.RowLists.{IsOver, over, one-row, one-items, rows-append, rows-live}
-use Rattle.edit_vec.specs.Walk.{CanWrite, PushesIn}
+use Rattle.edit_vec.specs.Steps.{CanWrite, PushesIn}
 use Rattle.edit_vec.proofs.ReachLemmas.{reach-low}
 use Rattle.edit_vec.proofs.StepLemmas.{well-node}
 use Rattle.edit_vec.proofs.PathLemmas.{spine-below}
@@ -162,6 +162,11 @@ module _ {T : Type 0} {old mid : Heap T} {n row e child : ℕ} (can : CanWrite o
         let built : Changes row old mid (e ∷ []) (child ∷ []) 0 (n + 1) = Changes-Builds row can.graph (λ k up sole. owners k (above_live old k row up row-live) ∙ sole) made.builds in
         record {
           row = row-headed graph writes' tall rows-placed some-placed few-placed (keeps-stay (stays-under graph writes') n (links_at new row) ss (all-under graph writes') sums) items-placed;
+          rule =
+              let end : get_or (links_at new row) (length ks) 0 ≡ child = rw links-placed (get_or_at ks child [] 0 (length ks) refl) in
+              let has : HasLink (links_at new) row child = count-at (links_at new row) (length ks) child (omega (arith, ap length links-placed, length-append ks (child ∷ []))) end in
+              into_new n row row child packed (seq-stays (stays-under graph writes') n child (child, has, here child) ∙ child-new.items)
+              (record { room = rw (links-form old row) room; links = links-form last row ∙ writes'.new_links ∙ links-placed ∙ ap (λ (ls : List ℕ). ls ++ child ∷ []) (sym (links-form old row)) });
           links = omega (arith, ap length writes'.new_links, ap length links-placed, length-append ks (child ∷ []));
           changes = Changes-more 0 (suc n) (Changes-beside (Changes-then built change) change') (omega arith) (omega arith);
           gains = Gains-trans (Gains-Builds made.builds) (Gains-trans (Gains-Changes change (λ k other live. writes.others k other) makes) (Gains-Changes change' (λ k other live. writes'.others k other) makes'));

@@ -9,7 +9,8 @@ use Rattle.rrb_core.specs.Vector.{height_at}
 use Rattle.edit_vec.specs.Path.{keep_or_stop, up_to_last, right_spine, push_path, pop_spine, pop_path, root_goes}
 use Rattle.node_heap.specs.Owner.{by_hold, owned, written, WritesOnly, WritesOnlyLeft}
 use Rattle.edit_vec.proofs.PathLemmas.{rows_below, rows-below, spine_below, spine-below}
-use Rattle.edit_vec.proofs.KeptLemmas.{down-rows, down-spine, down-take, others-beside, others-elements, left-elements, left-held}
+use Rattle.node_heap.proofs.BesidePath.{others-beside, left-held}
+use Rattle.edit_vec.proofs.KeptLemmas.{IsTall, down-rows, down-spine, down-take, others-elements, left-elements}
 use Rattle.edit_vec.specs.Laws.{SetsKeep, PushesKeep, PopsKeep, PopsKeepHeld}
 
 pub sets-keep : (T : Type 0) → SetsKeep T
@@ -18,9 +19,9 @@ sets-keep T = λ owner old new root index graph is good inside others.
     let n : ℕ = height_at old l in
     let tail : List ℕ = rows_below (form_at old) n l index in
     let all : WritesOnly owner old new root (l ∷ tail) = rw (rows-below (form_at old) n l index) at others in
-    let down = down-rows old n l index inside in
+    let down = down-rows old n l index good.shape.well inside in
     record {
-      beside = others-beside owner old new root n tail graph is good.shape.well down all;
+      beside = others-beside (IsTall old) owner old new root tail graph is down all;
       below = others-elements owner old new root n tail graph is good.shape.well down all;
     }
 
@@ -49,9 +50,9 @@ pushes-keep T = λ owner old new root graph is good others.
     let path : push_path (form_at old) l ≡ take k (l ∷ tail) = up-to-front fits (right_spine (form_at old) l) ∙ ap (take k) (spine-below (form_at old) n l) in
     let m : ℕ = k - 1 in
     let all : WritesOnly owner old new root (l ∷ take m tail) = λ j live off. others j live (rw path (shorter old l tail j k off)) in
-    let down = down-take old n l m tail (down-spine old n l good.shape.well) in
+    let down = down-take old l m tail (down-spine old n l good.shape.well) in
     record {
-      beside = others-beside owner old new root n (take m tail) graph is good.shape.well down all;
+      beside = others-beside (IsTall old) owner old new root (take m tail) graph is down all;
       below = others-elements owner old new root n (take m tail) graph is good.shape.well down all;
     }
 
@@ -75,7 +76,7 @@ pops-keep T = λ owner old new root graph graph' is good others.
     let path = pop-front old l in
     let m : ℕ = path.0 - 1 in
     let all : WritesOnlyLeft owner old new root (l ∷ take m tail) = λ j live there off. others j live there (rw path.1 (shorter old l tail j path.0 off)) in
-    left-elements owner old new root n (take m tail) graph graph' is good.shape.well (down-take old n l m tail (down-spine old n l good.shape.well)) all
+    left-elements owner old new root n (take m tail) graph is good.shape.well (down-take old l m tail (down-spine old n l good.shape.well)) graph' all
 
 pub pops-keep-held : (T : Type 0) → PopsKeepHeld T
 pops-keep-held T = λ old new l root graph graph' is good others.
@@ -84,4 +85,4 @@ pops-keep-held T = λ old new l root graph graph' is good others.
     let path = pop-front old l in
     let m : ℕ = path.0 - 1 in
     let all : WritesOnlyLeft (by_hold l) old new root (l ∷ take m tail) = λ j live there off. others j live there (rw path.1 (shorter old l tail j path.0 off)) in
-    left-held old new l root n (take m tail) graph graph' is good.shape.well (down-take old n l m tail (down-spine old n l good.shape.well)) all
+    left-held (IsTall old) old new l root (take m tail) graph graph' is (down-take old l m tail (down-spine old n l good.shape.well)) all

@@ -16,6 +16,8 @@ pub mod PushTop
 pub mod ShrinkLemmas
 pub mod PopPath
 pub mod OverTop
+pub mod RoomTop
 pub mod PopLemmas
 pub mod PopSteps
 pub mod PopTop
+pub mod CallerLemmas

@@ -1,5 +1,5 @@
 -- A root over a packed one: of the root's own hold, and in its place in a row.
-use Rattle.std.proofs.Common.{◌≡◌, ℕ, zero, suc, ◌+◌, ◌<◌, ◌≤◌, ◌^◌, List, [], ◌∷◌, ◌++◌, length, get_or, set, refl, ap, sym, subst, ◌∙◌, arith, Bool, true, false, Option, Some, None, IsSome, inl, inr}
+use Rattle.std.proofs.Common.{◌≡◌, ℕ, suc, ◌+◌, ◌<◌, ◌≤◌, ◌^◌, List, [], ◌∷◌, ◌++◌, length, get_or, set, refl, ap, sym, subst, ◌∙◌, arith, Bool, true, false, None, IsSome, inl, inr}
 use Rattle.std.specs.Prelude.{◌==◌, option_map, insert, remove, if◌then◌else◌}
 use Rattle.std.specs.List.{flat_map}
 use Rattle.std.proofs.lemmas.Bool.{cases_eq}
@@ -8,40 +8,37 @@ use Rattle.std.proofs.lemmas.List.{length_push, get_or-set_same}
 use Rattle.std.proofs.lemmas.List.Edits.{length-remove}
 use Rattle.std.proofs.lemmas.List.Elements.{All-cons, All-nil}
 use Rattle.node_heap.specs.Links.{count, HasLink, Reaches, here, below}
-use Rattle.node_heap.specs.Forms.{Row, cell, node, form_of, head_of, links_of, is_node}
+use Rattle.node_heap.specs.Forms.{form_of, head_of, links_of, is_node}
 use Rattle.node_heap.specs.Heap.{Heap, row_at, form_at, links_at, holds_at, owners_at, hold_count, live_count, half_holds}
-use Rattle.node_heap.specs.Calls.{KeepsBelow, KeepsOwners, Builds, Makes, Gains, HasHolds, MakesWhatCame}
+use Rattle.node_heap.specs.Calls.{KeepsBelow, KeepsOwners, KeepsOldOwners, Builds, Makes, Gains, HasHolds}
 use Rattle.node_heap.specs.InPlace.{child_at, Writes, Changes}
-use Rattle.node_heap.specs.Owner.{by_hold, by_place, alone, links_beside, relinked, with_root}
+use Rattle.node_heap.specs.Owner.{by_hold, by_place, links_beside, relinked, with_root}
 use Rattle.node_heap.proofs.Counts.{test_other}
 use Rattle.node_heap.proofs.BuildLemmas.{count-cons, count-one, Builds-both, Builds-more}
 use Rattle.node_heap.proofs.GraphLemmas.{IsGraph-acyclic}
 use Rattle.node_heap.proofs.AloneLemmas.{KeepsAlone-none}
-use Rattle.node_heap.proofs.Edited.{count-at, linked_live, above_live, Reaches-back, Trades-Builds, Changes-then, Changes-follow, Changes-more}
-use Rattle.node_heap.proofs.EditLaws.{Changes-Builds, Gains-trans, Gains-Builds, Gains-Changes, MakesJust-Gains, new-reach}
-use Rattle.node_heap.proofs.OwnerLemmas.{left-at}
+use Rattle.node_heap.proofs.Edited.{linked-node, count-at, linked_live, above_live, Reaches-back, Trades-Builds, Changes-then, Changes-follow, Changes-more}
+use Rattle.node_heap.proofs.EditLaws.{Changes-Builds, Gains-trans, Gains-Builds, Gains-Changes, new-reach}
+use Rattle.node_heap.proofs.OwnerLemmas.{insert-removed, left-at, relinked-is}
 use Rattle.node_heap.specs.declared.row.TheConstants.{MOST_HEIGHT}
 use Rattle.rrb_core.specs.Seq.{form_height, seq_at, IsThick, IsWell}
-use Rattle.rrb_core.specs.Push.{IsPacked}
+use Rattle.rrb_core.specs.Push.{IsPacked, IsPushedRoot, over_root}
 use Rattle.rrb_core.specs.Vector.{elements, height_at, IsGoodVector, IsVectorOf}
-use Rattle.rrb_core.specs.Build.{IsRowOf, AreRows, RowsKeepOwners}
+use Rattle.rrb_core.specs.Build.{IsRowOf, AreRows}
 use Rattle.rrb_core.specs.Edit.{MakesRow}
 use Rattle.rrb_core.proofs.ClosedRows.{Stays}
 use Rattle.rrb_core.proofs.LinkCounts.{one-held}
 use Rattle.rrb_core.proofs.FillRule.{height-is, well-pos, thick-links, thick-low}
 use Rattle.rrb_core.proofs.PushLemmas.{packed-thick}
 use Rattle.rrb_core.proofs.BuildLemmas.{gained-held}
-use Rattle.rrb_core.proofs.Stays.{live-stays, below-stays, vector-stays, well-live, thick-stays, row-stays}
+use Rattle.rrb_core.proofs.Stays.{live-stays, below-stays, vector-stays, well-live, thick-stays, row-stays, links-form, seq-stays}
 use Rattle.rrb_core.proofs.RowLists.{one-row, rows-append, good-row, root-row}
 use Rattle.edit_vec.specs.Path.{right_spine, push_path}
 use Rattle.edit_vec.specs.Edit.{PushesElement}
-use Rattle.edit_vec.specs.Walk.{CanPushRoot, PushesChild}
+use Rattle.edit_vec.specs.Steps.{CanPushRoot, PushesChild, IsRootOver}
 use Rattle.edit_vec.proofs.PushLemmas.{node-headed, packed-stays}
 use Rattle.edit_vec.proofs.PushTop.{path-packed, spine-length}
-
--- what came is what was made
-pub makes-gained : {T : Type 0} {old new : Heap T} → Gains old new → MakesWhatCame old new
-makes-gained gains = record { stays = gains.stays; live = omega (arith, gains.makes.live); made = MakesJust-Gains gains }
+use Rattle.edit_vec.proofs.TopLemmas.{makes-gained}
 
 -- the rows of the new root: the old root, and a row over the element alone
 module _ {T : Type 0} {old mid : Heap T} {root child n e : ℕ} (can : CanPushRoot old root e) (held : HasHolds old (root ∷ e ∷ [])) (height : n ≡ height_at old root) (packed : IsPacked (form_at old) n root) (sub : MakesRow old mid (e ∷ []) n child (e ∷ [])) where
@@ -82,16 +79,25 @@ module _ {T : Type 0} {old mid : Heap T} {root child n e : ℕ} (can : CanPushRo
     pub vector-over : IsVectorOf new top (elements old root ++ e ∷ [])
     vector-over = good-row new (suc n) top (elements old root ++ e ∷ []) (rw items-both at made) low-root (λ _. rw links (omega arith)) (omega (arith, length_push (elements old root) e, can.short))
 
+    pub over-new : IsRootOver new n root top e
+    over-new = (child, links, seq-stays (live-stays sub.builds.graph builds.extends) n child (well-live mid n child sub.row.well) ∙ sub.row.items)
+
     pub builds-over : Builds old new (root ∷ e ∷ []) (top ∷ []) 0 (n + 2)
     builds-over =
         Builds-more 0 (n + 2) (Builds-both (root ∷ e ∷ []) (top ∷ []) sub.builds builds (λ k. omega (arith, count-cons k root (e ∷ []), count-cons k root (child ∷ []))) (omega arith)) (omega arith) (omega arith)
 
+-- so a push puts an element where the root is packed
+over-rule : {T : Type 0} (old new : Heap T) {n root top e : ℕ} → n ≡ height_at old root → IsPacked (form_at old) n root → height_at new top ≡ suc n → IsRootOver new n root top e → IsPushedRoot (form_at old) (form_at new) e root top
+over-rule {T} old new {n} {root} {top} {e} height packed tall made =
+    over_root made.0 (tall ∙ ap suc height) (subst (λ k. IsPacked (form_at old) k root) height packed) (subst (λ k. seq_at (form_at new) k made.0 ≡ e ∷ []) height made.2) (links-form new top ∙ made.1)
+
 -- it was made of the root's own hold
-pub pushes-over : {T : Type 0} {old new : Heap T} {root top n e : ℕ} → CanPushRoot old root e → n ≡ height_at old root → IsPacked (form_at old) n root → IsVectorOf new top (elements old root ++ e ∷ []) → height_at new top ≡ suc n → Builds old new (root ∷ e ∷ []) (top ∷ []) 0 (n + 2) → PushesElement (by_hold root) old new top e
-pushes-over {T} {old} {new} {root} {top} {n} {e} can height packed vector tall builds =
+pub pushes-over : {T : Type 0} {old new : Heap T} {root top n e : ℕ} → CanPushRoot old root e → n ≡ height_at old root → IsPacked (form_at old) n root → IsVectorOf new top (elements old root ++ e ∷ []) → height_at new top ≡ suc n → IsRootOver new n root top e → Builds old new (root ∷ e ∷ []) (top ∷ []) 0 (n + 2) → PushesElement (by_hold root) old new top e
+pushes-over {T} {old} {new} {root} {top} {n} {e} can height packed vector tall made builds =
     let path : push_path (form_at old) root ≡ [] = rw (← height) (path-packed (form_at old) n root packed) in
     record {
       vector = vector;
+      rule = over-rule old new height packed tall made;
       edits = record {
         beside = λ l m some way. builds.extends.kept l (can.graph.held l (omega (arith, some))) m way;
         trades = Trades-Builds (Builds-more 0 (height_at old root + 2) builds (omega arith) (omega (arith, height)));
@@ -103,26 +109,6 @@ pushes-over {T} {old} {new} {root} {top} {n} {e} can height packed vector tall b
       others = λ m live off. builds.extends.kept m live m (here m);
       makes = makes-gained (Gains-Builds builds);
     }
-
--- a list of which a place was taken out and filled again
-pub insert-removed : (xs : List ℕ) (i x : ℕ) → i < length xs → insert (remove xs i) i x ≡ set xs i x
-insert-removed [] i x lt = absurd (omega (arith, lt))
-insert-removed (y ∷ ys) zero x lt = refl
-insert-removed (y ∷ ys) (suc i) x lt = ap (λ (zs : List ℕ). y ∷ zs) (insert-removed ys i x (omega (arith, lt)))
-
--- a row with links is a node
-pub linked-node : {T : Type 0} (r : Option (Row T)) (k : ℕ) → 0 < count k (links_of r) → is_node r ≡ 1
-linked-node None k some = absurd (omega (arith, some))
-linked-node (Some (cell x)) k some = absurd (omega (arith, some))
-linked-node (Some (node h l)) k some = refl
-
--- a node by its head and its links
-relinked-by : {T : Type 0} (r s : Option (Row T)) (index link : ℕ) → is_node r ≡ 1 → head_of s ≡ head_of r → links_of s ≡ set (links_of r) index link → s ≡ relinked index link r
-relinked-by None s index link some heads links = absurd (omega (arith, some))
-relinked-by (Some (cell x)) s index link some heads links = absurd (omega (arith, some))
-relinked-by (Some (node h l)) None index link some heads links = absurd cc
-relinked-by (Some (node h l)) (Some (cell y)) index link some heads links = absurd cc
-relinked-by (Some (node h l)) (Some (node h' l')) index link some heads links = cc
 
 -- what is left of a list without a place was in it
 left-in : (b : Bool) (xs : List ℕ) (i k : ℕ) → 0 < count k (if b then remove xs i else xs) → 0 < count k xs
@@ -186,7 +172,7 @@ module _ {T : Type 0} {old mid : Heap T} {parent place root n e : ℕ} (can : Ca
   node-out = node-headed (row_at mid parent) (row_at old parent) writes.new_head (linked-node (row_at old parent) root linked)
 
   -- a root was made over it
-  module _ {made : Heap T} {top : ℕ} (vector : IsVectorOf made top (elements mid root ++ e ∷ [])) (tall : height_at made top ≡ suc n) (fresh : row_at mid top ≡ None) (kept : RowsKeepOwners mid made) (builds : Builds mid made (root ∷ e ∷ []) (top ∷ []) 0 (n + 2)) where
+  module _ {made : Heap T} {top : ℕ} (vector : IsVectorOf made top (elements mid root ++ e ∷ [])) (tall : height_at made top ≡ suc n) (fresh : row_at mid top ≡ None) (kept : KeepsOldOwners mid made) (builds : Builds mid made (root ∷ e ∷ []) (top ∷ []) 0 (n + 2)) where
     parent-made : row_at made parent ≡ row_at mid parent
     parent-made = builds.extends.kept parent parent-out parent (here parent)
 
@@ -255,7 +241,7 @@ module _ {T : Type 0} {old mid : Heap T} {parent place root n e : ℕ} (can : Ca
             let test : (m == parent) ≡ true = grind (arith, nat_tests, same) in
             let heads : head_of (row_at new parent) ≡ head_of (row_at old parent) = writes'.new_head ∙ ap head_of parent-made ∙ writes.new_head in
             let at : row_at new m ≡ relinked place top (row_at old m) =
-            subst (λ j. row_at new j ≡ relinked place top (row_at old j)) (sym same) (relinked-by (row_at old parent) (row_at new parent) place top (linked-node (row_at old parent) root linked) heads links-new) in
+            subst (λ j. row_at new j ≡ relinked place top (row_at old j)) (sym same) (relinked-is (row_at old parent) (row_at new parent) place top (omega (arith, inside)) heads links-new) in
             at ∙ sym (ap (λ (b : Bool). if b then relinked place top (row_at old m) else row_at old m) test)
         | inr other ↦
             let test : (m == parent) ≡ false = grind (arith, nat_tests, other) in
@@ -267,14 +253,21 @@ module _ {T : Type 0} {old mid : Heap T} {parent place root n e : ℕ} (can : Ca
       live-beside l m (here k) live = live
       live-beside l m (below k j z has rest) live = live-beside j m rest (can.graph.closed k j (left-in (k == parent) (links_at old k) place j has))
 
-      pub pushes-place : PushesChild old new parent place e
-      pushes-place =
+      over-place : IsRootOver made n root top e → IsRootOver new n (child_at old parent place) top e
+      over-place over =
+          let keeps : KeepsBelow made new top = λ m way. writes'.others m (λ same. apart-made (subst (Reaches (links_at made) top) same way)) in
+          let has : HasLink (links_at made) top over.0 = rw over.1 (count-at (root ∷ over.0 ∷ []) 1 over.0 (omega arith) refl) in
+          (over.0, ap links_of (keeps top (here top)) ∙ over.1 ∙ ap (λ (l : ℕ). l ∷ over.0 ∷ []) is, seq-stays (below-stays {old = made} {new = new} top keeps) n over.0 (below top over.0 over.0 has (here over.0)) ∙ over.2)
+
+      pub pushes-place : IsRootOver made n root top e → PushesChild old new parent place e
+      pushes-place over =
           let size : n + 2 ≤ height_at old (child_at old parent place) + 2 = omega (arith, height) in
           let path : push_path (form_at old) (child_at old parent place) ≡ [] = rw (← height) (path-packed (form_at old) n (child_at old parent place) packed) in
           let changes : Changes parent old new (e ∷ []) [] 0 (height_at old (child_at old parent place) + 2) = Changes-more 0 (height_at old (child_at old parent place) + 2) changes-new (omega arith) size in
           record {
             pushes = rw top-new (record {
               vector = vector-new;
+              rule = over-rule old new height packed tall-new (over-place over);
               edits = record { beside = λ l m some way. rows-new m (live-beside l m way (can.graph.held l (omega (arith, some)))); trades = changes.trades };
               path = rw path (KeepsAlone-none old);
               gains =

@@ -1,63 +1,43 @@
 -- What is said of a child that is made its parent's own, and what stays through that.
-use Rattle.std.proofs.Common.{◌≡◌, ◌≢◌, ℕ, ◌+◌, ◌*◌, ◌<◌, ◌≤◌, List, [], ◌∷◌, length, get_or, set, refl, ap, sym, subst, ◌∙◌, arith, None, IsSome, inl, inr, length-set}
+use Rattle.node_heap.specs.declared.row.Head.{Head}
+use Rattle.std.proofs.Common.{◌≡◌, ◌≢◌, ℕ, ◌+◌, ◌*◌, ◌<◌, ◌≤◌, List, [], ◌∷◌, length, get_or, set, refl, ap, sym, subst, ◌∙◌, arith, None, IsSome, inl, inr, length-set, Option, Some}
 use Rattle.std.specs.Prelude.{◌↔◌}
 use Rattle.std.proofs.lemmas.Bool.{cases_eq}
-use Rattle.std.proofs.lemmas.Bool.Decides.{nat_tests}
 use Rattle.std.proofs.lemmas.List.{get_or-set_same}
 use Rattle.node_heap.specs.Links.{count, HasLink, Reaches, here, below}
 use Rattle.node_heap.specs.Forms.{head_of, links_of}
 use Rattle.node_heap.specs.Heap.{Heap, row_at, links_at, holds_at, owners_at, one_at, IsGraph}
-use Rattle.node_heap.specs.Calls.{Makes, Gains}
-use Rattle.node_heap.specs.InPlace.{other_at, child_at, OwnsDown, Changes}
-use Rattle.node_heap.specs.Owner.{alone}
+use Rattle.node_heap.specs.Calls.{Makes, Gains, KeepsOwners}
+use Rattle.node_heap.specs.InPlace.{other_at, child_at, OwnsDown, Changes, Writes}
 use Rattle.node_heap.proofs.Counts.{count-cons, test_other}
+use Rattle.node_heap.proofs.Frames.{Makes-trans}
 use Rattle.node_heap.proofs.Reach.{Reaches-then}
 use Rattle.node_heap.proofs.Ways.{Reaches-last, Reaches-avoids}
-use Rattle.node_heap.proofs.GraphLemmas.{IsGraph-acyclic, IsGraph-owned, linked-places}
-use Rattle.node_heap.proofs.AloneLemmas.{alone-yes, alone-no, alone-same}
+use Rattle.node_heap.proofs.GraphLemmas.{IsGraph-acyclic, linked-places}
 use Rattle.node_heap.proofs.EditLaws.{Gains-Changes}
-use Rattle.node_heap.proofs.Edited.{count-at, IsOwners-heap, linked_live, Reaches-back, KeepsBelow-apart, OwnsDown-child}
+use Rattle.node_heap.proofs.Edited.{count-at, IsOwners-heap, linked_live, Reaches-back, KeepsBelow-apart, OwnsDown-child, Changes-beside, Changes-more}
 use Rattle.rrb_core.proofs.ClosedRows.{Stays}
 use Rattle.rrb_core.proofs.LinkCounts.{all-counted}
 
--- a path of which the first row is made one's own has one alone row more where that was copied, since none below it was
-pub alone-own : {T : Type 0} (old mid : Heap T) (x c : ℕ) (rest : List ℕ) → (c ≡ x) ↔ (owners_at old x ≡ 1) → owners_at mid c ≡ 1
-    → ((k : ℕ) → owners_at mid k + one_at x k ≡ owners_at old k + (one_at c k + other_at x c * count k (links_at old x))) → IsGraph old
-    → (1 ≤ length rest → HasLink (links_at old) x (get_or rest 0 0)) → alone mid (c ∷ rest) ≡ alone old (x ∷ rest) + other_at x c
-alone-own {T} old mid x c rest same sole owners graph next = elim (cases_eq c x) as (λ _. alone mid (c ∷ rest) ≡ alone old (x ∷ rest) + other_at x c) [
-  | inl is ↦
-      let none : other_at x c ≡ 0 = grind (arith, nat_tests, is) in
-      let all : (k : ℕ) → owners_at mid k ≡ owners_at old k = λ k. omega (arith, owners k, ap (λ (j : ℕ). one_at j k) is, ap (λ (m : ℕ). m * count k (links_at old x)) none) in
-      omega (arith, none, alone-same mid old (c ∷ rest) all ∙ ap (λ (j : ℕ). alone old (j ∷ rest)) is)
-  | inr off ↦
-      let one : other_at x c ≡ 1 = grind (arith, nat_tests, off) in
-      omega (arith, one, alone-yes mid c rest sole, none-below off rest next, alone-no old x rest (λ e. off (same.1 e)))
-]
-  where
-    none-below : c ≢ x → (xs : List ℕ) → (1 ≤ length xs → HasLink (links_at old) x (get_or xs 0 0)) → alone mid xs ≡ 0
-    none-below off [] next = refl
-    none-below off (k ∷ ks) next =
-        let has = next (omega arith) in
-        let owned = IsGraph-owned old graph k (graph.closed x k has) in
-        let below : k ≢ x = λ same. IsGraph-acyclic old graph x k has (subst (Reaches (links_at old) k) same (here k)) in
-        let whole : other_at x c ≡ 1 = grind (arith, nat_tests, off) in
-        alone-no mid k ks (λ one. omega (arith, one, owners k, test_other k x below, ap (λ (m : ℕ). m * count k (links_at old x)) whole, has, owned))
-
--- the child at a place of a row was made the row's own: it is c now
-pub record OwnsChild {T : Type 0} (old mid : Heap T) (row place c : ℕ) : Type 0 where
+-- the child at a place of a row was made the row's own, which has this head then: the child is c now
+pub record OwnsHeaded {T : Type 0} (head : Option Head) (old mid : Heap T) (row place c : ℕ) : Type 0 where
   pub inside : place < length (links_at old row)
   pub graph : IsGraph old
   pub same : (c ≡ child_at old row place) ↔ (owners_at old (child_at old row place) ≡ 1)
   pub row_same : row_at mid c ≡ row_at old (child_at old row place)
   pub sole : owners_at mid c ≡ 1
   pub fresh : c ≢ child_at old row place → row_at old c ≡ None
-  pub parent_head : head_of (row_at mid row) ≡ head_of (row_at old row)
+  pub parent_head : head_of (row_at mid row) ≡ head
   pub parent_links : links_at mid row ≡ set (links_at old row) place c
   pub others : (k : ℕ) → k ≢ row → k ≢ c → row_at mid k ≡ row_at old k
   pub owners : (k : ℕ) → owners_at mid k + one_at (child_at old row place) k ≡ owners_at old k + (one_at c k + other_at (child_at old row place) c * count k (links_at old (child_at old row place)))
   pub changes : Changes row old mid [] [] 0 1
   pub makes : Makes old mid 0 (other_at (child_at old row place) c)
   pub stays : (k : ℕ) → k ≢ row → IsSome (row_at old k) → row_at mid k ≡ row_at old k
+
+-- the same, where the row has the head that it had
+abbrev pub OwnsChild : {T : Type 0} → Heap T → Heap T → ℕ → ℕ → ℕ → Type 0
+OwnsChild old mid row place c = OwnsHeaded (head_of (row_at old row)) old mid row place c
 
 -- from the clauses of `own_child`
 pub owns-child : {T : Type 0} {old mid : Heap T} {row place c : ℕ} → IsGraph old → place < length (links_at old row) → (c ≡ child_at old row place) ↔ (owners_at old (child_at old row place) ≡ 1) → row_at mid c ≡ row_at old (child_at old row place) → owners_at mid c ≡ 1
@@ -80,7 +60,7 @@ owns-child graph inside same row sole fresh head links stays others owners chang
   makes = makes;
 }
 
-module _ {T : Type 0} {old mid : Heap T} {row place c : ℕ} (o : OwnsChild old mid row place c) where
+module _ {T : Type 0} {head : Option Head} {old mid : Heap T} {row place c : ℕ} (o : OwnsHeaded head old mid row place c) where
   pub linked : HasLink (links_at old) row (child_at old row place)
   linked = count-at (links_at old row) place (child_at old row place) o.inside refl
 
@@ -153,3 +133,25 @@ module _ {T : Type 0} {old mid : Heap T} {row place c : ℕ} (o : OwnsChild old 
 
     pub child-now : {new : Heap T} {gained : List ℕ} {cells nodes : ℕ} → Changes c mid new (element ∷ []) gained cells nodes → child_at new row place ≡ c
     child-now edit = ap (λ w. get_or (links_of w) place 0) (parent-stays edit) ∙ ap (λ (xs : List ℕ). get_or xs place 0) o.parent_links ∙ get_or-set_same (links_at old row) place c 0 o.inside
+
+-- the head of the row was written then
+pub owns-headed : {T : Type 0} {old mid last : Heap T} {row place c : ℕ} {head : Head} → OwnsChild old mid row place c → Writes mid last row (Some head) (links_at mid row) → KeepsOwners mid last → Changes row mid last [] [] 0 0 → Makes mid last 0 0 → OwnsHeaded (Some head) old last row place c
+owns-headed {T} {old} {mid} {last} {row} {place} {c} o writes owners edit makes =
+    let off : c ≢ row = λ e. IsGraph-acyclic mid o.changes.trades.graph row c (linked-now o) (subst (Reaches (links_at mid) c) e (here c)) in
+    let more : ℕ = other_at (child_at old row place) c in
+    let none : more + 0 ≡ more = omega arith in
+    record {
+      inside = o.inside;
+      graph = o.graph;
+      same = o.same;
+      row_same = writes.others c off ∙ o.row_same;
+      sole = owners c ∙ o.sole;
+      fresh = o.fresh;
+      parent_head = writes.new_head;
+      parent_links = writes.new_links ∙ o.parent_links;
+      stays = λ k other live. writes.others k other ∙ o.stays k other live;
+      others = λ k other off'. writes.others k other ∙ o.others k other off';
+      owners = λ k. omega (arith, owners k, o.owners k);
+      changes = Changes-more 0 1 (Changes-beside o.changes edit) (omega arith) (omega arith);
+      makes = subst (λ m. Makes old last 0 m) none (Makes-trans o.makes makes);
+    }

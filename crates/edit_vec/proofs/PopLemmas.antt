@@ -10,7 +10,7 @@ use Rattle.node_heap.specs.Links.{count, HasLink, Reaches, here, below}
 use Rattle.node_heap.specs.Forms.{node, leaf, inner, links_of, links_in, head_of}
 use Rattle.node_heap.specs.Heap.{Heap, row_at, form_at, links_at, holds_at, owners_at, hold_count, one_at, IsGraph}
 use Rattle.node_heap.specs.declared.row.Head.TheVariants.{Inner}
-use Rattle.node_heap.specs.Calls.{KeepsOwners, KeepsBelow, SameRows, AddsOwner, Makes, Releases, Extends}
+use Rattle.node_heap.specs.Calls.{KeepsOwners, KeepsBelow, SameRows, AddsOwner, Makes, Releases, Extends, KeepsToNeed}
 use Rattle.node_heap.specs.InPlace.{child_at, Writes, Changes}
 use Rattle.node_heap.specs.Owner.{written, KeepsAlone}
 use Rattle.node_heap.proofs.Counts.{count-cons, test_same}
@@ -32,7 +32,7 @@ use Rattle.rrb_core.proofs.Lists.{items-cut}
 use Rattle.rrb_core.proofs.Stays.{links-form, well-live, well-stays, seq-stays, items-stay, rows-stay, row-stays, keeps-stay, below-stays}
 use Rattle.rrb_core.proofs.RowLists.{IsOver, over, rows-take}
 use Rattle.edit_vec.specs.Path.{spine_at}
-use Rattle.edit_vec.specs.Walk.{pop_rows, CanPop, PopsIn, KeepsRoom}
+use Rattle.edit_vec.specs.Steps.{pop_rows, CanPop, PopsIn, KeepsRoom}
 use Rattle.edit_vec.proofs.RowLemmas.{form-rewritten}
 use Rattle.edit_vec.proofs.PathLemmas.{spine-below}
 use Rattle.edit_vec.proofs.PopPath.{rows-first, tail-single, is-last}
@@ -48,6 +48,9 @@ room-makes makes = record { cells = omega (arith, makes.spare_cells, makes.cells
 
 pub room-released : {T : Type 0} {old new : Heap T} {link : ℕ} → Releases old new link → KeepsRoom old new
 room-released rel = record { cells = rel.cells; nodes = rel.nodes }
+
+pub needs-kept : {T : Type 0} {old new : Heap T} → KeepsRoom old new → KeepsToNeed old new 0 0
+needs-kept room = record { few_cells = omega (arith, room.cells); few_nodes = omega (arith, room.nodes) }
 
 -- the path of a row that stays, and of no row behind it
 pub path-alone : {T : Type 0} (old new : Heap T) (n l : ℕ) → owners_at old l ≡ 1 → KeepsAlone old (l ∷ []) (take 1 (spine_at (form_at new) n l))

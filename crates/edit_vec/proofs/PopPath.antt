@@ -15,7 +15,7 @@ use Rattle.rrb_core.proofs.FillRule.{well-pos}
 use Rattle.rrb_core.proofs.RowSizes.{not-empty-count}
 use Rattle.rrb_core.proofs.Stays.{links-form, forms-stay, seq-stays}
 use Rattle.edit_vec.specs.Path.{keep_or_stop, up_to_last, spine_at, pop_path}
-use Rattle.edit_vec.specs.Walk.{pop_rows, LeavesChild}
+use Rattle.edit_vec.specs.Steps.{pop_rows, LeavesChild}
 use Rattle.edit_vec.proofs.PathLemmas.{spine-below}
 
 module _ {K : Type 0} (F : Forms K) where

@@ -1,21 +1,20 @@
 -- One step of a pop down its path: a row whose last child was popped from.
-use Rattle.std.proofs.Common.{Bool, false, ◌≡◌, ◌≢◌, ℕ, suc, ◌-◌, ◌+◌, ◌*◌, ◌<◌, ◌≤◌, List, [], ◌∷◌, ◌++◌, length, take, drop, get_or, set, refl, ap, sym, subst, ◌∙◌, arith, length-append, length-set, append-nil, append_assoc, Option, Some, None, IsSome, inl, inr}
+use Rattle.std.proofs.Common.{Bool, false, ◌≡◌, ◌≢◌, ℕ, suc, ◌-◌, ◌+◌, ◌<◌, ◌≤◌, List, [], ◌∷◌, ◌++◌, length, take, drop, get_or, set, refl, ap, sym, subst, ◌∙◌, arith, length-append, length-set, append-nil, append_assoc, Option, Some, None, IsSome, inl, inr}
 use Rattle.std.specs.Prelude.{IsTrue, option_map, ◌↔◌}
 use Rattle.std.specs.List.{flat_map}
 use Rattle.std.proofs.lemmas.Bool.{cases_eq, cases_lt}
-use Rattle.std.proofs.lemmas.Bool.Decides.{nat_tests}
 use Rattle.std.proofs.lemmas.List.{drop_all, get_or-set_same}
 use Rattle.node_heap.specs.Links.{count, HasLink, Reaches, here}
 use Rattle.node_heap.specs.Forms.{Row, node, inner, form_of, links_in}
-use Rattle.node_heap.specs.Heap.{Heap, row_at, form_at, links_at, holds_at, owners_at, one_at}
+use Rattle.node_heap.specs.Heap.{Heap, row_at, form_at, links_at, holds_at, owners_at}
 use Rattle.node_heap.specs.declared.row.Head.TheVariants.{Inner}
 use Rattle.node_heap.specs.Calls.{Makes}
-use Rattle.node_heap.specs.InPlace.{child_at, other_at, path_start, Writes, Changes}
+use Rattle.node_heap.specs.InPlace.{child_at, path_start, Writes, Changes}
 use Rattle.node_heap.specs.Owner.{alone, written, KeepsAlone}
 use Rattle.node_heap.proofs.Counts.{count-cons, test_same}
 use Rattle.node_heap.proofs.Reach.{Reaches-then}
 use Rattle.node_heap.proofs.Edited.{count-at, Changes-path, Changes-beside, Changes-more}
-use Rattle.node_heap.proofs.AloneLemmas.{alone-yes, alone-no, alone-same, written-cons, written-own, KeepsAlone-cons, KeepsAlone-own}
+use Rattle.node_heap.proofs.AloneLemmas.{alone-yes, written-cons, written-own, KeepsAlone-cons, KeepsAlone-own, alone-copied}
 use Rattle.rrb_core.specs.Seq.{seq_at, IsThick, IsWell}
 use Rattle.rrb_core.specs.Vector.{KeepsSums, sums_at}
 use Rattle.rrb_core.specs.Push.{last_in}
@@ -24,7 +23,7 @@ use Rattle.rrb_core.proofs.Lists.{items-cut, last-sum}
 use Rattle.rrb_core.proofs.Stays.{links-form, well-live, well-stays, keeps-stay}
 use Rattle.rrb_core.proofs.RowLists.{IsOver, over, child-at, at-place, keeps-some}
 use Rattle.edit_vec.specs.Path.{spine_at}
-use Rattle.edit_vec.specs.Walk.{pop_rows, CanPop, PopsIn, shrunk}
+use Rattle.edit_vec.specs.Steps.{pop_rows, CanPop, PopsIn, shrunk}
 use Rattle.edit_vec.proofs.RowLemmas.{form-rewritten, sums-rewritten}
 use Rattle.edit_vec.proofs.PathLemmas.{spine-below, spine-stays}
 use Rattle.edit_vec.proofs.PopPath.{pop_tail, rows-first, tail-more, tail-same, tail-stays, tail-linked, is-last}
@@ -34,21 +33,6 @@ use Rattle.edit_vec.proofs.StepRows.{links-new, head-new, whole, items-new, size
 use Rattle.edit_vec.proofs.ShrinkLemmas.{keeps-shrunk}
 use Rattle.edit_vec.proofs.GrowLemmas.{row-headed, stays-under, all-under, IsUnder}
 use Rattle.edit_vec.proofs.PopLemmas.{room-trans, room-makes}
-
--- a copy of a path's first row costs what makes up for the rows below it, which aren't alone then
-pub alone-copied : {T : Type 0} (old mid : Heap T) (x c : ℕ) (rest : List ℕ) → (c ≡ x) ↔ (owners_at old x ≡ 1) → owners_at mid c ≡ 1
-    → ((k : ℕ) → owners_at mid k + one_at x k ≡ owners_at old k + (one_at c k + other_at x c * count k (links_at old x)))
-    → other_at x c + (length (c ∷ rest) - alone mid (c ∷ rest)) ≤ length (x ∷ rest) - alone old (x ∷ rest)
-alone-copied {T} old mid x c rest same sole owners = elim (cases_eq c x) as (λ _. other_at x c + (length (c ∷ rest) - alone mid (c ∷ rest)) ≤ length (x ∷ rest) - alone old (x ∷ rest)) [
-  | inl is ↦
-      let none : other_at x c ≡ 0 = grind (arith, nat_tests, is) in
-      let all : (k : ℕ) → owners_at mid k ≡ owners_at old k = λ k. omega (arith, owners k, ap (λ (j : ℕ). one_at j k) is, ap (λ (m : ℕ). m * count k (links_at old x)) none) in
-      let rows : alone mid (c ∷ rest) ≡ alone old (x ∷ rest) = alone-same mid old (c ∷ rest) all ∙ ap (λ (j : ℕ). alone old (j ∷ rest)) is in
-      omega (arith, none, rows)
-  | inr off ↦
-      let one : other_at x c ≡ 1 = grind (arith, nat_tests, off) in
-      omega (arith, one, alone-yes mid c rest sole, alone-no old x rest (λ e. off (same.1 e)))
-]
 
 -- a test that holds doesn't fail
 pub not-both : {b : Bool} → IsTrue b → b ≡ false → ⊥

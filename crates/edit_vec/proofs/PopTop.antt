@@ -1,12 +1,12 @@
 -- A pop of a whole vector.
 use Rattle.std.proofs.Common.{◌≡◌, ◌≢◌, ℕ, suc, ◌-◌, ◌+◌, ◌<◌, ◌≤◌, ◌^◌, List, [], ◌∷◌, ◌++◌, length, take, get_or, refl, ap, sym, subst, ◌∙◌, arith, length-append, append-nil, IsSome}
-use Rattle.std.specs.Prelude.{slice_index, option_map, ◌↔◌}
+use Rattle.std.specs.Prelude.{slice_index, option_map}
 use Rattle.std.specs.List.{All, flat_map}
 use Rattle.std.proofs.lemmas.List.{get_or_at, get_or-take, length-take-le}
 use Rattle.node_heap.specs.Links.{count, HasLink, Reaches, here}
 use Rattle.node_heap.specs.Forms.{form_of, links_of, links_in}
 use Rattle.node_heap.specs.Heap.{Heap, row_at, form_at, links_at, holds_at, hold_count, one_at, IsGraph, half_holds}
-use Rattle.node_heap.specs.Calls.{KeepsBelow, SameRows, Makes, Releases, Unchanged}
+use Rattle.node_heap.specs.Calls.{KeepsBelow, SameRows, Makes, Releases}
 use Rattle.node_heap.specs.InPlace.{child_at, other_at}
 use Rattle.node_heap.specs.Owner.{by_hold, alone, KeepsAlone}
 use Rattle.node_heap.proofs.Counts.{test_same, test_other}
@@ -20,16 +20,14 @@ use Rattle.rrb_core.specs.Push.{last_in}
 use Rattle.rrb_core.specs.Build.{IsRowOf}
 use Rattle.rrb_core.proofs.ClosedRows.{Stays}
 use Rattle.rrb_core.proofs.FillRule.{thick-links, height-is}
-use Rattle.rrb_core.proofs.BuildLemmas.{unchanged-good}
-use Rattle.rrb_core.proofs.Stays.{links-form, well-live, well-stays, forms-stay, seq-stays, row-stays, below-stays, live-stays-by}
+use Rattle.rrb_core.proofs.Stays.{links-form, well-stays, seq-stays, row-stays, below-stays}
 use Rattle.rrb_core.proofs.RowLists.{IsOver, over, IsChild, child-at, at-place, take-thick, good-row}
-use Rattle.node_heap.proofs.AloneLemmas.{KeepsAlone-none}
-use Rattle.node_heap.proofs.OwnerLemmas.{EditsBy-more, EditsBy-Unchanged}
+use Rattle.node_heap.proofs.AloneLemmas.{KeepsAlone-none, alone-copied}
+use Rattle.node_heap.proofs.OwnerLemmas.{EditsBy-more}
 use Rattle.edit_vec.specs.Path.{spine_at, pop_path}
 use Rattle.edit_vec.specs.Edit.{PopsElement}
-use Rattle.edit_vec.specs.Walk.{pop_rows, LeavesChild, LeavesFirst, CanPop, PopsIn}
+use Rattle.edit_vec.specs.Steps.{pop_rows, LeavesChild, LeavesFirst, CanPop, PopsIn}
 use Rattle.edit_vec.proofs.PopPath.{pop_tail, is-last, rows-first, tail-same, tail-stays, tail-linked, pop-goes, pop-stays}
-use Rattle.edit_vec.proofs.PopSteps.{alone-copied}
 use Rattle.node_heap.proofs.OwnedRows.{IsOwned}
 use Rattle.edit_vec.proofs.TopLemmas.{stays-owned, row-is, row-owned, wide-owned, path-owned, off-owned}
 use Rattle.edit_vec.proofs.KeptLemmas.{leaf-of}
@@ -156,39 +154,17 @@ module _ {T : Type 0} {old : Heap T} {n root first given last : ℕ} (graph : Is
           room = room-trans (room-makes makes) (room-trans (room-makes makes') (room-released rel));
         }
 
--- room that is made changes nothing
-pub leaves-same : {T : Type 0} {first old : Heap T} {n root : ℕ} → Unchanged first old → IsGoodVector first root → n ≡ height_at first root → LeavesChild (form_at old) n root ↔ LeavesChild (form_at first) n root
-leaves-same {T} {first} {old} {n} {root} u good tall = (there, back)
-  where
-    links : links_in (form_at old) root ≡ links_in (form_at first) root
-    links = forms-stay (live-stays-by first old u.rows u.graph) root (well-live first (height_at first root) root good.shape.well)
-
-    last : last_in (form_at old) root ≡ last_in (form_at first) root
-    last = ap (λ (xs : List ℕ). slice_index xs (length xs - 1)) links
-
-    size : 1 ≤ n → length (seq_at (form_at old) (n - 1) (last_in (form_at old) root)) ≡ length (seq_at (form_at first) (n - 1) (last_in (form_at first) root))
-    size up =
-        let inner = root-over first n root good tall up in
-        let live : IsSome (row_at first (last_in (form_at first) root)) = rw (links-form first root) (well-live first (n - 1) (get_or (links_at first root) (length (links_at first root) - 1) 0) (inner.rows.well (length (links_at first root) - 1) 0 (omega (arith, inner.some)))) in
-        ap (λ (j : ℕ). length (seq_at (form_at old) (n - 1) j)) last ∙ ap length (seq-stays (live-stays-by first old u.rows u.graph) (n - 1) (last_in (form_at first) root) live)
-
-    there : LeavesChild (form_at old) n root → LeavesChild (form_at first) n root
-    there goes = (goes.0, sym (ap length links) ∙ goes.1, sym (size goes.0) ∙ goes.2)
-
-    back : LeavesChild (form_at first) n root → LeavesChild (form_at old) n root
-    back goes = (goes.0, ap length links ∙ goes.1, size goes.0 ∙ goes.2)
-
-pub pops-child : {T : Type 0} {first old new : Heap T} {n root given : ℕ} → Unchanged first old → IsGoodVector first root → n ≡ height_at first root → LeavesChild (form_at old) n root → LeavesFirst old new root given → PopsElement (by_hold root) first new (child_at old root 0) given
-pops-child {T} {first} {old} {new} {n} {root} {given} u good tall goes left =
-    let later = unchanged-good root u good in
-    let none : pop_path (form_at first) root ≡ [] = pop-goes (form_at first) n root tall (rw tall good.shape.well) ((leaves-same u good tall).0 goes) in
+-- that is a pop
+pub pops-child : {T : Type 0} {old new : Heap T} {n root given : ℕ} → IsGoodVector old root → n ≡ height_at old root → LeavesChild (form_at old) n root → LeavesFirst old new root given → PopsElement (by_hold root) old new (child_at old root 0) given
+pops-child {T} {old} {new} {n} {root} {given} good tall goes left =
+    let none : pop_path (form_at old) root ≡ [] = pop-goes (form_at old) n root tall (rw tall good.shape.well) goes in
     record {
-      vector = rw (← later.1) left.vector;
-      back = left.back ∙ ap (λ (xs : List ℕ). slice_index xs (length xs - 1)) later.1;
-      edits = EditsBy-more 0 (height_at first root + 1) (EditsBy-Unchanged first old u (by_hold root) left.edits) (omega arith) (omega arith);
-      path = rw none (KeepsAlone-none first);
-      others = λ m live live' off. left.same m (subst IsSome (sym (u.rows m)) live) live' ∙ u.rows m;
-      made = omega (arith, left.made, u.made);
+      vector = left.vector;
+      back = left.back;
+      edits = EditsBy-more 0 (height_at old root + 1) left.edits (omega arith) (omega arith);
+      path = rw none (KeepsAlone-none old);
+      others = λ m live live' off. left.same m live live';
+      made = omega (arith, left.made);
     }
 
 -- the root stays, or a copy of it

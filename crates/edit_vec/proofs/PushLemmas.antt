@@ -1,39 +1,39 @@
 -- One step of a push down its path.
+use Rattle.node_heap.specs.declared.row.Head.{Head}
 use Rattle.std.proofs.Common.{◌≡◌, ◌≢◌, ℕ, suc, ◌-◌, ◌+◌, ◌<◌, ◌≤◌, ◌^◌, List, [], ◌∷◌, ◌++◌, length, take, drop, get_or, set, refl, ap, sym, ◌∙◌, arith, length-append, append-nil, length-set, subst, min, zero, Option, Some, None, IsSome, ◌⊎◌, inl, inr}
-use Rattle.std.specs.Prelude.{option_map, insert}
+use Rattle.std.specs.Prelude.{option_map, insert, IfSome, IfNone}
 use Rattle.std.specs.List.{All, flat_map}
 use Rattle.std.proofs.lemmas.List.{take_all, drop_all, get_or-set_same, get_or-take, length-take}
 use Rattle.std.proofs.lemmas.Bool.{cases_eq, cases_lt}
 use Rattle.node_heap.proofs.Counts.{test_same}
 use Rattle.node_heap.proofs.BuildLemmas.{count-cons}
 use Rattle.node_heap.specs.Links.{count, HasLink, here as here-link}
-use Rattle.node_heap.specs.Forms.{Row, Forms, cell, node, leaf, inner, form_of, head_of, links_in, is_node}
+use Rattle.node_heap.specs.Forms.{Row, Forms, cell, node, leaf, inner, form_of, head_of, links_in, is_node, links_of}
 use Rattle.node_heap.specs.Heap.{Heap, row_at, form_at, links_at, owners_at, live_count}
 use Rattle.node_heap.specs.declared.row.Head.TheVariants.{Inner}
 use Rattle.node_heap.specs.InPlace.{other_at, child_at, path_start, Writes, Changes}
 use Rattle.node_heap.specs.Calls.{Makes}
-use Rattle.node_heap.proofs.Reach.{Reaches-then}
-use Rattle.node_heap.proofs.Edited.{count-at, Changes-path, Changes-beside, Changes-more}
+use Rattle.node_heap.proofs.Edited.{Changes-path, Changes-beside, Changes-more}
 use Rattle.node_heap.proofs.EditLaws.{Gains-trans, Gains-Changes}
 use Rattle.rrb_core.specs.Seq.{seq_at, IsThick, IsWell}
 use Rattle.rrb_core.specs.Vector.{AreSums, KeepsSums, HasSums, sums_at}
 use Rattle.rrb_core.specs.Build.{IsRowOf, AreRows}
 use Rattle.rrb_core.proofs.EditLemmas.{pushed-last}
 use Rattle.rrb_core.proofs.RowLists.{IsOver, over, child-at, keeps-some}
-use Rattle.rrb_core.proofs.Lists.{empty-list, last-sum}
-use Rattle.rrb_core.proofs.Stays.{links-form, forms-stay, seq-stays}
-use Rattle.rrb_core.specs.Push.{last_in, IsPacked}
+use Rattle.rrb_core.proofs.Lists.{empty-list, last-sum, set-parts}
+use Rattle.rrb_core.proofs.Stays.{links-form, forms-stay}
+use Rattle.rrb_core.specs.Push.{last_in, IsPacked, AddsLink, IsPushed, into_leaf, into_last, into_new}
 use Rattle.rrb_core.proofs.ClosedRows.{Stays}
-use Rattle.edit_vec.specs.Walk.{CanWrite, HasRoomAt, PushesIn, grown}
-use Rattle.edit_vec.proofs.OwnLemmas.{OwnsChild, linked-now, stays-below, child-below, down, soles-above, holder, gains-child, alone-own}
+use Rattle.edit_vec.specs.Steps.{CanWrite, HasRoomAt, PushesIn, grown}
+use Rattle.edit_vec.proofs.OwnLemmas.{OwnsChild, stays-below, child-below, down, soles-above, holder, gains-child, OwnsHeaded}
 use Rattle.edit_vec.specs.Path.{spine_at}
 use Rattle.node_heap.specs.Owner.{alone, written, KeepsAlone}
 use Rattle.edit_vec.proofs.PathLemmas.{spine_below, spine-below, spine-same, spine-stays, spine-linked}
-use Rattle.node_heap.proofs.AloneLemmas.{alone-yes, KeepsAlone-none, KeepsAlone-cons, KeepsAlone-own, written-cons, written-own}
-use Rattle.edit_vec.proofs.StepLemmas.{row-is, row-moved}
+use Rattle.node_heap.proofs.AloneLemmas.{alone-yes, KeepsAlone-none, KeepsAlone-cons, KeepsAlone-own, written-cons, written-own, alone-own}
+use Rattle.edit_vec.proofs.StepLemmas.{row-is, row-moved, well-node}
 use Rattle.edit_vec.proofs.RowLemmas.{form-rewritten, sums-rewritten}
 use Rattle.edit_vec.proofs.StepRows.{links-new, head-new, whole, items-new, sizes-beside}
-use Rattle.edit_vec.proofs.GrowLemmas.{keeps-grown, row-headed, IsUnder, stays-under, all-under}
+use Rattle.edit_vec.proofs.GrowLemmas.{keeps-grown, row-headed}
 
 -- the row behind the first on a part of a right spine
 pub spine-linked-take : {T : Type 0} (h : Heap T) (n l k : ℕ) → IsWell (form_at h) n l → 1 ≤ length (take k (spine_below (form_at h) n l)) → HasLink (links_at h) l (get_or (take k (spine_below (form_at h) n l)) 0 0)
@@ -61,7 +61,91 @@ last-short {F = F} {n = n} {ks = ks} {ss = ss} some s short = elim (sums-or s) a
   | inr sums ↦ omega (arith, (last-sum ss ks (seq_at F n) sums some).1, short)
 ]
 
-module _ {T : Type 0} {old mid new : Heap T} {n row place c e lowest : ℕ} (o : OwnsChild old mid row place c) (can : CanWrite old (suc n) row e) (is : place ≡ length (links_at old row) - 1) (sub : PushesIn mid new n lowest c e) where
+-- a packed row, read back
+packed-back : {T : Type 0} {P : ℕ → Type 0} {old new : Heap T} → Stays P old new → (n l : ℕ) → P l → IsWell (form_at old) n l → IsPacked (form_at new) n l → IsPacked (form_at old) n l
+unfolding IsPacked IsWell
+packed-back s zero l p w f = rw (forms-stay s l p) at f
+packed-back {P = P} {old = old} {new = new} s (suc n) l p w f =
+    let ks : List ℕ = links_in (form_at old) l in
+    let same : links_in (form_at new) l ≡ ks = forms-stay s l p in
+    let named : All P ks = rw (links-form old l) (s.closed l p) in
+    let inside : length ks - 1 < length ks = omega (arith, w.some) in
+    let last : last_in (form_at new) l ≡ get_or ks (length ks - 1) 0 = ap (λ (xs : List ℕ). get_or xs (length xs - 1) 0) same in
+    let below : IsPacked (form_at new) n (get_or ks (length ks - 1) 0) = subst (IsPacked (form_at new) n) last f.1 in
+    (sym (ap length same) ∙ f.0, packed-back s n (get_or ks (length ks - 1) 0) (named (length ks - 1) 0 inside) (w.children (length ks - 1) 0 inside) below)
+
+-- what a push makes of a leaf, and of an inner row
+pushed-leaf : {K : Type 0} {F G : Forms K} {e l m : ℕ} → IsPushed F G e zero l m → AddsLink F G l m e
+pushed-leaf (into_leaf l m a) = a
+
+pushed-inner : {K : Type 0} {F G : Forms K} {e n l m : ℕ} → IsPushed F G e (suc n) l m
+    → ((k : ℕ) × IsPushed F G e n (last_in F l) k × (links_in G m ≡ take (length (links_in F l) - 1) (links_in F l) ++ k ∷ [])) ⊎ ((k : ℕ) × IsPacked F n (last_in F l) × (seq_at G n k ≡ e ∷ []) × AddsLink F G l m k)
+pushed-inner (into_last n l m k p links) = inl (k, p, links)
+pushed-inner (into_new n l m k f one a) = inr (k, f, one, a)
+
+-- where a push puts its element, by the rows before that stay
+pub pushed-back : {T : Type 0} {P : ℕ → Type 0} {old mid : Heap T} {G : Forms T} {e : ℕ} → Stays P old mid → (n l m : ℕ) → P l → IsWell (form_at old) n l → IsPushed (form_at mid) G e n l m → IsPushed (form_at old) G e n l m
+unfolding IsWell
+pushed-back s zero l m p w r = let a = pushed-leaf r in into_leaf l m (record { room = rw (forms-stay s l p) at a.room; links = rw (forms-stay s l p) at a.links })
+pushed-back {P = P} {old = old} {mid = mid} {G = G} {e = e} s (suc n) l m p w r =
+    let ks : List ℕ = links_in (form_at old) l in
+    let same : links_in (form_at mid) l ≡ ks = forms-stay s l p in
+    let named : All P ks = rw (links-form old l) (s.closed l p) in
+    let inside : length ks - 1 < length ks = omega (arith, w.some) in
+    let d : ℕ = get_or ks (length ks - 1) 0 in
+    let last : last_in (form_at mid) l ≡ d = ap (λ (xs : List ℕ). get_or xs (length xs - 1) 0) same in
+    elim (pushed-inner r) as (λ _. IsPushed (form_at old) G e (suc n) l m) [
+      | inl q ↦
+          let below : IsPushed (form_at mid) G e n d q.0 = subst (λ j. IsPushed (form_at mid) G e n j q.0) last q.1 in
+          into_last n l m q.0 (pushed-back s n d q.0 (named (length ks - 1) 0 inside) (w.children (length ks - 1) 0 inside) below) (q.2 ∙ ap (λ (xs : List ℕ). take (length xs - 1) xs ++ q.0 ∷ []) same)
+      | inr q ↦
+          let below : IsPacked (form_at mid) n d = subst (IsPacked (form_at mid) n) last q.1 in
+          into_new n l m q.0 (packed-back s n d (named (length ks - 1) 0 inside) (w.children (length ks - 1) 0 inside) below) q.2 (record { room = rw same at q.3.room; links = q.3.links ∙ ap (λ (xs : List ℕ). xs ++ q.0 ∷ []) same })
+    ]
+
+-- and by another link of the same row
+pub pushed-from : {K : Type 0} {F G : Forms K} {e n c m : ℕ} (d : ℕ) → F c ≡ F d → IsPushed F G e n c m → IsPushed F G e n d m
+pushed-from {F = F} {e = x} d e (into_leaf l m a) = into_leaf d m (record { room = subst (λ r. length (links_of r) < 32) e a.room; links = a.links ∙ ap (λ r. links_of r ++ x ∷ []) e })
+pushed-from {F = F} {G = G} {e = x} d e (into_last n l m k sub links) =
+    into_last n d m k (subst (λ r. IsPushed F G x n (get_or (links_of r) (length (links_of r) - 1) 0) k) e sub) (links ∙ ap (λ r. take (length (links_of r) - 1) (links_of r) ++ k ∷ []) e)
+pushed-from {F = F} d e (into_new n l m k f one a) =
+    into_new n d m k (subst (λ r. IsPacked F n (get_or (links_of r) (length (links_of r) - 1) 0)) e f) one (record { room = subst (λ r. length (links_of r) < 32) e a.room; links = a.links ∙ ap (λ r. links_of r ++ k ∷ []) e })
+
+-- a row above the height where the element goes, and its last child
+pub can-down : {T : Type 0} {h : Heap T} {n row e : ℕ} → CanWrite h n row e → 1 ≤ n → CanWrite h (suc (n - 1)) row e
+can-down {n = n} can some = let down : suc (n - 1) ≡ n = omega (arith, some) in rw down can
+
+pub last-inside : {T : Type 0} {h : Heap T} {n row e : ℕ} {ls : List ℕ} → CanWrite h (suc n) row e → ls ≡ links_at h row → length ls - 1 < length (links_at h row)
+last-inside {h = h} {n = n} {row = row} can same = omega (arith, (over h n row can.well can.sums).some, ap length same)
+
+pub last-node : {T : Type 0} {h : Heap T} {n row e : ℕ} {ls : List ℕ} → CanWrite h (suc n) row e → ls ≡ links_at h row → is_node (row_at h (child_at h row (length ls - 1))) ≡ 1
+last-node {h = h} {n = n} {row = row} {ls = ls} can same =
+    let at = child_at h row (length ls - 1) in
+    well-node h n at (child-at h n row (length ls - 1) at (over h n row can.well can.sums) (last-inside can same) refl).well
+
+-- a row of which the last child was made its own: its sums may grow
+module _ {T : Type 0} {old mid : Heap T} {n row place c e : ℕ} (o : OwnsChild old mid row place c) (can : CanWrite old (suc n) row e) where
+  sums-mid : sums_at mid row ≡ sums_at old row
+  sums-mid = sums-rewritten (row_at old row) (row_at mid row) o.parent_head
+
+  pub grown-mid : grown (sums_at mid row) ≡ grown (sums_at old row)
+  grown-mid = ap grown sums-mid
+
+  pub inner-mid : form_at mid row ≡ Some (node (inner (suc n)) (links_at mid row))
+  unfolding IsWell
+  inner-mid = form-rewritten (row_at old row) (row_at mid row) (inner (suc n)) (links_in (form_at old) row) o.parent_head can.well.kind
+
+  pub sole-mid : owners_at mid row ≡ 1
+  sole-mid = soles-above o row (here-link row) can.sole
+
+  pub few-mid : length (sums_at mid row) ≤ 32
+  few-mid = let under = over old n row can.well can.sums in rw sums-mid (few-sums under.most under.sums)
+
+  pub short-mid : length (seq_at (form_at old) (suc n) row) + 1 < 2 ^ 32 → get_or (sums_at mid row) (length (sums_at mid row) - 1) 0 + 1 < 2 ^ 32
+  short-mid short = let under = over old n row can.well can.sums in rw sums-mid (last-short under.some under.sums (omega (arith, ap length under.items, short)))
+
+-- they have grown, and then the child was pushed to
+module _ {T : Type 0} {old mid new : Heap T} {n row place c e lowest height : ℕ} {ss : List ℕ} (o : OwnsHeaded (Some (Inner height ss)) old mid row place c) (tall : height ≡ suc n) (counts : ss ≡ grown (sums_at old row)) (can : CanWrite old (suc n) row e) (is : place ≡ length (links_at old row) - 1) (sub : PushesIn mid new n lowest c e) where
   abbrev ks : List ℕ
   ks = links_at old row
 
@@ -94,128 +178,120 @@ module _ {T : Type 0} {old mid new : Heap T} {n row place c e lowest : ℕ} (o :
       rw (none, append-nil, is, under.items) (pushed-last f ks (e ∷ []) under.some) in
       rw links (items-new o can.well can.sums (holder o can.held can.apart) sub.changes.apart made some close ∙ all)
 
-  -- its head as it was before, and what that tells
-  heads : head_of (row_at new row) ≡ head_of (row_at old row)
-  heads = head-new o can.well can.sums (holder o can.held can.apart) sub.changes.apart made some close
+  sums : KeepsSums (form_at new) n (links_at new row) ss
+  sums =
+      let own : get_or (set ks place c) place 0 ≡ c = get_or-set_same ks place c 0 o.inside in
+      let last-size : length (seq_at (form_at new) n (get_or (set ks place c) (length ks - 1) 0)) ≡ length (seq_at (form_at old) n (get_or ks (length ks - 1) 0)) + 1 =
+      rw (← is, own, made.items) (omega (arith, length-append (seq_at (form_at old) n (get_or ks place 0)) (e ∷ []))) in
+      rw (links, counts) (keeps-grown {F = form_at old} {G = form_at new} n ks (set ks place c) (sums_at old row) under.some wide
+      (λ j low lt. sizes-beside o can.well can.sums (holder o can.held can.apart) sub.changes.apart made some close j lt (λ e. absurd (omega (arith, low, is, e)))) last-size under.sums)
 
-  sums-new : sums_at new row ≡ sums_at old row
-  sums-new = sums-rewritten (row_at old row) (row_at new row) heads
+  itself : Writes new new row (Some (Inner height ss)) (links_at new row)
+  itself = record {
+    new_head = head-new o can.well can.sums (holder o can.held can.apart) sub.changes.apart made some close;
+    new_links = refl;
+    others = λ k other. refl;
+  }
 
-  pub still-inner : form_at new row ≡ Some (node (inner (suc n)) (links_at new row))
-  unfolding IsWell
-  still-inner = form-rewritten (row_at old row) (row_at new row) (inner (suc n)) (links_in (form_at old) row) heads can.well.kind
+  push-row : IsRowOf new (suc n) row (seq_at (form_at old) (suc n) row ++ e ∷ [])
+  push-row = row-headed sub.changes.trades.graph itself tall rows (omega (arith, ap length links, wide, under.some)) (omega (arith, ap length links, wide, under.most)) sums items
 
-  pub still-sole : owners_at new row ≡ 1
-  still-sole = sub.changes.paths.soles row (Reaches-then (links_at mid) row row c (here-link row) (linked-now o)) (soles-above o row (here-link row) can.sole)
+  push-changes : Changes row old new (e ∷ []) [] 0 (suc n)
+  push-changes = Changes-more 0 (suc n) (Changes-beside o.changes (Changes-path (down o row path_start) sub.changes)) (omega arith) (omega arith)
 
-  pub sums-few : length (sums_at new row) ≤ 32
-  sums-few = rw sums-new (few-sums under.most under.sums)
+  well-child : IsWell (form_at old) n (get_or ks place 0)
+  well-child = under.rows.well place 0 o.inside
 
-  pub sums-short : length (seq_at (form_at old) (suc n) row) + 1 < 2 ^ 32 → get_or (sums_at new row) (length (sums_at new row) - 1) 0 + 1 < 2 ^ 32
-  sums-short short = rw sums-new (last-short under.some under.sums (omega (arith, ap length under.items, short)))
+  push-rule : IsPushed (form_at old) (form_at new) e (suc n) row row
+  push-rule =
+      let d : ℕ = get_or ks place 0 in
+      let last : last_in (form_at old) row ≡ d = rw (links-form old row, is) refl in
+      let moved : IsPushed (form_at old) (form_at new) e n d c = pushed-back (stays-below o) n d c (child-below o) well-child (pushed-from d (ap (option_map form_of) (row-is o)) sub.rule) in
+      let none : drop (place + 1) ks ≡ [] = drop_all (place + 1) ks (omega (arith, is, o.inside)) in
+      let cut : set ks place c ≡ take place ks ++ c ∷ [] = set-parts ks place c o.inside ∙ rw (none, append-nil) refl in
+      let ends : take place ks ++ c ∷ [] ≡ take (length (links_in (form_at old) row) - 1) (links_in (form_at old) row) ++ c ∷ [] = rw (links-form old row, is) refl in
+      into_last n row row c (subst (λ j. IsPushed (form_at old) (form_at new) e n j c) (sym last) moved) (links-form new row ∙ links ∙ cut ∙ ends)
 
-  -- the head is written
-  module _ {last : Heap T} {height : ℕ} (tall : height ≡ suc n) (writes : Writes new last row (Some (Inner height (grown (sums_at new row)))) (links_at new row)) (edit : Changes row new last [] [] 0 0) (makes : Makes new last 0 0) where
-    kept : (j : ℕ) → j < length ks → seq_at (form_at last) n (get_or (set ks place c) j 0) ≡ seq_at (form_at new) n (get_or (set ks place c) j 0)
-    kept j lt = seq-stays (stays-under sub.changes.trades.graph writes) n (get_or (set ks place c) j 0) (subst (λ xs. All (IsUnder sub.changes.trades.graph writes) xs) links (all-under sub.changes.trades.graph writes) j 0 (omega (arith, lt, wide)))
+  -- the path
 
-    sums : KeepsSums (form_at last) n (links_at new row) (grown (sums_at new row))
-    sums =
-        let own : get_or (set ks place c) place 0 ≡ c = get_or-set_same ks place c 0 o.inside in
-        let last-size : length (seq_at (form_at last) n (get_or (set ks place c) (length ks - 1) 0)) ≡ length (seq_at (form_at old) n (get_or ks (length ks - 1) 0)) + 1 =
-        rw (← is, kept place o.inside, own, made.items) (omega (arith, length-append (seq_at (form_at old) n (get_or ks place 0)) (e ∷ []))) in
-        rw (links, sums-new) (keeps-grown {F = form_at old} {G = form_at last} n ks (set ks place c) (sums_at old row) under.some wide
-        (λ j low lt. ap length (kept j lt) ∙ sizes-beside o can.well can.sums (holder o can.held can.apart) sub.changes.apart made some close j lt (λ e. absurd (omega (arith, low, is, e)))) last-size under.sums)
+  tail-moved : spine_below (form_at mid) n c ≡ spine_below (form_at old) n (get_or ks place 0)
+  tail-moved =
+      let d : ℕ = get_or ks place 0 in
+      spine-same (form_at mid) n c d (ap (option_map form_of) (row-is o))
+      ∙ ap (drop 1) (sym (spine-below (form_at mid) n d) ∙ spine-stays (stays-below o) n d (child-below o) well-child ∙ spine-below (form_at old) n d)
 
-    pub push-row : IsRowOf last (suc n) row (seq_at (form_at old) (suc n) row ++ e ∷ [])
-    push-row = row-headed sub.changes.trades.graph writes tall rows (omega (arith, ap length links, wide, under.some)) (omega (arith, ap length links, wide, under.most)) sums items
+  path-old : spine_at (form_at old) (suc n) row ≡ row ∷ get_or ks place 0 ∷ spine_below (form_at old) n (get_or ks place 0)
+  path-old =
+      spine-below (form_at old) (suc n) row
+      ∙ ap (λ (xs : List ℕ). row ∷ spine_at (form_at old) n (get_or xs (length xs - 1) 0)) (links-form old row)
+      ∙ ap (λ (j : ℕ). row ∷ spine_at (form_at old) n (get_or ks j 0)) (sym is)
+      ∙ ap (λ (xs : List ℕ). row ∷ xs) (spine-below (form_at old) n (get_or ks place 0))
 
-    pub push-changes : Changes row old last (e ∷ []) [] 0 (suc n)
-    push-changes = Changes-more 0 (suc n) (Changes-beside (Changes-beside o.changes (Changes-path (down o row path_start) sub.changes)) edit) (omega arith) (omega arith)
+  path-new : spine_at (form_at new) (suc n) row ≡ row ∷ spine_at (form_at new) n c
+  path-new =
+      let own : get_or (set ks place c) place 0 ≡ c = get_or-set_same ks place c 0 o.inside in
+      let at : length (set ks place c) - 1 ≡ place = omega (arith, wide, is) in
+      spine-below (form_at new) (suc n) row
+      ∙ ap (λ (xs : List ℕ). row ∷ spine_at (form_at new) n (get_or xs (length xs - 1) 0)) (links-form new row ∙ links)
+      ∙ ap (λ (j : ℕ). row ∷ spine_at (form_at new) n (get_or (set ks place c) j 0)) at
+      ∙ ap (λ (j : ℕ). row ∷ spine_at (form_at new) n j) own
 
-    -- the path
-    well-child : IsWell (form_at old) n (get_or ks place 0)
-    well-child = under.rows.well place 0 o.inside
+  next : (k : ℕ) → 1 ≤ length (take k (spine_below (form_at old) n (get_or ks place 0))) → HasLink (links_at old) (get_or ks place 0) (get_or (take k (spine_below (form_at old) n (get_or ks place 0))) 0 0)
+  next k more = spine-linked-take old n (get_or ks place 0) k well-child more
 
-    tail-moved : spine_below (form_at mid) n c ≡ spine_below (form_at old) n (get_or ks place 0)
-    tail-moved =
-        let d : ℕ = get_or ks place 0 in
-        spine-same (form_at mid) n c d (ap (option_map form_of) (row-is o))
-        ∙ ap (drop 1) (sym (spine-below (form_at mid) n d) ∙ spine-stays (stays-below o) n d (child-below o) well-child ∙ spine-below (form_at old) n d)
+  push-path : lowest ≤ n → KeepsAlone old (take (suc n - lowest + 1) (spine_at (form_at old) (suc n) row)) (take (suc n - lowest + 1) (spine_at (form_at new) (suc n) row))
+  push-path low =
+      let k : ℕ = n - lowest in
+      let d : ℕ = get_or ks place 0 in
+      let deep : suc n - lowest + 1 ≡ suc (suc k) = omega (arith, low) in
+      let deep' : n - lowest + 1 ≡ suc k = omega (arith, low) in
+      let was : KeepsAlone mid (c ∷ take k (spine_below (form_at old) n d)) (take (suc k) (spine_at (form_at new) n c)) = rw (deep', spine-below (form_at mid) n c, tail-moved) at sub.path in
+      rw (path-old, path-new, deep) (KeepsAlone-cons old row (d ∷ take k (spine_below (form_at old) n d)) (take (suc k) (spine_at (form_at new) n c)) can.sole (KeepsAlone-own old mid d c (take k (spine_below (form_at old) n d)) o.same o.sole o.owners can.graph (next k) (take (suc k) (spine_at (form_at new) n c)) was))
 
-    path-old : spine_at (form_at old) (suc n) row ≡ row ∷ get_or ks place 0 ∷ spine_below (form_at old) n (get_or ks place 0)
-    path-old =
-        spine-below (form_at old) (suc n) row
-        ∙ ap (λ (xs : List ℕ). row ∷ spine_at (form_at old) n (get_or xs (length xs - 1) 0)) (links-form old row)
-        ∙ ap (λ (j : ℕ). row ∷ spine_at (form_at old) n (get_or ks j 0)) (sym is)
-        ∙ ap (λ (xs : List ℕ). row ∷ xs) (spine-below (form_at old) n (get_or ks place 0))
+  push-others : lowest ≤ n → (m : ℕ) → IsSome (row_at old m) → count m (written old (take (suc n - lowest + 1) (spine_at (form_at old) (suc n) row))) ≡ 0 → row_at new m ≡ row_at old m
+  push-others low m live off =
+      let k : ℕ = n - lowest in
+      let d : ℕ = get_or ks place 0 in
+      let tail : List ℕ = take k (spine_below (form_at old) n d) in
+      let deep : suc n - lowest + 1 ≡ suc (suc k) = omega (arith, low) in
+      let deep' : n - lowest + 1 ≡ suc k = omega (arith, low) in
+      let rows : count m (row ∷ written old (d ∷ tail)) ≡ 0 = rw (path-old, deep, written-cons old row (d ∷ tail) can.sole) at off in
+      let parts = count-cons m row (written old (d ∷ tail)) in
+      let not_row : m ≢ row = λ e. absurd (omega (arith, rows, parts, test_same m row e)) in
+      let fresh : c ≢ d → m ≢ c = λ copy e. let gone : row_at old m ≡ None = ap (row_at old) e ∙ o.fresh copy in absurd cc in
+      let before : row_at mid m ≡ row_at old m = elim (cases_eq m c) as (λ _. row_at mid m ≡ row_at old m) [
+        | inl e ↦ elim (cases_eq c d) as (λ _. row_at mid m ≡ row_at old m) [
+          | inl itself ↦ ap (row_at mid) e ∙ o.row_same ∙ ap (row_at old) (sym (e ∙ itself))
+          | inr copy ↦ absurd (fresh copy e)
+        ]
+        | inr other ↦ o.others m not_row other
+      ] in
+      let left : count m (written mid (c ∷ tail)) ≡ 0 = written-own old mid d c tail o.same o.sole o.owners can.graph (next k) m fresh (omega (arith, rows, parts)) in
+      sub.others m (rw before live) (rw (deep', spine-below (form_at mid) n c, tail-moved) left) ∙ before
 
-    path-last : spine_at (form_at last) (suc n) row ≡ row ∷ spine_at (form_at new) n c
-    path-last =
-        let own : get_or (set ks place c) place 0 ≡ c = get_or-set_same ks place c 0 o.inside in
-        let at : length (set ks place c) - 1 ≡ place = omega (arith, wide, is) in
-        let here : IsUnder sub.changes.trades.graph writes c = (c, rw links (count-at (set ks place c) place c (omega (arith, wide, o.inside)) own), here-link c) in
-        spine-below (form_at last) (suc n) row
-        ∙ ap (λ (xs : List ℕ). row ∷ spine_at (form_at last) n (get_or xs (length xs - 1) 0)) (links-form last row ∙ writes.new_links ∙ links)
-        ∙ ap (λ (j : ℕ). row ∷ spine_at (form_at last) n (get_or (set ks place c) j 0)) at
-        ∙ ap (λ (j : ℕ). row ∷ spine_at (form_at last) n j) own
-        ∙ ap (λ (xs : List ℕ). row ∷ xs) (spine-stays (stays-under sub.changes.trades.graph writes) n c here sub.row.well)
+  push-came : lowest ≤ n → live_count new + alone old (take (suc n - lowest + 1) (spine_at (form_at old) (suc n) row)) ≤ live_count old + (suc n + 1)
+  push-came low =
+      let k : ℕ = n - lowest in
+      let d : ℕ = get_or ks place 0 in
+      let tail : List ℕ = take k (spine_below (form_at old) n d) in
+      let deep : suc n - lowest + 1 ≡ suc (suc k) = omega (arith, low) in
+      let deep' : n - lowest + 1 ≡ suc k = omega (arith, low) in
+      let below : live_count new + alone mid (c ∷ tail) ≤ live_count mid + (n + 1) = rw (deep', spine-below (form_at mid) n c, tail-moved) at sub.came in
+      let own : alone mid (c ∷ tail) ≡ alone old (d ∷ tail) + other_at d c = alone-own old mid d c tail o.same o.sole o.owners can.graph (next k) in
+      let all : live_count new + alone old (row ∷ d ∷ tail) ≤ live_count old + (suc n + 1) = omega (arith, below, own, o.makes.live, alone-yes old row (d ∷ tail) can.sole) in
+      rw (path-old, deep) all
 
-    next : (k : ℕ) → 1 ≤ length (take k (spine_below (form_at old) n (get_or ks place 0))) → HasLink (links_at old) (get_or ks place 0) (get_or (take k (spine_below (form_at old) n (get_or ks place 0))) 0 0)
-    next k more = spine-linked-take old n (get_or ks place 0) k well-child more
-
-    pub push-path : lowest ≤ n → KeepsAlone old (take (suc n - lowest + 1) (spine_at (form_at old) (suc n) row)) (take (suc n - lowest + 1) (spine_at (form_at last) (suc n) row))
-    push-path low =
-        let k : ℕ = n - lowest in
-        let d : ℕ = get_or ks place 0 in
-        let deep : suc n - lowest + 1 ≡ suc (suc k) = omega (arith, low) in
-        let deep' : n - lowest + 1 ≡ suc k = omega (arith, low) in
-        let was : KeepsAlone mid (c ∷ take k (spine_below (form_at old) n d)) (take (suc k) (spine_at (form_at new) n c)) = rw (deep', spine-below (form_at mid) n c, tail-moved) at sub.path in
-        rw (path-old, path-last, deep) (KeepsAlone-cons old row (d ∷ take k (spine_below (form_at old) n d)) (take (suc k) (spine_at (form_at new) n c)) can.sole (KeepsAlone-own old mid d c (take k (spine_below (form_at old) n d)) o.same o.sole o.owners can.graph (next k) (take (suc k) (spine_at (form_at new) n c)) was))
-
-    push-others : lowest ≤ n → (m : ℕ) → IsSome (row_at old m) → count m (written old (take (suc n - lowest + 1) (spine_at (form_at old) (suc n) row))) ≡ 0 → row_at last m ≡ row_at old m
-    push-others low m live off =
-        let k : ℕ = n - lowest in
-        let d : ℕ = get_or ks place 0 in
-        let tail : List ℕ = take k (spine_below (form_at old) n d) in
-        let deep : suc n - lowest + 1 ≡ suc (suc k) = omega (arith, low) in
-        let deep' : n - lowest + 1 ≡ suc k = omega (arith, low) in
-        let rows : count m (row ∷ written old (d ∷ tail)) ≡ 0 = rw (path-old, deep, written-cons old row (d ∷ tail) can.sole) at off in
-        let parts = count-cons m row (written old (d ∷ tail)) in
-        let not_row : m ≢ row = λ e. absurd (omega (arith, rows, parts, test_same m row e)) in
-        let fresh : c ≢ d → m ≢ c = λ copy e. let gone : row_at old m ≡ None = ap (row_at old) e ∙ o.fresh copy in absurd cc in
-        let before : row_at mid m ≡ row_at old m = elim (cases_eq m c) as (λ _. row_at mid m ≡ row_at old m) [
-          | inl e ↦ elim (cases_eq c d) as (λ _. row_at mid m ≡ row_at old m) [
-            | inl itself ↦ ap (row_at mid) e ∙ o.row_same ∙ ap (row_at old) (sym (e ∙ itself))
-            | inr copy ↦ absurd (fresh copy e)
-          ]
-          | inr other ↦ o.others m not_row other
-        ] in
-        let left : count m (written mid (c ∷ tail)) ≡ 0 = written-own old mid d c tail o.same o.sole o.owners can.graph (next k) m fresh (omega (arith, rows, parts)) in
-        writes.others m not_row ∙ sub.others m (rw before live) (rw (deep', spine-below (form_at mid) n c, tail-moved) left) ∙ before
-
-    push-came : lowest ≤ n → live_count last + alone old (take (suc n - lowest + 1) (spine_at (form_at old) (suc n) row)) ≤ live_count old + (suc n + 1)
-    push-came low =
-        let k : ℕ = n - lowest in
-        let d : ℕ = get_or ks place 0 in
-        let tail : List ℕ = take k (spine_below (form_at old) n d) in
-        let deep : suc n - lowest + 1 ≡ suc (suc k) = omega (arith, low) in
-        let deep' : n - lowest + 1 ≡ suc k = omega (arith, low) in
-        let below : live_count new + alone mid (c ∷ tail) ≤ live_count mid + (n + 1) = rw (deep', spine-below (form_at mid) n c, tail-moved) at sub.came in
-        let own : alone mid (c ∷ tail) ≡ alone old (d ∷ tail) + other_at d c = alone-own old mid d c tail o.same o.sole o.owners can.graph (next k) in
-        let all : live_count last + alone old (row ∷ d ∷ tail) ≤ live_count old + (suc n + 1) = omega (arith, makes.live, below, own, o.makes.live, alone-yes old row (d ∷ tail) can.sole) in
-        rw (path-old, deep) all
-
-    pub push-step : lowest ≤ n → PushesIn old last (suc n) lowest row e
-    push-step low = record {
-      row = push-row;
-      links = omega (arith, ap length writes.new_links, ap length links, wide);
-      changes = push-changes;
-      gains = Gains-trans (Gains-trans (gains-child o) sub.gains) (Gains-Changes edit (λ k other live. writes.others k other) makes);
-      path = push-path low;
-      came = push-came low;
-      others = push-others low;
-    }
+  pub push-step : lowest ≤ n → PushesIn old new (suc n) lowest row e
+  push-step low = record {
+    row = push-row;
+    rule = push-rule;
+    links = omega (arith, ap length links, wide);
+    changes = push-changes;
+    gains = Gains-trans (gains-child o) sub.gains;
+    path = push-path low;
+    came = push-came low;
+    others = push-others low;
+  }
 
 -- a leaf that was pushed to
 pub pushes-leaf : {T : Type 0} {old new : Heap T} {row e place lowest : ℕ} → CanWrite old 0 row e → length (links_at old row) < 32 → place ≡ length (links_at old row)
@@ -236,6 +312,7 @@ pushes-leaf {T} {old} {new} {row} {e} {place} {lowest} can room is writes change
         sums = tt;
         items = now ∙ ap (λ (ls : List ℕ). ls ++ e ∷ []) (sym was);
       };
+      rule = into_leaf row row (record { room = rw was room; links = now ∙ ap (λ (ls : List ℕ). ls ++ e ∷ []) (sym was) });
       links = omega (arith, ap length (writes.new_links ∙ all), length-append ks (e ∷ []));
       changes = changes;
       gains = Gains-Changes changes (λ k other live. writes.others k other) makes;
@@ -277,6 +354,10 @@ room-stays {P = P} {old = old} {new = new} s (suc n) lowest l p w r =
       | inr lower ↦ let there = room-stays s n lowest d (named (length ks - 1) 0 inside) (w.children (length ks - 1) 0 inside) lower.1 in inr (lower.0, rw (forms-stay s l p) there)
     ]
 
+-- what a search for room has found: the height of the lowest row with room, or that there is none
+abbrev pub IsFound : {K : Type 0} → Forms K → ℕ → ℕ → Option ℕ → Type 0
+IsFound F n l found = IfSome found (λ lowest. HasRoomAt F n lowest l) × IfNone found (IsPacked F n l)
+
 -- room in the row itself, and below it
 pub room-leaf : {K : Type 0} (F : Forms K) (lowest l : ℕ) → HasRoomAt F 0 lowest l → (lowest ≡ 0) × (length (links_in F l) < 32)
 unfolding HasRoomAt
@@ -305,7 +386,7 @@ node-headed (Some (cell x)) (Some (node h l)) e n = absurd cc
 node-headed (Some (node h' l')) (Some (node h l)) e n = refl
 
 -- the child of a row that is to be pushed to
-module _ {T : Type 0} {old mid : Heap T} {n row place c e : ℕ} (lowest : ℕ) (o : OwnsChild old mid row place c) (can : CanWrite old (suc n) row e) (is : place ≡ length (links_at old row) - 1) where
+module _ {T : Type 0} {head : Option Head} {old mid : Heap T} {n row place c e : ℕ} (lowest : ℕ) (o : OwnsHeaded head old mid row place c) (can : CanWrite old (suc n) row e) (is : place ≡ length (links_at old row) - 1) where
   pub room-child : lowest ≤ n → HasRoomAt (form_at old) (suc n) lowest row → HasRoomAt (form_at mid) n lowest c
   unfolding HasRoomAt
   room-child low r = elim r as (λ _. HasRoomAt (form_at mid) n lowest c) [

@@ -1,34 +1,30 @@
 -- A push to a whole vector by its owner.
-use Rattle.std.proofs.Common.{◌≡◌, ◌≢◌, ℕ, zero, suc, ◌-◌, ◌+◌, ◌<◌, ◌≤◌, ◌^◌, List, [], ◌∷◌, ◌++◌, length, take, drop, get_or, refl, ap, sym, ◌∙◌, arith, Bool, true, false, IsSome, inl, inr}
+use Rattle.node_heap.proofs.AloneLemmas.{alone-own}
+use Rattle.std.proofs.Common.{◌≡◌, ◌≢◌, ℕ, zero, suc, ◌-◌, ◌+◌, ◌<◌, ◌≤◌, ◌^◌, List, [], ◌∷◌, ◌++◌, length, take, drop, get_or, refl, ap, sym, ◌∙◌, arith, Bool, true, false, inl, inr, subst}
 use Rattle.std.specs.Prelude.{option_map, nat_lt}
 use Rattle.std.proofs.lemmas.Bool.Decides.{nat_tests}
 use Rattle.std.proofs.lemmas.List.{length-take, length_push}
-use Rattle.node_heap.specs.Links.{count, HasLink, here}
-use Rattle.node_heap.specs.Forms.{Forms, form_of, links_of, links_in}
-use Rattle.node_heap.specs.Heap.{Heap, row_at, form_at, links_at, holds_at, hold_count, live_count, half_holds}
-use Rattle.node_heap.specs.Calls.{Unchanged, MakesWhatCame}
-use Rattle.node_heap.specs.InPlace.{other_at, child_at, path_start, Changes}
-use Rattle.node_heap.specs.Owner.{Owner, by_place, owned, with_root, alone, written, KeepsAlone, WritesOnly}
-use Rattle.node_heap.proofs.Owners.{KeepsOwners-Unchanged}
-use Rattle.node_heap.proofs.AloneLemmas.{alone-same, KeepsAlone-owners}
-use Rattle.node_heap.proofs.Edited.{Changes-path, Changes-beside, Changes-more}
-use Rattle.node_heap.proofs.EditLaws.{Changes-Unchanged}
-use Rattle.node_heap.proofs.OwnerLemmas.{EditsBy-more, EditsBy-Unchanged}
+use Rattle.node_heap.specs.Links.{HasLink, here}
+use Rattle.node_heap.specs.Forms.{Forms, form_of, links_in}
+use Rattle.node_heap.specs.Heap.{Heap, form_at, links_at, live_count}
+use Rattle.node_heap.specs.Calls.{MakesWhatCame}
+use Rattle.node_heap.specs.InPlace.{other_at}
+use Rattle.node_heap.specs.Owner.{Owner, owned, alone, KeepsAlone, WritesOnly}
+use Rattle.node_heap.proofs.OwnerLemmas.{EditsBy-more}
 use Rattle.rrb_core.specs.Seq.{seq_at, IsWell}
-use Rattle.rrb_core.specs.Push.{last_in, IsPacked}
+use Rattle.rrb_core.specs.Push.{last_in, IsPacked, IsPushedRoot, IsPushed, into_root}
 use Rattle.rrb_core.specs.Vector.{elements, height_at, IsGoodVector}
 use Rattle.rrb_core.specs.Build.{IsRowOf}
 use Rattle.rrb_core.proofs.FillRule.{height-is}
-use Rattle.rrb_core.proofs.Stays.{links-form, live-stays-by, well-live}
-use Rattle.rrb_core.proofs.BuildLemmas.{unchanged-good, same-height}
+use Rattle.rrb_core.proofs.Stays.{links-form}
 use Rattle.rrb_core.proofs.RowLists.{at-place, good-row}
 use Rattle.edit_vec.specs.Path.{keep_or_stop, up_to_last, spine_at, right_spine, push_path}
 use Rattle.edit_vec.specs.Edit.{PushesElement}
-use Rattle.edit_vec.specs.Walk.{CanPushRoot, HasRoomAt, PushesIn}
+use Rattle.edit_vec.specs.Steps.{HasRoomAt, PushesIn}
 use Rattle.edit_vec.proofs.PathLemmas.{spine_below, spine-below, spine-same, spine-stays}
-use Rattle.edit_vec.proofs.PushLemmas.{spine-linked-take, room-same, room-stays}
-use Rattle.edit_vec.proofs.OwnLemmas.{OwnsChild, down, alone-own}
-use Rattle.node_heap.proofs.OwnedRows.{IsOwned, graph-before, owned-same}
+use Rattle.edit_vec.proofs.PushLemmas.{spine-linked-take, room-same, room-stays, pushed-back, pushed-from}
+use Rattle.edit_vec.proofs.OwnLemmas.{down}
+use Rattle.node_heap.proofs.OwnedRows.{IsOwned}
 use Rattle.edit_vec.proofs.TopLemmas.{stays-owned, row-is, row-owned, wide-owned, path-owned, others-owned}
 
 take-none : (k : ℕ) → take {A = ℕ} k [] ≡ []
@@ -114,6 +110,12 @@ module _ {T : Type 0} {owner : Owner} {old mid : Heap T} {r n : ℕ} (lowest : �
     path-is : push_path (form_at old) root ≡ root ∷ tail
     path-is = rw (← height) (path-room (form_at old) n lowest root room)
 
+    rule-pushed : IsPushedRoot (form_at old) (form_at new) e root r
+    rule-pushed =
+        let made : height_at new r ≡ n = height-is (form_at new) n r sub.row.well in
+        let moved : IsPushed (form_at old) (form_at new) e n root r = pushed-back (stays-owned o good height) n root r (here root) well-root (pushed-from root (ap (option_map form_of) (row-is o good height)) sub.rule) in
+        into_root (made ∙ height) (subst (λ k. IsPushed (form_at old) (form_at new) e k root r) height moved)
+
     path-pushed : KeepsAlone old (push_path (form_at old) root) (take (length (push_path (form_at old) root)) (right_spine (form_at new) r))
     path-pushed =
         let made : height_at new r ≡ n = height-is (form_at new) n r sub.row.well in
@@ -139,70 +141,13 @@ module _ {T : Type 0} {owner : Owner} {old mid : Heap T} {r n : ℕ} (lowest : �
     pub pushes-element : MakesWhatCame old new → PushesElement owner old new r e
     pushes-element makes = record {
       vector = good-row new n r (elements old root ++ e ∷ []) row-pushed (omega (arith, height, good.shape.low)) (λ some. omega (arith, wide-owned o good height, sub.links, good.shape.two (omega (arith, some, height)))) (omega (arith, length_push (elements old root) e, short));
+      rule = rule-pushed;
       edits = EditsBy-more 0 (height_at old root + 2) (o.edits new (e ∷ []) [] 0 n sub.changes) (omega arith) (omega (arith, height));
       path = path-pushed;
       gains = gains-pushed;
       others = others-pushed;
       makes = makes;
     }
-
--- room was made first
-up-same : (fits fits' : ℕ → Bool) → ((k : ℕ) → fits k ≡ fits' k) → (xs : List ℕ) → up_to_last fits xs ≡ up_to_last fits' xs
-up-same fits fits' same [] = refl
-up-same fits fits' same (x ∷ xs) = ap (keep_or_stop x (fits x)) (up-same fits fits' same xs) ∙ ap (λ (b : Bool). keep_or_stop x b (up_to_last fits' xs)) (same x)
-
-module _ {T : Type 0} {first old : Heap T} (u : Unchanged first old) where
-  path-unchanged : (root : ℕ) → IsGoodVector first root → push_path (form_at old) root ≡ push_path (form_at first) root
-  path-unchanged root good =
-      up-same (has-room (form_at old)) (has-room (form_at first)) (λ k. ap (λ r. nat_lt (length (links_of (option_map form_of r))) 32) (u.rows k)) (right_spine (form_at old) root)
-      ∙ ap (up_to_last (has-room (form_at first))) (ap (λ (n : ℕ). spine_at (form_at old) n root) (same-height first old root u.rows)
-      ∙ spine-stays (live-stays-by first old u.rows u.graph) (height_at first root) root (well-live first (height_at first root) root good.shape.well) good.shape.well)
-
-  pub pushes-after : {owner : Owner} {new : Heap T} {r e : ℕ} → IsGoodVector first (owned first owner) → PushesElement owner old new r e → PushesElement owner first new r e
-  pushes-after {owner} {new} {r} {e} good p =
-      let root : ℕ = owned first owner in
-      let same : owned old owner ≡ root = owned-same u owner in
-      let owners = KeepsOwners-Unchanged first old u in
-      let path : push_path (form_at old) (owned old owner) ≡ push_path (form_at first) root = ap (push_path (form_at old)) same ∙ path-unchanged root good in
-      let items : elements old (owned old owner) ≡ elements first root = ap (elements old) same ∙ (unchanged-good root u good).1 in
-      let height : height_at old (owned old owner) ≡ height_at first root = ap (height_at old) same ∙ same-height first old root u.rows in
-      record {
-        vector = (p.vector.0, p.vector.1 ∙ ap (λ (xs : List ℕ). xs ++ e ∷ []) items);
-        edits = EditsBy-more 0 (height_at first root + 2) (EditsBy-Unchanged first old u owner p.edits) (omega arith) (omega (arith, height));
-        path = KeepsAlone-owners owners (rw path at p.path);
-        gains =
-            let later : live_count new + alone old (push_path (form_at first) root) ≤ live_count old + length (right_spine (form_at new) r) = rw path at p.gains in
-            omega (arith, later, u.live, alone-same old first (push_path (form_at first) root) owners);
-        others = λ m live off.
-            let there : IsSome (row_at old m) = rw (u.rows m) live in
-            let off' : count m (written old (push_path (form_at old) (owned old owner))) ≡ 0 = rw path (ap (λ (k : ℕ). count m (take k (push_path (form_at first) root))) (alone-same old first (push_path (form_at first) root) owners) ∙ off) in
-            p.others m there off' ∙ ap (with_root owner r m) (u.rows m);
-        makes = record {
-          stays = λ l some. p.makes.stays l (rw (u.rows l) some);
-          live = omega (arith, p.makes.live, u.live);
-          made = omega (arith, p.makes.made, p.makes.live, u.made, u.live);
-        };
-      }
-
-  -- a change at a parent, counted by the height of a child
-  pub changes-after : {new : Heap T} {spent gained : List ℕ} (parent child : ℕ) → Changes parent old new spent gained 0 (height_at old (child_at old parent child) + 2) → Changes parent first new spent gained 0 (height_at first (child_at first parent child) + 2)
-  changes-after parent child change =
-      let height : height_at old (child_at old parent child) ≡ height_at first (child_at first parent child) = ap (height_at old) (owned-same u (by_place parent child)) ∙ same-height first old (child_at first parent child) u.rows in
-      Changes-more 0 (height_at first (child_at first parent child) + 2) (Changes-beside (Changes-Unchanged parent (graph-before u) u) change) (omega arith) (omega (arith, height))
-
-  -- what is to be pushed to, once there is room
-  pub can-room : (owner : Owner) (e : ℕ) → IsGoodVector first (owned first owner) → length (elements first (owned first owner)) ≢ 2 ^ 32 - 1 → 1 ≤ holds_at first e → hold_count first < half_holds → 9 ≤ old.spare_nodes → CanPushRoot old (owned old owner) e
-  can-room owner e good short held few spare =
-      let root : ℕ = owned first owner in
-      let later = unchanged-good root u good in
-      rw (owned-same u owner) (record {
-        graph = u.graph;
-        good = later.0;
-        short = rw later.1 (omega (arith, good.shape.short, short));
-        held = omega (arith, held, u.holds e);
-        few = omega (arith, few, u.count);
-        spare = spare;
-      })
 
 -- where the lowest row with room is, by the last child
 module _ {K : Type 0} (F : Forms K) where
@@ -247,8 +192,3 @@ module _ {K : Type 0} (F : Forms K) where
 pub last-is : {T : Type 0} (h : Heap T) (row child : ℕ) (ls ms : List ℕ) → child ≡ get_or ms (length ls - 1) child → ls ≡ links_at h row → ms ≡ links_at h row → 1 ≤ length (links_in (form_at h) row) → child ≡ last_in (form_at h) row
 last-is h row child ls ms is a b some =
     at-place ms (links_at h row) (length ls - 1) child is b (omega (arith, ap length a, some, ap length (links-form h row))) ∙ rw (a, links-form h row) refl
-
--- a push below a child that was made its parent's own is a change at the parent
-pub changes-pushed : {T : Type 0} {old mid new : Heap T} {parent child r n : ℕ} {spent gained : List ℕ} (o : OwnsChild old mid parent child r) → n ≡ height_at old (child_at old parent child) → Changes r mid new spent gained 0 n → Changes parent old new spent gained 0 (height_at old (child_at old parent child) + 2)
-changes-pushed {old = old} {parent = parent} {child = child} o height change =
-    Changes-more 0 (height_at old (child_at old parent child) + 2) (Changes-beside o.changes (Changes-path (down o parent path_start) change)) (omega arith) (omega (arith, height))

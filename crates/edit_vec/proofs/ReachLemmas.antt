@@ -1,23 +1,14 @@
 -- What a row of a vector reaches: rows of its height or below, and what its elements reach.
-use Rattle.std.proofs.Common.{◌≡◌, ℕ, zero, suc, ◌<◌, ◌≤◌, List, [], ◌∷◌, length, get_or, ap, sym, subst, arith, inl, inr}
+use Rattle.std.proofs.Common.{ℕ, zero, suc, ◌<◌, ◌≤◌, List, [], ◌∷◌, length, get_or, ap, sym, subst, arith}
 use Rattle.std.specs.List.{flat_map}
-use Rattle.std.proofs.lemmas.Bool.{cases_eq}
 use Rattle.node_heap.specs.Links.{count, Reaches, here, below}
 use Rattle.node_heap.specs.Heap.{Heap, form_at, links_at}
 use Rattle.node_heap.specs.Forms.{links_in}
-use Rattle.node_heap.proofs.Counts.{test_other}
-use Rattle.node_heap.proofs.BuildLemmas.{count-cons, count-append}
+use Rattle.node_heap.proofs.OwnerLemmas.{found-at}
+use Rattle.node_heap.proofs.BuildLemmas.{count-append}
 use Rattle.rrb_core.specs.Seq.{height_in, seq_at, IsWell}
 use Rattle.rrb_core.proofs.FillRule.{height-is}
 use Rattle.rrb_core.proofs.Stays.{links-form}
-
--- what is counted stands at a place
-pub found-at : (xs : List ℕ) (y : ℕ) → 0 < count y xs → (j : ℕ) × (j < length xs) × (get_or xs j 0 ≡ y)
-found-at [] y some = absurd (omega (arith, some))
-found-at (x ∷ xs) y some = elim (cases_eq y x) as (λ _. (j : ℕ) × (j < length (x ∷ xs)) × (get_or (x ∷ xs) j 0 ≡ y)) [
-  | inl same ↦ (0, omega arith, sym same)
-  | inr other ↦ let f = found-at xs y (omega (arith, some, count-cons y x xs, test_other y x other)) in (suc f.0, omega (arith, f.1), f.2)
-]
 
 -- what a member gives is among what all give
 count-some : (f : ℕ → List ℕ) (ks : List ℕ) (j x : ℕ) → j < length ks → 0 < count x (f (get_or ks j 0)) → 0 < count x (flat_map f ks)

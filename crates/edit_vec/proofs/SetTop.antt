@@ -1,4 +1,5 @@
 -- An element of a whole vector was set.
+use Rattle.node_heap.proofs.AloneLemmas.{alone-own}
 use Rattle.std.proofs.Common.{◌≡◌, ℕ, ◌+◌, ◌<◌, ◌≤◌, List, [], ◌∷◌, length, get_or, set, ap, ◌∙◌, arith, length-set}
 use Rattle.std.specs.Prelude.{option_map}
 use Rattle.node_heap.specs.Links.{HasLink, here}
@@ -15,9 +16,8 @@ use Rattle.rrb_core.proofs.RowLists.{good-row}
 use Rattle.edit_vec.specs.Path.{rows_over, set_path}
 use Rattle.node_heap.specs.Calls.{MakesWhatCame}
 use Rattle.edit_vec.specs.Edit.{SetsElement}
-use Rattle.edit_vec.specs.Walk.{SetsIn}
+use Rattle.edit_vec.specs.Steps.{SetsIn}
 use Rattle.edit_vec.proofs.PathLemmas.{rows_below, rows-below, below-linked, below-same, below-stays}
-use Rattle.edit_vec.proofs.OwnLemmas.{alone-own}
 use Rattle.node_heap.proofs.OwnedRows.{IsOwned}
 use Rattle.edit_vec.proofs.TopLemmas.{stays-owned, row-is, row-owned, wide-owned, path-owned, others-owned}
 

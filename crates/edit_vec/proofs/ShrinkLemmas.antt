@@ -10,7 +10,7 @@ use Rattle.rrb_core.specs.Vector.{AreSums, IsRegular, KeepsSums}
 use Rattle.rrb_core.specs.Build.{AreRows}
 use Rattle.rrb_core.proofs.Lists.{last-sum}
 use Rattle.rrb_core.proofs.RowLists.{keeps, keeps-some, rows-take}
-use Rattle.edit_vec.specs.Walk.{shrunk}
+use Rattle.edit_vec.specs.Steps.{shrunk}
 use Rattle.edit_vec.proofs.GrowLemmas.{keeps-last, sizes-last}
 
 -- the first sums are those of the first children

@@ -1,4 +1,5 @@
 -- One step of an edit down its path: a row of which a child was edited in place.
+use Rattle.node_heap.specs.declared.row.Head.{Head}
 use Rattle.std.proofs.Common.{◌≡◌, ◌≢◌, ℕ, suc, zero, ◌+◌, ◌<◌, ◌≤◌, List, [], ◌∷◌, ◌++◌, length, take, drop, get_or, set, refl, ap, sym, ◌∙◌, arith, length-set, Option, Some, None, IsSome, inl, inr}
 use Rattle.std.specs.Prelude.{option_map}
 use Rattle.std.specs.List.{flat_map}
@@ -21,14 +22,14 @@ use Rattle.rrb_core.proofs.EditLemmas.{IsSpot}
 use Rattle.edit_vec.specs.Path.{rows_over}
 use Rattle.node_heap.specs.InPlace.{other_at}
 use Rattle.node_heap.specs.Owner.{alone, written, KeepsAlone}
-use Rattle.edit_vec.specs.Walk.{CanWrite, SetsIn}
+use Rattle.edit_vec.specs.Steps.{CanWrite, SetsIn}
 use Rattle.rrb_core.proofs.SameRows.{row-same, thick-same}
 use Rattle.edit_vec.proofs.RowLemmas.{form-rewritten, sums-rewritten, keeps-same, sizes-take}
 use Rattle.edit_vec.proofs.PathLemmas.{rows-over-at, rows_below, rows-below, below-linked, below-same, below-stays}
-use Rattle.node_heap.proofs.AloneLemmas.{alone-yes, written-cons, written-own, KeepsAlone-none, KeepsAlone-cons, KeepsAlone-own}
+use Rattle.node_heap.proofs.AloneLemmas.{alone-yes, written-cons, written-own, KeepsAlone-none, KeepsAlone-cons, KeepsAlone-own, alone-own}
 use Rattle.node_heap.proofs.EditLaws.{Gains-trans, Gains-Changes}
 use Rattle.edit_vec.proofs.StepRows.{links-new, head-new, whole, all-thick, items-new, sizes-beside}
-use Rattle.edit_vec.proofs.OwnLemmas.{OwnsChild, stays-below, child-below, down, held-now, apart-child, holder, gains-child, alone-own}
+use Rattle.edit_vec.proofs.OwnLemmas.{OwnsChild, stays-below, child-below, down, held-now, apart-child, holder, gains-child, OwnsHeaded}
 
 -- the element at an index of the children of a row
 pub items-get : (f : ℕ → List ℕ) (ks : List ℕ) (i within index : ℕ) → i < length ks → within < length (f (get_or ks i 0)) → length (flat_map f (take i ks)) + within ≡ index → get_or (flat_map f ks) index 0 ≡ get_or (f (get_or ks i 0)) within 0
@@ -78,10 +79,10 @@ sets-leaf {T} {old} {new} {row} {place} {e} {given} can inside back writes chang
     }
 
 -- a row of which a child was made its own
-pub row-is : {T : Type 0} {old mid : Heap T} {row place c : ℕ} → OwnsChild old mid row place c → row_at mid c ≡ row_at mid (child_at old row place)
+pub row-is : {T : Type 0} {head : Option Head} {old mid : Heap T} {row place c : ℕ} → OwnsHeaded head old mid row place c → row_at mid c ≡ row_at mid (child_at old row place)
 row-is {old = old} {row = row} {place = place} o = o.row_same ∙ sym ((stays-below o).kept (child_at old row place) (child-below o))
 
-module _ {T : Type 0} {old mid : Heap T} (n : ℕ) {row place c : ℕ} (o : OwnsChild old mid row place c) (well : IsWell (form_at old) (suc n) row) (sums : HasSums old (suc n) row) where
+module _ {T : Type 0} {head : Option Head} {old mid : Heap T} (n : ℕ) {row place c : ℕ} (o : OwnsHeaded head old mid row place c) (well : IsWell (form_at old) (suc n) row) (sums : HasSums old (suc n) row) where
   the-child : IsChild old n row (child_at old row place)
   the-child = child-at old n row place (child_at old row place) (over old n row well sums) o.inside refl
 
@@ -91,8 +92,8 @@ module _ {T : Type 0} {old mid : Heap T} (n : ℕ) {row place c : ℕ} (o : Owns
   pub thick-moved : IsThick (form_at old) n (child_at old row place) → IsThick (form_at mid) n c
   thick-moved t = thick-same (form_at mid) (child_at old row place) c (ap (option_map form_of) (row-is o)) n (thick-stays (stays-below o) n (child_at old row place) (child-below o) t)
 
-pub can-child : {T : Type 0} {old mid : Heap T} {n row place c e : ℕ} → OwnsChild old mid row place c → CanWrite old (suc n) row e → CanWrite mid n c e
-can-child {T} {old} {mid} {n} {row} {place} {c} {e} o can =
+pub can-child : {T : Type 0} {head : Option Head} {old mid : Heap T} {n row place c e : ℕ} → OwnsHeaded head old mid row place c → CanWrite old (suc n) row e → CanWrite mid n c e
+can-child {T} {head} {old} {mid} {n} {row} {place} {c} {e} o can =
     let moved = row-moved n o can.well can.sums in
     let there = child-at old n row place (child_at old row place) (over old n row can.well can.sums) o.inside refl in
     record {

@@ -1,4 +1,5 @@
 -- A row of which a child was edited in place, but for its sums.
+use Rattle.node_heap.specs.declared.row.Head.{Head}
 use Rattle.std.proofs.Common.{◌≡◌, ◌≢◌, ℕ, suc, ◌+◌, ◌<◌, ◌≤◌, List, [], ◌∷◌, ◌++◌, length, take, drop, get_or, set, refl, ap, sym, subst, ◌∙◌, arith, length-drop, length-set, Option, None}
 use Rattle.std.specs.List.{All, flat_map}
 use Rattle.std.proofs.lemmas.List.{length-take-le, get_or-take, get_or-drop, get_or-set_same, get_or-set_other}
@@ -21,10 +22,10 @@ use Rattle.rrb_core.proofs.Lists.{items-around, set-parts}
 use Rattle.rrb_core.proofs.Stays.{seq-stays, items-stay, all-thick-stay, rows-stay}
 use Rattle.rrb_core.proofs.RowLists.{IsOver, over, rows-take, rows-drop, take-thick, one-row, rows-around}
 use Rattle.node_heap.proofs.OwnerLemmas.{count-two}
-use Rattle.edit_vec.proofs.OwnLemmas.{OwnsChild, linked-now, IsBelow, stays-below}
+use Rattle.edit_vec.proofs.OwnLemmas.{OwnsHeaded, linked-now, IsBelow, stays-below}
 
 -- the child was edited then
-module _ {T : Type 0} {old mid new : Heap T} {n row place c : ℕ} {spent : ℕ → ℕ} {xs : List ℕ} (o : OwnsChild old mid row place c) (well : IsWell (form_at old) (suc n) row) (sums : HasSums old (suc n) row) (up : (u : ℕ) × (spent u < holds_at mid u) × Reaches (links_at mid) u row)
+module _ {T : Type 0} {old mid new : Heap T} {n row place c : ℕ} {spent : ℕ → ℕ} {xs : List ℕ} {head : Option Head} (o : OwnsHeaded head old mid row place c) (well : IsWell (form_at old) (suc n) row) (sums : HasSums old (suc n) row) (up : (u : ℕ) × (spent u < holds_at mid u) × Reaches (links_at mid) u row)
     (edit : KeepsApart c spent mid new) (made : IsRowOf new n c xs) (some : 1 ≤ length xs) (thick-last : place + 1 < length (links_at old row) → IsThick (form_at new) n c) where
   abbrev ks : List ℕ
   ks = links_at old row
@@ -44,7 +45,7 @@ module _ {T : Type 0} {old mid new : Heap T} {n row place c : ℕ} {spent : ℕ 
   pub links-new : links_at new row ≡ set ks place c
   links-new = ap links_of row-stays-new ∙ o.parent_links
 
-  pub head-new : head_of (row_at new row) ≡ head_of (row_at old row)
+  pub head-new : head_of (row_at new row) ≡ head
   head-new = ap head_of row-stays-new ∙ o.parent_head
 
   -- all below the other children

@@ -1,30 +1,28 @@
--- An edit of a whole vector: room is made, what the owner owns is made its own, and the edit goes down from there.
+-- An edit of a whole vector: what the owner owns is made its own, and the edit goes down from there.
 use Rattle.std.proofs.Common.{◌≡◌, ◌≢◌, ℕ, ◌+◌, ◌<◌, ◌≤◌, List, [], ◌∷◌, length, get_or, refl, ap, sym, ◌∙◌, arith, None, IsSome, inl, inr}
 use Rattle.std.proofs.lemmas.Bool.{cases_eq}
 use Rattle.node_heap.specs.Links.{count, HasLink, Reaches, here}
 use Rattle.node_heap.specs.Forms.{links_of, links_in, is_node}
 use Rattle.node_heap.specs.Heap.{Heap, row_at, form_at, links_at, holds_at, IsGraph}
-use Rattle.node_heap.specs.Calls.{Unchanged, HasHolds}
+use Rattle.node_heap.specs.Calls.{Gains, HasHolds, KeepsToNeed, MakesWhatCame}
 use Rattle.node_heap.specs.InPlace.{child_at, path_start, Changes}
 use Rattle.node_heap.specs.Owner.{Owner, by_place, owned, EditsBy, written, KeepsAlone, WritesOnly}
 use Rattle.node_heap.proofs.Counts.{count-cons, test_same}
-use Rattle.node_heap.proofs.Reach.{Reaches-by}
 use Rattle.node_heap.proofs.BuildLemmas.{Builds-refl}
-use Rattle.node_heap.proofs.Edited.{Changes-path, Changes-then, Changes-beside, Changes-more}
-use Rattle.node_heap.proofs.EditLaws.{Changes-Builds, Changes-Unchanged}
+use Rattle.node_heap.proofs.Edited.{Changes-path, Changes-beside, Changes-more}
+use Rattle.node_heap.proofs.EditLaws.{Changes-Builds, MakesJust-Gains}
 use Rattle.node_heap.proofs.AloneLemmas.{written-cons, written-own, KeepsAlone-own}
 use Rattle.node_heap.specs.declared.row.TheConstants.{MOST_HEIGHT}
 use Rattle.rrb_core.specs.Vector.{elements, height_at, IsGoodVector, IsVectorOf}
 use Rattle.rrb_core.specs.Build.{IsRowOf}
 use Rattle.rrb_core.proofs.ClosedRows.{Stays}
 use Rattle.rrb_core.proofs.SameRows.{row-same}
-use Rattle.rrb_core.proofs.BuildLemmas.{unchanged-good, same-height}
 use Rattle.rrb_core.proofs.Stays.{links-form, below-stays, row-stays}
 use Rattle.rrb_core.proofs.RowLists.{good-row, root-row}
-use Rattle.edit_vec.specs.Walk.{CanWrite}
+use Rattle.edit_vec.specs.Steps.{CanWrite}
 use Rattle.edit_vec.proofs.StepLemmas.{well-node}
 use Rattle.edit_vec.proofs.OwnLemmas.{OwnsChild, linked, stays-below, down, held-now, apart-child, gains-child}
-use Rattle.node_heap.proofs.OwnedRows.{Owns, IsOwned, owned-hold, graph-before, owned-same, held-mid, apart-mid}
+use Rattle.node_heap.proofs.OwnedRows.{Owns, IsOwned, owned-hold, held-mid, apart-mid}
 use Rattle.edit_vec.proofs.OwnerLemmas.{placed, edits-place}
 
 -- the root of a vector is a node
@@ -118,20 +116,13 @@ pub write-place : {T : Type 0} {old mid : Heap T} {parent child r n e : ℕ} (o 
 write-place o held apart good height spare =
     can-write (owned-place o) good height o.changes.trades.graph (omega (arith, spare, o.changes.trades.balance.spare_nodes, o.changes.trades.nodes)) (held-now o held apart) (apart-child o held apart)
 
--- where room was made before, the whole is a change at the parent
-pub changes-place : {T : Type 0} {first old mid new : Heap T} {parent child r : ℕ} {spent gained : List ℕ} {n : ℕ} (u : Unchanged first old) (o : OwnsChild old mid parent child r) (m : ℕ) → 1 + n ≤ m → Changes r mid new spent gained 0 n → Changes parent first new spent gained 0 m
-changes-place {parent = parent} u o m most change =
-    Changes-more 0 m (Changes-beside (Changes-then (Changes-Unchanged parent (graph-before u) u) o.changes) (Changes-path (down o parent path_start) change)) (omega arith) (omega (arith, most))
+-- and the whole is a change at the parent
+pub changes-place : {T : Type 0} {old mid new : Heap T} {parent child r : ℕ} {spent gained : List ℕ} {n : ℕ} (o : OwnsChild old mid parent child r) (m : ℕ) → 1 + n ≤ m → Changes r mid new spent gained 0 n → Changes parent old new spent gained 0 m
+changes-place {parent = parent} o m most change = Changes-more 0 m (Changes-beside o.changes (Changes-path (down o parent path_start) change)) (omega arith) (omega (arith, most))
 
--- what is held and doesn't reach the parent, once room was made
-pub held-room : {T : Type 0} {first old : Heap T} (e : ℕ) → Unchanged first old → 1 ≤ holds_at first e → 1 ≤ holds_at old e
-held-room e u held = omega (arith, held, u.holds e)
+-- rows that came were made of spares, and none went
+pub makes-gained : {T : Type 0} {old new : Heap T} → Gains old new → MakesWhatCame old new
+makes-gained gains = record { stays = gains.stays; live = omega (arith, gains.makes.live); made = MakesJust-Gains gains }
 
-pub apart-room : {T : Type 0} {first old : Heap T} (e parent : ℕ) → Unchanged first old → ¬ Reaches (links_at first) e parent → ¬ Reaches (links_at old) e parent
-apart-room {first = first} {old = old} e parent u apart way = apart (Reaches-by (links_at old) (links_at first) (λ l. ap links_of (sym (u.rows l))) e parent way)
-
--- the child of a parent is the root of the same vector, once room was made
-pub child-room : {T : Type 0} {first old : Heap T} (parent child : ℕ) → Unchanged first old → IsGoodVector first (child_at first parent child) → IsGoodVector old (child_at old parent child) × (height_at old (child_at old parent child) ≡ height_at first (child_at first parent child))
-child-room {first = first} {old = old} parent child u good =
-    let root : child_at old parent child ≡ child_at first parent child = owned-same u (by_place parent child) in
-    (rw root (unchanged-good (child_at first parent child) u good).0, rw root (same-height first old (child_at first parent child) u.rows))
+pub needs-gained : {T : Type 0} {old new : Heap T} → Gains old new → KeepsToNeed old new 0 0
+needs-gained gains = record { few_cells = omega (arith, gains.makes.spare_cells, gains.makes.cells); few_nodes = omega (arith, gains.makes.spare_nodes, gains.makes.nodes) }

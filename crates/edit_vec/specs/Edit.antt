@@ -4,6 +4,7 @@ use Rattle.node_heap.specs.Heap.{Heap, form_at, live_count}
 use Rattle.node_heap.specs.Calls.{MakesWhatCame}
 use Rattle.node_heap.specs.Owner.{Owner, owned, EditsBy, WritesOnly, WritesOnlyLeft, KeepsAlone, alone}
 use Rattle.rrb_core.specs.Vector.{elements, height_at, IsVectorOf}
+use Rattle.rrb_core.specs.Push.{IsPushedRoot}
 use Rattle.edit_vec.specs.Path.{right_spine, set_path, push_path, pop_path}
 
 module _ {T : Type 0} where
@@ -18,9 +19,10 @@ module _ {T : Type 0} where
     pub others : WritesOnly owner old new root (set_path (form_at old) (owned old owner) index)
     pub makes : MakesWhatCame old new
 
-  -- the vector has the element after its last. No more rows came than its right spine has now beside the alone rows of the path
+  -- the vector has the element after its last, in the row where a push puts it. No more rows came than its right spine has now beside the alone rows of the path
   pub record PushesElement (owner : Owner) (old new : Heap T) (root element : ℕ) : Type 0 where
     pub vector : IsVectorOf new root (elements old (owned old owner) ++ element ∷ [])
+    pub rule : IsPushedRoot (form_at old) (form_at new) element (owned old owner) root
     pub edits : EditsBy owner old new root (element ∷ []) [] 0 (height_at old (owned old owner) + 2)
     pub path : KeepsAlone old (push_path (form_at old) (owned old owner)) (take (length (push_path (form_at old) (owned old owner))) (right_spine (form_at new) root))
     pub gains : live_count new + alone old (push_path (form_at old) (owned old owner)) ≤ live_count old + length (right_spine (form_at new) root)

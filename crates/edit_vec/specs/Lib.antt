@@ -1,5 +1,5 @@
 pub mod Path
 pub mod Edit
-pub mod Walk
+pub mod Steps
 pub mod Laws
 pub mod Worked

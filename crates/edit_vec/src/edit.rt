@@ -1,6 +1,6 @@
 //! A vector that is opened for edits in place.
 ghost use Rattle.std.specs.Prelude.{◌≡◌, ◌↔◌, ℕ, ◌<◌, ◌≤◌, [], IfOk, IsOk, OnErr, IfErr};
-ghost use Rattle.node_heap.specs.Heap.{holds_at, owners_at, hold_count, HasSpares, half_holds};
+ghost use Rattle.node_heap.specs.Heap.{row_at, holds_at, owners_at, hold_count, HasSpares, half_holds};
 ghost use Rattle.node_heap.specs.Calls.{KeepsOwners, Extends, KeepsToNeed, MakesWhatCame};
 ghost use Rattle.node_heap.specs.Owner.{by_hold, EditsBy};
 ghost use Rattle.rrb_core.specs.Vector.{elements, IsGoodVector, IsVectorOf};
@@ -30,13 +30,14 @@ pub struct OpenFault {
 
 impl FlexEdit {
     /// The vector, to be edited in place: its root is the same where it has one owner, and then only spares come, and else a
-    /// copy, of one node. Refused only where memory runs out. A refusal leaves the heap as it was.
+    /// copy of that row, of one node. Refused only where memory runs out. A refusal leaves the heap as it was.
     pub fn open<T>(vector: Flex, heap: &mut Heap<T>) -> Result<FlexEdit, OpenFault>
         requires good { IsGoodVector heap.old vector }
         requires held { 1 ≤ holds_at heap.old vector }
         requires few { hold_count heap.old < half_holds }
         ensures items { IfOk result (λ v. IsVectorOf heap.new v (elements heap.old vector)) }
         ensures same { IfOk result (λ v. (v ≡ vector) ↔ (owners_at heap.old vector ≡ 1)) }
+        ensures row { IfOk result (λ v. row_at heap.new v ≡ row_at heap.old vector) }
         ensures sole { IfOk result (λ v. owners_at heap.new v ≡ 1) }
         ensures alone { owners_at heap.old vector ≡ 1 → IfOk result (λ _. KeepsOwners heap.old heap.new × (heap.new.made ≡ heap.old.made)) }
         ensures extends { IfOk result (λ _. Extends heap.old heap.new) }

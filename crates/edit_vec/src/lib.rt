@@ -10,10 +10,10 @@ mod laws;
 mod pop;
 mod push;
 mod set;
-mod shrink;
 mod sums;
 
 pub use edit::{FlexEdit, OpenFault};
 pub use laws::{edits_keep_elements, paths_of_small_vectors};
-pub use push::push_at;
-pub use set::set_at;
+pub use pop::{POP_NODES, pop_held};
+pub use push::{push_at, push_held, push_there};
+pub use set::{set_at, set_there};

@@ -7,17 +7,16 @@ ghost use Rattle.rrb_core.specs.Seq.{seq_at, IsWell};
 ghost use Rattle.rrb_core.specs.Vector.{elements, height_at, HasSums, IsGoodVector};
 ghost use Rattle.rrb_core.specs.Push.{last_in};
 ghost use Rattle.edit_vec.specs.Edit.{PopsElement};
-ghost use Rattle.edit_vec.specs.Walk.{CanPop, LeavesChild, LeavesFirst, PopsIn};
+ghost use Rattle.edit_vec.specs.Steps.{CanPop, LeavesChild, LeavesFirst, PopsIn};
 
 use crate::edit::FlexEdit;
-use crate::shrink::{shrink_sums, sums_without_last};
-use crate::sums::put_sums;
+use crate::sums::{put_sums, shrink_sums, sums_without_last};
 use elem_core::NoMemory;
 use node_heap::{Heap, Link, MOST_HEIGHT};
-use rrb_core::{height_of, only_element, size};
+use rrb_core::{Flex, height_of, only_element, size};
 
-// The most nodes that a pop makes: one for each height.
-const POP_NODES: usize = MOST_HEIGHT as usize + 1;
+/// The most nodes that a pop makes: one for each height.
+pub const POP_NODES: usize = MOST_HEIGHT as usize + 1;
 
 impl FlexEdit {
     /// Takes the last element out and gives it with a hold, and None where the vector is empty. Of the rows of the right spine
@@ -39,17 +38,35 @@ impl FlexEdit {
             return Ok(None);
         }
         heap.reserve(0, POP_NODES)?;
-        let height = height_of(heap, self.root);
-        if leaves_child(heap, self.root, height) {
-            let first = heap.links(self.root)[0];
-            let given = leave_first(heap, self.root, height);
-            self.root = first;
-            return Ok(Some(given));
-        }
-        self.root = heap.own(self.root);
-        let given = pop_in(heap, self.root, height);
+        let (left, given) = pop_held(heap, Flex::from_root(self.root));
+        self.root = left.into_root();
         Ok(Some(given))
     }
+}
+
+/// The last element of a vector that isn't empty taken out, with a hold, behind the vector without it, where there are
+/// `POP_NODES` spare nodes: it tests and reserves nothing, and refuses nothing. It spends the vector's hold. Of the rows of the
+/// path each that is alone is written, as by `FlexEdit::pop`, with no `open` before.
+pub fn pop_held<T: Drop>(heap: &mut Heap<T>, vector: Flex) -> (Flex, Link)
+    requires good { IsGoodVector heap.old vector }
+    requires held { 1 ≤ holds_at heap.old vector }
+    requires few { hold_count heap.old < half_holds }
+    requires some { 1 ≤ length (elements heap.old vector) }
+    requires spare { HasSpares heap.old 0 8 }
+    ensures pops { PopsElement (by_hold vector) heap.old heap.new result.0 result.1 }
+    ensures spares { KeepsToNeed heap.old heap.new 0 0 }
+{
+    heap.is_graph();
+    let root = vector.into_root();
+    let height = height_of(heap, root);
+    if leaves_child(heap, root, height) {
+        let first = heap.links(root)[0];
+        let given = leave_first(heap, root, height);
+        return (Flex::from_root(first), given);
+    }
+    let own = heap.own(root);
+    let given = pop_in(heap, own, height);
+    (Flex::from_root(own), given)
 }
 
 // Whether the root is an inner row over two children, of which the last has one element.

@@ -2,23 +2,19 @@
 ghost use Rattle.std.specs.Prelude.{◌≡◌, ℕ, suc, ◌+◌, ◌-◌, ◌^◌, ◌<◌, ◌≤◌, ◌≢◌, ◌↔◌, [], ◌∷◌, ◌++◌, length, None, IfOk, IfSome, IfNone, OnErr, Err};
 ghost use Rattle.node_heap.specs.Links.{Reaches};
 ghost use Rattle.node_heap.specs.Heap.{row_at, form_at, links_at, holds_at, owners_at, hold_count, HasSpares, half_holds, most_holds};
-ghost use Rattle.node_heap.specs.Calls.{KeepsToNeed, Gains, Builds, HasHolds};
+ghost use Rattle.node_heap.specs.Calls.{KeepsToNeed, KeepsOldOwners, Gains, Builds, HasHolds};
 ghost use Rattle.node_heap.specs.InPlace.{child_at, Changes};
 ghost use Rattle.node_heap.specs.Owner.{by_hold, by_place};
 ghost use Rattle.rrb_core.specs.Seq.{seq_at, IsWell};
 ghost use Rattle.rrb_core.specs.Vector.{elements, height_at, IsGoodVector, IsVectorOf};
-ghost use Rattle.rrb_core.specs.Build.{RowsKeepOwners};
 ghost use Rattle.rrb_core.specs.Push.{last_in, IsPacked};
 ghost use Rattle.edit_vec.specs.Edit.{PushesElement};
-ghost use Rattle.edit_vec.specs.Walk.{CanPushRoot, CanWrite, HasRoomAt, PushesChild, PushesIn};
+ghost use Rattle.edit_vec.specs.Steps.{CanPushRoot, CanWrite, HasRoomAt, IsRootOver, PushesChild, PushesIn};
 
 use crate::edit::FlexEdit;
 use crate::sums::{grow_sums, put_sums, sums_beside};
-use node_heap::{Heap, Link, MOST_HEIGHT};
-use rrb_core::{FlexRef, PushFault, ROW_LINKS, height_of, inner_over, spine};
-
-// The most nodes that a push makes: one for each height, and a root.
-const PUSH_NODES: usize = MOST_HEIGHT as usize + 2;
+use node_heap::{Heap, Link};
+use rrb_core::{Flex, FlexRef, PUSH_NODES, PushFault, ROW_LINKS, height_of, inner_over, spine};
 
 impl FlexEdit {
     /// Puts `element` after the last. It spends the element's hold on Ok alone. The element goes into the lowest row of the right
@@ -71,11 +67,28 @@ pub fn push_at<T>(
         return Err(PushFault::Long);
     }
     heap.reserve(0, PUSH_NODES)?;
-    push_child(heap, parent, child, element);
+    push_there(heap, parent, child, element);
     Ok(())
 }
 
-// Puts the element after the last of a vector whose root's hold is spent, and gives the root, held.
+/// The vector with the element after its last, where it has fewer than 2^32 - 1 and there are `PUSH_NODES` spare nodes: it tests
+/// and reserves nothing, and refuses nothing. It spends the holds of both. Of the rows of the path each that is alone is written,
+/// as by `FlexEdit::push`, with no `open` before.
+pub fn push_held<T>(heap: &mut Heap<T>, vector: Flex, element: Link) -> Flex
+    requires good { IsGoodVector heap.old vector }
+    requires held { HasHolds heap.old (vector ∷ element ∷ []) }
+    requires few { hold_count heap.old < half_holds }
+    requires short { length (elements heap.old vector) + 1 < 2 ^ 32 }
+    requires spare { HasSpares heap.old 0 9 }
+    ensures pushes { PushesElement (by_hold vector) heap.old heap.new result element }
+    ensures spares { KeepsToNeed heap.old heap.new 0 0 }
+{
+    heap.is_graph();
+    let root = push_root(heap, vector.into_root(), element);
+    Flex::from_root(root)
+}
+
+// The same by the root, whose hold is spent, and gives the new one, held.
 fn push_root<T>(heap: &mut Heap<T>, root: Link, element: Link) -> Link
     requires root { CanPushRoot heap.old root element }
     requires held { HasHolds heap.old (root ∷ element ∷ []) }
@@ -103,14 +116,20 @@ fn push_own<T>(heap: &mut Heap<T>, root: Link, height: u8, lowest: u8, element: 
     own
 }
 
-// Puts the element after the last of the vector that is the child at an index of a row with one owner.
-fn push_child<T>(heap: &mut Heap<T>, parent: Link, child: usize, element: Link)
-    requires few { hold_count heap.old < half_holds }
+/// `push_at` where the vector has fewer than 2^32 - 1 elements and there are `PUSH_NODES` spare nodes: it tests and reserves
+/// nothing, and refuses nothing.
+pub fn push_there<T>(heap: &mut Heap<T>, parent: Link, child: usize, element: Link)
     requires sole { owners_at heap.old parent ≡ 1 }
     requires child { child < length (links_at heap.old parent) }
-    requires root { CanPushRoot heap.old (child_at heap.old parent child) element }
+    requires good { IsGoodVector heap.old (child_at heap.old parent child) }
+    requires held { 1 ≤ holds_at heap.old element }
     requires apart { ¬ Reaches (links_at heap.old) element parent }
-    ensures { PushesChild heap.old heap.new parent child element }
+    requires few { hold_count heap.old < half_holds }
+    requires short { length (elements heap.old (child_at heap.old parent child)) + 1 < 2 ^ 32 }
+    requires spare { HasSpares heap.old 0 9 }
+    ensures pushes { PushesElement (by_place parent child) heap.old heap.new (child_at heap.new parent child) element }
+    ensures changes { Changes parent heap.old heap.new (element ∷ []) [] 0 (height_at heap.old (child_at heap.old parent child) + 2) }
+    ensures spares { KeepsToNeed heap.old heap.new 0 0 }
 {
     let root = heap.links(parent)[child];
     let height = height_of(heap, root);
@@ -158,22 +177,28 @@ fn push_over_child<T>(heap: &mut Heap<T>, parent: Link, child: usize, height: u8
     heap.insert_link(parent, child, over);
 }
 
-// The height of the lowest row of the right spine with room, or None where the row is packed.
+// The height of the lowest row of the right spine with room, or None where the row is packed: one pass down.
 fn lowest_with_room<T>(heap: &Heap<T>, row: Link, height: u8) -> Option<u8>
     requires well { IsWell (form_at heap.now) height row }
     ensures room { IfSome result (λ lowest. HasRoomAt (form_at heap.now) height lowest row) }
     ensures packed { IfNone result (IsPacked (form_at heap.now) height row) }
 {
-    let count = heap.links(row).len();
-    if height == 0 {
-        return if count == ROW_LINKS { None } else { Some(0) };
+    let mut link = row;
+    let mut level = height;
+    let mut lowest = None;
+    while level > 0 {
+        let links = heap.links(link);
+        let count = links.len();
+        if count < ROW_LINKS {
+            lowest = Some(level);
+        }
+        link = links[count - 1];
+        level -= 1;
     }
-    let last = heap.links(row)[count - 1];
-    match lowest_with_room(heap, last, height - 1) {
-        Some(lowest) => Some(lowest),
-        None if count == ROW_LINKS => None,
-        None => Some(height),
+    if heap.links(link).len() < ROW_LINKS {
+        return Some(0);
     }
+    lowest
 }
 
 // A root over a packed one, whose hold is spent, and a row over the element alone.
@@ -184,16 +209,17 @@ fn root_beside<T>(heap: &mut Heap<T>, root: Link, height: u8, element: Link) -> 
     requires packed { IsPacked (form_at heap.old) height root }
     ensures vector { IsVectorOf heap.new result (elements heap.old root ++ element ∷ []) }
     ensures tall { height_at heap.new result ≡ suc height }
+    ensures over { IsRootOver heap.new height root result element }
     ensures fresh { row_at heap.old result ≡ None }
-    ensures owners { RowsKeepOwners heap.old heap.new }
+    ensures owners { KeepsOldOwners heap.old heap.new }
     ensures builds { Builds heap.old heap.new (root ∷ element ∷ []) (result ∷ []) 0 (height + 2) }
 {
     let child = spine(heap, height, element);
     inner_over(heap, &[root, child], height)
 }
 
-// Puts the element after the last of a row with one owner: at the height `lowest` of its spine.
-#[cycle(push)]
+// Puts the element after the last of a row with one owner: at the height `lowest` of its spine. The sums of the rows above grow
+// on the way down, since they only count one more.
 fn push_in<T>(heap: &mut Heap<T>, row: Link, height: u8, lowest: u8, element: Link)
     requires row { CanWrite heap.old height row element }
     requires short { length (seq_at (form_at heap.old) height row) + 1 < 2 ^ 32 }
@@ -201,27 +227,16 @@ fn push_in<T>(heap: &mut Heap<T>, row: Link, height: u8, lowest: u8, element: Li
     requires room { HasRoomAt (form_at heap.old) height lowest row }
     ensures { PushesIn heap.old heap.new height lowest row element }
 {
-    if height == lowest {
-        push_here(heap, row, height, element);
-        return;
+    let mut link = row;
+    let mut level = height;
+    while level > lowest {
+        let last = heap.links(link).len() - 1;
+        let child = heap.own_child(link, last);
+        grow_sums(heap, link, level);
+        link = child;
+        level -= 1;
     }
-    push_inner(heap, row, height - 1, lowest, element);
-}
-
-// The same for an inner row above that height, whose children have the height `below`.
-#[cycle(push)]
-fn push_inner<T>(heap: &mut Heap<T>, row: Link, below: u8, lowest: u8, element: Link)
-    requires row { CanWrite heap.old (suc below) row element }
-    requires short { length (seq_at (form_at heap.old) (suc below) row) + 1 < 2 ^ 32 }
-    requires few { hold_count heap.old < most_holds }
-    requires room { HasRoomAt (form_at heap.old) (suc below) lowest row }
-    requires lower { lowest ≤ below }
-    ensures { PushesIn heap.old heap.new (suc below) lowest row element }
-{
-    let last = heap.links(row).len() - 1;
-    let child = heap.own_child(row, last);
-    push_in(heap, child, below, lowest, element);
-    grow_sums(heap, row, below + 1);
+    push_here(heap, link, level, element);
 }
 
 // The same for a row of that height.

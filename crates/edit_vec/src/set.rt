@@ -8,14 +8,11 @@ ghost use Rattle.node_heap.specs.Owner.{by_hold, by_place};
 ghost use Rattle.rrb_core.specs.Seq.{seq_at};
 ghost use Rattle.rrb_core.specs.Vector.{elements, height_at, IsGoodVector};
 ghost use Rattle.edit_vec.specs.Edit.{SetsElement};
-ghost use Rattle.edit_vec.specs.Walk.{CanWrite, SetsIn};
+ghost use Rattle.edit_vec.specs.Steps.{CanWrite, SetsIn};
 
 use crate::edit::FlexEdit;
-use node_heap::{Heap, Link, MOST_HEIGHT};
-use rrb_core::{FlexRef, SetFault, height_of, spot_of};
-
-// The most nodes that a set makes: one for each height.
-const SET_NODES: usize = MOST_HEIGHT as usize + 1;
+use node_heap::{Heap, Link};
+use rrb_core::{FlexRef, SET_NODES, SetFault, height_of, spot_of};
 
 impl FlexEdit {
     /// Puts `element` at `index` and gives the element that stood there, with a hold. It spends the element's hold on Ok alone.
@@ -75,10 +72,35 @@ pub fn set_at<T>(
         return Err(SetFault::Range);
     }
     heap.reserve(0, SET_NODES)?;
+    let given = set_there(heap, parent, child, index, element);
+    Ok(given)
+}
+
+/// The same where the index is below the length and there are `SET_NODES` spare nodes: it tests and reserves nothing, and
+/// refuses nothing.
+pub fn set_there<T>(
+    heap: &mut Heap<T>,
+    parent: Link,
+    child: usize,
+    index: u32,
+    element: Link,
+) -> Link
+    requires sole { owners_at heap.old parent ≡ 1 }
+    requires child { child < length (links_at heap.old parent) }
+    requires good { IsGoodVector heap.old (child_at heap.old parent child) }
+    requires held { 1 ≤ holds_at heap.old element }
+    requires apart { ¬ Reaches (links_at heap.old) element parent }
+    requires few { hold_count heap.old < half_holds }
+    requires inside { index < length (elements heap.old (child_at heap.old parent child)) }
+    requires spare { HasSpares heap.old 0 8 }
+    ensures sets { SetsElement (by_place parent child) heap.old heap.new (child_at heap.new parent child) index element result }
+    ensures changes { Changes parent heap.old heap.new (element ∷ []) (result ∷ []) 0 (height_at heap.old (child_at heap.old parent child) + 1) }
+    ensures spares { KeepsToNeed heap.old heap.new 0 0 }
+{
+    let root = heap.links(parent)[child];
     let height = height_of(heap, root);
     let own = heap.own_child(parent, child);
-    let given = set_in(heap, own, height, index, element);
-    Ok(given)
+    set_in(heap, own, height, index, element)
 }
 
 // Puts the element at the index of a row with one owner, and gives the one that stood there.

@@ -1,16 +1,16 @@
-//! The sums that a row keeps once its last child has an element more, or there is a child more: worked out from those that it
-//! kept.
+//! The sums that a row keeps once its last child has an element more or less, or a last child came or went: worked out from those
+//! that it kept.
 ghost use Rattle.std.specs.Prelude.{◌≡◌, ℕ, suc, ◌+◌, ◌-◌, ◌^◌, ◌<◌, ◌≤◌, Some, [], length, take, slice_index};
 ghost use Rattle.std.specs.List.{flat_map};
 ghost use Rattle.node_heap.specs.Forms.{node, inner};
 ghost use Rattle.node_heap.specs.Heap.{form_at, links_at, owners_at, IsGraph};
 ghost use Rattle.node_heap.specs.Calls.{KeepsOwners, Makes};
 ghost use Rattle.node_heap.specs.InPlace.{Writes, Changes};
-ghost use Rattle.rrb_core.specs.Seq.{seq_at};
-ghost use Rattle.rrb_core.specs.Vector.{IsRegular, KeepsSums, sums_at};
+ghost use Rattle.rrb_core.specs.Seq.{seq_at, IsWell};
+ghost use Rattle.rrb_core.specs.Vector.{IsRegular, KeepsSums, HasSums, sums_at};
 ghost use Rattle.rrb_core.specs.Build.{AreRows};
 ghost use Rattle.rrb_core.specs.Push.{last_in};
-ghost use Rattle.edit_vec.specs.Walk.{with_last, grown};
+ghost use Rattle.edit_vec.specs.Steps.{with_last, grown, shrunk};
 
 use arrayvec::ArrayVec;
 use node_heap::{Head, Heap, Link, MOST_HEIGHT, Sums};
@@ -33,6 +33,7 @@ pub(crate) fn put_sums<T>(heap: &mut Heap<T>, row: Link, height: u8, sums: Sums)
 }
 
 // Adds one to the last of the sums that an inner row with one owner keeps. One that keeps none isn't written.
+#[inline]
 pub(crate) fn grow_sums<T>(heap: &mut Heap<T>, row: Link, height: u8)
     requires graph { IsGraph heap.old }
     requires sole { owners_at heap.old row ≡ 1 }
@@ -44,10 +45,27 @@ pub(crate) fn grow_sums<T>(heap: &mut Heap<T>, row: Link, height: u8)
     ensures changes { Changes row heap.old heap.new [] [] 0 0 }
     ensures makes { Makes heap.old heap.new 0 0 }
 {
-    let known = sums_of(heap, row);
-    if known.is_empty() {
+    if sums_of(heap, row).is_empty() {
         return;
     }
+    grow_kept_sums(heap, row, height);
+}
+
+// The same where it keeps some. It is apart, since most rows keep none, and what a function holds is cleared when it begins.
+#[inline(never)]
+fn grow_kept_sums<T>(heap: &mut Heap<T>, row: Link, height: u8)
+    requires graph { IsGraph heap.old }
+    requires sole { owners_at heap.old row ≡ 1 }
+    requires inner { form_at heap.old row ≡ Some (node (inner height) (links_at heap.old row)) }
+    requires few { length (sums_at heap.old row) ≤ 32 }
+    requires short { slice_index (sums_at heap.old row) (length (sums_at heap.old row) - 1) + 1 < 2 ^ 32 }
+    requires some { 1 ≤ length (sums_at heap.old row) }
+    ensures writes { Writes heap.old heap.new row (Some (Head.Inner height (grown (sums_at heap.old row)))) (links_at heap.old row) }
+    ensures owners { KeepsOwners heap.old heap.new }
+    ensures changes { Changes row heap.old heap.new [] [] 0 0 }
+    ensures makes { Makes heap.old heap.new 0 0 }
+{
+    let known = sums_of(heap, row);
     let sums = sums_with_last(known, known[known.len() - 1] + 1);
     heap.set_head(row, Head::Inner { height, sums });
 }
@@ -104,4 +122,45 @@ fn sums_after<T>(heap: &Heap<T>, row: Link, below: u8) -> Sums
         return Sums::from_slice(&[]);
     }
     sums_over(heap, links, below)
+}
+
+// Takes one from the last of the sums that an inner row with one owner keeps. One that keeps none isn't written.
+pub(crate) fn shrink_sums<T>(heap: &mut Heap<T>, row: Link, height: u8)
+    requires graph { IsGraph heap.old }
+    requires sole { owners_at heap.old row ≡ 1 }
+    requires inner { form_at heap.old row ≡ Some (node (inner height) (links_at heap.old row)) }
+    requires few { length (sums_at heap.old row) ≤ 32 }
+    requires some { 1 ≤ length (sums_at heap.old row) → 1 ≤ slice_index (sums_at heap.old row) (length (sums_at heap.old row) - 1) }
+    ensures writes { Writes heap.old heap.new row (Some (Head.Inner height (shrunk (sums_at heap.old row)))) (links_at heap.old row) }
+    ensures owners { KeepsOwners heap.old heap.new }
+    ensures changes { Changes row heap.old heap.new [] [] 0 0 }
+    ensures makes { Makes heap.old heap.new 0 0 }
+{
+    let known = sums_of(heap, row);
+    if known.is_empty() {
+        return;
+    }
+    let sums = sums_with_last(known, known[known.len() - 1] - 1);
+    heap.set_head(row, Head::Inner { height, sums });
+}
+
+// What a row is to keep of sums once its last child is gone: those before, and none where all children but the last are full
+// then.
+pub(crate) fn sums_without_last<T>(heap: &Heap<T>, row: Link, below: u8) -> Sums
+    requires well { IsWell (form_at heap.now) (suc below) row }
+    requires sums { HasSums heap.now (suc below) row }
+    requires two { 2 ≤ length (links_at heap.now row) }
+    requires low { below < MOST_HEIGHT }
+    ensures { KeepsSums (form_at heap.now) below (take (length (links_at heap.now row) - 1) (links_at heap.now row)) result }
+{
+    let known = sums_of(heap, row);
+    if known.is_empty() {
+        return Sums::from_slice(&[]);
+    }
+    let last = known.len() - 2;
+    let before = if last == 0 { 0 } else { known[last - 1] };
+    if u64::from(before) == full_size(last, below + 1) {
+        return Sums::from_slice(&[]);
+    }
+    Sums::from_slice(&known[..last + 1])
 }

@@ -33,4 +33,4 @@ pub insert_link-requires-clause-apart : goal.insert_link-requires-clause-apart
 insert_link-requires-clause-apart g c = apart-made c.requires.root c.requires.few c.requires.child c.requires.sole c.requires.apart c.requires.height c.requires.packed c.remove_link-root.ensures.old c.remove_link-root.ensures.writes c.remove_link-root.ensures.owners c.remove_link-root.ensures.changes c.remove_link-root.ensures.makes c.root_beside-over.ensures.vector c.root_beside-over.ensures.tall c.root_beside-over.ensures.fresh c.root_beside-over.ensures.owners c.root_beside-over.ensures.builds
 
 pub returns : goal.returns
-returns g c = pushes-place c.requires.root c.requires.few c.requires.child c.requires.sole c.requires.apart c.requires.height c.requires.packed c.remove_link-root.ensures.old c.remove_link-root.ensures.writes c.remove_link-root.ensures.owners c.remove_link-root.ensures.changes c.remove_link-root.ensures.makes c.root_beside-over.ensures.vector c.root_beside-over.ensures.tall c.root_beside-over.ensures.fresh c.root_beside-over.ensures.owners c.root_beside-over.ensures.builds c.insert_link.ensures.writes c.insert_link.ensures.changes c.insert_link.ensures.makes
+returns g c = pushes-place c.requires.root c.requires.few c.requires.child c.requires.sole c.requires.apart c.requires.height c.requires.packed c.remove_link-root.ensures.old c.remove_link-root.ensures.writes c.remove_link-root.ensures.owners c.remove_link-root.ensures.changes c.remove_link-root.ensures.makes c.root_beside-over.ensures.vector c.root_beside-over.ensures.tall c.root_beside-over.ensures.fresh c.root_beside-over.ensures.owners c.root_beside-over.ensures.builds c.insert_link.ensures.writes c.insert_link.ensures.changes c.insert_link.ensures.makes c.root_beside-over.ensures.over

@@ -1,9 +1,8 @@
 use Rattle.std.proofs.Common.{arith, refl}
 use Rattle.node_heap.proofs.EditLaws.{Gains-trans, Gains-Builds}
 use Rattle.node_heap.proofs.OwnedRows.{owns, owned-hold}
-use Rattle.edit_vec.proofs.TopLemmas.{good-node, holds-root, write-hold}
+use Rattle.edit_vec.proofs.TopLemmas.{good-node, holds-root, write-hold, makes-gained}
 use Rattle.edit_vec.proofs.PushTop.{room-owned, short-owned, pushes-element}
-use Rattle.edit_vec.proofs.OverTop.{makes-gained}
 use Rattle.edit_vec.proofs.push.push_own.Goals as goal
 
 pub own-own-requires-clause-held : goal.own-own-requires-clause-held

@@ -1,9 +1,10 @@
-use Rattle.std.proofs.Common.{arith}
+use Rattle.node_heap.specs.InPlace.{child_at}
+use Rattle.rrb_core.specs.Vector.{height_at}
+use Rattle.std.proofs.Common.{arith, ◌+◌}
 use Rattle.node_heap.proofs.EditLaws.{Gains-trans}
 use Rattle.edit_vec.proofs.OwnLemmas.{owns-child, gains-child, child-now}
-use Rattle.edit_vec.proofs.TopLemmas.{good-node, owned-place, write-place}
-use Rattle.edit_vec.proofs.PushTop.{room-owned, short-owned, pushes-element, changes-pushed}
-use Rattle.edit_vec.proofs.OverTop.{makes-gained}
+use Rattle.edit_vec.proofs.TopLemmas.{good-node, owned-place, write-place, changes-place, makes-gained}
+use Rattle.edit_vec.proofs.PushTop.{room-owned, short-owned, pushes-element}
 use Rattle.edit_vec.proofs.push.push_own_child.Goals as goal
 
 pub own_child-own-requires-clause-node : goal.own_child-own-requires-clause-node
@@ -38,6 +39,6 @@ returns g c =
     let gains = Gains-trans (gains-child own) push.gains in
     record {
       pushes = rw (child-now {mid = c.own_child-own.new.self} own c.requires.root.held c.requires.apart push.changes) (pushes-element c.args.lowest (owned-place own) c.requires.root.good c.requires.height c.requires.room c.requires.root.short push (makes-gained gains));
-      changes = changes-pushed own c.requires.height push.changes;
+      changes = changes-place own (height_at c.args.heap.now (child_at c.args.heap.now c.args.parent c.args.child) + 2) (omega (arith, c.requires.height)) push.changes;
       gains = gains;
     }

@@ -1,5 +1,5 @@
 use Rattle.std.proofs.Common.{◌∙◌}
-use Rattle.edit_vec.proofs.OverTop.{low-root, rows-both, short-both, held-both, tall-over, vector-over, builds-over}
+use Rattle.edit_vec.proofs.OverTop.{over-new, low-root, rows-both, short-both, held-both, tall-over, vector-over, builds-over}
 use Rattle.edit_vec.proofs.push.root_beside.Goals as goal
 
 pub inner_over-requires-clause-rows : goal.inner_over-requires-clause-rows
@@ -25,3 +25,6 @@ returns-clause-builds g c = builds-over c.requires.root c.requires.held c.requir
 
 pub returns-clause-tall : goal.returns-clause-tall
 returns-clause-tall g c = tall-over c.requires.root c.requires.held c.requires.height c.requires.packed c.spine-child.ensures.made c.inner_over.ensures.row c.inner_over.ensures.links c.inner_over.ensures.builds
+
+pub returns-clause-over : goal.returns-clause-over
+returns-clause-over g c = over-new c.requires.root c.requires.held c.requires.height c.requires.packed c.spine-child.ensures.made c.inner_over.ensures.row c.inner_over.ensures.links c.inner_over.ensures.builds

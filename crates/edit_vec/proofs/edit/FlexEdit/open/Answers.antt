@@ -1,4 +1,5 @@
-use Rattle.std.proofs.Common.{refl, arith}
+use Rattle.std.proofs.Common.{refl, arith, ap, ◌∙◌}
+use Rattle.node_heap.specs.Heap.{row_at}
 use Rattle.node_heap.proofs.Frames.{Extends-trans}
 use Rattle.rrb_core.proofs.BuildLemmas.{unchanged-good}
 use Rattle.node_heap.proofs.OwnedRows.{Owns, owns, owned-hold, after-room}
@@ -23,3 +24,6 @@ returns-clause-edits g c = edits-owned (after-room c.in-Ok.ensures.rest (owned-h
 
 pub returns-clause-extends : goal.returns-clause-extends
 returns-clause-extends g c = Extends-trans c.in-Ok.ensures.extends c.own-root.ensures.builds.extends
+
+pub returns-clause-row : goal.returns-clause-row
+returns-clause-row g c = c.own-root.ensures.row ∙ ap (row_at c.reserve.new.self) c.into_root.ensures ∙ c.in-Ok.ensures.rest.rows c.args.vector

@@ -9,7 +9,7 @@ use Rattle.node_heap.specs.Owner.{by_hold, by_place, EditsBy, alone, written, Ke
 use Rattle.node_heap.specs.declared.row.TheConstants.{MOST_HEIGHT}
 use Rattle.rrb_core.specs.Seq.{seq_at, IsThick, IsWell}
 use Rattle.rrb_core.specs.Vector.{elements, height_at, HasSums, IsGoodVector, IsVectorOf}
-use Rattle.rrb_core.specs.Push.{last_in, IsPacked}
+use Rattle.rrb_core.specs.Push.{last_in, IsPacked, IsPushed}
 use Rattle.rrb_core.specs.Build.{IsRowOf}
 use Rattle.edit_vec.specs.Edit.{PushesElement}
 use Rattle.edit_vec.specs.Path.{up_to_last, rows_over, spine_at}
@@ -54,6 +54,7 @@ module _ {T : Type 0} where
   -- No more rows came than its spine has now that aren't alone
   pub record PushesIn (old new : Heap T) (n lowest l element : ℕ) : Type 0 where
     pub row : IsRowOf new n l (seq_at (form_at old) n l ++ element ∷ [])
+    pub rule : IsPushed (form_at old) (form_at new) element n l l
     pub links : length (links_at old l) ≤ length (links_at new l)
     pub changes : Changes l old new (element ∷ []) [] 0 n
     pub gains : Gains old new
@@ -69,6 +70,10 @@ module _ {T : Type 0} where
     pub held : 1 ≤ holds_at h element
     pub few : hold_count h < most_holds
     pub spare : 9 ≤ h.spare_nodes
+
+  -- the root of height n + 1 is over a row of height n and one over the element alone
+  abbrev pub IsRootOver : Heap T → ℕ → ℕ → ℕ → ℕ → Type 0
+  IsRootOver h n root top element = (child : ℕ) × (links_at h top ≡ root ∷ child ∷ []) × (seq_at (form_at h) n child ≡ element ∷ [])
 
   -- the vector that is the child at an index of the parent has the element after its last
   pub record PushesChild (old new : Heap T) (parent index element : ℕ) : Type 0 where

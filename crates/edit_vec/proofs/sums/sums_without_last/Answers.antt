@@ -7,8 +7,8 @@ use Rattle.rrb_core.proofs.Lists.{empty-list}
 use Rattle.rrb_core.proofs.Stays.{well-live}
 use Rattle.rrb_core.proofs.RowLists.{over, keeps-some}
 use Rattle.edit_vec.proofs.ShrinkLemmas.{regular-front, kept-front}
-use Rattle.edit_vec.proofs.shrink.sums_without_last.Goals.{then-last-eq0, else-last-eq0}
-use Rattle.edit_vec.proofs.shrink.sums_without_last.Goals as goal
+use Rattle.edit_vec.proofs.sums.sums_without_last.Goals.{then-last-eq0, else-last-eq0}
+use Rattle.edit_vec.proofs.sums.sums_without_last.Goals as goal
 
 pub sums_of-known-requires : goal.sums_of-known-requires
 sums_of-known-requires g c = well-live c.args.heap.now (suc c.args.below) c.args.row c.requires.well
