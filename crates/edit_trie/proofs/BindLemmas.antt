@@ -39,7 +39,7 @@ use Rattle.edit_trie.specs.Edit.{by_bits}
 use Rattle.edit_trie.specs.Walk.{CanEdit, PutsIn}
 use Rattle.edit_trie.specs.Bound.{CanBind, Binds}
 use Rattle.edit_trie.proofs.PathLemmas.{rows-stay, edit-says, edit-avoids}
-use Rattle.edit_trie.proofs.OwnLemmas.{none-live}
+use Rattle.edit_trie.proofs.DownLemmas.{none-live}
 use Rattle.edit_trie.proofs.WayLemmas.{way-says}
 use Rattle.edit_trie.proofs.InChainLemmas.{count-take}
 use Rattle.edit_trie.proofs.MapLemmas.{pairs-left, all-others, pair-by, pair-key}

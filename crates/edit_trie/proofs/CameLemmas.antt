@@ -1,16 +1,13 @@
 -- How many rows came where the rows of a path were made one's own.
-use Rattle.std.proofs.Common.{◌≡◌, ◌≢◌, ℕ, suc, zero, ◌+◌, ◌*◌, ◌≤◌, List, [], ◌∷◌, length, take, get_or, min, refl, ap, sym, subst, ◌∙◌, arith, inl, inr}
+use Rattle.std.proofs.Common.{◌≡◌, ℕ, suc, zero, ◌+◌, ◌*◌, ◌≤◌, List, [], ◌∷◌, length, take, get_or, min, sym, subst, arith, inl, inr}
 use Rattle.std.specs.Prelude.{◌↔◌}
 use Rattle.std.proofs.lemmas.Bool.{cases_eq}
-use Rattle.std.proofs.lemmas.Bool.Decides.{nat_tests}
 use Rattle.std.proofs.lemmas.List.{get_or-take, length-take}
-use Rattle.node_heap.specs.Links.{count, HasLink, Reaches, here}
+use Rattle.node_heap.specs.Links.{count, HasLink}
 use Rattle.node_heap.specs.Heap.{Heap, links_at, owners_at, live_count, one_at, IsGraph}
 use Rattle.node_heap.specs.InPlace.{other_at}
 use Rattle.node_heap.specs.Owner.{alone}
-use Rattle.node_heap.proofs.Counts.{test_other}
-use Rattle.node_heap.proofs.GraphLemmas.{IsGraph-acyclic, IsGraph-owned}
-use Rattle.node_heap.proofs.AloneLemmas.{alone-yes, alone-no, alone-same}
+use Rattle.node_heap.proofs.AloneLemmas.{alone-yes, alone-no, alone-own}
 use Rattle.edit_trie.specs.Path.{MakesCopies}
 use Rattle.edit_trie.specs.Walk.{MakesShared}
 
@@ -34,35 +31,14 @@ module _ {T : Type 0} where
 
   module _ (old mid : Heap T) (x c : ℕ) (same : (c ≡ x) ↔ (owners_at old x ≡ 1)) (sole : owners_at mid c ≡ 1)
       (owners : (k : ℕ) → owners_at mid k + one_at x k ≡ owners_at old k + (one_at c k + other_at x c * count k (links_at old x))) (graph : IsGraph old) where
-    none-below : c ≢ x → (xs : List ℕ) → (1 ≤ length xs → HasLink (links_at old) x (get_or xs 0 0)) → alone mid xs ≡ 0
-    none-below off [] next = refl
-    none-below off (k ∷ ks) next =
-        let has = next (omega arith) in
-        let owned = IsGraph-owned old graph k (graph.closed x k has) in
-        let below : k ≢ x = λ same. IsGraph-acyclic old graph x k has (subst (Reaches (links_at old) k) same (here k)) in
-        let whole : other_at x c ≡ 1 = grind (arith, nat_tests, off) in
-        alone-no mid k ks (λ one. omega (arith, one, owners k, test_other k x below, ap (λ (m : ℕ). m * count k (links_at old x)) whole, has, owned))
-
-    -- a path of which the first row was made one's own has one alone row more where that was copied, since none below it was
-    pub alone-own : (rest : List ℕ) → (1 ≤ length rest → HasLink (links_at old) x (get_or rest 0 0)) → alone mid (c ∷ rest) ≡ alone old (x ∷ rest) + other_at x c
-    alone-own rest next = elim (cases_eq c x) as (λ _. alone mid (c ∷ rest) ≡ alone old (x ∷ rest) + other_at x c) [
-      | inl is ↦
-          let none : other_at x c ≡ 0 = grind (arith, nat_tests, is) in
-          let all : (k : ℕ) → owners_at mid k ≡ owners_at old k = λ k. omega (arith, owners k, ap (λ (j : ℕ). one_at j k) is, ap (λ (m : ℕ). m * count k (links_at old x)) none) in
-          omega (arith, none, alone-same mid old (c ∷ rest) all ∙ ap (λ (j : ℕ). alone old (j ∷ rest)) is)
-      | inr off ↦
-          let one : other_at x c ≡ 1 = grind (arith, nat_tests, off) in
-          omega (arith, one, alone-yes mid c rest sole, none-below off rest next, alone-no old x rest (λ e. off (same.1 e)))
-    ]
-
     module _ (new : Heap T) (rest : List ℕ) (next : 1 ≤ length rest → HasLink (links_at old) x (get_or rest 0 0)) (grew : live_count mid ≡ live_count old + other_at x c) where
       -- so the copy counts beside what came from there on
       pub copies-own : MakesCopies mid new (c ∷ rest) → MakesCopies old new (x ∷ rest)
-      copies-own came = omega (arith, came, grew, alone-own rest next)
+      copies-own came = omega (arith, came, grew, alone-own old mid x c rest same sole owners graph next)
 
       pub made-own : (z : ℕ) (zs : List ℕ) → MakesShared mid new (c ∷ rest) (z ∷ zs) → MakesShared old new (x ∷ rest) (z ∷ zs)
       made-own z zs came =
           let fewer : length (take (length zs) rest) ≡ min (length zs) (length rest) = length-take (length zs) rest in
           let first : 1 ≤ length (take (length zs) rest) → HasLink (links_at old) x (get_or (take (length zs) rest) 0 0) = λ some.
           subst (HasLink (links_at old) x) (sym (get_or-take (length zs) rest 0 0 (omega (arith, some, fewer)))) (next (omega (arith, some, fewer))) in
-          omega (arith, came, grew, alone-own (take (length zs) rest) first)
+          omega (arith, came, grew, alone-own old mid x c (take (length zs) rest) same sole owners graph first)

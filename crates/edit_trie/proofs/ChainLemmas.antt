@@ -26,8 +26,8 @@ use Rattle.edit_trie.specs.Walk.{EditsChild}
 use Rattle.edit_trie.specs.Chains.{IsFront, IsPast, OwnsRows, link_in}
 use Rattle.edit_trie.proofs.RowLemmas.{key-moved, row-form}
 use Rattle.edit_trie.proofs.ChildLemmas.{OwnsChild, child-linked, live-below, own-there, own-linked, own-beneath, gains-child, child-then}
-use Rattle.edit_trie.proofs.CameLemmas.{alone-own}
-use Rattle.edit_trie.proofs.OwnLemmas.{none-live, off-first}
+use Rattle.node_heap.proofs.AloneLemmas.{alone-own}
+use Rattle.edit_trie.proofs.DownLemmas.{none-live, off-first}
 use Rattle.edit_trie.proofs.FrontLemmas.{front-rest, front-push, front-above, front-turns}
 
 -- a link that was read is the child
@@ -274,7 +274,7 @@ module _ {T : Type 0} (old now new : Heap T) (row index r i k : ℕ) (front : Li
         rw (append_assoc o.rows (child_at now r i ∷ []) rest, append_assoc o.own (k ∷ []) path') whole;
     came = λ rest link.
         let before = o.came (child_at now r i ∷ rest) (λ some. child-linked now r i own.inside) in
-        let copied = alone-own now new (child_at now r i) k own.same own.sole own.owners graph_mid rest (before-own rest link) in
+        let copied = alone-own now new (child_at now r i) k rest own.same own.sole own.owners graph_mid (before-own rest link) in
         omega (arith, before, copied, alone-yes new k rest own.sole, own.makes.live, length-append o.rows (child_at now r i ∷ []), ap (alone old) (append_assoc o.rows (child_at now r i ∷ []) rest));
     others = λ rest link s live other off.
         let off' : count s (written old (o.rows ++ child_at now r i ∷ rest)) ≡ 0 = subst (λ ks. count s (written old ks) ≡ 0) (append_assoc o.rows (child_at now r i ∷ []) rest) off in

@@ -10,9 +10,11 @@ use Rattle.std.proofs.lemmas.List.{length-set, take_all, drop_all, get_or_defaul
 use Rattle.std.proofs.lemmas.List.Edits.{length-remove}
 use Rattle.std.proofs.lemmas.Option.{slice_get-get_or, get_or_from_slice_get, slice_get_within}
 use Rattle.node_heap.specs.Links.{count, HasLink, SameBelow, Reaches, here}
-use Rattle.node_heap.specs.Forms.{Forms, Row, cell, node, chain, links_of, links_in, head_of, form_of, is_node}
+use Rattle.node_heap.specs.Forms.{Forms, node, chain, links_of, links_in, head_of, form_of, is_node}
 use Rattle.node_heap.specs.Heap.{Heap, row_at, form_at, links_at, holds_at, owners_at, live_count, IsGraph}
 use Rattle.node_heap.specs.Calls.{KeepsBelow, KeepsOwners, AddsOwner, Makes, Builds, Gains}
+use Rattle.node_heap.proofs.OwnerLemmas.{insert-removed}
+use Rattle.node_heap.proofs.Edited.{linked-node}
 use Rattle.node_heap.specs.InPlace.{child_at, Writes, Changes}
 use Rattle.node_heap.specs.Owner.{written, alone}
 use Rattle.node_heap.specs.declared.row.Head.TheVariants.{Chain}
@@ -46,11 +48,6 @@ use Rattle.edit_trie.proofs.ChainLemmas.{child-more, keys-stay, written-child, w
 pub remove-past : {X : Type 0} (xs : List X) (i : ℕ) → length xs ≤ i → remove xs i ≡ xs
 remove-past xs i past = rw (take_all i xs (omega (arith, past)), drop_all (suc i) xs (omega (arith, past)), append-nil) refl
 
-pub insert-removed : (xs : List ℕ) (i x : ℕ) → i < length xs → insert (remove xs i) i x ≡ set xs i x
-insert-removed [] i x lt = absurd (omega (arith, lt))
-insert-removed (y ∷ ys) zero x lt = refl
-insert-removed (y ∷ ys) (suc i) x lt = ap (λ (zs : List ℕ). y ∷ zs) (insert-removed ys i x (omega (arith, lt)))
-
 -- the second link of a chain row
 second-turned : (y x : ℕ) (o : Option ℕ) → insert (remove (y ∷ option_to_list o) 1) 1 x ≡ y ∷ x ∷ []
 second-turned y x None = refl
@@ -67,12 +64,6 @@ child-is ls ks i y is same lt = is ∙ rw same (get_or_default ks i y 0 lt)
 pub one-at-most : (o : Option ℕ) → length (option_to_list o) ≤ 1
 one-at-most None = omega arith
 one-at-most (Some m) = omega arith
-
--- a row with links is a node
-pub linked-node : {T : Type 0} (r : Option (Row T)) (k : ℕ) → 0 < count k (links_of r) → is_node r ≡ 1
-linked-node None k some = absurd (omega (arith, some))
-linked-node (Some (cell x)) k some = absurd (omega (arith, some))
-linked-node (Some (node h l)) k some = refl
 
 -- what is counted beside a link and a second one, if any
 pub one-of : (s x : ℕ) (o : Option ℕ) → 0 < count s (x ∷ option_to_list o) → (s ≡ x) ⊎ (o ≡ Some s)

@@ -6,7 +6,6 @@ use Rattle.std.proofs.lemmas.List.Elements.{All-filter}
 use Rattle.champ_trie.proofs.StayLemmas.{trie-reach}
 use Rattle.std.specs.declared.cmp.Ordering.{Ordering}
 use Rattle.std.specs.declared.cmp.Ordering.TheVariants.{Equal}
-use Rattle.std.proofs.lemmas.List.Filters.{length-filter_both}
 use Rattle.elem_core.specs.Codes.{digit_at}
 use Rattle.elem_core.specs.declared.codes.TheConstants.{CODE_BITS, DEEPEST}
 use Rattle.node_heap.specs.Links.{count, HasLink, Reaches, here, below}
@@ -16,36 +15,36 @@ use Rattle.node_heap.specs.Calls.{SameRows, Gains}
 use Rattle.node_heap.proofs.EditLaws.{Gains-trans}
 use Rattle.node_heap.specs.InPlace.{child_at, Changes}
 use Rattle.node_heap.specs.Owner.{written, alone}
-use Rattle.node_heap.proofs.Reach.{Reaches-by, Reaches-trans, SameBelow-link}
+use Rattle.node_heap.proofs.Reach.{Reaches-by, Reaches-trans}
 use Rattle.node_heap.proofs.GraphLemmas.{IsGraph-acyclic}
 use Rattle.node_heap.proofs.Edited.{Changes-more}
-use Rattle.node_heap.proofs.AloneLemmas.{written-own}
 use Rattle.champ_chain.specs.Entry.{Entry, entry, has_key, link_with, others, IsEntry}
 use Rattle.champ_chain.specs.Chain.{IsChain}
 use Rattle.champ_chain.proofs.FrameLemmas.{links-form}
 use Rattle.champ_trie.specs.Bits.{has, rank}
-use Rattle.champ_trie.specs.Trie.{IsTrie, IsPlace, IsRow, part}
+use Rattle.champ_trie.specs.Trie.{IsTrie, IsPlace, IsRow, part, place_of}
 use Rattle.champ_trie.specs.Edit.{IsBelow}
 use Rattle.champ_trie.specs.Reach.{alike_in}
 use Rattle.champ_trie.specs.declared.place.Place.{Place}
 use Rattle.champ_trie.specs.declared.place.Place.TheVariants.{Entry as At, Node, Empty}
-use Rattle.champ_trie.proofs.StayLemmas.{forms-below}
 use Rattle.champ_trie.proofs.PlaceLemmas.{Changes as ChangesAt, place-entry, place-empty}
 use Rattle.champ_trie.proofs.PartLemmas.{stands-at, below-part, part-alike}
 use Rattle.champ_trie.proofs.WithLemmas.{chain-trie}
 use Rattle.champ_trie.proofs.LeftLemmas.{deepest-alike, lone-gone}
 use Rattle.champ_trie.proofs.RowLemmas.{same-place-of, place-linked, row-less}
-use Rattle.edit_trie.specs.Path.{rows_to, chain_rows, edit_rows, KeepsShared}
+use Rattle.edit_trie.specs.Path.{chain_rows, edit_rows, KeepsShared}
 use Rattle.edit_trie.specs.Spot.{IsSpot, PutsAt}
 use Rattle.edit_trie.specs.Walk.{EditsChild, CanEdit, CutsIn, MakesShared}
 use Rattle.edit_trie.specs.Chains.{CutsFromChain}
 use Rattle.edit_trie.specs.declared.row.Spot.TheVariants.{Node as NodeAt, Empty as NoneAt}
 use Rattle.edit_trie.proofs.CameLemmas.{made-cons, made-own}
-use Rattle.edit_trie.proofs.RowLemmas.{key-moved, not-row, not-cell, row-child}
-use Rattle.edit_trie.proofs.ChildLemmas.{OwnsChild, gains-child, own-beneath, own-then, own-child-there}
+use Rattle.edit_trie.proofs.RowLemmas.{key-moved, not-row, not-cell, row-links}
+use Rattle.edit_trie.proofs.LoneTrie.{all-below}
+use Rattle.std.specs.Cmp.{IsTotalOrder}
+use Rattle.edit_trie.proofs.ChildLemmas.{OwnsChild, gains-child, own-then, own-child-there}
 use Rattle.edit_trie.proofs.StepLemmas.{row-set, beside-stays, node-at, deeper, deeper-own, chain-at}
-use Rattle.edit_trie.proofs.PathLemmas.{rows_below, rows-first, rows-last, rows-node, below-moved, below-linked, edit-begins, edit-says}
-use Rattle.edit_trie.proofs.OwnLemmas.{none-live, off-first, row-node}
+use Rattle.edit_trie.proofs.PathLemmas.{rows_below, rows-first, edit-begins, edit-says}
+use Rattle.edit_trie.proofs.DownLemmas.{off-first, part-short as short-part, was-chain as path-was-chain, now-chain as path-now-chain, was-node as path-was-node, mid-node as path-mid-node, now-node as path-now-node, next-node, off-node}
 use Rattle.edit_trie.proofs.SharedLemmas.{shared-same, shared-one, shared-cons, shared-own}
 use Rattle.std.proofs.lemmas.List.{take_all}
 use Rattle.node_heap.proofs.AloneLemmas.{KeepsAlone-none, KeepsAlone-cons, alone-yes}
@@ -75,8 +74,7 @@ module _ {T : Type 0} (cmp : T → T → Ordering) (code : T → ℕ) (equal_cod
   low = omega arith
 
   part-short : length (part cmp code d (digit_at c d) E) ≤ length E
-  part-short =
-      omega (arith, length-filter_both (λ (z : Entry T). nat_eq (digit_at (code z.key) d) (digit_at c d)) (λ (z : Entry T). not (nat_eq (digit_at (code z.key) d) (digit_at c d))) (λ _. refl) E)
+  part-short = short-part cmp code old left d row c E can e n ls is
 
   pub there-part : link_with cmp key (part cmp code d (digit_at c d) E) ≢ None
   there-part none = there (sym (ap (option_map (λ (z : Entry T). z.link)) (part-find cmp code equal_codes d c key is_code E)) ∙ none)
@@ -166,19 +164,11 @@ module _ {T : Type 0} (cmp : T → T → Ordering) (code : T → ℕ) (equal_cod
     in-chain : (left ≡ 0) × IsChain cmp (form_at old) (child_at old row i) (part cmp code d (digit_at c d) E)
     in-chain = chain-at cmp code old row d left c E can.below e n ls is i spot (omega (arith, deepest))
 
-    chain-rows : (h : Heap T) (js : List ℕ) (most : ℕ) → IsRow (form_at h) row d e n js
-        → edit_rows cmp (form_at h) key most (suc left) d c row ≡ row ∷ chain_rows cmp (form_at h) key (λ _. []) most (Some (get_or js i 0))
-    chain-rows h js most there =
-        let C' = λ (k : ℕ). chain_rows cmp (form_at h) key (λ _. []) most (Some k) in
-        rows-node (λ _. []) C' (form_at h) left d c row e n js there i spot ∙ ap (λ m. row ∷ rows_to (λ _. []) C' (form_at h) m (suc d) c (get_or js i 0)) in-chain.0 ∙ ap (λ ks. row ∷ ks) (rows-last (λ _. []) C' (form_at h) (suc d) c (get_or js i 0))
-
     was-chain : (most : ℕ) → edit_rows cmp (form_at old) key most (suc left) d c row ≡ row ∷ chain_rows cmp (form_at old) key (λ _. []) most (Some (child_at old row i))
-    was-chain most = chain-rows old ls most is ∙ ap (λ k. row ∷ chain_rows cmp (form_at old) key (λ _. []) most (Some k)) (sym (row-child old row d e n ls is i))
+    was-chain most = path-was-chain cmp code old left d row c E can e n ls is i spot in-chain.0 (λ _. []) (λ q. chain_rows cmp (form_at old) key (λ _. []) most (Some q))
 
     now-chain : (more : ℕ) → edit_rows cmp (form_at new) key more (suc left) d c row ≡ row ∷ chain_rows cmp (form_at new) key (λ _. []) more (Some (child_at new row i))
-    now-chain more =
-        let made = row-node old new row i d e n ls is did.child (digit_at c d) low spot in
-        chain-rows new (set ls i (child_at new row i)) more made.0 ∙ ap (λ k. row ∷ chain_rows cmp (form_at new) key (λ _. []) more (Some k)) made.1
+    now-chain more = path-now-chain cmp code old left d row c E can e n ls is i spot in-chain.0 (λ _. []) (λ q. chain_rows cmp (form_at new) key (λ _. []) more (Some q)) did.child
 
     trie-chain : IsTrie cmp code (form_at new) (suc left) d row (others cmp key E)
     trie-chain =
@@ -240,41 +230,17 @@ module _ {T : Type 0} (cmp : T → T → Ordering) (code : T → ℕ) (equal_cod
       abbrev rest : ℕ → List ℕ
       rest most = rows_below (λ _. []) (λ q. chain_rows cmp (form_at old) key (λ _. []) most (Some q)) (form_at old) m' (d + 1) c j
 
-      deep : suc d ≡ d + 1
-      deep = omega arith
-
       was-node : (most : ℕ) → edit_rows cmp (form_at old) key most (suc left) d c row ≡ row ∷ j ∷ rest most
-      was-node most =
-          let F = form_at old in
-          let C' = λ (q : ℕ). chain_rows cmp F key (λ _. []) most (Some q) in
-          rows-node (λ _. []) C' F left d c row e n ls is i spot
-          ∙ ap (λ q. row ∷ rows_to (λ _. []) C' F left (suc d) c q) (sym (row-child old row d e n ls is i))
-          ∙ ap (λ q. row ∷ rows_to (λ _. []) C' F left q c j) deep ∙ ap (λ q. row ∷ rows_to (λ _. []) C' F q (d + 1) c j) is-left
-          ∙ ap (λ ks. row ∷ ks) (rows-first (λ _. []) C' F m' (d + 1) c j)
+      was-node most = path-was-node cmp code old left d row c E can e n ls is i spot mid k less own (λ _. []) (λ q. chain_rows cmp (form_at old) key (λ _. []) most (Some q))
 
       mid-node : (most : ℕ) → edit_rows cmp (form_at mid) key most (suc m') (d + 1) c k ≡ k ∷ rest most
-      mid-node most =
-          let F = form_at old in
-          let G = form_at mid in
-          let below = (deeper cmp code old row d left c E can.below e n ls is i spot less).below in
-          rows-first (λ _. []) (λ q. chain_rows cmp G key (λ _. []) most (Some q)) G m' (d + 1) c k
-          ∙ ap (λ ks. k ∷ ks) (below-moved cmp code F G _ _ _ _ (edit-says cmp code F G key most) m' (d + 1) c j k (part cmp code d (digit_at c d) E) (ap (option_map form_of) own.row)
-          (λ s has. SameBelow-link (links_in F) F G j s has (forms-below old mid j (own-beneath old mid row i k can.graph own))) below.trie)
+      mid-node most = path-mid-node cmp code old left d row c E can e n ls is i spot mid k less own (λ _. []) (λ q. chain_rows cmp (form_at old) key (λ _. []) most (Some q)) (λ _. []) (λ q. chain_rows cmp (form_at mid) key (λ _. []) most (Some q)) (edit-says cmp code (form_at old) (form_at mid) key most)
 
       now-node : (more : ℕ) → edit_rows cmp (form_at new) key more (suc left) d c row ≡ row ∷ edit_rows cmp (form_at new) key more (suc m') (d + 1) c k
-      now-node more =
-          let G = form_at new in
-          let C' = λ (q : ℕ). chain_rows cmp G key (λ _. []) more (Some q) in
-          let made = row-node old new row i d e n ls is edited (digit_at c d) low spot in
-          rows-node (λ _. []) C' G left d c row e n (set ls i (child_at new row i)) made.0 i spot
-          ∙ ap (λ q. row ∷ rows_to (λ _. []) C' G left (suc d) c q) (made.1 ∙ now-child)
-          ∙ ap (λ q. row ∷ rows_to (λ _. []) C' G left q c k) deep ∙ ap (λ q. row ∷ rows_to (λ _. []) C' G q (d + 1) c k) is-left
+      now-node more = path-now-node cmp code old left d row c E can e n ls is i spot mid k less own edited now-child (λ _. []) (λ q. chain_rows cmp (form_at new) key (λ _. []) more (Some q))
 
       next : (most : ℕ) → 1 ≤ length (rest most) → HasLink (links_at old) j (get_or (rest most) 0 0)
-      next most some =
-          let below = (deeper cmp code old row d left c E can.below e n ls is i spot less).below in
-          subst (λ ks. 0 < count (get_or (rest most) 0 0) ks) (links-form old j)
-          (below-linked cmp code (λ _. []) (λ q. chain_rows cmp (form_at old) key (λ _. []) most (Some q)) (edit-begins cmp (form_at old) key most) (form_at old) m' (d + 1) c j (part cmp code d (digit_at c d) E) below.trie some)
+      next most some = next-node cmp code old left d row c E can e n ls is i spot mid k less own (λ _. []) (λ q. chain_rows cmp (form_at old) key (λ _. []) most (Some q)) (edit-begins cmp (form_at old) key most) some
 
       came-node : (most more : ℕ) → length E ≤ most → length E ≤ more → MakesShared old new (edit_rows cmp (form_at old) key most (suc left) d c row) (edit_rows cmp (form_at new) key more (suc left) d c row)
       came-node most more short short' =
@@ -289,11 +255,8 @@ module _ {T : Type 0} (cmp : T → T → Ordering) (code : T → ℕ) (equal_cod
 
       others-node : (most : ℕ) → length E ≤ most → (m : ℕ) → IsSome (row_at old m) → IsSome (row_at new m) → count m (written old (row ∷ j ∷ rest most)) ≡ 0 → row_at new m ≡ row_at old m
       others-node most short m live live' off =
-          let first = off-first old row m (j ∷ rest most) can.sole off in
-          let stays : row_at mid m ≡ row_at old m = own.stays m first.0 live in
-          let fresh : k ≢ j → m ≢ k = λ copy same. none-live (row_at old m) (ap (row_at old) same ∙ own.fresh copy) live in
-          let left_off = written-own old mid j k (rest most) own.same own.sole own.owners can.graph (next most) m fresh first.1 in
-          did.others most (omega (arith, part-short, short)) m (subst IsSome (sym stays) live) live' (subst (λ ks. count m (written mid ks) ≡ 0) (sym (mid-node most)) left_off) ∙ stays
+          let away = off-node cmp code old left d row c E can e n ls is i spot mid k less own (rest most) (next most) m live off in
+          did.others most (omega (arith, part-short, short)) m (subst IsSome (sym away.0) live) live' (subst (λ ks. count m (written mid ks) ≡ 0) (sym (mid-node most)) away.1) ∙ away.0
 
       pub cuts-node : CutsIn cmp code old new left d row c E key x
       cuts-node = record {
@@ -337,6 +300,13 @@ module _ {T : Type 0} (cmp : T → T → Ordering) (code : T → ℕ) (equal_cod
   cut-below-node i child spot at =
       let place = λ (depth a b : ℕ) (ks : List ℕ) (was : IsRow (form_at old) row depth a b ks). ap Node at ∙ node-at cmp code old row d left c E can.below e n ls is i spot depth a b ks was in
       (below-part cmp code (form_at old) left d row c child E can.below place (omega arith), (stands-at cmp code (form_at old) left d row (digit_at c d) E (Node child) can.below.trie place (omega arith)).0)
+
+  -- below the only link more than one entry is left where it is below the row
+  pub cut-only : IsTotalOrder cmp → (i : ℕ) → IsSpot e n (digit_at c d) (NodeAt i) → (0 < d → 2 ≤ length (others cmp key E)) → 0 < d → length (links_at old row) ≡ 1 → 2 ≤ length (others cmp key (part cmp code d (digit_at c d) E))
+  cut-only order i spot some deep one =
+      let places = λ (q : ℕ) (low : q < 32). stands-at cmp code (form_at old) left d row q E (place_of e n ls q) can.below.trie (λ depth a b ks was. same-place-of (form_at old) row d e n ls depth a b ks q is was) low in
+      let whole = all-below cmp code (form_at old) (λ k P. IsTrie cmp code (form_at old) left (d + 1) k P) d e n ls E is.sets places (digit_at c d) (omega arith) spot.1 (sym (ap length (row-links old row d e n ls is)) ∙ one) in
+      subst (λ (P : List (Entry T)). 2 ≤ length (others cmp key P)) (sym whole) (some deep)
 
   -- an entry that is left there doesn't reach the row
   pub lone-apart : (lone : ℕ) (k : T) → others cmp key (part cmp code d (digit_at c d) E) ≡ entry k lone ∷ [] → IsEntry (form_at old) (entry k lone) → ¬ Reaches (links_at old) lone row

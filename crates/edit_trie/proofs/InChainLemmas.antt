@@ -39,8 +39,8 @@ use Rattle.edit_trie.specs.Chains.{IsFront, IsPast, OwnsRows, OwnsInChain, link_
 use Rattle.edit_trie.proofs.RowLemmas.{key-moved, row-form}
 use Rattle.edit_trie.proofs.StepLemmas.{find-has}
 use Rattle.edit_trie.proofs.ChildLemmas.{OwnsChild, child-linked, own-linked, own-child, gains-child, child-then}
-use Rattle.edit_trie.proofs.CameLemmas.{alone-own}
-use Rattle.edit_trie.proofs.OwnLemmas.{apart-owned}
+use Rattle.node_heap.proofs.AloneLemmas.{alone-own}
+use Rattle.edit_trie.proofs.DownLemmas.{apart-owned}
 use Rattle.edit_trie.proofs.PathLemmas.{chain-row, order-row}
 use Rattle.edit_trie.proofs.FrontLemmas.{IsLastRow, front-last, front-path, front-rows, front-rest, front-push, front-above, front-stays, front-keyless}
 use Rattle.edit_trie.proofs.ChainLemmas.{child-more, cells-kept, keys-stay}
@@ -268,7 +268,7 @@ module _ {T : Type 0} (cmp : T → T → Ordering) (o : IsTotalOrder cmp) (old n
           rw (old-path most short, new-path more short') (owns.path (child_at now r 0 ∷ []) (k ∷ []) (λ some. pair-linked) tail);
       came = λ most short.
           let before = owns.came (child_at now r 0 ∷ []) (λ some. pair-linked) in
-          let copied = alone-own now new (child_at now r 0) k own.same own.sole own.owners graph_now [] (λ none. absurd (omega (arith, none))) in
+          let copied = alone-own now new (child_at now r 0) k [] own.same own.sole own.owners graph_now (λ none. absurd (omega (arith, none))) in
           let all : MakesCopies old new (owns.rows ++ child_at now r 0 ∷ []) = omega (arith, before, copied, alone-yes new k [] own.sole, own.makes.live, length-append owns.rows (child_at now r 0 ∷ [])) in
           subst (MakesCopies old new) (sym (old-path most short)) all;
       writes = λ most short m live other off.

@@ -33,7 +33,7 @@ use Rattle.edit_trie.specs.Edit.{by_bits}
 use Rattle.edit_trie.specs.Laws.{EditsKeepValues, CutsKeepValues, CutsKeepHeld}
 use Rattle.edit_trie.proofs.PathLemmas.{rows_below, rows-first, rows-last, place-in, next-row}
 use Rattle.edit_trie.proofs.MapLemmas.{pair-key}
-use Rattle.edit_trie.proofs.KeepLemmas.{IsDown, down-end, down-then, others-beside, others-below, left-below, left-held}
+use Rattle.node_heap.proofs.BesidePath.{IsDown, down-end, down-then, others-beside, others-below, left-below, left-held}
 
 module _ {T : Type 0} (h : Heap T) where
   -- a row that names no entry: each row of a path that is followed by another

@@ -4,6 +4,7 @@ pub mod ChildLemmas
 pub mod StepLemmas
 pub mod PathLemmas
 pub mod CameLemmas
+pub mod DownLemmas
 pub mod OwnLemmas
 pub mod LoneLemmas
 pub mod LoneTrie
@@ -27,6 +28,6 @@ pub mod RebindLemmas
 pub mod PutTop
 pub mod PlacedPairs
 pub mod WayTop
-pub mod KeepLemmas
 pub mod LawLemmas
 pub mod PairLawLemmas
+pub mod CallerLemmas

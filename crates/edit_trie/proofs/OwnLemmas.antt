@@ -1,76 +1,37 @@
 -- What owning the way to a pair makes of a trie row, at an entry, at a chain and at a row of the next depth.
-use Rattle.std.proofs.Common.{◌≡◌, ◌≢◌, ℕ, suc, ◌+◌, ◌<◌, ◌≤◌, ◌^◌, List, [], ◌∷◌, length, get_or, set, refl, ap, sym, subst, ◌∙◌, arith, not, Option, Some, None, IsSome, option_map, inl, inr}
-use Rattle.std.specs.Prelude.{nat_eq}
+use Rattle.std.proofs.Common.{◌≡◌, ◌≢◌, ℕ, suc, ◌+◌, ◌<◌, ◌≤◌, ◌^◌, List, [], ◌∷◌, length, get_or, set, refl, ap, sym, subst, ◌∙◌, arith, Some, IsSome}
 use Rattle.std.specs.Ordering.{match_ordering}
 use Rattle.std.specs.Cmp.{IsTotalOrder}
 use Rattle.std.specs.declared.cmp.Ordering.{Ordering}
 use Rattle.std.specs.declared.cmp.Ordering.TheVariants.{Equal}
-use Rattle.std.proofs.lemmas.Bool.{cases_eq}
 use Rattle.std.proofs.lemmas.Cmp.{tied_back}
-use Rattle.std.proofs.lemmas.List.Filters.{length-filter_both}
 use Rattle.elem_core.specs.Codes.{digit_at}
 use Rattle.elem_core.specs.declared.codes.TheConstants.{CODE_BITS, DEEPEST}
 use Rattle.node_heap.specs.Links.{count, HasLink}
-use Rattle.node_heap.specs.Forms.{links_in, form_of, is_node}
-use Rattle.node_heap.specs.Heap.{Heap, row_at, form_at, links_at, owners_at}
+use Rattle.node_heap.specs.Forms.{is_node}
+use Rattle.node_heap.specs.Heap.{Heap, row_at, form_at, links_at}
 use Rattle.node_heap.specs.InPlace.{child_at}
 use Rattle.node_heap.specs.Owner.{written, KeepsAlone}
-use Rattle.node_heap.proofs.Counts.{count-cons, test_same}
-use Rattle.node_heap.proofs.Reach.{SameBelow-link}
 use Rattle.node_heap.proofs.Edited.{Changes-more}
 use Rattle.node_heap.proofs.EditLaws.{Gains-trans}
-use Rattle.node_heap.proofs.AloneLemmas.{KeepsAlone-none, KeepsAlone-cons, KeepsAlone-own, alone-yes, written-cons, written-own}
+use Rattle.node_heap.proofs.AloneLemmas.{KeepsAlone-none, KeepsAlone-cons, KeepsAlone-own, alone-yes}
 use Rattle.champ_chain.specs.Entry.{Entry, entry, IsEntry}
 use Rattle.champ_chain.specs.Chain.{IsChain}
-use Rattle.champ_chain.proofs.FrameLemmas.{links-form}
-use Rattle.champ_trie.specs.Trie.{IsRow, AreSets, part}
+use Rattle.champ_trie.specs.Trie.{IsRow, part}
 use Rattle.champ_trie.specs.Reach.{alike_in}
-use Rattle.champ_trie.proofs.StayLemmas.{forms-below}
 use Rattle.champ_trie.proofs.PartLemmas.{part-alike}
 use Rattle.champ_trie.proofs.LeftLemmas.{deepest-alike}
-use Rattle.edit_trie.specs.Path.{rows_to, chain_rows, pair_rows, own_entry, row_and_entry, MakesCopies}
+use Rattle.edit_trie.specs.Path.{chain_rows, pair_rows, own_entry, row_and_entry, MakesCopies}
 use Rattle.edit_trie.specs.Spot.{IsSpot}
 use Rattle.edit_trie.specs.Walk.{EditsChild, CanEdit, HasPair, OwnsIn}
 use Rattle.edit_trie.specs.Chains.{OwnsInChain}
 use Rattle.edit_trie.specs.declared.row.Spot.TheVariants.{Entry as EntryAt, Node as NodeAt}
 use Rattle.edit_trie.proofs.CameLemmas.{copies-cons, copies-own}
 use Rattle.edit_trie.proofs.RowLemmas.{row-child}
-use Rattle.edit_trie.proofs.SpotLemmas.{set-entry, set-node}
-use Rattle.edit_trie.proofs.ChildLemmas.{OwnsChild, own-child, own-there, own-beneath, owned-child, gains-child, own-then, own-child-there, own-down}
-use Rattle.edit_trie.proofs.StepLemmas.{row-set, find-has, entry-row, entry-stays, deeper, deeper-own, chain-at, in-part, entry-at, pair-row, pair-key, pair-trie, chain-done, node-done}
-use Rattle.edit_trie.proofs.PathLemmas.{rows_below, rows-first, rows-last, rows-entry, rows-node, below-moved, below-linked, pair-begins, pair-says, order-entry}
-
--- what is there isn't nothing
-pub none-live : {X : Type 0} (r : Option X) → r ≡ None → IsSome r → ⊥
-none-live None is live = absurd cc
-none-live (Some x) is live = absurd cc
-
--- a row that was there and isn't written, where the first row of the path has one owner
-pub off-first : {T : Type 0} (h : Heap T) (x m : ℕ) (path : List ℕ) → owners_at h x ≡ 1 → count m (written h (x ∷ path)) ≡ 0 → (m ≢ x) × (count m (written h path) ≡ 0)
-off-first h x m path one off =
-    let both : count m (x ∷ written h path) ≡ 0 = subst (λ ks. count m ks ≡ 0) (written-cons h x path one) off in
-    (λ same. absurd (omega (arith, both, count-cons m x (written h path), test_same x m (sym same))), omega (arith, both, count-cons m x (written h path)))
-
--- and isn't the row that a child is after it was made its parent's own
-pub apart-owned : {T : Type 0} (old mid : Heap T) (row i k : ℕ) → OwnsChild old mid row i k → (m : ℕ) (tail : List ℕ) → IsSome (row_at old m) → count m (written old (child_at old row i ∷ tail)) ≡ 0 → m ≢ k
-apart-owned old mid row i k own m tail live off = elim (cases_eq k (child_at old row i)) as (λ _. m ≢ k) [
-  | inl itself ↦ λ same. (off-first old (child_at old row i) m tail (own.same.0 itself) off).0 (same ∙ itself)
-  | inr copy ↦ λ same. none-live (row_at old m) (ap (row_at old) same ∙ own.fresh copy) live
-]
-
--- the row with another link at the index of an entry, and of a node
-module _ {T : Type 0} (old new : Heap T) (row i d e n : ℕ) (ls : List ℕ) (is : IsRow (form_at old) row d e n ls) {a b : ℕ} {spent gained : List ℕ} (edits : EditsChild row i old new spent gained a b) (p : ℕ) (small : p < 32) where
-  pub row-entry : IsSpot e n p (EntryAt i) → IsRow (form_at new) row d e n (set ls i (child_at new row i)) × (get_or (set ls i (child_at new row i)) i 0 ≡ child_at new row i)
-  row-entry spot =
-      let to = set-entry e n ls is.sets p small (child_at new row i) spot.0 in
-      let now = row-set old new row i edits d e n ls is (subst (λ j. AreSets e n (set ls j (child_at new row i))) (sym spot.1) to.sets) in
-      (now, sym (row-child new row d e n (set ls i (child_at new row i)) now i))
-
-  pub row-node : IsSpot e n p (NodeAt i) → IsRow (form_at new) row d e n (set ls i (child_at new row i)) × (get_or (set ls i (child_at new row i)) i 0 ≡ child_at new row i)
-  row-node spot =
-      let to = set-node e n ls is.sets p small (child_at new row i) spot.0 spot.1 in
-      let now = row-set old new row i edits d e n ls is (subst (λ j. AreSets e n (set ls j (child_at new row i))) (sym spot.2) to.sets) in
-      (now, sym (row-child new row d e n (set ls i (child_at new row i)) now i))
+use Rattle.edit_trie.proofs.ChildLemmas.{OwnsChild, own-child, own-there, owned-child, gains-child, own-then, own-child-there, own-down}
+use Rattle.edit_trie.proofs.StepLemmas.{find-has, entry-row, entry-stays, deeper, deeper-own, chain-at, in-part, entry-at, pair-row, pair-key, pair-trie, chain-done, node-done}
+use Rattle.edit_trie.proofs.PathLemmas.{rows_below, rows-entry, pair-begins, pair-says, order-entry}
+use Rattle.edit_trie.proofs.DownLemmas.{off-first, apart-owned, row-entry, part-short as short-part, was-chain as path-was-chain, now-chain as path-now-chain, was-node as path-was-node, mid-node as path-mid-node, now-node as path-now-node, next-node, off-node}
 
 module _ {T : Type 0} (cmp : T → T → Ordering) (code : T → ℕ) (o : IsTotalOrder cmp) (equal_codes : (j k : T) → cmp j k ≡ Equal → code j ≡ code k) (old : Heap T) (left d row c : ℕ) (E : List (Entry T)) (key : T) (x : Entry T)
     (is_code : c ≡ code key) (can : CanEdit cmp code old left d row c E) (pair : HasPair cmp old E key x) (e n : ℕ) (ls : List ℕ) (is : IsRow (form_at old) row d e n ls) (i : ℕ) where
@@ -84,8 +45,7 @@ module _ {T : Type 0} (cmp : T → T → Ordering) (code : T → ℕ) (o : IsTot
   low = omega arith
 
   part-short : length (part cmp code d (digit_at c d) E) ≤ length E
-  part-short =
-      omega (arith, length-filter_both (λ (z : Entry T). nat_eq (digit_at (code z.key) d) (digit_at c d)) (λ (z : Entry T). not (nat_eq (digit_at (code z.key) d) (digit_at c d))) (λ _. refl) E)
+  part-short = short-part cmp code old left d row c E can e n ls is
 
   -- what is said of an entry of the key
   says-entry : (h : Heap T) (y : ℕ) → IsEntry (form_at h) (entry x.key y) → own_entry cmp (form_at h) key y ≡ y ∷ []
@@ -149,20 +109,11 @@ module _ {T : Type 0} (cmp : T → T → Ordering) (code : T → ℕ) (o : IsTot
     in-chain : (left ≡ 0) × IsChain cmp (form_at old) (child_at old row i) (part cmp code d (digit_at c d) E)
     in-chain = chain-at cmp code old row d left c E can.below e n ls is i spot (omega (arith, deepest))
 
-    chain-rows : (h : Heap T) (js : List ℕ) (most : ℕ) → IsRow (form_at h) row d e n js
-        → pair_rows cmp (form_at h) key most (suc left) d c row ≡ row ∷ chain_rows cmp (form_at h) key (row_and_entry cmp (form_at h) key) most (Some (get_or js i 0))
-    chain-rows h js most there =
-        let E' = own_entry cmp (form_at h) key in
-        let C' = λ (k : ℕ). chain_rows cmp (form_at h) key (row_and_entry cmp (form_at h) key) most (Some k) in
-        rows-node E' C' (form_at h) left d c row e n js there i spot ∙ ap (λ m. row ∷ rows_to E' C' (form_at h) m (suc d) c (get_or js i 0)) in-chain.0 ∙ ap (λ ks. row ∷ ks) (rows-last E' C' (form_at h) (suc d) c (get_or js i 0))
-
     was-chain : (most : ℕ) → pair_rows cmp (form_at old) key most (suc left) d c row ≡ row ∷ chain_rows cmp (form_at old) key (row_and_entry cmp (form_at old) key) most (Some (child_at old row i))
-    was-chain most = chain-rows old ls most is ∙ ap (λ k. row ∷ chain_rows cmp (form_at old) key (row_and_entry cmp (form_at old) key) most (Some k)) (sym (row-child old row d e n ls is i))
+    was-chain most = path-was-chain cmp code old left d row c E can e n ls is i spot in-chain.0 (own_entry cmp (form_at old) key) (λ q. chain_rows cmp (form_at old) key (row_and_entry cmp (form_at old) key) most (Some q))
 
     now-chain : (more : ℕ) → pair_rows cmp (form_at new) key more (suc left) d c row ≡ row ∷ chain_rows cmp (form_at new) key (row_and_entry cmp (form_at new) key) more (Some (child_at new row i))
-    now-chain more =
-        let made = row-node old new row i d e n ls is did.child (digit_at c d) low spot in
-        chain-rows new (set ls i (child_at new row i)) more made.0 ∙ ap (λ k. row ∷ chain_rows cmp (form_at new) key (row_and_entry cmp (form_at new) key) more (Some k)) made.1
+    now-chain more = path-now-chain cmp code old left d row c E can e n ls is i spot in-chain.0 (own_entry cmp (form_at new) key) (λ q. chain_rows cmp (form_at new) key (row_and_entry cmp (form_at new) key) more (Some q)) did.child
 
     pub owns-chain : OwnsIn cmp code old new left d row c E key x r
     owns-chain = record {
@@ -220,43 +171,17 @@ module _ {T : Type 0} (cmp : T → T → Ordering) (code : T → ℕ) (o : IsTot
       abbrev rest : ℕ → List ℕ
       rest most = rows_below (own_entry cmp (form_at old) key) (λ q. chain_rows cmp (form_at old) key (row_and_entry cmp (form_at old) key) most (Some q)) (form_at old) m' (d + 1) c j
 
-      deep : suc d ≡ d + 1
-      deep = omega arith
-
       was-node : (most : ℕ) → pair_rows cmp (form_at old) key most (suc left) d c row ≡ row ∷ j ∷ rest most
-      was-node most =
-          let F = form_at old in
-          let E' = own_entry cmp F key in
-          let C' = λ (q : ℕ). chain_rows cmp F key (row_and_entry cmp F key) most (Some q) in
-          rows-node E' C' F left d c row e n ls is i spot
-          ∙ ap (λ q. row ∷ rows_to E' C' F left (suc d) c q) (sym (row-child old row d e n ls is i))
-          ∙ ap (λ q. row ∷ rows_to E' C' F left q c j) deep ∙ ap (λ q. row ∷ rows_to E' C' F q (d + 1) c j) is-left
-          ∙ ap (λ ks. row ∷ ks) (rows-first E' C' F m' (d + 1) c j)
+      was-node most = path-was-node cmp code old left d row c E can e n ls is i spot mid k less own (own_entry cmp (form_at old) key) (λ q. chain_rows cmp (form_at old) key (row_and_entry cmp (form_at old) key) most (Some q))
 
       mid-node : (most : ℕ) → pair_rows cmp (form_at mid) key most (suc m') (d + 1) c k ≡ k ∷ rest most
-      mid-node most =
-          let F = form_at old in
-          let G = form_at mid in
-          let below = (deeper cmp code old row d left c E can.below e n ls is i spot less).below in
-          rows-first (own_entry cmp G key) (λ q. chain_rows cmp G key (row_and_entry cmp G key) most (Some q)) G m' (d + 1) c k
-          ∙ ap (λ ks. k ∷ ks) (below-moved cmp code F G _ _ _ _ (pair-says cmp code F G key most) m' (d + 1) c j k (part cmp code d (digit_at c d) E) (ap (option_map form_of) own.row)
-          (λ s has. SameBelow-link (links_in F) F G j s has (forms-below old mid j (own-beneath old mid row i k can.graph own))) below.trie)
+      mid-node most = path-mid-node cmp code old left d row c E can e n ls is i spot mid k less own (own_entry cmp (form_at old) key) (λ q. chain_rows cmp (form_at old) key (row_and_entry cmp (form_at old) key) most (Some q)) (own_entry cmp (form_at mid) key) (λ q. chain_rows cmp (form_at mid) key (row_and_entry cmp (form_at mid) key) most (Some q)) (pair-says cmp code (form_at old) (form_at mid) key most)
 
       now-node : (more : ℕ) → pair_rows cmp (form_at new) key more (suc left) d c row ≡ row ∷ pair_rows cmp (form_at new) key more (suc m') (d + 1) c k
-      now-node more =
-          let G = form_at new in
-          let E' = own_entry cmp G key in
-          let C' = λ (q : ℕ). chain_rows cmp G key (row_and_entry cmp G key) more (Some q) in
-          let made = row-node old new row i d e n ls is edited (digit_at c d) low spot in
-          rows-node E' C' G left d c row e n (set ls i (child_at new row i)) made.0 i spot
-          ∙ ap (λ q. row ∷ rows_to E' C' G left (suc d) c q) (made.1 ∙ there)
-          ∙ ap (λ q. row ∷ rows_to E' C' G left q c k) deep ∙ ap (λ q. row ∷ rows_to E' C' G q (d + 1) c k) is-left
+      now-node more = path-now-node cmp code old left d row c E can e n ls is i spot mid k less own edited there (own_entry cmp (form_at new) key) (λ q. chain_rows cmp (form_at new) key (row_and_entry cmp (form_at new) key) more (Some q))
 
       next : (most : ℕ) → 1 ≤ length (rest most) → HasLink (links_at old) j (get_or (rest most) 0 0)
-      next most some =
-          let below = (deeper cmp code old row d left c E can.below e n ls is i spot less).below in
-          subst (λ ks. 0 < count (get_or (rest most) 0 0) ks) (links-form old j)
-          (below-linked cmp code (own_entry cmp (form_at old) key) (λ q. chain_rows cmp (form_at old) key (row_and_entry cmp (form_at old) key) most (Some q)) (pair-begins cmp (form_at old) key most) (form_at old) m' (d + 1) c j (part cmp code d (digit_at c d) E) below.trie some)
+      next most some = next-node cmp code old left d row c E can e n ls is i spot mid k less own (own_entry cmp (form_at old) key) (λ q. chain_rows cmp (form_at old) key (row_and_entry cmp (form_at old) key) most (Some q)) (pair-begins cmp (form_at old) key most) some
 
       keeps-node : (most more : ℕ) → length E ≤ most → length E ≤ more → KeepsAlone old (row ∷ j ∷ rest most) (row ∷ pair_rows cmp (form_at new) key more (suc m') (d + 1) c k)
       keeps-node most more short short' =
@@ -272,19 +197,13 @@ module _ {T : Type 0} (cmp : T → T → Ordering) (code : T → ℕ) (o : IsTot
 
       others-node : (most : ℕ) → length E ≤ most → (m : ℕ) → IsSome (row_at old m) → count m (written old (row ∷ j ∷ rest most)) ≡ 0 → row_at new m ≡ row_at old m
       others-node most short m live off =
-          let first = off-first old row m (j ∷ rest most) can.sole off in
-          let stays : row_at mid m ≡ row_at old m = own.stays m first.0 live in
-          let fresh : k ≢ j → m ≢ k = λ copy same. none-live (row_at old m) (ap (row_at old) same ∙ own.fresh copy) live in
-          let left_off = written-own old mid j k (rest most) own.same own.sole own.owners can.graph (next most) m fresh first.1 in
-          did.others most (omega (arith, part-short, short)) m (subst IsSome (sym stays) live) (subst (λ ks. count m (written mid ks) ≡ 0) (sym (mid-node most)) left_off) ∙ stays
+          let away = off-node cmp code old left d row c E can e n ls is i spot mid k less own (rest most) (next most) m live off in
+          did.others most (omega (arith, part-short, short)) m (subst IsSome (sym away.0) live) (subst (λ ks. count m (written mid ks) ≡ 0) (sym (mid-node most)) away.1) ∙ away.0
 
       apart-node : (most : ℕ) → length E ≤ most → (m : ℕ) → IsSome (row_at old m) → count m (written old (row ∷ j ∷ rest most)) ≡ 0 → m ≢ r
       apart-node most short m live off =
-          let first = off-first old row m (j ∷ rest most) can.sole off in
-          let stays : row_at mid m ≡ row_at old m = own.stays m first.0 live in
-          let fresh : k ≢ j → m ≢ k = λ copy same. none-live (row_at old m) (ap (row_at old) same ∙ own.fresh copy) live in
-          let left_off = written-own old mid j k (rest most) own.same own.sole own.owners can.graph (next most) m fresh first.1 in
-          did.apart most (omega (arith, part-short, short)) m (subst IsSome (sym stays) live) (subst (λ ks. count m (written mid ks) ≡ 0) (sym (mid-node most)) left_off)
+          let away = off-node cmp code old left d row c E can e n ls is i spot mid k less own (rest most) (next most) m live off in
+          did.apart most (omega (arith, part-short, short)) m (subst IsSome (sym away.0) live) (subst (λ ks. count m (written mid ks) ≡ 0) (sym (mid-node most)) away.1)
 
       pub owns-node : OwnsIn cmp code old new left d row c E key x r
       owns-node = record {

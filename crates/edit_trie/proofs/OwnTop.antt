@@ -1,6 +1,6 @@
 -- The way to a key's pair in a whole map was made the owner's own.
 use Rattle.std.proofs.Common.{◌≡◌, ℕ, ◌+◌, ◌≤◌, List, [], ◌∷◌, length, get_or, refl, ap, sym, ◌∙◌, arith, cond, Some, option_map}
-use Rattle.champ_trie.specs.declared.TheConstants.{ADD_NODES}
+use Rattle.edit_trie.specs.declared.own.TheConstants.{OWN_NODES}
 use Rattle.std.specs.Prelude.{count_by}
 use Rattle.std.specs.List.{All, AllZip, find}
 use Rattle.std.specs.Cmp.{IsTotalOrder, Equal-is}
@@ -147,7 +147,7 @@ module _ {T : Type 0} (cmp : T → T → Ordering) (code : T → ℕ) (o : IsTot
       top = did.changes.paths.soles r (here r) own.sole;
       sole = sole-last (owners_at new) (links_at new) r link did.down (did.changes.paths.soles r (here r) own.sole);
       down = did.down;
-      edits = EditsBy-more 0 (ADD_NODES + alike_keys code bits key M) (own.edits new [] [] 0 (LEVELS + alike_in (code_by code bits) c is.entries) did.changes) (omega arith) (omega (arith, alike-top));
+      edits = EditsBy-more 0 (OWN_NODES + alike_keys code bits key M) (own.edits new [] [] 0 (LEVELS + alike_in (code_by code bits) c is.entries) did.changes) (omega arith) (omega (arith, alike-top));
       path = path-new (omega (arith, short-old, makes.live));
       gains = gains-new;
       others = others-new;

@@ -11,7 +11,7 @@ use Rattle.node_heap.specs.Owner.{by_place}
 use Rattle.node_heap.proofs.EditLaws.{Gains-trans}
 use Rattle.node_heap.proofs.OwnedRows.{IsOwned, after-room, makes-came}
 use Rattle.champ_chain.specs.Entry.{Entry, link_with}
-use Rattle.champ_trie.specs.declared.TheConstants.{ADD_NODES}
+use Rattle.edit_trie.specs.declared.own.TheConstants.{OWN_NODES}
 use Rattle.champ_trie.specs.Reach.{alike_in}
 use Rattle.champ_trie.specs.Trie.{code_by}
 use Rattle.champ_kinds.specs.Binding.{Binding, alike_keys}
@@ -59,5 +59,5 @@ module _ {T : Type 0} (cmp : T → T → Ordering) (code : T → ℕ) (total : I
       pub entry-placed : OwnsEntry cmp code first new (by_bits bits (child_at new parent child)) is.entries key link
       entry-placed = subst (λ l. OwnsEntry cmp code first new (by_bits bits l) is.entries key link) (sym there) (owned-entry cmp code total (by_place parent child) bits first mid r (own-placed room owns) M is key new e link pair did)
 
-      pub changes-placed : Changes parent first new [] [] 0 (ADD_NODES + alike_keys code bits key M)
+      pub changes-placed : Changes parent first new [] [] 0 (OWN_NODES + alike_keys code bits key M)
       changes-placed = changes-place room owns _ (omega (arith, alike-placed)) did.changes

@@ -1,12 +1,11 @@
 -- What an entry that is put in makes of a trie row: at an empty position, at a chain and at a row of the next depth.
-use Rattle.std.proofs.Common.{◌≡◌, ◌≢◌, ℕ, suc, ◌+◌, ◌<◌, ◌≤◌, ◌^◌, List, [], ◌∷◌, length, get_or, set, refl, ap, sym, subst, ◌∙◌, arith, not, Some, None, IsSome, option_map}
+use Rattle.std.proofs.Common.{◌≡◌, ◌≢◌, ℕ, suc, ◌+◌, ◌<◌, ◌≤◌, ◌^◌, List, [], ◌∷◌, length, get_or, set, ap, sym, subst, ◌∙◌, arith, Some, None, IsSome, option_map}
 use Rattle.std.specs.Prelude.{nat_eq}
 use Rattle.std.specs.List.{find}
 use Rattle.std.specs.Cmp.{Equal-is}
 use Rattle.std.specs.declared.cmp.Ordering.{Ordering}
 use Rattle.std.specs.declared.cmp.Ordering.TheVariants.{Equal}
 use Rattle.std.proofs.lemmas.Bool.{eq-eqb}
-use Rattle.std.proofs.lemmas.List.Filters.{length-filter_both}
 use Rattle.elem_core.specs.Codes.{digit_at}
 use Rattle.elem_core.specs.declared.codes.TheConstants.{CODE_BITS, DEEPEST}
 use Rattle.node_heap.specs.Links.{count, HasLink, Reaches}
@@ -15,11 +14,11 @@ use Rattle.node_heap.specs.Heap.{Heap, row_at, form_at, links_at, holds_at}
 use Rattle.node_heap.specs.Calls.{Gains}
 use Rattle.node_heap.specs.InPlace.{child_at, Changes}
 use Rattle.node_heap.specs.Owner.{alone, written}
-use Rattle.node_heap.proofs.Reach.{Reaches-by, SameBelow-link}
+use Rattle.node_heap.proofs.Reach.{Reaches-by}
 use Rattle.node_heap.proofs.GraphLemmas.{IsGraph-acyclic}
 use Rattle.node_heap.proofs.Edited.{Changes-more}
 use Rattle.node_heap.proofs.EditLaws.{Gains-trans}
-use Rattle.node_heap.proofs.AloneLemmas.{alone-yes, written-own}
+use Rattle.node_heap.proofs.AloneLemmas.{alone-yes}
 use Rattle.champ_chain.specs.Entry.{Entry, entry, has_key, link_with, IsEntry, put}
 use Rattle.champ_chain.specs.Chain.{IsChain}
 use Rattle.champ_chain.proofs.FrameLemmas.{links-form}
@@ -28,7 +27,6 @@ use Rattle.champ_trie.specs.Trie.{IsTrie, IsPlace, IsRow, part, place_of}
 use Rattle.champ_trie.specs.Reach.{alike_in}
 use Rattle.champ_trie.specs.declared.place.Place.{Place}
 use Rattle.champ_trie.specs.declared.place.Place.TheVariants.{Entry as At, Empty}
-use Rattle.champ_trie.proofs.StayLemmas.{forms-below}
 use Rattle.champ_trie.proofs.ReachLemmas.{find-kept}
 use Rattle.champ_trie.proofs.PlaceLemmas.{place-empty}
 use Rattle.champ_trie.proofs.PartLemmas.{stands-at, part-distinct, part-alike}
@@ -41,13 +39,13 @@ use Rattle.edit_trie.specs.Walk.{EditsChild, CanEdit, PutsIn}
 use Rattle.edit_trie.specs.Chains.{PutsInChain}
 use Rattle.edit_trie.specs.declared.row.Spot.TheVariants.{Node as NodeAt, Empty as NoneAt}
 use Rattle.edit_trie.proofs.RowLemmas.{key-moved, not-row, not-cell, row-child}
-use Rattle.edit_trie.proofs.ChildLemmas.{OwnsChild, own-linked, own-beneath, own-held, own-apart, apart-child, unspent-one, gains-child, own-then, own-child-there}
+use Rattle.edit_trie.proofs.ChildLemmas.{OwnsChild, own-linked, own-held, own-apart, apart-child, unspent-one, gains-child, own-then, own-child-there}
 use Rattle.edit_trie.proofs.StepLemmas.{put-two, node-child, entry-stays, deeper, deeper-own, chain-at}
-use Rattle.edit_trie.proofs.PathLemmas.{rows_below, rows-first, rows-last, rows-none, rows-node, place-in, below-moved, below-linked, edit-begins, edit-says}
-use Rattle.edit_trie.proofs.OwnLemmas.{none-live, off-first, row-node}
+use Rattle.edit_trie.proofs.PathLemmas.{rows_below, rows-first, rows-none, place-in, edit-begins, edit-says}
+use Rattle.edit_trie.proofs.DownLemmas.{off-first, row-node, part-short as short-part, chain-rows, was-chain as path-was-chain, now-chain as path-now-chain, was-node as path-was-node, mid-node as path-mid-node, now-node as path-now-node, next-node, off-node}
 use Rattle.champ_chain.proofs.SetLemmas.{same-length}
 use Rattle.champ_kinds.proofs.PairLemmas.{others-none, link-none}
-use Rattle.edit_trie.proofs.CameLemmas.{alone-own}
+use Rattle.node_heap.proofs.AloneLemmas.{alone-own}
 use Rattle.edit_trie.proofs.WayLemmas.{on-length, way-says}
 use Rattle.edit_trie.proofs.SharedLemmas.{shared-same, shared-one, shared-cons, shared-own}
 
@@ -75,8 +73,7 @@ module _ {T : Type 0} (cmp : T → T → Ordering) (code : T → ℕ) (equal_cod
   digit = ap (λ m. digit_at m d) (sym is_code)
 
   part-short : length (part cmp code d (digit_at c d) E) ≤ length E
-  part-short =
-      omega (arith, length-filter_both (λ (z : Entry T). nat_eq (digit_at (code z.key) d) (digit_at c d)) (λ (z : Entry T). not (nat_eq (digit_at (code z.key) d) (digit_at c d))) (λ _. refl) E)
+  part-short = short-part cmp code old left d row c E can e n ls is
 
   pub absent-part : link_with cmp key E ≡ None → link_with cmp key (part cmp code d (digit_at c d) E) ≡ None
   absent-part absent = ap (option_map (λ (z : Entry T). z.link)) (part-find cmp code equal_codes d c key is_code E) ∙ absent
@@ -144,19 +141,11 @@ module _ {T : Type 0} (cmp : T → T → Ordering) (code : T → ℕ) (equal_cod
     in-chain : (left ≡ 0) × IsChain cmp (form_at old) (child_at old row i) (part cmp code d (digit_at c d) E)
     in-chain = chain-at cmp code old row d left c E can.below e n ls is i spot (omega (arith, deepest))
 
-    chain-rows : (h : Heap T) (js : List ℕ) (most : ℕ) → IsRow (form_at h) row d e n js
-        → edit_rows cmp (form_at h) key most (suc left) d c row ≡ row ∷ chain_rows cmp (form_at h) key (λ _. []) most (Some (get_or js i 0))
-    chain-rows h js most there =
-        let C' = λ (k : ℕ). chain_rows cmp (form_at h) key (λ _. []) most (Some k) in
-        rows-node (λ _. []) C' (form_at h) left d c row e n js there i spot ∙ ap (λ m. row ∷ rows_to (λ _. []) C' (form_at h) m (suc d) c (get_or js i 0)) in-chain.0 ∙ ap (λ ks. row ∷ ks) (rows-last (λ _. []) C' (form_at h) (suc d) c (get_or js i 0))
-
     was-chain : (most : ℕ) → edit_rows cmp (form_at old) key most (suc left) d c row ≡ row ∷ chain_rows cmp (form_at old) key (λ _. []) most (Some (child_at old row i))
-    was-chain most = chain-rows old ls most is ∙ ap (λ k. row ∷ chain_rows cmp (form_at old) key (λ _. []) most (Some k)) (sym (row-child old row d e n ls is i))
+    was-chain most = path-was-chain cmp code old left d row c E can e n ls is i spot in-chain.0 (λ _. []) (λ q. chain_rows cmp (form_at old) key (λ _. []) most (Some q))
 
     now-chain : (more : ℕ) → edit_rows cmp (form_at new) key more (suc left) d c row ≡ row ∷ chain_rows cmp (form_at new) key (λ _. []) more (Some (child_at new row i))
-    now-chain more =
-        let made = row-node old new row i d e n ls is did.child (digit_at c d) low spot in
-        chain-rows new (set ls i (child_at new row i)) more made.0 ∙ ap (λ k. row ∷ chain_rows cmp (form_at new) key (λ _. []) more (Some k)) made.1
+    now-chain more = path-now-chain cmp code old left d row c E can e n ls is i spot in-chain.0 (λ _. []) (λ q. chain_rows cmp (form_at new) key (λ _. []) more (Some q)) did.child
 
     trie-chain : IsTrie cmp code (form_at new) (suc left) d row (put cmp E (entry key l))
     trie-chain =
@@ -168,9 +157,7 @@ module _ {T : Type 0} (cmp : T → T → Ordering) (code : T → ℕ) (equal_cod
     -- the way to the key has all rows of the chain
     way-chain : (h : Heap T) (js : List ℕ) (most : ℕ) (P : List (Entry T)) → IsRow (form_at h) row d e n js → IsChain cmp (form_at h) (get_or js i 0) P → length P ≤ most → length (way_rows (form_at h) most (suc left) d c row) ≡ length P + 1
     way-chain h js most P there chained few =
-        let C' = λ (k : ℕ). rows_on (form_at h) most (Some k) in
-        let rows : way_rows (form_at h) most (suc left) d c row ≡ row ∷ rows_on (form_at h) most (Some (get_or js i 0)) =
-        rows-node (λ _. []) C' (form_at h) left d c row e n js there i spot ∙ ap (λ m. row ∷ rows_to (λ _. []) C' (form_at h) m (suc d) c (get_or js i 0)) in-chain.0 ∙ ap (λ ks. row ∷ ks) (rows-last (λ _. []) C' (form_at h) (suc d) c (get_or js i 0)) in
+        let rows = chain-rows cmp code old left d row c E can e n ls is i spot in-chain.0 (λ _. []) (λ q. rows_on (form_at h) most (Some q)) h js there in
         let size = same-length chained.entries P chained.same in
         omega (arith, ap length rows, on-length (form_at h) most (Some (get_or js i 0)) chained.entries (omega (arith, size, few)) chained.rows, size)
 
@@ -250,78 +237,36 @@ module _ {T : Type 0} (cmp : T → T → Ordering) (code : T → ℕ) (equal_cod
       abbrev rest : ℕ → List ℕ
       rest most = rows_below (λ _. []) (λ q. chain_rows cmp (form_at old) key (λ _. []) most (Some q)) (form_at old) m' (d + 1) c j
 
-      deep : suc d ≡ d + 1
-      deep = omega arith
-
       was-node : (most : ℕ) → edit_rows cmp (form_at old) key most (suc left) d c row ≡ row ∷ j ∷ rest most
-      was-node most =
-          let F = form_at old in
-          let C' = λ (q : ℕ). chain_rows cmp F key (λ _. []) most (Some q) in
-          rows-node (λ _. []) C' F left d c row e n ls is i spot
-          ∙ ap (λ q. row ∷ rows_to (λ _. []) C' F left (suc d) c q) (sym (row-child old row d e n ls is i))
-          ∙ ap (λ q. row ∷ rows_to (λ _. []) C' F left q c j) deep ∙ ap (λ q. row ∷ rows_to (λ _. []) C' F q (d + 1) c j) is-left
-          ∙ ap (λ ks. row ∷ ks) (rows-first (λ _. []) C' F m' (d + 1) c j)
+      was-node most = path-was-node cmp code old left d row c E can e n ls is i spot mid k less own (λ _. []) (λ q. chain_rows cmp (form_at old) key (λ _. []) most (Some q))
 
       mid-node : (most : ℕ) → edit_rows cmp (form_at mid) key most (suc m') (d + 1) c k ≡ k ∷ rest most
-      mid-node most =
-          let F = form_at old in
-          let G = form_at mid in
-          let below = (deeper cmp code old row d left c E can.below e n ls is i spot less).below in
-          rows-first (λ _. []) (λ q. chain_rows cmp G key (λ _. []) most (Some q)) G m' (d + 1) c k
-          ∙ ap (λ ks. k ∷ ks) (below-moved cmp code F G _ _ _ _ (edit-says cmp code F G key most) m' (d + 1) c j k (part cmp code d (digit_at c d) E) (ap (option_map form_of) own.row)
-          (λ s has. SameBelow-link (links_in F) F G j s has (forms-below old mid j (own-beneath old mid row i k can.graph own))) below.trie)
+      mid-node most = path-mid-node cmp code old left d row c E can e n ls is i spot mid k less own (λ _. []) (λ q. chain_rows cmp (form_at old) key (λ _. []) most (Some q)) (λ _. []) (λ q. chain_rows cmp (form_at mid) key (λ _. []) most (Some q)) (edit-says cmp code (form_at old) (form_at mid) key most)
 
       now-node : (more : ℕ) → edit_rows cmp (form_at new) key more (suc left) d c row ≡ row ∷ edit_rows cmp (form_at new) key more (suc m') (d + 1) c k
-      now-node more =
-          let G = form_at new in
-          let C' = λ (q : ℕ). chain_rows cmp G key (λ _. []) more (Some q) in
-          let made = row-node old new row i d e n ls is edited (digit_at c d) low spot in
-          rows-node (λ _. []) C' G left d c row e n (set ls i (child_at new row i)) made.0 i spot
-          ∙ ap (λ q. row ∷ rows_to (λ _. []) C' G left (suc d) c q) (made.1 ∙ there)
-          ∙ ap (λ q. row ∷ rows_to (λ _. []) C' G left q c k) deep ∙ ap (λ q. row ∷ rows_to (λ _. []) C' G q (d + 1) c k) is-left
+      now-node more = path-now-node cmp code old left d row c E can e n ls is i spot mid k less own edited there (λ _. []) (λ q. chain_rows cmp (form_at new) key (λ _. []) more (Some q))
 
       next : (most : ℕ) → 1 ≤ length (rest most) → HasLink (links_at old) j (get_or (rest most) 0 0)
-      next most some =
-          let below = (deeper cmp code old row d left c E can.below e n ls is i spot less).below in
-          subst (λ ks. 0 < count (get_or (rest most) 0 0) ks) (links-form old j)
-          (below-linked cmp code (λ _. []) (λ q. chain_rows cmp (form_at old) key (λ _. []) most (Some q)) (edit-begins cmp (form_at old) key most) (form_at old) m' (d + 1) c j (part cmp code d (digit_at c d) E) below.trie some)
+      next most some = next-node cmp code old left d row c E can e n ls is i spot mid k less own (λ _. []) (λ q. chain_rows cmp (form_at old) key (λ _. []) most (Some q)) (edit-begins cmp (form_at old) key most) some
 
       -- the way to the key below the child
       abbrev beyond : ℕ → List ℕ
       beyond most = rows_below (λ _. []) (λ q. rows_on (form_at old) most (Some q)) (form_at old) m' (d + 1) c j
 
       way-was : (most : ℕ) → way_rows (form_at old) most (suc left) d c row ≡ row ∷ j ∷ beyond most
-      way-was most =
-          let F = form_at old in
-          let C' = λ (q : ℕ). rows_on F most (Some q) in
-          rows-node (λ _. []) C' F left d c row e n ls is i spot
-          ∙ ap (λ q. row ∷ rows_to (λ _. []) C' F left (suc d) c q) (sym (row-child old row d e n ls is i))
-          ∙ ap (λ q. row ∷ rows_to (λ _. []) C' F left q c j) deep ∙ ap (λ q. row ∷ rows_to (λ _. []) C' F q (d + 1) c j) is-left
-          ∙ ap (λ ks. row ∷ ks) (rows-first (λ _. []) C' F m' (d + 1) c j)
+      way-was most = path-was-node cmp code old left d row c E can e n ls is i spot mid k less own (λ _. []) (λ q. rows_on (form_at old) most (Some q))
 
       way-mid : (most : ℕ) → way_rows (form_at mid) most (suc m') (d + 1) c k ≡ k ∷ beyond most
-      way-mid most =
-          let F = form_at old in
-          let G = form_at mid in
-          let below = (deeper cmp code old row d left c E can.below e n ls is i spot less).below in
-          rows-first (λ _. []) (λ q. rows_on G most (Some q)) G m' (d + 1) c k
-          ∙ ap (λ ks. k ∷ ks) (below-moved cmp code F G _ _ _ _ (way-says cmp code F G most) m' (d + 1) c j k (part cmp code d (digit_at c d) E) (ap (option_map form_of) own.row)
-          (λ s has. SameBelow-link (links_in F) F G j s has (forms-below old mid j (own-beneath old mid row i k can.graph own))) below.trie)
+      way-mid most = path-mid-node cmp code old left d row c E can e n ls is i spot mid k less own (λ _. []) (λ q. rows_on (form_at old) most (Some q)) (λ _. []) (λ q. rows_on (form_at mid) most (Some q)) (way-says cmp code (form_at old) (form_at mid) most)
 
       way-now : (more : ℕ) → way_rows (form_at new) more (suc left) d c row ≡ row ∷ way_rows (form_at new) more (suc m') (d + 1) c k
-      way-now more =
-          let G = form_at new in
-          let C' = λ (q : ℕ). rows_on G more (Some q) in
-          let made = row-node old new row i d e n ls is edited (digit_at c d) low spot in
-          rows-node (λ _. []) C' G left d c row e n (set ls i (child_at new row i)) made.0 i spot
-          ∙ ap (λ q. row ∷ rows_to (λ _. []) C' G left (suc d) c q) (made.1 ∙ there)
-          ∙ ap (λ q. row ∷ rows_to (λ _. []) C' G left q c k) deep ∙ ap (λ q. row ∷ rows_to (λ _. []) C' G q (d + 1) c k) is-left
+      way-now more = path-now-node cmp code old left d row c E can e n ls is i spot mid k less own edited there (λ _. []) (λ q. rows_on (form_at new) more (Some q))
 
       few-node : (most more : ℕ) → length E ≤ most → length E + 1 ≤ more
           → MakesFew old new (edit_rows cmp (form_at old) key most (suc left) d c row) (way_rows (form_at old) most (suc left) d c row) (way_rows (form_at new) more (suc left) d c row) 0
       few-node most more short short' =
           let came = did.came most more (omega (arith, part-short, short)) (omega (arith, part-short, short')) in
-          let copied = alone-own old mid j k own.same own.sole own.owners can.graph (rest most) (next most) in
+          let copied = alone-own old mid j k (rest most) own.same own.sole own.owners can.graph (next most) in
           omega (
             arith,
             came,
@@ -339,11 +284,8 @@ module _ {T : Type 0} (cmp : T → T → Ordering) (code : T → ℕ) (equal_cod
 
       others-node : (most : ℕ) → length E ≤ most → (m : ℕ) → IsSome (row_at old m) → count m (written old (row ∷ j ∷ rest most)) ≡ 0 → row_at new m ≡ row_at old m
       others-node most short m live off =
-          let first = off-first old row m (j ∷ rest most) can.sole off in
-          let stays : row_at mid m ≡ row_at old m = own.stays m first.0 live in
-          let fresh : k ≢ j → m ≢ k = λ copy same. none-live (row_at old m) (ap (row_at old) same ∙ own.fresh copy) live in
-          let left_off = written-own old mid j k (rest most) own.same own.sole own.owners can.graph (next most) m fresh first.1 in
-          did.others most (omega (arith, part-short, short)) m (subst IsSome (sym stays) live) (subst (λ ks. count m (written mid ks) ≡ 0) (sym (mid-node most)) left_off) ∙ stays
+          let away = off-node cmp code old left d row c E can e n ls is i spot mid k less own (rest most) (next most) m live off in
+          did.others most (omega (arith, part-short, short)) m (subst IsSome (sym away.0) live) (subst (λ ks. count m (written mid ks) ≡ 0) (sym (mid-node most)) away.1) ∙ away.0
 
       pub puts-node : PutsIn cmp code old new left d row c E key l
       puts-node = record {

@@ -14,7 +14,7 @@ use Rattle.node_heap.proofs.AloneLemmas.{written-cons, written-own, KeepsAlone-o
 use Rattle.node_heap.proofs.OwnedRows.{IsOwned, graph-before}
 use Rattle.node_heap.proofs.OwnerLemmas.{EditsBy-place, rows-placed}
 use Rattle.edit_trie.proofs.ChildLemmas.{OwnsChild, own-beneath, gains-child, owned-child}
-use Rattle.edit_trie.proofs.OwnLemmas.{none-live}
+use Rattle.edit_trie.proofs.DownLemmas.{none-live}
 
 -- a child that was made its parent's own
 pub owned-place : {T : Type 0} {old mid : Heap T} {parent child r : ℕ} → IsGraph old → OwnsChild old mid parent child r → IsOwned (by_place parent child) old mid r

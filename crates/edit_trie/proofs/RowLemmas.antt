@@ -2,6 +2,7 @@
 use Rattle.std.proofs.Common.{◌≡◌, ◌≢◌, ℕ, ◌<◌, List, [], ◌∷◌, length, get_or, refl, ap, sym, ◌∙◌, arith, Option, Some, None, IsSome, option_map}
 use Rattle.node_heap.specs.Forms.{Forms, Form, Row, Kind, cell, node, leaf, inner, trie, chain, pair, state, links_of, head_of, value_of, form_of, kind_of, is_node}
 use Rattle.node_heap.specs.Heap.{Heap, form_at, links_at}
+use Rattle.node_heap.specs.Reads.{IsTrieForm}
 use Rattle.node_heap.specs.declared.row.Head.{Head}
 use Rattle.node_heap.specs.InPlace.{child_at}
 use Rattle.champ_chain.specs.Entry.{key_at, key_of, first_value}
@@ -9,6 +10,7 @@ use Rattle.champ_chain.proofs.FrameLemmas.{links-form}
 use Rattle.champ_trie.specs.Trie.{IsRow}
 use Rattle.champ_trie.proofs.PlaceLemmas.{entry-in, node-in}
 use Rattle.edit_trie.specs.Spot.{IsSpot}
+use Rattle.edit_trie.specs.declared.row.Spot.{Spot}
 use Rattle.edit_trie.specs.declared.row.Spot.TheVariants.{Entry as EntryAt, Node as NodeAt}
 
 module _ {K : Type 0} where
@@ -85,6 +87,12 @@ module _ {T : Type 0} where
     pub row-links : links_at h row ≡ ls
     row-links = sym (links-form h row) ∙ ap links_of is.row
 
+    -- what is read of it
+    pub row-read : {e' n' : ℕ} {ls' : List ℕ} → IsTrieForm (form_at h row) e' n' ls' → (e ≡ e') × (n ≡ n') × (ls ≡ ls')
+    row-read {e' = e'} {n' = n'} {ls' = ls'} read =
+        let same : Some (node (trie d e n) ls) ≡ Some (node (trie read.0 e' n') ls') = sym is.row ∙ read.1 in
+        (cc, cc, cc)
+
     pub row-child : (i : ℕ) → child_at h row i ≡ get_or ls i 0
     row-child i = ap (λ ks. get_or ks i 0) row-links
 
@@ -94,3 +102,7 @@ module _ {T : Type 0} where
 
     pub node-inside : (p i : ℕ) → p < 32 → IsSpot e n p (NodeAt i) → i < length (links_at h row)
     node-inside p i small spot = omega (arith, node-in e n ls p small is.sets spot.1, spot.2, ap length row-links)
+
+-- a spot among sets that were read
+pub spot-read : {e e' n n' p p' : ℕ} (spot : Spot) → e ≡ e' → n ≡ n' → p' ≡ p → IsSpot e' n' p' spot → IsSpot e n p spot
+spot-read spot entries nodes digit is = rw (entries, nodes, sym digit) is

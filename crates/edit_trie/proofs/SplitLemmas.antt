@@ -43,7 +43,7 @@ use Rattle.edit_trie.specs.Spot.{PutsAt}
 use Rattle.edit_trie.specs.Walk.{CanEdit, PutsIn}
 use Rattle.edit_trie.proofs.RowLemmas.{key-moved, not-row, not-cell}
 use Rattle.edit_trie.proofs.ChildLemmas.{live-below}
-use Rattle.edit_trie.proofs.OwnLemmas.{none-live, off-first}
+use Rattle.edit_trie.proofs.DownLemmas.{none-live, off-first}
 use Rattle.edit_trie.proofs.SharedLemmas.{shared-one}
 use Rattle.edit_trie.proofs.PutLemmas.{rows-at, part-find}
 

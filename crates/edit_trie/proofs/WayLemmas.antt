@@ -26,7 +26,7 @@ use Rattle.champ_trie.proofs.StayLemmas.{all-same, has-next}
 use Rattle.champ_trie.proofs.WithLemmas.{part-here, part-elsewhere}
 use Rattle.edit_trie.specs.Path.{rows_to, rows_from_place, rows_on, way_rows, place_in, next_in}
 use Rattle.edit_trie.proofs.PathLemmas.{BeginsThere, SaysTheSame, rows_below, rows-first, rows-last, place-in}
-use Rattle.edit_trie.proofs.OwnLemmas.{none-live}
+use Rattle.edit_trie.proofs.DownLemmas.{none-live}
 use Rattle.edit_trie.proofs.FrontLemmas.{count-later, count-here}
 use Rattle.edit_trie.proofs.ChainPutLemmas.{one-of}
 

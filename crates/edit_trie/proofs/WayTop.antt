@@ -14,7 +14,8 @@ use Rattle.champ_trie.specs.Trie.{IsCanon}
 use Rattle.champ_trie.proofs.StayLemmas.{forms-below}
 use Rattle.edit_trie.specs.Path.{rows_to, KeepsShared, MakesCopies}
 use Rattle.edit_trie.specs.Walk.{MakesShared}
-use Rattle.edit_trie.proofs.CameLemmas.{alone-own, copies-own, made-own}
+use Rattle.node_heap.proofs.AloneLemmas.{alone-own}
+use Rattle.edit_trie.proofs.CameLemmas.{copies-own, made-own}
 use Rattle.edit_trie.proofs.PathLemmas.{BeginsThere, SaysTheSame, rows_below, rows-first, below-moved, below-linked}
 use Rattle.edit_trie.proofs.SharedLemmas.{shared-own}
 use Rattle.node_heap.proofs.OwnedRows.{IsOwned}
@@ -47,7 +48,7 @@ module _ {T : Type 0} (cmp : T → T → Ordering) (code : T → ℕ) (owner : O
 
   -- it has one alone row more where the root was copied, and as many rows
   pub way-count : alone mid (rows_to A' B' (form_at mid) LEVELS 0 c r) ≡ alone old (rows_to A B (form_at old) LEVELS 0 c (owned old owner)) + other_at (owned old owner) r
-  way-count = omega (arith, ap (alone mid) now, ap (alone old) was, alone-own old mid (owned old owner) r own.same own.sole own.owners own.graph tail next)
+  way-count = omega (arith, ap (alone mid) now, ap (alone old) was, alone-own old mid (owned old owner) r tail own.same own.sole own.owners own.graph next)
 
   pub way-length : length (rows_to A' B' (form_at mid) LEVELS 0 c r) ≡ length (rows_to A B (form_at old) LEVELS 0 c (owned old owner))
   way-length = omega (arith, ap length now, ap length was)

@@ -1,7 +1,7 @@
 -- What each edit in place makes of a map, which goes by an owner of its root.
 use Rattle.std.specs.Prelude.{◌≡◌, ℕ, ◌+◌, ◌-◌, ◌^◌, List, [], ◌∷◌, length, min, Option, Some, MatchOption, option_to_list}
 use Rattle.champ_kinds.specs.declared.map.TheConstants.{INSERT_NODES}
-use Rattle.champ_trie.specs.declared.TheConstants.{ADD_NODES}
+use Rattle.edit_trie.specs.declared.own.TheConstants.{OWN_NODES}
 use Rattle.std.specs.List.{find}
 use Rattle.std.specs.declared.cmp.Ordering.{Ordering}
 use Rattle.elem_core.specs.declared.codes.TheConstants.{LEVELS}
@@ -64,7 +64,7 @@ module _ {T : Type 0} (cmp : T → T → Ordering) (code : T → ℕ) where
       pub top : owners_at new root ≡ 1
       pub sole : owners_at new link ≡ 1
       pub down : OwnsDown new root link
-      pub edits : EditsBy owner old new root [] [] 0 (ADD_NODES + alike_keys code bits key M)
+      pub edits : EditsBy owner old new root [] [] 0 (OWN_NODES + alike_keys code bits key M)
       pub path : KeepsAlone old (pair_path cmp code old bits key (owned old owner)) (pair_path cmp code new bits key root)
       pub gains : MakesCopies old new (pair_path cmp code old bits key (owned old owner))
       pub others : WritesOnly owner old new root (pair_path cmp code old bits key (owned old owner))

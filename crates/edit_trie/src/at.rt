@@ -12,10 +12,10 @@ ghost use Rattle.champ_kinds.specs.Edit.{PutsPair};
 ghost use Rattle.edit_trie.specs.Edit.{by_bits, PutsValue, OwnsEntry, OwnsPair};
 
 use crate::edit::bound;
-use crate::own::own_entry;
+use crate::own::{OWN_NODES, own_entry};
 use champ_kinds::{INSERT_NODES, MapFault};
-use champ_trie::{ADD_NODES, look_up};
-use elem_core::{DEEPEST, Element, NoMemory, Probe, masked};
+use champ_trie::look_up;
+use elem_core::{Element, NoMemory, Probe, masked};
 use node_heap::{Heap, Link};
 
 /// The same as `TrieEdit::insert` for the map by so many bits that is the child at an index of a row with one owner, which stays but
@@ -49,10 +49,7 @@ pub fn insert_at<T: Element>(
 {
     let root = heap.links(parent)[child];
     let found = look_up(heap, root, &key, bits);
-    if heap
-        .reserve(1, found.alike + usize::from(DEEPEST) + 3)
-        .is_err()
-    {
+    if heap.reserve(1, found.alike + INSERT_NODES).is_err() {
         return Err(MapFault { key });
     }
     let root = heap.own_child(parent, child);
@@ -78,28 +75,28 @@ pub fn own_value_at<T: Element, P: Probe<T>>(
     ensures entries { (E : List (Entry T)) → HasEntries T.cmp T.code_of heap.old (by_bits bits (child_at heap.old parent child)) E → IfOk result (λ pair. IfSome pair (λ link.
         OwnsEntry T.cmp T.code_of heap.old heap.new (by_bits bits (child_at heap.new parent child)) E (P.stands_for key.now) link)) }
     ensures changes { (M : List (Binding T)) → IsMapOf T.cmp T.code_of heap.old (by_bits bits (child_at heap.old parent child)) M →
-        OnOk result (Changes parent heap.old heap.new [] [] 0 (ADD_NODES + alike_keys T.code_of bits (P.stands_for key.now) M)) }
+        OnOk result (Changes parent heap.old heap.new [] [] 0 (OWN_NODES + alike_keys T.code_of bits (P.stands_for key.now) M)) }
     ensures none { (M : List (Binding T)) → IsMapOf T.cmp T.code_of heap.old (by_bits bits (child_at heap.old parent child)) M →
         (result ≡ Ok None) ↔ (value_with T.cmp (P.stands_for key.now) M ≡ None) }
     ensures nothing { result ≡ Ok None → heap.new ≡ heap.old }
     ensures spares { (M : List (Binding T)) → IsMapOf T.cmp T.code_of heap.old (by_bits bits (child_at heap.old parent child)) M →
-        OnOk result (KeepsToNeed heap.old heap.new 0 (ADD_NODES + alike_keys T.code_of bits (P.stands_for key.now) M)) }
+        OnOk result (KeepsToNeed heap.old heap.new 0 (OWN_NODES + alike_keys T.code_of bits (P.stands_for key.now) M)) }
     ensures refused { OnErr result (heap.new ≡ heap.old) }
     ensures ample { (M : List (Binding T)) → IsMapOf T.cmp T.code_of heap.old (by_bits bits (child_at heap.old parent child)) M →
-        HasSpares heap.old 0 (ADD_NODES + alike_keys T.code_of bits (P.stands_for key.now) M) → IsOk result }
+        HasSpares heap.old 0 (OWN_NODES + alike_keys T.code_of bits (P.stands_for key.now) M) → IsOk result }
 {
     let root = heap.links(parent)[child];
     let found = look_up(heap, root, key, bits);
     if found.entry.is_none() {
         return Ok(None);
     }
-    heap.reserve(0, found.alike + usize::from(DEEPEST) + 2)?;
+    heap.reserve(0, found.alike + OWN_NODES)?;
     let root = heap.own_child(parent, child);
     let code = masked(key.code(), bits);
     Ok(Some(own_entry(heap, root, 0, key, code, bits)))
 }
 
-/// The same for a key that is there, where there are `ADD_NODES` spare nodes, and one more for each key with the same masked code: it
+/// The same for a key that is there, where there are `OWN_NODES` spare nodes, and one more for each key with the same masked code: it
 /// goes down to the pair once, and refuses nothing.
 pub fn own_value_there<T: Element, P: Probe<T>>(
     heap: &mut Heap<T>,
@@ -112,11 +109,11 @@ pub fn own_value_there<T: Element, P: Probe<T>>(
     requires child { child < length (links_at heap.old parent) }
     requires graph { IsGraph heap.old }
     requires there { (M : List (Binding T)) × IsMapOf T.cmp T.code_of heap.old (by_bits bits (child_at heap.old parent child)) M × (value_with T.cmp (P.stands_for key.now) M ≢ None)
-        × (ADD_NODES + alike_keys T.code_of bits (P.stands_for key.now) M ≤ heap.old.spare_nodes) }
+        × (OWN_NODES + alike_keys T.code_of bits (P.stands_for key.now) M ≤ heap.old.spare_nodes) }
     ensures owns { (M : List (Binding T)) → IsMapOf T.cmp T.code_of heap.old (by_bits bits (child_at heap.old parent child)) M → value_with T.cmp (P.stands_for key.now) M ≢ None →
         OwnsPair T.cmp T.code_of (by_place parent child) bits heap.old heap.new (child_at heap.new parent child) M (P.stands_for key.now) result × OwnsDown heap.new parent result }
     ensures changes { (M : List (Binding T)) → IsMapOf T.cmp T.code_of heap.old (by_bits bits (child_at heap.old parent child)) M → value_with T.cmp (P.stands_for key.now) M ≢ None →
-        Changes parent heap.old heap.new [] [] 0 (ADD_NODES + alike_keys T.code_of bits (P.stands_for key.now) M) }
+        Changes parent heap.old heap.new [] [] 0 (OWN_NODES + alike_keys T.code_of bits (P.stands_for key.now) M) }
     ensures spares { KeepsToNeed heap.old heap.new 0 0 }
 {
     let root = heap.own_child(parent, child);

@@ -3,7 +3,7 @@
 //! A row below the root that would keep one entry alone doesn't stay: the entry moves up to the lowest row that does. So the
 //! way is made the caller's own down to that row only, what hangs there is cut off, and the caller gives it up once, at the
 //! end.
-ghost use Rattle.std.specs.Prelude.{◌≡◌, ◌≢◌, ℕ, ◌+◌, ◌<◌, ◌≤◌, ◌^◌, List, [], ◌∷◌, None, true, false, IsSome};
+ghost use Rattle.std.specs.Prelude.{◌≡◌, ◌≢◌, ℕ, ◌+◌, ◌<◌, ◌≤◌, ◌^◌, List, [], ◌∷◌, length, None, true, false, IsSome};
 ghost use Rattle.elem_core.specs.Codes.{digit_at};
 ghost use Rattle.node_heap.specs.Links.{Reaches};
 ghost use Rattle.node_heap.specs.Heap.{row_at, form_at, links_at, owners_at, hold_count, IsGraph, half_holds};
@@ -18,12 +18,13 @@ ghost use Rattle.champ_trie.specs.Reach.{alike_in};
 ghost use Rattle.edit_trie.specs.Walk.{CanEdit, CutsIn};
 
 use crate::chain::{Slot, cut_from_chain};
-use crate::lone::lone_beside;
+use crate::lone::lone_below;
 use crate::row::{Spot, put_entry, spot_at, take_entry, take_node};
 use elem_core::{CODE_BITS, Code, DEEPEST, Element, Probe, digit};
 use node_heap::{Heap, Link};
 
-// Takes the key, which is there, out of the rows below one with one owner. It gives a link, with a hold, to what was cut off.
+// Takes the key, which is there, out of the rows below one with one owner: the root, or one below which more than one entry is
+// left. It gives a link, with a hold, to what was cut off.
 pub(crate) fn cut_below<T: Element, P: Probe<T>>(
     heap: &mut Heap<T>,
     row: Link,
@@ -37,17 +38,16 @@ pub(crate) fn cut_below<T: Element, P: Probe<T>>(
     requires few { hold_count heap.old < half_holds }
     requires code { code ≡ code_by T.code_of bits (P.stands_for key.now) }
     requires row { (E : List (Entry T)) × (left : ℕ) × CanEdit T.cmp (code_by T.code_of bits) heap.old left depth row code E
-        × (link_with T.cmp (P.stands_for key.now) E ≢ None) × (left + alike_in (code_by T.code_of bits) code E ≤ heap.old.spare_nodes) }
+        × (link_with T.cmp (P.stands_for key.now) E ≢ None) × (0 < depth → 2 ≤ length (others T.cmp (P.stands_for key.now) E)) × (left + alike_in (code_by T.code_of bits) code E ≤ heap.old.spare_nodes) }
     ensures { (E : List (Entry T)) (left : ℕ) → CanEdit T.cmp (code_by T.code_of bits) heap.old left depth row code E →
-        link_with T.cmp (P.stands_for key.now) E ≢ None → CutsIn T.cmp (code_by T.code_of bits) heap.old heap.new left depth row code E (P.stands_for key.now) result }
+        link_with T.cmp (P.stands_for key.now) E ≢ None → (0 < depth → 2 ≤ length (others T.cmp (P.stands_for key.now) E)) → CutsIn T.cmp (code_by T.code_of bits) heap.old heap.new left depth row code E (P.stands_for key.now) result }
 {
     let position = digit(code, depth);
     match spot_at(heap, row, position) {
         Spot::Empty => unreachable!(),
         Spot::Entry(_) => take_entry(heap, row, depth, position),
         Spot::Node(index) => {
-            let node = heap.links(row)[index];
-            if let Some(lone) = lone_beside(heap, node, depth + 1, key, code, bits) {
+            if let Some(lone) = lone_below(heap, row, index, depth, key, code, bits) {
                 return lift(heap, row, depth, lone, position);
             }
             if depth == DEEPEST {

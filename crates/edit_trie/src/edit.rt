@@ -2,7 +2,7 @@
 ghost use Rattle.std.specs.Prelude.{◌≡◌, ◌↔◌, ℕ, ◌+◌, ◌^◌, ◌<◌, ◌≤◌, List, [], ◌∷◌, IfOk, IfSome, IfErr, IsOk, OnOk, OnErr, Ok, None};
 ghost use Rattle.elem_core.specs.declared.codes.TheConstants.{CODE_BITS};
 ghost use Rattle.node_heap.specs.Links.{Reaches};
-ghost use Rattle.node_heap.specs.Heap.{links_at, holds_at, owners_at, hold_count, HasSpares, half_holds};
+ghost use Rattle.node_heap.specs.Heap.{row_at, links_at, holds_at, owners_at, hold_count, HasSpares, half_holds};
 ghost use Rattle.node_heap.specs.Calls.{Extends, KeepsBelow, KeepsToNeed, HasHolds, MakesWhatCame};
 ghost use Rattle.node_heap.specs.Owner.{by_hold, EditsBy};
 ghost use Rattle.champ_chain.specs.Entry.{Entry, others};
@@ -15,11 +15,11 @@ ghost use Rattle.edit_trie.specs.Bound.{CanBind, Binds};
 ghost use Rattle.edit_trie.specs.Edit.{PutsValue, CutsKey, OwnsEntry, OwnsPair};
 
 use crate::cut::cut_below;
-use crate::own::own_entry;
+use crate::own::{OWN_NODES, own_entry};
 use crate::put::put_below;
 use champ_kinds::{INSERT_NODES, Map, MapFault, MapRef};
 use champ_trie::{ADD_NODES, Found, look_up};
-use elem_core::{DEEPEST, Element, LEVELS, NoMemory, Probe, masked};
+use elem_core::{Element, LEVELS, NoMemory, Probe, masked};
 use node_heap::{Head, Heap, Link};
 use std::marker::Model;
 
@@ -44,7 +44,7 @@ pub struct MapOpenFault {
 }
 
 impl TrieEdit {
-    /// The map, to be edited in place: its root is the same where it has one owner, and else a copy, of one node. Refused only
+    /// The map, to be edited in place: its root is the very row where that has one owner, and else a copy of it, of one node. Refused only
     /// where memory runs out. A refusal leaves the heap as it was.
     pub fn open<T: Element>(map: Map, heap: &mut Heap<T>) -> Result<TrieEdit, MapOpenFault>
         requires held { 1 ≤ holds_at heap.old map.root }
@@ -54,6 +54,7 @@ impl TrieEdit {
         ensures entries { (E : List (Entry T)) → HasEntries T.cmp T.code_of heap.old map E → IfOk result (λ m. HasEntries T.cmp T.code_of heap.new m E) }
         ensures bits { IfOk result (λ m. m.bits ≡ map.bits) }
         ensures same { IfOk result (λ m. (m.root ≡ map.root) ↔ (owners_at heap.old map.root ≡ 1)) }
+        ensures row { IfOk result (λ m. row_at heap.new m.root ≡ row_at heap.old map.root) }
         ensures sole { IfOk result (λ m. owners_at heap.new m.root ≡ 1) }
         ensures extends { IfOk result (λ _. Extends heap.old heap.new) }
         ensures edits { IfOk result (λ m. EditsBy (by_hold map.root) heap.old heap.new m.root [] [] 0 1) }
@@ -87,7 +88,7 @@ impl TrieEdit {
     }
 
     /// Puts the value at the key and gives the old one, with a hold; None where the key was absent. A key that is there stays,
-    /// with its cell. It spends the value's hold on Ok alone. It makes at most a cell and `DEEPEST + 3` nodes, and one node
+    /// with its cell. It spends the value's hold on Ok alone. It makes at most a cell and `INSERT_NODES` nodes, and one node
     /// more for each key with the same masked code. Err gives the key back where memory runs out, and leaves the map and the
     /// heap as they were. The value stays as it was, with all below it.
     pub fn insert<T: Element>(
@@ -111,10 +112,7 @@ impl TrieEdit {
             HasSpares heap.old 1 (INSERT_NODES + alike_keys T.code_of self.old.bits key M) → IsOk result }
     {
         let found = look_up(heap, self.root, &key, self.bits);
-        if heap
-            .reserve(1, found.alike + usize::from(DEEPEST) + 3)
-            .is_err()
-        {
+        if heap.reserve(1, found.alike + INSERT_NODES).is_err() {
             return Err(MapFault { key });
         }
         self.root = heap.own(self.root);
@@ -160,7 +158,7 @@ impl TrieEdit {
     }
 
     /// The pair of the key, whose child 1 is the value, with one owner, as has each row on the way to it; None where the key
-    /// is absent, and then nothing has changed. It makes at most `DEEPEST + 2` nodes, and one more for each key with the same
+    /// is absent, and then nothing has changed. It makes at most `OWN_NODES` nodes, and one more for each key with the same
     /// masked code. Refused only where memory runs out. A refusal leaves the map and the heap as they were.
     pub fn own_value<T: Element, P: Probe<T>>(
         &mut self,
@@ -178,16 +176,16 @@ impl TrieEdit {
         ensures nothing { result ≡ Ok None → (heap.new ≡ heap.old) × (self.new ≡ self.old) }
         ensures bits { self.new.bits ≡ self.old.bits }
         ensures spares { (M : List (Binding T)) → IsMapOf T.cmp T.code_of heap.old self.old M →
-            OnOk result (KeepsToNeed heap.old heap.new 0 (ADD_NODES + alike_keys T.code_of self.old.bits (P.stands_for key.now) M)) }
+            OnOk result (KeepsToNeed heap.old heap.new 0 (OWN_NODES + alike_keys T.code_of self.old.bits (P.stands_for key.now) M)) }
         ensures refused { OnErr result ((heap.new ≡ heap.old) × (self.new ≡ self.old)) }
         ensures ample { (M : List (Binding T)) → IsMapOf T.cmp T.code_of heap.old self.old M →
-            HasSpares heap.old 0 (ADD_NODES + alike_keys T.code_of self.old.bits (P.stands_for key.now) M) → IsOk result }
+            HasSpares heap.old 0 (OWN_NODES + alike_keys T.code_of self.old.bits (P.stands_for key.now) M) → IsOk result }
     {
         let found = look_up(heap, self.root, key, self.bits);
         if found.entry.is_none() {
             return Ok(None);
         }
-        heap.reserve(0, found.alike + usize::from(DEEPEST) + 2)?;
+        heap.reserve(0, found.alike + OWN_NODES)?;
         self.root = heap.own(self.root);
         let code = masked(key.code(), self.bits);
         Ok(Some(own_entry(heap, self.root, 0, key, code, self.bits)))

@@ -18,3 +18,4 @@ mod row;
 pub use at::{insert_at, own_value_at, own_value_there};
 pub use edit::{MapOpenFault, TrieEdit};
 pub use laws::{edits_keep_values, paths_of_small_tries};
+pub use own::OWN_NODES;

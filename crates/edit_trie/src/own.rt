@@ -8,8 +8,12 @@ ghost use Rattle.edit_trie.specs.Walk.{CanEdit, HasPair, OwnsIn};
 
 use crate::chain::{Slot, own_in_chain};
 use crate::row::{Spot, spot_at};
-use elem_core::{CODE_BITS, Code, DEEPEST, Element, Probe, digit};
+use elem_core::{CODE_BITS, Code, DEEPEST, Element, LEVELS, Probe, digit};
 use node_heap::{Heap, Link};
+
+/// The most nodes that are made so that the way to a key's pair is one's own, besides one for each key with the same masked
+/// code: a row of each depth, and the pair.
+pub const OWN_NODES: usize = LEVELS as usize + 1;
 
 // The pair of the key, which is there, below a row with one owner: each row on the way and the pair have one owner then.
 pub(crate) fn own_entry<T: Element, P: Probe<T>>(

@@ -10,7 +10,7 @@ ghost use Rattle.champ_trie.specs.declared.place.Place.TheVariants.{Entry as At,
 ghost use Rattle.edit_trie.specs.Spot.{IsSpot, PutsAt};
 
 use champ_trie::{cleared, contains, rank_of, sets_of, with_position};
-use node_heap::{Head, Heap, Link};
+use node_heap::{Head, Heap, Link, TrieRef};
 
 // What stands at a position of a trie row, by its index among the row's links.
 #[derive(Clone, Copy)]
@@ -23,15 +23,11 @@ pub(crate) enum Spot {
     Node(usize),
 }
 
-// What stands at the position of the trie row at a link.
-pub(crate) fn spot_at<T>(heap: &Heap<T>, row: Link, position: u32) -> Spot
-    requires row { (depth entries nodes : ℕ) × (links : List ℕ) × IsRow (form_at heap.now) row depth entries nodes links }
-    requires position { position < 32 }
-    ensures graph { IsGraph heap.now }
-    ensures spot { (depth entries nodes : ℕ) (links : List ℕ) → IsRow (form_at heap.now) row depth entries nodes links → IsSpot entries nodes position result }
+// What stands at the position of a trie row with these sets.
+pub(crate) fn spot_in(entries: u32, nodes: u32, position: u32) -> Spot
+    requires { position < 32 }
+    ensures { IsSpot entries nodes position result }
 {
-    heap.is_graph();
-    let (entries, nodes) = sets_of(heap, row);
     if contains(entries, position) {
         return Spot::Entry(rank_of(entries, position) as usize);
     }
@@ -40,6 +36,18 @@ pub(crate) fn spot_at<T>(heap: &Heap<T>, row: Link, position: u32) -> Spot
         return Spot::Node(index as usize);
     }
     Spot::Empty
+}
+
+// What stands at the position of the trie row at a link.
+pub(crate) fn spot_at<T>(heap: &Heap<T>, row: Link, position: u32) -> Spot
+    requires row { (depth entries nodes : ℕ) × (links : List ℕ) × IsRow (form_at heap.now) row depth entries nodes links }
+    requires position { position < 32 }
+    ensures graph { IsGraph heap.now }
+    ensures spot { (depth entries nodes : ℕ) (links : List ℕ) → IsRow (form_at heap.now) row depth entries nodes links → IsSpot entries nodes position result }
+{
+    heap.is_graph();
+    let TrieRef { entries, nodes, .. } = heap.trie(row);
+    spot_in(entries, nodes, position)
 }
 
 // Puts an entry at a position of a row with one owner where nothing stands.

@@ -88,7 +88,7 @@ pub returns-then-is_err-clause-ample : goal.returns-then-is_err-clause-ample
 returns-then-is_err-clause-ample g c = λ M is spares.
     let trie = trie-read g (goal.at.returns-then-is_err-clause-ample g c).After-look_up-found is.rooted.trie in
     let alike = alike-pairs (form_at c.args.heap.now) g.T.Element.code_of c.args.bits c.args.key is.entries M is.pairs in
-    absurd (not-err c.reserve.result (sym c.is_err.ensures.value ∙ c.if-is_err.true) (c.reserve.ensures.ample (omega (arith, spares.0)) (omega (arith, c.from.ensures, c.look_up-found.ensures.alike is.entries trie, alike, spares.1))))
+    absurd (not-err c.reserve.result (sym c.is_err.ensures.value ∙ c.if-is_err.true) (c.reserve.ensures.ample (omega (arith, spares.0)) (omega (arith, c.look_up-found.ensures.alike is.entries trie, alike, spares.1))))
 
 pub own_child-root-requires-clause-node : goal.own_child-root-requires-clause-node
 own_child-root-requires-clause-node g c =
@@ -119,7 +119,7 @@ bound-requires-clause-map g c =
       is.entries,
       c.requires.contents.0,
       can g at.After-own_child-root is (c.look_up-found.ensures.entry is.entries trie),
-      omega (arith, c.from.ensures, c.look_up-found.ensures.alike is.entries trie, spare.1, trades.balance.spare_nodes, trades.nodes),
+      omega (arith, c.look_up-found.ensures.alike is.entries trie, spare.1, trades.balance.spare_nodes, trades.nodes),
     )
 
 pub returns-clause-puts : goal.returns-clause-puts
@@ -175,5 +175,5 @@ returns-clause-spares g c = λ M is.
     let trie = trie-read g at.After-look_up-found is.rooted.trie in
     let did = c.bound.ensures is.entries M (can g root is (c.look_up-found.ensures.entry is.entries trie)) in
     let alike = alike-pairs (form_at c.args.heap.now) g.T.Element.code_of c.args.bits c.args.key is.entries M is.pairs in
-    KeepsToNeed-more 1 _ (omega arith) (omega (arith, c.from.ensures, c.look_up-found.ensures.alike is.entries trie, alike))
+    KeepsToNeed-more 1 _ (omega arith) (omega (arith, c.look_up-found.ensures.alike is.entries trie, alike))
     (to-need c.reserve.ensures.rest (gains g root is did) (at-ok c.reserve.result (sym c.is_err.ensures.value ∙ c.if-is_err.false) c.reserve.ensures.greater))

@@ -77,7 +77,7 @@ pub returns-in_err-reserve-clause-ample : goal.returns-in_err-reserve-clause-amp
 returns-in_err-reserve-clause-ample g c = λ M is spares.
     let trie = trie-read g (goal.at.returns-in_err-reserve-clause-ample g c).After-look_up-found is.rooted.trie in
     let alike = alike-pairs (form_at c.args.heap.now) g.T.Element.code_of c.args.bits (g.P.Probe.stands_for c.args.key.now) is.entries M is.pairs in
-    absurd (not-ok c.reserve.result _ c.in_err-reserve.was (c.reserve.ensures.ample (omega arith) (omega (arith, c.from.ensures, c.look_up-found.ensures.alike is.entries trie, alike, spares.1))))
+    absurd (not-ok c.reserve.result _ c.in_err-reserve.was (c.reserve.ensures.ample (omega arith) (omega (arith, c.look_up-found.ensures.alike is.entries trie, alike, spares.1))))
 
 pub own_child-root-requires-clause-node : goal.own_child-root-requires-clause-node
 own_child-root-requires-clause-node g c =
@@ -101,7 +101,7 @@ own_entry-requires-clause-row g c =
       found.0,
       can g way is,
       found.1,
-      omega (arith, c.from.ensures, c.look_up-found.ensures.alike is.entries trie, ap (λ n. alike_in (code_by g.T.Element.code_of c.args.bits) n is.entries) (code-is g way), c.in_ok-reserve.ensures.spares.1, trades.balance.spare_nodes, trades.nodes),
+      omega (arith, c.look_up-found.ensures.alike is.entries trie, ap (λ n. alike_in (code_by g.T.Element.code_of c.args.bits) n is.entries) (code-is g way), c.in_ok-reserve.ensures.spares.1, trades.balance.spare_nodes, trades.nodes),
     )
 
 pub returns-clause-owns : goal.returns-clause-owns
@@ -149,5 +149,5 @@ returns-clause-spares g c = λ M is.
     let made = c.own_entry.ensures is.entries DEEPEST found.0 (can g way is) found.1 in
     let gains = gains-placed g.T.Ord.cmp g.T.Element.code_of g.met.T.Ord.total c.args.bits c.in_ok-reserve.ensures.rest (owns g way) is (key g way) (code-is g way) found.1 made in
     let alike = alike-pairs (form_at c.args.heap.now) g.T.Element.code_of c.args.bits (key g way) is.entries M is.pairs in
-    KeepsToNeed-more 0 _ (omega arith) (omega (arith, c.from.ensures, c.look_up-found.ensures.alike is.entries trie, alike))
+    KeepsToNeed-more 0 _ (omega arith) (omega (arith, c.look_up-found.ensures.alike is.entries trie, alike))
     (to-need c.in_ok-reserve.ensures.rest gains c.in_ok-reserve.ensures.greater)

@@ -128,124 +128,56 @@ row_of-requires g c =
     let cut = read-child c.links-2.result.now (links_at now r) i c.index-links-slot.result c.links-2.ensures.links (inside-cut cmp total old now row index r i E key e c.requires.graph c.requires.index chain (spot-is g way chain).parts has.1 owns) c.index-links-slot.is in
     (e.link, next-cut cmp total old now row index r i E key e c.requires.graph c.requires.index chain (spot-is g way chain).parts has.1 owns, ap (form_at now) cut ∙ form-cut cmp total old now row index r i E key e c.requires.graph c.requires.index chain (spot-is g way chain).parts has.1 owns)
 
-pub remove_link-requires-clause-sole : goal.remove_link-requires-clause-sole
-remove_link-requires-clause-sole g c =
-    let way = (goal.at.remove_link-requires-clause-sole g c).After-key_spot_of-before in
+pub remove_link-requires : goal.remove_link-requires
+remove_link-requires g c =
+    let way = (goal.at.remove_link-requires g c).After-key_spot_of-before in
     let chain = c.requires.chain.1 in
     let owns = owned g way chain (c.own_rows-slot.ensures chain.entries chain.rows (spot-in g way chain)) in
-    owns.sole
-
-pub remove_link-requires-clause-index : goal.remove_link-requires-clause-index
-remove_link-requires-clause-index g c =
     let cmp = g.T.Ord.cmp in
     let total = g.met.T.Ord.total in
     let old = c.args.heap.now in
     let row : ℕ = c.args.first.row in
     let index : ℕ = c.args.first.index in
     let key = g.P.Probe.stands_for c.args.key.now in
-    let way = (goal.at.remove_link-requires-clause-index g c).After-key_spot_of-before in
     let E = c.requires.chain.0 in
-    let chain = c.requires.chain.1 in
     let known = c.requires.chain.2 in
     let now = c.own_rows-slot.new.heap in
     let r : ℕ = c.own_rows-slot.result.row in
     let i : ℕ = c.own_rows-slot.result.index in
-    let owns = owned g way chain (c.own_rows-slot.ensures chain.entries chain.rows (spot-in g way chain)) in
     let has = has-entry g way chain known in
-    let e = has.0 in
-    inside-cut cmp total old now row index r i E key e c.requires.graph c.requires.index chain (spot-is g way chain).parts has.1 owns
+    let e = has.0 in record {
+      sole = owns.sole;
+      index = inside-cut cmp total old now row index r i E key e c.requires.graph c.requires.index chain (spot-is g way chain).parts has.1 owns;
+      few = omega (arith, c.requires.few, owns.child.changes.trades.total);
+    }
 
-pub remove_link-requires-clause-few : goal.remove_link-requires-clause-few
-remove_link-requires-clause-few g c =
-    let way = (goal.at.remove_link-requires-clause-few g c).After-key_spot_of-before in
+pub skip_row-requires : goal.skip_row-requires
+skip_row-requires g c =
+    let way = (goal.at.skip_row-requires g c).After-key_spot_of-before in
     let chain = c.requires.chain.1 in
     let owns = owned g way chain (c.own_rows-slot.ensures chain.entries chain.rows (spot-in g way chain)) in
-    omega (arith, c.requires.few, owns.child.changes.trades.total)
-
-pub skip_row-requires-clause-graph : goal.skip_row-requires-clause-graph
-skip_row-requires-clause-graph g c =
-    let way = (goal.at.skip_row-requires-clause-graph g c).After-key_spot_of-before in
-    let chain = c.requires.chain.1 in
-    let owns = owned g way chain (c.own_rows-slot.ensures chain.entries chain.rows (spot-in g way chain)) in
-    owns.child.changes.trades.graph
-
-pub skip_row-requires-clause-sole : goal.skip_row-requires-clause-sole
-skip_row-requires-clause-sole g c =
-    let way = (goal.at.skip_row-requires-clause-sole g c).After-key_spot_of-before in
-    let chain = c.requires.chain.1 in
-    let owns = owned g way chain (c.own_rows-slot.ensures chain.entries chain.rows (spot-in g way chain)) in
-    owns.sole
-
-pub skip_row-requires-clause-index : goal.skip_row-requires-clause-index
-skip_row-requires-clause-index g c =
     let cmp = g.T.Ord.cmp in
     let total = g.met.T.Ord.total in
     let old = c.args.heap.now in
     let row : ℕ = c.args.first.row in
     let index : ℕ = c.args.first.index in
     let key = g.P.Probe.stands_for c.args.key.now in
-    let way = (goal.at.skip_row-requires-clause-index g c).After-key_spot_of-before in
     let E = c.requires.chain.0 in
-    let chain = c.requires.chain.1 in
     let known = c.requires.chain.2 in
     let now = c.own_rows-slot.new.heap in
     let r : ℕ = c.own_rows-slot.result.row in
     let i : ℕ = c.own_rows-slot.result.index in
-    let owns = owned g way chain (c.own_rows-slot.ensures chain.entries chain.rows (spot-in g way chain)) in
-    let has = has-entry g way chain known in
-    let e = has.0 in
-    inside-cut cmp total old now row index r i E key e c.requires.graph c.requires.index chain (spot-is g way chain).parts has.1 owns
-
-pub skip_row-requires-clause-live : goal.skip_row-requires-clause-live
-skip_row-requires-clause-live g c =
-    let cmp = g.T.Ord.cmp in
-    let total = g.met.T.Ord.total in
-    let old = c.args.heap.now in
-    let row : ℕ = c.args.first.row in
-    let index : ℕ = c.args.first.index in
-    let key = g.P.Probe.stands_for c.args.key.now in
-    let way = (goal.at.skip_row-requires-clause-live g c).After-key_spot_of-before in
-    let E = c.requires.chain.0 in
-    let chain = c.requires.chain.1 in
-    let known = c.requires.chain.2 in
-    let now = c.own_rows-slot.new.heap in
-    let r : ℕ = c.own_rows-slot.result.row in
-    let i : ℕ = c.own_rows-slot.result.index in
-    let owns = owned g way chain (c.own_rows-slot.ensures chain.entries chain.rows (spot-in g way chain)) in
     let has = has-entry g way chain known in
     let e = has.0 in
     let cut = read-child c.links-2.result.now (links_at now r) i c.index-links-slot.result c.links-2.ensures.links (inside-cut cmp total old now row index r i E key e c.requires.graph c.requires.index chain (spot-is g way chain).parts has.1 owns) c.index-links-slot.is in
-    let next : c.row_of.result.next ≡ next-cut cmp total old now row index r i E key e c.requires.graph c.requires.index chain (spot-is g way chain).parts has.1 owns = row-next (form_at now) (child_at now r i) c.row_of.result.entry e.link c.row_of.result.next (next-cut cmp total old now row index r i E key e c.requires.graph c.requires.index chain (spot-is g way chain).parts has.1 owns) (ap (form_at now) (sym cut) ∙ c.row_of.ensures) (form-cut cmp total old now row index r i E key e c.requires.graph c.requires.index chain (spot-is g way chain).parts has.1 owns) in
-    live-next cmp total old now row index r i E key e c.requires.graph c.requires.index chain (spot-is g way chain).parts has.1 owns c.in-Some.next (sym next ∙ c.in-Some.is)
-
-pub skip_row-requires-clause-apart : goal.skip_row-requires-clause-apart
-skip_row-requires-clause-apart g c =
-    let cmp = g.T.Ord.cmp in
-    let total = g.met.T.Ord.total in
-    let old = c.args.heap.now in
-    let row : ℕ = c.args.first.row in
-    let index : ℕ = c.args.first.index in
-    let key = g.P.Probe.stands_for c.args.key.now in
-    let way = (goal.at.skip_row-requires-clause-apart g c).After-key_spot_of-before in
-    let E = c.requires.chain.0 in
-    let chain = c.requires.chain.1 in
-    let known = c.requires.chain.2 in
-    let now = c.own_rows-slot.new.heap in
-    let r : ℕ = c.own_rows-slot.result.row in
-    let i : ℕ = c.own_rows-slot.result.index in
-    let owns = owned g way chain (c.own_rows-slot.ensures chain.entries chain.rows (spot-in g way chain)) in
-    let has = has-entry g way chain known in
-    let e = has.0 in
-    let cut = read-child c.links-2.result.now (links_at now r) i c.index-links-slot.result c.links-2.ensures.links (inside-cut cmp total old now row index r i E key e c.requires.graph c.requires.index chain (spot-is g way chain).parts has.1 owns) c.index-links-slot.is in
-    let next : c.row_of.result.next ≡ next-cut cmp total old now row index r i E key e c.requires.graph c.requires.index chain (spot-is g way chain).parts has.1 owns = row-next (form_at now) (child_at now r i) c.row_of.result.entry e.link c.row_of.result.next (next-cut cmp total old now row index r i E key e c.requires.graph c.requires.index chain (spot-is g way chain).parts has.1 owns) (ap (form_at now) (sym cut) ∙ c.row_of.ensures) (form-cut cmp total old now row index r i E key e c.requires.graph c.requires.index chain (spot-is g way chain).parts has.1 owns) in
-    off-next cmp total old now row index r i E key e c.requires.graph c.requires.index chain (spot-is g way chain).parts has.1 owns c.in-Some.next (sym next ∙ c.in-Some.is)
-
-pub skip_row-requires-clause-few : goal.skip_row-requires-clause-few
-skip_row-requires-clause-few g c =
-    let way = (goal.at.skip_row-requires-clause-few g c).After-key_spot_of-before in
-    let chain = c.requires.chain.1 in
-    let owns = owned g way chain (c.own_rows-slot.ensures chain.entries chain.rows (spot-in g way chain)) in
-    omega (arith, c.requires.few, owns.child.changes.trades.total)
+    let next : c.row_of.result.next ≡ next-cut cmp total old now row index r i E key e c.requires.graph c.requires.index chain (spot-is g way chain).parts has.1 owns = row-next (form_at now) (child_at now r i) c.row_of.result.entry e.link c.row_of.result.next (next-cut cmp total old now row index r i E key e c.requires.graph c.requires.index chain (spot-is g way chain).parts has.1 owns) (ap (form_at now) (sym cut) ∙ c.row_of.ensures) (form-cut cmp total old now row index r i E key e c.requires.graph c.requires.index chain (spot-is g way chain).parts has.1 owns) in record {
+      graph = owns.child.changes.trades.graph;
+      sole = owns.sole;
+      index = inside-cut cmp total old now row index r i E key e c.requires.graph c.requires.index chain (spot-is g way chain).parts has.1 owns;
+      live = live-next cmp total old now row index r i E key e c.requires.graph c.requires.index chain (spot-is g way chain).parts has.1 owns c.in-Some.next (sym next ∙ c.in-Some.is);
+      apart = off-next cmp total old now row index r i E key e c.requires.graph c.requires.index chain (spot-is g way chain).parts has.1 owns c.in-Some.next (sym next ∙ c.in-Some.is);
+      few = omega (arith, c.requires.few, owns.child.changes.trades.total);
+    }
 
 pub returns-in-None : goal.returns-in-None
 returns-in-None g c = λ E chain known long.

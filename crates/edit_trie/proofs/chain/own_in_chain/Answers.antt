@@ -60,50 +60,30 @@ own_rows-own-requires-clause-spare g c =
     let is = taken g (goal.at.own_rows-own-requires-clause-spare g c).After-key_spot_of-before c.requires.chain.2 c.requires.chain.3 in
     omega (arith, is.1, is.2, c.requires.chain.4)
 
-pub own_child-requires-clause-sole : goal.own_child-requires-clause-sole
-own_child-requires-clause-sole g c =
-    let at = (goal.at.own_child-requires-clause-sole g c).After-key_spot_of-before in
+pub own_child-requires : goal.own_child-requires
+own_child-requires g c =
+    let at = (goal.at.own_child-requires g c).After-key_spot_of-before in
     let chain = c.requires.chain.2 in
     let pair = c.requires.chain.3 in
-    (owned g at chain pair (c.own_rows-own.ensures chain.entries chain.rows (taken g at chain pair).1)).sole
-
-pub own_child-requires-clause-index : goal.own_child-requires-clause-index
-own_child-requires-clause-index g c =
-    let at = (goal.at.own_child-requires-clause-index g c).After-key_spot_of-before in
     let now = c.own_rows-own.new.heap in
-    let chain = c.requires.chain.2 in
-    let pair = c.requires.chain.3 in
     let rows = owned g at chain pair (c.own_rows-own.ensures chain.entries chain.rows (taken g at chain pair).1) in
-    pair-inside g.T.Ord.cmp g.met.T.Ord.total c.args.heap.now now now c.args.first.row c.args.first.index c.own_rows-own.result.row c.own_rows-own.result.index 0 c.requires.chain.0 (key g at) c.requires.chain.1 c.requires.graph c.requires.sole c.requires.index chain (spot g at chain).parts pair rows
-
-pub own_child-requires-clause-node : goal.own_child-requires-clause-node
-own_child-requires-clause-node g c =
     let cmp = g.T.Ord.cmp in
     let total = g.met.T.Ord.total in
-    let at = (goal.at.own_child-requires-clause-node g c).After-key_spot_of-before in
     let old = c.args.heap.now in
-    let now = c.own_rows-own.new.heap in
     let row = c.args.first.row in
     let index = c.args.first.index in
     let r = c.own_rows-own.result.row in
     let i = c.own_rows-own.result.index in
     let E = c.requires.chain.0 in
     let x = c.requires.chain.1 in
-    let chain = c.requires.chain.2 in
-    let pair = c.requires.chain.3 in
     let parts = (spot g at chain).parts in
-    let rows = owned g at chain pair (c.own_rows-own.ensures chain.entries chain.rows (taken g at chain pair).1) in
-    ap (λ y. is_node (row_at now y)) (pair-child cmp total old now now row index r i 0 E (key g at) x c.requires.graph c.requires.sole c.requires.index chain parts pair rows)
-    ∙ ap is_node (pair-now cmp total old now now row index r i 0 E (key g at) x c.requires.graph c.requires.sole c.requires.index chain parts pair rows c.requires.keyless) ∙ pair.is_pair
-
-pub own_child-requires-clause-spare : goal.own_child-requires-clause-spare
-own_child-requires-clause-spare g c =
-    let at = (goal.at.own_child-requires-clause-spare g c).After-key_spot_of-before in
-    let chain = c.requires.chain.2 in
-    let pair = c.requires.chain.3 in
     let is = taken g at chain pair in
-    let trades = (owned g at chain pair (c.own_rows-own.ensures chain.entries chain.rows is.1)).child.changes.trades in
-    omega (arith, trades.balance.spare_nodes, trades.nodes, ap length (sym is.0), length-take-le (c.key_spot_of-before.result.before + 1) chain.entries is.1, is.1, is.2, c.requires.chain.4)
+    let trades = (owned g at chain pair (c.own_rows-own.ensures chain.entries chain.rows is.1)).child.changes.trades in record {
+      sole = (owned g at chain pair (c.own_rows-own.ensures chain.entries chain.rows (taken g at chain pair).1)).sole;
+      index = pair-inside g.T.Ord.cmp g.met.T.Ord.total c.args.heap.now now now c.args.first.row c.args.first.index c.own_rows-own.result.row c.own_rows-own.result.index 0 c.requires.chain.0 (key g at) c.requires.chain.1 c.requires.graph c.requires.sole c.requires.index chain (spot g at chain).parts pair rows;
+      node = ap (λ y. is_node (row_at now y)) (pair-child cmp total old now now row index r i 0 E (key g at) x c.requires.graph c.requires.sole c.requires.index chain parts pair rows) ∙ ap is_node (pair-now cmp total old now now row index r i 0 E (key g at) x c.requires.graph c.requires.sole c.requires.index chain parts pair rows c.requires.keyless) ∙ pair.is_pair;
+      spare = omega (arith, trades.balance.spare_nodes, trades.nodes, ap length (sym is.0), length-take-le (c.key_spot_of-before.result.before + 1) chain.entries is.1, is.1, is.2, c.requires.chain.4);
+    }
 
 pub returns : goal.returns
 returns g c = λ E x chain pair.

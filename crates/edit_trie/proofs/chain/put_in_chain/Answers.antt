@@ -59,29 +59,18 @@ own_rows-slot-requires-clause-spare g c =
     let way = (goal.at.own_rows-slot-requires-clause-spare g c).After-key_spot_of-spot in
     omega (arith, spot-in g way chain, same-length chain.entries E chain.same, c.requires.chain.5)
 
-pub take_next-next-requires-clause-graph : goal.take_next-next-requires-clause-graph
-take_next-next-requires-clause-graph g c =
+pub take_next-next-requires : goal.take_next-next-requires
+take_next-next-requires g c =
     let chain = c.requires.chain.2 in
-    let way = (goal.at.take_next-next-requires-clause-graph g c).After-key_spot_of-spot in
-    let owns = owned g way chain (c.own_rows-slot.ensures chain.entries chain.rows (spot-in g way chain)) in
-    owns.child.changes.trades.graph
+    let way = (goal.at.take_next-next-requires g c).After-key_spot_of-spot in
+    let owns = owned g way chain (c.own_rows-slot.ensures chain.entries chain.rows (spot-in g way chain)) in record {
+      graph = owns.child.changes.trades.graph;
+      sole = owns.sole;
+      few = omega (arith, c.requires.few, owns.child.changes.trades.total);
+    }
 
-pub take_next-next-requires-clause-sole : goal.take_next-next-requires-clause-sole
-take_next-next-requires-clause-sole g c =
-    let chain = c.requires.chain.2 in
-    let way = (goal.at.take_next-next-requires-clause-sole g c).After-key_spot_of-spot in
-    let owns = owned g way chain (c.own_rows-slot.ensures chain.entries chain.rows (spot-in g way chain)) in
-    owns.sole
-
-pub take_next-next-requires-clause-few : goal.take_next-next-requires-clause-few
-take_next-next-requires-clause-few g c =
-    let chain = c.requires.chain.2 in
-    let way = (goal.at.take_next-next-requires-clause-few g c).After-key_spot_of-spot in
-    let owns = owned g way chain (c.own_rows-slot.ensures chain.entries chain.rows (spot-in g way chain)) in
-    omega (arith, c.requires.few, owns.child.changes.trades.total)
-
-pub row_over-row-requires-clause-spare : goal.row_over-row-requires-clause-spare
-row_over-row-requires-clause-spare g c =
+pub row_over-row-requires : goal.row_over-row-requires
+row_over-row-requires g c =
     let E = c.requires.chain.0 in
     let chain = c.requires.chain.2 in
     let keyed = c.requires.chain.3 in
@@ -93,16 +82,19 @@ row_over-row-requires-clause-spare g c =
     let index : ℕ = c.args.first.index in
     let x : ℕ = c.args.entry in
     let key = c.key_of.result.now in
-    let way = (goal.at.row_over-row-requires-clause-spare g c).After-key_spot_of-spot in
+    let way = (goal.at.row_over-row-requires g c).After-key_spot_of-spot in
     let now = c.own_rows-slot.new.heap in
     let r : ℕ = c.own_rows-slot.result.row in
     let i : ℕ = c.own_rows-slot.result.index in
     let owns = owned g way chain (c.own_rows-slot.ensures chain.entries chain.rows (spot-in g way chain)) in
-    let equal = none-equal g way chain keyed absent in
-    omega (arith, few-smaller cmp total old now row index r i E key x c.requires.graph c.requires.index c.requires.apart c.requires.held c.key_of.ensures chain (spot-is g way chain).parts equal owns, c.requires.chain.5, owns.child.changes.trades.balance.spare_nodes, owns.child.changes.trades.nodes, c.take_next-next.ensures.makes.spare_nodes)
+    let equal = none-equal g way chain keyed absent in record {
+      spare = omega (arith, few-smaller cmp total old now row index r i E key x c.requires.graph c.requires.index c.requires.apart c.requires.held c.key_of.ensures chain (spot-is g way chain).parts equal owns, c.requires.chain.5, owns.child.changes.trades.balance.spare_nodes, owns.child.changes.trades.nodes, c.take_next-next.ensures.makes.spare_nodes);
+      held = held-cut cmp total old now row index r i E key x c.requires.graph c.requires.index c.requires.apart c.requires.held c.key_of.ensures chain (spot-is g way chain).parts equal owns c.take_next-next.new.heap c.take_next-next.result c.take_next-next.ensures.link c.take_next-next.ensures.writes c.take_next-next.ensures.owners c.take_next-next.ensures.changes c.take_next-next.ensures.makes;
+      few = omega (arith, c.requires.few, owns.child.changes.trades.total, c.take_next-next.ensures.changes.trades.total, one-at-most c.take_next-next.result);
+    }
 
-pub row_over-row-requires-clause-held : goal.row_over-row-requires-clause-held
-row_over-row-requires-clause-held g c =
+pub insert_link-requires : goal.insert_link-requires
+insert_link-requires g c =
     let E = c.requires.chain.0 in
     let chain = c.requires.chain.2 in
     let keyed = c.requires.chain.3 in
@@ -114,146 +106,19 @@ row_over-row-requires-clause-held g c =
     let index : ℕ = c.args.first.index in
     let x : ℕ = c.args.entry in
     let key = c.key_of.result.now in
-    let way = (goal.at.row_over-row-requires-clause-held g c).After-key_spot_of-spot in
+    let way = (goal.at.insert_link-requires g c).After-key_spot_of-spot in
     let now = c.own_rows-slot.new.heap in
     let r : ℕ = c.own_rows-slot.result.row in
     let i : ℕ = c.own_rows-slot.result.index in
     let owns = owned g way chain (c.own_rows-slot.ensures chain.entries chain.rows (spot-in g way chain)) in
-    let equal = none-equal g way chain keyed absent in
-    held-cut cmp total old now row index r i E key x c.requires.graph c.requires.index c.requires.apart c.requires.held c.key_of.ensures chain (spot-is g way chain).parts equal owns c.take_next-next.new.heap c.take_next-next.result c.take_next-next.ensures.link c.take_next-next.ensures.writes c.take_next-next.ensures.owners c.take_next-next.ensures.changes c.take_next-next.ensures.makes
-
-pub row_over-row-requires-clause-few : goal.row_over-row-requires-clause-few
-row_over-row-requires-clause-few g c =
-    let chain = c.requires.chain.2 in
-    let way = (goal.at.row_over-row-requires-clause-few g c).After-key_spot_of-spot in
-    let owns = owned g way chain (c.own_rows-slot.ensures chain.entries chain.rows (spot-in g way chain)) in
-    omega (arith, c.requires.few, owns.child.changes.trades.total, c.take_next-next.ensures.changes.trades.total, one-at-most c.take_next-next.result)
-
-pub insert_link-requires-clause-sole : goal.insert_link-requires-clause-sole
-insert_link-requires-clause-sole g c =
-    let E = c.requires.chain.0 in
-    let chain = c.requires.chain.2 in
-    let keyed = c.requires.chain.3 in
-    let absent = c.requires.chain.4 in
-    let cmp = g.T.Ord.cmp in
-    let total = g.met.T.Ord.total in
-    let old = c.args.heap.now in
-    let row : ℕ = c.args.first.row in
-    let index : ℕ = c.args.first.index in
-    let x : ℕ = c.args.entry in
-    let key = c.key_of.result.now in
-    let way = (goal.at.insert_link-requires-clause-sole g c).After-key_spot_of-spot in
-    let now = c.own_rows-slot.new.heap in
-    let r : ℕ = c.own_rows-slot.result.row in
-    let i : ℕ = c.own_rows-slot.result.index in
-    let owns = owned g way chain (c.own_rows-slot.ensures chain.entries chain.rows (spot-in g way chain)) in
-    let equal = none-equal g way chain keyed absent in
-    sole-made cmp total old now row index r i E key x c.requires.graph c.requires.index c.requires.apart c.requires.held c.key_of.ensures chain (spot-is g way chain).parts equal owns c.take_next-next.new.heap c.take_next-next.result c.take_next-next.ensures.link c.take_next-next.ensures.writes c.take_next-next.ensures.owners c.take_next-next.ensures.changes c.take_next-next.ensures.makes c.row_over-row.new.heap c.row_over-row.result c.row_over-row.ensures.row c.row_over-row.ensures.fresh c.row_over-row.ensures.owners c.row_over-row.ensures.builds
-
-pub insert_link-requires-clause-node : goal.insert_link-requires-clause-node
-insert_link-requires-clause-node g c =
-    let E = c.requires.chain.0 in
-    let chain = c.requires.chain.2 in
-    let keyed = c.requires.chain.3 in
-    let absent = c.requires.chain.4 in
-    let cmp = g.T.Ord.cmp in
-    let total = g.met.T.Ord.total in
-    let old = c.args.heap.now in
-    let row : ℕ = c.args.first.row in
-    let index : ℕ = c.args.first.index in
-    let x : ℕ = c.args.entry in
-    let key = c.key_of.result.now in
-    let way = (goal.at.insert_link-requires-clause-node g c).After-key_spot_of-spot in
-    let now = c.own_rows-slot.new.heap in
-    let r : ℕ = c.own_rows-slot.result.row in
-    let i : ℕ = c.own_rows-slot.result.index in
-    let owns = owned g way chain (c.own_rows-slot.ensures chain.entries chain.rows (spot-in g way chain)) in
-    let equal = none-equal g way chain keyed absent in
-    node-made cmp total old now row index r i E key x c.requires.graph c.requires.index c.requires.apart c.requires.held c.key_of.ensures chain (spot-is g way chain).parts equal owns c.take_next-next.new.heap c.take_next-next.result c.take_next-next.ensures.link c.take_next-next.ensures.writes c.take_next-next.ensures.owners c.take_next-next.ensures.changes c.take_next-next.ensures.makes c.row_over-row.new.heap c.row_over-row.result c.row_over-row.ensures.row c.row_over-row.ensures.fresh c.row_over-row.ensures.owners c.row_over-row.ensures.builds
-
-pub insert_link-requires-clause-index : goal.insert_link-requires-clause-index
-insert_link-requires-clause-index g c =
-    let E = c.requires.chain.0 in
-    let chain = c.requires.chain.2 in
-    let keyed = c.requires.chain.3 in
-    let absent = c.requires.chain.4 in
-    let cmp = g.T.Ord.cmp in
-    let total = g.met.T.Ord.total in
-    let old = c.args.heap.now in
-    let row : ℕ = c.args.first.row in
-    let index : ℕ = c.args.first.index in
-    let x : ℕ = c.args.entry in
-    let key = c.key_of.result.now in
-    let way = (goal.at.insert_link-requires-clause-index g c).After-key_spot_of-spot in
-    let now = c.own_rows-slot.new.heap in
-    let r : ℕ = c.own_rows-slot.result.row in
-    let i : ℕ = c.own_rows-slot.result.index in
-    let owns = owned g way chain (c.own_rows-slot.ensures chain.entries chain.rows (spot-in g way chain)) in
-    let equal = none-equal g way chain keyed absent in
-    index-made cmp total old now row index r i E key x c.requires.graph c.requires.index c.requires.apart c.requires.held c.key_of.ensures chain (spot-is g way chain).parts equal owns c.take_next-next.new.heap c.take_next-next.result c.take_next-next.ensures.link c.take_next-next.ensures.writes c.take_next-next.ensures.owners c.take_next-next.ensures.changes c.take_next-next.ensures.makes c.row_over-row.new.heap c.row_over-row.result c.row_over-row.ensures.row c.row_over-row.ensures.fresh c.row_over-row.ensures.owners c.row_over-row.ensures.builds
-
-pub insert_link-requires-clause-room : goal.insert_link-requires-clause-room
-insert_link-requires-clause-room g c =
-    let E = c.requires.chain.0 in
-    let chain = c.requires.chain.2 in
-    let keyed = c.requires.chain.3 in
-    let absent = c.requires.chain.4 in
-    let cmp = g.T.Ord.cmp in
-    let total = g.met.T.Ord.total in
-    let old = c.args.heap.now in
-    let row : ℕ = c.args.first.row in
-    let index : ℕ = c.args.first.index in
-    let x : ℕ = c.args.entry in
-    let key = c.key_of.result.now in
-    let way = (goal.at.insert_link-requires-clause-room g c).After-key_spot_of-spot in
-    let now = c.own_rows-slot.new.heap in
-    let r : ℕ = c.own_rows-slot.result.row in
-    let i : ℕ = c.own_rows-slot.result.index in
-    let owns = owned g way chain (c.own_rows-slot.ensures chain.entries chain.rows (spot-in g way chain)) in
-    let equal = none-equal g way chain keyed absent in
-    room-made cmp total old now row index r i E key x c.requires.graph c.requires.index c.requires.apart c.requires.held c.key_of.ensures chain (spot-is g way chain).parts equal owns c.take_next-next.new.heap c.take_next-next.result c.take_next-next.ensures.link c.take_next-next.ensures.writes c.take_next-next.ensures.owners c.take_next-next.ensures.changes c.take_next-next.ensures.makes c.row_over-row.new.heap c.row_over-row.result c.row_over-row.ensures.row c.row_over-row.ensures.fresh c.row_over-row.ensures.owners c.row_over-row.ensures.builds
-
-pub insert_link-requires-clause-held : goal.insert_link-requires-clause-held
-insert_link-requires-clause-held g c =
-    let E = c.requires.chain.0 in
-    let chain = c.requires.chain.2 in
-    let keyed = c.requires.chain.3 in
-    let absent = c.requires.chain.4 in
-    let cmp = g.T.Ord.cmp in
-    let total = g.met.T.Ord.total in
-    let old = c.args.heap.now in
-    let row : ℕ = c.args.first.row in
-    let index : ℕ = c.args.first.index in
-    let x : ℕ = c.args.entry in
-    let key = c.key_of.result.now in
-    let way = (goal.at.insert_link-requires-clause-held g c).After-key_spot_of-spot in
-    let now = c.own_rows-slot.new.heap in
-    let r : ℕ = c.own_rows-slot.result.row in
-    let i : ℕ = c.own_rows-slot.result.index in
-    let owns = owned g way chain (c.own_rows-slot.ensures chain.entries chain.rows (spot-in g way chain)) in
-    let equal = none-equal g way chain keyed absent in
-    held-made cmp total old now row index r i E key x c.requires.graph c.requires.index c.requires.apart c.requires.held c.key_of.ensures chain (spot-is g way chain).parts equal owns c.take_next-next.new.heap c.take_next-next.result c.take_next-next.ensures.link c.take_next-next.ensures.writes c.take_next-next.ensures.owners c.take_next-next.ensures.changes c.take_next-next.ensures.makes c.row_over-row.new.heap c.row_over-row.result c.row_over-row.ensures.row c.row_over-row.ensures.fresh c.row_over-row.ensures.owners c.row_over-row.ensures.builds
-
-pub insert_link-requires-clause-apart : goal.insert_link-requires-clause-apart
-insert_link-requires-clause-apart g c =
-    let E = c.requires.chain.0 in
-    let chain = c.requires.chain.2 in
-    let keyed = c.requires.chain.3 in
-    let absent = c.requires.chain.4 in
-    let cmp = g.T.Ord.cmp in
-    let total = g.met.T.Ord.total in
-    let old = c.args.heap.now in
-    let row : ℕ = c.args.first.row in
-    let index : ℕ = c.args.first.index in
-    let x : ℕ = c.args.entry in
-    let key = c.key_of.result.now in
-    let way = (goal.at.insert_link-requires-clause-apart g c).After-key_spot_of-spot in
-    let now = c.own_rows-slot.new.heap in
-    let r : ℕ = c.own_rows-slot.result.row in
-    let i : ℕ = c.own_rows-slot.result.index in
-    let owns = owned g way chain (c.own_rows-slot.ensures chain.entries chain.rows (spot-in g way chain)) in
-    let equal = none-equal g way chain keyed absent in
-    apart-made cmp total old now row index r i E key x c.requires.graph c.requires.index c.requires.apart c.requires.held c.key_of.ensures chain (spot-is g way chain).parts equal owns c.take_next-next.new.heap c.take_next-next.result c.take_next-next.ensures.link c.take_next-next.ensures.writes c.take_next-next.ensures.owners c.take_next-next.ensures.changes c.take_next-next.ensures.makes c.row_over-row.new.heap c.row_over-row.result c.row_over-row.ensures.row c.row_over-row.ensures.fresh c.row_over-row.ensures.owners c.row_over-row.ensures.builds
+    let equal = none-equal g way chain keyed absent in record {
+      sole = sole-made cmp total old now row index r i E key x c.requires.graph c.requires.index c.requires.apart c.requires.held c.key_of.ensures chain (spot-is g way chain).parts equal owns c.take_next-next.new.heap c.take_next-next.result c.take_next-next.ensures.link c.take_next-next.ensures.writes c.take_next-next.ensures.owners c.take_next-next.ensures.changes c.take_next-next.ensures.makes c.row_over-row.new.heap c.row_over-row.result c.row_over-row.ensures.row c.row_over-row.ensures.fresh c.row_over-row.ensures.owners c.row_over-row.ensures.builds;
+      node = node-made cmp total old now row index r i E key x c.requires.graph c.requires.index c.requires.apart c.requires.held c.key_of.ensures chain (spot-is g way chain).parts equal owns c.take_next-next.new.heap c.take_next-next.result c.take_next-next.ensures.link c.take_next-next.ensures.writes c.take_next-next.ensures.owners c.take_next-next.ensures.changes c.take_next-next.ensures.makes c.row_over-row.new.heap c.row_over-row.result c.row_over-row.ensures.row c.row_over-row.ensures.fresh c.row_over-row.ensures.owners c.row_over-row.ensures.builds;
+      index = index-made cmp total old now row index r i E key x c.requires.graph c.requires.index c.requires.apart c.requires.held c.key_of.ensures chain (spot-is g way chain).parts equal owns c.take_next-next.new.heap c.take_next-next.result c.take_next-next.ensures.link c.take_next-next.ensures.writes c.take_next-next.ensures.owners c.take_next-next.ensures.changes c.take_next-next.ensures.makes c.row_over-row.new.heap c.row_over-row.result c.row_over-row.ensures.row c.row_over-row.ensures.fresh c.row_over-row.ensures.owners c.row_over-row.ensures.builds;
+      room = room-made cmp total old now row index r i E key x c.requires.graph c.requires.index c.requires.apart c.requires.held c.key_of.ensures chain (spot-is g way chain).parts equal owns c.take_next-next.new.heap c.take_next-next.result c.take_next-next.ensures.link c.take_next-next.ensures.writes c.take_next-next.ensures.owners c.take_next-next.ensures.changes c.take_next-next.ensures.makes c.row_over-row.new.heap c.row_over-row.result c.row_over-row.ensures.row c.row_over-row.ensures.fresh c.row_over-row.ensures.owners c.row_over-row.ensures.builds;
+      held = held-made cmp total old now row index r i E key x c.requires.graph c.requires.index c.requires.apart c.requires.held c.key_of.ensures chain (spot-is g way chain).parts equal owns c.take_next-next.new.heap c.take_next-next.result c.take_next-next.ensures.link c.take_next-next.ensures.writes c.take_next-next.ensures.owners c.take_next-next.ensures.changes c.take_next-next.ensures.makes c.row_over-row.new.heap c.row_over-row.result c.row_over-row.ensures.row c.row_over-row.ensures.fresh c.row_over-row.ensures.owners c.row_over-row.ensures.builds;
+      apart = apart-made cmp total old now row index r i E key x c.requires.graph c.requires.index c.requires.apart c.requires.held c.key_of.ensures chain (spot-is g way chain).parts equal owns c.take_next-next.new.heap c.take_next-next.result c.take_next-next.ensures.link c.take_next-next.ensures.writes c.take_next-next.ensures.owners c.take_next-next.ensures.changes c.take_next-next.ensures.makes c.row_over-row.new.heap c.row_over-row.result c.row_over-row.ensures.row c.row_over-row.ensures.fresh c.row_over-row.ensures.owners c.row_over-row.ensures.builds;
+    }
 
 pub returns : goal.returns
 returns g c = λ E k chain keyed absent.

@@ -82,41 +82,18 @@ own_entry-pair-requires-clause-row g c =
     let pair = there g some can in
     (E, DEEPEST, pair.0, can-there g some can, pair.1, omega (arith, c.requires.map.3, ap (λ n. alike_in (code_by g.T.Element.code_of c.args.bits) n E) (some-code g some)))
 
-pub replace-requires-clause-sole : goal.replace-requires-clause-sole
-replace-requires-clause-sole g c =
-    let some = (goal.at.replace-requires-clause-sole g c).In-Some in
+pub replace-requires : goal.replace-requires
+replace-requires g c =
+    let some = (goal.at.replace-requires g c).In-Some in
     let E = c.requires.map.0 in
     let can = c.requires.map.2 in
     let pair = there g some can in
-    let did = owned g some can (c.own_entry-pair.ensures E DEEPEST pair.0 (can-there g some can) pair.1) in
-    sole-own g.T.Ord.cmp g.T.Element.code_of g.met.T.Ord.total c.args.heap.now c.args.bits c.args.root c.args.key E c.requires.map.1 c.args.found.entry c.in-Some.field-0 can c.in-Some.is c.own_entry-pair.new.heap c.own_entry-pair.result c.args.value pair.0 pair.1 did
-
-pub replace-requires-clause-index : goal.replace-requires-clause-index
-replace-requires-clause-index g c =
-    let some = (goal.at.replace-requires-clause-index g c).In-Some in
-    let E = c.requires.map.0 in
-    let can = c.requires.map.2 in
-    let pair = there g some can in
-    let did = owned g some can (c.own_entry-pair.ensures E DEEPEST pair.0 (can-there g some can) pair.1) in
-    second-own g.T.Ord.cmp g.T.Element.code_of g.met.T.Ord.total c.args.heap.now c.args.bits c.args.root c.args.key E c.requires.map.1 c.args.found.entry c.in-Some.field-0 can c.in-Some.is c.own_entry-pair.new.heap c.own_entry-pair.result c.args.value pair.0 pair.1 did
-
-pub replace-requires-clause-held : goal.replace-requires-clause-held
-replace-requires-clause-held g c =
-    let some = (goal.at.replace-requires-clause-held g c).In-Some in
-    let E = c.requires.map.0 in
-    let can = c.requires.map.2 in
-    let pair = there g some can in
-    let did = owned g some can (c.own_entry-pair.ensures E DEEPEST pair.0 (can-there g some can) pair.1) in
-    held-own g.T.Ord.cmp g.T.Element.code_of g.met.T.Ord.total c.args.heap.now c.args.bits c.args.root c.args.key E c.requires.map.1 c.args.found.entry c.in-Some.field-0 can c.in-Some.is c.own_entry-pair.new.heap c.own_entry-pair.result c.args.value pair.0 pair.1 did c.requires.held
-
-pub replace-requires-clause-apart : goal.replace-requires-clause-apart
-replace-requires-clause-apart g c =
-    let some = (goal.at.replace-requires-clause-apart g c).In-Some in
-    let E = c.requires.map.0 in
-    let can = c.requires.map.2 in
-    let pair = there g some can in
-    let did = owned g some can (c.own_entry-pair.ensures E DEEPEST pair.0 (can-there g some can) pair.1) in
-    apart-own g.T.Ord.cmp g.T.Element.code_of g.met.T.Ord.total c.args.heap.now c.args.bits c.args.root c.args.key E c.requires.map.1 c.args.found.entry c.in-Some.field-0 can c.in-Some.is c.own_entry-pair.new.heap c.own_entry-pair.result c.args.value pair.0 pair.1 did c.requires.held c.requires.apart
+    let did = owned g some can (c.own_entry-pair.ensures E DEEPEST pair.0 (can-there g some can) pair.1) in record {
+      sole = sole-own g.T.Ord.cmp g.T.Element.code_of g.met.T.Ord.total c.args.heap.now c.args.bits c.args.root c.args.key E c.requires.map.1 c.args.found.entry c.in-Some.field-0 can c.in-Some.is c.own_entry-pair.new.heap c.own_entry-pair.result c.args.value pair.0 pair.1 did;
+      index = second-own g.T.Ord.cmp g.T.Element.code_of g.met.T.Ord.total c.args.heap.now c.args.bits c.args.root c.args.key E c.requires.map.1 c.args.found.entry c.in-Some.field-0 can c.in-Some.is c.own_entry-pair.new.heap c.own_entry-pair.result c.args.value pair.0 pair.1 did;
+      held = held-own g.T.Ord.cmp g.T.Element.code_of g.met.T.Ord.total c.args.heap.now c.args.bits c.args.root c.args.key E c.requires.map.1 c.args.found.entry c.in-Some.field-0 can c.in-Some.is c.own_entry-pair.new.heap c.own_entry-pair.result c.args.value pair.0 pair.1 did c.requires.held;
+      apart = apart-own g.T.Ord.cmp g.T.Element.code_of g.met.T.Ord.total c.args.heap.now c.args.bits c.args.root c.args.key E c.requires.map.1 c.args.found.entry c.in-Some.field-0 can c.in-Some.is c.own_entry-pair.new.heap c.own_entry-pair.result c.args.value pair.0 pair.1 did c.requires.held c.requires.apart;
+    }
 
 pub returns-in-Some : goal.returns-in-Some
 returns-in-Some g c = λ E M can.

@@ -47,12 +47,8 @@ unreachable-requires g t c =
     let spot = subst (λ p. IsSpot at.0 at.1 p NoneAt) c.digit.ensures.read (c.in-Empty.ensures.spot c.args.depth at.0 at.1 at.2 at.3) in
     not-empty cmp code old c.args.row c.args.depth left c.args.code E can.below at.0 at.1 at.2 at.3 g.met.T.Ord.total equal key c.requires.code x pair.found pair.keyed spot
 
-pub own_child-requires-clause-sole : goal.own_child-requires-clause-sole
-own_child-requires-clause-sole g t c =
-    c.requires.row.3.sole
-
-pub own_child-requires-clause-index : goal.own_child-requires-clause-index
-own_child-requires-clause-index g t c =
+pub own_child-requires : goal.own_child-requires
+own_child-requires g t c =
     let cmp = g.T.Ord.cmp in
     let code = code_by g.T.Element.code_of c.args.bits in
     let old = c.args.heap.now in
@@ -61,34 +57,18 @@ own_child-requires-clause-index g t c =
     let can = c.requires.row.3 in
     let at = row-at cmp code (form_at old) left c.args.depth c.args.row E can.below.trie in
     let spot = subst (λ p. IsSpot at.0 at.1 p (EntryAt c.in-Entry.index)) c.digit.ensures.read (c.in-Entry.ensures.spot c.args.depth at.0 at.1 at.2 at.3) in
-    entry-inside old c.args.row c.args.depth at.0 at.1 at.2 at.3 (digit_at c.args.code c.args.depth) c.in-Entry.index (omega arith) spot
-
-pub own_child-requires-clause-node : goal.own_child-requires-clause-node
-own_child-requires-clause-node g t c =
-    let cmp = g.T.Ord.cmp in
-    let code = code_by g.T.Element.code_of c.args.bits in
-    let old = c.args.heap.now in
     let equal = λ (i j : g.row.T.Denot) (same : cmp i j ≡ Equal). ap (λ n. masked_code n c.args.bits) (g.met.T.Element.equal_codes i j same) in
     let key = g.P.Probe.stands_for c.args.key.now in
-    let E = c.requires.row.0 in
-    let left = c.requires.row.1 in
     let x = c.requires.row.2 in
-    let can = c.requires.row.3 in
-    let pair = c.requires.row.4 in
-    let at = row-at cmp code (form_at old) left c.args.depth c.args.row E can.below.trie in
-    let spot = subst (λ p. IsSpot at.0 at.1 p (EntryAt c.in-Entry.index)) c.digit.ensures.read (c.in-Entry.ensures.spot c.args.depth at.0 at.1 at.2 at.3) in
-    ap (λ y. is_node (row_at old y)) (entry-at cmp code old c.args.row c.args.depth left c.args.code E can.below at.0 at.1 at.2 at.3 g.met.T.Ord.total equal key c.requires.code x pair.found pair.keyed c.in-Entry.index spot).0 ∙ pair.is_pair
+    let pair = c.requires.row.4 in record {
+      sole = c.requires.row.3.sole;
+      index = entry-inside old c.args.row c.args.depth at.0 at.1 at.2 at.3 (digit_at c.args.code c.args.depth) c.in-Entry.index (omega arith) spot;
+      node = ap (λ y. is_node (row_at old y)) (entry-at cmp code old c.args.row c.args.depth left c.args.code E can.below at.0 at.1 at.2 at.3 g.met.T.Ord.total equal key c.requires.code x pair.found pair.keyed c.in-Entry.index spot).0 ∙ pair.is_pair;
+      spare = omega (arith, c.requires.row.5);
+    }
 
-pub own_in_chain-requires-clause-keyless : goal.own_in_chain-requires-clause-keyless
-own_in_chain-requires-clause-keyless g t c =
-    let cmp = g.T.Ord.cmp in
-    let code = code_by g.T.Element.code_of c.args.bits in
-    let old = c.args.heap.now in
-    let at = row-at cmp code (form_at old) c.requires.row.1 c.args.depth c.args.row c.requires.row.0 c.requires.row.3.below.trie in
-    row-keyless (form_at old) c.args.row c.args.depth at.0 at.1 at.2 at.3
-
-pub own_in_chain-requires-clause-index : goal.own_in_chain-requires-clause-index
-own_in_chain-requires-clause-index g t c =
+pub own_in_chain-requires : goal.own_in_chain-requires
+own_in_chain-requires g t c =
     let cmp = g.T.Ord.cmp in
     let code = code_by g.T.Element.code_of c.args.bits in
     let old = c.args.heap.now in
@@ -97,42 +77,23 @@ own_in_chain-requires-clause-index g t c =
     let can = c.requires.row.3 in
     let at = row-at cmp code (form_at old) left c.args.depth c.args.row E can.below.trie in
     let spot = subst (λ p. IsSpot at.0 at.1 p (NodeAt c.in-Node.index)) c.digit.ensures.read (c.in-Node.ensures.spot c.args.depth at.0 at.1 at.2 at.3) in
-    node-inside old c.args.row c.args.depth at.0 at.1 at.2 at.3 (digit_at c.args.code c.args.depth) c.in-Node.index (omega arith) spot
-
-pub own_in_chain-requires-clause-chain : goal.own_in_chain-requires-clause-chain
-own_in_chain-requires-clause-chain g t c =
-    let cmp = g.T.Ord.cmp in
-    let code = code_by g.T.Element.code_of c.args.bits in
-    let old = c.args.heap.now in
     let equal = λ (i j : g.row.T.Denot) (same : cmp i j ≡ Equal). ap (λ n. masked_code n c.args.bits) (g.met.T.Element.equal_codes i j same) in
     let key = g.P.Probe.stands_for c.args.key.now in
-    let E = c.requires.row.0 in
-    let left = c.requires.row.1 in
     let x = c.requires.row.2 in
-    let can = c.requires.row.3 in
     let pair = c.requires.row.4 in
-    let at = row-at cmp code (form_at old) left c.args.depth c.args.row E can.below.trie in
-    let spot = subst (λ p. IsSpot at.0 at.1 p (NodeAt c.in-Node.index)) c.digit.ensures.read (c.in-Node.ensures.spot c.args.depth at.0 at.1 at.2 at.3) in
     let P = part cmp code c.args.depth (digit_at c.args.code c.args.depth) E in
     let low : c.args.code < 2 ^ CODE_BITS = omega arith in
     let alike = deepest-alike cmp code c.args.depth c.args.code E c.if-depth-eq-DEEPEST.true low (λ k. masked-small (g.T.Element.code_of k) c.args.bits c.requires.bits) can.below.agrees in
-    let chain = chain-at cmp code old c.args.row c.args.depth left c.args.code E can.below at.0 at.1 at.2 at.3 c.in-Node.index spot (omega (arith, c.if-depth-eq-DEEPEST.true)) in
-    (P, x, chain.1, record { found = in-part cmp code old c.args.row c.args.depth left c.args.code E can.below at.0 at.1 at.2 at.3 g.met.T.Ord.total equal key c.requires.code x pair.found pair.keyed; keyed = pair.keyed; is_pair = pair.is_pair }, omega (arith, alike, chain.0, c.requires.row.5))
+    let chain = chain-at cmp code old c.args.row c.args.depth left c.args.code E can.below at.0 at.1 at.2 at.3 c.in-Node.index spot (omega (arith, c.if-depth-eq-DEEPEST.true)) in record {
+      graph = c.requires.row.3.graph;
+      keyless = row-keyless (form_at old) c.args.row c.args.depth at.0 at.1 at.2 at.3;
+      sole = c.requires.row.3.sole;
+      index = node-inside old c.args.row c.args.depth at.0 at.1 at.2 at.3 (digit_at c.args.code c.args.depth) c.in-Node.index (omega arith) spot;
+      chain = (P, x, chain.1, record { found = in-part cmp code old c.args.row c.args.depth left c.args.code E can.below at.0 at.1 at.2 at.3 g.met.T.Ord.total equal key c.requires.code x pair.found pair.keyed; keyed = pair.keyed; is_pair = pair.is_pair }, omega (arith, alike, chain.0, c.requires.row.5));
+    }
 
-pub own_child-child-requires-clause-index : goal.own_child-child-requires-clause-index
-own_child-child-requires-clause-index g t c =
-    let cmp = g.T.Ord.cmp in
-    let code = code_by g.T.Element.code_of c.args.bits in
-    let old = c.args.heap.now in
-    let E = c.requires.row.0 in
-    let left = c.requires.row.1 in
-    let can = c.requires.row.3 in
-    let at = row-at cmp code (form_at old) left c.args.depth c.args.row E can.below.trie in
-    let spot = subst (λ p. IsSpot at.0 at.1 p (NodeAt c.in-Node.index)) c.digit.ensures.read (c.in-Node.ensures.spot c.args.depth at.0 at.1 at.2 at.3) in
-    node-inside old c.args.row c.args.depth at.0 at.1 at.2 at.3 (digit_at c.args.code c.args.depth) c.in-Node.index (omega arith) spot
-
-pub own_child-child-requires-clause-node : goal.own_child-child-requires-clause-node
-own_child-child-requires-clause-node g t c =
+pub own_child-child-requires : goal.own_child-child-requires
+own_child-child-requires g t c =
     let cmp = g.T.Ord.cmp in
     let code = code_by g.T.Element.code_of c.args.bits in
     let old = c.args.heap.now in
@@ -144,8 +105,12 @@ own_child-child-requires-clause-node g t c =
     let P = part cmp code c.args.depth (digit_at c.args.code c.args.depth) E in
     let less : c.args.depth < DEEPEST = omega (arith, c.if-depth-eq-DEEPEST.false, c.requires.depth) in
     let down = deeper cmp code old c.args.row c.args.depth left c.args.code E can.below at.0 at.1 at.2 at.3 c.in-Node.index spot less in
-    let there = row-at cmp code (form_at old) down.m (c.args.depth + 1) (child_at old c.args.row c.in-Node.index) P down.below.trie in
-    node-form (row_at old (child_at old c.args.row c.in-Node.index)) _ there.2 there.3.row
+    let there = row-at cmp code (form_at old) down.m (c.args.depth + 1) (child_at old c.args.row c.in-Node.index) P down.below.trie in record {
+      sole = can.sole;
+      index = node-inside old c.args.row c.args.depth at.0 at.1 at.2 at.3 (digit_at c.args.code c.args.depth) c.in-Node.index (omega arith) spot;
+      node = node-form (row_at old (child_at old c.args.row c.in-Node.index)) _ there.2 there.3.row;
+      spare = omega (arith, c.requires.row.5);
+    }
 
 pub own_entry-requires : goal.own_entry-requires
 own_entry-requires g t c κs within =

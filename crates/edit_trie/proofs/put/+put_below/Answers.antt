@@ -49,20 +49,8 @@ put_entry-requires-clause-row g t c =
 pub split-requires-clause-spot : goal.split-requires-clause-spot
 split-requires-clause-spot g t c = λ d e n ls is. subst (λ p. has e p ≡ true) c.digit.ensures.read (c.in-Entry.ensures.spot d e n ls is).0
 
-pub put_in_chain-requires-clause-keyless : goal.put_in_chain-requires-clause-keyless
-put_in_chain-requires-clause-keyless g t c =
-    let cmp = g.T.Ord.cmp in
-    let code = code_by g.T.Element.code_of c.args.bits in
-    let old = c.args.heap.now in
-    let E = c.requires.row.0 in
-    let left = c.requires.row.1 in
-    let can = c.requires.row.3 in
-    let d : ℕ = c.args.depth in
-    let at = row-at cmp code (form_at old) left d c.args.row E can.below.trie in
-    row-keyless (form_at old) c.args.row d at.0 at.1 at.2 at.3
-
-pub put_in_chain-requires-clause-index : goal.put_in_chain-requires-clause-index
-put_in_chain-requires-clause-index g t c =
+pub put_in_chain-requires : goal.put_in_chain-requires
+put_in_chain-requires g t c =
     let cmp = g.T.Ord.cmp in
     let code = code_by g.T.Element.code_of c.args.bits in
     let old = c.args.heap.now in
@@ -72,46 +60,28 @@ put_in_chain-requires-clause-index g t c =
     let d : ℕ = c.args.depth in
     let at = row-at cmp code (form_at old) left d c.args.row E can.below.trie in
     let spot = subst (λ p. IsSpot at.0 at.1 p (NodeAt c.in-Node.index)) c.digit.ensures.read (c.in-Node.ensures.spot d at.0 at.1 at.2 at.3) in
-    node-inside old c.args.row d at.0 at.1 at.2 at.3 (digit_at c.args.code d) c.in-Node.index (omega arith) spot
-
-pub put_in_chain-requires-clause-chain : goal.put_in_chain-requires-clause-chain
-put_in_chain-requires-clause-chain g t c =
-    let cmp = g.T.Ord.cmp in
-    let code = code_by g.T.Element.code_of c.args.bits in
-    let old = c.args.heap.now in
     let equal = λ (i j : g.row.T.Denot) (same : cmp i j ≡ Equal). ap (λ n. masked_code n c.args.bits) (g.met.T.Element.equal_codes i j same) in
-    let E = c.requires.row.0 in
-    let left = c.requires.row.1 in
     let key = c.requires.row.2 in
-    let can = c.requires.row.3 in
     let keyed = c.requires.row.4 in
     let is_code = c.requires.row.5 in
     let absent = c.requires.row.6 in
-    let d : ℕ = c.args.depth in
-    let at = row-at cmp code (form_at old) left d c.args.row E can.below.trie in
-    let spot = subst (λ p. IsSpot at.0 at.1 p (NodeAt c.in-Node.index)) c.digit.ensures.read (c.in-Node.ensures.spot d at.0 at.1 at.2 at.3) in
     let P = part cmp code d (digit_at c.args.code d) E in
     let small : c.args.code < 2 ^ CODE_BITS = omega arith in
     let all_small = λ (k : g.row.T.Denot). masked-small (g.T.Element.code_of k) c.args.bits c.requires.bits in
     let chain = chain-at cmp code old c.args.row d left c.args.code E can.below at.0 at.1 at.2 at.3 c.in-Node.index spot (omega (arith, c.if-depth-eq-DEEPEST.true)) in
-    let alike = deepest-alike cmp code d c.args.code E c.if-depth-eq-DEEPEST.true small all_small can.below.agrees in
-    (P, key, chain.1, keyed, absent-part cmp code equal old left d c.args.row c.args.code E key c.args.entry is_code can at.0 at.1 at.2 at.3 absent, omega (arith, alike, chain.0, c.requires.row.7))
+    let alike = deepest-alike cmp code d c.args.code E c.if-depth-eq-DEEPEST.true small all_small can.below.agrees in record {
+      graph = can.graph;
+      keyless = row-keyless (form_at old) c.args.row d at.0 at.1 at.2 at.3;
+      sole = can.sole;
+      index = node-inside old c.args.row d at.0 at.1 at.2 at.3 (digit_at c.args.code d) c.in-Node.index (omega arith) spot;
+      held = c.requires.held;
+      apart = c.requires.apart;
+      few = c.requires.few;
+      chain = (P, key, chain.1, keyed, absent-part cmp code equal old left d c.args.row c.args.code E key c.args.entry is_code can at.0 at.1 at.2 at.3 absent, omega (arith, alike, chain.0, c.requires.row.7));
+    }
 
-pub own_child-child-requires-clause-index : goal.own_child-child-requires-clause-index
-own_child-child-requires-clause-index g t c =
-    let cmp = g.T.Ord.cmp in
-    let code = code_by g.T.Element.code_of c.args.bits in
-    let old = c.args.heap.now in
-    let E = c.requires.row.0 in
-    let left = c.requires.row.1 in
-    let can = c.requires.row.3 in
-    let d : ℕ = c.args.depth in
-    let at = row-at cmp code (form_at old) left d c.args.row E can.below.trie in
-    let spot = subst (λ p. IsSpot at.0 at.1 p (NodeAt c.in-Node.index)) c.digit.ensures.read (c.in-Node.ensures.spot d at.0 at.1 at.2 at.3) in
-    node-inside old c.args.row d at.0 at.1 at.2 at.3 (digit_at c.args.code d) c.in-Node.index (omega arith) spot
-
-pub own_child-child-requires-clause-node : goal.own_child-child-requires-clause-node
-own_child-child-requires-clause-node g t c =
+pub own_child-child-requires : goal.own_child-child-requires
+own_child-child-requires g t c =
     let cmp = g.T.Ord.cmp in
     let code = code_by g.T.Element.code_of c.args.bits in
     let old = c.args.heap.now in
@@ -124,8 +94,12 @@ own_child-child-requires-clause-node g t c =
     let P = part cmp code d (digit_at c.args.code d) E in
     let less : c.args.depth < DEEPEST = omega (arith, c.if-depth-eq-DEEPEST.false, c.requires.depth) in
     let down = deeper cmp code old c.args.row d left c.args.code E can.below at.0 at.1 at.2 at.3 c.in-Node.index spot less in
-    let there = row-at cmp code (form_at old) down.m (d + 1) (child_at old c.args.row c.in-Node.index) P down.below.trie in
-    node-form (row_at old (child_at old c.args.row c.in-Node.index)) _ there.2 there.3.row
+    let there = row-at cmp code (form_at old) down.m (d + 1) (child_at old c.args.row c.in-Node.index) P down.below.trie in record {
+      sole = can.sole;
+      index = node-inside old c.args.row d at.0 at.1 at.2 at.3 (digit_at c.args.code d) c.in-Node.index (omega arith) spot;
+      node = node-form (row_at old (child_at old c.args.row c.in-Node.index)) _ there.2 there.3.row;
+      spare = omega (arith, c.requires.row.7);
+    }
 
 pub put_below-requires : goal.put_below-requires
 put_below-requires g t c κs within =

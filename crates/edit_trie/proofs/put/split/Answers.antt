@@ -128,8 +128,8 @@ node_of_two-node-requires-clause-spare g c =
     let old_code : c.masked-old_code.result ≡ code one.key = c.masked-old_code.ensures.kept ∙ ap (λ n. masked_code n c.args.bits) (c.code.ensures ∙ ap g.T.Element.code_of (other-key cmp code equal old left d c.args.row c.args.code E key c.args.entry is_code can keyed absent at.0 at.1 at.2 at.3 had cut y took c.key_of.result.now c.key_of.ensures)) in
     spare-cut cmp code equal old left d c.args.row c.args.code E key c.args.entry is_code can keyed absent at.0 at.1 at.2 at.3 had cut y took c.masked-old_code.result old_code c.requires.row.7
 
-pub put_node-requires-clause-row : goal.put_node-requires-clause-row
-put_node-requires-clause-row g c =
+pub put_node-requires : goal.put_node-requires
+put_node-requires g c =
     let cmp = g.T.Ord.cmp in
     let code = code_by g.T.Element.code_of c.args.bits in
     let old = c.args.heap.now in
@@ -147,87 +147,17 @@ put_node-requires-clause-row g c =
     let cut = c.take_entry-old.new.heap in
     let had = c.requires.spot d at.0 at.1 at.2 at.3 in
     let read = c.digit-position.ensures.read in
-    let took = took-entry g (goal.at.put_node-requires-clause-row g c).After-take_entry-old at.3 in
+    let took = took-entry g (goal.at.put_node-requires g c).After-take_entry-old at.3 in
     let one = al cmp code equal old left d c.args.row c.args.code E key c.args.entry is_code can keyed absent at.0 at.1 at.2 at.3 had cut y took in
     let old_code : c.masked-old_code.result ≡ code one.key = c.masked-old_code.ensures.kept ∙ ap (λ n. masked_code n c.args.bits) (c.code.ensures ∙ ap g.T.Element.code_of (other-key cmp code equal old left d c.args.row c.args.code E key c.args.entry is_code can keyed absent at.0 at.1 at.2 at.3 had cut y took c.key_of.result.now c.key_of.ensures)) in
     let more = c.node_of_two-node.ensures in
-    let made = more.trie code key one.key (keyed-cut cmp code equal old left d c.args.row c.args.code E key c.args.entry is_code can keyed absent at.0 at.1 at.2 at.3 had cut y took) (other-cut cmp code equal old left d c.args.row c.args.code E key c.args.entry is_code can keyed absent at.0 at.1 at.2 at.3 had cut y took) is_code old_code left (omega (arith, can.below.levels)) in
-    (took.puts.entries, took.puts.nodes, took.puts.links, is-built cmp code equal old left d c.args.row c.args.code E key c.args.entry is_code can keyed absent at.0 at.1 at.2 at.3 had cut y took c.requires.apart c.requires.held c.node_of_two-node.new.heap c.node_of_two-node.result more.builds.0 c.masked-old_code.result old_code more.builds.1 more.builds.2 made more.owners more.below, ap (place_of took.puts.entries took.puts.nodes took.puts.links) read ∙ took.puts.puts)
-
-pub put_node-requires-clause-sole : goal.put_node-requires-clause-sole
-put_node-requires-clause-sole g c =
-    let cmp = g.T.Ord.cmp in
-    let code = code_by g.T.Element.code_of c.args.bits in
-    let old = c.args.heap.now in
-    let E = c.requires.row.0 in
-    let left = c.requires.row.1 in
-    let key = c.requires.row.2 in
-    let can = c.requires.row.3 in
-    let keyed = c.requires.row.4 in
-    let is_code = c.requires.row.5 in
-    let absent = c.requires.row.6 in
-    let d : ℕ = c.args.depth in
-    let at = row-at cmp code (form_at old) left d c.args.row E can.below.trie in
-    let equal = λ (i j : g.row.T.Denot) (same : cmp i j ≡ Equal). ap (λ n. masked_code n c.args.bits) (g.met.T.Element.equal_codes i j same) in
-    let y = c.take_entry-old.result in
-    let cut = c.take_entry-old.new.heap in
-    let had = c.requires.spot d at.0 at.1 at.2 at.3 in
-    let took = took-entry g (goal.at.put_node-requires-clause-sole g c).After-take_entry-old at.3 in
-    let one = al cmp code equal old left d c.args.row c.args.code E key c.args.entry is_code can keyed absent at.0 at.1 at.2 at.3 had cut y took in
-    let old_code : c.masked-old_code.result ≡ code one.key = c.masked-old_code.ensures.kept ∙ ap (λ n. masked_code n c.args.bits) (c.code.ensures ∙ ap g.T.Element.code_of (other-key cmp code equal old left d c.args.row c.args.code E key c.args.entry is_code can keyed absent at.0 at.1 at.2 at.3 had cut y took c.key_of.result.now c.key_of.ensures)) in
-    let more = c.node_of_two-node.ensures in
-    let made = more.trie code key one.key (keyed-cut cmp code equal old left d c.args.row c.args.code E key c.args.entry is_code can keyed absent at.0 at.1 at.2 at.3 had cut y took) (other-cut cmp code equal old left d c.args.row c.args.code E key c.args.entry is_code can keyed absent at.0 at.1 at.2 at.3 had cut y took) is_code old_code left (omega (arith, can.below.levels)) in
-    sole-built cmp code equal old left d c.args.row c.args.code E key c.args.entry is_code can keyed absent at.0 at.1 at.2 at.3 had cut y took c.requires.apart c.requires.held c.node_of_two-node.new.heap c.node_of_two-node.result more.builds.0 c.masked-old_code.result old_code more.builds.1 more.builds.2 made more.owners more.below
-
-pub put_node-requires-clause-held : goal.put_node-requires-clause-held
-put_node-requires-clause-held g c =
-    let cmp = g.T.Ord.cmp in
-    let code = code_by g.T.Element.code_of c.args.bits in
-    let old = c.args.heap.now in
-    let E = c.requires.row.0 in
-    let left = c.requires.row.1 in
-    let key = c.requires.row.2 in
-    let can = c.requires.row.3 in
-    let keyed = c.requires.row.4 in
-    let is_code = c.requires.row.5 in
-    let absent = c.requires.row.6 in
-    let d : ℕ = c.args.depth in
-    let at = row-at cmp code (form_at old) left d c.args.row E can.below.trie in
-    let equal = λ (i j : g.row.T.Denot) (same : cmp i j ≡ Equal). ap (λ n. masked_code n c.args.bits) (g.met.T.Element.equal_codes i j same) in
-    let y = c.take_entry-old.result in
-    let cut = c.take_entry-old.new.heap in
-    let had = c.requires.spot d at.0 at.1 at.2 at.3 in
-    let took = took-entry g (goal.at.put_node-requires-clause-held g c).After-take_entry-old at.3 in
-    let one = al cmp code equal old left d c.args.row c.args.code E key c.args.entry is_code can keyed absent at.0 at.1 at.2 at.3 had cut y took in
-    let old_code : c.masked-old_code.result ≡ code one.key = c.masked-old_code.ensures.kept ∙ ap (λ n. masked_code n c.args.bits) (c.code.ensures ∙ ap g.T.Element.code_of (other-key cmp code equal old left d c.args.row c.args.code E key c.args.entry is_code can keyed absent at.0 at.1 at.2 at.3 had cut y took c.key_of.result.now c.key_of.ensures)) in
-    let more = c.node_of_two-node.ensures in
-    let made = more.trie code key one.key (keyed-cut cmp code equal old left d c.args.row c.args.code E key c.args.entry is_code can keyed absent at.0 at.1 at.2 at.3 had cut y took) (other-cut cmp code equal old left d c.args.row c.args.code E key c.args.entry is_code can keyed absent at.0 at.1 at.2 at.3 had cut y took) is_code old_code left (omega (arith, can.below.levels)) in
-    held-built cmp code equal old left d c.args.row c.args.code E key c.args.entry is_code can keyed absent at.0 at.1 at.2 at.3 had cut y took c.requires.apart c.requires.held c.node_of_two-node.new.heap c.node_of_two-node.result more.builds.0 c.masked-old_code.result old_code more.builds.1 more.builds.2 made more.owners more.below
-
-pub put_node-requires-clause-apart : goal.put_node-requires-clause-apart
-put_node-requires-clause-apart g c =
-    let cmp = g.T.Ord.cmp in
-    let code = code_by g.T.Element.code_of c.args.bits in
-    let old = c.args.heap.now in
-    let E = c.requires.row.0 in
-    let left = c.requires.row.1 in
-    let key = c.requires.row.2 in
-    let can = c.requires.row.3 in
-    let keyed = c.requires.row.4 in
-    let is_code = c.requires.row.5 in
-    let absent = c.requires.row.6 in
-    let d : ℕ = c.args.depth in
-    let at = row-at cmp code (form_at old) left d c.args.row E can.below.trie in
-    let equal = λ (i j : g.row.T.Denot) (same : cmp i j ≡ Equal). ap (λ n. masked_code n c.args.bits) (g.met.T.Element.equal_codes i j same) in
-    let y = c.take_entry-old.result in
-    let cut = c.take_entry-old.new.heap in
-    let had = c.requires.spot d at.0 at.1 at.2 at.3 in
-    let took = took-entry g (goal.at.put_node-requires-clause-apart g c).After-take_entry-old at.3 in
-    let one = al cmp code equal old left d c.args.row c.args.code E key c.args.entry is_code can keyed absent at.0 at.1 at.2 at.3 had cut y took in
-    let old_code : c.masked-old_code.result ≡ code one.key = c.masked-old_code.ensures.kept ∙ ap (λ n. masked_code n c.args.bits) (c.code.ensures ∙ ap g.T.Element.code_of (other-key cmp code equal old left d c.args.row c.args.code E key c.args.entry is_code can keyed absent at.0 at.1 at.2 at.3 had cut y took c.key_of.result.now c.key_of.ensures)) in
-    let more = c.node_of_two-node.ensures in
-    let made = more.trie code key one.key (keyed-cut cmp code equal old left d c.args.row c.args.code E key c.args.entry is_code can keyed absent at.0 at.1 at.2 at.3 had cut y took) (other-cut cmp code equal old left d c.args.row c.args.code E key c.args.entry is_code can keyed absent at.0 at.1 at.2 at.3 had cut y took) is_code old_code left (omega (arith, can.below.levels)) in
-    apart-built cmp code equal old left d c.args.row c.args.code E key c.args.entry is_code can keyed absent at.0 at.1 at.2 at.3 had cut y took c.requires.apart c.requires.held c.node_of_two-node.new.heap c.node_of_two-node.result more.builds.0 c.masked-old_code.result old_code more.builds.1 more.builds.2 made more.owners more.below
+    let made = more.trie code key one.key (keyed-cut cmp code equal old left d c.args.row c.args.code E key c.args.entry is_code can keyed absent at.0 at.1 at.2 at.3 had cut y took) (other-cut cmp code equal old left d c.args.row c.args.code E key c.args.entry is_code can keyed absent at.0 at.1 at.2 at.3 had cut y took) is_code old_code left (omega (arith, can.below.levels)) in record {
+      row = (took.puts.entries, took.puts.nodes, took.puts.links, is-built cmp code equal old left d c.args.row c.args.code E key c.args.entry is_code can keyed absent at.0 at.1 at.2 at.3 had cut y took c.requires.apart c.requires.held c.node_of_two-node.new.heap c.node_of_two-node.result more.builds.0 c.masked-old_code.result old_code more.builds.1 more.builds.2 made more.owners more.below, ap (place_of took.puts.entries took.puts.nodes took.puts.links) read ∙ took.puts.puts);
+      position = c.digit-position.ensures.small;
+      sole = sole-built cmp code equal old left d c.args.row c.args.code E key c.args.entry is_code can keyed absent at.0 at.1 at.2 at.3 had cut y took c.requires.apart c.requires.held c.node_of_two-node.new.heap c.node_of_two-node.result more.builds.0 c.masked-old_code.result old_code more.builds.1 more.builds.2 made more.owners more.below;
+      held = held-built cmp code equal old left d c.args.row c.args.code E key c.args.entry is_code can keyed absent at.0 at.1 at.2 at.3 had cut y took c.requires.apart c.requires.held c.node_of_two-node.new.heap c.node_of_two-node.result more.builds.0 c.masked-old_code.result old_code more.builds.1 more.builds.2 made more.owners more.below;
+      apart = apart-built cmp code equal old left d c.args.row c.args.code E key c.args.entry is_code can keyed absent at.0 at.1 at.2 at.3 had cut y took c.requires.apart c.requires.held c.node_of_two-node.new.heap c.node_of_two-node.result more.builds.0 c.masked-old_code.result old_code more.builds.1 more.builds.2 made more.owners more.below;
+    }
 
 pub returns : goal.returns
 returns g c = λ E left key can keyed is_code absent.

@@ -74,7 +74,7 @@ returns-then-is_err-clause-ample g c = λ M here spares.
     let is = map-seen c.self.view_is here in
     let number = ap (λ (q : Root). alike_keys code q.bits c.args.key M) c.self.view_is in
     let alike = alike-pairs (form_at c.args.heap.now) code c.self.inside.bits c.args.key is.entries M is.pairs in
-    absurd (not-err c.reserve.result (sym c.is_err.ensures.value ∙ c.if-is_err.true) (c.reserve.ensures.ample (omega (arith, spares.0)) (omega (arith, c.from.ensures, c.look_up-found.ensures.alike is.entries is.rooted.trie, alike, number, spares.1))))
+    absurd (not-err c.reserve.result (sym c.is_err.ensures.value ∙ c.if-is_err.true) (c.reserve.ensures.ample (omega (arith, spares.0)) (omega (arith, c.look_up-found.ensures.alike is.entries is.rooted.trie, alike, number, spares.1))))
 
 pub own-self-inside-requires-clause-node : goal.own-self-inside-requires-clause-node
 own-self-inside-requires-clause-node g c =
@@ -101,7 +101,7 @@ bound-requires-clause-map g c =
       is.entries,
       c.requires.contents.0,
       can g (goal.at.bound-requires-clause-map g c).After-own-self-inside is,
-      omega (arith, c.from.ensures, c.look_up-found.ensures.alike is.entries is.rooted.trie, spare.1, builds.makes.spare_nodes, builds.few_nodes),
+      omega (arith, c.look_up-found.ensures.alike is.entries is.rooted.trie, spare.1, builds.makes.spare_nodes, builds.few_nodes),
     )
 
 pub returns-clause-puts : goal.returns-clause-puts
@@ -143,5 +143,5 @@ returns-clause-spares g c = λ M here.
     let is = map-seen c.self.view_is here in
     let alike = alike-pairs (form_at c.args.heap.now) code c.self.inside.bits c.args.key is.entries M is.pairs in
     let number = ap (λ (q : Root). alike_keys code q.bits c.args.key M) c.self.view_is in
-    KeepsToNeed-more 1 _ (omega arith) (omega (arith, c.from.ensures, c.look_up-found.ensures.alike is.entries is.rooted.trie, alike, number))
+    KeepsToNeed-more 1 _ (omega arith) (omega (arith, c.look_up-found.ensures.alike is.entries is.rooted.trie, alike, number))
     (to-need c.reserve.ensures.rest (gains g at is (c.bound.ensures is.entries M (can g at is))) (at-ok c.reserve.result (sym c.is_err.ensures.value ∙ c.if-is_err.false) c.reserve.ensures.greater))

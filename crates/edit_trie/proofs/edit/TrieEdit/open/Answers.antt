@@ -46,6 +46,9 @@ returns-clause-entries g c = λ E is.
     subst (λ b. HasEntries g.T.Ord.cmp g.T.Element.code_of c.own-root.new.self (by_bits b c.own-root.result) E) (sym (bits-same g at))
     (entries-owned g.T.Ord.cmp g.T.Element.code_of (by_hold c.args.map.root) c.args.map.bits c.args.heap.now c.own-root.new.self c.own-root.result (own g at) E is)
 
+pub returns-clause-row : goal.returns-clause-row
+returns-clause-row g c = (own g (goal.at.returns-clause-row g c).After-own-root).row_same
+
 pub returns-clause-edits : goal.returns-clause-edits
 returns-clause-edits g c =
     edits-top g.T.Ord.cmp g.T.Element.code_of (by_hold c.args.map.root) c.args.map.bits c.args.heap.now c.own-root.new.self c.own-root.result (own g (goal.at.returns-clause-edits g c).After-own-root) c.own-root.ensures.builds.graph

@@ -92,7 +92,7 @@ returns-in_err-reserve-clause-ample g c = λ M here spares.
     let key = g.P.Probe.stands_for c.args.key.now in
     let bits = ap (λ (r : Root). alike_keys g.T.Element.code_of r.bits key M) c.self.view_is in
     let alike = alike-pairs (form_at c.args.heap.now) g.T.Element.code_of c.self.inside.bits key is.entries M is.pairs in
-    absurd (not-ok c.reserve.result _ c.in_err-reserve.was (c.reserve.ensures.ample (omega arith) (omega (arith, c.from.ensures, c.look_up-found.ensures.alike is.entries is.rooted.trie, alike, bits, spares.1))))
+    absurd (not-ok c.reserve.result _ c.in_err-reserve.was (c.reserve.ensures.ample (omega arith) (omega (arith, c.look_up-found.ensures.alike is.entries is.rooted.trie, alike, bits, spares.1))))
 
 pub own-self-inside-requires-clause-node : goal.own-self-inside-requires-clause-node
 own-self-inside-requires-clause-node g c =
@@ -110,7 +110,7 @@ own_entry-requires-clause-row g c =
       (pair g way is).0,
       can g way is,
       (pair g way is).1,
-      omega (arith, c.from.ensures, c.look_up-found.ensures.alike is.entries is.rooted.trie, ap (λ n. alike_in (code_by g.T.Element.code_of c.self.inside.bits) n is.entries) (code-is g way), c.in_ok-reserve.ensures.spares.1, builds.makes.spare_nodes, builds.few_nodes),
+      omega (arith, c.look_up-found.ensures.alike is.entries is.rooted.trie, ap (λ n. alike_in (code_by g.T.Element.code_of c.self.inside.bits) n is.entries) (code-is g way), c.in_ok-reserve.ensures.spares.1, builds.makes.spare_nodes, builds.few_nodes),
     )
 
 pub returns-clause-owns : goal.returns-clause-owns
@@ -161,5 +161,5 @@ returns-clause-spares g c = λ M here.
     let made = c.own_entry.ensures is.entries DEEPEST e.0 (can g way is) e.1 in
     let alike = alike-pairs (form_at c.args.heap.now) code c.self.inside.bits (key g way) is.entries M is.pairs in
     let number = ap (λ (q : Root). alike_keys code q.bits (key g way) M) c.self.view_is in
-    KeepsToNeed-more 0 _ (omega arith) (omega (arith, c.from.ensures, c.look_up-found.ensures.alike is.entries is.rooted.trie, alike, number))
+    KeepsToNeed-more 0 _ (omega arith) (omega (arith, c.look_up-found.ensures.alike is.entries is.rooted.trie, alike, number))
     (to-need c.in_ok-reserve.ensures.rest (Gains-trans (Gains-Builds c.own-self-inside.ensures.builds) made.gains) c.in_ok-reserve.ensures.greater)

@@ -43,6 +43,10 @@ use Rattle.edit_trie.proofs.edit.TrieEdit.remove.Goals.{After-masked-code}
 found-row : {T : Type 0} {cmp : T → T → Ordering} {code : T → ℕ} {old : Heap T} {root : Root} {key : T} {x : ℕ} {M : List (Binding T)} (one : Heap T) → SameRows old one → (is : IsMapOf cmp code old root M) → link_with cmp key is.entries ≡ Some x → IsFound (form_at one) cmp key is.entries M x
 found-row {cmp = cmp} {old = old} {key = key} {x = x} {M = M} one rows is found = found-pairs (form_at one) cmp key is.entries M x (pairs-kept (form_at old) (form_at one) (forms-same old one rows) is.entries M is.pairs) found
 
+-- the root has no depth
+at-root : {A : Type 0} → 0 < 0 → A
+at-root deep = absurd (omega (arith, deep))
+
 -- the root was made the edit's own, and the key's code was counted
 module _ (g : Over) (c : After-masked-code g) where
   abbrev key : g.row.T.Denot
@@ -164,6 +168,7 @@ cut_below-cut-requires-clause-row g c =
       DEEPEST,
       can g way is,
       there g way is,
+      at-root,
       omega (arith, c.from.ensures, c.look_up-found.ensures.alike is.entries is.rooted.trie, ap (λ n. alike_in (code_by g.T.Element.code_of c.self.inside.bits) n is.entries) (code-is g way), c.in_ok-reserve.ensures.spares.1, builds.makes.spare_nodes, builds.few_nodes),
     )
 
@@ -171,20 +176,20 @@ pub hold-requires-clause-live : goal.hold-requires-clause-live
 hold-requires-clause-live g c =
     let way = (goal.at.hold-requires-clause-live g c).After-masked-code in
     let is = map-seen c.self.view_is c.requires.contents.1 in
-    live g way is (c.cut_below-cut.ensures is.entries DEEPEST (can g way is) (there g way is))
+    live g way is (c.cut_below-cut.ensures is.entries DEEPEST (can g way is) (there g way is) at-root)
 
 pub hold-requires-clause-few : goal.hold-requires-clause-few
 hold-requires-clause-few g c =
     let way = (goal.at.hold-requires-clause-few g c).After-masked-code in
     let is = map-seen c.self.view_is c.requires.contents.1 in
-    let made = c.cut_below-cut.ensures is.entries DEEPEST (can g way is) (there g way is) in
+    let made = c.cut_below-cut.ensures is.entries DEEPEST (can g way is) (there g way is) at-root in
     omega (arith, c.requires.few, c.in_ok-reserve.ensures.rest.count, c.own-self-inside.ensures.builds.total, made.changes.trades.total)
 
 pub release-requires : goal.release-requires
 release-requires g c =
     let way = (goal.at.release-requires g c).After-masked-code in
     let is = map-seen c.self.view_is c.requires.contents.1 in
-    omega (arith, c.hold.ensures.holds c.cut_below-cut.result, cut-more g way is (c.cut_below-cut.ensures is.entries DEEPEST (can g way is) (there g way is)))
+    omega (arith, c.hold.ensures.holds c.cut_below-cut.result, cut-more g way is (c.cut_below-cut.ensures is.entries DEEPEST (can g way is) (there g way is) at-root))
 
 pub returns-clause-cuts : goal.returns-clause-cuts
 returns-clause-cuts g c = λ M here.
@@ -196,7 +201,7 @@ returns-clause-cuts g c = λ M here.
     let new = c.release.new.self in
     let r = c.own-self-inside.result in
     let value = c.index-links-1.result in
-    let made = c.cut_below-cut.ensures is.entries DEEPEST (can g way is) (there g way is) in
+    let made = c.cut_below-cut.ensures is.entries DEEPEST (can g way is) (there g way is) at-root in
     let kept = hold-change r value made.changes.trades.graph c.hold.ensures.graph c.hold.ensures.rows c.hold.ensures.holds c.hold.ensures.owners c.hold.ensures.makes c.hold.ensures.count c.hold.ensures.extends (off g way is made) in
     let came = makes-came c.in_ok-reserve.ensures.rest (Gains-trans (Gains-Builds c.own-self-inside.ensures.builds) made.gains) in
     let cuts = cuts-key cmp code g.met.T.Ord.total (by_hold c.self.inside.root) c.self.inside.bits c.args.heap.now c.own-self-inside.new.self four c.hold.new.self new r c.cut_below-cut.result value c.in-Some.pair (own g way) (held g way) M is (key g way) (found g way is) (value-is g way is) c.own-self-inside.ensures.builds.graph (did g way is made)
@@ -216,7 +221,7 @@ returns-clause-entries g c = λ E here.
     let new = c.release.new.self in
     let r = c.own-self-inside.result in
     let value = c.index-links-1.result in
-    let made = c.cut_below-cut.ensures is.entries DEEPEST (can g way is) (there g way is) in
+    let made = c.cut_below-cut.ensures is.entries DEEPEST (can g way is) (there g way is) at-root in
     let kept = hold-change r value made.changes.trades.graph c.hold.ensures.graph c.hold.ensures.rows c.hold.ensures.holds c.hold.ensures.owners c.hold.ensures.makes c.hold.ensures.count c.hold.ensures.extends (off g way is made) in
     let cuts = entries-new cmp code total (by_hold c.self.inside.root) bits old c.own-self-inside.new.self c.cut_below-cut.new.heap c.hold.new.self new r c.cut_below-cut.result value c.in-Some.pair (own g way) (held g way) M is (key g way) (found g way is) (value-is g way is) c.own-self-inside.ensures.builds.graph (did g way is made)
     c.hold.ensures.rows c.hold.ensures.holds c.hold.ensures.owners kept c.release.ensures.releases c.release.ensures.graph c.release.ensures.below in
@@ -238,7 +243,7 @@ returns-clause-spares g c = λ M here.
     let code = g.T.Element.code_of in
     let way = (goal.at.returns-clause-spares g c).After-masked-code in
     let is = map-seen c.self.view_is here in
-    let made = c.cut_below-cut.ensures is.entries DEEPEST (can g way is) (there g way is) in
+    let made = c.cut_below-cut.ensures is.entries DEEPEST (can g way is) (there g way is) at-root in
     let kept : Gains c.cut_below-cut.new.heap c.hold.new.self = record { stays = c.hold.ensures.extends.live; cells = 0; nodes = 0; makes = c.hold.ensures.makes } in
     let gains = Gains-trans (Gains-Builds c.own-self-inside.ensures.builds) (Gains-trans made.gains kept) in
     let all = released-need (to-need c.in_ok-reserve.ensures.rest gains c.in_ok-reserve.ensures.greater) c.release.ensures.releases in
