@@ -14,3 +14,4 @@ pub mod MeetingLemmas
 pub mod ChainLemmas
 pub mod BaseLemmas
 pub mod ClosingLemmas
+pub mod PositionLemmas

@@ -592,8 +592,15 @@ module _ {T : Type 0} (cmp : T → T → Ordering) (o : IsTotalOrder cmp) (code 
         as_second = λ so. (so, refl);
       })
 
--- where nothing stands nothing is needed
+-- where one has nothing, nothing is needed
 pub need-skip : {K : Type 0} (cmp : K → K → Ordering) (code : K → ℕ) (most : ℕ) (F : Forms K) (k : Keeps) (left depth : ℕ) (a b : Place) (p : ℕ)
-    → place_below code F depth a p ≡ Empty → place_below code F depth b p ≡ Empty → position_need cmp code most F k left depth a b p ≡ 0
-need-skip cmp code most F k left depth a b p first second =
-    ap (λ q. place_need cmp code most F k left depth q (place_below code F depth b p)) first ∙ ap (λ q. place_need cmp code most F k left depth Empty q) second
+    → (place_below code F depth a p ≡ Empty) ⊎ (place_below code F depth b p ≡ Empty) → position_need cmp code most F k left depth a b p ≡ 0
+need-skip cmp code most F k left depth a b p one = elim one [
+  | inl first ↦ ap (λ q. place_need cmp code most F k left depth q (place_below code F depth b p)) first
+  | inr second ↦ (ap (λ q. place_need cmp code most F k left depth (place_below code F depth a p) q) second ∙ first-alone (place_below code F depth a p))
+]
+  where
+    first-alone : (x : Place) → place_need cmp code most F k left depth x Empty ≡ 0
+    first-alone Empty = refl
+    first-alone (At x) = refl
+    first-alone (Node l) = refl

@@ -9,7 +9,7 @@ ghost use Rattle.set_merge.specs.Walk.{AreSides, ArePlaces, place_need};
 use crate::keeps::Keeps;
 use crate::runs::meeting_of;
 use crate::side::{Side, settled};
-use champ_trie::Place;
+use champ_trie::{Place, contains};
 use elem_core::{CODE_BITS, DEEPEST, Element, LEVELS};
 use node_heap::Heap;
 
@@ -38,8 +38,9 @@ pub(crate) fn rows_needed<T: Element>(
     let first = Side::of(heap, a, depth, bits);
     let second = Side::of(heap, b, depth, bits);
     let mut rows = 1;
+    let both = first.positions() & second.positions();
     for position in 0..32 {
-        if first.has(position) || second.has(position) {
+        if contains(both, position) {
             let x = first.at(heap, position);
             let y = second.at(heap, position);
             rows += needed_at(heap, &x, &y, depth, bits, keeps);

@@ -2,14 +2,15 @@
 ghost use Rattle.std.specs.Prelude.{◌≡◌, ℕ, ◌<◌, ◌≤◌, List, IsSome, if◌then◌else◌};
 ghost use Rattle.node_heap.specs.Heap.{form_at, IsGraph};
 ghost use Rattle.champ_chain.specs.Entry.{key_at};
+ghost use Rattle.champ_trie.specs.Bits.{has};
 ghost use Rattle.champ_trie.specs.Trie.{IsRow, place_of, code_by};
 ghost use Rattle.champ_trie.specs.declared.place.Place.{Place};
 ghost use Rattle.champ_trie.specs.declared.place.Place.TheVariants.{Empty, Entry as At};
-ghost use Rattle.set_merge.specs.Side.{place_below, settled, has_place, IsKept, HasRow, IsSide};
+ghost use Rattle.set_merge.specs.Side.{place_below, settled, has_place, IsKept, IsLow, HasRow, IsSide};
 
 use crate::keeps::Keeps;
 use champ_chain::key_of;
-use champ_trie::{Place, contains, rank_of, sets_of};
+use champ_trie::{Place, contains, rank_of, with_position};
 use elem_core::{CODE_BITS, DEEPEST, Element, digit, masked};
 use node_heap::{Heap, Link};
 use std::cmp::Ordering;
@@ -41,23 +42,22 @@ impl Side {
                 Side::Lone(entry, digit(code, depth))
             }
             Place::Node(row) => {
-                let (entries, nodes) = sets_of(heap, row);
-                Side::Row(row, entries, nodes)
+                let sets = heap.trie(row);
+                Side::Row(row, sets.entries, sets.nodes)
             }
         }
     }
 
-    // Whether something stands at a position of it.
+    // The positions at which something stands.
     #[inline]
-    pub(crate) fn has(&self, position: u32) -> bool
-        requires position { position < 32 }
-        ensures { result ≡ has_place self.now position }
+    pub(crate) fn positions(&self) -> u32
+        requires { IsLow self.now }
+        ensures { (p : ℕ) → p < 32 → has result p ≡ has_place self.now p }
     {
         match *self {
-            Side::Empty => false,
-            Side::Lone(_, at) => at == position,
-            Side::Row(_, entries, nodes) => contains(entries, position)
-                || contains(nodes, position),
+            Side::Empty => 0,
+            Side::Lone(_, at) => with_position(0, at),
+            Side::Row(_, entries, nodes) => entries | nodes,
         }
     }
 
@@ -146,6 +146,10 @@ fn settled_entries<T: Element>(heap: &Heap<T>, x: Link, y: Link, keeps: Keeps) -
     requires second { IsSome (key_at (form_at heap.now) y) }
     ensures { result ≡ settled T.cmp (form_at heap.now) keeps (At x) (At y) }
 {
+    // Where both have one cell or pair, no key is read.
+    if x == y {
+        return Some(kept_if(keeps.both, &Place::Entry(x)));
+    }
     if key_of(heap, x).cmp(key_of(heap, y)) == Ordering::Equal {
         return Some(kept_if(keeps.both, &Place::Entry(x)));
     }

@@ -14,7 +14,7 @@ use crate::keeps::Keeps;
 use crate::merged::Merged;
 use crate::side::{Side, settled};
 use crate::spread::Spread;
-use champ_trie::Place;
+use champ_trie::{Place, contains};
 use elem_core::{CODE_BITS, DEEPEST, Element};
 use node_heap::Heap;
 
@@ -41,8 +41,9 @@ pub(crate) fn rows_merged<T: Element>(
     let mut spread = Spread::empty();
     let first = Side::of(heap, a, depth, bits);
     let second = Side::of(heap, b, depth, bits);
+    let some = first.positions() | second.positions();
     for position in 0..32 {
-        if first.has(position) || second.has(position) {
+        if contains(some, position) {
             let x = first.at(heap, position);
             let y = second.at(heap, position);
             let merged = merged_at(heap, &x, &y, depth, bits, keeps);

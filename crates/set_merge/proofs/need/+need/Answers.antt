@@ -9,9 +9,10 @@ use Rattle.set_merge.specs.Side.{place_below}
 use Rattle.set_merge.specs.Need.{sum_below, rows_need}
 use Rattle.set_merge.specs.Walk.{position_need}
 use Rattle.set_merge.proofs.MergeLemmas.{filter-short}
-use Rattle.set_merge.proofs.WalkLemmas.{place-keyed, has-keyed, has-row, below-none, places-at, sum-none, sum-next, need-none, need-more, need-skip}
+use Rattle.set_merge.proofs.WalkLemmas.{place-keyed, has-keyed, has-row, places-at, sum-none, sum-next, need-none, need-more, need-skip}
+use Rattle.set_merge.proofs.PositionLemmas.{side-low, one-missing}
 use Rattle.set_merge.proofs.NeedSteps.{run-of, sides-below, sides-as, need-settled, need-looked, rows-fit, need-there}
-use Rattle.set_merge.proofs.need.+need.Goals.{rows_needed-then-has, rows_needed-else-has+else-has-2}
+use Rattle.set_merge.proofs.need.+need.Goals.{rows_needed-then-contains, rows_needed-else-contains}
 use Rattle.set_merge.proofs.need.+need.Goals as goal
 
 pub needed_at-settled-requires-clause-first : goal.needed_at-settled-requires-clause-first
@@ -179,15 +180,14 @@ rows_needed-loop-position-preserved g t c = λ left levels.
     let p = c.loop-position.position in
     let f : ℕ → ℕ = position_need cmp code row_limit F c.args.keeps left d a b in
     let step : sum_below (p + 1) f ≡ sum_below p f + f p = ap (λ i. sum_below i f) (let same : p + 1 ≡ suc p = omega arith in same) ∙ sum-next f p in
-    elim c.if-has.branch [
-      | rows_needed-then-has w ↦
+    elim c.if-contains.branch [
+      | rows_needed-then-contains w ↦
           (let first : w.at-x.result ≡ place_below code F d a p = w.at-x.ensures.place code d a c.of-first.ensures in
           let second : w.at-y.result ≡ place_below code F d b p = w.at-y.ensures.place code d b c.of-second.ensures in
           omega (arith, w.rows-is, step, c.loop-position.invariant left levels, w.needed_at-rows.ensures left levels, need-there cmp code F row_limit c.args.keeps left d a b p w.at-x.result w.at-y.result first second))
-      | rows_needed-else-has+else-has-2 w ↦
-          (let first = below-none cmp code F d a c.of-first.result p c.of-first.ensures (sym c.has.ensures ∙ w.if-has.false) in
-          let second = below-none cmp code F d b c.of-second.result p c.of-second.ensures (sym w.has-else-has.ensures ∙ w.if-has-2.false) in
-          omega (arith, w.rows-is, step, c.loop-position.invariant left levels, need-skip cmp code row_limit F c.args.keeps left d a b p first second))
+      | rows_needed-else-contains w ↦
+          (let missing = one-missing cmp code F d a b c.of-first.result c.of-second.result c.positions.result c.positions-2.result p c.loop-position-test.true c.of-first.ensures c.of-second.ensures c.positions.ensures c.positions-2.ensures (sym c.contains.ensures ∙ w.if-contains.false) in
+          omega (arith, w.rows-is, step, c.loop-position.invariant left levels, need-skip cmp code row_limit F c.args.keeps left d a b p missing))
     ]
 
 pub rows_needed-returns-clause-rows : goal.rows_needed-returns-clause-rows
@@ -202,3 +202,9 @@ rows_needed-returns-clause-rows g t c = λ left levels.
     let f : ℕ → ℕ = position_need cmp code row_limit F c.args.keeps (left - 1) c.args.depth c.args.a.now c.args.b.now in
     subst (λ i. c.loop-position.rows ≡ rows_need cmp code row_limit F c.args.keeps i c.args.depth c.args.a.now c.args.b.now) (sym more)
     (rows ∙ ap (λ i. 1 + sum_below i f) all ∙ sym (need-more cmp code row_limit F c.args.keeps (left - 1) c.args.depth c.args.a.now c.args.b.now))
+
+pub rows_needed-positions-requires : goal.rows_needed-positions-requires
+rows_needed-positions-requires g t c = side-low (code_by g.T.Element.code_of c.args.bits) (form_at c.args.heap.now) c.args.depth c.args.a.now c.of-first.result c.of-first.ensures
+
+pub rows_needed-positions-requires-2 : goal.rows_needed-positions-requires-2
+rows_needed-positions-requires-2 g t c = side-low (code_by g.T.Element.code_of c.args.bits) (form_at c.args.heap.now) c.args.depth c.args.b.now c.of-second.result c.of-second.ensures

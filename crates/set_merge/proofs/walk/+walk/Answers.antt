@@ -9,8 +9,9 @@ use Rattle.set_merge.specs.Merge.{merged}
 use Rattle.set_merge.specs.Spread.{Closed}
 use Rattle.set_merge.specs.Walk.{IsSpread}
 use Rattle.set_merge.proofs.MergeLemmas.{part-merged}
-use Rattle.set_merge.proofs.WalkLemmas.{keyed-kept, has-keyed, has-row, has-row-kept, first-keyed, second-keyed, come-settled, come-chain, chain-sides, chain-need, below-sides, below-need, more-need, come-closed, closed-kept, spread-live, spread-held, spread-none, spread-step, places-at, need-left, side-first, side-second, at-first, at-second, below-none, spread-skip}
-use Rattle.set_merge.proofs.walk.+walk.Goals.{rows_merged-then-has, rows_merged-else-has+else-has-2}
+use Rattle.set_merge.proofs.WalkLemmas.{keyed-kept, has-keyed, has-row, has-row-kept, first-keyed, second-keyed, come-settled, come-chain, chain-sides, chain-need, below-sides, below-need, more-need, come-closed, closed-kept, spread-live, spread-held, spread-none, spread-step, places-at, need-left, side-first, side-second, at-first, at-second, spread-skip}
+use Rattle.set_merge.proofs.PositionLemmas.{side-low, neither-there}
+use Rattle.set_merge.proofs.walk.+walk.Goals.{rows_merged-then-contains, rows_merged-else-contains}
 use Rattle.set_merge.proofs.walk.+walk.Goals as goal
 
 pub merged_at-settled-requires-clause-first : goal.merged_at-settled-requires-clause-first
@@ -251,22 +252,23 @@ rows_merged-loop-position-preserved g t c = λ F left E D kept are.
     let then = forms-kept old now did.builds.extends in
     let side = side-first cmp code F left d a b E D are (form_at old) (form_at now) (record { kept = kept }) then c.of-first.result c.of-first.ensures in
     let other = side-second cmp code F left d a b E D are (form_at old) (form_at now) (record { kept = kept }) then c.of-second.result c.of-second.ensures in
-    elim c.if-has.branch [
-      | rows_merged-then-has w ↦
+    elim c.if-contains.branch [
+      | rows_merged-then-contains w ↦
           (let first : w.at-x.result ≡ place_below code F d a p = w.at-x.ensures.place code d a side ∙ at-first cmp code F left d a b E D are (form_at old) (form_at now) (record { kept = kept }) then p in
           let second : w.at-y.result ≡ place_below code F d b p = w.at-y.ensures.place code d b other ∙ at-second cmp code F left d a b E D are (form_at old) (form_at now) (record { kept = kept }) then p in
           let places = places-at cmp code F left d a b E D are p c.loop-position-test.true w.at-x.result w.at-y.result first second in
           let come = w.merged_at-merged.ensures.come F left (part cmp code d p E) (part cmp code d p D) (λ l f is. then.kept l f (kept l f is)) places in
-          subst (λ h. IsSpread cmp code row_limit c.args.keeps F old h left d a b (merged cmp c.args.keeps E D) c.if-has.spread (p + 1)) (sym w.heap-is)
+          subst (λ h. IsSpread cmp code row_limit c.args.keeps F old h left d a b (merged cmp c.args.keeps E D) c.if-contains.spread (p + 1)) (sym w.heap-is)
           (subst (λ s. IsSpread cmp code row_limit c.args.keeps F old w.merged_at-merged.new.heap left d a b (merged cmp c.args.keeps E D) s (p + 1)) (sym w.spread-is)
           (spread-step cmp code row_limit c.args.keeps F old now w.merged_at-merged.new.heap left d a b (merged cmp c.args.keeps E D) (merged cmp c.args.keeps (part cmp code d p E) (part cmp code d p D))
           c.loop-position.spread w.put.new.self p w.merged_at-merged.result c.loop-position-test.true did w.at-x.result w.at-y.result first second come
           (part-merged cmp code (λ j k e. ap (λ n. masked_code n c.args.bits) (g.met.T.Element.equal_codes j k e)) c.args.keeps d p E D)
           (record { places = w.put.ensures.places; stood = w.put.ensures.stood; made = w.put.ensures.made; as_first = w.put.ensures.as_first; as_second = w.put.ensures.as_second }))))
-      | rows_merged-else-has+else-has-2 w ↦
-          (let first = sym (at-first cmp code F left d a b E D are (form_at old) (form_at now) (record { kept = kept }) then p) ∙ below-none cmp code (form_at now) d a c.of-first.result p side (sym c.has.ensures ∙ w.if-has.false) in
-          let second = sym (at-second cmp code F left d a b E D are (form_at old) (form_at now) (record { kept = kept }) then p) ∙ below-none cmp code (form_at now) d b c.of-second.result p other (sym w.has-else-has.ensures ∙ w.if-has-2.false) in
-          subst (λ h. IsSpread cmp code row_limit c.args.keeps F old h left d a b (merged cmp c.args.keeps E D) c.if-has.spread (p + 1)) (sym w.heap-is)
+      | rows_merged-else-contains w ↦
+          (let none = neither-there cmp code (form_at now) d a b c.of-first.result c.of-second.result c.positions.result c.positions-2.result p c.loop-position-test.true side other c.positions.ensures c.positions-2.ensures (sym c.contains.ensures ∙ w.if-contains.false) in
+          let first = sym (at-first cmp code F left d a b E D are (form_at old) (form_at now) (record { kept = kept }) then p) ∙ none.0 in
+          let second = sym (at-second cmp code F left d a b E D are (form_at old) (form_at now) (record { kept = kept }) then p) ∙ none.1 in
+          subst (λ h. IsSpread cmp code row_limit c.args.keeps F old h left d a b (merged cmp c.args.keeps E D) c.if-contains.spread (p + 1)) (sym w.heap-is)
           (subst (λ s. IsSpread cmp code row_limit c.args.keeps F old now left d a b (merged cmp c.args.keeps E D) s (p + 1)) (sym w.spread-is)
           (spread-skip cmp g.met.T.Ord.total code row_limit c.args.keeps F old now left d a b E D c.loop-position.spread p c.loop-position-test.true did are (record { kept = λ l f is. then.kept l f (kept l f is) })
           (λ j k e. ap (λ n. masked_code n c.args.bits) (g.met.T.Element.equal_codes j k e)) did.builds.graph first second)))
@@ -279,3 +281,9 @@ rows_merged-returns g t c = record {
       subst (λ n. IsSpread g.T.Ord.cmp (code_by g.T.Element.code_of c.args.bits) row_limit c.args.keeps F c.args.heap.now c.loop-position.heap left c.args.depth c.args.a.now c.args.b.now (merged g.T.Ord.cmp c.args.keeps E D) c.loop-position.spread n) all
       (c.loop-position.invariant F left E D kept are);
 }
+
+pub rows_merged-positions-requires : goal.rows_merged-positions-requires
+rows_merged-positions-requires g t c = side-low (code_by g.T.Element.code_of c.args.bits) (form_at c.args.heap.now) c.args.depth c.args.a.now c.of-first.result c.of-first.ensures
+
+pub rows_merged-positions-requires-2 : goal.rows_merged-positions-requires-2
+rows_merged-positions-requires-2 g t c = side-low (code_by g.T.Element.code_of c.args.bits) (form_at c.args.heap.now) c.args.depth c.args.b.now c.of-second.result c.of-second.ensures
