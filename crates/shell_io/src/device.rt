@@ -16,30 +16,38 @@ ghost use Rattle.shell_io.specs.Sending.{Sends};
 ghost use Rattle.shell_io.specs.Storing.{FetchesFile, KeepsFile, ChangesFiles};
 
 use std::alloc::{AllocError, AllocFailed};
+use thiserror::Error;
 
 /// A device failed at this call.
-#[derive(Clone, Copy, Debug, PartialEq, Eq)]
+#[derive(Clone, Copy, Debug, PartialEq, Eq, Error)]
+#[error("the device failed")]
 pub struct Failed;
 
 /// Why a store didn't give a file.
-#[derive(Clone, Copy, Debug, PartialEq, Eq)]
+#[derive(Clone, Copy, Debug, PartialEq, Eq, Error)]
 pub enum FetchFault {
     /// No file has this name.
+    #[error("no such file")]
     Missing,
     /// The file has more bytes than allowed.
+    #[error("the file is too large")]
     Large,
     /// The store failed at this call.
+    #[error("the store failed")]
     Failed,
     /// Memory ran out.
+    #[error("out of memory")]
     Memory,
 }
 
 /// Why a store didn't keep a file.
-#[derive(Clone, Copy, Debug, PartialEq, Eq)]
+#[derive(Clone, Copy, Debug, PartialEq, Eq, Error)]
 pub enum KeepFault {
     /// The store failed at this call. What the file of this name holds then is open.
+    #[error("the store failed")]
     Failed,
     /// Memory ran out. The files are as they were.
+    #[error("out of memory")]
     Memory,
 }
 

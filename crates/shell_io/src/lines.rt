@@ -8,15 +8,19 @@ ghost use Rattle.shell_io.specs.declared.lines.LinesFault.TheVariants.{Memory};
 use super::reader::newline_from;
 use elem_core::{Line, MAX_LINE, NoMemory, Texts, text_of};
 use std::alloc::{AllocFailed, Global};
+use thiserror::Error;
 
 /// Why the bytes of a file have no lines.
-#[derive(Clone, Copy, Debug, PartialEq, Eq)]
+#[derive(Clone, Copy, Debug, PartialEq, Eq, Error)]
 pub enum LinesFault {
     /// A line has more than `MAX_LINE` bytes.
+    #[error("a line is too long")]
     Long,
     /// The bytes aren't UTF-8.
+    #[error("the bytes are not UTF-8")]
     Utf8,
     /// Memory ran out.
+    #[error("out of memory")]
     Memory,
 }
 

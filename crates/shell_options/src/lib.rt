@@ -70,11 +70,13 @@ pub struct Options {
 }
 
 /// Why the words gave no options.
-#[derive(Clone, Copy, Debug, PartialEq, Eq)]
+#[derive(Clone, Copy, Debug, PartialEq, Eq, thiserror::Error)]
 pub enum WordsFault {
     /// They don't read.
+    #[error("the words are none of the usage")]
     Usage,
     /// Memory ran out.
+    #[error("out of memory")]
     Memory,
 }
 
