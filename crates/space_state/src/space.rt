@@ -73,20 +73,20 @@ impl Space {
     }
 
     /// Goes back to the state before the last edit. `Batch` in a batch, else `Empty` where there is none, else `Limit` where
-    /// redo holds 2^32 - 1 states, and last `Memory` where memory runs out. It makes at most 19 rows.
+    /// redo holds 2^32 - 1 states, and last `Memory` where memory runs out. It makes at most 17 rows.
     pub fn undo(&mut self) -> Result<(), Refusal>
         ensures ends { Ends undo self.old result self.new }
-        ensures made { self.new.made ≤ self.old.made + 19 }
+        ensures made { self.new.made ≤ self.old.made + 17 }
     {
         self.rows.undo()
     }
 
     /// Goes forward to the state that the last undo left. `Batch` in a batch, else `Empty` where there is none, and last `Memory`
-    /// where memory runs out. It makes at most 36 rows, and at most 19 where undo has fewer states than its bound.
+    /// where memory runs out. It makes at most 34 rows, and at most 17 where undo has fewer states than its bound.
     pub fn redo(&mut self) -> Result<(), Refusal>
         ensures ends { Ends redo self.old result self.new }
-        ensures made { self.new.made ≤ self.old.made + 36 }
-        ensures below { (W : Workspace) → StandsFor self.old.pool W → length W.undo < W.history → self.new.made ≤ self.old.made + 19 }
+        ensures made { self.new.made ≤ self.old.made + 34 }
+        ensures below { (W : Workspace) → StandsFor self.old.pool W → length W.undo < W.history → self.new.made ≤ self.old.made + 17 }
     {
         self.rows.redo()
     }
@@ -108,12 +108,12 @@ impl Space {
     }
 
     /// Makes the version's state the current one, as an edit does. `Batch` in a batch, else `Absent` where there is none of
-    /// this name, and last `Memory` where memory runs out. It makes at most 28 rows, and at most 11 where undo has fewer states than
+    /// this name, and last `Memory` where memory runs out. It makes at most 27 rows, and at most 10 where undo has fewer states than
     /// its bound.
     pub fn back(&mut self, version: Name<'_>) -> Result<(), Refusal>
         ensures ends { Ends (back (name_bytes version.entry)) self.old result self.new }
-        ensures made { self.new.made ≤ self.old.made + 28 }
-        ensures below { (W : Workspace) → StandsFor self.old.pool W → length W.undo < W.history → self.new.made ≤ self.old.made + 11 }
+        ensures made { self.new.made ≤ self.old.made + 27 }
+        ensures below { (W : Workspace) → StandsFor self.old.pool W → length W.undo < W.history → self.new.made ≤ self.old.made + 10 }
     {
         self.rows.back(version)
     }
@@ -129,11 +129,11 @@ impl Space {
     }
 
     /// Closes the batch, whose edits undo takes back together. `Batch` where none is open, and last `Memory` where memory runs
-    /// out. It makes at most 28 rows, and at most 11 where undo has fewer states than its bound.
+    /// out. It makes at most 27 rows, and at most 10 where undo has fewer states than its bound.
     pub fn end(&mut self) -> Result<(), Refusal>
         ensures ends { Ends «end» self.old result self.new }
-        ensures made { self.new.made ≤ self.old.made + 28 }
-        ensures below { (W : Workspace) → StandsFor self.old.pool W → length W.undo < W.history → self.new.made ≤ self.old.made + 11 }
+        ensures made { self.new.made ≤ self.old.made + 27 }
+        ensures below { (W : Workspace) → StandsFor self.old.pool W → length W.undo < W.history → self.new.made ≤ self.old.made + 10 }
     {
         self.rows.end()
     }

@@ -1,25 +1,23 @@
 -- How a history is edited in place: what its states stand for, what is held besides, and what is spent and gained.
 use Rattle.std.proofs.Common.{◌≡◌, ℕ, ◌+◌, ◌-◌, ◌<◌, ◌≤◌, List, [], ◌∷◌, ◌++◌, length, take, drop, get_or, Option, Some, None, IsSome, ap, sym, subst, refl, ◌∙◌, arith}
-use Rattle.std.specs.Prelude.{IsSomeAnd, slice_get, option_map}
+use Rattle.std.specs.Prelude.{IsSomeAnd, slice_get}
 use Rattle.std.specs.List.{AllZip}
 use Rattle.node_heap.specs.Links.{count, here}
-use Rattle.node_heap.specs.Forms.{Row, form_of}
-use Rattle.node_heap.specs.Heap.{Heap, row_at, form_at, holds_at, one_at, IsGraph}
+use Rattle.node_heap.specs.Forms.{Row}
+use Rattle.node_heap.specs.Heap.{Heap, row_at, holds_at, one_at, IsGraph}
 use Rattle.node_heap.specs.Calls.{Answered, Extends, HasHolds, KeepsBelow, KeepsHeld, KeepsOwners, MakesJust, Releases, Trades}
-use Rattle.node_heap.specs.Owner.{by_hold, alone}
-use Rattle.node_heap.proofs.AloneLemmas.{alone-same}
+use Rattle.node_heap.specs.Owner.{by_hold}
 use Rattle.node_heap.proofs.EditLaws.{owned-live}
 use Rattle.node_heap.proofs.GraphLemmas.{IsGraph-kinds, IsGraph-owned}
 use Rattle.node_heap.proofs.Counts.{test_same, one_at-flip}
 use Rattle.node_heap.proofs.BuildLemmas.{count-cons}
 use Rattle.node_heap.proofs.Edited.{count-at}
 use Rattle.node_heap.proofs.Frames.{KeepsHeld-Extends, KeepsHeld-then, Balances-trans, Balances-Releases}
-use Rattle.rrb_core.specs.Vector.{elements, height_at, IsGoodVector, IsVectorOf}
+use Rattle.rrb_core.specs.Vector.{elements, height_at, IsGoodVector}
 use Rattle.rrb_core.proofs.LinkCounts.{count-split}
 use Rattle.rrb_core.proofs.Stays.{seq-live}
 use Rattle.pool_check.proofs.VectorReadings.{all-at}
 use Rattle.edit_vec.specs.Edit.{PushesElement, PopsElement}
-use Rattle.edit_vec.specs.Path.{pop_path}
 use Rattle.edit_vec.specs.Laws.{PushesKeep, PopsKeep}
 use Rattle.champ_kinds.proofs.ZipLemmas.{zip-as, zip-length}
 use Rattle.shell_terms.specs.Edit.{Bytes}
@@ -34,15 +32,6 @@ use Rattle.state_rows.proofs.Answering.{one-held}
 -- as many states as elements
 pub vector-many : {h : Heap Bytes} {bits l : ℕ} {ss : List State} → IsHistoryIn h bits l ss → length (elements h l) ≡ length ss
 vector-many {h} {bits} {l} {ss} is = zip-length (IsStateIn h bits) (elements h l) ss is.values
-
--- a history whose vector is another of the same elements, where every row stays
-pub opened-history : {old mid : Heap Bytes} {bits h v : ℕ} {ss : List State} → Extends old mid → IsVectorOf mid v (elements old h) → IsHistoryIn old bits h ss → IsHistoryIn mid bits v ss
-opened-history {old} {mid} {bits} {h} {v} {ss} more vector is = record {
-  vector = vector.0;
-  values =
-      subst (λ (ks : List ℕ). AllZip (IsStateIn mid bits) ks ss) (sym vector.1)
-      (zip-as (IsStateIn old bits) (IsStateIn mid bits) (λ k s at. (grown old mid more bits k).state s at) (elements old h) ss is.values);
-}
 
 -- a history with a state after its last
 module _ (keep : PushesKeep Bytes) {old new : Heap Bytes} {v r x : ℕ} (graph : IsGraph old) (held : HasHolds old (v ∷ x ∷ [])) (push : PushesElement (by_hold v) old new r x) where
@@ -97,7 +86,7 @@ module _ (keep : PopsKeep Bytes) {old new : Heap Bytes} {v r x : ℕ} (graph : I
       some-and (slice_get ss (length ss - 1)) (λ s was. stays is x (count-at es (length ss - 1) x (omega (arith, many, some)) at) live s (subst (λ (k : ℕ). IsStateIn old bits k s) at was))
       (zip-at (IsStateIn old bits) es ss (length ss - 1) (omega (arith, some)) is.values)
 
--- ## Where an opened history is the same
+-- ## Where no row came
 
 -- where every row stays and owners are as they were, no row came
 module _ {old mid : Heap Bytes} (graph : IsGraph old) (graph' : IsGraph mid) (more : Extends old mid) (owners : KeepsOwners old mid) where
@@ -111,39 +100,6 @@ module _ {old mid : Heap Bytes} (graph : IsGraph old) (graph' : IsGraph mid) (mo
 
   pub same-rows : (k : ℕ) → row_at mid k ≡ row_at old k
   same-rows k = none-came k (row_at old k) refl (row_at mid k) refl
-
--- so a pop writes and copies the same rows of its path
-pub alone-made : (old mid new : Heap Bytes) {h v : ℕ} → v ≡ h → ((k : ℕ) → row_at mid k ≡ row_at old k) → KeepsOwners old mid → mid.made ≡ old.made
-    → new.made ≤ mid.made + (length (pop_path (form_at mid) v) - alone mid (pop_path (form_at mid) v)) → new.made ≤ old.made + (length (pop_path (form_at old) h) - alone old (pop_path (form_at old) h))
-alone-made old mid new {h} {v} same rows owners made few =
-    let forms : (k : ℕ) → form_at mid k ≡ form_at old k = λ k. ap (option_map form_of) (rows k) in
-    let path : pop_path (form_at mid) v ≡ pop_path (form_at old) h = (λ i. pop_path (λ k. forms k i) (same i)) in
-    let count : alone mid (pop_path (form_at mid) v) ≡ alone old (pop_path (form_at old) h) = alone-same mid old (pop_path (form_at mid) v) owners ∙ ap (alone old) path in
-    omega (arith, few, made, count, ap length path)
-
--- ## What is held besides, what is spent and gained, and what is made
-
-module _ {old mid new : Heap Bytes} {h v : ℕ} where
-  -- a history that is opened, and then edited with these holds spent
-  pub keeps-then : {c n c' n' : ℕ} (spent gained : List ℕ) → KeepsHeld (λ l. count l (h ∷ [])) old mid → Trades old mid (h ∷ []) (v ∷ []) c n → KeepsHeld (λ l. count l (v ∷ spent)) mid new → Trades mid new (v ∷ spent) gained c' n'
-      → KeepsHeld (λ l. count l (h ∷ spent)) old new
-  keeps-then spent gained first one second two =
-      KeepsHeld-then (λ l. count l (h ∷ spent)) first second (λ l some. omega (arith, some, count-cons l h spent, count-cons l h []))
-      (λ l some. omega (arith, some, one.holds l, count-cons l h spent, count-cons l h [], count-cons l v spent, count-cons l v []))
-      (λ l. omega (arith, one.holds l, two.holds l, count-cons l h spent, count-cons l h [], count-cons l v spent, count-cons l v []))
-
--- the holds that were there are there still, with the opened one in place of the other
-pub opened-holds : {old mid : Heap Bytes} {h v c n : ℕ} (x : ℕ) → Trades old mid (h ∷ []) (v ∷ []) c n → HasHolds old (h ∷ x ∷ []) → HasHolds mid (v ∷ x ∷ [])
-opened-holds {h = h} {v = v} x one held k = omega (arith, one.holds k, held k, count-cons k h (x ∷ []), count-cons k h [], count-cons k v (x ∷ []), count-cons k v [])
-
--- a pushed state is kept by its hold
-pub state-held : {old mid : Heap Bytes} {bits : ℕ} {s : State} (h x : ℕ) → KeepsHeld (λ l. count l (h ∷ [])) old mid → HasHolds old (h ∷ x ∷ []) → IsStateIn old bits x s → IsStateIn mid bits x s
-state-held {old} {mid} {bits} {s} h x keeps held is =
-    (states-stay old mid bits x (keeps.kept x (omega (arith, held x, count-cons x h (x ∷ []), count-cons x x [], count-cons x h [], test_same x x refl)))).state s is
-
--- the opened history is held
-pub opened-held : {old mid : Heap Bytes} {h v c n : ℕ} → Trades old mid (h ∷ []) (v ∷ []) c n → 0 < holds_at old h → 0 < holds_at mid v
-opened-held {old} {h = h} {v = v} one held = omega (arith, one.holds v, count-cons v h [], count-cons v v [], test_same v v refl, one-held old h held v)
 
 -- ## A history that is emptied or cut: new rows, and then a hold that is given up
 

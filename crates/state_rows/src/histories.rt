@@ -12,17 +12,17 @@ ghost use Rattle.plain_space.specs.Workspace.{State};
 ghost use Rattle.state_rows.specs.InHeap.{IsStateIn, IsHistoryIn};
 
 use crate::start::empty_history;
-use edit_vec::FlexEdit;
+use edit_vec::{pop_held, push_held};
 use elem_core::Text;
 use node_heap::{Heap, Link};
 use rrb_core::Flex;
 use rrb_join::{SEAM_NODES, drop_front};
 
-/// The nodes of `pushed`: a root of one's own, and a row for each height and a new root.
-pub const PUSHED_NODES: usize = 10;
+/// The nodes of `pushed`: a row for each height and a new root.
+pub const PUSHED_NODES: usize = 9;
 
-/// The nodes of `popped`: a root of one's own, and a row for each height.
-pub const POPPED_NODES: usize = 9;
+/// The nodes of `popped`: a row for each height.
+pub const POPPED_NODES: usize = 8;
 
 /// The nodes of `emptied`: the row of a history without states.
 pub const EMPTIED_NODES: usize = 1;
@@ -31,7 +31,7 @@ pub const EMPTIED_NODES: usize = 1;
 pub const SHORTENED_NODES: usize = SEAM_NODES;
 
 /// The history with the state after its last. It spends the holds of both. There is room for one more state. It makes
-/// at most 10 nodes, and none in vain.
+/// at most 9 nodes, and none in vain.
 pub fn pushed(heap: &mut Heap<Text>, history: Flex, state: Link) -> Flex
     requires few { hold_count heap.old < half_holds }
     requires held { HasHolds heap.old (history ∷ state ∷ []) }
@@ -43,14 +43,11 @@ pub fn pushed(heap: &mut Heap<Text>, history: Flex, state: Link) -> Flex
     ensures made { MakesJust heap.old heap.new }
     ensures history { (bits : ℕ) (ss : List State) (s : State) → IsHistoryIn heap.old bits history ss → IsStateIn heap.old bits state s → IsHistoryIn heap.new bits result (ss ++ s ∷ []) }
 {
-    let mut edit = opened(heap, history);
-    let Ok(()) = edit.push(heap, state) else {
-        unreachable!()
-    };
-    edit.freeze()
+    heap.is_graph();
+    push_held(heap, history, state)
 }
 
-/// The history without its last state, and that state with a hold. It spends the history's hold. It makes at most 9
+/// The history without its last state, and that state with a hold. It spends the history's hold. It makes at most 8
 /// nodes, and where the history's root has one owner only those that it copies of the rows on the way to the history's end: the
 /// ones with another owner, or below such a one.
 pub fn popped(heap: &mut Heap<Text>, history: Flex) -> (Flex, Link)
@@ -65,32 +62,8 @@ pub fn popped(heap: &mut Heap<Text>, history: Flex) -> (Flex, Link)
     ensures alone { owners_at heap.old history ≡ 1 → heap.new.made ≤ heap.old.made + (length (pop_path (form_at heap.old) history) - alone heap.old (pop_path (form_at heap.old) history)) }
     ensures last { (bits : ℕ) (ss : List State) → IsHistoryIn heap.old bits history ss → IsSomeAnd (slice_get ss (length ss - 1)) (IsStateIn heap.new bits result.1) }
 {
-    let mut edit = opened(heap, history);
-    let Ok(last) = edit.pop(heap) else {
-        unreachable!()
-    };
-    let Some(state) = last else { unreachable!() };
-    (edit.freeze(), state)
-}
-
-// The history, to be edited in place. It makes one node at most, and frees none.
-fn opened(heap: &mut Heap<Text>, history: Flex) -> FlexEdit
-    requires few { hold_count heap.old < half_holds }
-    requires held { 0 < holds_at heap.old history }
-    requires history { (bits : ℕ) × (ss : List State) × IsHistoryIn heap.old bits history ss }
-    requires spares { HasSpares heap.old 0 1 }
-    ensures keeps { KeepsHeld (λ l. count l (history ∷ [])) heap.old heap.new }
-    ensures trades { Trades heap.old heap.new (history ∷ []) (result ∷ []) 0 1 }
-    ensures spares { KeepsToNeed heap.old heap.new 0 0 }
-    ensures makes { MakesWhatCame heap.old heap.new }
-    ensures alone { owners_at heap.old history ≡ 1 → (result ≡ history) × SameRows heap.old heap.new × KeepsOwners heap.old heap.new × (heap.new.made ≡ heap.old.made) }
-    ensures history { (bits : ℕ) (ss : List State) → IsHistoryIn heap.old bits history ss → IsHistoryIn heap.new bits result ss }
-{
     heap.is_graph();
-    match FlexEdit::open(history, heap) {
-        Ok(edit) => edit,
-        Err(_fault) => unreachable!(),
-    }
+    pop_held(heap, history)
 }
 
 /// The history without its first `states` states. It spends the history's hold. It makes rows along the cut alone, at most twice the

@@ -16,7 +16,7 @@ ghost use Rattle.state_rows.specs.InHeap.{IsTextIn, AreLinesIn, IsStateIn};
 ghost use Rattle.state_rows.specs.InPlace.{CopiesOfPath, MakesAtMost, OwnsLines, lines_path};
 
 use edit_trie::{insert_at, own_value_there};
-use edit_vec::{push_at, set_at};
+use edit_vec::{push_there, set_there};
 use elem_core::{Name, Text};
 use node_heap::{Heap, Link};
 use rrb_core::Flex;
@@ -39,9 +39,7 @@ pub fn line_added(heap: &mut Heap<Text>, bits: u32, state: Link, name: Name<'_>,
         IsStateIn heap.new bits result (has_lines s (name_bytes name.entry) (xs ++ text ∷ [])) }
 {
     let (row, pair) = own_lines(heap, bits, state, name);
-    let Ok(()) = push_at(heap, pair, 1, line) else {
-        unreachable!()
-    };
+    push_there(heap, pair, 1, line);
     row
 }
 
@@ -70,9 +68,7 @@ pub fn line_set(
         IsStateIn heap.new bits result (has_lines s (name_bytes name.entry) (slice_set xs index text)) }
 {
     let (row, pair) = own_lines(heap, bits, state, name);
-    let Ok(before) = set_at(heap, pair, 1, index, line) else {
-        unreachable!()
-    };
+    let before = set_there(heap, pair, 1, index, line);
     heap.release(before);
     row
 }

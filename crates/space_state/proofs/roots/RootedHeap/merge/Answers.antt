@@ -113,5 +113,5 @@ returns-clause-spares c = λ W K.
     let there = some-there (IsStateIn c.args.self.now.heap c.args.self.now.bits) (c.version.ensures W K) c.in-Some.is in
     let few = c.merge_need-rows.ensures.few W.current there.0 (current-stands K) there.2 in
     let needs = merge-needs W (name_bytes c.args.version) (plain_kind c.args.kind) there.0 there.1 in
-    room-more 2 (2 * DEEPEST + 104 + merge_nodes (plain_kind c.args.kind) W (name_bytes c.args.version)) (omega arith) (omega (arith, few, needs))
+    room-more 2 (2 * DEEPEST + 103 + merge_nodes (plain_kind c.args.kind) W (name_bytes c.args.version)) (omega arith) (omega (arith, few, needs))
     (room-then (room-then c.in_ok-make_room_with.ensures.spares c.merged-next.ensures.spares) c.turn_to.ensures.spares)

@@ -14,7 +14,7 @@ pushed-redo-requires-clause-history c = rw c.from_root.ensures (c.args.self.now.
 pub returns-clause-turns : goal.returns-clause-turns
 returns-clause-turns c = λ W x K is.
     let did = rw c.from_root.ensures at c.pushed-redo.ensures in
-    rw c.into_root-self.ensures (turns-by 10 (keeps-redo c.pushed-redo.result (W.redo ++ x ∷ []) (c.args.state ∷ []) [] K did.keeps did.trades (did.history c.args.self.now.bits W.redo x (redo-stands K) is)) refl (rises-trades did.trades))
+    rw c.into_root-self.ensures (turns-by 9 (keeps-redo c.pushed-redo.result (W.redo ++ x ∷ []) (c.args.state ∷ []) [] K did.keeps did.trades (did.history c.args.self.now.bits W.redo x (redo-stands K) is)) refl (rises-trades did.trades))
 
 pub returns-clause-spares : goal.returns-clause-spares
 returns-clause-spares c = c.pushed-redo.ensures.spares

@@ -27,7 +27,7 @@ returns-then-self-eq0-clause-turns c = λ b W x K is.
     let empty : undo_with W x ≡ W.undo = ap (λ n. last_of n (W.undo ++ x ∷ [])) none ∙ last-none (W.undo ++ x ∷ []) ∙ sym (nil_from_length W.undo (omega (arith, K.bounded.2, none))) in
     let left = keeps-released K did.releases did.graph in
     record {
-      turns = turns-by 27 (subst (λ us. Keeps (record now { heap = c.release.new.self }) b (record W { undo = us })) (sym empty) left) refl (rises-more 27 (rises-released did.releases) (omega arith));
+      turns = turns-by 26 (subst (λ us. Keeps (record now { heap = c.release.new.self }) b (record W { undo = us })) (sym empty) left) refl (rises-more 26 (rises-released did.releases) (omega arith));
       stays = λ l some. kept.kept l (omega (arith, keeps-holds K l, count-cons l c.args.state b, some));
       spare_cells = omega (arith, did.releases.cells, did.releases.fewer_cells);
       spare_nodes = omega (arith, did.releases.nodes, did.releases.fewer_nodes);
@@ -93,7 +93,7 @@ returns-clause-turns c = λ b W x K is.
     keeps-undo c.pushed-undo.result (undo_with W x) (c.args.state ∷ b) b bounded cut_to.turns.keeps
     (held-beside spent b did.keeps) (trades-beside spent (c.pushed-undo.result ∷ []) b did.trades) (rw same (did.history mid.bits (last_of (bound - 1) W.undo) x (undo-stands cut_to.turns.keeps) there)) in
     rw c.into_root-self.ensures (record {
-      turns = turns-by 27 pushed cut_to.turns.bits (rises-then (turns-of cut_to.turns) (rises-trades did.trades));
+      turns = turns-by 26 pushed cut_to.turns.bits (rises-then (turns-of cut_to.turns) (rises-trades did.trades));
       stays = λ l held. KeepsBelow-trans c.args.self.now.heap mid.heap c.pushed-undo.new.heap l (cut_to.stays l (omega (arith, count-cons l c.args.state b, held))) (did.keeps.kept l (left-over l spent b (undo-holds cut_to.turns.keeps l) held));
       spare_cells = omega (arith, cut_to.spare_cells, did.trades.cells, did.trades.balance.spare_cells);
       spare_nodes = omega (arith, cut_to.spare_nodes, did.trades.nodes, did.trades.balance.spare_nodes);

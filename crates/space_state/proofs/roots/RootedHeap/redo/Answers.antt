@@ -79,7 +79,7 @@ returns-clause-ends c = λ W K.
     record {
       after = _;
       told = redo-done W (can path W K).outside moved.x moved.last;
-      turns = turns-after 9 256 (rises-then (rises-same c.reserve.ensures.rest) (rises-trades c.popped-redo.ensures.trades)) refl pushed.turns (omega arith);
+      turns = turns-after 8 256 (rises-then (rises-same c.reserve.ensures.rest) (rises-trades c.popped-redo.ensures.trades)) refl pushed.turns (omega arith);
       few_made = λ placed inside. absurd placed;
     }
 

@@ -90,7 +90,7 @@ returns-clause-ends c = λ W K.
     record {
       after = _;
       told = undo-done W (can path W K).outside moved.x moved.last (roomy (goal.at.returns-clause-ends c).Else-is_longest W K);
-      turns = turns-after 9 64 (rises-then (rises-same c.reserve.ensures.rest) (rises-trades c.popped-undo.ensures.trades)) refl pushed (omega arith);
+      turns = turns-after 8 64 (rises-then (rises-same c.reserve.ensures.rest) (rises-trades c.popped-undo.ensures.trades)) refl pushed (omega arith);
       few_made = λ placed inside. absurd placed;
     }
 

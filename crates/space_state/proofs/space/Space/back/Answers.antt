@@ -16,9 +16,9 @@ returns-clause-ends c =
     (ends-seen (command.back (name_bytes c.args.version)) c.self.inside.rows c.back.result c.back.new.self c.self.invariant.0 c.self.invariant.1 c.back.ensures.ends c.back.ensures.spares)
 
 pub returns-clause-made : goal.returns-clause-made
-returns-clause-made c = subst (λ (v : SpaceView). c.back.new.self.heap.made ≤ v.made + 28) c.self.view_is c.back.ensures.made
+returns-clause-made c = subst (λ (v : SpaceView). c.back.new.self.heap.made ≤ v.made + 27) c.self.view_is c.back.ensures.made
 
 pub returns-clause-below : goal.returns-clause-below
 returns-clause-below c =
-    subst (λ (v : SpaceView). (W : Workspace) → StandsFor v.pool W → length W.undo < W.history → c.back.new.self.heap.made ≤ v.made + 11) c.self.view_is
+    subst (λ (v : SpaceView). (W : Workspace) → StandsFor v.pool W → length W.undo < W.history → c.back.new.self.heap.made ≤ v.made + 10) c.self.view_is
     (λ W stands fewer. c.back.ensures.below W (keeps-alone c.self.inside.rows c.self.invariant.0 c.self.invariant.1 W stands) fewer)

@@ -13,4 +13,4 @@ returns-clause-ends c =
     (ends-seen command.undo c.self.inside.rows c.undo.result c.undo.new.self c.self.invariant.0 c.self.invariant.1 c.undo.ensures.ends c.undo.ensures.spares)
 
 pub returns-clause-made : goal.returns-clause-made
-returns-clause-made c = subst (λ (v : SpaceView). c.undo.new.self.heap.made ≤ v.made + 19) c.self.view_is c.undo.ensures.made
+returns-clause-made c = subst (λ (v : SpaceView). c.undo.new.self.heap.made ≤ v.made + 17) c.self.view_is c.undo.ensures.made
