@@ -1,0 +1,13 @@
+pub mod ListLemmas
+pub mod RootLemmas
+pub mod MadeLemmas
+pub mod MakingLemmas
+pub mod CallLemmas
+pub mod CallerLemmas
+pub mod EditLemmas
+pub mod SameLemmas
+pub mod WholeLemmas
+pub mod SortLemmas
+pub mod KeyedLemmas
+pub mod BoundLemmas
+pub mod MapLemmas

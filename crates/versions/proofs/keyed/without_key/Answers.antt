@@ -1,0 +1,25 @@
+use Rattle.std.proofs.Common.{ap, sym, subst, ◌∙◌, Ok}
+use Rattle.versions.specs.Roots.{Makes}
+use Rattle.versions.specs.Keyed.{by_root, keys_at, IsKeySet}
+use Rattle.versions.proofs.KeyedLemmas.{set-kind, set-without, set-lacks, answered-makes, if-some, if-none}
+use Rattle.champ_kinds.proofs.StayLemmas.{set-seen}
+use Rattle.versions.proofs.keyed.without_key.Goals as goal
+
+pub returns-in-Some-clause-made : goal.returns-in-Some-clause-made
+returns-in-Some-clause-made g c = λ ks is.
+    let o = g.met.K.Ord.total in
+    let made = c.in_ok-set.ensures in
+    let seen = set-seen {r = by_root c.args.root} c.at.ensures is.set in
+    rw c.into_root.ensures
+    (answered-makes (IsKeySet g.K.Ord.cmp g.K.Element.code_of) (keys_at g.K.Ord.cmp) (set-kind g.K.Ord.cmp o g.K.Element.code_of) c.args.heap.now c.set_remove.new.heap c.in-Some.set.root _ _ _ (if-some _ c.in-Some.is (made.answered is.entries seen))
+    (set-without g.K.Ord.cmp o g.K.Element.code_of c.args.heap.now c.set_remove.new.heap c.args.root c.in-Some.set (g.P.Probe.stands_for c.args.key.now) ks is (if-some _ c.in-Some.is made.bits ∙ ap (λ r. r.bits) c.at.ensures) (if-some _ c.in-Some.is (made.contents is.entries seen))))
+
+pub returns-in-None-clause-made : goal.returns-in-None-clause-made
+returns-in-None-clause-made g c = λ ks is.
+    let o = g.met.K.Ord.total in
+    let seen = set-seen {r = by_root c.args.root} c.at.ensures is.set in
+    let Is = IsKeySet g.K.Ord.cmp g.K.Element.code_of in
+    let same = if-none c.in-None.is c.in_ok-set.ensures.nothing in
+    let lacks = set-lacks g.K.Ord.cmp o g.K.Element.code_of c.args.heap.now c.args.root (g.P.Probe.stands_for c.args.key.now) ks is ((c.set_remove.ensures.absent is.entries seen).0 (c.in_ok-set.was ∙ ap Ok c.in-None.is)) in
+    subst (λ js. Makes Is c.args.heap.now c.same_keys.new.heap c.same_keys.result js) (sym lacks)
+    (subst (λ h. Makes Is h c.same_keys.new.heap c.same_keys.result ks) same (c.same_keys.ensures ks (subst (λ h. Is h c.args.root ks) (sym same) is)))

@@ -1,0 +1,21 @@
+use Rattle.std.proofs.Common.{◌≡◌, Err, ap, ◌∙◌, arith, length, take, drop}
+use Rattle.rrb_join.specs.declared.cutting.SliceFault.{SliceFault}
+use Rattle.rrb_join.specs.declared.cutting.SliceFault.TheVariants.{Range, Memory}
+use Rattle.rrb_core.specs.Vector.{elements}
+use Rattle.versions.specs.Rooted.{value_at}
+use Rattle.versions.proofs.MakingLemmas.{answered-list, cells-taken, cells-dropped}
+use Rattle.versions.proofs.making.sliced.Goals as goal
+
+pub unreachable-requires : goal.unreachable-requires
+unreachable-requires g c = by_fault c.in-Err.field-0 c.in-Err.is
+  where
+    by_fault : (fault : SliceFault) → c.slice.result ≡ Err fault → ⊥
+    by_fault Range is = let seen = ap (λ v. length (elements c.args.heap.now v)) c.at.ensures in c.slice.ensures.range.0 is (c.requires.order, omega (arith, c.requires.inside, seen))
+    by_fault Memory is = c.slice.ensures.ample (omega arith, omega (arith, c.requires.spares.1)) is
+
+pub returns : goal.returns
+returns g c = λ xs is.
+    let old = c.args.heap.now in
+    let made = c.in-Ok.ensures in
+    let zs = elements old c.args.root in
+    rw c.into_root.ensures (answered-list old c.slice.new.heap c.in-Ok.vector _ (drop c.args.from (take c.args.to zs)) (drop c.args.from (take c.args.to xs)) made.answered made.good (made.items ∙ ap (λ v. drop c.args.from (take c.args.to (elements old v))) c.at.ensures) (cells-dropped (value_at old) (take c.args.to zs) (take c.args.to xs) c.args.from (cells-taken (value_at old) zs xs c.args.to is.cells)))

@@ -1,0 +1,26 @@
+-- What a root stands for in a store of sets: a trie, by all bits of the keys' codes, whose entries are cells.
+use Rattle.std.specs.Prelude.{◌≡◌, ℕ, List, map, filter_map}
+use Rattle.std.specs.declared.cmp.Ordering.{Ordering}
+use Rattle.elem_core.specs.declared.codes.TheConstants.{CODE_BITS}
+use Rattle.node_heap.specs.Heap.{Heap}
+use Rattle.champ_chain.specs.Entry.{Entry}
+use Rattle.champ_trie.specs.Walk.{walk}
+use Rattle.champ_kinds.specs.Root.{Root}
+use Rattle.champ_kinds.specs.Kinds.{IsSetOf}
+use Rattle.versions.specs.Rooted.{value_at}
+use Rattle.versions.specs.Sorted.{sorted_keys}
+
+-- a set or a map with this root
+abbrev pub by_root : ℕ → Root
+by_root l = record { root = l; bits = CODE_BITS }
+
+module _ {K : Type 0} (cmp : K → K → Ordering) where
+  -- the values of the cells of a set
+  abbrev pub keys_at : Heap K → ℕ → List K
+  keys_at h l = sorted_keys cmp (filter_map (value_at h) (walk h l))
+
+  -- the trie with this root is a set of cells, which have these keys
+  pub record IsKeySet (code : K → ℕ) (h : Heap K) (l : ℕ) (keys : List K) : Type 0 where
+    pub entries : List (Entry K)
+    pub set : IsSetOf cmp code h (by_root l) entries
+    pub sorted : keys ≡ sorted_keys cmp (map (λ e. e.key) entries)

@@ -1,0 +1,30 @@
+//! Stores of versions that own their heap. A version is a small handle, and contracts see the value of each version that is
+//! held: the lists of a `Lists`, the keys of the sets of a `Sets`, and the entries of the maps of a `Maps`.
+//!
+//! A call that changes makes a new version, which shares all rows with the old one that the change leaves, and every other
+//! version is as it was.
+#![tactic(auto)]
+
+mod bound;
+mod bounds;
+mod faults;
+mod history;
+mod in_place;
+mod items;
+mod keyed;
+mod keys;
+mod lists;
+mod making;
+mod maps;
+mod piece;
+mod roots;
+mod sets;
+
+pub use faults::{Fault, Refused};
+pub use history::History;
+pub use items::Items;
+pub use keys::Keys;
+pub use lists::Lists;
+pub use maps::Maps;
+pub use roots::{Handles, Version};
+pub use sets::Sets;

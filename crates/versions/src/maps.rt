@@ -1,0 +1,171 @@
+//! A store of maps by their versions.
+ghost use Rattle.std.specs.Prelude.{◌≡◌, ◌↔◌, [], None, IfOk, IfErr, OnErr, IsTrue, length, is_some, option_copied, unwrap_or};
+ghost use Rattle.std.specs.FinMap as map;
+ghost use Rattle.std.specs.FinMap.{find, put};
+ghost use Rattle.versions.specs.Store.{Holds};
+ghost use Rattle.versions.specs.declared.faults.Fault.TheVariants.{Memory};
+ghost use Rattle.versions.specs.Sorted.{entries_of, remove_entry};
+
+use crate::bound::{
+    entry_count, has_no_entry, no_entries, same_entries, value_with, with_entry, without_entry,
+};
+use crate::faults::Refused;
+use crate::piece::Piece;
+use crate::roots::{Version, forget, is_kept, keep, reserve, root_of};
+use elem_core::{Element, NoMemory, Probe};
+use node_heap::{Heap, Link};
+use slab::Slab;
+use std::alloc::Global;
+use std::marker::Model;
+
+/// Maps by their versions. Contracts see a map as its entries by rising keys. Each version stays until it is forgotten, and
+/// versions share what they have in common. A store that is dropped gives all of them back.
+#[derive(Drop)]
+pub struct Maps<K: Element, V: Ord + Drop> {
+    heap: Heap<Piece<K, V>>,
+    roots: Slab<Link>,
+}
+
+impl<K: Element, V: Ord + Drop> Model for Maps<K, V> {
+    ghost use Rattle.std.specs.Ordering.{nat_cmp};
+    ghost use Rattle.std.specs.Prelude.{List};
+    ghost use Rattle.std.specs.Coded.{coded_ℕ, coded_list, coded×};
+    ghost use Rattle.std.specs.FinMap as map;
+    ghost use Rattle.versions.specs.Roots.{values_in, HasRoots};
+    ghost use Rattle.versions.specs.Bound.{map_at, IsKeyMap};
+
+    ghost Value = { map.FinMap nat_cmp (List (K × V)) };
+
+    ghost coded = { map.code coded_ℕ (coded_list (coded× K.code V.code)) };
+
+    ghost view = { λ s. values_in (map_at K.cmp) s.heap s.roots.slots };
+
+    ghost invariant = { λ s. HasRoots (IsKeyMap K.cmp V.cmp K.code_of) (map_at K.cmp) s.heap s.roots.slots };
+}
+
+impl<K: Element, V: Ord + Drop> Maps<K, V> {
+    /// A store without versions.
+    pub fn new(alloc: Global) -> Maps<K, V>
+        ensures { result ≡ map.empty }
+    {
+        Maps {
+            heap: Heap::new(alloc),
+            roots: Slab::new(alloc),
+        }
+    }
+
+    /// The version without keys.
+    pub fn empty(&mut self) -> Result<Version, NoMemory>
+        ensures fresh { IfOk result (λ v. map.get self.old v ≡ None) }
+        ensures made { IfOk result (λ v. self.new ≡ map.insert self.old v []) }
+        ensures refused { OnErr result (self.new ≡ self.old) }
+    {
+        reserve(&mut self.heap, &mut self.roots, 0, 1)?;
+        let root = no_entries(&mut self.heap);
+        Ok(keep(&mut self.roots, root))
+    }
+
+    /// The same map as another version.
+    pub fn copy(&mut self, version: Version) -> Result<Version, NoMemory>
+        requires { Holds self.old version }
+        ensures fresh { IfOk result (λ v. map.get self.old v ≡ None) }
+        ensures made { IfOk result (λ v. self.new ≡ map.insert self.old v (entries_of self.old version)) }
+        ensures refused { OnErr result (self.new ≡ self.old) }
+    {
+        let root = root_of(&self.roots, version);
+        reserve(&mut self.heap, &mut self.roots, 0, 0)?;
+        let root = same_entries(&mut self.heap, root);
+        Ok(keep(&mut self.roots, root))
+    }
+
+    /// The version with the value at the key; an equal key that is there stays. The version itself stays. Refused only where
+    /// memory runs out.
+    pub fn insert(&mut self, version: Version, key: K, value: V) -> Result<Version, Refused<(K, V)>>
+        requires { Holds self.old version }
+        ensures fresh { IfOk result (λ v. map.get self.old v ≡ None) }
+        ensures made { IfOk result (λ v. self.new ≡ map.insert self.old v (put K.cmp key value (entries_of self.old version))) }
+        ensures refused { OnErr result (self.new ≡ self.old) }
+        ensures given_back { IfErr result (λ r. r.element ≡ (key, value)) }
+        ensures memory { IfErr result (λ r. r.fault ≡ Memory) }
+    {
+        let root = root_of(&self.roots, version);
+        if reserve(&mut self.heap, &mut self.roots, 0, 0).is_err() {
+            return Err(Refused::no_memory((key, value)));
+        }
+        match with_entry(&mut self.heap, root, key, value) {
+            Ok(root) => Ok(keep(&mut self.roots, root)),
+            Err(entry) => Err(Refused::no_memory(entry)),
+        }
+    }
+
+    /// The version without the key. The version itself stays.
+    pub fn remove<P: Probe<K>>(&mut self, version: Version, key: &P) -> Result<Version, NoMemory>
+        requires { Holds self.old version }
+        ensures fresh { IfOk result (λ v. map.get self.old v ≡ None) }
+        ensures made { IfOk result (λ v. self.new ≡ map.insert self.old v (remove_entry K.cmp (entries_of self.old version) (P.stands_for key.now))) }
+        ensures refused { OnErr result (self.new ≡ self.old) }
+    {
+        let root = root_of(&self.roots, version);
+        reserve(&mut self.heap, &mut self.roots, 0, 0)?;
+        let root = without_entry(&mut self.heap, root, key)?;
+        Ok(keep(&mut self.roots, root))
+    }
+
+    /// Forgets the version. What no other version shares is freed.
+    pub fn forget(&mut self, version: Version)
+        requires { Holds self.old version }
+        ensures { self.new ≡ map.remove self.old version }
+    {
+        forget(&mut self.heap, &mut self.roots, version);
+    }
+
+    /// Whether the version is held.
+    pub fn holds(&self, version: Version) -> bool
+        ensures { IsTrue result ↔ Holds self.now version }
+    {
+        is_kept(&self.roots, version)
+    }
+
+    /// The value at the key, and none where the key is absent.
+    pub fn get<P: Probe<K>>(&self, version: Version, key: &P) -> Option<&V>
+        requires { Holds self.now version }
+        ensures { option_copied result ≡ find K.cmp (P.stands_for key.now) (entries_of self.now version) }
+    {
+        value_with(&self.heap, root_of(&self.roots, version), key)
+    }
+
+    /// The value at the key, and this one where the key is absent.
+    pub fn get_or<'s, P: Probe<K>>(&'s self, version: Version, key: &P, absent: &'s V) -> &'s V
+        requires { Holds self.now version }
+        ensures { result.now ≡ unwrap_or (find K.cmp (P.stands_for key.now) (entries_of self.now version)) absent.now }
+    {
+        match self.get(version, key) {
+            Some(value) => value,
+            None => absent,
+        }
+    }
+
+    /// Whether the version has the key.
+    pub fn contains_key<P: Probe<K>>(&self, version: Version, key: &P) -> bool
+        requires { Holds self.now version }
+        ensures { result ≡ is_some (find K.cmp (P.stands_for key.now) (entries_of self.now version)) }
+    {
+        self.get(version, key).is_some()
+    }
+
+    /// Whether the version has no key.
+    pub fn is_empty(&self, version: Version) -> bool
+        requires { Holds self.now version }
+        ensures { IsTrue result ↔ (entries_of self.now version ≡ []) }
+    {
+        has_no_entry(&self.heap, root_of(&self.roots, version))
+    }
+
+    /// How many keys the version has. It walks them all.
+    pub fn len(&self, version: Version) -> usize
+        requires { Holds self.now version }
+        ensures { result ≡ length (entries_of self.now version) }
+    {
+        entry_count(&self.heap, root_of(&self.roots, version))
+    }
+}

@@ -1,0 +1,158 @@
+//! A store of sets by their versions.
+ghost use Rattle.std.specs.Prelude.{◌≡◌, ◌↔◌, [], None, IfOk, IfErr, OnErr, IsTrue, length};
+ghost use Rattle.std.specs.FinMap as map;
+ghost use Rattle.std.specs.BTreeSet.{insert_key};
+ghost use Rattle.champ_chain.specs.Entry.{SameSet};
+ghost use Rattle.versions.specs.Store.{Holds};
+ghost use Rattle.versions.specs.declared.faults.Fault.TheVariants.{Memory};
+ghost use Rattle.versions.specs.Sorted.{keys_of, has, remove_key};
+
+use crate::faults::Refused;
+use crate::keyed::{has_key, has_no_key, key_count, no_keys, same_keys, with_key, without_key};
+use crate::keys::Keys;
+use crate::roots::{Version, forget, is_kept, keep, reserve, root_of};
+use elem_core::{Element, NoMemory, Probe};
+use node_heap::{Heap, Link};
+use slab::Slab;
+use std::alloc::Global;
+use std::marker::Model;
+
+/// Sets by their versions. Contracts see a set as its keys in rising order. Each version stays until it is forgotten, and
+/// versions share what they have in common. A store that is dropped gives all of them back.
+#[derive(Drop)]
+pub struct Sets<K: Element> {
+    heap: Heap<K>,
+    roots: Slab<Link>,
+}
+
+impl<K: Element> Model for Sets<K> {
+    ghost use Rattle.std.specs.Ordering.{nat_cmp};
+    ghost use Rattle.std.specs.Prelude.{List};
+    ghost use Rattle.std.specs.Coded.{coded_ℕ, coded_list};
+    ghost use Rattle.std.specs.FinMap as map;
+    ghost use Rattle.versions.specs.Roots.{values_in, HasRoots};
+    ghost use Rattle.versions.specs.Keyed.{keys_at, IsKeySet};
+
+    ghost Value = { map.FinMap nat_cmp (List K) };
+
+    ghost coded = { map.code coded_ℕ (coded_list K.code) };
+
+    ghost view = { λ s. values_in (keys_at K.cmp) s.heap s.roots.slots };
+
+    ghost invariant = { λ s. HasRoots (IsKeySet K.cmp K.code_of) (keys_at K.cmp) s.heap s.roots.slots };
+}
+
+impl<K: Element> Sets<K> {
+    /// A store without versions.
+    pub fn new(alloc: Global) -> Sets<K>
+        ensures { result ≡ map.empty }
+    {
+        Sets {
+            heap: Heap::new(alloc),
+            roots: Slab::new(alloc),
+        }
+    }
+
+    /// The version without keys.
+    pub fn empty(&mut self) -> Result<Version, NoMemory>
+        ensures fresh { IfOk result (λ v. map.get self.old v ≡ None) }
+        ensures made { IfOk result (λ v. self.new ≡ map.insert self.old v []) }
+        ensures refused { OnErr result (self.new ≡ self.old) }
+    {
+        reserve(&mut self.heap, &mut self.roots, 0, 1)?;
+        let root = no_keys(&mut self.heap);
+        Ok(keep(&mut self.roots, root))
+    }
+
+    /// The same set as another version.
+    pub fn copy(&mut self, version: Version) -> Result<Version, NoMemory>
+        requires { Holds self.old version }
+        ensures fresh { IfOk result (λ v. map.get self.old v ≡ None) }
+        ensures made { IfOk result (λ v. self.new ≡ map.insert self.old v (keys_of self.old version)) }
+        ensures refused { OnErr result (self.new ≡ self.old) }
+    {
+        let root = root_of(&self.roots, version);
+        reserve(&mut self.heap, &mut self.roots, 0, 0)?;
+        let root = same_keys(&mut self.heap, root);
+        Ok(keep(&mut self.roots, root))
+    }
+
+    /// The version with the key; an equal key that is there stays. The version itself stays. Refused only where memory runs out.
+    pub fn insert(&mut self, version: Version, key: K) -> Result<Version, Refused<K>>
+        requires { Holds self.old version }
+        ensures fresh { IfOk result (λ v. map.get self.old v ≡ None) }
+        ensures made { IfOk result (λ v. self.new ≡ map.insert self.old v (insert_key K.cmp (keys_of self.old version) key)) }
+        ensures refused { OnErr result (self.new ≡ self.old) }
+        ensures given_back { IfErr result (λ r. r.element ≡ key) }
+        ensures memory { IfErr result (λ r. r.fault ≡ Memory) }
+    {
+        let root = root_of(&self.roots, version);
+        if reserve(&mut self.heap, &mut self.roots, 0, 0).is_err() {
+            return Err(Refused::no_memory(key));
+        }
+        match with_key(&mut self.heap, root, key) {
+            Ok(root) => Ok(keep(&mut self.roots, root)),
+            Err(key) => Err(Refused::no_memory(key)),
+        }
+    }
+
+    /// The version without the key. The version itself stays.
+    pub fn remove<P: Probe<K>>(&mut self, version: Version, key: &P) -> Result<Version, NoMemory>
+        requires { Holds self.old version }
+        ensures fresh { IfOk result (λ v. map.get self.old v ≡ None) }
+        ensures made { IfOk result (λ v. self.new ≡ map.insert self.old v (remove_key K.cmp (keys_of self.old version) (P.stands_for key.now))) }
+        ensures refused { OnErr result (self.new ≡ self.old) }
+    {
+        let root = root_of(&self.roots, version);
+        reserve(&mut self.heap, &mut self.roots, 0, 0)?;
+        let root = without_key(&mut self.heap, root, key)?;
+        Ok(keep(&mut self.roots, root))
+    }
+
+    /// Forgets the version. What no other version shares is freed.
+    pub fn forget(&mut self, version: Version)
+        requires { Holds self.old version }
+        ensures { self.new ≡ map.remove self.old version }
+    {
+        forget(&mut self.heap, &mut self.roots, version);
+    }
+
+    /// Whether the version is held.
+    pub fn holds(&self, version: Version) -> bool
+        ensures { IsTrue result ↔ Holds self.now version }
+    {
+        is_kept(&self.roots, version)
+    }
+
+    /// Whether the version has the key.
+    pub fn contains<P: Probe<K>>(&self, version: Version, key: &P) -> bool
+        requires { Holds self.now version }
+        ensures { result ≡ has K.cmp (P.stands_for key.now) (keys_of self.now version) }
+    {
+        has_key(&self.heap, root_of(&self.roots, version), key)
+    }
+
+    /// Whether the version has no key.
+    pub fn is_empty(&self, version: Version) -> bool
+        requires { Holds self.now version }
+        ensures { IsTrue result ↔ (keys_of self.now version ≡ []) }
+    {
+        has_no_key(&self.heap, root_of(&self.roots, version))
+    }
+
+    /// How many keys the version has. It walks them all.
+    pub fn len(&self, version: Version) -> usize
+        requires { Holds self.now version }
+        ensures { result ≡ length (keys_of self.now version) }
+    {
+        key_count(&self.heap, root_of(&self.roots, version))
+    }
+
+    /// The keys of the version, in the order of the trie's walk. It takes no memory.
+    pub fn iter(&self, version: Version) -> Keys<'_, K>
+        requires { Holds self.now version }
+        ensures { SameSet result (keys_of self.now version) }
+    {
+        Keys::new(&self.heap, root_of(&self.roots, version))
+    }
+}

@@ -1,0 +1,9 @@
+//! The tests of stores of sets and of maps by their versions.
+#![tactic(auto)]
+
+#[cfg(test)]
+mod maps;
+#[cfg(test)]
+mod samples;
+#[cfg(test)]
+mod sets;
