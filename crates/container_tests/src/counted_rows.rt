@@ -5,7 +5,7 @@ ghost use Rattle.node_heap.specs.Heap.{form_at, hold_count, half_holds};
 ghost use Rattle.node_heap.specs.Calls.{Answered, Unchanged};
 
 use elem_core::{NoMemory, Num};
-use node_heap::{Head, Heap, Link, Sums};
+use node_heap::{Head, Heap, Kind, Link, Sums};
 use std::test::Fail;
 
 // A leaf of two cells, which stands for a while in a pair with a third.
@@ -79,5 +79,67 @@ fn keeps_a_leaf(rt: HostRuntime) -> Result<(), Fail> {
     assert_eq!(rt; heap.live(), 3);
     assert_eq!(rt; heap.made(), 5);
     assert_eq!(rt; heap.owners(leaf), 1);
+    Ok(())
+}
+
+// A row of a trie that outgrows its slot, and is given other heads.
+#[test]
+fn outgrows_a_twig(rt: HostRuntime) -> Result<(), Fail> {
+    let mut heap: Heap<Num> = Heap::new(rt.alloc());
+    heap.reserve(2, 1)?;
+    let first = heap.cell(Num(7));
+    let second = heap.cell(Num(8));
+    heap.hold_all(&[first, first, first, first]);
+    let head = Head::Trie {
+        depth: 4,
+        entries: 1,
+        nodes: 2,
+    };
+    let row = heap.node(head, &[first, first, first, first, first]);
+    heap.insert_link(row, 5, second);
+    assert_eq!(rt; heap.trie(row).entries, 1);
+    assert_eq!(rt;
+        heap.links(row),
+        [first, first, first, first, first, second].as_slice()
+    );
+    let sums = Sums::from_slice(&[4, 9]);
+    heap.set_head(row, Head::Inner { height: 2, sums });
+    assert_eq!(rt; heap.sums(row), [4, 9].as_slice());
+    assert_eq!(rt; heap.kind(row), Some(Kind::Inner { height: 2 }));
+    let head = Head::Trie {
+        depth: 4,
+        entries: 5,
+        nodes: 6,
+    };
+    heap.set_head(row, head);
+    assert_eq!(rt; heap.trie(row).nodes, 6);
+    heap.release(row);
+    assert_eq!(rt; heap.live(), 0);
+    Ok(())
+}
+
+// A pair that is given the head of a row of a trie, and a third link.
+#[test]
+fn outgrows_a_pair(rt: HostRuntime) -> Result<(), Fail> {
+    let mut heap: Heap<Num> = Heap::new(rt.alloc());
+    heap.reserve(2, 1)?;
+    let first = heap.cell(Num(7));
+    let second = heap.cell(Num(8));
+    heap.hold(first);
+    let pair = heap.node(Head::Pair, &[first, first]);
+    heap.insert_link(pair, 1, second);
+    assert_eq!(rt; heap.kind(pair), Some(Kind::Pair));
+    let head = Head::Trie {
+        depth: 1,
+        entries: 3,
+        nodes: 4,
+    };
+    heap.set_head(pair, head);
+    assert_eq!(rt; heap.trie(pair).nodes, 4);
+    assert_eq!(rt; heap.links(pair), [first, second, first].as_slice());
+    heap.set_head(pair, Head::Chain);
+    assert_eq!(rt; heap.kind(pair), Some(Kind::Chain));
+    heap.release(pair);
+    assert_eq!(rt; heap.live(), 0);
     Ok(())
 }
