@@ -8,6 +8,12 @@ use Rattle.node_heap.proofs.Counts.{test_same, test_other}
 use Rattle.node_heap.proofs.Frames.{Extends-row}
 use Rattle.container_tests.proofs.writes.writes_below_a_kept_version.Goals as goal
 
+pub node-leaf-requires-clause-held : goal.node-leaf-requires-clause-held
+node-leaf-requires-clause-held g c = λ l. omega (arith, c.cell-seven.ensures.adds.holds l)
+
+pub node-pair-requires-clause-held : goal.node-pair-requires-clause-held
+node-pair-requires-clause-held g c = λ l. omega (arith, c.cell-seven.ensures.adds.holds l, c.node-leaf.ensures.adds.holds l)
+
 pub node-root-requires-clause-held : goal.node-root-requires-clause-held
 node-root-requires-clause-held g c = λ l. omega (arith, c.cell-seven.ensures.adds.holds l, c.node-leaf.ensures.adds.holds l, c.node-pair.ensures.adds.holds l)
 
