@@ -6,7 +6,7 @@ use Rattle.std.specs.declared.cmp.Ordering.{Ordering}
 use Rattle.std.proofs.lemmas.List.Elements.{All-weaker, All-push}
 use Rattle.node_heap.specs.Forms.{cell, form_of}
 use Rattle.node_heap.specs.Heap.{Heap, row_at, form_at, holds_at, hold_count, one_at}
-use Rattle.node_heap.specs.Calls.{Builds, Extends}
+use Rattle.node_heap.specs.Calls.{Builds, Extends, SameRows}
 use Rattle.node_heap.proofs.BuildLemmas.{count-one}
 use Rattle.champ_chain.proofs.FrameLemmas.{forms-kept}
 use Rattle.champ_kinds.specs.Binding.{Binding}
@@ -39,6 +39,10 @@ row-cell h l x is = (x, ap (λ r. option_map form_of r) is)
 -- one hold more of a root
 pub shared-holds : {T : Type 0} {a b : Heap T} {link : ℕ} → Builds a b [] (link ∷ []) 0 0 → (k : ℕ) → holds_at b k ≡ holds_at a k + one_at link k
 shared-holds {link = link} shared k = omega (arith, shared.holds k, count-one k link)
+
+-- where the rows are the same, so are the forms
+pub forms-same : {T : Type 0} (old new : Heap T) → SameRows old new → form_at new ≡ form_at old
+forms-same old new same = λ j l. option_map form_of (same l j)
 
 -- what a call made stands behind the things that were there
 pub more-held : {T R E : Type 0} (Is : Heap T → R → Type 0) (old new : Heap T) (things after : List R) (made : Result R E) → IsOk made → IfOk made (Is new) → IfOk made (λ _. Keeps Is old new) → IfOk made (λ _. hold_count new ≡ hold_count old + 1) → IfOk made (λ r. after ≡ things ++ r ∷ []) → Holds Is old things → Holds Is new after

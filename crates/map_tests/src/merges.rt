@@ -153,6 +153,23 @@ fn merges_what_is_shared(rt: HostRuntime) {
     assert!(rt; sets.rows().wrapping_sub(rows) <= 1);
 }
 
+// The same sets come of spares that are made before.
+#[test]
+fn merges_of_spares(rt: HostRuntime) {
+    let mut sets: SetVersions<Num> = SetVersions::start(&rt, rt.alloc(), CODE_BITS);
+    let left = with_all(&rt, &mut sets, 0, &[1, 2, 33, 65, 1057]);
+    let right = with_all(&rt, &mut sets, 0, &[2, 65, 97, 1057]);
+    let all = sets.unite(&rt, left, right);
+    let spared = sets.unite_there(&rt, left, right);
+    assert!(rt; sets.are_equal(&rt, all, spared));
+    let both = sets.meet(&rt, left, right);
+    let spared = sets.meet_there(&rt, left, right);
+    assert!(rt; sets.are_equal(&rt, both, spared));
+    let less = sets.lose(&rt, left, right);
+    let spared = sets.lose_there(&rt, left, right);
+    assert!(rt; sets.are_equal(&rt, less, spared));
+}
+
 // An equal set made apart: each of its keys is the first one's, so the first one's rows are taken over.
 #[test]
 fn merges_equal_sets_made_apart(rt: HostRuntime) {

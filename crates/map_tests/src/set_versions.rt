@@ -9,7 +9,10 @@ use champ_kinds::{Set, SetRef, set_insert, set_remove};
 use elem_core::{CODE_BITS, Element, NoMemory, Probe};
 use node_heap::{Glass, Heap, Steps};
 use same_value::equal_set;
-use set_merge::{set_both, set_both_need, set_less, set_less_need, set_union, set_union_need};
+use set_merge::{
+    set_both, set_both_need, set_both_there, set_less, set_less_need, set_less_there, set_union,
+    set_union_need, set_union_there,
+};
 use std::alloc::Global;
 use std::marker::{Brand, Model};
 use std::process::Abort;
@@ -121,6 +124,54 @@ fn rest<T: Element>(heap: &mut Heap<T>, a: SetRef, b: SetRef) -> Result<SetRef, 
     Ok(held(made))
 }
 
+// The union, of spares that are made before.
+fn united_there<T: Element>(heap: &mut Heap<T>, a: SetRef, b: SetRef) -> Result<SetRef, NoMemory>
+    requires first { IsSomeSet T.cmp T.code_of heap.old a }
+    requires second { IsSomeSet T.cmp T.code_of heap.old b }
+    requires bits { a.bits ≡ b.bits }
+    requires few { hold_count heap.old < half_holds }
+    ensures good { IfOk result (IsSomeSet T.cmp T.code_of heap.new) }
+    ensures others { IfOk result (λ _. KeepsSets T.cmp T.code_of heap.old heap.new) }
+    ensures count { IfOk result (λ _. hold_count heap.new ≡ hold_count heap.old + 1) }
+{
+    let need = set_union_need(heap, a, b);
+    heap.reserve(0, need)?;
+    let made = set_union_there(heap, a, b);
+    Ok(held(made))
+}
+
+// The intersection, likewise.
+fn common_there<T: Element>(heap: &mut Heap<T>, a: SetRef, b: SetRef) -> Result<SetRef, NoMemory>
+    requires first { IsSomeSet T.cmp T.code_of heap.old a }
+    requires second { IsSomeSet T.cmp T.code_of heap.old b }
+    requires bits { a.bits ≡ b.bits }
+    requires few { hold_count heap.old < half_holds }
+    ensures good { IfOk result (IsSomeSet T.cmp T.code_of heap.new) }
+    ensures others { IfOk result (λ _. KeepsSets T.cmp T.code_of heap.old heap.new) }
+    ensures count { IfOk result (λ _. hold_count heap.new ≡ hold_count heap.old + 1) }
+{
+    let need = set_both_need(heap, a, b);
+    heap.reserve(0, need)?;
+    let made = set_both_there(heap, a, b);
+    Ok(held(made))
+}
+
+// The keys of the first alone, likewise.
+fn rest_there<T: Element>(heap: &mut Heap<T>, a: SetRef, b: SetRef) -> Result<SetRef, NoMemory>
+    requires first { IsSomeSet T.cmp T.code_of heap.old a }
+    requires second { IsSomeSet T.cmp T.code_of heap.old b }
+    requires bits { a.bits ≡ b.bits }
+    requires few { hold_count heap.old < half_holds }
+    ensures good { IfOk result (IsSomeSet T.cmp T.code_of heap.new) }
+    ensures others { IfOk result (λ _. KeepsSets T.cmp T.code_of heap.old heap.new) }
+    ensures count { IfOk result (λ _. hold_count heap.new ≡ hold_count heap.old + 1) }
+{
+    let need = set_less_need(heap, a, b);
+    heap.reserve(0, need)?;
+    let made = set_less_there(heap, a, b);
+    Ok(held(made))
+}
+
 // The set of this turn. No test makes nearly so many.
 fn set_at<T: Element>(rt: &impl Abort, heap: &Heap<T>, sets: &Vec<SetRef>, turn: usize) -> SetRef
     requires { Holds (IsSomeSet T.cmp T.code_of) heap.now sets.now.items }
@@ -200,6 +251,33 @@ impl<T: Element> SetVersions<T> {
         let right = set_at(rt, &self.heap, &self.sets, right);
         assert!(rt; left.bits() == right.bits());
         let made = rest(&mut self.heap, left, right);
+        kept(rt, &mut self.sets, made)
+    }
+
+    /// That of `unite`, of spares that are made before.
+    pub fn unite_there(&mut self, rt: &impl Abort, left: usize, right: usize) -> usize {
+        let left = set_at(rt, &self.heap, &self.sets, left);
+        let right = set_at(rt, &self.heap, &self.sets, right);
+        assert!(rt; left.bits() == right.bits());
+        let made = united_there(&mut self.heap, left, right);
+        kept(rt, &mut self.sets, made)
+    }
+
+    /// That of `meet`, likewise.
+    pub fn meet_there(&mut self, rt: &impl Abort, left: usize, right: usize) -> usize {
+        let left = set_at(rt, &self.heap, &self.sets, left);
+        let right = set_at(rt, &self.heap, &self.sets, right);
+        assert!(rt; left.bits() == right.bits());
+        let made = common_there(&mut self.heap, left, right);
+        kept(rt, &mut self.sets, made)
+    }
+
+    /// That of `lose`, likewise.
+    pub fn lose_there(&mut self, rt: &impl Abort, left: usize, right: usize) -> usize {
+        let left = set_at(rt, &self.heap, &self.sets, left);
+        let right = set_at(rt, &self.heap, &self.sets, right);
+        assert!(rt; left.bits() == right.bits());
+        let made = rest_there(&mut self.heap, left, right);
         kept(rt, &mut self.sets, made)
     }
 
