@@ -36,6 +36,16 @@ def show(start, count):
     return "show a %d %d" % (start, start + count)
 
 
+def apart(dice):
+    """Stars of a version `v`, and as many made apart in another batch, half of them those of the version."""
+    yield "begin"
+    yield from ("star name.%d" % i for i in dice.shuffled(range(LINES)))
+    yield from ["end", "mark v", "begin"]
+    yield from ("unstar name.%d" % i for i in dice.shuffled(range(LINES)))
+    yield from ("star name.%d" % i for i in dice.shuffled(range(LINES // 2, LINES + LINES // 2)))
+    yield "end"
+
+
 def scripts():
     """For each key: what is counted, the lines before, those that count, and one after."""
     read, dice = ["read a text"], Dice(3)
@@ -58,6 +68,8 @@ def scripts():
         "s": ("`list` of 1,000 names", some, ["list"] * (TIMES // 20), []),
         "n": ("`new` beside 10,000 names", names, ["new other.%d" % i for i in range(TIMES)], []),
         "o": ("`drop` among 10,000 names", names, ["drop name.%d" % i for i in range(TIMES)], []),
+        # What the merge before made is given up with it.
+        "u": ("`starmerge` of 100,000 stars made apart and its `undo`", [*apart(dice), "starmerge v", "undo"], ["starmerge v\nundo"] * 2, []),
     }
 
 
