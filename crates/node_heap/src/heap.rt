@@ -209,7 +209,7 @@ impl<T> Heap<T> {
     }
 
     /// What a live link's node is, without its sums, and none for a cell.
-    #[inline]
+    #[inline(always)]
     pub fn kind(&self, link: Link) -> Option<Kind>
         requires { IsSome (row_at self.now link) }
         ensures { option_map kind_said result ≡ head_of (form_at self.now link) }
@@ -218,7 +218,7 @@ impl<T> Heap<T> {
     }
 
     /// The sums of a live link's row, and none where it keeps none.
-    #[inline]
+    #[inline(always)]
     pub fn sums(&self, link: Link) -> &[u32]
         requires { IsSome (row_at self.now link) }
         ensures { result.now ≡ sums_in (row_at self.now link) }
@@ -227,7 +227,7 @@ impl<T> Heap<T> {
     }
 
     /// The sets and the links of a row of a trie.
-    #[inline]
+    #[inline(always)]
     pub fn trie(&self, link: Link) -> TrieRef<'_>
         requires { (entries nodes : ℕ) × (links : List ℕ) × IsTrieForm (form_at self.now link) entries nodes links }
         ensures { IsTrieForm (form_at self.now link) result.entries result.nodes result.links.now }

@@ -151,7 +151,7 @@ impl Nodes {
     }
 
     // What the node at the index is.
-    #[inline]
+    #[inline(always)]
     pub(crate) fn kind(&self, index: usize) -> Kind
         requires { IsSome (node_at self.now.slots index) }
         ensures { option_map kind_of (node_head (node_at self.now.slots index)) ≡ Some (kind_said result) }
@@ -164,7 +164,7 @@ impl Nodes {
     }
 
     // The sums of the node at the index, if any.
-    #[inline]
+    #[inline(always)]
     pub(crate) fn sums(&self, index: usize) -> &[u32]
         requires { IsSome (node_at self.now.slots index) }
         ensures { option_map sums_of (node_head (node_at self.now.slots index)) ≡ Some result.now }
@@ -177,7 +177,7 @@ impl Nodes {
     }
 
     // The sets and the links of a row of a trie.
-    #[inline]
+    #[inline(always)]
     pub(crate) fn trie(&self, index: usize) -> TrieRef<'_>
         requires { (depth entries nodes : ℕ) × (node_head (node_at self.now.slots index) ≡ Some (Trie depth entries nodes)) }
         ensures sets { (depth : ℕ) × (node_head (node_at self.now.slots index) ≡ Some (Trie depth result.entries result.nodes)) }

@@ -144,7 +144,7 @@ impl<S: SmallHead<L>, L: Copy, const N: usize> Rooms<S, L, N> {
     }
 
     // The head of the node at the index.
-    #[inline]
+    #[inline(always)]
     pub(crate) fn head(&self, index: usize) -> L
         requires memory { SmallSlotFits S.row N.row }
         requires live { IsSome (node_at self.now.slots index) }
@@ -161,7 +161,7 @@ impl<S: SmallHead<L>, L: Copy, const N: usize> Rooms<S, L, N> {
     }
 
     // The links of the node at the index.
-    #[inline]
+    #[inline(always)]
     pub(crate) fn links(&self, index: usize) -> &[Link]
         requires memory { SmallSlotFits S.row N.row }
         requires width { N ≤ 32 }

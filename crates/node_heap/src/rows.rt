@@ -122,7 +122,7 @@ impl Rows {
     }
 
     // What the node at the index is.
-    #[inline]
+    #[inline(always)]
     pub(crate) fn kind(&self, index: usize) -> Kind
         requires { IsSome (node_at self.now.slots index) }
         ensures { option_map kind_of (node_head (node_at self.now.slots index)) ≡ Some (kind_said result) }
@@ -140,7 +140,7 @@ impl Rows {
     }
 
     // The sums of the node at the index, if any.
-    #[inline]
+    #[inline(always)]
     pub(crate) fn sums(&self, index: usize) -> &[u32]
         requires { IsSome (node_at self.now.slots index) }
         ensures { option_map sums_of (node_head (node_at self.now.slots index)) ≡ Some result.now }
@@ -152,6 +152,7 @@ impl Rows {
     }
 
     // The links of the node at the index.
+    #[inline(always)]
     pub(crate) fn links(&self, index: usize) -> &[Link]
         requires { IsSome (node_at self.now.slots index) }
         ensures value { result.now ≡ node_links (node_at self.now.slots index) }

@@ -173,7 +173,7 @@ impl<T> Table<T> {
     }
 
     // What the node at the place is, and none for a cell.
-    #[inline]
+    #[inline(always)]
     pub(crate) fn kind(&self, place: usize) -> Option<Kind>
         requires { IsSome (slot_at self.now.slots place) }
         ensures { option_map kind_said result ≡ option_map kind_of (head_of (graph_of self.now.slots place)) }
@@ -186,7 +186,7 @@ impl<T> Table<T> {
     }
 
     // The sums of the node at the place, if any.
-    #[inline]
+    #[inline(always)]
     pub(crate) fn sums(&self, place: usize) -> &[u32]
         requires { IsSome (slot_at self.now.slots place) }
         ensures { result.now ≡ sums_in (graph_of self.now.slots place) }
@@ -199,7 +199,7 @@ impl<T> Table<T> {
     }
 
     // The sets and the links of a row of a trie.
-    #[inline]
+    #[inline(always)]
     pub(crate) fn trie(&self, place: usize) -> TrieRef<'_>
         requires { (depth entries nodes : ℕ) × (head_of (graph_of self.now.slots place) ≡ Some (Trie depth entries nodes)) }
         ensures sets { (depth : ℕ) × (head_of (graph_of self.now.slots place) ≡ Some (Trie depth result.entries result.nodes)) }

@@ -127,7 +127,7 @@ impl Tries {
     }
 
     // What lies of the head of the node at the index with its links.
-    #[inline]
+    #[inline(always)]
     pub(crate) fn sets_of(&self, index: usize) -> Sets
         requires { IsSome (node_at self.now.slots index) }
         ensures { sets_in (node_at self.now.slots index) ≡ Some result }
@@ -136,7 +136,7 @@ impl Tries {
     }
 
     // What the node at the index is.
-    #[inline]
+    #[inline(always)]
     pub(crate) fn kind(&self, index: usize) -> Kind
         requires { IsSome (node_at self.now.slots index) }
         ensures { option_map kind_of (node_head (node_at self.now.slots index)) ≡ Some (kind_said result) }
@@ -156,7 +156,7 @@ impl Tries {
     }
 
     // The sums of the node at the index, if any.
-    #[inline]
+    #[inline(always)]
     pub(crate) fn sums(&self, index: usize) -> &[u32]
         requires { IsSome (node_at self.now.slots index) }
         ensures { option_map sums_of (node_head (node_at self.now.slots index)) ≡ Some result.now }
@@ -168,7 +168,7 @@ impl Tries {
     }
 
     // The links of the node at the index.
-    #[inline]
+    #[inline(always)]
     pub(crate) fn links(&self, index: usize) -> &[Link]
         requires { IsSome (node_at self.now.slots index) }
         ensures value { result.now ≡ node_links (node_at self.now.slots index) }
