@@ -6,7 +6,7 @@ use Rattle.std.specs.Ordering.{is_eq, nat_cmp}
 use Rattle.std.specs.Cmp.Lexicographic.{slice_cmp, nat_list_cmp_total}
 use Rattle.std.specs.FinMap.{get, insert, get-insert}
 use Rattle.shell_terms.specs.Edit.{Bytes}
-use Rattle.shell_terms.specs.Command.{PlainCommand, edit, merge, mark, unmark, back, undo, redo, begin, «end», abort, history, get as get_line, len, show, list, stars, marks, same as same_lines, eqv, stats, made, read as read_file, write as write_file, save, load, part, chain, indent, dedent, quit}
+use Rattle.shell_terms.specs.Command.{PlainCommand, stats, made, read as read_file, write as write_file, save, load, part, chain, indent, dedent}
 use Rattle.shell_terms.specs.Kinds.{uses_store}
 use Rattle.shell_words.specs.Files.{numbered}
 use Rattle.shell_words.specs.Grammar.{meaning}
@@ -141,26 +141,7 @@ module _ (names : List Bytes) (old new : Machine) (reply : List ℕ) where
   kept-elsewhere (chain file number) W apart says = kept-chained (chain_names file (number + 1)) LoadsChain (λ C mid loads. kept-same names mid new.store loads.0) says
   kept-elsewhere (indent count file) W apart says = kept-by names file apart _ old new reply says.stores
   kept-elsewhere (dedent count file) W apart says = kept-by names file apart _ old new reply says.stores
-  kept-elsewhere (merge kind version) W apart says = absurd says
-  kept-elsewhere (edit change) W apart says = absurd says
-  kept-elsewhere (mark version) W apart says = absurd says
-  kept-elsewhere (unmark version) W apart says = absurd says
-  kept-elsewhere (back version) W apart says = absurd says
-  kept-elsewhere undo W apart says = absurd says
-  kept-elsewhere redo W apart says = absurd says
-  kept-elsewhere begin W apart says = absurd says
-  kept-elsewhere «end» W apart says = absurd says
-  kept-elsewhere abort W apart says = absurd says
-  kept-elsewhere (history count) W apart says = absurd says
-  kept-elsewhere (get_line name index) W apart says = absurd says
-  kept-elsewhere (len name) W apart says = absurd says
-  kept-elsewhere (show name from to) W apart says = absurd says
-  kept-elsewhere list W apart says = absurd says
-  kept-elsewhere stars W apart says = absurd says
-  kept-elsewhere marks W apart says = absurd says
-  kept-elsewhere (same_lines name other) W apart says = absurd says
-  kept-elsewhere (eqv version other) W apart says = absurd says
-  kept-elsewhere quit W apart says = absurd says
+  kept-elsewhere _ W apart says = absurd says
 
   module _ (command : PlainCommand) (apart : IfSome (written command) (λ file. All (λ name. name ≢ file) names)) where
     kept-given : (a : Answer) (W : Workspace) → Gives command old W a reply new → Kept names old.store new.store

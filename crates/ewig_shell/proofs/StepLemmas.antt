@@ -9,7 +9,7 @@ use Rattle.std.specs.declared.option.Option.{Option}
 use Rattle.std.specs.declared.result.Result.{Result}
 use Rattle.elem_core.specs.declared.TheConstants.{MAX_LINE}
 use Rattle.shell_terms.specs.Edit.{Bytes}
-use Rattle.shell_terms.specs.Command.{PlainCommand, edit, merge, mark, unmark, back, undo, redo, begin, «end», abort, history, get, len, show, list, stars, marks, same as same_lines, eqv, stats, made, read as read_file, write as write_file, save, load, part, chain, indent, dedent, quit}
+use Rattle.shell_terms.specs.Command.{PlainCommand, get, len, show, list, stars, marks, same as same_lines, eqv, stats, made, read as read_file, write as write_file, save, load, part, chain, indent, dedent, quit}
 use Rattle.shell_words.specs.Grammar.{meaning}
 use Rattle.shell_words.specs.declared.BadLine.{BadLine}
 use Rattle.plain_space.specs.declared.refusal.Refusal.{Refusal}
@@ -342,26 +342,7 @@ bits_elsewhere (part file number) old new W reply says = bits_chained (chain_nam
 bits_elsewhere (chain file number) old new W reply says = bits_chained (chain_names file (number + 1)) LoadsChain old new reply (λ C mid loads. loads.1.bits) says
 bits_elsewhere (indent count file) old new W reply says = bits_same says.stores.space
 bits_elsewhere (dedent count file) old new W reply says = bits_same says.stores.space
-bits_elsewhere (merge kind version) old new W reply says = absurd says
-bits_elsewhere (edit change) old new W reply says = absurd says
-bits_elsewhere (mark version) old new W reply says = absurd says
-bits_elsewhere (unmark version) old new W reply says = absurd says
-bits_elsewhere (back version) old new W reply says = absurd says
-bits_elsewhere undo old new W reply says = absurd says
-bits_elsewhere redo old new W reply says = absurd says
-bits_elsewhere begin old new W reply says = absurd says
-bits_elsewhere «end» old new W reply says = absurd says
-bits_elsewhere abort old new W reply says = absurd says
-bits_elsewhere (history count) old new W reply says = absurd says
-bits_elsewhere (get name index) old new W reply says = absurd says
-bits_elsewhere (len name) old new W reply says = absurd says
-bits_elsewhere (show name from to) old new W reply says = absurd says
-bits_elsewhere list old new W reply says = absurd says
-bits_elsewhere stars old new W reply says = absurd says
-bits_elsewhere marks old new W reply says = absurd says
-bits_elsewhere (same_lines name other) old new W reply says = absurd says
-bits_elsewhere (eqv version other) old new W reply says = absurd says
-bits_elsewhere quit old new W reply says = absurd says
+bits_elsewhere _ old new W reply says = absurd says
 
 bits_given : (a : Answer) (command : PlainCommand) (old new : Machine) (W : Workspace) (reply : List ℕ) → Gives command old W a reply new → new.space.pool.bits ≡ old.space.pool.bits
 bits_given (Ok (tells lines after)) command old new W reply gives = bits_by (only_asks command) command old.space new.space W gives.2

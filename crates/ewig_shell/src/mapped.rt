@@ -1,7 +1,5 @@
 //! What a run stores with its lines moved.
 
-ghost use Rattle.std.specs.Prelude.{◌≤◌};
-ghost use Rattle.elem_core.specs.declared.codes.TheConstants.{CODE_BITS};
 ghost use Rattle.elem_core.specs.Shown.{name_bytes};
 ghost use Rattle.shell_terms.specs.Command.{indent as indent_command, dedent as dedent_command};
 ghost use Rattle.ewig_shell.specs.Step.{ObeysOn, stored_reply};
@@ -30,7 +28,6 @@ pub fn indent<D: Store>(
 ) -> Result<(), StoreFault>
     ensures { ObeysOn (indent_command count (name_bytes file.entry)) D.Store space.now store.old (stored_reply result) space.now store.new }
 {
-    bits_are_few(space);
     indent_needs_room();
     mapped_is_valid();
     if space.in_batch() {
@@ -54,7 +51,6 @@ pub fn dedent<D: Store>(
 ) -> Result<(), StoreFault>
     ensures { ObeysOn (dedent_command count (name_bytes file.entry)) D.Store space.now store.old (stored_reply result) space.now store.new }
 {
-    bits_are_few(space);
     dedent_keeps_lines();
     mapped_is_valid();
     if space.in_batch() {
@@ -66,11 +62,4 @@ pub fn dedent<D: Store>(
     let pool = space.pool(alloc)?;
     let moved = dedented(alloc, &pool, u64::from(count))?;
     keep_pool(alloc, moved, file, store)
-}
-
-// A space goes by at most 64 bits of its names' codes.
-fn bits_are_few(space: &Space)
-    ensures { space.now.pool.bits ≤ CODE_BITS }
-{
-    let _bits = space.bits();
 }

@@ -5,7 +5,7 @@ ghost use Rattle.std.specs.Option.{ForSome};
 ghost use Rattle.elem_core.specs.declared.codes.TheConstants.{CODE_BITS};
 ghost use Rattle.elem_core.specs.Cell.{IsCell};
 ghost use Rattle.shell_io.specs.Reader.{StandsIn};
-ghost use Rattle.shell_options.specs.Options.{PlainOptions};
+ghost use Rattle.shell_options.specs.Options.{PlainOptions, most_count};
 ghost use Rattle.shell_options.specs.Shown.{plain_options};
 ghost use Rattle.space_state.specs.View.{start_view};
 ghost use Rattle.ewig_shell.specs.Going.{EndsInput, GoesAs, IsGoing, Opens, status_by_words, status_of, unbegun_as};
@@ -17,7 +17,7 @@ use crate::reply::send_summary;
 use crate::session::Session;
 use crate::work::work;
 use arrayvec::ArrayVec;
-use elem_core::{CODE_BITS, NoMemory};
+use elem_core::{CODE_BITS, MAX_NAME, NoMemory};
 use shell_io::{Failed, LineReader, Next, Sink, Source, Store};
 use shell_options::{FileName, Options, WordsFault, read_words};
 use space_state::Space;
@@ -27,7 +27,7 @@ use std::alloc::Global;
 pub const MOST_BYTES: u64 = 1_099_511_627_776;
 
 /// The most bytes of a line that loads a file: its word, a space and a name.
-const LOAD_LINE: usize = 69;
+const LOAD_LINE: usize = 5 + MAX_NAME;
 
 /// How a run ended.
 #[derive(Clone, Copy, Debug, PartialEq, Eq)]
@@ -127,7 +127,7 @@ fn unbegun(status: Status) -> Ended
 // Runs the lines that the program makes by itself, and writes what they came to.
 fn run_own<K: Sink>(alloc: Global, bits: u32, seed: u64, count: u32, sink: &mut K) -> Ended
     requires bits { bits ≤ CODE_BITS }
-    requires few { count ≤ 100000 }
+    requires few { count ≤ most_count }
     ensures { (sink.new ≡ sink.old) × (result ≡ unbegun_as Status.Memory) ⊎ Works bits seed count StepsAlone K.Sink sink.old sink.new result }
 {
     let Ok(mut space) = Space::new(alloc, bits) else {

@@ -27,8 +27,8 @@ pub enum StoreFault {
     Large,
     /// The store failed.
     Failed,
-    /// The file, or the chain of files, is no document of a space of so many bits: the first test that it fails, and never
-    /// `Damage::Memory`.
+    /// The file, or the chain of files, is no document of a space of so many bits: the first test that it fails. Want of memory
+    /// is `Memory`.
     Damaged(Damage),
     /// A line of the file has more than 65,536 bytes.
     Long,

@@ -5,6 +5,7 @@ ghost use Rattle.shell_terms.specs.Command.{PlainCommand};
 ghost use Rattle.space_state.specs.View.{Ends};
 ghost use Rattle.work_lines.specs.Lines.{work_lines};
 ghost use Rattle.shell_words.specs.Shown.{plain_command};
+ghost use Rattle.shell_options.specs.Options.{most_count};
 ghost use Rattle.work_lines.specs.Commands.{ChangesSpace, IsLineOf, is_made};
 ghost use Rattle.ewig_shell.specs.Work.{Counts, CountsOne, SumsUp};
 
@@ -36,7 +37,7 @@ struct Tally {
 
 /// Does what the lines of the seed ask for, and says what they came to. A command to which memory is refused counts as refused.
 pub fn work(space: &mut Space, seed: u64, count: u32) -> Summary
-    requires { count ≤ 100000 }
+    requires { count ≤ most_count }
     ensures { SumsUp seed count space.old result space.new }
 {
     let tally = counted(space, seed, count);
@@ -52,7 +53,7 @@ pub fn work(space: &mut Space, seed: u64, count: u32) -> Summary
 
 // Does what the lines of the seed ask for, one after another, and counts.
 fn counted(space: &mut Space, seed: u64, count: u32) -> Tally
-    requires { count ≤ 100000 }
+    requires { count ≤ most_count }
     ensures { Counts (work_lines seed count) space.old result space.new }
 {
     let mut tally = Tally { ok: 0, refused: 0 };

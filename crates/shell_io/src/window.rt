@@ -12,7 +12,7 @@ use std::alloc::{AllocError, Global};
 use std::marker::Model;
 
 // The longest line, and three times as much behind it, so that each pull has ample room.
-const SIZE: usize = 4 * 65_536;
+const SIZE: usize = 4 * MAX_LINE;
 
 /// A buffer in which the bytes that wait stand behind the line that was given last.
 #[derive(Drop)]
@@ -27,6 +27,7 @@ pub struct Window {
 impl Model for Window {
     ghost use Rattle.std.specs.Prelude.{◌≡◌, ◌≤◌, slice_range, vec_len};
     ghost use Rattle.shell_io.specs.Window.{Waiting};
+    ghost use Rattle.shell_io.specs.declared.window.TheConstants.{SIZE};
 
     ghost Value = { Waiting };
 
@@ -36,7 +37,7 @@ impl Model for Window {
     } };
 
     ghost invariant = { λ w. (w.line_start ≤ w.line_end) × (w.line_end ≤ vec_len w.bytes)
-        × (w.start ≤ w.end) × (w.end ≤ vec_len w.bytes) × (vec_len w.bytes ≡ 262144) };
+        × (w.start ≤ w.end) × (w.end ≤ vec_len w.bytes) × (vec_len w.bytes ≡ SIZE) };
 }
 
 impl Window {
@@ -63,7 +64,7 @@ impl Window {
     /// The bytes that wait.
     pub fn held(&self) -> &[u8]
         ensures shown { result.now ≡ self.now.held }
-        ensures fits { length self.now.held ≤ 262144 }
+        ensures fits { length self.now.held ≤ SIZE }
     {
         &self.bytes[self.start..self.end]
     }
@@ -130,7 +131,7 @@ fn pull_behind<S: Source>(
 ) -> Result<usize, Failed>
     requires some { 0 < limit }
     requires room { waiting ≤ MAX_LINE }
-    requires size { length bytes.old ≡ 262144 }
+    requires size { length bytes.old ≡ SIZE }
 
     ensures front { take waiting bytes.new ≡ take waiting bytes.old }
     ensures within { IfOk result (λ n. (n ≤ limit) × (waiting + n ≤ length bytes.new)) }
@@ -152,7 +153,7 @@ fn offer_of(waiting: usize, limit: u64) -> usize
     requires room { waiting ≤ MAX_LINE }
     ensures some { 0 < result }
     ensures ample { IsAmple limit result }
-    ensures fits { waiting + result ≤ 262144 }
+    ensures fits { waiting + result ≤ SIZE }
 {
     let room = SIZE - waiting;
     if limit < room as u64 {

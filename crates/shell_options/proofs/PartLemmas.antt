@@ -5,7 +5,7 @@ use Rattle.elem_core.specs.declared.codes.TheConstants.{CODE_BITS}
 use Rattle.elem_core.specs.declared.words.Name.{Name}
 use Rattle.elem_core.specs.Shown.{name_bytes}
 use Rattle.shell_words.specs.Number.{number_to}
-use Rattle.shell_options.specs.Options.{Text, PlainOptions, if_given, name_in, options_of, pair, together}
+use Rattle.shell_options.specs.Options.{Text, PlainOptions, if_given, most_count, name_in, options_of, pair, together}
 use Rattle.shell_options.specs.declared.Options.{Options}
 use Rattle.shell_options.specs.Shown.{ReadsWords, ReadsPart}
 use Rattle.shell_options.specs.declared.WordsFault.{WordsFault}
@@ -31,12 +31,12 @@ module _ (b o w c : Option Text) where
   seed_refused x f bs os e = rw (bs, os, e) refl
 
   pub count_refused : (x : Option ℕ) (f : Option Text) (s : Option ℕ) → if_given (number_to CODE_BITS) b ≡ Some x → if_given name_in o ≡ Some f
-      → if_given (number_to most64) w ≡ Some s → if_given (number_to 100000) c ≡ None → options_of b o w c ≡ None
+      → if_given (number_to most64) w ≡ Some s → if_given (number_to most_count) c ≡ None → options_of b o w c ≡ None
   unfolding options_of
   count_refused x f s bs os ws e = rw (bs, os, ws, e) refl
 
   pub all_read : (x : Option ℕ) (f : Option Text) (s n : Option ℕ) → if_given (number_to CODE_BITS) b ≡ Some x → if_given name_in o ≡ Some f
-      → if_given (number_to most64) w ≡ Some s → if_given (number_to 100000) c ≡ Some n → options_of b o w c ≡ together (unwrap_or x CODE_BITS) f s n
+      → if_given (number_to most64) w ≡ Some s → if_given (number_to most_count) c ≡ Some n → options_of b o w c ≡ together (unwrap_or x CODE_BITS) f s n
   unfolding options_of
   all_read x f s n bs os ws cs = rw (bs, os, ws, cs) refl
 

@@ -101,6 +101,10 @@ pub record PlainOptions : Type 0 where
   pub first : Option Text
   pub work : Option (ℕ × ℕ)
 
+-- The most commands that the program makes by itself, behind the eight that make buffers.
+abbrev pub most_count : ℕ
+most_count = 100000
+
 -- An option that isn't given, or one whose value reads.
 abbrev pub if_given : {A : Type 0} → (Text → Option A) → Option Text → Option (Option A)
 if_given read None = Some None
@@ -123,7 +127,7 @@ unfoldable pub options_of : Option Text → Option Text → Option Text → Opti
 options_of b o w c =
     option_and_then (λ bits. option_and_then (λ first. option_and_then (λ seed. option_and_then (λ count.
     together (unwrap_or bits CODE_BITS) first seed count)
-    (if_given (number_to 100000) c)) (if_given (number_to (2 ^ 64 - 1)) w)) (if_given name_in o)) (if_given (number_to CODE_BITS) b)
+    (if_given (number_to most_count) c)) (if_given (number_to (2 ^ 64 - 1)) w)) (if_given name_in o)) (if_given (number_to CODE_BITS) b)
 
 -- The same of options in the order of the words, each at most once.
 unfoldable pub options_given : Given → Option PlainOptions

@@ -9,7 +9,7 @@ use Rattle.clap.specs.declared.error.kind.ErrorKind.TheVariants.{OutOfMemory}
 use Rattle.shell_options.specs.declared.Options.{Options}
 use Rattle.shell_options.specs.declared.WordsFault.{WordsFault}
 use Rattle.shell_options.specs.declared.WordsFault.TheVariants.{Usage, Memory}
-use Rattle.shell_options.specs.Options.{Text, PlainOptions}
+use Rattle.shell_options.specs.Options.{Text, PlainOptions, most_count}
 
 -- The options with the file's name as its bytes.
 abbrev pub plain_options : Options → PlainOptions
@@ -24,7 +24,7 @@ ReadsWords asked (Err Memory) = ⊤
 -- A space takes so many bits, and the lines are as many as they may be.
 pub record AreBounded (o : Options) : Type 0 where
   pub bits : o.bits ≤ CODE_BITS
-  pub count : ForSome o.work (λ work. work.1 ≤ 100000)
+  pub count : ForSome o.work (λ work. work.1 ≤ most_count)
 
 -- What `ReadsWords` says, of a part of the options, for which no memory is taken, by what the answer shows.
 abbrev pub ReadsPart : {A X : Type 0} → (A → X) → Option X → Result A WordsFault → Type 0

@@ -7,7 +7,7 @@ ghost use Rattle.std.specs.List.{list_any};
 ghost use Rattle.elem_core.specs.Naming.{IsName};
 ghost use Rattle.elem_core.specs.Shown.{name_bytes};
 ghost use Rattle.shell_words.specs.Number.{number_to};
-ghost use Rattle.shell_options.specs.Options.{options, options_of, pair, if_given, name_in};
+ghost use Rattle.shell_options.specs.Options.{options, options_of, most_count, pair, if_given, name_in};
 ghost use Rattle.shell_options.specs.Split.{AreWords, IsWord, Splits, is_bare};
 ghost use Rattle.shell_options.specs.Shown.{ReadsWords, AreBounded, ReadsName, ReadsNumber, ReadsPair, CopiesName, fault_by};
 
@@ -19,6 +19,9 @@ use elem_core::{CODE_BITS, Name};
 use shell_words::read_number;
 use std::alloc::Global;
 use std::marker::Model;
+
+/// The most commands that the program makes by itself.
+const MOST_COUNT: u64 = 100_000;
 
 /// A file's name. Contracts see its bytes.
 #[derive(Debug, Drop)]
@@ -160,7 +163,7 @@ fn make_options(
     let bits = given_number(CODE_BITS as u64, bits)?;
     let name = given_name(document)?;
     let seed = given_number(u64::MAX, work)?;
-    let count = given_number(100_000, count)?;
+    let count = given_number(MOST_COUNT, count)?;
     let work = paired(name.is_some(), seed, count)?;
     let first = match name {
         Some(name) => Some(FileName::copied(alloc, name)?),
@@ -179,9 +182,9 @@ fn paired(
     seed: Option<u64>,
     count: Option<u64>,
 ) -> Result<Option<(u64, u32)>, WordsFault>
-    requires { ForSome count (λ n. n ≤ 100000) }
+    requires { ForSome count (λ n. n ≤ most_count) }
     ensures reads { ReadsPair (pair opens seed count) result }
-    ensures bound { IfOk result (λ given. ForSome given (λ work. work.1 ≤ 100000)) }
+    ensures bound { IfOk result (λ given. ForSome given (λ work. work.1 ≤ most_count)) }
 {
     let Some(seed) = seed else {
         return match count {

@@ -10,7 +10,7 @@ use Rattle.std.specs.declared.cmp.Ordering.TheVariants.{Less, Equal, Greater}
 use Rattle.std.specs.Cmp.Lexicographic.{nat_list_cmp_total}
 use Rattle.std.specs.FinMap as finite
 use Rattle.std.specs.FinMap.Entries as sorted
-use Rattle.elem_core.specs.declared.codes.TheConstants.{DEEPEST, LEVELS}
+use Rattle.elem_core.specs.declared.codes.TheConstants.{LEVELS}
 use Rattle.elem_core.specs.Cell.{IsCell}
 use Rattle.elem_core.specs.Codes.{text_code, masked_code}
 use Rattle.node_heap.specs.Links.{here}
@@ -43,7 +43,7 @@ use Rattle.state_rows.specs.InHeap.{AreLinesIn}
 use Rattle.state_rows.proofs.Staying.{states-stay}
 use Rattle.state_rows.proofs.Keys.{by_bytes}
 use Rattle.space_state.specs.declared.roots.RootedHeap.{RootedHeap}
-use Rattle.space_state.specs.declared.room.TheConstants.{EDIT_NODES}
+use Rattle.space_state.specs.declared.room.TheConstants.{EDIT_NODES, ERASE_NODES, SLICE_NODES, WRITTEN_NODES}
 use Rattle.space_state.specs.declared.undo_end.TheConstants.{TURN_NODES}
 use Rattle.space_state.specs.Roots.{Keeps}
 use Rattle.space_state.specs.InPlace.{IsInPlace, new_key}
@@ -476,17 +476,17 @@ alike-same same now name = λ i. alike_buffers (same.bits i) now name
 
 -- room was made and so were the lines: all that it takes to put them into their buffer
 pub can-put : {s t : RootedHeap} {new : Heap Bytes} {l c n : ℕ} {xs : List Bytes} {W : Workspace} {key : Option Bytes} (name : Bytes) → HasBufferRoom s t name W → IsMade t new [] l xs W c n → key ≡ new_key (lines_of W.current name) name → c ≤ 1 → n ≤ 78
-    → (V : Workspace) × (ys : List Bytes) × Keeps (record t { heap = new }) (l ∷ []) V × AreLinesIn new t.bits l ys × (key ≡ new_key (lines_of V.current name) name) × HasSpares new 1 (DEEPEST + 4 + TURN_NODES + alike_buffers t.bits V.current name)
+    → (V : Workspace) × (ys : List Bytes) × Keeps (record t { heap = new }) (l ∷ []) V × AreLinesIn new t.bits l ys × (key ≡ new_key (lines_of V.current name) name) × HasSpares new 1 (WRITTEN_NODES + TURN_NODES + alike_buffers t.bits V.current name)
 can-put {s} {t} {xs = xs} {W = W} name room m key few_cells few_nodes =
     (W, xs, m.keeps, m.lines, key, (omega (arith, m.cells, room.spares.0, few_cells), omega (arith, m.nodes, room.spares.1, few_nodes, alike-same room.same W.current name)))
 
 -- the lines were made where there was room for them, and the state turned to the one that has them
 pub lines-put : {s t u : RootedHeap} {new : Heap Bytes} {l c n : ℕ} {xs : List Bytes} {W : Workspace} (change : PlainEdit) (name : Bytes) → IsSame s t → IsMade t new [] l xs W c n
-    → edited W.current change ≡ Ok (with_lines W.current name xs) → TurnsTo (record t { heap = new }) u [] (DEEPEST + 5 + TURN_NODES + alike_buffers t.bits W.current name) (with_current W (with_lines W.current name xs))
-    → c + n + (DEEPEST + 5 + TURN_NODES + alike_buffers s.bits W.current name) ≤ edit_cost s.bits change W.current → (IsInPlace (edit change) → ⊥) → IsCarriedOut (edit change) s u W
+    → edited W.current change ≡ Ok (with_lines W.current name xs) → TurnsTo (record t { heap = new }) u [] (WRITTEN_NODES + 1 + TURN_NODES + alike_buffers t.bits W.current name) (with_current W (with_lines W.current name xs))
+    → c + n + (WRITTEN_NODES + 1 + TURN_NODES + alike_buffers s.bits W.current name) ≤ edit_cost s.bits change W.current → (IsInPlace (edit change) → ⊥) → IsCarriedOut (edit change) s u W
 lines-put {s} {t} {u} {new} {l} {c} {n} {xs} {W} change name same m made turn less apart =
-    let turned : TurnsTo (record t { heap = new }) u [] (DEEPEST + 5 + TURN_NODES + alike_buffers s.bits W.current name) (with_current W (with_lines W.current name xs)) =
-    subst (λ (k : ℕ). TurnsTo (record t { heap = new }) u [] (DEEPEST + 5 + TURN_NODES + alike_buffers k W.current name) (with_current W (with_lines W.current name xs))) same.bits turn in
+    let turned : TurnsTo (record t { heap = new }) u [] (WRITTEN_NODES + 1 + TURN_NODES + alike_buffers s.bits W.current name) (with_current W (with_lines W.current name xs)) =
+    subst (λ (k : ℕ). TurnsTo (record t { heap = new }) u [] (WRITTEN_NODES + 1 + TURN_NODES + alike_buffers k W.current name) (with_current W (with_lines W.current name xs))) same.bits turn in
     record {
       after = with_current W (with_lines W.current name xs);
       told = does W change (with_lines W.current name xs) made;
@@ -496,8 +496,8 @@ lines-put {s} {t} {u} {new} {l} {c} {n} {xs} {W} change name same m made turn le
 
 -- the same after room was made for an edit
 pub edit-done : {s t u : RootedHeap} {new : Heap Bytes} {l c n : ℕ} {xs : List Bytes} {W : Workspace} (change : PlainEdit) (name : Bytes) → HasBufferRoom s t name W → IsMade t new [] l xs W c n
-    → edited W.current change ≡ Ok (with_lines W.current name xs) → TurnsTo (record t { heap = new }) u [] (DEEPEST + 5 + TURN_NODES + alike_buffers t.bits W.current name) (with_current W (with_lines W.current name xs))
-    → c + n + (DEEPEST + 5 + TURN_NODES + alike_buffers s.bits W.current name) ≤ edit_cost s.bits change W.current → (IsInPlace (edit change) → ⊥) → IsCarriedOut (edit change) s u W
+    → edited W.current change ≡ Ok (with_lines W.current name xs) → TurnsTo (record t { heap = new }) u [] (WRITTEN_NODES + 1 + TURN_NODES + alike_buffers t.bits W.current name) (with_current W (with_lines W.current name xs))
+    → c + n + (WRITTEN_NODES + 1 + TURN_NODES + alike_buffers s.bits W.current name) ≤ edit_cost s.bits change W.current → (IsInPlace (edit change) → ⊥) → IsCarriedOut (edit change) s u W
 edit-done change name room m made turn less apart = lines-put change name room.same m made turn less apart
 
 -- room was made, and the state turned to the one in which the buffer is gone
@@ -538,15 +538,15 @@ has-parts {t} {mid} {new} {v} {k} {l} {n} {m} {xs} {W} from to K are a good item
 
 -- spares are left to put both into their buffers
 pub both-spares-left : {s t : RootedHeap} {new : Heap Bytes} {k l n : ℕ} {xs ys : List Bytes} {W : Workspace} (name other : Bytes) → IsSame s t → HasParts t new k l xs ys W n
-    → HasSpares t.heap 2 (EDIT_NODES + (alike_buffers s.bits W.current name + alike_buffers s.bits W.current other)) → n ≤ 67 → HasSpares new 2 (2 * DEEPEST + 9 + TURN_NODES + alike_buffers t.bits W.current name + alike_buffers t.bits W.current other)
+    → HasSpares t.heap 2 (EDIT_NODES + (alike_buffers s.bits W.current name + alike_buffers s.bits W.current other)) → n ≤ ERASE_NODES + SLICE_NODES → HasSpares new 2 (2 * WRITTEN_NODES + 1 + TURN_NODES + alike_buffers t.bits W.current name + alike_buffers t.bits W.current other)
 both-spares-left {s} {t} {W = W} name other same p spares few =
     (omega (arith, p.cells, spares.0), omega (arith, p.nodes, spares.1, few, alike-same same W.current name, alike-same same W.current other))
 
 -- room was made, the parts were made, and the state turned to the one that has them
 pub cut-done : {s t u : RootedHeap} {new : Heap Bytes} {k l n : ℕ} {xs ys : List Bytes} {W : Workspace} {name other : Bytes} (from to : ℕ) → IsSame s t → HasParts t new k l xs ys W n
     → edited W.current (cut name from to other) ≡ Ok (with_lines (with_lines W.current name xs) other ys)
-    → TurnsTo (record t { heap = new }) u [] (2 * DEEPEST + 11 + TURN_NODES + (alike_buffers t.bits W.current name + alike_buffers t.bits W.current other)) (with_current W (with_lines (with_lines W.current name xs) other ys))
-    → n ≤ 67 → IsCarriedOut (edit (cut name from to other)) s u W
+    → TurnsTo (record t { heap = new }) u [] (2 * WRITTEN_NODES + 3 + TURN_NODES + (alike_buffers t.bits W.current name + alike_buffers t.bits W.current other)) (with_current W (with_lines (with_lines W.current name xs) other ys))
+    → n ≤ ERASE_NODES + SLICE_NODES → IsCarriedOut (edit (cut name from to other)) s u W
 cut-done {s} {t} {u} {new} {n = n} {xs = xs} {ys = ys} {W = W} {name = name} {other = other} from to same p made turn few =
     record {
       after = with_current W (with_lines (with_lines W.current name xs) other ys);

@@ -12,6 +12,7 @@ use Rattle.shell_terms.specs.Edit.{Bytes, star, unstar}
 use Rattle.shell_terms.specs.Command.{Merging, PlainCommand, edit, merge, mark, unmark, back, undo, redo, begin, «end», abort, history}
 use Rattle.plain_space.specs.declared.refusal.Refusal.{Refusal}
 use Rattle.plain_space.specs.declared.refusal.Refusal.TheVariants.{Absent, Exists, Range, Limit, Batch, Empty, Memory}
+use Rattle.elem_core.specs.declared.codes.TheConstants.{LEVELS}
 use Rattle.plain_space.specs.Workspace.{State, Workspace, most, in_batch, is_starred, merged_with, last_of, undo_with, version_of, with_current}
 use Rattle.plain_space.specs.Refusing.{outside_batch, on_last, room}
 use Rattle.plain_space.specs.Edited.{edited}
@@ -141,7 +142,7 @@ module _ (W : Workspace) (name : Bytes) (kind : Merging) (x : State) (there : ve
   unfolding cost
   merge-costs bits = rw there refl
 
-  pub merge-needs : merge_nodes kind W name ≡ 13 * merge_size kind W.current x + 1
+  pub merge-needs : merge_nodes kind W name ≡ LEVELS * merge_size kind W.current x + 1
   merge-needs = rw there refl
 
 -- ## A step through the histories, and the answers to undo and redo

@@ -1,6 +1,7 @@
 -- For how many cells and how many nodes a command makes room, of which it makes no more.
 use Rattle.std.specs.Prelude.{ℕ, ◌+◌, ◌*◌, ◌/◌, [], length, Result, IfOk}
 use Rattle.std.specs.Option.{option_map_or}
+use Rattle.elem_core.specs.declared.codes.TheConstants.{LEVELS}
 use Rattle.node_heap.specs.Calls.{KeepsToNeed}
 use Rattle.shell_terms.specs.Edit.{Bytes, PlainEdit, new, add, set, put, del, cat, cut, copy, drop, star, unstar, fill}
 use Rattle.shell_terms.specs.Command.{Merging, PlainCommand, edit, merge, mark, unmark, back, undo, redo, «end», history}
@@ -38,9 +39,9 @@ edit_nodes bits (star name) now = EDIT_NODES + alike_stars bits now name
 edit_nodes bits (unstar name) now = EDIT_NODES + alike_stars bits now name
 edit_nodes bits (fill name lines) now = EDIT_NODES + (length lines / 16 + 8) + alike_buffers bits now name
 
--- the nodes of a merge with a version: thirteen for each star of the two states, or each buffer, and one
+-- the nodes of a merge with a version: a row of each depth for each star of the two states, or each buffer, and one
 abbrev pub merge_nodes : Merging → Workspace → Bytes → ℕ
-merge_nodes kind work version = option_map_or (λ other. 13 * merge_size kind work.current other + 1) (version_of work version) 0
+merge_nodes kind work version = option_map_or (λ other. LEVELS * merge_size kind work.current other + 1) (version_of work version) 0
 
 -- the same of every command
 abbrev pub cells_needed : PlainCommand → ℕ

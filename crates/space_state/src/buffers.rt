@@ -1,5 +1,5 @@
 //! The edits of buffers that make new lines beside the old ones, and put them in place of those; the edits of lines in place are in
-//! `in_place.rt`. Each looks for what refuses it, and makes room for all that it will make.
+//! `line_edits.rt`. Each looks for what refuses it, and makes room for all that it will make.
 ghost use Rattle.std.specs.Prelude.{◌≡◌, ◌≢◌, [], Err, IsSomeAnd, None, MatchResult};
 ghost use Rattle.elem_core.specs.Shown.{name_bytes, line_bytes};
 ghost use Rattle.shell_terms.specs.Edit.{put, del, cat, cut, copy, drop};

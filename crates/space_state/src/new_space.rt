@@ -23,9 +23,9 @@ impl RootedHeap {
         ensures keeps { IfOk result (λ s. Keeps s [] start) }
         ensures bits { IfOk result (λ s. s.bits ≡ bits) }
         ensures history { IfOk result (λ s. s.history ≡ most) }
-        ensures rows { IfOk result (λ s. live_count s.heap ≡ 6) }
-        ensures made { IfOk result (λ s. s.heap.made ≡ 6) }
-        ensures room { IfOk result (λ s. room_of s.heap ≡ record { cells = 0; nodes = 6 }) }
+        ensures rows { IfOk result (λ s. live_count s.heap ≡ START_NODES) }
+        ensures made { IfOk result (λ s. s.heap.made ≡ START_NODES) }
+        ensures room { IfOk result (λ s. room_of s.heap ≡ record { cells = 0; nodes = START_NODES }) }
     {
         let mut heap = Heap::new(alloc);
         heap.reserve(0, START_NODES)?;

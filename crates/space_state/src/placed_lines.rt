@@ -3,7 +3,6 @@
 //! owner and the whole way is copied. In a batch, and where undo keeps none, the way is copied once, where the base, a version or a
 //! history has it too, and written from then on.
 ghost use Rattle.std.specs.Prelude.{◌≡◌, ℕ, ◌+◌, ◌*◌, ◌<◌, ◌≤◌, List, [], ◌∷◌, length, Option, None};
-ghost use Rattle.elem_core.specs.declared.codes.TheConstants.{DEEPEST};
 ghost use Rattle.elem_core.specs.Shown.{name_bytes};
 ghost use Rattle.node_heap.specs.Heap.{HasSpares, row_limit};
 ghost use Rattle.node_heap.specs.Calls.{KeepsToNeed};
@@ -16,6 +15,7 @@ ghost use Rattle.space_state.specs.Roots.{Keeps};
 ghost use Rattle.space_state.specs.InPlace.{new_key};
 ghost use Rattle.space_state.specs.Turns.{TurnsTo, TurnsBeside};
 
+use crate::room::WRITTEN_NODES;
 use crate::roots::RootedHeap;
 use crate::undo_end::TURN_NODES;
 use elem_core::{Name, Text};
@@ -36,10 +36,10 @@ impl RootedHeap {
     /// Gives the buffer of the current state these lines, of which the caller's hold is spent: made by the key, or replaced.
     pub(crate) fn place_lines(&mut self, name: Name<'_>, key: Option<Text>, lines: Flex)
         requires { (b : List ℕ) × (W : Workspace) × (xs : List Bytes) × Keeps self.old (lines ∷ b) W × (length b ≤ 1) × AreLinesIn self.old.heap self.old.bits lines xs
-            × (key ≡ new_key (lines_of W.current (name_bytes name)) (name_bytes name)) × HasSpares self.old.heap 1 (DEEPEST + 4 + alike_buffers self.old.bits W.current (name_bytes name)) }
+            × (key ≡ new_key (lines_of W.current (name_bytes name)) (name_bytes name)) × HasSpares self.old.heap 1 (WRITTEN_NODES + alike_buffers self.old.bits W.current (name_bytes name)) }
         ensures turns { (b : List ℕ) (W : Workspace) (xs : List Bytes) → Keeps self.old (lines ∷ b) W → AreLinesIn self.old.heap self.old.bits lines xs →
             key ≡ new_key (lines_of W.current (name_bytes name.entry)) (name_bytes name.entry) →
-            TurnsBeside self.old self.new b 1 (DEEPEST + 4 + alike_buffers self.old.bits W.current (name_bytes name.entry)) (record W { current = with_lines W.current (name_bytes name.entry) xs }) }
+            TurnsBeside self.old self.new b 1 (WRITTEN_NODES + alike_buffers self.old.bits W.current (name_bytes name.entry)) (record W { current = with_lines W.current (name_bytes name.entry) xs }) }
         ensures spares { KeepsToNeed self.old.heap self.new.heap 0 0 }
     {
         let Some(key) = key else {
@@ -54,10 +54,10 @@ impl RootedHeap {
     /// Keeps the current state, and gives the buffer these lines, of which the caller's hold is spent: made by the key, or replaced.
     pub(crate) fn write_lines(&mut self, name: Name<'_>, key: Option<Text>, lines: Flex)
         requires { (W : Workspace) × (xs : List Bytes) × Keeps self.old (lines ∷ []) W × AreLinesIn self.old.heap self.old.bits lines xs
-            × (key ≡ new_key (lines_of W.current (name_bytes name)) (name_bytes name)) × HasSpares self.old.heap 1 (DEEPEST + 4 + TURN_NODES + alike_buffers self.old.bits W.current (name_bytes name)) }
+            × (key ≡ new_key (lines_of W.current (name_bytes name)) (name_bytes name)) × HasSpares self.old.heap 1 (WRITTEN_NODES + TURN_NODES + alike_buffers self.old.bits W.current (name_bytes name)) }
         ensures turns { (W : Workspace) (xs : List Bytes) → Keeps self.old (lines ∷ []) W → AreLinesIn self.old.heap self.old.bits lines xs →
             key ≡ new_key (lines_of W.current (name_bytes name.entry)) (name_bytes name.entry) →
-            TurnsTo self.old self.new [] (DEEPEST + 5 + TURN_NODES + alike_buffers self.old.bits W.current (name_bytes name.entry)) (with_current W (with_lines W.current (name_bytes name.entry) xs)) }
+            TurnsTo self.old self.new [] (WRITTEN_NODES + 1 + TURN_NODES + alike_buffers self.old.bits W.current (name_bytes name.entry)) (with_current W (with_lines W.current (name_bytes name.entry) xs)) }
         ensures spares { KeepsToNeed self.old.heap self.new.heap 0 0 }
     {
         self.keep_current();
@@ -76,10 +76,10 @@ impl RootedHeap {
     )
         requires { (W : Workspace) × (xs ys : List Bytes) × Keeps self.old (rest ∷ part ∷ []) W × AreLinesIn self.old.heap self.old.bits rest xs × AreLinesIn self.old.heap self.old.bits part ys
             × (None ≡ new_key (lines_of W.current (name_bytes name)) (name_bytes name)) × (key ≡ new_key (lines_of W.current (name_bytes other)) (name_bytes other))
-            × HasSpares self.old.heap 2 (2 * DEEPEST + 9 + TURN_NODES + alike_buffers self.old.bits W.current (name_bytes name) + alike_buffers self.old.bits W.current (name_bytes other)) }
+            × HasSpares self.old.heap 2 (2 * WRITTEN_NODES + 1 + TURN_NODES + alike_buffers self.old.bits W.current (name_bytes name) + alike_buffers self.old.bits W.current (name_bytes other)) }
         ensures turns { (W : Workspace) (xs ys : List Bytes) → Keeps self.old (rest ∷ part ∷ []) W → AreLinesIn self.old.heap self.old.bits rest xs → AreLinesIn self.old.heap self.old.bits part ys →
             None ≡ new_key (lines_of W.current (name_bytes name.entry)) (name_bytes name.entry) → key ≡ new_key (lines_of W.current (name_bytes other.entry)) (name_bytes other.entry) →
-            TurnsTo self.old self.new [] (2 * DEEPEST + 11 + TURN_NODES + (alike_buffers self.old.bits W.current (name_bytes name.entry) + alike_buffers self.old.bits W.current (name_bytes other.entry)))
+            TurnsTo self.old self.new [] (2 * WRITTEN_NODES + 3 + TURN_NODES + (alike_buffers self.old.bits W.current (name_bytes name.entry) + alike_buffers self.old.bits W.current (name_bytes other.entry)))
             (with_current W (with_lines (with_lines W.current (name_bytes name.entry) xs) (name_bytes other.entry) ys)) }
         ensures spares { KeepsToNeed self.old.heap self.new.heap 0 0 }
     {

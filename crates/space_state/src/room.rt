@@ -10,17 +10,25 @@ ghost use Rattle.space_state.specs.Turns.{MakesRoom};
 
 use crate::roots::RootedHeap;
 use crate::undo_end::TURN_NODES;
-use elem_core::{DEEPEST, Line, Name, NoMemory, Text, text_of};
+use champ_kinds::INSERT_NODES;
+use elem_core::{Line, Name, NoMemory, Text, text_of};
 use plain_space::Refusal;
-use rrb_core::FlexRef;
+use rrb_core::{FlexRef, TAKE_NODES};
+use rrb_join::SEAM_NODES;
 
 /// The nodes for which room is made before an edit that makes new lines or stars, besides one for each name whose code is alike:
-/// those of the edit that makes most, which erases lines of a buffer (42), gives them to another as a slice (25), writes both
-/// names (at most `WRITTEN_NODES` each, and 1 for the first among the names of the second), and keeps the state that there was.
-pub(crate) const EDIT_NODES: usize = 42 + 25 + 2 * WRITTEN_NODES + 1 + TURN_NODES;
+/// those of the edit that makes most, which erases lines of a buffer, gives them to another as a slice, writes both names (and 1 for
+/// the first among the names of the second), and keeps the state that there was.
+pub(crate) const EDIT_NODES: usize = ERASE_NODES + SLICE_NODES + 2 * WRITTEN_NODES + 1 + TURN_NODES;
 
-/// The nodes of a name that is written: a trie row of each depth, a node that makes two of one, a pair and a state.
-const WRITTEN_NODES: usize = DEEPEST as usize + 4;
+/// The nodes that an erase of lines reserves: those of its front, of its back, and of the seam.
+const ERASE_NODES: usize = TAKE_NODES + 2 * SEAM_NODES;
+
+/// The nodes that a slice reserves: those of a front, and of its end.
+const SLICE_NODES: usize = TAKE_NODES + SEAM_NODES;
+
+/// The nodes of a name that is written, besides one for each name that is alike: those of an insert, and a state.
+pub(crate) const WRITTEN_NODES: usize = INSERT_NODES + 1;
 
 impl RootedHeap {
     /// Makes room for an edit: for two cells, for `EDIT_NODES` nodes, and for so many more: one for each name with the masked code of

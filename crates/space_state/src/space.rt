@@ -16,10 +16,13 @@ ghost use Rattle.space_state.specs.View.{Ends, TakesPool, start_view};
 
 use crate::lines::SpaceLines;
 use crate::roots::RootedHeap;
+use crate::undo_end::TURN_NODES;
+use crate::undo_redo::{HISTORY_NODES, REDO_NODES, UNDO_NODES};
 use elem_core::{CODE_BITS, Name, NoMemory, Text, Texts};
 use plain_space::{Edit, Refusal};
 use pool_check::Checked;
 use pool_text::Pool;
+use state_rows::{EMPTIED_NODES, PUSHED_NODES};
 use std::alloc::Global;
 use std::marker::Model;
 
@@ -76,7 +79,7 @@ impl Space {
     /// redo holds 2^32 - 1 states, and last `Memory` where memory runs out. It makes at most 17 rows.
     pub fn undo(&mut self) -> Result<(), Refusal>
         ensures ends { Ends undo self.old result self.new }
-        ensures made { self.new.made ≤ self.old.made + 17 }
+        ensures made { self.new.made ≤ self.old.made + UNDO_NODES }
     {
         self.rows.undo()
     }
@@ -85,8 +88,8 @@ impl Space {
     /// where memory runs out. It makes at most 34 rows, and at most 17 where undo has fewer states than its bound.
     pub fn redo(&mut self) -> Result<(), Refusal>
         ensures ends { Ends redo self.old result self.new }
-        ensures made { self.new.made ≤ self.old.made + 34 }
-        ensures below { (W : Workspace) → StandsFor self.old.pool W → length W.undo < W.history → self.new.made ≤ self.old.made + 17 }
+        ensures made { self.new.made ≤ self.old.made + REDO_NODES }
+        ensures below { (W : Workspace) → StandsFor self.old.pool W → length W.undo < W.history → self.new.made ≤ self.old.made + UNDO_NODES }
     {
         self.rows.redo()
     }
@@ -112,8 +115,8 @@ impl Space {
     /// its bound.
     pub fn back(&mut self, version: Name<'_>) -> Result<(), Refusal>
         ensures ends { Ends (back (name_bytes version.entry)) self.old result self.new }
-        ensures made { self.new.made ≤ self.old.made + 27 }
-        ensures below { (W : Workspace) → StandsFor self.old.pool W → length W.undo < W.history → self.new.made ≤ self.old.made + 10 }
+        ensures made { self.new.made ≤ self.old.made + TURN_NODES }
+        ensures below { (W : Workspace) → StandsFor self.old.pool W → length W.undo < W.history → self.new.made ≤ self.old.made + (PUSHED_NODES + EMPTIED_NODES) }
     {
         self.rows.back(version)
     }
@@ -132,8 +135,8 @@ impl Space {
     /// out. It makes at most 27 rows, and at most 10 where undo has fewer states than its bound.
     pub fn end(&mut self) -> Result<(), Refusal>
         ensures ends { Ends «end» self.old result self.new }
-        ensures made { self.new.made ≤ self.old.made + 27 }
-        ensures below { (W : Workspace) → StandsFor self.old.pool W → length W.undo < W.history → self.new.made ≤ self.old.made + 10 }
+        ensures made { self.new.made ≤ self.old.made + TURN_NODES }
+        ensures below { (W : Workspace) → StandsFor self.old.pool W → length W.undo < W.history → self.new.made ≤ self.old.made + (PUSHED_NODES + EMPTIED_NODES) }
     {
         self.rows.end()
     }
@@ -152,7 +155,7 @@ impl Space {
     /// batch, else `Memory` where memory runs out. It makes at most 17 rows, and none where undo has no more states than this.
     pub fn history(&mut self, count: u32) -> Result<(), Refusal>
         ensures ends { Ends (history count) self.old result self.new }
-        ensures made { self.new.made ≤ self.old.made + 17 }
+        ensures made { self.new.made ≤ self.old.made + HISTORY_NODES }
         ensures within { (W : Workspace) → StandsFor self.old.pool W → length W.undo ≤ count → self.new.made ≡ self.old.made }
     {
         self.rows.set_history(count)
@@ -230,6 +233,7 @@ impl Space {
         ensures version { self.now.pool.version ≡ PRESENT_VERSION }
         ensures valid { IsValid self.now.pool }
         ensures history { self.now.pool.history ≤ most }
+        ensures bits { self.now.pool.bits ≤ CODE_BITS }
     {
         self.rows.pool(alloc)
     }

@@ -15,6 +15,7 @@ use Rattle.std.proofs.lemmas.Str.Parse.{digit_from_value}
 use Rattle.std.proofs.lemmas.List.Folds.{list_all-append}
 use Rattle.std.proofs.lemmas.List.Elements.{All-contains}
 use Rattle.std.proofs.lemmas.Bool.Decides.{nat_tests}
+use Rattle.elem_core.specs.declared.TheConstants.{MAX_LINE}
 use Rattle.elem_core.specs.Cell.{IsCell}
 use Rattle.elem_core.specs.Naming.{IsName, is_name_byte}
 use Rattle.shell_terms.specs.Command.{PlainCommand}
@@ -183,14 +184,14 @@ line_ascii (c ∷ cs) passes zero =
     omega (arith, high)
 line_ascii (c ∷ cs) passes (suc i) = line_ascii cs (and_parts (is_line_byte c) (list_all is_line_byte cs) passes).1 i
 
-line_cell : (most : ℕ) (bytes : List ℕ) → most ≤ 65536 → IsPart most bytes → IsCell bytes
+line_cell : (most : ℕ) (bytes : List ℕ) → most ≤ MAX_LINE → IsPart most bytes → IsCell bytes
 line_cell most bytes few part = record {
   unbroken = λ (broken : Contains bytes 10). false≢true (All-contains (λ c. is_line_byte c ≡ true) bytes 10 (AllPass-from_list_all is_line_byte bytes part.bytes_pass) broken);
   short = let short = part.short in omega (arith, short);
 }
 
 -- A line of a word of the grammar, and of what the rest of the line means.
-pub line-of : (most : ℕ) (line word : List ℕ) (read : RestMeaning) (command : PlainCommand) → most ≤ 65536 → IsPart most line → first_piece line ≡ word
+pub line-of : (most : ℕ) (line word : List ℕ) (read : RestMeaning) (command : PlainCommand) → most ≤ MAX_LINE → IsPart most line → first_piece line ≡ word
     → lookup (bytes_eq word) commands ≡ Some read → read (after_piece line) ≡ Ok command → IsTrue (is_made command) → IsLineOf line command
 line-of most line word read command few part first found reads made = record {
   cell = line_cell most line few part;
@@ -199,7 +200,7 @@ line-of most line word read command few part first found reads made = record {
 }
 
 -- a word with more behind it
-pub word-line : (most : ℕ) (word rest : List ℕ) (read : RestMeaning) (command : PlainCommand) → Unspaced word → most ≤ 65525 → length word ≤ 10 → list_all is_line_byte word ≡ true
+pub word-line : (most : ℕ) (word rest : List ℕ) (read : RestMeaning) (command : PlainCommand) → Unspaced word → most + 11 ≤ MAX_LINE → length word ≤ 10 → list_all is_line_byte word ≡ true
     → IsPart most rest → lookup (bytes_eq word) commands ≡ Some read → read (Some rest) ≡ Ok command → IsTrue (is_made command) → IsLineOf (word ++ 32 ∷ rest) command
 word-line most word rest read command un few short passes part found reads made =
     line-of (10 + (1 + most)) (word ++ 32 ∷ rest) word read command (omega arith) (part-joined 10 most word rest (record { bytes_pass = passes; short = short }) part)

@@ -1,14 +1,17 @@
 //! A line in a buffer of fixed size, which the next line is made in again.
 
-ghost use Rattle.std.specs.Prelude.{◌≡◌, ℕ, ◌+◌, ◌<◌, ◌≤◌, List, [], ◌++◌, length};
+ghost use Rattle.std.specs.Prelude.{◌≡◌, ℕ, ◌+◌, ◌^◌, ◌<◌, ◌≤◌, List, [], ◌++◌, length};
 ghost use Rattle.std.specs.Fmt.{decimal};
 ghost use Rattle.work_lines.specs.Lines.{line_of, line_by, new_line};
 
 use arrayvec::ArrayVec;
 use itoa::Buffer;
 
-// More bytes than such a line has.
-const LONGEST: usize = 80;
+// The most bytes of a word and the number behind it: 6 and 20.
+const PART: usize = 26;
+
+// The most bytes of a line, which has at most three such parts.
+const LONGEST: usize = 3 * PART;
 
 #[derive(Drop)]
 pub(crate) struct MadeLine {
@@ -55,7 +58,7 @@ impl MadeLine {
     // Makes it the line of a kind, two buffers and a size.
     #[tactic(auto, unfolding(crate::specs::Lines::line_by))]
     fn make_by(&mut self, kind: u64, a: u64, b: u64, n: u64)
-        requires { n < 4194304 }
+        requires { n < 2 ^ 22 }
         ensures { self.new.bytes.items ≡ line_by kind a b n }
     {
         self.bytes.clear();
@@ -95,7 +98,7 @@ impl MadeLine {
 
     // Puts bytes at the end.
     fn put_word(&mut self, word: &[u8])
-        requires { length self.old.bytes.items + length word.now ≤ 80 }
+        requires { length self.old.bytes.items + length word.now ≤ LONGEST }
         ensures { self.new.bytes.items ≡ self.old.bytes.items ++ word.now }
     {
         self.bytes.try_extend_from_slice(word).unwrap();
@@ -104,9 +107,9 @@ impl MadeLine {
     // Puts bytes and a number at the end.
     fn put(&mut self, word: &[u8], number: u64)
         requires small { length word.now ≤ 6 }
-        requires room { length self.old.bytes.items ≤ 54 }
+        requires room { length self.old.bytes.items + PART ≤ LONGEST }
         ensures put { self.new.bytes.items ≡ self.old.bytes.items ++ word.now ++ decimal number }
-        ensures grown { length self.new.bytes.items ≤ length self.old.bytes.items + 26 }
+        ensures grown { length self.new.bytes.items ≤ length self.old.bytes.items + PART }
     {
         let mut digits = Buffer::new();
         self.put_word(word);

@@ -9,7 +9,7 @@ use Rattle.ewig_shell.proofs.chained.chain_of.Goals as goal
 pub returns-in_err-first-clause-fault : goal.returns-in_err-first-clause-fault
 returns-in_err-first-clause-fault g c =
     let held = g.D.Store.held c.args.store.now in
-    untaken-at held held (name_bytes c.args.file) c.as_str.result.now 0 c.args.count [] 67108864 c.in_err-first.field-0.0 c.from_residual.result refl (none-taken held (name_bytes c.args.file)) refl (omega (arith, c.requires.some))
+    untaken-at held held (name_bytes c.args.file) c.as_str.result.now 0 c.args.count [] most_stored c.in_err-first.field-0.0 c.from_residual.result refl (none-taken held (name_bytes c.args.file)) refl (omega (arith, c.requires.some))
     c.as_str.ensures.shown c.in_err-first.ensures.fault c.from_residual.ensures.1
 
 pub loop-number-init : goal.loop-number-init
@@ -19,8 +19,8 @@ loop-number-init g c =
     let many : c.len-room.result ≡ length bytes = search rules in
     record {
       files = bytes ∷ [];
-      fetched = taken-at held held (name_bytes c.args.file) c.as_str.result.now 0 [] 67108864 bytes refl (none-taken held (name_bytes c.args.file)) refl c.as_str.ensures.shown c.in_ok-first.ensures.taken c.in_ok-first.ensures.few;
-      left = subst (λ (n : ℕ). 67108864 - n + total (bytes ∷ []) ≡ most_stored) (sym many) (left-then [] 67108864 bytes refl c.in_ok-first.ensures.few);
+      fetched = taken-at held held (name_bytes c.args.file) c.as_str.result.now 0 [] most_stored bytes refl (none-taken held (name_bytes c.args.file)) refl c.as_str.ensures.shown c.in_ok-first.ensures.taken c.in_ok-first.ensures.few;
+      left = subst (λ (n : ℕ). most_stored - n + total (bytes ∷ []) ≡ most_stored) (sym many) (left-then [] most_stored bytes refl c.in_ok-first.ensures.few);
       read = subst (λ (w : List ℕ). IsReadAs c.args.bits (w ∷ []) c.chain_start-found.result) c.deref.ensures.value
           (reads-first c.args.bits c.deref.result.now c.chain_start-found.result c.chain_start-found.ensures.chain c.chain_start-found.ensures.is_chain c.chain_start-found.ensures.bits c.chain_start-found.ensures.whole c.chain_start-found.ensures.damage);
       same = c.taken_file.ensures.same;

@@ -28,5 +28,5 @@ returns g c =
     let lines = c.dedent_keeps_lines.ensures present_rules c.args.space.now.pool c.args.count c.in_ok-pool.ensures.valid in
     Pool-ended (mapped (dedented c.args.count) c.args.space.now.pool) c.in_ok-moved.moved c.keep_pool.result
     (c.in_ok-moved.ensures ∙ ap (λ (P : Pool). mapped (dedented c.from.result) P) c.in_ok-pool.ensures.value ∙ ap (λ (n : ℕ). mapped (dedented n) c.args.space.now.pool) c.from.ensures)
-    (mapped-storable (dedented c.args.count) c.args.space.now.pool c.in_batch.ensures.0 c.mapped_is_valid.ensures c.in_batch.ensures.1 free c.bits_are_few.ensures c.in_ok-pool.ensures.valid c.in_ok-pool.ensures.history lines)
+    (mapped-storable (dedented c.args.count) c.args.space.now.pool c.in_batch.ensures.0 c.mapped_is_valid.ensures c.in_batch.ensures.1 free c.in_ok-pool.ensures.bits c.in_ok-pool.ensures.valid c.in_ok-pool.ensures.history lines)
     (dedent-stores c.in_batch.ensures.0 c.args.count (name_bytes c.args.file) free c.if-count-gt-MOST_SPACES.false c.in_batch.ensures.1) c.keep_pool.ensures.keeps c.keep_pool.ensures.reads

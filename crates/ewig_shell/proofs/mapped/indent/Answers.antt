@@ -22,7 +22,7 @@ returns-in_err-pool g c = indent-lacks c.in_batch.ensures.0 c.args.count (name_b
 pub returns-in_err-moved : goal.returns-in_err-moved
 returns-in_err-moved g c =
     indent-refused c.in_batch.ensures.0 c.args.count (name_bytes c.args.file) (sym c.in_batch.ensures.2 ∙ c.if-in_batch.false) c.args.space.now c.if-count-gt-MOST_SPACES.false c.in_batch.ensures.1
-    c.indent_needs_room.ensures c.bits_are_few.ensures c.in_ok-pool.ensures.valid c.in_err-moved.field-0.0 c.from_residual-in_err-moved.result
+    c.indent_needs_room.ensures c.in_ok-pool.ensures.bits c.in_ok-pool.ensures.valid c.in_err-moved.field-0.0 c.from_residual-in_err-moved.result
     (λ is lines. c.in_err-moved.ensures.long is (subst (λ (n : ℕ). KeepsCells (indented n) c.in_ok-pool.pool) (sym c.from.ensures) (subst (λ (P : Pool). KeepsCells (indented c.args.count) P) (sym c.in_ok-pool.ensures.value) lines))) c.from_residual-in_err-moved.ensures.1
 
 pub returns : goal.returns
@@ -33,6 +33,6 @@ returns g c =
     subst (λ (P : Pool). KeepsCells (indented c.args.count) P) same (subst (λ (n : ℕ). KeepsCells (indented n) c.in_ok-pool.pool) c.from.ensures c.in_ok-moved.ensures.lines) in
     Pool-ended (mapped (indented c.args.count) c.args.space.now.pool) c.in_ok-moved.moved c.keep_pool.result
     (c.in_ok-moved.ensures.mapped ∙ ap (λ (P : Pool). mapped (indented c.from.result) P) same ∙ ap (λ (n : ℕ). mapped (indented n) c.args.space.now.pool) c.from.ensures)
-    (mapped-storable (indented c.args.count) c.args.space.now.pool c.in_batch.ensures.0 c.mapped_is_valid.ensures c.in_batch.ensures.1 free c.bits_are_few.ensures c.in_ok-pool.ensures.valid c.in_ok-pool.ensures.history lines)
+    (mapped-storable (indented c.args.count) c.args.space.now.pool c.in_batch.ensures.0 c.mapped_is_valid.ensures c.in_batch.ensures.1 free c.in_ok-pool.ensures.bits c.in_ok-pool.ensures.valid c.in_ok-pool.ensures.history lines)
     (indent-stores c.in_batch.ensures.0 c.args.count (name_bytes c.args.file) free c.args.space.now c.if-count-gt-MOST_SPACES.false c.in_batch.ensures.1
-    c.indent_needs_room.ensures c.bits_are_few.ensures c.in_ok-pool.ensures.valid lines) c.keep_pool.ensures.keeps c.keep_pool.ensures.reads
+    c.indent_needs_room.ensures c.in_ok-pool.ensures.bits c.in_ok-pool.ensures.valid lines) c.keep_pool.ensures.keeps c.keep_pool.ensures.reads

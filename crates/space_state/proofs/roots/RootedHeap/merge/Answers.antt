@@ -1,6 +1,5 @@
 use Rattle.std.proofs.Common.{◌≡◌, ℕ, ◌+◌, ◌*◌, [], refl, ap, sym, subst, ◌∙◌, arith}
 use Rattle.elem_core.specs.Shown.{name_bytes}
-use Rattle.elem_core.specs.declared.codes.TheConstants.{DEEPEST}
 use Rattle.shell_terms.specs.Command.{merge}
 use Rattle.plain_space.specs.Workspace.{State, Workspace, merged_with, with_current}
 use Rattle.plain_space.specs.Cost.{merge_size}
@@ -9,6 +8,7 @@ use Rattle.state_rows.specs.InHeap.{IsStateIn}
 use Rattle.state_rows.specs.Merging.{plain_kind, merge_rows}
 use Rattle.state_rows.proofs.Room.{room-then}
 use Rattle.state_rows.proofs.TwoStates.{rows-same}
+use Rattle.space_state.specs.declared.room.TheConstants.{EDIT_NODES}
 use Rattle.space_state.specs.Roots.{Keeps}
 use Rattle.space_state.specs.Turns.{IsSame, TurnsTo}
 use Rattle.space_state.specs.Needed.{merge_nodes}
@@ -113,5 +113,5 @@ returns-clause-spares c = λ W K.
     let there = some-there (IsStateIn c.args.self.now.heap c.args.self.now.bits) (c.version.ensures W K) c.in-Some.is in
     let few = c.merge_need-rows.ensures.few W.current there.0 (current-stands K) there.2 in
     let needs = merge-needs W (name_bytes c.args.version) (plain_kind c.args.kind) there.0 there.1 in
-    room-more 2 (2 * DEEPEST + 103 + merge_nodes (plain_kind c.args.kind) W (name_bytes c.args.version)) (omega arith) (omega (arith, few, needs))
+    room-more 2 (EDIT_NODES + merge_nodes (plain_kind c.args.kind) W (name_bytes c.args.version)) (omega arith) (omega (arith, few, needs))
     (room-then (room-then c.in_ok-make_room_with.ensures.spares c.merged-next.ensures.spares) c.turn_to.ensures.spares)

@@ -1,10 +1,10 @@
 use Rattle.std.proofs.Common.{◌≡◌, ◌+◌, List, [], ◌∷◌, Some, None, sym, subst, ◌∙◌, arith}
-use Rattle.elem_core.specs.declared.codes.TheConstants.{DEEPEST}
 use Rattle.elem_core.specs.Naming.{IsName}
 use Rattle.elem_core.specs.Shown.{name_bytes}
 use Rattle.shell_terms.specs.Edit.{Bytes}
 use Rattle.plain_space.specs.Workspace.{Workspace, lines_of}
 use Rattle.plain_space.specs.Cost.{alike_buffers}
+use Rattle.space_state.specs.declared.room.TheConstants.{WRITTEN_NODES}
 use Rattle.space_state.specs.InPlace.{new_key}
 use Rattle.space_state.proofs.Keeping.{holds-few, current-holds, current-stands, fewer-holds}
 use Rattle.space_state.proofs.Placing.{key-none, key-some, lines-placed}
@@ -38,7 +38,7 @@ returns-in_default-clause-turns c = λ b W xs K are key.
     let there = there (goal.at.returns-in_default-clause-turns c).In_default W key in
     let did = c.lines_put-state.ensures in
     let is = current-stands K in
-    lines-placed 1 (DEEPEST + 4 + alike_buffers c.args.self.now.bits W.current (name_bytes c.args.name)) K did.keeps (did.trades W.current there.0 is there.1) (did.state W.current there.0 xs is there.1 are) (omega arith) (omega arith)
+    lines-placed 1 (WRITTEN_NODES + alike_buffers c.args.self.now.bits W.current (name_bytes c.args.name)) K did.keeps (did.trades W.current there.0 is there.1) (did.state W.current there.0 xs is there.1 are) (omega arith) (omega arith)
 
 -- ## A buffer is made
 
@@ -71,7 +71,7 @@ returns-clause-turns c = λ b W xs K are key.
     let made = made (goal.at.returns-clause-turns c).In-Some W key in
     let did = rw made.1 at c.buffer_made-state.ensures in
     let is = current-stands K in
-    lines-placed 1 (DEEPEST + 4 + alike_buffers c.args.self.now.bits W.current (name_bytes c.args.name)) K did.keeps (did.trades W.current is) (did.state W.current xs is are) (omega arith) (omega arith)
+    lines-placed 1 (WRITTEN_NODES + alike_buffers c.args.self.now.bits W.current (name_bytes c.args.name)) K did.keeps (did.trades W.current is) (did.state W.current xs is are) (omega arith) (omega arith)
 
 pub returns-in_default-clause-spares : goal.returns-in_default-clause-spares
 returns-in_default-clause-spares c = c.lines_put-state.ensures.spares

@@ -1,10 +1,10 @@
 use Rattle.std.proofs.Common.{◌≡◌, ℕ, ◌+◌, ◌-◌, ◌*◌, List, [], ◌∷◌, None, sym, subst, ◌∙◌, arith}
-use Rattle.elem_core.specs.declared.codes.TheConstants.{DEEPEST}
 use Rattle.elem_core.specs.Shown.{name_bytes}
 use Rattle.shell_terms.specs.Edit.{Bytes}
 use Rattle.plain_space.specs.Workspace.{State, Workspace, lines_of, with_lines}
 use Rattle.plain_space.specs.Cost.{alike_buffers}
 use Rattle.state_rows.specs.InHeap.{AreLinesIn}
+use Rattle.space_state.specs.declared.room.TheConstants.{WRITTEN_NODES}
 use Rattle.space_state.specs.Roots.{Keeps}
 use Rattle.space_state.specs.declared.undo_end.TheConstants.{TURN_NODES}
 use Rattle.space_state.specs.InPlace.{current_kept, new_key}
@@ -32,7 +32,7 @@ first_state c W xs = with_lines W.current (name_bytes c.args.name) xs
 -- the first buffer has its lines
 first : (c : After-place_lines) (W : Workspace) (xs : List Bytes) → Keeps c.args.self.now (c.args.rest ∷ c.args.part ∷ []) W → AreLinesIn c.args.self.now.heap c.args.self.now.bits c.args.rest xs
     → None ≡ new_key (lines_of W.current (name_bytes c.args.name)) (name_bytes c.args.name)
-    → TurnsBeside c.keep_current.new.self c.place_lines.new.self (c.args.part ∷ []) 1 (DEEPEST + 4 + alike_buffers c.keep_current.new.self.bits W.current (name_bytes c.args.name)) (record (current_kept W) { current = first_state c W xs })
+    → TurnsBeside c.keep_current.new.self c.place_lines.new.self (c.args.part ∷ []) 1 (WRITTEN_NODES + alike_buffers c.keep_current.new.self.bits W.current (name_bytes c.args.name)) (record (current_kept W) { current = first_state c W xs })
 first c W xs K are none =
     let kept = kept (goal.at.After-place_lines c).After-keep_current W K in
     c.place_lines.ensures.turns (c.args.part ∷ []) (current_kept W) xs kept.turns.keeps (lines-beside kept (first-counts c.args.rest (c.args.part ∷ [])) are) none
@@ -106,11 +106,11 @@ returns-clause-turns c = λ W xs ys K are also none key.
     let first = first path W xs K are none in
     let state = with_lines (first_state path W xs) other ys in
     let alike : ℕ = alike_buffers c.place_lines.new.self.bits (first_state path W xs) other in
-    let placed : TurnsTo c.place_lines.new.self c.place_lines-2.new.self [] (1 + (DEEPEST + 4 + alike)) (record (current_kept W) { current = state }) =
+    let placed : TurnsTo c.place_lines.new.self c.place_lines-2.new.self [] (1 + (WRITTEN_NODES + alike)) (record (current_kept W) { current = state }) =
     (c.place_lines-2.ensures.turns [] (record (current_kept W) { current = first_state path W xs }) ys first.turns.keeps (part-lines path W xs ys K are also none) (other-key path W xs none key)).turns in
-    let all = 2 * DEEPEST + 11 + TURN_NODES + (alike_buffers c.args.self.now.bits W.current name + alike_buffers c.args.self.now.bits W.current other) in
+    let all = 2 * WRITTEN_NODES + 3 + TURN_NODES + (alike_buffers c.args.self.now.bits W.current name + alike_buffers c.args.self.now.bits W.current other) in
     turns-then all kept.turns
-    (turns-then (all - TURN_NODES) first.turns (subst (λ (V : Workspace). TurnsTo c.place_lines.new.self c.place_lines-2.new.self [] (1 + (DEEPEST + 4 + alike)) V) (then-current W state) placed) (omega (
+    (turns-then (all - TURN_NODES) first.turns (subst (λ (V : Workspace). TurnsTo c.place_lines.new.self c.place_lines-2.new.self [] (1 + (WRITTEN_NODES + alike)) V) (then-current W state) placed) (omega (
       arith,
       alike-turned kept.turns W.current name,
       alike-turned kept.turns (first_state path W xs) other,

@@ -1,8 +1,8 @@
 use Rattle.std.proofs.Common.{ℕ, ◌+◌, [], ◌∷◌, subst, arith}
-use Rattle.elem_core.specs.declared.codes.TheConstants.{DEEPEST}
 use Rattle.elem_core.specs.Shown.{name_bytes}
 use Rattle.plain_space.specs.Workspace.{Workspace, with_lines}
 use Rattle.plain_space.specs.Cost.{alike_buffers}
+use Rattle.space_state.specs.declared.room.TheConstants.{WRITTEN_NODES}
 use Rattle.space_state.specs.declared.undo_end.TheConstants.{TURN_NODES}
 use Rattle.space_state.specs.InPlace.{current_kept}
 use Rattle.space_state.specs.Turns.{TurnsTo}
@@ -38,10 +38,10 @@ returns-clause-turns c = λ W xs K are key.
     let name = name_bytes c.args.name in
     let kept = c.keep_current.ensures.turns (c.args.lines ∷ []) W K in
     let alike : ℕ = alike_buffers c.keep_current.new.self.bits W.current name in
-    let placed : TurnsTo c.keep_current.new.self c.place_lines.new.self [] (1 + (DEEPEST + 4 + alike)) (record (current_kept W) { current = with_lines W.current name xs }) =
+    let placed : TurnsTo c.keep_current.new.self c.place_lines.new.self [] (1 + (WRITTEN_NODES + alike)) (record (current_kept W) { current = with_lines W.current name xs }) =
     (c.place_lines.ensures.turns [] (current_kept W) xs kept.turns.keeps (lines-beside kept (first-counts c.args.lines []) are) key).turns in
-    turns-then (DEEPEST + 5 + TURN_NODES + alike_buffers c.args.self.now.bits W.current name) kept.turns
-    (subst (λ (V : Workspace). TurnsTo c.keep_current.new.self c.place_lines.new.self [] (1 + (DEEPEST + 4 + alike)) V) (then-current W (with_lines W.current name xs)) placed) (omega (arith, alike-turned kept.turns W.current name))
+    turns-then (WRITTEN_NODES + 1 + TURN_NODES + alike_buffers c.args.self.now.bits W.current name) kept.turns
+    (subst (λ (V : Workspace). TurnsTo c.keep_current.new.self c.place_lines.new.self [] (1 + (WRITTEN_NODES + alike)) V) (then-current W (with_lines W.current name xs)) placed) (omega (arith, alike-turned kept.turns W.current name))
 
 pub returns-clause-spares : goal.returns-clause-spares
 returns-clause-spares c = room-then c.keep_current.ensures.spares c.place_lines.ensures.spares

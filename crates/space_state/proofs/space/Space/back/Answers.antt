@@ -2,7 +2,9 @@ use Rattle.std.proofs.Common.{◌+◌, ◌<◌, ◌≤◌, length, subst}
 use Rattle.elem_core.specs.Shown.{name_bytes}
 use Rattle.shell_terms.specs.Command as command
 use Rattle.plain_space.specs.Workspace.{Workspace}
+use Rattle.state_rows.specs.declared.histories.TheConstants.{EMPTIED_NODES, PUSHED_NODES}
 use Rattle.state_rows.specs.Standing.{StandsFor}
+use Rattle.space_state.specs.declared.undo_end.TheConstants.{TURN_NODES}
 use Rattle.space_state.specs.View.{SpaceView, Ends, shown}
 use Rattle.space_state.proofs.Front.{keeps-alone, ends-seen, kept-on}
 use Rattle.space_state.proofs.space.Space.back.Goals as goal
@@ -16,9 +18,9 @@ returns-clause-ends c =
     (ends-seen (command.back (name_bytes c.args.version)) c.self.inside.rows c.back.result c.back.new.self c.self.invariant.0 c.self.invariant.1 c.back.ensures.ends c.back.ensures.spares)
 
 pub returns-clause-made : goal.returns-clause-made
-returns-clause-made c = subst (λ (v : SpaceView). c.back.new.self.heap.made ≤ v.made + 27) c.self.view_is c.back.ensures.made
+returns-clause-made c = subst (λ (v : SpaceView). c.back.new.self.heap.made ≤ v.made + TURN_NODES) c.self.view_is c.back.ensures.made
 
 pub returns-clause-below : goal.returns-clause-below
 returns-clause-below c =
-    subst (λ (v : SpaceView). (W : Workspace) → StandsFor v.pool W → length W.undo < W.history → c.back.new.self.heap.made ≤ v.made + 10) c.self.view_is
+    subst (λ (v : SpaceView). (W : Workspace) → StandsFor v.pool W → length W.undo < W.history → c.back.new.self.heap.made ≤ v.made + (PUSHED_NODES + EMPTIED_NODES)) c.self.view_is
     (λ W stands fewer. c.back.ensures.below W (keeps-alone c.self.inside.rows c.self.invariant.0 c.self.invariant.1 W stands) fewer)

@@ -1,11 +1,12 @@
 use Rattle.std.proofs.Common.{◌≡◌, ◌≤◌, refl, subst, arith}
 use Rattle.std.specs.Prelude.{IfOk}
+use Rattle.elem_core.specs.declared.codes.TheConstants.{CODE_BITS}
 use Rattle.pool_text.specs.Pool.{pool}
 use Rattle.pool_text.specs.declared.rules.TheConstants.{PRESENT_VERSION}
 use Rattle.pool_check.specs.Damages.{IsValid}
 use Rattle.space_state.specs.View.{SpaceView}
 use Rattle.plain_space.specs.Workspace.{most}
-use Rattle.space_state.proofs.Front.{history-is, pool-valid}
+use Rattle.space_state.proofs.Front.{bits-are, history-is, pool-valid}
 use Rattle.space_state.proofs.space.Space.pool.Goals as goal
 
 pub returns-clause-value : goal.returns-clause-value
@@ -22,3 +23,6 @@ pub returns-clause-history : goal.returns-clause-history
 returns-clause-history c =
     let bounded = c.self.invariant.1.bounded in
     subst (λ (v : SpaceView). v.pool.history ≤ most) c.self.view_is (omega (arith, history-is c.self.inside.rows, bounded.0, bounded.1))
+
+pub returns-clause-bits : goal.returns-clause-bits
+returns-clause-bits c = subst (λ (v : SpaceView). v.pool.bits ≤ CODE_BITS) c.self.view_is (omega (arith, bits-are c.self.inside.rows, c.self.invariant.1.bits))
