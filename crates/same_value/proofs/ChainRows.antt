@@ -7,28 +7,16 @@ use Rattle.std.specs.declared.cmp.Ordering.TheVariants.{Less, Equal, Greater}
 use Rattle.std.proofs.lemmas.Bool.{cases_eq}
 use Rattle.node_heap.specs.Links.{count, Reaches, here, below}
 use Rattle.node_heap.specs.Forms.{Forms, node, chain}
-use Rattle.node_heap.specs.Heap.{one_at}
 use Rattle.node_heap.proofs.BuildLemmas.{count-cons}
-use Rattle.node_heap.proofs.Counts.{test_other}
 use Rattle.node_heap.proofs.Reach.{Reaches-then}
 use Rattle.champ_chain.specs.Entry.{Entry, key_at}
 use Rattle.champ_chain.specs.Chain.{AreChainRows, AreAbove, IsRising}
-use Rattle.champ_chain.proofs.CopyLemmas.{one_at-same}
+use Rattle.champ_chain.proofs.CopyLemmas.{one_at-same, one_at-other}
 use Rattle.champ_chain.proofs.RisingLemmas.{greater_flip}
 use Rattle.champ_chain.proofs.SpotLemmas.{FirstRow, first-row, row-entry, row-next, same-key}
-use Rattle.champ_trie.specs.Walk.{rows_below}
-use Rattle.same_value.specs.Apart.{row_links, ReachesRow, IsApart, Spends}
-
-pub one_at-other : (x k : ℕ) → x ≢ k → one_at x k ≡ 0
-one_at-other x k other = test_other k x (λ same. other (sym same))
-
--- a link that is counted in a list of one
-pub one-counted : (k x : ℕ) → 0 < count k (x ∷ []) → x ≡ k
-one-counted k x some = by_case (cases_eq x k)
-  where
-    by_case : (x ≡ k) ⊎ (x ≢ k) → x ≡ k
-    by_case (inl same) = same
-    by_case (inr other) = absurd (omega (arith, some, count-cons k x [], one_at-other x k other))
+use Rattle.champ_trie.specs.Walk.{rows_below, row_links, ReachesRow}
+use Rattle.champ_trie.proofs.BelowLemmas.{one-counted}
+use Rattle.same_value.specs.Apart.{IsApart, Spends}
 
 module _ {K : Type 0} (F : Forms K) where
   -- the row so many rows further

@@ -12,17 +12,16 @@ use Rattle.champ_chain.specs.Entry.{Entry, IsEntry, SameSet, key_at, key_of, sam
 use Rattle.champ_chain.proofs.SetLemmas.{same-sym, Among, same-among}
 use Rattle.champ_chain.proofs.SpotLemmas.{first-row}
 use Rattle.champ_trie.specs.Trie.{IsTrie}
-use Rattle.champ_trie.specs.Walk.{entries_first, own_entries, rows_below, rows_from, entries_of}
+use Rattle.champ_trie.specs.Walk.{entries_first, own_entries, rows_below, rows_from, entries_of, ReachesRow}
 use Rattle.champ_trie.proofs.CanonLemmas.{Match, AreMatched, tries-match, same-lift}
 use Rattle.champ_trie.proofs.GatherLemmas.{same-is}
 use Rattle.champ_trie.proofs.WalkLemmas.{trie-walk, trie-entries}
 use Rattle.champ_kinds.specs.Laws.{GoOneToOne}
 use Rattle.champ_kinds.proofs.ZipLemmas.{all-turned, zip-follows}
 use Rattle.same_value.specs.Congruent.{Congruent, AreCongruent, congruent_entries, congruent_none, congruent_then}
-use Rattle.same_value.specs.Apart.{ReachesRow}
 use Rattle.same_value.proofs.CongruentLemmas.{rows-congruent, congruent-take, congruent-drop, entries-congruent}
 use Rattle.same_value.proofs.Zips.{zip-both}
-use Rattle.same_value.proofs.TrieRows.{Stands, at-counted, link-child, child-stands, stands-reach, trie-opened}
+use Rattle.champ_trie.proofs.BelowLemmas.{Stands, at-counted, link-child, child-stands, stands-reach, trie-opened}
 use Rattle.same_value.proofs.TriePairs.{all-left, all-right, rows-follow, reach-step}
 
 module _ {K : Type 0} (cmp : K → K → Ordering) (code : K → ℕ) (F : Forms K) where

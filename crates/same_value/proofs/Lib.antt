@@ -4,7 +4,6 @@ pub mod PlaceLemmas
 pub mod CongruentLemmas
 pub mod ChainRows
 pub mod ChainPairs
-pub mod TrieRows
 pub mod TriePairs
 pub mod TwoRows
 pub mod Contents

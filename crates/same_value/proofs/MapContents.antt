@@ -1,15 +1,11 @@
 -- What the entries of sets and maps tell of their keys and values.
-use Rattle.std.proofs.Common.{◌≡◌, ◌≢◌, ℕ, suc, ◌+◌, ◌*◌, ◌<◌, ◌≤◌, List, [], ◌∷◌, length, refl, ap, sym, subst, ◌∙◌, arith, Bool, true, false, cond, Some, inl, inr, ◌⊎◌}
+use Rattle.std.proofs.Common.{◌≡◌, ℕ, ◌+◌, ◌*◌, ◌≤◌, List, [], ◌∷◌, length, refl, ap, sym, subst, ◌∙◌, arith, Bool, true, false, cond, Some}
 use Rattle.std.specs.List.{All, AllZip}
 use Rattle.std.specs.declared.cmp.Ordering.{Ordering}
 use Rattle.std.specs.declared.cmp.Ordering.TheVariants.{Equal}
-use Rattle.std.proofs.lemmas.Bool.{cases_eq}
 use Rattle.std.proofs.lemmas.List.Elements.{All-head, All-tail, All-cons, All-nil}
-use Rattle.node_heap.specs.Links.{count}
 use Rattle.node_heap.specs.Forms.{Forms, cell, node, pair, value_of}
-use Rattle.node_heap.proofs.BuildLemmas.{count-cons}
 use Rattle.champ_chain.specs.Entry.{Entry, key_at, key_of}
-use Rattle.champ_chain.proofs.CopyLemmas.{one_at-same}
 use Rattle.champ_chain.proofs.SetLemmas.{same-sym}
 use Rattle.champ_kinds.specs.Binding.{Binding}
 use Rattle.champ_kinds.specs.Kinds.{IsKeyCell, IsPair}
@@ -20,36 +16,7 @@ use Rattle.same_value.specs.Cells.{IsSameCell}
 use Rattle.same_value.specs.CompareLaws.{cell-keys, pair-keys}
 use Rattle.same_value.specs.Contents.{IsSameBinding}
 use Rattle.same_value.specs.Entries.{IsPairOf, IsSamePair}
-use Rattle.same_value.proofs.ChainRows.{one_at-other}
-
--- a list without one place of a link
-module _ (x : ℕ) where
-  record Without (ys : List ℕ) : Type 0 where
-    rest : List ℕ
-    number : length ys ≡ suc (length rest)
-    kept : (k : ℕ) → x ≢ k → count k rest ≡ count k ys
-
-  without : (ys : List ℕ) → 0 < count x ys → Without ys
-  without [] some = absurd (omega (arith, some))
-  without (y ∷ ys) some = by_case (cases_eq y x) (without ys)
-    where
-      by_case : (y ≡ x) ⊎ (y ≢ x) → (0 < count x ys → Without ys) → Without (y ∷ ys)
-      by_case (inl same) again = record { rest = ys; number = refl; kept = λ k other. omega (arith, count-cons k y ys, one_at-other y k (λ e. other (sym same ∙ e))) }
-      by_case (inr differs) again =
-          let less = again (omega (arith, some, count-cons x y ys, one_at-other y x differs)) in
-          record { rest = y ∷ less.rest; number = omega (arith, less.number); kept = λ k other. omega (arith, count-cons k y ys, count-cons k y less.rest, less.kept k other) }
-
--- different links that are all in a list are no more than the list has
-pub once-fits : (xs ys : List ℕ) → ((k : ℕ) → count k xs ≤ 1) → ((k : ℕ) → 0 < count k xs → 0 < count k ys) → length xs ≤ length ys
-once-fits [] ys once inside = omega arith
-once-fits (x ∷ xs) ys once inside =
-    let less = without x ys (inside x (omega (arith, count-cons x x xs, one_at-same x))) in
-    let rest = once-fits xs less.rest (λ k. omega (arith, once k, count-cons k x xs)) (λ k some. by_case k some less.rest (cases_eq x k) (less.kept k)) in
-    omega (arith, rest, less.number)
-  where
-    by_case : (k : ℕ) → 0 < count k xs → (rest : List ℕ) → (x ≡ k) ⊎ (x ≢ k) → (x ≢ k → count k rest ≡ count k ys) → 0 < count k rest
-    by_case k some rest (inl same) kept = absurd (omega (arith, subst (λ j. 0 < count j xs) (sym same) some, once x, count-cons x x xs, one_at-same x))
-    by_case k some rest (inr differs) kept = omega (arith, kept differs, inside k (omega (arith, some, count-cons k x xs)))
+use Rattle.champ_trie.proofs.BelowLemmas.{once-fits}
 
 no-spare : (result : Bool) (n : ℕ) → n ≡ 0 → cond result 0 n ≡ 0
 no-spare true n none = refl

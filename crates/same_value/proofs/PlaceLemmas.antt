@@ -1,12 +1,12 @@
 -- Rows on the way to an element, and lists that begin alike.
-use Rattle.std.proofs.Common.{◌≡◌, ℕ, suc, ◌+◌, ◌-◌, ◌<◌, ◌≤◌, ◌^◌, List, [], ◌∷◌, ◌++◌, length, take, drop, get_or, min, refl, ap, sym, subst, ◌∙◌, arith, append-nil, append_assoc, length-append, length-drop, Option, None, Some, IfNone}
+use Rattle.std.proofs.Common.{◌≡◌, ℕ, suc, ◌+◌, ◌-◌, ◌<◌, ◌≤◌, ◌^◌, List, [], ◌++◌, length, take, drop, get_or, min, refl, ap, sym, subst, ◌∙◌, arith, append-nil, append_assoc, length-append, length-drop, Option, None, Some, IfNone}
 use Rattle.std.specs.List.{All, AllZip, flat_map}
 use Rattle.std.proofs.lemmas.List.{take_at, take_rest, take-append-le, length-take-le, get_or-take, get_or-drop}
 use Rattle.std.proofs.lemmas.List.Elements.{All-take}
 use Rattle.std.proofs.Math.Seq.{take-add}
 use Rattle.node_heap.specs.Heap.{Heap, form_at, links_at}
-use Rattle.rrb_core.specs.Seq.{height_in, seq_at, IsWell}
-use Rattle.rrb_core.specs.Vector.{HasSums, height_at, elements, IsGoodVector}
+use Rattle.rrb_core.specs.Seq.{height_in, seq_at}
+use Rattle.rrb_core.specs.Vector.{height_at, elements, IsGoodVector}
 use Rattle.rrb_core.proofs.FillRule.{height-is, seq-leaf}
 use Rattle.rrb_core.proofs.Lists.{items-drop}
 use Rattle.rrb_core.proofs.RowLists.{over, child-at}

@@ -11,21 +11,20 @@ use Rattle.node_heap.specs.Links.{count, HasLink, here, below}
 use Rattle.node_heap.specs.Forms.{Forms, Kind, node, trie}
 use Rattle.node_heap.proofs.BuildLemmas.{count-cons, count-append}
 use Rattle.champ_chain.specs.Entry.{Entry, SameSet, key_at, key_of}
-use Rattle.champ_chain.proofs.CopyLemmas.{one_at-same}
+use Rattle.champ_chain.proofs.CopyLemmas.{one_at-same, one_at-other}
 use Rattle.champ_chain.proofs.SetLemmas.{same-sym, same-refl, Among}
 use Rattle.champ_trie.specs.Bits.{rank}
 use Rattle.champ_trie.specs.Trie.{IsTrie, IsTrieRow, part}
-use Rattle.champ_trie.specs.Walk.{own_entries, rows_from, entries_of}
+use Rattle.champ_trie.specs.Walk.{own_entries, rows_from, entries_of, row_links, ReachesRow}
 use Rattle.champ_trie.proofs.CanonLemmas.{Match, AreMatched, tries-match}
 use Rattle.champ_trie.proofs.WalkLemmas.{trie-walk}
 use Rattle.champ_trie.proofs.PlaceLemmas.{sets-short}
 use Rattle.champ_kinds.proofs.ZipLemmas.{all-turned}
 use Rattle.same_value.specs.Congruent.{Congruent, AreCongruent, congruent_entries, congruent_rows, IsFrom, IsChainFrom}
-use Rattle.same_value.specs.Apart.{row_links, ReachesRow, IsApart, Spends}
+use Rattle.same_value.specs.Apart.{IsApart, Spends}
 use Rattle.same_value.proofs.CongruentLemmas.{congruent-zip, congruent-at, congruent-by, congruent-take, links-congruent, entries-congruent}
 use Rattle.same_value.proofs.Zips.{zip-at}
-use Rattle.same_value.proofs.ChainRows.{one_at-other, one-counted}
-use Rattle.same_value.proofs.TrieRows.{child-at, link-child, child-stands, child-link, stands-reach, stands-deeper, one-digit, Stands, trie-opened}
+use Rattle.champ_trie.proofs.BelowLemmas.{one-counted, child-at, link-child, child-stands, child-link, stands-reach, stands-deeper, one-digit, Stands, trie-opened}
 
 module _ {X : Type 0} (P : X → Type 0) where
   pub all-left : (xs ys : List X) → All P (xs ++ ys) → All P xs

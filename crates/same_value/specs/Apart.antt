@@ -1,21 +1,13 @@
 -- The rows of a trie that another trie doesn't share.
 use Rattle.std.specs.Prelude.{ℕ, ◌+◌, ◌*◌, ◌<◌, ◌≤◌, List, length}
-use Rattle.node_heap.specs.Links.{Links, count, Reaches}
+use Rattle.node_heap.specs.Links.{count}
 use Rattle.node_heap.specs.Forms.{Forms}
-use Rattle.champ_trie.specs.Walk.{rows_below}
+use Rattle.champ_trie.specs.Walk.{ReachesRow}
 
 module _ {K : Type 0} (F : Forms K) where
-  -- the trie and chain rows right below a trie or chain row
-  abbrev pub row_links : Links
-  row_links l = rows_below (F l)
-
-  -- the root reaches this trie or chain row through trie and chain rows
-  abbrev pub ReachesRow : ℕ → ℕ → Type 0
-  ReachesRow root l = Reaches row_links root l
-
-  -- the first root reaches this row so, and the second doesn't
+  -- the first root reaches this row through trie and chain rows, and the second doesn't
   abbrev pub IsApart : ℕ → ℕ → ℕ → Type 0
-  IsApart a b l = ReachesRow a l × (¬ ReachesRow b l)
+  IsApart a b l = ReachesRow F a l × (¬ ReachesRow F b l)
 
   -- every row that the first root reaches so and the second doesn't is among these
   abbrev pub HasApart : ℕ → ℕ → List ℕ → Type 0

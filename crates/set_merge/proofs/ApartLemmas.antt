@@ -10,19 +10,17 @@ use Rattle.node_heap.specs.Forms.{Forms, node, chain}
 use Rattle.node_heap.proofs.BuildLemmas.{count-cons, count-append}
 use Rattle.champ_chain.specs.Entry.{Entry, key_at}
 use Rattle.champ_chain.specs.Chain.{AreChainRows}
-use Rattle.champ_chain.proofs.CopyLemmas.{one_at-same}
+use Rattle.champ_chain.proofs.CopyLemmas.{one_at-same, one_at-other}
 use Rattle.champ_chain.proofs.SetLemmas.{same-length}
 use Rattle.champ_chain.proofs.SpotLemmas.{first-row}
 use Rattle.champ_trie.specs.Bits.{rank}
 use Rattle.champ_trie.specs.Trie.{IsTrie, IsPlace, part, place_of}
-use Rattle.champ_trie.specs.Walk.{rows_from, rows_below}
+use Rattle.champ_trie.specs.Walk.{rows_from, rows_below, row_links, ReachesRow}
 use Rattle.champ_trie.specs.declared.place.Place.{Place}
 use Rattle.champ_trie.specs.declared.place.Place.TheVariants.{Empty, Entry as At, Node}
 use Rattle.champ_trie.proofs.GatherLemmas.{gather, node_links, nodes-gather}
-use Rattle.same_value.specs.Apart.{row_links, ReachesRow, HasApart}
-use Rattle.same_value.proofs.MapContents.{once-fits}
-use Rattle.same_value.proofs.ChainRows.{one_at-other, one-counted}
-use Rattle.same_value.proofs.TrieRows.{rows-reached, stands-reach, trie-stands, stands-deeper, one-digit}
+use Rattle.same_value.specs.Apart.{HasApart}
+use Rattle.champ_trie.proofs.BelowLemmas.{once-fits, one-counted, rows-reached, stands-reach, trie-stands, stands-deeper, one-digit}
 use Rattle.set_merge.specs.declared.keeps.Keeps.{Keeps}
 use Rattle.set_merge.specs.Side.{place_in, lone_place, place_below, settled}
 use Rattle.set_merge.specs.Need.{without, sum_below, need_unless, rows_need}

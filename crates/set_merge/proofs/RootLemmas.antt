@@ -16,13 +16,13 @@ use Rattle.node_heap.proofs.BuildLemmas.{count-cons, count-append, Builds-made}
 use Rattle.champ_chain.specs.Entry.{Entry, AreDistinct}
 use Rattle.champ_chain.proofs.FrameLemmas.{KeepsForms, links-form}
 use Rattle.champ_trie.specs.Trie.{IsTrie, IsCanon, IsRowOfPlaces, part, code_by, links_at_place}
-use Rattle.champ_trie.specs.Walk.{entry_count}
+use Rattle.champ_trie.specs.Walk.{entry_count, row_links}
 use Rattle.champ_trie.specs.declared.place.Place.{Place}
 use Rattle.champ_trie.specs.declared.place.Place.TheVariants.{Empty, Node}
 use Rattle.champ_trie.proofs.PartLemmas.{place-kept, row-kept}
 use Rattle.champ_trie.proofs.WalkLemmas.{canon-fit}
 use Rattle.champ_trie.proofs.StayLemmas.{canon-live}
-use Rattle.same_value.specs.Apart.{row_links, HasApart}
+use Rattle.same_value.specs.Apart.{HasApart}
 use Rattle.set_merge.specs.declared.keeps.Keeps.{Keeps}
 use Rattle.set_merge.specs.declared.spread.Spread.{Spread}
 use Rattle.set_merge.specs.Side.{place_in}

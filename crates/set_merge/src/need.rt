@@ -8,8 +8,8 @@ ghost use Rattle.set_merge.specs.Walk.{AreSides, ArePlaces, place_need};
 
 use crate::keeps::Keeps;
 use crate::runs::meeting_of;
-use crate::side::{Side, settled};
-use champ_trie::{Place, contains};
+use crate::side::{Side, first_from, settled};
+use champ_trie::Place;
 use elem_core::{CODE_BITS, DEEPEST, Element, LEVELS};
 use node_heap::Heap;
 
@@ -39,12 +39,12 @@ pub(crate) fn rows_needed<T: Element>(
     let second = Side::of(heap, b, depth, bits);
     let mut rows = 1;
     let both = first.positions() & second.positions();
-    for position in 0..32 {
-        if contains(both, position) {
-            let x = first.at(heap, position);
-            let y = second.at(heap, position);
-            rows += needed_at(heap, &x, &y, depth, bits, keeps);
-        }
+    let mut position = first_from(both, 0);
+    while position < 32 {
+        let x = first.at(heap, position);
+        let y = second.at(heap, position);
+        rows += needed_at(heap, &x, &y, depth, bits, keeps);
+        position = first_from(both, position + 1);
     }
     rows
 }

@@ -1,5 +1,5 @@
 //! What stands below a place, and when two places need no walk.
-ghost use Rattle.std.specs.Prelude.{◌≡◌, ℕ, ◌<◌, ◌≤◌, List, IsSome, if◌then◌else◌};
+ghost use Rattle.std.specs.Prelude.{◌≡◌, ℕ, ◌<◌, ◌≤◌, false, List, IsSome, if◌then◌else◌};
 ghost use Rattle.node_heap.specs.Heap.{form_at, IsGraph};
 ghost use Rattle.champ_chain.specs.Entry.{key_at};
 ghost use Rattle.champ_trie.specs.Bits.{has};
@@ -62,6 +62,7 @@ impl Side {
     }
 
     // What stands at a position of it.
+    #[inline(always)]
     pub(crate) fn at<T: Element>(&self, heap: &Heap<T>, position: u32) -> Place
         requires position { position < 32 }
         requires side { (code : T → ℕ) × (depth : ℕ) × (place : Place) × IsSide code (form_at heap.now) depth place self.now }
@@ -85,6 +86,7 @@ impl Side {
 }
 
 // What stands at the position of the trie row at a link, which has these sets.
+#[inline(always)]
 fn place_at<T>(heap: &Heap<T>, row: Link, entries: u32, nodes: u32, position: u32) -> Place
     requires row { (depth : ℕ) × (links : List ℕ) × IsRow (form_at heap.now) row depth entries nodes links }
     requires position { position < 32 }
@@ -99,6 +101,23 @@ fn place_at<T>(heap: &Heap<T>, row: Link, entries: u32, nodes: u32, position: u3
         return Place::Node(heap.links(row)[place as usize]);
     }
     Place::Empty
+}
+
+// The first position of the set from this one on, 32 where there is none.
+#[inline]
+pub(crate) fn first_from(set: u32, from: u32) -> u32
+    requires { from ≤ 32 }
+    ensures from { (from ≤ result) × (result ≤ 32) }
+    ensures none { (p : ℕ) → from ≤ p → p < result → has set p ≡ false }
+{
+    if from == 32 {
+        return 32;
+    }
+    let rest = set >> from;
+    if rest == 0 {
+        return 32;
+    }
+    from + rest.trailing_zeros()
 }
 
 // What a merge of two places gives at once, None where it has to look below them.

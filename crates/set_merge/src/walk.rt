@@ -12,9 +12,9 @@ ghost use Rattle.set_merge.specs.Walk.{AreKept, AreSides, ArePlaces, place_need,
 use crate::chains::chains_merged;
 use crate::keeps::Keeps;
 use crate::merged::Merged;
-use crate::side::{Side, settled};
+use crate::side::{Side, first_from, settled};
 use crate::spread::Spread;
-use champ_trie::{Place, contains};
+use champ_trie::Place;
 use elem_core::{CODE_BITS, DEEPEST, Element};
 use node_heap::Heap;
 
@@ -42,13 +42,13 @@ pub(crate) fn rows_merged<T: Element>(
     let first = Side::of(heap, a, depth, bits);
     let second = Side::of(heap, b, depth, bits);
     let some = first.positions() | second.positions();
-    for position in 0..32 {
-        if contains(some, position) {
-            let x = first.at(heap, position);
-            let y = second.at(heap, position);
-            let merged = merged_at(heap, &x, &y, depth, bits, keeps);
-            spread.put(position, &merged, &x, &y);
-        }
+    let mut position = first_from(some, 0);
+    while position < 32 {
+        let x = first.at(heap, position);
+        let y = second.at(heap, position);
+        let merged = merged_at(heap, &x, &y, depth, bits, keeps);
+        spread.put(position, &merged, &x, &y);
+        position = first_from(some, position + 1);
     }
     spread
 }

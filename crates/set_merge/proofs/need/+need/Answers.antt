@@ -9,10 +9,9 @@ use Rattle.set_merge.specs.Side.{place_below}
 use Rattle.set_merge.specs.Need.{sum_below, rows_need}
 use Rattle.set_merge.specs.Walk.{position_need}
 use Rattle.set_merge.proofs.MergeLemmas.{filter-short}
-use Rattle.set_merge.proofs.WalkLemmas.{place-keyed, has-keyed, has-row, places-at, sum-none, sum-next, need-none, need-more, need-skip}
-use Rattle.set_merge.proofs.PositionLemmas.{side-low, one-missing}
+use Rattle.set_merge.proofs.WalkLemmas.{place-keyed, has-keyed, has-row, places-at, sum-none, sum-next, need-none, need-more}
+use Rattle.set_merge.proofs.PositionLemmas.{side-low, need-on}
 use Rattle.set_merge.proofs.NeedSteps.{run-of, sides-below, sides-as, need-settled, need-looked, rows-fit, need-there}
-use Rattle.set_merge.proofs.need.+need.Goals.{rows_needed-then-contains, rows_needed-else-contains}
 use Rattle.set_merge.proofs.need.+need.Goals as goal
 
 pub needed_at-settled-requires-clause-first : goal.needed_at-settled-requires-clause-first
@@ -101,8 +100,16 @@ rows_needed-of-second-requires-clause-row g t c =
     has-row g.T.Ord.cmp code F (r.0 - 1) c.args.depth c.args.b.now r.2 sides.second
 
 pub rows_needed-loop-position-init : goal.rows_needed-loop-position-init
-rows_needed-loop-position-init g t c = λ left levels.
-    omega (arith, sum-none (position_need g.T.Ord.cmp (code_by g.T.Element.code_of c.args.bits) row_limit (form_at c.args.heap.now) c.args.keeps left c.args.depth c.args.a.now c.args.b.now))
+rows_needed-loop-position-init g t c = (
+  c.first_from-position.ensures.from.1,
+  λ left levels.
+      let cmp = g.T.Ord.cmp in
+      let code = code_by g.T.Element.code_of c.args.bits in
+      let F = form_at c.args.heap.now in
+      let on = need-on cmp code row_limit F c.args.keeps left c.args.depth c.args.a.now c.args.b.now c.of-first.result c.of-second.result c.positions.result c.positions-2.result c.of-first.ensures c.of-second.ensures c.positions.ensures c.positions-2.ensures
+      0 c.first_from-position.result c.first_from-position.ensures.from.0 c.first_from-position.ensures.from.1 c.first_from-position.ensures.none in
+      omega (arith, on, sum-none (position_need cmp code row_limit F c.args.keeps left c.args.depth c.args.a.now c.args.b.now)),
+)
 
 pub rows_needed-at-x-requires-clause-side : goal.rows_needed-at-x-requires-clause-side
 rows_needed-at-x-requires-clause-side g t c =
@@ -161,7 +168,7 @@ rows_needed-overflow_add-rows g t c =
     let second : c.at-y.result ≡ place_below code F d c.args.b.now p = c.at-y.ensures.place code d c.args.b.now c.of-second.ensures in
     omega (
       arith,
-      c.loop-position.invariant (r.0 - 1) levels,
+      c.loop-position.invariant.1 (r.0 - 1) levels,
       c.needed_at-rows.ensures (r.0 - 1) levels,
       need-there cmp code F row_limit c.args.keeps (r.0 - 1) d c.args.a.now c.args.b.now p c.at-x.result c.at-y.result first second,
       rows-fit cmp code F row_limit c.args.keeps (r.0 - 1) d c.args.a.now c.args.b.now r.1 r.2 sides p c.loop-position-test.true,
@@ -169,26 +176,28 @@ rows_needed-overflow_add-rows g t c =
       r.5,
     )
 
+pub rows_needed-loop-position-smaller : goal.rows_needed-loop-position-smaller
+rows_needed-loop-position-smaller g t c = omega (arith, c.first_from-position-in-loop-position.ensures.from, c.loop-position-test.true)
+
 pub rows_needed-loop-position-preserved : goal.rows_needed-loop-position-preserved
-rows_needed-loop-position-preserved g t c = λ left levels.
-    let cmp = g.T.Ord.cmp in
-    let code = code_by g.T.Element.code_of c.args.bits in
-    let F = form_at c.args.heap.now in
-    let d = c.args.depth in
-    let a = c.args.a.now in
-    let b = c.args.b.now in
-    let p = c.loop-position.position in
-    let f : ℕ → ℕ = position_need cmp code row_limit F c.args.keeps left d a b in
-    let step : sum_below (p + 1) f ≡ sum_below p f + f p = ap (λ i. sum_below i f) (let same : p + 1 ≡ suc p = omega arith in same) ∙ sum-next f p in
-    elim c.if-contains.branch [
-      | rows_needed-then-contains w ↦
-          (let first : w.at-x.result ≡ place_below code F d a p = w.at-x.ensures.place code d a c.of-first.ensures in
-          let second : w.at-y.result ≡ place_below code F d b p = w.at-y.ensures.place code d b c.of-second.ensures in
-          omega (arith, w.rows-is, step, c.loop-position.invariant left levels, w.needed_at-rows.ensures left levels, need-there cmp code F row_limit c.args.keeps left d a b p w.at-x.result w.at-y.result first second))
-      | rows_needed-else-contains w ↦
-          (let missing = one-missing cmp code F d a b c.of-first.result c.of-second.result c.positions.result c.positions-2.result p c.loop-position-test.true c.of-first.ensures c.of-second.ensures c.positions.ensures c.positions-2.ensures (sym c.contains.ensures ∙ w.if-contains.false) in
-          omega (arith, w.rows-is, step, c.loop-position.invariant left levels, need-skip cmp code row_limit F c.args.keeps left d a b p missing))
-    ]
+rows_needed-loop-position-preserved g t c = (
+  c.first_from-position-in-loop-position.ensures.from.1,
+  λ left levels.
+      let cmp = g.T.Ord.cmp in
+      let code = code_by g.T.Element.code_of c.args.bits in
+      let F = form_at c.args.heap.now in
+      let d = c.args.depth in
+      let a = c.args.a.now in
+      let b = c.args.b.now in
+      let p = c.loop-position.position in
+      let f : ℕ → ℕ = position_need cmp code row_limit F c.args.keeps left d a b in
+      let step : sum_below (p + 1) f ≡ sum_below p f + f p = ap (λ i. sum_below i f) (let same : p + 1 ≡ suc p = omega arith in same) ∙ sum-next f p in
+      let first : c.at-x.result ≡ place_below code F d a p = c.at-x.ensures.place code d a c.of-first.ensures in
+      let second : c.at-y.result ≡ place_below code F d b p = c.at-y.ensures.place code d b c.of-second.ensures in
+      let on = need-on cmp code row_limit F c.args.keeps left d a b c.of-first.result c.of-second.result c.positions.result c.positions-2.result c.of-first.ensures c.of-second.ensures c.positions.ensures c.positions-2.ensures
+      (p + 1) c.first_from-position-in-loop-position.result c.first_from-position-in-loop-position.ensures.from.0 c.first_from-position-in-loop-position.ensures.from.1 c.first_from-position-in-loop-position.ensures.none in
+      omega (arith, on, step, c.loop-position.invariant.1 left levels, c.needed_at-rows.ensures left levels, need-there cmp code F row_limit c.args.keeps left d a b p c.at-x.result c.at-y.result first second),
+)
 
 pub rows_needed-returns-clause-rows : goal.rows_needed-returns-clause-rows
 rows_needed-returns-clause-rows g t c = λ left levels.
@@ -197,8 +206,8 @@ rows_needed-returns-clause-rows g t c = λ left levels.
     let F = form_at c.args.heap.now in
     let n : ℕ = left - 1 in
     let more : left ≡ suc (left - 1) = omega (arith, levels, c.if-depth-gt-DEEPEST.false) in
-    let all : c.loop-position.position ≡ 32 = omega (arith, c.loop-position-test.false, c.loop-position.auto.position-end) in
-    let rows = c.loop-position.invariant (left - 1) (omega (arith, levels, more)) in
+    let all : c.loop-position.position ≡ 32 = omega (arith, c.loop-position-test.false, c.loop-position.invariant.0) in
+    let rows = c.loop-position.invariant.1 (left - 1) (omega (arith, levels, more)) in
     let f : ℕ → ℕ = position_need cmp code row_limit F c.args.keeps (left - 1) c.args.depth c.args.a.now c.args.b.now in
     subst (λ i. c.loop-position.rows ≡ rows_need cmp code row_limit F c.args.keeps i c.args.depth c.args.a.now c.args.b.now) (sym more)
     (rows ∙ ap (λ i. 1 + sum_below i f) all ∙ sym (need-more cmp code row_limit F c.args.keeps (left - 1) c.args.depth c.args.a.now c.args.b.now))

@@ -9,9 +9,8 @@ use Rattle.set_merge.specs.Merge.{merged}
 use Rattle.set_merge.specs.Spread.{Closed}
 use Rattle.set_merge.specs.Walk.{IsSpread}
 use Rattle.set_merge.proofs.MergeLemmas.{part-merged}
-use Rattle.set_merge.proofs.WalkLemmas.{keyed-kept, has-keyed, has-row, has-row-kept, first-keyed, second-keyed, come-settled, come-chain, chain-sides, chain-need, below-sides, below-need, more-need, come-closed, closed-kept, spread-live, spread-held, spread-none, spread-step, places-at, need-left, side-first, side-second, at-first, at-second, spread-skip}
-use Rattle.set_merge.proofs.PositionLemmas.{side-low, neither-there}
-use Rattle.set_merge.proofs.walk.+walk.Goals.{rows_merged-then-contains, rows_merged-else-contains}
+use Rattle.set_merge.proofs.WalkLemmas.{keyed-kept, has-keyed, has-row, has-row-kept, first-keyed, second-keyed, come-settled, come-chain, chain-sides, chain-need, below-sides, below-need, more-need, come-closed, closed-kept, spread-live, spread-held, spread-none, spread-step, places-at, need-left, side-first, side-second, at-first, at-second}
+use Rattle.set_merge.proofs.PositionLemmas.{side-low, spread-on}
 use Rattle.set_merge.proofs.walk.+walk.Goals as goal
 
 pub merged_at-settled-requires-clause-first : goal.merged_at-settled-requires-clause-first
@@ -170,16 +169,25 @@ rows_merged-of-second-requires-clause-row g t c =
     has-row-kept g.T.Ord.cmp code r.0 (form_at c.args.heap.now) (record { kept = r.4 }) c.args.depth c.args.b.now (has-row g.T.Ord.cmp code r.0 r.1 c.args.depth c.args.b.now r.3 r.5.second)
 
 pub rows_merged-loop-position-init : goal.rows_merged-loop-position-init
-rows_merged-loop-position-init g t c = λ F left E D kept are.
-    spread-none g.T.Ord.cmp (code_by g.T.Element.code_of c.args.bits) row_limit c.args.keeps F c.args.heap.now left c.args.depth c.args.a.now c.args.b.now (merged g.T.Ord.cmp c.args.keeps E D) c.empty-spread.result
-    c.requires.graph c.empty-spread.ensures.places c.empty-spread.ensures.number c.empty-spread.ensures.stood c.empty-spread.ensures.made
+rows_merged-loop-position-init g t c = (
+  c.first_from-position.ensures.from.1,
+  λ F left E D kept are.
+      let cmp = g.T.Ord.cmp in
+      let code = code_by g.T.Element.code_of c.args.bits in
+      let h = c.args.heap.now in
+      let none = spread-none cmp code row_limit c.args.keeps F h left c.args.depth c.args.a.now c.args.b.now (merged cmp c.args.keeps E D) c.empty-spread.result
+      c.requires.graph c.empty-spread.ensures.places c.empty-spread.ensures.number c.empty-spread.ensures.stood c.empty-spread.ensures.made in
+      spread-on cmp g.met.T.Ord.total code (λ j k e. ap (λ n. masked_code n c.args.bits) (g.met.T.Element.equal_codes j k e)) row_limit c.args.keeps F h h left c.args.depth c.args.a.now c.args.b.now E D are c.empty-spread.result
+      (record { kept = kept }) (forms-kept h h none.builds.extends) c.of-first.result c.of-second.result c.positions.result c.positions-2.result c.of-first.ensures c.of-second.ensures c.positions.ensures c.positions-2.ensures
+      0 c.first_from-position.result c.first_from-position.ensures.from.0 c.first_from-position.ensures.from.1 c.first_from-position.ensures.none none,
+)
 
 pub rows_merged-at-x-requires-clause-side : goal.rows_merged-at-x-requires-clause-side
 rows_merged-at-x-requires-clause-side g t c =
     let r = c.requires.sides in
     let code = code_by g.T.Element.code_of c.args.bits in
     let now = c.loop-position.heap in
-    let did = c.loop-position.invariant r.0 r.1 r.2 r.3 r.4 r.5 in
+    let did = c.loop-position.invariant.1 r.0 r.1 r.2 r.3 r.4 r.5 in
     let side = side-first g.T.Ord.cmp code r.0 r.1 c.args.depth c.args.a.now c.args.b.now r.2 r.3 r.5 (form_at c.args.heap.now) (form_at now) (record { kept = r.4 }) (forms-kept c.args.heap.now now did.builds.extends) c.of-first.result c.of-first.ensures in
     (code, c.args.depth, c.args.a.now, side)
 
@@ -188,7 +196,7 @@ rows_merged-at-y-requires-clause-side g t c =
     let r = c.requires.sides in
     let code = code_by g.T.Element.code_of c.args.bits in
     let now = c.loop-position.heap in
-    let did = c.loop-position.invariant r.0 r.1 r.2 r.3 r.4 r.5 in
+    let did = c.loop-position.invariant.1 r.0 r.1 r.2 r.3 r.4 r.5 in
     let side = side-second g.T.Ord.cmp code r.0 r.1 c.args.depth c.args.a.now c.args.b.now r.2 r.3 r.5 (form_at c.args.heap.now) (form_at now) (record { kept = r.4 }) (forms-kept c.args.heap.now now did.builds.extends) c.of-second.result c.of-second.ensures in
     (code, c.args.depth, c.args.b.now, side)
 
@@ -201,7 +209,7 @@ rows_merged-merged_at-merged-requires g t c = λ κs sub.
     let now = c.loop-position.heap in
     let d = c.args.depth in
     let p = c.loop-position.position in
-    let did = c.loop-position.invariant r.0 r.1 r.2 r.3 r.4 r.5 in
+    let did = c.loop-position.invariant.1 r.0 r.1 r.2 r.3 r.4 r.5 in
     let then = forms-kept old now did.builds.extends in
     let side = side-first cmp code r.0 r.1 d c.args.a.now c.args.b.now r.2 r.3 r.5 (form_at old) (form_at now) (record { kept = r.4 }) then c.of-first.result c.of-first.ensures in
     let other = side-second cmp code r.0 r.1 d c.args.a.now c.args.b.now r.2 r.3 r.5 (form_at old) (form_at now) (record { kept = r.4 }) then c.of-second.result c.of-second.ensures in
@@ -231,55 +239,56 @@ rows_merged-merged_at-merged-requires g t c = λ κs sub.
 pub rows_merged-put-requires-clause-number : goal.rows_merged-put-requires-clause-number
 rows_merged-put-requires-clause-number g t c =
     let r = c.requires.sides in
-    (c.loop-position.invariant r.0 r.1 r.2 r.3 r.4 r.5).number
+    (c.loop-position.invariant.1 r.0 r.1 r.2 r.3 r.4 r.5).number
 
 pub rows_merged-put-requires-clause-room : goal.rows_merged-put-requires-clause-room
 rows_merged-put-requires-clause-room g t c =
     let r = c.requires.sides in
-    omega (arith, (c.loop-position.invariant r.0 r.1 r.2 r.3 r.4 r.5).few, c.loop-position-test.true)
+    omega (arith, (c.loop-position.invariant.1 r.0 r.1 r.2 r.3 r.4 r.5).few, c.loop-position-test.true)
+
+pub rows_merged-loop-position-smaller : goal.rows_merged-loop-position-smaller
+rows_merged-loop-position-smaller g t c = omega (arith, c.first_from-position-in-loop-position.ensures.from, c.loop-position-test.true)
 
 pub rows_merged-loop-position-preserved : goal.rows_merged-loop-position-preserved
-rows_merged-loop-position-preserved g t c = λ F left E D kept are.
-    let cmp = g.T.Ord.cmp in
-    let code = code_by g.T.Element.code_of c.args.bits in
-    let old = c.args.heap.now in
-    let now = c.loop-position.heap in
-    let d = c.args.depth in
-    let a = c.args.a.now in
-    let b = c.args.b.now in
-    let p = c.loop-position.position in
-    let did = c.loop-position.invariant F left E D kept are in
-    let then = forms-kept old now did.builds.extends in
-    let side = side-first cmp code F left d a b E D are (form_at old) (form_at now) (record { kept = kept }) then c.of-first.result c.of-first.ensures in
-    let other = side-second cmp code F left d a b E D are (form_at old) (form_at now) (record { kept = kept }) then c.of-second.result c.of-second.ensures in
-    elim c.if-contains.branch [
-      | rows_merged-then-contains w ↦
-          (let first : w.at-x.result ≡ place_below code F d a p = w.at-x.ensures.place code d a side ∙ at-first cmp code F left d a b E D are (form_at old) (form_at now) (record { kept = kept }) then p in
-          let second : w.at-y.result ≡ place_below code F d b p = w.at-y.ensures.place code d b other ∙ at-second cmp code F left d a b E D are (form_at old) (form_at now) (record { kept = kept }) then p in
-          let places = places-at cmp code F left d a b E D are p c.loop-position-test.true w.at-x.result w.at-y.result first second in
-          let come = w.merged_at-merged.ensures.come F left (part cmp code d p E) (part cmp code d p D) (λ l f is. then.kept l f (kept l f is)) places in
-          subst (λ h. IsSpread cmp code row_limit c.args.keeps F old h left d a b (merged cmp c.args.keeps E D) c.if-contains.spread (p + 1)) (sym w.heap-is)
-          (subst (λ s. IsSpread cmp code row_limit c.args.keeps F old w.merged_at-merged.new.heap left d a b (merged cmp c.args.keeps E D) s (p + 1)) (sym w.spread-is)
-          (spread-step cmp code row_limit c.args.keeps F old now w.merged_at-merged.new.heap left d a b (merged cmp c.args.keeps E D) (merged cmp c.args.keeps (part cmp code d p E) (part cmp code d p D))
-          c.loop-position.spread w.put.new.self p w.merged_at-merged.result c.loop-position-test.true did w.at-x.result w.at-y.result first second come
-          (part-merged cmp code (λ j k e. ap (λ n. masked_code n c.args.bits) (g.met.T.Element.equal_codes j k e)) c.args.keeps d p E D)
-          (record { places = w.put.ensures.places; stood = w.put.ensures.stood; made = w.put.ensures.made; as_first = w.put.ensures.as_first; as_second = w.put.ensures.as_second }))))
-      | rows_merged-else-contains w ↦
-          (let none = neither-there cmp code (form_at now) d a b c.of-first.result c.of-second.result c.positions.result c.positions-2.result p c.loop-position-test.true side other c.positions.ensures c.positions-2.ensures (sym c.contains.ensures ∙ w.if-contains.false) in
-          let first = sym (at-first cmp code F left d a b E D are (form_at old) (form_at now) (record { kept = kept }) then p) ∙ none.0 in
-          let second = sym (at-second cmp code F left d a b E D are (form_at old) (form_at now) (record { kept = kept }) then p) ∙ none.1 in
-          subst (λ h. IsSpread cmp code row_limit c.args.keeps F old h left d a b (merged cmp c.args.keeps E D) c.if-contains.spread (p + 1)) (sym w.heap-is)
-          (subst (λ s. IsSpread cmp code row_limit c.args.keeps F old now left d a b (merged cmp c.args.keeps E D) s (p + 1)) (sym w.spread-is)
-          (spread-skip cmp g.met.T.Ord.total code row_limit c.args.keeps F old now left d a b E D c.loop-position.spread p c.loop-position-test.true did are (record { kept = λ l f is. then.kept l f (kept l f is) })
-          (λ j k e. ap (λ n. masked_code n c.args.bits) (g.met.T.Element.equal_codes j k e)) did.builds.graph first second)))
-    ]
+rows_merged-loop-position-preserved g t c = (
+  c.first_from-position-in-loop-position.ensures.from.1,
+  λ F left E D kept are.
+      let cmp = g.T.Ord.cmp in
+      let code = code_by g.T.Element.code_of c.args.bits in
+      let old = c.args.heap.now in
+      let now = c.loop-position.heap in
+      let new = c.merged_at-merged.new.heap in
+      let d = c.args.depth in
+      let a = c.args.a.now in
+      let b = c.args.b.now in
+      let p = c.loop-position.position in
+      let low = c.loop-position-test.true in
+      let did = c.loop-position.invariant.1 F left E D kept are in
+      let then = forms-kept old now did.builds.extends in
+      let side = side-first cmp code F left d a b E D are (form_at old) (form_at now) (record { kept = kept }) then c.of-first.result c.of-first.ensures in
+      let other = side-second cmp code F left d a b E D are (form_at old) (form_at now) (record { kept = kept }) then c.of-second.result c.of-second.ensures in
+      let first : c.at-x.result ≡ place_below code F d a p = c.at-x.ensures.place code d a side ∙ at-first cmp code F left d a b E D are (form_at old) (form_at now) (record { kept = kept }) then p in
+      let second : c.at-y.result ≡ place_below code F d b p = c.at-y.ensures.place code d b other ∙ at-second cmp code F left d a b E D are (form_at old) (form_at now) (record { kept = kept }) then p in
+      let places = places-at cmp code F left d a b E D are p low c.at-x.result c.at-y.result first second in
+      let come = c.merged_at-merged.ensures.come F left (part cmp code d p E) (part cmp code d p D) (λ l f is. then.kept l f (kept l f is)) places in
+      let more = spread-step cmp code row_limit c.args.keeps F old now new left d a b (merged cmp c.args.keeps E D) (merged cmp c.args.keeps (part cmp code d p E) (part cmp code d p D))
+      c.loop-position.spread c.put.new.self p c.merged_at-merged.result low did c.at-x.result c.at-y.result first second come
+      (part-merged cmp code (λ j k e. ap (λ n. masked_code n c.args.bits) (g.met.T.Element.equal_codes j k e)) c.args.keeps d p E D)
+      (record { places = c.put.ensures.places; stood = c.put.ensures.stood; made = c.put.ensures.made; as_first = c.put.ensures.as_first; as_second = c.put.ensures.as_second }) in
+      let later = forms-kept old new more.builds.extends in
+      let side' = side-first cmp code F left d a b E D are (form_at old) (form_at new) (record { kept = kept }) later c.of-first.result c.of-first.ensures in
+      let other' = side-second cmp code F left d a b E D are (form_at old) (form_at new) (record { kept = kept }) later c.of-second.result c.of-second.ensures in
+      spread-on cmp g.met.T.Ord.total code (λ j k e. ap (λ n. masked_code n c.args.bits) (g.met.T.Element.equal_codes j k e)) row_limit c.args.keeps F old new left d a b E D are c.put.new.self
+      (record { kept = kept }) later c.of-first.result c.of-second.result c.positions.result c.positions-2.result side' other' c.positions.ensures c.positions-2.ensures
+      (p + 1) c.first_from-position-in-loop-position.result c.first_from-position-in-loop-position.ensures.from.0 c.first_from-position-in-loop-position.ensures.from.1 c.first_from-position-in-loop-position.ensures.none more,
+)
 
 pub rows_merged-returns : goal.rows_merged-returns
 rows_merged-returns g t c = record {
   spread = λ F left E D kept are.
-      let all : c.loop-position.position ≡ 32 = omega (arith, c.loop-position-test.false, c.loop-position.auto.position-end) in
+      let all : c.loop-position.position ≡ 32 = omega (arith, c.loop-position-test.false, c.loop-position.invariant.0) in
       subst (λ n. IsSpread g.T.Ord.cmp (code_by g.T.Element.code_of c.args.bits) row_limit c.args.keeps F c.args.heap.now c.loop-position.heap left c.args.depth c.args.a.now c.args.b.now (merged g.T.Ord.cmp c.args.keeps E D) c.loop-position.spread n) all
-      (c.loop-position.invariant F left E D kept are);
+      (c.loop-position.invariant.1 F left E D kept are);
 }
 
 pub rows_merged-positions-requires : goal.rows_merged-positions-requires

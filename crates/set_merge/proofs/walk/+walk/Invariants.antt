@@ -1,4 +1,4 @@
-use Rattle.std.proofs.Common.{ℕ, suc, ◌+◌, ◌*◌, ◌-◌, List}
+use Rattle.std.proofs.Common.{ℕ, suc, ◌+◌, ◌*◌, ◌-◌, ◌≤◌, List}
 use Rattle.elem_core.specs.declared.codes.TheConstants.{DEEPEST}
 use Rattle.node_heap.specs.Heap.{form_at, row_limit}
 use Rattle.node_heap.specs.Forms.{Forms}
@@ -17,7 +17,11 @@ decreases-merged_at g l = 3 * (DEEPEST - l.depth) + 1
 abbrev pub decreases-merged_below : goal.decreases-merged_below
 decreases-merged_below g l = 3 * (DEEPEST - l.depth)
 
+abbrev pub decreases-rows_merged-loop-position : goal.decreases-rows_merged-loop-position
+decreases-rows_merged-loop-position g l = 32 - l.position
+
 abbrev pub invariant-rows_merged-loop-position : goal.invariant-rows_merged-loop-position
 invariant-rows_merged-loop-position g l =
-    (F : Forms g.row.T.Denot) (left : ℕ) (E D : List (Entry g.row.T.Denot)) → AreKept F (form_at l.initial.heap) → AreSides g.T.Ord.cmp (code_by g.T.Element.code_of l.bits) F (suc left) l.depth l.a l.b E D
-    → IsSpread g.T.Ord.cmp (code_by g.T.Element.code_of l.bits) row_limit l.keeps F l.initial.heap l.heap left l.depth l.a l.b (merged g.T.Ord.cmp l.keeps E D) l.spread l.position
+    (l.position ≤ 32)
+    × ((F : Forms g.row.T.Denot) (left : ℕ) (E D : List (Entry g.row.T.Denot)) → AreKept F (form_at l.initial.heap) → AreSides g.T.Ord.cmp (code_by g.T.Element.code_of l.bits) F (suc left) l.depth l.a l.b E D
+    → IsSpread g.T.Ord.cmp (code_by g.T.Element.code_of l.bits) row_limit l.keeps F l.initial.heap l.heap left l.depth l.a l.b (merged g.T.Ord.cmp l.keeps E D) l.spread l.position)
