@@ -1,5 +1,5 @@
 -- What a merge makes of two places, and of the positions of a row.
-use Rattle.std.specs.Prelude.{◌≡◌, ℕ, ◌+◌, Bool, true, false, List, [], ◌∷◌, Option, Some, None, ◌⊎◌}
+use Rattle.std.specs.Prelude.{◌≡◌, ℕ, ◌+◌, Bool, true, false, List, [], ◌∷◌, length, slice_index_or, Option, Some, None, ◌⊎◌}
 use Rattle.std.specs.List.{flat_map}
 use Rattle.node_heap.specs.Links.{count}
 use Rattle.node_heap.specs.Heap.{Heap, form_at}
@@ -51,6 +51,15 @@ lone_of places = lone_from (Some Empty) places
 -- the place is the first or the second one, as all positions are, or what is all that stands there
 abbrev pub IsUnchanged : Spread → Place → Place → Place → Type 0
 IsUnchanged s a b place = ((s.as_first ≡ true) × (place ≡ a)) ⊎ ((s.as_second ≡ true) × (place ≡ b)) ⊎ (lone_of s.places ≡ Some place)
+
+-- nothing was put there yet
+pub record IsBlank (s : Spread) : Type 0 where
+  pub places : (p : ℕ) → slice_index_or s.places p Empty ≡ Empty
+  pub number : length s.places ≡ 32
+  pub stood : s.stood ≡ []
+  pub made : s.made ≡ false
+  pub as_first : s.as_first ≡ true
+  pub as_second : s.as_second ≡ true
 
 -- a row is wanted: some node is new, or the positions are neither those of the first place nor those of the second, and more than one
 -- entry stands there

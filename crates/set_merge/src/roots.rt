@@ -126,7 +126,8 @@ fn merged_root<T: Element>(heap: &mut Heap<T>, roots: &Roots, keeps: Keeps) -> L
     }
     let a = Place::Node(roots.a);
     let b = Place::Node(roots.b);
-    let spread = rows_merged(heap, &a, &b, 0, roots.bits, keeps);
+    let mut spread = Spread::empty();
+    rows_merged(heap, &a, &b, 0, roots.bits, keeps, &mut spread);
     match spread.root(roots.a, roots.b) {
         Some(root) => {
             heap.hold(root);

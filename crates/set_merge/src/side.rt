@@ -28,6 +28,7 @@ pub(crate) enum Side {
 
 impl Side {
     // The place as a row of the depth.
+    #[inline(always)]
     pub(crate) fn of<T: Element>(heap: &Heap<T>, place: &Place, depth: u8, bits: u32) -> Side
         requires bits { bits ≤ CODE_BITS }
         requires deep { depth ≤ DEEPEST }
@@ -49,7 +50,7 @@ impl Side {
     }
 
     // The positions at which something stands.
-    #[inline]
+    #[inline(always)]
     pub(crate) fn positions(&self) -> u32
         requires { IsLow self.now }
         ensures { (p : ℕ) → p < 32 → has result p ≡ has_place self.now p }
@@ -104,7 +105,7 @@ fn place_at<T>(heap: &Heap<T>, row: Link, entries: u32, nodes: u32, position: u3
 }
 
 // The first position of the set from this one on, 32 where there is none.
-#[inline]
+#[inline(always)]
 pub(crate) fn first_from(set: u32, from: u32) -> u32
     requires { from ≤ 32 }
     ensures from { (from ≤ result) × (result ≤ 32) }
@@ -121,6 +122,7 @@ pub(crate) fn first_from(set: u32, from: u32) -> u32
 }
 
 // What a merge of two places gives at once, None where it has to look below them.
+#[inline(always)]
 pub(crate) fn settled<T: Element>(
     heap: &Heap<T>,
     a: &Place,
@@ -153,6 +155,7 @@ pub(crate) fn settled<T: Element>(
 }
 
 // The place, or nothing.
+#[inline(always)]
 pub(crate) fn kept_if(kept: bool, place: &Place) -> Place
     ensures { result ≡ (if kept then place.now else Empty) }
 {
@@ -160,6 +163,7 @@ pub(crate) fn kept_if(kept: bool, place: &Place) -> Place
 }
 
 // What a merge of two entries gives at once.
+#[inline(always)]
 fn settled_entries<T: Element>(heap: &Heap<T>, x: Link, y: Link, keeps: Keeps) -> Option<Place>
     requires first { IsSome (key_at (form_at heap.now) x) }
     requires second { IsSome (key_at (form_at heap.now) y) }

@@ -1,12 +1,11 @@
 //! What stands at the positions of a row that is being merged.
-ghost use Rattle.std.specs.Prelude.{◌≡◌, ℕ, ◌+◌, ◌<◌, ◌≤◌, true, false, ◌||◌, ◌⊎◌, List, [], ◌∷◌, ◌++◌, length, slice_set, slice_index_or, None, IsSome, IfSome};
+ghost use Rattle.std.specs.Prelude.{◌≡◌, ℕ, ◌+◌, ◌<◌, ◌≤◌, true, false, ◌||◌, ◌⊎◌, List, [], ◌∷◌, ◌++◌, length, slice_set, None, IsSome, IfSome};
 ghost use Rattle.std.specs.List.{flat_map};
 ghost use Rattle.node_heap.specs.Links.{count};
 ghost use Rattle.node_heap.specs.Heap.{form_at, row_at, holds_at, hold_count, IsGraph, half_holds};
 ghost use Rattle.node_heap.specs.Calls.{Builds};
 ghost use Rattle.champ_trie.specs.Trie.{IsRowOfPlaces, links_at_place};
-ghost use Rattle.champ_trie.specs.declared.place.Place.TheVariants.{Empty};
-ghost use Rattle.set_merge.specs.Spread.{place_merged, old_links, is_new, lone_of, lone_with, IsUnchanged, Closed};
+ghost use Rattle.set_merge.specs.Spread.{place_merged, old_links, is_new, lone_of, lone_with, IsBlank, IsUnchanged, Closed};
 
 use crate::merged::{Merged, is_same};
 use champ_trie::{Place, row_of_places};
@@ -28,12 +27,7 @@ pub(crate) struct Spread {
 impl Spread {
     // Nothing at any position yet.
     pub(crate) fn empty() -> Spread
-        ensures places { (p : ℕ) → slice_index_or result.places p Empty ≡ Empty }
-        ensures number { length result.places ≡ 32 }
-        ensures stood { result.stood ≡ [] }
-        ensures made { result.made ≡ false }
-        ensures as_first { result.as_first ≡ true }
-        ensures as_second { result.as_second ≡ true }
+        ensures blank { IsBlank result }
     {
         Spread {
             places: [Place::Empty; 32],

@@ -7,6 +7,7 @@ ghost use Rattle.champ_trie.specs.Trie.{code_by};
 ghost use Rattle.set_merge.specs.Merge.{merged};
 ghost use Rattle.set_merge.specs.Need.{rows_need};
 ghost use Rattle.set_merge.specs.Side.{settled as settled_place};
+ghost use Rattle.set_merge.specs.Spread.{IsBlank};
 ghost use Rattle.set_merge.specs.Walk.{AreKept, AreSides, ArePlaces, place_need, IsCome, IsSpread};
 
 use crate::chains::chains_merged;
@@ -18,7 +19,8 @@ use champ_trie::Place;
 use elem_core::{CODE_BITS, DEEPEST, Element};
 use node_heap::Heap;
 
-// What stands at the positions of the merge of two places as rows of a depth. The spares suffice.
+// Notes what stands at the positions of the merge of two places as rows of a depth. The spares suffice. It is noted where the caller
+// has room for it, since to hand it back would copy it.
 #[cycle(walk)]
 pub(crate) fn rows_merged<T: Element>(
     heap: &mut Heap<T>,
@@ -27,7 +29,9 @@ pub(crate) fn rows_merged<T: Element>(
     depth: u8,
     bits: u32,
     keeps: Keeps,
-) -> Spread
+    spread: &mut Spread,
+)
+    requires blank { IsBlank spread.old }
     requires bits { bits ≤ CODE_BITS }
     requires deep { depth ≤ DEEPEST }
     requires few { hold_count heap.old ≤ half_holds + 32 * depth }
@@ -36,9 +40,8 @@ pub(crate) fn rows_merged<T: Element>(
         × AreSides T.cmp (code_by T.code_of bits) F (suc left) depth a.now b.now E D
         × (rows_need T.cmp (code_by T.code_of bits) row_limit F keeps (suc left) depth a.now b.now ≤ heap.old.spare_nodes + 1) }
     ensures spread { (F : Forms T) (left : ℕ) (E D : List (Entry T)) → AreKept F (form_at heap.old) → AreSides T.cmp (code_by T.code_of bits) F (suc left) depth a.now b.now E D →
-        IsSpread T.cmp (code_by T.code_of bits) row_limit keeps F heap.old heap.new left depth a.now b.now (merged T.cmp keeps E D) result 32 }
+        IsSpread T.cmp (code_by T.code_of bits) row_limit keeps F heap.old heap.new left depth a.now b.now (merged T.cmp keeps E D) spread.new 32 }
 {
-    let mut spread = Spread::empty();
     let first = Side::of(heap, a, depth, bits);
     let second = Side::of(heap, b, depth, bits);
     let some = first.positions() | second.positions();
@@ -50,7 +53,6 @@ pub(crate) fn rows_merged<T: Element>(
         spread.put(position, &merged, &x, &y);
         position = first_from(some, position + 1);
     }
-    spread
 }
 
 // What stands for the merge of what two rows of the depth have at one position. The spares suffice.
@@ -105,6 +107,7 @@ fn merged_below<T: Element>(
     ensures come { (F : Forms T) (left : ℕ) (E D : List (Entry T)) → AreKept F (form_at heap.old) → ArePlaces T.cmp (code_by T.code_of bits) F left depth x.now y.now E D →
         IsCome T.cmp (code_by T.code_of bits) row_limit keeps F heap.old heap.new left depth x.now y.now (merged T.cmp keeps E D) result }
 {
-    let below = rows_merged(heap, x, y, depth + 1, bits, keeps);
+    let mut below = Spread::empty();
+    rows_merged(heap, x, y, depth + 1, bits, keeps, &mut below);
     below.close(heap, depth + 1, x, y)
 }

@@ -30,10 +30,10 @@ returns-then-keeps-clause-entries g c = λ E D first second.
     (KeepsTries-same c.args.heap.now c.hold.new.self c.hold.ensures.rows cmp code a E first)
 
 pub make-requires-clause-held : goal.make-requires-clause-held
-make-requires-clause-held g c = λ l. omega (arith, flat-empty l c.empty.result.places c.empty.ensures.places)
+make-requires-clause-held g c = λ l. omega (arith, flat-empty l c.empty.result.places c.empty.ensures.blank.places)
 
 pub make-requires-clause-live : goal.make-requires-clause-live
-make-requires-clause-live g c = λ l some. absurd (omega (arith, some, ap (count l) c.empty.ensures.stood))
+make-requires-clause-live g c = λ l some. absurd (omega (arith, some, ap (count l) c.empty.ensures.blank.stood))
 
 pub make-requires-clause-spare : goal.make-requires-clause-spare
 make-requires-clause-spare g c =
@@ -49,18 +49,18 @@ returns-then-eq-clause-builds g c =
     let b = c.args.roots.now.b in
     let pick : Bool → ℕ = λ t. cond t 0 1 in
     let one = ap pick c.if-keeps.false in
-    Builds-more 0 _ (c.make.ensures.builds [] (λ l. omega (arith, flat-empty l c.empty.result.places c.empty.ensures.places, ap (count l) c.empty.ensures.stood))) (omega arith)
+    Builds-more 0 _ (c.make.ensures.builds [] (λ l. omega (arith, flat-empty l c.empty.result.places c.empty.ensures.blank.places, ap (count l) c.empty.ensures.blank.stood))) (omega arith)
     (omega (arith, need-one g.T.Ord.cmp g.T.Element.code_of c.args.keeps c.args.heap.now c.args.roots.now.bits a b (eqb-true a b (sym c.if-eq.ensures)), one))
 
 pub returns-then-eq-clause-entries : goal.returns-then-eq-clause-entries
 returns-then-eq-clause-entries g c = λ E D first second.
     let a = c.args.roots.now.a in
     let b = c.args.roots.now.b in
-    root-empty g.T.Ord.cmp (code_by g.T.Element.code_of c.args.roots.now.bits) g.met.T.Ord.total c.args.keeps c.args.heap.now a b E D first second c.make.new.heap c.make.result c.empty.result.places c.empty.ensures.places
+    root-empty g.T.Ord.cmp (code_by g.T.Element.code_of c.args.roots.now.bits) g.met.T.Ord.total c.args.keeps c.args.heap.now a b E D first second c.make.new.heap c.make.result c.empty.result.places c.empty.ensures.blank.places
     (eqb-true a b (sym c.if-eq.ensures)) c.if-keeps.false c.make.ensures.row
 
-pub rows_merged-spread-requires-clause-sides : goal.rows_merged-spread-requires-clause-sides
-rows_merged-spread-requires-clause-sides g c =
+pub rows_merged-requires-clause-sides : goal.rows_merged-requires-clause-sides
+rows_merged-requires-clause-sides g c =
     let cmp = g.T.Ord.cmp in
     let code = code_by g.T.Element.code_of c.args.roots.now.bits in
     let one = c.requires.first in
@@ -86,15 +86,15 @@ hold-requires-in-Some-clause-live g c =
     let h = c.args.heap.now in
     let a = c.args.roots.now.a in
     let b = c.args.roots.now.b in
-    let did = c.rows_merged-spread.ensures.spread (form_at h) DEEPEST one.0 two.0 (λ l f is. is) (root-sides cmp code g.met.T.Ord.total c.args.keeps h a b one.0 two.0 one.1 two.1) in
-    root-alive cmp code g.met.T.Ord.total c.args.keeps h a b one.0 two.0 one.1 two.1 c.rows_merged-spread.new.heap _ _ c.in-Some.root did.builds.extends c.in-Some.ensures.some.1
+    let did = c.rows_merged.ensures.spread (form_at h) DEEPEST one.0 two.0 (λ l f is. is) (root-sides cmp code g.met.T.Ord.total c.args.keeps h a b one.0 two.0 one.1 two.1) in
+    root-alive cmp code g.met.T.Ord.total c.args.keeps h a b one.0 two.0 one.1 two.1 c.rows_merged.new.heap _ _ c.in-Some.root did.builds.extends c.in-Some.ensures.some.1
 
 pub hold-requires-in-Some-clause-few : goal.hold-requires-in-Some-clause-few
 hold-requires-in-Some-clause-few g c =
     let one = c.requires.first in
     let two = c.requires.second in
     let h = c.args.heap.now in
-    let did = c.rows_merged-spread.ensures.spread (form_at h) DEEPEST one.0 two.0 (λ l f is. is)
+    let did = c.rows_merged.ensures.spread (form_at h) DEEPEST one.0 two.0 (λ l f is. is)
     (root-sides g.T.Ord.cmp (code_by g.T.Element.code_of c.args.roots.now.bits) g.met.T.Ord.total c.args.keeps h c.args.roots.now.a c.args.roots.now.b one.0 two.0 one.1 two.1) in
     omega (arith, c.requires.few, did.builds.total, did.few)
 
@@ -103,7 +103,7 @@ make-requires-in-None-clause-graph g c =
     let one = c.requires.first in
     let two = c.requires.second in
     let h = c.args.heap.now in
-    let did = c.rows_merged-spread.ensures.spread (form_at h) DEEPEST one.0 two.0 (λ l f is. is)
+    let did = c.rows_merged.ensures.spread (form_at h) DEEPEST one.0 two.0 (λ l f is. is)
     (root-sides g.T.Ord.cmp (code_by g.T.Element.code_of c.args.roots.now.bits) g.met.T.Ord.total c.args.keeps h c.args.roots.now.a c.args.roots.now.b one.0 two.0 one.1 two.1) in
     did.builds.graph
 
@@ -112,7 +112,7 @@ make-requires-in-None-clause-number g c =
     let one = c.requires.first in
     let two = c.requires.second in
     let h = c.args.heap.now in
-    let did = c.rows_merged-spread.ensures.spread (form_at h) DEEPEST one.0 two.0 (λ l f is. is)
+    let did = c.rows_merged.ensures.spread (form_at h) DEEPEST one.0 two.0 (λ l f is. is)
     (root-sides g.T.Ord.cmp (code_by g.T.Element.code_of c.args.roots.now.bits) g.met.T.Ord.total c.args.keeps h c.args.roots.now.a c.args.roots.now.b one.0 two.0 one.1 two.1) in
     did.number
 
@@ -125,8 +125,8 @@ make-requires-in-None-clause-live g c =
     let h = c.args.heap.now in
     let a = c.args.roots.now.a in
     let b = c.args.roots.now.b in
-    let did = c.rows_merged-spread.ensures.spread (form_at h) DEEPEST one.0 two.0 (λ l f is. is) (root-sides cmp code g.met.T.Ord.total c.args.keeps h a b one.0 two.0 one.1 two.1) in
-    spread-live cmp code row_limit c.args.keeps (form_at h) h c.rows_merged-spread.new.heap DEEPEST 0 (Node a) (Node b) (merged cmp c.args.keeps one.0 two.0) c.rows_merged-spread.result did
+    let did = c.rows_merged.ensures.spread (form_at h) DEEPEST one.0 two.0 (λ l f is. is) (root-sides cmp code g.met.T.Ord.total c.args.keeps h a b one.0 two.0 one.1 two.1) in
+    spread-live cmp code row_limit c.args.keeps (form_at h) h c.rows_merged.new.heap DEEPEST 0 (Node a) (Node b) (merged cmp c.args.keeps one.0 two.0) c.rows_merged.new.spread did
 
 pub make-requires-in-None-clause-held : goal.make-requires-in-None-clause-held
 make-requires-in-None-clause-held g c =
@@ -137,15 +137,15 @@ make-requires-in-None-clause-held g c =
     let h = c.args.heap.now in
     let a = c.args.roots.now.a in
     let b = c.args.roots.now.b in
-    let did = c.rows_merged-spread.ensures.spread (form_at h) DEEPEST one.0 two.0 (λ l f is. is) (root-sides cmp code g.met.T.Ord.total c.args.keeps h a b one.0 two.0 one.1 two.1) in
-    spread-held cmp code row_limit c.args.keeps (form_at h) h c.rows_merged-spread.new.heap DEEPEST 0 (Node a) (Node b) (merged cmp c.args.keeps one.0 two.0) c.rows_merged-spread.result did
+    let did = c.rows_merged.ensures.spread (form_at h) DEEPEST one.0 two.0 (λ l f is. is) (root-sides cmp code g.met.T.Ord.total c.args.keeps h a b one.0 two.0 one.1 two.1) in
+    spread-held cmp code row_limit c.args.keeps (form_at h) h c.rows_merged.new.heap DEEPEST 0 (Node a) (Node b) (merged cmp c.args.keeps one.0 two.0) c.rows_merged.new.spread did
 
 pub make-requires-in-None-clause-few : goal.make-requires-in-None-clause-few
 make-requires-in-None-clause-few g c =
     let one = c.requires.first in
     let two = c.requires.second in
     let h = c.args.heap.now in
-    let did = c.rows_merged-spread.ensures.spread (form_at h) DEEPEST one.0 two.0 (λ l f is. is)
+    let did = c.rows_merged.ensures.spread (form_at h) DEEPEST one.0 two.0 (λ l f is. is)
     (root-sides g.T.Ord.cmp (code_by g.T.Element.code_of c.args.roots.now.bits) g.met.T.Ord.total c.args.keeps h c.args.roots.now.a c.args.roots.now.b one.0 two.0 one.1 two.1) in
     omega (arith, c.requires.few, did.builds.total, did.few)
 
@@ -158,7 +158,7 @@ make-requires-in-None-clause-spare g c =
     let h = c.args.heap.now in
     let a = c.args.roots.now.a in
     let b = c.args.roots.now.b in
-    let did = c.rows_merged-spread.ensures.spread (form_at h) DEEPEST one.0 two.0 (λ l f is. is) (root-sides cmp code g.met.T.Ord.total c.args.keeps h a b one.0 two.0 one.1 two.1) in
+    let did = c.rows_merged.ensures.spread (form_at h) DEEPEST one.0 two.0 (λ l f is. is) (root-sides cmp code g.met.T.Ord.total c.args.keeps h a b one.0 two.0 one.1 two.1) in
     omega (arith, c.requires.spare, need-two cmp g.T.Element.code_of c.args.keeps h c.args.roots.now.bits a b (eqb-false a b (sym c.if-eq.ensures)), need-more cmp code row_limit (form_at h) c.args.keeps DEEPEST 0 (Node a) (Node b), Builds-spare_nodes did.builds)
 
 pub returns-in-Some-clause-builds : goal.returns-in-Some-clause-builds
@@ -168,10 +168,10 @@ returns-in-Some-clause-builds g c =
     let one = c.requires.first in
     let two = c.requires.second in
     let h = c.args.heap.now in
-    let mid = c.rows_merged-spread.new.heap in
+    let mid = c.rows_merged.new.heap in
     let a = c.args.roots.now.a in
     let b = c.args.roots.now.b in
-    let did = c.rows_merged-spread.ensures.spread (form_at h) DEEPEST one.0 two.0 (λ l f is. is) (root-sides cmp code g.met.T.Ord.total c.args.keeps h a b one.0 two.0 one.1 two.1) in
+    let did = c.rows_merged.ensures.spread (form_at h) DEEPEST one.0 two.0 (λ l f is. is) (root-sides cmp code g.met.T.Ord.total c.args.keeps h a b one.0 two.0 one.1 two.1) in
     let held = Builds-hold c.hold-in-Some.ensures.holds c.hold-in-Some.ensures.makes c.hold-in-Some.ensures.count c.hold-in-Some.ensures.graph c.hold-in-Some.ensures.extends in
     let unmade = subst (λ xs. Builds h mid [] xs 0 (sum_below 32 (position_need cmp code row_limit (form_at h) c.args.keeps DEEPEST 0 (Node a) (Node b)))) (did.unmade c.in-Some.ensures.some.0) did.builds in
     Builds-more 0 _ (Builds-both [] (c.in-Some.root ∷ []) unmade held (λ l. omega arith) (omega arith)) (omega arith)
@@ -182,12 +182,12 @@ returns-in-Some-clause-entries g c = λ E D first second.
     let cmp = g.T.Ord.cmp in
     let code = code_by g.T.Element.code_of c.args.roots.now.bits in
     let h = c.args.heap.now in
-    let mid = c.rows_merged-spread.new.heap in
+    let mid = c.rows_merged.new.heap in
     let a = c.args.roots.now.a in
     let b = c.args.roots.now.b in
-    let did = c.rows_merged-spread.ensures.spread (form_at h) DEEPEST E D (λ l f is. is) (root-sides cmp code g.met.T.Ord.total c.args.keeps h a b E D first second) in
+    let did = c.rows_merged.ensures.spread (form_at h) DEEPEST E D (λ l f is. is) (root-sides cmp code g.met.T.Ord.total c.args.keeps h a b E D first second) in
     KeepsTries-same mid c.hold-in-Some.new.self c.hold-in-Some.ensures.rows cmp code c.in-Some.root (merged cmp c.args.keeps E D)
-    (root-stood cmp code g.met.T.Ord.total c.args.keeps h a b E D first second mid c.rows_merged-spread.result (forms-kept h mid did.builds.extends) did c.in-Some.root c.in-Some.ensures.some.1)
+    (root-stood cmp code g.met.T.Ord.total c.args.keeps h a b E D first second mid c.rows_merged.new.spread (forms-kept h mid did.builds.extends) did c.in-Some.root c.in-Some.ensures.some.1)
 
 pub returns-in-None-clause-builds : goal.returns-in-None-clause-builds
 returns-in-None-clause-builds g c =
@@ -198,7 +198,7 @@ returns-in-None-clause-builds g c =
     let h = c.args.heap.now in
     let a = c.args.roots.now.a in
     let b = c.args.roots.now.b in
-    let did = c.rows_merged-spread.ensures.spread (form_at h) DEEPEST one.0 two.0 (λ l f is. is) (root-sides cmp code g.met.T.Ord.total c.args.keeps h a b one.0 two.0 one.1 two.1) in
+    let did = c.rows_merged.ensures.spread (form_at h) DEEPEST one.0 two.0 (λ l f is. is) (root-sides cmp code g.met.T.Ord.total c.args.keeps h a b one.0 two.0 one.1 two.1) in
     Builds-more 0 _ (Builds-then did.builds (c.make-in-None.ensures.builds did.news did.counted)) (omega arith)
     (omega (arith, need-two cmp g.T.Element.code_of c.args.keeps h c.args.roots.now.bits a b (eqb-false a b (sym c.if-eq.ensures)), need-more cmp code row_limit (form_at h) c.args.keeps DEEPEST 0 (Node a) (Node b)))
 
@@ -207,12 +207,12 @@ returns-in-None-clause-entries g c = λ E D first second.
     let cmp = g.T.Ord.cmp in
     let code = code_by g.T.Element.code_of c.args.roots.now.bits in
     let h = c.args.heap.now in
-    let mid = c.rows_merged-spread.new.heap in
+    let mid = c.rows_merged.new.heap in
     let a = c.args.roots.now.a in
     let b = c.args.roots.now.b in
-    let did = c.rows_merged-spread.ensures.spread (form_at h) DEEPEST E D (λ l f is. is) (root-sides cmp code g.met.T.Ord.total c.args.keeps h a b E D first second) in
+    let did = c.rows_merged.ensures.spread (form_at h) DEEPEST E D (λ l f is. is) (root-sides cmp code g.met.T.Ord.total c.args.keeps h a b E D first second) in
     let made = c.make-in-None.ensures.builds did.news did.counted in
-    root-made cmp code g.met.T.Ord.total c.args.keeps h a b E D first second mid c.rows_merged-spread.result (forms-kept h mid did.builds.extends) did c.make-in-None.new.heap c.make-in-None.result
+    root-made cmp code g.met.T.Ord.total c.args.keeps h a b E D first second mid c.rows_merged.new.spread (forms-kept h mid did.builds.extends) did c.make-in-None.new.heap c.make-in-None.result
     (forms-kept mid c.make-in-None.new.heap made.extends) c.make-in-None.ensures.row
 
 pub returns-then-keeps-clause-same : goal.returns-then-keeps-clause-same

@@ -62,15 +62,15 @@ merged_at-merged_below-requires g t c = λ κs sub. (
   (sub, (c.requires.bits, (omega (arith, c.requires.deep, c.if-depth-eq-DEEPEST.false), (c.requires.few, (c.requires.graph, (sym c.settled.ensures ∙ c.in_default.is, c.requires.places)))))),
 )
 
-pub merged_below-rows_merged-below-requires : goal.merged_below-rows_merged-below-requires
-merged_below-rows_merged-below-requires g t c = λ κs sub.
+pub merged_below-rows_merged-requires : goal.merged_below-rows_merged-requires
+merged_below-rows_merged-requires g t c = λ κs sub.
     let r = c.requires.places in
     let code = code_by g.T.Element.code_of c.args.bits in
     let more : r.1 ≡ suc (r.1 - 1) = omega (arith, r.5.levels, c.requires.deep) in
     let sides = below-sides g.T.Ord.cmp code row_limit c.args.keeps r.0 c.args.heap.now (record { kept = r.4 }) r.1 c.args.depth c.args.x.now c.args.y.now r.2 r.3 r.5 (r.1 - 1) more (c.args.depth + 1) (omega arith) in
     let need = below-need g.T.Ord.cmp code row_limit c.args.keeps r.0 c.args.heap.now (record { kept = r.4 }) r.1 c.args.depth c.args.x.now c.args.y.now r.2 r.3 r.5 (r.1 - 1) more (c.args.depth + 1) (omega arith) c.requires.look in (
       omega (arith, c.decreases, c.requires.deep),
-      (sub, (c.requires.bits, (omega (arith, c.requires.deep), (omega (arith, c.requires.few), (c.requires.graph, (r.0, r.1 - 1, r.2, r.3, r.4, sides, omega (arith, need, r.6))))))),
+      (sub, (c.empty-below.ensures.blank, (c.requires.bits, (omega (arith, c.requires.deep), (omega (arith, c.requires.few), (c.requires.graph, (r.0, r.1 - 1, r.2, r.3, r.4, sides, omega (arith, need, r.6)))))))),
     )
 
 pub merged_below-close-requires-clause-graph : goal.merged_below-close-requires-clause-graph
@@ -78,7 +78,7 @@ merged_below-close-requires-clause-graph g t c =
     let r = c.requires.places in
     let more : r.1 ≡ suc (r.1 - 1) = omega (arith, r.5.levels, c.requires.deep) in
     let sides = below-sides g.T.Ord.cmp (code_by g.T.Element.code_of c.args.bits) row_limit c.args.keeps r.0 c.args.heap.now (record { kept = r.4 }) r.1 c.args.depth c.args.x.now c.args.y.now r.2 r.3 r.5 (r.1 - 1) more (c.args.depth + 1) (omega arith) in
-    (c.rows_merged-below.ensures.spread r.0 (r.1 - 1) r.2 r.3 r.4 sides).builds.graph
+    (c.rows_merged.ensures.spread r.0 (r.1 - 1) r.2 r.3 r.4 sides).builds.graph
 
 pub merged_below-close-requires-clause-live : goal.merged_below-close-requires-clause-live
 merged_below-close-requires-clause-live g t c =
@@ -86,8 +86,8 @@ merged_below-close-requires-clause-live g t c =
     let code = code_by g.T.Element.code_of c.args.bits in
     let more : r.1 ≡ suc (r.1 - 1) = omega (arith, r.5.levels, c.requires.deep) in
     let sides = below-sides g.T.Ord.cmp code row_limit c.args.keeps r.0 c.args.heap.now (record { kept = r.4 }) r.1 c.args.depth c.args.x.now c.args.y.now r.2 r.3 r.5 (r.1 - 1) more (c.args.depth + 1) (omega arith) in
-    spread-live g.T.Ord.cmp code row_limit c.args.keeps r.0 c.args.heap.now c.rows_merged-below.new.heap (r.1 - 1) (c.args.depth + 1) c.args.x.now c.args.y.now (merged g.T.Ord.cmp c.args.keeps r.2 r.3) c.rows_merged-below.result
-    (c.rows_merged-below.ensures.spread r.0 (r.1 - 1) r.2 r.3 r.4 sides)
+    spread-live g.T.Ord.cmp code row_limit c.args.keeps r.0 c.args.heap.now c.rows_merged.new.heap (r.1 - 1) (c.args.depth + 1) c.args.x.now c.args.y.now (merged g.T.Ord.cmp c.args.keeps r.2 r.3) c.rows_merged.new.spread
+    (c.rows_merged.ensures.spread r.0 (r.1 - 1) r.2 r.3 r.4 sides)
 
 pub merged_below-close-requires-clause-held : goal.merged_below-close-requires-clause-held
 merged_below-close-requires-clause-held g t c =
@@ -95,22 +95,22 @@ merged_below-close-requires-clause-held g t c =
     let code = code_by g.T.Element.code_of c.args.bits in
     let more : r.1 ≡ suc (r.1 - 1) = omega (arith, r.5.levels, c.requires.deep) in
     let sides = below-sides g.T.Ord.cmp code row_limit c.args.keeps r.0 c.args.heap.now (record { kept = r.4 }) r.1 c.args.depth c.args.x.now c.args.y.now r.2 r.3 r.5 (r.1 - 1) more (c.args.depth + 1) (omega arith) in
-    spread-held g.T.Ord.cmp code row_limit c.args.keeps r.0 c.args.heap.now c.rows_merged-below.new.heap (r.1 - 1) (c.args.depth + 1) c.args.x.now c.args.y.now (merged g.T.Ord.cmp c.args.keeps r.2 r.3) c.rows_merged-below.result
-    (c.rows_merged-below.ensures.spread r.0 (r.1 - 1) r.2 r.3 r.4 sides)
+    spread-held g.T.Ord.cmp code row_limit c.args.keeps r.0 c.args.heap.now c.rows_merged.new.heap (r.1 - 1) (c.args.depth + 1) c.args.x.now c.args.y.now (merged g.T.Ord.cmp c.args.keeps r.2 r.3) c.rows_merged.new.spread
+    (c.rows_merged.ensures.spread r.0 (r.1 - 1) r.2 r.3 r.4 sides)
 
 pub merged_below-close-requires-clause-number : goal.merged_below-close-requires-clause-number
 merged_below-close-requires-clause-number g t c =
     let r = c.requires.places in
     let more : r.1 ≡ suc (r.1 - 1) = omega (arith, r.5.levels, c.requires.deep) in
     let sides = below-sides g.T.Ord.cmp (code_by g.T.Element.code_of c.args.bits) row_limit c.args.keeps r.0 c.args.heap.now (record { kept = r.4 }) r.1 c.args.depth c.args.x.now c.args.y.now r.2 r.3 r.5 (r.1 - 1) more (c.args.depth + 1) (omega arith) in
-    (c.rows_merged-below.ensures.spread r.0 (r.1 - 1) r.2 r.3 r.4 sides).number
+    (c.rows_merged.ensures.spread r.0 (r.1 - 1) r.2 r.3 r.4 sides).number
 
 pub merged_below-close-requires-clause-few : goal.merged_below-close-requires-clause-few
 merged_below-close-requires-clause-few g t c =
     let r = c.requires.places in
     let more : r.1 ≡ suc (r.1 - 1) = omega (arith, r.5.levels, c.requires.deep) in
     let sides = below-sides g.T.Ord.cmp (code_by g.T.Element.code_of c.args.bits) row_limit c.args.keeps r.0 c.args.heap.now (record { kept = r.4 }) r.1 c.args.depth c.args.x.now c.args.y.now r.2 r.3 r.5 (r.1 - 1) more (c.args.depth + 1) (omega arith) in
-    let did = c.rows_merged-below.ensures.spread r.0 (r.1 - 1) r.2 r.3 r.4 sides in
+    let did = c.rows_merged.ensures.spread r.0 (r.1 - 1) r.2 r.3 r.4 sides in
     omega (arith, c.requires.few, did.builds.total, did.few, c.requires.deep)
 
 pub merged_below-close-requires-clause-spare : goal.merged_below-close-requires-clause-spare
@@ -119,7 +119,7 @@ merged_below-close-requires-clause-spare g t c =
     let code = code_by g.T.Element.code_of c.args.bits in
     let more : r.1 ≡ suc (r.1 - 1) = omega (arith, r.5.levels, c.requires.deep) in
     let sides = below-sides g.T.Ord.cmp code row_limit c.args.keeps r.0 c.args.heap.now (record { kept = r.4 }) r.1 c.args.depth c.args.x.now c.args.y.now r.2 r.3 r.5 (r.1 - 1) more (c.args.depth + 1) (omega arith) in
-    let did = c.rows_merged-below.ensures.spread r.0 (r.1 - 1) r.2 r.3 r.4 sides in
+    let did = c.rows_merged.ensures.spread r.0 (r.1 - 1) r.2 r.3 r.4 sides in
     omega (arith, r.6, Builds-spare_nodes did.builds, more-need g.T.Ord.cmp code row_limit c.args.keeps r.0 c.args.heap.now (record { kept = r.4 }) r.1 c.args.depth c.args.x.now c.args.y.now r.2 r.3 r.5 (r.1 - 1) more (c.args.depth + 1) (omega arith) c.requires.look)
 
 pub merged_below-returns : goal.merged_below-returns
@@ -130,12 +130,12 @@ merged_below-returns g t c = record {
       let more : left ≡ suc (left - 1) = omega (arith, are.levels, c.requires.deep) in
       let down : c.args.depth + 1 ≡ suc c.args.depth = omega arith in
       let M = merged g.T.Ord.cmp c.args.keeps E D in
-      let s = c.rows_merged-below.result in
+      let s = c.rows_merged.new.spread in
       let h = c.args.heap.now in
-      let mid = c.rows_merged-below.new.heap in
+      let mid = c.rows_merged.new.heap in
       let new = c.close.new.heap in
       let sides = below-sides g.T.Ord.cmp code row_limit c.args.keeps F h (record { kept = kept }) left c.args.depth c.args.x.now c.args.y.now E D are (left - 1) more (c.args.depth + 1) down in
-      let did = c.rows_merged-below.ensures.spread F (left - 1) E D kept sides in
+      let did = c.rows_merged.ensures.spread F (left - 1) E D kept sides in
       let closed = c.close.ensures.closed in
       let later = closed-kept mid new s (c.args.depth + 1) c.args.x.now c.args.y.now c.close.result did.news did.counted closed in
       come-closed g.T.Ord.cmp code row_limit c.args.keeps F h (record { kept = kept }) left c.args.depth c.args.x.now c.args.y.now E D are (left - 1) more mid new s
@@ -175,9 +175,9 @@ rows_merged-loop-position-init g t c = (
       let cmp = g.T.Ord.cmp in
       let code = code_by g.T.Element.code_of c.args.bits in
       let h = c.args.heap.now in
-      let none = spread-none cmp code row_limit c.args.keeps F h left c.args.depth c.args.a.now c.args.b.now (merged cmp c.args.keeps E D) c.empty-spread.result
-      c.requires.graph c.empty-spread.ensures.places c.empty-spread.ensures.number c.empty-spread.ensures.stood c.empty-spread.ensures.made in
-      spread-on cmp g.met.T.Ord.total code (λ j k e. ap (λ n. masked_code n c.args.bits) (g.met.T.Element.equal_codes j k e)) row_limit c.args.keeps F h h left c.args.depth c.args.a.now c.args.b.now E D are c.empty-spread.result
+      let none = spread-none cmp code row_limit c.args.keeps F h left c.args.depth c.args.a.now c.args.b.now (merged cmp c.args.keeps E D) c.args.spread.now
+      c.requires.graph c.requires.blank.places c.requires.blank.number c.requires.blank.stood c.requires.blank.made in
+      spread-on cmp g.met.T.Ord.total code (λ j k e. ap (λ n. masked_code n c.args.bits) (g.met.T.Element.equal_codes j k e)) row_limit c.args.keeps F h h left c.args.depth c.args.a.now c.args.b.now E D are c.args.spread.now
       (record { kept = kept }) (forms-kept h h none.builds.extends) c.of-first.result c.of-second.result c.positions.result c.positions-2.result c.of-first.ensures c.of-second.ensures c.positions.ensures c.positions-2.ensures
       0 c.first_from-position.result c.first_from-position.ensures.from.0 c.first_from-position.ensures.from.1 c.first_from-position.ensures.none none,
 )

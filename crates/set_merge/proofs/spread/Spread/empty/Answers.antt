@@ -13,5 +13,7 @@ blank zero p = refl
 blank (suc n) zero = refl
 blank (suc n) (suc p) = blank n p
 
-pub returns-clause-places : goal.returns-clause-places
-returns-clause-places c = λ p. blank 32 p
+pub returns : goal.returns
+returns c = record {
+  blank = record { places = λ p. blank 32 p; number = refl; stood = c.new.ensures; made = refl; as_first = refl; as_second = refl };
+}
