@@ -1,30 +1,30 @@
 -- Maps by their roots.
 use Rattle.std.proofs.Common.{◌≡◌, ℕ, ◌+◌, true, false, not, cond, List, [], ◌∷◌, map, length, Option, Some, None, refl, ap, sym, ◌∙◌, subst, arith}
-use Rattle.std.specs.Prelude.{filter_map, option_map, unwrap_or, count_by, IsSome}
+use Rattle.std.specs.Prelude.{T, filter_map, option_map, unwrap_or, count_by, is_some, IsSome}
 use Rattle.std.specs.List as list
 use Rattle.std.specs.List.{All, AllZip, cons_option}
 use Rattle.std.specs.Ordering.{eq_by_cmp, is_eq, ordering_reverse}
 use Rattle.std.specs.Cmp.{IsTotalOrder}
-use Rattle.std.specs.FinMap.{find, put}
+use Rattle.std.specs.FinMap.{find, is_sorted, put}
 use Rattle.std.specs.declared.cmp.Ordering.{Ordering}
 use Rattle.std.specs.declared.cmp.Ordering.TheVariants.{Less, Equal}
-use Rattle.std.proofs.lemmas.List.Elements.{All-head, All-tail}
+use Rattle.std.proofs.lemmas.List.Elements.{All-cons, All-head, All-nil, All-tail}
 use Rattle.node_heap.specs.Links.{here}
 use Rattle.node_heap.specs.Forms.{cell, value_of, links_of}
 use Rattle.node_heap.specs.Heap.{Heap, row_at, form_at, links_at, holds_at, hold_count, one_at}
 use Rattle.node_heap.specs.Calls.{Adds, Answered, KeepsBelow, Extends, Unchanged}
 use Rattle.node_heap.proofs.Frames.{Extends-row, Extends-trans}
 use Rattle.node_heap.proofs.BuildLemmas.{count-one}
-use Rattle.champ_chain.specs.Entry.{Entry, SameSet}
+use Rattle.champ_chain.specs.Entry.{Entry, SameSet, same_through}
 use Rattle.champ_chain.proofs.FrameLemmas.{links-form}
 use Rattle.champ_chain.proofs.SetLemmas.{same-sym, same-length}
 use Rattle.champ_trie.specs.Trie.{IsTrieOf}
 use Rattle.champ_trie.specs.Walk.{walk}
 use Rattle.elem_core.specs.declared.codes.TheConstants.{CODE_BITS}
 use Rattle.champ_kinds.specs.Root.{Root}
-use Rattle.champ_kinds.proofs.ZipLemmas.{zip-length}
+use Rattle.champ_kinds.proofs.ZipLemmas.{all-turned, zip-length}
 use Rattle.champ_kinds.specs.Binding.{Binding, binds, bind, unbind, kept_key, value_with}
-use Rattle.champ_kinds.specs.Kinds.{IsPair, IsMapOf}
+use Rattle.champ_kinds.specs.Kinds.{ArePairLinks, IsPair, IsMapOf}
 use Rattle.champ_kinds.proofs.StayLemmas.{container-stays, map-live, map-reaches}
 use Rattle.versions.specs.declared.piece.Piece.{Piece}
 use Rattle.versions.specs.declared.piece.Piece.TheVariants.{Key, Value}
@@ -37,7 +37,7 @@ use Rattle.versions.specs.Bound.{map_at, IsBoundTo, IsKeyMap}
 use Rattle.versions.proofs.MadeLemmas.{stays-extended}
 use Rattle.versions.proofs.MakingLemmas.{value-live}
 use Rattle.versions.proofs.KeyedLemmas.{same-filter_map, form-value, walk-links, root-at}
-use Rattle.versions.proofs.SortLemmas.{AreOnce, other_keys, kept, one-if, count-first, find-by_keys, same-by_keys, bound-by_keys, cut-by_keys, by_keys-same, all-others}
+use Rattle.versions.proofs.SortLemmas.{AreOnce, other_keys, kept, one-if, count-first, find-by_keys, same-by_keys, bound-by_keys, cut-by_keys, by_keys-same, all-others, sorted-by_keys}
 
 module _ {K V : Type 0} (cmp : K → K → Ordering) (value_cmp : V → V → Ordering) (h : Heap (Piece K V)) where
   abbrev pub order : Piece K V → Piece K V → Ordering
@@ -89,7 +89,7 @@ module _ {K V : Type 0} (cmp : K → K → Ordering) (value_cmp : V → V → Or
   zip-bound key value l M es at zip = (record { key = key-kept key M es zip; value = at }, zip-others key M es zip)
 
   -- the entries of a map's pairs
-  pair-entry : (x : Entry (Piece K V)) (b : Binding (Piece K V)) (e : K × V) → IsPair (form_at h) x b → IsBoundTo cmp h b e → entry_at h x.link ≡ Some e
+  pub pair-entry : (x : Entry (Piece K V)) (b : Binding (Piece K V)) (e : K × V) → IsPair (form_at h) x b → IsBoundTo cmp h b e → entry_at h x.link ≡ Some e
   pair-entry x b e is bound =
       let links : links_at h x.link ≡ is.key_cell ∷ b.value ∷ [] = sym (links-form h x.link) ∙ ap links_of is.row in
       let key : value_at h is.key_cell ≡ Some (Key e.0) = sym (form-value (row_at h is.key_cell)) ∙ ap value_of is.cell ∙ ap Some (sym is.key ∙ bound.key) in
@@ -113,6 +113,16 @@ module _ {K V : Type 0} (cmp : K → K → Ordering) (value_cmp : V → V → Or
   entries-once q (x ∷ E) (b ∷ M) (e ∷ es) pairs zip =
       let same : is_eq (order (Key q) x.key) ≡ eq_by_cmp cmp q e.0 = ap (λ y. is_eq (order (Key q) y)) (sym pairs.0.key) ∙ binds-key q b e zip.0 in
       omega (arith, count-first (λ (y : Entry (Piece K V)). is_eq (order (Key q) y.key)) x E, count-first (λ (d : K × V). eq_by_cmp cmp q d.0) e es, ap one-if same, entries-once q E M es pairs.1 zip.1)
+
+  some-entries : (E : List (Entry (Piece K V))) (M : List (Binding (Piece K V))) (es : List (K × V)) → AllZip (IsPair (form_at h)) E M → AllZip (IsBoundTo cmp h) M es → All (λ z. IsSome (entry_at h z)) (map (λ x. x.link) E)
+  some-entries [] M es pairs zip = All-nil (λ z. IsSome (entry_at h z))
+  some-entries (x ∷ E) [] es pairs zip = absurd pairs
+  some-entries (x ∷ E) (b ∷ M) [] pairs zip = absurd zip
+  some-entries (x ∷ E) (b ∷ M) (e ∷ es) pairs zip = All-cons (λ z. IsSome (entry_at h z)) x.link (map (λ y. y.link) E) (ap is_some (pair-entry x b e pairs.0 zip.0)) (some-entries E M es pairs.1 zip.1)
+
+  -- each link of a map's pairs names an entry
+  pub map-some : (links : List ℕ) (M : List (Binding (Piece K V))) (es : List (K × V)) → AllZip (IsBoundTo cmp h) M es → ArePairLinks (form_at h) links M → All (λ z. IsSome (entry_at h z)) links
+  map-some links M es zip are = all-turned (λ z. IsSome (entry_at h z)) _ _ (same-sym _ _ are.same) (some-entries are.entries M es are.pairs zip)
 
 -- the order of pieces is total
 module _ {K V : Type 0} (cmp : K → K → Ordering) (value_cmp : V → V → Ordering) (o : IsTotalOrder cmp) (p : IsTotalOrder value_cmp) where
@@ -178,6 +188,10 @@ module _ {K V : Type 0} (cmp : K → K → Ordering) (value_cmp : V → V → Or
     sorted = is.sorted;
   }
 
+  -- the keys of what is read of a root rise
+  pub map-at-rise : (h : Heap (Piece K V)) (l : ℕ) → T (is_sorted cmp (map_at cmp h l))
+  map-at-rise h l = sorted-by_keys cmp o (filter_map (entry_at h) (walk h l))
+
   pub map-kind : IsKind (IsKeyMap cmp value_cmp code) (map_at cmp)
   map-kind = record {
     one = map-one;
@@ -236,6 +250,12 @@ module _ {K V : Type 0} (cmp : K → K → Ordering) (value_cmp : V → V → Or
 
   pub map-count : (h : Heap (Piece K V)) (l : ℕ) (es : List (K × V)) (is : IsKeyMap cmp value_cmp code h l es) → length is.bindings ≡ length es
   map-count h l es is = zip-length (IsBoundTo cmp h) is.bindings is.entries is.bound ∙ sym (ap length is.sorted ∙ same-length _ _ (by_keys-same cmp o is.entries (map-once h l es is)))
+
+  -- what is read of the links of a map's pairs in any order
+  pub map-read : (h : Heap (Piece K V)) (l : ℕ) (es : List (K × V)) (is : IsKeyMap cmp value_cmp code h l es) (links : List ℕ) → ArePairLinks (form_at h) links is.bindings → SameSet (filter_map (entry_at h) links) es
+  map-read h l es is links are =
+      let read = subst (λ ds. SameSet (filter_map (entry_at h) links) ds) (entries-read cmp value_cmp h are.entries is.bindings is.entries are.pairs is.bound) (same-filter_map (entry_at h) links _ are.same) in
+      subst (SameSet (filter_map (entry_at h) links)) (sym is.sorted) (same_through _ _ _ read (same-sym _ _ (by_keys-same cmp o is.entries (map-once h l es is))))
 
   -- by whatever is the order of pieces
   module _ {order : Piece K V → Piece K V → Ordering} where

@@ -75,12 +75,27 @@ module _ {V : Type 0} (m : Versions V) where
   reads-left f v vs held = reads (remove m v) v (get-left v) f vs held.1
 
 module _ {V : Type 0} (m : Versions V) where
+  -- the version that a call made is held
+  pub new-held : (n : Versions V) (v : ℕ) (x : V) → n ≡ insert m v x → Holds n v
+  new-held n v x made = subst (λ k. Holds k v) (sym made) (subst IsSome (sym (get-made m v x)) refl)
+
+  pub made-holds : {E : Type 0} (r : Result ℕ E) (n : Versions V) (x : V) → IfOk r (λ v. n ≡ insert m v x) → IfOk r (λ v. Holds n v)
+  made-holds (Ok v) n x made = new-held n v x made
+  made-holds (Err e) n x made = tt
+
   -- what was held where a call made a version
   pub made-held : (n : Versions V) (v : ℕ) (x : V) (w : ℕ) → n ≡ insert m v x → get m v ≡ None → Holds m w → Holds n w
   made-held n v x w made none held = subst (λ k. Holds k w) (sym made) (still-held m v x w none held)
 
   pub made-same : (n : Versions V) (v : ℕ) (x : V) (w : ℕ) → n ≡ insert m v x → get m v ≡ None → Holds m w → get n w ≡ get m w
   made-same n v x w made none held = ap (λ k. get k w) made ∙ same-value m v x w none held
+
+  -- the versions that a program keeps, given what a call that makes or forgets one ensures
+  pub kept-made : (n : Versions V) (v : ℕ) (x : V) (vs ws : List ℕ) → get m v ≡ None → n ≡ insert m v x → ws ≡ vs → AreHeld m vs → AreHeld n (v ∷ ws)
+  kept-made n v x vs ws none made same held = subst (λ us. AreHeld n (v ∷ us)) (sym same) (subst (λ k. AreHeld k (v ∷ vs)) (sym made) (held-made m v x vs none held))
+
+  pub kept-left : (n : Versions V) (v : ℕ) (vs ws : List ℕ) → n ≡ remove m v → vs ≡ ws → AreHeld m (v ∷ vs) → AreHeld n ws
+  kept-left n v vs ws left same held = subst (AreHeld n) same (subst (λ k. AreHeld k vs) (sym left) (held-left m v vs held))
 
   -- the first of two versions that were made one after the other, and those beside both
   pub get-first : (v w : ℕ) (x y : V) → get m v ≡ None → get (insert m v x) w ≡ None → get (insert (insert m v x) w y) v ≡ Some x
@@ -90,6 +105,14 @@ module _ {V : Type 0} (m : Versions V) where
   both-beside v w x y none free q held = same-value (insert m v x) w y q free (still-held m v x q none held) ∙ same-value m v x q none held
 
 module _ {T : Type 0} (m : Versions (List T)) where
+  -- the list of the version that a call made
+  pub new-list : (n : Versions (List T)) (v : ℕ) (xs : List T) → n ≡ insert m v xs → list_of n v ≡ xs
+  new-list n v xs made = ap (λ k. list_of k v) made ∙ ap (λ o. unwrap_or o []) (get-made m v xs)
+
+  pub made-reads : {E : Type 0} (r : Result ℕ E) (n : Versions (List T)) (xs : List T) → IfOk r (λ v. n ≡ insert m v xs) → IfOk r (λ v. list_of n v ≡ xs)
+  made-reads (Ok v) n xs made = new-list n v xs made
+  made-reads (Err e) n xs made = tt
+
   pub same-list : (v : ℕ) (xs : List T) (w : ℕ) → get m v ≡ None → Holds m w → list_of (insert m v xs) w ≡ list_of m w
   same-list v xs w none held = ap (λ o. unwrap_or o []) (same-value m v xs w none held)
 
@@ -98,3 +121,10 @@ module _ {T : Type 0} (m : Versions (List T)) where
 
   pub lists-left : (v : ℕ) (vs : List ℕ) → AreHeld m (v ∷ vs) → lists_of (remove m v) vs ≡ lists_of m vs
   lists-left = reads-left m (λ o. unwrap_or o [])
+
+  -- the lists of the versions that a program keeps, given what the call ensures
+  pub lists-kept-made : (n : Versions (List T)) (v : ℕ) (xs : List T) (vs ws : List ℕ) → get m v ≡ None → n ≡ insert m v xs → ws ≡ vs → AreHeld m vs → lists_of n (v ∷ ws) ≡ xs ∷ lists_of m vs
+  lists-kept-made n v xs vs ws none made same held = ap (λ us. lists_of n (v ∷ us)) same ∙ ap (λ k. lists_of k (v ∷ vs)) made ∙ lists-made v xs vs none held
+
+  pub lists-kept-left : (n : Versions (List T)) (v : ℕ) (vs ws : List ℕ) → n ≡ remove m v → vs ≡ ws → AreHeld m (v ∷ vs) → lists_of n ws ≡ lists_of m vs
+  lists-kept-left n v vs ws left same held = ap (lists_of n) (sym same) ∙ ap (λ k. lists_of k vs) left ∙ lists-left v vs held

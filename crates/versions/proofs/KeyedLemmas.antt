@@ -27,12 +27,13 @@ use Rattle.versions.specs.Sorted.{sorted_keys, has, remove_key}
 use Rattle.std.specs.BTreeSet.{insert_key}
 use Rattle.std.specs.List as list
 use Rattle.std.specs.List.{filter}
+use Rattle.std.specs.List.Sorted.{IsStrictlySortedBy}
 use Rattle.champ_kinds.specs.Laws.{KeepsContainers}
 use Rattle.champ_kinds.proofs.ZipLemmas.{all-turned}
 use Rattle.champ_kinds.proofs.PairLemmas.{link-none, others-none}
 use Rattle.versions.specs.Keyed.{by_root, keys_at, IsKeySet}
 use Rattle.versions.proofs.MadeLemmas.{stays-extended, value-at}
-use Rattle.versions.proofs.SortLemmas.{same-sorted, sorted-same, count-map, there-sorted, cut-sorted, has-sorted}
+use Rattle.versions.proofs.SortLemmas.{same-sorted, sorted-same, count-map, there-sorted, cut-sorted, has-sorted, sorted-rise}
 
 -- what is read of links in any order
 pub same-filter_map : {X Y : Type 0} (f : X → Option Y) (xs ys : List X) → SameSet xs ys → SameSet (filter_map f xs) (filter_map f ys)
@@ -99,6 +100,10 @@ module _ {K : Type 0} (cmp : K → K → Ordering) (o : IsTotalOrder cmp) (code 
       let links = same-filter_map (value_at h) _ _ (walk-links cmp o code h l is.entries is.set.rooted) in
       let keys : SameSet (filter_map (value_at h) (walk h l)) (map (λ e. e.key) is.entries) = subst (λ xs. SameSet (filter_map (value_at h) (walk h l)) xs) (cell-values h is.entries is.set.cells) links in
       sym (same-sorted cmp o _ _ (same-sym _ _ keys) (keys-once h (by_root l) is.entries is.set.rooted)) ∙ sym is.sorted
+
+  -- the keys that are read of a root rise
+  pub keys-at-rise : (h : Heap K) (l : ℕ) → IsStrictlySortedBy cmp (keys_at cmp h l)
+  keys-at-rise h l = sorted-rise cmp o (filter_map (value_at h) (walk h l))
 
   pub set-kind : IsKind (IsKeySet cmp code) (keys_at cmp)
   set-kind = record {

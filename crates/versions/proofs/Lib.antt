@@ -11,3 +11,9 @@ pub mod SortLemmas
 pub mod KeyedLemmas
 pub mod BoundLemmas
 pub mod MapLemmas
+pub mod UnionLemmas
+pub mod MergeLemmas
+pub mod StoreLemmas
+pub mod EqualLemmas
+pub mod EntryLemmas
+pub mod HereLemmas

@@ -6,9 +6,9 @@ use Rattle.std.specs.Cmp.{nat_cmp_total}
 use Rattle.std.specs.FinMap.{insert, remove, get, get-insert, get-remove, same_map, nat_cmp-IsAntisymmetric}
 use Rattle.std.proofs.lemmas.Bool.{cases_eq}
 use Rattle.node_heap.specs.Heap.{Heap, holds_at}
-use Rattle.node_heap.specs.Calls.{Extends}
+use Rattle.node_heap.specs.Calls.{Extends, Unchanged}
 use Rattle.versions.specs.Store.{Versions, Holds}
-use Rattle.versions.specs.Roots.{root_of, values_in, KeepsRoots, AddsRoot, PutsRoot, ForgetsRoot, HasRoots, Makes, Edits, AddsVersion, PutsVersion, IsKind}
+use Rattle.versions.specs.Roots.{root_of, values_in, HoldsRoots, KeepsRoots, AddsRoot, PutsRoot, ForgetsRoot, HasRoots, Makes, Edits, AddsVersion, PutsVersion, IsKind}
 use Rattle.versions.proofs.RootLemmas.{tied-same, tied-other, listed-at, sum-more, sum-has}
 
 one-some : (l m : ℕ) → Some l ≡ Some m → l ≡ m
@@ -40,6 +40,14 @@ module _ {T V : Type 0} (read : Heap T → ℕ → V) (h : Heap T) (roots : List
     -- the value of a version is that of its root
     pub value-at : (l : ℕ) → root_of roots v ≡ Some l → get had v ≡ Some (read h l)
     value-at l at = ap (λ m. get m v) (sym seen) ∙ listed-at read h roots v ∙ ap (option_map (read h)) at
+
+-- room that was made leaves all as it was
+pub room-made : {T : Type 0} {old new : Heap T} {roots : List (Option ℕ)} → HoldsRoots old roots → Unchanged old new → Extends old new → KeepsRoots old new roots roots
+room-made had rest extends = record {
+  extends = extends;
+  same = refl;
+  holds = record { holds = λ k. rest.holds k ∙ had.holds k; count = rest.count ∙ had.count; few = had.few };
+}
 
 -- a root of a store for which room was made
 module _ {T : Type 0} {old new : Heap T} {roots between : List (Option ℕ)} (keeps : KeepsRoots old new roots between) (v l : ℕ) (at : root_of roots v ≡ Some l) where

@@ -1,4 +1,4 @@
--- What the callers of a store of maps read of a version that was made.
+-- What the callers of a store of sets or of maps read of a version that was made.
 use Rattle.std.proofs.Common.{◌≡◌, ℕ, List, [], Some, cond, ap, ◌∙◌}
 use Rattle.std.specs.Prelude.{unwrap_or}
 use Rattle.std.specs.Ordering.{is_eq}
@@ -9,6 +9,8 @@ use Rattle.std.specs.FinMap.Entries.{find-put}
 use Rattle.versions.specs.Store.{Versions}
 use Rattle.versions.specs.Sorted.{entries_of}
 use Rattle.versions.proofs.CallerLemmas.{get-made}
+-- what merged sets and maps have
+pub use Rattle.versions.proofs.UnionLemmas.{found-union, has-both, has-less, has-union}
 
 -- the new version has the value at the key
 pub found-made : {K V : Type 0} (cmp : K → K → Ordering) → IsTotalOrder cmp → (m n : Versions (List (K × V))) (v : ℕ) (key : K) (value : V) (es : List (K × V)) → n ≡ insert m v (put cmp key value es) → find cmp key (entries_of n v) ≡ Some value

@@ -7,7 +7,8 @@ use Rattle.std.specs.declared.cmp.Ordering.{Ordering}
 use Rattle.std.specs.declared.cmp.Ordering.TheVariants.{Less, Equal, Greater}
 use Rattle.std.specs.FinMap.{put, find}
 use Rattle.std.specs.FinMap.Entries.{by_order, find-put, is_sorted-put, is_some-find, where_key}
-use Rattle.std.specs.List.{filter}
+use Rattle.std.specs.List.{filter, AllByRecursion}
+use Rattle.std.specs.List.Sorted.{IsStrictlySortedBy}
 use Rattle.std.specs.Prelude.{count_by, unwrap_or, option_map, T}
 use Rattle.std.specs.List as list
 use Rattle.std.specs.FinMap.Entries.{below_all, is_sorted}
@@ -71,7 +72,7 @@ other_keys R k es = filter (λ e. not (eq_by_cmp R k e.0)) es
 abbrev pub kept : {K X : Type 0} → (K → K → Ordering) → K → List (K × X) → K
 kept R k es = unwrap_or (option_map (λ e. e.0) (list.find (λ e. eq_by_cmp R k e.0) es)) k
 
-is-equal : (r : Ordering) → is_eq r ≡ true → r ≡ Equal
+pub is-equal : (r : Ordering) → is_eq r ≡ true → r ≡ Equal
 is-equal Less e = absurd (let bad = e in cc)
 is-equal Equal e = refl
 is-equal Greater e = absurd (let bad = e in cc)
@@ -281,6 +282,15 @@ pub count-map : {A B : Type 0} (p : B → Bool) (f : A → B) (xs : List A) → 
 count-map p f [] = refl
 count-map p f (x ∷ xs) = omega (arith, count-first p (f x) (map f xs), count-first (λ y. p (f y)) x xs, count-map p f xs)
 
+-- what passes a test, read of the elements
+pub map-where : {A B : Type 0} (f : A → B) (p : B → Bool) (xs : List A) → map f (filter (λ x. p (f x)) xs) ≡ filter p (map f xs)
+map-where f p [] = refl
+map-where f p (x ∷ xs) =
+    elim (p (f x)) as (λ b. map f (cond b (x ∷ filter (λ y. p (f y)) xs) (filter (λ y. p (f y)) xs)) ≡ cond b (f x ∷ filter p (map f xs)) (filter p (map f xs))) [
+      | true ↦ ap (λ ys. f x ∷ ys) (map-where f p xs)
+      | false ↦ map-where f p xs
+    ]
+
 -- a key, as an entry with nothing
 abbrev mark : {K : Type 0} → K → K × Unit {0}
 mark k = (k, tt)
@@ -307,19 +317,15 @@ module _ {K : Type 0} (R : K → K → Ordering) (o : IsTotalOrder R) where
       let es = map mark ks in
       ap (λ js. insert_key R js k) (keys-marked ks) ∙ sym (keys-put R o k tt (by_keys R es)) ∙ ap (map (λ e. e.0)) (there-by_keys R o k es (find-marked k ks ∙ some)) ∙ sym (keys-marked ks)
 
-  pub cut-sorted : (k : K) (ks : List K) → sorted_keys R (filter (λ j. not (eq_by_cmp R k j)) ks) ≡ remove_key R (sorted_keys R ks) k
-  cut-sorted k ks =
+  -- the keys that pass a test that equal keys pass alike
+  pub where-sorted : (p : K → Bool) → ((x y : K) → R x y ≡ Equal → p x ≡ p y) → (ks : List K) → sorted_keys R (filter p ks) ≡ filter p (sorted_keys R ks)
+  where-sorted p alike ks =
       let es = map mark ks in
-      keys-marked (filter (λ j. not (eq_by_cmp R k j)) ks) ∙ ap (λ ds. map (λ e. e.0) (by_keys R ds)) (marked-filter ks) ∙ ap (map (λ e. e.0)) (cut-by_keys R o k es)
-      ∙ keys-where R o (λ j. not (eq_by_cmp R k j)) (by_keys R es) ∙ ap (filter (λ j. not (eq_by_cmp R k j))) (sym (keys-marked ks))
-    where
-      marked-filter : (js : List K) → map mark (filter (λ j. not (eq_by_cmp R k j)) js) ≡ other_keys R k (map mark js)
-      marked-filter [] = refl
-      marked-filter (j ∷ js) =
-          elim (not (eq_by_cmp R k j)) as (λ b. map mark (cond b (j ∷ filter (λ i. not (eq_by_cmp R k i)) js) (filter (λ i. not (eq_by_cmp R k i)) js)) ≡ cond b (mark j ∷ other_keys R k (map mark js)) (other_keys R k (map mark js))) [
-            | true ↦ ap (λ es. mark j ∷ es) (marked-filter js)
-            | false ↦ marked-filter js
-          ]
+      keys-marked (filter p ks) ∙ ap (λ ds. map (λ e. e.0) (by_keys R ds)) (map-where mark (λ e. p e.0) ks) ∙ ap (map (λ e. e.0)) (where-by_keys R o p alike es)
+      ∙ keys-where R o p (by_keys R es) ∙ ap (filter p) (sym (keys-marked ks))
+
+  pub cut-sorted : (k : K) (ks : List K) → sorted_keys R (filter (λ j. not (eq_by_cmp R k j)) ks) ≡ remove_key R (sorted_keys R ks) k
+  cut-sorted k ks = where-sorted (λ j. not (eq_by_cmp R k j)) (λ x y tie. ap (λ r. not (is_eq r)) (alike_right o x y k tie)) ks
 
   pub same-sorted : (ks js : List K) → SameSet ks js → ((q : K) → count_by (eq_by_cmp R q) ks ≤ 1) → sorted_keys R ks ≡ sorted_keys R js
   same-sorted ks js s once =
@@ -334,3 +340,17 @@ module _ {K : Type 0} (R : K → K → Ordering) (o : IsTotalOrder R) where
       unmarked : (js : List K) → map (λ e. e.0) (map mark js) ≡ js
       unmarked [] = refl
       unmarked (j ∷ js) = ap (λ is. j ∷ is) (unmarked js)
+
+-- entries whose keys rise have rising keys
+module _ {K X : Type 0} (R : K → K → Ordering) where
+  all-less : (x : K) (es : List (K × X)) → T (below_all R x es) → AllByRecursion (λ y. R x y ≡ Less) (map (λ e. e.0) es)
+  all-less x [] low = tt
+  all-less x (e ∷ es) low = (is-less (R x e.0) (and-first (is_lt (R x e.0)) (below_all R x es) low), all-less x es (and-second (is_lt (R x e.0)) (below_all R x es) low))
+
+  keys-rise : (es : List (K × X)) → T (is_sorted R es) → IsStrictlySortedBy R (map (λ e. e.0) es)
+  unfolding IsStrictlySortedBy
+  keys-rise [] sorted = tt
+  keys-rise (e ∷ es) sorted = (all-less e.0 es (and-first (below_all R e.0 es) (is_sorted R es) sorted), keys-rise es (and-second (below_all R e.0 es) (is_sorted R es) sorted))
+
+pub sorted-rise : {K : Type 0} (R : K → K → Ordering) → IsTotalOrder R → (ks : List K) → IsStrictlySortedBy R (sorted_keys R ks)
+sorted-rise R o ks = subst (IsStrictlySortedBy R) (sym (keys-marked R o ks)) (keys-rise R (by_keys R (map mark ks)) (sorted-by_keys R o (map mark ks)))

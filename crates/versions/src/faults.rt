@@ -4,7 +4,7 @@ ghost use Rattle.std.specs.Prelude.{◌≡◌};
 use elem_core::NoMemory;
 use thiserror::Error;
 
-/// Why there is no such version.
+/// Why a call was refused.
 #[derive(Clone, Copy, Debug, PartialEq, Eq, Error)]
 pub enum Fault {
     /// The list would have 2^32 elements or more.

@@ -1,5 +1,5 @@
 //! A list that remembers the lists that it was.
-ghost use Rattle.std.specs.Prelude.{◌≡◌, ◌≢◌, ◌↔◌, ◌-◌, ◌^◌, ◌<◌, ◌≤◌, [], ◌∷◌, ◌++◌, length, drop, slice_set, IfOk, IfErr, IsErrAnd, OnErr, IsTrue, if◌then◌else◌};
+ghost use Rattle.std.specs.Prelude.{◌≡◌, ◌≢◌, ◌↔◌, ◌-◌, ◌^◌, ◌<◌, ◌≤◌, [], ◌∷◌, ◌++◌, length, drop, slice_get, slice_set, option_copied, IfOk, IfErr, IsErrAnd, OnErr, IsTrue, if◌then◌else◌};
 ghost use Rattle.versions.specs.History.{present};
 
 use crate::faults::{Fault, Refused};
@@ -116,6 +116,27 @@ impl<T: Element> History<T> {
         self.lists.forget(self.newest);
         self.newest = version;
         true
+    }
+
+    /// How many elements the list has.
+    pub fn len(&self) -> u32
+        ensures { result ≡ length (present self.now) }
+    {
+        self.lists.len(self.newest)
+    }
+
+    /// Whether the list has no elements.
+    pub fn is_empty(&self) -> bool
+        ensures { IsTrue result ↔ (present self.now ≡ []) }
+    {
+        self.lists.is_empty(self.newest)
+    }
+
+    /// The element at the index, and none past the end.
+    pub fn get(&self, index: u32) -> Option<&T>
+        ensures { option_copied result ≡ slice_get (present self.now) index }
+    {
+        self.lists.get(self.newest, index)
     }
 
     /// The elements as they stand, in order. It takes no memory.

@@ -1,23 +1,23 @@
-//! The roots of lists that are edited in place, each of room that is there.
-ghost use Rattle.std.specs.Prelude.{◌≡◌, ◌≢◌, ◌-◌, ◌^◌, ◌<◌, List, [], ◌∷◌, ◌++◌, length, take, slice_set};
+//! The roots of lists that are edited in place, each of room that is there: of the rows from the root to the place of the edit,
+//! each that is alone is written, and each other is copied.
+ghost use Rattle.std.specs.Prelude.{◌≡◌, ◌≢◌, ◌+◌, ◌-◌, ◌^◌, ◌<◌, ◌≤◌, List, [], ◌∷◌, ◌++◌, length, take, slice_set};
 ghost use Rattle.node_heap.specs.Heap.{holds_at, hold_count, half_holds, quarter_holds, HasSpares};
 ghost use Rattle.node_heap.specs.Calls.{Extends};
 ghost use Rattle.node_heap.specs.Owner.{by_hold, EditsBy};
+ghost use Rattle.rrb_core.specs.declared.grow.TheConstants.{PUSH_NODES};
 ghost use Rattle.rrb_core.specs.Vector.{elements, IsGoodVector, IsVectorOf};
+ghost use Rattle.edit_vec.specs.declared.pop.TheConstants.{POP_NODES};
+ghost use Rattle.versions.specs.declared.in_place.TheConstants.{SET_HERE_NODES};
 ghost use Rattle.versions.specs.Roots.{Edits};
 ghost use Rattle.versions.specs.Rooted.{IsListOf};
 
-use edit_vec::{FlexEdit, OpenFault};
+use edit_vec::{FlexEdit, OpenFault, pop_held, push_held};
 use elem_core::Element;
 use node_heap::{Heap, Link};
-use rrb_core::Flex;
+use rrb_core::{Flex, SET_NODES};
 
-// The most nodes that each call makes, with that for a root of one's own.
-pub(crate) const PUSH_HERE_NODES: usize = 10;
-
-pub(crate) const SET_HERE_NODES: usize = 9;
-
-pub(crate) const POP_HERE_NODES: usize = 9;
+// The most nodes that a set makes, with that for a root of one's own.
+pub(crate) const SET_HERE_NODES: usize = SET_NODES + 1;
 
 // The vector, opened for edits in place.
 fn opened<T: Element>(heap: &mut Heap<T>, root: Link) -> FlexEdit
@@ -40,19 +40,16 @@ fn opened<T: Element>(heap: &mut Heap<T>, root: Link) -> FlexEdit
 
 // The list with the element after its last, in place of the old one, of which a hold is spent.
 pub(crate) fn pushed_here<T: Element>(heap: &mut Heap<T>, root: Link, element: T) -> Link
-    requires spares { HasSpares heap.old 1 10 }
+    requires spares { HasSpares heap.old 1 9 }
     requires few { hold_count heap.old < quarter_holds }
     requires good { IsGoodVector heap.old root }
     requires held { 0 < holds_at heap.old root }
     requires short { length (elements heap.old root) ≢ 2 ^ 32 - 1 }
-    ensures { (xs : List T) → IsListOf heap.old root xs → Edits IsListOf heap.old heap.new root result (xs ++ element ∷ []) }
+    ensures edits { (xs : List T) → IsListOf heap.old root xs → Edits IsListOf heap.old heap.new root result (xs ++ element ∷ []) }
+    ensures made { heap.new.made ≤ heap.old.made + (1 + PUSH_NODES) }
 {
     let cell = heap.cell(element);
-    let mut edit = opened(heap, root);
-    match edit.push(heap, cell) {
-        Ok(()) => edit.freeze().into_root(),
-        Err(_) => unreachable!(),
-    }
+    push_held(heap, Flex::from_root(root), cell).into_root()
 }
 
 // The list with the element at the index, in place of the old one, of which a hold is spent.
@@ -67,7 +64,8 @@ pub(crate) fn changed_here<T: Element>(
     requires good { IsGoodVector heap.old root }
     requires held { 0 < holds_at heap.old root }
     requires inside { index < length (elements heap.old root) }
-    ensures { (xs : List T) → IsListOf heap.old root xs → Edits IsListOf heap.old heap.new root result (slice_set xs index element) }
+    ensures edits { (xs : List T) → IsListOf heap.old root xs → Edits IsListOf heap.old heap.new root result (slice_set xs index element) }
+    ensures made { heap.new.made ≤ heap.old.made + (1 + SET_HERE_NODES) }
 {
     let cell = heap.cell(element);
     let mut edit = opened(heap, root);
@@ -82,19 +80,16 @@ pub(crate) fn changed_here<T: Element>(
 
 // The list without its last element, in place of the old one, of which a hold is spent.
 pub(crate) fn popped_here<T: Element>(heap: &mut Heap<T>, root: Link) -> Link
-    requires spares { HasSpares heap.old 0 9 }
+    requires spares { HasSpares heap.old 0 8 }
     requires few { hold_count heap.old < quarter_holds }
     requires good { IsGoodVector heap.old root }
     requires held { 0 < holds_at heap.old root }
     requires some { 0 < length (elements heap.old root) }
-    ensures { (xs : List T) → IsListOf heap.old root xs → Edits IsListOf heap.old heap.new root result (take (length xs - 1) xs) }
+    ensures edits { (xs : List T) → IsListOf heap.old root xs → Edits IsListOf heap.old heap.new root result (take (length xs - 1) xs) }
+    ensures made { heap.new.made ≤ heap.old.made + POP_NODES }
 {
-    let mut edit = opened(heap, root);
-    match edit.pop(heap) {
-        Ok(Some(given)) => {
-            heap.release(given);
-            edit.freeze().into_root()
-        }
-        _ => unreachable!(),
-    }
+    heap.is_graph();
+    let (left, given) = pop_held(heap, Flex::from_root(root));
+    heap.release(given);
+    left.into_root()
 }

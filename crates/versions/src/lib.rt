@@ -1,25 +1,30 @@
 //! Stores of versions that own their heap. A version is a small handle, and contracts see the value of each version that is
 //! held: the lists of a `Lists`, the keys of the sets of a `Sets`, and the entries of the maps of a `Maps`.
 //!
-//! A call that changes makes a new version, which shares all rows with the old one that the change leaves, and every other
-//! version is as it was.
+//! A call that changes makes a new version, or, of a call `_here`, edits a version itself; every other version is as it was.
 #![tactic(auto)]
 
 mod bound;
-mod bounds;
+mod bound_here;
+mod entries;
+mod equal;
 mod faults;
 mod history;
 mod in_place;
 mod items;
 mod keyed;
 mod keys;
+mod limits;
 mod lists;
 mod making;
 mod maps;
+mod merging;
+mod parts;
 mod piece;
 mod roots;
 mod sets;
 
+pub use entries::Entries;
 pub use faults::{Fault, Refused};
 pub use history::History;
 pub use items::Items;

@@ -5,20 +5,20 @@ ghost use Rattle.std.specs.declared.cmp.Ordering.TheVariants.{Equal};
 ghost use Rattle.std.specs.FinMap as map;
 ghost use Rattle.versions.specs.Store.{Holds, list_of};
 
-use crate::bounds::{is_long, is_part};
 use crate::faults::{Fault, Refused};
-use crate::in_place::{
-    POP_HERE_NODES, PUSH_HERE_NODES, SET_HERE_NODES, changed_here, popped_here, pushed_here,
-};
+use crate::in_place::{SET_HERE_NODES, changed_here, popped_here, pushed_here};
 use crate::items::Items;
+use crate::limits::{is_long, is_part};
 use crate::making::{
-    EMPTY_NODES, ERASE_NODES, PUSH_NODES, SEAM_NODES, SET_NODES, SLICE_NODES, changed, cut_out,
-    emptied, inserted, joined, pushed, shared, sliced,
+    EMPTY_NODES, ERASE_NODES, SLICE_NODES, changed, cut_out, emptied, inserted, joined, pushed,
+    shared, sliced,
 };
 use crate::roots::{Handles, Version, forget, is_kept, keep, put, reserve, root_of, versions_of};
+use edit_vec::POP_NODES;
 use elem_core::{Element, NoMemory};
 use node_heap::{Heap, Link};
-use rrb_core::FlexRef;
+use rrb_core::{FlexRef, PUSH_NODES, SET_NODES};
+use rrb_join::SEAM_NODES;
 use same_value::equal_vec;
 use slab::Slab;
 use std::alloc::Global;
@@ -28,8 +28,8 @@ use std::marker::Model;
 /// is dropped gives all of them back.
 #[derive(Drop)]
 pub struct Lists<T: Element> {
-    heap: Heap<T>,
-    roots: Slab<Link>,
+    pub(crate) heap: Heap<T>,
+    pub(crate) roots: Slab<Link>,
 }
 
 impl<T: Element> Model for Lists<T> {
@@ -263,8 +263,8 @@ impl<T: Element> Lists<T> {
         }
     }
 
-    /// Puts the element after the last of this version itself, in place where its rows are its own. Every other version stays.
-    /// Refused where it has 2^32 - 1 elements, or memory runs out.
+    /// Puts the element after the last of this version itself. Every other version stays. Refused where it has 2^32 - 1 elements,
+    /// or memory runs out.
     pub fn push_here(&mut self, version: Version, element: T) -> Result<(), Refused<T>>
         requires { Holds self.old version }
         ensures made { IfOk result (λ _. self.new ≡ map.insert self.old version (list_of self.old version ++ element ∷ [])) }
@@ -278,7 +278,7 @@ impl<T: Element> Lists<T> {
             let fault = Fault::Long;
             return Err(Refused { element, fault });
         }
-        if reserve(&mut self.heap, &mut self.roots, 1, PUSH_HERE_NODES).is_err() {
+        if self.heap.reserve(1, PUSH_NODES).is_err() {
             let fault = Fault::Memory;
             return Err(Refused { element, fault });
         }
@@ -287,8 +287,8 @@ impl<T: Element> Lists<T> {
         Ok(())
     }
 
-    /// Puts the element in place of the one at the index of this version itself, in place where its rows are its own. Every
-    /// other version stays. Refused where the index is past the end, or memory runs out.
+    /// Puts the element in place of the one at the index of this version itself. Every other version stays. Refused where the
+    /// index is past the end, or memory runs out.
     pub fn set_here(&mut self, version: Version, index: u32, element: T) -> Result<(), Refused<T>>
         requires { Holds self.old version }
         ensures made { IfOk result (λ _. self.new ≡ map.insert self.old version (slice_set (list_of self.old version) index element)) }
@@ -302,7 +302,7 @@ impl<T: Element> Lists<T> {
             let fault = Fault::Range;
             return Err(Refused { element, fault });
         }
-        if reserve(&mut self.heap, &mut self.roots, 1, SET_HERE_NODES).is_err() {
+        if self.heap.reserve(1, SET_HERE_NODES).is_err() {
             let fault = Fault::Memory;
             return Err(Refused { element, fault });
         }
@@ -311,8 +311,7 @@ impl<T: Element> Lists<T> {
         Ok(())
     }
 
-    /// Takes the last element off this version itself, in place where its rows are its own. Every other version stays. Refused
-    /// where it has none, or memory runs out.
+    /// Takes the last element off this version itself. Every other version stays. Refused where it has none, or memory runs out.
     pub fn pop_here(&mut self, version: Version) -> Result<(), Fault>
         requires { Holds self.old version }
         ensures made { IfOk result (λ _. self.new ≡ map.insert self.old version (take (length (list_of self.old version) - 1) (list_of self.old version))) }
@@ -324,13 +323,13 @@ impl<T: Element> Lists<T> {
         if FlexRef::at(root).is_empty(&self.heap) {
             return Err(Fault::Range);
         }
-        reserve(&mut self.heap, &mut self.roots, 0, POP_HERE_NODES)?;
+        self.heap.reserve(0, POP_NODES)?;
         let root = popped_here(&mut self.heap, root);
         put(&mut self.roots, version, root);
         Ok(())
     }
 
-    /// Forgets the version. What no other version shares is freed.
+    /// Forgets the version. Every other version stays.
     pub fn forget(&mut self, version: Version)
         requires { Holds self.old version }
         ensures { self.new ≡ map.remove self.old version }
@@ -394,7 +393,7 @@ impl<T: Element> Lists<T> {
         Items::new(&self.heap, vector)
     }
 
-    /// Whether two versions have as many elements, and equal ones at each place. Rows that they share are passed over.
+    /// Whether two versions have as many elements, and equal ones at each place.
     pub fn same(&self, left: Version, right: Version) -> bool
         requires left { Holds self.now left }
         requires right { Holds self.now right }

@@ -1,5 +1,5 @@
 //! The roots of the versions of a store, by their numbers.
-ghost use Rattle.std.specs.Prelude.{◌≡◌, ◌↔◌, ◌<◌, ◌^◌, ℕ, Some, IsSome, OnOk, IsTrue, map};
+ghost use Rattle.std.specs.Prelude.{◌≡◌, ◌↔◌, ◌<◌, ◌≤◌, ◌^◌, ℕ, Some, IsSome, OnOk, IsTrue, map};
 ghost use Rattle.std.specs.Iterator.{YieldsFirst, item_count};
 ghost use Rattle.node_heap.specs.Heap.{hold_count, quarter_holds};
 ghost use Rattle.slab.specs.Slab.{get, entries, slab_len, HasRoomFor};
@@ -25,6 +25,22 @@ impl Model for Version {
     ghost view = { λ v. v.number };
 
     ghost inverse = { λ n. record { number = n } };
+}
+
+impl Version {
+    /// The version with this number, as a program keeps one elsewhere. Whether a store holds it is for the store to say.
+    pub fn from_number(number: usize) -> Version
+        ensures { result ≡ number }
+    {
+        Version { number }
+    }
+
+    /// The number of the version.
+    pub fn number(self) -> usize
+        ensures { result ≡ self }
+    {
+        self.number
+    }
 }
 
 /// Goes over the versions of a store, by rising number. It takes no memory.
@@ -100,7 +116,7 @@ pub(crate) fn keep(roots: &mut Slab<Link>, root: Link) -> Version
 // Puts another root in place of the version's.
 pub(crate) fn put(roots: &mut Slab<Link>, version: Version, root: Link)
     requires held { IsSome (get roots.old version) }
-    requires few { slab_len roots.old < 2 ^ 50 }
+    requires few { slab_len roots.old ≤ 2 ^ 50 }
     ensures { PutsRoot roots.old.slots roots.new.slots version root }
 {
     roots.remove(version.number);

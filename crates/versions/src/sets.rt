@@ -1,16 +1,21 @@
 //! A store of sets by their versions.
-ghost use Rattle.std.specs.Prelude.{◌≡◌, ◌↔◌, [], None, IfOk, IfErr, OnErr, IsTrue, length};
+ghost use Rattle.std.specs.Prelude.{◌≡◌, ◌↔◌, ℕ, [], None, IfOk, IfErr, OnErr, IsTrue, length};
 ghost use Rattle.std.specs.FinMap as map;
+ghost use Rattle.std.specs.List.{AllZip};
+ghost use Rattle.std.specs.List.Sorted.{IsStrictlySortedBy};
+ghost use Rattle.std.specs.declared.cmp.Ordering.TheVariants.{Equal};
 ghost use Rattle.std.specs.BTreeSet.{insert_key};
 ghost use Rattle.champ_chain.specs.Entry.{SameSet};
 ghost use Rattle.versions.specs.Store.{Holds};
 ghost use Rattle.versions.specs.declared.faults.Fault.TheVariants.{Memory};
-ghost use Rattle.versions.specs.Sorted.{keys_of, has, remove_key};
+ghost use Rattle.versions.specs.Sorted.{both, has, keys_of, less, remove_key, union};
 
+use crate::equal::same_sets;
 use crate::faults::Refused;
 use crate::keyed::{has_key, has_no_key, key_count, no_keys, same_keys, with_key, without_key};
 use crate::keys::Keys;
-use crate::roots::{Version, forget, is_kept, keep, reserve, root_of};
+use crate::merging::{keys_of_both, keys_of_either, keys_of_first};
+use crate::roots::{Handles, Version, forget, is_kept, keep, reserve, root_of, versions_of};
 use elem_core::{Element, NoMemory, Probe};
 use node_heap::{Heap, Link};
 use slab::Slab;
@@ -109,7 +114,52 @@ impl<K: Element> Sets<K> {
         Ok(keep(&mut self.roots, root))
     }
 
-    /// Forgets the version. What no other version shares is freed.
+    /// The keys of either version, of two equal ones the first's. Both versions stay.
+    pub fn union(&mut self, first: Version, second: Version) -> Result<Version, NoMemory>
+        requires first { Holds self.old first }
+        requires second { Holds self.old second }
+        ensures fresh { IfOk result (λ v. map.get self.old v ≡ None) }
+        ensures made { IfOk result (λ v. self.new ≡ map.insert self.old v (union K.cmp (keys_of self.old first) (keys_of self.old second))) }
+        ensures refused { OnErr result (self.new ≡ self.old) }
+    {
+        let first = root_of(&self.roots, first);
+        let second = root_of(&self.roots, second);
+        reserve(&mut self.heap, &mut self.roots, 0, 0)?;
+        let root = keys_of_either(&mut self.heap, first, second)?;
+        Ok(keep(&mut self.roots, root))
+    }
+
+    /// The first version's keys that the second has too. Both versions stay.
+    pub fn both(&mut self, first: Version, second: Version) -> Result<Version, NoMemory>
+        requires first { Holds self.old first }
+        requires second { Holds self.old second }
+        ensures fresh { IfOk result (λ v. map.get self.old v ≡ None) }
+        ensures made { IfOk result (λ v. self.new ≡ map.insert self.old v (both K.cmp (keys_of self.old first) (keys_of self.old second))) }
+        ensures refused { OnErr result (self.new ≡ self.old) }
+    {
+        let first = root_of(&self.roots, first);
+        let second = root_of(&self.roots, second);
+        reserve(&mut self.heap, &mut self.roots, 0, 0)?;
+        let root = keys_of_both(&mut self.heap, first, second)?;
+        Ok(keep(&mut self.roots, root))
+    }
+
+    /// The first version's keys that the second lacks. Both versions stay.
+    pub fn less(&mut self, first: Version, second: Version) -> Result<Version, NoMemory>
+        requires first { Holds self.old first }
+        requires second { Holds self.old second }
+        ensures fresh { IfOk result (λ v. map.get self.old v ≡ None) }
+        ensures made { IfOk result (λ v. self.new ≡ map.insert self.old v (less K.cmp (keys_of self.old first) (keys_of self.old second))) }
+        ensures refused { OnErr result (self.new ≡ self.old) }
+    {
+        let first = root_of(&self.roots, first);
+        let second = root_of(&self.roots, second);
+        reserve(&mut self.heap, &mut self.roots, 0, 0)?;
+        let root = keys_of_first(&mut self.heap, first, second)?;
+        Ok(keep(&mut self.roots, root))
+    }
+
+    /// Forgets the version. Every other stays.
     pub fn forget(&mut self, version: Version)
         requires { Holds self.old version }
         ensures { self.new ≡ map.remove self.old version }
@@ -122,6 +172,20 @@ impl<K: Element> Sets<K> {
         ensures { IsTrue result ↔ Holds self.now version }
     {
         is_kept(&self.roots, version)
+    }
+
+    /// The versions that are held, by rising number. It takes no memory.
+    pub fn versions(&self) -> Handles<'_>
+        ensures { result ≡ map.keys self.now }
+    {
+        versions_of(&self.roots)
+    }
+
+    /// How many rows all versions have together: a row that several share counts once.
+    pub fn rows(&self) -> usize
+        ensures { self.now ≡ map.empty → result ≡ 0 }
+    {
+        self.heap.live()
     }
 
     /// Whether the version has the key.
@@ -154,5 +218,23 @@ impl<K: Element> Sets<K> {
         ensures { SameSet result (keys_of self.now version) }
     {
         Keys::new(&self.heap, root_of(&self.roots, version))
+    }
+    /// Whether two versions have equal keys, one to one.
+    pub fn same(&self, left: Version, right: Version) -> bool
+        requires left { Holds self.now left }
+        requires right { Holds self.now right }
+        ensures { IsTrue result ↔ AllZip (λ x y. K.cmp x y ≡ Equal) (keys_of self.now left) (keys_of self.now right) }
+    {
+        let left = root_of(&self.roots, left);
+        let right = root_of(&self.roots, right);
+        same_sets(&self.heap, left, right)
+    }
+    /// The keys of each version rise strictly, so that none stands twice: a law, for a proof that needs it. The call does
+    /// nothing.
+    pub fn keys_rise(&self)
+        ensures { (v : ℕ) → IsStrictlySortedBy K.cmp (keys_of self.now v) }
+    {
+        // A field that is read tells the proof what is true of all of them.
+        let _ = &self.heap;
     }
 }

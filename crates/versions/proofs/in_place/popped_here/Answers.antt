@@ -1,25 +1,25 @@
-use Rattle.std.proofs.Common.{arith}
-use Rattle.versions.proofs.EditLemmas.{open-owner, pop-given, popped-here}
+use Rattle.std.proofs.Common.{◌+◌, ◌≤◌, arith}
+use Rattle.node_heap.specs.Owner.{by_hold}
+use Rattle.rrb_core.specs.Vector.{height_at}
+use Rattle.edit_vec.specs.Edit.{PopsElement}
+use Rattle.versions.proofs.EditLemmas.{pop-given, popped-here}
 use Rattle.versions.proofs.in_place.popped_here.Goals as goal
-
-pub pop-requires-clause-held : goal.pop-requires-clause-held
-pop-requires-clause-held g c =
-    let opening = c.opened-edit.ensures in
-    open-owner c.args.heap.now c.opened-edit.new.heap c.args.root c.opened-edit.result c.requires.held opening.extends opening.vector opening.edits
-
-pub pop-requires-clause-few : goal.pop-requires-clause-few
-pop-requires-clause-few g c = omega (arith, c.opened-edit.ensures.edits.trades.total, c.requires.few)
 
 pub release-requires : goal.release-requires
 release-requires g c =
-    let opening = c.opened-edit.ensures in
-    pop-given c.args.heap.now c.opened-edit.new.heap c.args.root c.opened-edit.result c.requires.held opening.extends opening.vector opening.edits
-    c.pop.new.heap c.pop.new.self c.in-Ok-Some.given (rw c.in-Ok-Some.field-0-is at c.in-Ok-Some.ensures.pops)
+    pop-given c.args.heap.now c.pop_held-left.new.heap c.args.root c.pop_held-left.result.0 c.pop_held-left.result.1 c.requires.held (rw c.from_root.ensures at c.pop_held-left.ensures.pops)
 
-pub returns : goal.returns
-returns g c = λ xs is.
-    let opening = c.opened-edit.ensures in
-    rw c.into_root.ensures (rw c.freeze.ensures
-    (popped-here c.args.heap.now c.opened-edit.new.heap c.args.root c.opened-edit.result c.requires.held opening.extends opening.vector opening.edits
-    c.pop.new.heap c.pop.new.self c.in-Ok-Some.given (rw c.in-Ok-Some.field-0-is at c.in-Ok-Some.ensures.pops)
-    c.release.new.self xs c.release.ensures.releases c.release.ensures.keeps is))
+pub returns-clause-edits : goal.returns-clause-edits
+returns-clause-edits g c = λ xs is.
+    rw c.into_root.ensures
+    (popped-here c.args.heap.now c.pop_held-left.new.heap c.args.root c.pop_held-left.result.0 c.pop_held-left.result.1 c.requires.held (rw c.from_root.ensures at c.pop_held-left.ensures.pops)
+    c.release.new.self xs c.is_graph.ensures c.release.ensures.releases c.release.ensures.keeps is)
+
+pub returns-clause-made : goal.returns-clause-made
+returns-clause-made g c =
+    let old = c.args.heap.now in
+    let pops : PopsElement (by_hold c.args.root) old c.pop_held-left.new.heap c.pop_held-left.result.0 c.pop_held-left.result.1 = rw c.from_root.ensures at c.pop_held-left.ensures.pops in
+    let few : c.pop_held-left.new.heap.made ≤ old.made + (0 + (height_at old c.args.root + 1)) = pops.edits.trades.made in
+    let low : height_at old c.args.root ≤ 7 = c.requires.good.shape.low in
+    let all : c.release.new.self.made ≤ old.made + 8 = omega (arith, few, low, c.release.ensures.releases.made) in
+    all

@@ -1,47 +1,52 @@
-use Rattle.std.proofs.Common.{◌≡◌, ◌+◌, Err, ap, arith, length}
-use Rattle.node_heap.specs.Heap.{holds_at, one_at}
-use Rattle.rrb_core.specs.declared.grow.PushFault.{PushFault}
-use Rattle.rrb_core.specs.declared.grow.PushFault.TheVariants.{Long, Memory}
+use Rattle.std.proofs.Common.{◌≡◌, ◌+◌, ◌<◌, ◌≤◌, inl, inr, arith, length}
+use Rattle.std.specs.Prelude.{◌^◌}
+use Rattle.std.proofs.lemmas.Bool.{cases_lt}
+use Rattle.node_heap.specs.Owner.{by_hold}
+use Rattle.rrb_core.specs.Vector.{elements, height_at}
 use Rattle.rrb_core.proofs.CallerLemmas.{extended-same}
+use Rattle.edit_vec.specs.Edit.{PushesElement}
 use Rattle.versions.proofs.MakingLemmas.{length-kept}
-use Rattle.versions.proofs.EditLemmas.{here-both, pushed-here}
+use Rattle.versions.proofs.EditLemmas.{push-both, pushed-here, made-one}
 use Rattle.versions.proofs.in_place.pushed_here.Goals as goal
 
-pub opened-edit-requires-clause-good : goal.opened-edit-requires-clause-good
-opened-edit-requires-clause-good g c = (extended-same c.cell-cell.ensures.extends c.args.root c.requires.good).0
+pub push_held-requires-clause-good : goal.push_held-requires-clause-good
+push_held-requires-clause-good g c = rw c.from_root.ensures (extended-same c.cell-cell.ensures.extends c.args.root c.requires.good).0
 
-pub opened-edit-requires-clause-held : goal.opened-edit-requires-clause-held
-opened-edit-requires-clause-held g c =
-    let first : holds_at c.cell-cell.new.self c.args.root + 0 ≡ holds_at c.args.heap.now c.args.root + one_at c.cell-cell.result c.args.root = c.cell-cell.ensures.adds.holds c.args.root in
-    omega (arith, first, c.requires.held)
-
-pub push-requires-clause-good : goal.push-requires-clause-good
-push-requires-clause-good g c = c.opened-edit.ensures.vector.0
-
-pub push-requires-clause-held : goal.push-requires-clause-held
-push-requires-clause-held g c =
+pub push_held-requires-clause-held : goal.push_held-requires-clause-held
+push_held-requires-clause-held g c =
     let made = c.cell-cell.ensures in
-    let opening = c.opened-edit.ensures in
-    here-both c.args.heap.now c.cell-cell.new.self c.opened-edit.new.heap c.args.root c.cell-cell.result c.opened-edit.result c.args.element made.adds made.extends made.count c.requires.held opening.extends opening.vector opening.edits
+    rw c.from_root.ensures (push-both c.args.heap.now c.cell-cell.new.self c.args.root c.cell-cell.result c.args.element made.adds made.extends made.count c.requires.held)
 
-pub push-requires-clause-few : goal.push-requires-clause-few
-push-requires-clause-few g c = omega (arith, c.cell-cell.ensures.count, c.opened-edit.ensures.edits.trades.total, c.requires.few)
+pub push_held-requires-clause-few : goal.push_held-requires-clause-few
+push_held-requires-clause-few g c = omega (arith, c.cell-cell.ensures.count, c.requires.few)
 
-pub unreachable-requires : goal.unreachable-requires
-unreachable-requires g c = by_fault c.in-Err.field-0 c.in-Err.is
-  where
-    by_fault : (fault : PushFault) → c.push.result ≡ Err fault → ⊥
-    by_fault Long is =
-        let kept = length-kept c.args.heap.now c.cell-cell.new.self c.args.root c.cell-cell.ensures.extends c.requires.good in
-        c.requires.short (omega (arith, kept, ap length c.opened-edit.ensures.vector.1, c.push.ensures.long.0 is))
-    by_fault Memory is =
-        let trades = c.opened-edit.ensures.edits.trades in
-        c.push.ensures.ample (omega arith, omega (arith, c.cell-cell.ensures.makes.spare_nodes, c.requires.spares.1, trades.balance.spare_nodes, trades.nodes)) is
+pub push_held-requires-clause-short : goal.push_held-requires-clause-short
+push_held-requires-clause-short g c =
+    let n = length (elements c.args.heap.now c.args.root) in
+    let kept : length (elements c.cell-cell.new.self c.args.root) ≡ n = length-kept c.args.heap.now c.cell-cell.new.self c.args.root c.cell-cell.ensures.extends c.requires.good in
+    let most : n < 2 ^ 32 = c.requires.good.shape.short in
+    let room : length (elements c.cell-cell.new.self c.args.root) + 1 < 2 ^ 32 = elim (cases_lt (n + 1) (2 ^ 32)) as (λ _. length (elements c.cell-cell.new.self c.args.root) + 1 < 2 ^ 32) [
+      | inl low ↦ omega (arith, kept, low)
+      | inr high ↦ absurd (c.requires.short (omega (arith, high, most)))
+    ] in
+    rw c.from_root.ensures room
 
-pub returns : goal.returns
-returns g c = λ xs is.
+pub push_held-requires-clause-spare : goal.push_held-requires-clause-spare
+push_held-requires-clause-spare g c = (omega arith, omega (arith, c.cell-cell.ensures.makes.spare_nodes, c.requires.spares.1))
+
+pub returns-clause-edits : goal.returns-clause-edits
+returns-clause-edits g c = λ xs is.
     let made = c.cell-cell.ensures in
-    let opening = c.opened-edit.ensures in
-    rw c.into_root.ensures (rw c.freeze.ensures
-    (pushed-here c.args.heap.now c.cell-cell.new.self c.opened-edit.new.heap c.args.root c.cell-cell.result c.opened-edit.result c.args.element made.adds made.extends made.count c.requires.held opening.extends opening.vector opening.edits
-    c.push.new.heap c.push.new.self xs c.in-Ok.ensures.pushes is))
+    rw c.into_root.ensures
+    (pushed-here c.args.heap.now c.cell-cell.new.self c.args.root c.cell-cell.result c.args.element made.adds made.extends made.count c.requires.held
+    c.push_held.new.heap c.push_held.result xs made.graph (rw c.from_root.ensures at c.push_held.ensures.pushes) is)
+
+pub returns-clause-made : goal.returns-clause-made
+returns-clause-made g c =
+    let mid = c.cell-cell.new.self in
+    let first = made-one c.args.heap.now.made mid.made 1 c.cell-cell.ensures.makes.made in
+    let pushes : PushesElement (by_hold c.args.root) mid c.push_held.new.heap c.push_held.result c.cell-cell.result = rw c.from_root.ensures at c.push_held.ensures.pushes in
+    let few : c.push_held.new.heap.made ≤ mid.made + (0 + (height_at mid c.args.root + 2)) = pushes.edits.trades.made in
+    let low : height_at mid c.args.root ≤ 7 = (extended-same c.cell-cell.ensures.extends c.args.root c.requires.good).0.shape.low in
+    let all : c.push_held.new.heap.made ≤ c.args.heap.now.made + 10 = omega (arith, first, few, low) in
+    all

@@ -72,7 +72,7 @@ invariant_of-self-2 g c =
     let ys = seen-list c.self.inside.heap c.self.inside.roots.slots c.args.right c.root_of-right.result c.self.invariant c.self.view_is c.root_of-right.ensures in
     let kept_left = lists-stay c.self.inside.heap c.reserve.new.heap c.reserve.ensures.keeps.extends c.root_of-left.result (list_of c.args.self.now c.args.left) xs in
     let kept_right = lists-stay c.self.inside.heap c.reserve.new.heap c.reserve.ensures.keeps.extends c.root_of-right.result (list_of c.args.self.now c.args.right) ys in
-    let added = adds-version IsListOf list_at list-kind c.self.invariant c.self.view_is c.reserve.ensures.keeps (c.joined-root.ensures (list_of c.args.self.now c.args.left) (list_of c.args.self.now c.args.right) kept_left kept_right) c.keep.ensures in
+    let added = adds-version IsListOf list_at list-kind c.self.invariant c.self.view_is c.reserve.ensures.keeps (c.joined-root.ensures.makes (list_of c.args.self.now c.args.left) (list_of c.args.self.now c.args.right) kept_left kept_right) c.keep.ensures in
     added.stands
 
 pub returns-clause-fresh : goal.returns-clause-fresh
@@ -81,7 +81,7 @@ returns-clause-fresh g c =
     let ys = seen-list c.self.inside.heap c.self.inside.roots.slots c.args.right c.root_of-right.result c.self.invariant c.self.view_is c.root_of-right.ensures in
     let kept_left = lists-stay c.self.inside.heap c.reserve.new.heap c.reserve.ensures.keeps.extends c.root_of-left.result (list_of c.args.self.now c.args.left) xs in
     let kept_right = lists-stay c.self.inside.heap c.reserve.new.heap c.reserve.ensures.keeps.extends c.root_of-right.result (list_of c.args.self.now c.args.right) ys in
-    let added = adds-version IsListOf list_at list-kind c.self.invariant c.self.view_is c.reserve.ensures.keeps (c.joined-root.ensures (list_of c.args.self.now c.args.left) (list_of c.args.self.now c.args.right) kept_left kept_right) c.keep.ensures in
+    let added = adds-version IsListOf list_at list-kind c.self.invariant c.self.view_is c.reserve.ensures.keeps (c.joined-root.ensures.makes (list_of c.args.self.now c.args.left) (list_of c.args.self.now c.args.right) kept_left kept_right) c.keep.ensures in
     added.fresh
 
 pub returns-clause-made : goal.returns-clause-made
@@ -90,7 +90,7 @@ returns-clause-made g c =
     let ys = seen-list c.self.inside.heap c.self.inside.roots.slots c.args.right c.root_of-right.result c.self.invariant c.self.view_is c.root_of-right.ensures in
     let kept_left = lists-stay c.self.inside.heap c.reserve.new.heap c.reserve.ensures.keeps.extends c.root_of-left.result (list_of c.args.self.now c.args.left) xs in
     let kept_right = lists-stay c.self.inside.heap c.reserve.new.heap c.reserve.ensures.keeps.extends c.root_of-right.result (list_of c.args.self.now c.args.right) ys in
-    let added = adds-version IsListOf list_at list-kind c.self.invariant c.self.view_is c.reserve.ensures.keeps (c.joined-root.ensures (list_of c.args.self.now c.args.left) (list_of c.args.self.now c.args.right) kept_left kept_right) c.keep.ensures in
+    let added = adds-version IsListOf list_at list-kind c.self.invariant c.self.view_is c.reserve.ensures.keeps (c.joined-root.ensures.makes (list_of c.args.self.now c.args.left) (list_of c.args.self.now c.args.right) kept_left kept_right) c.keep.ensures in
     added.made
 
 pub returns-clause-long : goal.returns-clause-long

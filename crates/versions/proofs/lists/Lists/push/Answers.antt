@@ -66,21 +66,21 @@ pub invariant_of-self-2 : goal.invariant_of-self-2
 invariant_of-self-2 g c =
     let list = seen-list c.self.inside.heap c.self.inside.roots.slots c.args.version c.root_of-root.result c.self.invariant c.self.view_is c.root_of-root.ensures in
     let kept = lists-stay c.self.inside.heap c.reserve.new.heap c.reserve.ensures.keeps.extends c.root_of-root.result (list_of c.args.self.now c.args.version) list in
-    let added = adds-version IsListOf list_at list-kind c.self.invariant c.self.view_is c.reserve.ensures.keeps (c.pushed-root.ensures (list_of c.args.self.now c.args.version) kept) c.keep.ensures in
+    let added = adds-version IsListOf list_at list-kind c.self.invariant c.self.view_is c.reserve.ensures.keeps (c.pushed-root.ensures.makes (list_of c.args.self.now c.args.version) kept) c.keep.ensures in
     added.stands
 
 pub returns-clause-fresh : goal.returns-clause-fresh
 returns-clause-fresh g c =
     let list = seen-list c.self.inside.heap c.self.inside.roots.slots c.args.version c.root_of-root.result c.self.invariant c.self.view_is c.root_of-root.ensures in
     let kept = lists-stay c.self.inside.heap c.reserve.new.heap c.reserve.ensures.keeps.extends c.root_of-root.result (list_of c.args.self.now c.args.version) list in
-    let added = adds-version IsListOf list_at list-kind c.self.invariant c.self.view_is c.reserve.ensures.keeps (c.pushed-root.ensures (list_of c.args.self.now c.args.version) kept) c.keep.ensures in
+    let added = adds-version IsListOf list_at list-kind c.self.invariant c.self.view_is c.reserve.ensures.keeps (c.pushed-root.ensures.makes (list_of c.args.self.now c.args.version) kept) c.keep.ensures in
     added.fresh
 
 pub returns-clause-made : goal.returns-clause-made
 returns-clause-made g c =
     let list = seen-list c.self.inside.heap c.self.inside.roots.slots c.args.version c.root_of-root.result c.self.invariant c.self.view_is c.root_of-root.ensures in
     let kept = lists-stay c.self.inside.heap c.reserve.new.heap c.reserve.ensures.keeps.extends c.root_of-root.result (list_of c.args.self.now c.args.version) list in
-    let added = adds-version IsListOf list_at list-kind c.self.invariant c.self.view_is c.reserve.ensures.keeps (c.pushed-root.ensures (list_of c.args.self.now c.args.version) kept) c.keep.ensures in
+    let added = adds-version IsListOf list_at list-kind c.self.invariant c.self.view_is c.reserve.ensures.keeps (c.pushed-root.ensures.makes (list_of c.args.self.now c.args.version) kept) c.keep.ensures in
     added.made
 
 pub returns-clause-long : goal.returns-clause-long

@@ -1,24 +1,24 @@
-use Rattle.std.proofs.Common.{sym, ap, subst, ◌∙◌}
+use Rattle.std.proofs.Common.{sym, ◌∙◌}
 use Rattle.versions.specs.Sorted.{entries_of}
-use Rattle.versions.specs.Roots.{HasRoom, HasRoots, values_in}
+use Rattle.versions.specs.Roots.{HasRoom}
 use Rattle.versions.specs.Bound.{map_at, IsKeyMap}
 use Rattle.versions.proofs.CallLemmas.{on-ok}
 use Rattle.versions.proofs.BoundLemmas.{map-kind}
-use Rattle.versions.proofs.KeyedLemmas.{seen-value}
-use Rattle.versions.proofs.MadeLemmas.{held-at, roots-stay, stays-extended, still-seen, adds-version}
+use Rattle.versions.proofs.MadeLemmas.{held-at, still-seen, adds-version}
+use Rattle.versions.proofs.StoreLemmas.{refused-seen, refused-stands, room-stands, room-value}
 use Rattle.versions.proofs.maps.Maps.insert.Goals as goal
 
 pub root_of-root-requires : goal.root_of-root-requires
 root_of-root-requires g c = held-at (map_at g.K.Ord.cmp) c.self.inside.heap c.self.inside.roots.slots c.args.version c.args.self.now c.self.view_is c.requires
 
 pub invariant_of-self : goal.invariant_of-self
-invariant_of-self g c = roots-stay (IsKeyMap g.K.Ord.cmp g.V.Ord.cmp g.K.Element.code_of) (map_at g.K.Ord.cmp) (map-kind g.K.Ord.cmp g.V.Ord.cmp g.met.K.Ord.total g.met.V.Ord.total g.K.Element.code_of) c.self.inside.heap c.reserve.new.heap c.self.inside.roots.slots c.reserve.new.roots.slots c.self.invariant c.reserve.ensures.keeps
+invariant_of-self g c = room-stands (map-kind g.K.Ord.cmp g.V.Ord.cmp g.met.K.Ord.total g.met.V.Ord.total g.K.Element.code_of) c.self.invariant c.self.view_is c.reserve.ensures.keeps
 
 pub returns-then-is_err-clause-refused : goal.returns-then-is_err-clause-refused
 returns-then-is_err-clause-refused g c = still-seen (IsKeyMap g.K.Ord.cmp g.V.Ord.cmp g.K.Element.code_of) (map_at g.K.Ord.cmp) (map-kind g.K.Ord.cmp g.V.Ord.cmp g.met.K.Ord.total g.met.V.Ord.total g.K.Element.code_of) c.self.invariant c.self.view_is c.reserve.ensures.keeps
 
 pub with_entry-requires-clause-map : goal.with_entry-requires-clause-map
-with_entry-requires-clause-map g c = (entries_of c.args.self.now c.args.version, stays-extended (IsKeyMap g.K.Ord.cmp g.V.Ord.cmp g.K.Element.code_of) (map_at g.K.Ord.cmp) (map-kind g.K.Ord.cmp g.V.Ord.cmp g.met.K.Ord.total g.met.V.Ord.total g.K.Element.code_of) c.self.inside.heap c.reserve.new.heap c.reserve.ensures.keeps.extends c.root_of-root.result (entries_of c.args.self.now c.args.version) (seen-value (IsKeyMap g.K.Ord.cmp g.V.Ord.cmp g.K.Element.code_of) (map_at g.K.Ord.cmp) c.self.inside.heap c.self.inside.roots.slots c.args.version c.root_of-root.result c.self.invariant c.self.view_is c.root_of-root.ensures))
+with_entry-requires-clause-map g c = (entries_of c.args.self.now c.args.version, room-value (map-kind g.K.Ord.cmp g.V.Ord.cmp g.met.K.Ord.total g.met.V.Ord.total g.K.Element.code_of) c.self.invariant c.self.view_is c.reserve.ensures.keeps c.args.version c.root_of-root.result c.root_of-root.ensures)
 
 pub with_entry-requires-clause-few : goal.with_entry-requires-clause-few
 with_entry-requires-clause-few g c = on-ok c.reserve.result _ (sym c.is_err.ensures.value ∙ c.if-is_err.false) c.reserve.ensures.few
@@ -35,24 +35,24 @@ keep-requires-clause-few g c =
 
 pub invariant_of-self-in-Ok : goal.invariant_of-self-in-Ok
 invariant_of-self-in-Ok g c =
-    let kept = stays-extended (IsKeyMap g.K.Ord.cmp g.V.Ord.cmp g.K.Element.code_of) (map_at g.K.Ord.cmp) (map-kind g.K.Ord.cmp g.V.Ord.cmp g.met.K.Ord.total g.met.V.Ord.total g.K.Element.code_of) c.self.inside.heap c.reserve.new.heap c.reserve.ensures.keeps.extends c.root_of-root.result (entries_of c.args.self.now c.args.version) (seen-value (IsKeyMap g.K.Ord.cmp g.V.Ord.cmp g.K.Element.code_of) (map_at g.K.Ord.cmp) c.self.inside.heap c.self.inside.roots.slots c.args.version c.root_of-root.result c.self.invariant c.self.view_is c.root_of-root.ensures) in
+    let kept = room-value (map-kind g.K.Ord.cmp g.V.Ord.cmp g.met.K.Ord.total g.met.V.Ord.total g.K.Element.code_of) c.self.invariant c.self.view_is c.reserve.ensures.keeps c.args.version c.root_of-root.result c.root_of-root.ensures in
     let added = adds-version (IsKeyMap g.K.Ord.cmp g.V.Ord.cmp g.K.Element.code_of) (map_at g.K.Ord.cmp) (map-kind g.K.Ord.cmp g.V.Ord.cmp g.met.K.Ord.total g.met.V.Ord.total g.K.Element.code_of) c.self.invariant c.self.view_is c.reserve.ensures.keeps (c.in-Ok.ensures.made (entries_of c.args.self.now c.args.version) kept) c.keep.ensures in
     added.stands
 
 pub returns-in-Ok-clause-fresh : goal.returns-in-Ok-clause-fresh
 returns-in-Ok-clause-fresh g c =
-    let kept = stays-extended (IsKeyMap g.K.Ord.cmp g.V.Ord.cmp g.K.Element.code_of) (map_at g.K.Ord.cmp) (map-kind g.K.Ord.cmp g.V.Ord.cmp g.met.K.Ord.total g.met.V.Ord.total g.K.Element.code_of) c.self.inside.heap c.reserve.new.heap c.reserve.ensures.keeps.extends c.root_of-root.result (entries_of c.args.self.now c.args.version) (seen-value (IsKeyMap g.K.Ord.cmp g.V.Ord.cmp g.K.Element.code_of) (map_at g.K.Ord.cmp) c.self.inside.heap c.self.inside.roots.slots c.args.version c.root_of-root.result c.self.invariant c.self.view_is c.root_of-root.ensures) in
+    let kept = room-value (map-kind g.K.Ord.cmp g.V.Ord.cmp g.met.K.Ord.total g.met.V.Ord.total g.K.Element.code_of) c.self.invariant c.self.view_is c.reserve.ensures.keeps c.args.version c.root_of-root.result c.root_of-root.ensures in
     let added = adds-version (IsKeyMap g.K.Ord.cmp g.V.Ord.cmp g.K.Element.code_of) (map_at g.K.Ord.cmp) (map-kind g.K.Ord.cmp g.V.Ord.cmp g.met.K.Ord.total g.met.V.Ord.total g.K.Element.code_of) c.self.invariant c.self.view_is c.reserve.ensures.keeps (c.in-Ok.ensures.made (entries_of c.args.self.now c.args.version) kept) c.keep.ensures in
     added.fresh
 
 pub returns-in-Ok-clause-made : goal.returns-in-Ok-clause-made
 returns-in-Ok-clause-made g c =
-    let kept = stays-extended (IsKeyMap g.K.Ord.cmp g.V.Ord.cmp g.K.Element.code_of) (map_at g.K.Ord.cmp) (map-kind g.K.Ord.cmp g.V.Ord.cmp g.met.K.Ord.total g.met.V.Ord.total g.K.Element.code_of) c.self.inside.heap c.reserve.new.heap c.reserve.ensures.keeps.extends c.root_of-root.result (entries_of c.args.self.now c.args.version) (seen-value (IsKeyMap g.K.Ord.cmp g.V.Ord.cmp g.K.Element.code_of) (map_at g.K.Ord.cmp) c.self.inside.heap c.self.inside.roots.slots c.args.version c.root_of-root.result c.self.invariant c.self.view_is c.root_of-root.ensures) in
+    let kept = room-value (map-kind g.K.Ord.cmp g.V.Ord.cmp g.met.K.Ord.total g.met.V.Ord.total g.K.Element.code_of) c.self.invariant c.self.view_is c.reserve.ensures.keeps c.args.version c.root_of-root.result c.root_of-root.ensures in
     let added = adds-version (IsKeyMap g.K.Ord.cmp g.V.Ord.cmp g.K.Element.code_of) (map_at g.K.Ord.cmp) (map-kind g.K.Ord.cmp g.V.Ord.cmp g.met.K.Ord.total g.met.V.Ord.total g.K.Element.code_of) c.self.invariant c.self.view_is c.reserve.ensures.keeps (c.in-Ok.ensures.made (entries_of c.args.self.now c.args.version) kept) c.keep.ensures in
     added.made
 
 pub invariant_of-self-in-Err : goal.invariant_of-self-in-Err
-invariant_of-self-in-Err g c = subst (λ h. HasRoots (IsKeyMap g.K.Ord.cmp g.V.Ord.cmp g.K.Element.code_of) (map_at g.K.Ord.cmp) h c.reserve.new.roots.slots) (sym c.in-Err.ensures.refused) (roots-stay (IsKeyMap g.K.Ord.cmp g.V.Ord.cmp g.K.Element.code_of) (map_at g.K.Ord.cmp) (map-kind g.K.Ord.cmp g.V.Ord.cmp g.met.K.Ord.total g.met.V.Ord.total g.K.Element.code_of) c.self.inside.heap c.reserve.new.heap c.self.inside.roots.slots c.reserve.new.roots.slots c.self.invariant c.reserve.ensures.keeps)
+invariant_of-self-in-Err g c = refused-stands (map-kind g.K.Ord.cmp g.V.Ord.cmp g.met.K.Ord.total g.met.V.Ord.total g.K.Element.code_of) c.self.invariant c.self.view_is c.reserve.ensures.keeps c.in-Err.ensures.refused
 
 pub returns-in-Err-clause-refused : goal.returns-in-Err-clause-refused
-returns-in-Err-clause-refused g c = ap (λ h. values_in (map_at g.K.Ord.cmp) h c.reserve.new.roots.slots) c.in-Err.ensures.refused ∙ still-seen (IsKeyMap g.K.Ord.cmp g.V.Ord.cmp g.K.Element.code_of) (map_at g.K.Ord.cmp) (map-kind g.K.Ord.cmp g.V.Ord.cmp g.met.K.Ord.total g.met.V.Ord.total g.K.Element.code_of) c.self.invariant c.self.view_is c.reserve.ensures.keeps
+returns-in-Err-clause-refused g c = refused-seen (map-kind g.K.Ord.cmp g.V.Ord.cmp g.met.K.Ord.total g.met.V.Ord.total g.K.Element.code_of) c.self.invariant c.self.view_is c.reserve.ensures.keeps c.in-Err.ensures.refused

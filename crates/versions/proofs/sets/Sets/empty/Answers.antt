@@ -1,11 +1,12 @@
 use Rattle.versions.specs.Keyed.{keys_at, IsKeySet}
 use Rattle.versions.proofs.CallLemmas.{on-err}
 use Rattle.versions.proofs.KeyedLemmas.{set-kind}
-use Rattle.versions.proofs.MadeLemmas.{roots-stay, still-seen, adds-version}
+use Rattle.versions.proofs.MadeLemmas.{still-seen, adds-version}
+use Rattle.versions.proofs.StoreLemmas.{room-stands}
 use Rattle.versions.proofs.sets.Sets.empty.Goals as goal
 
 pub invariant_of-self : goal.invariant_of-self
-invariant_of-self g c = roots-stay (IsKeySet g.K.Ord.cmp g.K.Element.code_of) (keys_at g.K.Ord.cmp) (set-kind g.K.Ord.cmp g.met.K.Ord.total g.K.Element.code_of) c.self.inside.heap c.reserve.new.heap c.self.inside.roots.slots c.reserve.new.roots.slots c.self.invariant c.reserve.ensures.keeps
+invariant_of-self g c = room-stands (set-kind g.K.Ord.cmp g.met.K.Ord.total g.K.Element.code_of) c.self.invariant c.self.view_is c.reserve.ensures.keeps
 
 pub returns-in_err-reserve-clause-refused : goal.returns-in_err-reserve-clause-refused
 returns-in_err-reserve-clause-refused g c = on-err c.from_residual.result _ (still-seen (IsKeySet g.K.Ord.cmp g.K.Element.code_of) (keys_at g.K.Ord.cmp) (set-kind g.K.Ord.cmp g.met.K.Ord.total g.K.Element.code_of) c.self.invariant c.self.view_is c.reserve.ensures.keeps)

@@ -1,4 +1,4 @@
-//! Whether what is asked of lists is within their bounds.
+//! Whether what is asked of lists is within their limits.
 ghost use Rattle.std.specs.Prelude.{◌≡◌, ◌↔◌, ◌+◌, ◌^◌, ◌≤◌, List, length, IsTrue};
 ghost use Rattle.rrb_core.specs.Vector.{IsGoodVector};
 ghost use Rattle.versions.specs.Rooted.{IsListOf};

@@ -1,7 +1,7 @@
 use Rattle.std.proofs.Common.{arith}
 use Rattle.std.proofs.lemmas.Bool.{leb-true, le-leb}
 use Rattle.versions.proofs.CallLemmas.{length-at}
-use Rattle.versions.proofs.bounds.is_part.Goals as goal
+use Rattle.versions.proofs.limits.is_part.Goals as goal
 
 pub returns-then-from-to : goal.returns-then-from-to
 returns-then-from-to g c = λ xs is.

@@ -1,7 +1,7 @@
 use Rattle.std.proofs.Common.{arith}
 use Rattle.std.proofs.lemmas.Bool.{ltb-true, lt-ltb}
 use Rattle.versions.proofs.CallLemmas.{length-at}
-use Rattle.versions.proofs.bounds.is_long.Goals as goal
+use Rattle.versions.proofs.limits.is_long.Goals as goal
 
 pub returns : goal.returns
 returns g c = λ xs ys is are.

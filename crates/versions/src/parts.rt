@@ -1,0 +1,27 @@
+//! What a store of lists is made of, for a crate that writes it down and makes it again.
+ghost use Rattle.std.specs.Prelude.{◌≡◌};
+ghost use Rattle.versions.specs.Roots.{HasRoots, values_in};
+ghost use Rattle.versions.specs.Rooted.{IsListOf, list_at};
+
+use crate::lists::Lists;
+use elem_core::Element;
+use node_heap::{Heap, Link};
+use slab::Slab;
+
+impl<T: Element> Lists<T> {
+    /// The heap of the store, and the roots of its versions by their numbers.
+    pub fn parts(&self) -> (&Heap<T>, &Slab<Link>)
+        ensures stands { HasRoots IsListOf list_at result.0.now result.1.now.slots }
+        ensures same { values_in list_at result.0.now result.1.now.slots ≡ self.now }
+    {
+        (&self.heap, &self.roots)
+    }
+
+    /// The store of this heap, whose versions are the numbers of these roots. The heap has no other holds.
+    pub fn of_parts(heap: Heap<T>, roots: Slab<Link>) -> Lists<T>
+        requires { HasRoots IsListOf list_at heap roots.slots }
+        ensures { result ≡ values_in list_at heap roots.slots }
+    {
+        Lists { heap, roots }
+    }
+}
