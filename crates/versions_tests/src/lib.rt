@@ -1,6 +1,8 @@
-//! The tests of stores of sets and of maps by their versions.
+//! The tests of stores of lists, of sets and of maps by their versions.
 #![tactic(auto)]
 
+#[cfg(test)]
+mod lists;
 #[cfg(test)]
 mod maps;
 #[cfg(test)]
