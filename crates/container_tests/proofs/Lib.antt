@@ -1,2 +1,1 @@
-pub mod BesideLemmas
 pub mod RowLemmas

@@ -1,3 +1,0 @@
-pub mod GainLemmas
-pub mod UndoLemmas
-pub mod HistoryLemmas
